@@ -1,0 +1,3 @@
+pub mod BlockTable
+pub mod LengthFields
+pub mod Writing

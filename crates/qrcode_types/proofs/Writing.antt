@@ -1,0 +1,41 @@
+-- A greater mode writes all bytes that a lesser one can.
+use Rattle.std.proofs.Common.{◌≡◌, ℕ, ◌<◌, nat_le, true, not, ◌||◌, IsTrue, List, [], ◌∷◌, refl, inl, inr, arith}
+use Rattle.std.specs.List.{list_all}
+use Rattle.std.proofs.lemmas.Bool.{agree_below_at, and_parts, and_from, or_cases, both_ways, not-true, leb-true, lt-ltb}
+use Rattle.qrcode_types.specs.Bits.{AreBytes}
+use Rattle.qrcode_types.specs.Characters.{is_digit, is_alphanumeric, alphabet, can_write}
+use Rattle.qrcode_types.specs.Modes.{is_at_most}
+use Rattle.qrcode_types.specs.declared.types.Mode.{Mode}
+use Rattle.qrcode_types.specs.declared.types.Mode.TheVariants.{Numeric, Alphanumeric, Byte, Kanji}
+
+digit_is_alphanumeric : (b : ℕ) → is_digit b ≡ true → is_alphanumeric b ≡ true
+unfolding is_alphanumeric alphabet
+digit_is_alphanumeric b digit =
+    let below : b < 58 = omega (arith, leb-true b 57 (and_parts (nat_le 48 b) (nat_le b 57) digit).1) in
+    let test = agree_below_at (λ b. not (is_digit b) || is_alphanumeric b) (λ b. true) 58 b refl below in
+    elim (or_cases _ _ test) [ inl other ↦ absurd (both_ways _ (not-true _ other) digit) | inr same ↦ same ]
+
+digits_are_alphanumeric : (bytes : List ℕ) → IsTrue (list_all is_digit bytes) → IsTrue (list_all is_alphanumeric bytes)
+digits_are_alphanumeric [] e = e
+digits_are_alphanumeric (b ∷ bytes) e =
+    let parts = and_parts (is_digit b) (list_all is_digit bytes) e in
+    and_from _ _ (digit_is_alphanumeric b parts.0) (digits_are_alphanumeric bytes parts.1)
+
+pub bytes_are_written : (bytes : List ℕ) → AreBytes bytes → IsTrue (can_write Byte bytes)
+bytes_are_written [] e = refl
+bytes_are_written (b ∷ bytes) e = and_from _ _ (lt-ltb b 256 e.0) (bytes_are_written bytes e.1)
+
+pub writes : (m n : Mode) → IsTrue (is_at_most m n) → (bytes : List ℕ) → AreBytes bytes → IsTrue (can_write m bytes) → IsTrue (can_write n bytes)
+writes Numeric Alphanumeric e bytes are written = digits_are_alphanumeric bytes written
+writes m Byte e bytes are written = bytes_are_written bytes are
+writes Numeric Numeric e bytes are written = written
+writes Alphanumeric Alphanumeric e bytes are written = written
+writes Kanji Kanji e bytes are written = written
+writes Numeric Kanji e bytes are written = cc
+writes Alphanumeric Numeric e bytes are written = cc
+writes Alphanumeric Kanji e bytes are written = cc
+writes Byte Numeric e bytes are written = cc
+writes Byte Alphanumeric e bytes are written = cc
+writes Byte Kanji e bytes are written = cc
+writes Kanji Numeric e bytes are written = cc
+writes Kanji Alphanumeric e bytes are written = cc

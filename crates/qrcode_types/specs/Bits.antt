@@ -1,0 +1,50 @@
+-- Numbers as bits, the highest bit first; bytes; products without carries.
+use Rattle.std.specs.Prelude.{ℕ, zero, suc, ◌+◌, ◌*◌, ◌/◌, ◌^◌, ◌<◌, ◌==◌, Bool, true, false, List, [], ◌∷◌, length, map, fold, flat_map, slice_index_or, bit_xor, if◌then◌else◌}
+use Rattle.std.specs.Int.{bit_at}
+use Rattle.std.specs.List.{range_with_len, AllByRecursion}
+
+-- bit i of n is a one; bit 0 is the lowest
+abbrev pub has_bit : ℕ → ℕ → Bool
+has_bit n i = bit_at n i == 1
+
+-- the lowest bits of a number, as many as are asked for
+unfoldable pub number_bits : ℕ → ℕ → List Bool
+number_bits zero n = []
+number_bits (suc count) n = has_bit n count ∷ number_bits count n
+
+-- the number with these bits
+unfoldable pub number_of : List Bool → ℕ
+number_of bits = fold (λ n bit. 2 * n + (if bit then 1 else 0)) 0 bits
+
+-- a list of bytes is a list of numbers below 256
+abbrev pub AreBytes : List ℕ → Type 0
+AreBytes numbers = AllByRecursion (λ n. n < 256) numbers
+
+-- the bits of bytes, one byte after the other
+abbrev pub bits_of : List ℕ → List Bool
+bits_of bytes = flat_map (number_bits 8) bytes
+
+-- the i-th byte of a list of bits, with zeros behind its end
+unfoldable pub byte_at : List Bool → ℕ → ℕ
+byte_at bits i = number_of (map (λ j. slice_index_or bits (8 * i + j) false) (range_with_len 0 8))
+
+-- eight bits a byte, the last byte filled with zeros
+unfoldable pub bytes_of : List Bool → List ℕ
+bytes_of bits = map (byte_at bits) (range_with_len 0 ((length bits + 7) / 8))
+
+-- in how many places two lists of bits differ
+abbrev pub bit_distance : List Bool → List Bool → ℕ
+bit_distance [] cs = 0
+bit_distance (b ∷ bs) [] = 0
+bit_distance (true ∷ bs) (c ∷ cs) = (if c then 0 else 1) + bit_distance bs cs
+bit_distance (false ∷ bs) (c ∷ cs) = (if c then 1 else 0) + bit_distance bs cs
+
+-- f 0 xor f 1 xor .. xor f (n - 1)
+unfoldable pub xor_sum : ℕ → (ℕ → ℕ) → ℕ
+xor_sum zero f = 0
+xor_sum (suc n) f = bit_xor (f 0) (xor_sum n (λ i. f (suc i)))
+
+-- The product of two polynomials over two elements, whose coefficients are the bits of a and b: the multiples of a by
+-- the powers of two at which b has a one, combined by exclusive or. A number b has at most b bits.
+unfoldable pub carryless : ℕ → ℕ → ℕ
+carryless a b = xor_sum b (λ i. bit_at b i * (a * 2 ^ i))

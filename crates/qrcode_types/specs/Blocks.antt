@@ -1,0 +1,10 @@
+-- The blocks of a version and level, as the code hands them out.
+use Rattle.std.specs.Prelude.{◌≡◌}
+use Rattle.qrcode_types.specs.Versions.{blocks_entry}
+use Rattle.qrcode_types.specs.declared.types.Version.{Version}
+use Rattle.qrcode_types.specs.declared.types.EcLevel.{EcLevel}
+use Rattle.qrcode_types.specs.declared.tables.Blocks.{Blocks}
+
+-- the entry of the table
+abbrev pub AreBlocks : Version → EcLevel → Blocks → Type 0
+AreBlocks v l b = blocks_entry v l ≡ (b.ec_length, b.short_blocks, b.short_length, b.long_blocks)

@@ -1,0 +1,10 @@
+pub mod Bits
+pub mod Blocks
+pub mod Characters
+pub mod Colors
+pub mod Errors
+pub mod Fetching
+pub mod ModeLaws
+pub mod Modes
+pub mod Tables
+pub mod Versions

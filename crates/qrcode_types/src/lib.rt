@@ -1,0 +1,6 @@
+//! What all layers of the encoder speak of: refusals, colours, error correction levels, versions
+//! and modes.
+#![tactic(auto)]
+
+pub mod tables;
+pub mod types;

@@ -1,0 +1,341 @@
+//! Refusals, colours, error correction levels, versions and modes.
+
+ghost use Rattle.std.specs.Prelude.{◌≡◌, ℕ, ◌<◌, ◌≤◌, ◌↔◌, pos, false, length, List, Some, IsTrue, IfOk, refl};
+ghost use Rattle.std.specs.Cmp.{partial_order_from_own_ties};
+ghost use Rattle.std.specs.Ordering.{nat_cmp};
+ghost use Rattle.qrcode_types.specs.Errors.{error_text};
+ghost use Rattle.qrcode_types.specs.Colors.{opposite, select_of};
+ghost use Rattle.qrcode_types.specs.Versions.{is_valid, is_micro, side, row_of, level_number, has_level, level_count};
+ghost use Rattle.qrcode_types.specs.Fetching.{IsEntry, IsFetched};
+ghost use Rattle.qrcode_types.specs.Modes.{mode_bits_count, length_bits_count, data_bits_count, CountsFit, mode_order, mode_max, IsLeastUpperBound};
+ghost use Rattle.qrcode_types.specs.ModeLaws.{mode_laws, mode_ties};
+ghost use Rattle.qrcode_types.specs.Bits.{AreBytes};
+ghost use Rattle.qrcode_types.specs.Characters.{can_write};
+ghost use Rattle.qrcode_types.specs.declared.types.QrError.TheVariants.{OutOfMemory};
+ghost use Rattle.qrcode_types.specs.declared.types.EcLevel.{EcLevel};
+ghost use Rattle.qrcode_types.specs.declared.types.Mode.{Mode};
+
+use crate::tables::Blocks;
+use std::alloc::{AllocError, AllocFailed};
+use std::cmp::Ordering;
+use std::error::Error;
+use std::fmt;
+use std::ops::Not;
+
+/// Why a call refuses its input, or `OutOfMemory`.
+#[derive(Debug, PartialEq, Eq, Copy, Clone)]
+pub enum QrError {
+    /// The data is too long for the symbol, or for a list of bits.
+    DataTooLong,
+    /// There is no such version, or it lacks the level.
+    InvalidVersion,
+    /// The version lacks a mode that the data needs.
+    UnsupportedCharacterSet,
+    /// The number of the character set is 1,000,000 or more.
+    InvalidEciDesignator,
+    /// The mode cannot write a byte of the data.
+    InvalidCharacter,
+    /// Memory was refused.
+    OutOfMemory,
+}
+
+/// The answer of a call that may refuse its input.
+pub type QrResult<T> = Result<T, QrError>;
+
+impl fmt::Display for QrError {
+    ghost output = { λ e. Some (error_text e) };
+
+    fn fmt<W: fmt::Write>(&self, f: &mut fmt::Formatter<W>) -> fmt::Result {
+        match self {
+            QrError::DataTooLong => f.write_str("data too long"),
+            QrError::InvalidVersion => f.write_str("invalid version"),
+            QrError::UnsupportedCharacterSet => f.write_str("unsupported character set"),
+            QrError::InvalidEciDesignator => f.write_str("invalid ECI designator"),
+            QrError::InvalidCharacter => f.write_str("invalid character"),
+            QrError::OutOfMemory => f.write_str("out of memory"),
+        }
+    }
+}
+
+impl Error for QrError {}
+
+impl From<AllocError> for QrError {
+    ghost from_gives = { λ _ e. e ≡ OutOfMemory };
+
+    fn from(_error: AllocError) -> QrError {
+        QrError::OutOfMemory
+    }
+}
+
+impl<T: Drop> From<AllocFailed<T>> for QrError {
+    ghost from_gives = { λ _ e. e ≡ OutOfMemory };
+
+    fn from(_error: AllocFailed<T>) -> QrError {
+        QrError::OutOfMemory
+    }
+}
+
+/// The colour of a module.
+#[derive(Copy, Clone, PartialEq, Eq, Hash, Debug)]
+pub enum Color {
+    Light,
+    Dark,
+}
+
+impl Color {
+    /// `dark` for `Dark`, and `light` for `Light`.
+    pub fn select<T: Drop>(self, dark: T, light: T) -> T
+        ensures { result ≡ select_of self dark light }
+    {
+        match self {
+            Color::Light => light,
+            Color::Dark => dark,
+        }
+    }
+}
+
+impl Not for Color {
+    type Output = Color;
+
+    // The other colour, whose other colour is this one.
+    ghost not_gives = { λ c other. (other ≡ opposite c) × (opposite other ≡ c) };
+
+    fn not(self) -> Color {
+        match self {
+            Color::Light => Color::Dark,
+            Color::Dark => Color::Light,
+        }
+    }
+}
+
+/// An error correction level, from the least correction to the most.
+#[derive(Copy, Clone, PartialEq, Eq, PartialOrd, Ord, Debug)]
+pub enum EcLevel {
+    L,
+    M,
+    Q,
+    H,
+}
+
+impl EcLevel {
+    /// The number of the level, 0 to 3 in the order L, M, Q, H. Levels are compared as their
+    /// numbers.
+    pub fn number(self) -> usize
+        ensures value { result ≡ level_number self }
+        ensures equal { (other : EcLevel)
+            → IsTrue (⟦<EcLevel as PartialEq>⟧.eq self other) ↔ (self ≡ other) }
+        ensures order { (other : EcLevel)
+            → ⟦<EcLevel as Ord>⟧.cmp self other ≡ nat_cmp result (level_number other) }
+        ensures partial_order { (other : EcLevel)
+            → ⟦<EcLevel as PartialOrd>⟧.partial_cmp self other
+            ≡ Some (nat_cmp result (level_number other)) }
+    {
+        self as usize
+    }
+}
+
+/// The version of a symbol, which decides its size: `Normal` from 1 to 40, or `Micro` from 1 to 4.
+#[derive(Copy, Clone, PartialEq, Eq, Debug)]
+pub enum Version {
+    Normal(i16),
+    Micro(i16),
+}
+
+impl Version {
+    /// Whether there is such a version.
+    pub fn is_valid(self) -> bool
+        ensures { result ≡ is_valid self }
+    {
+        match self {
+            Version::Normal(v) => 1 <= v && v <= 40,
+            Version::Micro(v) => 1 <= v && v <= 4,
+        }
+    }
+
+    /// Whether this is a version of Micro QR.
+    pub fn is_micro(self) -> bool
+        ensures { result ≡ is_micro self }
+    {
+        match self {
+            Version::Normal(_) => false,
+            Version::Micro(_) => true,
+        }
+    }
+
+    /// Whether there is such a version, and it has the level.
+    pub fn has_level(self, ec_level: EcLevel) -> bool
+        ensures value { result ≡ has_level self ec_level }
+
+        // How many pairs of a version and a level there are.
+        ensures levels { level_count ≡ 168 }
+    {
+        Blocks::of(self, ec_level).is_some()
+    }
+
+    /// The modules along a side.
+    pub fn width(self) -> i16
+        requires { IsTrue (is_valid self) }
+        ensures { result ≡ pos (side self) }
+    {
+        match self {
+            Version::Normal(v) => v * 4 + 17,
+            Version::Micro(v) => v * 2 + 9,
+        }
+    }
+
+    // The row of this version in a table with a row for each, Normal 1 to 40 and then Micro 1 to 4.
+    pub(crate) fn row(self) -> usize
+        requires { IsTrue (is_valid self) }
+        ensures value { result ≡ row_of self }
+        ensures below { result < 44 }
+    {
+        match self {
+            Version::Normal(v) => (v - 1) as usize,
+            Version::Micro(v) => (v + 39) as usize,
+        }
+    }
+
+    /// The entry of this version and a level in a table with a row for each version, Normal 1 to 40
+    /// and then Micro 1 to 4, and in each an entry for L, M, Q and H.
+    ///
+    /// `InvalidVersion`: there is no such version, or the entry is the default.
+    pub fn fetch<T: PartialEq + Default + Copy>(
+        self,
+        ec_level: EcLevel,
+        table: &[[T; 4]],
+    ) -> QrResult<T>
+        requires { length table.now ≡ 44 }
+        ensures valid { IsTrue (is_valid self)
+            → IsFetched T.is_default T.eq table.now self ec_level result }
+        ensures invalid { is_valid self ≡ false → result ≡ Err QrError.InvalidVersion }
+        ensures entry { IfOk result (IsEntry table.now self ec_level) }
+    {
+        if !self.is_valid() {
+            return Err(QrError::InvalidVersion);
+        }
+        let entry = table[self.row()][ec_level.number()];
+        if entry == T::default() {
+            return Err(QrError::InvalidVersion);
+        }
+        Ok(entry)
+    }
+
+    /// The bits of a mode indicator.
+    pub fn mode_bits_count(self) -> usize
+        requires { IsTrue (is_valid self) }
+        ensures { result ≡ mode_bits_count self }
+    {
+        match self {
+            Version::Normal(_) => 4,
+            Version::Micro(v) => (v - 1) as usize,
+        }
+    }
+}
+
+/// How characters are written as bits.
+#[derive(Copy, Clone, PartialEq, Eq, Debug)]
+pub enum Mode {
+    /// Digits.
+    Numeric,
+    /// Digits, capital letters and nine other characters.
+    Alphanumeric,
+    /// Any bytes.
+    Byte,
+    /// Pairs of bytes of Shift JIS.
+    Kanji,
+}
+
+impl Mode {
+    /// The bits of the length field that stands before characters in this mode.
+    #[tactic(auto, using(crate::proofs::LengthFields::counts_fit))]
+    pub fn length_bits_count(self, version: Version) -> usize
+        requires { IsTrue (is_valid version) }
+        ensures value { result ≡ length_bits_count self version }
+        ensures counts { (mode : Mode) → CountsFit mode version }
+    {
+        match version {
+            Version::Micro(v) => {
+                let v = v as usize;
+                match self {
+                    Mode::Numeric => v + 2,
+                    Mode::Alphanumeric | Mode::Byte => v + 1,
+                    Mode::Kanji => v,
+                }
+            }
+            Version::Normal(v) if v <= 9 => match self {
+                Mode::Numeric => 10,
+                Mode::Alphanumeric => 9,
+                Mode::Byte | Mode::Kanji => 8,
+            },
+            Version::Normal(v) if v <= 26 => match self {
+                Mode::Numeric => 12,
+                Mode::Alphanumeric => 11,
+                Mode::Byte => 16,
+                Mode::Kanji => 10,
+            },
+            Version::Normal(_) => match self {
+                Mode::Numeric => 14,
+                Mode::Alphanumeric => 13,
+                Mode::Byte => 16,
+                Mode::Kanji => 12,
+            },
+        }
+    }
+
+    /// The bits of so many characters in this mode; in Kanji a character is a pair of bytes.
+    pub fn data_bits_count(self, raw_data_len: usize) -> usize
+        requires { raw_data_len ≤ 134217728 }
+        ensures { result ≡ data_bits_count self raw_data_len }
+    {
+        match self {
+            Mode::Numeric => (raw_data_len * 10 + 2) / 3,
+            Mode::Alphanumeric => (raw_data_len * 11 + 1) / 2,
+            Mode::Byte => raw_data_len * 8,
+            Mode::Kanji => raw_data_len * 13,
+        }
+    }
+
+    /// The least mode that can write what either of two can: their least upper bound.
+    pub fn max(self, other: Self) -> Self
+        ensures value { result ≡ mode_max self other }
+        ensures least_upper_bound { IsLeastUpperBound self other result }
+        ensures commutes { result ≡ mode_max other self }
+        ensures associates { (third : Mode)
+            → mode_max result third ≡ mode_max self (mode_max other third) }
+        ensures same { self ≡ other → result ≡ self }
+
+        // What either mode can write, the answer can write too.
+        ensures writes_first { (bytes : List ℕ)
+            → AreBytes bytes → IsTrue (can_write self bytes) → IsTrue (can_write result bytes) }
+        ensures writes_second { (bytes : List ℕ)
+            → AreBytes bytes → IsTrue (can_write other bytes) → IsTrue (can_write result bytes) }
+    {
+        if self <= other {
+            other
+        } else if other <= self {
+            self
+        } else {
+            Mode::Byte
+        }
+    }
+}
+
+/// A mode is less than another that can write all that it can, and more: `Numeric` < `Alphanumeric`
+/// < `Byte`, and `Kanji` < `Byte`.
+impl PartialOrd for Mode {
+    ghost partial_cmp = { mode_order };
+
+    ghost laws = { partial_order_from_own_ties mode_laws (mode_ties _ refl) };
+
+    fn partial_cmp(&self, other: &Mode) -> Option<Ordering> {
+        match (*self, *other) {
+            (a, b) if a == b => Some(Ordering::Equal),
+            (_, Mode::Byte) | (Mode::Numeric, Mode::Alphanumeric) => Some(Ordering::Less),
+            (Mode::Byte, _) | (Mode::Alphanumeric, Mode::Numeric) => Some(Ordering::Greater),
+            _ => None,
+        }
+    }
+}
+
+#[cfg(test)]
+mod tests;
