@@ -7,7 +7,7 @@ use Rattle.std.specs.List.{range_with_len, AllByRecursion}
 abbrev pub has_bit : ℕ → ℕ → Bool
 has_bit n i = bit_at n i == 1
 
--- the lowest bits of a number, as many as are asked for
+-- the lowest bits of a number, as many as are asked for, the highest of them first
 unfoldable pub number_bits : ℕ → ℕ → List Bool
 number_bits zero n = []
 number_bits (suc count) n = has_bit n count ∷ number_bits count n
@@ -32,7 +32,7 @@ byte_at bits i = number_of (map (λ j. slice_index_or bits (8 * i + j) false) (r
 unfoldable pub bytes_of : List Bool → List ℕ
 bytes_of bits = map (byte_at bits) (range_with_len 0 ((length bits + 7) / 8))
 
--- in how many places two lists of bits differ
+-- in how many places two lists of bits, of one length, differ
 abbrev pub bit_distance : List Bool → List Bool → ℕ
 bit_distance [] cs = 0
 bit_distance (b ∷ bs) [] = 0

@@ -1,0 +1,6 @@
+pub mod Centres
+pub mod Laws
+pub mod Masks
+pub mod Patterns
+pub mod Stream
+pub mod Words

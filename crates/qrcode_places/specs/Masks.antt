@@ -1,0 +1,51 @@
+-- The masks.
+use Rattle.std.specs.Prelude.{ℕ, ℤ, pos, ◌≤ℤ◌, ◌+◌, ◌*◌, ◌/◌, ◌%◌, ◌==◌, nat_lt, ◌&&◌, ◌||◌, not, Bool, true, false}
+use Rattle.qrcode_types.specs.Versions.{is_valid, is_micro}
+use Rattle.qrcode_types.specs.declared.types.Version.{Version}
+use Rattle.qrcode_places.specs.declared.masks.MaskPattern.{MaskPattern}
+use Rattle.qrcode_places.specs.declared.masks.MaskPattern.TheVariants.{Checkerboard, HorizontalLines, VerticalLines, DiagonalLines, LargeCheckerboard, Fields, Diamonds, Meadow}
+
+-- a column or a row of the largest symbol
+abbrev pub IsCoordinate : ℤ → Type 0
+IsCoordinate x = (pos 0 ≤ℤ x) × (x ≤ℤ pos 176)
+
+-- the mask turns the module in column x and row y
+abbrev pub turns : MaskPattern → ℕ → ℕ → Bool
+turns Checkerboard x y = (x + y) % 2 == 0
+turns HorizontalLines x y = y % 2 == 0
+turns VerticalLines x y = x % 3 == 0
+turns DiagonalLines x y = (x + y) % 3 == 0
+turns LargeCheckerboard x y = (y / 2 + x / 3) % 2 == 0
+turns Fields x y = (x * y) % 2 + (x * y) % 3 == 0
+turns Diamonds x y = ((x * y) % 2 + (x * y) % 3) % 2 == 0
+turns Meadow x y = ((x + y) % 2 + (x * y) % 3) % 2 == 0
+
+abbrev pub mask_number : MaskPattern → ℕ
+mask_number Checkerboard = 0
+mask_number HorizontalLines = 1
+mask_number VerticalLines = 2
+mask_number DiagonalLines = 3
+mask_number LargeCheckerboard = 4
+mask_number Fields = 5
+mask_number Diamonds = 6
+mask_number Meadow = 7
+
+-- the number of a mask of Micro, in the same order, and 4 for a mask that Micro lacks
+abbrev pub micro_mask_number : MaskPattern → ℕ
+micro_mask_number HorizontalLines = 0
+micro_mask_number LargeCheckerboard = 1
+micro_mask_number Diamonds = 2
+micro_mask_number Meadow = 3
+micro_mask_number Checkerboard = 4
+micro_mask_number VerticalLines = 4
+micro_mask_number DiagonalLines = 4
+micro_mask_number Fields = 4
+
+-- the version has the mask: Normal has all, Micro four
+abbrev pub exists_in : Version → MaskPattern → Bool
+exists_in v k = is_valid v && (not (is_micro v) || nat_lt (micro_mask_number k) 4)
+
+-- a module's bit under a mask that turns it or not
+abbrev pub turned_if : Bool → Bool → Bool
+turned_if true b = not b
+turned_if false b = b

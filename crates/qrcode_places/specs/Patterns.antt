@@ -1,0 +1,121 @@
+-- The functional patterns, by places inside a symbol; what they give outside means nothing.
+use Rattle.std.specs.Prelude.{ℕ, ◌+◌, ◌-◌, ◌*◌, ◌%◌, ◌==◌, nat_le, nat_lt, ◌&&◌, ◌||◌, not, max, nat_abs, Bool, true, false, List, [], ◌∷◌, map, find, Option, Some, None, is_some, slice_index_or, if◌then◌else◌}
+use Rattle.std.specs.Int.{abs_diff}
+use Rattle.std.specs.List.{range_with_len}
+use Rattle.qrcode_types.specs.Bits.{has_bit}
+use Rattle.qrcode_types.specs.Colors.{color_of}
+use Rattle.qrcode_types.specs.Versions.{side}
+use Rattle.qrcode_types.specs.declared.types.Version.{Version}
+use Rattle.qrcode_types.specs.declared.types.Version.TheVariants.{Normal, Micro}
+use Rattle.qrcode_types.specs.declared.types.Color.{Color}
+use Rattle.qrcode_places.specs.Centres.{centre_table}
+use Rattle.qrcode_places.specs.Words.{version_word}
+
+-- the colour that a test gives, at the places of a pattern
+abbrev pub where_true : Bool → Bool → Option Color
+where_true true dark = Some (color_of dark)
+where_true false dark = None
+
+-- the first pattern that has the place
+abbrev pub or_else : Option Color → Option Color → Option Color
+or_else (Some c) other = Some c
+or_else None other = other
+
+-- a finder pattern round its centre, by the greater of the two distances: dark to 1, light at 2, dark at 3, and light at
+-- 4, which is the separator
+abbrev pub finder_at : ℕ → ℕ → ℕ → ℕ → Option Color
+finder_at a b x y = let d = max (abs_diff a x) (abs_diff b y) in where_true (nat_le d 4) (nat_le d 1 || d == 3)
+
+-- finder patterns in three corners of Normal and in one of Micro
+unfoldable pub finder : Version → ℕ → ℕ → Option Color
+finder (Normal v) x y = let far = 4 * nat_abs v + 13 in or_else (finder_at 3 3 x y) (or_else (finder_at far 3 x y) (finder_at 3 far x y))
+finder (Micro v) x y = finder_at 3 3 x y
+
+-- The coordinates of the alignment centres. Normal 2 to 6 have one centre; the first coordinate serves only the corners
+-- where finder patterns are.
+unfoldable pub centres : Version → List ℕ
+centres (Normal v) = let n = nat_abs v in
+    if nat_le 7 n then slice_index_or centre_table (n - 7) [] else (if nat_le 2 n then 6 ∷ (4 * n + 10) ∷ [] else [])
+centres (Micro v) = []
+
+-- an alignment pattern reaches two modules from its centre
+abbrev pub is_near : ℕ → ℕ → Bool
+is_near x a = nat_le (abs_diff a x) 2
+
+-- the alignment pattern whose centre has the coordinates a and b, but for the corners where finder patterns are: dark in
+-- the centre and at distance 2
+abbrev pub alignment_between : ℕ → Option ℕ → Option ℕ → ℕ → ℕ → Option Color
+alignment_between w None b x y = None
+alignment_between w (Some a) None x y = None
+alignment_between w (Some a) (Some b) x y = where_true (not ((a == 6 && (b == 6 || b == w - 7)) || (a == w - 7 && b == 6))) (not (max (abs_diff a x) (abs_diff b y) == 1))
+
+-- alignment patterns at all pairs of the coordinates; those near a place are at most one in columns and one in rows
+unfoldable pub alignment : Version → ℕ → ℕ → Option Color
+alignment v x y = let cs = centres v in alignment_between (side v) (find (is_near x) cs) (find (is_near y) cs) x y
+
+-- the row and the column of timing modules, dark and light by turns
+unfoldable pub timing : Version → ℕ → ℕ → Option Color
+timing (Normal v) x y = let last = 4 * nat_abs v + 8 in
+    where_true ((y == 6 && nat_le 8 x && nat_le x last) || (x == 6 && nat_le 8 y && nat_le y last)) ((x + y) % 2 == 0)
+timing (Micro v) x y = where_true ((y == 0 && nat_le 8 x) || (x == 0 && nat_le 8 y)) ((x + y) % 2 == 0)
+
+-- the module of Normal that is always dark
+unfoldable pub dark_module : Version → ℕ → ℕ → Option Color
+dark_module (Normal v) x y = where_true (x == 8 && y == 4 * nat_abs v + 9) true
+dark_module (Micro v) x y = None
+
+-- one copy of the version word, in six columns of three rows from `far` on: the lowest bit first, down each column
+abbrev pub version_copy : ℕ → ℕ → ℕ → ℕ → Option Color
+version_copy v far x y = elim (nat_le x 5 && nat_le far y && nat_le y (far + 2)) [ true ↦ Some (color_of (has_bit (version_word v) (3 * x + (y - far)))) | false ↦ None ]
+
+-- both copies of the version word, from Normal 7 on; they mirror each other
+unfoldable pub version_pattern : Version → ℕ → ℕ → Option Color
+version_pattern (Normal v) x y = let n = nat_abs v in
+    if nat_le 7 n then or_else (version_copy n (4 * n + 6) x y) (version_copy n (4 * n + 6) y x) else None
+version_pattern (Micro v) x y = None
+
+-- the colour of a place in the functional patterns, the format word aside
+unfoldable pub pattern : Version → ℕ → ℕ → Option Color
+pattern v x y = or_else (finder v x y) (or_else (alignment v x y) (or_else (timing v x y) (or_else (dark_module v x y) (version_pattern v x y))))
+
+-- Where bit i of a copy of the format word stands, bit 0 being the highest.
+
+abbrev pub first_format_place : ℕ → ℕ × ℕ
+first_format_place i = if nat_le i 5 then (i, 8) else (if i == 6 then (7, 8) else (if i == 7 then (8, 8) else (if i == 8 then (8, 7) else (8, 14 - i))))
+
+abbrev pub second_format_place : ℕ → ℕ → ℕ × ℕ
+second_format_place w i = if nat_le i 6 then (8, w - 1 - i) else (w - 15 + i, 8)
+
+abbrev pub micro_format_place : ℕ → ℕ × ℕ
+micro_format_place i = if nat_le i 7 then (i + 1, 8) else (8, 15 - i)
+
+-- the places of each copy of the format word, the highest bit first: two copies in Normal, one in Micro
+unfoldable pub format_copies : Version → List (List (ℕ × ℕ))
+format_copies (Normal v) = map first_format_place (range_with_len 0 15) ∷ map (second_format_place (4 * nat_abs v + 17)) (range_with_len 0 15) ∷ []
+format_copies (Micro v) = map micro_format_place (range_with_len 0 15) ∷ []
+
+-- Which bit of the format word stands at a place, if any: the same places, looked at the other way.
+
+abbrev pub normal_format_index : ℕ → ℕ → ℕ → Option ℕ
+normal_format_index w x y =
+    elim (y == 8) [
+      | true ↦ (if nat_le x 5 then Some x else (if x == 7 then Some 6 else (if x == 8 then Some 7 else (if nat_le (w - 8) x && nat_lt x w then Some (x + 15 - w) else None))))
+      | false ↦
+          elim (x == 8) [ true ↦ (if y == 7 then Some 8 else (if nat_le y 5 then Some (14 - y) else (if nat_le (w - 7) y && nat_lt y w then Some (w - 1 - y) else None))) | false ↦ None ]
+    ]
+
+abbrev pub micro_format_index : ℕ → ℕ → Option ℕ
+micro_format_index x y =
+    elim (y == 8) [
+      | true ↦ (if nat_le 1 x && nat_le x 8 then Some (x - 1) else None)
+      | false ↦
+          elim (x == 8) [ true ↦ (if nat_le 1 y && nat_le y 7 then Some (15 - y) else None) | false ↦ None ]
+    ]
+
+unfoldable pub format_index : Version → ℕ → ℕ → Option ℕ
+format_index (Normal v) x y = normal_format_index (4 * nat_abs v + 17) x y
+format_index (Micro v) x y = micro_format_index x y
+
+-- the place belongs to a pattern or to the format word
+unfoldable pub is_functional_place : Version → ℕ → ℕ → Bool
+is_functional_place v x y = is_some (pattern v x y) || is_some (format_index v x y)

@@ -1,0 +1,59 @@
+-- The format and version words.
+use Rattle.std.specs.Prelude.{◌≡◌, ◌≢◌, ℕ, ◌+◌, ◌-◌, ◌*◌, ◌/◌, ◌^◌, ◌<◌, ◌≤◌, ◌==◌, map, find, unwrap_or, bit_xor, nat_abs, IsTrue}
+use Rattle.std.specs.List.{range_with_len}
+use Rattle.qrcode_types.specs.Bits.{carryless, number_bits, bit_distance}
+use Rattle.qrcode_types.specs.Versions.{is_micro, has_level, level_number}
+use Rattle.qrcode_types.specs.declared.types.Version.{Version}
+use Rattle.qrcode_types.specs.declared.types.Version.TheVariants.{Normal, Micro}
+use Rattle.qrcode_types.specs.declared.types.EcLevel.{EcLevel}
+use Rattle.qrcode_types.specs.declared.types.EcLevel.TheVariants.{L, M, Q, H}
+use Rattle.qrcode_places.specs.Masks.{mask_number, micro_mask_number, exists_in}
+use Rattle.qrcode_places.specs.declared.masks.MaskPattern.{MaskPattern}
+
+-- the carryless multiple of a divisor that has `top` in its `count` highest bits, above `check` others
+unfoldable pub multiple_with_top : ℕ → ℕ → ℕ → ℕ → ℕ
+multiple_with_top divisor count check top =
+    unwrap_or (find (λ word. word / 2 ^ check == top) (map (carryless divisor) (range_with_len 0 (2 ^ count)))) 0
+
+-- the two bits of a level in Normal
+abbrev pub level_bits : EcLevel → ℕ
+level_bits L = 1
+level_bits M = 0
+level_bits Q = 3
+level_bits H = 2
+
+-- The five bits of level and mask. In Micro the pairs of version and level are numbered: Micro 1 at L is 0 (2 - 3 is 0 here), Micro 2 at L
+-- and M are 1 and 2, Micro 3 at L and M are 3 and 4, Micro 4 at L, M and Q are 5, 6 and 7.
+abbrev pub format_bits : Version → EcLevel → MaskPattern → ℕ
+format_bits (Normal v) l k = 8 * level_bits l + mask_number k
+format_bits (Micro v) l k = 4 * (2 * nat_abs v - 3 + level_number l) + micro_mask_number k
+
+-- what is added to a format word by exclusive or
+abbrev pub format_mask : Version → ℕ
+format_mask (Normal v) = 0x5412
+format_mask (Micro v) = 0x4445
+
+-- the fifteen bits that name level and mask
+unfoldable pub format_word : Version → EcLevel → MaskPattern → ℕ
+format_word v l k = bit_xor (multiple_with_top 0x537 5 10 (format_bits v l k)) (format_mask v)
+
+-- the eighteen bits that name a version, from Normal 7 on
+unfoldable pub version_word : ℕ → ℕ
+version_word v = multiple_with_top 0x1f25 6 12 v
+
+-- two version words differ in at least eight bits
+abbrev pub VersionWordsAreApart : Type 0
+VersionWordsAreApart = (a b : ℕ) → 7 ≤ a → a < b → b ≤ 40 → 8 ≤ bit_distance (number_bits 18 (version_word a)) (number_bits 18 (version_word b))
+
+-- two format words of Normal, or two of Micro, are one or differ in at least seven bits
+abbrev pub FormatWordsAreApart : Type 0
+FormatWordsAreApart =
+    (u v : Version) (l m : EcLevel) (j k : MaskPattern) → is_micro u ≡ is_micro v → IsTrue (has_level u l) → IsTrue (has_level v m)
+    → IsTrue (exists_in u j) → IsTrue (exists_in v k) → format_word u l j ≢ format_word v m k
+    → 7 ≤ bit_distance (number_bits 15 (format_word u l j)) (number_bits 15 (format_word v m k))
+
+-- in one version the format word tells level and mask
+abbrev pub FormatWordsTell : Type 0
+FormatWordsTell =
+    (v : Version) (l m : EcLevel) (j k : MaskPattern) → IsTrue (has_level v l) → IsTrue (has_level v m)
+    → IsTrue (exists_in v j) → IsTrue (exists_in v k) → format_word v l j ≡ format_word v m k → (l ≡ m) × (j ≡ k)

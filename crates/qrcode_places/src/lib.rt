@@ -1,0 +1,8 @@
+//! What stands where in a symbol: functional patterns, format and version words, masks, and the order of the free places.
+#![tactic(auto)]
+
+pub mod centres;
+pub mod laws;
+pub mod mask_functions;
+pub mod masks;
+pub mod words;

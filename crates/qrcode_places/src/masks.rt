@@ -1,0 +1,76 @@
+//! The masks.
+
+ghost use Rattle.std.specs.Prelude.{◌≡◌, nat_abs, IsTrue};
+ghost use Rattle.qrcode_places.specs.Masks.{turns, mask_number, micro_mask_number, exists_in, IsCoordinate};
+
+use crate::mask_functions;
+use qrcode_types::types::Version;
+
+/// A mask, which turns the modules of a regular pattern (ISO/IEC 18004:2006, section 6.8).
+#[derive(Copy, Clone, Debug)]
+pub enum MaskPattern {
+    /// Number 0: `(x + y) % 2 == 0`.
+    Checkerboard = 0,
+    /// Number 1: `y % 2 == 0`.
+    HorizontalLines = 1,
+    /// Number 2: `x % 3 == 0`.
+    VerticalLines = 2,
+    /// Number 3: `(x + y) % 3 == 0`.
+    DiagonalLines = 3,
+    /// Number 4: `(y / 2 + x / 3) % 2 == 0`.
+    LargeCheckerboard = 4,
+    /// Number 5: `(x * y) % 2 + (x * y) % 3 == 0`.
+    Fields = 5,
+    /// Number 6: `((x * y) % 2 + (x * y) % 3) % 2 == 0`.
+    Diamonds = 6,
+    /// Number 7: `((x + y) % 2 + (x * y) % 3) % 2 == 0`.
+    Meadow = 7,
+}
+
+impl MaskPattern {
+    /// The number of the mask, 0 to 7.
+    pub fn number(self) -> usize
+        ensures { result ≡ mask_number self }
+    {
+        self as usize
+    }
+
+    /// The number of the mask in Micro, 0 to 3, or 4 for a mask that Micro lacks.
+    pub fn micro_number(self) -> usize
+        ensures { result ≡ micro_mask_number self }
+    {
+        match self {
+            MaskPattern::HorizontalLines => 0,
+            MaskPattern::LargeCheckerboard => 1,
+            MaskPattern::Diamonds => 2,
+            MaskPattern::Meadow => 3,
+            _ => 4,
+        }
+    }
+
+    /// Whether the version is valid and has the mask: Normal has all, Micro `HorizontalLines`,
+    /// `LargeCheckerboard`, `Diamonds` and `Meadow`.
+    pub fn exists_in(self, version: Version) -> bool
+        ensures { result ≡ exists_in version self }
+    {
+        version.is_valid() && (!version.is_micro() || self.micro_number() < 4)
+    }
+
+    /// Whether the mask turns the module in column `x` and row `y`, both from 0 to 176.
+    pub fn turns(self, x: i16, y: i16) -> bool
+        requires column { IsCoordinate x }
+        requires row { IsCoordinate y }
+        ensures { result ≡ turns self (nat_abs x) (nat_abs y) }
+    {
+        match self {
+            MaskPattern::Checkerboard => mask_functions::checkerboard(x, y),
+            MaskPattern::HorizontalLines => mask_functions::horizontal_lines(x, y),
+            MaskPattern::VerticalLines => mask_functions::vertical_lines(x, y),
+            MaskPattern::DiagonalLines => mask_functions::diagonal_lines(x, y),
+            MaskPattern::LargeCheckerboard => mask_functions::large_checkerboard(x, y),
+            MaskPattern::Fields => mask_functions::fields(x, y),
+            MaskPattern::Diamonds => mask_functions::diamonds(x, y),
+            MaskPattern::Meadow => mask_functions::meadow(x, y),
+        }
+    }
+}
