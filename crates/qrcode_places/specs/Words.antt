@@ -22,8 +22,8 @@ level_bits M = 0
 level_bits Q = 3
 level_bits H = 2
 
--- The five bits of level and mask. In Micro the pairs of version and level are numbered: Micro 1 at L is 0 (2 - 3 is 0 here), Micro 2 at L
--- and M are 1 and 2, Micro 3 at L and M are 3 and 4, Micro 4 at L, M and Q are 5, 6 and 7.
+-- The five bits of level and mask. In Micro the pairs of version and level are numbered: Micro 1 at L is 0 (subtraction
+-- stops at 0), Micro 2 at L and M are 1 and 2, Micro 3 at L and M are 3 and 4, Micro 4 at L, M and Q are 5, 6 and 7.
 abbrev pub format_bits : Version → EcLevel → MaskPattern → ℕ
 format_bits (Normal v) l k = 8 * level_bits l + mask_number k
 format_bits (Micro v) l k = 4 * (2 * nat_abs v - 3 + level_number l) + micro_mask_number k

@@ -1,0 +1,14 @@
+pub mod Carryless
+pub mod Bytes
+pub mod Columns
+pub mod Distances
+pub mod Divisions
+pub mod Generators
+pub mod Interleavings
+pub mod Parts
+pub mod Places
+pub mod Powers
+pub mod Products
+pub mod Syndromes
+pub mod Tables
+pub mod Xor

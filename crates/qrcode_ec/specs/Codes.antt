@@ -1,0 +1,29 @@
+-- Lists of bytes as polynomials, which vanish at powers of 2.
+use Rattle.std.specs.Prelude.{◌≡◌, ℕ, ◌+◌, ◌-◌, ◌*◌, ◌/◌, ◌<◌, ◌≤◌, ◌==◌, List, [], ◌∷◌, length, slice_index, if◌then◌else◌}
+use Rattle.qrcode_types.specs.Bits.{AreBytes, xor_sum}
+use Rattle.qrcode_ec.specs.Field.{product, power}
+
+-- the value of a polynomial at the i-th power of 2, its first coefficient being that of the highest power
+unfoldable pub syndrome : ℕ → List ℕ → ℕ
+syndrome i c = xor_sum (length c) (λ j. product (slice_index c j) (power (i * (length c - 1 - j))))
+
+-- the polynomial is zero at the first n powers of 2
+abbrev pub Vanishes : List ℕ → ℕ → Type 0
+Vanishes c n = (i : ℕ) → i < n → syndrome i c ≡ 0
+
+-- in how many places two lists of one length differ
+abbrev pub distance : List ℕ → List ℕ → ℕ
+distance [] ys = 0
+distance (x ∷ xs) [] = 0
+distance (x ∷ xs) (y ∷ ys) = (if x == y then 0 else 1) + distance xs ys
+
+-- any other list of as many bytes that vanishes at the n points differs in more than n places
+abbrev pub IsOnlyWithin : List ℕ → ℕ → Type 0
+IsOnlyWithin c n = (other : List ℕ) → AreBytes other → length other ≡ length c → Vanishes other n → distance c other ≤ n → other ≡ c
+
+-- c is a list of bytes that vanishes at n points, as long as r, and differs from r in at most half as many places
+pub record Corrects (r : List ℕ) (n : ℕ) (c : List ℕ) : Type 0 where
+  pub equal_length : length r ≡ length c
+  pub bytes : AreBytes c
+  pub vanishes : Vanishes c n
+  pub near : distance r c ≤ n / 2
