@@ -1,0 +1,9 @@
+pub mod BlockLists
+pub mod Distances
+pub mod HalfBlocks
+pub mod Readings
+pub mod Sides
+pub mod Symbols
+pub mod Shortness
+pub mod Sealing
+pub mod PlainPictures

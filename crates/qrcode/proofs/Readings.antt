@@ -1,0 +1,133 @@
+-- A damaged symbol is read as its bits, and in no other way.
+use Rattle.std.proofs.Common.{◌≡◌, ℕ, zero, suc, ◌/◌, ◌≤◌, Bool, List, [], ◌∷◌, length, map, refl, sym, ap, ap₂, ◌∙◌, arith, subst, IsTrue, inl, inr}
+use Rattle.std.specs.List.{AllByRecursion, AllZip, range_with_len}
+use Rattle.std.proofs.lemmas.Bool.{cases_eq}
+use Rattle.std.proofs.lemmas.List.{length-map}
+use Rattle.std.proofs.lemmas.List.FromFn.{length-map-range_with_len}
+use Rattle.qrcode_types.specs.Bits.{AreBytes, number_bits, bit_distance}
+use Rattle.qrcode_types.specs.Versions.{has_level, side, ec_length}
+use Rattle.qrcode_types.specs.declared.types.Version.{Version}
+use Rattle.qrcode_types.specs.declared.types.Version.TheVariants.{Normal, Micro}
+use Rattle.qrcode_types.specs.declared.types.EcLevel.{EcLevel}
+use Rattle.qrcode_types.specs.declared.types.Color.{Color}
+use Rattle.qrcode_ec.specs.Codes.{Corrects, Vanishes, IsOnlyWithin, distance}
+use Rattle.qrcode_ec.specs.Blocks.{codewords, data_bits}
+use Rattle.qrcode_places.specs.Masks.{exists_in}
+use Rattle.qrcode_places.specs.Words.{format_word, FormatWordsAreApart, FormatWordsTell}
+use Rattle.qrcode_places.specs.Patterns.{format_copies, first_format_place, micro_format_place}
+use Rattle.qrcode_places.specs.Stream.{stream}
+use Rattle.qrcode_places.specs.declared.masks.MaskPattern.{MaskPattern}
+use Rattle.qrcode_symbol.specs.Symbol.{bits_at, blocks_in, IsSymbol, IsDamaged}
+use Rattle.qrcode_symbol.specs.Reading.{ReadsBits, ReadsBitsOnly}
+use Rattle.qrcode.proofs.BlockLists.{blocks-lengths}
+use Rattle.qrcode.proofs.Distances.{bit_distance-turned, bit_distance-through, distance-turned, distance-through}
+use Rattle.qrcode.proofs.Sides.{valid_of, same_version, same_root}
+
+-- What a damaged symbol is read as.
+
+corrects_all : (n : ℕ) (bs cs : List (List ℕ)) → AllByRecursion (λ b. Vanishes b n) bs → AllByRecursion AreBytes bs
+    → AllZip (λ b c. length b ≡ length c) bs cs → AllZip (λ b c. distance b c ≤ n / 2) bs cs → AllZip (λ r c. Corrects r n c) cs bs
+corrects_all n [] [] v a l d = tt
+corrects_all n [] (c ∷ cs) v a l d = absurd l
+corrects_all n (b ∷ bs) [] v a l d = absurd l
+corrects_all n (b ∷ bs) (c ∷ cs) v a l d = (
+  record { equal_length = sym l.0; bytes = a.0; vanishes = v.0; near = subst (λ x. x ≤ n / 2) (distance-turned b c) d.0 },
+  corrects_all n bs cs v.1 a.1 l.1 d.1,
+)
+
+formats_near : (v : Version) (s other : List Color) (word : List Bool) (copies : List (List (ℕ × ℕ)))
+    → AllByRecursion (λ places. bits_at v s places ≡ word) copies
+    → AllByRecursion (λ places. bit_distance (bits_at v s places) (bits_at v other places) ≤ 3) copies
+    → AllByRecursion (λ places. bit_distance (bits_at v other places) word ≤ 3) copies
+formats_near v s other word [] e d = tt
+formats_near v s other word (places ∷ copies) e d = (
+  subst (λ w. bit_distance (bits_at v other places) w ≤ 3) e.0 (subst (λ x. x ≤ 3) (bit_distance-turned (bits_at v s places) (bits_at v other places)) d.0),
+  formats_near v s other word copies e.1 d.1,
+)
+
+abbrev damaged : (v : Version) (l : EcLevel) (bits : List Bool) (k : MaskPattern) (s other : List Color) → IsTrue (has_level v l) → IsTrue (exists_in v k)
+    → AllByRecursion AreBytes (blocks_in v l k s) → IsSymbol v l bits k s → IsDamaged v l k s other → ReadsBits other v l bits
+damaged v l bits k s other p q are symbol damage = record {
+  exists = p;
+  square = damage.square ∙ symbol.patterns.square;
+  mask = k;
+  mask_exists = q;
+  format = formats_near v s other (number_bits 15 (format_word v l k)) (format_copies v) symbol.patterns.format damage.format;
+  corrected = blocks_in v l k s;
+  corrects = corrects_all (ec_length v l) (blocks_in v l k s) (blocks_in v l k other) symbol.vanishes are
+      (blocks-lengths v l (codewords v l (stream v k s)) (codewords v l (stream v k other))) damage.blocks;
+  holds = symbol.holds;
+}
+
+-- One reading only.
+
+length-number_bits : (count n : ℕ) → length (number_bits count n) ≡ count
+unfolding number_bits
+length-number_bits zero n = refl
+length-number_bits (suc count) n = omega (arith, length-number_bits count n)
+
+near_through : (v : Version) (s : List Color) (places : List (ℕ × ℕ)) (a b : List Bool) → length places ≡ 15 → length a ≡ 15 → length b ≡ 15
+    → bit_distance (bits_at v s places) a ≤ 3 → bit_distance (bits_at v s places) b ≤ 3 → bit_distance a b ≤ 6
+near_through v s places a b e f g p q =
+    let w = bits_at v s places in
+    let l : length w ≡ 15 = length-map places _ ∙ e in
+    omega (arith, bit_distance-through a w b (f ∙ sym l) (l ∙ sym g), bit_distance-turned a w, p, q)
+
+near_words : (v : Version) (s : List Color) (a b : List Bool) → length a ≡ 15 → length b ≡ 15
+    → AllByRecursion (λ places. bit_distance (bits_at v s places) a ≤ 3) (format_copies v) → AllByRecursion (λ places. bit_distance (bits_at v s places) b ≤ 3) (format_copies v)
+    → bit_distance a b ≤ 6
+unfolding format_copies
+near_words (Normal v) s a b f g p q = near_through (Normal v) s (map first_format_place (range_with_len 0 15)) a b (length-map-range_with_len first_format_place 0 15) f g p.0 q.0
+near_words (Micro v) s a b f g p q = near_through (Micro v) s (map micro_format_place (range_with_len 0 15)) a b (length-map-range_with_len micro_format_place 0 15) f g p.0 q.0
+
+same_words : FormatWordsAreApart → FormatWordsTell → (s : List Color) (v : Version) (l m : EcLevel) (bits others : List Bool)
+    → (p : ReadsBits s v l bits) (q : ReadsBits s v m others) → (m ≡ l) × (q.mask ≡ p.mask)
+same_words apart tell s v l m bits others p q =
+    let a = format_word v m q.mask in
+    let b = format_word v l p.mask in
+    let near = near_words v s (number_bits 15 a) (number_bits 15 b) (length-number_bits 15 a) (length-number_bits 15 b) q.format p.format in
+    elim (cases_eq a b) [
+      | inl same ↦ tell v m l q.mask p.mask q.exists p.exists q.mask_exists p.mask_exists same
+      | inr other ↦ absurd (omega (arith, near, apart v v m l q.mask p.mask refl q.exists p.exists q.mask_exists p.mask_exists other))
+    ]
+
+same_block : (n : ℕ) (r c d : List ℕ) → IsOnlyWithin c n → Corrects r n c → Corrects r n d → d ≡ c
+same_block n r c d only p q =
+    only d q.bytes (sym q.equal_length ∙ p.equal_length) q.vanishes
+    (omega (arith, distance-through c r d (sym p.equal_length) q.equal_length, distance-turned c r, p.near, q.near))
+
+same_corrected : (n : ℕ) (rs cs ds : List (List ℕ)) → AllByRecursion (λ c. IsOnlyWithin c n) cs → AllZip (λ r c. Corrects r n c) rs cs → AllZip (λ r c. Corrects r n c) rs ds → ds ≡ cs
+same_corrected n [] [] [] h p q = refl
+same_corrected n [] [] (d ∷ ds) h p q = absurd q
+same_corrected n [] (c ∷ cs) ds h p q = absurd p
+same_corrected n (r ∷ rs) [] ds h p q = absurd p
+same_corrected n (r ∷ rs) (c ∷ cs) [] h p q = absurd q
+same_corrected n (r ∷ rs) (c ∷ cs) (d ∷ ds) h p q = ap₂ (λ (x : List ℕ) (xs : List (List ℕ)). x ∷ xs) (same_block n r c d h.0 p.0 q.0) (same_corrected n rs cs ds h.1 p.1 q.1)
+
+same_bits : (s : List Color) (v : Version) (l : EcLevel) (bits others : List Bool) → (p : ReadsBits s v l bits) → AllByRecursion (λ c. IsOnlyWithin c (ec_length v l)) p.corrected
+    → (q : ReadsBits s v l others) → q.mask ≡ p.mask → others ≡ bits
+same_bits s v l bits others p only q e =
+    let corrects = subst (λ k. AllZip (λ r c. Corrects r (ec_length v l) c) (blocks_in v l k s) q.corrected) e q.corrects in
+    sym q.holds ∙ ap (data_bits v l) (same_corrected (ec_length v l) (blocks_in v l p.mask s) p.corrected q.corrected only p.corrects corrects) ∙ p.holds
+
+same_side : (s : List Color) (v u : Version) (l m : EcLevel) (bits others : List Bool) → ReadsBits s v l bits → ReadsBits s u m others → u ≡ v
+same_side s v u l m bits others p q = same_version u v (valid_of u m q.exists) (valid_of v l p.exists) (same_root (side u) (side v) (sym q.square ∙ p.square))
+
+-- a reading whose corrected blocks are the only near ones is the only reading
+one_reading : FormatWordsAreApart → FormatWordsTell → (s : List Color) (v : Version) (l : EcLevel) (bits : List Bool)
+    → (p : ReadsBits s v l bits) → AllByRecursion (λ c. IsOnlyWithin c (ec_length v l)) p.corrected
+    → (u : Version) (m : EcLevel) (others : List Bool) → ReadsBits s u m others → (u ≡ v) × (m ≡ l) × (others ≡ bits)
+one_reading apart tell s v l bits p only u m others q =
+    let e = same_side s v u l m bits others p q in
+    let r = subst (λ x. ReadsBits s x m others) e q in
+    let f = (same_words apart tell s v l m bits others p r).0 in
+    let t = subst (λ x. ReadsBits s v x others) f r in
+    (e, f, same_bits s v l bits others p only t (same_words apart tell s v l l bits others p t).1)
+
+-- a damaged symbol is read as its bits, and in no other way
+pub reads_bits_only : FormatWordsAreApart → FormatWordsTell → (v : Version) (l : EcLevel) (bits : List Bool) (k : MaskPattern) (s : List Color) → IsTrue (has_level v l) → IsTrue (exists_in v k)
+    → AllByRecursion AreBytes (blocks_in v l k s) → AllByRecursion (λ b. IsOnlyWithin b (ec_length v l)) (blocks_in v l k s)
+    → IsSymbol v l bits k s → (other : List Color) → IsDamaged v l k s other → ReadsBitsOnly other v l bits
+reads_bits_only apart tell v l bits k s p q are only symbol other damage =
+    let found = damaged v l bits k s other p q are symbol damage in
+    record { found = found; only = one_reading apart tell other v l bits found only }

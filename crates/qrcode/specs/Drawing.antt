@@ -1,0 +1,16 @@
+-- What is drawn for codewords.
+use Rattle.std.specs.Prelude.{ℕ, List, IsTrue}
+use Rattle.qrcode_types.specs.declared.types.Version.{Version}
+use Rattle.qrcode_types.specs.declared.types.EcLevel.{EcLevel}
+use Rattle.qrcode_types.specs.declared.types.Color.{Color}
+use Rattle.qrcode_places.specs.Masks.{exists_in}
+use Rattle.qrcode_places.specs.declared.masks.MaskPattern.{MaskPattern}
+use Rattle.qrcode_symbol.specs.Symbol.{Carries}
+use Rattle.qrcode_symbol.specs.Penalties.{IsFirstLeast}
+
+-- a square that carries codewords under the first mask of least penalty
+pub record IsDrawn (v : Version) (l : EcLevel) (words : List ℕ) (s : List Color) : Type 0 where
+  pub mask : MaskPattern
+  pub mask_exists : IsTrue (exists_in v mask)
+  pub carries : Carries v l words mask s
+  pub first_least : IsFirstLeast v l mask s

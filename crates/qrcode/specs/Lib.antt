@@ -1,0 +1,4 @@
+pub mod Acceptance
+pub mod Drawing
+pub mod Pictures
+pub mod Reading

@@ -1,0 +1,355 @@
+//! QR and Micro QR symbols.
+#![tactic(auto)]
+
+ghost use Rattle.std.specs.Prelude.{◌≡◌, ◌⊎◌, ℕ, ◌+◌, ◌*◌, ◌-◌, ◌/◌, ◌%◌, ◌<◌, ◌≤◌, ◌++◌, List, Bool, true, false, None, Some, pos, string_bytes, length, vec_len, slice_index, slice_get, map, flat_map, IsTrue, IfOk, IfErr, OnOk, IsOkUnless};
+ghost use Rattle.std.specs.List.{AllByRecursion};
+ghost use Rattle.qrcode_types.specs.Versions.{is_valid, side, has_level, capacity, data_length, total_ec_length, has_half_codeword};
+ghost use Rattle.qrcode_types.specs.declared.types.Version.TheVariants.{Normal};
+ghost use Rattle.qrcode_types.specs.declared.types.QrError.TheVariants.{OutOfMemory, InvalidVersion, DataTooLong, UnsupportedCharacterSet};
+ghost use Rattle.qrcode_types.specs.Colors.{is_dark};
+ghost use Rattle.qrcode_types.specs.declared.types.Version.{Version};
+ghost use Rattle.qrcode_types.specs.declared.types.EcLevel.TheVariants.{M};
+ghost use Rattle.qrcode_ec.specs.Allowed.{reserved};
+ghost use Rattle.qrcode_places.specs.Patterns.{is_functional_place};
+ghost use Rattle.qrcode_places.specs.Words.{FormatWordsAreApart, FormatWordsTell};
+ghost use Rattle.qrcode_symbol.specs.Canvas.{colors_of};
+ghost use Rattle.qrcode_symbol.specs.Reading.{ReadsBitsOnly};
+ghost use Rattle.qrcode_bits.specs.Choice.{bands, IsChosen, NoneHolds};
+ghost use Rattle.qrcode_bits.specs.Cuts.{FitsIn};
+ghost use Rattle.qrcode_bits.specs.Encoded.{IsNormalUpTo};
+ghost use Rattle.qrcode_bits.specs.Refusals.{data_limit, pieces_refusal};
+ghost use Rattle.qrcode_bits.specs.Segments.{total_cost, AreInside};
+ghost use Rattle.qrcode_bits.specs.Spelling.{IsReadable, SpellsOnly};
+ghost use Rattle.qrcode_bits.specs.Written.{written, terminated, pieces_of};
+ghost use Rattle.qrcode_bits.specs.declared.optimize.Segment.{Segment};
+ghost use Rattle.qrcode.specs.Acceptance.{IsAccepted, HasCut, IsSpelled, IsLeastSymbol, IsChosenSymbol};
+ghost use Rattle.qrcode.specs.Drawing.{IsDrawn};
+ghost use Rattle.qrcode.specs.Pictures.{quiet_zone, debug_text};
+ghost use Rattle.qrcode.specs.Reading.{Encodes};
+
+use bits::Bits;
+use canvas::Canvas;
+pub use qrcode_bits::{bits, optimize};
+pub use qrcode_render as render;
+pub use qrcode_symbol::{canvas, ec, types};
+use qrcode_types::tables;
+use render::{Pixel, Renderer};
+use std::alloc::{AllocError, Global};
+use std::ops::Index;
+use types::QrError;
+pub use types::{Color, EcLevel, QrResult, Version};
+
+// The bytes of data that are taken at most.
+const DATA_LIMIT: usize = 1_048_576;
+
+/// A symbol.
+#[derive(Drop)]
+pub struct QrCode {
+    content: Vec<Color>,
+    version: Version,
+    ec_level: EcLevel,
+    width: usize,
+    ghost exists: { IsTrue (has_level version ec_level) },
+    ghost across: { width ≡ side version },
+    ghost square: { vec_len content ≡ width * width },
+}
+
+impl QrCode {
+    /// The symbol of data at level `M`, of the least Normal version that holds it.
+    ///
+    /// Refuses with `DataTooLong` where no Normal version holds the data, or where it has more than
+    /// 1,048,576 bytes, and with `OutOfMemory`.
+    pub fn new(alloc: Global, data: &[u8]) -> QrResult<Self>
+        ensures too_long { data_limit < length «data».now → result ≡ Err DataTooLong }
+        ensures refuses { NoneHolds bands M «data».now
+            → (result ≡ Err DataTooLong) ⊎ (result ≡ Err OutOfMemory) }
+        ensures accepts { (v : Version) (segments : List Segment) → length «data».now ≤ data_limit
+            → IsChosen M «data».now v segments → IsOkUnless result OutOfMemory }
+        ensures errors { IfErr result (λ e. (e ≡ DataTooLong) ⊎ (e ≡ OutOfMemory)) }
+        ensures refuses_unspelled { ((n : ℕ) → 1 ≤ n → n ≤ 40 → ¬ IsSpelled (Normal (pos n)) M «data».now)
+            → (result ≡ Err DataTooLong) ⊎ (result ≡ Err OutOfMemory) }
+        ensures accepts_spelled { (n : ℕ) → 1 ≤ n → n ≤ 40 → length «data».now ≤ data_limit
+            → IsSpelled (Normal (pos n)) M «data».now → IsOkUnless result OutOfMemory }
+        ensures least_version { (n : ℕ) → 1 ≤ n → n ≤ 40
+            → IsSpelled (Normal (pos n)) M «data».now
+            → IfOk result (λ code. IsNormalUpTo n code.version) }
+        ensures only_spelled { IfOk result (λ code. IsSpelled code.version M «data».now) }
+        ensures level { IfOk result (λ code. code.ec_level ≡ M) }
+        ensures symbol { IfOk result (λ code.
+            IsChosenSymbol code.version M «data».now code.content.items) }
+    {
+        QrCode::with_error_correction_level(alloc, data, EcLevel::M)
+    }
+
+    /// The symbol of data at a level, of the least Normal version that holds it.
+    ///
+    /// Refuses as `new` does.
+    pub fn with_error_correction_level(
+        alloc: Global,
+        data: &[u8],
+        ec_level: EcLevel,
+    ) -> QrResult<Self>
+        ensures too_long { data_limit < length «data».now → result ≡ Err DataTooLong }
+        ensures refuses { NoneHolds bands ec_level «data».now
+            → (result ≡ Err DataTooLong) ⊎ (result ≡ Err OutOfMemory) }
+        ensures accepts { (v : Version) (segments : List Segment) → length «data».now ≤ data_limit
+            → IsChosen ec_level «data».now v segments → IsOkUnless result OutOfMemory }
+        ensures errors { IfErr result (λ e. (e ≡ DataTooLong) ⊎ (e ≡ OutOfMemory)) }
+        ensures refuses_unspelled { ((n : ℕ) → 1 ≤ n → n ≤ 40 → ¬ IsSpelled (Normal (pos n)) ec_level «data».now)
+            → (result ≡ Err DataTooLong) ⊎ (result ≡ Err OutOfMemory) }
+        ensures accepts_spelled { (n : ℕ) → 1 ≤ n → n ≤ 40 → length «data».now ≤ data_limit
+            → IsSpelled (Normal (pos n)) ec_level «data».now → IsOkUnless result OutOfMemory }
+        ensures least_version { (n : ℕ) → 1 ≤ n → n ≤ 40
+            → IsSpelled (Normal (pos n)) ec_level «data».now
+            → IfOk result (λ code. IsNormalUpTo n code.version) }
+        ensures only_spelled { IfOk result (λ code. IsSpelled code.version ec_level «data».now) }
+        ensures level { IfOk result (λ code. code.ec_level ≡ ec_level) }
+        ensures symbol { IfOk result (λ code.
+            IsChosenSymbol code.version ec_level «data».now code.content.items) }
+    {
+        let bits = bits::encode_auto(alloc, data, ec_level)?;
+        QrCode::with_bits(alloc, bits, ec_level)
+    }
+
+    /// The symbol of data, of a version and level.
+    ///
+    /// Refuses, in this order, with `InvalidVersion` where there is no such version, with
+    /// `DataTooLong` where the data has more than 1,048,576 bytes, with `UnsupportedCharacterSet`
+    /// where it needs a mode that the version lacks, with `InvalidVersion` where the version lacks
+    /// the level, and with `DataTooLong` where the symbol does not hold the data; and with
+    /// `OutOfMemory`.
+    pub fn with_version(
+        alloc: Global,
+        data: &[u8],
+        version: Version,
+        ec_level: EcLevel,
+    ) -> QrResult<Self>
+        ensures invalid { is_valid version ≡ false → result ≡ Err InvalidVersion }
+        ensures too_long { IsTrue (is_valid version) → data_limit < length «data».now
+            → result ≡ Err DataTooLong }
+        ensures no_cut { IsTrue (is_valid version) → length «data».now ≤ data_limit
+            → ¬ HasCut version «data».now → result ≡ Err UnsupportedCharacterSet }
+        ensures no_level { IsTrue (is_valid version) → length «data».now ≤ data_limit
+            → HasCut version «data».now → has_level version ec_level ≡ false
+            → (result ≡ Err InvalidVersion) ⊎ (result ≡ Err OutOfMemory) }
+        ensures no_room { IsTrue (has_level version ec_level) → length «data».now ≤ data_limit
+            → HasCut version «data».now → ¬ FitsIn version «data».now (capacity version ec_level)
+            → (result ≡ Err DataTooLong) ⊎ (result ≡ Err OutOfMemory) }
+        ensures accepts { IsAccepted version ec_level «data».now → IsOkUnless result OutOfMemory }
+        ensures only_accepted { OnOk result (IsAccepted version ec_level «data».now) }
+        ensures accepts_spelled { IsTrue (has_level version ec_level)
+            → IsSpelled version ec_level «data».now → IsOkUnless result OutOfMemory }
+        ensures only_spelled { OnOk result (IsSpelled version ec_level «data».now) }
+        ensures version { IfOk result (λ code. code.version ≡ version) }
+        ensures level { IfOk result (λ code. code.ec_level ≡ ec_level) }
+        ensures symbol { IfOk result (λ code.
+            IsLeastSymbol version ec_level «data».now code.content.items) }
+    {
+        if !version.is_valid() {
+            return Err(QrError::InvalidVersion);
+        }
+        let room = tables::capacity(version, ec_level);
+        if data.len() > DATA_LIMIT {
+            return Err(QrError::DataTooLong);
+        }
+        let mut bits = Bits::new(alloc, version);
+        if let Err(error) = bits.push_optimal_data(data) {
+            // That the version lacks the level is told before that the data is too long.
+            if room.is_none() && error == QrError::DataTooLong {
+                return Err(QrError::InvalidVersion);
+            }
+            return Err(error);
+        }
+        bits.push_terminator(ec_level)?;
+        QrCode::with_bits(alloc, bits, ec_level)
+    }
+
+    /// The symbol of a list of bits, which has the bits' version.
+    ///
+    /// Refuses with `InvalidVersion` where the version lacks the level, with `DataTooLong` where the
+    /// symbol holds fewer bits, and with `OutOfMemory`. Bits that do not fill the symbol are ended
+    /// by `Bits::push_terminator` first.
+    pub fn with_bits(alloc: Global, bits: Bits, ec_level: EcLevel) -> QrResult<Self>
+        requires { IsTrue (has_level bits.version ec_level)
+            → capacity bits.version ec_level ≤ length bits.bits }
+        ensures missing { has_level bits.version ec_level ≡ false → result ≡ Err InvalidVersion }
+        ensures too_long { IsTrue (has_level bits.version ec_level)
+            → capacity bits.version ec_level < length bits.bits → result ≡ Err DataTooLong }
+        ensures accepts { IsTrue (has_level bits.version ec_level)
+            → length bits.bits ≤ capacity bits.version ec_level → IsOkUnless result OutOfMemory }
+        ensures version { IfOk result (λ code. code.version ≡ bits.version) }
+        ensures level { IfOk result (λ code. code.ec_level ≡ ec_level) }
+        ensures symbol { IfOk result (λ code.
+            Encodes (λ other. ReadsBitsOnly other bits.version ec_level bits.bits)
+            bits.version ec_level bits.bits code.content.items) }
+    {
+        let version = bits.version();
+        let Some(room) = tables::capacity(version, ec_level) else {
+            return Err(QrError::InvalidVersion);
+        };
+        if bits.len() > room {
+            return Err(QrError::DataTooLong);
+        }
+        let data = bits.into_bytes();
+        let (data, ec) = ec::construct_codewords(alloc, &data, version, ec_level)?;
+        let canvas = draw_codewords(alloc, version, ec_level, &data, &ec)?;
+        let content = canvas.into_colors(alloc)?;
+        Ok(QrCode {
+            content,
+            version,
+            ec_level,
+            width: version.width() as usize,
+        })
+    }
+
+    /// The version of the symbol.
+    pub fn version(&self) -> Version
+        ensures { result ≡ self.now.version }
+    {
+        self.version
+    }
+
+    /// The error correction level of the symbol.
+    pub fn error_correction_level(&self) -> EcLevel
+        ensures { result ≡ self.now.ec_level }
+    {
+        self.ec_level
+    }
+
+    /// The modules along a side, without a quiet zone.
+    pub fn width(&self) -> usize
+        ensures { result ≡ side self.now.version }
+    {
+        self.width
+    }
+
+    /// How many wrong codewords of the symbol can be corrected, over all its blocks.
+    pub fn max_allowed_errors(&self) -> usize
+        ensures { result ≡ (total_ec_length self.now.version self.now.ec_level
+            - reserved self.now.version self.now.ec_level) / 2 }
+    {
+        ec::max_allowed_errors(self.version, self.ec_level).unwrap()
+    }
+
+    /// Whether the module in column `x` and row `y` belongs to a pattern or to the format word.
+    pub fn is_functional(&self, x: usize, y: usize) -> bool
+        requires column { x < side self.now.version }
+        requires row { y < side self.now.version }
+        ensures { result ≡ is_functional_place self.now.version x y }
+    {
+        canvas::is_functional(self.version, self.width as i16, x as i16, y as i16)
+    }
+
+    /// The modules as text, `on_char` for dark ones and `off_char` for light ones, row by row with a
+    /// newline between each two, without a quiet zone.
+    pub fn to_debug_str(&self, alloc: Global, on_char: char, off_char: char) -> QrResult<String>
+        ensures value { IfOk result (λ text. string_bytes text
+            ≡ debug_text self.now.version self.now.content.items on_char off_char) }
+        ensures memory { IsOkUnless result OutOfMemory }
+    {
+        render::rectangles_make_pictures::<char>();
+        self.render()
+            .quiet_zone(false)
+            .dark_color(on_char)
+            .light_color(off_char)
+            .build(alloc)
+    }
+
+    /// Whether each module is dark, row by row.
+    pub fn to_vec(&self, alloc: Global) -> QrResult<Vec<bool>>
+        ensures value { IfOk result (λ modules. modules.items ≡ map is_dark self.now.content.items) }
+        ensures memory { IsOkUnless result OutOfMemory }
+    {
+        Ok(
+            self.content
+                .iter()
+                .map(|c| c.select(true, false))
+                .collect(alloc)?,
+        )
+    }
+
+    /// Whether each module is dark, row by row.
+    pub fn into_vec(self, alloc: Global) -> QrResult<Vec<bool>>
+        ensures value { IfOk result (λ modules. modules.items ≡ map is_dark self.content.items) }
+        ensures memory { IsOkUnless result OutOfMemory }
+    {
+        self.to_vec(alloc)
+    }
+
+    /// The colour of each module, row by row.
+    pub fn to_colors(&self, alloc: Global) -> QrResult<Vec<Color>>
+        ensures value { IfOk result (λ colors. colors.items ≡ self.now.content.items) }
+        ensures memory { IsOkUnless result OutOfMemory }
+    {
+        Ok(Vec::from_slice(alloc, &self.content)?)
+    }
+
+    /// The colour of each module, row by row.
+    pub fn into_colors(self) -> Vec<Color>
+        ensures { result.items ≡ self.content.items }
+    {
+        self.content
+    }
+
+    /// A renderer of the symbol, with a quiet zone of four modules, or of two for Micro QR.
+    pub fn render<P: Pixel>(&self) -> Renderer<'_, P>
+        ensures content { result.content ≡ self.now.content.items }
+        ensures count { result.count ≡ side self.now.version }
+        ensures zone { result.zone ≡ quiet_zone self.now.version }
+        ensures on { result.has_zone ≡ true }
+        ensures across { result.across ≡ P.unit.0 }
+        ensures down { result.down ≡ P.unit.1 }
+        ensures dark { P.is_default_color Color.Dark result.dark }
+        ensures light { P.is_default_color Color.Light result.light }
+    {
+        let quiet_zone = if self.version.is_micro() { 2 } else { 4 };
+        Renderer::new(&self.content, self.width, quiet_zone)
+    }
+}
+
+impl Index<(usize, usize)> for QrCode {
+    type Output = Color;
+
+    ghost can_index = { λ code place. (place.0 < side code.version) × (place.1 < side code.version) };
+
+    ghost index_gives = { λ code place color. slice_get code.content.items (place.1 * side code.version + place.0) ≡ Some color };
+
+    fn index(&self, (x, y): (usize, usize)) -> &Color {
+        &self.content[y * self.width + x]
+    }
+}
+
+impl Clone for QrCode {
+    ghost is_clone = { λ code other. (other.content.items ≡ code.content.items) × (other.version ≡ code.version) × (other.ec_level ≡ code.ec_level) };
+
+    fn clone(&self) -> Result<QrCode, AllocError> {
+        Ok(QrCode {
+            content: self.content.clone()?,
+            version: self.version,
+            ec_level: self.ec_level,
+            width: self.width,
+        })
+    }
+}
+
+// The canvas of codewords, under the first mask of least penalty.
+fn draw_codewords(
+    alloc: Global,
+    version: Version,
+    ec_level: EcLevel,
+    data: &[u8],
+    ec: &[u8],
+) -> QrResult<Canvas>
+    requires exists { IsTrue (has_level version ec_level) }
+    requires data_length { length «data».now ≡ data_length version ec_level }
+    requires ec_length { length ec.now ≡ total_ec_length version ec_level }
+    requires half { IsTrue (has_half_codeword version ec_level) → slice_index «data».now (length «data».now - 1) % 16 ≡ 0 }
+    ensures memory { IsOkUnless result OutOfMemory }
+    ensures drawn { IfOk result (λ canvas. IsDrawn version ec_level («data».now ++ ec.now) (colors_of canvas.modules)) }
+    ensures words { IfOk result (λ _. FormatWordsAreApart × FormatWordsTell) }
+{
+    let mut canvas = Canvas::new(alloc, version, ec_level)?;
+    canvas.draw_all_functional_patterns();
+    canvas.draw_data(data, ec);
+    canvas.apply_best_mask(alloc)
+}

@@ -1,0 +1,126 @@
+-- Pieces that are written and ended spell their bytes.
+use Rattle.std.proofs.Common.{◌≡◌, ℕ, zero, suc, ◌+◌, ◌-◌, ◌*◌, ◌/◌, ◌<◌, ◌≤◌, min, Bool, true, false, not, List, [], ◌∷◌, ◌++◌, length, take, get_or, replicate, refl, sym, ap, ◌∙◌, arith, subst, true≢false, append_assoc, length-append, ◌⊎◌, inl, inr, pos, negsuc}
+use Rattle.std.specs.Prelude.{IsTrue, flat_map, nat_le}
+use Rattle.std.specs.List.{list_all, AllByRecursion}
+use Rattle.std.proofs.lemmas.Bool.{and_parts, leb-true, cases_lt}
+use Rattle.std.proofs.lemmas.List.{length-replicate, get_or_append_left, get_or-append-add}
+use Rattle.qrcode_types.specs.Bits.{number_bits}
+use Rattle.qrcode_types.specs.Versions.{is_valid, capacity}
+use Rattle.qrcode_types.specs.Modes.{indicator, normal_indicator, length_bits_count}
+use Rattle.qrcode_types.specs.declared.types.Version.{Version}
+use Rattle.qrcode_types.specs.declared.types.Version.TheVariants.{Normal, Micro}
+use Rattle.qrcode_types.specs.declared.types.EcLevel.{EcLevel}
+use Rattle.qrcode_types.specs.declared.types.Mode.{Mode}
+use Rattle.qrcode_types.specs.declared.types.Mode.TheVariants.{Numeric, Alphanumeric, Byte, Kanji}
+use Rattle.qrcode_bits.specs.Segments.{character_count}
+use Rattle.qrcode_bits.specs.Written.{Piece, written_piece, written, data_bits_in, terminator_length, terminated, padding}
+use Rattle.qrcode_bits.specs.Spelling.{is_end, IsReadable, IsReadAs, Spells, SpellsOnly}
+use Rattle.qrcode_bits.specs.Endings.{ending, zeros_end}
+use Rattle.qrcode_bits.proofs.Paddings.{length-padding, padding-nil}
+use Rattle.qrcode_bits.proofs.Numbers.{has_one, length-number_bits}
+use Rattle.qrcode_bits.proofs.Spellings.{normal_small, one_text}
+
+-- a one among the first t bits
+not_zeros : (t : ℕ) (bits : List Bool) (i : ℕ) → i < t → get_or bits i false ≡ true → list_all not (take t bits) ≡ false
+not_zeros zero bits i l h = absurd (omega arith)
+not_zeros (suc t) [] i l h = absurd (true≢false (sym h))
+not_zeros (suc t) (true ∷ bits) i l h = refl
+not_zeros (suc t) (false ∷ bits) zero l h = absurd (true≢false (sym h))
+not_zeros (suc t) (false ∷ bits) (suc i) l h = not_zeros t bits i (omega arith) h
+
+normal_positive : (m : Mode) → 0 < normal_indicator m
+normal_positive Numeric = omega arith
+normal_positive Alphanumeric = omega arith
+normal_positive Byte = omega arith
+normal_positive Kanji = omega arith
+
+micro_width : (n : ℕ) (m : Mode) → 1 ≤ n → n - 1 + length_bits_count m (Micro (pos n)) ≤ 2 * n + 1
+micro_width n Numeric h = omega arith
+micro_width n Alphanumeric h = omega arith
+micro_width n Byte h = omega arith
+micro_width n Kanji h = omega arith
+
+-- no piece begins as an end does
+begins : (v : Version) (p : Piece) (x : List Bool) → IsTrue (is_valid v) → IsReadable v p → is_end v (written_piece v p ++ x) ≡ false
+begins (Micro (negsuc n)) p x a h = absurd (true≢false (sym a))
+begins (Normal v) p x a h =
+    let i = number_bits 4 (normal_indicator p.mode) in
+    let n = number_bits (length_bits_count p.mode (Normal v)) (character_count p.mode (length p.chunk)) in
+    let d = data_bits_in p.mode p.chunk in
+    let one = has_one 4 (normal_indicator p.mode) (normal_small p.mode) (normal_positive p.mode) in
+    let e : (i ++ (n ++ d)) ++ x ≡ i ++ (n ++ (d ++ x)) = append_assoc i (n ++ d) x ∙ ap (λ r. i ++ r) (append_assoc n d x) in
+    ap (λ bits. list_all not (take 4 bits)) e
+    ∙ not_zeros 4 (i ++ (n ++ (d ++ x))) one.0 one.1 (get_or_append_left i (n ++ (d ++ x)) false one.0 (omega (arith, length-number_bits 4 (normal_indicator p.mode), one.1)) ∙ one.2)
+begins (Micro (pos v)) p x a h =
+    let w = length_bits_count p.mode (Micro (pos v)) in
+    let c = character_count p.mode (length p.chunk) in
+    let i = number_bits (v - 1) (indicator (Micro (pos v)) p.mode) in
+    let n = number_bits w c in
+    let d = data_bits_in p.mode p.chunk in
+    let one = has_one w c h.counted h.nonempty in
+    let least = leb-true 1 v (and_parts (nat_le 1 v) (nat_le v 4) a).0 in
+    let e : (i ++ (n ++ d)) ++ x ≡ i ++ (n ++ (d ++ x)) = append_assoc i (n ++ d) x ∙ ap (λ r. i ++ r) (append_assoc n d x) in
+    let f = get_or-append-add i (n ++ (d ++ x)) one.0 false ∙ get_or_append_left n (d ++ x) false one.0 (omega (arith, length-number_bits w c, one.1)) ∙ one.2 in
+    ap (λ bits. list_all not (take (2 * v + 1) bits)) e
+    ∙ not_zeros (2 * v + 1) (i ++ (n ++ (d ++ x))) (length i + one.0) (omega (arith, length-number_bits (v - 1) (indicator (Micro (pos v)) p.mode), one.1, micro_width v p.mode least)) f
+
+-- pieces that a reader takes, and an end
+pub read_as : (v : Version) (ps : List Piece) (rest : List Bool) → IsTrue (is_valid v) → AllByRecursion (IsReadable v) ps → is_end v rest ≡ true → IsReadAs v (written v ps ++ rest) ps
+read_as v [] rest a h e = e
+read_as v (p ∷ ps) rest a h e =
+    let more = written v ps ++ rest in
+    let f : written v (p ∷ ps) ++ rest ≡ written_piece v p ++ more = append_assoc (written_piece v p) (written v ps) rest in
+    (more, (f, (ap (is_end v) f ∙ begins v p more a h.0, (h.0, read_as v ps rest a h.1 e))))
+
+-- zeros for t places, or to the end
+zeros : (t n : ℕ) (x : List Bool) → (t ≤ n) ⊎ (x ≡ []) → list_all not (take t (replicate n false ++ x)) ≡ true
+zeros zero n x h = refl
+zeros (suc t) zero x h = elim h [ inl l ↦ absurd (omega arith) | inr e ↦ ap (λ y. list_all not (take (suc t) y)) e ]
+zeros (suc t) (suc n) x h = zeros t n x (elim h [ inl l ↦ inl (omega arith) | inr e ↦ inr e ])
+
+ending-is_end : (t used room : ℕ) → used ≤ room → list_all not (take t (ending t used room)) ≡ true
+unfolding ending zeros_end
+ending-is_end t used room h =
+    let z = min (8 * ((min (used + t) room + 7) / 8)) room in
+    zeros t (z - used) (padding (room - z)) (elim (cases_lt z room) [
+      | inl below ↦ inl (omega arith)
+      | inr above ↦ inr (let y : room - z ≡ 0 = omega arith in ap padding y ∙ padding-nil)
+    ])
+
+pub length-ending : (t used room : ℕ) → used ≤ room → length (ending t used room) ≡ room - used
+unfolding ending zeros_end
+length-ending t used room h =
+    let z = min (8 * ((min (used + t) room + 7) / 8)) room in
+    omega (arith, length-append (replicate (z - used) false) (padding (room - z)), length-replicate (z - used) false, length-padding (room - z))
+
+pub terminated-ending : (v : Version) (l : EcLevel) (bits : List Bool) → terminated v l bits ≡ bits ++ ending (terminator_length v) (length bits) (capacity v l)
+unfolding terminated ending zeros_end
+terminated-ending v l bits =
+    let room = capacity v l in
+    let z = min (8 * ((min (length bits + terminator_length v) room + 7) / 8)) room in
+    append_assoc bits (replicate (z - length bits) false) (padding (room - z))
+
+pub length-terminated : (v : Version) (l : EcLevel) (bits : List Bool) → length bits ≤ capacity v l → length (terminated v l bits) ≡ capacity v l
+length-terminated v l bits h =
+    let e = ending (terminator_length v) (length bits) (capacity v l) in
+    omega (arith, ap length (terminated-ending v l bits), length-append bits e, length-ending (terminator_length v) (length bits) (capacity v l) h)
+
+-- pieces that a reader takes, terminated, are read as their bytes
+pub spells_terminated : (v : Version) (l : EcLevel) (ps : List Piece) → IsTrue (is_valid v) → AllByRecursion (IsReadable v) ps → length (written v ps) ≤ capacity v l
+    → Spells v (terminated v l (written v ps)) (flat_map (λ p. p.chunk) ps)
+spells_terminated v l ps a h fits =
+    let bits = written v ps in
+    let e = ending (terminator_length v) (length bits) (capacity v l) in
+    record {
+      pieces = ps;
+      read = subst (λ b. IsReadAs v b ps) (sym (terminated-ending v l bits)) (read_as v ps e a h (ending-is_end (terminator_length v) (length bits) (capacity v l) fits));
+      joined = refl;
+    }
+
+pub spells_only_terminated : (v : Version) (l : EcLevel) (ps : List Piece) → IsTrue (is_valid v) → AllByRecursion (IsReadable v) ps → length (written v ps) ≤ capacity v l
+    → SpellsOnly v (terminated v l (written v ps)) (flat_map (λ p. p.chunk) ps)
+spells_only_terminated v l ps a h fits =
+    let bits = terminated v l (written v ps) in
+    let bytes = flat_map (λ p. p.chunk) ps in
+    let found = spells_terminated v l ps a h fits in
+    record { found = found; only = λ others spelled. one_text v bits bytes others found spelled }

@@ -1,0 +1,134 @@
+-- Pieces that are written one after the other.
+use Rattle.std.proofs.Common.{◌≡◌, ℕ, ◌+◌, ◌-◌, ◌≤◌, ◌++◌, Bool, List, [], ◌∷◌, length, take, refl, sym, ap, subst, ◌∙◌, arith, Option, Some, None, length-append, append_assoc, append-nil}
+use Rattle.std.specs.Prelude.{slice_get, slice_range, Result, Ok, Err, IsErr, IsErrAnd, IfErr, IfSome, drop}
+use Rattle.std.specs.List.{AllByRecursion}
+use Rattle.std.proofs.lemmas.Grind.{flat_map-append}
+use Rattle.std.proofs.lemmas.List.{map-append, take_at, length-take-le, length-drop}
+use Rattle.std.proofs.lemmas.List.Sums.{sum_by-cons}
+use Rattle.qrcode_types.specs.declared.types.Version.{Version}
+use Rattle.qrcode_types.specs.declared.types.QrError.{QrError}
+use Rattle.qrcode_bits.specs.BitList.{BitList}
+use Rattle.qrcode_bits.specs.Pushes.{Changes, PushesAll, with_bits}
+use Rattle.qrcode_bits.specs.Segments.{AreInside, character_count, cost_of, cost, total_cost}
+use Rattle.qrcode_bits.specs.Refusals.{piece_refusal, pieces_refusal, first_some, IsCause, StopsAt}
+use Rattle.qrcode_bits.specs.Written.{Piece, written_piece, written, pieces_of}
+use Rattle.qrcode_bits.specs.declared.optimize.Segment.{Segment}
+use Rattle.qrcode_bits.proofs.Lengths.{length-piece}
+use Rattle.qrcode_bits.proofs.SegmentRanges.{length-range}
+
+first_some-None : {A : Type 0} (a b : Option A) → first_some a b ≡ None → (a ≡ None) × (b ≡ None)
+first_some-None (Some x) b h = cc
+first_some-None None b h = (refl, h)
+
+first_some-both : {A : Type 0} (a b : Option A) → a ≡ None → b ≡ None → first_some a b ≡ None
+first_some-both (Some x) b h k = cc
+first_some-both None b h k = k
+
+-- one piece more
+refusal-push : (v : Version) (used : ℕ) (ps : List Piece) (p : Piece) → pieces_refusal v used ps ≡ None → piece_refusal v (used + length (written v ps)) p ≡ None → pieces_refusal v used (ps ++ p ∷ []) ≡ None
+refusal-push v used [] p h k =
+    let e : used + 0 ≡ used = omega arith in
+    first_some-both (piece_refusal v used p) None (sym (ap (λ n. piece_refusal v n p) e) ∙ k) refl
+refusal-push v used (q ∷ ps) p h k =
+    let used' = used + cost_of v q.mode (character_count q.mode (length q.chunk)) in
+    let both = first_some-None (piece_refusal v used q) (pieces_refusal v used' ps) h in
+    let e : used + length (written v (q ∷ ps)) ≡ used' + length (written v ps) = omega (arith, length-append (written_piece v q) (written v ps), length-piece v q) in
+    first_some-both (piece_refusal v used q) (pieces_refusal v used' (ps ++ p ∷ [])) both.0
+    (refusal-push v used' ps p both.1 (sym (ap (λ n. piece_refusal v n p) e) ∙ k))
+
+written-push : (v : Version) (ps : List Piece) (p : Piece) → written v (ps ++ p ∷ []) ≡ written v ps ++ written_piece v p
+written-push v ps p = flat_map-append (written_piece v) ps (p ∷ []) ∙ ap (λ r. written v ps ++ r) (append-nil (written_piece v p))
+
+abbrev pub piece_of : List ℕ → Segment → Piece
+piece_of bytes s = record { mode = s.mode; chunk = slice_range bytes s.begin s.end }
+
+pieces_of-push : (bytes : List ℕ) (ss : List Segment) (s : Segment) → pieces_of bytes (ss ++ s ∷ []) ≡ pieces_of bytes ss ++ piece_of bytes s ∷ []
+pieces_of-push bytes ss s = map-append (piece_of bytes) ss (s ∷ [])
+
+total_cost-push : (v : Version) (ss : List Segment) (s : Segment) → total_cost v (ss ++ s ∷ []) ≡ total_cost v ss + cost v s
+total_cost-push v [] s = omega (arith, sum_by-cons (cost v) s [])
+total_cost-push v (r ∷ ss) s = omega (arith, sum_by-cons (cost v) r (ss ++ s ∷ []), sum_by-cons (cost v) r ss, total_cost-push v ss s)
+
+-- the last of ranges that are inside
+pub last_inside : (n : ℕ) (ss : List Segment) (s : Segment) → AreInside n (ss ++ s ∷ []) → (s.begin ≤ s.end) × (s.end ≤ n)
+last_inside n [] s h = h.0
+last_inside n (r ∷ ss) s h = last_inside n ss s h.1
+
+-- ranges in data that is small enough are small
+pub small_inside : (n : ℕ) (ss : List Segment) → n ≤ 134217728 → AreInside n ss → AllByRecursion (λ s. (s.begin ≤ s.end) × (s.end - s.begin ≤ 134217728)) ss
+small_inside n [] small h = tt
+small_inside n (s ∷ ss) small h = ((h.0.0, omega (arith, h.0.1, small)), small_inside n ss small h.1)
+
+-- no segment yet
+pub pushes_none : (v : Version) (old : List Bool) (bytes : List ℕ) → PushesAll v old bytes [] old
+pushes_none v old bytes = record { taken = refl; bits = sym (append-nil old); longer = omega arith }
+
+-- one segment more
+pushes_more : (v : Version) (old : List Bool) (bytes : List ℕ) (ss : List Segment) (s : Segment) (now new : List Bool) → s.begin ≤ s.end → s.end ≤ length bytes
+    → PushesAll v old bytes ss now → piece_refusal v (length now) (piece_of bytes s) ≡ None → new ≡ now ++ written_piece v (piece_of bytes s) → PushesAll v old bytes (ss ++ s ∷ []) new
+pushes_more v old bytes ss s now new ordered inside before taken e =
+    let ps = pieces_of bytes ss in
+    let p = piece_of bytes s in
+    let used : length now ≡ length old + length (written v ps) = ap length before.bits ∙ length-append old (written v ps) in
+    record {
+      taken = ap (pieces_refusal v (length old)) (pieces_of-push bytes ss s) ∙ refusal-push v (length old) ps p before.taken (sym (ap (λ n. piece_refusal v n p) used) ∙ taken);
+      bits = e ∙ ap (λ b. b ++ written_piece v p) before.bits ∙ append_assoc old (written v ps) (written_piece v p) ∙ ap (λ b. old ++ b) (sym (written-push v ps p) ∙ sym (ap (written v) (pieces_of-push bytes ss s)));
+      longer = omega (arith, ap length e, length-append now (written_piece v p), length-piece v p, before.longer, total_cost-push v ss s, ap (λ n. cost_of v s.mode (character_count s.mode n)) (length-range bytes s.begin s.end ordered inside));
+    }
+
+at_end : {X : Type 0} (xs : List X) (x : X) → slice_get (xs ++ x ∷ []) (length xs) ≡ Some x
+at_end [] x = refl
+at_end (y ∷ xs) x = at_end xs x
+
+-- a push that isn't refused has no cause, and the error of another is its cause
+not_refused : (r : Option QrError) (old after new : BitList) (u : Unit {0}) → Changes r old after new (Ok u) → r ≡ None
+not_refused (Some cause) old after new u h = let same = h.refused cause refl in cc
+not_refused None old after new u h = refl
+
+cause_of : (r : Option QrError) (old after new : BitList) (e : QrError) → Changes r old after new (Err e) → IsCause r e
+cause_of (Some cause) old after new e h = let same = h.refused cause refl in cc
+cause_of None old after new e h = h.accepted refl
+
+-- an error that a `?` hands on
+pub handed_on : {T : Type 0} (result : Result T QrError) (e : QrError) (P : QrError → Type 0) → IsErr result × IsErrAnd result (λ x. x ≡ e) → P e → IfErr result P
+handed_on (Ok u) e P h p = tt
+handed_on (Err x) e P h p = subst P (sym h.1) p
+
+-- the segment behind those that were written is refused
+stops : (v : Version) (old : List Bool) (bytes : List ℕ) (ss : List Segment) (s : Segment) (now : List Bool) (e : QrError)
+    → PushesAll v old bytes ss now → IsCause (piece_refusal v (length now) (piece_of bytes s)) e → StopsAt v old (pieces_of bytes (ss ++ s ∷ [])) e now
+stops v old bytes ss s now e before cause =
+    let ps = pieces_of bytes ss in
+    let p = piece_of bytes s in
+    let front : take (length ps) (ps ++ p ∷ []) ≡ ps = take_at ps (p ∷ []) (length ps) refl in
+    subst (λ qs. StopsAt v old qs e now) (sym (pieces_of-push bytes ss s)) (record {
+      place = length ps;
+      inside = omega (arith, length-append ps (p ∷ []));
+      before = ap (pieces_refusal v (length old)) front ∙ before.taken;
+      written = before.bits ∙ ap (λ qs. old ++ written v qs) (sym front);
+      cause = subst (λ o. IfSome o (λ q. IsCause (piece_refusal v (length now) q) e)) (sym (at_end ps p)) cause;
+    })
+
+-- a segment that is pushed, behind others
+pub pushes_segment : (v : Version) (old : List Bool) (bytes : List ℕ) (ss : List Segment) (s : Segment) (now new : BitList) (u : Unit {0}) → (s.begin ≤ s.end) × (s.end ≤ length bytes)
+    → now.version ≡ v → PushesAll v old bytes ss now.bits
+    → Changes (piece_refusal now.version (length now.bits) (piece_of bytes s)) now (with_bits now (written_piece now.version (piece_of bytes s))) new (Ok u)
+    → (new.version ≡ v) × PushesAll v old bytes (ss ++ s ∷ []) new.bits
+pushes_segment v old bytes ss s now new u range same before pushed =
+    let p = piece_of bytes s in
+    let taken = not_refused (piece_refusal now.version (length now.bits) p) now (with_bits now (written_piece now.version p)) new u pushed in (
+      ap (λ (l : BitList). l.version) pushed.changed ∙ same,
+      pushes_more v old bytes ss s now.bits new.bits range.0 range.1 before (sym (ap (λ w. piece_refusal w (length now.bits) p) same) ∙ taken)
+          (ap (λ (l : BitList). l.bits) pushed.changed ∙ ap (λ w. now.bits ++ written_piece w p) same),
+    )
+
+-- a segment that is refused, behind others
+pub refuses_segment : (v : Version) (old : List Bool) (bytes : List ℕ) (ss : List Segment) (s : Segment) (now new : BitList) (e : QrError)
+    → now.version ≡ v → PushesAll v old bytes ss now.bits
+    → Changes (piece_refusal now.version (length now.bits) (piece_of bytes s)) now (with_bits now (written_piece now.version (piece_of bytes s))) new (Err e)
+    → StopsAt v old (pieces_of bytes (ss ++ s ∷ [])) e new.bits
+refuses_segment v old bytes ss s now new e same before refused =
+    let p = piece_of bytes s in
+    let cause = cause_of (piece_refusal now.version (length now.bits) p) now (with_bits now (written_piece now.version p)) new e refused in
+    let stop = stops v old bytes ss s now.bits e before (subst (λ w. IsCause (piece_refusal w (length now.bits) p) e) same cause) in
+    subst (StopsAt v old (pieces_of bytes (ss ++ s ∷ [])) e) (sym (ap (λ (l : BitList). l.bits) refused.unchanged)) stop

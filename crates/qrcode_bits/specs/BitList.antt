@@ -1,0 +1,8 @@
+-- What a list of bits is seen as.
+use Rattle.std.specs.Prelude.{Bool, List}
+use Rattle.qrcode_types.specs.declared.types.Version.{Version}
+
+-- a version and a list of bits
+pub record BitList : Type 0 where
+  pub version : Version
+  pub bits : List Bool

@@ -1,0 +1,54 @@
+-- How segments are joined.
+use Rattle.std.specs.Prelude.{◌≡◌, ◌+◌, nat_le, ◌&&◌, not, Bool, true, false, List, [], ◌∷◌, map, flat_map, IsTrue}
+use Rattle.qrcode_types.specs.Modes.{mode_max}
+use Rattle.qrcode_types.specs.declared.types.Version.{Version}
+use Rattle.qrcode_bits.specs.Segments.{cost}
+use Rattle.qrcode_bits.specs.declared.optimize.Segment.{Segment}
+
+-- two adjoining segments as one
+abbrev pub joint : Segment → Segment → Segment
+joint a b = record { mode = mode_max a.mode b.mode; begin = a.begin; end = b.end }
+
+-- joining two segments costs at most the sum of both
+abbrev pub is_joined : Version → Segment → Segment → Bool
+is_joined v a b = nat_le (cost v (joint a b)) (cost v a + cost v b)
+
+-- a segment, and those that were joined to it in turn
+pub record Group : Type 0 where
+  pub first : Segment
+  pub further : List Segment
+
+abbrev pub joint_of : Segment → List Segment → Segment
+joint_of a [] = a
+joint_of a (s ∷ further) = joint_of (joint a s) further
+
+-- each further segment joined the part before it
+abbrev pub is_group : Version → Segment → List Segment → Bool
+is_group v a [] = true
+is_group v a (s ∷ further) = is_joined v a s && is_group v (joint a s) further
+
+-- the first segment of the next group didn't join
+abbrev pub ends_before : Version → Segment → List Group → Bool
+ends_before v a [] = true
+ends_before v a (g ∷ groups) = not (is_joined v a g.first)
+
+abbrev pub are_groups : Version → List Group → Bool
+are_groups v [] = true
+are_groups v (g ∷ groups) = is_group v g.first g.further && ends_before v (joint_of g.first g.further) groups && are_groups v groups
+
+-- The joints are those of a cut of the segments into groups: within a group each further segment joined the part before
+-- it, and at each cut the next segment would have joined at more than the sum of both.
+pub record IsGrouping (v : Version) (segments joints : List Segment) : Type 0 where
+  pub groups : List Group
+  pub cut : flat_map (λ g. g.first ∷ g.further) groups ≡ segments
+  pub joined : map (λ g. joint_of g.first g.further) groups ≡ joints
+  pub holds : IsTrue (are_groups v groups)
+
+-- the grouping that goes on from a part, which `IsGrouping` describes
+abbrev pub grouping_from : Version → Segment → List Segment → List Segment
+grouping_from v a [] = a ∷ []
+grouping_from v a (s ∷ segments) = elim (is_joined v a s) [ true ↦ grouping_from v (joint a s) segments | false ↦ a ∷ grouping_from v s segments ]
+
+abbrev pub grouping : Version → List Segment → List Segment
+grouping v [] = []
+grouping v (s ∷ segments) = grouping_from v s segments

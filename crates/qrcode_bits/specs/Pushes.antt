@@ -1,0 +1,32 @@
+-- What a push of a list of bits does.
+use Rattle.std.specs.Prelude.{◌≡◌, ℕ, ◌+◌, ◌++◌, Bool, List, length, Option, Some, None, Result, Err, OnOk, OnErr, IsOkUnless}
+use Rattle.qrcode_types.specs.declared.types.QrError.{QrError}
+use Rattle.qrcode_types.specs.declared.types.QrError.TheVariants.{OutOfMemory}
+use Rattle.qrcode_types.specs.declared.types.Version.{Version}
+use Rattle.qrcode_bits.specs.BitList.{BitList}
+use Rattle.qrcode_bits.specs.Segments.{total_cost}
+use Rattle.qrcode_bits.specs.Refusals.{pieces_refusal}
+use Rattle.qrcode_bits.specs.Written.{written, pieces_of}
+use Rattle.qrcode_bits.specs.declared.optimize.Segment.{Segment}
+
+-- The list becomes another, or is refused and stays as it was: where there is a refusal, by it and no other; and else
+-- for want of memory at most.
+pub record Changes (refusal : Option QrError) (old after new : BitList) (result : Result (Unit {0}) QrError) : Type 0 where
+  pub refused : (e : QrError) → refusal ≡ Some e → result ≡ Err e
+  pub accepted : refusal ≡ None → IsOkUnless result OutOfMemory
+  pub changed : OnOk result (new ≡ after)
+  pub unchanged : OnErr result (new ≡ old)
+
+-- the list with bits behind it
+abbrev pub with_bits : BitList → List Bool → BitList
+with_bits list bits = record list { bits = list.bits ++ bits }
+
+-- bits are appended, or the list is refused
+abbrev pub Appends : Option QrError → List Bool → BitList → BitList → Result (Unit {0}) QrError → Type 0
+Appends refusal bits old new result = Changes refusal old (with_bits old bits) new result
+
+-- none of the segments' pieces is refused, and all are written
+pub record PushesAll (v : Version) (old : List Bool) (bytes : List ℕ) (segments : List Segment) (new : List Bool) : Type 0 where
+  pub taken : pieces_refusal v (length old) (pieces_of bytes segments) ≡ None
+  pub bits : new ≡ old ++ written v (pieces_of bytes segments)
+  pub longer : length new ≡ length old + total_cost v segments

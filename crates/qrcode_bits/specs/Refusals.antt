@@ -1,0 +1,95 @@
+-- What the pushes of a list of bits refuse, and how far they come. Want of memory stands beside all of it.
+use Rattle.std.specs.Prelude.{◌≡◌, ℕ, ◌+◌, ◌^◌, ◌<◌, nat_le, nat_lt, ◌&&◌, ◌++◌, not, Bool, true, false, List, [], ◌∷◌, length, take, slice_get, IfSome, Option, Some, None, if◌then◌else◌}
+use Rattle.qrcode_types.specs.Bits.{number_bits}
+use Rattle.qrcode_types.specs.Characters.{can_write}
+use Rattle.qrcode_types.specs.Versions.{has_level, capacity}
+use Rattle.qrcode_types.specs.Modes.{has_mode, indicator, mode_bits_count, length_bits_count}
+use Rattle.qrcode_types.specs.declared.types.Version.{Version}
+use Rattle.qrcode_types.specs.declared.types.Version.TheVariants.{Normal, Micro}
+use Rattle.qrcode_types.specs.declared.types.EcLevel.{EcLevel}
+use Rattle.qrcode_types.specs.declared.types.Mode.{Mode}
+use Rattle.qrcode_types.specs.declared.types.Mode.TheVariants.{Numeric, Alphanumeric, Byte, Kanji}
+use Rattle.qrcode_types.specs.declared.types.QrError.{QrError}
+use Rattle.qrcode_types.specs.declared.types.QrError.TheVariants.{DataTooLong, InvalidVersion, UnsupportedCharacterSet, InvalidEciDesignator, InvalidCharacter, OutOfMemory}
+use Rattle.qrcode_bits.specs.Segments.{character_count, cost_of}
+use Rattle.qrcode_bits.specs.Written.{Piece, written, eci_bits}
+use Rattle.qrcode_bits.specs.declared.bits.ExtendedMode.{ExtendedMode}
+use Rattle.qrcode_bits.specs.declared.bits.ExtendedMode.TheVariants.{Eci, Data, Fnc1First, Fnc1Second, StructuredAppend}
+
+-- the bytes of data that are taken at most
+abbrev pub data_limit : ℕ
+data_limit = 1048576
+
+-- the bits of a list at most
+abbrev pub bit_limit : ℕ
+bit_limit = 16777216
+
+-- a push refuses bytes that its mode cannot write; but the mode Alphanumeric writes them as 0
+abbrev pub is_checked : Mode → Bool
+is_checked Numeric = true
+is_checked Kanji = true
+is_checked Alphanumeric = false
+is_checked Byte = false
+
+-- What refuses so many characters behind so many bits, whatever they are.
+abbrev pub count_refusal : Version → ℕ → Mode → ℕ → Option QrError
+count_refusal v used m count =
+    if not (has_mode v m) then Some UnsupportedCharacterSet else
+    (if not (nat_lt count (2 ^ length_bits_count m v) && nat_le (used + cost_of v m count) bit_limit) then Some DataTooLong else None)
+
+-- What refuses a piece behind so many bits, in this order: the version lacks the mode; the count does not fit its length
+-- field, or the list would grow too long; the mode cannot write a byte.
+abbrev pub piece_refusal : Version → ℕ → Piece → Option QrError
+piece_refusal v used p =
+    let count = character_count p.mode (length p.chunk) in
+    if not (has_mode v p.mode) then Some UnsupportedCharacterSet else
+    (if not (nat_lt count (2 ^ length_bits_count p.mode v) && nat_le (used + cost_of v p.mode count) bit_limit) then Some DataTooLong else
+    (if is_checked p.mode && not (can_write p.mode p.chunk) then Some InvalidCharacter else None))
+
+abbrev pub first_some : {A : Type 0} → Option A → Option A → Option A
+first_some (Some a) other = Some a
+first_some None other = other
+
+-- the first refusal of pieces that are written one after the other
+abbrev pub pieces_refusal : Version → ℕ → List Piece → Option QrError
+pieces_refusal v used [] = None
+pieces_refusal v used (p ∷ pieces) = first_some (piece_refusal v used p) (pieces_refusal v (used + cost_of v p.mode (character_count p.mode (length p.chunk))) pieces)
+
+-- the bits of a mode indicator; none where the version lacks it
+abbrev pub indicator_bits : Version → ExtendedMode → Option (List Bool)
+indicator_bits v (Data m) = if has_mode v m then Some (number_bits (mode_bits_count v) (indicator v m)) else None
+indicator_bits (Normal v) Eci = Some (number_bits 4 7)
+indicator_bits (Normal v) Fnc1First = Some (number_bits 4 5)
+indicator_bits (Normal v) Fnc1Second = Some (number_bits 4 9)
+indicator_bits (Normal v) StructuredAppend = Some (number_bits 4 3)
+indicator_bits (Micro v) Eci = None
+indicator_bits (Micro v) Fnc1First = None
+indicator_bits (Micro v) Fnc1Second = None
+indicator_bits (Micro v) StructuredAppend = None
+
+-- what refuses bits that would be appended, where they exist
+abbrev pub append_refusal : ℕ → Option (List Bool) → Option QrError
+append_refusal used None = Some UnsupportedCharacterSet
+append_refusal used (Some bits) = if nat_le (used + length bits) bit_limit then None else Some DataTooLong
+
+-- what refuses the number of a character set, in this order: no such mode, number too great, list too long
+abbrev pub eci_refusal : Version → ℕ → ℕ → Option QrError
+eci_refusal (Micro v) used n = Some UnsupportedCharacterSet
+eci_refusal (Normal v) used n = if nat_le n 999999 then append_refusal used (Some (number_bits 4 7 ++ eci_bits n)) else Some InvalidEciDesignator
+
+-- what refuses a terminator behind so many bits: the version lacks the level, or the bits are more than it holds
+abbrev pub terminator_refusal : Version → EcLevel → ℕ → Option QrError
+terminator_refusal v l used = if not (has_level v l) then Some InvalidVersion else (if nat_le used (capacity v l) then None else Some DataTooLong)
+
+-- a piece is refused by its own cause where it has one, and else for want of memory
+abbrev pub IsCause : Option QrError → QrError → Type 0
+IsCause (Some cause) e = e ≡ cause
+IsCause None e = e ≡ OutOfMemory
+
+-- the pieces before one that is refused are written
+pub record StopsAt (v : Version) (old : List Bool) (pieces : List Piece) (e : QrError) (new : List Bool) : Type 0 where
+  pub place : ℕ
+  pub inside : place < length pieces
+  pub before : pieces_refusal v (length old) (take place pieces) ≡ None
+  pub written : new ≡ old ++ written v (take place pieces)
+  pub cause : IfSome (slice_get pieces place) (λ p. IsCause (piece_refusal v (length new) p) e)

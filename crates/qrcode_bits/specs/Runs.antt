@@ -1,0 +1,101 @@
+-- The runs of one kind in the data. Its tokens are found from the left: a Kanji pair, or else one byte, which is a lone
+-- lead, a digit, another character of the alphabet or another byte.
+use Rattle.std.specs.Prelude.{◌≡◌, ℕ, ◌+◌, ◌*◌, Bool, true, false, List, [], ◌∷◌, ◌++◌, replicate, if◌then◌else◌, ⊤}
+use Rattle.qrcode_types.specs.declared.types.Mode.{Mode}
+use Rattle.qrcode_types.specs.declared.types.Mode.TheVariants.{Numeric, Alphanumeric, Byte, Kanji}
+use Rattle.qrcode_types.specs.Characters.{is_digit, is_alphanumeric, is_lead, is_kanji}
+use Rattle.qrcode_bits.specs.declared.optimize.Segment.{Segment}
+use Rattle.qrcode_bits.specs.declared.optimize.Kind.{Kind}
+use Rattle.qrcode_bits.specs.declared.optimize.Kind.TheVariants.{Pair, LoneLead, Digit, Letter, Other}
+
+abbrev pub mode_of : Kind → Mode
+mode_of Pair = Kanji
+mode_of LoneLead = Byte
+mode_of Digit = Numeric
+mode_of Letter = Alphanumeric
+mode_of Other = Byte
+
+-- the bytes of a token
+abbrev pub width : Kind → ℕ
+width Pair = 2
+width LoneLead = 1
+width Digit = 1
+width Letter = 1
+width Other = 1
+
+-- the kind of a byte that begins no pair
+abbrev pub single_kind : ℕ → Kind
+single_kind b = if is_lead b then LoneLead else (if is_digit b then Digit else (if is_alphanumeric b then Letter else Other))
+
+-- the kinds of the tokens, from the left
+abbrev pub kinds : List ℕ → List Kind
+kinds [] = []
+kinds (b ∷ []) = single_kind b ∷ []
+kinds (b ∷ c ∷ more) = elim (is_kanji b c) [ true ↦ Pair ∷ kinds more | false ↦ single_kind b ∷ kinds (c ∷ more) ]
+
+-- two neighbours belong to one run; a lone lead stands alone
+abbrev pub go_together : Kind → Kind → Bool
+go_together Pair Pair = true
+go_together Digit Digit = true
+go_together Letter Letter = true
+go_together Other Other = true
+go_together _ _ = false
+
+-- the run of a token goes on with the tokens after it
+abbrev pub goes_on : Kind → List Kind → Bool
+goes_on k [] = false
+goes_on k (j ∷ js) = go_together k j
+
+-- the first segment, begun earlier
+abbrev pub first_from : ℕ → List Segment → List Segment
+first_from place [] = []
+first_from place (s ∷ ss) = (record s { begin = place }) ∷ ss
+
+-- the runs of tokens that begin at a place: a token is the first of the run after it, or a run of its own
+abbrev pub runs_from : ℕ → List Kind → List Segment
+runs_from place [] = []
+runs_from place (k ∷ ks) =
+    let end = place + width k in
+    if goes_on k ks then first_from place (runs_from end ks) else (record { mode = mode_of k; begin = place; end = end }) ∷ runs_from end ks
+
+-- the runs of the data
+abbrev pub runs : List ℕ → List Segment
+runs bytes = runs_from 0 (kinds bytes)
+
+-- The same as a relation.
+
+-- a token and so many further ones of its kind
+pub record Row : Type 0 where
+  pub kind : Kind
+  pub further : ℕ
+
+-- the tokens of rows
+abbrev pub spelled : List Row → List Kind
+spelled [] = []
+spelled (r ∷ rows) = r.kind ∷ (replicate r.further r.kind ++ spelled rows)
+
+-- only lone leads have a neighbour of their own kind
+abbrev pub IsApart : Row → List Row → Type 0
+IsApart r [] = ⊤
+IsApart r (q ∷ rows) = r.kind ≡ q.kind → r.kind ≡ LoneLead
+
+-- rows are as long as can be, and each lone lead is a row of its own
+abbrev pub AreMaximal : List Row → Type 0
+AreMaximal [] = ⊤
+AreMaximal (r ∷ rows) = (r.kind ≡ LoneLead → r.further ≡ 0) × (IsApart r rows × AreMaximal rows)
+
+-- where a row ends that begins at a place
+abbrev pub row_end : ℕ → Row → ℕ
+row_end place r = place + (r.further + 1) * width r.kind
+
+-- rows that begin at a place, as segments
+abbrev pub row_segments : ℕ → List Row → List Segment
+row_segments place [] = []
+row_segments place (r ∷ rows) = (record { mode = mode_of r.kind; begin = place; end = row_end place r }) ∷ row_segments (row_end place r) rows
+
+-- the segments are the maximal rows of the bytes' tokens
+pub record IsRuns (bytes : List ℕ) (segments : List Segment) : Type 0 where
+  pub rows : List Row
+  pub tokens : spelled rows ≡ kinds bytes
+  pub maximal : AreMaximal rows
+  pub are : segments ≡ row_segments 0 rows

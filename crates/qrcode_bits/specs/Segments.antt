@@ -1,0 +1,39 @@
+-- Segments: ranges of the data, each in a mode.
+use Rattle.std.specs.Prelude.{◌≡◌, ℕ, ◌+◌, ◌-◌, ◌/◌, ◌<◌, ◌≤◌, List, [], ◌∷◌, sum_by, ⊤}
+use Rattle.std.specs.List.{AllByRecursion}
+use Rattle.qrcode_types.specs.Modes.{mode_bits_count, length_bits_count, data_bits_count}
+use Rattle.qrcode_types.specs.declared.types.Version.{Version}
+use Rattle.qrcode_types.specs.declared.types.Mode.{Mode}
+use Rattle.qrcode_types.specs.declared.types.Mode.TheVariants.{Numeric, Alphanumeric, Byte, Kanji}
+use Rattle.qrcode_bits.specs.declared.optimize.Segment.{Segment}
+
+-- the characters in so many bytes
+abbrev pub character_count : Mode → ℕ → ℕ
+character_count Numeric n = n
+character_count Alphanumeric n = n
+character_count Byte n = n
+character_count Kanji n = n / 2
+
+-- the bits that so many characters take, with mode indicator and length field
+abbrev pub cost_of : Version → Mode → ℕ → ℕ
+cost_of v m count = mode_bits_count v + length_bits_count m v + data_bits_count m count
+
+abbrev pub cost : Version → Segment → ℕ
+cost v s = cost_of v s.mode (character_count s.mode (s.end - s.begin))
+
+abbrev pub total_cost : Version → List Segment → ℕ
+total_cost v segments = sum_by (cost v) segments
+
+-- the segments follow one another without gaps from one place to another, and none is empty
+abbrev pub Tile : ℕ → List Segment → ℕ → Type 0
+Tile from [] to = from ≡ to
+Tile from (s ∷ segments) to = (s.begin ≡ from) × ((s.begin < s.end) × Tile s.end segments to)
+
+-- each range begins where the one before ends; it may be empty
+abbrev pub AdjoinFrom : ℕ → List Segment → Type 0
+AdjoinFrom from [] = ⊤
+AdjoinFrom from (s ∷ segments) = (s.begin ≡ from) × ((s.begin ≤ s.end) × AdjoinFrom s.end segments)
+
+-- ranges in data of n bytes
+abbrev pub AreInside : ℕ → List Segment → Type 0
+AreInside n segments = AllByRecursion (λ s. (s.begin ≤ s.end) × (s.end ≤ n)) segments

@@ -1,0 +1,35 @@
+-- How bits are read as bytes.
+use Rattle.std.specs.Prelude.{◌≡◌, ℕ, ◌^◌, ◌<◌, not, Bool, List, [], ◌∷◌, ◌++◌, length, take, flat_map, IsTrue, IsFalse}
+use Rattle.std.specs.List.{list_all}
+use Rattle.qrcode_types.specs.Modes.{has_mode, length_bits_count}
+use Rattle.qrcode_types.specs.declared.types.Version.{Version}
+use Rattle.qrcode_types.specs.Characters.{can_write}
+use Rattle.qrcode_bits.specs.Segments.{character_count}
+use Rattle.qrcode_bits.specs.Written.{Piece, written_piece, terminator_length}
+
+-- the pieces end here: the terminator, or as much of it as is left
+abbrev pub is_end : Version → List Bool → Bool
+is_end v bits = list_all not (take (terminator_length v) bits)
+
+-- a piece that a reader of the version takes
+pub record IsReadable (v : Version) (p : Piece) : Type 0 where
+  pub mode_exists : IsTrue (has_mode v p.mode)
+  pub writable : IsTrue (can_write p.mode p.chunk)
+  pub nonempty : 0 < character_count p.mode (length p.chunk)
+  pub counted : character_count p.mode (length p.chunk) < 2 ^ length_bits_count p.mode v
+
+-- the bits are the pieces one after the other, none of which begins like an end, and then an end
+abbrev pub IsReadAs : Version → List Bool → List Piece → Type 0
+IsReadAs v bits [] = IsTrue (is_end v bits)
+IsReadAs v bits (p ∷ pieces) = (rest : List Bool) × ((bits ≡ written_piece v p ++ rest) × (IsFalse (is_end v bits) × (IsReadable v p × IsReadAs v rest pieces)))
+
+-- a reader finds these bytes in the bits
+pub record Spells (v : Version) (bits : List Bool) (bytes : List ℕ) : Type 0 where
+  pub pieces : List Piece
+  pub read : IsReadAs v bits pieces
+  pub joined : flat_map (λ p. p.chunk) pieces ≡ bytes
+
+-- a reader finds these bytes in the bits, and no others
+pub record SpellsOnly (v : Version) (bits : List Bool) (bytes : List ℕ) : Type 0 where
+  pub found : Spells v bits bytes
+  pub only : (others : List ℕ) → Spells v bits others → others ≡ bytes

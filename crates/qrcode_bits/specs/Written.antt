@@ -1,0 +1,78 @@
+-- The bits that are written.
+use Rattle.std.specs.Prelude.{ℕ, ◌+◌, ◌-◌, ◌*◌, ◌/◌, ◌%◌, ◌==◌, nat_le, min, nat_abs, Bool, false, List, [], ◌∷◌, ◌++◌, length, map, flat_map, replicate, slice_range, if◌then◌else◌}
+use Rattle.std.specs.List.{range_with_len}
+use Rattle.qrcode_types.specs.Bits.{number_bits, bits_of}
+use Rattle.qrcode_types.specs.Versions.{capacity}
+use Rattle.qrcode_types.specs.Modes.{mode_bits_count, length_bits_count, indicator}
+use Rattle.qrcode_types.specs.declared.types.Version.{Version}
+use Rattle.qrcode_types.specs.declared.types.Version.TheVariants.{Normal, Micro}
+use Rattle.qrcode_types.specs.declared.types.EcLevel.{EcLevel}
+use Rattle.qrcode_types.specs.declared.types.Mode.{Mode}
+use Rattle.qrcode_types.specs.declared.types.Mode.TheVariants.{Numeric, Alphanumeric, Byte, Kanji}
+use Rattle.qrcode_types.specs.Characters.{alphanumeric_number, kanji_number}
+use Rattle.qrcode_bits.specs.Segments.{character_count}
+use Rattle.qrcode_bits.specs.declared.optimize.Segment.{Segment}
+
+-- three digits in ten bits, two in seven, one in four
+abbrev pub numeric_bits : List ℕ → List Bool
+numeric_bits [] = []
+numeric_bits (a ∷ []) = number_bits 4 (a - 48)
+numeric_bits (a ∷ b ∷ []) = number_bits 7 (10 * (a - 48) + (b - 48))
+numeric_bits (a ∷ b ∷ c ∷ more) = number_bits 10 (100 * (a - 48) + 10 * (b - 48) + (c - 48)) ++ numeric_bits more
+
+-- two characters in eleven bits, one in six
+abbrev pub alphanumeric_bits : List ℕ → List Bool
+alphanumeric_bits [] = []
+alphanumeric_bits (a ∷ []) = number_bits 6 (alphanumeric_number a)
+alphanumeric_bits (a ∷ b ∷ more) = number_bits 11 (45 * alphanumeric_number a + alphanumeric_number b) ++ alphanumeric_bits more
+
+-- each pair in thirteen bits; a last byte without another is left out
+abbrev pub kanji_bits : List ℕ → List Bool
+kanji_bits [] = []
+kanji_bits (a ∷ []) = []
+kanji_bits (a ∷ b ∷ more) = number_bits 13 (kanji_number a b) ++ kanji_bits more
+
+abbrev pub data_bits_in : Mode → List ℕ → List Bool
+data_bits_in Numeric bytes = numeric_bits bytes
+data_bits_in Alphanumeric bytes = alphanumeric_bits bytes
+data_bits_in Byte bytes = bits_of bytes
+data_bits_in Kanji bytes = kanji_bits bytes
+
+-- bytes, and the mode in which they are written
+pub record Piece : Type 0 where
+  pub mode : Mode
+  pub chunk : List ℕ
+
+-- mode indicator, character count and data bits
+abbrev pub written_piece : Version → Piece → List Bool
+written_piece v p =
+    number_bits (mode_bits_count v) (indicator v p.mode) ++ (number_bits (length_bits_count p.mode v) (character_count p.mode (length p.chunk)) ++ data_bits_in p.mode p.chunk)
+
+abbrev pub written : Version → List Piece → List Bool
+written v pieces = flat_map (written_piece v) pieces
+
+-- what segments have of the data
+abbrev pub pieces_of : List ℕ → List Segment → List Piece
+pieces_of bytes segments = map (λ s. record { mode = s.mode; chunk = slice_range bytes s.begin s.end }) segments
+
+-- the zeros that end the pieces, where there is room
+abbrev pub terminator_length : Version → ℕ
+terminator_length (Normal v) = 4
+terminator_length (Micro v) = 2 * nat_abs v + 1
+
+-- the bytes 0xEC and 0x11 by turns, and zeros where no whole byte fits
+unfoldable pub padding : ℕ → List Bool
+padding n = flat_map (λ i. number_bits 8 (if i % 2 == 0 then 0xEC else 0x11)) (range_with_len 0 (n / 8)) ++ replicate (n % 8) false
+
+-- Bits with terminator and padding, as many as the capacity: zeros for the terminator and on to a whole byte, all cut at
+-- the capacity, then the bytes of the padding, and zeros where a half codeword is left. It says nothing of bits that are
+-- more than the capacity.
+unfoldable pub terminated : Version → EcLevel → List Bool → List Bool
+terminated v l bits =
+    let room = capacity v l in
+    let zeros_end = min (8 * ((min (length bits + terminator_length v) room + 7) / 8)) room in
+    bits ++ replicate (zeros_end - length bits) false ++ padding (room - zeros_end)
+
+-- the number of a character set, below 1,000,000, in one, two or three bytes
+unfoldable pub eci_bits : ℕ → List Bool
+eci_bits n = if nat_le n 127 then number_bits 8 n else (if nat_le n 16383 then number_bits 2 2 ++ number_bits 14 n else number_bits 3 6 ++ number_bits 21 n)

@@ -1,0 +1,421 @@
+//! The list of bits in which segments are written.
+
+ghost use Rattle.std.specs.Prelude.{◌≡◌, ℕ, false, ◌+◌, ◌*◌, ◌<◌, ◌≤◌, ◌^◌, ◌==◌, [], ◌++◌, ◌∷◌, length, slice_range, flat_map, replicate, unwrap_or, List, Some, None, Ok, Err, is_ok, IsTrue, IfOk, IfErr, OnOk, if◌then◌else◌};
+ghost use Rattle.std.specs.List.{AllByRecursion};
+ghost use Rattle.std.specs.Iterator.{IsFinite, HoldsAlong, Drains, Yields};
+ghost use Rattle.std.specs.Option.{option_map};
+ghost use Rattle.qrcode_types.specs.Bits.{number_bits, bits_of};
+ghost use Rattle.qrcode_types.specs.Versions as versions;
+ghost use Rattle.qrcode_types.specs.Modes.{mode_bits_count};
+ghost use Rattle.qrcode_types.specs.declared.types.QrError.TheVariants.{DataTooLong, InvalidVersion, UnsupportedCharacterSet};
+ghost use Rattle.qrcode_bits.specs.Segments.{character_count, cost_of, AreInside};
+ghost use Rattle.qrcode_bits.specs.Written.{Piece, written, written_piece, pieces_of, terminated, eci_bits};
+ghost use Rattle.qrcode_bits.specs.Spelling.{IsReadable, SpellsOnly};
+ghost use Rattle.qrcode_bits.specs.Refusals.{piece_refusal, count_refusal, append_refusal, indicator_bits, eci_refusal, terminator_refusal, StopsAt};
+ghost use Rattle.qrcode_bits.specs.declared.optimize.Segment.{Segment};
+ghost use Rattle.qrcode_bits.specs.Pushes.{Changes, Appends, PushesAll};
+
+use crate::optimize::Segment;
+use crate::optimize::headers::has_mode;
+use qrcode_types::tables;
+use qrcode_types::types::{EcLevel, Mode, QrError, QrResult, Version};
+use std::alloc::Global;
+use std::marker::Model;
+
+mod automatic;
+mod ending;
+mod optimal;
+mod stream;
+mod written;
+
+pub use automatic::encode_auto;
+use ending::{push_ending, terminator_length};
+use stream::Stream;
+use written::{character_count, indicator, may_write, push_written};
+
+// The bits of a list at most.
+const BIT_LIMIT: usize = 16_777_216;
+
+/// A list of bits for a symbol of some version. A push that is refused leaves it as it was.
+#[derive(Drop)]
+pub struct Bits {
+    version: Version,
+    stream: Stream,
+}
+
+impl Model for Bits {
+    ghost use Rattle.std.specs.Prelude.{◌≤◌, length, IsTrue};
+    ghost use Rattle.qrcode_types.specs.Versions.{is_valid};
+    ghost use Rattle.qrcode_bits.specs.BitList.{BitList};
+    ghost use Rattle.qrcode_bits.specs.Refusals.{bit_limit};
+
+    ghost Value = { BitList };
+
+    ghost view = { λ b. record { version = b.version; bits = b.stream.bits } };
+
+    ghost invariant = { λ b. IsTrue (is_valid b.version) × (length b.stream.bits ≤ bit_limit) };
+}
+
+/// What a mode indicator announces.
+#[derive(Copy, Clone)]
+pub enum ExtendedMode {
+    /// The number of a character set.
+    Eci,
+    /// Data in a mode.
+    Data(Mode),
+    /// A symbol of FNC1 in the first position.
+    Fnc1First,
+    /// A symbol of FNC1 in the second position.
+    Fnc1Second,
+    /// A symbol that is one of several.
+    StructuredAppend,
+}
+
+impl Bits {
+    /// The empty list. It takes no memory yet, and grows by the allocator.
+    pub fn new(alloc: Global, version: Version) -> Self
+        requires { IsTrue (versions.is_valid version) }
+        ensures { result ≡ record { version = version; bits = [] } }
+    {
+        Bits {
+            version,
+            stream: Stream::new(alloc),
+        }
+    }
+
+    /// How many bits there are.
+    pub fn len(&self) -> usize
+        ensures value { result ≡ length self.now.bits }
+        ensures at_most { result ≤ 16777216 }
+    {
+        self.stream.len()
+    }
+
+    /// Whether there is no bit.
+    pub fn is_empty(&self) -> bool
+        ensures { result ≡ (length self.now.bits == 0) }
+    {
+        self.len() == 0
+    }
+
+    /// The version of the symbol.
+    pub fn version(&self) -> Version
+        ensures value { result ≡ self.now.version }
+        ensures valid { IsTrue (versions.is_valid result) }
+    {
+        self.version
+    }
+
+    /// The bits that a symbol of the version and this level holds.
+    ///
+    /// `InvalidVersion`: the version lacks the level.
+    pub fn max_len(&self, ec_level: EcLevel) -> QrResult<usize>
+        ensures exists { is_ok result ≡ versions.has_level self.now.version ec_level }
+        ensures value { IfOk result (λ bits. bits ≡ versions.capacity self.now.version ec_level) }
+        ensures missing { IfErr result (λ e. e ≡ QrError.InvalidVersion) }
+        ensures at_most { IfOk result (λ bits. bits ≤ 23648) }
+    {
+        tables::capacity(self.version, ec_level).ok_or(QrError::InvalidVersion)
+    }
+
+    /// The bytes that the bits fill, the first bit highest, the last byte filled with zeros.
+    pub fn into_bytes(self) -> Vec<u8>
+        ensures { (zeros : ℕ) × (zeros < 8)
+            × (bits_of result.items ≡ self.bits ++ replicate zeros false) }
+    {
+        self.stream.into_bytes()
+    }
+
+    /// Appends the mode indicator that announces something. ISO/IEC 18004:2006, 6.4.1.
+    ///
+    /// `UnsupportedCharacterSet`: the version has no such indicator. `DataTooLong`: the list would
+    /// pass 16,777,216 bits.
+    pub fn push_mode_indicator(&mut self, mode: ExtendedMode) -> QrResult<()>
+        ensures { Appends (append_refusal (length self.old.bits) (indicator_bits self.old.version mode))
+            (unwrap_or (indicator_bits self.old.version mode) []) self.old self.new result }
+    {
+        let number = extended_indicator(self.version, mode)?;
+        self.push_number(self.version.mode_bits_count() as u32, number)
+    }
+
+    /// Appends the mode indicator of ECI and the number of a character set. ISO/IEC 18004:2006,
+    /// 6.4.2.
+    ///
+    /// `UnsupportedCharacterSet`: the version is one of Micro QR. `InvalidEciDesignator`: the number
+    /// is 1,000,000 or more. `DataTooLong`: the list would pass 16,777,216 bits.
+    pub fn push_eci_designator(&mut self, eci_designator: u32) -> QrResult<()>
+        ensures { Appends (eci_refusal self.old.version (length self.old.bits) eci_designator)
+            (number_bits 4 7 ++ eci_bits eci_designator) self.old self.new result }
+    {
+        if self.version.is_micro() {
+            return Err(QrError::UnsupportedCharacterSet);
+        }
+
+        // The indicator 0111, and then 0, 10 or 110 in front of the number.
+        if eci_designator <= 127 {
+            self.push_number(12, (0b0111 << 8) + eci_designator)
+        } else if eci_designator <= 16_383 {
+            self.push_number(20, (0b0111_10 << 14) + eci_designator)
+        } else if eci_designator <= 999_999 {
+            self.push_number(28, (0b0111_110 << 21) + eci_designator)
+        } else {
+            Err(QrError::InvalidEciDesignator)
+        }
+    }
+
+    /// Appends digits, with mode indicator and length field. ISO/IEC 18004:2006, 6.4.3.
+    ///
+    /// `UnsupportedCharacterSet`: never, since each version has the mode. `DataTooLong`: the length
+    /// field is too small, or the list would pass 16,777,216 bits. `InvalidCharacter`: a byte is no
+    /// digit.
+    pub fn push_numeric_data(&mut self, data: &[u8]) -> QrResult<()>
+        ensures appends { Appends (piece_refusal self.old.version (length self.old.bits)
+            (record { mode = Mode.Numeric; chunk = «data».now }))
+            (written_piece self.old.version (record { mode = Mode.Numeric; chunk = «data».now }))
+            self.old self.new result }
+        ensures longer { OnOk result (length self.new.bits ≡ length self.old.bits
+            + cost_of self.old.version Mode.Numeric (character_count Mode.Numeric (length «data».now))) }
+    {
+        self.push_piece(Mode::Numeric, data)
+    }
+
+    /// Appends digits, capital letters and the nine other characters of the alphabet, with mode
+    /// indicator and length field. Any other byte is written as `0` is. ISO/IEC 18004:2006, 6.4.4.
+    ///
+    /// `UnsupportedCharacterSet`: the version lacks the mode. `DataTooLong`: the length field is too
+    /// small, or the list would pass 16,777,216 bits.
+    pub fn push_alphanumeric_data(&mut self, data: &[u8]) -> QrResult<()>
+        ensures appends { Appends (piece_refusal self.old.version (length self.old.bits)
+            (record { mode = Mode.Alphanumeric; chunk = «data».now }))
+            (written_piece self.old.version
+            (record { mode = Mode.Alphanumeric; chunk = «data».now }))
+            self.old self.new result }
+        ensures longer { OnOk result (length self.new.bits ≡ length self.old.bits
+            + cost_of self.old.version Mode.Alphanumeric (character_count Mode.Alphanumeric (length «data».now))) }
+    {
+        self.push_piece(Mode::Alphanumeric, data)
+    }
+
+    /// Appends bytes, with mode indicator and length field. ISO/IEC 18004:2006, 6.4.5.
+    ///
+    /// `UnsupportedCharacterSet`: the version lacks the mode. `DataTooLong`: the length field is too
+    /// small, or the list would pass 16,777,216 bits.
+    pub fn push_byte_data(&mut self, data: &[u8]) -> QrResult<()>
+        ensures appends { Appends (piece_refusal self.old.version (length self.old.bits)
+            (record { mode = Mode.Byte; chunk = «data».now }))
+            (written_piece self.old.version (record { mode = Mode.Byte; chunk = «data».now }))
+            self.old self.new result }
+        ensures longer { OnOk result (length self.new.bits ≡ length self.old.bits
+            + cost_of self.old.version Mode.Byte (character_count Mode.Byte (length «data».now))) }
+    {
+        self.push_piece(Mode::Byte, data)
+    }
+
+    /// Appends pairs of bytes of Shift JIS, with mode indicator and length field. ISO/IEC
+    /// 18004:2006, 6.4.6.
+    ///
+    /// `UnsupportedCharacterSet`: the version lacks the mode. `DataTooLong`: the length field is too
+    /// small for the pairs, or the list would pass 16,777,216 bits. `InvalidCharacter`: the bytes
+    /// are not pairs that the mode can write.
+    pub fn push_kanji_data(&mut self, data: &[u8]) -> QrResult<()>
+        ensures appends { Appends (piece_refusal self.old.version (length self.old.bits)
+            (record { mode = Mode.Kanji; chunk = «data».now }))
+            (written_piece self.old.version (record { mode = Mode.Kanji; chunk = «data».now }))
+            self.old self.new result }
+        ensures longer { OnOk result (length self.new.bits ≡ length self.old.bits
+            + cost_of self.old.version Mode.Kanji (character_count Mode.Kanji (length «data».now))) }
+    {
+        self.push_piece(Mode::Kanji, data)
+    }
+
+    /// Appends the mode indicator of FNC1 in the first position. ISO/IEC 18004:2006, 6.4.8.1.
+    ///
+    /// `UnsupportedCharacterSet`: the version is one of Micro QR. `DataTooLong`: the list would pass
+    /// 16,777,216 bits.
+    pub fn push_fnc1_first_position(&mut self) -> QrResult<()>
+        ensures { Appends (append_refusal (length self.old.bits)
+            (indicator_bits self.old.version ExtendedMode.Fnc1First))
+            (number_bits 4 5) self.old self.new result }
+    {
+        self.push_mode_indicator(ExtendedMode::Fnc1First)
+    }
+
+    /// Appends the mode indicator of FNC1 in the second position and the indicator of the
+    /// application, as eight bits. ISO/IEC 18004:2006, 6.4.8.2.
+    ///
+    /// `UnsupportedCharacterSet`: the version is one of Micro QR. `DataTooLong`: the list would pass
+    /// 16,777,216 bits.
+    pub fn push_fnc1_second_position(&mut self, application_indicator: u8) -> QrResult<()>
+        ensures { Appends (append_refusal (length self.old.bits)
+            (option_map (λ bits. bits ++ number_bits 8 application_indicator)
+            (indicator_bits self.old.version ExtendedMode.Fnc1Second)))
+            (number_bits 4 9 ++ number_bits 8 application_indicator)
+            self.old self.new result }
+    {
+        if self.version.is_micro() {
+            return Err(QrError::UnsupportedCharacterSet);
+        }
+        self.push_number(12, (0b1001 << 8) + u32::from(application_indicator))
+    }
+
+    /// Ends the list: appends the terminator, and padding up to the bits that a symbol of the version
+    /// and level holds. A list of so many bits stays as it is. ISO/IEC 18004:2006, 6.4.9 and 6.4.10.
+    ///
+    /// `InvalidVersion`: the version lacks the level. `DataTooLong`: the list is longer than the
+    /// symbol holds.
+    pub fn push_terminator(&mut self, ec_level: EcLevel) -> QrResult<()>
+        ensures ends { Changes (terminator_refusal self.old.version ec_level (length self.old.bits)) self.old
+            (record self.old { bits = terminated self.old.version ec_level self.old.bits })
+            self.new result }
+        ensures full { OnOk result (length self.new.bits ≡ versions.capacity self.old.version ec_level) }
+
+        // Pieces that a reader takes are then read as their bytes, and as no others.
+        ensures spelled { (pieces : List Piece)
+            → AllByRecursion (IsReadable self.old.version) pieces
+            → self.old.bits ≡ written self.old.version pieces
+            → OnOk result
+            (SpellsOnly self.new.version self.new.bits (flat_map (λ p. p.chunk) pieces)) }
+    {
+        let capacity = self.max_len(ec_level)?;
+        let used = self.len();
+        if used > capacity {
+            return Err(QrError::DataTooLong);
+        }
+        self.stream.reserve(capacity - used)?;
+        let terminator = terminator_length(self.version);
+        push_ending(&mut self.stream, terminator, used, capacity);
+        Ok(())
+    }
+
+    /// Appends the bytes of each segment in its mode. Ranges may come in any order, again, or empty.
+    ///
+    /// It refuses as the first refused segment does; the segments before it stand.
+    pub fn push_segments<I: Iterator<Item = Segment> + Drop>(
+        &mut self,
+        data: &[u8],
+        segments: I,
+    ) -> QrResult<()>
+        requires can { I.can_next segments }
+        requires ends { IsFinite (I.remaining segments) }
+        requires inside { HoldsAlong I.next_gives segments (AreInside (length «data».now)) }
+        ensures pushed { OnOk result ((given : List Segment) × (Drains I.next_gives segments given
+            × PushesAll self.old.version self.old.bits «data».now given self.new.bits)) }
+        ensures stopped { IfErr result (λ e. (given : List Segment) × ((rest : I)
+            × (Yields I.next_gives segments given rest
+            × StopsAt self.old.version self.old.bits (pieces_of «data».now given) e
+            self.new.bits))) }
+        ensures version { self.new.version ≡ self.old.version }
+    {
+        for segment in segments {
+            self.push_segment(data, segment)?;
+        }
+        Ok(())
+    }
+
+    // Appends the bytes of a segment in its mode.
+    fn push_segment(&mut self, data: &[u8], segment: Segment) -> QrResult<()>
+        requires ordered { segment.begin ≤ segment.end }
+        requires inside { segment.end ≤ length «data».now }
+        ensures { Appends (piece_refusal self.old.version (length self.old.bits)
+            (record {
+              mode = segment.mode;
+              chunk = slice_range «data».now segment.begin segment.end;
+            }))
+            (written_piece self.old.version (record {
+              mode = segment.mode;
+              chunk = slice_range «data».now segment.begin segment.end;
+            }))
+            self.old self.new result }
+    {
+        self.push_piece(segment.mode, &data[segment.begin..segment.end])
+    }
+
+    // Appends the bits of a number.
+    fn push_number(&mut self, count: u32, number: u32) -> QrResult<()>
+        requires count { count ≤ 32 }
+        requires fits { number < 2 ^ count }
+        ensures { Appends (append_refusal (length self.old.bits) (Some (number_bits count number)))
+            (number_bits count number) self.old self.new result }
+    {
+        if self.len() + count as usize > BIT_LIMIT {
+            return Err(QrError::DataTooLong);
+        }
+        self.stream.reserve(count as usize)?;
+        self.stream.push_number(count, number);
+        Ok(())
+    }
+
+    // Appends a piece.
+    fn push_piece(&mut self, mode: Mode, data: &[u8]) -> QrResult<()>
+        ensures { Appends (piece_refusal self.old.version (length self.old.bits)
+            (record { mode = mode; chunk = «data».now }))
+            (written_piece self.old.version (record { mode = mode; chunk = «data».now }))
+            self.old self.new result }
+    {
+        let length = self.piece_length(mode, character_count(mode, data.len()))?;
+        if !may_write(mode, data) {
+            return Err(QrError::InvalidCharacter);
+        }
+        self.stream.reserve(length)?;
+        push_written(&mut self.stream, self.version, mode, data);
+        Ok(())
+    }
+
+    // The bits of a piece of so many characters, where it may be appended.
+    fn piece_length(&self, mode: Mode, count: usize) -> QrResult<usize>
+        ensures ok { IfOk result (λ bits. (bits ≡ cost_of self.now.version mode count)
+            × (count_refusal self.now.version (length self.now.bits) mode count ≡ None)) }
+        ensures err { IfErr result (λ e.
+            count_refusal self.now.version (length self.now.bits) mode count ≡ Some e) }
+    {
+        if !has_mode(self.version, mode) {
+            return Err(QrError::UnsupportedCharacterSet);
+        }
+        let length_bits = mode.length_bits_count(self.version);
+        if count >= 1 << length_bits {
+            return Err(QrError::DataTooLong);
+        }
+        let length = self.version.mode_bits_count() + length_bits + mode.data_bits_count(count);
+        if self.len() + length > BIT_LIMIT {
+            return Err(QrError::DataTooLong);
+        }
+        Ok(length)
+    }
+}
+
+// The number of a mode indicator.
+fn extended_indicator(version: Version, mode: ExtendedMode) -> QrResult<u32>
+    requires { IsTrue (versions.is_valid version) }
+    ensures ok { IfOk result (λ n. (indicator_bits version mode
+        ≡ Some (number_bits (mode_bits_count version) n))
+        × (n < 2 ^ mode_bits_count version)) }
+    ensures err { IfErr result (λ e. (e ≡ QrError.UnsupportedCharacterSet)
+        × (indicator_bits version mode ≡ None)) }
+{
+    match mode {
+        ExtendedMode::Data(mode) => {
+            if !has_mode(version, mode) {
+                return Err(QrError::UnsupportedCharacterSet);
+            }
+            Ok(indicator(version, mode))
+        }
+        ExtendedMode::Eci => normal_indicator(version, 0b0111),
+        ExtendedMode::Fnc1First => normal_indicator(version, 0b0101),
+        ExtendedMode::Fnc1Second => normal_indicator(version, 0b1001),
+        ExtendedMode::StructuredAppend => normal_indicator(version, 0b0011),
+    }
+}
+
+// An indicator that Micro QR lacks.
+fn normal_indicator(version: Version, number: u32) -> QrResult<u32>
+    ensures { result
+        ≡ (if versions.is_micro version then Err QrError.UnsupportedCharacterSet else Ok number) }
+{
+    if version.is_micro() {
+        return Err(QrError::UnsupportedCharacterSet);
+    }
+    Ok(number)
+}
+
+#[cfg(test)]
+mod tests;

@@ -1,0 +1,53 @@
+//! How a list of bits is ended: by the terminator, and the padding behind it.
+
+ghost use Rattle.std.specs.Prelude.{◌≡◌, ◌+◌, ◌*◌, ◌%◌, ◌==◌, ◌<◌, ◌≤◌, ◌++◌, IsTrue, if◌then◌else◌};
+ghost use Rattle.qrcode_types.specs.Versions.{is_valid};
+ghost use Rattle.qrcode_bits.specs.Written as written;
+ghost use Rattle.qrcode_bits.specs.Endings.{ending};
+
+use super::stream::Stream;
+use qrcode_types::types::Version;
+
+// The zeros of the terminator, where there is room for them.
+pub(super) fn terminator_length(version: Version) -> usize
+    requires { IsTrue (is_valid version) }
+    ensures value { result ≡ written.terminator_length version }
+    ensures small { result ≤ 9 }
+{
+    match version {
+        Version::Normal(_) => 4,
+        Version::Micro(v) => 2 * (v as usize) + 1,
+    }
+}
+
+// Appends the terminator and the padding, behind so many bits.
+pub(super) fn push_ending(stream: &mut Stream, terminator: usize, used: usize, capacity: usize)
+    requires terminator { terminator ≤ 9 }
+    requires used { used ≤ capacity }
+    requires capacity { capacity ≤ 23648 }
+    requires room { capacity ≤ stream.old.room + used }
+    ensures { stream.new.bits ≡ stream.old.bits ++ ending terminator used capacity }
+{
+    let whole = 8 * (((used + terminator).min(capacity) + 7) / 8);
+    let zeros_end = whole.min(capacity);
+    stream.push_number((zeros_end - used) as u32, 0);
+    push_padding(stream, capacity - zeros_end);
+}
+
+// Appends so many bits: the bytes 0xEC and 0x11 by turns, and zeros where no whole byte fits.
+fn push_padding(stream: &mut Stream, count: usize)
+    requires { count ≤ stream.old.room }
+    ensures { stream.new.bits ≡ stream.old.bits ++ written.padding count }
+{
+    for i in 0..count / 8 {
+        stream.push_number(8, padding_byte(i));
+    }
+    stream.push_number((count % 8) as u32, 0);
+}
+
+fn padding_byte(place: usize) -> u32
+    ensures value { result ≡ (if place % 2 == 0 then 0xEC else 0x11) }
+    ensures small { result < 256 }
+{
+    if place % 2 == 0 { 0xEC } else { 0x11 }
+}

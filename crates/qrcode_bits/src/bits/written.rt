@@ -1,0 +1,172 @@
+//! How pieces are written: mode indicator, length field and data bits.
+
+ghost use Rattle.std.specs.Prelude.{◌≡◌, ◌+◌, ◌*◌, ◌/◌, ◌<◌, ◌≤◌, ◌^◌, ◌++◌, ◌&&◌, not, false, length, IsTrue};
+ghost use Rattle.std.specs.List.{list_all};
+ghost use Rattle.qrcode_types.specs.Bits.{number_bits, bits_of};
+ghost use Rattle.qrcode_types.specs.Versions.{is_valid};
+ghost use Rattle.qrcode_types.specs.Modes as modes;
+ghost use Rattle.qrcode_types.specs.Characters as characters;
+ghost use Rattle.qrcode_bits.specs.Segments as segments;
+ghost use Rattle.qrcode_bits.specs.Refusals.{is_checked};
+ghost use Rattle.qrcode_bits.specs.Written.{written_piece, numeric_bits, alphanumeric_bits, kanji_bits};
+
+use super::stream::Stream;
+use crate::characters::{alphanumeric_number, are_digits, digit_number, is_kanji, kanji_number};
+use qrcode_types::types::{Mode, Version};
+
+// The number that a mode indicator writes.
+pub(super) fn indicator(version: Version, mode: Mode) -> u32
+    ensures { result ≡ modes.indicator version mode }
+{
+    match version {
+        Version::Normal(_) => match mode {
+            Mode::Numeric => 0b0001,
+            Mode::Alphanumeric => 0b0010,
+            Mode::Byte => 0b0100,
+            Mode::Kanji => 0b1000,
+        },
+        Version::Micro(_) => match mode {
+            Mode::Numeric => 0,
+            Mode::Alphanumeric => 1,
+            Mode::Byte => 2,
+            Mode::Kanji => 3,
+        },
+    }
+}
+
+// The characters in so many bytes.
+pub(super) fn character_count(mode: Mode, bytes: usize) -> usize
+    ensures { result ≡ segments.character_count mode bytes }
+{
+    match mode {
+        Mode::Kanji => bytes / 2,
+        Mode::Numeric | Mode::Alphanumeric | Mode::Byte => bytes,
+    }
+}
+
+// Whether a push in the mode takes the bytes.
+pub(super) fn may_write(mode: Mode, data: &[u8]) -> bool
+    ensures { result ≡ not (is_checked mode && not (characters.can_write mode «data».now)) }
+{
+    match mode {
+        Mode::Numeric => are_digits(data),
+        Mode::Kanji => are_kanji(data),
+        Mode::Alphanumeric | Mode::Byte => true,
+    }
+}
+
+fn are_kanji(data: &[u8]) -> bool
+    ensures { result ≡ characters.are_kanji «data».now }
+{
+    let mut at = 0;
+    while data.len() - at >= 2 {
+        if !is_kanji(data[at], data[at + 1]) {
+            return false;
+        }
+        at += 2;
+    }
+    at == data.len()
+}
+
+// Appends a piece.
+pub(super) fn push_written(stream: &mut Stream, version: Version, mode: Mode, data: &[u8])
+    requires valid { IsTrue (is_valid version) }
+    requires mode { IsTrue (modes.has_mode version mode) }
+    requires counted { segments.character_count mode (length «data».now)
+        < 2 ^ modes.length_bits_count mode version }
+    requires writable { is_checked mode && not (characters.can_write mode «data».now) ≡ false }
+    requires room { segments.cost_of version mode (segments.character_count mode (length «data».now))
+        ≤ stream.old.room }
+    ensures { stream.new.bits
+        ≡ stream.old.bits ++ written_piece version (record { mode = mode; chunk = «data».now }) }
+{
+    push_header(stream, version, mode, character_count(mode, data.len()));
+    match mode {
+        Mode::Numeric => push_digits(stream, data),
+        Mode::Alphanumeric => push_characters(stream, data),
+        Mode::Byte => push_bytes(stream, data),
+        Mode::Kanji => push_pairs(stream, data),
+    }
+}
+
+// Appends the mode indicator and the length field.
+#[tactic(auto, using(crate::proofs::Headers::header_fits))]
+fn push_header(stream: &mut Stream, version: Version, mode: Mode, count: usize)
+    requires valid { IsTrue (is_valid version) }
+    requires mode { IsTrue (modes.has_mode version mode) }
+    requires counted { count < 2 ^ modes.length_bits_count mode version }
+    requires room { modes.mode_bits_count version + modes.length_bits_count mode version
+        ≤ stream.old.room }
+    ensures bits { stream.new.bits
+        ≡ stream.old.bits
+        ++ (number_bits (modes.mode_bits_count version) (modes.indicator version mode)
+        ++ number_bits (modes.length_bits_count mode version) count) }
+    ensures room { stream.old.room
+        ≤ stream.new.room + (modes.mode_bits_count version + modes.length_bits_count mode version) }
+{
+    stream.push_number(version.mode_bits_count() as u32, indicator(version, mode));
+    stream.push_number(mode.length_bits_count(version) as u32, count as u32);
+}
+
+// Appends digits, three in ten bits, two in seven, one in four.
+#[tactic(auto, using(crate::proofs::Groups::digit_at))]
+fn push_digits(stream: &mut Stream, digits: &[u8])
+    requires digits { IsTrue (list_all characters.is_digit digits.now) }
+    requires room { (10 * length digits.now + 2) / 3 ≤ stream.old.room }
+    ensures { stream.new.bits ≡ stream.old.bits ++ numeric_bits digits.now }
+{
+    let mut at = 0;
+    while digits.len() - at >= 3 {
+        let number = 100 * digit_number(digits[at])
+            + 10 * digit_number(digits[at + 1])
+            + digit_number(digits[at + 2]);
+        stream.push_number(10, number);
+        at += 3;
+    }
+    if digits.len() - at == 2 {
+        let number = 10 * digit_number(digits[at]) + digit_number(digits[at + 1]);
+        stream.push_number(7, number);
+    } else if digits.len() - at == 1 {
+        stream.push_number(4, digit_number(digits[at]));
+    }
+}
+
+// Appends characters of the alphabet, two in eleven bits, one in six.
+fn push_characters(stream: &mut Stream, text: &[u8])
+    requires room { (11 * length text.now + 1) / 2 ≤ stream.old.room }
+    ensures { stream.new.bits ≡ stream.old.bits ++ alphanumeric_bits text.now }
+{
+    let mut at = 0;
+    while text.len() - at >= 2 {
+        let number = 45 * alphanumeric_number(text[at]) + alphanumeric_number(text[at + 1]);
+        stream.push_number(11, number);
+        at += 2;
+    }
+    if text.len() - at == 1 {
+        stream.push_number(6, alphanumeric_number(text[at]));
+    }
+}
+
+// Appends bytes.
+fn push_bytes(stream: &mut Stream, bytes: &[u8])
+    requires room { 8 * length bytes.now ≤ stream.old.room }
+    ensures { stream.new.bits ≡ stream.old.bits ++ bits_of bytes.now }
+{
+    for byte in bytes {
+        stream.push_number(8, u32::from(*byte));
+    }
+}
+
+// Appends pairs of bytes, each in thirteen bits.
+#[tactic(auto, using(crate::proofs::Groups::next_pair))]
+fn push_pairs(stream: &mut Stream, pairs: &[u8])
+    requires pairs { IsTrue (characters.are_kanji pairs.now) }
+    requires room { 13 * (length pairs.now / 2) ≤ stream.old.room }
+    ensures { stream.new.bits ≡ stream.old.bits ++ kanji_bits pairs.now }
+{
+    let mut at = 0;
+    while pairs.len() - at >= 2 {
+        stream.push_number(13, kanji_number(pairs[at], pairs[at + 1]));
+        at += 2;
+    }
+}

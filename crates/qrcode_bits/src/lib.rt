@@ -1,0 +1,6 @@
+//! From bytes to bits: segments of the data, and the list of bits that they are written in.
+#![tactic(auto)]
+
+pub mod bits;
+mod characters;
+pub mod optimize;

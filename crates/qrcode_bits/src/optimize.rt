@@ -1,0 +1,78 @@
+//! Segments of the data, each in a mode.
+
+ghost use Rattle.std.specs.Prelude.{◌≡◌, ◌-◌, ◌≤◌, ◌<◌, ◌^◌, IsTrue};
+ghost use Rattle.std.specs.List.{AllByRecursion};
+ghost use Rattle.qrcode_types.specs.Versions.{is_valid};
+ghost use Rattle.qrcode_bits.specs.Segments.{cost, total_cost};
+ghost use Rattle.qrcode_bits.specs.Groups.{range_limit};
+
+pub use self::groups::Optimizer;
+pub use self::least::least_segments;
+pub use self::runs::Parser;
+use qrcode_types::types::{Mode, Version};
+
+mod groups;
+pub(crate) mod headers;
+mod least;
+mod rests;
+mod runs;
+mod tokens;
+
+/// A range of the data, from the byte `begin` to the byte before `end`, in one mode.
+#[derive(PartialEq, Eq, Debug, Copy, Clone)]
+pub struct Segment {
+    pub mode: Mode,
+    pub begin: usize,
+    pub end: usize,
+}
+
+impl Segment {
+    /// The bits that the range takes, with mode indicator and length field. In Kanji a character is
+    /// a pair of bytes, and a last byte without another takes none.
+    #[tactic(auto, using(crate::proofs::VersionModes::header_short))]
+    pub fn encoded_len(&self, version: Version) -> usize
+        requires valid { IsTrue (is_valid version) }
+        requires ordered { self.now.begin ≤ self.now.end }
+        requires small { self.now.end - self.now.begin ≤ range_limit }
+        ensures value { result ≡ cost version self.now }
+        ensures bound { result < 2 ^ 31 }
+    {
+        let bytes = self.end - self.begin;
+        let characters = match self.mode {
+            Mode::Kanji => bytes / 2,
+            _ => bytes,
+        };
+        version.mode_bits_count()
+            + self.mode.length_bits_count(version)
+            + self.mode.data_bits_count(characters)
+    }
+}
+
+/// The bits that all segments take, each as `encoded_len` counts them.
+pub fn total_encoded_len(segments: &[Segment], version: Version) -> usize
+    requires valid { IsTrue (is_valid version) }
+    requires ranges { AllByRecursion
+        (λ s. (s.begin ≤ s.end) × (s.end - s.begin ≤ range_limit)) segments.now }
+    requires fits { total_cost version segments.now < 2 ^ 64 }
+    ensures { result ≡ total_cost version segments.now }
+{
+    let mut total = 0;
+    for segment in segments {
+        total += segment.encoded_len(version);
+    }
+    total
+}
+
+// What a token is: a pair of bytes that Kanji can write, or one byte: that could begin such a pair,
+// a digit, another character of the alphabet, or any other.
+#[derive(PartialEq, Eq, Copy, Clone)]
+enum Kind {
+    Pair,
+    LoneLead,
+    Digit,
+    Letter,
+    Other,
+}
+
+#[cfg(test)]
+mod tests;

@@ -1,0 +1,141 @@
+//! Segments of the fewest bits.
+
+ghost use Rattle.std.specs.Prelude.{◌≡◌, ℕ, ◌<◌, ◌≤◌, ◌⊎◌, ◌↔◌, Bool, List, length, drop, flat_map, IsTrue, IfOk, IfErr, IsOkUnless, Err};
+ghost use Rattle.qrcode_types.specs.Versions.{is_valid, capacity};
+ghost use Rattle.std.specs.List.{list_all, AllByRecursion};
+ghost use Rattle.qrcode_types.specs.Characters as characters;
+ghost use Rattle.qrcode_types.specs.Characters.{can_write};
+ghost use Rattle.qrcode_types.specs.declared.types.EcLevel.{EcLevel};
+ghost use Rattle.qrcode_types.specs.declared.types.QrError.TheVariants.{UnsupportedCharacterSet, OutOfMemory};
+ghost use Rattle.qrcode_bits.specs.ModeHeaders.{widest_mode, bytes_each};
+ghost use Rattle.qrcode_bits.specs.LeastBits.{headers_of, AreSmall, IsSmall, rest_of, AreStarts, IsFirst};
+ghost use Rattle.qrcode_bits.specs.Segments.{AreInside};
+ghost use Rattle.qrcode_bits.specs.Cuts.{IsCut, IsLeastCut, FitsIn};
+ghost use Rattle.qrcode_bits.specs.Written.{pieces_of};
+ghost use Rattle.qrcode_bits.specs.Spelling.{Spells};
+ghost use Rattle.qrcode_bits.specs.Refusals.{data_limit};
+ghost use Rattle.qrcode_bits.specs.declared.optimize.Segment.{Segment};
+
+use super::rests::{Headers, Rest, Start};
+use super::{Kind, Segment};
+use crate::characters::{are_digits, is_alphanumeric};
+use qrcode_types::types::{Mode, QrError, QrResult, Version};
+use std::alloc::{AllocError, Global};
+
+/// A segmentation of the data in the fewest bits: of all cuts of the data into nonempty ranges, each
+/// in a mode that the version has and that can write its bytes, one of least total length. In Kanji
+/// a range may begin wherever its bytes pair up.
+///
+/// `UnsupportedCharacterSet`: there is no such cut. `OutOfMemory`: memory was refused.
+pub fn least_segments(alloc: Global, data: &[u8], version: Version) -> QrResult<Vec<Segment>>
+    requires valid { IsTrue (is_valid version) }
+    requires limit { length «data».now ≤ data_limit }
+    ensures least { IfOk result (λ segments. IsLeastCut version «data».now segments.items) }
+
+    // Where the data cannot be cut, that is known before memory is asked for.
+    ensures none { ((segments : List Segment) → ¬ IsCut version «data».now segments)
+        → result ≡ Err UnsupportedCharacterSet }
+    ensures exists { (segments : List Segment)
+        → IsCut version «data».now segments → IsOkUnless result OutOfMemory }
+    ensures errors { IfErr result (λ e. (e ≡ UnsupportedCharacterSet) ⊎ (e ≡ OutOfMemory)) }
+
+    // The ranges lie in the data, in order they give it back, and each mode can write its range.
+    ensures inside { IfOk result (λ segments. AreInside (length «data».now) segments.items) }
+    ensures joined { IfOk result (λ segments.
+        flat_map (λ p. p.chunk) (pieces_of «data».now segments.items) ≡ «data».now) }
+    ensures writable { IfOk result (λ segments. AllByRecursion
+        (λ p. IsTrue (can_write p.mode p.chunk)) (pieces_of «data».now segments.items)) }
+
+    // A cut fits a symbol just where some bits that fill the symbol spell the data.
+    ensures fits { (level : EcLevel) → FitsIn version «data».now (capacity version level)
+        ↔ ((bits : List Bool)
+        × ((length bits ≡ capacity version level) × Spells version bits «data».now)) }
+{
+    if !can_be_cut(data, version) {
+        return Err(QrError::UnsupportedCharacterSet);
+    }
+    let headers = Headers::of(version);
+    let starts = least_starts(alloc, data, headers)?;
+    let mut segments = Vec::new(alloc);
+    let mut begin = 0;
+    while begin < data.len() {
+        let segment = first_segment(data, &starts, headers, begin);
+        segments.push(segment)?;
+        begin = segment.end;
+    }
+    Ok(segments)
+}
+
+// Whether some mode of the version can write all of the data.
+fn can_be_cut(data: &[u8], version: Version) -> bool
+    requires { IsTrue (is_valid version) }
+    ensures { result ≡ can_write (widest_mode version) «data».now }
+{
+    let bits = version.mode_bits_count();
+    if bits == 0 {
+        are_digits(data)
+    } else if bits == 1 {
+        are_alphanumeric(data)
+    } else {
+        true
+    }
+}
+
+fn are_alphanumeric(data: &[u8]) -> bool
+    ensures { result ≡ list_all characters.is_alphanumeric «data».now }
+{
+    data.iter().all(|byte| is_alphanumeric(*byte))
+}
+
+// For each place of the data, and for its end, how the rest from there on begins in the fewest bits.
+fn least_starts(alloc: Global, data: &[u8], headers: Headers) -> Result<Vec<Start>, AllocError>
+    requires headers { AreSmall headers }
+    requires limit { length «data».now ≤ data_limit }
+    requires rests { (place : ℕ) → IsSmall (rest_of headers (drop place «data».now)) }
+    ensures { IfOk result (λ starts. AreStarts headers «data».now starts.items) }
+{
+    let mut rest = Rest::at_end();
+    let mut starts = Vec::from_elem(alloc, rest.start, data.len() + 1)?;
+    let mut after = 0;
+    for i in (0..data.len()).rev() {
+        let byte = data[i];
+        rest = rest.behind(headers, Kind::at(byte, after));
+        starts[i] = rest.start;
+        after = byte;
+    }
+    Ok(starts)
+}
+
+// The first segment from a place on, in the mode of its start: the shortest with which the rest
+// takes as few bits as the start says.
+fn first_segment(data: &[u8], starts: &[Start], headers: Headers, begin: usize) -> Segment
+    requires limit { length «data».now ≤ data_limit }
+    requires headers { AreSmall headers }
+    requires starts { AreStarts headers «data».now starts.now }
+    requires begin { begin < length «data».now }
+    ensures { IsFirst headers «data».now begin result }
+{
+    let Start { bits, mode } = starts[begin];
+    let header = headers.in_mode(mode) as usize;
+    let width = bytes_each(mode);
+    let mut end = begin;
+    let mut count = 0;
+    while end + width <= data.len() {
+        end += width;
+        count += 1;
+        if bits as usize == header + mode.data_bits_count(count) + starts[end].bits as usize {
+            return Segment { mode, begin, end };
+        }
+    }
+    unreachable!()
+}
+
+// The bytes of a character.
+fn bytes_each(mode: Mode) -> usize
+    ensures { result ≡ bytes_each mode }
+{
+    match mode {
+        Mode::Kanji => 2,
+        _ => 1,
+    }
+}

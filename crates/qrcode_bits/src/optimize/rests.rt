@@ -1,0 +1,185 @@
+//! What a rest of the data takes at least.
+
+ghost use Rattle.std.specs.Prelude.{◌≡◌, IsTrue};
+ghost use Rattle.qrcode_types.specs.Versions.{is_valid};
+ghost use Rattle.qrcode_bits.specs.LeastBits.{headers_of, header_in, AreSmall, IsSmall, better, byte_start, letter_start, only_bytes, with_letter, step, at_end};
+
+use super::Kind;
+use super::headers::header;
+use qrcode_types::types::{Mode, Version};
+
+// The bits of mode indicator and length field in each mode, and more than any data takes where the
+// version lacks it.
+#[derive(Copy, Clone)]
+pub(super) struct Headers {
+    numeric: u32,
+    alphanumeric: u32,
+    byte: u32,
+    kanji: u32,
+}
+
+impl Headers {
+    pub(super) fn of(version: Version) -> Headers
+        requires { IsTrue (is_valid version) }
+        ensures value { result ≡ headers_of version }
+        ensures small { AreSmall result }
+    {
+        Headers {
+            numeric: header(version, Mode::Numeric),
+            alphanumeric: header(version, Mode::Alphanumeric),
+            byte: header(version, Mode::Byte),
+            kanji: header(version, Mode::Kanji),
+        }
+    }
+
+    pub(super) fn in_mode(self, mode: Mode) -> u32
+        ensures { result ≡ header_in self mode }
+    {
+        match mode {
+            Mode::Numeric => self.numeric,
+            Mode::Alphanumeric => self.alphanumeric,
+            Mode::Byte => self.byte,
+            Mode::Kanji => self.kanji,
+        }
+    }
+}
+
+// How a segment begins a rest of the data so that it takes the fewest bits.
+#[derive(Copy, Clone)]
+pub(super) struct Start {
+    pub(super) bits: u32,
+    pub(super) mode: Mode,
+}
+
+impl Start {
+    // This one, or one in another mode where that takes fewer bits.
+    fn or(self, mode: Mode, bits: u32) -> Start
+        ensures { result ≡ better self mode bits }
+    {
+        if bits < self.bits {
+            Start { bits, mode }
+        } else {
+            self
+        }
+    }
+}
+
+// The fewest bits that a rest of the data takes, by what stands before it: a segment begins here, or
+// one is open to which the rest may add. An open segment of digits counts by how many of them are
+// behind its last group of three, one of letters by whether they are odd, and `half_pair` is `pairs`
+// one byte on.
+#[derive(Copy, Clone)]
+pub(super) struct Rest {
+    pub(super) start: Start,
+    digits: u32,
+    one_digit: u32,
+    two_digits: u32,
+    letters: u32,
+    odd_letter: u32,
+    bytes: u32,
+    pairs: u32,
+    half_pair: u32,
+}
+
+impl Rest {
+    // What the end of the data takes.
+    pub(super) fn at_end() -> Rest
+        ensures { result ≡ at_end }
+    {
+        Rest {
+            start: Start {
+                bits: 0,
+                mode: Mode::Byte,
+            },
+            digits: 0,
+            one_digit: 0,
+            two_digits: 0,
+            letters: 0,
+            odd_letter: 0,
+            bytes: 0,
+            pairs: 0,
+            half_pair: 0,
+        }
+    }
+
+    // The rest that begins one byte earlier, by the kind of that byte.
+    pub(super) fn behind(self, headers: Headers, kind: Kind) -> Rest
+        requires headers { AreSmall headers }
+        requires rest { IsSmall self }
+        ensures { result ≡ step headers kind self }
+    {
+        match kind {
+            Kind::Digit => {
+                let start = self
+                    .letter_start(headers)
+                    .or(Mode::Numeric, headers.numeric + 4 + self.one_digit);
+                let mut rest = self.with_letter(start);
+                rest.digits = start.bits.min(4 + self.one_digit);
+                rest.one_digit = start.bits.min(3 + self.two_digits);
+                rest.two_digits = start.bits.min(3 + self.digits);
+                rest
+            }
+            Kind::Letter => self.with_letter(self.letter_start(headers)),
+            Kind::LoneLead | Kind::Other => self.only_bytes(self.byte_start(headers)),
+            Kind::Pair => {
+                let start = self
+                    .byte_start(headers)
+                    .or(Mode::Kanji, headers.kanji + 13 + self.half_pair);
+                let mut rest = self.only_bytes(start);
+                rest.pairs = start.bits.min(13 + self.half_pair);
+                rest
+            }
+        }
+    }
+
+    fn byte_start(self, headers: Headers) -> Start
+        requires headers { AreSmall headers }
+        requires rest { IsSmall self }
+        ensures { result ≡ byte_start headers self }
+    {
+        Start {
+            bits: headers.byte + 8 + self.bytes,
+            mode: Mode::Byte,
+        }
+    }
+
+    fn letter_start(self, headers: Headers) -> Start
+        requires headers { AreSmall headers }
+        requires rest { IsSmall self }
+        ensures { result ≡ letter_start headers self }
+    {
+        self.byte_start(headers).or(
+            Mode::Alphanumeric,
+            headers.alphanumeric + 6 + self.odd_letter,
+        )
+    }
+
+    // Behind a byte with which no open segment but one of bytes can go on.
+    fn only_bytes(self, start: Start) -> Rest
+        requires { IsSmall self }
+        ensures { result ≡ only_bytes start self }
+    {
+        Rest {
+            start,
+            digits: start.bits,
+            one_digit: start.bits,
+            two_digits: start.bits,
+            letters: start.bits,
+            odd_letter: start.bits,
+            bytes: start.bits.min(8 + self.bytes),
+            pairs: start.bits,
+            half_pair: self.pairs,
+        }
+    }
+
+    // Behind a character of the alphabet.
+    fn with_letter(self, start: Start) -> Rest
+        requires { IsSmall self }
+        ensures { result ≡ with_letter (only_bytes start self) self }
+    {
+        let mut rest = self.only_bytes(start);
+        rest.letters = start.bits.min(6 + self.odd_letter);
+        rest.odd_letter = start.bits.min(5 + self.letters);
+        rest
+    }
+}

@@ -1,0 +1,101 @@
+//! The runs of the data.
+
+ghost use Rattle.std.specs.Prelude.{◌≡◌, ◌+◌, ◌<◌, ◌^◌, List, length, slice_range, IsTrue};
+ghost use Rattle.std.specs.List.{AllByRecursion};
+ghost use Rattle.std.specs.Iterator.{HoldsAlong};
+ghost use Rattle.qrcode_types.specs.Characters.{can_write};
+ghost use Rattle.qrcode_bits.specs.declared.optimize.Segment.{Segment};
+ghost use Rattle.qrcode_bits.specs.Runs.{runs, IsRuns};
+ghost use Rattle.qrcode_bits.specs.Segments.{Tile, AreInside};
+
+use super::Segment;
+use super::groups::Optimizer;
+use super::tokens::split_token;
+use qrcode_types::types::Version;
+
+/// The runs of the data, each in the narrowest mode: as many pairs of Kanji, digits, other characters
+/// of the alphabet or other bytes as follow one another. A byte that could begin a pair, and begins
+/// none, is a run of its own.
+#[derive(Drop)]
+pub struct Parser<'a> {
+    rest: &'a [u8],
+    begin: usize,
+    ghost fits: { begin + length rest.now < 2 ^ 64 },
+}
+
+impl<'a> Parser<'a> {
+    ghost use Rattle.std.specs.Prelude.{◌≤◌, ⊤};
+    ghost use Rattle.std.specs.Iterator.{YieldsFirst, item_count, IsFinite, Drains};
+    ghost use Rattle.qrcode_types.specs.Versions.{is_valid};
+    ghost use Rattle.qrcode_bits.specs.Groups.{range_limit, AreGroups};
+    ghost use Rattle.qrcode_bits.specs.GroupSteps.{groups_left, CanGroup, GroupsStep};
+    ghost use Rattle.qrcode_bits.specs.RunsLeft.{runs_left, data_end, data_left};
+
+    /// A parser of data, which it borrows.
+    pub fn new(data: &'a [u8]) -> Parser<'a>
+        ensures runs { runs_left result ≡ runs «data».now }
+        ensures end { data_end result ≡ length «data».now }
+        ensures left { data_left result ≡ length «data».now }
+
+        // The runs are the maximal rows of tokens of one kind, and no other segments are.
+        ensures are { IsRuns «data».now (runs «data».now) }
+        ensures only { (segments : List Segment)
+            → IsRuns «data».now segments → segments ≡ runs «data».now }
+
+        // They cover the data, none is empty, and each mode can write its range.
+        ensures tile { Tile 0 (runs «data».now) (length «data».now) }
+        ensures writable { AllByRecursion
+            (λ s. IsTrue (can_write s.mode (slice_range «data».now s.begin s.end)))
+            (runs «data».now) }
+        ensures inside { HoldsAlong (YieldsFirst runs_left) result
+            (AreInside (length «data».now)) }
+    {
+        Parser {
+            rest: data,
+            begin: 0,
+        }
+    }
+
+    /// The runs that are left, joined where that takes no more bits in the version.
+    pub fn optimize(self, version: Version) -> Optimizer<Parser<'a>>
+        requires valid { IsTrue (is_valid version) }
+        requires small { data_left self ≤ range_limit }
+        ensures can { CanGroup (YieldsFirst runs_left) (λ _. ⊤) (item_count runs_left) result }
+        ensures ends { IsFinite (groups_left (item_count runs_left) result) }
+        ensures groups { (groups : List Segment)
+            → Drains (GroupsStep (YieldsFirst runs_left)) result groups
+            → AreGroups version (runs_left self.entry) groups }
+        ensures inside { HoldsAlong (GroupsStep (YieldsFirst runs_left)) result
+            (AreInside (data_end self.entry)) }
+    {
+        Optimizer::new(self, version)
+    }
+}
+
+impl<'a> Iterator for Parser<'a> {
+    ghost use Rattle.std.specs.Iterator.{YieldsFirst, item_count};
+    ghost use Rattle.qrcode_bits.specs.RunsLeft.{runs_left};
+
+    type Item = Segment;
+
+    ghost next_gives = { YieldsFirst runs_left };
+
+    ghost remaining = { item_count runs_left };
+
+    fn next(&mut self) -> Option<Segment> {
+        let (kind, mut rest) = split_token(self.rest)?;
+        while let Some((next, after)) = split_token(rest)
+            && kind.goes_with(next)
+        {
+            rest = after;
+        }
+        let begin = self.begin;
+        self.begin += self.rest.len() - rest.len();
+        self.rest = rest;
+        Some(Segment {
+            mode: kind.mode(),
+            begin,
+            end: self.begin,
+        })
+    }
+}

@@ -1,0 +1,133 @@
+-- The words of the code, place by place.
+use Rattle.std.proofs.Common.{◌≡◌, ℕ, zero, suc, ◌+◌, ◌-◌, ◌*◌, ◌/◌, ◌^◌, ◌<◌, ◌≤◌, Bool, true, false, not, ◌&&◌, ◌||◌, refl, ap, ap₂, sym, ◌∙◌, arith, count_ones, bit_and, bit_or, bit_xor, add_assoc}
+use Rattle.std.proofs.lemmas.Nat.{xor_lt, shr_le, pow-add, pow_pos, zero_from_ones}
+use Rattle.std.proofs.Math.Nat.{mul-lt-mul_of_pos_right}
+use Rattle.std.proofs.Math.Pow.{pow_mono}
+use Rattle.std.specs.Int.Count.{ones}
+use Rattle.qrcode_penalty.specs.Rows.{has_place}
+use Rattle.qrcode_penalty.proofs.Places.{differ, has_and, has_or, has_xor, has_without, has_shr, has_shl, has_shl_below, has_first, has_first_above}
+use Rattle.qrcode_penalty.specs.Penalty.{sum_below, count_if, is_run, run_penalty_at, same, run_penalty, begins_run}
+use Rattle.qrcode_penalty.proofs.Sums.{run_places, weigh_places}
+
+run_test : (a b c d e : Bool) → not ((differ a b || differ b c) || (differ c d || differ d e)) ≡ (same a a && (same a b && (same a c && (same a d && (same a e && true)))))
+run_test true true true true true = refl
+run_test true true true true false = refl
+run_test true true true false e = refl
+run_test true true false d e = refl
+run_test true false c d e = refl
+run_test false false false false false = refl
+run_test false false false false true = refl
+run_test false false false true e = refl
+run_test false false true d e = refl
+run_test false true c d e = refl
+
+pub and_false : (a : Bool) → (a && false) ≡ false
+and_false true = refl
+and_false false = refl
+
+pub finder_test : (a b c d e f g q : Bool) → ((((((a && c) && (e && g)) && d) && not (b || f)) && q)) ≡ ((a && not b && c && d && e && not f && g) && q)
+finder_test false b c d e f g q = refl
+finder_test true true c d e f g q = ap (λ x. x && q) (and_false ((c && (e && g)) && d))
+finder_test true false false d e f g q = refl
+finder_test true false true false e f g q = ap (λ x. (x && not f) && q) (and_false (e && g))
+finder_test true false true true false f g q = refl
+finder_test true false true true true true true q = refl
+finder_test true false true true true true false q = refl
+finder_test true false true true true false true q = refl
+finder_test true false true true true false false q = refl
+
+block_test : (a b c d : Bool) → not ((differ a c || differ b d) || differ a b) ≡ (same a b && same a c && same a d)
+block_test true true true true = refl
+block_test true true true false = refl
+block_test true true false d = refl
+block_test true false true true = refl
+block_test true false true false = refl
+block_test true false false d = refl
+block_test false true true d = refl
+block_test false true false true = refl
+block_test false true false false = refl
+block_test false false true d = refl
+block_test false false false true = refl
+block_test false false false false = refl
+
+-- the words of run_penalty
+abbrev pub edges : ℕ → ℕ
+edges a = bit_xor a (a / 2 ^ 1)
+
+abbrev pub spread : ℕ → ℕ
+spread a = bit_or (bit_or (edges a) (edges a / 2 ^ 1)) (bit_or (edges a) (edges a / 2 ^ 1) / 2 ^ 2)
+
+abbrev pub without : ℕ → ℕ → ℕ
+without a b = bit_xor a (bit_and a b)
+
+-- of no places none are left
+pub none_left : (a b : ℕ) → count_ones a ≡ 0 → count_ones (without a b) ≡ 0
+unfolding ones
+none_left a b h = ap (λ n. count_ones (without n b)) (zero_from_ones a h)
+
+spread_at : (a k : ℕ) → not (has_place (spread a) k) ≡ is_run (has_place a) k 5
+spread_at a k = simp (has_or, has_xor, has_shr, add_assoc) (run_test (has_place a k) (has_place a (k + 1)) (has_place a (k + 2)) (has_place a (k + 3)) (has_place a (k + 4)))
+
+-- the first n places but those of b
+pub without_at : (n b k : ℕ) → k < n → has_place (without (2 ^ n - 1) b) k ≡ not (has_place b k)
+without_at n b k h = has_without (2 ^ n - 1) b k ∙ ap (λ t. t && not (has_place b k)) (has_first n k h)
+
+pub without_above : (n b k : ℕ) → n ≤ k → has_place (without (2 ^ n - 1) b) k ≡ false
+without_above n b k h = has_without (2 ^ n - 1) b k ∙ ap (λ t. t && not (has_place b k)) (has_first_above n k h)
+
+abbrev pub windows : ℕ → ℕ → ℕ
+windows a n = without (2 ^ (n - 4) - 1) (spread a)
+
+abbrev pub first_windows : ℕ → ℕ → ℕ
+first_windows a n = bit_and (windows a n) (bit_or (edges a * 2 ^ 1) (2 ^ 1 - 1))
+
+pub not_same : (a b : Bool) → differ a b ≡ not (same a b)
+not_same true true = refl
+not_same true false = refl
+not_same false true = refl
+not_same false false = refl
+
+or_false : (a : Bool) → (a || false) ≡ a
+or_false true = refl
+or_false false = refl
+
+begins_at : (a k : ℕ) → has_place (bit_or (edges a * 2 ^ 1) (2 ^ 1 - 1)) k ≡ begins_run (has_place a) k
+begins_at a zero = has_or (edges a * 2 ^ 1) (2 ^ 1 - 1) 0 ∙ ap₂ (λ (x y : Bool). x || y) (has_shl_below (edges a) 1 0 (omega arith)) (has_first 1 0 (omega arith))
+begins_at a (suc k) =
+    let e : suc k ≡ k + 1 = omega arith in
+    let other : has_place (2 ^ 1 - 1) (suc k) ≡ false = has_first_above 1 (suc k) (omega arith) in
+    let shifted : has_place (edges a * 2 ^ 1) (suc k) ≡ has_place (edges a) k = ap (λ i. has_place (edges a * 2 ^ 1) i) e ∙ has_shl (edges a) 1 k in
+    let here : has_place (edges a) k ≡ not (same (has_place a k) (has_place a (suc k))) = has_xor a (a / 2 ^ 1) k ∙ ap (λ b. differ (has_place a k) b) (has_shr a 1 k ∙ ap (λ i. has_place a i) (sym e)) ∙ not_same (has_place a k) (has_place a (suc k)) in
+    has_or (edges a * 2 ^ 1) (2 ^ 1 - 1) (suc k) ∙ ap₂ (λ (x y : Bool). x || y) (shifted ∙ here) other ∙ or_false (not (same (has_place a k) (has_place a (suc k))))
+
+pub runs_of : (a n : ℕ) → count_ones (windows a n) + 2 * count_ones (first_windows a n) ≡ run_penalty n (has_place a)
+unfolding run_penalty run_penalty_at
+runs_of a n =
+    run_places (windows a n) (first_windows a n) (n - 4) (run_penalty_at (has_place a)) (λ k. is_run (has_place a) k 5) (begins_run (has_place a))
+    (λ k h. without_at (n - 4) (spread a) k h ∙ spread_at a k)
+    (λ k h. without_above (n - 4) (spread a) k h)
+    (λ k h. has_and (windows a n) (bit_or (edges a * 2 ^ 1) (2 ^ 1 - 1)) k ∙ ap₂ (λ (x y : Bool). x && y) (without_at (n - 4) (spread a) k h ∙ spread_at a k) (begins_at a k))
+    (λ k h. has_and (windows a n) (bit_or (edges a * 2 ^ 1) (2 ^ 1 - 1)) k ∙ ap (λ x. x && has_place (bit_or (edges a * 2 ^ 1) (2 ^ 1 - 1)) k) (without_above (n - 4) (spread a) k h))
+    (λ k h. refl)
+
+-- the words of block_penalty
+abbrev pub mixed : ℕ → ℕ → ℕ
+mixed a b = bit_or (bit_or (bit_xor a b) (bit_xor a b / 2 ^ 1)) (bit_xor a (a / 2 ^ 1))
+
+mixed_at : (a b k : ℕ) → not (has_place (mixed a b) k) ≡ (same (has_place a k) (has_place a (k + 1)) && same (has_place a k) (has_place b k) && same (has_place a k) (has_place b (k + 1)))
+mixed_at a b k = simp (has_or, has_xor, has_shr) (block_test (has_place a k) (has_place a (k + 1)) (has_place b k) (has_place b (k + 1)))
+
+pub blocks_of : (a b n : ℕ) → 3 * count_ones (without (2 ^ (n - 1) - 1) (mixed a b)) ≡ sum_below (n - 1) (λ x. count_if (same (has_place a x) (has_place a (x + 1)) && same (has_place a x) (has_place b x) && same (has_place a x) (has_place b (x + 1))) 3)
+blocks_of a b n =
+    weigh_places 3 (without (2 ^ (n - 1) - 1) (mixed a b)) (λ x. same (has_place a x) (has_place a (x + 1)) && same (has_place a x) (has_place b x) && same (has_place a x) (has_place b (x + 1))) (n - 1)
+    (λ k h. without_at (n - 1) (mixed a b) k h ∙ mixed_at a b k)
+    (λ k h. without_above (n - 1) (mixed a b) k h)
+
+-- what the words need of room
+pub fits_up : (a w j room : ℕ) → a < 2 ^ w → w + j ≤ room → a * 2 ^ j < 2 ^ room
+fits_up a w j room h k =
+    let below : a * 2 ^ j < 2 ^ w * 2 ^ j = mul-lt-mul_of_pos_right h (pow_pos j) in
+    omega (arith, below, pow-add 2 w j, pow_mono k)
+
+pub edges_room : (a w room : ℕ) → w + 3 ≤ room → a < 2 ^ w → edges a * 2 ^ 1 < 2 ^ room
+edges_room a w room k h = fits_up (edges a) w 1 room (xor_lt w a (a / 2 ^ 1) h (omega (arith, shr_le a 1))) (omega arith)

@@ -1,0 +1,9 @@
+//! Penalties of squares of modules, counted on rows packed into words.
+#![tactic(auto)]
+
+mod columns;
+pub mod line;
+pub mod penalty;
+mod rows;
+#[cfg(test)]
+mod tests;

@@ -1,0 +1,10 @@
+pub mod DenseTexts
+pub mod Folds
+pub mod LineTexts
+pub mod MarkedLines
+pub mod Painting
+pub mod Palettes
+pub mod Pictures
+pub mod PictureTexts
+pub mod Rectangles
+pub mod Sizes

@@ -1,0 +1,14 @@
+pub mod Dense
+pub mod Drawn
+pub mod Layout
+pub mod LayoutOf
+pub mod Lines
+pub mod PaletteOf
+pub mod Picture
+pub mod Setting
+pub mod SheetOf
+pub mod Shown
+pub mod Sketch
+pub mod SketchOf
+pub mod Texts
+pub mod Vectors

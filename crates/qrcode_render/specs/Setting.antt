@@ -1,0 +1,52 @@
+-- What a renderer is set to.
+use Rattle.std.specs.Prelude.{ℕ, ◌+◌, ◌-◌, ◌*◌, ◌/◌, ◌^◌, ◌≤◌, ◌≡◌, ◌⊎◌, max, nat_lt, ◌&&◌, Bool, List, if◌then◌else◌}
+use Rattle.qrcode_types.specs.declared.types.Color.{Color}
+use Rattle.qrcode_render.specs.Layout.{Layout, modules_across}
+use Rattle.qrcode_render.specs.Drawn.{drawn}
+
+-- modules in row order, the modules along a side, the modules of the quiet zone, the pixels of a module across and down, the pixels that stand for dark and light, and whether the quiet zone is drawn
+pub record Setting (P : Type 0) : Type 0 where
+  pub content : List Color
+  pub count : ℕ
+  pub zone : ℕ
+  pub across : ℕ
+  pub down : ℕ
+  pub dark : P
+  pub light : P
+  pub has_zone : Bool
+
+-- where modules stand, with the quiet zone only where it is switched on
+abbrev pub layout_of : {P : Type 0} → Setting P → Layout
+layout_of s = record { count = s.count; zone = if s.has_zone then s.zone else 0; across = s.across; down = s.down }
+
+-- the modules along a side of the picture
+abbrev pub side_of : {P : Type 0} → Setting P → ℕ
+side_of s = modules_across (layout_of s)
+
+-- the modules and the pixels along each side are below 2^32
+abbrev pub fits : {P : Type 0} → Setting P → Bool
+fits s = nat_lt (side_of s) (2 ^ 32) && nat_lt (side_of s * s.across) (2 ^ 32) && nat_lt (side_of s * s.down) (2 ^ 32)
+
+-- what a canvas shows in the end: its start, and the rectangles of the dark modules in row order
+abbrev pub drawing_of : {P D : Type 0} → (ℕ → ℕ → P → P → D) → (ℕ → ℕ → ℕ → ℕ → D → D) → Setting P → D
+drawing_of start rect s = drawn rect (layout_of s) s.content (start (side_of s * s.across) (side_of s * s.down) s.dark s.light)
+
+-- the pixels of a module of which `side` modules reach `pixels`
+abbrev pub least_size : ℕ → ℕ → ℕ
+least_size side pixels = max ((pixels + side - 1) / side) 1
+
+-- the pixels of a module of which `side` modules stay within `pixels`, or 1
+abbrev pub greatest_size : ℕ → ℕ → ℕ
+greatest_size side pixels = max (pixels / side) 1
+
+-- the least size of at least 1 that reaches the request
+pub record IsLeastSize (side pixels size : ℕ) : Type 0 where
+  pub positive : 1 ≤ size
+  pub reaches : pixels ≤ side * size
+  pub least : (k : ℕ) → 1 ≤ k → pixels ≤ side * k → size ≤ k
+
+-- the greatest size that keeps the request, or 1 where none of at least 1 does
+pub record IsGreatestSize (side pixels size : ℕ) : Type 0 where
+  pub positive : 1 ≤ size
+  pub keeps : (side * size ≤ pixels) ⊎ (size ≡ 1)
+  pub greatest : (k : ℕ) → 1 ≤ k → side * k ≤ pixels → k ≤ size

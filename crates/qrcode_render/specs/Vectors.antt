@@ -1,0 +1,32 @@
+-- The texts of SVG and PIC.
+use Rattle.std.specs.Prelude.{ℕ, List, ◌++◌, codes, decimal}
+
+-- the sides and the view of a picture
+abbrev pub svg_frame : ℕ → ℕ → List ℕ
+svg_frame w h =
+    decimal w ++ (codes "\" height=\"" ++ (decimal h ++ (codes "\" viewBox=\"0 0 " ++ (decimal w ++ (codes " " ++ (decimal h ++ codes "\" shape-rendering=\"crispEdges\">"))))))
+
+-- the light ground, and the start of the dark path
+abbrev pub svg_ground : ℕ → ℕ → List ℕ → List ℕ → List ℕ
+svg_ground w h dark light =
+    codes "<rect x=\"0\" y=\"0\" width=\"" ++ (decimal w ++ (codes "\" height=\"" ++ (decimal h ++ (codes "\" fill=\"" ++ (light ++ (codes "\"/><path fill=\"" ++ (dark ++ codes "\" d=\"")))))))
+
+abbrev pub svg_start : ℕ → ℕ → List ℕ → List ℕ → List ℕ
+svg_start w h dark light =
+    codes "<?xml version=\"1.0\" standalone=\"yes\"?><svg xmlns=\"http://www.w3.org/2000/svg\" version=\"1.1\" width=\"" ++ svg_frame w h ++ svg_ground w h dark light
+
+-- the path of one rectangle
+abbrev pub svg_rect : ℕ → ℕ → ℕ → ℕ → List ℕ → List ℕ
+svg_rect left top width height text =
+    text ++ (codes "M" ++ (decimal left ++ (codes " " ++ (decimal top ++ (codes "h" ++ (decimal width ++ (codes "v" ++ (decimal height ++ (codes "H" ++ (decimal left ++ (codes "V" ++ decimal top)))))))))))
+
+abbrev pub svg_end : List ℕ
+svg_end = codes "\"/></svg>"
+
+abbrev pub pic_start : ℕ → ℕ → List ℕ
+pic_start w h =
+    codes "maxpswid=" ++ (decimal w ++ (codes ";maxpsht=" ++ (decimal h ++ codes ";movewid=0;moveht=1;boxwid=1;boxht=1\ndefine p { box wid $3 ht $4 fill 1 with .nw at $1,-$2 }\nbox wid maxpswid ht maxpsht with .nw at 0,0\n")))
+
+abbrev pub pic_rect : ℕ → ℕ → ℕ → ℕ → List ℕ → List ℕ
+pic_rect left top width height text =
+    text ++ (codes "p(" ++ (decimal left ++ (codes "," ++ (decimal top ++ (codes "," ++ (decimal width ++ (codes "," ++ (decimal height ++ codes ")\n"))))))))

@@ -1,0 +1,434 @@
+//! Pictures of a symbol: text, half blocks, SVG, PIC and rows of pixels.
+#![tactic(auto)]
+
+ghost use Rattle.std.specs.Prelude.{◌≡◌, ℕ, ◌+◌, ◌-◌, ◌*◌, ◌^◌, ◌<◌, ◌≤◌, List, length, fold, IfOk, OnOk, IsOkUnless, IsTrue, true, false, max};
+ghost use Rattle.qrcode_types.specs.declared.types.QrError.TheVariants.{OutOfMemory};
+ghost use Rattle.qrcode_types.specs.declared.types.Color.{Color};
+ghost use Rattle.std.specs.List.{range_with_len};
+ghost use Rattle.qrcode_render.specs.Drawn.{drawn, drawn_row, filled};
+ghost use Rattle.qrcode_render.specs.Layout.{Layout, modules_across, PixelsFit};
+ghost use Rattle.qrcode_render.specs.LayoutOf.{layout};
+ghost use Rattle.qrcode_render.specs.Picture.{blank, picture, with_dark_pixel};
+ghost use Rattle.qrcode_render.specs.Setting.{Setting, side_of, fits, drawing_of, least_size, greatest_size, IsLeastSize, IsGreatestSize};
+
+use qrcode_types::types::{Color, QrResult};
+use std::alloc::Global;
+use std::marker::Model;
+
+pub mod image;
+mod lines;
+mod marks;
+mod palette;
+pub mod pic;
+mod sheet;
+pub mod string;
+pub mod svg;
+#[cfg(test)]
+mod tests;
+pub mod unicode;
+
+/// A pixel: what stands for dark or light in a picture.
+pub trait Pixel: Copy {
+    /// What a picture of such pixels is.
+    type Image;
+
+    /// What a picture of such pixels is drawn on.
+    type Canvas: Canvas<Pixel = Self, Image = Self::Image>;
+
+    // What stands for a colour unless said otherwise.
+    ghost is_default_color: { Color → Self → Type 0 };
+
+    // The pixels of a module unless said otherwise, across and down.
+    ghost unit: { ℕ × ℕ };
+
+    /// The pixels of a module unless said otherwise, across and down, each at least 1.
+    fn default_unit_size() -> (u32, u32)
+        ensures across { result.0 ≡ unit.0 }
+        ensures down { result.1 ≡ unit.1 };
+
+    /// What stands for a colour unless said otherwise.
+    fn default_color(color: Color) -> Self
+        ensures { is_default_color color result };
+
+    ghost unit_positive: { (1 ≤ unit.0) × (1 ≤ unit.1) };
+}
+
+/// What a picture is drawn on. After `OutOfMemory` nothing is known of it, and it may only be
+/// dropped.
+pub trait Canvas: Drop {
+    type Pixel;
+
+    type Image;
+
+    // What is drawn.
+    ghost Drawing: { Type 0 };
+
+    ghost shown: { Self → Drawing };
+
+    // The pixels across and down.
+    ghost across: { Self → ℕ };
+
+    ghost down: { Self → ℕ };
+
+    // Light pixels, from the pixels across and down and the dark and the light pixel.
+    ghost start: { ℕ → ℕ → Self.Pixel → Self.Pixel → Drawing };
+
+    ghost pixel_step: { ℕ → ℕ → Drawing → Drawing };
+
+    ghost rect_step: { ℕ → ℕ → ℕ → ℕ → Drawing → Drawing };
+
+    // The image is what a drawing ends as.
+    ghost is_end: { Drawing → Self.Image → Type 0 };
+
+    /// A canvas of light pixels, of a width and a height in pixels.
+    fn new(
+        alloc: Global,
+        width: u32,
+        height: u32,
+        dark_pixel: Self::Pixel,
+        light_pixel: Self::Pixel,
+    ) -> QrResult<Self>
+        ensures starts { IfOk result (λ canvas. shown canvas ≡ start width height dark_pixel light_pixel) }
+        ensures wide { IfOk result (λ canvas. across canvas ≡ width) }
+        ensures high { IfOk result (λ canvas. down canvas ≡ height) }
+        ensures memory { IsOkUnless result OutOfMemory };
+
+    /// Draws the dark pixel in column `x` and row `y`.
+    fn draw_dark_pixel(&mut self, x: u32, y: u32) -> QrResult<()>
+        requires inside_across { x < across self.old }
+        requires inside_down { y < down self.old }
+        ensures draws { OnOk result (shown self.new ≡ pixel_step x y (shown self.old)) }
+        ensures wide { OnOk result (across self.new ≡ across self.old) }
+        ensures high { OnOk result (down self.new ≡ down self.old) }
+        ensures memory { IsOkUnless result OutOfMemory };
+
+    /// Draws a rectangle of dark pixels, given by its first column and row and its sides.
+    fn draw_dark_rect(&mut self, left: u32, top: u32, width: u32, height: u32) -> QrResult<()>
+        requires inside_across { left + width ≤ across self.old }
+        requires inside_down { top + height ≤ down self.old }
+        ensures draws { OnOk result (shown self.new ≡ rect_step left top width height (shown self.old)) }
+        ensures wide { OnOk result (across self.new ≡ across self.old) }
+        ensures high { OnOk result (down self.new ≡ down self.old) }
+        ensures memory { IsOkUnless result OutOfMemory };
+
+    /// Draws the dark modules of a row of modules, each `width` by `height` pixels, the first with
+    /// its first pixel in column `left` and row `top`. A canvas that can draw a row at once has a
+    /// body of its own.
+    fn draw_dark_modules(
+        &mut self,
+        line: &[Color],
+        left: u32,
+        top: u32,
+        width: u32,
+        height: u32,
+    ) -> QrResult<()>
+        requires inside_across { left + length line.now * width ≤ across self.old }
+        requires inside_down { top + height ≤ down self.old }
+        ensures draws { OnOk result (shown self.new ≡ drawn_row rect_step left top width height line.now (shown self.old)) }
+        ensures wide { OnOk result (across self.new ≡ across self.old) }
+        ensures high { OnOk result (down self.new ≡ down self.old) }
+        ensures memory { IsOkUnless result OutOfMemory }
+    {
+        let mut x = left;
+        for color in line {
+            match color {
+                Color::Light => {}
+                Color::Dark => self.draw_dark_rect(x, top, width, height)?,
+            }
+            x += width;
+        }
+        Ok(())
+    }
+
+    /// The picture.
+    fn into_image(self) -> QrResult<Self::Image>
+        ensures ends { IfOk result (is_end (shown self)) }
+        ensures memory { IsOkUnless result OutOfMemory };
+
+    ghost sides_fit: { (canvas : Self) → (across canvas < 2 ^ 32) × (down canvas < 2 ^ 32) };
+}
+
+/// Draws the dark pixels of a rectangle one by one, row by row.
+#[tactic(auto, using(crate::proofs::Folds::fold_range_more))]
+pub fn fill_rect<C: Canvas>(
+    canvas: &mut C,
+    left: u32,
+    top: u32,
+    width: u32,
+    height: u32,
+) -> QrResult<()>
+    requires inside_across { left + width ≤ C.across canvas.old }
+    requires inside_down { top + height ≤ C.down canvas.old }
+    ensures draws { OnOk result (C.shown canvas.new ≡ filled C.pixel_step left top width height (C.shown canvas.old)) }
+    ensures wide { OnOk result (C.across canvas.new ≡ C.across canvas.old) }
+    ensures high { OnOk result (C.down canvas.new ≡ C.down canvas.old) }
+    ensures memory { IsOkUnless result OutOfMemory }
+{
+    for row in 0..height {
+        fill_row(canvas, left, top + row, width)?;
+    }
+    Ok(())
+}
+
+// Draws the dark pixels of a part of a row one by one.
+#[tactic(auto, using(crate::proofs::Folds::fold_range_more))]
+fn fill_row<C: Canvas>(canvas: &mut C, left: u32, y: u32, width: u32) -> QrResult<()>
+    requires inside_across { left + width ≤ C.across canvas.old }
+    requires inside_down { y < C.down canvas.old }
+    ensures draws { OnOk result (C.shown canvas.new ≡ fold (λ d x. C.pixel_step x y d) (C.shown canvas.old) (range_with_len left width)) }
+    ensures wide { OnOk result (C.across canvas.new ≡ C.across canvas.old) }
+    ensures high { OnOk result (C.down canvas.new ≡ C.down canvas.old) }
+    ensures memory { IsOkUnless result OutOfMemory }
+{
+    for column in 0..width {
+        canvas.draw_dark_pixel(left + column, y)?;
+    }
+    Ok(())
+}
+
+// Where modules stand: the modules along a side, those of the quiet zone at each side, and the
+// pixels of a module.
+#[derive(Clone, Copy)]
+struct Places {
+    count: u32,
+    zone: u32,
+    across: u32,
+    down: u32,
+}
+
+// Draws the dark modules, row by row.
+fn draw_modules<C: Canvas>(canvas: &mut C, at: Places, content: &[Color]) -> QrResult<()>
+    requires square { length content.now ≡ at.count * at.count }
+    requires across { C.across canvas.old ≡ modules_across (layout at) * at.across }
+    requires down { C.down canvas.old ≡ modules_across (layout at) * at.down }
+    requires fits { PixelsFit (layout at) }
+    ensures draws { OnOk result (C.shown canvas.new ≡ drawn C.rect_step (layout at) content.now (C.shown canvas.old)) }
+    ensures memory { IsOkUnless result OutOfMemory }
+{
+    let count = at.count as usize;
+    for row in 0..at.count {
+        let start = row as usize * count;
+        let left = at.zone * at.across;
+        let top = (row + at.zone) * at.down;
+        let line = &content[start..start + count];
+        canvas.draw_dark_modules(line, left, top, at.across, at.down)?;
+    }
+    Ok(())
+}
+
+/// The law of pictures: on light pixels the rectangles of the dark modules make the picture, in
+/// which a pixel is dark where its module is inside and dark. A call does nothing.
+pub fn rectangles_make_pictures<P: Copy>()
+    ensures { (at : Layout) (content : List Color) (dark light : P) → length content ≡ at.count * at.count → 1 ≤ at.across → 1 ≤ at.down
+        → drawn (filled with_dark_pixel) at content (blank (modules_across at * at.across) (modules_across at * at.down) dark light) ≡ picture at content dark light }
+{}
+
+/// Draws pictures of a square of modules, as it is set.
+#[derive(Drop)]
+pub struct Renderer<'a, P> {
+    content: &'a [Color],
+    modules_count: u32,
+    quiet_zone: u32,
+    module_width: u32,
+    module_height: u32,
+    dark_color: P,
+    light_color: P,
+    has_quiet_zone: bool,
+}
+
+impl<'a, P> Model for Renderer<'a, P> {
+    ghost use Rattle.std.specs.Prelude.{◌≡◌, ◌*◌, ◌≤◌, length};
+    ghost use Rattle.qrcode_render.specs.Setting.{Setting};
+
+    ghost Value = { Setting P };
+
+    ghost view = { λ r. record { content = r.content.now; count = r.modules_count; zone = r.quiet_zone; across = r.module_width; down = r.module_height; dark = r.dark_color; light = r.light_color; has_zone = r.has_quiet_zone } };
+
+    ghost invariant = { λ r. length r.content.now ≡ r.modules_count * r.modules_count };
+}
+
+impl<'a, P: Pixel> Renderer<'a, P> {
+    /// A renderer of modules in row order, of which `modules_count` stand along a side, with a
+    /// quiet zone of so many modules at each side. The quiet zone is on, and the size of a module
+    /// and the colours are those that the pixel has by default.
+    pub fn new(content: &'a [Color], modules_count: usize, quiet_zone: u32) -> Renderer<'a, P>
+        requires square { length content.now ≡ modules_count * modules_count }
+        requires small { modules_count < 2 ^ 32 }
+        ensures content { result.content ≡ content.now }
+        ensures count { result.count ≡ modules_count }
+        ensures zone { result.zone ≡ quiet_zone }
+        ensures on { result.has_zone ≡ true }
+        ensures across { result.across ≡ P.unit.0 }
+        ensures down { result.down ≡ P.unit.1 }
+        ensures dark { P.is_default_color Color.Dark result.dark }
+        ensures light { P.is_default_color Color.Light result.light }
+    {
+        let (module_width, module_height) = P::default_unit_size();
+        Renderer {
+            content,
+            modules_count: modules_count as u32,
+            quiet_zone,
+            module_width,
+            module_height,
+            dark_color: P::default_color(Color::Dark),
+            light_color: P::default_color(Color::Light),
+            has_quiet_zone: true,
+        }
+    }
+
+    /// Sets the pixel of dark modules.
+    pub fn dark_color(&mut self, color: P) -> &mut Self
+        ensures same { result.ghost_name ≡ self.entry.ghost_name }
+        ensures sets { result.now ≡ record self.old { dark = color } }
+    {
+        self.dark_color = color;
+        self
+    }
+
+    /// Sets the pixel of light modules.
+    pub fn light_color(&mut self, color: P) -> &mut Self
+        ensures same { result.ghost_name ≡ self.entry.ghost_name }
+        ensures sets { result.now ≡ record self.old { light = color } }
+    {
+        self.light_color = color;
+        self
+    }
+
+    /// Switches the quiet zone on or off.
+    pub fn quiet_zone(&mut self, has_quiet_zone: bool) -> &mut Self
+        ensures same { result.ghost_name ≡ self.entry.ghost_name }
+        ensures sets { result.now ≡ record self.old { has_zone = has_quiet_zone } }
+    {
+        self.has_quiet_zone = has_quiet_zone;
+        self
+    }
+
+    /// Sets the pixels of a module across and down, each raised to at least 1.
+    pub fn module_dimensions(&mut self, width: u32, height: u32) -> &mut Self
+        ensures same { result.ghost_name ≡ self.entry.ghost_name }
+        ensures sets { result.now ≡ record self.old { across = max width 1; down = max height 1 } }
+    {
+        self.module_width = width.max(1);
+        self.module_height = height.max(1);
+        self
+    }
+
+    /// Sets the pixels of a module across and down to the same number, raised to at least 1.
+    pub fn module_size(&mut self, width: u32) -> &mut Self
+        ensures same { result.ghost_name ≡ self.entry.ghost_name }
+        ensures sets { result.now ≡ record self.old { across = max width 1; down = max width 1 } }
+    {
+        self.module_dimensions(width, width)
+    }
+
+    // The modules along a side of the picture, with the quiet zone where it is on.
+    fn side(&self) -> u32
+        requires { side_of self.now < 2 ^ 32 }
+        ensures { result ≡ side_of self.now }
+    {
+        if self.has_quiet_zone {
+            self.modules_count + 2 * self.quiet_zone
+        } else {
+            self.modules_count
+        }
+    }
+
+    /// Sets the least size of a module with which the picture has at least so many pixels across
+    /// and down, with the quiet zone where it is on at this call.
+    pub fn min_dimensions(&mut self, width: u32, height: u32) -> &mut Self
+        requires some { 1 ≤ side_of self.old }
+        requires fits { side_of self.old < 2 ^ 32 }
+        requires across { width + side_of self.old - 1 < 2 ^ 32 }
+        requires down { height + side_of self.old - 1 < 2 ^ 32 }
+        ensures same { result.ghost_name ≡ self.entry.ghost_name }
+        ensures sets { result.now ≡ record self.old { across = least_size (side_of self.old) width; down = least_size (side_of self.old) height } }
+        ensures least_across { IsLeastSize (side_of self.old) width result.now.across }
+        ensures least_down { IsLeastSize (side_of self.old) height result.now.down }
+    {
+        let side = self.side();
+        let more = side - 1;
+        self.module_dimensions((width + more) / side, (height + more) / side)
+    }
+
+    /// Sets the least size of a module with which the picture has at least so many pixels across
+    /// and down alike.
+    pub fn min_width(&mut self, width: u32) -> &mut Self
+        requires some { 1 ≤ side_of self.old }
+        requires fits { side_of self.old < 2 ^ 32 }
+        requires across { width + side_of self.old - 1 < 2 ^ 32 }
+        ensures same { result.ghost_name ≡ self.entry.ghost_name }
+        ensures sets { result.now ≡ record self.old { across = least_size (side_of self.old) width; down = least_size (side_of self.old) width } }
+        ensures least { IsLeastSize (side_of self.old) width result.now.across }
+    {
+        self.min_dimensions(width, width)
+    }
+
+    /// Sets the greatest size of a module with which the picture has at most so many pixels across
+    /// and down, or 1 where no size has, with the quiet zone where it is on at this call.
+    pub fn max_dimensions(&mut self, width: u32, height: u32) -> &mut Self
+        requires some { 1 ≤ side_of self.old }
+        requires fits { side_of self.old < 2 ^ 32 }
+        ensures same { result.ghost_name ≡ self.entry.ghost_name }
+        ensures sets { result.now ≡ record self.old { across = greatest_size (side_of self.old) width; down = greatest_size (side_of self.old) height } }
+        ensures greatest_across { IsGreatestSize (side_of self.old) width result.now.across }
+        ensures greatest_down { IsGreatestSize (side_of self.old) height result.now.down }
+    {
+        let side = self.side();
+        self.module_dimensions(width / side, height / side)
+    }
+
+    /// Whether the modules and the pixels along each side of the picture are at most
+    /// 4,294,967,295.
+    pub fn fits(&self) -> bool
+        ensures { result ≡ fits self.now }
+    {
+        let zone = if self.has_quiet_zone {
+            2 * self.quiet_zone as u64
+        } else {
+            0
+        };
+        let side = self.modules_count as u64 + zone;
+        side < 1 << 32
+            && side * (self.module_width as u64) < 1 << 32
+            && side * (self.module_height as u64) < 1 << 32
+    }
+
+    /// The picture. Its sides are the modules along a side, with the quiet zone where it is on,
+    /// times the pixels of a module. Refuses with `OutOfMemory` alone.
+    pub fn build(&self, alloc: Global) -> QrResult<P::Image>
+        requires { IsTrue (fits self.now) }
+        ensures picture { IfOk result (P.Canvas.is_end (drawing_of P.Canvas.start P.Canvas.rect_step self.now)) }
+        ensures memory { IsOkUnless result OutOfMemory }
+    {
+        let zone = if self.has_quiet_zone {
+            self.quiet_zone
+        } else {
+            0
+        };
+        let at = Places {
+            count: self.modules_count,
+            zone,
+            across: self.module_width,
+            down: self.module_height,
+        };
+        let side = at.count + 2 * at.zone;
+        let mut canvas = P::Canvas::new(
+            alloc,
+            side * at.across,
+            side * at.down,
+            self.dark_color,
+            self.light_color,
+        )?;
+        draw_modules(&mut canvas, at, self.content)?;
+        canvas.into_image()
+    }
+
+    /// The picture, as `build` gives it.
+    pub fn to_image(&self, alloc: Global) -> QrResult<P::Image>
+        requires { IsTrue (fits self.now) }
+        ensures picture { IfOk result (P.Canvas.is_end (drawing_of P.Canvas.start P.Canvas.rect_step self.now)) }
+        ensures memory { IsOkUnless result OutOfMemory }
+    {
+        self.build(alloc)
+    }
+}

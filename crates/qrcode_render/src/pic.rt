@@ -1,0 +1,107 @@
+//! Pictures as PIC.
+
+ghost use Rattle.std.proofs.Common.{rules};
+ghost use Rattle.std.specs.Prelude.{◌≡◌, ℕ, ◌+◌, ◌*◌, ◌^◌, ◌<◌, ◌≤◌, List, length, string_bytes, IfOk, OnOk, IsOkUnless};
+ghost use Rattle.qrcode_types.specs.declared.types.QrError.TheVariants.{OutOfMemory};
+ghost use Rattle.qrcode_render.specs.Vectors.{pic_start, pic_rect};
+
+use crate::Pixel;
+use qrcode_types::types::QrResult;
+use std::alloc::Global;
+use std::fmt::Write;
+
+/// The one colour of PIC.
+#[derive(Copy, Clone, Default, PartialEq, Eq, PartialOrd, Ord, Hash)]
+pub struct Color;
+
+impl Pixel for Color {
+    type Image = String;
+
+    type Canvas = Canvas;
+
+    ghost unit = { (8, 8) };
+
+    ghost unit_positive = { Prim.search rules };
+
+    ghost is_default_color = { λ _ _. Unit {0} };
+
+    fn default_unit_size() -> (u32, u32) {
+        (8, 8)
+    }
+
+    fn default_color(_color: qrcode_types::types::Color) -> Color {
+        Color
+    }
+}
+
+/// A PIC text while it is drawn: a box for each dark rectangle.
+#[derive(Drop)]
+pub struct Canvas {
+    width: u32,
+    height: u32,
+    text: String,
+    ghost width_fits: { width < 2 ^ 32 },
+    ghost height_fits: { height < 2 ^ 32 },
+}
+
+// Appends the line of a rectangle.
+fn push_rect(text: &mut String, left: u32, top: u32, width: u32, height: u32) -> QrResult<()>
+    ensures bytes { OnOk result (string_bytes text.new ≡ pic_rect left top width height (string_bytes text.old)) }
+    ensures memory { IsOkUnless result OutOfMemory }
+{
+    write!(text, "p({left},{top},{width},{height})\n")?;
+    Ok(())
+}
+
+impl crate::Canvas for Canvas {
+    type Pixel = Color;
+
+    type Image = String;
+
+    ghost Drawing = { List ℕ };
+
+    ghost shown = { λ canvas. string_bytes canvas.text };
+
+    ghost across = { λ canvas. canvas.width };
+
+    ghost down = { λ canvas. canvas.height };
+
+    ghost start = { λ w h dark light. pic_start w h };
+
+    ghost pixel_step = { λ x y. pic_rect x y 1 1 };
+
+    ghost rect_step = { pic_rect };
+
+    ghost is_end = { λ text image. string_bytes image ≡ text };
+
+    ghost sides_fit = { λ canvas. (canvas.width_fits, canvas.height_fits) };
+
+    fn new(
+        alloc: Global,
+        width: u32,
+        height: u32,
+        _dark_pixel: Color,
+        _light_pixel: Color,
+    ) -> QrResult<Canvas> {
+        let text = format!(in alloc;
+            "maxpswid={width};maxpsht={height};movewid=0;moveht=1;boxwid=1;boxht=1\ndefine p {{ box wid $3 ht $4 fill 1 with .nw at $1,-$2 }}\nbox wid maxpswid ht maxpsht with .nw at 0,0\n"
+        )?;
+        Ok(Canvas {
+            width,
+            height,
+            text,
+        })
+    }
+
+    fn draw_dark_pixel(&mut self, x: u32, y: u32) -> QrResult<()> {
+        push_rect(&mut self.text, x, y, 1, 1)
+    }
+
+    fn draw_dark_rect(&mut self, left: u32, top: u32, width: u32, height: u32) -> QrResult<()> {
+        push_rect(&mut self.text, left, top, width, height)
+    }
+
+    fn into_image(self) -> QrResult<String> {
+        Ok(self.text)
+    }
+}

@@ -1,0 +1,254 @@
+//! Pictures as texts, with a text for each pixel.
+
+ghost use Rattle.std.proofs.Common.{rules};
+ghost use Rattle.std.specs.Prelude.{◌≡◌, ℕ, ◌+◌, ◌*◌, ◌<◌, ◌≤◌, Bool, List, [], ◌∷◌, ◌++◌, length, encode_utf8, string_bytes, vec_len, IfOk, OnOk, IsOkUnless, if◌then◌else◌};
+ghost use Rattle.qrcode_types.specs.declared.types.Color.{Color};
+ghost use Rattle.qrcode_types.specs.declared.types.QrError.TheVariants.{OutOfMemory};
+ghost use Rattle.qrcode_types.specs.Colors.{select_of};
+ghost use Rattle.qrcode_render.specs.Drawn.{filled};
+ghost use Rattle.qrcode_render.specs.Picture.{Raster, blank, with_dark_pixel};
+ghost use Rattle.qrcode_render.specs.Texts.{text_of};
+ghost use Rattle.qrcode_render.specs.Lines.{marks_text};
+ghost use Rattle.qrcode_render.specs.PaletteOf.{two_text};
+ghost use Rattle.qrcode_render.specs.SketchOf.{sketch};
+ghost use Rattle.qrcode_render.specs.Sketch.{sketch_text};
+
+use crate::Pixel;
+use crate::lines::{begin_line, push_marks};
+use crate::marks::Marks;
+use crate::palette::{Palette, pairs};
+use crate::sheet::Sheet;
+use qrcode_types::types::{Color, QrResult};
+use std::alloc::Global;
+
+/// What stands for a pixel in a text.
+pub trait Element: Copy {
+    ghost text: { Self → List ℕ };
+
+    // What stands for a colour unless said otherwise.
+    ghost is_default: { Color → Self → Type 0 };
+
+    /// What stands for a colour unless said otherwise.
+    fn default_color(color: Color) -> Self
+        ensures { is_default color result };
+
+    /// The bytes of the text.
+    fn strlen(self) -> usize
+        ensures { result ≡ length (text self) };
+
+    /// Appends the text. After `OutOfMemory` nothing is known of the string.
+    fn append_to_string(self, string: &mut String) -> QrResult<()>
+        ensures appends { OnOk result (string_bytes string.new ≡ string_bytes string.old ++ text self) }
+        ensures memory { IsOkUnless result OutOfMemory };
+}
+
+impl Element for char {
+    ghost text = { encode_utf8 };
+
+    ghost is_default = { λ c element. element ≡ select_of c 0x2588 32 };
+
+    fn default_color(color: Color) -> char {
+        color.select('\u{2588}', ' ')
+    }
+
+    fn strlen(self) -> usize {
+        self.len_utf8()
+    }
+
+    fn append_to_string(self, string: &mut String) -> QrResult<()> {
+        string.push(self)?;
+        Ok(())
+    }
+}
+
+/// A text that stands for a pixel.
+#[derive(Copy, Clone, PartialEq, Eq)]
+pub struct Str<'a>(pub &'a str);
+
+impl<'a> Element for Str<'a> {
+    ghost text = { λ element. element.0.now };
+
+    ghost is_default = { λ c element. element.0.now ≡ select_of c (0xe2 ∷ 0x96 ∷ 0x88 ∷ []) (32 ∷ []) };
+
+    fn default_color(color: Color) -> Str<'a>
+        ensures { result.0.now ≡ select_of color (0xe2 ∷ 0x96 ∷ 0x88 ∷ []) (32 ∷ []) }
+    {
+        Str(color.select("\u{2588}", " "))
+    }
+
+    fn strlen(self) -> usize {
+        self.0.len()
+    }
+
+    fn append_to_string(self, string: &mut String) -> QrResult<()> {
+        string.push_str(self.0)?;
+        Ok(())
+    }
+}
+
+impl Pixel for char {
+    type Image = String;
+
+    type Canvas = Canvas<char>;
+
+    ghost unit = { (1, 1) };
+
+    ghost unit_positive = { Prim.search rules };
+
+    ghost is_default_color = { λ c pixel. pixel ≡ select_of c 0x2588 32 };
+
+    fn default_unit_size() -> (u32, u32) {
+        (1, 1)
+    }
+
+    fn default_color(color: Color) -> char {
+        <char as Element>::default_color(color)
+    }
+}
+
+impl<'a> Pixel for Str<'a> {
+    type Image = String;
+
+    type Canvas = Canvas<Str<'a>>;
+
+    ghost unit = { (1, 1) };
+
+    ghost unit_positive = { Prim.search rules };
+
+    ghost is_default_color = { λ c pixel. pixel.0.now ≡ select_of c (0xe2 ∷ 0x96 ∷ 0x88 ∷ []) (32 ∷ []) };
+
+    fn default_unit_size() -> (u32, u32)
+        ensures across { result.0 ≡ 1 }
+        ensures down { result.1 ≡ 1 }
+    {
+        (1, 1)
+    }
+
+    fn default_color(color: Color) -> Str<'a>
+        ensures { result.0.now ≡ select_of color (0xe2 ∷ 0x96 ∷ 0x88 ∷ []) (32 ∷ []) }
+    {
+        <Str as Element>::default_color(color)
+    }
+}
+
+/// Rows of pixels while they are drawn.
+#[derive(Drop)]
+pub struct Canvas<P> {
+    sheet: Sheet<P>,
+}
+
+// The text of an element.
+fn element_text<P: Element>(alloc: Global, element: P) -> QrResult<String>
+    ensures text { IfOk result (λ text. string_bytes text ≡ P.text element) }
+    ensures memory { IsOkUnless result OutOfMemory }
+{
+    let mut text = String::with_capacity(alloc, element.strlen())?;
+    element.append_to_string(&mut text)?;
+    Ok(text)
+}
+
+// The palette of the texts that stand for a dark and a light mark.
+fn palette_of(alloc: Global, dark: &str, light: &str) -> QrResult<Palette>
+    ensures twos { IfOk result (λ palette. (a b : Bool) → two_text palette a b ≡ marks_text dark.now light.now (a ∷ b ∷ [])) }
+    ensures memory { IsOkUnless result OutOfMemory }
+{
+    let mut ones = Vec::with_capacity(alloc, 2)?;
+    ones.push(String::from_str(alloc, light)?)?;
+    ones.push(String::from_str(alloc, dark)?)?;
+    Palette::new(alloc, pairs(alloc, &ones)?)
+}
+
+// The lines of marks, with a text that stands for dark and one that stands for light.
+fn push_lines(
+    text: &mut String,
+    marks: &Marks,
+    palette: &Palette,
+    dark: &str,
+    light: &str,
+) -> QrResult<()>
+    requires empty { string_bytes text.old ≡ [] }
+    requires twos { (a b : Bool) → two_text palette.now a b ≡ marks_text dark.now light.now (a ∷ b ∷ []) }
+    ensures lines { OnOk result (string_bytes text.new ≡ sketch_text dark.now light.now (sketch marks.now)) }
+    ensures memory { IsOkUnless result OutOfMemory }
+{
+    let (_, height) = marks.sides();
+    for y in 0..height {
+        begin_line(text, y)?;
+        push_marks(text, palette, dark, light, marks.row(y))?;
+    }
+    Ok(())
+}
+
+impl<P: Element> crate::Canvas for Canvas<P> {
+    ghost use Rattle.qrcode_render.specs.SheetOf.{raster};
+
+    type Pixel = P;
+
+    type Image = String;
+
+    ghost Drawing = { Raster P };
+
+    ghost shown = { λ canvas. raster canvas.sheet };
+
+    ghost across = { λ canvas. canvas.sheet.marks.width };
+
+    ghost down = { λ canvas. canvas.sheet.marks.height };
+
+    ghost start = { blank };
+
+    ghost pixel_step = { with_dark_pixel };
+
+    ghost rect_step = { filled with_dark_pixel };
+
+    ghost is_end = { λ r image. string_bytes image ≡ text_of P.text r };
+
+    ghost sides_fit = { λ canvas. (canvas.sheet.marks.width_fits, canvas.sheet.marks.height_fits) };
+
+    fn new(
+        alloc: Global,
+        width: u32,
+        height: u32,
+        dark_pixel: P,
+        light_pixel: P,
+    ) -> QrResult<Canvas<P>> {
+        let sheet = Sheet::new(alloc, width, height, dark_pixel, light_pixel)?;
+        Ok(Canvas { sheet })
+    }
+
+    fn draw_dark_pixel(&mut self, x: u32, y: u32) -> QrResult<()> {
+        self.sheet.put(x, y);
+        Ok(())
+    }
+
+    fn draw_dark_rect(&mut self, left: u32, top: u32, width: u32, height: u32) -> QrResult<()> {
+        self.sheet.put_rect(left, top, width, height);
+        Ok(())
+    }
+
+    fn draw_dark_modules(
+        &mut self,
+        line: &[Color],
+        left: u32,
+        top: u32,
+        width: u32,
+        height: u32,
+    ) -> QrResult<()> {
+        self.sheet.put_modules(line, left, top, width, height);
+        Ok(())
+    }
+
+    fn into_image(self) -> QrResult<String> {
+        let Sheet { marks, dark, light } = self.sheet;
+        let alloc = marks.alloc();
+        let mut text = String::new(alloc);
+        let (width, _) = marks.sides();
+        if width == 0 {
+            return Ok(text);
+        }
+        let dark_text = element_text(alloc, dark)?;
+        let light_text = element_text(alloc, light)?;
+        let palette = palette_of(alloc, &dark_text, &light_text)?;
+        push_lines(&mut text, &marks, &palette, &dark_text, &light_text)?;
+        Ok(text)
+    }
+}

@@ -1,0 +1,65 @@
+//! Worked pictures, a canvas and an element of a user.
+
+mod images;
+mod keeper;
+mod texts;
+mod vectors;
+
+use qrcode_types::types::{Color, QrResult};
+use std::alloc::Global;
+
+// Two modules along a side, of which the first and the last are dark.
+const DIAGONAL: [Color; 4] = [Color::Dark, Color::Light, Color::Light, Color::Dark];
+
+// The symbol of `01234567` in Normal 1 at level M (ISO/IEC 18004:2006, Annex I).
+const NORMAL_1: &str = "
+#######..#.##.#######
+#.....#..####.#.....#
+#.###.#.#.....#.###.#
+#.###.#.##....#.###.#
+#.###.#.#.###.#.###.#
+#.....#.#...#.#.....#
+#######.#.#.#.#######
+........#..##........
+#.#####..#..#.#####..
+...#.#.##.#.#..#.##..
+..#...##.#.#.#..#####
+....#....#.....####..
+...######..#.#..#....
+........#.#####..##..
+#######..##.#.##.....
+#.....#.#.#####...#.#
+#.###.#.#...#..#.##..
+#.###.#.##..#..#.....
+#.###.#.#.##.#..#.#..
+#.....#........##.##.
+#######.####.#..#.#..";
+
+// The symbol of `01234567` in Micro 2 at level L (ISO/IEC 18004:2006, Annex I).
+const MICRO_2: &str = "
+#######.#.#.#
+#.....#.###.#
+#.###.#..##.#
+#.###.#..####
+#.###.#.###..
+#.....#.#...#
+#######..####
+.........##..
+##.#....#...#
+.##.#.#.#.#.#
+###..#######.
+...#.#....##.
+###.#..##.###";
+
+// The modules of a drawing, `#` being dark and `.` light.
+fn modules(alloc: Global, drawing: &str) -> QrResult<Vec<Color>> {
+    let mut modules = Vec::new(alloc);
+    for byte in drawing.bytes() {
+        match byte {
+            b'#' => modules.push(Color::Dark)?,
+            b'.' => modules.push(Color::Light)?,
+            _ => {}
+        }
+    }
+    Ok(modules)
+}

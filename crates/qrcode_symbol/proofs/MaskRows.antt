@@ -1,0 +1,146 @@
+-- Rows of a mask: six places, again and again, and twelve rows, again and again.
+use Rattle.std.proofs.Common.{◌≡◌, ℕ, zero, suc, ◌+◌, ◌*◌, ◌/◌, ◌%◌, ◌^◌, ◌<◌, Bool, true, false, ◌&&◌, ◌==◌, refl, ap, ap₂, sym, ◌∙◌, arith, bit_and, bit_or, below_more, add-mul, mul_assoc, mul_comm, [], slice_index_or, nat_lt}
+use Rattle.std.proofs.Math.Nat.{mul-add}
+use Rattle.std.proofs.lemmas.Nat.{shr_split}
+use Rattle.std.proofs.lemmas.Nat.Bits.{bit_at_cat_low}
+use Rattle.std.specs.Int.{bit_at}
+use Rattle.qrcode_penalty.specs.Rows.{has_place}
+use Rattle.qrcode_penalty.specs.Penalty.{same}
+use Rattle.qrcode_places.specs.Masks.{turns, mask_number}
+use borrow.Author.Tests.{ltb-true}
+use Rattle.qrcode_symbol.specs.declared.canvas.masking.TheConstants.{TURNED}
+use Rattle.qrcode_places.specs.declared.masks.MaskPattern.{MaskPattern}
+use Rattle.qrcode_places.specs.declared.masks.MaskPattern.TheVariants.{Checkerboard, HorizontalLines, VerticalLines, DiagonalLines, LargeCheckerboard, Fields, Diamonds, Meadow}
+
+-- the places of a number that is cut
+pub has_mod : (n room k : ℕ) → k < room → has_place (n % 2 ^ room) k ≡ has_place n k
+unfolding has_place
+has_mod n room k h = ap (λ x. x == 1) (sym (bit_at_cat_low (n / 2 ^ room) room (n % 2 ^ room) k h) ∙ ap (λ m. bit_at m k) (shr_split n room))
+
+and_l : (a b : Bool) → (a && b) ≡ true → a ≡ true
+and_l true b e = refl
+and_l false b e = e
+
+and_r : (a b : Bool) → (a && b) ≡ true → b ≡ true
+and_r true b e = e
+and_r false b e = cc
+
+same_true : (a b : Bool) → same a b ≡ true → a ≡ b
+same_true true b e = sym e
+same_true false true e = cc
+same_true false false e = refl
+
+-- whether a test holds below n
+pub all_below : ℕ → (ℕ → Bool) → Bool
+all_below zero f = true
+all_below (suc n) f = all_below n f && f n
+
+all_holds : (n : ℕ) (f : ℕ → Bool) → all_below n f ≡ true → (k : ℕ) → k < n → f k ≡ true
+unfolding all_below
+all_holds zero f e k h = absurd (omega arith)
+all_holds (suc n) f e k h = below_more (λ k. f k ≡ true) n (λ k l. all_holds n f (and_l (all_below n f) (f n) e) k l) (and_r (all_below n f) (f n) e) k (omega arith)
+
+-- the words of repeated
+abbrev pub copies_of : ℕ → ℕ
+copies_of six = six * 0x1041041041041041 % 2 ^ 64
+
+abbrev pub turned_by_four : ℕ → ℕ
+turned_by_four six = bit_and (bit_or (six / 2 ^ 4) (six * 2 ^ 2 % 2 ^ 64)) 63
+
+abbrev pub turned_by_two : ℕ → ℕ
+turned_by_two six = bit_and (bit_or (six / 2 ^ 2) (six * 2 ^ 4 % 2 ^ 64)) 63
+
+abbrev pub repeated_words : ℕ → ℕ
+repeated_words six = (copies_of (turned_by_two six) * 2 ^ 64 + copies_of (turned_by_four six)) * 2 ^ 64 + copies_of six
+
+table : all_below 64 (λ six. all_below 192 (λ k. same (has_place (repeated_words six) k) (has_place six (k % 6)))) ≡ true
+unfolding has_place all_below
+table = refl
+
+pub has_repeated : (six room k : ℕ) → six < 64 → k < 192 → k < room → has_place (repeated_words six % 2 ^ room) k ≡ has_place six (k % 6)
+has_repeated six room k h l r =
+    has_mod (repeated_words six) room k r
+    ∙ same_true (has_place (repeated_words six) k) (has_place six (k % 6))
+    (all_holds 192 (λ k. same (has_place (repeated_words six) k) (has_place six (k % 6))) (all_holds 64 (λ six. all_below 192 (λ k. same (has_place (repeated_words six) k) (has_place six (k % 6)))) table six h) k l)
+
+fields_step : (x y : ℕ) → x * y ≡ 6 * (x / 6 * y) + x % 6 * y
+fields_step x y =
+    let e : x ≡ 6 * (x / 6) + x % 6 = omega arith in
+    ap (λ n. n * y) e ∙ add-mul (6 * (x / 6)) (x % 6) y ∙ ap (λ n. n + x % 6 * y) (mul_assoc 6 (x / 6) y)
+
+two_step : (x y : ℕ) → x % 6 * y % 2 ≡ x * y % 2
+two_step x y = omega (arith, fields_step x y)
+
+three_step : (x y : ℕ) → x % 6 * y % 3 ≡ x * y % 3
+three_step x y = omega (arith, fields_step x y)
+
+-- a mask goes on every six columns
+pub periodic : (p : MaskPattern) (x y : ℕ) → turns p (x % 6) y ≡ turns p x y
+periodic Checkerboard x y = let e : (x % 6 + y) % 2 ≡ (x + y) % 2 = omega arith in ap (λ n. n == 0) e
+periodic HorizontalLines x y = refl
+periodic VerticalLines x y = let e : x % 6 % 3 ≡ x % 3 = omega arith in ap (λ n. n == 0) e
+periodic DiagonalLines x y = let e : (x % 6 + y) % 3 ≡ (x + y) % 3 = omega arith in ap (λ n. n == 0) e
+periodic LargeCheckerboard x y = let e : (y / 2 + x % 6 / 3) % 2 ≡ (y / 2 + x / 3) % 2 = omega arith in ap (λ n. n == 0) e
+periodic Fields x y = ap₂ (λ (a b : ℕ). a + b == 0) (two_step x y) (three_step x y)
+periodic Diamonds x y = ap₂ (λ (a b : ℕ). (a + b) % 2 == 0) (two_step x y) (three_step x y)
+periodic Meadow x y = let e : (x % 6 + y) % 2 ≡ (x + y) % 2 = omega arith in ap₂ (λ (a b : ℕ). (a + b) % 2 == 0) e (three_step x y)
+
+-- and every twelve rows
+rows_step : (x y : ℕ) → x * y ≡ 12 * (x * (y / 12)) + x * (y % 12)
+rows_step x y =
+    let e : y ≡ 12 * (y / 12) + y % 12 = omega arith in
+    ap (λ n. x * n) e ∙ mul-add x (12 * (y / 12)) (y % 12) ∙ ap (λ n. n + x * (y % 12)) (sym (mul_assoc x 12 (y / 12)) ∙ ap (λ n. n * (y / 12)) (mul_comm x 12) ∙ mul_assoc 12 x (y / 12))
+
+rows_two : (x y : ℕ) → x * (y % 12) % 2 ≡ x * y % 2
+rows_two x y = omega (arith, rows_step x y)
+
+rows_three : (x y : ℕ) → x * (y % 12) % 3 ≡ x * y % 3
+rows_three x y = omega (arith, rows_step x y)
+
+pub rows_periodic : (p : MaskPattern) (x y : ℕ) → turns p x (y % 12) ≡ turns p x y
+rows_periodic Checkerboard x y = let e : (x + y % 12) % 2 ≡ (x + y) % 2 = omega arith in ap (λ n. n == 0) e
+rows_periodic HorizontalLines x y = let e : y % 12 % 2 ≡ y % 2 = omega arith in ap (λ n. n == 0) e
+rows_periodic VerticalLines x y = refl
+rows_periodic DiagonalLines x y = let e : (x + y % 12) % 3 ≡ (x + y) % 3 = omega arith in ap (λ n. n == 0) e
+rows_periodic LargeCheckerboard x y = let e : (y % 12 / 2 + x / 3) % 2 ≡ (y / 2 + x / 3) % 2 = omega arith in ap (λ n. n == 0) e
+rows_periodic Fields x y = ap₂ (λ (a b : ℕ). a + b == 0) (rows_two x y) (rows_three x y)
+rows_periodic Diamonds x y = ap₂ (λ (a b : ℕ). (a + b) % 2 == 0) (rows_two x y) (rows_three x y)
+rows_periodic Meadow x y = let e : (x + y % 12) % 2 ≡ (x + y) % 2 = omega arith in ap₂ (λ (a b : ℕ). (a + b) % 2 == 0) e (rows_three x y)
+
+-- the table of the code: six columns of twelve rows of each mask
+turned_table : (p : MaskPattern) → all_below 12 (λ y. all_below 6 (λ x. same (has_place (slice_index_or (slice_index_or TURNED (mask_number p) []) y 0) x) (turns p x y))) ≡ true
+unfolding has_place all_below
+turned_table Checkerboard = refl
+turned_table HorizontalLines = refl
+turned_table VerticalLines = refl
+turned_table DiagonalLines = refl
+turned_table LargeCheckerboard = refl
+turned_table Fields = refl
+turned_table Diamonds = refl
+turned_table Meadow = refl
+
+small_table : all_below 8 (λ n. all_below 12 (λ y. nat_lt (slice_index_or (slice_index_or TURNED n []) y 0) 64)) ≡ true
+unfolding all_below
+small_table = refl
+
+pub six_at : (p : MaskPattern) (x y : ℕ) → x < 6 → has_place (slice_index_or (slice_index_or TURNED (mask_number p) []) (y % 12) 0) x ≡ turns p x y
+six_at p x y h =
+    let test = λ (y x : ℕ). same (has_place (slice_index_or (slice_index_or TURNED (mask_number p) []) y 0) x) (turns p x y) in
+    same_true (has_place (slice_index_or (slice_index_or TURNED (mask_number p) []) (y % 12) 0) x) (turns p x (y % 12))
+    (all_holds 6 (test (y % 12)) (all_holds 12 (λ y. all_below 6 (test y)) (turned_table p) (y % 12) (omega arith)) x h)
+    ∙ rows_periodic p x y
+
+mask_number_small : (p : MaskPattern) → mask_number p < 8
+mask_number_small Checkerboard = omega arith
+mask_number_small HorizontalLines = omega arith
+mask_number_small VerticalLines = omega arith
+mask_number_small DiagonalLines = omega arith
+mask_number_small LargeCheckerboard = omega arith
+mask_number_small Fields = omega arith
+mask_number_small Diamonds = omega arith
+mask_number_small Meadow = omega arith
+
+pub six_small : (p : MaskPattern) (y : ℕ) → slice_index_or (slice_index_or TURNED (mask_number p) []) (y % 12) 0 < 64
+six_small p y =
+    let test = λ (n y : ℕ). nat_lt (slice_index_or (slice_index_or TURNED n []) y 0) 64 in
+    ltb-true _ _ (all_holds 12 (test (mask_number p)) (all_holds 8 (λ n. all_below 12 (test n)) small_table (mask_number p) (mask_number_small p)) (y % 12) (omega arith))

@@ -1,0 +1,128 @@
+-- Squares under a mask, by rows and by modules.
+use Rattle.std.proofs.Common.{◌≡◌, ℕ, suc, ◌+◌, ◌-◌, ◌*◌, ◌/◌, ◌%◌, ◌<◌, Bool, true, false, ◌&&◌, not, nat_lt, List, length, slice_index_or, Option, Some, None, refl, ap, ap₂, sym, ◌∙◌, arith, inl, inr}
+use mathlib.Core.Path.{fun_ext}
+use Rattle.std.proofs.Math.ListN.{get_or-map}
+use Rattle.std.proofs.lemmas.List.{ext_get_or}
+use Rattle.std.proofs.lemmas.List.FromFn.{get_or-map-range_with_len, length-map-range_with_len}
+use Rattle.std.proofs.lemmas.Nat.{mod-mul-add, div-mul-add, mul-add-lt, div-add-mod'}
+use Rattle.std.proofs.Math.Nat.{div-lt_iff_lt-mul}
+use Rattle.std.proofs.lemmas.Bool.Decides.{leb_tells}
+use Rattle.qrcode_types.specs.Bits.{has_bit}
+use Rattle.qrcode_types.specs.Colors.{is_dark, color_of}
+use Rattle.qrcode_types.specs.Versions.{side}
+use Rattle.qrcode_types.specs.declared.types.Version.{Version}
+use Rattle.qrcode_types.specs.declared.types.Version.TheVariants.{Normal, Micro}
+use Rattle.qrcode_types.specs.declared.types.EcLevel.{EcLevel}
+use Rattle.qrcode_types.specs.declared.types.Color.{Color}
+use Rattle.qrcode_types.specs.declared.types.Color.TheVariants.{Light, Dark}
+use Rattle.qrcode_penalty.specs.Rows.{Shows, inside, dark_in}
+use Rattle.qrcode_places.specs.Masks.{turns, turned_if}
+use Rattle.qrcode_places.specs.Words.{format_word}
+use Rattle.qrcode_places.specs.Patterns.{format_index, dark_module}
+use Rattle.qrcode_places.specs.Stream.{color_at}
+use Rattle.qrcode_places.specs.declared.masks.MaskPattern.{MaskPattern}
+use Rattle.qrcode_symbol.specs.declared.canvas.Module.{Module}
+use Rattle.qrcode_symbol.specs.declared.canvas.Module.TheVariants.{Empty, Masked, Unmasked}
+use Rattle.qrcode_symbol.specs.Canvas.{color_of_module, colors_of, masked_module, mask_module, with_mask}
+use Rattle.qrcode_symbol.specs.Penalties.{penalty, penalty_of}
+use Rattle.qrcode_symbol.specs.Masking.{is_dark_module, is_free, fixed_bit, bit_or_else, masked_dark, nth_cost, nth_mask, ShowsModules}
+use Rattle.qrcode_symbol.proofs.FixedPlaces.{bit_of}
+
+pub dark_color : (b : Bool) → is_dark (color_of b) ≡ b
+dark_color true = refl
+dark_color false = refl
+
+pub color_dark : (c : Color) → color_of (is_dark c) ≡ c
+color_dark Light = refl
+color_dark Dark = refl
+
+-- a module under a mask, by the bit of the format word, the dark module and the mask at its place
+abbrev pub module_of : ℕ → Option ℕ → Option Color → Bool → Module → Module
+module_of word o d t m = elim o [ Some i ↦ Masked (color_of (has_bit word (14 - i))) | None ↦ elim d [ Some c ↦ Masked c | None ↦ masked_module t m ] ]
+
+decided : (word : ℕ) (o : Option ℕ) (d : Option Color) (t : Bool) (m : Module) → bit_or_else (bit_of word o d) (turned_if (is_free m && t) (is_dark_module m)) ≡ is_dark_module (module_of word o d t m)
+decided word (Some i) d t m = sym (dark_color (has_bit word (14 - i)))
+decided word None (Some c) t m = refl
+decided word None None true Empty = refl
+decided word None None false Empty = refl
+decided word None None t (Masked c) = refl
+decided word None None true (Unmasked c) = sym (dark_color (not (is_dark c)))
+decided word None None false (Unmasked c) = sym (dark_color (is_dark c))
+
+always_masked : (word : ℕ) (o : Option ℕ) (d : Option Color) (t : Bool) (m : Module) → Masked (color_of (is_dark_module (module_of word o d t m))) ≡ module_of word o d t m
+always_masked word (Some i) d t m = ap Masked (color_dark (color_of (has_bit word (14 - i))))
+always_masked word None (Some c) t m = ap Masked (color_dark c)
+always_masked word None None t Empty = ap Masked (color_dark (color_of t))
+always_masked word None None t (Masked c) = ap Masked (color_dark c)
+always_masked word None None t (Unmasked c) = ap Masked (color_dark (color_of (turned_if t (is_dark c))))
+
+-- the tests of a square need to agree inside alone
+pub inside_same : (w : ℕ) (f g : ℕ → ℕ → Bool) → ((x y : ℕ) → x < w → y < w → f x y ≡ g x y) → inside w f ≡ inside w g
+inside_same w f g h = fun_ext (λ x. fun_ext (λ y.
+    elim (leb_tells (suc x) w) [
+      | inl p ↦ elim (leb_tells (suc y) w) [
+        | inl q ↦ ap (λ b. nat_lt x w && nat_lt y w && b) (h x y p.1 q.1)
+        | inr q ↦ ap₂ (λ (a b : Bool). a && b && f x y) p.0 q.0 ∙ sym (ap₂ (λ (a b : Bool). a && b && g x y) p.0 q.0)
+      ]
+      | inr p ↦ ap (λ a. a && nat_lt y w && f x y) p.0 ∙ sym (ap (λ a. a && nat_lt y w && g x y) p.0)
+    ]))
+
+pub side_positive : (v : Version) → 0 < side v
+side_positive (Normal n) = omega arith
+side_positive (Micro n) = omega arith
+
+-- a place, by its row and column
+pub split : (i w : ℕ) → i ≡ i / w * w + i % w
+split i w = sym (div-add-mod' i w)
+
+pub div_below : (i w : ℕ) → 0 < w → i < w * w → i / w < w
+div_below i w p h = (div-lt_iff_lt-mul p).1 h
+
+module _ (v : Version) (l : EcLevel) (modules : List Module) where
+  pub with_mask_at : (k : MaskPattern) (i : ℕ) → i < side v * side v → slice_index_or (with_mask v l k modules) i Empty ≡ mask_module v (format_word v l k) k (i % side v) (i / side v) (slice_index_or modules i Empty)
+  unfolding with_mask
+  with_mask_at k i h = get_or-map-range_with_len (λ i. mask_module v (format_word v l k) k (i % side v) (i / side v) (slice_index_or modules i Empty)) 0 (side v * side v) i i Empty h (omega arith)
+
+  pub length_with_mask : (k : MaskPattern) → length (with_mask v l k modules) ≡ side v * side v
+  unfolding with_mask
+  length_with_mask k = length-map-range_with_len (λ i. mask_module v (format_word v l k) k (i % side v) (i / side v) (slice_index_or modules i Empty)) 0 (side v * side v)
+
+  pub place_under_mask : (k : MaskPattern) (x y : ℕ) → x < side v → y < side v → slice_index_or (with_mask v l k modules) (y * side v + x) Empty ≡ mask_module v (format_word v l k) k x y (slice_index_or modules (y * side v + x) Empty)
+  place_under_mask k x y h p =
+      with_mask_at k (y * side v + x) (mul-add-lt y (side v) x (side v) p h)
+      ∙ ap₂ (λ (a b : ℕ). mask_module v (format_word v l k) k a b (slice_index_or modules (y * side v + x) Empty)) (mod-mul-add y (side v) x h) (div-mul-add y (side v) x h)
+
+  pub color_under_mask : (k : MaskPattern) (x y : ℕ) → x < side v → y < side v → color_at v (colors_of (with_mask v l k modules)) x y ≡ color_of_module (mask_module v (format_word v l k) k x y (slice_index_or modules (y * side v + x) Empty))
+  color_under_mask k x y h p = get_or-map color_of_module (with_mask v l k modules) (y * side v + x) Empty ∙ ap color_of_module (place_under_mask k x y h p)
+
+  module _ (dark free : List ℕ) (darks : ShowsModules is_dark_module (side v) modules dark) (frees : ShowsModules is_free (side v) modules free) where
+    pub masked_same : (word : ℕ) (k : MaskPattern) (x y : ℕ) → x < side v → y < side v → masked_dark v word k dark free x y ≡ is_dark_module (mask_module v word k x y (slice_index_or modules (y * side v + x) Empty))
+    unfolding masked_dark fixed_bit
+    masked_same word k x y h p =
+        ap₂ (λ (a b : Bool). bit_or_else (fixed_bit v word x y) (turned_if (a && turns k x y) b)) (sym (frees x y h p)) (sym (darks x y h p))
+        ∙ decided word (format_index v x y) (dark_module v x y) (turns k x y) (slice_index_or modules (y * side v + x) Empty)
+
+    pub cost_same : (k : ℕ) → nth_cost v l (side v) dark free k ≡ penalty v (colors_of (with_mask v l (nth_mask v k) modules))
+    unfolding nth_cost penalty
+    cost_same k =
+        let mask = nth_mask v k in
+        ap (penalty_of v) (inside_same (side v) (masked_dark v (format_word v l mask) mask dark free) (λ x y. is_dark (color_at v (colors_of (with_mask v l mask modules)) x y))
+        (λ x y h p. masked_same (format_word v l mask) mask x y h p ∙ ap is_dark (sym (color_under_mask mask x y h p))))
+
+    pub list_same : (k : MaskPattern) (rows : List ℕ) (new : List Module) → length new ≡ side v * side v → Shows (side v) rows (masked_dark v (format_word v l k) k dark free) →
+        ((x y : ℕ) → x < side v → y < side v → slice_index_or new (y * side v + x) Empty ≡ Masked (color_of (dark_in rows x y))) → new ≡ with_mask v l k modules
+    list_same k rows new size shows are =
+        ext_get_or Empty new (with_mask v l k modules) (size ∙ sym (length_with_mask k)) (λ i h.
+        let inside : i < side v * side v = omega arith in
+        let wide : 0 < side v = side_positive v in
+        let x = i % side v in
+        let y = i / side v in
+        let column : x < side v = omega arith in
+        let row : y < side v = div_below i (side v) wide inside in
+        let e : i ≡ y * side v + x = split i (side v) in
+        let m = slice_index_or modules (y * side v + x) Empty in
+        let word = format_word v l k in
+        ap (λ n. slice_index_or new n Empty) e ∙ are x y column row
+        ∙ ap (λ b. Masked (color_of b)) (sym (shows x y column row) ∙ masked_same word k x y column row)
+        ∙ always_masked word (format_index v x y) (dark_module v x y) (turns k x y) m
+        ∙ ap (λ n. mask_module v word k x y (slice_index_or modules n Empty)) (sym e) ∙ sym (with_mask_at k i inside))

@@ -1,0 +1,98 @@
+-- Packed lists, place by place.
+use Rattle.std.proofs.Common.{◌≡◌, ℕ, zero, suc, ◌+◌, ◌-◌, ◌*◌, ◌/◌, ◌%◌, ◌^◌, ◌<◌, ◌≤◌, Bool, true, false, if◌then◌else◌, ◌==◌, List, [], ◌∷◌, length, take, drop, get_or, refl, ap, sym, ◌∙◌, arith, min, mul_assoc, mul_comm, length-drop, drop-drop}
+use Rattle.std.proofs.lemmas.Nat.{pow_pos, mod_low}
+use Rattle.std.specs.Int.{bit_at}
+use Rattle.std.proofs.lemmas.Nat.Bits.{bit_at_lowest, bit_at-suc}
+use Rattle.qrcode_penalty.specs.Rows.{has_place}
+use Rattle.qrcode_symbol.specs.Masking.{packed}
+
+-- the digit of a test
+abbrev digit : Bool → ℕ
+digit b = if b then 1 else 0
+
+digit_le : (b : Bool) → digit b ≤ 1
+digit_le true = omega arith
+digit_le false = omega arith
+
+pub packed_lt : {A : Type 0} (f : A → Bool) (xs : List A) (n : ℕ) → length xs ≤ n → packed f xs < 2 ^ n
+packed_lt f [] n h = pow_pos n
+packed_lt f (x ∷ xs) zero h = absurd (omega arith)
+packed_lt f (x ∷ xs) (suc n) h =
+    let below : packed f xs < 2 ^ n = packed_lt f xs n (omega arith) in
+    let twice : 2 ^ suc n ≡ 2 ^ n + 2 ^ n = grind arith in
+    let bit : digit (f x) ≤ 1 = digit_le (f x) in
+    omega arith
+
+cut_step : (p d t q r b : ℕ) → p ≡ d * q + t → r ≡ 2 * q → 2 * p + b ≡ d * r + (2 * t + b)
+cut_step p d t q r b e h =
+    let far : d * r ≡ 2 * (d * q) = ap (λ n. d * n) h ∙ sym (mul_assoc d 2 q) ∙ ap (λ n. n * q) (mul_comm d 2) ∙ mul_assoc 2 d q in
+    omega (arith, e, far)
+
+pub packed_cut : {A : Type 0} (f : A → Bool) (n : ℕ) (xs : List A) → packed f xs ≡ packed f (drop n xs) * 2 ^ n + packed f (take n xs)
+packed_cut f zero xs = grind arith
+packed_cut f (suc n) [] = omega arith
+packed_cut f (suc n) (x ∷ xs) =
+    let twice : 2 ^ suc n ≡ 2 * 2 ^ n = grind arith in
+    cut_step (packed f xs) (packed f (drop n xs)) (packed f (take n xs)) (2 ^ n) (2 ^ suc n) (digit (f x)) (packed_cut f n xs) twice
+
+has_digit : (n : ℕ) (b : Bool) → has_place (2 * n + digit b) 0 ≡ b
+unfolding has_place
+has_digit n true = let e : (2 * n + 1) % 2 ≡ 1 = omega arith in ap (λ x. x == 1) (bit_at_lowest (2 * n + 1) ∙ e)
+has_digit n false = let e : (2 * n + 0) % 2 ≡ 0 = omega arith in ap (λ x. x == 1) (bit_at_lowest (2 * n + 0) ∙ e)
+
+has_twice : (n : ℕ) (b : Bool) (k : ℕ) → has_place (2 * n + digit b) (suc k) ≡ has_place n k
+unfolding has_place
+has_twice n b k =
+    let small : digit b ≤ 1 = digit_le b in
+    let half : (2 * n + digit b) / 2 ≡ n = omega arith in
+    ap (λ x. x == 1) (bit_at-suc (2 * n + digit b) k ∙ ap (λ m. bit_at m k) half)
+
+pub has_packed : {A : Type 0} (f : A → Bool) (xs : List A) (k : ℕ) (d : A) → k < length xs → has_place (packed f xs) k ≡ f (get_or xs k d)
+has_packed f [] k d h = absurd (omega arith)
+has_packed f (x ∷ xs) zero d h = has_digit (packed f xs) (f x)
+has_packed f (x ∷ xs) (suc k) d h = has_twice (packed f xs) (f x) k ∙ has_packed f xs k d (omega arith)
+
+take_same : {A : Type 0} (xs : List A) (m n : ℕ) → min (length xs) m ≡ min (length xs) n → take m xs ≡ take n xs
+take_same [] zero zero h = refl
+take_same [] zero (suc n) h = refl
+take_same [] (suc m) zero h = refl
+take_same [] (suc m) (suc n) h = refl
+take_same (x ∷ xs) zero zero h = refl
+take_same (x ∷ xs) zero (suc n) h = absurd (omega arith)
+take_same (x ∷ xs) (suc m) zero h = absurd (omega arith)
+take_same (x ∷ xs) (suc m) (suc n) h = ap (λ ys. x ∷ ys) (take_same xs m n (omega arith))
+
+drop_same : {A : Type 0} (xs : List A) (m n : ℕ) → min (length xs) m ≡ min (length xs) n → drop m xs ≡ drop n xs
+drop_same [] zero zero h = refl
+drop_same [] zero (suc n) h = refl
+drop_same [] (suc m) zero h = refl
+drop_same [] (suc m) (suc n) h = refl
+drop_same (x ∷ xs) zero zero h = refl
+drop_same (x ∷ xs) zero (suc n) h = absurd (omega arith)
+drop_same (x ∷ xs) (suc m) zero h = absurd (omega arith)
+drop_same (x ∷ xs) (suc m) (suc n) h = drop_same xs m n (omega arith)
+
+take_all : {A : Type 0} (xs : List A) (n : ℕ) → length xs ≤ n → take n xs ≡ xs
+take_all [] zero h = refl
+take_all [] (suc n) h = refl
+take_all (x ∷ xs) zero h = absurd (omega arith)
+take_all (x ∷ xs) (suc n) h = ap (λ ys. x ∷ ys) (take_all xs n (omega arith))
+
+-- a list of up to 192 answers in three words
+pub packed_words : {A : Type 0} (f : A → Bool) (xs : List A) →
+    (packed f (take (length xs - min (length xs) 128) (drop (min (length xs) 128) xs)) * 2 ^ 64 + packed f (take (min (length xs) 128 - min (length xs) 64) (drop (min (length xs) 64) xs))) * 2 ^ 64 + packed f (take (min (length xs) 64) xs) ≡ packed f xs
+packed_words f xs =
+    let low : packed f (take (min (length xs) 64) xs) ≡ packed f (take 64 xs) = ap (packed f) (take_same xs (min (length xs) 64) 64 (omega arith)) in
+    let behind : drop (min (length xs) 64) xs ≡ drop 64 xs = drop_same xs (min (length xs) 64) 64 (omega arith) in
+    let middle : packed f (take (min (length xs) 128 - min (length xs) 64) (drop (min (length xs) 64) xs)) ≡ packed f (take 64 (drop 64 xs)) =
+    ap (λ ys. packed f (take (min (length xs) 128 - min (length xs) 64) ys)) behind
+    ∙ ap (packed f) (take_same (drop 64 xs) (min (length xs) 128 - min (length xs) 64) 64 (omega (arith, length-drop 64 xs))) in
+    let high : packed f (take (length xs - min (length xs) 128) (drop (min (length xs) 128) xs)) ≡ packed f (drop 64 (drop 64 xs)) = ap (packed f) (take_all (drop (min (length xs) 128) xs) (length xs - min (length xs) 128) (omega (arith, length-drop (min (length xs) 128) xs)) ∙ drop_same xs (min (length xs) 128) 128 (omega arith) ∙ sym (drop-drop 64 64 xs)) in
+    omega (arith, low, middle, high, packed_cut f 64 xs, packed_cut f 64 (drop 64 xs))
+
+-- the same numbers, cut to a room that has place for the list
+pub packed_in_room : {A : Type 0} (f : A → Bool) (xs : List A) (room : ℕ) → length xs ≤ room →
+    ((packed f (take (length xs - min (length xs) 128) (drop (min (length xs) 128) xs)) * 2 ^ 64 + packed f (take (min (length xs) 128 - min (length xs) 64) (drop (min (length xs) 64) xs))) * 2 ^ 64 + packed f (take (min (length xs) 64) xs)) % 2 ^ room ≡ packed f xs
+packed_in_room f xs room h =
+    let e : packed f xs ≡ 0 * 2 ^ room + packed f xs = omega arith in
+    ap (λ n. n % 2 ^ room) (packed_words f xs ∙ e) ∙ mod_low 0 room (packed f xs) (packed_lt f xs room h)

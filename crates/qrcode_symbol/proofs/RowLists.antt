@@ -1,0 +1,74 @@
+-- Lists of rows, as their numbers.
+use Rattle.std.proofs.Common.{◌≡◌, ◌==◌, ◌&&◌, ◌++◌, ℕ, true, false, refl, ap₂, ◌/◌, ◌%◌, bit_and, bit_xor, ◌+◌, ◌*◌, ◌^◌, ◌<◌, ◌≤◌, Bool, List, length, take, drop, slice_index_or, ap, sym, ◌∙◌, arith, subst, length-take, length-drop}
+use Rattle.std.proofs.lemmas.Nat.{mul-add-lt}
+use Rattle.std.proofs.lemmas.List.{get_or-take, get_or-drop, get_or_append_left, get_or-append-add}
+use borrow.Rule.Slice.PartMut.{put_mid, post_of}
+use Rattle.qrcode_penalty.specs.Rows.{has_place, dark_in, AllEndBefore}
+use Rattle.qrcode_penalty.proofs.Places.{differ, has_and, has_xor}
+use Rattle.qrcode_penalty.proofs.WrittenRows.{ends_all}
+use Rattle.qrcode_types.specs.declared.types.Version.{Version}
+use Rattle.qrcode_places.specs.Masks.{turns, turned_if}
+use Rattle.qrcode_places.specs.declared.masks.MaskPattern.{MaskPattern}
+use Rattle.qrcode_symbol.specs.declared.canvas.Module.{Module}
+use Rattle.qrcode_symbol.specs.declared.canvas.Module.TheVariants.{Empty}
+use Rattle.qrcode_symbol.specs.Masking.{packed, modules_of_row, ShowsModules, fixed_bit, bit_or_else, masked_dark}
+use Rattle.qrcode_symbol.proofs.PackedLists.{packed_lt, has_packed}
+
+-- rows that are packed show the modules
+module _ (test : Module → Bool) (modules : List Module) (w : ℕ) (square : length modules ≡ w * w) (rows : List ℕ)
+    (are : (y : ℕ) → y < w → slice_index_or rows y 0 ≡ packed test (modules_of_row w modules y)) where
+  long_row : (x y : ℕ) → x < w → y < w → x < length (modules_of_row w modules y)
+  long_row x y h l =
+      let inside : y * w + x < w * w = mul-add-lt y w x w l h in
+      simp (length-take, length-drop) (omega (arith, inside, square))
+
+  pub shows_packed : ShowsModules test w modules rows
+  unfolding dark_in
+  shows_packed = λ x y h l.
+      sym (ap (λ n. has_place n x) (are y l) ∙ has_packed test (modules_of_row w modules y) x Empty (long_row x y h l)
+      ∙ ap test (get_or-take w (drop (y * w) modules) x Empty h ∙ get_or-drop (y * w) modules x Empty))
+
+  pub ends_packed : length rows ≡ w → AllEndBefore w rows
+  ends_packed e = ends_all rows w e (λ y h. subst (λ (n : ℕ). n < 2 ^ w) (sym (are y h)) (packed_lt test (modules_of_row w modules y) w (omega (arith, length-take w (drop (y * w) modules)))))
+
+-- row k under a mask
+pub record IsMaskedRow (v : Version) (w word : ℕ) (mask : MaskPattern) (dark free : List ℕ) (k row : ℕ) : Type 0 where
+  pub shows : (x : ℕ) → x < w → has_place row x ≡ masked_dark v word mask dark free x k
+  pub ends : row < 2 ^ w
+
+pub masked_row_is : (v : Version) (w word : ℕ) (mask : MaskPattern) (dark free : List ℕ) (k row d f : ℕ) → d ≡ slice_index_or dark k 0 → f ≡ slice_index_or free k 0 →
+    ((x : ℕ) → x < w → has_place row x ≡ bit_or_else (fixed_bit v word x k) (turned_if (has_place f x && turns mask x k) (has_place d x))) → row < 2 ^ w → IsMaskedRow v w word mask dark free k row
+unfolding masked_dark dark_in
+masked_row_is v w word mask dark free k row d f p q shows ends = record {
+  shows = λ x h. shows x h ∙ ap₂ (λ (m n : ℕ). bit_or_else (fixed_bit v word x k) (turned_if (has_place n x && turns mask x k) (has_place m x))) p q;
+  ends = ends;
+}
+
+differ_turned : (t d : Bool) → differ d t ≡ turned_if t d
+differ_turned true true = refl
+differ_turned true false = refl
+differ_turned false true = refl
+differ_turned false false = refl
+
+-- a row whose free places are turned by a mask
+pub turned_at : (d f m x : ℕ) (t : Bool) → has_place m x ≡ t → has_place (bit_xor d (bit_and f m)) x ≡ turned_if (has_place f x && t) (has_place d x)
+turned_at d f m x t e =
+    has_xor d (bit_and f m) x
+    ∙ ap (differ (has_place d x)) (has_and f m x ∙ ap (λ b. has_place f x && b) e)
+    ∙ differ_turned (has_place f x && t) (has_place d x)
+
+-- the lowest bit of what is left of a row
+pub first_bit : (rest word line i : ℕ) → word ≡ rest % 2 ^ 64 → rest ≡ line / 2 ^ i → (word % 2 == 1) ≡ has_place line i
+unfolding has_place
+first_bit rest word line i e f =
+    let cut : word % 2 ≡ rest % 2 = omega arith in
+    ap (λ n. n == 1) (cut ∙ ap (λ n. n % 2) f)
+
+-- the places of a square after a part of it was written
+pub part_before : (a k : ℕ) (xs ys : List Module) (i : ℕ) → i < a → a ≤ length xs → slice_index_or (put_mid a k xs ys) i Empty ≡ slice_index_or xs i Empty
+part_before a k xs ys i h l = get_or_append_left (take a xs) (ys ++ post_of a k xs) Empty i (omega (arith, length-take a xs)) ∙ get_or-take a xs i Empty h
+
+pub part_inside : (a k : ℕ) (xs ys : List Module) (j : ℕ) → a ≤ length xs → j < length ys → slice_index_or (put_mid a k xs ys) (a + j) Empty ≡ slice_index_or ys j Empty
+part_inside a k xs ys j l h =
+    let e : a ≡ length (take a xs) = omega (arith, length-take a xs) in
+    ap (λ n. slice_index_or (put_mid a k xs ys) (n + j) Empty) e ∙ get_or-append-add (take a xs) (ys ++ post_of a k xs) j Empty ∙ get_or_append_left ys (post_of a k xs) Empty j h

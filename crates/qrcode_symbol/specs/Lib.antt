@@ -1,0 +1,9 @@
+pub mod Canvas
+pub mod Carried
+pub mod Filling
+pub mod Lending
+pub mod Masking
+pub mod Patterned
+pub mod Penalties
+pub mod Reading
+pub mod Symbol

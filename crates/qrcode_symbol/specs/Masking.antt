@@ -1,0 +1,96 @@
+-- How a mask is chosen on rows packed into numbers.
+use Rattle.std.specs.Prelude.{◌≡◌, ℕ, zero, suc, ◌+◌, ◌-◌, ◌*◌, ◌<◌, ◌≤◌, Bool, true, false, ◌&&◌, List, [], ◌∷◌, Option, Some, None, take, drop, slice_index_or, if◌then◌else◌}
+use Rattle.qrcode_types.specs.Bits.{has_bit}
+use Rattle.qrcode_types.specs.Colors.{is_dark}
+use Rattle.qrcode_types.specs.declared.types.Version.{Version}
+use Rattle.qrcode_types.specs.declared.types.Version.TheVariants.{Normal, Micro}
+use Rattle.qrcode_types.specs.declared.types.EcLevel.{EcLevel}
+use Rattle.qrcode_penalty.specs.Rows.{Shows, inside, dark_in}
+use Rattle.qrcode_places.specs.Masks.{turns, turned_if}
+use Rattle.qrcode_places.specs.Words.{format_word}
+use Rattle.qrcode_places.specs.Patterns.{format_index, dark_module}
+use Rattle.qrcode_places.specs.declared.masks.MaskPattern.{MaskPattern}
+use Rattle.qrcode_places.specs.declared.masks.MaskPattern.TheVariants.{Checkerboard, HorizontalLines, VerticalLines, DiagonalLines, LargeCheckerboard, Fields, Diamonds, Meadow}
+use Rattle.qrcode_symbol.specs.declared.canvas.Module.{Module}
+use Rattle.qrcode_symbol.specs.declared.canvas.Module.TheVariants.{Empty, Masked, Unmasked}
+use Rattle.qrcode_symbol.specs.Canvas.{color_of_module, colors_of, with_mask, with_patterns, with_bits_drawn, blank, IsBestMask}
+use Rattle.qrcode_symbol.specs.Penalties.{penalty_of, IsFirstLeast}
+
+-- the module is dark
+abbrev pub is_dark_module : Module → Bool
+is_dark_module m = is_dark (color_of_module m)
+
+-- a mask may turn the module
+abbrev pub is_free : Module → Bool
+is_free Empty = true
+is_free (Masked c) = false
+is_free (Unmasked c) = true
+
+-- the number whose bit i is the answer of a test for the i-th item
+abbrev pub packed : {A : Type 0} → (A → Bool) → List A → ℕ
+packed test [] = 0
+packed test (x ∷ xs) = 2 * packed test xs + (if test x then 1 else 0)
+
+-- the modules of row y
+abbrev pub modules_of_row : ℕ → List Module → ℕ → List Module
+modules_of_row w modules y = take w (drop (y * w) modules)
+
+-- rows of a square show which of its modules pass a test
+abbrev pub ShowsModules : (Module → Bool) → ℕ → List Module → List ℕ → Type 0
+ShowsModules test w modules rows = Shows w rows (λ x y. test (slice_index_or modules (y * w + x) Empty))
+
+-- the bit of a place that no mask decides: of the format word, or of the dark module
+unfoldable pub fixed_bit : Version → ℕ → ℕ → ℕ → Option Bool
+fixed_bit v word x y = elim (format_index v x y) [ Some i ↦ Some (has_bit word (14 - i)) | None ↦ elim (dark_module v x y) [ Some c ↦ Some (is_dark c) | None ↦ None ] ]
+
+-- a bit, if there is one in its place
+abbrev pub bit_or_else : Option Bool → Bool → Bool
+bit_or_else (Some b) other = b
+bit_or_else None other = other
+
+-- the place is dark under a mask, by rows of what is dark and of what a mask may turn
+unfoldable pub masked_dark : Version → ℕ → MaskPattern → List ℕ → List ℕ → ℕ → ℕ → Bool
+masked_dark v word k dark free x y = bit_or_else (fixed_bit v word x y) (turned_if (dark_in free x y && turns k x y) (dark_in dark x y))
+
+abbrev pub normal_mask : ℕ → MaskPattern
+normal_mask zero = Checkerboard
+normal_mask (suc zero) = HorizontalLines
+normal_mask (suc (suc zero)) = VerticalLines
+normal_mask (suc (suc (suc zero))) = DiagonalLines
+normal_mask (suc (suc (suc (suc zero)))) = LargeCheckerboard
+normal_mask (suc (suc (suc (suc (suc zero))))) = Fields
+normal_mask (suc (suc (suc (suc (suc (suc zero)))))) = Diamonds
+normal_mask (suc (suc (suc (suc (suc (suc (suc k))))))) = Meadow
+
+abbrev pub micro_mask : ℕ → MaskPattern
+micro_mask zero = HorizontalLines
+micro_mask (suc zero) = LargeCheckerboard
+micro_mask (suc (suc zero)) = Diamonds
+micro_mask (suc (suc (suc k))) = Meadow
+
+-- the k-th mask of a version
+abbrev pub nth_mask : Version → ℕ → MaskPattern
+nth_mask (Normal v) k = normal_mask k
+nth_mask (Micro v) k = micro_mask k
+
+abbrev pub mask_count : Version → ℕ
+mask_count (Normal v) = 8
+mask_count (Micro v) = 4
+
+-- what such rows cost under the k-th mask
+unfoldable pub nth_cost : Version → EcLevel → ℕ → List ℕ → List ℕ → ℕ → ℕ
+nth_cost v l w dark free k = let mask = nth_mask v k in penalty_of v (inside w (masked_dark v (format_word v l mask) mask dark free))
+
+-- no number below the count costs less than k, and none before k as little
+pub record IsFirstLeastCost (costs : ℕ → ℕ) (count k : ℕ) : Type 0 where
+  pub exists : k < count
+  pub least : (j : ℕ) → j < count → costs k ≤ costs j
+  pub first : (j : ℕ) → j < k → costs k < costs j
+
+-- the modules under the first mask of least penalty
+pub record IsBestMasked (v : Version) (l : EcLevel) (modules new : List Module) : Type 0 where
+  pub mask : MaskPattern
+  pub best : IsBestMask v l modules mask
+  pub after : new ≡ with_mask v l mask modules
+  -- where the modules are patterns and drawn bits, its colours need not be compared with the modules
+  pub first_least : (bits : List Bool) → modules ≡ with_bits_drawn v bits (with_patterns v (blank v)) → IsFirstLeast v l mask (colors_of new)

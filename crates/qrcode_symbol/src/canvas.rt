@@ -1,0 +1,322 @@
+//! The modules of a symbol: patterns, data and masks are drawn on them.
+
+ghost use Rattle.std.specs.Prelude.{◌≡◌, ℕ, ◌+◌, ◌*◌, ◌%◌, ◌<◌, ◌≤◌, pos, neg_ℤ, ◌≤ℤ◌, ◌<ℤ◌, nat_abs, length, map, slice_get, slice_index_or, slice_set, ◌↔◌, IsTrue, IfSome, IfOk, IsOkUnless};
+ghost use Rattle.std.specs.Borrow.{sem};
+ghost use Rattle.qrcode_types.specs.Versions.{is_valid, has_level, side};
+ghost use Rattle.qrcode_places.specs.Masks.{exists_in};
+ghost use Rattle.qrcode_places.specs.Patterns.{is_functional_place};
+ghost use Rattle.qrcode_places.specs.Stream.{FreePlacesAreFilled};
+ghost use Rattle.qrcode_places.specs.Words.{VersionWordsAreApart, FormatWordsAreApart, FormatWordsTell};
+ghost use Rattle.qrcode_types.specs.Colors.{is_dark};
+ghost use Rattle.qrcode_types.specs.declared.types.QrError.TheVariants.{OutOfMemory};
+ghost use Rattle.qrcode_symbol.specs.Canvas.{wrapped, module_index, blank, color_of_module, colors_of, masked_module, drawn_bits, with_bits_drawn, with_patterns, with_mask};
+ghost use Rattle.qrcode_symbol.specs.Carried.{CarriesAll};
+ghost use Rattle.qrcode_symbol.specs.Lending.{LendsModule};
+ghost use Rattle.qrcode_symbol.specs.Masking.{IsBestMasked};
+ghost use Rattle.qrcode_symbol.specs.Patterned.{IsDrawn};
+ghost use Rattle.qrcode_symbol.specs.declared.canvas.Module.TheVariants.{Empty, Masked};
+
+pub use qrcode_places::mask_functions;
+pub use qrcode_places::masks::MaskPattern;
+
+mod applying;
+mod codewords;
+mod drawing;
+mod filling;
+mod layout;
+mod masking;
+mod patterns;
+
+use applying::mask_modules;
+use codewords::Codewords;
+use drawing::{draw_patterns, is_functional_place};
+use filling::draw_codewords;
+use layout::Layout;
+use masking::best_masked;
+use qrcode_places::laws;
+use qrcode_types::types::{Color, EcLevel, QrResult, Version};
+use std::alloc::Global;
+use std::marker::Model;
+
+/// A module of a canvas.
+#[derive(Copy, Clone, PartialEq, Eq, Debug)]
+pub enum Module {
+    /// Nothing is drawn here.
+    Empty,
+    /// A module that no mask turns.
+    Masked(Color),
+    /// A module that a mask may turn.
+    Unmasked(Color),
+}
+
+impl Module {
+    /// Whether the module is dark; an empty one is light.
+    pub fn is_dark(self) -> bool
+        ensures { result ≡ is_dark (color_of_module self) }
+    {
+        Color::from(self) == Color::Dark
+    }
+
+    /// The module after a mask that turns it, or that leaves it. An empty module takes the colour of
+    /// the mask, and a masked one stays.
+    pub fn mask(self, should_invert: bool) -> Self
+        ensures { result ≡ masked_module should_invert self }
+    {
+        match self {
+            Module::Empty if should_invert => Module::Masked(Color::Dark),
+            Module::Empty => Module::Masked(Color::Light),
+            Module::Masked(color) => Module::Masked(color),
+            Module::Unmasked(color) if should_invert => Module::Masked(!color),
+            Module::Unmasked(color) => Module::Masked(color),
+        }
+    }
+}
+
+/// The colour of a module; an empty one is light.
+impl From<Module> for Color {
+    ghost from_gives = { λ m color. color ≡ color_of_module m };
+
+    fn from(m: Module) -> Color {
+        match m {
+            Module::Empty => Color::Light,
+            Module::Masked(color) | Module::Unmasked(color) => color,
+        }
+    }
+}
+
+/// The modules of a symbol that is being drawn.
+#[derive(Clone, Drop)]
+pub struct Canvas {
+    version: Version,
+    ec_level: EcLevel,
+    modules: Vec<Module>,
+}
+
+impl Model for Canvas {
+    ghost use Rattle.std.specs.Prelude.{◌≡◌, ◌*◌, length, IsTrue};
+    ghost use Rattle.qrcode_types.specs.Versions.{is_valid, side};
+    ghost use Rattle.qrcode_symbol.specs.Canvas.{Drawing};
+
+    ghost Value = { Drawing };
+
+    ghost view = { λ c. record {
+      version = c.version;
+      level = c.ec_level;
+      modules = c.modules.items;
+    } };
+
+    ghost invariant = { λ c. IsTrue (is_valid c.version)
+        × (length c.modules.items ≡ side c.version * side c.version) };
+}
+
+// The modules along a side, of which there is an odd number.
+fn side(version: Version) -> usize
+    requires { IsTrue (is_valid version) }
+    ensures value { result ≡ side version }
+    ensures least { 11 ≤ result }
+    ensures most { result ≤ 177 }
+    ensures odd { result % 2 ≡ 1 }
+{
+    version.width() as usize
+}
+
+// A coordinate from -width to width - 1 as one from 0 to width - 1.
+fn wrapped(width: i16, x: i16) -> usize
+    requires wide { pos 11 ≤ℤ width }
+    requires least { neg_ℤ width ≤ℤ x }
+    requires most { x <ℤ width }
+    ensures value { result ≡ wrapped (nat_abs width) x }
+    ensures inside { result < nat_abs width }
+{
+    if x < 0 {
+        (x + width) as usize
+    } else {
+        x as usize
+    }
+}
+
+// The index of the module of two coordinates in a list of rows.
+fn module_index(version: Version, x: i16, y: i16) -> usize
+    requires valid { IsTrue (is_valid version) }
+    requires x_least { neg_ℤ (pos (side version)) ≤ℤ x }
+    requires x_most { x <ℤ pos (side version) }
+    requires y_least { neg_ℤ (pos (side version)) ≤ℤ y }
+    requires y_most { y <ℤ pos (side version) }
+    ensures value { result ≡ module_index version x y }
+    ensures inside { result < side version * side version }
+{
+    let width = version.width();
+    wrapped(width, y) * (width as usize) + wrapped(width, x)
+}
+
+impl Canvas {
+    /// A canvas of empty modules.
+    pub fn new(alloc: Global, version: Version, ec_level: EcLevel) -> QrResult<Self>
+        requires { IsTrue (is_valid version) }
+        ensures blank { IfOk result (λ canvas. canvas
+            ≡ record { version = version; level = ec_level; modules = blank version }) }
+        ensures memory { IsOkUnless result OutOfMemory }
+    {
+        let width = side(version);
+        let modules = vec![in alloc; Module::Empty; width * width]?;
+        Ok(Canvas {
+            version,
+            ec_level,
+            modules,
+        })
+    }
+
+    /// The module in column `x` and row `y`, each from `-width` to `width - 1`; negative ones count
+    /// from the far side.
+    pub fn get(&self, x: i16, y: i16) -> Module
+        requires x_least { neg_ℤ (pos (side self.now.version)) ≤ℤ x }
+        requires x_most { x <ℤ pos (side self.now.version) }
+        requires y_least { neg_ℤ (pos (side self.now.version)) ≤ℤ y }
+        requires y_most { y <ℤ pos (side self.now.version) }
+        ensures { result
+            ≡ slice_index_or self.now.modules (module_index self.now.version x y) Empty }
+    {
+        self.modules[module_index(self.version, x, y)]
+    }
+
+    /// The module in column `x` and row `y`, to be changed; coordinates are those of `get`.
+    pub fn get_mut(&mut self, x: i16, y: i16) -> &mut Module
+        requires x_least { neg_ℤ (pos (side self.old.version)) ≤ℤ x }
+        requires x_most { x <ℤ pos (side self.old.version) }
+        requires y_least { neg_ℤ (pos (side self.old.version)) ≤ℤ y }
+        requires y_most { y <ℤ pos (side self.old.version) }
+        ensures* lends { sem 𝓛 (LendsModule self.entry x y result) }
+        ensures value { result.now
+            ≡ slice_index_or self.old.modules (module_index self.old.version x y) Empty }
+    {
+        let index = module_index(self.version, x, y);
+        &mut self.modules[index]
+    }
+
+    /// Draws a module that no mask turns; coordinates are those of `get`.
+    pub fn put(&mut self, x: i16, y: i16, color: Color)
+        requires x_least { neg_ℤ (pos (side self.old.version)) ≤ℤ x }
+        requires x_most { x <ℤ pos (side self.old.version) }
+        requires y_least { neg_ℤ (pos (side self.old.version)) ≤ℤ y }
+        requires y_most { y <ℤ pos (side self.old.version) }
+        ensures { self.new ≡ record self.old {
+          modules = slice_set self.old.modules (module_index self.old.version x y) (Masked color);
+        } }
+    {
+        let index = module_index(self.version, x, y);
+        self.modules[index] = Module::Masked(color);
+    }
+
+    /// Draws the functional patterns over what is there, and the places of the format word light
+    /// (ISO/IEC 18004:2006, section 5.3).
+    pub fn draw_all_functional_patterns(&mut self)
+        ensures after { self.new ≡ record self.old {
+          modules = with_patterns self.old.version self.old.modules;
+        } }
+
+        // The version words are far from one another.
+        ensures words_apart { VersionWordsAreApart }
+
+        // The codewords and the remainder bits of each version fill the free places.
+        ensures free { FreePlacesAreFilled }
+    {
+        laws::words();
+        laws::free_places();
+        draw_patterns(self.version, &mut self.modules);
+    }
+
+    /// Draws codewords at the empty places, in the order of the standard's walk (ISO/IEC 18004:2006,
+    /// section 6.7.3): the data, of whose last byte only the high half is drawn where the version
+    /// and level have a half codeword, and then the error correction. Bits without a place are
+    /// dropped.
+    pub fn draw_data(&mut self, data: &[u8], ec: &[u8])
+        ensures after { self.new ≡ record self.old {
+          modules = with_bits_drawn self.old.version
+              (drawn_bits self.old.version self.old.level «data».now ec.now) self.old.modules;
+        } }
+
+        // Over the patterns of a new canvas they make the square of the codewords, under each mask.
+        ensures carries { CarriesAll self.old «data».now ec.now self.new }
+    {
+        let codewords = Codewords::new(self.version, self.ec_level, data, ec);
+        draw_codewords(self.version, codewords, &mut self.modules);
+    }
+
+    /// Masks every module, and then draws the format word and the dark module.
+    pub fn apply_mask(&mut self, mask: MaskPattern)
+        requires level { IsTrue (has_level self.old.version self.old.level) }
+        requires mask { IsTrue (exists_in self.old.version mask) }
+        ensures after { self.new ≡ record self.old {
+          modules = with_mask self.old.version self.old.level mask self.old.modules;
+        } }
+
+        // The format words are far from one another, and tell level and mask.
+        ensures words_apart { FormatWordsAreApart }
+        ensures words_tell { FormatWordsTell }
+    {
+        laws::words();
+        mask_modules(self.version, self.ec_level, mask, &mut self.modules);
+    }
+
+    /// The canvas under the first mask of least penalty (ISO/IEC 18004:2006, section 6.8.3), the
+    /// format words being counted too.
+    pub fn apply_best_mask(&self, alloc: Global) -> QrResult<Self>
+        requires { IsTrue (has_level self.now.version self.now.level) }
+        ensures version { IfOk result (λ best. best.version ≡ self.now.version) }
+        ensures level { IfOk result (λ best. best.level ≡ self.now.level) }
+        ensures masked { IfOk result (λ best.
+            IsBestMasked self.now.version self.now.level self.now.modules best.modules) }
+        ensures memory { IsOkUnless result OutOfMemory }
+
+        // The format words are far from one another, and tell level and mask.
+        ensures words_apart { FormatWordsAreApart }
+        ensures words_tell { FormatWordsTell }
+    {
+        laws::words();
+        let modules = best_masked(alloc, self.version, self.ec_level, &self.modules)?;
+        Ok(Canvas {
+            version: self.version,
+            ec_level: self.ec_level,
+            modules,
+        })
+    }
+
+    /// Whether each module is dark, row by row.
+    pub fn to_bools(&self, alloc: Global) -> QrResult<Vec<bool>>
+        ensures value { IfOk result (λ bools.
+            bools.items ≡ map (λ m. is_dark (color_of_module m)) self.now.modules) }
+        ensures memory { IsOkUnless result OutOfMemory }
+    {
+        Ok(self.modules.iter().map(|m| m.is_dark()).collect(alloc)?)
+    }
+
+    /// The colour of each module, row by row.
+    pub fn into_colors(self, alloc: Global) -> QrResult<Vec<Color>>
+        ensures value { IfOk result (λ colors. colors.items ≡ colors_of self.modules) }
+        ensures memory { IsOkUnless result OutOfMemory }
+    {
+        Ok(self.modules.iter().map(|m| Color::from(*m)).collect(alloc)?)
+    }
+}
+
+/// Whether a functional pattern or the format word has the module in column `x` and row `y` of a
+/// version, each from `-width` to `width - 1`; negative ones count from the far side.
+pub fn is_functional(version: Version, width: i16, x: i16, y: i16) -> bool
+    requires valid { IsTrue (is_valid version) }
+    requires width { width ≡ pos (side version) }
+    requires x_least { neg_ℤ width ≤ℤ x }
+    requires x_most { x <ℤ width }
+    requires y_least { neg_ℤ width ≤ℤ y }
+    requires y_most { y <ℤ width }
+    ensures place { result
+        ≡ is_functional_place version (wrapped (side version) x) (wrapped (side version) y) }
+
+    // The patterns drawn on a new canvas leave no empty module there.
+    ensures drawn { IsTrue result
+        ↔ IsDrawn version (wrapped (side version) x) (wrapped (side version) y) }
+{
+    is_functional_place(Layout::new(version), wrapped(width, x), wrapped(width, y))
+}
+
+#[cfg(test)]
+mod tests;

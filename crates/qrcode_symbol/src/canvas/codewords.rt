@@ -1,0 +1,81 @@
+//! Codewords as bits, one after the other.
+
+ghost use Rattle.std.specs.Prelude.{◌≡◌, drop, slice_get, IsTrue};
+ghost use Rattle.qrcode_types.specs.Versions.{is_valid};
+ghost use Rattle.qrcode_symbol.specs.Canvas.{drawn_bits};
+
+use qrcode_types::tables::has_half_codeword;
+use qrcode_types::types::{EcLevel, Version};
+use std::marker::Model;
+
+// The codewords of a symbol that are not yet drawn, seen as bits: the lowest bits of a byte that is
+// begun, the bytes of data, of whose last one only the high half is drawn where it is a half
+// codeword, and the bytes of error correction.
+#[derive(Drop)]
+pub(super) struct Codewords<'a> {
+    begun: u32,
+    bits_left: u32,
+    data: &'a [u8],
+    has_half: bool,
+    ec: &'a [u8],
+}
+
+impl<'a> Model for Codewords<'a> {
+    ghost use Rattle.std.specs.Prelude.{◌-◌, ◌*◌, ◌<◌, ◌++◌, Bool, List, length, take, if◌then◌else◌};
+    ghost use Rattle.qrcode_types.specs.Bits.{number_bits, bits_of};
+
+    ghost Value = { List Bool };
+
+    ghost view = { λ c. number_bits c.bits_left c.begun
+        ++ (take (8 * length c.data.now - (if c.has_half then 4 else 0)) (bits_of c.data.now)
+        ++ bits_of c.ec.now) };
+
+    ghost invariant = { λ c. c.bits_left < 8 };
+}
+
+impl<'a> Codewords<'a> {
+    // The codewords that are drawn.
+    pub(super) fn new(version: Version, ec_level: EcLevel, data: &'a [u8], ec: &'a [u8]) -> Self
+        requires { IsTrue (is_valid version) }
+        ensures { result ≡ drawn_bits version ec_level «data».now ec.now }
+    {
+        Codewords {
+            begun: 0,
+            bits_left: 0,
+            data,
+            has_half: has_half_codeword(version, ec_level),
+            ec,
+        }
+    }
+
+    // The next bit, if there is one.
+    pub(super) fn next(&mut self) -> Option<bool>
+        ensures value { result ≡ slice_get self.old 0 }
+        ensures rest { self.new ≡ drop 1 self.old }
+    {
+        if self.bits_left > 0 {
+            self.bits_left -= 1;
+            return Some((self.begun >> self.bits_left) % 2 == 1);
+        }
+        if !self.data.is_empty() {
+            let byte = self.data[0] as u32;
+            self.data = &self.data[1..];
+            if self.has_half && self.data.is_empty() {
+                self.begun = byte >> 4;
+                self.bits_left = 3;
+                return Some((byte >> 7) % 2 == 1);
+            }
+            self.begun = byte;
+            self.bits_left = 7;
+            return Some((byte >> 7) % 2 == 1);
+        }
+        if self.ec.is_empty() {
+            return None;
+        }
+        let byte = self.ec[0] as u32;
+        self.ec = &self.ec[1..];
+        self.begun = byte;
+        self.bits_left = 7;
+        Some((byte >> 7) % 2 == 1)
+    }
+}

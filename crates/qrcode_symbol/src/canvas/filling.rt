@@ -1,0 +1,95 @@
+//! Drawing codewords at the empty places of a canvas.
+
+ghost use Rattle.std.specs.Prelude.{◌≡◌, ℕ, ◌+◌, ◌*◌, ◌%◌, ◌<◌, ◌≤◌, length, slice_get, IsTrue};
+ghost use Rattle.qrcode_types.specs.Versions.{is_valid, side};
+ghost use Rattle.qrcode_symbol.specs.Canvas.{with_bits_drawn};
+ghost use Rattle.qrcode_symbol.specs.Filling.{right_column, filled_from, drawn_if, left_if, is_empty_at};
+
+use super::codewords::Codewords;
+use super::patterns::color_of;
+use super::{Module, side};
+use qrcode_types::types::Version;
+
+// The right column of a pair of columns of the walk.
+fn right_column(version: Version, width: usize, pair: usize) -> usize
+    requires wide { width ≡ side version }
+    requires pair { 2 * pair + 3 ≤ width }
+    ensures value { result ≡ right_column version pair }
+    ensures least { 1 ≤ result }
+    ensures most { result < width }
+{
+    let column = width - 1 - 2 * pair;
+    if !version.is_micro() && column <= 6 {
+        column - 1
+    } else {
+        column
+    }
+}
+
+// Draws the next bit at an index, if there is one and the module is empty.
+fn draw_bit(codewords: &mut Codewords<'_>, modules: &mut [Module], index: usize)
+    requires { index < length modules.old }
+    ensures rest { codewords.new ≡ left_if (is_empty_at modules.old index) codewords.old }
+    ensures after { modules.new
+        ≡ drawn_if (is_empty_at modules.old index) (slice_get codewords.old 0) modules.old index }
+{
+    let Module::Empty = modules[index] else {
+        return;
+    };
+    if let Some(bit) = codewords.next() {
+        modules[index] = Module::Unmasked(color_of(bit));
+    }
+}
+
+// Draws the next bits in a pair of columns, upwards, the right module of each row first.
+fn draw_up(version: Version, pair: usize, codewords: &mut Codewords<'_>, modules: &mut [Module])
+    requires valid { IsTrue (is_valid version) }
+    requires pair { 2 * pair + 3 ≤ side version }
+    requires up { pair % 2 ≡ 0 }
+    requires square { length modules.old ≡ side version * side version }
+    ensures { filled_from version codewords.new modules.new (2 * side version * (pair + 1))
+        ≡ filled_from version codewords.old modules.old (2 * side version * pair) }
+{
+    let width = side(version);
+    let right = right_column(version, width, pair);
+    for step in 0..width {
+        let index = (width - 1 - step) * width + right;
+        draw_bit(codewords, modules, index);
+        draw_bit(codewords, modules, index - 1);
+    }
+}
+
+// The same downwards.
+fn draw_down(version: Version, pair: usize, codewords: &mut Codewords<'_>, modules: &mut [Module])
+    requires valid { IsTrue (is_valid version) }
+    requires pair { 2 * pair + 3 ≤ side version }
+    requires down { pair % 2 ≡ 1 }
+    requires square { length modules.old ≡ side version * side version }
+    ensures { filled_from version codewords.new modules.new (2 * side version * (pair + 1))
+        ≡ filled_from version codewords.old modules.old (2 * side version * pair) }
+{
+    let width = side(version);
+    let right = right_column(version, width, pair);
+    for step in 0..width {
+        let index = step * width + right;
+        draw_bit(codewords, modules, index);
+        draw_bit(codewords, modules, index - 1);
+    }
+}
+
+/// Draws codewords at the empty places, in the order of the walk through pairs of columns, which
+/// goes upwards and downwards by turns.
+pub(super) fn draw_codewords(version: Version, codewords: Codewords<'_>, modules: &mut [Module])
+    requires valid { IsTrue (is_valid version) }
+    requires square { length modules.old ≡ side version * side version }
+    ensures { modules.new ≡ with_bits_drawn version codewords.entry modules.old }
+{
+    let mut codewords = codewords;
+    for pair in 0..side(version) / 2 {
+        if pair % 2 == 0 {
+            draw_up(version, pair, &mut codewords, modules);
+        } else {
+            draw_down(version, pair, &mut codewords, modules);
+        }
+    }
+}

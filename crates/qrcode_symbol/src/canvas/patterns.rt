@@ -1,0 +1,232 @@
+//! The functional patterns, place by place.
+
+ghost use Rattle.std.specs.Prelude.{◌≡◌, ℕ, ◌+◌, ◌*◌, ◌<◌, ◌≤◌, find, pos, IfSome, IsTrue};
+ghost use Rattle.qrcode_types.specs.Colors.{color_of};
+ghost use Rattle.qrcode_types.specs.Versions.{is_valid, side};
+ghost use Rattle.qrcode_types.specs.declared.types.Version.TheVariants.{Normal};
+ghost use Rattle.qrcode_places.specs.Patterns.{where_true, finder_at, finder, is_near, centres, alignment_between, alignment, timing, dark_module, version_copy, version_pattern, pattern, normal_format_index, micro_format_index, format_index};
+
+use qrcode_places::words::version_word;
+use qrcode_types::types::{Color, Version};
+
+/// Dark where the test holds.
+pub(super) fn color_of(dark: bool) -> Color
+    ensures { result ≡ color_of dark }
+{
+    if dark { Color::Dark } else { Color::Light }
+}
+
+// The colour that a test gives, at the places of a pattern.
+fn where_true(holds: bool, dark: bool) -> Option<Color>
+    ensures { result ≡ where_true holds dark }
+{
+    if holds { Some(color_of(dark)) } else { None }
+}
+
+// A finder pattern with its separator, round a centre.
+fn finder_at(a: usize, b: usize, x: usize, y: usize) -> Option<Color>
+    ensures { result ≡ finder_at a b x y }
+{
+    let distance = a.abs_diff(x).max(b.abs_diff(y));
+    where_true(distance <= 4, distance <= 1 || distance == 3)
+}
+
+// The finder patterns in the corners: only that of the nearest corner can have a place.
+#[tactic(auto, using(crate::proofs::Corners::top_left, crate::proofs::Corners::top_right, crate::proofs::Corners::bottom_left, crate::proofs::Corners::bottom_right), unfolding(qrcode_places::specs::Patterns::finder))]
+fn finder(version: Version, width: usize, x: usize, y: usize) -> Option<Color>
+    requires valid { IsTrue (is_valid version) }
+    requires wide { width ≡ side version }
+    requires column { x < width }
+    requires row { y < width }
+    ensures { result ≡ finder version x y }
+{
+    match version {
+        Version::Normal(_) => match (x < 8, y < 8) {
+            (true, true) => finder_at(3, 3, x, y),
+            (false, true) => finder_at(width - 4, 3, x, y),
+            (true, false) => finder_at(3, width - 4, x, y),
+            (false, false) => None,
+        },
+        Version::Micro(_) => finder_at(3, 3, x, y),
+    }
+}
+
+/// The first coordinate that is at most 2 away.
+pub(super) fn near(centres: &[u8], x: usize) -> Option<usize>
+    ensures { result ≡ find (is_near x) centres.now }
+{
+    centres
+        .iter()
+        .map(|a| *a as usize)
+        .find(|a| a.abs_diff(x) <= 2)
+}
+
+// The alignment pattern at two coordinates, but for the corners where finder patterns are.
+fn alignment_between(
+    width: usize,
+    near_x: Option<usize>,
+    near_y: Option<usize>,
+    x: usize,
+    y: usize,
+) -> Option<Color>
+    requires { 7 ≤ width }
+    ensures { result ≡ alignment_between width near_x near_y x y }
+{
+    let (Some(a), Some(b)) = (near_x, near_y) else {
+        return None;
+    };
+    let last = width - 7;
+    let in_corner = (a == 6 && (b == 6 || b == last)) || (a == last && b == 6);
+    where_true(!in_corner, a.abs_diff(x).max(b.abs_diff(y)) != 1)
+}
+
+// The row and the column of timing modules.
+#[tactic(auto, unfolding(qrcode_places::specs::Patterns::timing))]
+fn timing(version: Version, width: usize, x: usize, y: usize) -> Option<Color>
+    requires valid { IsTrue (is_valid version) }
+    requires wide { width ≡ side version }
+    requires small { x + y < 1000 }
+    ensures { result ≡ timing version x y }
+{
+    let on_line = match version {
+        Version::Normal(_) => {
+            let last = width - 9;
+            (y == 6 && 8 <= x && x <= last) || (x == 6 && 8 <= y && y <= last)
+        }
+        Version::Micro(_) => (y == 0 && 8 <= x) || (x == 0 && 8 <= y),
+    };
+    where_true(on_line, (x + y) % 2 == 0)
+}
+
+// The module of Normal that is always dark.
+#[tactic(auto, unfolding(qrcode_places::specs::Patterns::dark_module))]
+pub(super) fn dark_module(version: Version, width: usize, x: usize, y: usize) -> Option<Color>
+    requires valid { IsTrue (is_valid version) }
+    requires wide { width ≡ side version }
+    ensures { result ≡ dark_module version x y }
+{
+    match version {
+        Version::Normal(_) => where_true(x == 8 && y == width - 8, true),
+        Version::Micro(_) => None,
+    }
+}
+
+// One copy of the version word, in six columns of three rows from `far` on.
+fn version_copy(number: usize, far: usize, x: usize, y: usize) -> Option<Color>
+    requires low { 7 ≤ number }
+    requires high { number ≤ 40 }
+    requires far { far < 200 }
+    ensures { result ≡ version_copy number far x y }
+{
+    if x <= 5 && far <= y && y <= far + 2 {
+        let bit = 3 * x + (y - far);
+        Some(color_of((version_word(number) >> bit) % 2 == 1))
+    } else {
+        None
+    }
+}
+
+// Both copies of the version word, from Normal 7 on.
+#[tactic(auto, unfolding(qrcode_places::specs::Patterns::version_pattern))]
+fn version_pattern(version: Version, width: usize, x: usize, y: usize) -> Option<Color>
+    requires valid { IsTrue (is_valid version) }
+    requires wide { width ≡ side version }
+    ensures { result ≡ version_pattern version x y }
+{
+    match version {
+        Version::Normal(v) if v >= 7 => {
+            let number = v as usize;
+            let far = width - 11;
+            version_copy(number, far, x, y).or(version_copy(number, far, y, x))
+        }
+        _ => None,
+    }
+}
+
+/// The colour of a place in the functional patterns, the format word aside. `near_x` and `near_y`
+/// are the coordinates of alignment centres that are near the place.
+#[tactic(auto, unfolding(qrcode_places::specs::Patterns::pattern, qrcode_places::specs::Patterns::alignment))]
+pub(super) fn pattern(
+    version: Version,
+    width: usize,
+    near_x: Option<usize>,
+    near_y: Option<usize>,
+    x: usize,
+    y: usize,
+) -> Option<Color>
+    requires valid { IsTrue (is_valid version) }
+    requires wide { width ≡ side version }
+    requires near_x { near_x ≡ find (is_near x) (centres version) }
+    requires near_y { near_y ≡ find (is_near y) (centres version) }
+    requires column { x < width }
+    requires row { y < width }
+    requires small { width ≤ 177 }
+    ensures { result ≡ pattern version x y }
+{
+    if let Some(color) = finder(version, width, x, y) {
+        return Some(color);
+    }
+    if let Some(color) = alignment_between(width, near_x, near_y, x, y) {
+        return Some(color);
+    }
+    if let Some(color) = timing(version, width, x, y) {
+        return Some(color);
+    }
+    dark_module(version, width, x, y).or(version_pattern(version, width, x, y))
+}
+
+// Which bit of the format word of Normal stands at a place, if any, the highest bit being 0.
+fn normal_format_index(width: usize, x: usize, y: usize) -> Option<usize>
+    requires least { 21 ≤ width }
+    requires most { width ≤ 177 }
+    requires inside { x < 1000 }
+    ensures value { result ≡ normal_format_index width x y }
+    ensures bit { IfSome result (λ i. i < 15) }
+{
+    if y == 8 {
+        match x {
+            0..=5 => Some(x),
+            7 | 8 => Some(x - 1),
+            _ if width - 8 <= x && x < width => Some(x + 15 - width),
+            _ => None,
+        }
+    } else if x == 8 {
+        match y {
+            0..=5 => Some(14 - y),
+            7 => Some(8),
+            _ if width - 7 <= y && y < width => Some(width - 1 - y),
+            _ => None,
+        }
+    } else {
+        None
+    }
+}
+
+// The same of Micro.
+fn micro_format_index(x: usize, y: usize) -> Option<usize>
+    ensures value { result ≡ micro_format_index x y }
+    ensures bit { IfSome result (λ i. i < 15) }
+{
+    if y == 8 {
+        if 1 <= x && x <= 8 { Some(x - 1) } else { None }
+    } else if x == 8 {
+        if 1 <= y && y <= 7 { Some(15 - y) } else { None }
+    } else {
+        None
+    }
+}
+
+/// Which bit of the format word stands at a place, if any, the highest bit being 0.
+#[tactic(auto, unfolding(qrcode_places::specs::Patterns::format_index))]
+pub(super) fn format_index(version: Version, width: usize, x: usize, y: usize) -> Option<usize>
+    requires valid { IsTrue (is_valid version) }
+    requires wide { width ≡ side version }
+    requires inside { x < 1000 }
+    ensures value { result ≡ format_index version x y }
+    ensures bit { IfSome result (λ i. i < 15) }
+{
+    match version {
+        Version::Normal(_) => normal_format_index(width, x, y),
+        Version::Micro(_) => micro_format_index(x, y),
+    }
+}
