@@ -1,0 +1,11 @@
+mod Below
+mod BitRows
+mod CodeRows
+mod DamageRows
+mod LeastRows
+mod PenaltyRows
+mod PlaceRows
+mod SegmentRows
+mod SymbolRows
+mod Values
+mod WordRows

@@ -1,0 +1,41 @@
+-- Data of the rows, as segments, bits and codewords.
+use Rattle.std.specs.Prelude.{ℕ, pos, Bool, List, [], ◌∷◌, ◌++◌, codes}
+use Rattle.qrcode_types.specs.declared.types.Version.TheVariants.{Normal, Micro}
+use Rattle.qrcode_types.specs.declared.types.EcLevel.TheVariants.{L, M}
+use Rattle.qrcode_types.specs.declared.types.Mode.{Mode}
+use Rattle.qrcode_types.specs.declared.types.Mode.TheVariants.{Numeric}
+use Rattle.qrcode_bits.specs.Written.{Piece, written_piece, terminated}
+use Rattle.qrcode_bits.specs.declared.optimize.Segment.{Segment}
+
+-- a segment from a byte on, to the byte before another
+abbrev pub segment : Mode → ℕ → ℕ → Segment
+segment m begin end = record { mode = m; begin = begin; end = end }
+
+abbrev pub piece : Mode → List ℕ → Piece
+piece m bytes = record { mode = m; chunk = bytes }
+
+abbrev pub digits : Piece
+digits = piece Numeric (codes "01234567")
+
+-- the digits in Normal 1 at M
+abbrev pub normal_bits : List Bool
+normal_bits = terminated (Normal (pos 1)) M (written_piece (Normal (pos 1)) digits)
+
+-- the digits in Micro 2 at L
+abbrev pub micro_bits : List Bool
+micro_bits = terminated (Micro (pos 2)) L (written_piece (Micro (pos 2)) digits)
+
+-- the codewords of the digits in Normal 1 at M: data, and then error correction
+abbrev pub normal_data : List ℕ
+normal_data = 0x10 ∷ 0x20 ∷ 0x0C ∷ 0x56 ∷ 0x61 ∷ 0x80 ∷ 0xEC ∷ 0x11 ∷ 0xEC ∷ 0x11 ∷ 0xEC ∷ 0x11 ∷ 0xEC ∷ 0x11 ∷ 0xEC ∷ 0x11 ∷ []
+
+abbrev pub normal_block : List ℕ
+normal_block = normal_data ++ (0xA5 ∷ 0x24 ∷ 0xD4 ∷ 0xC1 ∷ 0xED ∷ 0x36 ∷ 0xC7 ∷ 0x87 ∷ 0x2C ∷ 0x55 ∷ [])
+
+-- the text HELLO WORLD, ended in Normal 1 at Q
+abbrev pub hello_data : List ℕ
+hello_data = 0x20 ∷ 0x5B ∷ 0x0B ∷ 0x78 ∷ 0xD1 ∷ 0x72 ∷ 0xDC ∷ 0x4D ∷ 0x43 ∷ 0x40 ∷ 0xEC ∷ 0x11 ∷ 0xEC ∷ []
+
+-- the codewords of the digits in Micro 2 at L
+abbrev pub micro_block : List ℕ
+micro_block = 0x40 ∷ 0x18 ∷ 0xAC ∷ 0xC3 ∷ 0x00 ∷ 0x86 ∷ 0x0D ∷ 0x22 ∷ 0xAE ∷ 0x30 ∷ []

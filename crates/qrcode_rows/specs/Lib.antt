@@ -1,0 +1,3 @@
+pub mod Data
+pub mod Printed
+pub mod Squares

@@ -1,0 +1,75 @@
+-- Printed symbols.
+use Rattle.std.specs.Prelude.{ℕ, ◌==◌, List, [], ◌∷◌, codes, map, flat_map}
+use Rattle.qrcode_types.specs.Colors.{color_of}
+use Rattle.qrcode_types.specs.declared.types.Color.{Color}
+
+-- the colours of printed rows, in which # is dark
+abbrev pub colors_in : List (List ℕ) → List Color
+colors_in rows = flat_map (λ row. map (λ c. color_of (c == 35)) row) rows
+
+-- the digits 01234567 in Normal 1 at M
+abbrev pub normal_square : List Color
+normal_square = colors_in (
+    codes "#######..#.##.#######" ∷
+    codes "#.....#..####.#.....#" ∷
+    codes "#.###.#.#.....#.###.#" ∷
+    codes "#.###.#.##....#.###.#" ∷
+    codes "#.###.#.#.###.#.###.#" ∷
+    codes "#.....#.#...#.#.....#" ∷
+    codes "#######.#.#.#.#######" ∷
+    codes "........#..##........" ∷
+    codes "#.#####..#..#.#####.." ∷
+    codes "...#.#.##.#.#..#.##.." ∷
+    codes "..#...##.#.#.#..#####" ∷
+    codes "....#....#.....####.." ∷
+    codes "...######..#.#..#...." ∷
+    codes "........#.#####..##.." ∷
+    codes "#######..##.#.##....." ∷
+    codes "#.....#.#.#####...#.#" ∷
+    codes "#.###.#.#...#..#.##.." ∷
+    codes "#.###.#.##..#..#....." ∷
+    codes "#.###.#.#.##.#..#.#.." ∷
+    codes "#.....#........##.##." ∷
+    codes "#######.####.#..#.#.." ∷ [])
+
+-- the digits 01234567 in Micro 2 at L
+abbrev pub micro_square : List Color
+micro_square = colors_in (
+    codes "#######.#.#.#" ∷
+    codes "#.....#.###.#" ∷
+    codes "#.###.#..##.#" ∷
+    codes "#.###.#..####" ∷
+    codes "#.###.#.###.." ∷
+    codes "#.....#.#...#" ∷
+    codes "#######..####" ∷
+    codes ".........##.." ∷
+    codes "##.#....#...#" ∷
+    codes ".##.#.#.#.#.#" ∷
+    codes "###..#######." ∷
+    codes "...#.#....##." ∷
+    codes "###.#..##.###" ∷ [])
+
+-- the symbol in Normal 1 with five wrong codewords, three wrong bits in each copy of the format word, and no finder patterns
+abbrev pub damaged_square : List Color
+damaged_square = colors_in (
+    codes ".........####........" ∷
+    codes ".........####........" ∷
+    codes ".........#..........." ∷
+    codes "........##..........." ∷
+    codes "........#.###........" ∷
+    codes "........#...#........" ∷
+    codes "........#.#.#........" ∷
+    codes "........#..##........" ∷
+    codes "########.#..#.####..." ∷
+    codes ".#.#.#.##.#.#..#.#..." ∷
+    codes "..#...##.#.#.#..#####" ∷
+    codes "#...#....#.....##.#.." ∷
+    codes "...######..#.#..#...." ∷
+    codes "........#.#####..##.." ∷
+    codes "........###.#.#......" ∷
+    codes "........#.#####...#.#" ∷
+    codes "........#...#..####.." ∷
+    codes "........##..#..#....." ∷
+    codes "........#.##.#..#.##." ∷
+    codes "........#......##.##." ∷
+    codes "........####.#..#.#.#" ∷ [])

@@ -1,0 +1,13 @@
+//! Tests that cross the crates, and the small reader that they read symbols with.
+#![tactic(auto)]
+
+#[cfg(test)]
+mod field;
+#[cfg(test)]
+mod reader;
+#[cfg(test)]
+mod square;
+#[cfg(test)]
+mod tables;
+#[cfg(test)]
+mod tests;

@@ -1,0 +1,91 @@
+-- A symbol of which each module is drawn as a text.
+use Rattle.std.proofs.Common.{◌≡◌, ℕ, zero, suc, ◌+◌, ◌*◌, ◌^◌, ◌/◌, ◌%◌, ◌&&◌, ◌≤◌, ◌<◌, nat_le, nat_lt, pos, negsuc, Bool, true, false, IsTrue, if◌then◌else◌, List, [], ◌∷◌, ◌++◌, map, get_or, flat_map, refl, sym, ap, ap₂, ◌∙◌, arith, subst, true≢false}
+use Rattle.std.specs.List.{range_with_len}
+use Rattle.std.proofs.lemmas.Bool.{and_from, and_parts, lt-ltb, leb-true}
+use Rattle.qrcode_types.specs.Versions.{is_valid, side}
+use Rattle.qrcode_types.specs.declared.types.Version.{Version}
+use Rattle.qrcode_types.specs.declared.types.Version.TheVariants.{Normal, Micro}
+use Rattle.qrcode_types.specs.declared.types.Color.{Color}
+use Rattle.qrcode_render.specs.Drawn.{drawn, filled}
+use Rattle.qrcode_render.specs.Layout.{Layout, modules_across}
+use Rattle.qrcode_render.specs.Picture.{Raster, pixel_at, blank, with_dark_pixel, picture, is_dark_pixel}
+use Rattle.qrcode_render.specs.Setting.{Setting, fits, drawing_of}
+use Rattle.qrcode_render.specs.Texts.{lines_text, text_of}
+use Rattle.qrcode.specs.Pictures.{quiet_zone, plain_layout}
+
+-- The sides of a picture fit.
+
+pub side_at_most : (v : Version) → IsTrue (is_valid v) → side v ≤ 177
+side_at_most (Normal (pos n)) h = omega (arith, leb-true n 40 (and_parts (nat_le 1 n) (nat_le n 40) h).1)
+side_at_most (Normal (negsuc n)) h = absurd (true≢false (sym h))
+side_at_most (Micro (pos n)) h = omega (arith, leb-true n 4 (and_parts (nat_le 1 n) (nat_le n 4) h).1)
+side_at_most (Micro (negsuc n)) h = absurd (true≢false (sym h))
+
+pub zone_at_most : (v : Version) → quiet_zone v ≤ 4
+zone_at_most (Normal v) = omega arith
+zone_at_most (Micro v) = omega arith
+
+chosen : (b : Bool) (zone : ℕ) → zone ≤ 4 → (if b then zone else 0) ≤ 4
+chosen true zone h = h
+chosen false zone h = omega arith
+
+pub plain_fits : {P : Type 0} (s : Setting P) → s.count ≤ 177 → s.zone ≤ 4 → s.across ≡ 1 → s.down ≡ 1 → IsTrue (fits s)
+plain_fits s count zone across down =
+    let w = s.count + 2 * (if s.has_zone then s.zone else 0) in
+    let small : w ≤ 185 = omega (arith, count, chosen s.has_zone s.zone zone) in
+    let wide : w * s.across < 2 ^ 32 = subst (λ n. w * n < 2 ^ 32) (sym across) (omega (arith, small)) in
+    let high : w * s.down < 2 ^ 32 = subst (λ n. w * n < 2 ^ 32) (sym down) (omega (arith, small)) in
+    and_from (nat_lt w (2 ^ 32) && nat_lt (w * s.across) (2 ^ 32)) (nat_lt (w * s.down) (2 ^ 32))
+    (and_from (nat_lt w (2 ^ 32)) (nat_lt (w * s.across) (2 ^ 32)) (lt-ltb w (2 ^ 32) (omega (arith, small))) (lt-ltb (w * s.across) (2 ^ 32) wide))
+    (lt-ltb (w * s.down) (2 ^ 32) high)
+
+-- What is drawn is the picture.
+
+sheet : {P : Type 0} → Layout → List Color → P → P → Raster P
+sheet at colors dark light = drawn (filled with_dark_pixel) at colors (blank (modules_across at * at.across) (modules_across at * at.down) dark light)
+
+layout_with : ℕ → ℕ → ℕ → ℕ → Layout
+layout_with count zone across down = record { count = count; zone = zone; across = across; down = down }
+
+pub plain_drawing : {P : Type 0} (v : Version) (zone : ℕ) (colors : List Color) (dark light : P) (s : Setting P) → s.content ≡ colors → s.count ≡ side v → (if s.has_zone then s.zone else 0) ≡ zone
+    → s.across ≡ 1 → s.down ≡ 1 → s.dark ≡ dark → s.light ≡ light
+    → drawn (filled with_dark_pixel) (plain_layout v zone) colors (blank (modules_across (plain_layout v zone) * 1) (modules_across (plain_layout v zone) * 1) dark light) ≡ picture (plain_layout v zone) colors dark light
+    → drawing_of blank (filled with_dark_pixel) s ≡ picture (plain_layout v zone) colors dark light
+unfolding sheet layout_with
+plain_drawing v zone colors dark light s a b c d e f g law =
+    let shown : drawing_of blank (filled with_dark_pixel) s ≡ sheet (layout_with s.count (if s.has_zone then s.zone else 0) s.across s.down) s.content s.dark s.light = refl in
+    let plain : sheet (layout_with (side v) zone 1 1) colors dark light ≡ picture (plain_layout v zone) colors dark light = law in
+    shown ∙ same (s.count) (side v) (if s.has_zone then s.zone else 0) zone s.across 1 s.down 1 s.content colors s.dark dark s.light light b c d e a f g ∙ plain where
+      same : {P : Type 0} (n m z y i j k l : ℕ) (xs ys : List Color) (p q r t : P) → n ≡ m → z ≡ y → i ≡ j → k ≡ l → xs ≡ ys → p ≡ q → r ≡ t → sheet (layout_with n z i k) xs p r ≡ sheet (layout_with m y j l) ys q t
+      same n m z y i j k l xs ys p q r t a b c d e f g = cc
+
+-- The text of a picture is that of its texts.
+
+test_read : {P : Type 0} (text : P → List ℕ) (b : Bool) (d l : P) → text (if b then d else l) ≡ (if b then text d else text l)
+test_read text true d l = refl
+test_read text false d l = refl
+
+read_text : {P : Type 0} (text : P → List ℕ) (dark : ℕ → Bool) (d l : P) (ns : List ℕ) (k : ℕ)
+    → text (get_or (map (λ i. if dark i then d else l) ns) k l) ≡ get_or (map (λ i. if dark i then text d else text l) ns) k (text l)
+read_text text dark d l [] k = refl
+read_text text dark d l (n ∷ ns) zero = test_read text (dark n) d l
+read_text text dark d l (n ∷ ns) (suc k) = read_text text dark d l ns k
+
+same_map : {A B : Type 0} (f g : A → B) → ((x : A) → f x ≡ g x) → (xs : List A) → map f xs ≡ map g xs
+same_map f g h [] = refl
+same_map {B = B} f g h (x ∷ xs) = ap₂ (λ (y : B) (ys : List B). y ∷ ys) (h x) (same_map f g h xs)
+
+same_flat_map : {A : Type 0} (f g : A → List ℕ) → ((x : A) → f x ≡ g x) → (xs : List A) → flat_map f xs ≡ flat_map g xs
+same_flat_map f g h [] = refl
+same_flat_map f g h (x ∷ xs) = ap₂ (λ (y ys : List ℕ). y ++ ys) (h x) (same_flat_map f g h xs)
+
+pub text_picture : {P : Type 0} (text : P → List ℕ) (at : Layout) (colors : List Color) (dark light : P)
+    → text_of text (picture at colors dark light) ≡ text_of (λ t. t) (picture at colors (text dark) (text light))
+text_picture text at colors dark light =
+    let w = modules_across at * at.across in
+    let h = modules_across at * at.down in
+    let p = picture at colors dark light in
+    let q = picture at colors (text dark) (text light) in
+    ap (lines_text w) (same_map (λ y. flat_map (λ x. text (pixel_at p x y)) (range_with_len 0 w)) (λ y. flat_map (λ x. pixel_at q x y) (range_with_len 0 w))
+    (λ y. same_flat_map (λ x. text (pixel_at p x y)) (λ x. pixel_at q x y) (λ x. read_text text (λ i. is_dark_pixel at colors (i % w) (i / w)) dark light (range_with_len 0 (w * h)) (y * w + x)) (range_with_len 0 w))
+    (range_with_len 0 h))

@@ -1,0 +1,21 @@
+-- Why a text has no symbol.
+use Rattle.std.proofs.Common.{◌≡◌, ◌⊎◌, ◌≤◌, ℕ, List, length, Result, Ok, Err, IfErr, sym, subst, inl, inr}
+use Rattle.std.specs.Prelude.{IsErr, IsErrAnd}
+use Rattle.qrcode_types.specs.declared.types.EcLevel.TheVariants.{M}
+use Rattle.qrcode_types.specs.declared.types.QrError.{QrError}
+use Rattle.qrcode_types.specs.declared.types.QrError.TheVariants.{DataTooLong, OutOfMemory}
+use Rattle.qrcode_types.specs.declared.types.Version.{Version}
+use Rattle.qrcode_bits.specs.Choice.{IsChosen}
+use Rattle.qrcode_bits.specs.Refusals.{data_limit}
+use Rattle.qrcode_bits.specs.declared.optimize.Segment.{Segment}
+use Rattle.qrencode.specs.Words.{IsRefused}
+
+-- what is known of an error that `?` hands on
+pub handed_on : {T E : Type 0} (result : Result T E) (e : E) (P : E → Type 0) → IsErr result × IsErrAnd result (λ x. x ≡ e) → P e → IfErr result P
+handed_on (Ok u) e P h p = tt
+handed_on (Err x) e P h p = subst P (sym h.1) p
+
+pub refused : (text : List ℕ) (e : QrError) → (e ≡ DataTooLong) ⊎ (e ≡ OutOfMemory)
+    → ((v : Version) (segments : List Segment) → length text ≤ data_limit → IsChosen M text v segments → e ≡ OutOfMemory) → IsRefused text e
+refused text e (inr memory) accepts = inl memory
+refused text e (inl long) accepts = inr (long, λ v segments within chosen. let memory = accepts v segments within chosen in cc)
