@@ -223,7 +223,8 @@ impl QrCode {
         self.width
     }
 
-    /// How many wrong codewords of the symbol can be corrected, over all its blocks.
+    /// How many wrong codewords the standard allows, over all blocks. What is corrected is said for
+    /// each block.
     pub fn max_allowed_errors(&self) -> usize
         ensures { result ≡ (total_ec_length self.now.version self.now.ec_level
             - reserved self.now.version self.now.ec_level) / 2 }

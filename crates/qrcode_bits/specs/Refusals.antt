@@ -1,4 +1,4 @@
--- What the pushes of a list of bits refuse, and how far they come. Want of memory stands beside all of it.
+-- What the pushes of a list of bits refuse, and how far they come. Where nothing refuses, want of memory still may.
 use Rattle.std.specs.Prelude.{◌≡◌, ℕ, ◌+◌, ◌^◌, ◌<◌, nat_le, nat_lt, ◌&&◌, ◌++◌, not, Bool, true, false, List, [], ◌∷◌, length, take, slice_get, IfSome, Option, Some, None, if◌then◌else◌}
 use Rattle.qrcode_types.specs.Bits.{number_bits}
 use Rattle.qrcode_types.specs.Characters.{can_write}
