@@ -6,6 +6,8 @@ mod field;
 #[cfg(test)]
 mod reader;
 #[cfg(test)]
+mod rows;
+#[cfg(test)]
 mod square;
 #[cfg(test)]
 mod tables;
