@@ -14,7 +14,7 @@ no_or a b e f = rw (e, f) refl
 pub far_finder : (a b x y : ℕ) → 4 < abs_diff a x ⊎ 4 < abs_diff b y → finder_at a b x y ≡ None
 far_finder a b x y far = no_where _ _ (grind (arith, nat_tests))
 
-or_none : (a : Option Color) → or_else a None ≡ a
+pub or_none : (a : Option Color) → or_else a None ≡ a
 or_none None = refl
 or_none (Some c) = refl
 

@@ -1,11 +1,13 @@
 pub mod BestMasks
 pub mod BitLists
+pub mod Blocks
 pub mod Carried
 pub mod Centres
 pub mod Choices
 pub mod Codewords
 pub mod Corners
 pub mod Covered
+pub mod EightBits
 pub mod Filled
 pub mod FixedPlaces
 pub mod Functional

@@ -8,7 +8,7 @@ use Rattle.qrcode_penalty.specs.Rows.{has_place}
 use Rattle.qrcode_penalty.specs.Penalty.{same}
 use Rattle.qrcode_places.specs.Masks.{turns, mask_number}
 use borrow.Author.Tests.{ltb-true}
-use Rattle.qrcode_symbol.specs.declared.canvas.masking.TheConstants.{TURNED}
+use Rattle.qrcode_symbol.specs.declared.canvas.masked_rows.TheConstants.{TURNED}
 use Rattle.qrcode_places.specs.declared.masks.MaskPattern.{MaskPattern}
 use Rattle.qrcode_places.specs.declared.masks.MaskPattern.TheVariants.{Checkerboard, HorizontalLines, VerticalLines, DiagonalLines, LargeCheckerboard, Fields, Diamonds, Meadow}
 

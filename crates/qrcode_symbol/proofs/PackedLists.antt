@@ -1,16 +1,12 @@
 -- Packed lists, place by place.
-use Rattle.std.proofs.Common.{◌≡◌, ℕ, zero, suc, ◌+◌, ◌-◌, ◌*◌, ◌/◌, ◌%◌, ◌^◌, ◌<◌, ◌≤◌, Bool, true, false, if◌then◌else◌, ◌==◌, List, [], ◌∷◌, length, take, drop, get_or, refl, ap, sym, ◌∙◌, arith, min, mul_assoc, mul_comm, length-drop, drop-drop}
+use Rattle.std.proofs.Common.{◌≡◌, ℕ, zero, suc, ◌+◌, ◌-◌, ◌*◌, ◌/◌, ◌%◌, ◌^◌, ◌<◌, ◌≤◌, Bool, true, false, ◌==◌, List, [], ◌∷◌, length, take, drop, get_or, refl, ap, sym, ◌∙◌, arith, min, mul_assoc, mul_comm, length-drop, drop-drop}
 use Rattle.std.proofs.lemmas.Nat.{pow_pos, mod_low}
 use Rattle.std.specs.Int.{bit_at}
 use Rattle.std.proofs.lemmas.Nat.Bits.{bit_at_lowest, bit_at-suc}
 use Rattle.qrcode_penalty.specs.Rows.{has_place}
-use Rattle.qrcode_symbol.specs.Masking.{packed}
+use Rattle.qrcode_symbol.specs.Masking.{digit, packed}
 
--- the digit of a test
-abbrev digit : Bool → ℕ
-digit b = if b then 1 else 0
-
-digit_le : (b : Bool) → digit b ≤ 1
+pub digit_le : (b : Bool) → digit b ≤ 1
 digit_le true = omega arith
 digit_le false = omega arith
 
@@ -34,6 +30,13 @@ packed_cut f (suc n) [] = omega arith
 packed_cut f (suc n) (x ∷ xs) =
     let twice : 2 ^ suc n ≡ 2 * 2 ^ n = grind arith in
     cut_step (packed f xs) (packed f (drop n xs)) (packed f (take n xs)) (2 ^ n) (2 ^ suc n) (digit (f x)) (packed_cut f n xs) twice
+
+-- the eight items from a place on, before those behind them
+pub next_eight : {A : Type 0} (f : A → Bool) (xs : List A) (first past count : ℕ) → past ≡ first + 8 → count ≡ 8 →
+    256 * packed f (drop past xs) + packed f (take count (drop first xs)) ≡ packed f (drop first xs)
+next_eight f xs first past count e h =
+    let behind : drop past xs ≡ drop 8 (drop first xs) = ap (λ n. drop n xs) e ∙ sym (drop-drop 8 first xs) in
+    omega (arith, ap (packed f) behind, ap (λ n. packed f (take n (drop first xs))) h, packed_cut f 8 (drop first xs))
 
 has_digit : (n : ℕ) (b : Bool) → has_place (2 * n + digit b) 0 ≡ b
 unfolding has_place

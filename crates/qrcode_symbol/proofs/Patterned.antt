@@ -1,11 +1,13 @@
 -- One module after the other is given its functional pattern.
-use Rattle.std.proofs.Common.{◌≡◌, ℕ, zero, suc, ◌+◌, ◌*◌, ◌/◌, ◌%◌, ◌<◌, ◌≤◌, List, ◌∷◌, map, length, set, get_or, arith, sym, ap, ap₂, subst, refl, ◌∙◌, Option, Some, None, inl, inr}
+use Rattle.std.proofs.Common.{◌≡◌, ℕ, zero, suc, ◌+◌, ◌-◌, ◌*◌, ◌/◌, ◌%◌, ◌<◌, ◌≤◌, List, ◌∷◌, ◌++◌, map, length, set, take, drop, length-take, get_or, arith, sym, ap, ap₂, subst, refl, ◌∙◌, Option, Some, None, inl, inr, ◌⊎◌}
 use Rattle.std.specs.List.{range_with_len}
 use Rattle.std.proofs.lemmas.Bool.{cases_eq, cases_lt}
-use Rattle.std.proofs.lemmas.List.{get_or-set_other, get_or-set_same, ext_get_or}
+use Rattle.std.proofs.lemmas.List.{get_or-set_other, get_or-set_same, ext_get_or, get_or-drop, get_or-append-add}
 use Rattle.std.proofs.lemmas.List.FromFn.{length-map-range_with_len, get_or-map-range_with_len}
 use Rattle.std.proofs.lemmas.Nat.{div-mul-add, mod-mul-add, mul-add-lt, div-add-mod', mod_below}
 use Rattle.std.proofs.Math.Nat.{div-lt_iff_lt-mul}
+use borrow.Rule.Slice.PartMut.{put_mid, post_of}
+use Rattle.qrcode_symbol.proofs.RowLists.{part_before, part_inside}
 use Rattle.qrcode_types.specs.Versions.{side}
 use Rattle.qrcode_types.specs.declared.types.Version.{Version}
 use Rattle.qrcode_types.specs.declared.types.Version.TheVariants.{Normal, Micro}
@@ -112,6 +114,91 @@ row_step v first m left y n x w p ew ex xl yl square ep towards before =
     let place = towards_place v m x y xl yl square in
     let new = set m (y * side v + x) (pattern_module v x y (get_or m (y * side v + x) Empty)) in
     rw (ep, ew) (towards_more v first m new towards place.0, row_more v new left y n x (rectangle_kept v m new left y n 1 place.0 before) ex place.1)
+
+-- each module as it was, or given its pattern
+towards_each : (v : Version) (m new : List Module)
+    → ((i : ℕ) → get_or new i Empty ≡ get_or m i Empty ⊎ get_or new i Empty ≡ pattern_module v (i % side v) (i / side v) (get_or m i Empty)) → DrawsTowards v m new
+unfolding with_patterns
+towards_each v m new each = record {
+  same = map_agree
+      (λ i. pattern_module v (i % side v) (i / side v) (get_or new i Empty)) (λ i. pattern_module v (i % side v) (i / side v) (get_or m i Empty)) 0 (side v * side v)
+      (λ i l h. elim (each i) [
+        | inl e ↦ ap (pattern_module v (i % side v) (i / side v)) e
+        | inr e ↦ rw e (pattern_twice v (i % side v) (i / side v) (get_or m i Empty))
+      ]);
+  kept = λ i is. elim (each i) [
+    | inl e ↦ rw e is
+    | inr e ↦ rw e (pattern_twice v (i % side v) (i / side v) (get_or m i Empty))
+  ];
+}
+
+-- the modules after a part that was written
+part_after : (a k : ℕ) (xs ys : List Module) (i : ℕ) → a + k ≤ length xs → length ys ≡ k → a + k ≤ i → get_or (put_mid a k xs ys) i Empty ≡ get_or xs i Empty
+part_after a k xs ys i room long after =
+    let j = i - a - k in
+    let e : i ≡ a + (k + j) = omega arith in
+    let f : a ≡ length (take a xs) = omega (arith, length-take a xs) in
+    ap (λ n. get_or (put_mid a k xs ys) n Empty) e
+    ∙ ap (λ n. get_or (put_mid a k xs ys) (n + (k + j)) Empty) f
+    ∙ get_or-append-add (take a xs) (ys ++ post_of a k xs) (k + j) Empty
+    ∙ ap (λ n. get_or (ys ++ post_of a k xs) (n + j) Empty) (sym long)
+    ∙ get_or-append-add ys (post_of a k xs) j Empty
+    ∙ get_or-drop k (drop a xs) j Empty
+    ∙ get_or-drop a xs (k + j) Empty
+    ∙ ap (λ n. get_or xs n Empty) (sym e)
+
+-- a row of a block is within the square
+pub row_inside : (w left across y : ℕ) → left + across ≤ w → y < w → y * w + (left + across) ≤ w * w
+row_inside w left across y fits high = elim (cases_eq (left + across) 0) [
+  | inl none ↦ omega (arith, mul-add-lt y w 0 w high (omega arith))
+  | inr some ↦ omega (arith, mul-add-lt y w (left + across - 1) w high (omega arith))
+]
+
+-- one more row of a block
+pub block_row : (v : Version) (first m row : List Module) (left top across n start : ℕ) → start ≡ (top + n) * side v + left → left + across ≤ side v → top + n < side v
+    → length m ≡ side v * side v → length row ≡ across → ((i : ℕ) → i < across → (x : Module) → pattern_module v (left + i) (top + n) x ≡ get_or row i Empty)
+    → DrawsTowards v first m → IsRectanglePatterned v m left top across n
+    → DrawsTowards v first (put_mid start across m row) × IsRectanglePatterned v (put_mid start across m row) left top across (n + 1)
+block_row v first m row left top across n start es fits high square long shows towards before = (towards_more v first m new towards step, rows) where
+  new : List Module
+  new = put_mid start across m row
+
+  room : start + across ≤ length m
+  room = omega (arith, row_inside (side v) left across (top + n) fits high, es, square)
+
+  -- a place of the row
+  at_place : (i : ℕ) → i < across → get_or new ((top + n) * side v + (left + i)) Empty ≡ get_or row i Empty
+  at_place i lt =
+      let e : (top + n) * side v + (left + i) ≡ start + i = omega arith in
+      ap (λ k. get_or new k Empty) e ∙ part_inside start across m row i (omega (arith, room)) (omega arith)
+
+  drawn : (i : ℕ) → i < across → (x : Module) → get_or new ((top + n) * side v + (left + i)) Empty
+      ≡ pattern_module v (((top + n) * side v + (left + i)) % side v) (((top + n) * side v + (left + i)) / side v) x
+  drawn i lt x =
+      rw (mod-mul-add (top + n) (side v) (left + i) (omega arith), div-mul-add (top + n) (side v) (left + i) (omega arith))
+      (at_place i lt ∙ sym (shows i lt x))
+
+  step : DrawsTowards v m new
+  step = towards_each v m new
+      (λ k. elim (cases_lt k start) [
+        | inl less ↦ inl (part_before start across m row k less (omega (arith, room)))
+        | inr from ↦ elim (cases_lt k (start + across)) [
+          | inl inside ↦
+              let e : (top + n) * side v + (left + (k - start)) ≡ k = omega arith in
+              inr (subst (λ (j : ℕ). get_or new j Empty ≡ pattern_module v (j % side v) (j / side v) (get_or m k Empty)) e (drawn (k - start) (omega arith) (get_or m k Empty)))
+          | inr beyond ↦ inl (part_after start across m row k room long beyond)
+        ]
+      ])
+
+  here : IsRectanglePatterned v new left (top + n) across 1
+  here a b l h t u =
+      let row_is : b ≡ top + n = omega arith in
+      let e : left + (a - left) ≡ a = omega arith in
+      rw row_is (subst (λ (j : ℕ). IsPatterned v new ((top + n) * side v + j)) e
+      (sym (drawn (a - left) (omega arith) (get_or new ((top + n) * side v + (left + (a - left))) Empty))))
+
+  rows : IsRectanglePatterned v new left top across (n + 1)
+  rows = rows_more v new left top across n (rectangle_kept v m new left top across n step before) here
 
 some_side : (v : Version) → 0 < side v
 some_side (Normal n) = omega arith

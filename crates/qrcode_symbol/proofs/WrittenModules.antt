@@ -6,7 +6,7 @@ use Rattle.qrcode_types.specs.Colors.{color_of}
 use Rattle.qrcode_penalty.specs.Rows.{has_place}
 use Rattle.qrcode_penalty.proofs.Places.{has_shr}
 use Rattle.qrcode_symbol.specs.declared.canvas.Module.TheVariants.{Empty, Masked}
-use Rattle.qrcode_symbol.specs.declared.canvas.masking.TheConstants.{FOURS}
+use Rattle.qrcode_symbol.specs.declared.canvas.unpacking.TheConstants.{FOURS}
 use Rattle.qrcode_symbol.proofs.MaskRows.{has_mod}
 
 -- the table of fours of the code

@@ -26,10 +26,14 @@ is_free Empty = true
 is_free (Masked c) = false
 is_free (Unmasked c) = true
 
+-- 1 where a test holds
+abbrev pub digit : Bool → ℕ
+digit b = if b then 1 else 0
+
 -- the number whose bit i is the answer of a test for the i-th item
 abbrev pub packed : {A : Type 0} → (A → Bool) → List A → ℕ
 packed test [] = 0
-packed test (x ∷ xs) = 2 * packed test xs + (if test x then 1 else 0)
+packed test (x ∷ xs) = 2 * packed test xs + digit (test x)
 
 -- the modules of row y
 abbrev pub modules_of_row : ℕ → List Module → ℕ → List Module

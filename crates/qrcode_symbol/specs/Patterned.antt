@@ -1,7 +1,8 @@
 -- Modules on the way to the functional patterns.
-use Rattle.std.specs.Prelude.{◌≡◌, ℕ, ◌+◌, ◌*◌, ◌/◌, ◌%◌, ◌<◌, ◌≤◌, List, slice_get, slice_index_or, IfSome}
+use Rattle.std.specs.Prelude.{◌≡◌, ℕ, ◌+◌, ◌-◌, ◌*◌, ◌/◌, ◌%◌, ◌<◌, ◌≤◌, ◌==◌, ◌&&◌, ◌||◌, Bool, false, List, [], length, slice_get, slice_index_or, IfSome}
 use Rattle.qrcode_types.specs.Versions.{side}
 use Rattle.qrcode_types.specs.declared.types.Version.{Version}
+use Rattle.qrcode_places.specs.Patterns.{centres}
 use Rattle.qrcode_symbol.specs.Canvas.{blank, pattern_module, with_patterns}
 use Rattle.qrcode_symbol.specs.declared.canvas.Module.{Module}
 use Rattle.qrcode_symbol.specs.declared.canvas.Module.TheVariants.{Empty}
@@ -19,6 +20,26 @@ pub record DrawsTowards (v : Version) (old new : List Module) : Type 0 where
 abbrev pub IsRectanglePatterned : Version → List Module → ℕ → ℕ → ℕ → ℕ → Type 0
 IsRectanglePatterned v modules left top across down =
     (x y : ℕ) → left ≤ x → x < left + across → top ≤ y → y < top + down → IsPatterned v modules (y * side v + x)
+
+-- a block of modules, row by row, shows the functional patterns from a column and a row on
+abbrev pub IsBlockAt : Version → List (List Module) → ℕ → ℕ → ℕ → Type 0
+IsBlockAt v block across left top =
+    (i j : ℕ) → i < across → j < length block → (m : Module) → pattern_module v (left + i) (top + j) m ≡ slice_index_or (slice_index_or block j []) i Empty
+
+-- one of the coordinates of the alignment centres
+abbrev pub IsCentre : Version → ℕ → Type 0
+IsCentre v a = (i : ℕ) × ((i < length (centres v)) × (slice_index_or (centres v) i 0 ≡ a))
+
+-- two coordinates of alignment centres meet in a corner where a finder pattern is
+abbrev pub is_corner_centre : ℕ → ℕ → ℕ → Bool
+is_corner_centre w a b = (a == 6 && (b == 6 || b == w - 7)) || (a == w - 7 && b == 6)
+
+-- the alignment patterns in the first so many rows of centres have been drawn
+abbrev pub AreAlignmentsPatterned : Version → List Module → ℕ → Type 0
+AreAlignmentsPatterned v modules rows =
+    let cs = centres v in
+    (j : ℕ) → j < rows → (i : ℕ) → i < length cs → is_corner_centre (side v) (slice_index_or cs i 0) (slice_index_or cs j 0) ≡ false
+    → IsRectanglePatterned v modules (slice_index_or cs i 0 - 2) (slice_index_or cs j 0 - 2) 5 5
 
 -- the patterns on a new canvas leave no empty module in column x and row y
 abbrev pub IsDrawn : Version → ℕ → ℕ → Type 0

@@ -24,8 +24,11 @@ mod codewords;
 mod drawing;
 mod filling;
 mod layout;
+mod masked_rows;
 mod masking;
+mod packing;
 mod patterns;
+mod unpacking;
 
 use applying::mask_modules;
 use codewords::Codewords;

@@ -1,14 +1,18 @@
-//! Drawing the functional patterns: all modules of the rectangles that hold them.
+//! Drawing the functional patterns: blocks of modules where they look alike in all versions, and place
+//! by place elsewhere.
 
 ghost use Rattle.std.specs.Prelude.{◌≡◌, ℕ, ◌+◌, ◌-◌, ◌*◌, ◌<◌, ◌≤◌, length, find, slice_index, true, false, ◌↔◌, IsTrue};
 ghost use Rattle.qrcode_types.specs.Versions.{is_valid, is_micro, side};
 ghost use Rattle.qrcode_places.specs.Patterns.{centres, is_near, is_functional_place};
 ghost use Rattle.qrcode_symbol.specs.Canvas.{pattern_module, with_patterns};
-ghost use Rattle.qrcode_symbol.specs.Patterned.{DrawsTowards, IsRectanglePatterned, IsDrawn};
+ghost use Rattle.qrcode_symbol.specs.Patterned.{DrawsTowards, IsRectanglePatterned, AreAlignmentsPatterned, IsBlockAt, IsCentre, IsDrawn, is_corner_centre};
+
+mod blocks;
 
 use super::Module;
 use super::layout::Layout;
-use super::patterns::{format_index, near, pattern};
+use super::patterns::{format_index, is_corner_centre, near, pattern};
+use blocks::{ALIGNMENT, MICRO_TOP_LEFT, NORMAL_BOTTOM_LEFT, NORMAL_TOP_LEFT, NORMAL_TOP_RIGHT};
 use qrcode_types::types::{Color, Version};
 
 /// Whether a pattern or the format word has a place.
@@ -92,20 +96,45 @@ fn draw_rectangle(
     }
 }
 
-// Draws the alignment patterns round the centres in a row, and the places of other patterns there.
+// Draws a block of modules, which a table holds row by row.
+fn draw_block<const ACROSS: usize>(
+    layout: Layout,
+    left: usize,
+    top: usize,
+    block: &[[Module; ACROSS]],
+    modules: &mut [Module],
+)
+    requires columns { left + ACROSS ≤ side layout.version }
+    requires rows { top + length block.now ≤ side layout.version }
+    requires small { side layout.version ≤ 177 }
+    requires shown { IsBlockAt layout.version block.now ACROSS left top }
+    requires square { length modules.old ≡ side layout.version * side layout.version }
+    ensures towards { DrawsTowards layout.version modules.old modules.new }
+    ensures drawn { IsRectanglePatterned layout.version modules.new left top ACROSS (length block.now) }
+{
+    for row in 0..block.len() {
+        let start = (top + row) * layout.width + left;
+        modules[start..start + ACROSS].copy_from_slice(&block[row]);
+    }
+}
+
+// Draws the alignment patterns round the centres in a row, but for the corners where finder patterns
+// are.
 fn draw_alignment_row(layout: Layout, b: usize, modules: &mut [Module])
-    requires least { 2 ≤ b }
-    requires most { b + 3 ≤ side layout.version }
+    requires centre { IsCentre layout.version b }
     requires small { side layout.version ≤ 177 }
     requires square { length modules.old ≡ side layout.version * side layout.version }
     ensures towards { DrawsTowards layout.version modules.old modules.new }
     ensures drawn { (i : ℕ) → i < length (centres layout.version)
+        → is_corner_centre (side layout.version) (slice_index (centres layout.version) i) b ≡ false
         → IsRectanglePatterned layout.version modules.new
         (slice_index (centres layout.version) i - 2) (b - 2) 5 5 }
 {
     for a in layout.coordinates {
         let a = *a as usize;
-        draw_rectangle(layout, a - 2, b - 2, 5, 5, modules);
+        if !is_corner_centre(layout.width, a, b) {
+            draw_block(layout, a - 2, b - 2, &ALIGNMENT, modules);
+        }
     }
 }
 
@@ -114,19 +143,33 @@ fn draw_alignments(layout: Layout, modules: &mut [Module])
     requires small { side layout.version ≤ 177 }
     requires square { length modules.old ≡ side layout.version * side layout.version }
     ensures towards { DrawsTowards layout.version modules.old modules.new }
-    ensures drawn { (j : ℕ) → j < length (centres layout.version)
-        → (i : ℕ) → i < length (centres layout.version)
-        → IsRectanglePatterned layout.version modules.new
-        (slice_index (centres layout.version) i - 2)
-        (slice_index (centres layout.version) j - 2) 5 5 }
+    ensures drawn { AreAlignmentsPatterned layout.version modules.new (length (centres layout.version)) }
 {
     for b in layout.coordinates {
         draw_alignment_row(layout, *b as usize, modules);
     }
 }
 
-// The patterns of Normal: three corners, in which the version words are, the row and the column of
-// timing modules, and the alignment patterns.
+// Draws the copies of the version word, which Normal 7 and wider symbols have.
+fn draw_version_words(layout: Layout, modules: &mut [Module])
+    requires least { 21 ≤ side layout.version }
+    requires small { side layout.version ≤ 177 }
+    requires square { length modules.old ≡ side layout.version * side layout.version }
+    ensures towards { DrawsTowards layout.version modules.old modules.new }
+    ensures top_right { 45 ≤ side layout.version
+        → IsRectanglePatterned layout.version modules.new (side layout.version - 11) 0 3 6 }
+    ensures bottom_left { 45 ≤ side layout.version
+        → IsRectanglePatterned layout.version modules.new 0 (side layout.version - 11) 6 3 }
+{
+    let width = layout.width;
+    if width >= 45 {
+        draw_rectangle(layout, width - 11, 0, 3, 6, modules);
+        draw_rectangle(layout, 0, width - 11, 6, 3, modules);
+    }
+}
+
+// The patterns of Normal: three corners, the row and the column of timing modules between them, the
+// alignment patterns and the version words.
 fn draw_normal(layout: Layout, modules: &mut [Module])
     requires normal { is_micro layout.version ≡ false }
     requires small { side layout.version ≤ 177 }
@@ -134,15 +177,16 @@ fn draw_normal(layout: Layout, modules: &mut [Module])
     ensures { modules.new ≡ with_patterns layout.version modules.old }
 {
     let width = layout.width;
-    draw_rectangle(layout, 0, 0, 9, 9, modules);
-    draw_rectangle(layout, width - 11, 0, 11, 9, modules);
-    draw_rectangle(layout, 0, width - 11, 9, 11, modules);
-    draw_rectangle(layout, 0, 6, width, 1, modules);
-    draw_rectangle(layout, 6, 0, 1, width, modules);
+    draw_block(layout, 0, 0, &NORMAL_TOP_LEFT, modules);
+    draw_block(layout, width - 8, 0, &NORMAL_TOP_RIGHT, modules);
+    draw_block(layout, 0, width - 8, &NORMAL_BOTTOM_LEFT, modules);
+    draw_rectangle(layout, 9, 6, width - 17, 1, modules);
+    draw_rectangle(layout, 6, 9, 1, width - 17, modules);
     draw_alignments(layout, modules);
+    draw_version_words(layout, modules);
 }
 
-// The patterns of Micro: one corner, and the row and the column of timing modules.
+// The patterns of Micro: one corner, and the row and the column of timing modules from there on.
 fn draw_micro(layout: Layout, modules: &mut [Module])
     requires micro { is_micro layout.version ≡ true }
     requires small { side layout.version ≤ 177 }
@@ -150,9 +194,9 @@ fn draw_micro(layout: Layout, modules: &mut [Module])
     ensures { modules.new ≡ with_patterns layout.version modules.old }
 {
     let width = layout.width;
-    draw_rectangle(layout, 0, 0, 9, 9, modules);
-    draw_rectangle(layout, 0, 0, width, 1, modules);
-    draw_rectangle(layout, 0, 0, 1, width, modules);
+    draw_block(layout, 0, 0, &MICRO_TOP_LEFT, modules);
+    draw_rectangle(layout, 9, 0, width - 9, 1, modules);
+    draw_rectangle(layout, 0, 9, 1, width - 9, modules);
 }
 
 /// Draws the functional patterns over what is there, the format places light.

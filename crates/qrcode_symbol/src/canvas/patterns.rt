@@ -4,6 +4,7 @@ ghost use Rattle.std.specs.Prelude.{◌≡◌, ℕ, ◌+◌, ◌*◌, ◌<◌, �
 ghost use Rattle.qrcode_types.specs.Colors.{color_of};
 ghost use Rattle.qrcode_types.specs.Versions.{is_valid, side};
 ghost use Rattle.qrcode_types.specs.declared.types.Version.TheVariants.{Normal};
+ghost use Rattle.qrcode_symbol.specs.Patterned.{is_corner_centre};
 ghost use Rattle.qrcode_places.specs.Patterns.{where_true, finder_at, finder, is_near, centres, alignment_between, alignment, timing, dark_module, version_copy, version_pattern, pattern, normal_format_index, micro_format_index, format_index};
 
 use qrcode_places::words::version_word;
@@ -61,6 +62,15 @@ pub(super) fn near(centres: &[u8], x: usize) -> Option<usize>
         .find(|a| a.abs_diff(x) <= 2)
 }
 
+/// Whether two coordinates of alignment centres meet in a corner where a finder pattern is.
+pub(super) fn is_corner_centre(width: usize, a: usize, b: usize) -> bool
+    requires { 7 ≤ width }
+    ensures { result ≡ is_corner_centre width a b }
+{
+    let last = width - 7;
+    (a == 6 && (b == 6 || b == last)) || (a == last && b == 6)
+}
+
 // The alignment pattern at two coordinates, but for the corners where finder patterns are.
 fn alignment_between(
     width: usize,
@@ -75,9 +85,8 @@ fn alignment_between(
     let (Some(a), Some(b)) = (near_x, near_y) else {
         return None;
     };
-    let last = width - 7;
-    let in_corner = (a == 6 && (b == 6 || b == last)) || (a == last && b == 6);
-    where_true(!in_corner, a.abs_diff(x).max(b.abs_diff(y)) != 1)
+    let dark = a.abs_diff(x).max(b.abs_diff(y)) != 1;
+    where_true(!is_corner_centre(width, a, b), dark)
 }
 
 // The row and the column of timing modules.

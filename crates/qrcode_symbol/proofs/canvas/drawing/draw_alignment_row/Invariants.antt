@@ -1,10 +1,12 @@
-use Rattle.std.proofs.Common.{ℕ, ◌-◌, ◌<◌, get_or}
+use Rattle.std.proofs.Common.{◌≡◌, ℕ, ◌-◌, ◌<◌, false, get_or}
+use Rattle.qrcode_types.specs.Versions.{side}
 use Rattle.qrcode_places.specs.Patterns.{centres}
-use Rattle.qrcode_symbol.specs.Patterned.{DrawsTowards, IsRectanglePatterned}
+use Rattle.qrcode_symbol.specs.Patterned.{DrawsTowards, IsRectanglePatterned, is_corner_centre}
 use Rattle.qrcode_symbol.proofs.canvas.drawing.draw_alignment_row.Given as goal
 
 abbrev pub invariant-loop-a : goal.invariant-loop-a
 invariant-loop-a l = record {
   towards : DrawsTowards l.layout.version l.initial.modules l.modules;
-  drawn : (i : ℕ) → i < l.a-index → IsRectanglePatterned l.layout.version l.modules (get_or (centres l.layout.version) i 0 - 2) (l.b - 2) 5 5;
+  drawn : (i : ℕ) → i < l.a-index → is_corner_centre (side l.layout.version) (get_or (centres l.layout.version) i 0) l.b ≡ false
+      → IsRectanglePatterned l.layout.version l.modules (get_or (centres l.layout.version) i 0 - 2) (l.b - 2) 5 5;
 }
