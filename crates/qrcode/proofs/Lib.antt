@@ -4,6 +4,5 @@ pub mod HalfBlocks
 pub mod Readings
 pub mod Sides
 pub mod Symbols
-pub mod Shortness
 pub mod Sealing
 pub mod PlainPictures

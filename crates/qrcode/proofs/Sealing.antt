@@ -1,5 +1,5 @@
 -- What a constructor that ends in `with_bits` promises of its data.
-use Rattle.std.proofs.Common.{◌≡◌, ◌⊎◌, inl, inr, ℕ, ◌+◌, ◌-◌, ◌*◌, ◌/◌, ◌≤◌, min, nat_le, not, IsTrue, if◌then◌else◌, Bool, true, false, List, [], ◌++◌, length, flat_map, replicate, length-append, ap, ◌∙◌, arith, Option, Some, None, Result, Ok, Err, is_some, refl, IfSome, IfOk, sym, subst, true≢false}
+use Rattle.std.proofs.Common.{◌≡◌, ◌⊎◌, inl, inr, ℕ, ◌+◌, ◌-◌, ◌*◌, ◌/◌, ◌≤◌, min, nat_le, not, IsTrue, if◌then◌else◌, Bool, true, false, List, [], ◌++◌, length, flat_map, replicate, length-append, ap, ◌∙◌, arith, Some, None, Result, Ok, Err, refl, IfOk, sym, subst, true≢false}
 use Rattle.std.specs.List.{AllByRecursion}
 use Rattle.std.proofs.lemmas.Bool.{le-leb}
 use Rattle.qrcode_types.specs.Versions.{has_level, capacity}
@@ -20,7 +20,7 @@ use Rattle.qrcode_bits.specs.Written.{Piece, written, terminator_length, padding
 use Rattle.qrcode_bits.specs.declared.optimize.Segment.{Segment}
 use Rattle.qrcode.specs.Acceptance.{EncodesCut, IsLeastSymbol, IsChosenSymbol}
 use Rattle.qrcode.specs.Reading.{ReadsOnly, Encodes}
-use Rattle.qrcode.specs.declared.QrCode.{QrCode}
+use Rattle.qrcode.specs.Code.{Code}
 use Rattle.qrcode.proofs.Symbols.{encodes_bytes}
 
 -- a value is neither of two refusals
@@ -28,23 +28,19 @@ pub no_value : {T : Type 0} (r : Result T QrError) (x : T) (d e : QrError) → r
 no_value r x d e is (inl p) = cc
 no_value r x d e is (inr p) = cc
 
-pub room_at_most : (room : Option ℕ) (n : ℕ) → is_some room ≡ true → IfSome room (λ bits. bits ≡ n) → IfSome room (λ bits. bits ≤ 23648) → n ≤ 23648
-room_at_most (Some bits) n e is most = subst (λ x. x ≤ 23648) is most
-room_at_most None n e is most = absurd (true≢false (sym e))
-
 -- the symbol of the terminated bits of segments that spell the data
 encodes_cut : (v : Version) (l : EcLevel) (bytes : List ℕ) (segments : List Segment) (bits : List Bool) (s : List Color) → bits ≡ terminated v l (written v (pieces_of bytes segments))
     → SpellsOnly v bits bytes → Encodes (λ other. ReadsBitsOnly other v l bits) v l bits s → EncodesCut v l bytes segments s
 encodes_cut v l bytes segments bits s is spelled encodes =
     subst (λ b. Encodes (λ other. ReadsOnly other bytes) v l b s) is (encodes_bytes v l bits s bytes encodes spelled.found spelled.only)
 
-pub least_symbol : (v : Version) (l : EcLevel) (bytes : List ℕ) (segments : List Segment) (bits : List Bool) (code : Result QrCode QrError) → IsLeastCut v bytes segments
-    → bits ≡ terminated v l (written v (pieces_of bytes segments)) → SpellsOnly v bits bytes → IfOk code (λ code. Encodes (λ other. ReadsBitsOnly other v l bits) v l bits code.content.items)
-    → IfOk code (λ code. IsLeastSymbol v l bytes code.content.items)
+pub least_symbol : (v : Version) (l : EcLevel) (bytes : List ℕ) (segments : List Segment) (bits : List Bool) (code : Result Code QrError) → IsLeastCut v bytes segments
+    → bits ≡ terminated v l (written v (pieces_of bytes segments)) → SpellsOnly v bits bytes → IfOk code (λ code. Encodes (λ other. ReadsBitsOnly other v l bits) v l bits code.modules)
+    → IfOk code (λ code. IsLeastSymbol v l bytes code.modules)
 least_symbol v l bytes segments bits (Ok code) least is spelled encodes = record {
   segments = segments;
   least = least;
-  encodes = encodes_cut v l bytes segments bits code.content.items is spelled encodes;
+  encodes = encodes_cut v l bytes segments bits code.modules is spelled encodes;
 }
 least_symbol v l bytes segments bits (Err e) least is spelled encodes = tt
 
@@ -67,11 +63,11 @@ terminated-longer v l bits =
     omega (arith, length-append (bits ++ replicate (end - length bits) false) (padding (room - end)), length-append bits (replicate (end - length bits) false))
 
 -- the symbol of data that was written in segments of a least cut and ended
-pub ended_symbol : (v : Version) (l : EcLevel) (bytes : List ℕ) (bits : List Bool) (ended : BitList) (code : Result QrCode QrError) → PushesLeast v [] bytes bits
+pub ended_symbol : (v : Version) (l : EcLevel) (bytes : List ℕ) (bits : List Bool) (ended : BitList) (code : Result Code QrError) → PushesLeast v [] bytes bits
     → ended ≡ record { version = v; bits = terminated v l bits } → length ended.bits ≡ capacity v l
     → ((pieces : List Piece) → AllByRecursion (IsReadable v) pieces → bits ≡ written v pieces → SpellsOnly ended.version ended.bits (flat_map (λ p. p.chunk) pieces))
-    → IfOk code (λ code. Encodes (λ other. ReadsBitsOnly other ended.version l ended.bits) ended.version l ended.bits code.content.items)
-    → IfOk code (λ code. IsLeastSymbol v l bytes code.content.items)
+    → IfOk code (λ code. Encodes (λ other. ReadsBitsOnly other ended.version l ended.bits) ended.version l ended.bits code.modules)
+    → IfOk code (λ code. IsLeastSymbol v l bytes code.modules)
 ended_symbol v l bytes bits ended code least is fills spelled encodes =
     let pieces = pieces_of bytes least.segments in
     let bits_are : ended.bits ≡ terminated v l bits = ap (λ (b : BitList). b.bits) is in
@@ -79,21 +75,21 @@ ended_symbol v l bytes bits ended code least is fills spelled encodes =
     let fits : total_cost v least.segments ≤ capacity v l = omega (arith, least.pushed.longer, terminated-longer v l bits, ap length bits_are, fills) in
     let found = subst (SpellsOnly ended.version ended.bits) least.joined (spelled pieces (least.readable l fits) least.pushed.bits) in
     least_symbol v l bytes least.segments ended.bits code least.least (bits_are ∙ ap (terminated v l) least.pushed.bits) (subst (λ u. SpellsOnly u ended.bits bytes) version found)
-    (subst (λ u. IfOk code (λ code. Encodes (λ other. ReadsBitsOnly other u l ended.bits) u l ended.bits code.content.items)) version encodes)
+    (subst (λ u. IfOk code (λ code. Encodes (λ other. ReadsBitsOnly other u l ended.bits) u l ended.bits code.modules)) version encodes)
 
 -- the symbol of data in the version and segments that are chosen
-pub chosen_symbol : (l : EcLevel) (bytes : List ℕ) (list : BitList) (code : Result QrCode QrError) → IsChosenList l bytes list → IfOk code (λ code. code.version ≡ list.version)
-    → IfOk code (λ code. Encodes (λ other. ReadsBitsOnly other list.version l list.bits) list.version l list.bits code.content.items) → IfOk code (λ code. IsChosenSymbol code.version l bytes code.content.items)
+pub chosen_symbol : (l : EcLevel) (bytes : List ℕ) (list : BitList) (code : Result Code QrError) → IsChosenList l bytes list → IfOk code (λ code. code.version ≡ list.version)
+    → IfOk code (λ code. Encodes (λ other. ReadsBitsOnly other list.version l list.bits) list.version l list.bits code.modules) → IfOk code (λ code. IsChosenSymbol code.version l bytes code.modules)
 chosen_symbol l bytes list (Ok code) held version encodes =
-    let made : IsChosenSymbol list.version l bytes code.content.items = record {
+    let made : IsChosenSymbol list.version l bytes code.modules = record {
       segments = held.segments;
       chosen = held.chosen;
-      encodes = encodes_cut list.version l bytes held.segments list.bits code.content.items held.terminated.bits held.terminated.spelled encodes;
+      encodes = encodes_cut list.version l bytes held.segments list.bits code.modules held.terminated.bits held.terminated.spelled encodes;
     } in
-    subst (λ u. IsChosenSymbol u l bytes code.content.items) (sym version) made
+    subst (λ u. IsChosenSymbol u l bytes code.modules) (sym version) made
 chosen_symbol l bytes list (Err e) held version encodes = tt
 
 -- the version of the symbol is that of the list
-pub version_up_to : (n : ℕ) (list : BitList) (code : Result QrCode QrError) → IsNormalUpTo n list.version → IfOk code (λ code. code.version ≡ list.version) → IfOk code (λ code. IsNormalUpTo n code.version)
+pub version_up_to : (n : ℕ) (list : BitList) (code : Result Code QrError) → IsNormalUpTo n list.version → IfOk code (λ code. code.version ≡ list.version) → IfOk code (λ code. IsNormalUpTo n code.version)
 version_up_to n list (Ok code) up version = subst (IsNormalUpTo n) (sym version) up
 version_up_to n list (Err e) up version = tt

@@ -19,7 +19,7 @@ use Rattle.qrcode_symbol.specs.Symbol.{Carries, IsSymbol}
 use Rattle.qrcode_symbol.specs.Penalties.{IsFirstLeast}
 use Rattle.qrcode_symbol.specs.Reading.{ReadsBitsOnly}
 use Rattle.qrcode_bits.specs.Spelling.{Spells}
-use Rattle.qrcode.specs.Drawing.{IsDrawn}
+use Rattle.qrcode.specs.Drawing.{IsBestDrawing}
 use Rattle.qrcode.specs.Reading.{ReadsOnly, Encodes}
 use Rattle.qrcode.proofs.BlockLists.{blocks-bytes}
 use Rattle.qrcode.proofs.Readings.{reads_bits_only}
@@ -148,7 +148,7 @@ half_is_high v l bits rest raw half some len all is =
 pub encodes_drawn : (v : Version) (l : EcLevel) (bits : List Bool) (rest : ℕ) (raw words : List ℕ) (s : List Color) → IsTrue (has_level v l) → length bits ≡ capacity v l
     → bits_of raw ≡ bits ++ replicate rest false → AreBytes words → data_bytes v l (blocks v l words) ≡ raw
     → AllByRecursion (λ b. Vanishes b (ec_length v l)) (blocks v l words) → AllByRecursion (λ b. IsOnlyWithin b (ec_length v l)) (blocks v l words)
-    → FormatWordsAreApart → FormatWordsTell → IsDrawn v l words s → Encodes (λ other. ReadsBitsOnly other v l bits) v l bits s
+    → FormatWordsAreApart → FormatWordsTell → IsBestDrawing v l words s → Encodes (λ other. ReadsBitsOnly other v l bits) v l bits s
 encodes_drawn v l bits rest raw words s exists len is bytes holds vanish apart far tell drawn =
     let are : AreCodewords v l bits words = record {
       bytes = bytes;

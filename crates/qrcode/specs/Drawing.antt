@@ -9,7 +9,7 @@ use Rattle.qrcode_symbol.specs.Symbol.{Carries}
 use Rattle.qrcode_symbol.specs.Penalties.{IsFirstLeast}
 
 -- a square that carries codewords under the first mask of least penalty
-pub record IsDrawn (v : Version) (l : EcLevel) (words : List ℕ) (s : List Color) : Type 0 where
+pub record IsBestDrawing (v : Version) (l : EcLevel) (words : List ℕ) (s : List Color) : Type 0 where
   pub mask : MaskPattern
   pub mask_exists : IsTrue (exists_in v mask)
   pub carries : Carries v l words mask s

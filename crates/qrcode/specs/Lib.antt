@@ -1,4 +1,5 @@
 pub mod Acceptance
+pub mod Code
 pub mod Drawing
 pub mod Pictures
 pub mod Reading

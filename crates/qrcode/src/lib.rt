@@ -1,7 +1,7 @@
 //! QR and Micro QR symbols.
 #![tactic(auto)]
 
-ghost use Rattle.std.specs.Prelude.{◌≡◌, ◌⊎◌, ℕ, ◌+◌, ◌*◌, ◌-◌, ◌/◌, ◌%◌, ◌<◌, ◌≤◌, ◌++◌, List, Bool, true, false, None, Some, pos, string_bytes, length, vec_len, slice_index, slice_get, map, flat_map, IsTrue, IfOk, IfErr, OnOk, IsOkUnless};
+ghost use Rattle.std.specs.Prelude.{◌≡◌, ◌⊎◌, ◌↔◌, ℕ, ◌+◌, ◌*◌, ◌-◌, ◌/◌, ◌%◌, ◌<◌, ◌≤◌, ◌++◌, List, Bool, true, false, None, Some, pos, string_bytes, length, slice_index, slice_get, map, flat_map, IsTrue, IfOk, IfErr, OnOk, IsOkUnless};
 ghost use Rattle.std.specs.List.{AllByRecursion};
 ghost use Rattle.qrcode_types.specs.Versions.{is_valid, side, has_level, capacity, data_length, total_ec_length, has_half_codeword};
 ghost use Rattle.qrcode_types.specs.declared.types.Version.TheVariants.{Normal};
@@ -13,6 +13,7 @@ ghost use Rattle.qrcode_ec.specs.Allowed.{reserved};
 ghost use Rattle.qrcode_places.specs.Patterns.{is_functional_place};
 ghost use Rattle.qrcode_places.specs.Words.{FormatWordsAreApart, FormatWordsTell};
 ghost use Rattle.qrcode_symbol.specs.Canvas.{colors_of};
+ghost use Rattle.qrcode_symbol.specs.Patterned.{IsDrawn};
 ghost use Rattle.qrcode_symbol.specs.Reading.{ReadsBitsOnly};
 ghost use Rattle.qrcode_bits.specs.Choice.{bands, IsChosen, NoneHolds};
 ghost use Rattle.qrcode_bits.specs.Cuts.{FitsIn};
@@ -23,7 +24,7 @@ ghost use Rattle.qrcode_bits.specs.Spelling.{IsReadable, SpellsOnly};
 ghost use Rattle.qrcode_bits.specs.Written.{written, terminated, pieces_of};
 ghost use Rattle.qrcode_bits.specs.declared.optimize.Segment.{Segment};
 ghost use Rattle.qrcode.specs.Acceptance.{IsAccepted, HasCut, IsSpelled, IsLeastSymbol, IsChosenSymbol};
-ghost use Rattle.qrcode.specs.Drawing.{IsDrawn};
+ghost use Rattle.qrcode.specs.Drawing.{IsBestDrawing};
 ghost use Rattle.qrcode.specs.Pictures.{quiet_zone, debug_text};
 ghost use Rattle.qrcode.specs.Reading.{Encodes};
 
@@ -35,6 +36,7 @@ pub use qrcode_symbol::{canvas, ec, types};
 use qrcode_types::tables;
 use render::{Pixel, Renderer};
 use std::alloc::{AllocError, Global};
+use std::marker::Model;
 use std::ops::Index;
 use types::QrError;
 pub use types::{Color, EcLevel, QrResult, Version};
@@ -49,9 +51,24 @@ pub struct QrCode {
     version: Version,
     ec_level: EcLevel,
     width: usize,
-    ghost exists: { IsTrue (has_level version ec_level) },
-    ghost across: { width ≡ side version },
-    ghost square: { vec_len content ≡ width * width },
+}
+
+impl Model for QrCode {
+    ghost use Rattle.std.specs.Prelude.{◌≡◌, ◌*◌, length, IsTrue};
+    ghost use Rattle.qrcode_types.specs.Versions.{side, has_level};
+    ghost use Rattle.qrcode.specs.Code.{Code};
+
+    ghost Value = { Code };
+
+    ghost view = { λ code. record {
+      version = code.version;
+      level = code.ec_level;
+      modules = code.content.items;
+    } };
+
+    ghost invariant = { λ code. IsTrue (has_level code.version code.ec_level)
+        × ((code.width ≡ side code.version)
+        × (length code.content.items ≡ code.width * code.width)) };
 }
 
 impl QrCode {
@@ -63,20 +80,20 @@ impl QrCode {
         ensures too_long { data_limit < length «data».now → result ≡ Err DataTooLong }
         ensures refuses { NoneHolds bands M «data».now
             → (result ≡ Err DataTooLong) ⊎ (result ≡ Err OutOfMemory) }
-        ensures accepts { (v : Version) (segments : List Segment) → length «data».now ≤ data_limit
+        ensures accepts { (v : Version) (segments : List Segment)
             → IsChosen M «data».now v segments → IsOkUnless result OutOfMemory }
         ensures errors { IfErr result (λ e. (e ≡ DataTooLong) ⊎ (e ≡ OutOfMemory)) }
         ensures refuses_unspelled { ((n : ℕ) → 1 ≤ n → n ≤ 40 → ¬ IsSpelled (Normal (pos n)) M «data».now)
             → (result ≡ Err DataTooLong) ⊎ (result ≡ Err OutOfMemory) }
-        ensures accepts_spelled { (n : ℕ) → 1 ≤ n → n ≤ 40 → length «data».now ≤ data_limit
+        ensures accepts_spelled { (n : ℕ) → 1 ≤ n → n ≤ 40
             → IsSpelled (Normal (pos n)) M «data».now → IsOkUnless result OutOfMemory }
         ensures least_version { (n : ℕ) → 1 ≤ n → n ≤ 40
             → IsSpelled (Normal (pos n)) M «data».now
             → IfOk result (λ code. IsNormalUpTo n code.version) }
         ensures only_spelled { IfOk result (λ code. IsSpelled code.version M «data».now) }
-        ensures level { IfOk result (λ code. code.ec_level ≡ M) }
+        ensures level { IfOk result (λ code. code.level ≡ M) }
         ensures symbol { IfOk result (λ code.
-            IsChosenSymbol code.version M «data».now code.content.items) }
+            IsChosenSymbol code.version M «data».now code.modules) }
     {
         QrCode::with_error_correction_level(alloc, data, EcLevel::M)
     }
@@ -92,20 +109,20 @@ impl QrCode {
         ensures too_long { data_limit < length «data».now → result ≡ Err DataTooLong }
         ensures refuses { NoneHolds bands ec_level «data».now
             → (result ≡ Err DataTooLong) ⊎ (result ≡ Err OutOfMemory) }
-        ensures accepts { (v : Version) (segments : List Segment) → length «data».now ≤ data_limit
+        ensures accepts { (v : Version) (segments : List Segment)
             → IsChosen ec_level «data».now v segments → IsOkUnless result OutOfMemory }
         ensures errors { IfErr result (λ e. (e ≡ DataTooLong) ⊎ (e ≡ OutOfMemory)) }
         ensures refuses_unspelled { ((n : ℕ) → 1 ≤ n → n ≤ 40 → ¬ IsSpelled (Normal (pos n)) ec_level «data».now)
             → (result ≡ Err DataTooLong) ⊎ (result ≡ Err OutOfMemory) }
-        ensures accepts_spelled { (n : ℕ) → 1 ≤ n → n ≤ 40 → length «data».now ≤ data_limit
+        ensures accepts_spelled { (n : ℕ) → 1 ≤ n → n ≤ 40
             → IsSpelled (Normal (pos n)) ec_level «data».now → IsOkUnless result OutOfMemory }
         ensures least_version { (n : ℕ) → 1 ≤ n → n ≤ 40
             → IsSpelled (Normal (pos n)) ec_level «data».now
             → IfOk result (λ code. IsNormalUpTo n code.version) }
         ensures only_spelled { IfOk result (λ code. IsSpelled code.version ec_level «data».now) }
-        ensures level { IfOk result (λ code. code.ec_level ≡ ec_level) }
+        ensures level { IfOk result (λ code. code.level ≡ ec_level) }
         ensures symbol { IfOk result (λ code.
-            IsChosenSymbol code.version ec_level «data».now code.content.items) }
+            IsChosenSymbol code.version ec_level «data».now code.modules) }
     {
         let bits = bits::encode_auto(alloc, data, ec_level)?;
         QrCode::with_bits(alloc, bits, ec_level)
@@ -132,8 +149,8 @@ impl QrCode {
         ensures no_level { IsTrue (is_valid version) → length «data».now ≤ data_limit
             → HasCut version «data».now → has_level version ec_level ≡ false
             → (result ≡ Err InvalidVersion) ⊎ (result ≡ Err OutOfMemory) }
-        ensures no_room { IsTrue (has_level version ec_level) → length «data».now ≤ data_limit
-            → HasCut version «data».now → ¬ FitsIn version «data».now (capacity version ec_level)
+        ensures no_room { IsTrue (has_level version ec_level) → HasCut version «data».now
+            → ¬ FitsIn version «data».now (capacity version ec_level)
             → (result ≡ Err DataTooLong) ⊎ (result ≡ Err OutOfMemory) }
         ensures accepts { IsAccepted version ec_level «data».now → IsOkUnless result OutOfMemory }
         ensures only_accepted { OnOk result (IsAccepted version ec_level «data».now) }
@@ -141,22 +158,18 @@ impl QrCode {
             → IsSpelled version ec_level «data».now → IsOkUnless result OutOfMemory }
         ensures only_spelled { OnOk result (IsSpelled version ec_level «data».now) }
         ensures version { IfOk result (λ code. code.version ≡ version) }
-        ensures level { IfOk result (λ code. code.ec_level ≡ ec_level) }
+        ensures level { IfOk result (λ code. code.level ≡ ec_level) }
         ensures symbol { IfOk result (λ code.
-            IsLeastSymbol version ec_level «data».now code.content.items) }
+            IsLeastSymbol version ec_level «data».now code.modules) }
     {
         if !version.is_valid() {
             return Err(QrError::InvalidVersion);
         }
-        let room = tables::capacity(version, ec_level);
-        if data.len() > DATA_LIMIT {
-            return Err(QrError::DataTooLong);
-        }
         let mut bits = Bits::new(alloc, version);
         if let Err(error) = bits.push_optimal_data(data) {
-            // That the version lacks the level is told before that the data is too long.
-            if room.is_none() && error == QrError::DataTooLong {
-                return Err(QrError::InvalidVersion);
+            // Within the limit, a missing level is told before that the symbol lacks the room.
+            if error == QrError::DataTooLong && data.len() <= DATA_LIMIT {
+                bits.max_len(ec_level)?;
             }
             return Err(error);
         }
@@ -178,10 +191,10 @@ impl QrCode {
         ensures accepts { IsTrue (has_level bits.version ec_level)
             → length bits.bits ≤ capacity bits.version ec_level → IsOkUnless result OutOfMemory }
         ensures version { IfOk result (λ code. code.version ≡ bits.version) }
-        ensures level { IfOk result (λ code. code.ec_level ≡ ec_level) }
+        ensures level { IfOk result (λ code. code.level ≡ ec_level) }
         ensures symbol { IfOk result (λ code.
             Encodes (λ other. ReadsBitsOnly other bits.version ec_level bits.bits)
-            bits.version ec_level bits.bits code.content.items) }
+            bits.version ec_level bits.bits code.modules) }
     {
         let version = bits.version();
         let Some(room) = tables::capacity(version, ec_level) else {
@@ -204,21 +217,23 @@ impl QrCode {
 
     /// The version of the symbol.
     pub fn version(&self) -> Version
-        ensures { result ≡ self.now.version }
+        ensures value { result ≡ self.now.version }
+        ensures exists { IsTrue (has_level result self.now.level) }
     {
         self.version
     }
 
     /// The error correction level of the symbol.
     pub fn error_correction_level(&self) -> EcLevel
-        ensures { result ≡ self.now.ec_level }
+        ensures { result ≡ self.now.level }
     {
         self.ec_level
     }
 
     /// The modules along a side, without a quiet zone.
     pub fn width(&self) -> usize
-        ensures { result ≡ side self.now.version }
+        ensures across { result ≡ side self.now.version }
+        ensures square { length self.now.modules ≡ result * result }
     {
         self.width
     }
@@ -226,8 +241,8 @@ impl QrCode {
     /// How many wrong codewords the standard allows, over all blocks. What is corrected is said for
     /// each block.
     pub fn max_allowed_errors(&self) -> usize
-        ensures { result ≡ (total_ec_length self.now.version self.now.ec_level
-            - reserved self.now.version self.now.ec_level) / 2 }
+        ensures { result ≡ (total_ec_length self.now.version self.now.level
+            - reserved self.now.version self.now.level) / 2 }
     {
         ec::max_allowed_errors(self.version, self.ec_level).unwrap()
     }
@@ -236,7 +251,10 @@ impl QrCode {
     pub fn is_functional(&self, x: usize, y: usize) -> bool
         requires column { x < side self.now.version }
         requires row { y < side self.now.version }
-        ensures { result ≡ is_functional_place self.now.version x y }
+        ensures place { result ≡ is_functional_place self.now.version x y }
+
+        // The patterns drawn on a new canvas leave no empty module there.
+        ensures drawn { IsTrue result ↔ IsDrawn self.now.version x y }
     {
         canvas::is_functional(self.version, self.width as i16, x as i16, y as i16)
     }
@@ -245,7 +263,7 @@ impl QrCode {
     /// newline between each two, without a quiet zone.
     pub fn to_debug_str(&self, alloc: Global, on_char: char, off_char: char) -> QrResult<String>
         ensures value { IfOk result (λ text. string_bytes text
-            ≡ debug_text self.now.version self.now.content.items on_char off_char) }
+            ≡ debug_text self.now.version self.now.modules on_char off_char) }
         ensures memory { IsOkUnless result OutOfMemory }
     {
         render::rectangles_make_pictures::<char>();
@@ -258,7 +276,7 @@ impl QrCode {
 
     /// Whether each module is dark, row by row.
     pub fn to_vec(&self, alloc: Global) -> QrResult<Vec<bool>>
-        ensures value { IfOk result (λ modules. modules.items ≡ map is_dark self.now.content.items) }
+        ensures value { IfOk result (λ modules. modules.items ≡ map is_dark self.now.modules) }
         ensures memory { IsOkUnless result OutOfMemory }
     {
         Ok(
@@ -271,7 +289,7 @@ impl QrCode {
 
     /// Whether each module is dark, row by row.
     pub fn into_vec(self, alloc: Global) -> QrResult<Vec<bool>>
-        ensures value { IfOk result (λ modules. modules.items ≡ map is_dark self.content.items) }
+        ensures value { IfOk result (λ modules. modules.items ≡ map is_dark self.modules) }
         ensures memory { IsOkUnless result OutOfMemory }
     {
         self.to_vec(alloc)
@@ -279,7 +297,7 @@ impl QrCode {
 
     /// The colour of each module, row by row.
     pub fn to_colors(&self, alloc: Global) -> QrResult<Vec<Color>>
-        ensures value { IfOk result (λ colors. colors.items ≡ self.now.content.items) }
+        ensures value { IfOk result (λ colors. colors.items ≡ self.now.modules) }
         ensures memory { IsOkUnless result OutOfMemory }
     {
         Ok(Vec::from_slice(alloc, &self.content)?)
@@ -287,15 +305,17 @@ impl QrCode {
 
     /// The colour of each module, row by row.
     pub fn into_colors(self) -> Vec<Color>
-        ensures { result.items ≡ self.content.items }
+        ensures { result.items ≡ self.modules }
     {
         self.content
     }
 
     /// A renderer of the symbol, with a quiet zone of four modules, or of two for Micro QR.
     pub fn render<P: Pixel>(&self) -> Renderer<'_, P>
-        ensures content { result.content ≡ self.now.content.items }
+        ensures content { result.content ≡ self.now.modules }
         ensures count { result.count ≡ side self.now.version }
+        ensures small { result.count ≤ 177 }
+        ensures square { length self.now.modules ≡ result.count * result.count }
         ensures zone { result.zone ≡ quiet_zone self.now.version }
         ensures on { result.has_zone ≡ true }
         ensures across { result.across ≡ P.unit.0 }
@@ -313,7 +333,7 @@ impl Index<(usize, usize)> for QrCode {
 
     ghost can_index = { λ code place. (place.0 < side code.version) × (place.1 < side code.version) };
 
-    ghost index_gives = { λ code place color. slice_get code.content.items (place.1 * side code.version + place.0) ≡ Some color };
+    ghost index_gives = { λ code place color. slice_get code.modules (place.1 * side code.version + place.0) ≡ Some color };
 
     fn index(&self, (x, y): (usize, usize)) -> &Color {
         &self.content[y * self.width + x]
@@ -321,7 +341,7 @@ impl Index<(usize, usize)> for QrCode {
 }
 
 impl Clone for QrCode {
-    ghost is_clone = { λ code other. (other.content.items ≡ code.content.items) × (other.version ≡ code.version) × (other.ec_level ≡ code.ec_level) };
+    ghost is_clone = { λ code other. other ≡ code };
 
     fn clone(&self) -> Result<QrCode, AllocError> {
         Ok(QrCode {
@@ -346,7 +366,7 @@ fn draw_codewords(
     requires ec_length { length ec.now ≡ total_ec_length version ec_level }
     requires half { IsTrue (has_half_codeword version ec_level) → slice_index «data».now (length «data».now - 1) % 16 ≡ 0 }
     ensures memory { IsOkUnless result OutOfMemory }
-    ensures drawn { IfOk result (λ canvas. IsDrawn version ec_level («data».now ++ ec.now) (colors_of canvas.modules)) }
+    ensures drawn { IfOk result (λ canvas. IsBestDrawing version ec_level («data».now ++ ec.now) (colors_of canvas.modules)) }
     ensures words { IfOk result (λ _. FormatWordsAreApart × FormatWordsTell) }
 {
     let mut canvas = Canvas::new(alloc, version, ec_level)?;

@@ -29,7 +29,7 @@ pub record Found (h : Headers) (bytes : List ℕ) (place : ℕ) (m : Mode) : Typ
   pub matches : Matches h bytes place m count
   pub writable : (k : ℕ) → k ≤ count → can_write m (slice_range bytes place (place + k * bytes_each m)) ≡ true
 
-pairs_even : (a : List ℕ) → are_kanji a ≡ true → length a / 2 * 2 ≡ length a
+pub pairs_even : (a : List ℕ) → are_kanji a ≡ true → length a / 2 * 2 ≡ length a
 pairs_even [] e = omega arith
 pairs_even (b ∷ []) e = absurd (true≢false (sym e))
 pairs_even (b ∷ c ∷ a) e = omega (arith, pairs_even a (and_parts (is_kanji b c) (are_kanji a) e).1)

@@ -28,6 +28,7 @@ pub mod RunLaws
 pub mod RunSteps
 pub mod SegmentRanges
 pub mod Several
+pub mod Shortness
 pub mod SpelledCuts
 pub mod Spellings
 pub mod TokenKinds

@@ -1,9 +1,9 @@
 -- Pieces that are written one after the other.
 use Rattle.std.proofs.Common.{◌≡◌, ℕ, ◌+◌, ◌-◌, ◌≤◌, ◌++◌, Bool, List, [], ◌∷◌, length, take, refl, sym, ap, subst, ◌∙◌, arith, Option, Some, None, length-append, append_assoc, append-nil}
-use Rattle.std.specs.Prelude.{slice_get, slice_range, Result, Ok, Err, IsErr, IsErrAnd, IfErr, IfSome, drop}
+use Rattle.std.specs.Prelude.{slice_get, slice_range, Result, Ok, Err, IsErr, IsErrAnd, IfErr, IfSome}
 use Rattle.std.specs.List.{AllByRecursion}
 use Rattle.std.proofs.lemmas.Grind.{flat_map-append}
-use Rattle.std.proofs.lemmas.List.{map-append, take_at, length-take-le, length-drop}
+use Rattle.std.proofs.lemmas.List.{map-append, take_at}
 use Rattle.std.proofs.lemmas.List.Sums.{sum_by-cons}
 use Rattle.qrcode_types.specs.declared.types.Version.{Version}
 use Rattle.qrcode_types.specs.declared.types.QrError.{QrError}

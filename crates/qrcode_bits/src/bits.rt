@@ -7,11 +7,12 @@ ghost use Rattle.std.specs.Option.{option_map};
 ghost use Rattle.qrcode_types.specs.Bits.{number_bits, bits_of};
 ghost use Rattle.qrcode_types.specs.Versions as versions;
 ghost use Rattle.qrcode_types.specs.Modes.{mode_bits_count};
+ghost use Rattle.qrcode_types.specs.declared.types.EcLevel.{EcLevel};
 ghost use Rattle.qrcode_types.specs.declared.types.QrError.TheVariants.{DataTooLong, InvalidVersion, UnsupportedCharacterSet};
 ghost use Rattle.qrcode_bits.specs.Segments.{character_count, cost_of, AreInside};
 ghost use Rattle.qrcode_bits.specs.Written.{Piece, written, written_piece, pieces_of, terminated, eci_bits};
 ghost use Rattle.qrcode_bits.specs.Spelling.{IsReadable, SpellsOnly};
-ghost use Rattle.qrcode_bits.specs.Refusals.{piece_refusal, count_refusal, append_refusal, indicator_bits, eci_refusal, terminator_refusal, StopsAt};
+ghost use Rattle.qrcode_bits.specs.Refusals.{bit_limit, piece_refusal, count_refusal, append_refusal, indicator_bits, eci_refusal, terminator_refusal, StopsAt};
 ghost use Rattle.qrcode_bits.specs.declared.optimize.Segment.{Segment};
 ghost use Rattle.qrcode_bits.specs.Pushes.{Changes, Appends, PushesAll};
 
@@ -75,7 +76,10 @@ impl Bits {
     /// The empty list. It takes no memory yet, and grows by the allocator.
     pub fn new(alloc: Global, version: Version) -> Self
         requires { IsTrue (versions.is_valid version) }
-        ensures { result ≡ record { version = version; bits = [] } }
+        ensures empty { result ≡ record { version = version; bits = [] } }
+
+        // A list has room for the bits of a symbol.
+        ensures room { (level : EcLevel) → versions.capacity version level ≤ bit_limit }
     {
         Bits {
             version,

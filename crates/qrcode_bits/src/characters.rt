@@ -41,12 +41,13 @@ pub(crate) fn is_alphanumeric(byte: u8) -> bool
 fn is_mark(byte: u8) -> bool
     ensures { result ≡ mark_tests byte }
 {
-    byte == b' '
-        || byte == b'$'
-        || byte == b'%'
-        || is_between(b'*', b'+', byte)
-        || is_between(b'-', b'/', byte)
-        || byte == b':'
+    byte <= b':'
+        && (byte == b' '
+            || byte == b'$'
+            || byte == b'%'
+            || is_between(b'*', b'+', byte)
+            || is_between(b'-', b'/', byte)
+            || byte == b':')
 }
 
 // Whether two bytes are a pair of the mode Kanji.

@@ -1,43 +1,15 @@
 -- A symbol of which each module is drawn as a text.
-use Rattle.std.proofs.Common.{◌≡◌, ℕ, zero, suc, ◌+◌, ◌*◌, ◌^◌, ◌/◌, ◌%◌, ◌&&◌, ◌≤◌, ◌<◌, nat_le, nat_lt, pos, negsuc, Bool, true, false, IsTrue, if◌then◌else◌, List, [], ◌∷◌, ◌++◌, map, get_or, flat_map, refl, sym, ap, ap₂, ◌∙◌, arith, subst, true≢false}
+use Rattle.std.proofs.Common.{◌≡◌, ℕ, zero, suc, ◌+◌, ◌*◌, ◌/◌, ◌%◌, Bool, true, false, if◌then◌else◌, List, [], ◌∷◌, ◌++◌, map, get_or, flat_map, refl, ap, ap₂, ◌∙◌}
 use Rattle.std.specs.List.{range_with_len}
-use Rattle.std.proofs.lemmas.Bool.{and_from, and_parts, lt-ltb, leb-true}
-use Rattle.qrcode_types.specs.Versions.{is_valid, side}
+use Rattle.qrcode_types.specs.Versions.{side}
 use Rattle.qrcode_types.specs.declared.types.Version.{Version}
-use Rattle.qrcode_types.specs.declared.types.Version.TheVariants.{Normal, Micro}
 use Rattle.qrcode_types.specs.declared.types.Color.{Color}
 use Rattle.qrcode_render.specs.Drawn.{drawn, filled}
 use Rattle.qrcode_render.specs.Layout.{Layout, modules_across}
 use Rattle.qrcode_render.specs.Picture.{Raster, pixel_at, blank, with_dark_pixel, picture, is_dark_pixel}
-use Rattle.qrcode_render.specs.Setting.{Setting, fits, drawing_of}
+use Rattle.qrcode_render.specs.Setting.{Setting, drawing_of}
 use Rattle.qrcode_render.specs.Texts.{lines_text, text_of}
-use Rattle.qrcode.specs.Pictures.{quiet_zone, plain_layout}
-
--- The sides of a picture fit.
-
-pub side_at_most : (v : Version) → IsTrue (is_valid v) → side v ≤ 177
-side_at_most (Normal (pos n)) h = omega (arith, leb-true n 40 (and_parts (nat_le 1 n) (nat_le n 40) h).1)
-side_at_most (Normal (negsuc n)) h = absurd (true≢false (sym h))
-side_at_most (Micro (pos n)) h = omega (arith, leb-true n 4 (and_parts (nat_le 1 n) (nat_le n 4) h).1)
-side_at_most (Micro (negsuc n)) h = absurd (true≢false (sym h))
-
-pub zone_at_most : (v : Version) → quiet_zone v ≤ 4
-zone_at_most (Normal v) = omega arith
-zone_at_most (Micro v) = omega arith
-
-chosen : (b : Bool) (zone : ℕ) → zone ≤ 4 → (if b then zone else 0) ≤ 4
-chosen true zone h = h
-chosen false zone h = omega arith
-
-pub plain_fits : {P : Type 0} (s : Setting P) → s.count ≤ 177 → s.zone ≤ 4 → s.across ≡ 1 → s.down ≡ 1 → IsTrue (fits s)
-plain_fits s count zone across down =
-    let w = s.count + 2 * (if s.has_zone then s.zone else 0) in
-    let small : w ≤ 185 = omega (arith, count, chosen s.has_zone s.zone zone) in
-    let wide : w * s.across < 2 ^ 32 = subst (λ n. w * n < 2 ^ 32) (sym across) (omega (arith, small)) in
-    let high : w * s.down < 2 ^ 32 = subst (λ n. w * n < 2 ^ 32) (sym down) (omega (arith, small)) in
-    and_from (nat_lt w (2 ^ 32) && nat_lt (w * s.across) (2 ^ 32)) (nat_lt (w * s.down) (2 ^ 32))
-    (and_from (nat_lt w (2 ^ 32)) (nat_lt (w * s.across) (2 ^ 32)) (lt-ltb w (2 ^ 32) (omega (arith, small))) (lt-ltb (w * s.across) (2 ^ 32) wide))
-    (lt-ltb (w * s.down) (2 ^ 32) high)
+use Rattle.qrcode.specs.Pictures.{plain_layout}
 
 -- What is drawn is the picture.
 

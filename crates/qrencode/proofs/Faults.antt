@@ -1,12 +1,11 @@
 -- Why a text has no symbol.
-use Rattle.std.proofs.Common.{◌≡◌, ◌⊎◌, ◌≤◌, ℕ, List, length, Result, Ok, Err, IfErr, sym, subst, inl, inr}
+use Rattle.std.proofs.Common.{◌≡◌, ◌⊎◌, ℕ, List, Result, Ok, Err, IfErr, sym, subst, inl, inr}
 use Rattle.std.specs.Prelude.{IsErr, IsErrAnd}
 use Rattle.qrcode_types.specs.declared.types.EcLevel.TheVariants.{M}
 use Rattle.qrcode_types.specs.declared.types.QrError.{QrError}
 use Rattle.qrcode_types.specs.declared.types.QrError.TheVariants.{DataTooLong, OutOfMemory}
 use Rattle.qrcode_types.specs.declared.types.Version.{Version}
 use Rattle.qrcode_bits.specs.Choice.{IsChosen}
-use Rattle.qrcode_bits.specs.Refusals.{data_limit}
 use Rattle.qrcode_bits.specs.declared.optimize.Segment.{Segment}
 use Rattle.qrencode.specs.Words.{IsRefused}
 
@@ -16,6 +15,6 @@ handed_on (Ok u) e P h p = tt
 handed_on (Err x) e P h p = subst P (sym h.1) p
 
 pub refused : (text : List ℕ) (e : QrError) → (e ≡ DataTooLong) ⊎ (e ≡ OutOfMemory)
-    → ((v : Version) (segments : List Segment) → length text ≤ data_limit → IsChosen M text v segments → e ≡ OutOfMemory) → IsRefused text e
+    → ((v : Version) (segments : List Segment) → IsChosen M text v segments → e ≡ OutOfMemory) → IsRefused text e
 refused text e (inr memory) accepts = inl memory
-refused text e (inl long) accepts = inr (long, λ v segments within chosen. let memory = accepts v segments within chosen in cc)
+refused text e (inl long) accepts = inr (long, λ v segments chosen. let memory = accepts v segments chosen in cc)

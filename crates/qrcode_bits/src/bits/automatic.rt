@@ -1,6 +1,8 @@
 //! The least version for data.
 
 ghost use Rattle.std.specs.Prelude.{◌≡◌, ℕ, ◌<◌, ◌≤◌, ◌⊎◌, ◌↔◌, pos, length, List, Err, MatchOption, IsTrue, IfOk, IfErr, OnOk, IsOkUnless};
+ghost use Rattle.std.specs.List.{count_by};
+ghost use Rattle.qrcode_types.specs.Characters as characters;
 ghost use Rattle.qrcode_types.specs.Versions as versions;
 ghost use Rattle.qrcode_types.specs.declared.types.Version.{Version};
 ghost use Rattle.qrcode_types.specs.declared.types.Version.TheVariants.{Normal};
@@ -15,6 +17,7 @@ ghost use Rattle.qrcode_bits.specs.declared.optimize.Segment.{Segment};
 
 use super::Bits;
 use super::optimal::DATA_LIMIT;
+use crate::characters::is_digit;
 use crate::optimize::{Segment, least_segments, total_encoded_len};
 use qrcode_types::tables;
 use qrcode_types::types::{EcLevel, QrError, QrResult, Version};
@@ -31,8 +34,7 @@ pub fn encode_auto(alloc: Global, data: &[u8], ec_level: EcLevel) -> QrResult<Bi
     ensures refuses { NoneHolds bands ec_level «data».now
         → (result ≡ Err QrError.DataTooLong) ⊎ (result ≡ Err QrError.OutOfMemory) }
     ensures accepts { (version : Version) (segments : List Segment)
-        → length «data».now ≤ data_limit → IsChosen ec_level «data».now version segments
-        → IsOkUnless result OutOfMemory }
+        → IsChosen ec_level «data».now version segments → IsOkUnless result OutOfMemory }
     ensures errors { IfErr result (λ e. (e ≡ DataTooLong) ⊎ (e ≡ OutOfMemory)) }
     ensures bits { IfOk result (IsChosenList ec_level «data».now) }
 
@@ -42,34 +44,39 @@ pub fn encode_auto(alloc: Global, data: &[u8], ec_level: EcLevel) -> QrResult<Bi
         ↔ IsSpelledIn n ec_level «data».now }
 
     // Data that some version of Normal holds is taken, in a version that is no greater.
-    ensures takes { (n : ℕ) → 1 ≤ n → n ≤ 40 → length «data».now ≤ data_limit
-        → IsSpelledIn n ec_level «data».now → IsOkUnless result OutOfMemory }
+    ensures takes { (n : ℕ) → 1 ≤ n → n ≤ 40 → IsSpelledIn n ec_level «data».now
+        → IsOkUnless result OutOfMemory }
     ensures least_version { (n : ℕ) → 1 ≤ n → n ≤ 40 → IsSpelledIn n ec_level «data».now
         → IfOk result (λ list. IsNormalUpTo n list.version) }
 {
     if data.len() > DATA_LIMIT {
         return Err(QrError::DataTooLong);
     }
-    if let Some(bits) = encode_within(alloc, data, ec_level, 9)? {
+    let least = least_bits(data);
+    if let Some(bits) = encode_within(alloc, data, least, ec_level, 9)? {
         return Ok(bits);
     }
-    if let Some(bits) = encode_within(alloc, data, ec_level, 26)? {
+    if let Some(bits) = encode_within(alloc, data, least, ec_level, 26)? {
         return Ok(bits);
     }
-    if let Some(bits) = encode_within(alloc, data, ec_level, 40)? {
+    if let Some(bits) = encode_within(alloc, data, least, ec_level, 40)? {
         return Ok(bits);
     }
     Err(QrError::DataTooLong)
 }
 
-// The data in a least cut of a version of Normal, where that version holds it.
+// The data in a least cut of a version of Normal, where that version holds it. Where the bits that
+// each cut takes at least are more than the version holds, no cut is looked for.
 fn encode_within(
     alloc: Global,
     data: &[u8],
+    least: usize,
     ec_level: EcLevel,
     number: usize,
 ) -> QrResult<Option<Bits>>
     requires limit { length «data».now ≤ data_limit }
+    requires least { (version : Version) (segments : List Segment) → IsCut version «data».now segments
+        → least ≤ total_cost version segments }
     requires some { 1 ≤ number }
     requires most { number ≤ 40 }
     ensures held { IfOk result (λ found. MatchOption found
@@ -78,15 +85,35 @@ fn encode_within(
         (IsHeld (Normal (pos number)) ec_level «data».now)) }
     ensures memory { IsOkUnless result OutOfMemory }
 {
+    let room = normal_capacity(number, ec_level);
+    if least > room {
+        return Ok(None);
+    }
     let version = Version::Normal(number as i16);
     let segments = least_segments(alloc, data, version)?;
     let used = total_encoded_len(&segments, version);
-    if used > normal_capacity(number, ec_level) {
+    if used > room {
         return Ok(None);
     }
-    let least = least_version(ec_level, used, number);
-    let bits = encode_in(alloc, data, ec_level, least, segments)?;
+    let chosen = least_version(ec_level, used, number);
+    let bits = encode_in(alloc, data, ec_level, chosen, segments)?;
     Ok(Some(bits))
+}
+
+// Bits that each cut of the data takes at least: three digits take ten, and two other bytes eleven.
+fn least_bits(data: &[u8]) -> usize
+    requires { length «data».now ≤ data_limit }
+    ensures { (version : Version) (segments : List Segment) → IsCut version «data».now segments
+        → result ≤ total_cost version segments }
+{
+    let digits = count_digits(data);
+    (20 * digits + 33 * (data.len() - digits)) / 6
+}
+
+fn count_digits(data: &[u8]) -> usize
+    ensures { result ≡ count_by characters.is_digit «data».now }
+{
+    data.iter().filter(|byte| is_digit(**byte)).count()
 }
 
 // The data in its segments, terminated.

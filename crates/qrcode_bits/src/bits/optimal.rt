@@ -39,27 +39,27 @@ impl Bits {
             ⊎ StopsInLeast self.old.version self.old.bits «data».now e self.new.bits) }
 
         // Where the data can be cut, it is at most too long.
-        ensures causes { (cut : List Segment) → length «data».now ≤ data_limit
-            → IsCut self.old.version «data».now cut
+        ensures causes { (cut : List Segment) → IsCut self.old.version «data».now cut
             → IfErr result (λ e. (e ≡ DataTooLong) ⊎ (e ≡ OutOfMemory)) }
 
         // Data that fits a symbol is taken.
-        ensures fits { (level : EcLevel) → length «data».now ≤ data_limit
+        ensures fits { (level : EcLevel)
             → length self.old.bits + capacity self.old.version level ≤ bit_limit
             → FitsIn self.old.version «data».now (capacity self.old.version level)
             → IsOkUnless result OutOfMemory }
 
         // A cut of the data fits a symbol just where some bits that fill the symbol spell the data.
-        ensures held { (level : EcLevel) → length «data».now ≤ data_limit
+        ensures held { (level : EcLevel)
             → FitsIn self.old.version «data».now (capacity self.old.version level)
             ↔ ((bits : List Bool) × ((length bits ≡ capacity self.old.version level)
             × Spells self.old.version bits «data».now)) }
         ensures version { self.new.version ≡ self.old.version }
     {
+        let version = self.version();
         if data.len() > DATA_LIMIT {
             return Err(QrError::DataTooLong);
         }
-        let segments = least_segments(self.stream.allocator(), data, self.version)?;
+        let segments = least_segments(self.stream.allocator(), data, version)?;
         self.push_all(data, segments)
     }
 

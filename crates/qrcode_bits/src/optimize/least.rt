@@ -16,7 +16,7 @@ ghost use Rattle.qrcode_bits.specs.Spelling.{Spells};
 ghost use Rattle.qrcode_bits.specs.Refusals.{data_limit};
 ghost use Rattle.qrcode_bits.specs.declared.optimize.Segment.{Segment};
 
-use super::rests::{Headers, Rest, Start};
+use super::rests::{Headers, Openings, Rest, Start};
 use super::{Kind, Segment};
 use crate::characters::{are_digits, is_alphanumeric};
 use qrcode_types::types::{Mode, QrError, QrResult, Version};
@@ -94,14 +94,16 @@ fn least_starts(alloc: Global, data: &[u8], headers: Headers) -> Result<Vec<Star
     requires rests { (place : ℕ) → IsSmall (rest_of headers (drop place «data».now)) }
     ensures { IfOk result (λ starts. AreStarts headers «data».now starts.items) }
 {
+    let openings = Openings::of(headers);
     let mut rest = Rest::at_end();
     let mut starts = Vec::from_elem(alloc, rest.start, data.len() + 1)?;
-    let mut after = 0;
     for i in (0..data.len()).rev() {
-        let byte = data[i];
-        rest = rest.behind(headers, Kind::at(byte, after));
-        starts[i] = rest.start;
-        after = byte;
+        rest = rest.behind(openings, Kind::at(data, i));
+
+        // Field by field, as joining them into one number first takes longer.
+        let start = &mut starts[i];
+        start.bits = rest.start.bits;
+        start.mode = rest.start.mode;
     }
     Ok(starts)
 }

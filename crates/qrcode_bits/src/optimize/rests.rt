@@ -1,6 +1,6 @@
 //! What a rest of the data takes at least.
 
-ghost use Rattle.std.specs.Prelude.{◌≡◌, IsTrue};
+ghost use Rattle.std.specs.Prelude.{◌≡◌, ◌+◌, IsTrue};
 ghost use Rattle.qrcode_types.specs.Versions.{is_valid};
 ghost use Rattle.qrcode_bits.specs.LeastBits.{headers_of, header_in, AreSmall, IsSmall, better, byte_start, letter_start, only_bytes, with_letter, step, at_end};
 
@@ -40,6 +40,35 @@ impl Headers {
             Mode::Alphanumeric => self.alphanumeric,
             Mode::Byte => self.byte,
             Mode::Kanji => self.kanji,
+        }
+    }
+}
+
+// The bits of a segment of one character in each mode, so that none are added up again for each byte.
+#[derive(Copy, Clone)]
+pub(super) struct Openings {
+    headers: Headers,
+    digit: u32,
+    letter: u32,
+    byte: u32,
+    pair: u32,
+    ghost of_digit: { digit ≡ headers.numeric + 4 },
+    ghost of_letter: { letter ≡ headers.alphanumeric + 6 },
+    ghost of_byte: { byte ≡ headers.byte + 8 },
+    ghost of_pair: { pair ≡ headers.kanji + 13 },
+}
+
+impl Openings {
+    pub(super) fn of(headers: Headers) -> Openings
+        requires { AreSmall headers }
+        ensures { result.headers ≡ headers }
+    {
+        Openings {
+            headers,
+            digit: headers.numeric + 4,
+            letter: headers.alphanumeric + 6,
+            byte: headers.byte + 8,
+            pair: headers.kanji + 13,
         }
     }
 }
@@ -103,28 +132,34 @@ impl Rest {
     }
 
     // The rest that begins one byte earlier, by the kind of that byte.
-    pub(super) fn behind(self, headers: Headers, kind: Kind) -> Rest
-        requires headers { AreSmall headers }
+    pub(super) fn behind(self, openings: Openings, kind: Kind) -> Rest
+        requires headers { AreSmall openings.headers }
         requires rest { IsSmall self }
-        ensures { result ≡ step headers kind self }
+        ensures { result ≡ step openings.headers kind self }
     {
         match kind {
             Kind::Digit => {
                 let start = self
-                    .letter_start(headers)
-                    .or(Mode::Numeric, headers.numeric + 4 + self.one_digit);
+                    .letter_start(openings)
+                    .or(Mode::Numeric, openings.digit + self.one_digit);
                 let mut rest = self.with_letter(start);
                 rest.digits = start.bits.min(4 + self.one_digit);
                 rest.one_digit = start.bits.min(3 + self.two_digits);
                 rest.two_digits = start.bits.min(3 + self.digits);
                 rest
             }
-            Kind::Letter => self.with_letter(self.letter_start(headers)),
-            Kind::LoneLead | Kind::Other => self.only_bytes(self.byte_start(headers)),
+            Kind::Letter => self.with_letter(self.letter_start(openings)),
+            Kind::LoneLead | Kind::Other => {
+                let mut rest = self.only_bytes(self.byte_start(openings));
+
+                // To go on takes no header, and so fewer bits than the start.
+                rest.bytes = 8 + self.bytes;
+                rest
+            }
             Kind::Pair => {
                 let start = self
-                    .byte_start(headers)
-                    .or(Mode::Kanji, headers.kanji + 13 + self.half_pair);
+                    .byte_start(openings)
+                    .or(Mode::Kanji, openings.pair + self.half_pair);
                 let mut rest = self.only_bytes(start);
                 rest.pairs = start.bits.min(13 + self.half_pair);
                 rest
@@ -132,26 +167,24 @@ impl Rest {
         }
     }
 
-    fn byte_start(self, headers: Headers) -> Start
-        requires headers { AreSmall headers }
+    fn byte_start(self, openings: Openings) -> Start
+        requires headers { AreSmall openings.headers }
         requires rest { IsSmall self }
-        ensures { result ≡ byte_start headers self }
+        ensures { result ≡ byte_start openings.headers self }
     {
         Start {
-            bits: headers.byte + 8 + self.bytes,
+            bits: openings.byte + self.bytes,
             mode: Mode::Byte,
         }
     }
 
-    fn letter_start(self, headers: Headers) -> Start
-        requires headers { AreSmall headers }
+    fn letter_start(self, openings: Openings) -> Start
+        requires headers { AreSmall openings.headers }
         requires rest { IsSmall self }
-        ensures { result ≡ letter_start headers self }
+        ensures { result ≡ letter_start openings.headers self }
     {
-        self.byte_start(headers).or(
-            Mode::Alphanumeric,
-            headers.alphanumeric + 6 + self.odd_letter,
-        )
+        self.byte_start(openings)
+            .or(Mode::Alphanumeric, openings.letter + self.odd_letter)
     }
 
     // Behind a byte with which no open segment but one of bytes can go on.

@@ -258,46 +258,59 @@ fn runs_are_parsed(rt: HostRuntime) -> Result<(), Fail> {
     Ok(())
 }
 
+// Rows of data, the version that they are cut for, and the segments.
+type Row<'a> = (&'a [u8], Version, &'a [Segment]);
+
 // The runs of data, joined.
-fn joined_runs(alloc: Global, data: &[u8], version: Version) -> Result<Vec<Segment>, AllocError>
-    requires valid { IsTrue (is_valid version) }
-    requires limit { length «data».now ≤ data_limit }
-{
-    Parser::new(data).optimize(version).collect(alloc)
+fn joined_runs(alloc: Global, data: &[u8], version: Version) -> QrResult<Vec<Segment>> {
+    if !version.is_valid() {
+        return Err(QrError::InvalidVersion);
+    }
+    if data.len() > 100 {
+        return Err(QrError::DataTooLong);
+    }
+    Ok(Parser::new(data).optimize(version).collect(alloc)?)
 }
 
 #[test]
 fn runs_are_joined(rt: HostRuntime) -> Result<(), Fail> {
-    let alloc = rt.alloc();
-    let joined = joined_runs(alloc, b"1234567A", Version::Normal(1))?;
-    assert_eq!(rt; joined.as_slice(), [alphanumeric(0, 8)].as_slice());
-    assert_eq!(rt; total(&NORMAL_1, &joined), 57);
-    let joined = joined_runs(alloc, b"123A", Version::Micro(2))?;
-    assert_eq!(rt;
-        joined.as_slice(),
-        [numeric(0, 3), alphanumeric(3, 4)].as_slice()
-    );
-    let joined = joined_runs(alloc, b"123A", Version::Micro(3))?;
-    assert_eq!(rt; joined.as_slice(), [alphanumeric(0, 4)].as_slice());
+    let normal = Version::Normal(1);
+    let rows: [Row<'_>; 7] = [
+        (b"1234567A", normal, &[alphanumeric(0, 8)]),
+        (
+            b"123A",
+            Version::Micro(2),
+            &[numeric(0, 3), alphanumeric(3, 4)],
+        ),
+        (b"123A", Version::Micro(3), &[alphanumeric(0, 4)]),
+        (b"12AB", Version::Micro(2), &[alphanumeric(0, 4)]),
+        (b"\xeb\xc0", normal, &[byte(0, 2)]),
+        (b"\x81\x40\x81", normal, &[byte(0, 3)]),
+        (b"ABC123abcd", normal, &[alphanumeric(0, 6), byte(6, 10)]),
+    ];
+    for (data, version, segments) in rows {
+        let joined = joined_runs(rt.alloc(), data, version)?;
+        assert_eq!(rt; joined.as_slice(), segments, "{data:?}");
+    }
+    Ok(())
+}
+
+#[test]
+fn joined_runs_are_measured(rt: HostRuntime) -> Result<(), Fail> {
+    let rows: [(&[u8], usize); 6] = [
+        (b"1234567A", 57),
+        (b"\xeb\xc0", 28),
+        (b"\x81\x40\x81", 36),
+        (b"ABC123abcd", 90),
+        (b"a1234b", 68),
+        (b"a1234bc", 76),
+    ];
+    for (data, bits) in rows {
+        let joined = joined_runs(rt.alloc(), data, Version::Normal(1))?;
+        assert_eq!(rt; total(&NORMAL_1, &joined), bits, "{data:?}");
+    }
+    let joined = joined_runs(rt.alloc(), b"123A", Version::Micro(3))?;
     assert_eq!(rt; total(&MICRO_3, &joined), 28);
-    let joined = joined_runs(alloc, b"12AB", Version::Micro(2))?;
-    assert_eq!(rt; joined.as_slice(), [alphanumeric(0, 4)].as_slice());
-    let joined = joined_runs(alloc, b"\xeb\xc0", Version::Normal(1))?;
-    assert_eq!(rt; joined.as_slice(), [byte(0, 2)].as_slice());
-    assert_eq!(rt; total(&NORMAL_1, &joined), 28);
-    let joined = joined_runs(alloc, b"\x81\x40\x81", Version::Normal(1))?;
-    assert_eq!(rt; joined.as_slice(), [byte(0, 3)].as_slice());
-    assert_eq!(rt; total(&NORMAL_1, &joined), 36);
-    let joined = joined_runs(alloc, b"ABC123abcd", Version::Normal(1))?;
-    assert_eq!(rt;
-        joined.as_slice(),
-        [alphanumeric(0, 6), byte(6, 10)].as_slice()
-    );
-    assert_eq!(rt; total(&NORMAL_1, &joined), 90);
-    let joined = joined_runs(alloc, b"a1234b", Version::Normal(1))?;
-    assert_eq!(rt; total(&NORMAL_1, &joined), 68);
-    let joined = joined_runs(alloc, b"a1234bc", Version::Normal(1))?;
-    assert_eq!(rt; total(&NORMAL_1, &joined), 76);
     Ok(())
 }
 

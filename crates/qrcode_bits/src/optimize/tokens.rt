@@ -1,10 +1,10 @@
 //! The tokens of the data: pairs of bytes, and single bytes.
 
-ghost use Rattle.std.specs.Prelude.{◌≡◌, ◌+◌, [], ◌∷◌, length, MatchOption, if◌then◌else◌};
+ghost use Rattle.std.specs.Prelude.{◌≡◌, ◌+◌, ◌<◌, [], ◌∷◌, length, drop, slice_index, MatchOption, if◌then◌else◌};
 ghost use Rattle.qrcode_types.specs.Characters as characters;
 ghost use Rattle.qrcode_bits.specs.Runs.{mode_of, single_kind, go_together, width, kinds};
 ghost use Rattle.qrcode_bits.specs.declared.optimize.Kind.TheVariants.{Digit, Letter, Other};
-ghost use Rattle.qrcode_bits.specs.Tokens.{kind_at};
+ghost use Rattle.qrcode_bits.specs.Tokens.{kind_at, first_byte};
 
 use super::Kind;
 use crate::characters::{is_alphanumeric, is_digit, is_kanji, is_lead};
@@ -30,14 +30,16 @@ impl Kind {
         self == next && self != Kind::LoneLead
     }
 
-    // The kind of the token that a byte begins, by the byte after it; 0 where there is none.
-    #[tactic(auto, using(crate::proofs::TokenKinds::low_kind))]
-    pub(super) fn at(byte: u8, after: u8) -> Kind
-        ensures { result ≡ kind_at byte after }
+    // The kind of the token that the byte at a place begins.
+    pub(super) fn at(data: &[u8], place: usize) -> Kind
+        requires { place < length «data».now }
+        ensures { result ≡ kind_at (slice_index «data».now place)
+            (first_byte (drop (place + 1) «data».now)) }
     {
+        let byte = data[place];
         if byte < 0x81 {
             Kind::of_low(byte)
-        } else if is_kanji(byte, after) {
+        } else if place + 1 < data.len() && is_kanji(byte, data[place + 1]) {
             Kind::Pair
         } else {
             Kind::of_single(byte)

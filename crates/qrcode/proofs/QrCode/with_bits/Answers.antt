@@ -2,7 +2,7 @@ use Rattle.std.proofs.Common.{◌≡◌, ℕ, ◌%◌, ◌-◌, ◌++◌, List, 
 use Rattle.qrcode_types.specs.Versions.{has_level, capacity}
 use Rattle.qrcode_symbol.specs.Reading.{ReadsBitsOnly}
 use Rattle.qrcode_symbol.specs.Canvas.{colors_of}
-use Rattle.qrcode.specs.Drawing.{IsDrawn}
+use Rattle.qrcode.specs.Drawing.{IsBestDrawing}
 use Rattle.qrcode.specs.Reading.{Encodes}
 use Rattle.qrcode.proofs.HalfBlocks.{half_block}
 use Rattle.qrcode.proofs.Symbols.{filled_bytes, half_is_high, encodes_drawn, joined_bytes}
@@ -46,7 +46,7 @@ returns-clause-symbol c =
     let words = c.in_ok-data.data.items ++ c.in_ok-data.ec.items in
     let known = c.in_ok-data.ensures in
     let joined : c.deref-2.result.now ++ c.deref-3.result.now ≡ words = ap₂ (λ (a b : List ℕ). a ++ b) c.deref-2.ensures.value c.deref-3.ensures.value in
-    let drawn = subst (λ s. IsDrawn v l words s) (sym c.in_ok-content.ensures.value) (subst (λ w. IsDrawn v l w (colors_of c.in_ok-canvas.canvas.modules)) joined c.in_ok-canvas.ensures.drawn) in
+    let drawn = subst (λ s. IsBestDrawing v l words s) (sym c.in_ok-content.ensures.value) (subst (λ w. IsBestDrawing v l w (colors_of c.in_ok-canvas.canvas.modules)) joined c.in_ok-canvas.ensures.drawn) in
     let words_told = c.in_ok-canvas.ensures.words in
     let encodes = encodes_drawn v l bits c.into_bytes-data.ensures.0 raw words c.in_ok-content.content.items exists len c.into_bytes-data.ensures.2
     (joined_bytes c.in_ok-data.data.items c.in_ok-data.ec.items known.bytes.0 known.bytes.1) (known.holds ∙ c.deref.ensures.value) known.vanishes known.apart words_told.0 words_told.1 drawn in

@@ -6,13 +6,13 @@ use Rattle.qrcode.proofs.Sealing.{chosen_symbol, version_up_to, no_value}
 use Rattle.qrcode.proofs.QrCode.with_error_correction_level.Goals as goal
 
 pub returns-in_err-bits-clause-accepts : goal.returns-in_err-bits-clause-accepts
-returns-in_err-bits-clause-accepts c = λ v segments within chosen.
-    let accepted = c.in_err-bits.ensures.accepts v segments within chosen in
+returns-in_err-bits-clause-accepts c = λ v segments chosen.
+    let accepted = c.in_err-bits.ensures.accepts v segments chosen in
     search rules
 
 pub returns-in_err-bits-clause-accepts_spelled : goal.returns-in_err-bits-clause-accepts_spelled
-returns-in_err-bits-clause-accepts_spelled c = λ n some most within spelled.
-    let accepted = c.in_err-bits.ensures.takes n some most within spelled in
+returns-in_err-bits-clause-accepts_spelled c = λ n some most spelled.
+    let accepted = c.in_err-bits.ensures.takes n some most spelled in
     search rules
 
 pub returns-clause-refuses_unspelled : goal.returns-clause-refuses_unspelled

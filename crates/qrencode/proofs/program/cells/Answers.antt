@@ -22,12 +22,12 @@ pub returns-clause-value : goal.returns-clause-value
 returns-clause-value c =
     let code = c.in_ok-code.code in
     let v = code.version in
-    let colors = code.content.items in
+    let colors = code.modules in
     let known = c.render.ensures in
     let s = c.light_color.result.now in
     let first = c.dark_color.ensures.sets in
     let second = c.light_color.ensures.sets in
-    let square : length colors ≡ side v * side v = omega (arith, code.content.ok.0) ∙ code.square ∙ ap (λ w. w * w) code.across in
+    let square : length colors ≡ side v * side v = known.square ∙ ap (λ w. w * w) known.count in
     let law = c.rectangles_make_pictures.ensures (plain_layout v (quiet_zone v)) colors s.dark s.light square (omega arith) (omega arith) in
     let content : s.content ≡ colors = ap (λ (x : Setting Str). x.content) second ∙ ap (λ (x : Setting Str). x.content) first ∙ known.content in
     let count : s.count ≡ side v = ap (λ (x : Setting Str). x.count) second ∙ ap (λ (x : Setting Str). x.count) first ∙ known.count in

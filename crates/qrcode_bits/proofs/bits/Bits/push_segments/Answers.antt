@@ -1,11 +1,9 @@
-use Rattle.std.proofs.Common.{◌≡◌, ◌≤◌, List, [], ◌∷◌, ◌++◌, length, ap, sym, ◌∙◌, subst}
+use Rattle.std.proofs.Common.{◌≤◌, List, [], ◌∷◌, ◌++◌, length}
 use Rattle.std.specs.Iterator.{HoldsAlong, Yields}
 use Rattle.std.proofs.iter.Next.{Yields-more}
-use Rattle.qrcode_bits.specs.BitList.{BitList}
-use Rattle.qrcode_bits.specs.Pushes.{with_bits}
-use Rattle.qrcode_bits.specs.Refusals.{piece_refusal, IsCause, StopsAt}
+use Rattle.qrcode_bits.specs.Refusals.{StopsAt}
 use Rattle.qrcode_bits.specs.Segments.{AreInside}
-use Rattle.qrcode_bits.specs.Written.{written_piece, pieces_of}
+use Rattle.qrcode_bits.specs.Written.{pieces_of}
 use Rattle.qrcode_bits.specs.declared.optimize.Segment.{Segment}
 use Rattle.qrcode_bits.proofs.Several.{last_inside, handed_on, pushes_segment, refuses_segment}
 use Rattle.qrcode_bits.proofs.bits.Bits.push_segments.Goals as goal

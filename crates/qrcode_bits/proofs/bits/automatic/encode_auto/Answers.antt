@@ -1,11 +1,22 @@
-use Rattle.std.proofs.Common.{pos, subst}
+use Rattle.std.proofs.Common.{pos, subst, arith}
 use Rattle.std.specs.Prelude.{MatchOption}
 use Rattle.qrcode_types.specs.Versions.{capacity}
 use Rattle.qrcode_types.specs.declared.types.Version.TheVariants.{Normal}
 use Rattle.qrcode_bits.specs.Cuts.{FitsIn}
 use Rattle.qrcode_bits.specs.Encoded.{IsHeld}
 use Rattle.qrcode_bits.proofs.Chosen.{held_in, none_held, up_to_first, up_to_second, up_to_third}
+use Rattle.qrcode_bits.proofs.Shortness.{chosen_short, fitting_short}
 use Rattle.qrcode_bits.proofs.bits.automatic.encode_auto.Goals as goal
+
+pub returns-then-data-gt-DATA_LIMIT-clause-accepts : goal.returns-then-data-gt-DATA_LIMIT-clause-accepts
+returns-then-data-gt-DATA_LIMIT-clause-accepts c = λ v segments chosen.
+    absurd (omega (arith, c.if-data-gt-DATA_LIMIT.true, chosen_short c.args.ec_level c.args.«data».now v segments chosen))
+
+pub returns-then-data-gt-DATA_LIMIT-clause-takes : goal.returns-then-data-gt-DATA_LIMIT-clause-takes
+returns-then-data-gt-DATA_LIMIT-clause-takes c = λ n some most spelled.
+    let l = c.args.ec_level in
+    let bytes = c.args.«data».now in
+    absurd (omega (arith, c.if-data-gt-DATA_LIMIT.true, fitting_short (Normal (pos n)) l bytes ((held_in l bytes n some most).1 spelled)))
 
 pub returns-then-data-gt-DATA_LIMIT-clause-held : goal.returns-then-data-gt-DATA_LIMIT-clause-held
 returns-then-data-gt-DATA_LIMIT-clause-held c = held_in c.args.ec_level c.args.«data».now
@@ -56,7 +67,7 @@ returns-in-Some-3-clause-least_version c = λ n some most.
     up_to_third l bytes c.in-Some-3.bits n some most not_first not_second held
 
 pub returns-clause-takes : goal.returns-clause-takes
-returns-clause-takes c = λ n some most limit spelled.
+returns-clause-takes c = λ n some most spelled.
     let l = c.args.ec_level in
     let bytes = c.args.«data».now in
     let not_first = subst (λ o. MatchOption o (¬ FitsIn (Normal (pos 9)) bytes (capacity (Normal (pos 9)) l)) (IsHeld (Normal (pos 9)) l bytes)) c.in_default.is c.in_ok-bits.ensures.held in

@@ -32,7 +32,7 @@ returns-in_err-push_all-clause-memory c =
     let ss = c.args.segments.items in
     let e = c.in_err-push_all.field-0.0 in
     let new = c.push_all.new.self.bits in
-    let stop = subst (λ (l : BitList). StopsAt l.version l.bits (pieces_of bytes ss) e new) c.new-bits.ensures c.in_err-push_all.ensures.stopped in
+    let stop = subst (λ (l : BitList). StopsAt l.version l.bits (pieces_of bytes ss) e new) c.new-bits.ensures.empty c.in_err-push_all.ensures.stopped in
     handed_on c.from_residual.result e (λ e. e ≡ OutOfMemory) c.from_residual.ensures
     (fitting_stop v c.args.ec_level [] bytes ss e new (valid k) c.requires.cut c.requires.room (omega (arith, capacity-le v c.args.ec_level c.requires.level)) stop)
 
@@ -47,8 +47,8 @@ returns-clause-terminated c =
     let list = c.push_all.new.self in
     let new = c.push_terminator.new.self in
     let pieces = cut_pieces v l bytes ss (valid k) c.requires.cut c.requires.room in
-    let pushed = subst (λ (b : BitList). PushesAll b.version b.bits bytes ss list.bits) c.new-bits.ensures c.in_ok-push_all.ensures.pushed in
-    let version : list.version ≡ v = c.push_all.ensures.version ∙ ap (λ (b : BitList). b.version) c.new-bits.ensures in
+    let pushed = subst (λ (b : BitList). PushesAll b.version b.bits bytes ss list.bits) c.new-bits.ensures.empty c.in_ok-push_all.ensures.pushed in
+    let version : list.version ≡ v = c.push_all.ensures.version ∙ ap (λ (b : BitList). b.version) c.new-bits.ensures.empty in
     let ended = c.in_ok-push_terminator.ensures in
     let is : new ≡ list_of v (terminated v l (written v ps)) =
     ended.ends.changed ∙ ap₂ (λ (u : Version) (b : List Bool). list_of u (terminated u l b)) version pushed.bits in

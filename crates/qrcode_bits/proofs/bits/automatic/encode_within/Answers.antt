@@ -10,7 +10,11 @@ use Rattle.qrcode_bits.proofs.Bands.{byte_cut, normal_level, cost_le, cut_in, le
 use Rattle.qrcode_bits.proofs.SegmentRanges.{are_bytes}
 use Rattle.qrcode_bits.proofs.Several.{handed_on, small_inside}
 use Rattle.qrcode_bits.proofs.bits.automatic.encode_within.Goals as goal
-use Rattle.qrcode_bits.proofs.bits.automatic.encode_within.Goals.{In_ok-segments, After-least_version-least}
+use Rattle.qrcode_bits.proofs.bits.automatic.encode_within.Goals.{In_ok-segments, After-least_version-chosen}
+
+pub returns-then-least-room-clause-held : goal.returns-then-least-room-clause-held
+returns-then-least-room-clause-held c = λ fits.
+    absurd (omega (arith, c.if-least-room.true, c.normal_capacity-room.ensures, c.requires.least _ fits.0 fits.1.0, fits.1.1))
 
 pub returns-in_err-segments-clause-memory : goal.returns-in_err-segments-clause-memory
 returns-in_err-segments-clause-memory c =
@@ -39,36 +43,36 @@ total_encoded_len-used-requires-clause-fits c =
     let version : Normal (to_z w16 c.args.number) ≡ Normal (pos c.args.number) = ap Normal (to_z_pos w16 c.args.number (omega arith)) in
     rw (c.deref.ensures.value, version) (omega (arith, (least k).least cut.0 cut.1.0, cut.1.1, c.requires.limit))
 
-used : (c : After-least_version-least) → c.total_encoded_len-used.result ≡ total_cost (Normal (pos c.args.number)) c.in_ok-segments.segments.items
+used : (c : After-least_version-chosen) → c.total_encoded_len-used.result ≡ total_cost (Normal (pos c.args.number)) c.in_ok-segments.segments.items
 used c =
     let version : Normal (to_z w16 c.args.number) ≡ Normal (pos c.args.number) = ap Normal (to_z_pos w16 c.args.number (omega arith)) in
     c.total_encoded_len-used.ensures ∙ ap (total_cost (Normal (to_z w16 c.args.number))) c.deref.ensures.value ∙ ap (λ v. total_cost v c.in_ok-segments.segments.items) version
 
 -- the segments fit the version of the number
-fits : (c : After-least_version-least) → total_cost (Normal (pos c.args.number)) c.in_ok-segments.segments.items ≤ capacity (Normal (pos c.args.number)) c.args.ec_level
-fits c = omega (arith, used c, c.if-used-normal_capacity.false, c.normal_capacity.ensures)
+fits : (c : After-least_version-chosen) → total_cost (Normal (pos c.args.number)) c.in_ok-segments.segments.items ≤ capacity (Normal (pos c.args.number)) c.args.ec_level
+fits c = omega (arith, used c, c.if-used-room.false, c.normal_capacity-room.ensures)
 
 -- the least version that has room for them
-chosen : (c : After-least_version-least) → (n : ℕ) × (IsLeastVersion c.args.ec_level (total_cost (Normal (pos c.args.number)) c.in_ok-segments.segments.items) n × (c.least_version-least.result ≡ Normal (pos n)))
+chosen : (c : After-least_version-chosen) → (n : ℕ) × (IsLeastVersion c.args.ec_level (total_cost (Normal (pos c.args.number)) c.in_ok-segments.segments.items) n × (c.least_version-chosen.result ≡ Normal (pos n)))
 chosen c =
     let r = least_version-is c.args.ec_level (total_cost (Normal (pos c.args.number)) c.in_ok-segments.segments.items) c.args.number c.requires.some c.requires.most (fits c) in
-    (r.0, (r.1, c.least_version-least.ensures ∙ ap (least_version c.args.ec_level) (used c) ∙ r.1.is))
+    (r.0, (r.1, c.least_version-chosen.ensures ∙ ap (least_version c.args.ec_level) (used c) ∙ r.1.is))
 
 pub encode_in-requires-clause-level : goal.encode_in-requires-clause-level
 encode_in-requires-clause-level c =
-    let r = chosen (goal.at.encode_in-requires-clause-level c).After-least_version-least in
+    let r = chosen (goal.at.encode_in-requires-clause-level c).After-least_version-chosen in
     subst (λ v. IsTrue (has_level v c.args.ec_level)) (sym r.1.1) (normal_level r.0 c.args.ec_level r.1.0.some r.1.0.most)
 
 pub encode_in-requires-clause-cut : goal.encode_in-requires-clause-cut
 encode_in-requires-clause-cut c =
     let k = (goal.at.encode_in-requires-clause-cut c).In_ok-segments in
-    let r = chosen (goal.at.encode_in-requires-clause-cut c).After-least_version-least in
+    let r = chosen (goal.at.encode_in-requires-clause-cut c).After-least_version-chosen in
     let ss = c.in_ok-segments.segments.items in
     subst (λ v. IsCut v c.args.«data».now ss) (sym r.1.1) (cut_in c.args.number r.0 c.args.«data».now ss (least k).reached)
 
 pub encode_in-requires-clause-room : goal.encode_in-requires-clause-room
 encode_in-requires-clause-room c =
-    let k = (goal.at.encode_in-requires-clause-room c).After-least_version-least in
+    let k = (goal.at.encode_in-requires-clause-room c).After-least_version-chosen in
     let r = chosen k in
     let ss = c.in_ok-segments.segments.items in
     let low : r.0 ≤ c.args.number = r.1.0.least c.args.number c.requires.some c.requires.most (fits k) in

@@ -18,13 +18,12 @@ loop-i-preserved c =
     let inside : place < length bytes = omega arith in
     let more = drop_more bytes place 0 inside ∙ ap (λ k. get_or bytes place 0 ∷ drop k bytes) next in
     let rest : c.behind-rest.result ≡ rest_of h (drop place bytes) =
-    c.behind-rest.ensures
-    ∙ ap₂ (λ k r. step h k r) (c.at.ensures ∙ ap (kind_at (get_or bytes place 0)) c.loop-i.invariant.after) c.loop-i.invariant.rest
+    c.behind-rest.ensures ∙ ap (λ g. step g c.at.result c.loop-i.rest) c.of-openings.ensures
+    ∙ ap₂ (λ k r. step h k r) (c.at.ensures ∙ ap (λ k. kind_at (get_or bytes place 0) (first_byte (drop k bytes))) next) c.loop-i.invariant.rest
     ∙ sym (ap (rest_of h) more) in
     record {
       count = c.loop-i.invariant.count;
       rest = rest;
-      after = sym (ap first_byte more);
       done = λ k from to. elim (cases_lt k i) [
         | inl below ↦
             let same : k ≡ place = omega arith in

@@ -1,12 +1,10 @@
 use Rattle.std.proofs.Common.{◌≡◌, ℕ, ◌+◌, ◌≤◌, length, drop, get_or, vec_len}
-use Rattle.qrcode_bits.specs.Tokens.{first_byte}
 use Rattle.qrcode_bits.specs.LeastBits.{rest_of, past_end}
 use Rattle.qrcode_bits.proofs.optimize.least.least_starts.Given as goal
 
 abbrev pub invariant-loop-i : goal.invariant-loop-i
 invariant-loop-i l = record {
   count : vec_len l.starts ≡ length l.«data» + 1;
-  rest : l.rest ≡ rest_of l.headers (drop l.i l.«data»);
-  after : l.after ≡ first_byte (drop l.i l.«data»);
-  done : (k : ℕ) → l.i ≤ k → k ≤ length l.«data» → get_or l.starts.items k past_end ≡ (rest_of l.headers (drop k l.«data»)).start;
+  rest : l.rest ≡ rest_of l.fn.headers (drop l.i l.«data»);
+  done : (k : ℕ) → l.i ≤ k → k ≤ length l.«data» → get_or l.starts.items k past_end ≡ (rest_of l.fn.headers (drop k l.«data»)).start;
 }

@@ -1,0 +1,11 @@
+-- What a symbol is seen as.
+use Rattle.std.specs.Prelude.{List}
+use Rattle.qrcode_types.specs.declared.types.Version.{Version}
+use Rattle.qrcode_types.specs.declared.types.EcLevel.{EcLevel}
+use Rattle.qrcode_types.specs.declared.types.Color.{Color}
+
+-- a version and level, and the colours of the modules in row order
+pub record Code : Type 0 where
+  pub version : Version
+  pub level : EcLevel
+  pub modules : List Color
