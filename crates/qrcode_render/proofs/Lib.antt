@@ -4,7 +4,8 @@ pub mod LineTexts
 pub mod MarkedLines
 pub mod Painting
 pub mod Palettes
-pub mod Pictures
+pub mod Paths
 pub mod PictureTexts
+pub mod Pictures
 pub mod Rectangles
 pub mod Sizes

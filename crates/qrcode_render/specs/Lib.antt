@@ -2,6 +2,7 @@ pub mod Dense
 pub mod Drawn
 pub mod Layout
 pub mod LayoutOf
+pub mod LineOf
 pub mod Lines
 pub mod PaletteOf
 pub mod Picture

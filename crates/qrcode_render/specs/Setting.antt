@@ -1,5 +1,5 @@
 -- What a renderer is set to.
-use Rattle.std.specs.Prelude.{ℕ, ◌+◌, ◌-◌, ◌*◌, ◌/◌, ◌^◌, ◌≤◌, ◌≡◌, ◌⊎◌, max, nat_lt, ◌&&◌, Bool, List, if◌then◌else◌}
+use Rattle.std.specs.Prelude.{ℕ, ◌+◌, ◌-◌, ◌*◌, ◌/◌, ◌^◌, ◌≤◌, ◌≡◌, ◌⊎◌, max, nat_lt, ◌&&◌, Bool, List, length, if◌then◌else◌}
 use Rattle.qrcode_types.specs.declared.types.Color.{Color}
 use Rattle.qrcode_render.specs.Layout.{Layout, modules_across}
 use Rattle.qrcode_render.specs.Drawn.{drawn}
@@ -14,6 +14,12 @@ pub record Setting (P : Type 0) : Type 0 where
   pub dark : P
   pub light : P
   pub has_zone : Bool
+
+-- what holds of every renderer: its modules make a square, and each has a pixel or more across and down
+pub record IsWhole {P : Type 0} (s : Setting P) : Type 0 where
+  pub square : length s.content ≡ s.count * s.count
+  pub across : 1 ≤ s.across
+  pub down : 1 ≤ s.down
 
 -- where modules stand, with the quiet zone only where it is switched on
 abbrev pub layout_of : {P : Type 0} → Setting P → Layout

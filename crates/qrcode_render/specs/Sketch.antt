@@ -1,5 +1,5 @@
 -- Pixels that are dark or light, whatever stands for them.
-use Rattle.std.specs.Prelude.{ℕ, ◌+◌, ◌*◌, Bool, true, false, ◌||◌, List, [], ◌∷◌, map, slice_set, slice_index_or, replicate, if◌then◌else◌}
+use Rattle.std.specs.Prelude.{ℕ, ◌+◌, ◌*◌, Bool, true, false, ◌||◌, List, [], ◌∷◌, length, filter, map, slice_set, slice_index_or, replicate, if◌then◌else◌}
 use Rattle.std.specs.List.{range_with_len, join_with_byte, slice_range}
 use Rattle.qrcode_types.specs.Colors.{is_dark}
 use Rattle.qrcode_types.specs.declared.types.Color.{Color}
@@ -22,6 +22,10 @@ with_mark x y s = record s { marks = slice_set s.marks (y * s.across + x) true }
 -- the pixels that stand for dark and light, in their places
 abbrev pub painted : {P : Type 0} → P → P → Sketch → Raster P
 painted dark light s = record { across = s.across; down = s.down; dark = dark; light = light; pixels = map (λ m. if m then dark else light) s.marks }
+
+-- how many pixels are dark
+abbrev pub dark_count : Sketch → ℕ
+dark_count s = length (filter (λ m. m) s.marks)
 
 -- the marks of a row
 abbrev pub row_of : Sketch → ℕ → List Bool

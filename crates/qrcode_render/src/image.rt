@@ -14,19 +14,19 @@ use qrcode_types::types::{Color, QrError, QrResult};
 use std::alloc::Global;
 use std::marker::PhantomData;
 
-/// A grey.
+/// A grey, from 0 for black to 255 for white.
 #[derive(Copy, Clone, PartialEq, Eq)]
 pub struct Luma(pub [u8; 1]);
 
-/// A grey and its opacity.
+/// A grey and its opacity, from 0 for none to 255.
 #[derive(Copy, Clone, PartialEq, Eq)]
 pub struct LumaA(pub [u8; 2]);
 
-/// Red, green and blue.
+/// Red, green and blue, each from 0 to 255.
 #[derive(Copy, Clone, PartialEq, Eq)]
 pub struct Rgb(pub [u8; 3]);
 
-/// Red, green, blue and opacity.
+/// Red, green, blue and opacity, each from 0 to 255.
 #[derive(Copy, Clone, PartialEq, Eq)]
 pub struct Rgba(pub [u8; 4]);
 
@@ -36,7 +36,7 @@ pub trait Channels: Copy {
 
     ghost value: { Self → ℕ → ℕ };
 
-    /// The bytes of each pixel.
+    /// How many bytes each pixel has.
     fn count() -> usize
         ensures { result ≡ number };
 
@@ -185,7 +185,7 @@ impl Pixel for Rgba {
     }
 }
 
-/// Pixels in row order, each as its bytes.
+/// Pixels in row order, each as its bytes. No byte stands between rows.
 #[derive(Drop)]
 pub struct ImageBuffer<P> {
     width: u32,

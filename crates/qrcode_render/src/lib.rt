@@ -9,7 +9,7 @@ ghost use Rattle.qrcode_render.specs.Drawn.{drawn, drawn_row, filled};
 ghost use Rattle.qrcode_render.specs.Layout.{Layout, modules_across, PixelsFit};
 ghost use Rattle.qrcode_render.specs.LayoutOf.{layout};
 ghost use Rattle.qrcode_render.specs.Picture.{blank, picture, with_dark_pixel};
-ghost use Rattle.qrcode_render.specs.Setting.{Setting, side_of, fits, drawing_of, least_size, greatest_size, IsLeastSize, IsGreatestSize};
+ghost use Rattle.qrcode_render.specs.Setting.{Setting, IsWhole, layout_of, side_of, fits, drawing_of, least_size, greatest_size, IsLeastSize, IsGreatestSize};
 
 use qrcode_types::types::{Color, QrResult};
 use std::alloc::Global;
@@ -56,8 +56,10 @@ pub trait Pixel: Copy {
 /// What a picture is drawn on. After `OutOfMemory` nothing is known of it, and it may only be
 /// dropped.
 pub trait Canvas: Drop {
+    /// What stands for dark and for light.
     type Pixel;
 
+    /// What the picture ends as.
     type Image;
 
     // What is drawn.
@@ -93,7 +95,7 @@ pub trait Canvas: Drop {
         ensures high { IfOk result (λ canvas. down canvas ≡ height) }
         ensures memory { IsOkUnless result OutOfMemory };
 
-    /// Draws the dark pixel in column `x` and row `y`.
+    /// Draws the dark pixel in column `x` and row `y`, each counted from 0 at the upper left.
     fn draw_dark_pixel(&mut self, x: u32, y: u32) -> QrResult<()>
         requires inside_across { x < across self.old }
         requires inside_down { y < down self.old }
@@ -102,7 +104,7 @@ pub trait Canvas: Drop {
         ensures high { OnOk result (down self.new ≡ down self.old) }
         ensures memory { IsOkUnless result OutOfMemory };
 
-    /// Draws a rectangle of dark pixels, given by its first column and row and its sides.
+    /// Draws a rectangle of dark pixels, given by its first column and row and its sides in pixels.
     fn draw_dark_rect(&mut self, left: u32, top: u32, width: u32, height: u32) -> QrResult<()>
         requires inside_across { left + width ≤ across self.old }
         requires inside_down { top + height ≤ down self.old }
@@ -223,6 +225,12 @@ pub fn rectangles_make_pictures<P: Copy>()
         → drawn (filled with_dark_pixel) at content (blank (modules_across at * at.across) (modules_across at * at.down) dark light) ≡ picture at content dark light }
 {}
 
+/// The law of renderers: whatever it is set to, the rectangles that a renderer draws on light pixels
+/// make its picture. A call does nothing.
+pub fn renderers_make_pictures<P: Copy>()
+    ensures { (s : Setting P) → IsWhole s → drawing_of blank (filled with_dark_pixel) s ≡ picture (layout_of s) s.content s.dark s.light }
+{}
+
 /// Draws pictures of a square of modules, as it is set.
 #[derive(Drop)]
 pub struct Renderer<'a, P> {
@@ -244,7 +252,7 @@ impl<'a, P> Model for Renderer<'a, P> {
 
     ghost view = { λ r. record { content = r.content.now; count = r.modules_count; zone = r.quiet_zone; across = r.module_width; down = r.module_height; dark = r.dark_color; light = r.light_color; has_zone = r.has_quiet_zone } };
 
-    ghost invariant = { λ r. length r.content.now ≡ r.modules_count * r.modules_count };
+    ghost invariant = { λ r. (length r.content.now ≡ r.modules_count * r.modules_count) × (1 ≤ r.module_width) × (1 ≤ r.module_height) };
 }
 
 impl<'a, P: Pixel> Renderer<'a, P> {
@@ -294,7 +302,7 @@ impl<'a, P: Pixel> Renderer<'a, P> {
         self
     }
 
-    /// Switches the quiet zone on or off.
+    /// Switches the quiet zone on or off. Sizes of modules that were set before stay.
     pub fn quiet_zone(&mut self, has_quiet_zone: bool) -> &mut Self
         ensures same { result.ghost_name ≡ self.entry.ghost_name }
         ensures sets { result.now ≡ record self.old { has_zone = has_quiet_zone } }
@@ -397,6 +405,7 @@ impl<'a, P: Pixel> Renderer<'a, P> {
     /// times the pixels of a module. Refuses with `OutOfMemory` alone.
     pub fn build(&self, alloc: Global) -> QrResult<P::Image>
         requires { IsTrue (fits self.now) }
+        ensures whole { IsWhole self.now }
         ensures picture { IfOk result (P.Canvas.is_end (drawing_of P.Canvas.start P.Canvas.rect_step self.now)) }
         ensures memory { IsOkUnless result OutOfMemory }
     {
@@ -426,6 +435,7 @@ impl<'a, P: Pixel> Renderer<'a, P> {
     /// The picture, as `build` gives it.
     pub fn to_image(&self, alloc: Global) -> QrResult<P::Image>
         requires { IsTrue (fits self.now) }
+        ensures whole { IsWhole self.now }
         ensures picture { IfOk result (P.Canvas.is_end (drawing_of P.Canvas.start P.Canvas.rect_step self.now)) }
         ensures memory { IsOkUnless result OutOfMemory }
     {

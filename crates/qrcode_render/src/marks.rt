@@ -1,11 +1,11 @@
 //! Which pixels of a picture are dark, while it is drawn.
 
-ghost use Rattle.std.specs.Prelude.{◌≡◌, ℕ, ◌+◌, ◌*◌, ◌^◌, ◌<◌, ◌≤◌, length, vec_len, IfOk, IsOkUnless, fold};
+ghost use Rattle.std.specs.Prelude.{◌≡◌, ℕ, ◌+◌, ◌*◌, ◌^◌, ◌<◌, ◌≤◌, length, vec_len, IfOk, IsOkUnless, fold, filter};
 ghost use Rattle.std.specs.List.{range_with_len};
 ghost use Rattle.qrcode_types.specs.declared.types.QrError.TheVariants.{OutOfMemory};
 ghost use Rattle.qrcode_types.specs.Colors.{is_dark};
 ghost use Rattle.qrcode_render.specs.Drawn.{drawn_row, filled};
-ghost use Rattle.qrcode_render.specs.Sketch.{unmarked, with_mark, row_of, marked_line};
+ghost use Rattle.qrcode_render.specs.Sketch.{unmarked, with_mark, row_of, marked_line, dark_count};
 
 use qrcode_types::types::{Color, QrResult};
 use std::alloc::Global;
@@ -18,6 +18,20 @@ fn is_dark(color: Color) -> bool
         Color::Light => false,
         Color::Dark => true,
     }
+}
+
+// How many marks are dark.
+fn count_of(marks: &[bool]) -> usize
+    ensures dark { result ≡ length (filter (λ m. m) marks.now) }
+    ensures most { result ≤ length marks.now }
+{
+    let mut count = 0;
+    for mark in marks {
+        if *mark {
+            count += 1;
+        }
+    }
+    count
 }
 
 // Makes the marks of the dark modules of a row dark, from a place on.
@@ -161,6 +175,14 @@ impl Marks {
         ensures { result.now ≡ (sketch self.now).marks }
     {
         self.dark.as_slice()
+    }
+
+    /// How many pixels are dark.
+    pub fn count(&self) -> usize
+        ensures dark { result ≡ dark_count (sketch self.now) }
+        ensures most { result ≤ length (sketch self.now).marks }
+    {
+        count_of(&self.dark)
     }
 
     /// Which pixels of a row are dark.

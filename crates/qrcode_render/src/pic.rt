@@ -10,7 +10,7 @@ use qrcode_types::types::QrResult;
 use std::alloc::Global;
 use std::fmt::Write;
 
-/// The one colour of PIC.
+/// The one colour of PIC, in which dark modules are boxes and light ones nothing.
 #[derive(Copy, Clone, Default, PartialEq, Eq, PartialOrd, Ord, Hash)]
 pub struct Color;
 

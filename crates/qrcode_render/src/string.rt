@@ -1,7 +1,7 @@
 //! Pictures as texts, with a text for each pixel.
 
 ghost use Rattle.std.proofs.Common.{rules};
-ghost use Rattle.std.specs.Prelude.{◌≡◌, ℕ, ◌+◌, ◌*◌, ◌<◌, ◌≤◌, Bool, List, [], ◌∷◌, ◌++◌, length, encode_utf8, string_bytes, vec_len, IfOk, OnOk, IsOkUnless, if◌then◌else◌};
+ghost use Rattle.std.specs.Prelude.{◌≡◌, ℕ, ◌+◌, ◌-◌, ◌*◌, ◌<◌, ◌≤◌, Bool, List, [], ◌∷◌, ◌++◌, length, encode_utf8, string_bytes, vec_len, IfOk, IfSome, OnOk, IsOkUnless, if◌then◌else◌};
 ghost use Rattle.qrcode_types.specs.declared.types.Color.{Color};
 ghost use Rattle.qrcode_types.specs.declared.types.QrError.TheVariants.{OutOfMemory};
 ghost use Rattle.qrcode_types.specs.Colors.{select_of};
@@ -11,14 +11,14 @@ ghost use Rattle.qrcode_render.specs.Texts.{text_of};
 ghost use Rattle.qrcode_render.specs.Lines.{marks_text};
 ghost use Rattle.qrcode_render.specs.PaletteOf.{two_text};
 ghost use Rattle.qrcode_render.specs.SketchOf.{sketch};
-ghost use Rattle.qrcode_render.specs.Sketch.{sketch_text};
+ghost use Rattle.qrcode_render.specs.Sketch.{sketch_text, dark_count};
 
 use crate::Pixel;
 use crate::lines::{begin_line, push_marks};
 use crate::marks::Marks;
 use crate::palette::{Palette, pairs};
 use crate::sheet::Sheet;
-use qrcode_types::types::{Color, QrResult};
+use qrcode_types::types::{Color, QrError, QrResult};
 use std::alloc::Global;
 
 /// What stands for a pixel in a text.
@@ -32,7 +32,7 @@ pub trait Element: Copy {
     fn default_color(color: Color) -> Self
         ensures { is_default color result };
 
-    /// The bytes of the text.
+    /// How many bytes the text has.
     fn strlen(self) -> usize
         ensures { result ≡ length (text self) };
 
@@ -131,7 +131,8 @@ impl<'a> Pixel for Str<'a> {
     }
 }
 
-/// Rows of pixels while they are drawn.
+/// Rows of pixels while they are drawn. The picture is a line of text for each row, with a newline
+/// between two lines and none at the end; without a column it is empty.
 #[derive(Drop)]
 pub struct Canvas<P> {
     sheet: Sheet<P>,
@@ -156,6 +157,20 @@ fn palette_of(alloc: Global, dark: &str, light: &str) -> QrResult<Palette>
     ones.push(String::from_str(alloc, light)?)?;
     ones.push(String::from_str(alloc, dark)?)?;
     Palette::new(alloc, pairs(alloc, &ones)?)
+}
+
+// Room for the lines of marks, each with a newline: so many bytes for a dark mark, and so many for
+// another. None where it cannot be counted.
+fn room_of(marks: &Marks, dark: usize, light: usize) -> Option<usize>
+    ensures { IfSome result (λ room. room ≡ dark_count (sketch marks.now) * dark + (length (sketch marks.now).marks - dark_count (sketch marks.now)) * light + marks.now.height) }
+{
+    let (_, height) = marks.sides();
+    let count = marks.count();
+    let dark_bytes = count.checked_mul(dark)?;
+    let light_bytes = (marks.as_slice().len() - count).checked_mul(light)?;
+    dark_bytes
+        .checked_add(light_bytes)?
+        .checked_add(height as usize)
 }
 
 // The lines of marks, with a text that stands for dark and one that stands for light.
@@ -240,14 +255,15 @@ impl<P: Element> crate::Canvas for Canvas<P> {
     fn into_image(self) -> QrResult<String> {
         let Sheet { marks, dark, light } = self.sheet;
         let alloc = marks.alloc();
-        let mut text = String::new(alloc);
         let (width, _) = marks.sides();
         if width == 0 {
-            return Ok(text);
+            return Ok(String::new(alloc));
         }
         let dark_text = element_text(alloc, dark)?;
         let light_text = element_text(alloc, light)?;
         let palette = palette_of(alloc, &dark_text, &light_text)?;
+        let room = room_of(&marks, dark_text.len(), light_text.len()).ok_or(QrError::OutOfMemory)?;
+        let mut text = String::with_capacity(alloc, room)?;
         push_lines(&mut text, &marks, &palette, &dark_text, &light_text)?;
         Ok(text)
     }

@@ -3,17 +3,20 @@
 ghost use Rattle.std.proofs.Common.{rules};
 ghost use Rattle.std.specs.Prelude.{◌≡◌, ℕ, ◌+◌, ◌*◌, ◌^◌, ◌<◌, ◌≤◌, ◌++◌, List, length, string_bytes, IfOk, OnOk, IsOkUnless, codes, decimal, vec_len};
 ghost use Rattle.qrcode_render.specs.Drawn.{drawn_row};
+ghost use Rattle.qrcode_render.specs.LineOf.{written};
 ghost use Rattle.qrcode_types.specs.declared.types.QrError.TheVariants.{OutOfMemory};
 ghost use Rattle.qrcode_types.specs.Colors.{select_of};
+ghost use Rattle.qrcode_render.specs.declared.svg.TheConstants.{LONGEST_PATH};
 ghost use Rattle.qrcode_render.specs.Vectors.{svg_frame, svg_ground, svg_start, svg_rect, svg_end};
 
 use crate::Pixel;
-use qrcode_types::types::{Color as ModuleColor, QrResult};
+use crate::lines::Line;
+use qrcode_types::types::{Color as ModuleColor, QrError, QrResult};
 use std::alloc::Global;
 use std::fmt::Write;
 use std::marker::PhantomData;
 
-/// A colour of SVG, written as it is.
+/// A colour of SVG. Its text is written as it is, with no escapes.
 #[derive(Copy, Clone, Default, PartialEq, Eq, PartialOrd, Ord, Hash)]
 pub struct Color<'a>(pub &'a str);
 
@@ -49,6 +52,7 @@ pub struct Canvas<'a> {
     height: u32,
     text: String,
     columns: Vec<Column>,
+    paths: Line,
     of: PhantomData<&'a str>,
     ghost width_fits: { width < 2 ^ 32 },
     ghost height_fits: { height < 2 ^ 32 },
@@ -60,13 +64,15 @@ struct Column {
     left: u32,
     start: String,
     back: String,
+    ghost left_fits: { left < 2 ^ 32 },
     ghost start_is: { string_bytes start ≡ codes "M" ++ decimal left },
     ghost back_is: { string_bytes back ≡ codes "H" ++ decimal left },
 }
 
 impl Column {
     fn new(alloc: Global, left: u32) -> QrResult<Column>
-        ensures { IsOkUnless result OutOfMemory }
+        ensures left { IfOk result (λ column. column.left ≡ left) }
+        ensures memory { IsOkUnless result OutOfMemory }
     {
         let start = format!(in alloc; "M{left}")?;
         let back = format!(in alloc; "H{left}")?;
@@ -82,6 +88,9 @@ struct Row {
     height: u32,
     sides: String,
     back: String,
+    ghost top_fits: { top < 2 ^ 32 },
+    ghost width_fits: { width < 2 ^ 32 },
+    ghost height_fits: { height < 2 ^ 32 },
     ghost sides_are: { string_bytes sides ≡ codes " " ++ (decimal top ++ (codes "h" ++ (decimal width ++ (codes "v" ++ decimal height)))) },
     ghost back_is: { string_bytes back ≡ codes "V" ++ decimal top },
 }
@@ -114,55 +123,67 @@ fn push_rect(text: &mut String, left: u32, top: u32, width: u32, height: u32) ->
     Ok(())
 }
 
-// Appends the path of a rectangle that begins in a column and a row.
-fn push_at(text: &mut String, column: &Column, row: &Row) -> QrResult<()>
-    ensures bytes { OnOk result (string_bytes text.new ≡ svg_rect column.now.left row.now.top row.now.width row.now.height (string_bytes text.old)) }
-    ensures memory { IsOkUnless result OutOfMemory }
+// The most bytes of the path of a rectangle.
+const LONGEST_PATH: usize = 66;
+
+// Writes the path of a rectangle that begins in a column and a row.
+fn write_path(paths: &mut Line, column: &Column, row: &Row)
+    requires { paths.old.end + LONGEST_PATH ≤ vec_len paths.old.bytes }
+    ensures writes { written paths.new ≡ svg_rect column.now.left row.now.top row.now.width row.now.height (written paths.old) }
+    ensures short { paths.new.end ≤ paths.old.end + LONGEST_PATH }
+    ensures room { vec_len paths.new.bytes ≡ vec_len paths.old.bytes }
 {
-    text.push_str(&column.start)?;
-    text.push_str(&row.sides)?;
-    text.push_str(&column.back)?;
-    text.push_str(&row.back)?;
-    Ok(())
+    paths.push(&column.start);
+    paths.push(&row.sides);
+    paths.push(&column.back);
+    paths.push(&row.back);
 }
 
-// Appends the path of a module that is dark, by the texts of its column where they are of its place.
-fn push_module(
-    text: &mut String,
+// Writes the path of a module that is dark, by the texts of a column where they are of its place.
+fn write_module(
+    paths: &mut Line,
     color: ModuleColor,
     column: &Column,
     left: u32,
     row: &Row,
 ) -> QrResult<()>
-    ensures bytes { OnOk result (string_bytes text.new ≡ select_of color (svg_rect left row.now.top row.now.width row.now.height (string_bytes text.old)) (string_bytes text.old)) }
+    requires { paths.old.end + LONGEST_PATH ≤ vec_len paths.old.bytes }
+    ensures writes { OnOk result (written paths.new ≡ select_of color (svg_rect left row.now.top row.now.width row.now.height (written paths.old)) (written paths.old)) }
+    ensures short { OnOk result (paths.new.end ≤ paths.old.end + LONGEST_PATH) }
+    ensures room { OnOk result (vec_len paths.new.bytes ≡ vec_len paths.old.bytes) }
     ensures memory { IsOkUnless result OutOfMemory }
 {
     match color {
-        ModuleColor::Light => Ok(()),
-        ModuleColor::Dark if column.left == left => push_at(text, column, row),
-        ModuleColor::Dark => push_rect(text, left, row.top, row.width, row.height),
+        ModuleColor::Light => {}
+        ModuleColor::Dark if column.left == left => write_path(paths, column, row),
+        ModuleColor::Dark => {
+            let column = Column::new(*column.start.allocator(), left)?;
+            write_path(paths, &column, row);
+        }
     }
+    Ok(())
 }
 
-// Appends the paths of the dark modules of a row. The texts of columns are kept for the next rows.
-fn push_modules(
-    text: &mut String,
+// Writes the paths of the dark modules of a row. The texts of columns are kept for the next rows.
+fn write_modules(
+    paths: &mut Line,
     columns: &mut Vec<Column>,
     line: &[ModuleColor],
     left: u32,
     row: &Row,
 ) -> QrResult<()>
-    requires { left + length line.now * row.now.width < 2 ^ 32 }
-    ensures bytes { OnOk result (string_bytes text.new ≡ drawn_row svg_rect left row.now.top row.now.width row.now.height line.now (string_bytes text.old)) }
+    requires inside { left + length line.now * row.now.width < 2 ^ 32 }
+    requires room { paths.old.end + LONGEST_PATH * length line.now ≤ vec_len paths.old.bytes }
+    ensures writes { OnOk result (written paths.new ≡ drawn_row svg_rect left row.now.top row.now.width row.now.height line.now (written paths.old)) }
     ensures memory { IsOkUnless result OutOfMemory }
 {
-    let alloc = *text.allocator();
+    let alloc = *columns.allocator();
     let mut x = left;
     for (i, color) in line.iter().enumerate() {
         if columns.len() <= i {
             columns.push(Column::new(alloc, x)?)?;
         }
-        push_module(text, *color, &columns[i], x, row)?;
+        write_module(paths, *color, &columns[i], x, row)?;
         x += row.width;
     }
     Ok(())
@@ -235,6 +256,7 @@ impl<'a> crate::Canvas for Canvas<'a> {
             height,
             text,
             columns: Vec::new(alloc),
+            paths: Line::new(alloc),
             of: PhantomData,
         })
     }
@@ -256,7 +278,14 @@ impl<'a> crate::Canvas for Canvas<'a> {
         height: u32,
     ) -> QrResult<()> {
         let row = Row::new(*self.text.allocator(), top, width, height)?;
-        push_modules(&mut self.text, &mut self.columns, line, left, &row)
+        let room = line
+            .len()
+            .checked_mul(LONGEST_PATH)
+            .ok_or(QrError::OutOfMemory)?;
+        self.paths.restart(room)?;
+        write_modules(&mut self.paths, &mut self.columns, line, left, &row)?;
+        self.text.push_str(self.paths.as_str())?;
+        Ok(())
     }
 
     fn into_image(self) -> QrResult<String> {

@@ -5,7 +5,8 @@ mod keeper;
 mod texts;
 mod vectors;
 
-use qrcode_types::types::{Color, QrResult};
+use crate::{Pixel, Renderer};
+use qrcode_types::types::{Color, QrError, QrResult};
 use std::alloc::Global;
 
 // Two modules along a side, of which the first and the last are dark.
@@ -55,11 +56,21 @@ const MICRO_2: &str = "
 fn modules(alloc: Global, drawing: &str) -> QrResult<Vec<Color>> {
     let mut modules = Vec::new(alloc);
     for byte in drawing.bytes() {
-        match byte {
-            b'#' => modules.push(Color::Dark)?,
-            b'.' => modules.push(Color::Light)?,
-            _ => {}
+        if byte != b'\n' {
+            modules.push(if byte == b'#' {
+                Color::Dark
+            } else {
+                Color::Light
+            })?;
         }
     }
     Ok(modules)
+}
+
+// The picture of a renderer, or a refusal where it does not fit.
+fn picture<P: Pixel>(alloc: Global, renderer: &Renderer<P>) -> QrResult<P::Image> {
+    if !renderer.fits() {
+        return Err(QrError::DataTooLong);
+    }
+    renderer.build(alloc)
 }

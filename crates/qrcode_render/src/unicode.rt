@@ -16,7 +16,7 @@ use crate::lines::{begin_line, push_ones};
 use crate::marks::Marks;
 use crate::palette::Palette;
 use crate::sheet::Sheet;
-use qrcode_types::types::{Color, QrResult};
+use qrcode_types::types::{Color, QrError, QrResult};
 use std::alloc::Global;
 
 /// A pixel that is half a character high.
@@ -60,11 +60,15 @@ impl Pixel for Dense1x2 {
     }
 }
 
-/// Rows of pixels while they are drawn.
+/// Rows of pixels while they are drawn. The picture is a line of text for every two rows, with a
+/// newline between two lines and none at the end; a last row alone stands over light pixels.
 #[derive(Drop)]
 pub struct Canvas1x2 {
     sheet: Sheet<Dense1x2>,
 }
+
+// The most bytes of the character of a column.
+const LONGEST_HALF: usize = 3;
 
 // The character of a column of two pixels, of which each is dark or not.
 fn half(upper: bool, lower: bool) -> &'static str
@@ -207,14 +211,18 @@ impl crate::Canvas for Canvas1x2 {
     fn into_image(self) -> QrResult<String> {
         let Sheet { marks, dark, light } = self.sheet;
         let alloc = marks.alloc();
-        let mut text = String::new(alloc);
-        let (width, _) = marks.sides();
+        let (width, height) = marks.sides();
         if width == 0 {
-            return Ok(text);
+            return Ok(String::new(alloc));
         }
         let marked = dark.is_dark();
         let other = light.is_dark();
         let palette = palette_of(alloc, marked, other)?;
+        let line = LONGEST_HALF * width as usize + 1;
+        let room = line
+            .checked_mul(height.div_ceil(2) as usize)
+            .ok_or(QrError::OutOfMemory)?;
+        let mut text = String::with_capacity(alloc, room)?;
         push_lines(&mut text, &marks, &palette, marked, other)?;
         Ok(text)
     }

@@ -1,6 +1,6 @@
 // Pictures as rows of pixels, and their sides.
 
-use super::{DIAGONAL, MICRO_2, NORMAL_1, modules};
+use super::{DIAGONAL, MICRO_2, NORMAL_1, modules, picture};
 use crate::image::{Channels, Luma, LumaA, Rgb, Rgba};
 use crate::{Pixel, Renderer};
 use qrcode_types::types::Color;
@@ -16,7 +16,7 @@ fn paints_greys(rt: HostRuntime) -> Result<(), Fail> {
     ];
     let mut renderer = Renderer::<Luma>::new(&content, 3, 1);
     renderer.module_dimensions(1, 1);
-    let image = renderer.build(rt.alloc())?;
+    let image = picture(rt.alloc(), &renderer)?;
     #[rattlefmt::skip]
     let expected = [
         255, 255, 255, 255, 255,
@@ -34,7 +34,7 @@ fn paints_colors_with_opacity(rt: HostRuntime) -> Result<(), Fail> {
     let content = [Color::Light, Color::Dark, Color::Dark, Color::Dark];
     let mut renderer = Renderer::<Rgba>::new(&content, 2, 1);
     renderer.module_dimensions(1, 1);
-    let image = renderer.build(rt.alloc())?;
+    let image = picture(rt.alloc(), &renderer)?;
     #[rattlefmt::skip]
     let expected = [
         255, 255, 255, 255, 255, 255, 255, 255, 255, 255, 255, 255, 255, 255, 255, 255,
@@ -47,24 +47,22 @@ fn paints_colors_with_opacity(rt: HostRuntime) -> Result<(), Fail> {
 }
 
 #[test]
-fn paints_within_dimensions(rt: HostRuntime) -> Result<(), Fail> {
-    let mut least = Renderer::<Luma>::new(&DIAGONAL, 2, 1);
-    least.min_dimensions(10, 10);
-    let image = least.build(rt.alloc())?;
-    assert_eq!(rt; image.dimensions(), (12, 12));
-    let rows = image.into_raw();
-    assert_eq!(rt; rows.len(), 144);
+fn paints_greys_with_opacity(rt: HostRuntime) -> Result<(), Fail> {
+    let mut renderer = Renderer::<LumaA>::new(&DIAGONAL, 2, 0);
+    renderer.module_size(1).quiet_zone(false);
+    let image = picture(rt.alloc(), &renderer)?;
     assert_eq!(rt;
-        &rows[36..48],
-        [255, 255, 255, 0, 0, 0, 255, 255, 255, 255, 255, 255].as_slice()
+        image.into_raw().as_slice(),
+        [0, 255, 255, 255, 255, 255, 0, 255].as_slice()
     );
-    assert_eq!(rt;
-        &rows[96..108],
-        [255, 255, 255, 255, 255, 255, 0, 0, 0, 255, 255, 255].as_slice()
-    );
-    let mut greatest = Renderer::<Luma>::new(&DIAGONAL, 2, 1);
-    greatest.max_dimensions(10, 5);
-    let image = greatest.build(rt.alloc())?;
+    Ok(())
+}
+
+#[test]
+fn paints_within_most(rt: HostRuntime) -> Result<(), Fail> {
+    let mut renderer = Renderer::<Luma>::new(&DIAGONAL, 2, 1);
+    renderer.max_dimensions(10, 5);
+    let image = picture(rt.alloc(), &renderer)?;
     assert_eq!(rt; image.dimensions(), (8, 4));
     #[rattlefmt::skip]
     let expected = [
@@ -78,21 +76,43 @@ fn paints_within_dimensions(rt: HostRuntime) -> Result<(), Fail> {
 }
 
 #[test]
+fn paints_at_least(rt: HostRuntime) -> Result<(), Fail> {
+    let mut renderer = Renderer::<Luma>::new(&DIAGONAL, 2, 1);
+    renderer.min_dimensions(10, 10);
+    let image = picture(rt.alloc(), &renderer)?;
+    assert_eq!(rt; image.dimensions(), (12, 12));
+    let raw = image.into_raw();
+    assert_eq!(rt; raw.len(), 144);
+    for (i, byte) in raw.iter().enumerate() {
+        let (row, column) = (i / 36, i % 12 / 3);
+        let is_dark = row == column && (row == 1 || row == 2);
+        assert_eq!(rt; *byte == 0, is_dark, "at {i}");
+    }
+    Ok(())
+}
+
+#[test]
 fn paints_symbols(rt: HostRuntime) -> Result<(), Fail> {
     let alloc = rt.alloc();
     let normal = modules(alloc, NORMAL_1)?;
     assert!(rt; normal.len() == 441);
-    let renderer = Renderer::<Luma>::new(&normal, 21, 4);
-    assert!(rt; renderer.fits());
-    assert_eq!(rt; renderer.build(alloc)?.dimensions(), (232, 232));
+    let image = picture(rt.alloc(), &Renderer::<Luma>::new(&normal, 21, 4))?;
+    assert_eq!(rt; image.dimensions(), (232, 232));
     let micro = modules(alloc, MICRO_2)?;
     assert!(rt; micro.len() == 169);
     let mut renderer = Renderer::<Rgb>::new(&micro, 13, 2);
     renderer.min_dimensions(200, 200);
-    assert!(rt; renderer.fits());
-    let image = renderer.build(alloc)?;
+    let image = picture(rt.alloc(), &renderer)?;
     assert_eq!(rt; image.dimensions(), (204, 204));
     assert_eq!(rt; image.into_raw().len(), 124848);
+    Ok(())
+}
+
+#[test]
+fn paints_no_modules(rt: HostRuntime) -> Result<(), Fail> {
+    let image = picture(rt.alloc(), &Renderer::<Luma>::new(&[], 0, 0))?;
+    assert_eq!(rt; image.dimensions(), (0, 0));
+    assert!(rt; image.into_raw().is_empty());
     Ok(())
 }
 

@@ -4,7 +4,7 @@ ghost use Rattle.std.proofs.Common.{rules};
 ghost use Rattle.std.specs.Prelude.{◌≡◌, ◌++◌, ◌∷◌, [], List, ℕ, OnOk, IfOk, IsOkUnless, ◌<◌, ◌≤◌, ◌+◌, ◌*◌, ◌^◌};
 ghost use Rattle.qrcode_types.specs.declared.types.QrError.TheVariants.{OutOfMemory};
 
-use super::DIAGONAL;
+use super::{DIAGONAL, picture};
 use crate::{Canvas, Pixel, Renderer, fill_rect};
 use qrcode_types::types::{Color, QrResult};
 use std::alloc::Global;
@@ -107,8 +107,7 @@ impl Canvas for Keeper {
 fn keeps_rectangles(rt: HostRuntime) -> Result<(), Fail> {
     let mut renderer = Renderer::<Mark>::new(&DIAGONAL, 2, 1);
     renderer.module_dimensions(2, 0).quiet_zone(true);
-    assert!(rt; renderer.fits());
-    let image = renderer.build(rt.alloc())?;
+    let image = picture(rt.alloc(), &renderer)?;
     assert_eq!(rt;
         image.as_slice(),
         [Call::Area(2, 1, 2, 1), Call::Area(4, 2, 2, 1)].as_slice()

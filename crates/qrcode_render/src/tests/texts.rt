@@ -1,17 +1,25 @@
 // Pictures of characters, texts and half blocks.
 
-use super::{DIAGONAL, MICRO_2, NORMAL_1, modules};
+use super::{DIAGONAL, MICRO_2, NORMAL_1, modules, picture};
 use crate::string::{Canvas, Element, Str};
 use crate::unicode::Dense1x2;
 use crate::{Pixel, Renderer};
 use qrcode_types::types::{Color, QrResult};
+use std::alloc::Global;
 use std::test::Fail;
 
 #[test]
 fn writes_characters(rt: HostRuntime) -> Result<(), Fail> {
-    let text = Renderer::<char>::new(&DIAGONAL, 2, 1).build(rt.alloc())?;
+    let text = picture(rt.alloc(), &Renderer::<char>::new(&DIAGONAL, 2, 1))?;
     assert_eq!(rt; text.as_str(), "    \n █  \n  █ \n    ");
-    let none = Renderer::<char>::new(&[], 0, 0).build(rt.alloc())?;
+    Ok(())
+}
+
+#[test]
+fn writes_no_modules(rt: HostRuntime) -> Result<(), Fail> {
+    let none = picture(rt.alloc(), &Renderer::<char>::new(&[], 0, 0))?;
+    assert_eq!(rt; none.as_str(), "");
+    let none = picture(rt.alloc(), &Renderer::<Dense1x2>::new(&[], 0, 0))?;
     assert_eq!(rt; none.as_str(), "");
     let zone = Renderer::<char>::new(&[], 0, 1).to_image(rt.alloc())?;
     assert_eq!(rt; zone.as_str(), "  \n  ");
@@ -25,7 +33,7 @@ fn writes_texts(rt: HostRuntime) -> Result<(), Fail> {
         .light_color(Str("A"))
         .dark_color(Str("!B!"))
         .module_dimensions(2, 2);
-    let text = renderer.build(rt.alloc())?;
+    let text = picture(rt.alloc(), &renderer)?;
     assert_eq!(rt;
         text.as_str(),
         "AAAAAAAA\nAAAAAAAA\nAA!B!!B!AAAA\nAA!B!!B!AAAA\nAAAA!B!!B!AA\nAAAA!B!!B!AA\nAAAAAAAA\nAAAAAAAA"
@@ -33,68 +41,73 @@ fn writes_texts(rt: HostRuntime) -> Result<(), Fail> {
     Ok(())
 }
 
+// So many lines of so many blocks.
+fn blocks(alloc: Global, side: usize) -> QrResult<String> {
+    let mut line = "█".repeat(alloc, side)?;
+    line.push('\n')?;
+    let mut lines = line.repeat(alloc, side)?;
+    lines.pop();
+    Ok(lines)
+}
+
 #[test]
 fn minds_the_order_of_setters(rt: HostRuntime) -> Result<(), Fail> {
     let dark = [Color::Dark];
     let mut renderer = Renderer::<char>::new(&dark, 1, 1);
     renderer.min_dimensions(10, 10).quiet_zone(false);
-    let text = renderer.build(rt.alloc())?;
-    assert_eq!(rt; text.as_str(), "████\n████\n████\n████");
+    let text = picture(rt.alloc(), &renderer)?;
+    assert_eq!(rt; text.as_str(), blocks(rt.alloc(), 4)?.as_str());
     let mut turned = Renderer::<char>::new(&dark, 1, 1);
     turned.quiet_zone(false).min_width(10);
-    let text = turned.build(rt.alloc())?;
-    assert_eq!(rt;
-        text.as_str(),
-        "██████████\n██████████\n██████████\n██████████\n██████████\n██████████\n██████████\n██████████\n██████████\n██████████"
-    );
+    let text = picture(rt.alloc(), &turned)?;
+    assert_eq!(rt; text.as_str(), blocks(rt.alloc(), 10)?.as_str());
     Ok(())
+}
+
+// A drawing, each of whose modules is two characters.
+fn doubled(alloc: Global, drawing: &str) -> QrResult<String> {
+    let mut text = String::new(alloc);
+    for byte in drawing.bytes().skip(1) {
+        text.push_str(match byte {
+            b'#' => "██",
+            b'.' => "  ",
+            _ => "\n",
+        })?;
+    }
+    Ok(text)
 }
 
 #[test]
 fn writes_a_symbol(rt: HostRuntime) -> Result<(), Fail> {
-    let alloc = rt.alloc();
-    let symbol = modules(alloc, NORMAL_1)?;
+    let symbol = modules(rt.alloc(), NORMAL_1)?;
     assert!(rt; symbol.len() == 441);
     let mut renderer = Renderer::<char>::new(&symbol, 21, 4);
     renderer.quiet_zone(false).module_dimensions(2, 1);
-    assert!(rt; renderer.fits());
-    let text = renderer.build(alloc)?;
-    let mut expected = String::new(alloc);
-    for byte in NORMAL_1.bytes().skip(1) {
-        match byte {
-            b'#' => expected.push_str("██")?,
-            b'.' => expected.push_str("  ")?,
-            _ => expected.push('\n')?,
-        }
-    }
-    assert_eq!(rt; text.as_str(), expected.as_str());
+    let text = picture(rt.alloc(), &renderer)?;
+    assert_eq!(rt; text.as_str(), doubled(rt.alloc(), NORMAL_1)?.as_str());
     Ok(())
 }
 
 #[test]
 fn writes_half_blocks(rt: HostRuntime) -> Result<(), Fail> {
-    let text = Renderer::<Dense1x2>::new(&DIAGONAL, 2, 1).build(rt.alloc())?;
+    let text = picture(rt.alloc(), &Renderer::<Dense1x2>::new(&DIAGONAL, 2, 1))?;
     assert_eq!(rt; text.as_str(), " ▄  \n  ▀ ");
     let mut doubled = Renderer::<Dense1x2>::new(&DIAGONAL, 2, 1);
     doubled.module_size(2);
-    let text = doubled.build(rt.alloc())?;
+    let text = picture(rt.alloc(), &doubled)?;
     assert_eq!(rt; text.as_str(), "        \n  ██    \n    ██  \n        ");
-    let none = Renderer::<Dense1x2>::new(&[], 0, 0).build(rt.alloc())?;
-    assert_eq!(rt; none.as_str(), "");
     Ok(())
 }
 
 #[test]
 fn writes_a_symbol_in_half_blocks(rt: HostRuntime) -> Result<(), Fail> {
-    let alloc = rt.alloc();
-    let symbol = modules(alloc, MICRO_2)?;
+    let symbol = modules(rt.alloc(), MICRO_2)?;
     assert!(rt; symbol.len() == 169);
     let mut renderer = Renderer::<Dense1x2>::new(&symbol, 13, 2);
     renderer
         .dark_color(Dense1x2::Light)
         .light_color(Dense1x2::Dark);
-    assert!(rt; renderer.fits());
-    let text = renderer.build(alloc)?;
+    let text = picture(rt.alloc(), &renderer)?;
     assert_eq!(rt;
         text.as_str(),
         "█████████████████\n██ ▄▄▄▄▄ █ ▀ █ ██\n██ █   █ ██  ▀ ██\n██ █▄▄▄█ █ ▄▄█▀██\n██▄▄▄▄▄▄▄██  ▄▄██\n██▄ ▀▄▀█▀█ █▀█ ██\n██▄▄▄▀█ ▄▄▄▄  ███\n██▄▄▄█▄██▄▄█▄▄▄██\n▀▀▀▀▀▀▀▀▀▀▀▀▀▀▀▀▀"
@@ -161,9 +174,18 @@ impl Pixel for Digit {
 
 #[test]
 fn writes_elements_of_a_user(rt: HostRuntime) -> Result<(), Fail> {
+    let mut renderer = Renderer::<Digit>::new(&DIAGONAL, 2, 0);
+    let text = picture(rt.alloc(), &renderer)?;
+    assert_eq!(rt; text.as_str(), "110000\n000011");
+    renderer.dark_color(Digit(false)).light_color(Digit(true));
+    let text = picture(rt.alloc(), &renderer)?;
+    assert_eq!(rt; text.as_str(), "000011\n110000");
+    Ok(())
+}
+
+#[test]
+fn counts_bytes_of_elements(rt: HostRuntime) {
     assert_eq!(rt; Digit(false).strlen(), 2);
     assert_eq!(rt; '█'.strlen(), 3);
-    let text = Renderer::<Digit>::new(&DIAGONAL, 2, 0).build(rt.alloc())?;
-    assert_eq!(rt; text.as_str(), "110000\n000011");
-    Ok(())
+    assert_eq!(rt; Str("!B!").strlen(), 3);
 }

@@ -1,0 +1,6 @@
+-- What is written in a line.
+use Rattle.std.specs.Prelude.{ℕ, List, take}
+use Rattle.qrcode_render.specs.declared.lines.Line.{Line}
+
+abbrev pub written : Line → List ℕ
+written l = take l.end l.bytes.items
