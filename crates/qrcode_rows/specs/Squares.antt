@@ -1,7 +1,8 @@
 -- Printed symbols.
-use Rattle.std.specs.Prelude.{ℕ, ◌==◌, List, [], ◌∷◌, codes, map, flat_map}
+use Rattle.std.specs.Prelude.{ℕ, ◌==◌, List, [], ◌∷◌, ◌++◌, codes, map, flat_map, take, drop}
 use Rattle.qrcode_types.specs.Colors.{color_of}
 use Rattle.qrcode_types.specs.declared.types.Color.{Color}
+use Rattle.qrcode_types.specs.declared.types.Color.TheVariants.{Light}
 
 -- the colours of printed rows, in which # is dark
 abbrev pub colors_in : List (List ℕ) → List Color
@@ -73,3 +74,7 @@ damaged_square = colors_in (
     codes "........#.##.#..#.##." ∷
     codes "........#......##.##." ∷
     codes "........####.#..#.#.#" ∷ [])
+
+-- the same with a wrong module in a sixth codeword, in column 9 of row 14
+abbrev pub too_damaged_square : List Color
+too_damaged_square = take 303 damaged_square ++ (Light ∷ drop 304 damaged_square)

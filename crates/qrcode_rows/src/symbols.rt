@@ -13,7 +13,7 @@ ghost use Rattle.qrcode_symbol.specs.Penalties.{penalty, remasked, IsFirstLeast}
 ghost use Rattle.qrcode_symbol.specs.Reading.{ReadsBits};
 ghost use Rattle.qrcode_rows.specs.Printed.{masks, micro_masks};
 ghost use Rattle.qrcode_rows.specs.Data.{normal_bits, micro_bits, hello_data};
-ghost use Rattle.qrcode_rows.specs.Squares.{normal_square, micro_square, damaged_square};
+ghost use Rattle.qrcode_rows.specs.Squares.{normal_square, micro_square, damaged_square, too_damaged_square};
 
 /// How many places are free in Normal 1 and in the four versions of Micro.
 pub fn free_places()
@@ -56,6 +56,11 @@ pub fn normal_symbol()
 pub fn damaged_symbol()
     ensures damaged { IsDamaged (Normal (pos 1)) M VerticalLines normal_square damaged_square }
     ensures read { ReadsBits damaged_square (Normal (pos 1)) M normal_bits }
+{}
+
+/// With a sixth wrong codeword, one more than half of its error correction codewords, it is none of them.
+pub fn too_damaged_symbol()
+    ensures { ¬ IsDamaged (Normal (pos 1)) M VerticalLines normal_square too_damaged_square }
 {}
 
 /// The printed symbol of the same digits in Micro 2.

@@ -40,7 +40,7 @@ fn coefficient(list: &[u8], i: usize) -> u8 {
 }
 
 // The values at the first `count` powers of 2.
-pub fn syndromes(alloc: Global, block: &[u8], count: usize) -> Read<Vec<u8>> {
+fn syndromes(alloc: Global, block: &[u8], count: usize) -> Read<Vec<u8>> {
     let mut values = Vec::new(alloc);
     let mut point = 1;
     for _ in 0..count {
@@ -48,6 +48,18 @@ pub fn syndromes(alloc: Global, block: &[u8], count: usize) -> Read<Vec<u8>> {
         point = product(2, point);
     }
     Ok(values)
+}
+
+/// Whether a list vanishes at the first `count` powers of 2.
+pub fn vanishes(block: &[u8], count: usize) -> bool {
+    let mut point = 1;
+    for _ in 0..count {
+        if value(block, point) != 0 {
+            return false;
+        }
+        point = product(2, point);
+    }
+    true
 }
 
 // The sum of a list and of `factor` times another that is moved up by `shift` powers.
@@ -167,8 +179,7 @@ pub fn correct(alloc: Global, block: &[u8], count: usize) -> Read<(Vec<u8>, usiz
         point = product(point, 2);
         inverse_point = product(inverse_point, 0x8e);
     }
-    let left = syndromes(alloc, &corrected, count)?;
-    if found != length || found > count / 2 || !left.iter().all(|v| *v == 0) {
+    if found != length || found > count / 2 || !vanishes(&corrected, count) {
         return Err(Unreadable);
     }
     Ok((corrected, found))

@@ -2,7 +2,19 @@
 #![tactic(auto)]
 
 #[cfg(test)]
+mod calls;
+#[cfg(test)]
+mod damage;
+#[cfg(test)]
 mod field;
+#[cfg(test)]
+mod lists;
+#[cfg(test)]
+mod masks;
+#[cfg(test)]
+mod penalty;
+#[cfg(test)]
+mod printed;
 #[cfg(test)]
 mod reader;
 #[cfg(test)]

@@ -35,8 +35,16 @@ pub struct Reading {
     pub bytes: Vec<u8>,
 }
 
+/// How many masks a version has.
+pub fn mask_count(version: Version) -> usize {
+    match version {
+        Version::Normal(_) => 8,
+        Version::Micro(_) => 4,
+    }
+}
+
 /// The number of a mask in Normal, from its number in the version.
-fn mask_of(version: Version, number: usize) -> usize {
+pub fn mask_of(version: Version, number: usize) -> usize {
     match (version, number) {
         (Version::Normal(_), n) => n,
         (Version::Micro(_), 0) => 1,
@@ -109,6 +117,24 @@ fn named(version: Version, five: u32) -> Option<(EcLevel, usize)> {
     }
 }
 
+/// The format word of a level and a mask in a version.
+pub fn word_of(version: Version, ec_level: EcLevel, mask: usize) -> Read<u32> {
+    for five in 0..32u32 {
+        if let Some((level, number)) = named(version, five)
+            && level == ec_level
+            && number == mask
+        {
+            return Ok(format_word(version, five));
+        }
+    }
+    Err(Unreadable)
+}
+
+/// A bit of a format word, the highest being the first.
+pub fn format_bit(word: u32, i: usize) -> bool {
+    word >> (14usize.wrapping_sub(i) % 15) & 1 == 1
+}
+
 // The level and mask of which each copy of the format word has at most three wrong bits.
 fn read_format(alloc: Global, square: &Square) -> Read<(EcLevel, usize)> {
     let version = square.version();
@@ -119,8 +145,7 @@ fn read_format(alloc: Global, square: &Square) -> Read<(EcLevel, usize)> {
         for copy in &copies {
             let mut wrong = 0u32;
             for (i, place) in copy.iter().enumerate() {
-                let bit = word >> (14usize.wrapping_sub(i) % 15) & 1 == 1;
-                if square.is_dark(*place) != bit {
+                if square.is_dark(*place) != format_bit(word, i) {
                     wrong = wrong.wrapping_add(1);
                 }
             }

@@ -1,9 +1,12 @@
 //! Calls of a symbol, each once with ample memory.
 
+use crate::reader;
+use crate::square::Square;
 use qrcode::bits::Bits;
 use qrcode::render::{image, svg, unicode};
 use qrcode::types::QrError;
 use qrcode::{Color, EcLevel, QrCode, Version};
+use std::alloc::Global;
 use std::test::Fail;
 
 /// `12345678` in Micro 2 at L, drawn with both colours exchanged.
@@ -21,7 +24,7 @@ static HALF_BLOCKS: [&str; 9] = [
 
 #[test]
 fn refusals_come_in_order(rt: HostRuntime) {
-    let refused: [(&[u8], Version, EcLevel, QrError); 7] = [
+    let refused: [(&[u8], Version, EcLevel, QrError); 8] = [
         (
             b"1",
             Version::Normal(41),
@@ -59,6 +62,7 @@ fn refusals_come_in_order(rt: HostRuntime) {
             EcLevel::H,
             QrError::DataTooLong,
         ),
+        (b"1", Version::Micro(4), EcLevel::H, QrError::InvalidVersion),
     ];
     for (i, (data, version, ec_level, error)) in refused.iter().enumerate() {
         let result = QrCode::with_version(rt.alloc(), data, *version, *ec_level);
@@ -80,6 +84,9 @@ fn versions_are_chosen(rt: HostRuntime) -> Result<(), Fail> {
         assert_eq!(rt; code.version(), Version::Normal(number));
         assert_eq!(rt; code.error_correction_level(), ec_level);
     }
+    let mixed = b"aABCDEF".repeat(alloc, 30)?;
+    let code = QrCode::with_error_correction_level(alloc, &mixed, EcLevel::L)?;
+    assert_eq!(rt; code.version(), Version::Normal(9));
     for (count, number) in [(432, 9), (433, 10)] {
         let digits = Vec::from_elem(alloc, b'7', count)?;
         let code = QrCode::new(alloc, &digits)?;
@@ -95,14 +102,103 @@ fn versions_are_chosen(rt: HostRuntime) -> Result<(), Fail> {
     Ok(())
 }
 
+// The most bytes of one kind that a version holds, and what their symbol is read as.
+#[test]
+fn symbols_hold_so_many_bytes_and_no_more(rt: HostRuntime) -> Result<(), Fail> {
+    let alloc = rt.alloc();
+    let rows = [
+        (b'7', 34, Version::Normal(1), EcLevel::M),
+        (b'a', 14, Version::Normal(1), EcLevel::M),
+        (b'0', 23, Version::Micro(3), EcLevel::L),
+        (b'a', 2331, Version::Normal(40), EcLevel::M),
+    ];
+    for (byte, count, version, ec_level) in rows {
+        let mut data = Vec::from_elem(alloc, byte, count)?;
+        let code = QrCode::with_version(alloc, &data, version, ec_level)?;
+        let square = Square::of(alloc, &code)?;
+        let reading = reader::read(alloc, &square, &square.places(alloc)?)?;
+        assert!(rt; reading.bytes == data);
+        data.push(byte)?;
+        let longer = QrCode::with_version(alloc, &data, version, ec_level);
+        assert!(rt; longer.is_err_and(|e| e == QrError::DataTooLong));
+    }
+    Ok(())
+}
+
+// The bytes of data that a symbol is read as, the last one filled with zeros.
+fn read_data(alloc: Global, code: &QrCode) -> Result<Vec<u8>, Fail> {
+    let square = Square::of(alloc, code)?;
+    let reading = reader::read(alloc, &square, &square.places(alloc)?)?;
+    let mut bytes = Vec::new(alloc);
+    let mut byte = 0u8;
+    for (i, bit) in reading.bits.iter().enumerate() {
+        if *bit {
+            byte |= 0x80u8 >> (i % 8) as u32;
+        }
+        if i % 8 == 7 || i.wrapping_add(1) == reading.bits.len() {
+            bytes.push(byte)?;
+            byte = 0;
+        }
+    }
+    Ok(bytes)
+}
+
+#[test]
+fn published_data_is_held(rt: HostRuntime) -> Result<(), Fail> {
+    let alloc = rt.alloc();
+    let rows: [(&[u8], Version, EcLevel, &[u8]); 5] = [
+        (
+            b"123A",
+            Version::Micro(2),
+            EcLevel::L,
+            b"\x18\xf7\x25\x00\xec",
+        ),
+        (b"99999", Version::Micro(1), EcLevel::L, b"\xbf\x3e\x30"),
+        (
+            b"00000000000000000000",
+            Version::Micro(3),
+            EcLevel::L,
+            b"\x28\0\0\0\0\0\0\0\0\0\0",
+        ),
+        (
+            b"HELLO WORLD",
+            Version::Normal(1),
+            EcLevel::Q,
+            b"\x20\x5b\x0b\x78\xd1\x72\xdc\x4d\x43\x40\xec\x11\xec",
+        ),
+        (
+            b"01234567",
+            Version::Normal(1),
+            EcLevel::H,
+            b"\x10\x20\x0c\x56\x61\x80\xec\x11\xec",
+        ),
+    ];
+    for (data, version, ec_level, bytes) in rows {
+        let code = QrCode::with_version(alloc, data, version, ec_level)?;
+        assert_eq!(rt; read_data(alloc, &code)?.as_slice(), bytes);
+    }
+    Ok(())
+}
+
 #[test]
 fn bits_are_drawn(rt: HostRuntime) -> Result<(), Fail> {
-    let mut bits = Bits::new(rt.alloc(), Version::Normal(1));
-    bits.push_eci_designator(9)?;
-    bits.push_byte_data(b"\xca\xfe\xe4\xe9\xea\xe1\xf2 QR")?;
-    bits.push_terminator(EcLevel::L)?;
-    let code = QrCode::with_bits(rt.alloc(), bits, EcLevel::L)?;
-    assert_eq!(rt; code.width(), 21);
+    let alloc = rt.alloc();
+    for (ec_level, is_held) in [(EcLevel::L, true), (EcLevel::H, false)] {
+        let mut bits = Bits::new(alloc, Version::Normal(1));
+        bits.push_eci_designator(9)?;
+        bits.push_byte_data(b"\xca\xfe\xe4\xe9\xea\xe1\xf2 QR")?;
+        bits.push_terminator(EcLevel::L)?;
+        assert!(rt; bits.len() >= bits.max_len(ec_level)?);
+        let code = QrCode::with_bits(alloc, bits, ec_level);
+        assert_eq!(rt;
+            code.map(|code| code.width()),
+            if is_held {
+                Ok(21)
+            } else {
+                Err(QrError::DataTooLong)
+            }
+        );
+    }
     Ok(())
 }
 
@@ -158,6 +254,14 @@ fn symbols_are_drawn(rt: HostRuntime) -> Result<(), Fail> {
         .build(alloc)?;
     assert_eq!(rt; pixels.dimensions(), (204, 204));
     assert_eq!(rt; pixels.into_raw().len(), 124_848);
+
+    // The greatest symbol fits as long as its sides are below 2^32 pixels.
+    let code = QrCode::with_version(alloc, b"01234567", Version::Normal(40), EcLevel::L)?;
+    for (across, fits) in [(24_265_351, true), (24_265_352, false)] {
+        let mut renderer = code.render::<image::Luma>();
+        renderer.quiet_zone(false).module_dimensions(across, 1);
+        assert_eq!(rt; renderer.fits(), fits);
+    }
 
     let code = QrCode::with_version(alloc, b"01234567", Version::Normal(1), EcLevel::M)?;
     assert_eq!(rt;

@@ -2,6 +2,7 @@
 
 use crate::reader::{Read, Unreadable};
 use crate::tables::{BLOCKS, CENTRES};
+use qrcode::{Color, QrCode};
 use qrcode_types::types::{EcLevel, Version};
 use std::alloc::Global;
 
@@ -27,6 +28,44 @@ pub struct Blocks {
 }
 
 impl Square {
+    /// The square of drawn rows, in which `#` is dark.
+    pub fn drawn(alloc: Global, rows: &[&str]) -> Read<Square> {
+        let mut modules = Vec::new(alloc);
+        for row in rows {
+            for b in row.bytes() {
+                modules.push(b == b'#')?;
+            }
+        }
+        Ok(Square {
+            width: rows.len(),
+            modules,
+        })
+    }
+
+    /// The square that a symbol shows.
+    pub fn of(alloc: Global, code: &QrCode) -> Read<Square> {
+        let mut modules = Vec::new(alloc);
+        for color in code.to_colors(alloc).map_err(|_| Unreadable)?.iter() {
+            modules.push(*color == Color::Dark)?;
+        }
+        Ok(Square {
+            width: code.width(),
+            modules,
+        })
+    }
+
+    pub fn copy(&self, alloc: Global) -> Read<Square> {
+        Ok(Square {
+            width: self.width,
+            modules: Vec::from_slice(alloc, &self.modules)?,
+        })
+    }
+
+    /// The places of data.
+    pub fn places(&self, alloc: Global) -> Read<Vec<Place>> {
+        data_places(alloc, self.version(), self.width)
+    }
+
     fn index(&self, place: Place) -> usize {
         place.y.wrapping_mul(self.width).wrapping_add(place.x)
     }
@@ -63,6 +102,14 @@ impl Square {
 /// The number of a version as a count.
 pub fn count_of(v: i16) -> usize {
     usize::try_from(v).unwrap_or(0)
+}
+
+/// The modules along a side.
+pub fn width_of(version: Version) -> usize {
+    match version {
+        Version::Normal(v) => count_of(v).wrapping_mul(4).wrapping_add(17),
+        Version::Micro(v) => count_of(v).wrapping_mul(2).wrapping_add(9),
+    }
 }
 
 // The distance of two coordinates.

@@ -2,91 +2,12 @@
 
 use crate::reader::{self, Unreadable};
 use crate::square::{self, Place, Square};
+use qrcode::render::image::Luma;
+use qrcode::render::string::Str;
 use qrcode::types::QrError;
-use qrcode::{Color, EcLevel, QrCode, Version};
+use qrcode::{EcLevel, QrCode, Version};
 use std::alloc::Global;
 use std::process::Abort;
-
-static DIGITS_NORMAL: [&str; 21] = [
-    "#######..#.##.#######",
-    "#.....#..####.#.....#",
-    "#.###.#.#.....#.###.#",
-    "#.###.#.##....#.###.#",
-    "#.###.#.#.###.#.###.#",
-    "#.....#.#...#.#.....#",
-    "#######.#.#.#.#######",
-    "........#..##........",
-    "#.#####..#..#.#####..",
-    "...#.#.##.#.#..#.##..",
-    "..#...##.#.#.#..#####",
-    "....#....#.....####..",
-    "...######..#.#..#....",
-    "........#.#####..##..",
-    "#######..##.#.##.....",
-    "#.....#.#.#####...#.#",
-    "#.###.#.#...#..#.##..",
-    "#.###.#.##..#..#.....",
-    "#.###.#.#.##.#..#.#..",
-    "#.....#........##.##.",
-    "#######.####.#..#.#..",
-];
-
-static DIGITS_MICRO: [&str; 13] = [
-    "#######.#.#.#",
-    "#.....#.###.#",
-    "#.###.#..##.#",
-    "#.###.#..####",
-    "#.###.#.###..",
-    "#.....#.#...#",
-    "#######..####",
-    ".........##..",
-    "##.#....#...#",
-    ".##.#.#.#.#.#",
-    "###..#######.",
-    "...#.#....##.",
-    "###.#..##.###",
-];
-
-fn square_of(alloc: Global, rows: &[&str]) -> Result<Square, Unreadable> {
-    let mut modules = Vec::new(alloc);
-    for row in rows {
-        for b in row.bytes() {
-            modules.push(b == b'#')?;
-        }
-    }
-    Ok(Square {
-        width: rows.len(),
-        modules,
-    })
-}
-
-fn places_of(alloc: Global, square: &Square) -> Result<Vec<Place>, Unreadable> {
-    square::data_places(alloc, square.version(), square.width)
-}
-
-#[test]
-fn reads_drawn_symbols(rt: HostRuntime) {
-    let alloc = rt.alloc();
-    for rows in [&DIGITS_NORMAL[..], &DIGITS_MICRO[..]] {
-        let square = square_of(alloc, rows).expect(&rt, "memory");
-        let places = places_of(alloc, &square).expect(&rt, "memory");
-        let reading = reader::read(alloc, &square, &places).expect(&rt, "a symbol");
-        assert_eq!(rt; reading.bytes.as_slice(), b"01234567".as_slice());
-        assert_eq!(rt; reading.wrong, 0);
-    }
-}
-
-// The square that a symbol shows.
-fn shown(alloc: Global, code: &QrCode) -> Result<Square, Unreadable> {
-    let mut modules = Vec::new(alloc);
-    for color in code.to_colors(alloc).map_err(|_| Unreadable)?.iter() {
-        modules.push(*color == Color::Dark)?;
-    }
-    Ok(Square {
-        width: code.width(),
-        modules,
-    })
-}
 
 // The most digits that fit so many bits, behind a mode indicator and a length field.
 fn most_digits(version: Version, room: usize) -> usize {
@@ -105,7 +26,7 @@ fn most_digits(version: Version, room: usize) -> usize {
     (bits / 10).wrapping_mul(3).wrapping_add(rest)
 }
 
-// The square of a symbol of so many digits, which is read back.
+// The square of a symbol of so many digits, which is drawn and read back.
 fn check_digits(
     rt: &impl Abort,
     alloc: Global,
@@ -115,9 +36,23 @@ fn check_digits(
     digits: &[u8],
 ) -> Square {
     let code = QrCode::with_version(alloc, digits, version, ec_level).expect(rt, "a symbol");
-    let square = shown(alloc, &code).expect(rt, "memory");
+    let square = Square::of(alloc, &code).expect(rt, "memory");
+    check_pictures(rt, alloc, &code, &square);
     check_reading(rt, alloc, &square, places, ec_level, digits, 0);
     square
+}
+
+// A symbol is drawn as text and in greys: each dark module is a letter, and eight by eight pixels.
+fn check_pictures(rt: &impl Abort, alloc: Global, code: &QrCode, square: &Square) {
+    let dark = square.modules.iter().filter(|m| **m).count();
+    let text = code
+        .render::<Str<'static>>()
+        .build(alloc)
+        .expect(rt, "a text");
+    assert_eq!(rt; text.as_str().chars().filter(|c| *c == '█').count(), dark);
+    let greys = code.render::<Luma>().build(alloc).expect(rt, "greys");
+    let pixels = greys.into_raw();
+    assert_eq!(rt; pixels.iter().filter(|p| **p == 0).count() / 64, dark);
 }
 
 // A square is read as data at a level, with so many wrong codewords.
@@ -166,10 +101,7 @@ fn damage(
 // Reads symbols of each level of a version: no digit, one, the most that fit, undamaged and
 // damaged; one more is refused. How many levels the version has.
 fn check_version(rt: &impl Abort, alloc: Global, version: Version) -> u32 {
-    let width = match version {
-        Version::Normal(v) => square::count_of(v).wrapping_mul(4).wrapping_add(17),
-        Version::Micro(v) => square::count_of(v).wrapping_mul(2).wrapping_add(9),
-    };
+    let width = square::width_of(version);
     let places = square::data_places(alloc, version, width).expect(rt, "memory");
     let mut levels = 0u32;
     for ec_level in [EcLevel::L, EcLevel::M, EcLevel::Q, EcLevel::H] {

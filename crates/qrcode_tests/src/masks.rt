@@ -1,0 +1,156 @@
+//! The mask of a symbol is the first one of least penalty, by a count of the modules.
+
+use crate::penalty::{self, Penalty, TERMS, Term};
+use crate::reader::{self, Read, Reading, Unreadable};
+use crate::square::{self, Place, Square};
+use qrcode::bits::Bits;
+use qrcode::{EcLevel, QrCode, Version};
+use std::alloc::Global;
+use std::process::Abort;
+use std::test::Fail;
+
+// A symbol is read, and its mask is the first one of least penalty; the penalties under all masks.
+fn check_mask(rt: &impl Abort, alloc: Global, code: &QrCode) -> (Reading, Vec<Penalty>) {
+    let square = Square::of(alloc, code).expect(rt, "memory");
+    let places = square.places(alloc).expect(rt, "memory");
+    let reading = reader::read(alloc, &square, &places).expect(rt, "a reading");
+    let penalties = penalty::penalties(alloc, &square, &places, &reading).expect(rt, "memory");
+    let first = penalty::first_least(&penalties, None);
+    assert_eq!(rt; reader::mask_of(reading.version, first), reading.mask);
+    (reading, penalties)
+}
+
+// The data of a symbol, its version and level, and the one term without which another mask would
+// have the least penalty.
+type Choice = (&'static [u8], Version, EcLevel, Term);
+
+fn check_choices(rt: &impl Abort, alloc: Global, choices: &[Choice]) {
+    for (data, version, ec_level, decisive) in choices {
+        let code = QrCode::with_version(alloc, *data, *version, *ec_level).expect(rt, "a symbol");
+        let (reading, penalties) = check_mask(rt, alloc, &code);
+        assert!(rt; reading.bytes.as_slice() == *data);
+        let first = penalty::first_least(&penalties, None);
+        for term in TERMS.iter() {
+            let is_decisive = penalty::first_least(&penalties, Some(*term)) != first;
+            assert_eq!(rt; is_decisive, *term == *decisive, "{term:?}, {version:?}");
+        }
+    }
+}
+
+#[test]
+#[rattlefmt::skip]
+fn each_term_decides_some_masks_of_normal(rt: HostRuntime) {
+    check_choices(&rt, rt.alloc(), &[
+        (b"GOQLANIS 0", Version::Normal(1), EcLevel::L, Term::Runs),
+        (b"GOQLANIS 9", Version::Normal(2), EcLevel::L, Term::Runs),
+        (b"GOQLANIS 75", Version::Normal(12), EcLevel::H, Term::Runs),
+        (b"GOQLANIS 10", Version::Normal(28), EcLevel::M, Term::Runs),
+        (b"GOQLANIS 6", Version::Normal(1), EcLevel::L, Term::Blocks),
+        (b"GOQLANIS 2", Version::Normal(7), EcLevel::L, Term::Blocks),
+        (b"GOQLANIS 1", Version::Normal(12), EcLevel::H, Term::Blocks),
+        (b"GOQLANIS 2", Version::Normal(1), EcLevel::L, Term::Forms),
+        (b"GOQLANIS 0", Version::Normal(2), EcLevel::Q, Term::Forms),
+        (b"GOQLANIS 0", Version::Normal(12), EcLevel::H, Term::Forms),
+        (b"GOQLANIS 55", Version::Normal(1), EcLevel::L, Term::Share),
+        (b"GOQLANIS 52", Version::Normal(1), EcLevel::M, Term::Share),
+    ]);
+}
+
+#[test]
+#[rattlefmt::skip]
+fn each_term_decides_some_masks_of_micro(rt: HostRuntime) {
+    check_choices(&rt, rt.alloc(), &[
+        (b"4", Version::Micro(1), EcLevel::L, Term::BothSides),
+        (b"11", Version::Micro(2), EcLevel::L, Term::BothSides),
+        (b"27", Version::Micro(2), EcLevel::M, Term::BothSides),
+        (b"10", Version::Micro(3), EcLevel::L, Term::BothSides),
+        (b"5", Version::Micro(3), EcLevel::M, Term::BothSides),
+        (b"10", Version::Micro(4), EcLevel::L, Term::BothSides),
+        (b"13", Version::Micro(4), EcLevel::M, Term::BothSides),
+        (b"0", Version::Micro(4), EcLevel::Q, Term::BothSides),
+        (b"3", Version::Micro(1), EcLevel::L, Term::GreaterSide),
+        (b"10", Version::Micro(2), EcLevel::L, Term::GreaterSide),
+        (b"10", Version::Micro(2), EcLevel::M, Term::GreaterSide),
+        (b"18", Version::Micro(3), EcLevel::L, Term::GreaterSide),
+        (b"2", Version::Micro(3), EcLevel::M, Term::GreaterSide),
+        (b"1", Version::Micro(4), EcLevel::L, Term::GreaterSide),
+        (b"2", Version::Micro(4), EcLevel::M, Term::GreaterSide),
+        (b"7", Version::Micro(4), EcLevel::Q, Term::GreaterSide),
+    ]);
+}
+
+// Whether a place is dark in a square without any order.
+fn noise(place: Place) -> bool {
+    let x = (place.x % 256) as u32;
+    let y = (place.y % 256) as u32;
+    let mixed = x.wrapping_mul(0x9e37_79b1) ^ y.wrapping_mul(0x85eb_ca6b);
+    mixed.wrapping_mul(0xc2b2_ae35) >> 17 & 1 == 1
+}
+
+// The data bits at L with which all codewords of data but the first are light under a mask, as far
+// as bits can be chosen.
+fn light_bits(alloc: Global, version: Version, mask: usize, noisy: usize) -> Read<Vec<bool>> {
+    let ec_level = EcLevel::L;
+    let width = square::width_of(version);
+    let places = square::data_places(alloc, version, width)?;
+    let words = reader::codeword_places(alloc, version, ec_level, &places)?;
+    let blocks = square::blocks_of(alloc, version, ec_level)?;
+    let numbers = reader::block_words(alloc, &blocks)?;
+    let mut bits = Vec::new(alloc);
+    for (block, length) in numbers.iter().zip(&blocks.lengths) {
+        for number in block.iter().take(*length) {
+            for place in words.get(*number).ok_or(Unreadable)? {
+                let is_noisy = *number < noisy;
+                bits.push(if is_noisy {
+                    noise(*place)
+                } else {
+                    reader::turns(mask, *place)
+                })?;
+            }
+        }
+    }
+    Ok(bits)
+}
+
+// The bytes of bits behind the twenty of a mode indicator and a length field, without the last four.
+fn bytes_behind_header(alloc: Global, bits: &[bool]) -> Read<Vec<u8>> {
+    let mut bytes = Vec::new(alloc);
+    for i in 0..bits.len().saturating_sub(24) / 8 {
+        let mut byte = 0u8;
+        for (j, bit) in bits
+            .iter()
+            .skip(i.wrapping_mul(8).wrapping_add(20))
+            .take(8)
+            .enumerate()
+        {
+            if *bit {
+                byte |= 0x80u8 >> (j % 8) as u32;
+            }
+        }
+        bytes.push(byte)?;
+    }
+    Ok(bytes)
+}
+
+// Symbols that are light under a mask for the most part, so that the penalty under it is a little
+// more than 16 bits hold, and less than those under the others if it is cut to 16 bits.
+#[test]
+fn penalties_past_16_bits_are_compared(rt: HostRuntime) -> Result<(), Fail> {
+    let alloc = rt.alloc();
+    for (number, mask, noisy) in [(36, 3, 950), (38, 7, 1300), (40, 5, 1650)] {
+        let version = Version::Normal(number);
+        assert!(rt; version.is_valid());
+        let chosen = light_bits(alloc, version, mask, noisy)?;
+        let mut bits = Bits::new(alloc, version);
+        bits.push_byte_data(&bytes_behind_header(alloc, &chosen)?)?;
+        bits.push_terminator(EcLevel::L)?;
+        let code = QrCode::with_bits(alloc, bits, EcLevel::L)?;
+        let (_, penalties) = check_mask(&rt, alloc, &code);
+        let light = penalties.get(mask).ok_or(Unreadable)?.sum(None);
+        assert!(rt; light > 65_535);
+        for penalty in penalties.iter().map(|p| p.sum(None)) {
+            assert!(rt; penalty == light || penalty > light % 65_536);
+        }
+    }
+    Ok(())
+}

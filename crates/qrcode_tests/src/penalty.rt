@@ -1,0 +1,231 @@
+//! Penalties of squares, counted module by module, and squares under other masks.
+
+use crate::reader::{self, Read, Reading};
+use crate::square::{self, Place, Square};
+use qrcode_types::types::Version;
+use std::alloc::Global;
+
+/// What a penalty is the sum of: the first four in Normal, the last two in Micro.
+#[derive(Copy, Clone, PartialEq, Debug)]
+pub enum Term {
+    Runs,
+    Blocks,
+    Forms,
+    Share,
+    BothSides,
+    GreaterSide,
+}
+
+pub static TERMS: [Term; 6] = [
+    Term::Runs,
+    Term::Blocks,
+    Term::Forms,
+    Term::Share,
+    Term::BothSides,
+    Term::GreaterSide,
+];
+
+/// What each term of a penalty is, in the order of `TERMS`.
+#[derive(Copy, Clone)]
+pub struct Penalty {
+    terms: [u32; 6],
+}
+
+impl Penalty {
+    /// The sum of all terms, or of all but one.
+    pub fn sum(&self, left_out: Option<Term>) -> u32 {
+        let mut sum = 0u32;
+        for (count, term) in self.terms.iter().zip(TERMS.iter()) {
+            if left_out != Some(*term) {
+                sum = sum.wrapping_add(*count);
+            }
+        }
+        sum
+    }
+
+    fn of(square: &Square) -> Penalty {
+        let terms = match square.version() {
+            Version::Normal(_) => [
+                runs(square),
+                blocks(square),
+                forms(square),
+                share(square),
+                0,
+                0,
+            ],
+            Version::Micro(_) => {
+                let (row, column) = (light_at_end(square, false), light_at_end(square, true));
+                let greater = row.max(column).wrapping_mul(15);
+                [0, 0, 0, 0, row.wrapping_add(column), greater]
+            }
+        };
+        Penalty { terms }
+    }
+}
+
+/// The number of the first penalty of least sum, all terms or all but one being counted.
+pub fn first_least(penalties: &[Penalty], left_out: Option<Term>) -> usize {
+    let mut first = 0;
+    let mut least = u32::MAX;
+    for (number, penalty) in penalties.iter().enumerate() {
+        let sum = penalty.sum(left_out);
+        if sum < least {
+            first = number;
+            least = sum;
+        }
+    }
+    first
+}
+
+/// The penalties of a symbol as it would be under each mask of its version.
+pub fn penalties(
+    alloc: Global,
+    square: &Square,
+    places: &[Place],
+    reading: &Reading,
+) -> Read<Vec<Penalty>> {
+    let mut list = Vec::new(alloc);
+    for number in 0..reader::mask_count(reading.version) {
+        let mask = reader::mask_of(reading.version, number);
+        let other = remasked(alloc, square, places, reading, mask)?;
+        list.push(Penalty::of(&other))?;
+    }
+    Ok(list)
+}
+
+// A symbol as it would be under another mask.
+fn remasked(
+    alloc: Global,
+    square: &Square,
+    places: &[Place],
+    reading: &Reading,
+    mask: usize,
+) -> Read<Square> {
+    let mut other = square.copy(alloc)?;
+    for place in places {
+        if reader::turns(reading.mask, *place) != reader::turns(mask, *place) {
+            other.turn(*place);
+        }
+    }
+    let word = reader::word_of(reading.version, reading.ec_level, mask)?;
+    for copy in &square::format_places(alloc, reading.version, square.width)? {
+        for (i, place) in copy.iter().enumerate() {
+            other.set(*place, reader::format_bit(word, i));
+        }
+    }
+    Ok(other)
+}
+
+// Whether a module of a row, or of a column, is dark.
+fn is_dark_in(square: &Square, is_column: bool, line: usize, i: usize) -> bool {
+    square.is_dark(if is_column {
+        Place { x: line, y: i }
+    } else {
+        Place { x: i, y: line }
+    })
+}
+
+// A run of five or more counts its length less two.
+fn run(length: u32) -> u32 {
+    if length >= 5 { length - 2 } else { 0 }
+}
+
+fn runs_in(square: &Square, is_column: bool, line: usize) -> u32 {
+    let mut sum = 0u32;
+    let mut length = 0u32;
+    let mut last = false;
+    for i in 0..square.width {
+        let dark = is_dark_in(square, is_column, line, i);
+        if dark != last {
+            sum = sum.wrapping_add(run(length));
+            length = 0;
+        }
+        length = length.wrapping_add(1);
+        last = dark;
+    }
+    sum.wrapping_add(run(length))
+}
+
+fn runs(square: &Square) -> u32 {
+    let mut sum = 0u32;
+    for line in 0..square.width {
+        sum = sum.wrapping_add(runs_in(square, false, line));
+        sum = sum.wrapping_add(runs_in(square, true, line));
+    }
+    sum
+}
+
+// Three for each two by two modules of one colour.
+fn blocks(square: &Square) -> u32 {
+    let mut sum = 0u32;
+    for y in 1..square.width {
+        for x in 1..square.width {
+            let dark = is_dark_in(square, false, y, x);
+            if dark == is_dark_in(square, false, y, x.wrapping_sub(1))
+                && dark == is_dark_in(square, false, y.wrapping_sub(1), x)
+                && dark == is_dark_in(square, false, y.wrapping_sub(1), x.wrapping_sub(1))
+            {
+                sum = sum.wrapping_add(3);
+            }
+        }
+    }
+    sum
+}
+
+static FORM: [bool; 7] = [true, false, true, true, true, false, true];
+
+// Whether four modules of a line from a place on are light or outside; `first` is four more.
+fn are_light(square: &Square, is_column: bool, line: usize, first: usize) -> bool {
+    (0..4usize).all(|k| {
+        let place = first.wrapping_add(k);
+        place < 4 || place - 4 >= square.width || !is_dark_in(square, is_column, line, place - 4)
+    })
+}
+
+fn forms_in(square: &Square, is_column: bool, line: usize) -> u32 {
+    let mut sum = 0u32;
+    for i in 0..square.width.saturating_sub(6) {
+        let has_form = FORM.iter().enumerate().all(|(k, dark)| is_dark_in(
+            square,
+            is_column,
+            line,
+            i.wrapping_add(k),
+        ) == *dark);
+        if has_form
+            && (are_light(square, is_column, line, i)
+                || are_light(square, is_column, line, i.wrapping_add(11)))
+        {
+            sum = sum.wrapping_add(40);
+        }
+    }
+    sum
+}
+
+fn forms(square: &Square) -> u32 {
+    let mut sum = 0u32;
+    for line in 0..square.width {
+        sum = sum.wrapping_add(forms_in(square, false, line));
+        sum = sum.wrapping_add(forms_in(square, true, line));
+    }
+    sum
+}
+
+// How far 200 times the dark modules over all modules is from 100.
+fn share(square: &Square) -> u32 {
+    let mut dark = 0u64;
+    for module in &square.modules {
+        dark = dark.wrapping_add(*module as u64);
+    }
+    let all = (square.modules.len() as u64).max(1);
+    u32::try_from((dark.wrapping_mul(200) / all).abs_diff(100)).unwrap_or(u32::MAX)
+}
+
+// The light modules of the last row, or of the last column, without the first.
+fn light_at_end(square: &Square, is_column: bool) -> u32 {
+    let mut light = 0u32;
+    for i in 1..square.width {
+        let last = square.width.wrapping_sub(1);
+        light = light.wrapping_add(!is_dark_in(square, is_column, last, i) as u32);
+    }
+    light
+}
