@@ -1,0 +1,85 @@
+//! The program, over any writer.
+
+ghost use Rattle.std.specs.Prelude.{◌≡◌, IfOk, IfSome, IfNone, IsErrOf};
+ghost use Rattle.std.specs.Io.KnownBytes.{Appends};
+ghost use Rattle.qrcode_uses.specs.Drawings.{IsDrawnAs};
+ghost use Rattle.qrcode_gallery.specs.Kinds.{name_of, drawing_in, Writes};
+ghost use Rattle.qrcode_gallery.specs.declared.program.Kind.{Kind};
+
+use qrcode::types::{QrError, QrResult};
+use qrcode_uses::drawings;
+use std::alloc::Global;
+use std::io::Write;
+use thiserror::Error;
+
+/// Why nothing was drawn.
+#[derive(Debug, Drop, Error)]
+pub enum Fault {
+    /// The words are not a kind and a text.
+    #[error("usage: qrcode_gallery char|str|half-blocks|svg|pic|pixels TEXT")]
+    Usage,
+    /// There is no symbol.
+    #[error("qrcode_gallery: {0}")]
+    Qr(QrError),
+    /// The writer failed.
+    #[error("qrcode_gallery: cannot write")]
+    CannotWrite,
+}
+
+/// A way to draw.
+#[derive(Clone, Copy)]
+pub enum Kind {
+    Chars,
+    Pairs,
+    HalfBlocks,
+    Svg,
+    Pic,
+    Pixels,
+}
+
+// The kind of a name.
+fn kind_of(name: &str) -> Option<Kind>
+    ensures named { IfSome result (λ kind. name.now ≡ name_of kind) }
+    ensures unnamed { IfNone result ((kind : Kind) → ¬ (name.now ≡ name_of kind)) }
+{
+    match name {
+        "char" => Some(Kind::Chars),
+        "str" => Some(Kind::Pairs),
+        "half-blocks" => Some(Kind::HalfBlocks),
+        "svg" => Some(Kind::Svg),
+        "pic" => Some(Kind::Pic),
+        "pixels" => Some(Kind::Pixels),
+        _ => None,
+    }
+}
+
+// The drawing of data in a kind.
+fn draw(alloc: Global, kind: Kind, data: &[u8]) -> QrResult<Vec<u8>>
+    ensures { IfOk result (λ drawing. IsDrawnAs (drawing_in kind) «data».now drawing.items) }
+{
+    let text = match kind {
+        Kind::Chars => drawings::as_chars(alloc, data)?,
+        Kind::Pairs => drawings::as_pairs(alloc, data)?,
+        Kind::HalfBlocks => drawings::as_half_blocks(alloc, data)?,
+        Kind::Svg => drawings::as_svg(alloc, data)?,
+        Kind::Pic => drawings::as_pic(alloc, data)?,
+        Kind::Pixels => return drawings::as_grey_map(alloc, data),
+    };
+    Ok(text.into_bytes())
+}
+
+/// Writes the drawing of a text in the kind of a name. The whole drawing is made before the first
+/// write.
+pub fn run<W: Write>(alloc: Global, name: &str, text: &str, out: &mut W) -> Result<(), Fault>
+    ensures usage { IsErrOf result Fault.Usage → (kind : Kind) → ¬ (name.now ≡ name_of kind) }
+    ensures wrote { IfOk result (λ _. Writes (Appends (W.contents out.old) (W.contents out.new)) name.now text.now) }
+{
+    let Some(kind) = kind_of(name) else {
+        return Err(Fault::Usage);
+    };
+    let drawing = match draw(alloc, kind, text.as_bytes()) {
+        Ok(drawing) => drawing,
+        Err(error) => return Err(Fault::Qr(error)),
+    };
+    out.write_all(&drawing).map_err(|_| Fault::CannotWrite)
+}

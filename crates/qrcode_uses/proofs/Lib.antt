@@ -1,0 +1,6 @@
+pub mod Bars
+pub mod Charsets
+pub mod Payments
+pub mod PictureTexts
+pub mod Settings
+pub mod Tickets

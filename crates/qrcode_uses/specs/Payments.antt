@@ -1,0 +1,32 @@
+-- The text and the picture of a payment.
+use Rattle.std.specs.Prelude.{◌≡◌, ℕ, ◌+◌, ◌*◌, ◌/◌, ◌%◌, ◌≤◌, List, ◌++◌, length, codes, decimal}
+use Rattle.qrcode_types.specs.Versions.{side}
+use Rattle.qrcode_types.specs.declared.types.Version.{Version}
+use Rattle.qrcode_types.specs.declared.types.EcLevel.TheVariants.{M}
+use Rattle.qrcode_types.specs.declared.types.Color.{Color}
+use Rattle.qrcode_bits.specs.Encoded.{IsNormalUpTo}
+use Rattle.qrcode_render.specs.Setting.{IsLeastSize}
+use Rattle.qrcode.specs.Acceptance.{IsChosenSymbol}
+use Rattle.qrcode.specs.Pictures.{quiet_zone}
+use Rattle.qrcode_uses.specs.Drawings.{svg_text}
+use Rattle.qrcode_uses.specs.declared.payment.Payment.{Payment}
+
+-- an amount in euros
+abbrev pub amount_text : ℕ → List ℕ
+amount_text cents = codes "EUR" ++ (decimal (cents / 100) ++ (codes "." ++ (decimal (cents / 10 % 10) ++ decimal (cents % 10))))
+
+-- the lines of a credit transfer
+unfoldable pub payment_text : Payment → List ℕ
+payment_text p =
+    codes "BCD\n002\n1\nSCT\n" ++ (p.bic.now ++ (codes "\n" ++ (p.name.now ++ (codes "\n" ++ (p.iban.now ++ codes "\n")))))
+    ++ amount_text p.cents ++ (codes "\n\n\n" ++ p.purpose.now)
+
+-- the symbol that is chosen for a text at level M, in modules of the least size that makes it 200 pixels wide
+pub record IsPicture (text svg : List ℕ) : Type 0 where
+  pub version : Version
+  pub colors : List Color
+  pub symbol : IsChosenSymbol version M text colors
+  pub small : length text ≤ 331 → IsNormalUpTo 13 version
+  pub pixels : ℕ
+  pub wide : IsLeastSize (side version + 2 * quiet_zone version) 200 pixels
+  pub drawn : svg ≡ svg_text pixels version colors

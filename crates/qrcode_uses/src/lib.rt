@@ -1,0 +1,10 @@
+//! Uses of `qrcode`, as a caller writes them.
+#![tactic(auto)]
+
+pub mod charset;
+pub mod drawings;
+pub mod label;
+pub mod payment;
+#[cfg(test)]
+mod tests;
+pub mod ticket;

@@ -1,0 +1,78 @@
+//! A payment as an SVG picture, for a bill.
+
+ghost use Rattle.std.specs.Prelude.{◌≡◌, ◌⊎◌, ◌≤◌, ◌++◌, length, string_bytes, IfOk, IfErr, OnOk, IsOkUnless};
+ghost use Rattle.qrcode_types.specs.declared.types.QrError.TheVariants.{OutOfMemory, DataTooLong};
+ghost use Rattle.qrcode_uses.specs.Payments.{amount_text, payment_text, IsPicture};
+
+use qrcode::QrCode;
+use qrcode::render::svg;
+use qrcode::types::QrResult;
+use std::alloc::Global;
+use std::fmt::Write;
+
+/// A SEPA credit transfer in euros. No field holds a line break.
+#[derive(Clone, Copy)]
+pub struct Payment<'a> {
+    /// The bank of the one who is paid.
+    pub bic: &'a str,
+    pub name: &'a str,
+    pub iban: &'a str,
+    pub cents: u64,
+    /// What the payment is for.
+    pub purpose: &'a str,
+}
+
+/// The picture of a payment, at least 200 pixels wide. A text of up to 331 bytes, which is what banks
+/// agreed on, is refused for want of memory at most, and stays within Normal 13.
+pub fn payment_picture(alloc: Global, payment: &Payment<'_>) -> QrResult<String>
+    ensures picture { IfOk result (λ svg. IsPicture (payment_text payment.now) (string_bytes svg)) }
+    ensures accepts { length (payment_text payment.now) ≤ 331 → IsOkUnless result OutOfMemory }
+    ensures errors { IfErr result (λ e. (e ≡ DataTooLong) ⊎ (e ≡ OutOfMemory)) }
+{
+    let text = payment_text(alloc, payment)?;
+    picture_of(alloc, text.as_bytes())
+}
+
+// The picture of a text.
+fn picture_of(alloc: Global, text: &[u8]) -> QrResult<String>
+    ensures picture { IfOk result (λ svg. IsPicture text.now (string_bytes svg)) }
+    ensures accepts { length text.now ≤ 331 → IsOkUnless result OutOfMemory }
+    ensures errors { IfErr result (λ e. (e ≡ DataTooLong) ⊎ (e ≡ OutOfMemory)) }
+{
+    let code = QrCode::new(alloc, text)?;
+    code.render::<svg::Color>()
+        .min_dimensions(200, 200)
+        .build(alloc)
+}
+
+// The lines that banking programs read: the kind of text, its version, UTF-8, the kind of transfer,
+// and then the fields, of which two are left empty.
+#[tactic(auto, unfolding(crate::specs::Payments::payment_text))]
+fn payment_text(alloc: Global, payment: &Payment<'_>) -> QrResult<String>
+    ensures value { IfOk result (λ text. string_bytes text ≡ payment_text payment.now) }
+    ensures memory { IsOkUnless result OutOfMemory }
+{
+    let Payment {
+        bic,
+        name,
+        iban,
+        cents,
+        purpose,
+    } = *payment;
+    let mut text = format!(in alloc; "BCD\n002\n1\nSCT\n{bic}\n{name}\n{iban}\n")?;
+    push_amount(&mut text, cents)?;
+    write!(text, "\n\n\n{purpose}")?;
+    Ok(text)
+}
+
+// Appends an amount in euros.
+fn push_amount(text: &mut String, cents: u64) -> QrResult<()>
+    ensures value { OnOk result (string_bytes text.new ≡ string_bytes text.old ++ amount_text cents) }
+    ensures memory { IsOkUnless result OutOfMemory }
+{
+    let euros = cents / 100;
+    let tens = cents / 10 % 10;
+    let ones = cents % 10;
+    write!(text, "EUR{euros}.{tens}{ones}")?;
+    Ok(())
+}

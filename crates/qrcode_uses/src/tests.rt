@@ -1,0 +1,117 @@
+//! Each use once, its answers taken from outside.
+
+use crate::charset::{greek_bits, greek_symbol};
+use crate::drawings::{as_chars, as_grey_map, as_half_blocks, as_pairs, as_pic, as_svg};
+use crate::label::{Bar, label_bars};
+use crate::payment::{Payment, payment_picture};
+use crate::ticket::ticket_blocks;
+use std::test::Fail;
+
+#[test]
+fn a_payment_is_drawn(rt: HostRuntime) -> Result<(), Fail> {
+    let payment = Payment {
+        bic: "BPOTBEB1",
+        name: "Red Cross of Belgium",
+        iban: "BE72000000001616",
+        cents: 105,
+        purpose: "Urgency fund",
+    };
+    // The text has 83 bytes, which Normal 5 holds at level M: 45 modules with the quiet zone.
+    let picture = payment_picture(rt.alloc(), &payment)?;
+    assert!(rt;
+        picture.starts_with(
+            "<?xml version=\"1.0\" standalone=\"yes\"?><svg xmlns=\"http://www.w3.org/2000/svg\" version=\"1.1\" width=\"225\" height=\"225\" viewBox=\"0 0 225 225\""
+        )
+    );
+    Ok(())
+}
+
+#[test]
+fn a_ticket_is_drawn(rt: HostRuntime) -> Result<(), Fail> {
+    let text = ticket_blocks(rt.alloc(), 12_345_678)?;
+    assert_eq!(rt;
+        text.as_str(),
+        "█████████████████
+██ ▄▄▄▄▄ █▄▀▄█▄██
+██ █   █ █   █ ██
+██ █▄▄▄█ █▄▄██▀██
+██▄▄▄▄▄▄▄█▄▄▄▀ ██
+██▄ ▀ ▀ ▀▄▄  ████
+██▄▄▀▄█ ▀▀▀ ▀▄▄██
+██▄▄▄█▄▄█▄██▄█▄██
+▀▀▀▀▀▀▀▀▀▀▀▀▀▀▀▀▀"
+    );
+    ticket_blocks(rt.alloc(), u32::MAX)?;
+    Ok(())
+}
+
+#[test]
+fn a_greek_text_is_drawn(rt: HostRuntime) -> Result<(), Fail> {
+    let text = b"\xca\xfe\xe4\xe9\xea\xe1\xf2 QR";
+    let bytes = greek_bits(rt.alloc(), text)?.into_bytes();
+    assert_eq!(rt;
+        bytes.as_slice(),
+        b"\x70\x94\x0a\xca\xfe\xe4\xe9\xea\xe1\xf2\x20\x51\x52\x00\xec\x11\xec\x11\xec".as_slice()
+    );
+    assert_eq!(rt; greek_symbol(rt.alloc(), text)?.len(), 461);
+    assert!(rt; greek_symbol(rt.alloc(), b"seventeen letters").is_err());
+    Ok(())
+}
+
+#[test]
+fn a_label_is_drawn(rt: HostRuntime) -> Result<(), Fail> {
+    let bars = label_bars(rt.alloc(), b"01234567")?;
+    // The first two rows of the printed symbol are `#######..#.##.#######` and `#.....#..####.#.....#`.
+    let rows = [
+        (16, 16, 28),
+        (52, 16, 4),
+        (60, 16, 8),
+        (72, 16, 28),
+        (16, 20, 4),
+        (40, 20, 4),
+        (52, 20, 16),
+        (72, 20, 4),
+        (96, 20, 4),
+    ];
+    for (bar, (left, top, width)) in bars.iter().zip(rows.iter()) {
+        let height = 4;
+        assert_eq!(rt;
+            *bar,
+            Bar {
+                left: *left,
+                top: *top,
+                width: *width,
+                height
+            }
+        );
+    }
+    assert_eq!(rt; bars.len(), 112);
+    Ok(())
+}
+
+#[test]
+fn each_way_draws(rt: HostRuntime) -> Result<(), Fail> {
+    let alloc = rt.alloc();
+    let data = b"01234567";
+    let chars = as_chars(alloc, data)?;
+    assert_eq!(rt;
+        chars.split('\n').nth(4),
+        Some("    ███████  █ ██ ███████    ")
+    );
+    let pairs = as_pairs(alloc, data)?;
+    assert_eq!(rt;
+        pairs.split('\n').nth(4),
+        Some("        ##############    ##  ####  ##############        ")
+    );
+    let blocks = as_half_blocks(alloc, data)?;
+    assert_eq!(rt;
+        blocks.split('\n').nth(2),
+        Some("    █▀▀▀▀▀█  █▄██ █▀▀▀▀▀█    ")
+    );
+    assert!(rt; as_svg(alloc, data)?.contains("viewBox=\"0 0 232 232\""));
+    assert!(rt; as_pic(alloc, data)?.starts_with("maxpswid=29;maxpsht=29;"));
+    let file = as_grey_map(alloc, data)?;
+    assert!(rt; file.starts_with(b"P5\n232 232\n255\n"));
+    assert_eq!(rt; file.len(), 53_839);
+    Ok(())
+}
