@@ -1,0 +1,204 @@
+//! What is built in each case. All that a build takes is made before the first one.
+
+ghost use Rattle.std.specs.Prelude.{◌≡◌, ◌<◌, ◌≤◌, length, IfOk, IsTrue};
+ghost use Rattle.qrcode_bits.specs.Refusals.{data_limit};
+ghost use Rattle.qrcode_types.specs.Versions as versions;
+ghost use Rattle.qrcode_types.specs.Versions.{is_valid, has_level};
+
+use crate::cases::Case;
+use crate::contents::{DIGITS, MIXED, WORDS, repeated};
+use crate::digest::{of_bytes, of_canvas, of_code, of_segments, with_number};
+use qrcode::QrCode;
+use qrcode::bits::{Bits, encode_auto};
+use qrcode::canvas::Canvas;
+use qrcode::ec::construct_codewords;
+use qrcode::optimize::least_segments;
+use qrcode::render::{Pixel, image, pic, svg, unicode};
+use qrcode::types::{EcLevel, QrResult, Version};
+use qrcode_types::tables::Blocks;
+use std::alloc::Global;
+
+// The codewords of Normal 40.
+const CODEWORDS: usize = 3706;
+
+/// Builds a case so many times, and gives the digest of what was built.
+#[tactic(auto, unfolding(qrcode_types::specs::Tables::block_table, qrcode_types::specs::Versions::blocks_entry))]
+pub fn build(alloc: Global, case: Case, count: u32) -> QrResult<u64> {
+    match case {
+        Case::Micro2Digits => in_version(alloc, Version::Micro(2), EcLevel::L, count),
+        Case::Normal1Digits => in_version(alloc, Version::Normal(1), EcLevel::M, count),
+        Case::Bytes100 => at_level(alloc, WORDS, 100, EcLevel::M, count),
+        Case::Bytes1000 => at_level(alloc, WORDS, 1000, EcLevel::M, count),
+        Case::Bytes2331 => at_level(alloc, WORDS, 2331, EcLevel::M, count),
+        Case::Digits7089 => at_level(alloc, DIGITS, 7089, EcLevel::L, count),
+        Case::Mixed1000 => at_level(alloc, MIXED, 1000, EcLevel::M, count),
+        Case::Push7089 => push(alloc, 7089, count),
+        Case::AutoMixed1000 => automatic(alloc, 1000, count),
+        Case::LeastMixed1000 => least(alloc, 1000, count),
+        Case::Codewords40 => codewords(alloc, Version::Normal(40), EcLevel::L, count),
+        Case::PatternsAndData40 => patterns_and_data(alloc, Version::Normal(40), EcLevel::L, count),
+        Case::BestMask1 => best_mask(alloc, Version::Normal(1), EcLevel::L, count),
+        Case::BestMask40 => best_mask(alloc, Version::Normal(40), EcLevel::L, count),
+        Case::Chars1 => text::<char>(alloc, 14, count),
+        Case::Chars40 => text::<char>(alloc, 2331, count),
+        Case::HalfBlocks1 => text::<unicode::Dense1x2>(alloc, 14, count),
+        Case::HalfBlocks40 => text::<unicode::Dense1x2>(alloc, 2331, count),
+        Case::Svg1 => text::<svg::Color>(alloc, 14, count),
+        Case::Svg40 => text::<svg::Color>(alloc, 2331, count),
+        Case::Pic1 => text::<pic::Color>(alloc, 14, count),
+        Case::Pic40 => text::<pic::Color>(alloc, 2331, count),
+        Case::Pixels1 => pixels(alloc, 14, count),
+        Case::Pixels40 => pixels(alloc, 2331, count),
+    }
+}
+
+// Builds something so many times.
+fn repeat<F: Fn() -> QrResult<u64>>(count: u32, build: F) -> QrResult<u64>
+    requires { F.IsAlwaysCallable build }
+{
+    let mut digest = 0;
+    for _ in 0..count {
+        digest = with_number(digest, build()?);
+    }
+    Ok(digest)
+}
+
+// Symbols of eight digits, of a version and level.
+fn in_version(alloc: Global, version: Version, ec_level: EcLevel, count: u32) -> QrResult<u64> {
+    let data = repeated(alloc, DIGITS, 8)?;
+    repeat(count, || {
+        let code = QrCode::with_version(alloc, &data, version, ec_level)?;
+        Ok(of_code(&code))
+    })
+}
+
+// Symbols of the least version for data.
+fn at_level(alloc: Global, text: &[u8], size: usize, ec_level: EcLevel, count: u32) -> QrResult<u64>
+    requires { 0 < length text.now }
+{
+    let data = repeated(alloc, text, size)?;
+    repeat(count, || {
+        let code = QrCode::with_error_correction_level(alloc, &data, ec_level)?;
+        Ok(of_code(&code))
+    })
+}
+
+// Lists of bits, each with one push of digits.
+fn push(alloc: Global, size: usize, count: u32) -> QrResult<u64> {
+    let data = repeated(alloc, DIGITS, size)?;
+    repeat(count, || {
+        let mut bits = Bits::new(alloc, Version::Normal(40));
+        bits.push_numeric_data(&data)?;
+        Ok(of_bytes(&bits.into_bytes()))
+    })
+}
+
+// Terminated lists of bits, of the least version for mixed data.
+fn automatic(alloc: Global, size: usize, count: u32) -> QrResult<u64> {
+    let data = repeated(alloc, MIXED, size)?;
+    repeat(count, || {
+        let bits = encode_auto(alloc, &data, EcLevel::M)?;
+        Ok(of_bytes(&bits.into_bytes()))
+    })
+}
+
+// Segments of mixed data.
+fn least(alloc: Global, size: usize, count: u32) -> QrResult<u64>
+    requires { size ≤ data_limit }
+{
+    let data = repeated(alloc, MIXED, size)?;
+    repeat(count, || {
+        let segments = least_segments(alloc, &data, Version::Normal(40))?;
+        Ok(of_segments(&segments))
+    })
+}
+
+// Codewords of all blocks of a version.
+fn codewords(alloc: Global, version: Version, ec_level: EcLevel, count: u32) -> QrResult<u64>
+    requires { IsTrue (has_level version ec_level) }
+{
+    let data = repeated(alloc, WORDS, data_length(version, ec_level))?;
+    repeat(count, || {
+        let (data, ec) = construct_codewords(alloc, &data, version, ec_level)?;
+        Ok(with_number(of_bytes(&data), of_bytes(&ec)))
+    })
+}
+
+// The data bytes of a version.
+fn data_length(version: Version, ec_level: EcLevel) -> usize
+    requires { IsTrue (has_level version ec_level) }
+    ensures { result ≡ versions.data_length version ec_level }
+{
+    Blocks::of(version, ec_level).unwrap().data_length()
+}
+
+// Canvases with patterns and data.
+fn patterns_and_data(
+    alloc: Global,
+    version: Version,
+    ec_level: EcLevel,
+    count: u32,
+) -> QrResult<u64>
+    requires { IsTrue (is_valid version) }
+{
+    let codewords = repeated(alloc, WORDS, CODEWORDS)?;
+    repeat(count, || {
+        let canvas = drawn(alloc, version, ec_level, &codewords)?;
+        Ok(of_canvas(&canvas))
+    })
+}
+
+// A canvas with patterns, and with codewords at all places that they have.
+fn drawn(alloc: Global, version: Version, ec_level: EcLevel, codewords: &[u8]) -> QrResult<Canvas>
+    requires { IsTrue (is_valid version) }
+    ensures version { IfOk result (λ canvas. canvas.version ≡ version) }
+    ensures level { IfOk result (λ canvas. canvas.level ≡ ec_level) }
+{
+    let mut canvas = Canvas::new(alloc, version, ec_level)?;
+    canvas.draw_all_functional_patterns();
+    canvas.draw_data(codewords, &[]);
+    Ok(canvas)
+}
+
+// Canvases under their best masks.
+fn best_mask(alloc: Global, version: Version, ec_level: EcLevel, count: u32) -> QrResult<u64>
+    requires { IsTrue (has_level version ec_level) }
+{
+    let codewords = repeated(alloc, WORDS, CODEWORDS)?;
+    let canvas = drawn(alloc, version, ec_level, &codewords)?;
+    repeat(count, || {
+        let best = canvas.apply_best_mask(alloc)?;
+        Ok(of_canvas(&best))
+    })
+}
+
+// Texts that are pictures of the symbol of words.
+fn text<P: Pixel<Image = String>>(alloc: Global, size: usize, count: u32) -> QrResult<u64>
+    requires across { P.unit.0 ≤ 8 }
+    requires down { P.unit.1 ≤ 8 }
+{
+    let data = repeated(alloc, WORDS, size)?;
+    let code = QrCode::new(alloc, &data)?;
+    repeat(count, || {
+        let text = picture::<P>(alloc, &code)?;
+        Ok(of_bytes(text.as_bytes()))
+    })
+}
+
+// The picture of a symbol.
+fn picture<P: Pixel>(alloc: Global, code: &QrCode) -> QrResult<P::Image>
+    requires across { P.unit.0 ≤ 8 }
+    requires down { P.unit.1 ≤ 8 }
+{
+    code.render::<P>().build(alloc)
+}
+
+// Rows of pixels that are pictures of the symbol of words.
+fn pixels(alloc: Global, size: usize, count: u32) -> QrResult<u64> {
+    let data = repeated(alloc, WORDS, size)?;
+    let code = QrCode::new(alloc, &data)?;
+    repeat(count, || {
+        let image = picture::<image::Luma>(alloc, &code)?;
+        Ok(of_bytes(&image.into_raw()))
+    })
+}
