@@ -7,5 +7,6 @@ pub mod Palettes
 pub mod Paths
 pub mod PictureTexts
 pub mod Pictures
+pub mod PixelTexts
 pub mod Rectangles
 pub mod Sizes

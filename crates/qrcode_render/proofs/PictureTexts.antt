@@ -28,7 +28,7 @@ part_by_places f xs d start n inside =
     sym (flat_map-map f (λ k. get_or xs (start + k) d) (range_with_len 0 n))
     ∙ ap (flat_map f) (sym (fill_by_all (λ k. get_or xs (start + k) d) part n d long same))
 
-through_pick : {P X : Type 0} (f : P → X) (dark light : P) (m : Bool) → f (if m then dark else light) ≡ (if m then f dark else f light)
+pub through_pick : {P X : Type 0} (f : P → X) (dark light : P) (m : Bool) → f (if m then dark else light) ≡ (if m then f dark else f light)
 through_pick f dark light true = refl
 through_pick f dark light false = refl
 

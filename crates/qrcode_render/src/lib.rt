@@ -9,6 +9,7 @@ ghost use Rattle.qrcode_render.specs.Drawn.{drawn, drawn_row, filled};
 ghost use Rattle.qrcode_render.specs.Layout.{Layout, modules_across, PixelsFit};
 ghost use Rattle.qrcode_render.specs.LayoutOf.{layout};
 ghost use Rattle.qrcode_render.specs.Picture.{blank, picture, with_dark_pixel};
+ghost use Rattle.qrcode_render.specs.Texts.{text_of};
 ghost use Rattle.qrcode_render.specs.Setting.{Setting, IsWhole, layout_of, side_of, fits, drawing_of, least_size, greatest_size, IsLeastSize, IsGreatestSize};
 
 use qrcode_types::types::{Color, QrResult};
@@ -219,10 +220,13 @@ fn draw_modules<C: Canvas>(canvas: &mut C, at: Places, content: &[Color]) -> QrR
 }
 
 /// The law of pictures: on light pixels the rectangles of the dark modules make the picture, in
-/// which a pixel is dark where its module is inside and dark. A call does nothing.
+/// which a pixel is dark where its module is inside and dark; and where pixels are texts, the text of a
+/// picture is the same for all pixels of these texts. A call does nothing.
 pub fn rectangles_make_pictures<P: Copy>()
-    ensures { (at : Layout) (content : List Color) (dark light : P) → length content ≡ at.count * at.count → 1 ≤ at.across → 1 ≤ at.down
+    ensures pictures { (at : Layout) (content : List Color) (dark light : P) → length content ≡ at.count * at.count → 1 ≤ at.across → 1 ≤ at.down
         → drawn (filled with_dark_pixel) at content (blank (modules_across at * at.across) (modules_across at * at.down) dark light) ≡ picture at content dark light }
+    ensures texts { (text : P → List ℕ) (at : Layout) (content : List Color) (dark light : P)
+        → text_of text (picture at content dark light) ≡ text_of (λ t. t) (picture at content (text dark) (text light)) }
 {}
 
 /// The law of renderers: whatever it is set to, the rectangles that a renderer draws on light pixels

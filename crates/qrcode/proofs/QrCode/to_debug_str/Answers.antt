@@ -19,6 +19,6 @@ returns-clause-value c =
     let set : c.light_color.result.now ≡ record c.render.result { has_zone = false; dark = on; light = off } =
     c.light_color.ensures.sets ∙ ap (λ (s : Setting ℕ). record s { light = off }) (c.dark_color.ensures.sets ∙ ap (λ (s : Setting ℕ). record s { dark = on }) c.quiet_zone.ensures.sets) in
     let square : length colors ≡ side v * side v = known.square ∙ ap (λ w. w * w) known.count in
-    let law = c.rectangles_make_pictures.ensures (plain_layout v 0) colors on off square (omega arith) (omega arith) in
+    let law = c.rectangles_make_pictures.ensures.pictures (plain_layout v 0) colors on off square (omega arith) (omega arith) in
     let drawn = plain_drawing v 0 colors on off (record c.render.result { has_zone = false; dark = on; light = off }) known.content known.count refl known.across known.down refl refl law in
     subst (λ r. IfOk c.build.result (λ text. string_bytes text ≡ text_of encode_utf8 r)) (ap (λ (s : Setting ℕ). drawing_of blank (filled with_dark_pixel) s) set ∙ drawn) c.build.ensures.picture

@@ -7,7 +7,7 @@ use Rattle.qrcode_render.specs.Setting.{Setting, drawing_of}
 use Rattle.qrcode_render.specs.Texts.{text_of}
 use Rattle.qrcode_render.specs.declared.string.Str.{Str}
 use Rattle.qrcode.specs.Pictures.{plain_layout, quiet_zone, cells_text}
-use Rattle.qrencode.proofs.Cells.{plain_drawing, text_picture}
+use Rattle.qrencode.proofs.Cells.{plain_drawing}
 use Rattle.qrencode.proofs.Faults.{handed_on, refused}
 use Rattle.qrencode.specs.Words.{IsRefused, terminal_text}
 use Rattle.qrencode.proofs.program.cells.Goals as goal
@@ -28,7 +28,7 @@ returns-clause-value c =
     let first = c.dark_color.ensures.sets in
     let second = c.light_color.ensures.sets in
     let square : length colors ≡ side v * side v = known.square ∙ ap (λ w. w * w) known.count in
-    let law = c.rectangles_make_pictures.ensures (plain_layout v (quiet_zone v)) colors s.dark s.light square (omega arith) (omega arith) in
+    let law = c.rectangles_make_pictures.ensures.pictures (plain_layout v (quiet_zone v)) colors s.dark s.light square (omega arith) (omega arith) in
     let content : s.content ≡ colors = ap (λ (x : Setting Str). x.content) second ∙ ap (λ (x : Setting Str). x.content) first ∙ known.content in
     let count : s.count ≡ side v = ap (λ (x : Setting Str). x.count) second ∙ ap (λ (x : Setting Str). x.count) first ∙ known.count in
     let across : s.across ≡ 1 = ap (λ (x : Setting Str). x.across) second ∙ ap (λ (x : Setting Str). x.across) first ∙ known.across in
@@ -36,6 +36,6 @@ returns-clause-value c =
     let zone : s.zone ≡ quiet_zone v = ap (λ (x : Setting Str). x.zone) second ∙ ap (λ (x : Setting Str). x.zone) first ∙ known.zone in
     let on : s.has_zone ≡ true = ap (λ (x : Setting Str). x.has_zone) second ∙ ap (λ (x : Setting Str). x.has_zone) first ∙ known.on in
     let drawn = plain_drawing v (quiet_zone v) colors s.dark s.light s content count (ap (λ b. if b then s.zone else 0) on ∙ zone) across down refl refl law in
-    let texts : text_of (λ (e : Str). e.0.now) (drawing_of blank (filled with_dark_pixel) s) ≡ terminal_text v colors = ap (text_of (λ (e : Str). e.0.now)) drawn ∙ text_picture (λ (e : Str). e.0.now) (plain_layout v (quiet_zone v)) colors s.dark s.light
+    let texts : text_of (λ (e : Str). e.0.now) (drawing_of blank (filled with_dark_pixel) s) ≡ terminal_text v colors = ap (text_of (λ (e : Str). e.0.now)) drawn ∙ c.rectangles_make_pictures.ensures.texts (λ (e : Str). e.0.now) (plain_layout v (quiet_zone v)) colors s.dark s.light
     ∙ ap₂ (cells_text v colors) (ap (λ (x : Setting Str). x.dark.0.now) second ∙ ap (λ (x : Setting Str). x.dark.0.now) first) (ap (λ (x : Setting Str). x.light.0.now) second) in
     IfOk-weaker c.build.result _ _ (λ image e. (v, colors, c.in_ok-code.ensures.symbol, e ∙ texts)) c.build.ensures.picture
