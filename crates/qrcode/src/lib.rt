@@ -12,7 +12,6 @@ ghost use Rattle.qrcode_types.specs.declared.types.EcLevel.TheVariants.{M};
 ghost use Rattle.qrcode_ec.specs.Allowed.{reserved};
 ghost use Rattle.qrcode_places.specs.Patterns.{is_functional_place};
 ghost use Rattle.qrcode_places.specs.Words.{FormatWordsAreApart, FormatWordsTell};
-ghost use Rattle.qrcode_symbol.specs.Canvas.{colors_of};
 ghost use Rattle.qrcode_symbol.specs.Patterned.{IsDrawn};
 ghost use Rattle.qrcode_symbol.specs.Reading.{ReadsBitsOnly};
 ghost use Rattle.qrcode_bits.specs.Choice.{bands, IsChosen, NoneHolds};
@@ -28,7 +27,7 @@ ghost use Rattle.qrcode.specs.Drawing.{IsBestDrawing};
 ghost use Rattle.qrcode.specs.Pictures.{quiet_zone, debug_text};
 ghost use Rattle.qrcode.specs.Reading.{Encodes};
 
-use bits::Bits;
+use bits::{Bits, DATA_LIMIT};
 use canvas::Canvas;
 pub use qrcode_bits::{bits, optimize};
 pub use qrcode_render as render;
@@ -40,9 +39,6 @@ use std::marker::Model;
 use std::ops::Index;
 use types::QrError;
 pub use types::{Color, EcLevel, QrResult, Version};
-
-// The bytes of data that are taken at most.
-const DATA_LIMIT: usize = 1_048_576;
 
 /// A symbol.
 #[derive(Drop)]
@@ -205,8 +201,7 @@ impl QrCode {
         }
         let data = bits.into_bytes();
         let (data, ec) = ec::construct_codewords(alloc, &data, version, ec_level)?;
-        let canvas = draw_codewords(alloc, version, ec_level, &data, &ec)?;
-        let content = canvas.into_colors(alloc)?;
+        let content = draw_codewords(alloc, version, ec_level, &data, &ec)?;
         Ok(QrCode {
             content,
             version,
@@ -353,24 +348,24 @@ impl Clone for QrCode {
     }
 }
 
-// The canvas of codewords, under the first mask of least penalty.
+// The colours of codewords, with all patterns, under the first mask of least penalty.
 fn draw_codewords(
     alloc: Global,
     version: Version,
     ec_level: EcLevel,
     data: &[u8],
     ec: &[u8],
-) -> QrResult<Canvas>
+) -> QrResult<Vec<Color>>
     requires exists { IsTrue (has_level version ec_level) }
     requires data_length { length «data».now ≡ data_length version ec_level }
     requires ec_length { length ec.now ≡ total_ec_length version ec_level }
     requires half { IsTrue (has_half_codeword version ec_level) → slice_index «data».now (length «data».now - 1) % 16 ≡ 0 }
     ensures memory { IsOkUnless result OutOfMemory }
-    ensures drawn { IfOk result (λ canvas. IsBestDrawing version ec_level («data».now ++ ec.now) (colors_of canvas.modules)) }
+    ensures drawn { IfOk result (λ colors. IsBestDrawing version ec_level («data».now ++ ec.now) colors.items) }
     ensures words { IfOk result (λ _. FormatWordsAreApart × FormatWordsTell) }
 {
     let mut canvas = Canvas::new(alloc, version, ec_level)?;
     canvas.draw_all_functional_patterns();
     canvas.draw_data(data, ec);
-    canvas.apply_best_mask(alloc)
+    canvas.best_colors(alloc)
 }

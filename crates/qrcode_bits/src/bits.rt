@@ -31,6 +31,7 @@ mod written;
 
 pub use automatic::encode_auto;
 use ending::{push_ending, terminator_length};
+pub use optimal::DATA_LIMIT;
 use stream::Stream;
 use written::{character_count, indicator, may_write, push_written};
 

@@ -11,10 +11,11 @@ use qrcode::types::{Color, EcLevel, QrError, QrResult, Version};
 use std::alloc::Global;
 
 /// The scenarios of this module.
-pub static SCENARIOS: [Scenario; 7] = [
+pub static SCENARIOS: [Scenario; 8] = [
     Scenario("Canvas::new", Memory::Takes, None),
     Scenario("Canvas: draws", Memory::NoMoreThan("Canvas::new"), None),
     Scenario("Canvas::apply_best_mask", Memory::Takes, None),
+    Scenario("Canvas::best_colors", Memory::Takes, None),
     Scenario("Canvas::to_bools", Memory::Takes, None),
     Scenario("Canvas::into_colors", Memory::Takes, None),
     Scenario("Canvas::clone", Memory::Takes, None),
@@ -27,6 +28,7 @@ pub fn made(alloc: Global, name: &str) -> Option<QrResult<Digest>> {
         "Canvas::new" => Some(corners_of_new(alloc)),
         "Canvas: draws" => Some(corners_of_drawn(alloc)),
         "Canvas::apply_best_mask" => Some(best_masked(alloc)),
+        "Canvas::best_colors" => Some(best_colors(alloc)),
         "Canvas::to_bools" => Some(bools(alloc)),
         "Canvas::into_colors" => Some(colors(alloc)),
         "Canvas::clone" => Some(cloned(alloc)),
@@ -85,6 +87,10 @@ fn corners_of_drawn(alloc: Global) -> QrResult<Digest> {
 fn best_masked(alloc: Global) -> QrResult<Digest> {
     let colors = drawn(alloc)?.apply_best_mask(alloc)?.into_colors(alloc)?;
     Ok(Digest::of(&colors))
+}
+
+fn best_colors(alloc: Global) -> QrResult<Digest> {
+    Ok(Digest::of(&drawn(alloc)?.best_colors(alloc)?))
 }
 
 fn bools(alloc: Global) -> QrResult<Digest> {

@@ -1,5 +1,5 @@
--- What is written is the modules under the best mask.
-use Rattle.std.proofs.Common.{◌≡◌, ℕ, ◌+◌, ◌*◌, ◌<◌, List, length, slice_index_or, IsTrue, sym, subst}
+-- What is written is the square under the best mask.
+use Rattle.std.proofs.Common.{◌≡◌, ℕ, ◌+◌, ◌*◌, ◌<◌, List, length, map, slice_index_or, IsTrue, refl, ap, sym, subst, ◌∙◌}
 use Rattle.qrcode_types.specs.Colors.{color_of}
 use Rattle.qrcode_types.specs.Versions.{side}
 use Rattle.qrcode_types.specs.declared.types.Version.{Version}
@@ -9,33 +9,48 @@ use Rattle.qrcode_places.specs.Masks.{exists_in}
 use Rattle.qrcode_places.specs.Words.{format_word}
 use Rattle.qrcode_places.specs.declared.masks.MaskPattern.{MaskPattern}
 use Rattle.qrcode_symbol.specs.declared.canvas.Module.{Module}
-use Rattle.qrcode_symbol.specs.declared.canvas.Module.TheVariants.{Empty, Masked}
-use Rattle.qrcode_symbol.specs.Canvas.{colors_of, with_mask, IsBestMask}
-use Rattle.qrcode_symbol.specs.Penalties.{IsFirstLeast}
-use Rattle.qrcode_symbol.specs.Masking.{is_dark_module, is_free, masked_dark, nth_cost, nth_mask, mask_count, ShowsModules, IsFirstLeastCost, IsBestMasked}
+use Rattle.qrcode_symbol.specs.declared.canvas.Module.TheVariants.{Masked}
+use Rattle.qrcode_types.specs.declared.types.Color.{Color}
+use Rattle.qrcode_types.specs.declared.types.Color.TheVariants.{Light}
+use Rattle.qrcode_symbol.specs.Canvas.{color_of_module, with_mask, IsBestMask}
+use Rattle.qrcode_symbol.specs.Masking.{is_dark_module, is_free, masked_dark, nth_cost, nth_mask, mask_count, ShowsModules, IsFirstLeastCost, IsBestMasked, IsBestShown}
 use Rattle.qrcode_symbol.proofs.Choices.{best_of_least}
-use Rattle.qrcode_symbol.proofs.MaskedSquares.{cost_same, list_same}
+use Rattle.qrcode_symbol.proofs.MaskedSquares.{cost_same, list_same, all_masked, length_with_mask}
 use Rattle.qrcode_symbol.proofs.Remasking.{first_least_of}
 
-module _ (v : Version) (l : EcLevel) (modules new : List Module) (dark free rows : List ℕ) (best : ℕ) where
+module _ {S : Type 0} (of : Color → S) (v : Version) (l : EcLevel) (modules : List Module) (new : List S) (dark free rows : List ℕ) (best : ℕ) where
   -- what is known of a width and a mask
   abbrev pub Known : ℕ → MaskPattern → Type 0
   Known w k =
       ShowsModules is_dark_module w modules dark → ShowsModules is_free w modules free → IsFirstLeastCost (nth_cost v l w dark free) (mask_count v) best → IsTrue (exists_in v k) →
       Shows w rows (masked_dark v (format_word v l k) k dark free) → length new ≡ w * w →
-      ((x y : ℕ) → x < w → y < w → slice_index_or new (y * w + x) Empty ≡ Masked (color_of (dark_in rows x y))) → IsBestMasked v l modules new
+      ((x y : ℕ) → x < w → y < w → slice_index_or new (y * w + x) (of Light) ≡ of (color_of (dark_in rows x y))) → IsBestShown v l modules of new
 
   best_at : Known (side v) (nth_mask v best)
   best_at = λ darks frees first exists shows size are.
       let k = nth_mask v best in
-      let after : new ≡ with_mask v l k modules = list_same v l modules dark free darks frees k rows new size shows are in
       let is_best : IsBestMask v l modules k = best_of_least v l modules (nth_cost v l (side v) dark free) best (cost_same v l modules dark free darks frees) first exists in
       record {
-        mask = k;
-        best = is_best;
-        after = after;
-        first_least = λ bits drawn. subst (λ (ms : List Module). IsFirstLeast v l k (colors_of ms)) (sym after) (first_least_of v l modules bits drawn k is_best);
+        masked = with_mask v l k modules;
+        best = record {
+          mask = k;
+          best = is_best;
+          after = refl;
+          first_least = λ bits drawn. first_least_of v l modules bits drawn k is_best;
+        };
+        shown = list_same v l modules dark free darks frees of k rows new size shows are;
       }
 
-  pub best_masked_is : (w : ℕ) (k : MaskPattern) → w ≡ side v → k ≡ nth_mask v best → Known w k
-  best_masked_is w k e f = subst (λ (n : ℕ). Known n k) (sym e) (subst (λ (m : MaskPattern). Known (side v) m) (sym f) best_at)
+  pub best_shown : (w : ℕ) (k : MaskPattern) → w ≡ side v → k ≡ nth_mask v best → Known w k
+  best_shown w k e f = subst (λ (n : ℕ). Known n k) (sym e) (subst (λ (m : MaskPattern). Known (side v) m) (sym f) best_at)
+
+module _ (v : Version) (l : EcLevel) (modules new : List Module) (shown : IsBestShown v l modules (λ c. Masked c) new) where
+  after : new ≡ with_mask v l shown.best.mask modules
+  after = shown.shown ∙ ap (map (λ m. Masked (color_of_module m))) shown.best.after ∙ all_masked v l modules shown.best.mask
+
+  -- the masked modules are their own colours
+  pub best_modules : IsBestMasked v l modules new
+  best_modules = subst (IsBestMasked v l modules) (shown.best.after ∙ sym after) shown.best
+
+  pub length_best : length new ≡ side v * side v
+  length_best = ap length after ∙ length_with_mask v l modules shown.best.mask

@@ -1,8 +1,9 @@
 -- Squares under a mask, by rows and by modules.
-use Rattle.std.proofs.Common.{◌≡◌, ℕ, suc, ◌+◌, ◌-◌, ◌*◌, ◌/◌, ◌%◌, ◌<◌, Bool, true, false, ◌&&◌, not, nat_lt, List, length, slice_index_or, Option, Some, None, refl, ap, ap₂, sym, ◌∙◌, arith, inl, inr}
+use Rattle.std.proofs.Common.{◌≡◌, ℕ, suc, ◌+◌, ◌-◌, ◌*◌, ◌/◌, ◌%◌, ◌<◌, Bool, true, false, ◌&&◌, not, nat_lt, List, [], ◌∷◌, length, map, slice_index_or, Option, Some, None, refl, ap, ap₂, sym, ◌∙◌, arith, inl, inr}
 use mathlib.Core.Path.{fun_ext}
 use Rattle.std.proofs.Math.ListN.{get_or-map}
-use Rattle.std.proofs.lemmas.List.{ext_get_or}
+use Rattle.std.specs.List.{range_with_len}
+use Rattle.std.proofs.lemmas.List.{ext_get_or, length-map}
 use Rattle.std.proofs.lemmas.List.FromFn.{get_or-map-range_with_len, length-map-range_with_len}
 use Rattle.std.proofs.lemmas.Nat.{mod-mul-add, div-mul-add, mul-add-lt, div-add-mod'}
 use Rattle.std.proofs.Math.Nat.{div-lt_iff_lt-mul}
@@ -49,12 +50,16 @@ decided word None None t (Masked c) = refl
 decided word None None true (Unmasked c) = sym (dark_color (not (is_dark c)))
 decided word None None false (Unmasked c) = sym (dark_color (is_dark c))
 
-always_masked : (word : ℕ) (o : Option ℕ) (d : Option Color) (t : Bool) (m : Module) → Masked (color_of (is_dark_module (module_of word o d t m))) ≡ module_of word o d t m
-always_masked word (Some i) d t m = ap Masked (color_dark (color_of (has_bit word (14 - i))))
-always_masked word None (Some c) t m = ap Masked (color_dark c)
-always_masked word None None t Empty = ap Masked (color_dark (color_of t))
-always_masked word None None t (Masked c) = ap Masked (color_dark c)
-always_masked word None None t (Unmasked c) = ap Masked (color_dark (color_of (turned_if t (is_dark c))))
+always_masked : (word : ℕ) (o : Option ℕ) (d : Option Color) (t : Bool) (m : Module) → Masked (color_of_module (module_of word o d t m)) ≡ module_of word o d t m
+always_masked word (Some i) d t m = refl
+always_masked word None (Some c) t m = refl
+always_masked word None None t Empty = refl
+always_masked word None None t (Masked c) = refl
+always_masked word None None t (Unmasked c) = refl
+
+map_kept : {A B : Type 0} (f : B → B) (g : A → B) → ((x : A) → f (g x) ≡ g x) → (xs : List A) → map f (map g xs) ≡ map g xs
+map_kept f g h [] = refl
+map_kept f g h (x ∷ xs) = ap₂ (λ y ys. y ∷ ys) (h x) (map_kept f g h xs)
 
 -- the tests of a square need to agree inside alone
 pub inside_same : (w : ℕ) (f g : ℕ → ℕ → Bool) → ((x y : ℕ) → x < w → y < w → f x y ≡ g x y) → inside w f ≡ inside w g
@@ -87,6 +92,13 @@ module _ (v : Version) (l : EcLevel) (modules : List Module) where
   unfolding with_mask
   length_with_mask k = length-map-range_with_len (λ i. mask_module v (format_word v l k) k (i % side v) (i / side v) (slice_index_or modules i Empty)) 0 (side v * side v)
 
+  -- every module under a mask is masked
+  pub all_masked : (k : MaskPattern) → map (λ m. Masked (color_of_module m)) (with_mask v l k modules) ≡ with_mask v l k modules
+  unfolding with_mask
+  all_masked k = map_kept (λ m. Masked (color_of_module m)) (λ i. mask_module v (format_word v l k) k (i % side v) (i / side v) (slice_index_or modules i Empty))
+      (λ i. always_masked (format_word v l k) (format_index v (i % side v) (i / side v)) (dark_module v (i % side v) (i / side v)) (turns k (i % side v) (i / side v)) (slice_index_or modules i Empty))
+      (range_with_len 0 (side v * side v))
+
   pub place_under_mask : (k : MaskPattern) (x y : ℕ) → x < side v → y < side v → slice_index_or (with_mask v l k modules) (y * side v + x) Empty ≡ mask_module v (format_word v l k) k x y (slice_index_or modules (y * side v + x) Empty)
   place_under_mask k x y h p =
       with_mask_at k (y * side v + x) (mul-add-lt y (side v) x (side v) p h)
@@ -109,10 +121,13 @@ module _ (v : Version) (l : EcLevel) (modules : List Module) where
         ap (penalty_of v) (inside_same (side v) (masked_dark v (format_word v l mask) mask dark free) (λ x y. is_dark (color_at v (colors_of (with_mask v l mask modules)) x y))
         (λ x y h p. masked_same (format_word v l mask) mask x y h p ∙ ap is_dark (sym (color_under_mask mask x y h p))))
 
-    pub list_same : (k : MaskPattern) (rows : List ℕ) (new : List Module) → length new ≡ side v * side v → Shows (side v) rows (masked_dark v (format_word v l k) k dark free) →
-        ((x y : ℕ) → x < side v → y < side v → slice_index_or new (y * side v + x) Empty ≡ Masked (color_of (dark_in rows x y))) → new ≡ with_mask v l k modules
-    list_same k rows new size shows are =
-        ext_get_or Empty new (with_mask v l k modules) (size ∙ sym (length_with_mask k)) (λ i h.
+    -- what stands for the colours of a square under a mask
+    pub list_same : {S : Type 0} (of : Color → S) (k : MaskPattern) (rows : List ℕ) (new : List S) → length new ≡ side v * side v → Shows (side v) rows (masked_dark v (format_word v l k) k dark free) →
+        ((x y : ℕ) → x < side v → y < side v → slice_index_or new (y * side v + x) (of Light) ≡ of (color_of (dark_in rows x y))) → new ≡ map (λ m. of (color_of_module m)) (with_mask v l k modules)
+    list_same {S = S} of k rows new size shows are =
+        let masked : List Module = with_mask v l k modules in
+        let item : Module → S = λ m. of (color_of_module m) in
+        ext_get_or (of Light) new (map item masked) (size ∙ sym (length-map masked item ∙ length_with_mask k)) (λ i h.
         let inside : i < side v * side v = omega arith in
         let wide : 0 < side v = side_positive v in
         let x = i % side v in
@@ -120,9 +135,8 @@ module _ (v : Version) (l : EcLevel) (modules : List Module) where
         let column : x < side v = omega arith in
         let row : y < side v = div_below i (side v) wide inside in
         let e : i ≡ y * side v + x = split i (side v) in
-        let m = slice_index_or modules (y * side v + x) Empty in
         let word = format_word v l k in
-        ap (λ n. slice_index_or new n Empty) e ∙ are x y column row
-        ∙ ap (λ b. Masked (color_of b)) (sym (shows x y column row) ∙ masked_same word k x y column row)
-        ∙ always_masked word (format_index v x y) (dark_module v x y) (turns k x y) m
-        ∙ ap (λ n. mask_module v word k x y (slice_index_or modules n Empty)) (sym e) ∙ sym (with_mask_at k i inside))
+        ap (λ n. slice_index_or new n (of Light)) e ∙ are x y column row
+        ∙ ap (λ b. of (color_of b)) (sym (shows x y column row) ∙ masked_same word k x y column row)
+        ∙ ap of (color_dark (color_of_module (mask_module v word k x y (slice_index_or modules (y * side v + x) Empty))))
+        ∙ ap (λ n. item (mask_module v word k x y (slice_index_or modules n Empty))) (sym e) ∙ ap item (sym (with_mask_at k i inside)) ∙ sym (get_or-map item masked i Empty))

@@ -170,7 +170,7 @@ block_row v first m row left top across n start es fits high square long shows t
   at_place : (i : ℕ) → i < across → get_or new ((top + n) * side v + (left + i)) Empty ≡ get_or row i Empty
   at_place i lt =
       let e : (top + n) * side v + (left + i) ≡ start + i = omega arith in
-      ap (λ k. get_or new k Empty) e ∙ part_inside start across m row i (omega (arith, room)) (omega arith)
+      ap (λ k. get_or new k Empty) e ∙ part_inside Empty start across m row i (omega (arith, room)) (omega arith)
 
   drawn : (i : ℕ) → i < across → (x : Module) → get_or new ((top + n) * side v + (left + i)) Empty
       ≡ pattern_module v (((top + n) * side v + (left + i)) % side v) (((top + n) * side v + (left + i)) / side v) x
@@ -181,7 +181,7 @@ block_row v first m row left top across n start es fits high square long shows t
   step : DrawsTowards v m new
   step = towards_each v m new
       (λ k. elim (cases_lt k start) [
-        | inl less ↦ inl (part_before start across m row k less (omega (arith, room)))
+        | inl less ↦ inl (part_before Empty start across m row k less (omega (arith, room)))
         | inr from ↦ elim (cases_lt k (start + across)) [
           | inl inside ↦
               let e : (top + n) * side v + (left + (k - start)) ≡ k = omega arith in

@@ -65,10 +65,10 @@ first_bit rest word line i e f =
     ap (λ n. n == 1) (cut ∙ ap (λ n. n % 2) f)
 
 -- the places of a square after a part of it was written
-pub part_before : (a k : ℕ) (xs ys : List Module) (i : ℕ) → i < a → a ≤ length xs → slice_index_or (put_mid a k xs ys) i Empty ≡ slice_index_or xs i Empty
-part_before a k xs ys i h l = get_or_append_left (take a xs) (ys ++ post_of a k xs) Empty i (omega (arith, length-take a xs)) ∙ get_or-take a xs i Empty h
+pub part_before : {A : Type 0} (d : A) (a k : ℕ) (xs ys : List A) (i : ℕ) → i < a → a ≤ length xs → slice_index_or (put_mid a k xs ys) i d ≡ slice_index_or xs i d
+part_before d a k xs ys i h l = get_or_append_left (take a xs) (ys ++ post_of a k xs) d i (omega (arith, length-take a xs)) ∙ get_or-take a xs i d h
 
-pub part_inside : (a k : ℕ) (xs ys : List Module) (j : ℕ) → a ≤ length xs → j < length ys → slice_index_or (put_mid a k xs ys) (a + j) Empty ≡ slice_index_or ys j Empty
-part_inside a k xs ys j l h =
+pub part_inside : {A : Type 0} (d : A) (a k : ℕ) (xs ys : List A) (j : ℕ) → a ≤ length xs → j < length ys → slice_index_or (put_mid a k xs ys) (a + j) d ≡ slice_index_or ys j d
+part_inside d a k xs ys j l h =
     let e : a ≡ length (take a xs) = omega (arith, length-take a xs) in
-    ap (λ n. slice_index_or (put_mid a k xs ys) (n + j) Empty) e ∙ get_or-append-add (take a xs) (ys ++ post_of a k xs) j Empty ∙ get_or_append_left ys (post_of a k xs) Empty j h
+    ap (λ n. slice_index_or (put_mid a k xs ys) (n + j) d) e ∙ get_or-append-add (take a xs) (ys ++ post_of a k xs) j d ∙ get_or_append_left ys (post_of a k xs) d j h

@@ -1,7 +1,8 @@
 -- How a mask is chosen on rows packed into numbers.
-use Rattle.std.specs.Prelude.{◌≡◌, ℕ, zero, suc, ◌+◌, ◌-◌, ◌*◌, ◌<◌, ◌≤◌, Bool, true, false, ◌&&◌, List, [], ◌∷◌, Option, Some, None, take, drop, slice_index_or, if◌then◌else◌}
+use Rattle.std.specs.Prelude.{◌≡◌, ℕ, zero, suc, ◌+◌, ◌-◌, ◌*◌, ◌<◌, ◌≤◌, Bool, true, false, ◌&&◌, List, [], ◌∷◌, Option, Some, None, map, take, drop, slice_index_or, if◌then◌else◌}
 use Rattle.qrcode_types.specs.Bits.{has_bit}
 use Rattle.qrcode_types.specs.Colors.{is_dark}
+use Rattle.qrcode_types.specs.declared.types.Color.{Color}
 use Rattle.qrcode_types.specs.declared.types.Version.{Version}
 use Rattle.qrcode_types.specs.declared.types.Version.TheVariants.{Normal, Micro}
 use Rattle.qrcode_types.specs.declared.types.EcLevel.{EcLevel}
@@ -98,3 +99,9 @@ pub record IsBestMasked (v : Version) (l : EcLevel) (modules new : List Module) 
   pub after : new ≡ with_mask v l mask modules
   -- where the modules are patterns and drawn bits, its colours need not be compared with the modules
   pub first_least : (bits : List Bool) → modules ≡ with_bits_drawn v bits (with_patterns v (blank v)) → IsFirstLeast v l mask (colors_of new)
+
+-- the modules under the first mask of least penalty, each as what stands for its colour
+pub record IsBestShown {A : Type 0} (v : Version) (l : EcLevel) (modules : List Module) (of : Color → A) (new : List A) : Type 0 where
+  pub masked : List Module
+  pub best : IsBestMasked v l modules masked
+  pub shown : new ≡ map (λ m. of (color_of_module m)) masked

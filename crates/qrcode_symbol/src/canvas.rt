@@ -12,7 +12,7 @@ ghost use Rattle.qrcode_types.specs.declared.types.QrError.TheVariants.{OutOfMem
 ghost use Rattle.qrcode_symbol.specs.Canvas.{wrapped, module_index, blank, color_of_module, colors_of, masked_module, drawn_bits, with_bits_drawn, with_patterns, with_mask};
 ghost use Rattle.qrcode_symbol.specs.Carried.{CarriesAll};
 ghost use Rattle.qrcode_symbol.specs.Lending.{LendsModule};
-ghost use Rattle.qrcode_symbol.specs.Masking.{IsBestMasked};
+ghost use Rattle.qrcode_symbol.specs.Masking.{IsBestMasked, IsBestShown};
 ghost use Rattle.qrcode_symbol.specs.Patterned.{IsDrawn};
 ghost use Rattle.qrcode_symbol.specs.declared.canvas.Module.TheVariants.{Empty, Masked};
 
@@ -23,6 +23,7 @@ mod applying;
 mod codewords;
 mod drawing;
 mod filling;
+mod layer;
 mod layout;
 mod masked_rows;
 mod masking;
@@ -35,7 +36,6 @@ use codewords::Codewords;
 use drawing::{draw_patterns, is_functional_place};
 use filling::draw_codewords;
 use layout::Layout;
-use masking::best_masked;
 use qrcode_places::laws;
 use qrcode_types::types::{Color, EcLevel, QrResult, Version};
 use std::alloc::Global;
@@ -276,12 +276,28 @@ impl Canvas {
         ensures words_tell { FormatWordsTell }
     {
         laws::words();
-        let modules = best_masked(alloc, self.version, self.ec_level, &self.modules)?;
+        let modules = masking::best(alloc, self.version, self.ec_level, &self.modules)?;
         Ok(Canvas {
             version: self.version,
             ec_level: self.ec_level,
             modules,
         })
+    }
+
+    /// The colours of the canvas under the first mask of least penalty, row by row: what
+    /// `apply_best_mask` gives, without a second canvas.
+    pub fn best_colors(&self, alloc: Global) -> QrResult<Vec<Color>>
+        requires { IsTrue (has_level self.now.version self.now.level) }
+        ensures best { IfOk result (λ colors.
+            IsBestShown self.now.version self.now.level self.now.modules (λ color. color) colors.items) }
+        ensures memory { IsOkUnless result OutOfMemory }
+
+        // The format words are far from one another, and tell level and mask.
+        ensures words_apart { FormatWordsAreApart }
+        ensures words_tell { FormatWordsTell }
+    {
+        laws::words();
+        masking::best(alloc, self.version, self.ec_level, &self.modules)
     }
 
     /// Whether each module is dark, row by row.

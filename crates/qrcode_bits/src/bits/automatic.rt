@@ -15,8 +15,7 @@ ghost use Rattle.qrcode_bits.specs.Encoded.{IsTerminated, IsHeld, IsChosenList, 
 ghost use Rattle.qrcode_bits.specs.Refusals.{data_limit};
 ghost use Rattle.qrcode_bits.specs.declared.optimize.Segment.{Segment};
 
-use super::Bits;
-use super::optimal::DATA_LIMIT;
+use super::{Bits, DATA_LIMIT};
 use crate::characters::is_digit;
 use crate::optimize::{Segment, least_segments, total_encoded_len};
 use qrcode_types::tables;

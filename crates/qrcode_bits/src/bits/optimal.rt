@@ -17,8 +17,8 @@ use super::Bits;
 use crate::optimize::{Segment, least_segments};
 use qrcode_types::types::{QrError, QrResult};
 
-// The bytes of data at most.
-pub(super) const DATA_LIMIT: usize = 1_048_576;
+/// The bytes of data that are taken at most.
+pub const DATA_LIMIT: usize = 1_048_576;
 
 impl Bits {
     /// Appends data in segments of the fewest bits, as `least_segments` gives them.

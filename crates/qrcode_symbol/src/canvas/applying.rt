@@ -1,49 +1,27 @@
 //! Applying a mask to all modules, with the format word.
 
-ghost use Rattle.std.specs.Prelude.{◌≡◌, ℕ, ◌-◌, ◌*◌, ◌<◌, ◌≤◌, length, IsTrue};
-ghost use Rattle.qrcode_types.specs.Bits.{has_bit};
-ghost use Rattle.qrcode_types.specs.Colors.{color_of};
-ghost use Rattle.qrcode_types.specs.Versions.{is_valid, has_level, side};
+ghost use Rattle.std.specs.Prelude.{◌≡◌, ◌*◌, ◌<◌, length, IsTrue};
+ghost use Rattle.qrcode_types.specs.Versions.{has_level, side};
 ghost use Rattle.qrcode_places.specs.Masks.{exists_in};
 ghost use Rattle.qrcode_symbol.specs.Canvas.{mask_module, with_mask};
 
-use super::patterns::{color_of, dark_module, format_index};
+use super::layer::{Layer, fixed_bit};
+use super::patterns::color_of;
 use super::{Module, side};
 use qrcode_places::masks::MaskPattern;
 use qrcode_places::words::format_word;
-use qrcode_types::types::{Color, EcLevel, Version};
-
-// The colour of bit `i` of a format word, the highest bit being 0.
-fn word_bit(word: u16, i: usize) -> Color
-    requires { i < 15 }
-    ensures { result ≡ color_of (has_bit word (14 - i)) }
-{
-    color_of((word >> (14 - i)) % 2 == 1)
-}
+use qrcode_types::types::{EcLevel, Version};
 
 // A module after a mask: the bit of the format word, the dark module, or the module masked.
-fn mask_module(
-    version: Version,
-    width: usize,
-    word: u16,
-    mask: MaskPattern,
-    x: usize,
-    y: usize,
-    old: Module,
-) -> Module
-    requires valid { IsTrue (is_valid version) }
-    requires wide { width ≡ side version }
-    requires small { width ≤ 177 }
-    requires column { x < width }
-    requires row { y < width }
-    ensures { result ≡ mask_module version word mask x y old }
+#[tactic(auto, unfolding(crate::specs::Masking::fixed_bit))]
+fn mask_module(layer: Layer, x: usize, y: usize, old: Module) -> Module
+    requires column { x < layer.width }
+    requires row { y < layer.width }
+    ensures { result ≡ mask_module layer.version layer.word layer.mask x y old }
 {
-    if let Some(i) = format_index(version, width, x, y) {
-        return Module::Masked(word_bit(word, i));
-    }
-    match dark_module(version, width, x, y) {
-        Some(color) => Module::Masked(color),
-        None => old.mask(mask.turns(x as i16, y as i16)),
+    match fixed_bit(layer, x, y) {
+        Some(bit) => Module::Masked(color_of(bit)),
+        None => old.mask(layer.mask.turns(x as i16, y as i16)),
     }
 }
 
@@ -61,8 +39,13 @@ pub(super) fn mask_modules(
     ensures { modules.new ≡ with_mask version ec_level mask modules.old }
 {
     let width = side(version);
-    let word = format_word(version, ec_level, mask);
+    let layer = Layer {
+        version,
+        width,
+        word: format_word(version, ec_level, mask),
+        mask,
+    };
     for i in 0..width * width {
-        modules[i] = mask_module(version, width, word, mask, i % width, i / width, modules[i]);
+        modules[i] = mask_module(layer, i % width, i / width, modules[i]);
     }
 }

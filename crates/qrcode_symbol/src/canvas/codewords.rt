@@ -15,7 +15,7 @@ use std::marker::Model;
 pub(super) struct Codewords<'a> {
     begun: u32,
     bits_left: u32,
-    data: &'a [u8],
+    bytes: &'a [u8],
     has_half: bool,
     ec: &'a [u8],
 }
@@ -27,7 +27,7 @@ impl<'a> Model for Codewords<'a> {
     ghost Value = { List Bool };
 
     ghost view = { λ c. number_bits c.bits_left c.begun
-        ++ (take (8 * length c.data.now - (if c.has_half then 4 else 0)) (bits_of c.data.now)
+        ++ (take (8 * length c.bytes.now - (if c.has_half then 4 else 0)) (bits_of c.bytes.now)
         ++ bits_of c.ec.now) };
 
     ghost invariant = { λ c. c.bits_left < 8 };
@@ -42,7 +42,7 @@ impl<'a> Codewords<'a> {
         Codewords {
             begun: 0,
             bits_left: 0,
-            data,
+            bytes: data,
             has_half: has_half_codeword(version, ec_level),
             ec,
         }
@@ -57,10 +57,10 @@ impl<'a> Codewords<'a> {
             self.bits_left -= 1;
             return Some((self.begun >> self.bits_left) % 2 == 1);
         }
-        if !self.data.is_empty() {
-            let byte = self.data[0] as u32;
-            self.data = &self.data[1..];
-            if self.has_half && self.data.is_empty() {
+        if !self.bytes.is_empty() {
+            let byte = self.bytes[0] as u32;
+            self.bytes = &self.bytes[1..];
+            if self.has_half && self.bytes.is_empty() {
                 self.begun = byte >> 4;
                 self.bits_left = 3;
                 return Some((byte >> 7) % 2 == 1);

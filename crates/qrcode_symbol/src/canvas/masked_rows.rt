@@ -7,12 +7,11 @@ ghost use Rattle.qrcode_places.specs.Masks.{turns, turned_if, exists_in};
 ghost use Rattle.qrcode_places.specs.Words.{format_word};
 ghost use Rattle.qrcode_symbol.specs.Masking.{fixed_bit, bit_or_else, masked_dark};
 
+use super::layer::{Layer, fixed_bit};
 use super::packing::PackedSquare;
-use super::patterns::{dark_module, format_index};
 use qrcode_penalty::line::Line;
 use qrcode_places::masks::MaskPattern;
 use qrcode_places::words::format_word;
-use qrcode_types::types::{Color, Version};
 
 // The places that each mask turns in six columns of twelve rows, column x at bit x. All masks go on so, every six
 // columns and every twelve rows.
@@ -72,34 +71,6 @@ fn put<L: Line>(row: L, place: u32, set: bool) -> L
         return row.or(one);
     }
     row.without(one)
-}
-
-/// A mask of a symbol, with its format word.
-#[derive(Copy, Clone)]
-struct Layer {
-    version: Version,
-    width: usize,
-    word: u16,
-    mask: MaskPattern,
-    ghost valid: { IsTrue (is_valid version) },
-    ghost wide: { width ≡ side version },
-    ghost least: { 11 ≤ width },
-    ghost small: { width ≤ 177 },
-}
-
-// The bit of a place that no mask decides: of the format word, or of the dark module.
-#[tactic(auto, unfolding(crate::specs::Masking::fixed_bit))]
-fn fixed_bit(layer: Layer, x: usize, y: usize) -> Option<bool>
-    requires { x < 1000 }
-    ensures { result ≡ fixed_bit layer.version layer.word x y }
-{
-    if let Some(i) = format_index(layer.version, layer.width, x, y) {
-        return Some((layer.word >> (14 - i)) % 2 == 1);
-    }
-    match dark_module(layer.version, layer.width, x, y) {
-        Some(color) => Some(color == Color::Dark),
-        None => None,
-    }
 }
 
 // Row 8 with the bits that no mask decides.

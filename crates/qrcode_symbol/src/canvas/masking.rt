@@ -7,17 +7,17 @@ ghost use Rattle.qrcode_types.specs.declared.types.QrError.TheVariants.{OutOfMem
 ghost use Rattle.qrcode_penalty.specs.Rows.{AllEndBefore, Shows, inside};
 ghost use Rattle.qrcode_places.specs.Masks.{exists_in};
 ghost use Rattle.qrcode_symbol.specs.Penalties.{penalty_of};
-ghost use Rattle.qrcode_symbol.specs.Masking.{is_dark_module, is_free, ShowsModules, nth_mask, normal_mask, micro_mask, mask_count, nth_cost, IsFirstLeastCost, IsBestMasked};
+ghost use Rattle.qrcode_symbol.specs.Masking.{is_dark_module, is_free, ShowsModules, nth_mask, normal_mask, micro_mask, mask_count, nth_cost, IsFirstLeastCost, IsBestShown};
 ghost use Rattle.qrcode_symbol.specs.declared.canvas.Module.{Module};
 
 use super::masked_rows::mask_rows;
 use super::packing::{PackedSquare, pack_rows};
-use super::unpacking::{LIGHT, unpack_rows};
+use super::unpacking::{Shown, unpack_rows};
 use super::{Module, side};
 use qrcode_penalty::line::{Line, ThreeWords};
 use qrcode_penalty::penalty::{micro_penalty, normal_penalty};
 use qrcode_places::masks::MaskPattern;
-use qrcode_types::types::{EcLevel, QrResult, Version};
+use qrcode_types::types::{Color, EcLevel, QrResult, Version};
 use std::alloc::Global;
 
 // What a square of rows costs.
@@ -122,39 +122,38 @@ fn least_mask<L: Line>(square: &PackedSquare<'_, L>, masked: &mut [L]) -> usize
     best
 }
 
-// Writes the modules under the first mask of least penalty; `masked` is a place to work in.
-fn write_best<L: Line>(square: &PackedSquare<'_, L>, masked: &mut [L], answer: &mut [Module])
-    requires masked_size { length masked.old ≡ square.now.width }
-    requires answer_size { length answer.old ≡ square.now.width * square.now.width }
-    ensures { (modules : List Module)
+// The square under the first mask of least penalty, by its packed rows.
+fn best_of<L: Line, S: Shown>(alloc: Global, square: &PackedSquare<'_, L>) -> QrResult<Vec<S>>
+    ensures best { (modules : List Module)
         → ShowsModules is_dark_module square.now.width modules (map L.places square.now.dark.now)
         → ShowsModules is_free square.now.width modules (map L.places square.now.free.now)
-        → IsBestMasked square.now.version square.now.ec_level modules answer.new }
+        → IfOk result (λ new. IsBestShown square.now.version square.now.ec_level modules S.of new.items) }
+    ensures memory { IsOkUnless result OutOfMemory }
 {
-    let best = least_mask(square, masked);
-    mask_rows(square, nth_mask(square.version, best), masked);
-    unpack_rows(square.width, masked, answer);
+    let mut masked = vec![in alloc; L::first(0); square.width]?;
+    let mut answer = vec![in alloc; S::of(Color::Light); square.width * square.width]?;
+    let best = least_mask(square, &mut masked);
+    mask_rows(square, nth_mask(square.version, best), &mut masked);
+    unpack_rows(square.width, &masked, &mut answer);
+    Ok(answer)
 }
 
-// The modules under the first mask of least penalty, chosen on rows of one kind.
-fn best_masked_by<L: Line>(
+// The square under the first mask of least penalty, chosen on rows of one kind.
+fn best_by<L: Line, S: Shown>(
     alloc: Global,
     version: Version,
     ec_level: EcLevel,
     modules: &[Module],
-) -> QrResult<Vec<Module>>
+) -> QrResult<Vec<S>>
     requires level { IsTrue (has_level version ec_level) }
     requires room { side version + 3 ≤ L.room }
     requires square { length modules.now ≡ side version * side version }
-    ensures masked { IfOk result (λ new. IsBestMasked version ec_level modules.now new.items) }
-    ensures square { IfOk result (λ new. length new.items ≡ side version * side version) }
+    ensures best { IfOk result (λ new. IsBestShown version ec_level modules.now S.of new.items) }
     ensures memory { IsOkUnless result OutOfMemory }
 {
     let width = side(version);
     let mut dark = vec![in alloc; L::first(0); width]?;
     let mut free = vec![in alloc; L::first(0); width]?;
-    let mut masked = vec![in alloc; L::first(0); width]?;
-    let mut answer = vec![in alloc; LIGHT; width * width]?;
     pack_rows(width, modules, &mut dark, &mut free);
     let square = PackedSquare {
         version,
@@ -163,31 +162,29 @@ fn best_masked_by<L: Line>(
         dark: &dark,
         free: &free,
     };
-    write_best(&square, &mut masked, &mut answer);
-    Ok(answer)
+    best_of(alloc, &square)
 }
 
-/// The modules, in row order, under the first mask of least penalty, with its format word.
-pub(super) fn best_masked(
+/// The square, in row order, under the first mask of least penalty, with its format word.
+pub(super) fn best<S: Shown>(
     alloc: Global,
     version: Version,
     ec_level: EcLevel,
     modules: &[Module],
-) -> QrResult<Vec<Module>>
+) -> QrResult<Vec<S>>
     requires level { IsTrue (has_level version ec_level) }
     requires square { length modules.now ≡ side version * side version }
-    ensures masked { IfOk result (λ new. IsBestMasked version ec_level modules.now new.items) }
-    ensures square { IfOk result (λ new. length new.items ≡ side version * side version) }
+    ensures best { IfOk result (λ new. IsBestShown version ec_level modules.now S.of new.items) }
     ensures memory { IsOkUnless result OutOfMemory }
 {
     let width = side(version);
     if width + 3 <= 64 {
-        return best_masked_by::<u64>(alloc, version, ec_level, modules);
+        return best_by::<u64, S>(alloc, version, ec_level, modules);
     }
     if width + 3 <= 128 {
-        return best_masked_by::<u128>(alloc, version, ec_level, modules);
+        return best_by::<u128, S>(alloc, version, ec_level, modules);
     }
-    best_masked_by::<ThreeWords>(alloc, version, ec_level, modules)
+    best_by::<ThreeWords, S>(alloc, version, ec_level, modules)
 }
 
 #[cfg(test)]

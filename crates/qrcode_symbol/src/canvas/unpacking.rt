@@ -1,78 +1,111 @@
-//! Rows of places written as masked modules.
+//! Rows of places written as modules or as colours.
 
 ghost use Rattle.std.specs.Prelude.{◌≡◌, ℕ, ◌+◌, ◌*◌, ◌/◌, ◌<◌, ◌≤◌, ◌^◌, length, map, slice_index_or};
 ghost use Rattle.qrcode_types.specs.Colors.{color_of};
+ghost use Rattle.qrcode_types.specs.declared.types.Color.{Color};
+ghost use Rattle.qrcode_types.specs.declared.types.Color.TheVariants.{Light};
 ghost use Rattle.qrcode_penalty.specs.Rows.{has_place, dark_in};
-ghost use Rattle.qrcode_symbol.specs.declared.canvas.Module.TheVariants.{Empty, Masked};
+ghost use Rattle.qrcode_symbol.specs.declared.canvas.Module.TheVariants.{Masked};
 
 use super::Module;
 use super::patterns::color_of;
 use qrcode_penalty::line::Line;
 use qrcode_types::types::Color;
 
-/// A masked light module.
-pub(super) const LIGHT: Module = Module::Masked(Color::Light);
+const L: Color = Color::Light;
 
-const DARK: Module = Module::Masked(Color::Dark);
+const D: Color = Color::Dark;
 
-// Four masked modules by the bits of a number, the lowest first.
+// Four colours by the bits of a number, the lowest first.
 #[rattlefmt::skip]
-static FOURS: [[Module; 4]; 16] = [
-    [LIGHT, LIGHT, LIGHT, LIGHT],
-    [DARK, LIGHT, LIGHT, LIGHT],
-    [LIGHT, DARK, LIGHT, LIGHT],
-    [DARK, DARK, LIGHT, LIGHT],
-    [LIGHT, LIGHT, DARK, LIGHT],
-    [DARK, LIGHT, DARK, LIGHT],
-    [LIGHT, DARK, DARK, LIGHT],
-    [DARK, DARK, DARK, LIGHT],
-    [LIGHT, LIGHT, LIGHT, DARK],
-    [DARK, LIGHT, LIGHT, DARK],
-    [LIGHT, DARK, LIGHT, DARK],
-    [DARK, DARK, LIGHT, DARK],
-    [LIGHT, LIGHT, DARK, DARK],
-    [DARK, LIGHT, DARK, DARK],
-    [LIGHT, DARK, DARK, DARK],
-    [DARK, DARK, DARK, DARK],
+static FOURS: [[Color; 4]; 16] = [
+    [L, L, L, L], [D, L, L, L], [L, D, L, L], [D, D, L, L],
+    [L, L, D, L], [D, L, D, L], [L, D, D, L], [D, D, D, L],
+    [L, L, L, D], [D, L, L, D], [L, D, L, D], [D, D, L, D],
+    [L, L, D, D], [D, L, D, D], [L, D, D, D], [D, D, D, D],
 ];
 
+/// What the colour of a place is written as.
+pub(super) trait Shown: Copy {
+    // The item of a colour.
+    ghost of: { Color → Self };
+
+    /// The item of a colour.
+    fn of(color: Color) -> Self
+        ensures { result ≡ of color };
+
+    /// The items of four colours.
+    fn four(colors: [Color; 4]) -> [Self; 4]
+        ensures { result ≡ map of colors };
+}
+
+impl Shown for Color {
+    ghost of = { λ color. color };
+
+    fn of(color: Color) -> Color {
+        color
+    }
+
+    fn four(colors: [Color; 4]) -> [Color; 4] {
+        colors
+    }
+}
+
+impl Shown for Module {
+    ghost of = { Masked };
+
+    fn of(color: Color) -> Module {
+        Module::Masked(color)
+    }
+
+    fn four(colors: [Color; 4]) -> [Module; 4] {
+        let [a, b, c, d] = colors;
+        [
+            Module::Masked(a),
+            Module::Masked(b),
+            Module::Masked(c),
+            Module::Masked(d),
+        ]
+    }
+}
+
 // Writes the whole fours of a row, and gives the places that are left.
-fn unpack_fours<L: Line>(line: L, row: &mut [Module]) -> L
+fn unpack_fours<R: Line, S: Shown>(line: R, row: &mut [S]) -> R
     ensures done { (x : ℕ) → x < 4 * (length row.old / 4)
-        → slice_index_or row.new x Empty ≡ Masked (color_of (has_place (L.places line) x)) }
-    ensures rest { L.places result ≡ L.places line / 2 ^ (4 * (length row.old / 4)) }
+        → slice_index_or row.new x (S.of Light) ≡ S.of (color_of (has_place (R.places line) x)) }
+    ensures rest { R.places result ≡ R.places line / 2 ^ (4 * (length row.old / 4)) }
 {
     let mut rest = line;
     for j in 0..row.len() / 4 {
-        let four = (rest.first_word() % 16) as usize;
-        row[4 * j..4 * j + 4].copy_from_slice(&FOURS[four]);
+        let four = S::four(FOURS[(rest.first_word() % 16) as usize]);
+        row[4 * j..4 * j + 4].copy_from_slice(&four);
         rest = rest.down(4);
     }
     rest
 }
 
-// Writes a row of masked modules, dark where the line is set.
-fn unpack_row<L: Line>(line: L, row: &mut [Module])
+// Writes a row by its places, of which the dark ones are set.
+fn unpack_row<R: Line, S: Shown>(line: R, row: &mut [S])
     ensures { (x : ℕ) → x < length row.old
-        → slice_index_or row.new x Empty ≡ Masked (color_of (has_place (L.places line) x)) }
+        → slice_index_or row.new x (S.of Light) ≡ S.of (color_of (has_place (R.places line) x)) }
 {
     let mut rest = unpack_fours(line, row);
     for x in 4 * (row.len() / 4)..row.len() {
-        row[x] = Module::Masked(color_of(rest.first_word() % 2 == 1));
+        row[x] = S::of(color_of(rest.first_word() % 2 == 1));
         rest = rest.down(1);
     }
 }
 
-/// Writes the rows of a square as masked modules.
+/// Writes the rows of a square by their places, of which the dark ones are set.
 #[tactic(auto, using(std::proofs::lemmas::Nat::rows))]
-pub(super) fn unpack_rows<L: Line>(width: usize, rows: &[L], modules: &mut [Module])
+pub(super) fn unpack_rows<R: Line, S: Shown>(width: usize, rows: &[R], square: &mut [S])
     requires small { width ≤ 177 }
     requires size { length rows.now ≡ width }
-    requires square { length modules.old ≡ width * width }
+    requires square { length square.old ≡ width * width }
     ensures { (x y : ℕ) → x < width → y < width
-        → slice_index_or modules.new (y * width + x) Empty ≡ Masked (color_of (dark_in (map L.places rows.now) x y)) }
+        → slice_index_or square.new (y * width + x) (S.of Light) ≡ S.of (color_of (dark_in (map R.places rows.now) x y)) }
 {
     for y in 0..width {
-        unpack_row(rows[y], &mut modules[y * width..(y + 1) * width]);
+        unpack_row(rows[y], &mut square[y * width..(y + 1) * width]);
     }
 }

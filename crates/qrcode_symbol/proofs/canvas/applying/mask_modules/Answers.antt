@@ -17,7 +17,7 @@ loop-i-preserved c =
           (λ k h. let ne : k ≢ i = omega arith in rw get_or-set_other (c.loop-i.invariant.done k h))
           (rw get_or-set_same
           (c.mask_module.ensures
-          ∙ ap (λ (m : Module). mask_module c.args.version c.format_word-word.result c.args.mask (i % w) (i / w) m) (c.loop-i.invariant.rest i (omega arith))));
+          ∙ ap (λ (m : Module). mask_module c.args.version c.format_word.result c.args.mask (i % w) (i / w) m) (c.loop-i.invariant.rest i (omega arith))));
       rest = λ k h. let ne : k ≢ i = omega arith in rw get_or-set_other (c.loop-i.invariant.rest k (omega arith));
     }
 
@@ -26,5 +26,5 @@ unfolding with_mask
 returns c =
     let w = c.side-width.result in
     all_mapped c.args.version (mask_module c.args.version _ c.args.mask) c.args.modules.now c.loop-i.modules w c.side-width.ensures.value (c.loop-i.auto.modules ∙ c.requires.square)
-    (subst (λ (word : ℕ). (i : ℕ) → i < w * w → get_or c.loop-i.modules i Empty ≡ mask_module c.args.version word c.args.mask (i % w) (i / w) (get_or c.args.modules.now i Empty)) c.format_word-word.ensures
+    (subst (λ (word : ℕ). (i : ℕ) → i < w * w → get_or c.loop-i.modules i Empty ≡ mask_module c.args.version word c.args.mask (i % w) (i / w) (get_or c.args.modules.now i Empty)) c.format_word.ensures
     (λ i h. c.loop-i.invariant.done i (omega arith)))

@@ -5,6 +5,6 @@ use Rattle.qrcode_symbol.proofs.canvas.applying.mask_modules.Given as goal
 
 abbrev pub invariant-loop-i : goal.invariant-loop-i
 invariant-loop-i l = record {
-  done : (k : ℕ) → k < l.i → get_or l.modules k Empty ≡ mask_module l.version l.word l.mask (k % l.width) (k / l.width) (get_or l.initial.modules k Empty);
+  done : (k : ℕ) → k < l.i → get_or l.modules k Empty ≡ mask_module l.fn.version l.layer.1.1.0 l.fn.mask (k % l.width) (k / l.width) (get_or l.initial.modules k Empty);
   rest : (k : ℕ) → l.i ≤ k → get_or l.modules k Empty ≡ get_or l.initial.modules k Empty;
 }

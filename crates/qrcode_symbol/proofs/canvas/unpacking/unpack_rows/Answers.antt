@@ -4,18 +4,19 @@ use borrow.Rule.Slice.PartMut.{put_mid}
 use Rattle.qrcode_types.specs.Colors.{color_of}
 use Rattle.qrcode_penalty.specs.Rows.{has_place, dark_in}
 use Rattle.qrcode_penalty.proofs.ColumnWords.{read}
-use Rattle.qrcode_symbol.specs.declared.canvas.Module.TheVariants.{Empty, Masked}
+use Rattle.qrcode_types.specs.declared.types.Color.TheVariants.{Light}
 use Rattle.qrcode_symbol.proofs.RowLists.{part_before, part_inside}
 use Rattle.qrcode_symbol.proofs.canvas.unpacking.unpack_rows.Goals as goal
 
 pub loop-y-preserved : goal.loop-y-preserved
 unfolding dark_in
 loop-y-preserved g c = λ x y h l.
-    let places = g.L.Line.places in
+    let places = g.R.Line.places in
+    let of = g.S.Shown.of in
     let w = c.args.width in
     let n = c.loop-y.y in
     let k = (n + 1) * w - n * w in
-    let old = c.loop-y.modules in
+    let old = c.loop-y.square in
     let new = c.unpack_row.new.row in
     let rows = c.args.rows.now in
     let full : n * w + 0 < w * w = mul-add-lt n w 0 w (omega arith) (omega arith) in
@@ -25,7 +26,7 @@ loop-y-preserved g c = λ x y h l.
     let wide : x < length (take k (drop (n * w) old)) = simp (length-take, length-drop) (omega (arith, inside, size, step, h)) in
     let kept : length new ≡ length (take k (drop (n * w) old)) = omega arith in
     let at = read places rows n c.index-rows-y.result (omega arith) c.index-rows-y.is in
-    below_more (λ y. slice_index_or (put_mid (n * w) k old new) (y * w + x) Empty ≡ Masked (color_of (dark_in (map places rows) x y))) n
-    (λ y m. part_before (n * w) k old new (y * w + x) (omega (arith, mul-add-lt y w x n m h, mul_comm w n)) (omega (arith, size, full)) ∙ c.loop-y.invariant x y h m)
-    (part_inside (n * w) k old new x (omega (arith, size, full)) (omega (arith, wide, kept)) ∙ c.unpack_row.ensures x wide ∙ ap (λ r. Masked (color_of (has_place r x))) at)
+    below_more (λ y. slice_index_or (put_mid (n * w) k old new) (y * w + x) (of Light) ≡ of (color_of (dark_in (map places rows) x y))) n
+    (λ y m. part_before (of Light) (n * w) k old new (y * w + x) (omega (arith, mul-add-lt y w x n m h, mul_comm w n)) (omega (arith, size, full)) ∙ c.loop-y.invariant x y h m)
+    (part_inside (of Light) (n * w) k old new x (omega (arith, size, full)) (omega (arith, wide, kept)) ∙ c.unpack_row.ensures x wide ∙ ap (λ r. of (color_of (has_place r x))) at)
     y l
