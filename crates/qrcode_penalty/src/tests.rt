@@ -1,4 +1,4 @@
-ghost use Rattle.std.specs.Prelude.{◌≡◌, ◌+◌, ◌<◌, ◌≤◌, length, map, IfOk};
+ghost use Rattle.std.specs.Prelude.{◌≡◌, ◌+◌, ◌<◌, ◌≤◌, length, map, vec_len, IfOk};
 ghost use Rattle.qrcode_penalty.specs.Rows.{EndsBefore, AllEndBefore};
 
 use crate::line::{Line, ThreeWords};
@@ -23,19 +23,26 @@ enum Square {
 
 impl Square {
     fn is_dark(self, x: u32, y: u32) -> bool {
-        let right = x.wrapping_sub(y);
         match self {
             Square::Light => false,
             Square::Dark => true,
-            Square::Mixed => {
-                let mixed = x.wrapping_mul(0x9e37_79b1) ^ y.wrapping_mul(0x85eb_ca6b);
-                (mixed.wrapping_mul(0xc2b2_ae35) >> 17) % 2 == 1
-            }
-            Square::Forms => right == 0 || (2 <= right && right <= 4) || right == 6,
-            Square::Runs => right < 5 + y % 4 || x % 2 == 0,
-            Square::Rows(rows) => y < 11 && x < 11 && (rows[y as usize] >> x) % 2 == 1,
+            Square::Mixed => is_dark_by_hash(x, y),
+            Square::Forms => matches!(x.wrapping_sub(y), 0 | 2..=4 | 6),
+            Square::Runs => x.wrapping_sub(y) < 5 + y % 4 || x % 2 == 0,
+            Square::Rows(rows) => is_dark_in_rows(&rows, x, y),
         }
     }
+}
+
+// Whether a hash of the place is odd.
+fn is_dark_by_hash(x: u32, y: u32) -> bool {
+    let mixed = x.wrapping_mul(0x9e37_79b1) ^ y.wrapping_mul(0x85eb_ca6b);
+    (mixed.wrapping_mul(0xc2b2_ae35) >> 17) % 2 == 1
+}
+
+// Whether the bits of a row have the place.
+fn is_dark_in_rows(rows: &[u16; 11], x: u32, y: u32) -> bool {
+    y < 11 && x < 11 && (rows[y as usize] >> x) % 2 == 1
 }
 
 // The row with the places from `first` to before `past` changed.
@@ -78,13 +85,23 @@ fn fill<L: Line>(square: Square, width: u32, rows: &mut [L])
     }
 }
 
+// The rows of a square.
+fn rows_of<L: Line>(alloc: Global, square: Square, width: u32) -> Result<Vec<L>, AllocError>
+    requires room { width < L.room }
+    ensures size { IfOk result (λ rows. vec_len rows ≡ width) }
+    ensures end { IfOk result (λ rows. AllEndBefore width (map L.places rows.items)) }
+{
+    let mut rows = vec![in alloc; L::first(0); width as usize]?;
+    fill(square, width, &mut rows);
+    Ok(rows)
+}
+
 // The penalties of Normal and of Micro, on packed rows.
 fn packed<L: Line>(alloc: Global, square: Square, width: u32) -> Result<(u32, u32), AllocError>
     requires wide { 7 ≤ width }
     requires room { width + 3 ≤ L.room }
 {
-    let mut rows = vec![in alloc; L::first(0); width as usize]?;
-    fill(square, width, &mut rows);
+    let rows = rows_of::<L>(alloc, square, width)?;
     Ok((normal_penalty(&rows, width), micro_penalty(&rows, width)))
 }
 

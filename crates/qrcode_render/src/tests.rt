@@ -8,6 +8,7 @@ mod vectors;
 use crate::{Pixel, Renderer};
 use qrcode_types::types::{Color, QrError, QrResult};
 use std::alloc::Global;
+use std::process::Abort;
 
 // Two modules along a side, of which the first and the last are dark.
 const DIAGONAL: [Color; 4] = [Color::Dark, Color::Light, Color::Light, Color::Dark];
@@ -52,19 +53,19 @@ const MICRO_2: &str = "
 ...#.#....##.
 ###.#..##.###";
 
+// The colour of a letter of a drawing.
+fn color(letter: u8) -> Color {
+    if letter == b'#' {
+        Color::Dark
+    } else {
+        Color::Light
+    }
+}
+
 // The modules of a drawing, `#` being dark and `.` light.
 fn modules(alloc: Global, drawing: &str) -> QrResult<Vec<Color>> {
-    let mut modules = Vec::new(alloc);
-    for byte in drawing.bytes() {
-        if byte != b'\n' {
-            modules.push(if byte == b'#' {
-                Color::Dark
-            } else {
-                Color::Light
-            })?;
-        }
-    }
-    Ok(modules)
+    let letters = drawing.bytes().filter(|letter| *letter != b'\n');
+    Ok(letters.map(color).collect(alloc)?)
 }
 
 // The picture of a renderer, or a refusal where it does not fit.
@@ -73,4 +74,16 @@ fn picture<P: Pixel>(alloc: Global, renderer: &Renderer<P>) -> QrResult<P::Image
         return Err(QrError::DataTooLong);
     }
     renderer.build(alloc)
+}
+
+// The renderer writes this text.
+fn writes<P: Pixel<Image = String>>(
+    rt: &impl Abort,
+    alloc: Global,
+    renderer: &Renderer<P>,
+    expected: &str,
+) -> QrResult<()> {
+    let text = picture(alloc, renderer)?;
+    assert_eq!(rt; text.as_str(), expected);
+    Ok(())
 }

@@ -1,11 +1,11 @@
 //! Damaged symbols are read.
 
-use crate::field;
 use crate::reader::{self, Read, Unreadable};
-use crate::square::{self, Place, Square};
+use crate::square::{Place, Square};
+use crate::{field, symbols};
 use qrcode::{EcLevel, QrCode, Version};
 use std::alloc::Global;
-use std::test::Fail;
+use std::process::Abort;
 
 // Changes the bits of a codeword that a number has, the first being the highest of eight.
 fn change(square: &mut Square, word: &[Place], bits: u8) {
@@ -32,55 +32,62 @@ fn lighten_finders(square: &mut Square) {
     }
 }
 
-#[test]
-fn five_wrong_codewords_without_finders_are_read(rt: HostRuntime) -> Result<(), Fail> {
-    let alloc = rt.alloc();
-    let (version, ec_level) = (Version::Normal(1), EcLevel::M);
-    let code = QrCode::with_version(alloc, b"01234567", version, ec_level)?;
-    let mut square = Square::of(alloc, &code)?;
-    let places = square.places(alloc)?;
-    let words = reader::codeword_places(alloc, version, ec_level, &places)?;
-    let changes = [0xff, 0x01, 0x80, 0x5a, 0x11];
-    for (word, bits) in words.iter().step_by(6).zip(changes) {
-        change(&mut square, word, bits);
-    }
-    for copy in &square::format_places(alloc, version, square.width)? {
-        for place in copy.iter().step_by(7) {
-            square.turn(*place);
+// Changes every sixth codeword, by the bits of one number after the other.
+fn change_some(square: &mut Square, words: &[Vec<Place>], changes: &[u8]) {
+    for (i, bits) in changes.iter().enumerate() {
+        if let Some(word) = words.get(i.wrapping_mul(6)) {
+            change(square, word, *bits);
         }
     }
+}
+
+/// Turns the bits of these numbers in each copy of the format word.
+pub fn turn_format_bits(square: &mut Square, numbers: &[usize]) {
+    for copy in 0..square.format_copies() {
+        for number in numbers {
+            square.turn(square.format_place(copy, *number));
+        }
+    }
+}
+
+#[test]
+fn five_wrong_codewords_without_finders_are_read(rt: HostRuntime) {
+    let alloc = rt.alloc();
+    let (version, ec_level) = (Version::Normal(1), EcLevel::M);
+    let code = QrCode::with_version(alloc, b"01234567", version, ec_level).expect(&rt, "a symbol");
+    let mut square = Square::of(alloc, &code).expect(&rt, "memory");
+    let places = square.places(alloc).expect(&rt, "memory");
+    let words = reader::codeword_places(alloc, version, ec_level, &places).expect(&rt, "memory");
+    change_some(&mut square, &words, &[0xff, 0x01, 0x80, 0x5a, 0x11]);
+    turn_format_bits(&mut square, &[0, 7, 14]);
     lighten_finders(&mut square);
-    let reading = reader::read(alloc, &square, &places)?;
-    assert_eq!(rt; reading.bytes.as_slice(), b"01234567".as_slice());
+    let reading = reader::read(alloc, &square, &places).expect(&rt, "a reading");
+    symbols::check_bytes(&rt, &reading.bytes, b"01234567");
     assert_eq!(rt; reading.wrong, 5);
     assert_eq!(rt; reading.mask, 2);
+}
+
+// Appends a block to those that vanish at two points, if it does.
+fn push_vanishing(alloc: Global, found: &mut Vec<Vec<u8>>, block: &[u8]) -> Read<()> {
+    if field::vanishes(block, 2) {
+        found.push(Vec::from_slice(alloc, block)?)?;
+    }
     Ok(())
 }
 
 // Of a block and all blocks that differ from it in one byte, those that vanish at two points.
 fn corrected_by_trial(alloc: Global, block: &[u8]) -> Read<Vec<Vec<u8>>> {
     let mut found = Vec::new(alloc);
+    push_vanishing(alloc, &mut found, block)?;
     let mut trial = Vec::from_slice(alloc, block)?;
-    if field::vanishes(&trial, 2) {
-        found.push(Vec::from_slice(alloc, &trial)?)?;
-    }
     for i in 0..block.len() {
         for other in 1..=255u8 {
-            flip(&mut trial, i, other);
-            if field::vanishes(&trial, 2) {
-                found.push(Vec::from_slice(alloc, &trial)?)?;
-            }
-            flip(&mut trial, i, other);
+            field::flip(&mut trial, i, other);
+            push_vanishing(alloc, &mut found, &trial)?;
+            field::flip(&mut trial, i, other);
         }
     }
     Ok(found)
-}
-
-// Changes the bits of a byte that a number has.
-fn flip(block: &mut Vec<u8>, i: usize, bits: u8) {
-    if let Some(byte) = block.get_mut(i) {
-        *byte ^= bits;
-    }
 }
 
 // The only block of Micro 1 that is found by trial in a square.
@@ -95,31 +102,70 @@ fn found_by_trial(alloc: Global, square: &Square, places: &[Place], mask: usize)
     }
 }
 
-// Four codewords may become 255 others, and the third data codeword, of four bits, 15 others.
-#[test]
-fn each_wrong_codeword_of_micro_1_is_found_by_trial(rt: HostRuntime) -> Result<(), Fail> {
-    let alloc = rt.alloc();
-    let (version, ec_level) = (Version::Micro(1), EcLevel::L);
-    let code = QrCode::with_version(alloc, b"123", version, ec_level)?;
-    let mut square = Square::of(alloc, &code)?;
-    let places = square.places(alloc)?;
-    let mask = reader::read(alloc, &square, &places)?.mask;
-    let block = found_by_trial(alloc, &square, &places, mask)?;
-    // The count 3 in three bits, 123 in ten, the terminator, and zeros.
-    assert!(rt; block.starts_with(&[0x63, 0xd8, 0x00]));
-    let mut squares = 0u32;
-    for word in &reader::codeword_places(alloc, version, ec_level, &places)? {
-        let kept = if word.len() == 4 { 0xf0 } else { 0xff };
-        for bits in 1..=255u8 {
-            if bits & kept != bits {
-                continue;
-            }
-            change(&mut square, word, bits);
-            assert!(rt; found_by_trial(alloc, &square, &places, mask)? == block);
-            change(&mut square, word, bits);
-            squares = squares.wrapping_add(1);
+// A square of Micro 1, its places of data, its mask and its block.
+#[derive(Drop)]
+struct Sound {
+    square: Square,
+    places: Vec<Place>,
+    mask: usize,
+    block: Vec<u8>,
+}
+
+impl Sound {
+    // The square of `123`.
+    fn of_digits(rt: &impl Abort, alloc: Global) -> Sound {
+        let code = QrCode::with_version(alloc, b"123", Version::Micro(1), EcLevel::L).expect(
+            rt, "a symbol",
+        );
+        let square = Square::of(alloc, &code).expect(rt, "memory");
+        let places = square.places(alloc).expect(rt, "memory");
+        let mask = reader::read(alloc, &square, &places)
+            .expect(rt, "a reading")
+            .mask;
+        let block = found_by_trial(alloc, &square, &places, mask).expect(rt, "one block");
+        Sound {
+            square,
+            places,
+            mask,
+            block,
         }
     }
+
+    // Whether the block is found by trial where a codeword is changed by the bits of a number.
+    fn is_found(&mut self, alloc: Global, word: &[Place], bits: u8) -> Read<bool> {
+        change(&mut self.square, word, bits);
+        let found = found_by_trial(alloc, &self.square, &self.places, self.mask)?;
+        change(&mut self.square, word, bits);
+        Ok(found == self.block)
+    }
+
+    // The block is found by trial wherever a codeword is wrong; in how many squares.
+    fn check_word(&mut self, rt: &impl Abort, alloc: Global, word: &[Place]) -> u32 {
+        let kept = if word.len() == 4 { 0xf0 } else { 0xff };
+        let mut squares = 0u32;
+        for bits in 1..=255u8 {
+            if bits & kept == bits {
+                assert!(rt; self.is_found(alloc, word, bits).expect(rt, "one block"));
+                squares = squares.wrapping_add(1);
+            }
+        }
+        squares
+    }
+}
+
+// Four codewords may become 255 others, and the third data codeword, of four bits, 15 others.
+#[test]
+fn each_wrong_codeword_of_micro_1_is_found_by_trial(rt: HostRuntime) {
+    let alloc = rt.alloc();
+    let mut sound = Sound::of_digits(&rt, alloc);
+    // The count 3 in three bits, 123 in ten, the terminator, and zeros.
+    assert!(rt; sound.block.starts_with(&[0x63, 0xd8, 0x00]));
+    let words = reader::codeword_places(alloc, Version::Micro(1), EcLevel::L, &sound.places).expect(
+        &rt, "memory",
+    );
+    let mut squares = 0u32;
+    for word in &words {
+        squares = squares.wrapping_add(sound.check_word(&rt, alloc, word));
+    }
     assert_eq!(rt; squares, 1035);
-    Ok(())
 }

@@ -154,31 +154,64 @@ fn derivative(alloc: Global, list: &[u8]) -> Read<Vec<u8>> {
     Ok(result)
 }
 
-/// The list of bytes that vanishes at the first `count` powers of 2 and differs from a block in at
-/// most half as many places, and in how many.
-pub fn correct(alloc: Global, block: &[u8], count: usize) -> Read<(Vec<u8>, usize)> {
-    let mut corrected = Vec::from_slice(alloc, block)?;
-    let values = syndromes(alloc, block, count)?;
-    if values.iter().all(|v| *v == 0) {
-        return Ok((corrected, 0));
+// By what the byte of a point is wrong, where the locator vanishes at the inverse of the point.
+fn error_at(
+    point: u8,
+    inverse_point: u8,
+    locator: &[u8],
+    evaluator: &[u8],
+    derivative: &[u8],
+) -> Option<u8> {
+    if value_from_lowest(locator, inverse_point) != 0 {
+        return None;
     }
-    let (mut locator, length) = recurrence(alloc, &values)?;
-    locator.truncate(length.wrapping_add(1));
-    let evaluator = evaluator(alloc, &values, &locator)?;
-    let derivative = derivative(alloc, &locator)?;
+    let slope = value_from_lowest(derivative, inverse_point);
+    let height = product(point, value_from_lowest(evaluator, inverse_point));
+    Some(product(height, inverse(slope)))
+}
+
+// Corrects the bytes of a block that a locator names, the last one being that of point 1; how many.
+fn correct_located(
+    block: &mut Vec<u8>,
+    locator: &[u8],
+    evaluator: &[u8],
+    derivative: &[u8],
+) -> usize {
     let mut found = 0usize;
     let mut point = 1;
     let mut inverse_point = 1;
-    for byte in corrected.iter_mut().rev() {
-        if value_from_lowest(&locator, inverse_point) == 0 {
-            let slope = value_from_lowest(&derivative, inverse_point);
-            let height = product(point, value_from_lowest(&evaluator, inverse_point));
-            *byte ^= product(height, inverse(slope));
+    for i in 1..=block.len() {
+        if let Some(error) = error_at(point, inverse_point, locator, evaluator, derivative) {
+            let at = block.len().wrapping_sub(i);
+            flip(block, at, error);
             found = found.wrapping_add(1);
         }
         point = product(point, 2);
         inverse_point = product(inverse_point, 0x8e);
     }
+    found
+}
+
+/// Changes the bits of a byte that a number has.
+pub fn flip(block: &mut Vec<u8>, i: usize, bits: u8) {
+    if let Some(byte) = block.get_mut(i) {
+        *byte ^= bits;
+    }
+}
+
+/// The list of bytes that vanishes at the first `count` powers of 2 and differs from a block in at
+/// most half as many places, and in how many.
+pub fn correct(alloc: Global, block: &[u8], count: usize) -> Read<(Vec<u8>, usize)> {
+    let mut corrected = Vec::from_slice(alloc, block)?;
+    if vanishes(block, count) {
+        return Ok((corrected, 0));
+    }
+    let values = syndromes(alloc, block, count)?;
+    let (mut locator, length) = recurrence(alloc, &values)?;
+    locator.truncate(length.wrapping_add(1));
+    let evaluator = evaluator(alloc, &values, &locator)?;
+    let derivative = derivative(alloc, &locator)?;
+    let found = correct_located(&mut corrected, &locator, &evaluator, &derivative);
     if found != length || found > count / 2 || !vanishes(&corrected, count) {
         return Err(Unreadable);
     }

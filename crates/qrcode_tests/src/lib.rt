@@ -22,6 +22,8 @@ mod rows;
 #[cfg(test)]
 mod square;
 #[cfg(test)]
+mod symbols;
+#[cfg(test)]
 mod tables;
 #[cfg(test)]
 mod tests;

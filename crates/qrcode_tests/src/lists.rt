@@ -1,18 +1,16 @@
 //! Lists of bits that no data gives: odd ranges, and lists of each length that fill a symbol.
 
-ghost use Rattle.std.specs.Prelude.{◌≡◌, length, IsTrue};
-ghost use Rattle.qrcode_types.specs.Versions.{is_valid};
+ghost use Rattle.std.specs.Prelude.{◌≡◌, length};
 ghost use Rattle.qrcode_bits.specs.Segments.{AreInside};
 
 use crate::reader::{self, Read};
-use crate::square::{self, Square};
+use crate::{square, symbols};
 use qrcode::bits::Bits;
 use qrcode::optimize::Segment;
 use qrcode::types::{Mode, QrResult};
 use qrcode::{EcLevel, QrCode, Version};
 use std::alloc::Global;
 use std::process::Abort;
-use std::test::Fail;
 
 fn push_ranges(bits: &mut Bits, data: &[u8], segments: Vec<Segment>) -> QrResult<()>
     requires { AreInside (length «data».now) segments.items }
@@ -26,9 +24,8 @@ fn range(mode: Mode, begin: usize, end: usize) -> Segment
     Segment { mode, begin, end }
 }
 
-#[test]
-fn ranges_come_in_any_order(rt: HostRuntime) -> Result<(), Fail> {
-    let alloc = rt.alloc();
+// The bits of odd ranges of `12AB`, which are read as `AB122A12`.
+fn bits_of_ranges(alloc: Global) -> QrResult<Bits> {
     let segments = [
         range(Mode::Alphanumeric, 2, 4),
         range(Mode::Numeric, 0, 2),
@@ -39,12 +36,15 @@ fn ranges_come_in_any_order(rt: HostRuntime) -> Result<(), Fail> {
     ];
     let mut bits = Bits::new(alloc, Version::Normal(2));
     push_ranges(&mut bits, b"12AB", Vec::from_slice(alloc, &segments)?)?;
-    bits.push_terminator(EcLevel::L)?;
-    let code = QrCode::with_bits(alloc, bits, EcLevel::L)?;
-    let square = Square::of(alloc, &code)?;
-    let reading = reader::read(alloc, &square, &square.places(alloc)?)?;
-    assert_eq!(rt; reading.bytes.as_slice(), b"AB122A12".as_slice());
-    Ok(())
+    Ok(bits)
+}
+
+#[test]
+fn ranges_come_in_any_order(rt: HostRuntime) {
+    let alloc = rt.alloc();
+    let bits = bits_of_ranges(alloc).expect(&rt, "bits");
+    let code = symbols::of_ended_bits(alloc, bits, EcLevel::L).expect(&rt, "a symbol");
+    symbols::check_bytes(&rt, &symbols::read(&rt, alloc, &code).bytes, b"AB122A12");
 }
 
 // The bits of a push of so many digits in a version of Micro.
@@ -61,47 +61,53 @@ fn push_length(v: i16, digits: usize) -> usize {
         .wrapping_add(header)
 }
 
+// The digits of pushes that give a length, by those that give lesser ones; each push has at most so
+// many digits.
+fn pushes_for(
+    alloc: Global,
+    v: i16,
+    length: usize,
+    most: usize,
+    lists: &[Option<Vec<usize>>],
+) -> Read<Option<Vec<usize>>> {
+    let mut found = None;
+    for digits in 0..=most {
+        let before = length.wrapping_sub(push_length(v, digits));
+        if let Some(Some(list)) = lists.get(before) {
+            let mut list = Vec::from_slice(alloc, list)?;
+            list.push(digits)?;
+            found = Some(list);
+        }
+    }
+    Ok(found)
+}
+
 // For each length up to the greatest, how many digits each of some pushes have that give it.
 fn pushes_by_length(alloc: Global, v: i16, greatest: usize) -> Read<Vec<Option<Vec<usize>>>> {
     let most = (1usize << (v.clamp(1, 4) as u32 + 2)) - 1;
     let mut lists: Vec<Option<Vec<usize>>> = Vec::new(alloc);
     lists.push(Some(Vec::new(alloc)))?;
     for length in 1..=greatest {
-        let mut found = None;
-        for digits in 0..=most {
-            let before = length.wrapping_sub(push_length(v, digits));
-            if let Some(Some(list)) = lists.get(before) {
-                let mut list = Vec::from_slice(alloc, list)?;
-                list.push(digits)?;
-                found = Some(list);
-            }
-        }
+        let found = pushes_for(alloc, v, length, most, &lists)?;
         lists.push(found)?;
     }
     Ok(lists)
 }
 
 // Pushes of so many digits each.
-fn pushed(alloc: Global, version: Version, pushes: &[usize]) -> QrResult<Bits>
-    requires { IsTrue (is_valid version) }
-{
-    let mut bits = Bits::new(alloc, version);
-    for digits in pushes {
-        bits.push_numeric_data(&Vec::from_elem(alloc, b'7', *digits)?)?;
+fn pushed(rt: &impl Abort, alloc: Global, version: Version, pushes: &[usize]) -> Bits {
+    let mut bits = symbols::no_bits(rt, alloc, version);
+    for count in pushes {
+        let digits = Vec::from_elem(alloc, b'7', *count).expect(rt, "memory");
+        bits.push_numeric_data(&digits).expect(rt, "room");
     }
-    Ok(bits)
+    bits
 }
 
 // The bits of bytes, as far as there are so many.
 fn bits_of(alloc: Global, bytes: &[u8], count: usize) -> Read<Vec<bool>> {
     let mut bits = Vec::new(alloc);
-    for byte in bytes {
-        for i in 0..8u32 {
-            if bits.len() < count {
-                bits.push(*byte >> (7 - i) & 1 == 1)?;
-            }
-        }
-    }
+    reader::push_bits(&mut bits, bytes, count)?;
     Ok(bits)
 }
 
@@ -128,13 +134,41 @@ fn ended(alloc: Global, v: i16, bits: &[bool], full: usize) -> Read<Vec<bool>> {
     for k in 0..full / 8 {
         if list.len().wrapping_add(8) <= full {
             let byte = if k % 2 == 0 { 0xec } else { 0x11 };
-            for bit in bits_of(alloc, &[byte], 8)? {
-                list.push(bit)?;
-            }
+            reader::push_bits(&mut list, &[byte], full)?;
         }
     }
     push_zeros(&mut list, 8, full)?;
     Ok(list)
+}
+
+// Bits, ended at a level, are the expected ones.
+fn check_ended_once(
+    rt: &impl Abort,
+    alloc: Global,
+    mut bits: Bits,
+    ec_level: EcLevel,
+    expected: &[bool],
+) {
+    bits.push_terminator(ec_level).expect(rt, "a terminator");
+    assert_eq!(rt; bits.len(), expected.len());
+    let held = bits_of(alloc, &bits.into_bytes(), expected.len()).expect(rt, "memory");
+    assert!(rt; held.as_slice() == expected);
+}
+
+// Bits, ended twice at a level, are the expected data of a symbol.
+fn check_ended_twice(
+    rt: &impl Abort,
+    alloc: Global,
+    mut bits: Bits,
+    ec_level: EcLevel,
+    expected: &[bool],
+) {
+    bits.push_terminator(ec_level).expect(rt, "a terminator");
+    bits.push_terminator(ec_level).expect(rt, "a terminator");
+    assert_eq!(rt; bits.len(), expected.len());
+    let code = QrCode::with_bits(alloc, bits, ec_level).expect(rt, "a symbol");
+    let reading = symbols::read(rt, alloc, &code);
+    assert!(rt; reading.bits.as_slice() == expected);
 }
 
 // A list of pushes, ended once and twice, is that list ended by the rule, and the data of a symbol.
@@ -145,53 +179,39 @@ fn check_ended(
     ec_level: EcLevel,
     pushes: &[usize],
     length: usize,
-) -> Result<(), Fail> {
+) {
     let version = Version::Micro(v);
-    assert!(rt; version.is_valid());
-    let full = reader::capacity(alloc, version, ec_level)?;
-    let bits = pushed(alloc, version, pushes)?;
+    let full = reader::capacity(alloc, version, ec_level).expect(rt, "a level");
+    let bits = pushed(rt, alloc, version, pushes);
     assert_eq!(rt; bits.len(), length);
-    let bits = bits_of(alloc, &bits.into_bytes(), length)?;
-    let expected = ended(alloc, v, &bits, full)?;
+    let bits = bits_of(alloc, &bits.into_bytes(), length).expect(rt, "memory");
+    let expected = ended(alloc, v, &bits, full).expect(rt, "memory");
+    assert_eq!(rt; expected.len(), full);
+    let once = pushed(rt, alloc, version, pushes);
+    check_ended_once(rt, alloc, once, ec_level, &expected);
+    let twice = pushed(rt, alloc, version, pushes);
+    check_ended_twice(rt, alloc, twice, ec_level, &expected);
+}
 
-    let mut once = pushed(alloc, version, pushes)?;
-    once.push_terminator(ec_level)?;
-    assert_eq!(rt; once.len(), full);
-    assert!(rt; bits_of(alloc, &once.into_bytes(), full)? == expected);
-
-    let mut twice = pushed(alloc, version, pushes)?;
-    twice.push_terminator(ec_level)?;
-    twice.push_terminator(ec_level)?;
-    assert_eq!(rt; twice.len(), full);
-    let code = QrCode::with_bits(alloc, twice, ec_level)?;
-    let square = Square::of(alloc, &code)?;
-    let reading = reader::read(alloc, &square, &square.places(alloc)?)?;
-    assert!(rt; reading.bits == expected);
-    Ok(())
+// Each length up to the greatest that pushes of digits can give is ended; how many lengths.
+fn check_lengths(rt: &impl Abort, alloc: Global, v: i16, ec_level: EcLevel) -> u32 {
+    let full = reader::capacity(alloc, Version::Micro(v), ec_level).expect(rt, "a level");
+    let lists = pushes_by_length(alloc, v, full).expect(rt, "memory");
+    let mut reached = 0u32;
+    for (length, pushes) in lists.iter().enumerate() {
+        if let Some(pushes) = pushes {
+            check_ended(rt, alloc, v, ec_level, pushes, length);
+            reached = reached.wrapping_add(1);
+        }
+    }
+    reached
 }
 
 // Pairs whose last data codeword has four bits, and how many lengths pushes of digits can give.
 #[test]
-fn lists_of_each_length_are_ended_where_a_codeword_has_four_bits(
-    rt: HostRuntime,
-) -> Result<(), Fail> {
+fn lists_of_each_length_are_ended_where_a_codeword_has_four_bits(rt: HostRuntime) {
     let alloc = rt.alloc();
-    let pairs = [
-        (1, EcLevel::L, 15),
-        (3, EcLevel::L, 67),
-        (3, EcLevel::M, 51),
-    ];
-    for (v, ec_level, count) in pairs {
-        let full = reader::capacity(alloc, Version::Micro(v), ec_level)?;
-        let lists = pushes_by_length(alloc, v, full)?;
-        let mut reached = 0usize;
-        for (length, pushes) in lists.iter().enumerate() {
-            if let Some(pushes) = pushes {
-                check_ended(&rt, alloc, v, ec_level, pushes, length)?;
-                reached = reached.wrapping_add(1);
-            }
-        }
-        assert_eq!(rt; reached, count);
-    }
-    Ok(())
+    assert_eq!(rt; check_lengths(&rt, alloc, 1, EcLevel::L), 15);
+    assert_eq!(rt; check_lengths(&rt, alloc, 3, EcLevel::L), 67);
+    assert_eq!(rt; check_lengths(&rt, alloc, 3, EcLevel::M), 51);
 }

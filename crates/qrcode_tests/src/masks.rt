@@ -3,11 +3,10 @@
 use crate::penalty::{self, Penalty, TERMS, Term};
 use crate::reader::{self, Read, Reading, Unreadable};
 use crate::square::{self, Place, Square};
-use qrcode::bits::Bits;
+use crate::symbols;
 use qrcode::{EcLevel, QrCode, Version};
 use std::alloc::Global;
 use std::process::Abort;
-use std::test::Fail;
 
 // A symbol is read, and its mask is the first one of least penalty; the penalties under all masks.
 fn check_mask(rt: &impl Abort, alloc: Global, code: &QrCode) -> (Reading, Vec<Penalty>) {
@@ -28,7 +27,7 @@ fn check_choices(rt: &impl Abort, alloc: Global, choices: &[Choice]) {
     for (data, version, ec_level, decisive) in choices {
         let code = QrCode::with_version(alloc, *data, *version, *ec_level).expect(rt, "a symbol");
         let (reading, penalties) = check_mask(rt, alloc, &code);
-        assert!(rt; reading.bytes.as_slice() == *data);
+        symbols::check_bytes(rt, &reading.bytes, data);
         let first = penalty::first_least(&penalties, None);
         for term in TERMS.iter() {
             let is_decisive = penalty::first_least(&penalties, Some(*term)) != first;
@@ -116,41 +115,51 @@ fn light_bits(alloc: Global, version: Version, mask: usize, noisy: usize) -> Rea
 fn bytes_behind_header(alloc: Global, bits: &[bool]) -> Read<Vec<u8>> {
     let mut bytes = Vec::new(alloc);
     for i in 0..bits.len().saturating_sub(24) / 8 {
-        let mut byte = 0u8;
-        for (j, bit) in bits
-            .iter()
-            .skip(i.wrapping_mul(8).wrapping_add(20))
-            .take(8)
-            .enumerate()
-        {
-            if *bit {
-                byte |= 0x80u8 >> (j % 8) as u32;
-            }
-        }
-        bytes.push(byte)?;
+        let begin = i.wrapping_mul(8).wrapping_add(20);
+        let bits = bits.get(begin..begin.wrapping_add(8)).ok_or(Unreadable)?;
+        bytes.push(reader::byte_of(bits))?;
     }
     Ok(bytes)
+}
+
+// The symbol of a version that is light at L under a mask for the most part.
+fn light_symbol(
+    rt: &impl Abort,
+    alloc: Global,
+    version: Version,
+    mask: usize,
+    noisy: usize,
+) -> QrCode {
+    let chosen = light_bits(alloc, version, mask, noisy).expect(rt, "memory");
+    let bytes = bytes_behind_header(alloc, &chosen).expect(rt, "memory");
+    let mut bits = symbols::no_bits(rt, alloc, version);
+    bits.push_byte_data(&bytes).expect(rt, "room");
+    symbols::of_ended_bits(alloc, bits, EcLevel::L).expect(rt, "a symbol")
+}
+
+// The penalty of a symbol that is light under a mask for the most part stands out.
+fn check_light_symbol(rt: &impl Abort, alloc: Global, version: Version, mask: usize, noisy: usize) {
+    let code = light_symbol(rt, alloc, version, mask, noisy);
+    let (_, penalties) = check_mask(rt, alloc, &code);
+    check_light(rt, &penalties, mask);
+}
+
+// A penalty is more than 16 bits hold, and less than the others if it is cut to 16 bits.
+fn check_light(rt: &impl Abort, penalties: &[Penalty], mask: usize) {
+    let light = penalties.get(mask).expect(rt, "a penalty").sum(None);
+    assert!(rt; light > 65_535);
+    for penalty in penalties {
+        let sum = penalty.sum(None);
+        assert!(rt; sum == light || sum > light % 65_536);
+    }
 }
 
 // Symbols that are light under a mask for the most part, so that the penalty under it is a little
 // more than 16 bits hold, and less than those under the others if it is cut to 16 bits.
 #[test]
-fn penalties_past_16_bits_are_compared(rt: HostRuntime) -> Result<(), Fail> {
+fn penalties_past_16_bits_are_compared(rt: HostRuntime) {
     let alloc = rt.alloc();
-    for (number, mask, noisy) in [(36, 3, 950), (38, 7, 1300), (40, 5, 1650)] {
-        let version = Version::Normal(number);
-        assert!(rt; version.is_valid());
-        let chosen = light_bits(alloc, version, mask, noisy)?;
-        let mut bits = Bits::new(alloc, version);
-        bits.push_byte_data(&bytes_behind_header(alloc, &chosen)?)?;
-        bits.push_terminator(EcLevel::L)?;
-        let code = QrCode::with_bits(alloc, bits, EcLevel::L)?;
-        let (_, penalties) = check_mask(&rt, alloc, &code);
-        let light = penalties.get(mask).ok_or(Unreadable)?.sum(None);
-        assert!(rt; light > 65_535);
-        for penalty in penalties.iter().map(|p| p.sum(None)) {
-            assert!(rt; penalty == light || penalty > light % 65_536);
-        }
-    }
-    Ok(())
+    check_light_symbol(&rt, alloc, Version::Normal(36), 3, 950);
+    check_light_symbol(&rt, alloc, Version::Normal(38), 7, 1300);
+    check_light_symbol(&rt, alloc, Version::Normal(40), 5, 1650);
 }

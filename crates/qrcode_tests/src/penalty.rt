@@ -1,7 +1,7 @@
 //! Penalties of squares, counted module by module, and squares under other masks.
 
 use crate::reader::{self, Read, Reading};
-use crate::square::{self, Place, Square};
+use crate::square::{Place, Square};
 use qrcode_types::types::Version;
 use std::alloc::Global;
 
@@ -108,12 +108,17 @@ fn remasked(
         }
     }
     let word = reader::word_of(reading.version, reading.ec_level, mask)?;
-    for copy in &square::format_places(alloc, reading.version, square.width)? {
-        for (i, place) in copy.iter().enumerate() {
-            other.set(*place, reader::format_bit(word, i));
+    set_format(&mut other, word);
+    Ok(other)
+}
+
+// Writes each copy of a format word.
+fn set_format(square: &mut Square, word: u32) {
+    for copy in 0..square.format_copies() {
+        for i in 0..15usize {
+            square.set(square.format_place(copy, i), reader::format_bit(word, i));
         }
     }
-    Ok(other)
 }
 
 // Whether a module of a row, or of a column, is dark.

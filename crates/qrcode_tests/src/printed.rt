@@ -1,9 +1,10 @@
 //! Printed symbols of the digits `01234567`: they are read, and drawn.
 
-use crate::reader;
 use crate::square::Square;
+use crate::{reader, symbols};
 use qrcode::{EcLevel, QrCode, Version};
-use std::test::Fail;
+use std::alloc::Global;
+use std::process::Abort;
 
 static DIGITS_NORMAL: [&str; 21] = [
     "#######..#.##.#######",
@@ -45,35 +46,46 @@ static DIGITS_MICRO: [&str; 13] = [
     "###.#..##.###",
 ];
 
-#[test]
-fn reads_drawn_symbols(rt: HostRuntime) {
-    let alloc = rt.alloc();
-    for rows in [&DIGITS_NORMAL[..], &DIGITS_MICRO[..]] {
-        let square = Square::drawn(alloc, rows).expect(&rt, "memory");
-        let places = square.places(alloc).expect(&rt, "memory");
-        let reading = reader::read(alloc, &square, &places).expect(&rt, "a symbol");
-        assert_eq!(rt; reading.bytes.as_slice(), b"01234567".as_slice());
-        assert_eq!(rt; reading.wrong, 0);
-    }
+// A drawn symbol is read, with no wrong codeword.
+fn check_reading(rt: &impl Abort, alloc: Global, rows: &[&str]) {
+    let square = Square::drawn(alloc, rows).expect(rt, "memory");
+    let places = square.places(alloc).expect(rt, "memory");
+    let reading = reader::read(alloc, &square, &places).expect(rt, "a symbol");
+    symbols::check_bytes(rt, &reading.bytes, b"01234567");
+    assert_eq!(rt; reading.wrong, 0);
 }
 
 #[test]
-fn printed_symbols_are_drawn(rt: HostRuntime) -> Result<(), Fail> {
+fn reads_drawn_symbols(rt: HostRuntime) {
+    check_reading(&rt, rt.alloc(), &DIGITS_NORMAL);
+    check_reading(&rt, rt.alloc(), &DIGITS_MICRO);
+}
+
+// The symbol of a version and level has these lines, and a mask.
+fn check_drawing(
+    rt: &impl Abort,
+    alloc: Global,
+    version: Version,
+    ec_level: EcLevel,
+    lines: &[&str],
+    mask: usize,
+) {
+    let code = QrCode::with_version(alloc, b"01234567", version, ec_level).expect(rt, "a symbol");
+    let text = code.to_debug_str(alloc, '#', '.').expect(rt, "a text");
+    symbols::check_lines(rt, text.as_str(), lines);
+    assert_eq!(rt; symbols::read(rt, alloc, &code).mask, mask);
+}
+
+#[test]
+fn printed_symbols_are_drawn(rt: HostRuntime) {
     let alloc = rt.alloc();
-    let rows: [(Version, EcLevel, &[&str], usize); 2] = [
-        (Version::Normal(1), EcLevel::M, &DIGITS_NORMAL, 2),
-        (Version::Micro(2), EcLevel::L, &DIGITS_MICRO, 4),
-    ];
-    for (version, ec_level, lines, mask) in rows {
-        let code = QrCode::with_version(alloc, b"01234567", version, ec_level)?;
-        let text = code.to_debug_str(alloc, '#', '.')?;
-        assert_eq!(rt; text.as_str().split('\n').count(), lines.len());
-        for (drawn, line) in text.as_str().split('\n').zip(lines) {
-            assert_eq!(rt; drawn, *line);
-        }
-        let square = Square::of(alloc, &code)?;
-        let reading = reader::read(alloc, &square, &square.places(alloc)?)?;
-        assert_eq!(rt; reading.mask, mask);
-    }
-    Ok(())
+    check_drawing(
+        &rt,
+        alloc,
+        Version::Normal(1),
+        EcLevel::M,
+        &DIGITS_NORMAL,
+        2,
+    );
+    check_drawing(&rt, alloc, Version::Micro(2), EcLevel::L, &DIGITS_MICRO, 4);
 }

@@ -2,7 +2,7 @@
 
 use crate::field;
 use crate::square::{self, Blocks, Place, Square};
-use qrcode_types::types::{EcLevel, Version};
+use qrcode_types::types::{EcLevel, QrError, Version};
 use std::alloc::{AllocError, AllocFailed, Global};
 
 /// A square that is no symbol, or want of memory.
@@ -17,6 +17,12 @@ impl From<AllocError> for Unreadable {
 
 impl<T: Drop> From<AllocFailed<T>> for Unreadable {
     fn from(_error: AllocFailed<T>) -> Unreadable {
+        Unreadable
+    }
+}
+
+impl From<QrError> for Unreadable {
+    fn from(_error: QrError) -> Unreadable {
         Unreadable
     }
 }
@@ -135,23 +141,34 @@ pub fn format_bit(word: u32, i: usize) -> bool {
     word >> (14usize.wrapping_sub(i) % 15) & 1 == 1
 }
 
-// The level and mask of which each copy of the format word has at most three wrong bits.
-fn read_format(alloc: Global, square: &Square) -> Read<(EcLevel, usize)> {
-    let version = square.version();
-    let copies = square::format_places(alloc, version, square.width)?;
-    for five in 0..32u32 {
-        let word = format_word(version, five);
-        let mut near = true;
-        for copy in &copies {
-            let mut wrong = 0u32;
-            for (i, place) in copy.iter().enumerate() {
-                if square.is_dark(*place) != format_bit(word, i) {
-                    wrong = wrong.wrapping_add(1);
-                }
-            }
-            near = near && wrong <= 3;
+// How many bits of a copy of the format word differ from a word.
+fn wrong_bits(square: &Square, copy: usize, word: u32) -> u32 {
+    let mut wrong = 0u32;
+    for i in 0..15usize {
+        if square.is_dark(square.format_place(copy, i)) != format_bit(word, i) {
+            wrong = wrong.wrapping_add(1);
         }
-        if near && let Some(found) = named(version, five) {
+    }
+    wrong
+}
+
+// Whether each copy of the format word has at most three bits that differ from a word.
+fn is_near(square: &Square, word: u32) -> bool {
+    for copy in 0..square.format_copies() {
+        if wrong_bits(square, copy, word) > 3 {
+            return false;
+        }
+    }
+    true
+}
+
+// The level and mask of which each copy of the format word has at most three wrong bits.
+fn read_format(square: &Square) -> Read<(EcLevel, usize)> {
+    let version = square.version();
+    for five in 0..32u32 {
+        if is_near(square, format_word(version, five))
+            && let Some(found) = named(version, five)
+        {
             return Ok(found);
         }
     }
@@ -183,6 +200,18 @@ pub fn capacity(alloc: Global, version: Version, ec_level: EcLevel) -> Read<usiz
     Ok(data_length(&blocks).wrapping_mul(8).wrapping_sub(half))
 }
 
+// Appends the first places, so many, as those of a codeword; the other places.
+fn push_word<'a>(
+    words: &mut Vec<Vec<Place>>,
+    alloc: Global,
+    places: &'a [Place],
+    count: usize,
+) -> Read<&'a [Place]> {
+    let (word, rest) = places.split_at_checked(count).ok_or(Unreadable)?;
+    words.push(Vec::from_slice(alloc, word)?)?;
+    Ok(rest)
+}
+
 /// The places of the bits of each codeword, data codewords first, from the places of all data.
 pub fn codeword_places(
     alloc: Global,
@@ -194,44 +223,58 @@ pub fn codeword_places(
     let data = data_length(&blocks);
     let count = data.wrapping_add(blocks.ec_length.wrapping_mul(blocks.lengths.len()));
     let mut words = Vec::new(alloc);
-    let mut at = 0usize;
+    let mut rest = places;
     for i in 0..count {
-        let length = if has_half(version, ec_level) && i == data.wrapping_sub(1) {
-            4
-        } else {
-            8
-        };
-        let mut word = Vec::new(alloc);
-        for j in 0..length {
-            word.push(*places.get(at.wrapping_add(j)).ok_or(Unreadable)?)?;
-        }
-        at = at.wrapping_add(length);
-        words.push(word)?;
+        let is_half = has_half(version, ec_level) && i == data.wrapping_sub(1);
+        rest = push_word(&mut words, alloc, rest, if is_half { 4 } else { 8 })?;
     }
     Ok(words)
+}
+
+// Appends the next number to the list of each block that has more data codewords than `i`.
+fn push_data_numbers(
+    list: &mut [Vec<usize>],
+    lengths: &[usize],
+    i: usize,
+    number: &mut usize,
+) -> Read<()> {
+    for (block, words) in list.iter_mut().enumerate() {
+        if i < lengths.get(block).copied().unwrap_or(0) {
+            words.push(*number)?;
+            *number = number.wrapping_add(1);
+        }
+    }
+    Ok(())
+}
+
+// Appends the next number to the list of each block.
+fn push_ec_numbers(list: &mut [Vec<usize>], number: &mut usize) -> Read<()> {
+    for words in list {
+        words.push(*number)?;
+        *number = number.wrapping_add(1);
+    }
+    Ok(())
+}
+
+// An empty list for each block.
+fn empty_lists(alloc: Global, count: usize) -> Read<Vec<Vec<usize>>> {
+    let mut list = Vec::new(alloc);
+    for _ in 0..count {
+        list.push(Vec::new(alloc))?;
+    }
+    Ok(list)
 }
 
 /// The numbers of the codewords of each block: its data codewords, and then those of its error
 /// correction.
 pub fn block_words(alloc: Global, blocks: &Blocks) -> Read<Vec<Vec<usize>>> {
-    let mut list = Vec::new(alloc);
-    for _ in &blocks.lengths {
-        list.push(Vec::new(alloc))?;
-    }
+    let mut list = empty_lists(alloc, blocks.lengths.len())?;
     let mut number = 0usize;
     for i in 0..256usize {
-        for (words, length) in list.iter_mut().zip(&blocks.lengths) {
-            if i < *length {
-                words.push(number)?;
-                number = number.wrapping_add(1);
-            }
-        }
+        push_data_numbers(&mut list, &blocks.lengths, i, &mut number)?;
     }
     for _ in 0..blocks.ec_length {
-        for words in list.iter_mut() {
-            words.push(number)?;
-            number = number.wrapping_add(1);
-        }
+        push_ec_numbers(&mut list, &mut number)?;
     }
     Ok(list)
 }
@@ -247,6 +290,22 @@ fn codeword(square: &Square, mask: usize, places: &[Place]) -> u8 {
     word
 }
 
+// A block of a square under a mask, of the codewords of these numbers.
+fn read_block(
+    alloc: Global,
+    square: &Square,
+    mask: usize,
+    words: &[Vec<Place>],
+    numbers: &[usize],
+) -> Read<Vec<u8>> {
+    let mut block = Vec::new(alloc);
+    for number in numbers {
+        let word = words.get(*number).ok_or(Unreadable)?;
+        block.push(codeword(square, mask, word))?;
+    }
+    Ok(block)
+}
+
 /// The blocks of a square under a mask.
 pub fn read_blocks(
     alloc: Global,
@@ -256,39 +315,76 @@ pub fn read_blocks(
     mask: usize,
 ) -> Read<Vec<Vec<u8>>> {
     let version = square.version();
-    let places = codeword_places(alloc, version, ec_level, places)?;
-    let numbers = block_words(alloc, &square::blocks_of(alloc, version, ec_level)?)?;
+    let words = codeword_places(alloc, version, ec_level, places)?;
+    let blocks = square::blocks_of(alloc, version, ec_level)?;
     let mut list = Vec::new(alloc);
-    for words in &numbers {
-        let mut block = Vec::new(alloc);
-        for number in words {
-            let word = places.get(*number).ok_or(Unreadable)?;
-            block.push(codeword(square, mask, word))?;
-        }
-        list.push(block)?;
+    for numbers in &block_words(alloc, &blocks)? {
+        list.push(read_block(alloc, square, mask, &words, numbers)?)?;
     }
     Ok(list)
+}
+
+/// Appends the bits of bytes, as long as there are fewer bits than `most`.
+pub fn push_bits(bits: &mut Vec<bool>, bytes: &[u8], most: usize) -> Read<()> {
+    for byte in bytes {
+        for i in 0..8u32 {
+            if bits.len() < most {
+                bits.push(*byte >> (7 - i) & 1 == 1)?;
+            }
+        }
+    }
+    Ok(())
+}
+
+/// The byte of up to eight bits, the highest being the first, filled with zeros.
+pub fn byte_of(bits: &[bool]) -> u8 {
+    let mut byte = 0u8;
+    for (i, bit) in bits.iter().enumerate() {
+        if *bit {
+            byte |= 0x80u8 >> (i % 8) as u32;
+        }
+    }
+    byte
+}
+
+// The data bits of blocks after correction, at most so many, and how many codewords were wrong.
+fn correct_blocks(
+    alloc: Global,
+    blocks: &[Vec<u8>],
+    ec_length: usize,
+    most: usize,
+) -> Read<(Vec<bool>, usize)> {
+    let mut bits = Vec::new(alloc);
+    let mut wrong = 0usize;
+    for block in blocks {
+        let (mut corrected, changed) = field::correct(alloc, block, ec_length)?;
+        wrong = wrong.wrapping_add(changed);
+        corrected.truncate(block.len().saturating_sub(ec_length));
+        push_bits(&mut bits, &corrected, most)?;
+    }
+    Ok((bits, wrong))
+}
+
+// The data bits of a square under a mask, and how many codewords were wrong.
+fn read_bits(
+    alloc: Global,
+    square: &Square,
+    places: &[Place],
+    ec_level: EcLevel,
+    mask: usize,
+) -> Read<(Vec<bool>, usize)> {
+    let version = square.version();
+    let ec_length = square::blocks_of(alloc, version, ec_level)?.ec_length;
+    let most = capacity(alloc, version, ec_level)?;
+    let blocks = read_blocks(alloc, square, places, ec_level, mask)?;
+    correct_blocks(alloc, &blocks, ec_length, most)
 }
 
 /// What is read of a square of modules with data at these places, after correction.
 pub fn read(alloc: Global, square: &Square, places: &[Place]) -> Read<Reading> {
     let version = square.version();
-    let (ec_level, mask) = read_format(alloc, square)?;
-    let ec_length = square::blocks_of(alloc, version, ec_level)?.ec_length;
-    let room = capacity(alloc, version, ec_level)?;
-    let mut wrong = 0usize;
-    let mut bits = Vec::new(alloc);
-    for block in &read_blocks(alloc, square, places, ec_level, mask)? {
-        let (corrected, changed) = field::correct(alloc, block, ec_length)?;
-        wrong = wrong.wrapping_add(changed);
-        for byte in corrected.iter().take(block.len().saturating_sub(ec_length)) {
-            for i in 0..8u32 {
-                if bits.len() < room {
-                    bits.push(*byte >> (7 - i) & 1 == 1)?;
-                }
-            }
-        }
-    }
+    let (ec_level, mask) = read_format(square)?;
+    let (bits, wrong) = read_bits(alloc, square, places, ec_level, mask)?;
     let bytes = read_bytes(alloc, version, &bits)?;
     Ok(Reading {
         version,
@@ -374,32 +470,53 @@ fn digit(number: usize) -> Read<u8> {
     }
 }
 
+fn push_digit(bytes: &mut Vec<u8>, number: usize) -> Read<()> {
+    bytes.push(digit(number)?)?;
+    Ok(())
+}
+
+fn push_two_digits(bytes: &mut Vec<u8>, number: usize) -> Read<()> {
+    push_digit(bytes, number / 10)?;
+    push_digit(bytes, number % 10)
+}
+
+fn push_three_digits(bytes: &mut Vec<u8>, number: usize) -> Read<()> {
+    push_digit(bytes, number / 100)?;
+    push_two_digits(bytes, number % 100)
+}
+
 fn read_digits(front: &mut Front<'_>, count: usize, bytes: &mut Vec<u8>) -> Read<()> {
     for _ in 0..count / 3 {
-        let number = front.number(10)?;
-        bytes.push(digit(number / 100)?)?;
-        bytes.push(digit(number / 10 % 10)?)?;
-        bytes.push(digit(number % 10)?)?;
+        push_three_digits(bytes, front.number(10)?)?;
     }
-    if count % 3 == 2 {
-        let number = front.number(7)?;
-        bytes.push(digit(number / 10)?)?;
-        bytes.push(digit(number % 10)?)?;
+    match count % 3 {
+        0 => Ok(()),
+        1 => push_digit(bytes, front.number(4)?),
+        _ => push_two_digits(bytes, front.number(7)?),
     }
-    if count % 3 == 1 {
-        bytes.push(digit(front.number(4)?)?)?;
-    }
+}
+
+fn push_letter(bytes: &mut Vec<u8>, number: usize) -> Read<()> {
+    bytes.push(letter(number)?)?;
     Ok(())
 }
 
 fn read_letters(front: &mut Front<'_>, count: usize, bytes: &mut Vec<u8>) -> Read<()> {
     for _ in 0..count / 2 {
         let number = front.number(11)?;
-        bytes.push(letter(number / 45)?)?;
-        bytes.push(letter(number % 45)?)?;
+        push_letter(bytes, number / 45)?;
+        push_letter(bytes, number % 45)?;
     }
     if count % 2 == 1 {
-        bytes.push(letter(front.number(6)?)?)?;
+        push_letter(bytes, front.number(6)?)?;
+    }
+    Ok(())
+}
+
+fn read_plain_bytes(front: &mut Front<'_>, count: usize, bytes: &mut Vec<u8>) -> Read<()> {
+    for _ in 0..count {
+        let byte = front.number(8)?;
+        bytes.push((byte % 256) as u8)?;
     }
     Ok(())
 }
@@ -419,6 +536,18 @@ fn read_pairs(front: &mut Front<'_>, count: usize, bytes: &mut Vec<u8>) -> Read<
     Ok(())
 }
 
+// Appends the bytes of a piece, which begins with its mode and its count.
+fn read_piece(version: Version, front: &mut Front<'_>, bytes: &mut Vec<u8>) -> Read<()> {
+    let mode = read_mode(version, front)?;
+    let count = read_count(version, mode, front)?;
+    match mode {
+        0 => read_digits(front, count, bytes),
+        1 => read_letters(front, count, bytes),
+        2 => read_plain_bytes(front, count, bytes),
+        _ => read_pairs(front, count, bytes),
+    }
+}
+
 /// The bytes that bits spell.
 pub fn read_bytes(alloc: Global, version: Version, bits: &[bool]) -> Read<Vec<u8>> {
     let mut front = Front { bits, at: 0 };
@@ -431,19 +560,7 @@ pub fn read_bytes(alloc: Global, version: Version, bits: &[bool]) -> Read<Vec<u8
         if front.is_end(terminator) {
             return Ok(bytes);
         }
-        let mode = read_mode(version, &mut front)?;
-        let count = read_count(version, mode, &mut front)?;
-        match mode {
-            0 => read_digits(&mut front, count, &mut bytes)?,
-            1 => read_letters(&mut front, count, &mut bytes)?,
-            2 => {
-                for _ in 0..count {
-                    let byte = front.number(8)?;
-                    bytes.push((byte % 256) as u8)?;
-                }
-            }
-            _ => read_pairs(&mut front, count, &mut bytes)?,
-        }
+        read_piece(version, &mut front, &mut bytes)?;
     }
     Err(Unreadable)
 }

@@ -1,13 +1,14 @@
 //! Calls of a symbol, each once with ample memory.
 
-use crate::reader;
-use crate::square::Square;
+use crate::reader::{self, Read};
+use crate::symbols;
 use qrcode::bits::Bits;
-use qrcode::render::{image, svg, unicode};
-use qrcode::types::QrError;
+use qrcode::render::image::{ImageBuffer, Luma, Rgb};
+use qrcode::render::{svg, unicode};
+use qrcode::types::{QrError, QrResult};
 use qrcode::{Color, EcLevel, QrCode, Version};
 use std::alloc::Global;
-use std::test::Fail;
+use std::process::Abort;
 
 /// `12345678` in Micro 2 at L, drawn with both colours exchanged.
 static HALF_BLOCKS: [&str; 9] = [
@@ -22,251 +23,258 @@ static HALF_BLOCKS: [&str; 9] = [
     "▀▀▀▀▀▀▀▀▀▀▀▀▀▀▀▀▀",
 ];
 
+/// Data that is refused at a version and level, and why.
+#[rattlefmt::skip]
+static REFUSED: [(&[u8], Version, EcLevel, QrError); 8] = [
+    (b"1", Version::Normal(41), EcLevel::L, QrError::InvalidVersion),
+    (b"A", Version::Micro(1), EcLevel::H, QrError::UnsupportedCharacterSet),
+    (b"1", Version::Micro(1), EcLevel::H, QrError::InvalidVersion),
+    (b"12345678", Version::Micro(1), EcLevel::H, QrError::InvalidVersion),
+    (b"12345678", Version::Micro(1), EcLevel::L, QrError::DataTooLong),
+    (b"123456", Version::Micro(1), EcLevel::L, QrError::DataTooLong),
+    (b"a1234bcd", Version::Normal(1), EcLevel::H, QrError::DataTooLong),
+    (b"1", Version::Micro(4), EcLevel::H, QrError::InvalidVersion),
+];
+
 #[test]
 fn refusals_come_in_order(rt: HostRuntime) {
-    let refused: [(&[u8], Version, EcLevel, QrError); 8] = [
-        (
-            b"1",
-            Version::Normal(41),
-            EcLevel::L,
-            QrError::InvalidVersion,
-        ),
-        (
-            b"A",
-            Version::Micro(1),
-            EcLevel::H,
-            QrError::UnsupportedCharacterSet,
-        ),
-        (b"1", Version::Micro(1), EcLevel::H, QrError::InvalidVersion),
-        (
-            b"12345678",
-            Version::Micro(1),
-            EcLevel::H,
-            QrError::InvalidVersion,
-        ),
-        (
-            b"12345678",
-            Version::Micro(1),
-            EcLevel::L,
-            QrError::DataTooLong,
-        ),
-        (
-            b"123456",
-            Version::Micro(1),
-            EcLevel::L,
-            QrError::DataTooLong,
-        ),
-        (
-            b"a1234bcd",
-            Version::Normal(1),
-            EcLevel::H,
-            QrError::DataTooLong,
-        ),
-        (b"1", Version::Micro(4), EcLevel::H, QrError::InvalidVersion),
-    ];
-    for (i, (data, version, ec_level, error)) in refused.iter().enumerate() {
+    for (i, (data, version, ec_level, error)) in REFUSED.iter().enumerate() {
         let result = QrCode::with_version(rt.alloc(), data, *version, *ec_level);
-        assert!(rt; result.is_err_and(|e| e == *error), "row {i}");
+        assert_eq!(rt; result.err(), Some(*error), "row {i}");
     }
 }
 
+// A symbol is of a version of Normal and of a level.
+fn check_kind(rt: &impl Abort, code: &QrCode, number: i16, ec_level: EcLevel) {
+    assert_eq!(rt; code.version(), Version::Normal(number));
+    assert_eq!(rt; code.error_correction_level(), ec_level);
+}
+
+// The version of Normal that is chosen for data at a level.
+fn check_choice(rt: &impl Abort, alloc: Global, data: &[u8], ec_level: EcLevel, number: i16) {
+    let code = QrCode::with_error_correction_level(alloc, data, ec_level).expect(rt, "a symbol");
+    check_kind(rt, &code, number, ec_level);
+}
+
+// The version of Normal that is chosen for so many digits, at level M, which is not said.
+fn check_choice_for_digits(rt: &impl Abort, alloc: Global, count: usize, number: i16) {
+    let digits = Vec::from_elem(alloc, b'7', count).expect(rt, "digits");
+    let code = QrCode::new(alloc, &digits).expect(rt, "a symbol");
+    check_kind(rt, &code, number, EcLevel::M);
+}
+
 #[test]
-fn versions_are_chosen(rt: HostRuntime) -> Result<(), Fail> {
+fn versions_are_chosen(rt: HostRuntime) {
     let alloc = rt.alloc();
-    let rows: [(&[u8], EcLevel, i16); 4] = [
-        (b"", EcLevel::M, 1),
-        (b"HELLO WORLD", EcLevel::Q, 1),
-        (b"HELLO WORLD", EcLevel::H, 2),
-        (b"a1234bc", EcLevel::H, 1),
-    ];
-    for (data, ec_level, number) in rows {
-        let code = QrCode::with_error_correction_level(alloc, data, ec_level)?;
-        assert_eq!(rt; code.version(), Version::Normal(number));
-        assert_eq!(rt; code.error_correction_level(), ec_level);
-    }
-    let mixed = b"aABCDEF".repeat(alloc, 30)?;
-    let code = QrCode::with_error_correction_level(alloc, &mixed, EcLevel::L)?;
-    assert_eq!(rt; code.version(), Version::Normal(9));
-    for (count, number) in [(432, 9), (433, 10)] {
-        let digits = Vec::from_elem(alloc, b'7', count)?;
-        let code = QrCode::new(alloc, &digits)?;
-        assert_eq!(rt; code.version(), Version::Normal(number));
-        assert_eq!(rt; code.error_correction_level(), EcLevel::M);
-    }
-    let mut digits = Vec::from_elem(alloc, b'7', 7089)?;
-    let code = QrCode::with_version(alloc, &digits, Version::Normal(40), EcLevel::L)?;
+    check_choice(&rt, alloc, b"", EcLevel::M, 1);
+    check_choice(&rt, alloc, b"HELLO WORLD", EcLevel::Q, 1);
+    check_choice(&rt, alloc, b"HELLO WORLD", EcLevel::H, 2);
+    check_choice(&rt, alloc, b"a1234bc", EcLevel::H, 1);
+    let mixed = b"aABCDEF".repeat(alloc, 30).expect(&rt, "memory");
+    check_choice(&rt, alloc, &mixed, EcLevel::L, 9);
+    check_choice_for_digits(&rt, alloc, 432, 9);
+    check_choice_for_digits(&rt, alloc, 433, 10);
+}
+
+#[test]
+fn the_greatest_symbol_holds_so_many_digits_and_no_more(rt: HostRuntime) {
+    let alloc = rt.alloc();
+    let (version, ec_level) = (Version::Normal(40), EcLevel::L);
+    let mut digits = Vec::from_elem(alloc, b'7', 7089).expect(&rt, "digits");
+    let code = QrCode::with_version(alloc, &digits, version, ec_level).expect(&rt, "a symbol");
     assert_eq!(rt; code.max_allowed_errors(), 375);
-    digits.push(b'7')?;
-    let longer = QrCode::with_version(alloc, &digits, Version::Normal(40), EcLevel::L);
-    assert!(rt; longer.is_err_and(|e| e == QrError::DataTooLong));
-    Ok(())
+    digits.push(b'7').expect(&rt, "memory");
+    let longer = QrCode::with_version(alloc, &digits, version, ec_level);
+    assert!(rt; matches!(longer, Err(QrError::DataTooLong)));
 }
 
 // The most bytes of one kind that a version holds, and what their symbol is read as.
-#[test]
-fn symbols_hold_so_many_bytes_and_no_more(rt: HostRuntime) -> Result<(), Fail> {
-    let alloc = rt.alloc();
-    let rows = [
-        (b'7', 34, Version::Normal(1), EcLevel::M),
-        (b'a', 14, Version::Normal(1), EcLevel::M),
-        (b'0', 23, Version::Micro(3), EcLevel::L),
-        (b'a', 2331, Version::Normal(40), EcLevel::M),
-    ];
-    for (byte, count, version, ec_level) in rows {
-        let mut data = Vec::from_elem(alloc, byte, count)?;
-        let code = QrCode::with_version(alloc, &data, version, ec_level)?;
-        let square = Square::of(alloc, &code)?;
-        let reading = reader::read(alloc, &square, &square.places(alloc)?)?;
-        assert!(rt; reading.bytes == data);
-        data.push(byte)?;
-        let longer = QrCode::with_version(alloc, &data, version, ec_level);
-        assert!(rt; longer.is_err_and(|e| e == QrError::DataTooLong));
-    }
-    Ok(())
+fn check_most(
+    rt: &impl Abort,
+    alloc: Global,
+    byte: u8,
+    count: usize,
+    version: Version,
+    ec_level: EcLevel,
+) {
+    let mut data = Vec::from_elem(alloc, byte, count).expect(rt, "memory");
+    let code = QrCode::with_version(alloc, &data, version, ec_level).expect(rt, "a symbol");
+    symbols::check_bytes(rt, &symbols::read(rt, alloc, &code).bytes, &data);
+    data.push(byte).expect(rt, "memory");
+    let longer = QrCode::with_version(alloc, &data, version, ec_level);
+    assert!(rt; matches!(longer, Err(QrError::DataTooLong)));
 }
 
-// The bytes of data that a symbol is read as, the last one filled with zeros.
-fn read_data(alloc: Global, code: &QrCode) -> Result<Vec<u8>, Fail> {
-    let square = Square::of(alloc, code)?;
-    let reading = reader::read(alloc, &square, &square.places(alloc)?)?;
+#[test]
+fn symbols_hold_so_many_bytes_and_no_more(rt: HostRuntime) {
+    let alloc = rt.alloc();
+    check_most(&rt, alloc, b'7', 34, Version::Normal(1), EcLevel::M);
+    check_most(&rt, alloc, b'a', 14, Version::Normal(1), EcLevel::M);
+    check_most(&rt, alloc, b'0', 23, Version::Micro(3), EcLevel::L);
+    check_most(&rt, alloc, b'a', 2331, Version::Normal(40), EcLevel::M);
+}
+
+// The bytes of bits, the last one filled with zeros.
+fn bytes_of(alloc: Global, bits: &[bool]) -> Read<Vec<u8>> {
     let mut bytes = Vec::new(alloc);
-    let mut byte = 0u8;
-    for (i, bit) in reading.bits.iter().enumerate() {
-        if *bit {
-            byte |= 0x80u8 >> (i % 8) as u32;
-        }
-        if i % 8 == 7 || i.wrapping_add(1) == reading.bits.len() {
-            bytes.push(byte)?;
-            byte = 0;
-        }
+    for bits in bits.chunks(8) {
+        bytes.push(reader::byte_of(bits))?;
     }
     Ok(bytes)
 }
 
+// The symbol of data is read as these bytes of data bits.
+fn check_held(
+    rt: &impl Abort,
+    alloc: Global,
+    data: &[u8],
+    version: Version,
+    ec_level: EcLevel,
+    bytes: &[u8],
+) {
+    let code = QrCode::with_version(alloc, data, version, ec_level).expect(rt, "a symbol");
+    let bits = symbols::read(rt, alloc, &code).bits;
+    let held = bytes_of(alloc, &bits).expect(rt, "memory");
+    symbols::check_bytes(rt, &held, bytes);
+}
+
+/// Data, a version and level, and the bytes of data bits that were published for them.
+#[rattlefmt::skip]
+static PUBLISHED: [(&[u8], Version, EcLevel, &[u8]); 5] = [
+    (b"123A", Version::Micro(2), EcLevel::L, b"\x18\xf7\x25\x00\xec"),
+    (b"99999", Version::Micro(1), EcLevel::L, b"\xbf\x3e\x30"),
+    (b"00000000000000000000", Version::Micro(3), EcLevel::L, b"\x28\0\0\0\0\0\0\0\0\0\0"),
+    (b"HELLO WORLD", Version::Normal(1), EcLevel::Q, b"\x20\x5b\x0b\x78\xd1\x72\xdc\x4d\x43\x40\xec\x11\xec"),
+    (b"01234567", Version::Normal(1), EcLevel::H, b"\x10\x20\x0c\x56\x61\x80\xec\x11\xec"),
+];
+
 #[test]
-fn published_data_is_held(rt: HostRuntime) -> Result<(), Fail> {
-    let alloc = rt.alloc();
-    let rows: [(&[u8], Version, EcLevel, &[u8]); 5] = [
-        (
-            b"123A",
-            Version::Micro(2),
-            EcLevel::L,
-            b"\x18\xf7\x25\x00\xec",
-        ),
-        (b"99999", Version::Micro(1), EcLevel::L, b"\xbf\x3e\x30"),
-        (
-            b"00000000000000000000",
-            Version::Micro(3),
-            EcLevel::L,
-            b"\x28\0\0\0\0\0\0\0\0\0\0",
-        ),
-        (
-            b"HELLO WORLD",
-            Version::Normal(1),
-            EcLevel::Q,
-            b"\x20\x5b\x0b\x78\xd1\x72\xdc\x4d\x43\x40\xec\x11\xec",
-        ),
-        (
-            b"01234567",
-            Version::Normal(1),
-            EcLevel::H,
-            b"\x10\x20\x0c\x56\x61\x80\xec\x11\xec",
-        ),
-    ];
-    for (data, version, ec_level, bytes) in rows {
-        let code = QrCode::with_version(alloc, data, version, ec_level)?;
-        assert_eq!(rt; read_data(alloc, &code)?.as_slice(), bytes);
+fn published_data_is_held(rt: HostRuntime) {
+    for (data, version, ec_level, bytes) in &PUBLISHED {
+        check_held(&rt, rt.alloc(), data, *version, *ec_level, bytes);
     }
-    Ok(())
+}
+
+// The width of a symbol of Normal 1 at a level, of bits that are ended for L.
+fn width_of_drawn_bits(rt: &impl Abort, alloc: Global, ec_level: EcLevel) -> QrResult<usize> {
+    let mut bits = Bits::new(alloc, Version::Normal(1));
+    bits.push_eci_designator(9).expect(rt, "room");
+    bits.push_byte_data(b"\xca\xfe\xe4\xe9\xea\xe1\xf2 QR")
+        .expect(rt, "room");
+    bits.push_terminator(EcLevel::L).expect(rt, "room");
+    assert!(rt; bits.len() >= bits.max_len(ec_level).expect(rt, "a level"));
+    Ok(QrCode::with_bits(alloc, bits, ec_level)?.width())
 }
 
 #[test]
-fn bits_are_drawn(rt: HostRuntime) -> Result<(), Fail> {
+fn bits_are_drawn(rt: HostRuntime) {
     let alloc = rt.alloc();
-    for (ec_level, is_held) in [(EcLevel::L, true), (EcLevel::H, false)] {
-        let mut bits = Bits::new(alloc, Version::Normal(1));
-        bits.push_eci_designator(9)?;
-        bits.push_byte_data(b"\xca\xfe\xe4\xe9\xea\xe1\xf2 QR")?;
-        bits.push_terminator(EcLevel::L)?;
-        assert!(rt; bits.len() >= bits.max_len(ec_level)?);
-        let code = QrCode::with_bits(alloc, bits, ec_level);
-        assert_eq!(rt;
-            code.map(|code| code.width()),
-            if is_held {
-                Ok(21)
-            } else {
-                Err(QrError::DataTooLong)
-            }
-        );
-    }
-    Ok(())
+    assert_eq!(rt; width_of_drawn_bits(&rt, alloc, EcLevel::L), Ok(21));
+    let refused = width_of_drawn_bits(&rt, alloc, EcLevel::H);
+    assert_eq!(rt; refused, Err(QrError::DataTooLong));
 }
 
-#[test]
-fn symbols_are_asked(rt: HostRuntime) -> Result<(), Fail> {
-    let alloc = rt.alloc();
-    let code = QrCode::with_version(alloc, b"01234567", Version::Normal(1), EcLevel::M)?;
+// The symbol of `01234567`.
+fn symbol_of_digits(rt: &impl Abort, alloc: Global, version: Version, ec_level: EcLevel) -> QrCode {
+    QrCode::with_version(alloc, b"01234567", version, ec_level).expect(rt, "a symbol")
+}
+
+// A corner of a symbol of Normal 1 is of a finder pattern, and the opposite one is of data.
+fn check_places(rt: &impl Abort, code: &QrCode) {
     assert_eq!(rt; code.width(), 21);
-    assert_eq!(rt; code.max_allowed_errors(), 4);
     assert!(rt; code.is_functional(0, 0) && !code.is_functional(20, 20));
     assert!(rt; code[(0, 0)] == Color::Dark && code[(7, 0)] == Color::Light);
+}
 
-    let colors = code.to_colors(alloc)?;
-    let modules = code.to_vec(alloc)?;
+// The modules of a symbol of Normal 1 are the same by each call.
+fn check_modules(rt: &impl Abort, alloc: Global, code: QrCode) {
+    let colors = code.to_colors(alloc).expect(rt, "memory");
+    let modules = code.to_vec(alloc).expect(rt, "memory");
+    check_colors(rt, &colors, &modules);
+    let copy = code.clone().expect(rt, "memory");
+    assert!(rt; copy.into_vec(alloc).expect(rt, "memory") == modules);
+    assert!(rt; code.into_colors() == colors);
+}
+
+// Of the modules of Normal 1, the dark ones are `true`.
+fn check_colors(rt: &impl Abort, colors: &[Color], modules: &[bool]) {
     assert_eq!(rt; colors.len(), 441);
     assert_eq!(rt; modules.len(), 441);
-    for (color, is_dark) in colors.iter().zip(modules.iter()) {
-        assert_eq!(rt; *color == Color::Dark, *is_dark);
+    for (i, color) in colors.iter().enumerate() {
+        assert_eq!(rt; Some(*color == Color::Dark), modules.get(i).copied());
     }
-    assert!(rt; code.clone()?.into_vec(alloc)? == modules);
-    assert!(rt; code.into_colors() == colors);
-    Ok(())
 }
 
 #[test]
-fn symbols_are_drawn(rt: HostRuntime) -> Result<(), Fail> {
-    let alloc = rt.alloc();
-    let code = QrCode::with_version(alloc, b"12345678", Version::Micro(2), EcLevel::L)?;
-    let text = code
+fn symbols_are_asked(rt: HostRuntime) {
+    let code = symbol_of_digits(&rt, rt.alloc(), Version::Normal(1), EcLevel::M);
+    assert_eq!(rt; code.max_allowed_errors(), 4);
+    check_places(&rt, &code);
+    check_modules(&rt, rt.alloc(), code);
+}
+
+// The text of `12345678` in half blocks, with both colours exchanged.
+fn exchanged_half_blocks(alloc: Global) -> QrResult<String> {
+    QrCode::with_version(alloc, b"12345678", Version::Micro(2), EcLevel::L)?
         .render()
         .dark_color(unicode::Dense1x2::Light)
         .light_color(unicode::Dense1x2::Dark)
-        .build(alloc)?;
-    for (i, line) in text.as_str().split('\n').enumerate() {
-        assert_eq!(rt; Some(line), HALF_BLOCKS.get(i).copied(), "line {i}");
-    }
+        .build(alloc)
+}
 
-    let code = QrCode::with_version(alloc, b"01234567", Version::Micro(2), EcLevel::L)?;
-    let text = code
+#[test]
+fn half_blocks_are_drawn(rt: HostRuntime) {
+    let text = exchanged_half_blocks(rt.alloc()).expect(&rt, "a text");
+    symbols::check_lines(&rt, text.as_str(), &HALF_BLOCKS);
+}
+
+// The SVG text of `01234567` in two colours, of at least 200 by 200 pixels.
+fn coloured_text(alloc: Global) -> QrResult<String> {
+    QrCode::with_version(alloc, b"01234567", Version::Micro(2), EcLevel::L)?
         .render()
         .dark_color(svg::Color("#800000"))
         .light_color(svg::Color("#ffff80"))
         .min_dimensions(200, 200)
-        .build(alloc)?;
+        .build(alloc)
+}
+
+#[test]
+fn paths_are_drawn(rt: HostRuntime) {
+    let text = coloured_text(rt.alloc()).expect(&rt, "a text");
     assert!(rt; text.as_str().contains("width=\"204\" height=\"204\""));
     assert!(rt;
         text.as_str()
             .contains("<path fill=\"#800000\" d=\"M24 24h12v12H24V24M36 24")
     );
-    let pixels = code
-        .render::<image::Rgb>()
-        .min_dimensions(200, 200)
-        .build(alloc)?;
-    assert_eq!(rt; pixels.dimensions(), (204, 204));
+}
+
+// A picture of a symbol of at least 200 by 200 pixels.
+fn enlarged(alloc: Global, code: &QrCode) -> QrResult<ImageBuffer<Rgb>> {
+    code.render::<Rgb>().min_dimensions(200, 200).build(alloc)
+}
+
+#[test]
+fn pixels_are_drawn(rt: HostRuntime) {
+    let code = symbol_of_digits(&rt, rt.alloc(), Version::Micro(2), EcLevel::L);
+    let pixels = enlarged(rt.alloc(), &code).expect(&rt, "a picture");
+    symbols::check_sides(&rt, &pixels, 204);
     assert_eq!(rt; pixels.into_raw().len(), 124_848);
+    let code = symbol_of_digits(&rt, rt.alloc(), Version::Normal(1), EcLevel::M);
+    let pixels = symbols::picture::<Luma>(&rt, rt.alloc(), &code);
+    symbols::check_sides(&rt, &pixels, 232);
+}
 
-    // The greatest symbol fits as long as its sides are below 2^32 pixels.
-    let code = QrCode::with_version(alloc, b"01234567", Version::Normal(40), EcLevel::L)?;
-    for (across, fits) in [(24_265_351, true), (24_265_352, false)] {
-        let mut renderer = code.render::<image::Luma>();
-        renderer.quiet_zone(false).module_dimensions(across, 1);
-        assert_eq!(rt; renderer.fits(), fits);
-    }
+// Whether the picture of a symbol fits with modules of so many pixels across and one down.
+fn fits_with(code: &QrCode, across: u32) -> bool {
+    let mut renderer = code.render::<Luma>();
+    renderer.quiet_zone(false).module_dimensions(across, 1);
+    renderer.fits()
+}
 
-    let code = QrCode::with_version(alloc, b"01234567", Version::Normal(1), EcLevel::M)?;
-    assert_eq!(rt;
-        code.render::<image::Luma>().build(alloc)?.dimensions(),
-        (232, 232)
-    );
-    Ok(())
+// The greatest symbol fits as long as its sides are below 2^32 pixels.
+#[test]
+fn sides_of_pictures_are_bounded(rt: HostRuntime) {
+    let code = symbol_of_digits(&rt, rt.alloc(), Version::Normal(40), EcLevel::L);
+    assert!(rt; fits_with(&code, 24_265_351));
+    assert!(rt; !fits_with(&code, 24_265_352));
 }

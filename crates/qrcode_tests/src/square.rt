@@ -45,7 +45,7 @@ impl Square {
     /// The square that a symbol shows.
     pub fn of(alloc: Global, code: &QrCode) -> Read<Square> {
         let mut modules = Vec::new(alloc);
-        for color in code.to_colors(alloc).map_err(|_| Unreadable)?.iter() {
+        for color in &code.to_colors(alloc)? {
             modules.push(*color == Color::Dark)?;
         }
         Ok(Square {
@@ -59,6 +59,15 @@ impl Square {
             width: self.width,
             modules: Vec::from_slice(alloc, &self.modules)?,
         })
+    }
+
+    /// How many modules are dark.
+    pub fn count_of_dark(&self) -> usize {
+        let mut count = 0usize;
+        for is_dark in &self.modules {
+            count = count.wrapping_add(*is_dark as usize);
+        }
+        count
     }
 
     /// The places of data.
@@ -87,6 +96,23 @@ impl Square {
     pub fn turn(&mut self, place: Place) {
         let dark = self.is_dark(place);
         self.set(place, !dark);
+    }
+
+    /// How many copies of the format word there are.
+    pub fn format_copies(&self) -> usize {
+        match self.version() {
+            Version::Normal(_) => 2,
+            Version::Micro(_) => 1,
+        }
+    }
+
+    /// The place of a bit in a copy of the format word, the highest bit being the first of fifteen.
+    pub fn format_place(&self, copy: usize, i: usize) -> Place {
+        match (self.version(), copy) {
+            (Version::Micro(_), _) => format_place_in_micro(i),
+            (Version::Normal(_), 0) => format_place_at_corner(i),
+            (Version::Normal(_), _) => format_place_at_sides(self.width, i),
+        }
     }
 
     /// The version that has so many modules along a side.
@@ -124,36 +150,48 @@ pub fn centres(alloc: Global, number: i16) -> Read<Vec<usize>> {
         .get(count_of(number).wrapping_sub(1))
         .ok_or(Unreadable)?;
     for text in row.split_whitespace() {
-        list.push(text.parse::<usize>().map_err(|_| Unreadable)?)?;
+        list.push(number_in(text)?)?;
     }
     Ok(list)
 }
 
-/// The blocks of a version at a level.
-pub fn blocks_of(alloc: Global, version: Version, ec_level: EcLevel) -> Read<Blocks> {
+// The text of the blocks of a version at a level.
+fn cell_of(version: Version, ec_level: EcLevel) -> Read<&'static str> {
     let row = match version {
         Version::Normal(v) => count_of(v).wrapping_sub(1),
         Version::Micro(v) => count_of(v).wrapping_add(39),
     };
-    let cell = BLOCKS
-        .get(row)
-        .ok_or(Unreadable)?
-        .split_whitespace()
+    let text = BLOCKS.get(row).ok_or(Unreadable)?;
+    text.split_whitespace()
         .nth(ec_level as usize)
-        .ok_or(Unreadable)?;
+        .ok_or(Unreadable)
+}
+
+// A number in a text.
+fn number_in(text: &str) -> Read<usize> {
+    text.parse::<usize>().ok().ok_or(Unreadable)
+}
+
+// Appends the lengths of a run of blocks.
+fn push_run(lengths: &mut Vec<usize>, run: &str) -> Read<()> {
+    let (count, length) = run.split_once('x').ok_or(Unreadable)?;
+    let length = number_in(length)?;
+    for _ in 0..number_in(count)? {
+        lengths.push(length)?;
+    }
+    Ok(())
+}
+
+/// The blocks of a version at a level.
+pub fn blocks_of(alloc: Global, version: Version, ec_level: EcLevel) -> Read<Blocks> {
+    let cell = cell_of(version, ec_level)?;
     let (ec_length, runs) = cell.split_once(':').ok_or(Unreadable)?;
+    let ec_length = number_in(ec_length)?;
     let mut lengths = Vec::new(alloc);
     for run in runs.split('+') {
-        let (count, length) = run.split_once('x').ok_or(Unreadable)?;
-        let length = length.parse::<usize>().map_err(|_| Unreadable)?;
-        for _ in 0..count.parse::<usize>().map_err(|_| Unreadable)? {
-            lengths.push(length)?;
-        }
+        push_run(&mut lengths, run)?;
     }
-    Ok(Blocks {
-        ec_length: ec_length.parse::<usize>().map_err(|_| Unreadable)?,
-        lengths,
-    })
+    Ok(Blocks { ec_length, lengths })
 }
 
 /// Whether a place belongs to a pattern or to a word.
@@ -173,14 +211,22 @@ pub fn is_reserved(version: Version, width: usize, centres: &[usize], place: Pla
     }
 }
 
+// The centre that a coordinate is at most two modules from.
+fn centre_near(centres: &[usize], at: usize) -> Option<usize> {
+    for centre in centres {
+        if apart(at, *centre) <= 2 {
+            return Some(*centre);
+        }
+    }
+    None
+}
+
 // Whether a place belongs to an alignment pattern.
 fn is_aligned(width: usize, centres: &[usize], place: Place) -> bool {
     let last = width.wrapping_sub(7);
-    let column = centres.iter().find(|a| apart(place.x, **a) <= 2);
-    let row = centres.iter().find(|b| apart(place.y, **b) <= 2);
-    match (column, row) {
+    match (centre_near(centres, place.x), centre_near(centres, place.y)) {
         (Some(a), Some(b)) => {
-            let corner = (*a == 6 && *b == 6) || (*a == 6 && *b == last) || (*a == last && *b == 6);
+            let corner = (a == 6 && b == 6) || (a == 6 && b == last) || (a == last && b == 6);
             !corner
         }
         _ => false,
@@ -217,49 +263,31 @@ pub fn data_places(alloc: Global, version: Version, width: usize) -> Read<Vec<Pl
     Ok(places)
 }
 
-/// The places of each copy of the format word, the highest bit first.
-pub fn format_places(alloc: Global, version: Version, width: usize) -> Read<Vec<Vec<Place>>> {
-    let mut copies = Vec::new(alloc);
-    let mut first = Vec::new(alloc);
-    for i in 0..15usize {
-        first.push(match version {
-            Version::Micro(_) if i <= 7 => Place {
-                x: i.wrapping_add(1),
-                y: 8,
-            },
-            Version::Micro(_) => Place {
-                x: 8,
-                y: 15usize.wrapping_sub(i),
-            },
-            Version::Normal(_) if i <= 5 => Place { x: i, y: 8 },
-            Version::Normal(_) if i <= 7 => Place {
-                x: i.wrapping_add(1),
-                y: 8,
-            },
-            Version::Normal(_) if i == 8 => Place { x: 8, y: 7 },
-            Version::Normal(_) => Place {
-                x: 8,
-                y: 14usize.wrapping_sub(i),
-            },
-        })?;
-    }
-    copies.push(first)?;
-    if let Version::Normal(_) = version {
-        let mut second = Vec::new(alloc);
-        for i in 0..15usize {
-            second.push(if i <= 6 {
-                Place {
-                    x: 8,
-                    y: width.wrapping_sub(1).wrapping_sub(i),
-                }
-            } else {
-                Place {
-                    x: width.wrapping_sub(15).wrapping_add(i),
-                    y: 8,
-                }
-            })?;
-        }
-        copies.push(second)?;
-    }
-    Ok(copies)
+// The place of a bit of the format word in Micro, the highest bit being the first.
+fn format_place_in_micro(i: usize) -> Place {
+    let (x, y) = match i {
+        0..=7 => (i.wrapping_add(1), 8),
+        _ => (8, 15usize.wrapping_sub(i)),
+    };
+    Place { x, y }
+}
+
+// The place of a bit of the format word at the upper left finder pattern of Normal.
+fn format_place_at_corner(i: usize) -> Place {
+    let (x, y) = match i {
+        0..=5 => (i, 8),
+        6..=7 => (i.wrapping_add(1), 8),
+        8 => (8, 7),
+        _ => (8, 14usize.wrapping_sub(i)),
+    };
+    Place { x, y }
+}
+
+// The place of a bit of the format word at the other two finder patterns of Normal.
+fn format_place_at_sides(width: usize, i: usize) -> Place {
+    let (x, y) = match i {
+        0..=6 => (8, width.wrapping_sub(1).wrapping_sub(i)),
+        _ => (width.wrapping_sub(15).wrapping_add(i), 8),
+    };
+    Place { x, y }
 }

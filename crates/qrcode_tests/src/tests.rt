@@ -1,7 +1,9 @@
 //! Symbols are read back.
 
-use crate::reader::{self, Unreadable};
+use crate::damage::turn_format_bits;
+use crate::reader::{self, Read, Unreadable};
 use crate::square::{self, Place, Square};
+use crate::symbols;
 use qrcode::render::image::Luma;
 use qrcode::render::string::Str;
 use qrcode::types::QrError;
@@ -44,15 +46,11 @@ fn check_digits(
 
 // A symbol is drawn as text and in greys: each dark module is a letter, and eight by eight pixels.
 fn check_pictures(rt: &impl Abort, alloc: Global, code: &QrCode, square: &Square) {
-    let dark = square.modules.iter().filter(|m| **m).count();
-    let text = code
-        .render::<Str<'static>>()
-        .build(alloc)
-        .expect(rt, "a text");
-    assert_eq!(rt; text.as_str().chars().filter(|c| *c == '█').count(), dark);
-    let greys = code.render::<Luma>().build(alloc).expect(rt, "greys");
-    let pixels = greys.into_raw();
-    assert_eq!(rt; pixels.iter().filter(|p| **p == 0).count() / 64, dark);
+    let dark = square.count_of_dark();
+    let text = symbols::picture::<Str<'static>>(rt, alloc, code);
+    assert_eq!(rt; symbols::count_of_letter(text.as_str(), '█'), dark);
+    let pixels = symbols::picture::<Luma>(rt, alloc, code).into_raw();
+    assert_eq!(rt; symbols::count_of_dark_pixels(&pixels, 1) / 64, dark);
 }
 
 // A square is read as data at a level, with so many wrong codewords.
@@ -66,30 +64,35 @@ fn check_reading(
     wrong: usize,
 ) {
     let reading = reader::read(alloc, square, places).expect(rt, "a reading");
-    assert!(rt; reading.bytes.as_slice() == data);
+    symbols::check_bytes(rt, &reading.bytes, data);
     assert!(rt; reading.ec_level == ec_level);
     assert_eq!(rt; reading.wrong, wrong);
 }
 
 // Turns three modules of each copy of the format word, and a module of half as many codewords of
 // each block as it has error correction codewords; how many codewords.
-fn damage(
-    alloc: Global,
-    square: &mut Square,
-    places: &[Place],
-    ec_level: EcLevel,
-) -> Result<usize, Unreadable> {
+fn damage(alloc: Global, square: &mut Square, places: &[Place], ec_level: EcLevel) -> Read<usize> {
+    turn_format_bits(square, &[4, 7, 10]);
     let version = square.version();
-    for copy in &square::format_places(alloc, version, square.width)? {
-        for place in copy.iter().skip(4).step_by(3).take(3) {
-            square.turn(*place);
-        }
-    }
     let blocks = square::blocks_of(alloc, version, ec_level)?;
     let places = reader::codeword_places(alloc, version, ec_level, places)?;
     let mut wrong = 0usize;
-    for words in &reader::block_words(alloc, &blocks)? {
-        for number in words.iter().take(blocks.ec_length / 2) {
+    for numbers in &reader::block_words(alloc, &blocks)? {
+        wrong = wrong.wrapping_add(damage_block(square, &places, numbers, blocks.ec_length / 2)?);
+    }
+    Ok(wrong)
+}
+
+// Turns a module of the first codewords of a block, so many; how many there are.
+fn damage_block(
+    square: &mut Square,
+    places: &[Vec<Place>],
+    numbers: &[usize],
+    count: usize,
+) -> Read<usize> {
+    let mut wrong = 0usize;
+    for i in 0..count {
+        if let Some(number) = numbers.get(i) {
             let word = places.get(*number).ok_or(Unreadable)?;
             square.turn(*word.first().ok_or(Unreadable)?);
             wrong = wrong.wrapping_add(1);
@@ -98,28 +101,40 @@ fn damage(
     Ok(wrong)
 }
 
-// Reads symbols of each level of a version: no digit, one, the most that fit, undamaged and
-// damaged; one more is refused. How many levels the version has.
+// Symbols of a version at a level with room for so many bits are read: no digit, one, and the most
+// that fit, undamaged and damaged; one more is refused.
+fn check_level(
+    rt: &impl Abort,
+    alloc: Global,
+    version: Version,
+    ec_level: EcLevel,
+    places: &[Place],
+    room: usize,
+) {
+    let mut digits = Vec::from_elem(alloc, b'7', most_digits(version, room)).expect(rt, "memory");
+    let _ = check_digits(rt, alloc, version, ec_level, places, b"");
+    let _ = check_digits(rt, alloc, version, ec_level, places, b"1");
+    let mut square = check_digits(rt, alloc, version, ec_level, places, &digits);
+    let wrong = damage(alloc, &mut square, places, ec_level).expect(rt, "memory");
+    check_reading(rt, alloc, &square, places, ec_level, &digits, wrong);
+    digits.push(b'7').expect(rt, "memory");
+    let refused = QrCode::with_version(alloc, &digits, version, ec_level);
+    assert!(rt; matches!(refused, Err(QrError::DataTooLong)));
+}
+
+// Reads symbols of each level of a version, and is refused the others; how many levels it has.
 fn check_version(rt: &impl Abort, alloc: Global, version: Version) -> u32 {
     let width = square::width_of(version);
     let places = square::data_places(alloc, version, width).expect(rt, "memory");
     let mut levels = 0u32;
-    for ec_level in [EcLevel::L, EcLevel::M, EcLevel::Q, EcLevel::H] {
-        let Ok(room) = reader::capacity(alloc, version, ec_level) else {
-            let refused = QrCode::with_version(alloc, b"", version, ec_level);
+    for ec_level in &[EcLevel::L, EcLevel::M, EcLevel::Q, EcLevel::H] {
+        if let Ok(room) = reader::capacity(alloc, version, *ec_level) {
+            check_level(rt, alloc, version, *ec_level, &places, room);
+            levels = levels.wrapping_add(1);
+        } else {
+            let refused = QrCode::with_version(alloc, b"", version, *ec_level);
             assert!(rt; matches!(refused, Err(QrError::InvalidVersion)));
-            continue;
-        };
-        let mut digits = vec![in alloc; b'7'; most_digits(version, room)].expect(rt, "memory");
-        let _ = check_digits(rt, alloc, version, ec_level, &places, b"");
-        let _ = check_digits(rt, alloc, version, ec_level, &places, b"1");
-        let mut square = check_digits(rt, alloc, version, ec_level, &places, &digits);
-        let wrong = damage(alloc, &mut square, &places, ec_level).expect(rt, "memory");
-        check_reading(rt, alloc, &square, &places, ec_level, &digits, wrong);
-        digits.push(b'7').expect(rt, "memory");
-        let refused = QrCode::with_version(alloc, &digits, version, ec_level);
-        assert!(rt; matches!(refused, Err(QrError::DataTooLong)));
-        levels = levels.wrapping_add(1);
+        }
     }
     levels
 }

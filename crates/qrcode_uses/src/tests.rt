@@ -5,6 +5,9 @@ use crate::drawings::{as_chars, as_grey_map, as_half_blocks, as_pairs, as_pic, a
 use crate::label::{Bar, label_bars};
 use crate::payment::{Payment, payment_picture};
 use crate::ticket::ticket_blocks;
+use qrcode::types::QrResult;
+use std::alloc::Global;
+use std::process::Abort;
 use std::test::Fail;
 
 #[test]
@@ -45,69 +48,82 @@ fn a_ticket_is_drawn(rt: HostRuntime) -> Result<(), Fail> {
     Ok(())
 }
 
+static GREEK_TEXT: &[u8] = b"\xca\xfe\xe4\xe9\xea\xe1\xf2 QR";
+
+// The bytes of a Greek text's bits.
+fn greek_bytes(alloc: Global, text: &[u8]) -> QrResult<Vec<u8>> {
+    Ok(greek_bits(alloc, text)?.into_bytes())
+}
+
+// How many letters the drawing of a Greek text's symbol has.
+fn greek_length(alloc: Global, text: &[u8]) -> QrResult<usize> {
+    Ok(greek_symbol(alloc, text)?.len())
+}
+
 #[test]
 fn a_greek_text_is_drawn(rt: HostRuntime) -> Result<(), Fail> {
-    let text = b"\xca\xfe\xe4\xe9\xea\xe1\xf2 QR";
-    let bytes = greek_bits(rt.alloc(), text)?.into_bytes();
+    let bytes = greek_bytes(rt.alloc(), GREEK_TEXT)?;
     assert_eq!(rt;
         bytes.as_slice(),
         b"\x70\x94\x0a\xca\xfe\xe4\xe9\xea\xe1\xf2\x20\x51\x52\x00\xec\x11\xec\x11\xec".as_slice()
     );
-    assert_eq!(rt; greek_symbol(rt.alloc(), text)?.len(), 461);
-    assert!(rt; greek_symbol(rt.alloc(), b"seventeen letters").is_err());
+    assert_eq!(rt; greek_length(rt.alloc(), GREEK_TEXT)?, 461);
+    assert!(rt; greek_length(rt.alloc(), b"seventeen letters").is_err());
     Ok(())
+}
+
+// Where the first bars begin and how wide they are: the first two rows of the printed symbol are
+// `#######..#.##.#######` and `#.....#..####.#.....#`.
+static FIRST_BARS: [(u32, u32, u32); 9] = [
+    (16, 16, 28),
+    (52, 16, 4),
+    (60, 16, 8),
+    (72, 16, 28),
+    (16, 20, 4),
+    (40, 20, 4),
+    (52, 20, 16),
+    (72, 20, 4),
+    (96, 20, 4),
+];
+
+// The bar begins there, has this width, and is a module high.
+fn is_bar(rt: &impl Abort, bar: Bar, (left, top, width): (u32, u32, u32)) {
+    let height = 4;
+    assert_eq!(rt;
+        bar,
+        Bar {
+            left,
+            top,
+            width,
+            height
+        }
+    );
 }
 
 #[test]
 fn a_label_is_drawn(rt: HostRuntime) -> Result<(), Fail> {
     let bars = label_bars(rt.alloc(), b"01234567")?;
-    // The first two rows of the printed symbol are `#######..#.##.#######` and `#.....#..####.#.....#`.
-    let rows = [
-        (16, 16, 28),
-        (52, 16, 4),
-        (60, 16, 8),
-        (72, 16, 28),
-        (16, 20, 4),
-        (40, 20, 4),
-        (52, 20, 16),
-        (72, 20, 4),
-        (96, 20, 4),
-    ];
-    for (bar, (left, top, width)) in bars.iter().zip(rows.iter()) {
-        let height = 4;
-        assert_eq!(rt;
-            *bar,
-            Bar {
-                left: *left,
-                top: *top,
-                width: *width,
-                height
-            }
-        );
+    for (bar, sides) in bars.iter().zip(FIRST_BARS) {
+        is_bar(&rt, *bar, sides);
     }
     assert_eq!(rt; bars.len(), 112);
     Ok(())
 }
 
+// The text has this line, counted from 0.
+fn has_line(rt: &impl Abort, text: &str, number: usize, line: &str) {
+    assert_eq!(rt; text.split('\n').nth(number), Some(line));
+}
+
 #[test]
 fn each_way_draws(rt: HostRuntime) -> Result<(), Fail> {
-    let alloc = rt.alloc();
-    let data = b"01234567";
-    let chars = as_chars(alloc, data)?;
-    assert_eq!(rt;
-        chars.split('\n').nth(4),
-        Some("    ███████  █ ██ ███████    ")
-    );
-    let pairs = as_pairs(alloc, data)?;
-    assert_eq!(rt;
-        pairs.split('\n').nth(4),
-        Some("        ##############    ##  ####  ##############        ")
-    );
-    let blocks = as_half_blocks(alloc, data)?;
-    assert_eq!(rt;
-        blocks.split('\n').nth(2),
-        Some("    █▀▀▀▀▀█  █▄██ █▀▀▀▀▀█    ")
-    );
+    let (alloc, data) = (rt.alloc(), b"01234567");
+    let line = "    ███████  █ ██ ███████    ";
+    has_line(&rt, as_chars(alloc, data)?.as_str(), 4, line);
+    let line = "        ##############    ##  ####  ##############        ";
+    has_line(&rt, as_pairs(alloc, data)?.as_str(), 4, line);
+    let line = "    █▀▀▀▀▀█  █▄██ █▀▀▀▀▀█    ";
+    has_line(&rt, as_half_blocks(alloc, data)?.as_str(), 2, line);
     assert!(rt; as_svg(alloc, data)?.contains("viewBox=\"0 0 232 232\""));
     assert!(rt; as_pic(alloc, data)?.starts_with("maxpswid=29;maxpsht=29;"));
     let file = as_grey_map(alloc, data)?;

@@ -89,284 +89,296 @@ fn refuses(
 
 const ONE: Version = Version::Normal(1);
 
-#[test]
-fn indicators_and_designators(rt: HostRuntime) -> Result<(), Fail> {
-    gives(&rt, rt.alloc(), ONE, &[Push::Eci(9)], &[0x70, 0x90], 12)?;
-    gives(
-        &rt,
-        rt.alloc(),
-        ONE,
-        &[Push::Eci(899)],
-        &[0x78, 0x38, 0x30],
-        20,
-    )?;
-    gives(
-        &rt,
-        rt.alloc(),
-        ONE,
-        &[Push::Eci(999_999)],
-        &[0x7c, 0xf4, 0x23, 0xf0],
-        28,
-    )?;
-    gives(&rt, rt.alloc(), ONE, &[Push::Fnc1First], &[0x50], 4)?;
-    gives(
-        &rt,
-        rt.alloc(),
-        ONE,
-        &[Push::Fnc1Second(37)],
-        &[0x92, 0x50],
-        12,
-    )?;
-    let modes = [
-        (ExtendedMode::Eci, 0x70),
-        (ExtendedMode::Data(Mode::Kanji), 0x80),
-        (ExtendedMode::Fnc1First, 0x50),
-        (ExtendedMode::Fnc1Second, 0x90),
-        (ExtendedMode::StructuredAppend, 0x30),
-    ];
-    for (mode, byte) in modes {
-        gives(&rt, rt.alloc(), ONE, &[Push::Indicator(mode)], &[byte], 4)?;
+// A version, the pushes to a new list of it, the bytes that they give and how many bits.
+type Given = (Version, &'static [Push<'static>], &'static [u8], usize);
+
+// Each row is what its pushes give.
+fn give_all(rt: &impl Abort, alloc: Global, rows: &[Given]) -> QrResult<()> {
+    for (version, pushes, bytes, length) in rows {
+        gives(rt, alloc, *version, pushes, bytes, *length)?;
     }
-    let none = Push::Indicator(ExtendedMode::Data(Mode::Numeric));
-    gives(&rt, rt.alloc(), Version::Micro(1), &[none], &[], 0)?;
     Ok(())
 }
+
+static INDICATORS: [Given; 11] = [
+    (ONE, &[Push::Eci(9)], &[0x70, 0x90], 12),
+    (ONE, &[Push::Eci(899)], &[0x78, 0x38, 0x30], 20),
+    (ONE, &[Push::Eci(999_999)], &[0x7c, 0xf4, 0x23, 0xf0], 28),
+    (ONE, &[Push::Fnc1First], &[0x50], 4),
+    (ONE, &[Push::Fnc1Second(37)], &[0x92, 0x50], 12),
+    (ONE, &[Push::Indicator(ExtendedMode::Eci)], &[0x70], 4),
+    (
+        ONE,
+        &[Push::Indicator(ExtendedMode::Data(Mode::Kanji))],
+        &[0x80],
+        4,
+    ),
+    (ONE, &[Push::Indicator(ExtendedMode::Fnc1First)], &[0x50], 4),
+    (
+        ONE,
+        &[Push::Indicator(ExtendedMode::Fnc1Second)],
+        &[0x90],
+        4,
+    ),
+    (
+        ONE,
+        &[Push::Indicator(ExtendedMode::StructuredAppend)],
+        &[0x30],
+        4,
+    ),
+    (
+        Version::Micro(1),
+        &[Push::Indicator(ExtendedMode::Data(Mode::Numeric))],
+        &[],
+        0,
+    ),
+];
+
+#[test]
+fn indicators_and_designators(rt: HostRuntime) -> Result<(), Fail> {
+    give_all(&rt, rt.alloc(), &INDICATORS)?;
+    Ok(())
+}
+
+static PIECES: [Given; 7] = [
+    (
+        ONE,
+        &[Push::Numeric(b"01234567")],
+        b"\x10\x20\x0c\x56\x61\x80",
+        41,
+    ),
+    (
+        ONE,
+        &[Push::Numeric(b"0123456789012345")],
+        b"\x10\x40\x0c\x56\x6a\x6e\x14\xea\x50",
+        68,
+    ),
+    (
+        Version::Micro(3),
+        &[Push::Numeric(b"0123456789012345")],
+        b"\x20\x06\x2b\x35\x37\x0a\x75\x28",
+        61,
+    ),
+    (
+        ONE,
+        &[Push::Alphanumeric(b"AC-42")],
+        b"\x20\x29\xce\xe7\x21\x00",
+        41,
+    ),
+    (ONE, &[Push::Alphanumeric(b"a")], b"\x20\x08\x00", 19),
+    (
+        ONE,
+        &[Push::Byte(b"\x12\x34\x56\x78\x9a\xbc\xde\xf0")],
+        b"\x40\x81\x23\x45\x67\x89\xab\xcd\xef\x00",
+        76,
+    ),
+    (
+        ONE,
+        &[Push::Kanji(b"\x93\x5f\xe4\xaa")],
+        b"\x80\x26\xcf\xea\xa8",
+        38,
+    ),
+];
 
 #[test]
 fn pieces(rt: HostRuntime) -> Result<(), Fail> {
-    let rows: [(Version, Push<'_>, &[u8], usize); 7] = [
-        (
-            ONE,
-            Push::Numeric(b"01234567"),
-            b"\x10\x20\x0c\x56\x61\x80",
-            41,
-        ),
-        (
-            ONE,
-            Push::Numeric(b"0123456789012345"),
-            b"\x10\x40\x0c\x56\x6a\x6e\x14\xea\x50",
-            68,
-        ),
-        (
-            Version::Micro(3),
-            Push::Numeric(b"0123456789012345"),
-            b"\x20\x06\x2b\x35\x37\x0a\x75\x28",
-            61,
-        ),
-        (
-            ONE,
-            Push::Alphanumeric(b"AC-42"),
-            b"\x20\x29\xce\xe7\x21\x00",
-            41,
-        ),
-        (ONE, Push::Alphanumeric(b"a"), b"\x20\x08\x00", 19),
-        (
-            ONE,
-            Push::Byte(b"\x12\x34\x56\x78\x9a\xbc\xde\xf0"),
-            b"\x40\x81\x23\x45\x67\x89\xab\xcd\xef\x00",
-            76,
-        ),
-        (
-            ONE,
-            Push::Kanji(b"\x93\x5f\xe4\xaa"),
-            b"\x80\x26\xcf\xea\xa8",
-            38,
-        ),
-    ];
-    for (version, push, bytes, length) in rows {
-        gives(&rt, rt.alloc(), version, &[push], bytes, length)?;
+    give_all(&rt, rt.alloc(), &PIECES)?;
+    Ok(())
+}
+
+// A version, a push that a new list of it refuses, and the error.
+type Refused = (Version, Push<'static>, QrError);
+
+// Each row is what a new list refuses.
+fn refuse_all(rt: &impl Abort, alloc: Global, rows: &[Refused]) -> QrResult<()> {
+    for (version, push, error) in rows {
+        refuses(rt, alloc, *version, &[], *push, *error, &[])?;
     }
     Ok(())
 }
+
+static REFUSED: [Refused; 18] = [
+    (ONE, Push::Eci(1_000_000), QrError::InvalidEciDesignator),
+    (
+        Version::Micro(4),
+        Push::Eci(9),
+        QrError::UnsupportedCharacterSet,
+    ),
+    (
+        Version::Micro(4),
+        Push::Fnc1First,
+        QrError::UnsupportedCharacterSet,
+    ),
+    (
+        Version::Micro(4),
+        Push::Fnc1Second(1),
+        QrError::UnsupportedCharacterSet,
+    ),
+    (
+        Version::Micro(1),
+        Push::Alphanumeric(b"A"),
+        QrError::UnsupportedCharacterSet,
+    ),
+    (
+        Version::Micro(2),
+        Push::Byte(b"?"),
+        QrError::UnsupportedCharacterSet,
+    ),
+    (
+        Version::Micro(2),
+        Push::Kanji(b"?"),
+        QrError::UnsupportedCharacterSet,
+    ),
+    (
+        Version::Micro(1),
+        Push::Numeric(b"12345678"),
+        QrError::DataTooLong,
+    ),
+    (
+        Version::Micro(2),
+        Push::Alphanumeric(b"ABCDEFGH"),
+        QrError::DataTooLong,
+    ),
+    (
+        Version::Micro(3),
+        Push::Byte(b"0123456701234567"),
+        QrError::DataTooLong,
+    ),
+    (
+        Version::Micro(3),
+        Push::Kanji(b"\x93_\x93_\x93_\x93_\x93_\x93_\x93_\x93_"),
+        QrError::DataTooLong,
+    ),
+    (ONE, Push::Numeric(&[b'7'; 1024]), QrError::DataTooLong),
+    (ONE, Push::Numeric(b"12a"), QrError::InvalidCharacter),
+    (ONE, Push::Kanji(b"\x93"), QrError::InvalidCharacter),
+    (ONE, Push::Kanji(b"\x81\x7f"), QrError::InvalidCharacter),
+    (ONE, Push::Kanji(b"\xeb\xc0"), QrError::InvalidCharacter),
+    (
+        Version::Micro(1),
+        Push::End(EcLevel::M),
+        QrError::InvalidVersion,
+    ),
+    (
+        Version::Micro(2),
+        Push::Optimal(b"1a"),
+        QrError::UnsupportedCharacterSet,
+    ),
+];
 
 #[test]
 fn refusals(rt: HostRuntime) -> Result<(), Fail> {
-    let digits = [b'7'; 1024];
-    let rows = [
-        (ONE, Push::Eci(1_000_000), QrError::InvalidEciDesignator),
-        (
-            Version::Micro(4),
-            Push::Eci(9),
-            QrError::UnsupportedCharacterSet,
-        ),
-        (
-            Version::Micro(4),
-            Push::Fnc1First,
-            QrError::UnsupportedCharacterSet,
-        ),
-        (
-            Version::Micro(4),
-            Push::Fnc1Second(1),
-            QrError::UnsupportedCharacterSet,
-        ),
-        (
-            Version::Micro(1),
-            Push::Alphanumeric(b"A"),
-            QrError::UnsupportedCharacterSet,
-        ),
-        (
-            Version::Micro(2),
-            Push::Byte(b"?"),
-            QrError::UnsupportedCharacterSet,
-        ),
-        (
-            Version::Micro(2),
-            Push::Kanji(b"?"),
-            QrError::UnsupportedCharacterSet,
-        ),
-        (
-            Version::Micro(1),
-            Push::Numeric(b"12345678"),
-            QrError::DataTooLong,
-        ),
-        (
-            Version::Micro(2),
-            Push::Alphanumeric(b"ABCDEFGH"),
-            QrError::DataTooLong,
-        ),
-        (
-            Version::Micro(3),
-            Push::Byte(b"0123456701234567"),
-            QrError::DataTooLong,
-        ),
-        (
-            Version::Micro(3),
-            Push::Kanji(b"\x93_\x93_\x93_\x93_\x93_\x93_\x93_\x93_"),
-            QrError::DataTooLong,
-        ),
-        (ONE, Push::Numeric(&digits), QrError::DataTooLong),
-        (ONE, Push::Numeric(b"12a"), QrError::InvalidCharacter),
-        (ONE, Push::Kanji(b"\x93"), QrError::InvalidCharacter),
-        (ONE, Push::Kanji(b"\x81\x7f"), QrError::InvalidCharacter),
-        (ONE, Push::Kanji(b"\xeb\xc0"), QrError::InvalidCharacter),
-        (
-            Version::Micro(1),
-            Push::End(EcLevel::M),
-            QrError::InvalidVersion,
-        ),
-        (
-            Version::Micro(2),
-            Push::Optimal(b"1a"),
-            QrError::UnsupportedCharacterSet,
-        ),
-    ];
-    for (version, push, error) in rows {
-        refuses(&rt, rt.alloc(), version, &[], push, error, &[])?;
-    }
-
-    let seven = Push::Numeric(b"9999999");
-    let end = Push::End(EcLevel::L);
-    let bytes = [0xff, 0x3f, 0xcf, 0x20];
-    refuses(
-        &rt,
-        rt.alloc(),
-        Version::Micro(1),
-        &[seven],
-        end,
-        QrError::DataTooLong,
-        &bytes,
-    )?;
-    let eight = Push::Optimal(b">>>>>>>>");
-    let bytes = [0x40, 0x83, 0xe3, 0xe3, 0xe3, 0xe3, 0xe3, 0xe3, 0xe3, 0xe0];
-    refuses(
-        &rt,
-        rt.alloc(),
-        ONE,
-        &[eight],
-        Push::End(EcLevel::H),
-        QrError::DataTooLong,
-        &bytes,
-    )?;
+    refuse_all(&rt, rt.alloc(), &REFUSED)?;
     Ok(())
 }
 
+// A version, a push, the level for which a terminator is then refused, and the bytes.
+static NOT_ENDED: [(Version, Push<'static>, EcLevel, &[u8]); 2] = [
+    (
+        Version::Micro(1),
+        Push::Numeric(b"9999999"),
+        EcLevel::L,
+        &[0xff, 0x3f, 0xcf, 0x20],
+    ),
+    (
+        ONE,
+        Push::Optimal(b">>>>>>>>"),
+        EcLevel::H,
+        &[0x40, 0x83, 0xe3, 0xe3, 0xe3, 0xe3, 0xe3, 0xe3, 0xe3, 0xe0],
+    ),
+];
+
 #[test]
-fn terminated_lists(rt: HostRuntime) -> Result<(), Fail> {
-    let alloc = rt.alloc();
-    let hello = [
-        0x20, 0x5b, 0x0b, 0x78, 0xd1, 0x72, 0xdc, 0x4d, 0x43, 0x40, 0xec, 0x11, 0xec,
-    ];
-    let end = Push::End(EcLevel::Q);
-    gives(
-        &rt,
-        alloc,
-        ONE,
-        &[Push::Alphanumeric(b"HELLO WORLD"), end],
-        &hello,
-        104,
-    )?;
-    gives(
-        &rt,
-        alloc,
-        ONE,
-        &[Push::Optimal(b"HELLO WORLD"), end],
-        &hello,
-        104,
-    )?;
+fn refused_terminators(rt: HostRuntime) -> Result<(), Fail> {
+    let error = QrError::DataTooLong;
+    for (version, push, level, bytes) in NOT_ENDED {
+        let end = Push::End(level);
+        refuses(&rt, rt.alloc(), version, &[push], end, error, bytes)?;
+    }
+    Ok(())
+}
 
-    let end = Push::End(EcLevel::L);
-    let greek = [
-        0x70, 0x94, 0x0a, 0xca, 0xfe, 0xe4, 0xe9, 0xea, 0xe1, 0xf2, 0x20, 0x51, 0x52, 0x00, 0xec,
-        0x11, 0xec, 0x11, 0xec,
-    ];
-    let text = Push::Byte(b"\xca\xfe\xe4\xe9\xea\xe1\xf2 QR");
-    gives(&rt, alloc, ONE, &[Push::Eci(9), text, end], &greek, 152)?;
+const END: Push<'static> = Push::End(EcLevel::L);
 
-    let first = Version::Micro(1);
-    gives(
-        &rt,
-        alloc,
-        first,
-        &[Push::Numeric(b"99999"), end],
+// The bytes of `HELLO WORLD` with a terminator for level Q.
+const HELLO: &[u8] = b"\x20\x5b\x0b\x78\xd1\x72\xdc\x4d\x43\x40\xec\x11\xec";
+
+static TERMINATED: [Given; 11] = [
+    (
+        ONE,
+        &[Push::Alphanumeric(b"HELLO WORLD"), Push::End(EcLevel::Q)],
+        HELLO,
+        104,
+    ),
+    (
+        ONE,
+        &[Push::Optimal(b"HELLO WORLD"), Push::End(EcLevel::Q)],
+        HELLO,
+        104,
+    ),
+    (
+        ONE,
+        &[
+            Push::Eci(9),
+            Push::Byte(b"\xca\xfe\xe4\xe9\xea\xe1\xf2 QR"),
+            END,
+        ],
+        b"\x70\x94\x0a\xca\xfe\xe4\xe9\xea\xe1\xf2\x20\x51\x52\x00\xec\x11\xec\x11\xec",
+        152,
+    ),
+    (
+        Version::Micro(1),
+        &[Push::Numeric(b"99999"), END],
         &[0xbf, 0x3e, 0x30],
         20,
-    )?;
-    gives(
-        &rt,
-        alloc,
-        first,
-        &[Push::Numeric(b"9999"), end],
+    ),
+    (
+        Version::Micro(1),
+        &[Push::Numeric(b"9999"), END],
         &[0x9f, 0x3c, 0x80],
         20,
-    )?;
-    gives(
-        &rt,
-        alloc,
-        first,
-        &[Push::Numeric(b"999"), end],
+    ),
+    (
+        Version::Micro(1),
+        &[Push::Numeric(b"999"), END],
         &[0x7f, 0x38, 0x00],
         20,
-    )?;
-    gives(
-        &rt,
-        alloc,
-        first,
-        &[Push::Numeric(b""), end],
+    ),
+    (
+        Version::Micro(1),
+        &[Push::Numeric(b""), END],
         &[0x00, 0xec, 0x00],
         20,
-    )?;
-    let one = Push::Numeric(b"1");
-    gives(&rt, alloc, first, &[one, one, end], &[0x22, 0x44, 0x00], 20)?;
-    gives(
-        &rt,
-        alloc,
-        first,
-        &[one, one, end, end],
+    ),
+    (
+        Version::Micro(1),
+        &[Push::Numeric(b"1"), Push::Numeric(b"1"), END],
         &[0x22, 0x44, 0x00],
         20,
-    )?;
-    let second = Version::Micro(2);
-    gives(
-        &rt,
-        alloc,
-        second,
-        &[Push::Optimal(b"123A"), end],
+    ),
+    (
+        Version::Micro(1),
+        &[Push::Numeric(b"1"), Push::Numeric(b"1"), END, END],
+        &[0x22, 0x44, 0x00],
+        20,
+    ),
+    (
+        Version::Micro(2),
+        &[Push::Optimal(b"123A"), END],
         &[0x18, 0xf7, 0x25, 0x00, 0xec],
         40,
-    )?;
-    let zeros = [0x28, 0, 0, 0, 0, 0, 0, 0, 0, 0, 0];
-    let twenty = Push::Numeric(b"00000000000000000000");
-    gives(&rt, alloc, Version::Micro(3), &[twenty, end], &zeros, 84)?;
+    ),
+    (
+        Version::Micro(3),
+        &[Push::Numeric(b"00000000000000000000"), END],
+        &[0x28, 0, 0, 0, 0, 0, 0, 0, 0, 0, 0],
+        84,
+    ),
+];
+
+#[test]
+fn terminated_lists(rt: HostRuntime) -> Result<(), Fail> {
+    give_all(&rt, rt.alloc(), &TERMINATED)?;
     Ok(())
 }
 
@@ -428,28 +440,46 @@ fn segments(rt: HostRuntime) -> Result<(), Fail> {
     Ok(())
 }
 
+// A list of so many bits refuses the push as too long, and keeps its bits.
+fn is_full(rt: &impl Abort, bits: &mut Bits, length: usize, push: Push<'_>) {
+    assert_eq!(rt; bits.len(), length);
+    assert!(rt; pushed(bits, push) == Err(QrError::DataTooLong));
+    assert_eq!(rt; bits.len(), length);
+}
+
+// Pushes the bytes so many times.
+fn push_times(bits: &mut Bits, bytes: &[u8], count: usize) -> QrResult<()> {
+    for _ in 0..count {
+        pushed(bits, Push::Byte(bytes))?;
+    }
+    Ok(())
+}
+
 #[test]
 fn limits(rt: HostRuntime) -> Result<(), Fail> {
-    let alloc = rt.alloc();
-    let data = Vec::from_elem(alloc, b'a', 65_535)?;
-    let mut bits = Bits::new(alloc, Version::Normal(40));
-    for _ in 0..31 {
-        bits.push_byte_data(&data)?;
-    }
-    assert_eq!(rt; bits.len(), 16_253_300);
-    assert_eq!(rt; bits.push_byte_data(&data), Err(QrError::DataTooLong));
-    assert_eq!(rt; bits.len(), 16_253_300);
-    bits.push_byte_data(&Vec::from_elem(alloc, b'a', 65_487)?)?;
-    assert_eq!(rt; bits.len(), 16_777_216);
-    assert_eq!(rt; bits.push_fnc1_first_position(), Err(QrError::DataTooLong));
-    assert_eq!(rt; bits.len(), 16_777_216);
-
-    let long = Vec::from_elem(alloc, b'1', 1_048_577)?;
-    let mut bits = Bits::new(alloc, ONE);
-    assert_eq!(rt; bits.push_optimal_data(&long), Err(QrError::DataTooLong));
-    assert_eq!(rt; bits.len(), 0);
-    assert!(rt; encode_auto(alloc, &long, EcLevel::L).err() == Some(QrError::DataTooLong));
+    let data = Vec::from_elem(rt.alloc(), b'a', 65_535)?;
+    let mut bits = Bits::new(rt.alloc(), Version::Normal(40));
+    push_times(&mut bits, &data, 31)?;
+    is_full(&rt, &mut bits, 16_253_300, Push::Byte(&data));
+    let data = Vec::from_elem(rt.alloc(), b'a', 65_487)?;
+    push_times(&mut bits, &data, 1)?;
+    is_full(&rt, &mut bits, 16_777_216, Push::Fnc1First);
     Ok(())
+}
+
+#[test]
+fn longest_data(rt: HostRuntime) -> Result<(), Fail> {
+    let long = Vec::from_elem(rt.alloc(), b'1', 1_048_577)?;
+    let mut bits = Bits::new(rt.alloc(), ONE);
+    is_full(&rt, &mut bits, 0, Push::Optimal(&long));
+    let refusal = version_of(rt.alloc(), &long, EcLevel::L);
+    assert!(rt; refusal == Err(QrError::DataTooLong));
+    Ok(())
+}
+
+// The version that is chosen for data.
+fn version_of(alloc: Global, data: &[u8], level: EcLevel) -> QrResult<Version> {
+    Ok(encode_auto(alloc, data, level)?.version())
 }
 
 // So many bytes, repeated.
@@ -461,38 +491,43 @@ fn repeated(alloc: Global, bytes: &[u8], count: usize) -> Result<Vec<u8>, AllocE
     Ok(data)
 }
 
+// Bytes, how often they stand in the data, the level and the least version of Normal, if there is one.
+static LEAST_VERSIONS: [(&[u8], usize, EcLevel, Option<i16>); 14] = [
+    (b"", 1, EcLevel::M, Some(1)),
+    (b"HELLO WORLD", 1, EcLevel::Q, Some(1)),
+    (b"HELLO WORLD", 1, EcLevel::H, Some(2)),
+    (
+        b"This is a mixed data test. 1234567890",
+        1,
+        EcLevel::H,
+        Some(4),
+    ),
+    (b"a1234bc", 1, EcLevel::H, Some(1)),
+    (b"aABCDEF", 30, EcLevel::L, Some(9)),
+    (b"7", 432, EcLevel::M, Some(9)),
+    (b"7", 433, EcLevel::M, Some(10)),
+    (b"7", 7089, EcLevel::L, Some(40)),
+    (b"7", 7090, EcLevel::L, None),
+    (b"a", 2331, EcLevel::M, Some(40)),
+    (b"a", 2332, EcLevel::M, None),
+    (b"\x93\x5f", 1817, EcLevel::L, Some(40)),
+    (b"\x93\x5f", 1818, EcLevel::L, None),
+];
+
 #[test]
 fn least_versions(rt: HostRuntime) -> Result<(), Fail> {
-    let alloc = rt.alloc();
-    let rows: [(&[u8], usize, EcLevel, i16); 14] = [
-        (b"", 1, EcLevel::M, 1),
-        (b"HELLO WORLD", 1, EcLevel::Q, 1),
-        (b"HELLO WORLD", 1, EcLevel::H, 2),
-        (b"This is a mixed data test. 1234567890", 1, EcLevel::H, 4),
-        (b"a1234bc", 1, EcLevel::H, 1),
-        (b"aABCDEF", 30, EcLevel::L, 9),
-        (b"7", 432, EcLevel::M, 9),
-        (b"7", 433, EcLevel::M, 10),
-        (b"7", 7089, EcLevel::L, 40),
-        (b"7", 7090, EcLevel::L, 0),
-        (b"a", 2331, EcLevel::M, 40),
-        (b"a", 2332, EcLevel::M, 0),
-        (b"\x93\x5f", 1817, EcLevel::L, 40),
-        (b"\x93\x5f", 1818, EcLevel::L, 0),
-    ];
-    for (bytes, count, level, number) in rows {
-        let data = repeated(alloc, bytes, count)?;
-        let found = match encode_auto(alloc, &data, level) {
-            Ok(bits) => Ok(bits.version()),
-            Err(error) => Err(error),
-        };
-        let version = match number {
-            0 => Err(QrError::DataTooLong),
-            number => Ok(Version::Normal(number)),
-        };
+    for (bytes, count, level, number) in LEAST_VERSIONS {
+        let data = repeated(rt.alloc(), bytes, count)?;
+        let found = version_of(rt.alloc(), &data, level);
+        let version = number.map(Version::Normal).ok_or(QrError::DataTooLong);
         assert_eq!(rt; found, version, "{count} times");
     }
-    let bits = encode_auto(alloc, b"", EcLevel::M)?;
+    Ok(())
+}
+
+#[test]
+fn no_data(rt: HostRuntime) -> Result<(), Fail> {
+    let bits = encode_auto(rt.alloc(), b"", EcLevel::M)?;
     let bytes = b"\x00\xec\x11\xec\x11\xec\x11\xec\x11\xec\x11\xec\x11\xec\x11\xec";
     holds(&rt, bits, bytes, 128);
     Ok(())

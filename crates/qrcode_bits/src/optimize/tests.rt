@@ -1,11 +1,11 @@
-ghost use Rattle.std.specs.Prelude.{◌≡◌, ◌≤◌, length, vec_len, IfOk, IsTrue};
+ghost use Rattle.std.specs.Prelude.{◌≡◌, ◌≤◌, length, IsTrue};
 ghost use Rattle.qrcode_types.specs.Versions.{is_valid};
 ghost use Rattle.qrcode_bits.specs.Groups.{IsJoinable};
-ghost use Rattle.qrcode_bits.specs.Refusals.{data_limit};
 
 use super::*;
 use qrcode_types::types::{QrError, QrResult};
 use std::alloc::{AllocError, Global};
+use std::process::Abort;
 use std::test::Fail;
 
 fn numeric(begin: usize, end: usize) -> Segment
@@ -193,12 +193,16 @@ fn wrong_cuts(alloc: Global, version: Version, headers: &Headers) -> QrResult<us
 
 #[test]
 fn no_cut_of_short_data_takes_fewer_bits(rt: HostRuntime) -> Result<(), Fail> {
-    let alloc = rt.alloc();
-    assert_eq!(rt; wrong_cuts(alloc, Version::Normal(1), &NORMAL_1)?, 0);
-    assert_eq!(rt; wrong_cuts(alloc, Version::Normal(40), &NORMAL_40)?, 0);
-    assert_eq!(rt; wrong_cuts(alloc, Version::Micro(3), &MICRO_3)?, 0);
-    assert_eq!(rt; wrong_cuts(alloc, Version::Micro(2), &MICRO_2)?, 0);
-    assert_eq!(rt; wrong_cuts(alloc, Version::Micro(1), &MICRO_1)?, 0);
+    for (version, headers) in [
+        (Version::Normal(1), NORMAL_1),
+        (Version::Normal(40), NORMAL_40),
+        (Version::Micro(3), MICRO_3),
+        (Version::Micro(2), MICRO_2),
+        (Version::Micro(1), MICRO_1),
+    ] {
+        assert!(rt; version.is_valid());
+        assert_eq!(rt; wrong_cuts(rt.alloc(), version, &headers)?, 0);
+    }
     Ok(())
 }
 
@@ -213,53 +217,99 @@ fn optimized(
     Optimizer::new(segments.iter().copied(), version).collect(alloc)
 }
 
-#[test]
-fn runs_are_parsed(rt: HostRuntime) -> Result<(), Fail> {
-    let rows: [(&[u8], &[Segment]); 9] = [
-        (b"", &[]),
-        (
-            b"01049123451234591597033130128%10ABC123",
-            &[
-                numeric(0, 29),
-                alphanumeric(29, 30),
-                numeric(30, 32),
-                alphanumeric(32, 35),
-                numeric(35, 38),
-            ],
-        ),
-        (
-            b"\x82\xa0\x81\x41\x41\xb1\x81\xf0",
-            &[kanji(0, 4), alphanumeric(4, 5), byte(5, 6), kanji(6, 8)],
-        ),
-        (
-            b"\xe3\x81\x82\xe3\x80\x81A\xef\xbd\xb1\xe2\x84\xab",
-            &[
-                kanji(0, 4),
-                byte(4, 5),
-                kanji(5, 7),
-                byte(7, 10),
-                kanji(10, 12),
-                byte(12, 13),
-            ],
-        ),
-        (b"\x81\x30", &[byte(0, 1), numeric(1, 2)]),
-        (b"\xeb\xc0", &[byte(0, 1), byte(1, 2)]),
-        (b"\x81\x7f", &[byte(0, 1), byte(1, 2)]),
-        (b"\x81\x40\x81", &[kanji(0, 2), byte(2, 3)]),
-        (
-            b"a1 b",
-            &[byte(0, 1), numeric(1, 2), alphanumeric(2, 3), byte(3, 4)],
-        ),
-    ];
+// The mode of a segment, where it begins and where it ends.
+type Cut = (Mode, usize, usize);
+
+// The segments as cuts.
+fn cuts(alloc: Global, segments: &[Segment]) -> Result<Vec<Cut>, AllocError> {
+    segments
+        .iter()
+        .map(|segment| (segment.mode, segment.begin, segment.end))
+        .collect(alloc)
+}
+
+// The segments of the data are these cuts.
+fn are_cuts(
+    rt: &impl Abort,
+    alloc: Global,
+    data: &[u8],
+    segments: &[Segment],
+    expected: &[Cut],
+) -> Result<(), AllocError> {
+    let found = cuts(alloc, segments)?;
+    assert_eq!(rt; found.as_slice(), expected, "{data:?}");
+    Ok(())
+}
+
+// The segments of the data take so many bits in Normal 1.
+fn take_bits(rt: &impl Abort, data: &[u8], segments: &[Segment], bits: usize) {
+    assert_eq!(rt; total(&NORMAL_1, segments), bits, "{data:?}");
+}
+
+static RUNS: [(&[u8], &[Cut]); 9] = [
+    (b"", &[]),
+    (
+        b"01049123451234591597033130128%10ABC123",
+        &[
+            (Mode::Numeric, 0, 29),
+            (Mode::Alphanumeric, 29, 30),
+            (Mode::Numeric, 30, 32),
+            (Mode::Alphanumeric, 32, 35),
+            (Mode::Numeric, 35, 38),
+        ],
+    ),
+    (
+        b"\x82\xa0\x81\x41\x41\xb1\x81\xf0",
+        &[
+            (Mode::Kanji, 0, 4),
+            (Mode::Alphanumeric, 4, 5),
+            (Mode::Byte, 5, 6),
+            (Mode::Kanji, 6, 8),
+        ],
+    ),
+    (
+        b"\xe3\x81\x82\xe3\x80\x81A\xef\xbd\xb1\xe2\x84\xab",
+        &[
+            (Mode::Kanji, 0, 4),
+            (Mode::Byte, 4, 5),
+            (Mode::Kanji, 5, 7),
+            (Mode::Byte, 7, 10),
+            (Mode::Kanji, 10, 12),
+            (Mode::Byte, 12, 13),
+        ],
+    ),
+    (b"\x81\x30", &[(Mode::Byte, 0, 1), (Mode::Numeric, 1, 2)]),
+    (b"\xeb\xc0", &[(Mode::Byte, 0, 1), (Mode::Byte, 1, 2)]),
+    (b"\x81\x7f", &[(Mode::Byte, 0, 1), (Mode::Byte, 1, 2)]),
+    (b"\x81\x40\x81", &[(Mode::Kanji, 0, 2), (Mode::Byte, 2, 3)]),
+    (
+        b"a1 b",
+        &[
+            (Mode::Byte, 0, 1),
+            (Mode::Numeric, 1, 2),
+            (Mode::Alphanumeric, 2, 3),
+            (Mode::Byte, 3, 4),
+        ],
+    ),
+];
+
+// Each row is data and the runs that it is parsed into.
+fn parse_all(rt: &impl Abort, alloc: Global, rows: &[(&[u8], &[Cut])]) -> Result<(), AllocError> {
     for (data, runs) in rows {
-        let parsed: Vec<Segment> = Parser::new(data).collect(rt.alloc())?;
-        assert_eq!(rt; parsed.as_slice(), runs, "{data:?}");
+        let parsed: Vec<Segment> = Parser::new(data).collect(alloc)?;
+        are_cuts(rt, alloc, data, &parsed, runs)?;
     }
     Ok(())
 }
 
-// Rows of data, the version that they are cut for, and the segments.
-type Row<'a> = (&'a [u8], Version, &'a [Segment]);
+#[test]
+fn runs_are_parsed(rt: HostRuntime) -> Result<(), Fail> {
+    parse_all(&rt, rt.alloc(), &RUNS)?;
+    Ok(())
+}
+
+// Data, the version that it is cut for, and the cuts.
+type Row = (&'static [u8], Version, &'static [Cut]);
 
 // The runs of data, joined.
 fn joined_runs(alloc: Global, data: &[u8], version: Version) -> QrResult<Vec<Segment>> {
@@ -272,58 +322,94 @@ fn joined_runs(alloc: Global, data: &[u8], version: Version) -> QrResult<Vec<Seg
     Ok(Parser::new(data).optimize(version).collect(alloc)?)
 }
 
-#[test]
-fn runs_are_joined(rt: HostRuntime) -> Result<(), Fail> {
-    let normal = Version::Normal(1);
-    let rows: [Row<'_>; 7] = [
-        (b"1234567A", normal, &[alphanumeric(0, 8)]),
-        (
-            b"123A",
-            Version::Micro(2),
-            &[numeric(0, 3), alphanumeric(3, 4)],
-        ),
-        (b"123A", Version::Micro(3), &[alphanumeric(0, 4)]),
-        (b"12AB", Version::Micro(2), &[alphanumeric(0, 4)]),
-        (b"\xeb\xc0", normal, &[byte(0, 2)]),
-        (b"\x81\x40\x81", normal, &[byte(0, 3)]),
-        (b"ABC123abcd", normal, &[alphanumeric(0, 6), byte(6, 10)]),
-    ];
+static JOINED_RUNS: [Row; 7] = [
+    (
+        b"1234567A",
+        Version::Normal(1),
+        &[(Mode::Alphanumeric, 0, 8)],
+    ),
+    (
+        b"123A",
+        Version::Micro(2),
+        &[(Mode::Numeric, 0, 3), (Mode::Alphanumeric, 3, 4)],
+    ),
+    (b"123A", Version::Micro(3), &[(Mode::Alphanumeric, 0, 4)]),
+    (b"12AB", Version::Micro(2), &[(Mode::Alphanumeric, 0, 4)]),
+    (b"\xeb\xc0", Version::Normal(1), &[(Mode::Byte, 0, 2)]),
+    (b"\x81\x40\x81", Version::Normal(1), &[(Mode::Byte, 0, 3)]),
+    (
+        b"ABC123abcd",
+        Version::Normal(1),
+        &[(Mode::Alphanumeric, 0, 6), (Mode::Byte, 6, 10)],
+    ),
+];
+
+// Each row is data, a version and the joined runs.
+fn join_all(rt: &impl Abort, alloc: Global, rows: &[Row]) -> QrResult<()> {
     for (data, version, segments) in rows {
-        let joined = joined_runs(rt.alloc(), data, version)?;
-        assert_eq!(rt; joined.as_slice(), segments, "{data:?}");
+        let joined = joined_runs(alloc, data, *version)?;
+        are_cuts(rt, alloc, data, &joined, segments)?;
     }
     Ok(())
 }
 
 #[test]
+fn runs_are_joined(rt: HostRuntime) -> Result<(), Fail> {
+    join_all(&rt, rt.alloc(), &JOINED_RUNS)?;
+    Ok(())
+}
+
+// Data, and the bits of its joined runs in Normal 1.
+static RUN_LENGTHS: [(&[u8], usize); 6] = [
+    (b"1234567A", 57),
+    (b"\xeb\xc0", 28),
+    (b"\x81\x40\x81", 36),
+    (b"ABC123abcd", 90),
+    (b"a1234b", 68),
+    (b"a1234bc", 76),
+];
+
+#[test]
 fn joined_runs_are_measured(rt: HostRuntime) -> Result<(), Fail> {
-    let rows: [(&[u8], usize); 6] = [
-        (b"1234567A", 57),
-        (b"\xeb\xc0", 28),
-        (b"\x81\x40\x81", 36),
-        (b"ABC123abcd", 90),
-        (b"a1234b", 68),
-        (b"a1234bc", 76),
-    ];
-    for (data, bits) in rows {
+    for (data, bits) in RUN_LENGTHS {
         let joined = joined_runs(rt.alloc(), data, Version::Normal(1))?;
-        assert_eq!(rt; total(&NORMAL_1, &joined), bits, "{data:?}");
+        take_bits(&rt, data, &joined, bits);
     }
     let joined = joined_runs(rt.alloc(), b"123A", Version::Micro(3))?;
     assert_eq!(rt; total(&MICRO_3, &joined), 28);
     Ok(())
 }
 
+// The segments are joined into these.
+fn joins(
+    rt: &impl Abort,
+    alloc: Global,
+    given: &[Segment],
+    version: Version,
+    expected: &[Segment],
+) -> Result<(), AllocError>
+    requires valid { IsTrue (is_valid version) }
+    requires joinable { IsJoinable given.now }
+{
+    let joined = optimized(alloc, given, version)?;
+    assert_eq!(rt; joined.as_slice(), expected);
+    Ok(())
+}
+
 #[test]
 fn given_segments_are_joined(rt: HostRuntime) -> Result<(), Fail> {
-    let alloc = rt.alloc();
-    let normal = Version::Normal(1);
     let given = [alphanumeric(0, 3), numeric(3, 6), byte(6, 10)];
-    let joined = optimized(alloc, &given, normal)?;
-    assert_eq!(rt;
-        joined.as_slice(),
-        [alphanumeric(0, 6), byte(6, 10)].as_slice()
-    );
+    let expected = [alphanumeric(0, 6), byte(6, 10)];
+    joins(&rt, rt.alloc(), &given, Version::Normal(1), &expected)?;
+    let given = [kanji(0, 4), alphanumeric(4, 5), byte(5, 6), kanji(6, 8)];
+    joins(&rt, rt.alloc(), &given, Version::Normal(1), &[byte(0, 8)])?;
+    let given = [kanji(0, 10), byte(10, 11)];
+    joins(&rt, rt.alloc(), &given, Version::Normal(1), &given)?;
+    Ok(())
+}
+
+#[test]
+fn many_given_segments_are_joined(rt: HostRuntime) -> Result<(), Fail> {
     let given = [
         numeric(0, 29),
         alphanumeric(29, 30),
@@ -331,95 +417,129 @@ fn given_segments_are_joined(rt: HostRuntime) -> Result<(), Fail> {
         alphanumeric(32, 35),
         numeric(35, 38),
     ];
-    let joined = optimized(alloc, &given, Version::Normal(9))?;
-    assert_eq!(rt;
-        joined.as_slice(),
-        [numeric(0, 29), alphanumeric(29, 38)].as_slice()
-    );
-    let given = [kanji(0, 4), alphanumeric(4, 5), byte(5, 6), kanji(6, 8)];
-    let joined = optimized(alloc, &given, normal)?;
-    assert_eq!(rt; joined.as_slice(), [byte(0, 8)].as_slice());
-    let given = [kanji(0, 10), byte(10, 11)];
-    let joined = optimized(alloc, &given, normal)?;
-    assert_eq!(rt; joined.as_slice(), given.as_slice());
+    let expected = [numeric(0, 29), alphanumeric(29, 38)];
+    joins(&rt, rt.alloc(), &given, Version::Normal(9), &expected)?;
     Ok(())
 }
 
 // Empty ranges, pairs with a byte left over, and neighbours in one mode: no parser gives them.
 #[test]
 fn odd_segments_are_joined(rt: HostRuntime) -> Result<(), Fail> {
-    let alloc = rt.alloc();
-    let normal = Version::Normal(1);
-    let joined = optimized(alloc, &[], normal)?;
-    assert_eq!(rt; joined.as_slice(), [].as_slice());
-    let joined = optimized(alloc, &[numeric(3, 3), byte(3, 3), kanji(3, 3)], normal)?;
-    assert_eq!(rt; joined.as_slice(), [byte(3, 3)].as_slice());
-    let joined = optimized(alloc, &[kanji(1, 4), kanji(4, 7)], normal)?;
-    assert_eq!(rt; joined.as_slice(), [kanji(1, 4), kanji(4, 7)].as_slice());
-    let joined = optimized(alloc, &[byte(0, 2), byte(2, 5)], normal)?;
-    assert_eq!(rt; joined.as_slice(), [byte(0, 5)].as_slice());
+    let (alloc, version) = (rt.alloc(), Version::Normal(1));
+    joins(&rt, alloc, &[], version, &[])?;
+    let given = [numeric(3, 3), byte(3, 3), kanji(3, 3)];
+    joins(&rt, alloc, &given, version, &[byte(3, 3)])?;
+    let given = [kanji(1, 4), kanji(4, 7)];
+    joins(&rt, alloc, &given, version, &given)?;
+    joins(
+        &rt,
+        alloc,
+        &[byte(0, 2), byte(2, 5)],
+        version,
+        &[byte(0, 5)],
+    )?;
     Ok(())
+}
+
+// The length of a short segment for a version that exists.
+fn length(segment: Segment, version: Version) -> QrResult<usize> {
+    if !version.is_valid() {
+        return Err(QrError::InvalidVersion);
+    }
+    if segment.begin > segment.end || segment.end > 100 {
+        return Err(QrError::DataTooLong);
+    }
+    Ok(segment.encoded_len(version))
 }
 
 #[test]
 fn lengths_are_counted(rt: HostRuntime) {
-    assert_eq!(rt; numeric(0, 3).encoded_len(Version::Micro(2)), 15);
-    assert_eq!(rt; alphanumeric(3, 4).encoded_len(Version::Micro(2)), 10);
-    assert_eq!(rt; byte(0, 2).encoded_len(Version::Normal(1)), 28);
-    assert_eq!(rt; kanji(1, 17).encoded_len(Version::Normal(40)), 120);
-    assert_eq!(rt; kanji(0, 3).encoded_len(Version::Normal(1)), 25);
-    let segments = [
-        Segment {
-            mode: Mode::Numeric,
-            begin: 0,
-            end: 7,
-        },
-        Segment {
-            mode: Mode::Alphanumeric,
-            begin: 7,
-            end: 8,
-        },
-    ];
-    assert_eq!(rt; total_encoded_len(&segments, Version::Normal(1)), 57);
-}
-
-// As many bytes as are taken at most.
-fn filled(alloc: Global, byte: u8) -> Result<Vec<u8>, AllocError>
-    ensures { IfOk result (λ v. vec_len v ≡ data_limit) }
-{
-    Vec::from_elem(alloc, byte, 1_048_576)
+    for (segment, version, bits) in [
+        (numeric(0, 3), Version::Micro(2), 15),
+        (alphanumeric(3, 4), Version::Micro(2), 10),
+        (byte(0, 2), Version::Normal(1), 28),
+        (kanji(1, 17), Version::Normal(40), 120),
+        (kanji(0, 3), Version::Normal(1), 25),
+    ] {
+        assert!(rt; length(segment, version) == Ok(bits), "{segment:?}");
+    }
 }
 
 #[test]
+fn lengths_are_added(rt: HostRuntime) {
+    let segments = [numeric(0, 7), alphanumeric(7, 8)];
+    assert_eq!(rt; total_encoded_len(&segments, Version::Normal(1)), 57);
+}
+
+// The least segments of data that is not too long, for a version that exists.
+fn least(alloc: Global, data: &[u8], version: Version) -> QrResult<Vec<Segment>> {
+    if !version.is_valid() {
+        return Err(QrError::InvalidVersion);
+    }
+    if data.len() > 1_048_576 {
+        return Err(QrError::DataTooLong);
+    }
+    least_segments(alloc, data, version)
+}
+
+static LEAST: [Row; 5] = [
+    (b"a1234b", Version::Normal(1), &[(Mode::Byte, 0, 6)]),
+    (b"a1234bc", Version::Normal(1), &[(Mode::Byte, 0, 7)]),
+    (
+        b"\x81\x81\x40\x81\x40\x81\x40\x81\x40\x81\x40\x81\x40\x81\x40\x81\x40",
+        Version::Normal(1),
+        &[(Mode::Byte, 0, 1), (Mode::Kanji, 1, 17)],
+    ),
+    (
+        b"123A",
+        Version::Micro(2),
+        &[(Mode::Numeric, 0, 3), (Mode::Alphanumeric, 3, 4)],
+    ),
+    (b"", Version::Micro(1), &[]),
+];
+
+#[test]
 fn least_cuts_are_found(rt: HostRuntime) -> Result<(), Fail> {
-    let alloc = rt.alloc();
-    let normal = Version::Normal(1);
-    let least = least_segments(alloc, b"a1234b", normal)?;
-    assert_eq!(rt; least.as_slice(), [byte(0, 6)].as_slice());
-    assert_eq!(rt; total(&NORMAL_1, &least), 60);
-    let least = least_segments(alloc, b"a1234bc", normal)?;
-    assert_eq!(rt; least.as_slice(), [byte(0, 7)].as_slice());
-    let pairs = b"\x81\x81\x40\x81\x40\x81\x40\x81\x40\x81\x40\x81\x40\x81\x40\x81\x40";
-    let least = least_segments(alloc, pairs, normal)?;
-    assert_eq!(rt; least.as_slice(), [byte(0, 1), kanji(1, 17)].as_slice());
-    assert_eq!(rt; total(&NORMAL_1, &least), 136);
-    let least = least_segments(alloc, b"123A", Version::Micro(2))?;
-    assert_eq!(rt;
-        least.as_slice(),
-        [numeric(0, 3), alphanumeric(3, 4)].as_slice()
-    );
-    let least = least_segments(alloc, b"", Version::Micro(1))?;
-    assert_eq!(rt; least.as_slice(), [].as_slice());
-    let least = least_segments(alloc, filled(alloc, b'a')?.as_slice(), Version::Normal(40))?;
-    assert_eq!(rt; least.as_slice(), [byte(0, 1_048_576)].as_slice());
-    let none = Err(QrError::UnsupportedCharacterSet);
-    assert_eq!(rt;
-        least_segments(alloc, b"A", Version::Micro(1)).map(|_| ()),
-        none
-    );
-    assert_eq!(rt;
-        least_segments(alloc, b"1a", Version::Micro(2)).map(|_| ()),
-        none
-    );
+    for (data, version, segments) in LEAST {
+        let least = least(rt.alloc(), data, version)?;
+        are_cuts(&rt, rt.alloc(), data, &least, segments)?;
+    }
     Ok(())
+}
+
+// Data, and the bits of its least segments in Normal 1.
+static LEAST_LENGTHS: [(&[u8], usize); 2] = [
+    (b"a1234b", 60),
+    (
+        b"\x81\x81\x40\x81\x40\x81\x40\x81\x40\x81\x40\x81\x40\x81\x40\x81\x40",
+        136,
+    ),
+];
+
+#[test]
+fn least_cuts_are_measured(rt: HostRuntime) -> Result<(), Fail> {
+    for (data, bits) in LEAST_LENGTHS {
+        let least = least(rt.alloc(), data, Version::Normal(1))?;
+        take_bits(&rt, data, &least, bits);
+    }
+    Ok(())
+}
+
+#[test]
+fn longest_data_is_cut(rt: HostRuntime) -> Result<(), Fail> {
+    let data = Vec::from_elem(rt.alloc(), b'a', 1_048_576)?;
+    let least = least(rt.alloc(), &data, Version::Normal(40))?;
+    assert_eq!(rt; least.as_slice(), [byte(0, 1_048_576)].as_slice());
+    Ok(())
+}
+
+#[test]
+fn data_without_a_mode_is_not_cut(rt: HostRuntime) {
+    for (data, version) in [
+        (b"A".as_slice(), Version::Micro(1)),
+        (b"1a".as_slice(), Version::Micro(2)),
+    ] {
+        let refusal = least(rt.alloc(), data, version).err();
+        assert!(rt; refusal == Some(QrError::UnsupportedCharacterSet));
+    }
 }

@@ -1,10 +1,26 @@
 // Pictures as rows of pixels, and their sides.
 
 use super::{DIAGONAL, MICRO_2, NORMAL_1, modules, picture};
-use crate::image::{Channels, Luma, LumaA, Rgb, Rgba};
+use crate::image::{Channels, ImageBuffer, Luma, LumaA, Rgb, Rgba};
 use crate::{Pixel, Renderer};
-use qrcode_types::types::Color;
+use qrcode_types::types::{Color, QrResult};
+use std::alloc::Global;
+use std::process::Abort;
 use std::test::Fail;
+
+// The renderer paints a picture of these sides and bytes.
+fn paints<P: Pixel<Image = ImageBuffer<P>>>(
+    rt: &impl Abort,
+    alloc: Global,
+    renderer: &Renderer<P>,
+    sides: (u32, u32),
+    expected: &[u8],
+) -> QrResult<()> {
+    let image = picture(alloc, renderer)?;
+    assert_eq!(rt; image.dimensions(), sides);
+    assert_eq!(rt; image.into_raw().as_slice(), expected);
+    Ok(())
+}
 
 #[test]
 fn paints_greys(rt: HostRuntime) -> Result<(), Fail> {
@@ -16,7 +32,6 @@ fn paints_greys(rt: HostRuntime) -> Result<(), Fail> {
     ];
     let mut renderer = Renderer::<Luma>::new(&content, 3, 1);
     renderer.module_dimensions(1, 1);
-    let image = picture(rt.alloc(), &renderer)?;
     #[rattlefmt::skip]
     let expected = [
         255, 255, 255, 255, 255,
@@ -25,7 +40,7 @@ fn paints_greys(rt: HostRuntime) -> Result<(), Fail> {
         255, 255, 0, 255, 255,
         255, 255, 255, 255, 255,
     ];
-    assert_eq!(rt; image.into_raw().as_slice(), expected.as_slice());
+    paints(&rt, rt.alloc(), &renderer, (5, 5), &expected)?;
     Ok(())
 }
 
@@ -34,7 +49,6 @@ fn paints_colors_with_opacity(rt: HostRuntime) -> Result<(), Fail> {
     let content = [Color::Light, Color::Dark, Color::Dark, Color::Dark];
     let mut renderer = Renderer::<Rgba>::new(&content, 2, 1);
     renderer.module_dimensions(1, 1);
-    let image = picture(rt.alloc(), &renderer)?;
     #[rattlefmt::skip]
     let expected = [
         255, 255, 255, 255, 255, 255, 255, 255, 255, 255, 255, 255, 255, 255, 255, 255,
@@ -42,7 +56,7 @@ fn paints_colors_with_opacity(rt: HostRuntime) -> Result<(), Fail> {
         255, 255, 255, 255, 0, 0, 0, 255, 0, 0, 0, 255, 255, 255, 255, 255,
         255, 255, 255, 255, 255, 255, 255, 255, 255, 255, 255, 255, 255, 255, 255, 255,
     ];
-    assert_eq!(rt; image.into_raw().as_slice(), expected.as_slice());
+    paints(&rt, rt.alloc(), &renderer, (4, 4), &expected)?;
     Ok(())
 }
 
@@ -50,11 +64,8 @@ fn paints_colors_with_opacity(rt: HostRuntime) -> Result<(), Fail> {
 fn paints_greys_with_opacity(rt: HostRuntime) -> Result<(), Fail> {
     let mut renderer = Renderer::<LumaA>::new(&DIAGONAL, 2, 0);
     renderer.module_size(1).quiet_zone(false);
-    let image = picture(rt.alloc(), &renderer)?;
-    assert_eq!(rt;
-        image.into_raw().as_slice(),
-        [0, 255, 255, 255, 255, 255, 0, 255].as_slice()
-    );
+    let expected = [0, 255, 255, 255, 255, 255, 0, 255];
+    paints(&rt, rt.alloc(), &renderer, (2, 2), &expected)?;
     Ok(())
 }
 
@@ -62,8 +73,6 @@ fn paints_greys_with_opacity(rt: HostRuntime) -> Result<(), Fail> {
 fn paints_within_most(rt: HostRuntime) -> Result<(), Fail> {
     let mut renderer = Renderer::<Luma>::new(&DIAGONAL, 2, 1);
     renderer.max_dimensions(10, 5);
-    let image = picture(rt.alloc(), &renderer)?;
-    assert_eq!(rt; image.dimensions(), (8, 4));
     #[rattlefmt::skip]
     let expected = [
         255, 255, 255, 255, 255, 255, 255, 255,
@@ -71,7 +80,7 @@ fn paints_within_most(rt: HostRuntime) -> Result<(), Fail> {
         255, 255, 255, 255, 0, 0, 255, 255,
         255, 255, 255, 255, 255, 255, 255, 255,
     ];
-    assert_eq!(rt; image.into_raw().as_slice(), expected.as_slice());
+    paints(&rt, rt.alloc(), &renderer, (8, 4), &expected)?;
     Ok(())
 }
 
@@ -110,9 +119,8 @@ fn paints_symbols(rt: HostRuntime) -> Result<(), Fail> {
 
 #[test]
 fn paints_no_modules(rt: HostRuntime) -> Result<(), Fail> {
-    let image = picture(rt.alloc(), &Renderer::<Luma>::new(&[], 0, 0))?;
-    assert_eq!(rt; image.dimensions(), (0, 0));
-    assert!(rt; image.into_raw().is_empty());
+    let renderer = Renderer::<Luma>::new(&[], 0, 0);
+    paints(&rt, rt.alloc(), &renderer, (0, 0), &[])?;
     Ok(())
 }
 
@@ -125,18 +133,20 @@ fn has_channels(rt: HostRuntime) {
     assert!(rt; Rgb::default_color(Color::Light) == Rgb([255, 255, 255]));
 }
 
+// Whether the renderer's picture fits with modules of these sides.
+fn fits_with(renderer: &mut Renderer<Luma>, width: u32, height: u32) -> bool {
+    renderer.module_dimensions(width, height);
+    renderer.fits()
+}
+
 #[test]
 fn fits_up_to_the_greatest_side(rt: HostRuntime) {
     let dark = [Color::Dark];
     let mut renderer = Renderer::<Luma>::new(&dark, 1, 0);
-    renderer.module_dimensions(u32::MAX, u32::MAX);
-    assert!(rt; renderer.fits());
+    assert!(rt; fits_with(&mut renderer, u32::MAX, u32::MAX));
     let mut zoned = Renderer::<Luma>::new(&dark, 1, 2147483647);
-    zoned.module_dimensions(0, 1);
-    assert!(rt; zoned.fits());
-    zoned.module_dimensions(1, 2);
-    assert!(rt; !zoned.fits());
+    assert!(rt; fits_with(&mut zoned, 0, 1));
+    assert!(rt; !fits_with(&mut zoned, 1, 2));
     let mut past = Renderer::<Luma>::new(&dark, 1, 2147483648);
-    past.module_dimensions(1, 1);
-    assert!(rt; !past.fits());
+    assert!(rt; !fits_with(&mut past, 1, 1));
 }

@@ -1,28 +1,32 @@
 // Pictures of characters, texts and half blocks.
 
-use super::{DIAGONAL, MICRO_2, NORMAL_1, modules, picture};
+use super::{DIAGONAL, MICRO_2, NORMAL_1, modules, writes};
 use crate::string::{Canvas, Element, Str};
 use crate::unicode::Dense1x2;
 use crate::{Pixel, Renderer};
 use qrcode_types::types::{Color, QrResult};
 use std::alloc::Global;
+use std::process::Abort;
 use std::test::Fail;
 
 #[test]
 fn writes_characters(rt: HostRuntime) -> Result<(), Fail> {
-    let text = picture(rt.alloc(), &Renderer::<char>::new(&DIAGONAL, 2, 1))?;
-    assert_eq!(rt; text.as_str(), "    \n █  \n  █ \n    ");
+    let renderer = Renderer::<char>::new(&DIAGONAL, 2, 1);
+    writes(&rt, rt.alloc(), &renderer, "    \n █  \n  █ \n    ")?;
     Ok(())
 }
 
 #[test]
 fn writes_no_modules(rt: HostRuntime) -> Result<(), Fail> {
-    let none = picture(rt.alloc(), &Renderer::<char>::new(&[], 0, 0))?;
-    assert_eq!(rt; none.as_str(), "");
-    let none = picture(rt.alloc(), &Renderer::<Dense1x2>::new(&[], 0, 0))?;
-    assert_eq!(rt; none.as_str(), "");
-    let zone = Renderer::<char>::new(&[], 0, 1).to_image(rt.alloc())?;
-    assert_eq!(rt; zone.as_str(), "  \n  ");
+    writes(&rt, rt.alloc(), &Renderer::<char>::new(&[], 0, 0), "")?;
+    writes(&rt, rt.alloc(), &Renderer::<Dense1x2>::new(&[], 0, 0), "")?;
+    Ok(())
+}
+
+#[test]
+fn writes_a_quiet_zone(rt: HostRuntime) -> Result<(), Fail> {
+    let text = Renderer::<char>::new(&[], 0, 1).to_image(rt.alloc())?;
+    assert_eq!(rt; text.as_str(), "  \n  ");
     Ok(())
 }
 
@@ -33,11 +37,9 @@ fn writes_texts(rt: HostRuntime) -> Result<(), Fail> {
         .light_color(Str("A"))
         .dark_color(Str("!B!"))
         .module_dimensions(2, 2);
-    let text = picture(rt.alloc(), &renderer)?;
-    assert_eq!(rt;
-        text.as_str(),
-        "AAAAAAAA\nAAAAAAAA\nAA!B!!B!AAAA\nAA!B!!B!AAAA\nAAAA!B!!B!AA\nAAAA!B!!B!AA\nAAAAAAAA\nAAAAAAAA"
-    );
+    let expected =
+        "AAAAAAAA\nAAAAAAAA\nAA!B!!B!AAAA\nAA!B!!B!AAAA\nAAAA!B!!B!AA\nAAAA!B!!B!AA\nAAAAAAAA\nAAAAAAAA";
+    writes(&rt, rt.alloc(), &renderer, expected)?;
     Ok(())
 }
 
@@ -50,17 +52,26 @@ fn blocks(alloc: Global, side: usize) -> QrResult<String> {
     Ok(lines)
 }
 
+// The renderer writes so many lines of so many blocks.
+fn writes_blocks(
+    rt: &impl Abort,
+    alloc: Global,
+    renderer: &Renderer<char>,
+    side: usize,
+) -> QrResult<()> {
+    let expected = blocks(alloc, side)?;
+    writes(rt, alloc, renderer, expected.as_str())
+}
+
 #[test]
 fn minds_the_order_of_setters(rt: HostRuntime) -> Result<(), Fail> {
     let dark = [Color::Dark];
     let mut renderer = Renderer::<char>::new(&dark, 1, 1);
     renderer.min_dimensions(10, 10).quiet_zone(false);
-    let text = picture(rt.alloc(), &renderer)?;
-    assert_eq!(rt; text.as_str(), blocks(rt.alloc(), 4)?.as_str());
+    writes_blocks(&rt, rt.alloc(), &renderer, 4)?;
     let mut turned = Renderer::<char>::new(&dark, 1, 1);
     turned.quiet_zone(false).min_width(10);
-    let text = picture(rt.alloc(), &turned)?;
-    assert_eq!(rt; text.as_str(), blocks(rt.alloc(), 10)?.as_str());
+    writes_blocks(&rt, rt.alloc(), &turned, 10)?;
     Ok(())
 }
 
@@ -83,19 +94,22 @@ fn writes_a_symbol(rt: HostRuntime) -> Result<(), Fail> {
     assert!(rt; symbol.len() == 441);
     let mut renderer = Renderer::<char>::new(&symbol, 21, 4);
     renderer.quiet_zone(false).module_dimensions(2, 1);
-    let text = picture(rt.alloc(), &renderer)?;
-    assert_eq!(rt; text.as_str(), doubled(rt.alloc(), NORMAL_1)?.as_str());
+    let expected = doubled(rt.alloc(), NORMAL_1)?;
+    writes(&rt, rt.alloc(), &renderer, expected.as_str())?;
     Ok(())
 }
 
 #[test]
 fn writes_half_blocks(rt: HostRuntime) -> Result<(), Fail> {
-    let text = picture(rt.alloc(), &Renderer::<Dense1x2>::new(&DIAGONAL, 2, 1))?;
-    assert_eq!(rt; text.as_str(), " ▄  \n  ▀ ");
-    let mut doubled = Renderer::<Dense1x2>::new(&DIAGONAL, 2, 1);
-    doubled.module_size(2);
-    let text = picture(rt.alloc(), &doubled)?;
-    assert_eq!(rt; text.as_str(), "        \n  ██    \n    ██  \n        ");
+    let mut renderer = Renderer::<Dense1x2>::new(&DIAGONAL, 2, 1);
+    writes(&rt, rt.alloc(), &renderer, " ▄  \n  ▀ ")?;
+    renderer.module_size(2);
+    writes(
+        &rt,
+        rt.alloc(),
+        &renderer,
+        "        \n  ██    \n    ██  \n        ",
+    )?;
     Ok(())
 }
 
@@ -107,11 +121,9 @@ fn writes_a_symbol_in_half_blocks(rt: HostRuntime) -> Result<(), Fail> {
     renderer
         .dark_color(Dense1x2::Light)
         .light_color(Dense1x2::Dark);
-    let text = picture(rt.alloc(), &renderer)?;
-    assert_eq!(rt;
-        text.as_str(),
-        "█████████████████\n██ ▄▄▄▄▄ █ ▀ █ ██\n██ █   █ ██  ▀ ██\n██ █▄▄▄█ █ ▄▄█▀██\n██▄▄▄▄▄▄▄██  ▄▄██\n██▄ ▀▄▀█▀█ █▀█ ██\n██▄▄▄▀█ ▄▄▄▄  ███\n██▄▄▄█▄██▄▄█▄▄▄██\n▀▀▀▀▀▀▀▀▀▀▀▀▀▀▀▀▀"
-    );
+    let expected =
+        "█████████████████\n██ ▄▄▄▄▄ █ ▀ █ ██\n██ █   █ ██  ▀ ██\n██ █▄▄▄█ █ ▄▄█▀██\n██▄▄▄▄▄▄▄██  ▄▄██\n██▄ ▀▄▀█▀█ █▀█ ██\n██▄▄▄▀█ ▄▄▄▄  ███\n██▄▄▄█▄██▄▄█▄▄▄██\n▀▀▀▀▀▀▀▀▀▀▀▀▀▀▀▀▀";
+    writes(&rt, rt.alloc(), &renderer, expected)?;
     Ok(())
 }
 
@@ -175,11 +187,9 @@ impl Pixel for Digit {
 #[test]
 fn writes_elements_of_a_user(rt: HostRuntime) -> Result<(), Fail> {
     let mut renderer = Renderer::<Digit>::new(&DIAGONAL, 2, 0);
-    let text = picture(rt.alloc(), &renderer)?;
-    assert_eq!(rt; text.as_str(), "110000\n000011");
+    writes(&rt, rt.alloc(), &renderer, "110000\n000011")?;
     renderer.dark_color(Digit(false)).light_color(Digit(true));
-    let text = picture(rt.alloc(), &renderer)?;
-    assert_eq!(rt; text.as_str(), "000011\n110000");
+    writes(&rt, rt.alloc(), &renderer, "000011\n110000")?;
     Ok(())
 }
 

@@ -2,6 +2,8 @@ ghost use Rattle.std.specs.Prelude.{IsTrue};
 ghost use Rattle.qrcode_types.specs.Versions.{is_valid};
 
 use super::*;
+use qrcode_types::types::QrError;
+use std::process::Abort;
 use std::test::Fail;
 
 // A letter for a module: `?` where nothing is drawn, `#` and `.` for masked ones that are dark and
@@ -21,9 +23,24 @@ fn letters(alloc: Global, canvas: &Canvas) -> QrResult<String> {
     Ok(canvas.modules.iter().map(|m| letter(*m)).collect(alloc)?)
 }
 
-// Whether a canvas has these letters, row by row.
-fn shows(alloc: Global, canvas: &Canvas, text: &str) -> QrResult<bool> {
-    Ok(letters(alloc, canvas)?.as_str() == text)
+// A canvas has these letters, row by row.
+fn shows(rt: &impl Abort, alloc: Global, canvas: &Canvas, text: &str) -> QrResult<()> {
+    let letters = letters(alloc, canvas)?;
+    assert_eq!(rt; letters.as_str(), text);
+    Ok(())
+}
+
+// Two canvases have the same letters.
+fn look_alike(rt: &impl Abort, alloc: Global, first: &Canvas, second: &Canvas) -> QrResult<()> {
+    let expected = letters(alloc, second)?;
+    shows(rt, alloc, first, expected.as_str())
+}
+
+// The bools are true where the text has `#`.
+fn are_dark(rt: &impl Abort, bools: &[bool], text: &str) {
+    for (is_dark, c) in bools.iter().zip(text.chars()) {
+        assert_eq!(rt; *is_dark, c == '#');
+    }
 }
 
 // A new canvas with the functional patterns.
@@ -64,49 +81,56 @@ fn modules_are_lent(rt: HostRuntime) -> Result<(), Fail> {
 fn canvas_is_cloned(rt: HostRuntime) -> Result<(), Fail> {
     let canvas = patterned(rt.alloc(), Version::Micro(2), EcLevel::L)?;
     let copy = canvas.clone()?;
-    assert_eq!(rt; letters(rt.alloc(), &copy)?, letters(rt.alloc(), &canvas)?);
+    look_alike(&rt, rt.alloc(), &copy, &canvas)?;
     Ok(())
 }
 
+// A module, its colour, and its colours under a mask that keeps it and under one that turns it.
+static MASKED: [(Module, Color, Color, Color); 4] = [
+    (Module::Empty, Color::Light, Color::Light, Color::Dark),
+    (
+        Module::Masked(Color::Dark),
+        Color::Dark,
+        Color::Dark,
+        Color::Dark,
+    ),
+    (
+        Module::Unmasked(Color::Dark),
+        Color::Dark,
+        Color::Dark,
+        Color::Light,
+    ),
+    (
+        Module::Unmasked(Color::Light),
+        Color::Light,
+        Color::Light,
+        Color::Dark,
+    ),
+];
+
 #[test]
 fn modules_are_masked(rt: HostRuntime) {
-    let rows = [
-        (Module::Empty, Color::Light, Color::Light, Color::Dark),
-        (
-            Module::Masked(Color::Dark),
-            Color::Dark,
-            Color::Dark,
-            Color::Dark,
-        ),
-        (
-            Module::Unmasked(Color::Dark),
-            Color::Dark,
-            Color::Dark,
-            Color::Light,
-        ),
-        (
-            Module::Unmasked(Color::Light),
-            Color::Light,
-            Color::Light,
-            Color::Dark,
-        ),
-    ];
-    for (place, color, kept, turned) in rows {
-        assert_eq!(rt; Color::from(place), color, "{place:?}");
-        assert_eq!(rt; place.is_dark(), color == Color::Dark, "{place:?}");
-        assert_eq!(rt; place.mask(false), Module::Masked(kept), "{place:?}");
-        assert_eq!(rt; place.mask(true), Module::Masked(turned), "{place:?}");
+    for (place, color, kept, turned) in MASKED {
+        assert!(rt; place.is_dark() == (color == Color::Dark), "{place:?}");
+        let colors = (Color::from(place), place.mask(false), place.mask(true));
+        let expected = (color, Module::Masked(kept), Module::Masked(turned));
+        assert_eq!(rt; colors, expected, "{place:?}");
     }
+}
+
+// The patterns of a version at level L have these letters.
+fn draws_patterns(rt: &impl Abort, alloc: Global, version: Version, text: &str) -> QrResult<()>
+    requires { IsTrue (is_valid version) }
+{
+    let canvas = patterned(alloc, version, EcLevel::L)?;
+    shows(rt, alloc, &canvas, text)
 }
 
 #[test]
 fn patterns_are_drawn(rt: HostRuntime) -> Result<(), Fail> {
-    let canvas = patterned(rt.alloc(), Version::Normal(2), EcLevel::L)?;
-    assert!(rt; shows(rt.alloc(), &canvas, PATTERNS_OF_NORMAL_2)?);
-    let canvas = patterned(rt.alloc(), Version::Normal(7), EcLevel::L)?;
-    assert!(rt; shows(rt.alloc(), &canvas, PATTERNS_OF_NORMAL_7)?);
-    let canvas = patterned(rt.alloc(), Version::Micro(1), EcLevel::L)?;
-    assert!(rt; shows(rt.alloc(), &canvas, PATTERNS_OF_MICRO_1)?);
+    draws_patterns(&rt, rt.alloc(), Version::Normal(2), PATTERNS_OF_NORMAL_2)?;
+    draws_patterns(&rt, rt.alloc(), Version::Normal(7), PATTERNS_OF_NORMAL_7)?;
+    draws_patterns(&rt, rt.alloc(), Version::Micro(1), PATTERNS_OF_MICRO_1)?;
     Ok(())
 }
 
@@ -117,15 +141,27 @@ fn alignment_is_drawn_over_a_module(rt: HostRuntime) -> Result<(), Fail> {
     canvas.draw_all_functional_patterns();
     assert_eq!(rt; canvas.get(18, 18), Module::Masked(Color::Dark));
     let whole = patterned(rt.alloc(), Version::Normal(2), EcLevel::L)?;
-    assert_eq!(rt; letters(rt.alloc(), &canvas)?, letters(rt.alloc(), &whole)?);
+    look_alike(&rt, rt.alloc(), &canvas, &whole)?;
     Ok(())
+}
+
+// A canvas on which these codewords are drawn has these letters.
+fn draws(
+    rt: &impl Abort,
+    alloc: Global,
+    canvas: &mut Canvas,
+    (data, ec): (&[u8], &[u8]),
+    text: &str,
+) -> QrResult<()> {
+    canvas.draw_data(data, ec);
+    shows(rt, alloc, canvas, text)
 }
 
 #[test]
 fn codewords_are_drawn(rt: HostRuntime) -> Result<(), Fail> {
     let mut canvas = patterned(rt.alloc(), Version::Micro(1), EcLevel::L)?;
-    canvas.draw_data(&[0xa5, 0x3c, 0x70], &[0x81, 0xe6]);
-    assert!(rt; shows(rt.alloc(), &canvas, DATA_OF_MICRO_1)?);
+    let codewords: (&[u8], &[u8]) = (&[0xa5, 0x3c, 0x70], &[0x81, 0xe6]);
+    draws(&rt, rt.alloc(), &mut canvas, codewords, DATA_OF_MICRO_1)?;
     Ok(())
 }
 
@@ -133,10 +169,10 @@ fn codewords_are_drawn(rt: HostRuntime) -> Result<(), Fail> {
 fn bits_without_a_codeword_stay_empty(rt: HostRuntime) -> Result<(), Fail> {
     let mut canvas = patterned(rt.alloc(), Version::Normal(2), EcLevel::L)?;
     let empty = letters(rt.alloc(), &canvas)?;
-    canvas.draw_data(&[], &[]);
-    assert_eq!(rt; letters(rt.alloc(), &canvas)?, empty);
-    canvas.draw_data(&[0x6d, 0xb6, 0xdb].repeat(rt.alloc(), 14)?, &[0x6d, 0xb6]);
-    assert!(rt; shows(rt.alloc(), &canvas, DATA_OF_NORMAL_2)?);
+    draws(&rt, rt.alloc(), &mut canvas, (&[], &[]), empty.as_str())?;
+    let data = [0x6d, 0xb6, 0xdb].repeat(rt.alloc(), 14)?;
+    let codewords: (&[u8], &[u8]) = (&data, &[0x6d, 0xb6]);
+    draws(&rt, rt.alloc(), &mut canvas, codewords, DATA_OF_NORMAL_2)?;
     Ok(())
 }
 
@@ -144,28 +180,39 @@ fn bits_without_a_codeword_stay_empty(rt: HostRuntime) -> Result<(), Fail> {
 #[test]
 fn half_codeword_fills_the_symbol(rt: HostRuntime) -> Result<(), Fail> {
     let mut canvas = patterned(rt.alloc(), Version::Micro(3), EcLevel::L)?;
-    canvas.draw_data(&[0; 11], &[0xff; 6]);
-    assert!(rt; shows(rt.alloc(), &canvas, HALF_CODEWORD_OF_MICRO_3)?);
+    let codewords: (&[u8], &[u8]) = (&[0; 11], &[0xff; 6]);
+    draws(
+        &rt,
+        rt.alloc(),
+        &mut canvas,
+        codewords,
+        HALF_CODEWORD_OF_MICRO_3,
+    )?;
     Ok(())
 }
+
+// Which colours of a canvas are dark.
+fn dark_of(alloc: Global, canvas: Canvas) -> QrResult<Vec<bool>> {
+    let colors = canvas.into_colors(alloc)?;
+    Ok(colors.iter().map(|c| *c == Color::Dark).collect(alloc)?)
+}
+
+// The codewords of `01234567` in Normal 1 at M.
+static DATA_OF_DIGITS: &[u8; 16] =
+    b"\x10\x20\x0c\x56\x61\x80\xec\x11\xec\x11\xec\x11\xec\x11\xec\x11";
+
+static EC_OF_DIGITS: &[u8; 10] = b"\xa5\x24\xd4\xc1\xed\x36\xc7\x87\x2c\x55";
 
 #[test]
 fn symbol_is_drawn(rt: HostRuntime) -> Result<(), Fail> {
     let mut canvas = patterned(rt.alloc(), Version::Normal(1), EcLevel::M)?;
-    canvas.draw_data(
-        b"\x10\x20\x0c\x56\x61\x80\xec\x11\xec\x11\xec\x11\xec\x11\xec\x11",
-        b"\xa5\x24\xd4\xc1\xed\x36\xc7\x87\x2c\x55",
-    );
+    canvas.draw_data(DATA_OF_DIGITS, EC_OF_DIGITS);
     mask_all(&mut canvas, MaskPattern::VerticalLines);
-    assert!(rt; shows(rt.alloc(), &canvas, SYMBOL_OF_NORMAL_1)?);
+    shows(&rt, rt.alloc(), &canvas, SYMBOL_OF_NORMAL_1)?;
     let bools = canvas.to_bools(rt.alloc())?;
-    for (is_dark, c) in bools.iter().zip(SYMBOL_OF_NORMAL_1.chars()) {
-        assert_eq!(rt; *is_dark, c == '#');
-    }
-    let colors = canvas.into_colors(rt.alloc())?;
-    for (color, c) in colors.iter().zip(SYMBOL_OF_NORMAL_1.chars()) {
-        assert_eq!(rt; *color == Color::Dark, c == '#');
-    }
+    are_dark(&rt, &bools, SYMBOL_OF_NORMAL_1);
+    let bools = dark_of(rt.alloc(), canvas)?;
+    are_dark(&rt, &bools, SYMBOL_OF_NORMAL_1);
     Ok(())
 }
 
@@ -174,7 +221,7 @@ fn micro_symbol_is_drawn(rt: HostRuntime) -> Result<(), Fail> {
     let mut canvas = patterned(rt.alloc(), Version::Micro(2), EcLevel::L)?;
     canvas.draw_data(b"\x40\x18\xac\xc3\x00", b"\x86\x0d\x22\xae\x30");
     mask_all(&mut canvas, MaskPattern::LargeCheckerboard);
-    assert!(rt; shows(rt.alloc(), &canvas, SYMBOL_OF_MICRO_2)?);
+    shows(&rt, rt.alloc(), &canvas, SYMBOL_OF_MICRO_2)?;
     Ok(())
 }
 
@@ -182,50 +229,112 @@ fn micro_symbol_is_drawn(rt: HostRuntime) -> Result<(), Fail> {
 fn second_mask_changes_the_format_places(rt: HostRuntime) -> Result<(), Fail> {
     let mut canvas = patterned(rt.alloc(), Version::Normal(1), EcLevel::M)?;
     mask_all(&mut canvas, MaskPattern::VerticalLines);
-    assert!(rt; shows(rt.alloc(), &canvas, NORMAL_1_UNDER_VERTICAL_LINES)?);
+    shows(&rt, rt.alloc(), &canvas, NORMAL_1_UNDER_VERTICAL_LINES)?;
     mask_all(&mut canvas, MaskPattern::Checkerboard);
-    assert!(rt; shows(rt.alloc(), &canvas, NORMAL_1_UNDER_CHECKERBOARD)?);
+    shows(&rt, rt.alloc(), &canvas, NORMAL_1_UNDER_CHECKERBOARD)?;
+    Ok(())
+}
+
+// A canvas under its best mask, and the colours of that.
+fn best(alloc: Global, canvas: &Canvas) -> QrResult<(Canvas, Vec<Color>)> {
+    if !canvas.version.has_level(canvas.ec_level) {
+        return Err(QrError::InvalidVersion);
+    }
+    Ok((canvas.apply_best_mask(alloc)?, canvas.best_colors(alloc)?))
+}
+
+// A canvas under its best mask has these letters, and so have its colours.
+fn is_best(rt: &impl Abort, alloc: Global, canvas: &Canvas, text: &str) -> QrResult<()> {
+    let (best, colors) = best(alloc, canvas)?;
+    shows(rt, alloc, &best, text)?;
+    for (color, c) in colors.iter().zip(text.chars()) {
+        assert_eq!(rt; *color == Color::Dark, c == '#');
+    }
     Ok(())
 }
 
 #[test]
-fn functional_places(rt: HostRuntime) {
-    let rows = [
-        (0, 0, true),
-        (9, 0, false),
-        (33, 0, false),
-        (34, 0, true),
-        (36, 3, true),
-        (4, 36, true),
-        (36, 6, true),
-        (33, 5, false),
-        (-7, -7, true),
-        (-9, -9, true),
-        (-10, -7, false),
-        (8, -8, true),
-        (22, 22, true),
-        (6, 22, true),
-        (25, 22, false),
-        (6, -16, true),
-        (5, -12, false),
-        (44, 8, true),
-        (44, 9, false),
-        (-45, -45, true),
-    ];
-    for (x, y, expected) in rows {
-        if -45 <= x && x < 45 && -45 <= y && y < 45 {
-            assert_eq!(rt;
-                is_functional(Version::Normal(7), 45, x, y),
-                expected,
-                "{x}, {y}"
-            );
-        }
+fn symbol_is_under_its_best_mask(rt: HostRuntime) -> Result<(), Fail> {
+    let mut canvas = patterned(rt.alloc(), Version::Normal(1), EcLevel::M)?;
+    canvas.draw_data(DATA_OF_DIGITS, EC_OF_DIGITS);
+    is_best(&rt, rt.alloc(), &canvas, SYMBOL_OF_NORMAL_1)?;
+    Ok(())
+}
+
+// All modules are light and stay so under each mask; the first has the least penalty, and the format
+// word 0x4445.
+#[test]
+fn light_canvas_is_under_the_first_mask(rt: HostRuntime) -> Result<(), Fail> {
+    let canvas = Canvas {
+        version: Version::Micro(1),
+        ec_level: EcLevel::L,
+        modules: vec![in rt.alloc(); Module::Masked(Color::Light); 121]?,
+    };
+    is_best(&rt, rt.alloc(), &canvas, LIGHT_MICRO_1)?;
+    Ok(())
+}
+
+// Whether Normal 7 has a pattern at a place that is inside.
+fn is_functional_of_normal_7(x: i16, y: i16) -> Option<bool> {
+    if -45 <= x && x < 45 && -45 <= y && y < 45 {
+        return Some(is_functional(Version::Normal(7), 45, x, y));
     }
-    assert_eq!(rt; is_functional(Version::Micro(2), 13, 12, 0), true);
-    assert_eq!(rt; is_functional(Version::Micro(2), 13, 12, 1), false);
-    assert_eq!(rt; is_functional(Version::Micro(2), 13, 8, 7), true);
-    assert_eq!(rt; is_functional(Version::Micro(2), 13, 9, 8), false);
-    assert_eq!(rt; is_functional(Version::Micro(2), 13, 0, -1), true);
+    None
+}
+
+// Whether Micro 2 has a pattern at a place that is inside.
+fn is_functional_of_micro_2(x: i16, y: i16) -> Option<bool> {
+    if -13 <= x && x < 13 && -13 <= y && y < 13 {
+        return Some(is_functional(Version::Micro(2), 13, x, y));
+    }
+    None
+}
+
+static PLACES_OF_NORMAL_7: [(i16, i16, bool); 20] = [
+    (0, 0, true),
+    (9, 0, false),
+    (33, 0, false),
+    (34, 0, true),
+    (36, 3, true),
+    (4, 36, true),
+    (36, 6, true),
+    (33, 5, false),
+    (-7, -7, true),
+    (-9, -9, true),
+    (-10, -7, false),
+    (8, -8, true),
+    (22, 22, true),
+    (6, 22, true),
+    (25, 22, false),
+    (6, -16, true),
+    (5, -12, false),
+    (44, 8, true),
+    (44, 9, false),
+    (-45, -45, true),
+];
+
+#[test]
+fn functional_places(rt: HostRuntime) {
+    for (x, y, expected) in PLACES_OF_NORMAL_7 {
+        let found = is_functional_of_normal_7(x, y);
+        assert!(rt; found == Some(expected), "{x}, {y}");
+    }
+}
+
+#[test]
+fn functional_places_of_micro(rt: HostRuntime) {
+    for (x, y, expected) in [
+        (12, 0, true),
+        (12, 1, false),
+        (8, 7, true),
+        (9, 8, false),
+        (0, -1, true),
+    ] {
+        assert!(rt;
+            is_functional_of_micro_2(x, y) == Some(expected),
+            "{x}, {y}"
+        );
+    }
 }
 
 static PATTERNS_OF_NORMAL_2: &str = "#######..????????.#######\
@@ -311,6 +420,18 @@ static PATTERNS_OF_MICRO_1: &str = "#######.#.#\
     #........??\
     .??????????\
     #??????????";
+
+static LIGHT_MICRO_1: &str = "...........\
+    ........#..\
+    ...........\
+    ........#..\
+    ...........\
+    ...........\
+    ...........\
+    ........#..\
+    .#...#.....\
+    ...........\
+    ...........";
 
 static DATA_OF_MICRO_1: &str = "#######.#.#\
     #.....#..**\

@@ -1,4 +1,4 @@
-ghost use Rattle.std.specs.Prelude.{◌≡◌, ◌+◌, ◌*◌, ◌<◌, ◌≤◌, length, IsTrue, IfOk};
+ghost use Rattle.std.specs.Prelude.{◌≡◌, ◌+◌, ◌*◌, ◌<◌, ◌≤◌, length, vec_len, IsTrue, IfOk};
 ghost use Rattle.qrcode_types.specs.Versions.{has_level, side};
 ghost use Rattle.qrcode_symbol.specs.Masking.{mask_count};
 
@@ -148,32 +148,53 @@ fn drawn(alloc: Global, version: Version, ec_level: EcLevel) -> QrResult<Canvas>
     Ok(canvas)
 }
 
-// What the k-th mask costs, on packed rows.
-fn packed_cost<L: Line>(
-    alloc: Global,
-    version: Version,
-    ec_level: EcLevel,
-    modules: &[Module],
-    k: usize,
-) -> QrResult<u32>
-    requires level { IsTrue (has_level version ec_level) }
-    requires exists { k < mask_count version }
-    requires room { side version + 3 ≤ L.room }
-    requires square { length modules.now ≡ side version * side version }
+// So many rows of light places.
+fn light_rows<L: Line>(alloc: Global, width: usize) -> QrResult<Vec<L>>
+    requires { 0 < L.room }
+    ensures { IfOk result (λ rows. vec_len rows ≡ width) }
 {
+    Ok(vec![in alloc; L::first(0); width]?)
+}
+
+// What the k-th mask costs, on rows in `dark` and `free`; `masked` is a place to work in.
+fn cost_in<L: Line>(
+    canvas: &Canvas,
+    k: usize,
+    dark: &mut [L],
+    free: &mut [L],
+    masked: &mut [L],
+) -> u32
+    requires level { IsTrue (has_level canvas.now.version canvas.now.level) }
+    requires exists { k < mask_count canvas.now.version }
+    requires room { side canvas.now.version + 3 ≤ L.room }
+    requires dark { length dark.old ≡ side canvas.now.version }
+    requires free { length free.old ≡ side canvas.now.version }
+    requires masked { length masked.old ≡ side canvas.now.version }
+{
+    let (version, ec_level) = (canvas.version, canvas.ec_level);
     let width = side(version);
-    let mut dark = vec![in alloc; L::first(0); width]?;
-    let mut free = vec![in alloc; L::first(0); width]?;
-    let mut masked = vec![in alloc; L::first(0); width]?;
-    pack_rows(width, modules, &mut dark, &mut free);
+    pack_rows(width, &canvas.modules, dark, free);
     let square = PackedSquare {
         version,
         ec_level,
         width,
-        dark: &dark,
-        free: &free,
+        dark,
+        free,
     };
-    Ok(nth_cost(&square, k, &mut masked))
+    nth_cost(&square, k, masked)
+}
+
+// What the k-th mask costs, on packed rows.
+fn packed_cost<L: Line>(alloc: Global, canvas: &Canvas, k: usize) -> QrResult<u32>
+    requires level { IsTrue (has_level canvas.now.version canvas.now.level) }
+    requires exists { k < mask_count canvas.now.version }
+    requires room { side canvas.now.version + 3 ≤ L.room }
+{
+    let width = side(canvas.version);
+    let mut dark = light_rows::<L>(alloc, width)?;
+    let mut free = light_rows::<L>(alloc, width)?;
+    let mut masked = light_rows::<L>(alloc, width)?;
+    Ok(cost_in(canvas, k, &mut dark, &mut free, &mut masked))
 }
 
 // The same on rows of the kind that the version takes.
@@ -181,12 +202,10 @@ fn cost(alloc: Global, canvas: &Canvas, k: usize) -> QrResult<u32>
     requires level { IsTrue (has_level canvas.now.version canvas.now.level) }
     requires exists { k < mask_count canvas.now.version }
 {
-    let (version, ec_level) = (canvas.version, canvas.ec_level);
-    let width = side(version);
-    if width <= 61 {
-        return packed_cost::<u64>(alloc, version, ec_level, &canvas.modules, k);
+    if side(canvas.version) <= 61 {
+        return packed_cost::<u64>(alloc, canvas, k);
     }
-    packed_cost::<ThreeWords>(alloc, version, ec_level, &canvas.modules, k)
+    packed_cost::<ThreeWords>(alloc, canvas, k)
 }
 
 // Whether each mask costs on packed rows what it costs module by module.
