@@ -38,6 +38,7 @@ fn look_alike(rt: &impl Abort, alloc: Global, first: &Canvas, second: &Canvas) -
 
 // The bools are true where the text has `#`.
 fn are_dark(rt: &impl Abort, bools: &[bool], text: &str) {
+    assert_eq!(rt; bools.len(), text.len());
     for (is_dark, c) in bools.iter().zip(text.chars()) {
         assert_eq!(rt; *is_dark, c == '#');
     }
@@ -247,6 +248,7 @@ fn best(alloc: Global, canvas: &Canvas) -> QrResult<(Canvas, Vec<Color>)> {
 fn is_best(rt: &impl Abort, alloc: Global, canvas: &Canvas, text: &str) -> QrResult<()> {
     let (best, colors) = best(alloc, canvas)?;
     shows(rt, alloc, &best, text)?;
+    assert_eq!(rt; colors.len(), text.len());
     for (color, c) in colors.iter().zip(text.chars()) {
         assert_eq!(rt; *color == Color::Dark, c == '#');
     }
