@@ -102,8 +102,8 @@ fn list_all<R: Print>(rt: &R) -> io::Result<()> {
 
 // Prints scenarios.
 fn list_each<R: Print>(rt: &R, scenarios: &[Scenario]) -> io::Result<()> {
-    for scenario in scenarios {
-        list(rt, *scenario)?;
+    for &scenario in scenarios {
+        list(rt, scenario)?;
     }
     Ok(())
 }

@@ -105,3 +105,7 @@ pub record IsBestShown {A : Type 0} (v : Version) (l : EcLevel) (modules : List 
   pub masked : List Module
   pub best : IsBestMasked v l modules masked
   pub shown : new ≡ map (λ m. of (color_of_module m)) masked
+
+-- the colours of the modules under the first mask of least penalty
+abbrev pub AreBestColors : Version → EcLevel → List Module → List Color → Type 0
+AreBestColors v l modules colors = IsBestShown v l modules (λ color. color) colors

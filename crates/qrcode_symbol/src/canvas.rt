@@ -12,7 +12,7 @@ ghost use Rattle.qrcode_types.specs.declared.types.QrError.TheVariants.{OutOfMem
 ghost use Rattle.qrcode_symbol.specs.Canvas.{wrapped, module_index, blank, color_of_module, colors_of, masked_module, drawn_bits, with_bits_drawn, with_patterns, with_mask};
 ghost use Rattle.qrcode_symbol.specs.Carried.{CarriesAll};
 ghost use Rattle.qrcode_symbol.specs.Lending.{LendsModule};
-ghost use Rattle.qrcode_symbol.specs.Masking.{IsBestMasked, IsBestShown};
+ghost use Rattle.qrcode_symbol.specs.Masking.{IsBestMasked, AreBestColors};
 ghost use Rattle.qrcode_symbol.specs.Patterned.{IsDrawn};
 ghost use Rattle.qrcode_symbol.specs.declared.canvas.Module.TheVariants.{Empty, Masked};
 
@@ -289,7 +289,7 @@ impl Canvas {
     pub fn best_colors(&self, alloc: Global) -> QrResult<Vec<Color>>
         requires { IsTrue (has_level self.now.version self.now.level) }
         ensures best { IfOk result (λ colors.
-            IsBestShown self.now.version self.now.level self.now.modules (λ color. color) colors.items) }
+            AreBestColors self.now.version self.now.level self.now.modules colors.items) }
         ensures memory { IsOkUnless result OutOfMemory }
 
         // The format words are far from one another, and tell level and mask.
