@@ -141,8 +141,8 @@ pub fn format_bit(word: u32, i: usize) -> bool {
     word >> (14usize.wrapping_sub(i) % 15) & 1 == 1
 }
 
-// How many bits of a copy of the format word differ from a word.
-fn wrong_bits(square: &Square, copy: usize, word: u32) -> u32 {
+/// How many bits of a copy of the format word differ from a word.
+pub fn wrong_bits(square: &Square, copy: usize, word: u32) -> u32 {
     let mut wrong = 0u32;
     for i in 0..15usize {
         if square.is_dark(square.format_place(copy, i)) != format_bit(word, i) {
@@ -432,7 +432,10 @@ fn by_band(v: i16, small: usize, middle: usize, large: usize) -> usize {
 // The mode by its indicator: 0 digits, 1 letters, 2 bytes, 3 pairs.
 fn read_mode(version: Version, front: &mut Front<'_>) -> Read<usize> {
     match version {
-        Version::Micro(v) => front.number(square::count_of(v).wrapping_sub(1)),
+        Version::Micro(v) => match front.number(square::count_of(v).wrapping_sub(1))? {
+            mode @ 0..=3 => Ok(mode),
+            _ => Err(Unreadable),
+        },
         Version::Normal(_) => match front.number(4)? {
             1 => Ok(0),
             2 => Ok(1),

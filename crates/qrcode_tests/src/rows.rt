@@ -123,7 +123,7 @@ fn bytes_of(alloc: Global, bits: &[bool]) -> Read<Vec<u8>> {
     Ok(bytes)
 }
 
-// The symbol of data is read as these bytes of data bits.
+// The symbol of data is read as the data, and as these bytes of data bits.
 fn check_held(
     rt: &impl Abort,
     alloc: Global,
@@ -133,24 +133,27 @@ fn check_held(
     bytes: &[u8],
 ) {
     let code = QrCode::with_version(alloc, data, version, ec_level).expect(rt, "a symbol");
-    let bits = symbols::read(rt, alloc, &code).bits;
-    let held = bytes_of(alloc, &bits).expect(rt, "memory");
+    let reading = symbols::read(rt, alloc, &code);
+    symbols::check_bytes(rt, &reading.bytes, data);
+    let held = bytes_of(alloc, &reading.bits).expect(rt, "memory");
     symbols::check_bytes(rt, &held, bytes);
 }
 
-/// Data, a version and level, and the bytes of data bits that were published for them.
+/// Data, a version and level, and the bytes of its data bits.
 #[rattlefmt::skip]
-static PUBLISHED: [(&[u8], Version, EcLevel, &[u8]); 5] = [
+static HELD: [(&[u8], Version, EcLevel, &[u8]); 7] = [
     (b"123A", Version::Micro(2), EcLevel::L, b"\x18\xf7\x25\x00\xec"),
     (b"99999", Version::Micro(1), EcLevel::L, b"\xbf\x3e\x30"),
     (b"00000000000000000000", Version::Micro(3), EcLevel::L, b"\x28\0\0\0\0\0\0\0\0\0\0"),
     (b"HELLO WORLD", Version::Normal(1), EcLevel::Q, b"\x20\x5b\x0b\x78\xd1\x72\xdc\x4d\x43\x40\xec\x11\xec"),
     (b"01234567", Version::Normal(1), EcLevel::H, b"\x10\x20\x0c\x56\x61\x80\xec\x11\xec"),
+    (b"\x93\x5f\xe4\xaa", Version::Normal(1), EcLevel::H, b"\x80\x26\xcf\xea\xa8\x00\xec\x11\xec"),
+    (b"\x93\x5f\xe4\xaa", Version::Micro(4), EcLevel::Q, b"\x64\xd9\xfd\x55\x00\x00\xec\x11\xec\x11"),
 ];
 
 #[test]
-fn published_data_is_held(rt: HostRuntime) {
-    for (data, version, ec_level, bytes) in &PUBLISHED {
+fn data_is_held(rt: HostRuntime) {
+    for (data, version, ec_level, bytes) in &HELD {
         check_held(&rt, rt.alloc(), data, *version, *ec_level, bytes);
     }
 }
@@ -254,7 +257,7 @@ fn enlarged(alloc: Global, code: &QrCode) -> QrResult<ImageBuffer<Rgb>> {
 }
 
 #[test]
-fn pixels_are_drawn(rt: HostRuntime) {
+fn pictures_have_their_sides(rt: HostRuntime) {
     let code = symbol_of_digits(&rt, rt.alloc(), Version::Micro(2), EcLevel::L);
     let pixels = enlarged(rt.alloc(), &code).expect(&rt, "a picture");
     symbols::check_sides(&rt, &pixels, 204);

@@ -50,10 +50,14 @@ fn check_pictures(rt: &impl Abort, alloc: Global, code: &QrCode, square: &Square
     let text = symbols::picture::<Str<'static>>(rt, alloc, code);
     assert_eq!(rt; symbols::count_of_letter(text.as_str(), '█'), dark);
     let pixels = symbols::picture::<Luma>(rt, alloc, code).into_raw();
-    assert_eq!(rt; symbols::count_of_dark_pixels(&pixels, 1) / 64, dark);
+    assert_eq!(rt;
+        symbols::count_of_dark_pixels(&pixels, 1),
+        dark.wrapping_mul(64)
+    );
 }
 
-// A square is read as data at a level, with so many wrong codewords.
+// A square is read as data at a level, with so many wrong codewords; if there are any, each copy of
+// the format word has three wrong bits, and else none.
 fn check_reading(
     rt: &impl Abort,
     alloc: Global,
@@ -67,6 +71,11 @@ fn check_reading(
     symbols::check_bytes(rt, &reading.bytes, data);
     assert!(rt; reading.ec_level == ec_level);
     assert_eq!(rt; reading.wrong, wrong);
+    let word = reader::word_of(square.version(), ec_level, reading.mask).expect(rt, "a word");
+    for copy in 0..square.format_copies() {
+        let expected = if wrong == 0 { 0 } else { 3 };
+        assert_eq!(rt; reader::wrong_bits(square, copy, word), expected);
+    }
 }
 
 // Turns three modules of each copy of the format word, and a module of half as many codewords of
@@ -92,11 +101,10 @@ fn damage_block(
 ) -> Read<usize> {
     let mut wrong = 0usize;
     for i in 0..count {
-        if let Some(number) = numbers.get(i) {
-            let word = places.get(*number).ok_or(Unreadable)?;
-            square.turn(*word.first().ok_or(Unreadable)?);
-            wrong = wrong.wrapping_add(1);
-        }
+        let number = numbers.get(i).ok_or(Unreadable)?;
+        let word = places.get(*number).ok_or(Unreadable)?;
+        square.turn(*word.first().ok_or(Unreadable)?);
+        wrong = wrong.wrapping_add(1);
     }
     Ok(wrong)
 }

@@ -5,7 +5,7 @@ use crate::drawings::{as_chars, as_grey_map, as_half_blocks, as_pairs, as_pic, a
 use crate::label::{Bar, label_bars};
 use crate::payment::{Payment, payment_picture};
 use crate::ticket::ticket_blocks;
-use qrcode::types::QrResult;
+use qrcode::types::{QrError, QrResult};
 use std::alloc::Global;
 use std::process::Abort;
 use std::test::Fail;
@@ -68,7 +68,10 @@ fn a_greek_text_is_drawn(rt: HostRuntime) -> Result<(), Fail> {
         b"\x70\x94\x0a\xca\xfe\xe4\xe9\xea\xe1\xf2\x20\x51\x52\x00\xec\x11\xec\x11\xec".as_slice()
     );
     assert_eq!(rt; greek_length(rt.alloc(), GREEK_TEXT)?, 461);
-    assert!(rt; greek_length(rt.alloc(), b"seventeen letters").is_err());
+    assert_eq!(rt;
+        greek_length(rt.alloc(), b"seventeen letters"),
+        Err(QrError::DataTooLong)
+    );
     Ok(())
 }
 

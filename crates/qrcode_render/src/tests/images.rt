@@ -70,6 +70,15 @@ fn paints_greys_with_opacity(rt: HostRuntime) -> Result<(), Fail> {
 }
 
 #[test]
+fn paints_colors(rt: HostRuntime) -> Result<(), Fail> {
+    let mut renderer = Renderer::<Rgb>::new(&DIAGONAL, 2, 0);
+    renderer.module_size(1);
+    let expected = [0, 0, 0, 255, 255, 255, 255, 255, 255, 0, 0, 0];
+    paints(&rt, rt.alloc(), &renderer, (2, 2), &expected)?;
+    Ok(())
+}
+
+#[test]
 fn paints_within_most(rt: HostRuntime) -> Result<(), Fail> {
     let mut renderer = Renderer::<Luma>::new(&DIAGONAL, 2, 1);
     renderer.max_dimensions(10, 5);
@@ -95,13 +104,13 @@ fn paints_at_least(rt: HostRuntime) -> Result<(), Fail> {
     for (i, byte) in raw.iter().enumerate() {
         let (row, column) = (i / 36, i % 12 / 3);
         let is_dark = row == column && (row == 1 || row == 2);
-        assert_eq!(rt; *byte == 0, is_dark, "at {i}");
+        assert_eq!(rt; *byte, if is_dark { 0 } else { 255 }, "at {i}");
     }
     Ok(())
 }
 
 #[test]
-fn paints_symbols(rt: HostRuntime) -> Result<(), Fail> {
+fn gives_symbols_their_sides(rt: HostRuntime) -> Result<(), Fail> {
     let alloc = rt.alloc();
     let normal = modules(alloc, NORMAL_1)?;
     assert!(rt; normal.len() == 441);

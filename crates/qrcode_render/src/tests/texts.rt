@@ -195,7 +195,6 @@ fn writes_elements_of_a_user(rt: HostRuntime) -> Result<(), Fail> {
 
 #[test]
 fn counts_bytes_of_elements(rt: HostRuntime) {
-    assert_eq!(rt; Digit(false).strlen(), 2);
     assert_eq!(rt; '█'.strlen(), 3);
     assert_eq!(rt; Str("!B!").strlen(), 3);
 }

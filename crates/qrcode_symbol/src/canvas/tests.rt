@@ -192,9 +192,8 @@ fn half_codeword_fills_the_symbol(rt: HostRuntime) -> Result<(), Fail> {
     Ok(())
 }
 
-// Which colours of a canvas are dark.
-fn dark_of(alloc: Global, canvas: Canvas) -> QrResult<Vec<bool>> {
-    let colors = canvas.into_colors(alloc)?;
+// Which of the colours are dark.
+fn dark_of(alloc: Global, colors: &[Color]) -> QrResult<Vec<bool>> {
     Ok(colors.iter().map(|c| *c == Color::Dark).collect(alloc)?)
 }
 
@@ -212,8 +211,8 @@ fn symbol_is_drawn(rt: HostRuntime) -> Result<(), Fail> {
     shows(&rt, rt.alloc(), &canvas, SYMBOL_OF_NORMAL_1)?;
     let bools = canvas.to_bools(rt.alloc())?;
     are_dark(&rt, &bools, SYMBOL_OF_NORMAL_1);
-    let bools = dark_of(rt.alloc(), canvas)?;
-    are_dark(&rt, &bools, SYMBOL_OF_NORMAL_1);
+    let colors = canvas.into_colors(rt.alloc())?;
+    are_dark(&rt, &dark_of(rt.alloc(), &colors)?, SYMBOL_OF_NORMAL_1);
     Ok(())
 }
 
@@ -248,10 +247,7 @@ fn best(alloc: Global, canvas: &Canvas) -> QrResult<(Canvas, Vec<Color>)> {
 fn is_best(rt: &impl Abort, alloc: Global, canvas: &Canvas, text: &str) -> QrResult<()> {
     let (best, colors) = best(alloc, canvas)?;
     shows(rt, alloc, &best, text)?;
-    assert_eq!(rt; colors.len(), text.len());
-    for (color, c) in colors.iter().zip(text.chars()) {
-        assert_eq!(rt; *color == Color::Dark, c == '#');
-    }
+    are_dark(rt, &dark_of(alloc, &colors)?, text);
     Ok(())
 }
 
@@ -263,10 +259,10 @@ fn symbol_is_under_its_best_mask(rt: HostRuntime) -> Result<(), Fail> {
     Ok(())
 }
 
-// All modules are light and stay so under each mask; the first has the least penalty, and the format
-// word 0x4445.
+// All modules are light and stay so under each mask: all penalties are 170, and the first mask is
+// taken, with the format word 0x4445.
 #[test]
-fn light_canvas_is_under_the_first_mask(rt: HostRuntime) -> Result<(), Fail> {
+fn equal_penalties_choose_the_first_mask(rt: HostRuntime) -> Result<(), Fail> {
     let canvas = Canvas {
         version: Version::Micro(1),
         ec_level: EcLevel::L,

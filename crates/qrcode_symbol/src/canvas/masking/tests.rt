@@ -4,6 +4,7 @@ ghost use Rattle.qrcode_symbol.specs.Masking.{mask_count};
 
 use super::super::Canvas;
 use super::*;
+use qrcode_types::types::QrError;
 use std::test::Fail;
 
 // The modules of a square, counted one by one.
@@ -197,13 +198,16 @@ fn packed_cost<L: Line>(alloc: Global, canvas: &Canvas, k: usize) -> QrResult<u3
     Ok(cost_in(canvas, k, &mut dark, &mut free, &mut masked))
 }
 
-// The same on rows of the kind that the version takes.
+// The same on rows of the least type with room for the version's.
 fn cost(alloc: Global, canvas: &Canvas, k: usize) -> QrResult<u32>
     requires level { IsTrue (has_level canvas.now.version canvas.now.level) }
     requires exists { k < mask_count canvas.now.version }
 {
     if side(canvas.version) <= 61 {
         return packed_cost::<u64>(alloc, canvas, k);
+    }
+    if side(canvas.version) <= 125 {
+        return packed_cost::<u128>(alloc, canvas, k);
     }
     packed_cost::<ThreeWords>(alloc, canvas, k)
 }
@@ -233,6 +237,7 @@ fn packed_costs_are_plain(rt: HostRuntime) -> Result<(), Fail> {
     for version in [
         Version::Normal(1),
         Version::Normal(7),
+        Version::Normal(12),
         Version::Normal(40),
         Version::Micro(1),
         Version::Micro(2),
@@ -244,5 +249,64 @@ fn packed_costs_are_plain(rt: HostRuntime) -> Result<(), Fail> {
             "{version:?}"
         );
     }
+    Ok(())
+}
+
+// What the canvas costs under each mask.
+fn costs(alloc: Global, canvas: &Canvas) -> QrResult<Vec<u32>> {
+    let mut costs = Vec::new(alloc);
+    if !canvas.version.has_level(canvas.ec_level) {
+        return Err(QrError::InvalidVersion);
+    }
+    for k in 0..mask_count(canvas.version) {
+        costs.push(cost(alloc, canvas, k)?)?;
+    }
+    Ok(costs)
+}
+
+// A symbol whose penalty is published, in parts: runs 88 and 92, blocks 90, finder forms 360 and 400,
+// balance 2.
+#[test]
+fn a_known_symbol_has_its_penalty(rt: HostRuntime) -> Result<(), Fail> {
+    let mut canvas = Canvas::new(rt.alloc(), Version::Normal(1), EcLevel::Q)?;
+    canvas.draw_all_functional_patterns();
+    canvas.draw_data(
+        b"\x20\x5b\x0b\x78\xd1\x72\xdc\x4d\x43\x40\xec\x11\x00",
+        b"\xa8\x48\x16\x52\xd9\x36\x9c\x00\x2e\x0f\xb4\x7a\x10",
+    );
+    let costs = costs(rt.alloc(), &canvas)?;
+    assert_eq!(rt; costs.first(), Some(&1032));
+    Ok(())
+}
+
+// The last row and the last column of a square, of which the corner is the last of both.
+static LAST_ROW: &[u8; 17] = b"#..###..#.#..#...";
+
+static LAST_COLUMN: &[u8; 17] = b"###..##.#.#.#..#.";
+
+fn put_last(canvas: &mut Canvas) {
+    for (i, (across, down)) in LAST_ROW.iter().zip(LAST_COLUMN).enumerate() {
+        if i < side(canvas.version) {
+            canvas.put(i as i16, -1, color(*across));
+            canvas.put(-1, i as i16, color(*down));
+        }
+    }
+}
+
+fn color(letter: u8) -> Color {
+    if letter == b'#' {
+        Color::Dark
+    } else {
+        Color::Light
+    }
+}
+
+// They are fixed, and so cost the same under each mask.
+#[test]
+fn a_known_row_and_column_have_their_penalty(rt: HostRuntime) -> Result<(), Fail> {
+    let mut canvas = Canvas::new(rt.alloc(), Version::Micro(4), EcLevel::Q)?;
+    put_last(&mut canvas);
+    let costs = costs(rt.alloc(), &canvas)?;
+    assert_eq!(rt; costs.as_slice(), [168, 168, 168, 168].as_slice());
     Ok(())
 }
