@@ -233,8 +233,8 @@ impl QrCode {
         self.width
     }
 
-    /// How many wrong codewords the standard allows, over all blocks. What is corrected is said for
-    /// each block.
+    /// How many wrong codewords the standard allows, over all blocks. The constructors promise
+    /// correction block by block: half of a block's error correction codewords, rounded down.
     pub fn max_allowed_errors(&self) -> usize
         ensures { result ≡ (total_ec_length self.now.version self.now.level
             - reserved self.now.version self.now.level) / 2 }
@@ -323,6 +323,7 @@ impl QrCode {
     }
 }
 
+/// The colour of the module in column x and row y, where the index is (x, y).
 impl Index<(usize, usize)> for QrCode {
     type Output = Color;
 

@@ -25,7 +25,8 @@ use std::ops::Not;
 /// Why a call refuses its input, or `OutOfMemory`.
 #[derive(Debug, PartialEq, Eq, Copy, Clone)]
 pub enum QrError {
-    /// The data is too long for the symbol, or for a list of bits.
+    /// The data is too long for the symbol, for a length field, for a list of bits, or for the
+    /// limit of 1,048,576 bytes.
     DataTooLong,
     /// There is no such version, or it lacks the level.
     InvalidVersion,
@@ -283,6 +284,7 @@ impl Mode {
     }
 
     /// The bits of so many characters in this mode; in Kanji a character is a pair of bytes.
+    /// At most 134,217,728 of them.
     pub fn data_bits_count(self, raw_data_len: usize) -> usize
         requires { raw_data_len ≤ 134217728 }
         ensures { result ≡ data_bits_count self raw_data_len }
