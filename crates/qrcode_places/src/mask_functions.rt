@@ -1,5 +1,5 @@
 //! The formulas of the masks, each of a column `x` and a row `y` from 0 to 176 (ISO/IEC 18004:2006,
-//! section 6.8).
+//! 6.8).
 
 ghost use Rattle.std.specs.Prelude.{◌≡◌, nat_abs};
 ghost use Rattle.qrcode_places.specs.Masks.{turns, IsCoordinate};
@@ -56,6 +56,7 @@ pub fn fields(x: i16, y: i16) -> bool
     requires row { IsCoordinate y }
     ensures { result ≡ turns Fields (nat_abs x) (nat_abs y) }
 {
+    let (x, y) = (x as u32, y as u32);
     (x * y) % 2 + (x * y) % 3 == 0
 }
 

@@ -6,7 +6,7 @@ ghost use Rattle.qrcode_places.specs.Masks.{turns, mask_number, micro_mask_numbe
 use crate::mask_functions;
 use qrcode_types::types::Version;
 
-/// A mask, which turns the modules of a regular pattern (ISO/IEC 18004:2006, section 6.8).
+/// A mask, which turns the modules of a regular pattern (ISO/IEC 18004:2006, 6.8).
 #[derive(Copy, Clone, Debug)]
 pub enum MaskPattern {
     /// Number 0: `(x + y) % 2 == 0`.

@@ -70,7 +70,7 @@ fn word_index(version: Version, ec_level: EcLevel, mask: MaskPattern) -> usize
     }
 }
 
-/// The format word: the fifteen bits that name level and mask (ISO/IEC 18004:2006, section 6.9).
+/// The format word: the fifteen bits that name level and mask (ISO/IEC 18004:2006, 6.9).
 #[tactic(auto, using(crate::proofs::Formats::format_bits_small))]
 pub fn format_word(version: Version, ec_level: EcLevel, mask: MaskPattern) -> u16
     requires level { IsTrue (has_level version ec_level) }
@@ -85,7 +85,7 @@ pub fn format_word(version: Version, ec_level: EcLevel, mask: MaskPattern) -> u1
 }
 
 /// The version word: the eighteen bits that name a version from Normal 7 to Normal 40
-/// (ISO/IEC 18004:2006, section 6.10).
+/// (ISO/IEC 18004:2006, 6.10).
 #[tactic(auto, using(crate::proofs::WordTables::version_at))]
 pub fn version_word(number: usize) -> u32
     requires low { 7 ≤ number }

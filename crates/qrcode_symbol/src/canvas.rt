@@ -211,7 +211,7 @@ impl Canvas {
     }
 
     /// Draws the functional patterns over what is there, and the places of the format word light
-    /// (ISO/IEC 18004:2006, section 5.3).
+    /// (ISO/IEC 18004:2006, 5.3).
     pub fn draw_all_functional_patterns(&mut self)
         ensures after { self.new ≡ record self.old {
           modules = with_patterns self.old.version self.old.modules;
@@ -229,7 +229,7 @@ impl Canvas {
     }
 
     /// Draws codewords at the empty places, in the order of the standard's walk (ISO/IEC 18004:2006,
-    /// section 6.7.3): the data, of whose last byte only the high half is drawn where the version
+    /// 6.7.3): the data, of whose last byte only the high half is drawn where the version
     /// and level have a half codeword, and then the error correction. Bits without a place are
     /// dropped.
     pub fn draw_data(&mut self, data: &[u8], ec: &[u8])
@@ -261,7 +261,7 @@ impl Canvas {
         mask_modules(self.version, self.ec_level, mask, &mut self.modules);
     }
 
-    /// The canvas under the first mask of least penalty (ISO/IEC 18004:2006, section 6.8.3), the
+    /// The canvas under the first mask of least penalty (ISO/IEC 18004:2006, 6.8.3), the
     /// format words being counted too.
     pub fn apply_best_mask(&self, alloc: Global) -> QrResult<Self>
         requires { IsTrue (has_level self.now.version self.now.level) }
