@@ -2,9 +2,10 @@
 use Rattle.std.proofs.Common.{◌≡◌, ℕ, ◌+◌, ◌-◌, ◌*◌, ◌==◌, nat_le, nat_lt, pos, Bool, true, false, not, ◌&&◌, ◌||◌, List, [], ◌∷◌, get_or, Option, None, is_some, refl, ap, ap₂, ◌∙◌, if◌then◌else◌}
 use Rattle.std.specs.Int.{abs_diff}
 use Rattle.std.specs.List.{find}
+use Rattle.std.specs.Option.{option_or}
 use Rattle.qrcode_types.specs.declared.types.Version.TheVariants.{Normal}
 use Rattle.qrcode_types.specs.declared.types.Color.{Color}
-use Rattle.qrcode_places.specs.Patterns.{centres, is_near, or_else, finder, alignment, timing, dark_module, version_copy, version_pattern, pattern, format_index, is_functional_place}
+use Rattle.qrcode_places.specs.Patterns.{centres, is_near, finder, alignment, timing, dark_module, version_copy, version_pattern, pattern, format_index, is_functional_place}
 use Rattle.qrcode_places.proofs.Figures.{where_some, or_some, finder_some, is_it, alignment_some, version_some, format_some}
 
 -- the tests of a coordinate; `cs` are the coordinates of the alignment centres
@@ -34,7 +35,7 @@ if_some : (b : Bool) (o : Option Color) → is_some (if b then o else None) ≡ 
 if_some true o = refl
 if_some false o = refl
 
-or_is : (a b : Option Color) (s t : Bool) → is_some a ≡ s → is_some b ≡ t → is_some (or_else a b) ≡ (s || t)
+or_is : (a b : Option Color) (s t : Bool) → is_some a ≡ s → is_some b ≡ t → is_some (option_or a b) ≡ (s || t)
 or_is a b s t e f = or_some a b ∙ ap₂ (λ m n. m || n) e f
 
 pub functional_is : (n x y : ℕ) → let cs = centres (Normal (pos n)) in is_functional_place (Normal (pos n)) x y ≡ cell (nat_le 7 n) (tests n cs x) (tests n cs y)
@@ -43,7 +44,7 @@ functional_is n x y =
     let cs = centres (Normal (pos n)) in
     let far = 4 * n + 13 in
     let finders = or_is _ _ _ _ (finder_some 3 3 x y) (or_is _ _ _ _ (finder_some far 3 x y) (finder_some 3 far x y)) in
-    let versions = if_some (nat_le 7 n) (or_else (version_copy n (4 * n + 6) x y) (version_copy n (4 * n + 6) y x))
+    let versions = if_some (nat_le 7 n) (option_or (version_copy n (4 * n + 6) x y) (version_copy n (4 * n + 6) y x))
     ∙ ap (λ b. nat_le 7 n && b) (or_is _ _ _ _ (version_some n (4 * n + 6) x y) (version_some n (4 * n + 6) y x)) in
     ap₂ (λ a b. a || b)
     (or_is _ _ _ _ finders (or_is _ _ _ _ (alignment_some (4 * n + 17) x y (find (is_near x) cs) (find (is_near y) cs))

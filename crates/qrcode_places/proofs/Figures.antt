@@ -2,14 +2,15 @@
 use Rattle.std.proofs.Common.{◌≡◌, ℕ, ◌+◌, ◌-◌, ◌==◌, nat_le, nat_lt, max, Bool, true, false, not, ◌&&◌, ◌||◌, Option, Some, None, is_some, arith, refl, ◌∙◌}
 use Rattle.std.specs.Int.{abs_diff}
 use Rattle.std.proofs.lemmas.Bool.Decides.{nat_tests}
+use Rattle.std.specs.Option.{option_or}
 use Rattle.qrcode_types.specs.declared.types.Color.{Color}
-use Rattle.qrcode_places.specs.Patterns.{where_true, or_else, finder_at, alignment_between, version_copy, normal_format_index}
+use Rattle.qrcode_places.specs.Patterns.{where_true, finder_at, alignment_between, version_copy, normal_format_index}
 
 pub where_some : (t d : Bool) → is_some (where_true t d) ≡ t
 where_some true d = refl
 where_some false d = refl
 
-pub or_some : (a b : Option Color) → is_some (or_else a b) ≡ (is_some a || is_some b)
+pub or_some : (a b : Option Color) → is_some (option_or a b) ≡ (is_some a || is_some b)
 or_some (Some c) b = refl
 or_some None b = refl
 

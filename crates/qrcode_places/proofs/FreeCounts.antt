@@ -10,14 +10,14 @@ use Rattle.qrcode_types.specs.declared.types.EcLevel.{EcLevel}
 use Rattle.qrcode_types.specs.declared.types.EcLevel.TheVariants.{L, M, Q, H}
 use Rattle.qrcode_places.specs.Centres.{centre_table}
 use Rattle.qrcode_places.specs.Patterns.{centres, finder, alignment, timing, dark_module, version_pattern, pattern, format_index, is_functional_place}
-use Rattle.qrcode_places.specs.Stream.{zigzag_place, zigzag, free_places, FreePlacesAreFilled}
+use Rattle.qrcode_places.specs.Stream.{zigzag_place, zigzag, free_places, FreePlacesAreFilled, right_column}
 use Rattle.qrcode_places.proofs.Below.{passes_below, below}
 use Rattle.qrcode_places.proofs.Formats.{within, valid_of}
-use Rattle.qrcode_places.proofs.Zigzag.{half, right_column}
+use Rattle.qrcode_places.proofs.Zigzag.{half}
 use Rattle.qrcode_places.proofs.Totals.{total, total_same, bit}
 use Rattle.qrcode_places.proofs.Tallies.{is_same, insert, tally, weighed, total_weighed}
 use Rattle.qrcode_places.proofs.Cells.{tests, cell, functional_is}
-use Rattle.qrcode_places.proofs.WalkColumns.{free_bit, column, right_of, free_by_columns}
+use Rattle.qrcode_places.proofs.WalkColumns.{free_bit, column, free_by_columns}
 
 -- the free places of a column by the kinds of the rows
 abbrev weighed_column : Bool → List (List Bool × ℕ) → List Bool → ℕ
@@ -34,8 +34,7 @@ normal_count : ℕ → ℕ
 normal_count n =
     let cs = centres (Normal (pos n)) in
     let rows = rows_of n cs in
-    columns_count n cs rows (λ p. right_column (Normal (pos n)) (4 * n + 16 - 2 * p))
-    + columns_count n cs rows (λ p. right_column (Normal (pos n)) (4 * n + 16 - 2 * p) - 1)
+    columns_count n cs rows (λ p. right_column (Normal (pos n)) p) + columns_count n cs rows (λ p. right_column (Normal (pos n)) p - 1)
 
 column_is : (n x : ℕ) → let cs = centres (Normal (pos n)) in column (Normal (pos n)) x ≡ weighed_column (nat_le 7 n) (rows_of n cs) (tests n cs x)
 unfolding rows_of
@@ -59,14 +58,8 @@ columns_are n f =
 normal_free : (n : ℕ) → length (free_places (Normal (pos n))) ≡ normal_count n
 unfolding normal_count half
 normal_free n =
-    let e : (p : ℕ) → 4 * n + 17 - 1 - 2 * p ≡ 4 * n + 16 - 2 * p = λ p. omega arith in
-    let right = λ (p : ℕ). right_column (Normal (pos n)) (4 * n + 16 - 2 * p) in
     free_by_columns (Normal (pos n))
-    ∙ ap₂ (λ a b. a + b)
-    (total_same (2 * n + 8) (λ p. column (Normal (pos n)) (right_of (Normal (pos n)) p)) (λ p. column (Normal (pos n)) (right p)) (λ p _. ap (λ k. column (Normal (pos n)) (right_column (Normal (pos n)) k)) (e p))
-    ∙ columns_are n right)
-    (total_same (2 * n + 8) (λ p. column (Normal (pos n)) (right_of (Normal (pos n)) p - 1)) (λ p. column (Normal (pos n)) (right p - 1)) (λ p _. ap (λ k. column (Normal (pos n)) (right_column (Normal (pos n)) k - 1)) (e p))
-    ∙ columns_are n (λ p. right p - 1))
+    ∙ ap₂ (λ a b. a + b) (columns_are n (λ p. right_column (Normal (pos n)) p)) (columns_are n (λ p. right_column (Normal (pos n)) p - 1))
 
 -- a count is what a version's levels need
 abbrev fills : Version → ℕ → EcLevel → Bool

@@ -2,22 +2,23 @@
 use Rattle.std.proofs.Common.{◌≡◌, ℕ, ◌+◌, ◌*◌, ◌<◌, nat_abs, pos, negsuc, ℤ, true, ◌||◌, Option, Some, None, is_some, arith, refl, IsTrue}
 use Rattle.std.proofs.lemmas.Bool.{or_left}
 use Rattle.std.proofs.lemmas.Bool.Decides.{nat_tests}
+use Rattle.std.specs.Option.{option_or}
 use Rattle.qrcode_types.specs.Versions.{side, is_valid}
 use Rattle.qrcode_types.specs.declared.types.Version.{Version}
 use Rattle.qrcode_types.specs.declared.types.Version.TheVariants.{Normal, Micro}
 use Rattle.qrcode_types.specs.declared.types.Color.{Color}
-use Rattle.qrcode_places.specs.Patterns.{or_else, finder_at, finder, timing, pattern, is_functional_place}
+use Rattle.qrcode_places.specs.Patterns.{finder_at, finder, timing, pattern, is_functional_place}
 use Rattle.qrcode_places.specs.Laws.{left_out, LeftOutIsFunctional}
 use Rattle.qrcode_places.proofs.Figures.{where_some, finder_some}
 
 -- what the finder patterns or the timing modules have, some pattern has
-from_parts : (f a t r : Option Color) → (is_some f || is_some t) ≡ true → is_some (or_else f (or_else a (or_else t r))) ≡ true
+from_parts : (f a t r : Option Color) → (is_some f || is_some t) ≡ true → is_some (option_or f (option_or a (option_or t r))) ≡ true
 from_parts (Some c) a t r h = refl
 from_parts None (Some d) t r h = refl
 from_parts None None (Some e) r h = refl
 from_parts None None None r h = absurd (cc)
 
-three : (a b c : Option Color) → is_some (or_else a (or_else b c)) ≡ (is_some a || (is_some b || is_some c))
+three : (a b c : Option Color) → is_some (option_or a (option_or b c)) ≡ (is_some a || (is_some b || is_some c))
 three (Some c) b d = refl
 three None (Some c) d = refl
 three None None d = refl

@@ -4,9 +4,10 @@ use Rattle.std.specs.Int.{abs_diff}
 use Rattle.std.specs.List.{find, list_all}
 use Rattle.std.proofs.lemmas.Bool.{and_parts, cases_lt, eqb-true, le-leb, lt-leb}
 use Rattle.std.proofs.lemmas.Bool.Decides.{nat_tests}
+use Rattle.std.specs.Option.{option_or}
 use Rattle.qrcode_types.specs.declared.types.Version.TheVariants.{Normal, Micro}
 use Rattle.qrcode_types.specs.declared.types.Color.{Color}
-use Rattle.qrcode_places.specs.Patterns.{centres, is_near, where_true, or_else, finder_at, finder, alignment, alignment_between, timing, dark_module, version_copy, version_pattern, pattern, normal_format_index, micro_format_index, format_index}
+use Rattle.qrcode_places.specs.Patterns.{centres, is_near, where_true, finder_at, finder, alignment, alignment_between, timing, dark_module, version_copy, version_pattern, pattern, normal_format_index, micro_format_index, format_index, is_corner_centre}
 use Rattle.qrcode_places.specs.Laws.{FormatPlacesAreNoPatterns, DarkModuleIsInThePattern}
 use Rattle.qrcode_places.proofs.Formats.{within}
 use Rattle.qrcode_places.proofs.Near.{found, is_placed, centres_placed, low_centre, high_centre}
@@ -20,7 +21,7 @@ abbrev InCorner : ℕ → ℕ → ℕ → Type 0
 InCorner w x y = ((x ≤ 8) × (y ≤ 8)) ⊎ (((x ≤ 8) × (IsHigh w y)) ⊎ ((IsHigh w x) × (y ≤ 8)))
 
 corner_test : (w x y a b : ℕ) → 21 ≤ w → InCorner w x y → is_placed w a ≡ true → is_near x a ≡ true → is_placed w b ≡ true → is_near y b ≡ true
-    → not ((a == 6 && (b == 6 || b == w - 7)) || (a == w - 7 && b == 6)) ≡ false
+    → not (is_corner_centre w a b) ≡ false
 corner_test w x y a b wide at pa na pb nb = elim at [
   | inl h ↦ let e = low_centre w x a wide h.0 pa na in let f = low_centre w y b wide h.1 pb nb in grind (arith, nat_tests)
   | inr other ↦ elim other [
@@ -48,7 +49,7 @@ no_alignment n x y low high at =
     let cs = centres (Normal (pos n)) in
     none_between (4 * n + 17) x y cs (find (is_near x) cs) (find (is_near y) cs) (omega arith) at (centres_placed n high) refl refl
 
-none_or : (a b : Option Color) → a ≡ None → b ≡ None → or_else a b ≡ None
+none_or : (a b : Option Color) → a ≡ None → b ≡ None → option_or a b ≡ None
 none_or a b e f = rw (e, f) refl
 
 index_corner : (w x y i : ℕ) → 21 ≤ w → normal_format_index w x y ≡ Some i → InCorner w x y
@@ -108,10 +109,10 @@ where_is : (t d : Bool) (c : Color) → where_true t d ≡ Some c → t ≡ true
 where_is true d c e = refl
 where_is false d c e = absurd (cc)
 
-after : (a b r : Option Color) → a ≡ None → b ≡ r → or_else a b ≡ r
+after : (a b r : Option Color) → a ≡ None → b ≡ r → option_or a b ≡ r
 after a b r e f = rw e f
 
-some_before : (a b : Option Color) (c : Color) → a ≡ Some c → or_else a b ≡ Some c
+some_before : (a b : Option Color) (c : Color) → a ≡ Some c → option_or a b ≡ Some c
 some_before a b c e = rw e refl
 
 dark_place : (n x y : ℕ) (c : Color) → dark_module (Normal (pos n)) x y ≡ Some c → (x ≡ 8) × (y ≡ 4 * n + 9)

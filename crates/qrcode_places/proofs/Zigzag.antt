@@ -7,17 +7,12 @@ use Rattle.std.proofs.lemmas.Bool.Decides.{nat_tests}
 use Rattle.qrcode_types.specs.Versions.{side}
 use Rattle.qrcode_types.specs.declared.types.Version.{Version}
 use Rattle.qrcode_types.specs.declared.types.Version.TheVariants.{Normal, Micro}
-use Rattle.qrcode_places.specs.Stream.{zigzag_place}
+use Rattle.qrcode_places.specs.Stream.{zigzag_place, right_column}
 use Rattle.qrcode_places.specs.Laws.{left_out, WalkIsInside, WalkIsApart, WalkIsWhole}
 
 -- the steps of the walk
 abbrev pub steps : Version → ℕ
 steps v = side v * (side v - 1)
-
--- the right column of a pair, from the column that it would have if none were left out
-abbrev pub right_column : Version → ℕ → ℕ
-right_column (Normal v) c = if nat_le c 6 then c - 1 else c
-right_column (Micro v) c = c
 
 -- the row of a step of a pair
 unfoldable pub row : ℕ → ℕ → ℕ → ℕ
@@ -34,10 +29,9 @@ side_odd (Normal v) = omega arith
 side_odd (Micro v) = omega arith
 
 pub place_is : (v : Version) (t : ℕ)
-    → zigzag_place v t ≡ (right_column v (side v - 1 - 2 * (t / (2 * side v))) - t % (2 * side v) % 2, row (side v) (t / (2 * side v)) (t % (2 * side v)))
+    → zigzag_place v t ≡ (right_column v (t / (2 * side v)) - t % (2 * side v) % 2, row (side v) (t / (2 * side v)) (t % (2 * side v)))
 unfolding zigzag_place row
-place_is (Normal v) t = refl
-place_is (Micro v) t = refl
+place_is v t = refl
 
 pair_lt : (h t : ℕ) → t < (2 * h + 1) * (2 * h) → t / (2 * (2 * h + 1)) < h
 pair_lt h t lt = (div-lt_iff_lt-mul {k = 2 * (2 * h + 1)} {x = t} {y = h} (omega arith)).1 (omega arith)
@@ -53,14 +47,14 @@ pair_of_small : (v : Version) (t : ℕ) → t < steps v → 2 * (t / (2 * side v
 pair_of_small v t lt = pair_small (side v) (half v) t (side_odd v) lt
 
 -- a column tells its pair and its side
-same_column : (v : Version) (w h p q a b : ℕ) → w ≡ 2 * h + 1 → 2 * p + 3 ≤ w → 2 * q + 3 ≤ w → a < 2 → b < 2
-    → right_column v (w - 1 - 2 * p) - a ≡ right_column v (w - 1 - 2 * q) - b → (p ≡ q) × (a ≡ b)
-same_column (Normal v) w h p q a b odd pw qw a2 b2 e = (grind (arith, nat_tests), grind (arith, nat_tests))
-same_column (Micro v) w h p q a b odd pw qw a2 b2 e = (omega arith, omega arith)
+same_column : (v : Version) (h p q a b : ℕ) → side v ≡ 2 * h + 1 → 2 * p + 3 ≤ side v → 2 * q + 3 ≤ side v → a < 2 → b < 2
+    → right_column v p - a ≡ right_column v q - b → (p ≡ q) × (a ≡ b)
+same_column (Normal v) h p q a b odd pw qw a2 b2 e = (grind (arith, nat_tests), grind (arith, nat_tests))
+same_column (Micro v) h p q a b odd pw qw a2 b2 e = (omega arith, omega arith)
 
-right_column_le : (v : Version) (c : ℕ) → right_column v c ≤ c
-right_column_le (Normal v) c = grind (arith, nat_tests)
-right_column_le (Micro v) c = omega arith
+right_column_le : (v : Version) (p : ℕ) → right_column v p ≤ side v - 1 - 2 * p
+right_column_le (Normal v) p = grind (arith, nat_tests)
+right_column_le (Micro v) p = omega arith
 
 row_lt : (w p r : ℕ) → r < 2 * w → row w p r < w
 unfolding row
@@ -78,7 +72,7 @@ pub walk_is_inside : WalkIsInside
 walk_is_inside v t valid lt =
     let n = 2 * side v in
     let odd = side_odd v in
-    let column : right_column v (side v - 1 - 2 * (t / n)) - t % n % 2 < side v = omega (arith, right_column_le v (side v - 1 - 2 * (t / n))) in
+    let column : right_column v (t / n) - t % n % 2 < side v = omega (arith, right_column_le v (t / n)) in
     let step : t % n < n = omega arith in
     let e = place_is v t in (
       subst (λ (k : ℕ). k < side v) (sym (ap (λ p. p.0) e)) column,
@@ -91,7 +85,7 @@ walk_is_apart v s t valid sl tl e =
     let odd = side_odd v in
     let same = sym (place_is v s) ∙ e ∙ place_is v t in
     let columns : (s / n ≡ t / n) × (s % n % 2 ≡ t % n % 2) =
-    same_column v (side v) (half v) (s / n) (t / n) (s % n % 2) (t % n % 2) odd
+    same_column v (half v) (s / n) (t / n) (s % n % 2) (t % n % 2) odd
     (pair_of_small v s sl) (pair_of_small v t tl) (omega arith) (omega arith) (ap (λ p. p.0) same) in
     let rows : row (side v) (s / n) (s % n) ≡ row (side v) (s / n) (t % n) =
     ap (λ p. p.1) same ∙ ap (λ p. row (side v) p (t % n)) (sym columns.0) in
@@ -110,7 +104,7 @@ passed_lt (Micro v) x lt other = omega (arith, some) where
   some : 0 < x
   some = elim (cases_eq x 0) [ inl e ↦ absurd (other e) | inr n ↦ omega arith ]
 
-passed_column : (v : Version) (x c p a : ℕ) → x < side v → x ≢ left_out v → c ≡ passed v x → p ≡ c / 2 → a ≡ c % 2 → right_column v (side v - 1 - 2 * p) - a ≡ x
+passed_column : (v : Version) (x c p a : ℕ) → x < side v → x ≢ left_out v → c ≡ passed v x → p ≡ c / 2 → a ≡ c % 2 → right_column v p - a ≡ x
 unfolding passed
 passed_column (Normal v) x c p a lt other ec ep ea = grind (arith, nat_tests)
 passed_column (Micro v) x c p a lt other ec ep ea = omega arith
@@ -149,7 +143,7 @@ walk_is_whole v x y valid at other =
     let step : t % n ≡ r = mod-mul-add p n r below in
     let early : p < half v = omega (arith, passed_lt v x at.0 other) in
     let lt : t < w * (w - 1) = subst (λ (k : ℕ). t < k) (steps_is w (half v) odd) (mul-add-lt p n r (half v) early below) in
-    let column : right_column v (w - 1 - 2 * (t / n)) - t % n % 2 ≡ x =
+    let column : right_column v (t / n) - t % n % 2 ≡ x =
     rw (pair, step, step_to_side w p a y (omega arith)) (passed_column v x c p a at.0 other refl refl refl) in
     let line : row w (t / n) (t % n) ≡ y = rw (pair, step) (step_to_row w p a y at.1 (omega arith)) in
     (t, (lt, place_is v t ∙ ap₂ (λ a b. (a, b)) column line))

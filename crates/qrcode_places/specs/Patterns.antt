@@ -2,6 +2,7 @@
 use Rattle.std.specs.Prelude.{ℕ, ◌+◌, ◌-◌, ◌*◌, ◌%◌, ◌==◌, nat_le, nat_lt, ◌&&◌, ◌||◌, not, max, nat_abs, Bool, true, false, List, [], ◌∷◌, map, find, Option, Some, None, is_some, slice_index_or, if◌then◌else◌}
 use Rattle.std.specs.Int.{abs_diff}
 use Rattle.std.specs.List.{range_with_len}
+use Rattle.std.specs.Option.{option_or}
 use Rattle.qrcode_types.specs.Bits.{has_bit}
 use Rattle.qrcode_types.specs.Colors.{color_of}
 use Rattle.qrcode_types.specs.Versions.{side}
@@ -16,11 +17,6 @@ abbrev pub where_true : Bool → Bool → Option Color
 where_true true dark = Some (color_of dark)
 where_true false dark = None
 
--- the first pattern that has the place
-abbrev pub or_else : Option Color → Option Color → Option Color
-or_else (Some c) other = Some c
-or_else None other = other
-
 -- a finder pattern round its centre, by the greater of the two distances: dark to 1, light at 2, dark at 3, and light at
 -- 4, which is the separator
 abbrev pub finder_at : ℕ → ℕ → ℕ → ℕ → Option Color
@@ -28,7 +24,7 @@ finder_at a b x y = let d = max (abs_diff a x) (abs_diff b y) in where_true (nat
 
 -- finder patterns in three corners of Normal and in one of Micro
 unfoldable pub finder : Version → ℕ → ℕ → Option Color
-finder (Normal v) x y = let far = 4 * nat_abs v + 13 in or_else (finder_at 3 3 x y) (or_else (finder_at far 3 x y) (finder_at 3 far x y))
+finder (Normal v) x y = let far = 4 * nat_abs v + 13 in option_or (finder_at 3 3 x y) (option_or (finder_at far 3 x y) (finder_at 3 far x y))
 finder (Micro v) x y = finder_at 3 3 x y
 
 -- The coordinates of the alignment centres. Normal 2 to 6 have one centre; the first coordinate serves only the corners
@@ -42,12 +38,16 @@ centres (Micro v) = []
 abbrev pub is_near : ℕ → ℕ → Bool
 is_near x a = nat_le (abs_diff a x) 2
 
+-- two coordinates of alignment centres meet in a corner where a finder pattern is
+abbrev pub is_corner_centre : ℕ → ℕ → ℕ → Bool
+is_corner_centre w a b = (a == 6 && (b == 6 || b == w - 7)) || (a == w - 7 && b == 6)
+
 -- the alignment pattern whose centre has the coordinates a and b, but for the corners where finder patterns are: dark in
 -- the centre and at distance 2
 abbrev pub alignment_between : ℕ → Option ℕ → Option ℕ → ℕ → ℕ → Option Color
 alignment_between w None b x y = None
 alignment_between w (Some a) None x y = None
-alignment_between w (Some a) (Some b) x y = where_true (not ((a == 6 && (b == 6 || b == w - 7)) || (a == w - 7 && b == 6))) (not (max (abs_diff a x) (abs_diff b y) == 1))
+alignment_between w (Some a) (Some b) x y = where_true (not (is_corner_centre w a b)) (not (max (abs_diff a x) (abs_diff b y) == 1))
 
 -- alignment patterns at all pairs of the coordinates; those near a place are at most one in columns and one in rows
 unfoldable pub alignment : Version → ℕ → ℕ → Option Color
@@ -71,12 +71,12 @@ version_copy v far x y = elim (nat_le x 5 && nat_le far y && nat_le y (far + 2))
 -- both copies of the version word, from Normal 7 on; they mirror each other
 unfoldable pub version_pattern : Version → ℕ → ℕ → Option Color
 version_pattern (Normal v) x y = let n = nat_abs v in
-    if nat_le 7 n then or_else (version_copy n (4 * n + 6) x y) (version_copy n (4 * n + 6) y x) else None
+    if nat_le 7 n then option_or (version_copy n (4 * n + 6) x y) (version_copy n (4 * n + 6) y x) else None
 version_pattern (Micro v) x y = None
 
 -- the colour of a place in the functional patterns, the format word aside
 unfoldable pub pattern : Version → ℕ → ℕ → Option Color
-pattern v x y = or_else (finder v x y) (or_else (alignment v x y) (or_else (timing v x y) (or_else (dark_module v x y) (version_pattern v x y))))
+pattern v x y = option_or (finder v x y) (option_or (alignment v x y) (option_or (timing v x y) (option_or (dark_module v x y) (version_pattern v x y))))
 
 -- Where bit i of a copy of the format word stands, bit 0 being the highest.
 

@@ -15,6 +15,10 @@ use Rattle.qrcode_places.specs.declared.masks.MaskPattern.{MaskPattern}
 abbrev pub color_at : Version → List Color → ℕ → ℕ → Color
 color_at v s x y = slice_index_or s (y * side v + x) Light
 
+-- the right column of a pair of columns; Normal leaves out column 6
+abbrev pub right_column : Version → ℕ → ℕ
+right_column v pair = let column = side v - 1 - 2 * pair in if not (is_micro v) && nat_le column 6 then column - 1 else column
+
 -- The t-th place, column and row, of the walk through pairs of columns, from the right, up and down by turns, the right
 -- module of each row first. Normal leaves out its column of timing modules, 6, and Micro its own, 0.
 unfoldable pub zigzag_place : Version → ℕ → ℕ × ℕ
@@ -22,9 +26,7 @@ zigzag_place v t =
     let w = side v in
     let pair = t / (2 * w) in
     let step = t % (2 * w) in
-    let column = w - 1 - 2 * pair in
-    let right = if not (is_micro v) && nat_le column 6 then column - 1 else column in
-    (right - step % 2, if pair % 2 == 0 then w - 1 - step / 2 else step / 2)
+    (right_column v pair - step % 2, if pair % 2 == 0 then w - 1 - step / 2 else step / 2)
 
 -- all places but those of the column that is left out
 unfoldable pub zigzag : Version → List (ℕ × ℕ)

@@ -6,15 +6,16 @@ use Rattle.std.specs.List.{range_with_len}
 use Rattle.std.proofs.lemmas.Bool.{cases_eq}
 use Rattle.std.proofs.lemmas.Bool.Decides.{nat_tests}
 use Rattle.std.proofs.lemmas.List.FromFn.{get_or-map-range_with_len}
+use Rattle.std.specs.Option.{option_or}
 use Rattle.qrcode_types.specs.Colors.{color_of}
 use Rattle.qrcode_types.specs.Versions.{side, is_micro, is_valid}
 use Rattle.qrcode_types.specs.declared.types.Version.{Version}
 use Rattle.qrcode_types.specs.declared.types.Version.TheVariants.{Normal, Micro}
 use Rattle.qrcode_types.specs.declared.types.Color.{Color}
 use Rattle.qrcode_types.specs.declared.types.Color.TheVariants.{Light}
-use Rattle.qrcode_places.specs.Patterns.{pattern, format_index, or_else, where_true, finder_at, finder, alignment, alignment_between, centres, is_near, timing, dark_module, version_copy, version_pattern}
+use Rattle.qrcode_places.specs.Patterns.{pattern, format_index, where_true, finder_at, finder, alignment, alignment_between, centres, is_near, timing, dark_module, version_copy, version_pattern, is_corner_centre}
 use Rattle.qrcode_symbol.specs.Canvas.{pattern_module}
-use Rattle.qrcode_symbol.specs.Patterned.{IsBlockAt, IsCentre, is_corner_centre}
+use Rattle.qrcode_symbol.specs.Patterned.{IsBlockAt, IsCentre}
 use Rattle.qrcode_symbol.specs.declared.canvas.Module.{Module}
 use Rattle.qrcode_symbol.specs.declared.canvas.Module.TheVariants.{Empty, Masked}
 use Rattle.qrcode_symbol.specs.declared.canvas.drawing.blocks.TheConstants.{NORMAL_TOP_LEFT, NORMAL_TOP_RIGHT, NORMAL_BOTTOM_LEFT, MICRO_TOP_LEFT, ALIGNMENT}
@@ -39,7 +40,7 @@ shows v x y m p e h = settled (pattern v x y) (format_index v x y) m (λ q. h (s
 
 -- a pattern from its parts, where no alignment pattern and no version word is
 parts : (v : Version) (x y : ℕ) (f t d : Option Color) → finder v x y ≡ f → alignment v x y ≡ None → timing v x y ≡ t → dark_module v x y ≡ d → version_pattern v x y ≡ None
-    → pattern v x y ≡ or_else f (or_else t (or_else d None))
+    → pattern v x y ≡ option_or f (option_or t (option_or d None))
 unfolding pattern
 parts v x y f t d ef ea et ed ev = rw (ef, ea, et, ed, ev) refl
 
@@ -62,11 +63,11 @@ near_finder a b x y p q e =
     let none : where_true true (nat_le d 1 || d == 3) ≡ None = rw near at e in
     cc
 
-left_none : (a b : Option Color) → or_else a b ≡ None → a ≡ None
+left_none : (a b : Option Color) → option_or a b ≡ None → a ≡ None
 left_none None b e = refl
 left_none (Some c) b e = e
 
-right_none : (a b : Option Color) → or_else a b ≡ None → b ≡ None
+right_none : (a b : Option Color) → option_or a b ≡ None → b ≡ None
 right_none None b e = e
 right_none (Some c) b e = cc
 
@@ -105,7 +106,7 @@ first_last n = grind (arith, nat_tests)
 
 -- the top left of Normal
 top_left_part : ℕ → ℕ → Option Color
-top_left_part x y = or_else (finder_at 3 3 x y) (or_else (timing (Normal (pos 1)) x y) None)
+top_left_part x y = option_or (finder_at 3 3 x y) (option_or (timing (Normal (pos 1)) x y) None)
 
 top_left_timing : (n x y : ℕ) → x < 9 → y < 9 → 1 ≤ n → timing (Normal (pos n)) x y ≡ timing (Normal (pos 1)) x y
 unfolding timing
@@ -116,7 +117,7 @@ top_left_timing n x y xl yl some =
     let d : nat_le y 12 ≡ true = grind (arith, nat_tests) in
     rw (a, b, c, d) refl
 
-first_only : (a b c : Option Color) → b ≡ None → c ≡ None → or_else a (or_else b c) ≡ a
+first_only : (a b c : Option Color) → b ≡ None → c ≡ None → option_or a (option_or b c) ≡ a
 first_only None b c e f = rw (e, f) refl
 first_only (Some d) b c e f = refl
 
@@ -239,7 +240,7 @@ normal_top_right n some i j p q m =
 
 -- the bottom left of Normal
 bottom_left_part : ℕ → ℕ → Option Color
-bottom_left_part x j = or_else (finder_at 3 4 x j) (or_else (where_true (x == 8 && j == 0) true) None)
+bottom_left_part x j = option_or (finder_at 3 4 x j) (option_or (where_true (x == 8 && j == 0) true) None)
 
 bottom_left_finder : (n x j : ℕ) → x < 9 → j < 8 → 1 ≤ n → finder (Normal (pos n)) x (4 * n + 9 + j) ≡ finder_at 3 4 x j
 unfolding finder
@@ -296,7 +297,7 @@ normal_bottom_left n some i j p q m =
 
 -- the corner of Micro
 micro_part : ℕ → ℕ → Option Color
-micro_part x y = or_else (finder_at 3 3 x y) (or_else (timing (Micro (pos 1)) x y) None)
+micro_part x y = option_or (finder_at 3 3 x y) (option_or (timing (Micro (pos 1)) x y) None)
 
 micro_pattern : (n : ℤ) (x y : ℕ) → pattern (Micro n) x y ≡ micro_part x y
 unfolding micro_part pattern finder alignment centres timing dark_module version_pattern

@@ -4,13 +4,14 @@ use Rattle.std.specs.Prelude.{find}
 use Rattle.std.proofs.lemmas.Bool.{cases_eq, cases_lt}
 use Rattle.std.proofs.lemmas.Bool.Decides.{nat_tests}
 use Rattle.std.proofs.lemmas.Nat.{div-mul-add, mod-mul-add}
+use Rattle.std.specs.Option.{option_or}
 use Rattle.qrcode_types.specs.Versions.{side, is_micro, is_valid}
 use Rattle.qrcode_types.specs.declared.types.Version.{Version}
 use Rattle.qrcode_types.specs.declared.types.Version.TheVariants.{Normal, Micro}
 use Rattle.qrcode_types.specs.declared.types.Color.{Color}
 use Rattle.qrcode_types.specs.declared.types.Color.TheVariants.{Light}
-use Rattle.qrcode_places.specs.Patterns.{pattern, format_index, or_else, finder_at, finder, alignment, centres, is_near, timing, dark_module, version_copy, version_pattern}
-use Rattle.qrcode_symbol.specs.Patterned.{IsPatterned, IsRectanglePatterned, AreAlignmentsPatterned, is_corner_centre}
+use Rattle.qrcode_places.specs.Patterns.{pattern, format_index, finder_at, finder, alignment, centres, is_near, timing, dark_module, version_copy, version_pattern, is_corner_centre}
+use Rattle.qrcode_symbol.specs.Patterned.{IsPatterned, IsRectanglePatterned, AreAlignmentsPatterned}
 use Rattle.qrcode_symbol.specs.declared.canvas.Module.{Module}
 use Rattle.qrcode_symbol.specs.declared.canvas.Module.TheVariants.{Masked}
 use Rattle.qrcode_symbol.proofs.Centres.{found, centre_inside}
@@ -35,7 +36,7 @@ untouched (Some c) f m e h = cc
 nothing : (v : Version) (m : List Module) (x y : ℕ) → x < side v → pattern v x y ≡ None → format_index v x y ≡ None → IsPatterned v m (y * side v + x)
 nothing v m x y lt p f = rw (mod-mul-add y (side v) x lt, div-mul-add y (side v) x lt) (untouched (pattern v x y) (format_index v x y) _ p f)
 
-no_finder : (n x y : ℕ) → IsOutside (4 * n + 17) x y → or_else (finder_at 3 3 x y) (or_else (finder_at (4 * n + 13) 3 x y) (finder_at 3 (4 * n + 13) x y)) ≡ None
+no_finder : (n x y : ℕ) → IsOutside (4 * n + 17) x y → option_or (finder_at 3 3 x y) (option_or (finder_at (4 * n + 13) 3 x y) (finder_at 3 (4 * n + 13) x y)) ≡ None
 no_finder n x y out =
     no_or _ _ (far_finder 3 3 x y (elim out.top_left [ inl h ↦ inl (omega arith) | inr h ↦ inr (omega arith) ]))
     (no_or _ _ (far_finder (4 * n + 13) 3 x y (elim out.top_right [ inl h ↦ inl (omega arith) | inr h ↦ inr (omega arith) ]))

@@ -1,5 +1,5 @@
 -- The places of a row that no mask decides.
-use Rattle.std.proofs.Common.{◌≡◌, ◌≢◌, ℕ, suc, ◌+◌, ◌-◌, ◌^◌, ◌<◌, ◌≤◌, Bool, true, false, not, ◌==◌, ◌&&◌, ◌||◌, refl, ap, ap₂, sym, ◌∙◌, arith, bit_or, bit_and, bit_xor, below_more, inl, inr}
+use Rattle.std.proofs.Common.{◌≡◌, ◌≢◌, ℕ, suc, ◌+◌, ◌-◌, ◌^◌, ◌<◌, ◌≤◌, Bool, true, false, not, ◌==◌, ◌&&◌, ◌||◌, refl, ap, ap₂, sym, ◌∙◌, arith, bit_or, bit_and, bit_xor, below_more, inl, inr, unwrap_or}
 use Rattle.std.proofs.lemmas.Bool.{ne_eqb}
 use Rattle.std.proofs.lemmas.Bool.Decides.{eqb_tells, leb_tells}
 use Rattle.std.specs.declared.option.Option.{Option}
@@ -12,7 +12,7 @@ use Rattle.qrcode_types.specs.Bits.{has_bit}
 use Rattle.qrcode_types.specs.Colors.{is_dark}
 use Rattle.qrcode_types.specs.declared.types.Color.{Color}
 use Rattle.qrcode_places.specs.Patterns.{format_index, dark_module, where_true}
-use Rattle.qrcode_symbol.specs.Masking.{fixed_bit, bit_or_else}
+use Rattle.qrcode_symbol.specs.Masking.{fixed_bit}
 
 -- the number with one place, as the code makes it
 abbrev pub one : ℕ → ℕ
@@ -99,40 +99,40 @@ unfolding fixed_bit
 elsewhere v word x y h k = fixed_nothing word (format_index v x y) (dark_module v x y) (format_elsewhere v x y h k) (dark_elsewhere v x y h)
 
 pub place_some : (v : Version) (word y new row : ℕ) (b : Bool) → y ≢ 8 → fixed_bit v word 8 y ≡ Some b → has_place new 8 ≡ b → ((k : ℕ) → k ≢ 8 → has_place new k ≡ has_place row k) →
-    (x : ℕ) → has_place new x ≡ bit_or_else (fixed_bit v word x y) (has_place row x)
+    (x : ℕ) → has_place new x ≡ unwrap_or (fixed_bit v word x y) (has_place row x)
 place_some v word y new row b k e here others x =
     elim (eqb_tells x 8) [
-      | inl p ↦ ap (has_place new) p.1 ∙ here ∙ sym (ap (λ o. bit_or_else o (has_place row x)) (ap (λ i. fixed_bit v word i y) p.1 ∙ e))
-      | inr p ↦ others x p.1 ∙ sym (ap (λ o. bit_or_else o (has_place row x)) (elsewhere v word x y p.1 k))
+      | inl p ↦ ap (has_place new) p.1 ∙ here ∙ sym (ap (λ o. unwrap_or o (has_place row x)) (ap (λ i. fixed_bit v word i y) p.1 ∙ e))
+      | inr p ↦ others x p.1 ∙ sym (ap (λ o. unwrap_or o (has_place row x)) (elsewhere v word x y p.1 k))
     ]
 
-pub place_none : (v : Version) (word y row : ℕ) → y ≢ 8 → fixed_bit v word 8 y ≡ None → (x : ℕ) → has_place row x ≡ bit_or_else (fixed_bit v word x y) (has_place row x)
+pub place_none : (v : Version) (word y row : ℕ) → y ≢ 8 → fixed_bit v word 8 y ≡ None → (x : ℕ) → has_place row x ≡ unwrap_or (fixed_bit v word x y) (has_place row x)
 place_none v word y row k e x =
     elim (eqb_tells x 8) [
-      | inl p ↦ sym (ap (λ o. bit_or_else o (has_place row x)) (ap (λ i. fixed_bit v word i y) p.1 ∙ e))
-      | inr p ↦ sym (ap (λ o. bit_or_else o (has_place row x)) (elsewhere v word x y p.1 k))
+      | inl p ↦ sym (ap (λ o. unwrap_or o (has_place row x)) (ap (λ i. fixed_bit v word i y) p.1 ∙ e))
+      | inr p ↦ sym (ap (λ o. unwrap_or o (has_place row x)) (elsewhere v word x y p.1 k))
     ]
 
 -- row 8 below place x is done, and from there on as it was
 pub record IsFixedBelow (v : Version) (word row width line x : ℕ) : Type 0 where
-  pub done : (k : ℕ) → k < x → has_place line k ≡ bit_or_else (fixed_bit v word k 8) (has_place row k)
+  pub done : (k : ℕ) → k < x → has_place line k ≡ unwrap_or (fixed_bit v word k 8) (has_place row k)
   pub rest : (k : ℕ) → x ≤ k → has_place line k ≡ has_place row k
   pub ends : line < 2 ^ width
 
 pub fixed_some : (v : Version) (word row width line x new : ℕ) (b : Bool) → x < width → fixed_bit v word x 8 ≡ Some b → has_place new x ≡ b → ((k : ℕ) → k ≢ x → has_place new k ≡ has_place line k) →
     IsFixedBelow v word row width line x → IsFixedBelow v word row width new (x + 1)
 fixed_some v word row width line x new b inside e here others before = record {
-  done = below_more (λ k. has_place new k ≡ bit_or_else (fixed_bit v word k 8) (has_place row k)) x
+  done = below_more (λ k. has_place new k ≡ unwrap_or (fixed_bit v word k 8) (has_place row k)) x
       (λ k l. others k (λ h. absurd (omega arith)) ∙ before.done k l)
-      (here ∙ sym (ap (λ o. bit_or_else o (has_place row x)) e));
+      (here ∙ sym (ap (λ o. unwrap_or o (has_place row x)) e));
   rest = λ k h. others k (λ e. absurd (omega arith)) ∙ before.rest k (omega arith);
   ends = ends_after_put new line x width others inside before.ends;
 }
 
 pub fixed_none : (v : Version) (word row width line x : ℕ) → fixed_bit v word x 8 ≡ None → IsFixedBelow v word row width line x → IsFixedBelow v word row width line (x + 1)
 fixed_none v word row width line x e before = record {
-  done = below_more (λ k. has_place line k ≡ bit_or_else (fixed_bit v word k 8) (has_place row k)) x before.done
-      (before.rest x (omega arith) ∙ sym (ap (λ o. bit_or_else o (has_place row x)) e));
+  done = below_more (λ k. has_place line k ≡ unwrap_or (fixed_bit v word k 8) (has_place row k)) x before.done
+      (before.rest x (omega arith) ∙ sym (ap (λ o. unwrap_or o (has_place row x)) e));
   rest = λ k h. before.rest k (omega arith);
   ends = before.ends;
 }

@@ -1,5 +1,5 @@
 -- Squares under a mask, by rows and by modules.
-use Rattle.std.proofs.Common.{◌≡◌, ℕ, suc, ◌+◌, ◌-◌, ◌*◌, ◌/◌, ◌%◌, ◌<◌, Bool, true, false, ◌&&◌, not, nat_lt, List, [], ◌∷◌, length, map, slice_index_or, Option, Some, None, refl, ap, ap₂, sym, ◌∙◌, arith, inl, inr}
+use Rattle.std.proofs.Common.{◌≡◌, ℕ, suc, ◌+◌, ◌-◌, ◌*◌, ◌/◌, ◌%◌, ◌<◌, Bool, true, false, ◌&&◌, not, nat_lt, List, [], ◌∷◌, length, map, slice_index_or, Option, Some, None, refl, ap, ap₂, sym, ◌∙◌, arith, inl, inr, unwrap_or}
 use mathlib.Core.Path.{fun_ext}
 use Rattle.std.proofs.Math.ListN.{get_or-map}
 use Rattle.std.specs.List.{range_with_len}
@@ -26,7 +26,7 @@ use Rattle.qrcode_symbol.specs.declared.canvas.Module.{Module}
 use Rattle.qrcode_symbol.specs.declared.canvas.Module.TheVariants.{Empty, Masked, Unmasked}
 use Rattle.qrcode_symbol.specs.Canvas.{color_of_module, colors_of, masked_module, mask_module, with_mask}
 use Rattle.qrcode_symbol.specs.Penalties.{penalty, penalty_of}
-use Rattle.qrcode_symbol.specs.Masking.{is_dark_module, is_free, fixed_bit, bit_or_else, masked_dark, nth_cost, nth_mask, ShowsModules}
+use Rattle.qrcode_symbol.specs.Masking.{is_dark_module, is_free, fixed_bit, masked_dark, nth_cost, nth_mask, ShowsModules}
 use Rattle.qrcode_symbol.proofs.FixedPlaces.{bit_of}
 
 pub dark_color : (b : Bool) → is_dark (color_of b) ≡ b
@@ -41,7 +41,7 @@ color_dark Dark = refl
 abbrev pub module_of : ℕ → Option ℕ → Option Color → Bool → Module → Module
 module_of word o d t m = elim o [ Some i ↦ Masked (color_of (has_bit word (14 - i))) | None ↦ elim d [ Some c ↦ Masked c | None ↦ masked_module t m ] ]
 
-decided : (word : ℕ) (o : Option ℕ) (d : Option Color) (t : Bool) (m : Module) → bit_or_else (bit_of word o d) (turned_if (is_free m && t) (is_dark_module m)) ≡ is_dark_module (module_of word o d t m)
+decided : (word : ℕ) (o : Option ℕ) (d : Option Color) (t : Bool) (m : Module) → unwrap_or (bit_of word o d) (turned_if (is_free m && t) (is_dark_module m)) ≡ is_dark_module (module_of word o d t m)
 decided word (Some i) d t m = sym (dark_color (has_bit word (14 - i)))
 decided word None (Some c) t m = refl
 decided word None None true Empty = refl
@@ -111,7 +111,7 @@ module _ (v : Version) (l : EcLevel) (modules : List Module) where
     pub masked_same : (word : ℕ) (k : MaskPattern) (x y : ℕ) → x < side v → y < side v → masked_dark v word k dark free x y ≡ is_dark_module (mask_module v word k x y (slice_index_or modules (y * side v + x) Empty))
     unfolding masked_dark fixed_bit
     masked_same word k x y h p =
-        ap₂ (λ (a b : Bool). bit_or_else (fixed_bit v word x y) (turned_if (a && turns k x y) b)) (sym (frees x y h p)) (sym (darks x y h p))
+        ap₂ (λ (a b : Bool). unwrap_or (fixed_bit v word x y) (turned_if (a && turns k x y) b)) (sym (frees x y h p)) (sym (darks x y h p))
         ∙ decided word (format_index v x y) (dark_module v x y) (turns k x y) (slice_index_or modules (y * side v + x) Empty)
 
     pub cost_same : (k : ℕ) → nth_cost v l (side v) dark free k ≡ penalty v (colors_of (with_mask v l (nth_mask v k) modules))

@@ -5,6 +5,7 @@ use Rattle.std.proofs.Math.ListN.{get_or-map}
 use Rattle.std.proofs.lemmas.List.{ext_get_or, get_or-replicate, get_or-set_same, get_or-set_other, get_or_past, length-map}
 use Rattle.std.proofs.lemmas.List.FromFn.{get_or-map-range_with_len, length-map-range_with_len}
 use Rattle.std.proofs.lemmas.Bool.Decides.{leb_tells, eqb_tells}
+use Rattle.std.specs.Option.{option_or}
 use Rattle.qrcode_types.specs.Bits.{has_bit}
 use Rattle.qrcode_types.specs.Colors.{is_dark, color_of}
 use Rattle.qrcode_types.specs.Versions.{side}
@@ -15,7 +16,7 @@ use Rattle.qrcode_types.specs.declared.types.Color.TheVariants.{Light}
 use Rattle.qrcode_penalty.specs.Penalty.{same}
 use Rattle.qrcode_places.specs.Masks.{turns, turned_if}
 use Rattle.qrcode_places.specs.Words.{format_word}
-use Rattle.qrcode_places.specs.Patterns.{or_else, finder, alignment, timing, version_pattern, pattern, format_index, dark_module}
+use Rattle.qrcode_places.specs.Patterns.{finder, alignment, timing, version_pattern, pattern, format_index, dark_module}
 use Rattle.qrcode_places.specs.Stream.{color_at, zigzag}
 use Rattle.qrcode_places.specs.declared.masks.MaskPattern.{MaskPattern}
 use Rattle.qrcode_symbol.specs.declared.canvas.Module.{Module}
@@ -79,7 +80,7 @@ patterns_at v i h =
     get_or-map-range_with_len (λ i. pattern_module v (i % side v) (i / side v) (slice_index_or (blank v) i Empty)) 0 (side v * side v) i i Empty h (omega arith)
     ∙ ap (pattern_module v (i % side v) (i / side v)) (get_or-replicate (side v * side v) i Empty Empty h)
 
-or_none : (a b : Option Color) → or_else a b ≡ None → (a ≡ None) × (b ≡ None)
+or_none : (a b : Option Color) → option_or a b ≡ None → (a ≡ None) × (b ≡ None)
 or_none (Some c) b e = absurd (cc)
 or_none None b e = (refl, e)
 
@@ -87,9 +88,9 @@ or_none None b e = (refl, e)
 dark_module_in_pattern : (v : Version) (x y : ℕ) → pattern v x y ≡ None → dark_module v x y ≡ None
 unfolding pattern
 dark_module_in_pattern v x y e =
-    let a = or_none (finder v x y) (or_else (alignment v x y) (or_else (timing v x y) (or_else (dark_module v x y) (version_pattern v x y)))) e in
-    let b = or_none (alignment v x y) (or_else (timing v x y) (or_else (dark_module v x y) (version_pattern v x y))) a.1 in
-    let c = or_none (timing v x y) (or_else (dark_module v x y) (version_pattern v x y)) b.1 in
+    let a = or_none (finder v x y) (option_or (alignment v x y) (option_or (timing v x y) (option_or (dark_module v x y) (version_pattern v x y)))) e in
+    let b = or_none (alignment v x y) (option_or (timing v x y) (option_or (dark_module v x y) (version_pattern v x y))) a.1 in
+    let c = or_none (timing v x y) (option_or (dark_module v x y) (version_pattern v x y)) b.1 in
     (or_none (dark_module v x y) (version_pattern v x y) c.1).0
 
 abbrev base : Option Color → Option ℕ → Module

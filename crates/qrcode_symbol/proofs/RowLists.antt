@@ -1,5 +1,5 @@
 -- Lists of rows, as their numbers.
-use Rattle.std.proofs.Common.{◌≡◌, ◌==◌, ◌&&◌, ◌++◌, ℕ, true, false, refl, ap₂, ◌/◌, ◌%◌, bit_and, bit_xor, ◌+◌, ◌*◌, ◌^◌, ◌<◌, ◌≤◌, Bool, List, length, take, drop, slice_index_or, ap, sym, ◌∙◌, arith, subst, length-take, length-drop}
+use Rattle.std.proofs.Common.{◌≡◌, ◌==◌, ◌&&◌, ◌++◌, ℕ, true, false, refl, ap₂, ◌/◌, ◌%◌, bit_and, bit_xor, ◌+◌, ◌*◌, ◌^◌, ◌<◌, ◌≤◌, Bool, List, length, take, drop, slice_index_or, ap, sym, ◌∙◌, arith, subst, length-take, length-drop, unwrap_or}
 use Rattle.std.proofs.lemmas.Nat.{mul-add-lt}
 use Rattle.std.proofs.lemmas.List.{get_or-take, get_or-drop, get_or_append_left, get_or-append-add}
 use borrow.Rule.Slice.PartMut.{put_mid, post_of}
@@ -11,8 +11,12 @@ use Rattle.qrcode_places.specs.Masks.{turns, turned_if}
 use Rattle.qrcode_places.specs.declared.masks.MaskPattern.{MaskPattern}
 use Rattle.qrcode_symbol.specs.declared.canvas.Module.{Module}
 use Rattle.qrcode_symbol.specs.declared.canvas.Module.TheVariants.{Empty}
-use Rattle.qrcode_symbol.specs.Masking.{packed, modules_of_row, ShowsModules, fixed_bit, bit_or_else, masked_dark}
+use Rattle.qrcode_symbol.specs.Masking.{packed, ShowsModules, fixed_bit, masked_dark}
 use Rattle.qrcode_symbol.proofs.PackedLists.{packed_lt, has_packed}
+
+-- the modules of row y
+abbrev pub modules_of_row : ℕ → List Module → ℕ → List Module
+modules_of_row w modules y = take w (drop (y * w) modules)
 
 -- rows that are packed show the modules
 module _ (test : Module → Bool) (modules : List Module) (w : ℕ) (square : length modules ≡ w * w) (rows : List ℕ)
@@ -37,10 +41,10 @@ pub record IsMaskedRow (v : Version) (w word : ℕ) (mask : MaskPattern) (dark f
   pub ends : row < 2 ^ w
 
 pub masked_row_is : (v : Version) (w word : ℕ) (mask : MaskPattern) (dark free : List ℕ) (k row d f : ℕ) → d ≡ slice_index_or dark k 0 → f ≡ slice_index_or free k 0 →
-    ((x : ℕ) → x < w → has_place row x ≡ bit_or_else (fixed_bit v word x k) (turned_if (has_place f x && turns mask x k) (has_place d x))) → row < 2 ^ w → IsMaskedRow v w word mask dark free k row
+    ((x : ℕ) → x < w → has_place row x ≡ unwrap_or (fixed_bit v word x k) (turned_if (has_place f x && turns mask x k) (has_place d x))) → row < 2 ^ w → IsMaskedRow v w word mask dark free k row
 unfolding masked_dark dark_in
 masked_row_is v w word mask dark free k row d f p q shows ends = record {
-  shows = λ x h. shows x h ∙ ap₂ (λ (m n : ℕ). bit_or_else (fixed_bit v word x k) (turned_if (has_place n x && turns mask x k) (has_place m x))) p q;
+  shows = λ x h. shows x h ∙ ap₂ (λ (m n : ℕ). unwrap_or (fixed_bit v word x k) (turned_if (has_place n x && turns mask x k) (has_place m x))) p q;
   ends = ends;
 }
 

@@ -1,5 +1,5 @@
 -- What is left to draw, at any step of the walk.
-use Rattle.std.proofs.Common.{◌≡◌, ℕ, zero, suc, ◌+◌, ◌-◌, ◌*◌, ◌/◌, ◌%◌, ◌<◌, ◌≤◌, ◌≢◌, Bool, true, false, List, [], ◌∷◌, map, set, get_or, arith, sym, ap, ap₂, refl, ◌∙◌}
+use Rattle.std.proofs.Common.{◌≡◌, ℕ, zero, suc, ◌+◌, ◌-◌, ◌*◌, ◌/◌, ◌%◌, ◌<◌, ◌≤◌, ◌≢◌, Bool, true, false, List, [], ◌∷◌, map, set, get_or, arith, sym, ap, ap₂, refl, ◌∙◌, ◌==◌, if◌then◌else◌}
 use Rattle.std.specs.Prelude.{slice_get, IsTrue}
 use Rattle.std.specs.List.{range_with_len, filter}
 use Rattle.std.proofs.lemmas.List.{get_or-set_other}
@@ -9,10 +9,10 @@ use Rattle.std.proofs.lemmas.Simd.{map-map}
 use Rattle.qrcode_types.specs.Colors.{color_of}
 use Rattle.qrcode_types.specs.Versions.{side, is_valid}
 use Rattle.qrcode_types.specs.declared.types.Version.{Version}
-use Rattle.qrcode_places.specs.Stream.{zigzag, zigzag_place}
+use Rattle.qrcode_places.specs.Stream.{zigzag, zigzag_place, right_column}
 use Rattle.qrcode_places.proofs.Zigzag.{walk_is_inside, walk_is_apart}
 use Rattle.qrcode_symbol.specs.Canvas.{is_empty, put_bits, with_bits_drawn}
-use Rattle.qrcode_symbol.specs.Filling.{place_index, empty_from, filled_from, drawn_if, left_if, is_empty_at, right_column, row_of_step}
+use Rattle.qrcode_symbol.specs.Filling.{place_index, empty_from, filled_from, drawn_if, left_if, is_empty_at}
 use Rattle.qrcode_symbol.specs.declared.canvas.Module.{Module}
 use Rattle.qrcode_symbol.specs.declared.canvas.Module.TheVariants.{Empty, Unmasked}
 
@@ -81,6 +81,10 @@ pair_of w pair r lt = let e : 2 * w * pair + r ≡ pair * (2 * w) + r = omega ar
 
 step_of : (w pair r : ℕ) → r < 2 * w → (2 * w * pair + r) % (2 * w) ≡ r
 step_of w pair r lt = let e : 2 * w * pair + r ≡ pair * (2 * w) + r = omega arith in rw e (mod-mul-add pair (2 * w) r lt)
+
+-- the row of a step in a pair of columns: upwards in the first pair, and by turns
+abbrev pub row_of_step : ℕ → ℕ → ℕ → ℕ
+row_of_step width pair step = if pair % 2 == 0 then width - 1 - step else step
 
 -- the places of a row in a pair of columns
 pub right_place : (v : Version) (pair row : ℕ) → row < side v → place_index v (2 * side v * pair + 2 * row) ≡ row_of_step (side v) pair row * side v + right_column v pair

@@ -1,21 +1,13 @@
 -- Bits drawn along the walk, one place after the other.
-use Rattle.std.specs.Prelude.{ℕ, ◌+◌, ◌-◌, ◌*◌, ◌%◌, ◌==◌, nat_le, ◌&&◌, not, Bool, true, false, List, map, filter, drop, Option, Some, None, slice_index_or, slice_set, if◌then◌else◌}
+use Rattle.std.specs.Prelude.{ℕ, ◌+◌, ◌-◌, ◌*◌, Bool, true, false, List, map, filter, drop, Option, Some, None, slice_index_or, slice_set}
 use Rattle.std.specs.List.{range_with_len}
 use Rattle.qrcode_types.specs.Colors.{color_of}
-use Rattle.qrcode_types.specs.Versions.{side, is_micro}
+use Rattle.qrcode_types.specs.Versions.{side}
 use Rattle.qrcode_types.specs.declared.types.Version.{Version}
 use Rattle.qrcode_places.specs.Stream.{zigzag_place}
 use Rattle.qrcode_symbol.specs.Canvas.{is_empty, put_bits}
 use Rattle.qrcode_symbol.specs.declared.canvas.Module.{Module}
 use Rattle.qrcode_symbol.specs.declared.canvas.Module.TheVariants.{Empty, Unmasked}
-
--- the right column of a pair of columns; Normal leaves out column 6
-abbrev pub right_column : Version → ℕ → ℕ
-right_column v pair = let column = side v - 1 - 2 * pair in if not (is_micro v) && nat_le column 6 then column - 1 else column
-
--- the row of a step in a pair of columns: upwards in the first pair, and by turns
-abbrev pub row_of_step : ℕ → ℕ → ℕ → ℕ
-row_of_step width pair step = if pair % 2 == 0 then width - 1 - step else step
 
 -- where the t-th place of the walk is, in row order
 abbrev pub place_index : Version → ℕ → ℕ
@@ -40,5 +32,6 @@ abbrev pub left_if : Bool → List Bool → List Bool
 left_if false bits = bits
 left_if true bits = drop 1 bits
 
+-- the module at an index is empty
 abbrev pub is_empty_at : List Module → ℕ → Bool
 is_empty_at modules index = is_empty (slice_index_or modules index Empty)

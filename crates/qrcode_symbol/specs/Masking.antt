@@ -1,5 +1,5 @@
 -- How a mask is chosen on rows packed into numbers.
-use Rattle.std.specs.Prelude.{◌≡◌, ℕ, zero, suc, ◌+◌, ◌-◌, ◌*◌, ◌<◌, ◌≤◌, Bool, true, false, ◌&&◌, List, [], ◌∷◌, Option, Some, None, map, take, drop, slice_index_or, if◌then◌else◌}
+use Rattle.std.specs.Prelude.{◌≡◌, ℕ, zero, suc, ◌+◌, ◌-◌, ◌*◌, ◌<◌, ◌≤◌, Bool, true, false, ◌&&◌, List, [], ◌∷◌, Option, Some, None, map, slice_index_or, if◌then◌else◌, unwrap_or}
 use Rattle.qrcode_types.specs.Bits.{has_bit}
 use Rattle.qrcode_types.specs.Colors.{is_dark}
 use Rattle.qrcode_types.specs.declared.types.Color.{Color}
@@ -36,10 +36,6 @@ abbrev pub packed : {A : Type 0} → (A → Bool) → List A → ℕ
 packed test [] = 0
 packed test (x ∷ xs) = 2 * packed test xs + digit (test x)
 
--- the modules of row y
-abbrev pub modules_of_row : ℕ → List Module → ℕ → List Module
-modules_of_row w modules y = take w (drop (y * w) modules)
-
 -- rows of a square show which of its modules pass a test
 abbrev pub ShowsModules : (Module → Bool) → ℕ → List Module → List ℕ → Type 0
 ShowsModules test w modules rows = Shows w rows (λ x y. test (slice_index_or modules (y * w + x) Empty))
@@ -48,14 +44,9 @@ ShowsModules test w modules rows = Shows w rows (λ x y. test (slice_index_or mo
 unfoldable pub fixed_bit : Version → ℕ → ℕ → ℕ → Option Bool
 fixed_bit v word x y = elim (format_index v x y) [ Some i ↦ Some (has_bit word (14 - i)) | None ↦ elim (dark_module v x y) [ Some c ↦ Some (is_dark c) | None ↦ None ] ]
 
--- a bit, if there is one in its place
-abbrev pub bit_or_else : Option Bool → Bool → Bool
-bit_or_else (Some b) other = b
-bit_or_else None other = other
-
 -- the place is dark under a mask, by rows of what is dark and of what a mask may turn
 unfoldable pub masked_dark : Version → ℕ → MaskPattern → List ℕ → List ℕ → ℕ → ℕ → Bool
-masked_dark v word k dark free x y = bit_or_else (fixed_bit v word x y) (turned_if (dark_in free x y && turns k x y) (dark_in dark x y))
+masked_dark v word k dark free x y = unwrap_or (fixed_bit v word x y) (turned_if (dark_in free x y && turns k x y) (dark_in dark x y))
 
 abbrev pub normal_mask : ℕ → MaskPattern
 normal_mask zero = Checkerboard

@@ -1,8 +1,8 @@
 -- Modules on the way to the functional patterns.
-use Rattle.std.specs.Prelude.{◌≡◌, ℕ, ◌+◌, ◌-◌, ◌*◌, ◌/◌, ◌%◌, ◌<◌, ◌≤◌, ◌==◌, ◌&&◌, ◌||◌, Bool, false, List, [], length, slice_get, slice_index_or, IfSome}
+use Rattle.std.specs.Prelude.{◌≡◌, ℕ, ◌+◌, ◌-◌, ◌*◌, ◌/◌, ◌%◌, ◌<◌, ◌≤◌, false, List, [], length, slice_get, slice_index_or, IfSome}
 use Rattle.qrcode_types.specs.Versions.{side}
 use Rattle.qrcode_types.specs.declared.types.Version.{Version}
-use Rattle.qrcode_places.specs.Patterns.{centres}
+use Rattle.qrcode_places.specs.Patterns.{centres, is_corner_centre}
 use Rattle.qrcode_symbol.specs.Canvas.{blank, pattern_module, with_patterns}
 use Rattle.qrcode_symbol.specs.declared.canvas.Module.{Module}
 use Rattle.qrcode_symbol.specs.declared.canvas.Module.TheVariants.{Empty}
@@ -29,10 +29,6 @@ IsBlockAt v block across left top =
 -- one of the coordinates of the alignment centres
 abbrev pub IsCentre : Version → ℕ → Type 0
 IsCentre v a = (i : ℕ) × ((i < length (centres v)) × (slice_index_or (centres v) i 0 ≡ a))
-
--- two coordinates of alignment centres meet in a corner where a finder pattern is
-abbrev pub is_corner_centre : ℕ → ℕ → ℕ → Bool
-is_corner_centre w a b = (a == 6 && (b == 6 || b == w - 7)) || (a == w - 7 && b == 6)
 
 -- the alignment patterns in the first so many rows of centres have been drawn
 abbrev pub AreAlignmentsPatterned : Version → List Module → ℕ → Type 0

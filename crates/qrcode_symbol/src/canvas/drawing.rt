@@ -3,9 +3,9 @@
 
 ghost use Rattle.std.specs.Prelude.{◌≡◌, ℕ, ◌+◌, ◌-◌, ◌*◌, ◌<◌, ◌≤◌, length, find, slice_index, true, false, ◌↔◌, IsTrue};
 ghost use Rattle.qrcode_types.specs.Versions.{is_valid, is_micro, side};
-ghost use Rattle.qrcode_places.specs.Patterns.{centres, is_near, is_functional_place};
+ghost use Rattle.qrcode_places.specs.Patterns.{centres, is_near, is_functional_place, is_corner_centre};
 ghost use Rattle.qrcode_symbol.specs.Canvas.{pattern_module, with_patterns};
-ghost use Rattle.qrcode_symbol.specs.Patterned.{DrawsTowards, IsRectanglePatterned, AreAlignmentsPatterned, IsBlockAt, IsCentre, IsDrawn, is_corner_centre};
+ghost use Rattle.qrcode_symbol.specs.Patterned.{DrawsTowards, IsRectanglePatterned, AreAlignmentsPatterned, IsBlockAt, IsCentre, IsDrawn};
 
 mod blocks;
 

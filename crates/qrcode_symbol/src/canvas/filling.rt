@@ -2,8 +2,9 @@
 
 ghost use Rattle.std.specs.Prelude.{◌≡◌, ℕ, ◌+◌, ◌*◌, ◌%◌, ◌<◌, ◌≤◌, length, slice_get, IsTrue};
 ghost use Rattle.qrcode_types.specs.Versions.{is_valid, side};
+ghost use Rattle.qrcode_places.specs.Stream.{right_column};
 ghost use Rattle.qrcode_symbol.specs.Canvas.{with_bits_drawn};
-ghost use Rattle.qrcode_symbol.specs.Filling.{right_column, filled_from, drawn_if, left_if, is_empty_at};
+ghost use Rattle.qrcode_symbol.specs.Filling.{filled_from, drawn_if, left_if, is_empty_at};
 
 use super::codewords::Codewords;
 use super::patterns::color_of;

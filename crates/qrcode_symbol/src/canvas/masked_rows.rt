@@ -1,11 +1,11 @@
 //! The rows of a square under a mask, with the format word.
 
-ghost use Rattle.std.specs.Prelude.{◌≡◌, ◌≢◌, ℕ, ◌+◌, ◌%◌, ◌<◌, ◌≤◌, ◌&&◌, length, map, IsTrue};
+ghost use Rattle.std.specs.Prelude.{◌≡◌, ◌≢◌, ℕ, ◌+◌, ◌%◌, ◌<◌, ◌≤◌, ◌&&◌, length, map, IsTrue, unwrap_or};
 ghost use Rattle.qrcode_types.specs.Versions.{is_valid, side};
 ghost use Rattle.qrcode_penalty.specs.Rows.{EndsBefore, AllEndBefore, has_place, Shows};
 ghost use Rattle.qrcode_places.specs.Masks.{turns, turned_if, exists_in};
 ghost use Rattle.qrcode_places.specs.Words.{format_word};
-ghost use Rattle.qrcode_symbol.specs.Masking.{fixed_bit, bit_or_else, masked_dark};
+ghost use Rattle.qrcode_symbol.specs.Masking.{fixed_bit, masked_dark};
 
 use super::layer::{Layer, fixed_bit};
 use super::packing::PackedSquare;
@@ -78,7 +78,7 @@ fn fixed_row<L: Line>(layer: Layer, row: L) -> L
     requires room { layer.width + 3 ≤ L.room }
     requires ends { EndsBefore layer.width (L.places row) }
     ensures shown { (x : ℕ) → x < layer.width → has_place (L.places result) x
-        ≡ bit_or_else (fixed_bit layer.version layer.word x 8) (has_place (L.places row) x) }
+        ≡ unwrap_or (fixed_bit layer.version layer.word x 8) (has_place (L.places row) x) }
     ensures ends { EndsBefore layer.width (L.places result) }
 {
     let mut line = row;
@@ -97,7 +97,7 @@ fn fixed_place<L: Line>(layer: Layer, y: usize, row: L) -> L
     requires other { y ≢ 8 }
     requires ends { EndsBefore layer.width (L.places row) }
     ensures shown { (x : ℕ) → x < layer.width → has_place (L.places result) x
-        ≡ bit_or_else (fixed_bit layer.version layer.word x y) (has_place (L.places row) x) }
+        ≡ unwrap_or (fixed_bit layer.version layer.word x y) (has_place (L.places row) x) }
     ensures ends { EndsBefore layer.width (L.places result) }
 {
     match fixed_bit(layer, 8, y) {
@@ -113,7 +113,7 @@ fn masked_row<L: Line>(layer: Layer, y: usize, dark: L, free: L) -> L
     requires dark_ends { EndsBefore layer.width (L.places dark) }
     requires free_ends { EndsBefore layer.width (L.places free) }
     ensures shown { (x : ℕ) → x < layer.width → has_place (L.places result) x
-        ≡ bit_or_else (fixed_bit layer.version layer.word x y)
+        ≡ unwrap_or (fixed_bit layer.version layer.word x y)
         (turned_if (has_place (L.places free) x && turns layer.mask x y) (has_place (L.places dark) x)) }
     ensures ends { EndsBefore layer.width (L.places result) }
 {

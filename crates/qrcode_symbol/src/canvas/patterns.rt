@@ -4,8 +4,7 @@ ghost use Rattle.std.specs.Prelude.{◌≡◌, ℕ, ◌+◌, ◌*◌, ◌<◌, �
 ghost use Rattle.qrcode_types.specs.Colors.{color_of};
 ghost use Rattle.qrcode_types.specs.Versions.{is_valid, side};
 ghost use Rattle.qrcode_types.specs.declared.types.Version.TheVariants.{Normal};
-ghost use Rattle.qrcode_symbol.specs.Patterned.{is_corner_centre};
-ghost use Rattle.qrcode_places.specs.Patterns.{where_true, finder_at, finder, is_near, centres, alignment_between, alignment, timing, dark_module, version_copy, version_pattern, pattern, normal_format_index, micro_format_index, format_index};
+ghost use Rattle.qrcode_places.specs.Patterns.{where_true, finder_at, finder, is_near, centres, alignment_between, alignment, timing, dark_module, version_copy, version_pattern, pattern, normal_format_index, micro_format_index, format_index, is_corner_centre};
 
 use qrcode_places::words::version_word;
 use qrcode_types::types::{Color, Version};

@@ -1,7 +1,7 @@
 use Rattle.std.proofs.Common.{◌≡◌, ℕ, ◌-◌, ◌<◌, false, get_or}
 use Rattle.qrcode_types.specs.Versions.{side}
-use Rattle.qrcode_places.specs.Patterns.{centres}
-use Rattle.qrcode_symbol.specs.Patterned.{DrawsTowards, IsRectanglePatterned, is_corner_centre}
+use Rattle.qrcode_places.specs.Patterns.{centres, is_corner_centre}
+use Rattle.qrcode_symbol.specs.Patterned.{DrawsTowards, IsRectanglePatterned}
 use Rattle.qrcode_symbol.proofs.canvas.drawing.draw_alignment_row.Given as goal
 
 abbrev pub invariant-loop-a : goal.invariant-loop-a

@@ -1,7 +1,7 @@
 use Rattle.std.proofs.Common.{◌≡◌, ◌+◌, ◌*◌, ◌∙◌, refl, arith}
 use Rattle.qrcode_types.specs.Versions.{side}
-use Rattle.qrcode_symbol.specs.Filling.{right_column, row_of_step}
-use Rattle.qrcode_symbol.proofs.Walk.{row_step, row_down, apart}
+use Rattle.qrcode_places.specs.Stream.{right_column}
+use Rattle.qrcode_symbol.proofs.Walk.{row_step, row_down, apart, row_of_step}
 use Rattle.qrcode_symbol.proofs.canvas.filling.draw_down.Goals as goal
 
 pub loop-step-preserved : goal.loop-step-preserved

@@ -1,8 +1,8 @@
 use Rattle.std.proofs.Common.{◌≡◌, ℕ, ◌+◌, ◌-◌, ◌*◌, take, drop, map, ap, ◌∙◌, arith}
 use Rattle.std.proofs.lemmas.List.{length-map}
-use Rattle.qrcode_symbol.specs.Masking.{is_dark_module, is_free, packed, modules_of_row}
+use Rattle.qrcode_symbol.specs.Masking.{is_dark_module, is_free, packed}
 use Rattle.qrcode_penalty.proofs.WrittenRows.{rows_more}
-use Rattle.qrcode_symbol.proofs.RowLists.{shows_packed, ends_packed}
+use Rattle.qrcode_symbol.proofs.RowLists.{shows_packed, ends_packed, modules_of_row}
 use Rattle.qrcode_symbol.proofs.canvas.packing.pack_rows.Goals as goal
 
 pub loop-y-preserved : goal.loop-y-preserved

@@ -1,5 +1,6 @@
 use Rattle.std.proofs.Common.{◌≡◌, ℕ, ◌<◌, map, slice_index_or}
-use Rattle.qrcode_symbol.specs.Masking.{is_dark_module, is_free, packed, modules_of_row}
+use Rattle.qrcode_symbol.proofs.RowLists.{modules_of_row}
+use Rattle.qrcode_symbol.specs.Masking.{is_dark_module, is_free, packed}
 use Rattle.qrcode_symbol.proofs.canvas.packing.pack_rows.Given as goal
 
 abbrev pub invariant-loop-y : goal.invariant-loop-y
