@@ -9,7 +9,7 @@ ghost use Rattle.qrcode_types.specs.declared.types.QrError.TheVariants.{OutOfMem
 ghost use Rattle.qrcode_types.specs.Colors.{is_dark};
 ghost use Rattle.qrcode_types.specs.declared.types.Version.{Version};
 ghost use Rattle.qrcode_types.specs.declared.types.EcLevel.TheVariants.{M};
-ghost use Rattle.qrcode_ec.specs.Allowed.{reserved};
+ghost use Rattle.qrcode_ec.specs.Allowed.{reserved_codewords};
 ghost use Rattle.qrcode_places.specs.Patterns.{is_functional_place};
 ghost use Rattle.qrcode_places.specs.Words.{FormatWordsAreApart, FormatWordsTell};
 ghost use Rattle.qrcode_symbol.specs.Patterned.{IsDrawn};
@@ -237,7 +237,7 @@ impl QrCode {
     /// correction block by block: half of a block's error correction codewords, rounded down.
     pub fn max_allowed_errors(&self) -> usize
         ensures { result ≡ (total_ec_length self.now.version self.now.level
-            - reserved self.now.version self.now.level) / 2 }
+            - reserved_codewords self.now.version self.now.level) / 2 }
     {
         ec::max_allowed_errors(self.version, self.ec_level).unwrap()
     }

@@ -11,7 +11,7 @@ ghost use Rattle.std.specs.List.{AllByRecursion};
 ghost use Rattle.qrcode_types.specs.Bits.{AreBytes};
 ghost use Rattle.qrcode_types.specs.Versions.{is_valid, has_level, block_lengths, ec_length, total_ec_length, data_length};
 ghost use Rattle.qrcode_types.specs.declared.types.QrError.TheVariants.{InvalidVersion, OutOfMemory};
-ghost use Rattle.qrcode_ec.specs.Allowed.{reserved};
+ghost use Rattle.qrcode_ec.specs.Allowed.{reserved_codewords};
 ghost use Rattle.qrcode_ec.specs.Blocks.{blocks, data_bytes};
 ghost use Rattle.qrcode_ec.specs.Codes.{Vanishes, IsOnlyWithin};
 
@@ -22,8 +22,8 @@ use qrcode_types::tables::Blocks;
 use qrcode_types::types::{EcLevel, QrError, QrResult, Version};
 use std::alloc::Global;
 
-/// The error correction bytes of a block of data, `ec_code_size` of them: the only ones that,
-/// behind the data, make the whole vanish at as many powers of 2 (ISO/IEC 18004:2006, 6.5.2).
+/// The error correction bytes of a block of data, `ec_code_size` of them, at most 69: the only ones
+/// that, behind the data, make the whole vanish at as many powers of 2 (ISO/IEC 18004:2006, 6.5.2).
 ///
 /// `OutOfMemory` is the only refusal.
 pub fn create_error_correction_code(
@@ -96,21 +96,21 @@ pub fn max_allowed_errors(version: Version, ec_level: EcLevel) -> QrResult<usize
     ensures missing { has_level version ec_level ≡ false → result ≡ Err InvalidVersion }
     ensures exists { IsTrue (has_level version ec_level) → IsTrue (is_ok result) }
     ensures value { IfOk result (λ errors.
-        errors ≡ (total_ec_length version ec_level - reserved version ec_level) / 2) }
+        errors ≡ (total_ec_length version ec_level - reserved_codewords version ec_level) / 2) }
 {
     let Some(blocks) = Blocks::of(version, ec_level) else {
         return Err(QrError::InvalidVersion);
     };
     let usable = blocks
         .total_ec_length()
-        .saturating_sub(reserved(version, ec_level));
+        .saturating_sub(reserved_codewords(version, ec_level));
     Ok(usable / 2)
 }
 
 // The error correction codewords that are kept to tell wrong corrections.
-fn reserved(version: Version, ec_level: EcLevel) -> usize
+fn reserved_codewords(version: Version, ec_level: EcLevel) -> usize
     requires { IsTrue (is_valid version) }
-    ensures { result ≡ reserved version ec_level }
+    ensures { result ≡ reserved_codewords version ec_level }
 {
     match (version, ec_level) {
         (Version::Normal(1) | Version::Micro(2), EcLevel::L) => 3,

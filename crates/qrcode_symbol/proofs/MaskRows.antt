@@ -40,7 +40,7 @@ unfolding all_below
 all_holds zero f e k h = absurd (omega arith)
 all_holds (suc n) f e k h = below_more (λ k. f k ≡ true) n (λ k l. all_holds n f (and_l (all_below n f) (f n) e) k l) (and_r (all_below n f) (f n) e) k (omega arith)
 
--- the words of repeated
+-- the words of `repeat`
 abbrev pub copies_of : ℕ → ℕ
 copies_of six = six * 0x1041041041041041 % 2 ^ 64
 

@@ -11,7 +11,7 @@ mod blocks;
 
 use super::Module;
 use super::layout::Layout;
-use super::patterns::{format_index, is_corner_centre, near, pattern};
+use super::patterns::{format_index, is_corner_centre, near_centre, pattern};
 use blocks::{ALIGNMENT, MICRO_TOP_LEFT, NORMAL_BOTTOM_LEFT, NORMAL_TOP_LEFT, NORMAL_TOP_RIGHT};
 use qrcode_types::types::{Color, Version};
 
@@ -29,8 +29,8 @@ pub(super) fn is_functional_place(layout: Layout, x: usize, y: usize) -> bool
         width,
         coordinates,
     } = layout;
-    let near_x = near(coordinates, x);
-    let near_y = near(coordinates, y);
+    let near_x = near_centre(coordinates, x);
+    let near_y = near_centre(coordinates, y);
     pattern(version, width, near_x, near_y, x, y).is_some()
         || format_index(version, width, x, y).is_some()
 }
@@ -49,7 +49,7 @@ fn pattern_module(layout: Layout, near_y: Option<usize>, x: usize, y: usize, old
         width,
         coordinates,
     } = layout;
-    match pattern(version, width, near(coordinates, x), near_y, x, y) {
+    match pattern(version, width, near_centre(coordinates, x), near_y, x, y) {
         Some(color) => Module::Masked(color),
         None => match format_index(version, width, x, y) {
             Some(_) => Module::Masked(Color::Light),
@@ -67,7 +67,7 @@ fn draw_row(layout: Layout, left: usize, across: usize, y: usize, modules: &mut 
     ensures towards { DrawsTowards layout.version modules.old modules.new }
     ensures drawn { IsRectanglePatterned layout.version modules.new left y across 1 }
 {
-    let near_y = near(layout.coordinates, y);
+    let near_y = near_centre(layout.coordinates, y);
     for column in 0..across {
         let x = left + column;
         let index = y * layout.width + x;

@@ -37,7 +37,7 @@ fn six_places(mask: MaskPattern, y: usize) -> u64
 
 // Six places, again and again.
 #[inline(always)]
-fn repeated<L: Line>(six: u64) -> L
+fn repeat<L: Line>(six: u64) -> L
     requires { six < 64 }
     ensures { (k : ℕ) → k < 192 → k < L.room → has_place (L.places result) k ≡ has_place six (k % 6) }
 {
@@ -56,7 +56,7 @@ fn repeated<L: Line>(six: u64) -> L
 fn turned_places<L: Line>(mask: MaskPattern, y: usize) -> L
     ensures { (x : ℕ) → x < 192 → x < L.room → has_place (L.places result) x ≡ turns mask x y }
 {
-    repeated(six_places(mask, y))
+    repeat(six_places(mask, y))
 }
 
 // The row with one place as given.

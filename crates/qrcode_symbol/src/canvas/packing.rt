@@ -55,7 +55,7 @@ fn free_bit(m: Module) -> u8
 
 // Eight bits, each in a byte, as a number whose lowest bit is the first.
 #[inline(always)]
-fn gathered(bits: [u8; 8]) -> u64
+fn gather(bits: [u8; 8]) -> u64
     ensures { (test : Module → Bool) (modules : List Module) → length modules ≡ 8
         → bits ≡ map (λ m. digit (test m)) modules → result ≡ packed test modules }
 {
@@ -89,7 +89,7 @@ fn pack_eight(eight: &[Module]) -> (u64, u64)
         free_bit(eight[6]),
         free_bit(eight[7]),
     ];
-    (gathered(dark), gathered(free))
+    (gather(dark), gather(free))
 }
 
 // Which of fewer than eight modules are dark, and which a mask may turn.

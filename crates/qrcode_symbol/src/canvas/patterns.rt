@@ -52,7 +52,7 @@ fn finder(version: Version, width: usize, x: usize, y: usize) -> Option<Color>
 }
 
 /// The first coordinate that is at most 2 away.
-pub(super) fn near(centres: &[u8], x: usize) -> Option<usize>
+pub(super) fn near_centre(centres: &[u8], x: usize) -> Option<usize>
     ensures { result ≡ find (is_near x) centres.now }
 {
     centres

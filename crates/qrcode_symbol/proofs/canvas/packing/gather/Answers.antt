@@ -1,6 +1,6 @@
 use Rattle.std.proofs.Common.{◌*◌, ◌/◌, ◌%◌, ◌^◌, ap, ◌∙◌}
 use Rattle.qrcode_symbol.proofs.EightBits.{gathered_tests}
-use Rattle.qrcode_symbol.proofs.canvas.packing.gathered.Goals as goal
+use Rattle.qrcode_symbol.proofs.canvas.packing.gather.Goals as goal
 
 pub returns : goal.returns
 returns c = λ test modules size is.
