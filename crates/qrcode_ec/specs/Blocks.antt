@@ -24,6 +24,7 @@ block v l words b =
     map (λ i. slice_index words (interleaved_place lengths i b)) (range_with_len 0 (slice_index lengths b))
     ++ map (λ i. slice_index words (data_length v l + i * length lengths + b)) (range_with_len 0 (ec_length v l))
 
+-- all blocks of the codewords
 unfoldable pub blocks : Version → EcLevel → List ℕ → List (List ℕ)
 blocks v l words = map (block v l words) (range_with_len 0 (length (block_lengths v l)))
 

@@ -18,6 +18,7 @@ remainder_from zero n = 0
 remainder_from (suc count) zero = 0
 remainder_from (suc count) (suc m) = bit_xor (times_x (remainder_from count (suc m / 2))) (suc m % 2)
 
+-- n modulo the modulus
 unfoldable pub remainder : ℕ → ℕ
 remainder n = remainder_from n n
 

@@ -33,6 +33,7 @@ begins_run line (suc i) = not (same (line i) (line (suc i)))
 unfoldable pub run_penalty_at : (ℕ → Bool) → ℕ → ℕ
 run_penalty_at line i = count_if (is_run line i 5) (if begins_run line i then 3 else 1)
 
+-- what the runs of a line of n places cost
 unfoldable pub run_penalty : ℕ → (ℕ → Bool) → ℕ
 run_penalty n line = sum_below (n - 4) (run_penalty_at line)
 
@@ -48,9 +49,11 @@ is_finder_like line i = line i && not (line (i + 1)) && line (i + 2) && line (i 
 unfoldable pub finder_penalty_at : ℕ → (ℕ → Bool) → ℕ → ℕ
 finder_penalty_at n line i = count_if (is_finder_like line i && (is_light_from n line (i - 4) (i - (i - 4)) || is_light_from n line (i + 7) 4)) 40
 
+-- what the finder forms of a line of n places cost
 unfoldable pub finder_penalty : ℕ → (ℕ → Bool) → ℕ
 finder_penalty n line = sum_below (n - 6) (finder_penalty_at n line)
 
+-- what a line of n places costs
 abbrev pub line_penalty : ℕ → (ℕ → Bool) → ℕ
 line_penalty n line = run_penalty n line + finder_penalty n line
 
@@ -60,9 +63,11 @@ line_penalty n line = run_penalty n line + finder_penalty n line
 unfoldable pub block_penalty_at : (ℕ → ℕ → Bool) → ℕ → ℕ → ℕ
 block_penalty_at dark y x = count_if (same (dark x y) (dark (x + 1) y) && same (dark x y) (dark x (y + 1)) && same (dark x y) (dark (x + 1) (y + 1))) 3
 
+-- what all two by two modules of one colour cost
 unfoldable pub block_penalty : ℕ → (ℕ → ℕ → Bool) → ℕ
 block_penalty w dark = sum_below (w - 1) (λ y. sum_below (w - 1) (block_penalty_at dark y))
 
+-- how many places of a square are dark
 unfoldable pub dark_count : ℕ → (ℕ → ℕ → Bool) → ℕ
 dark_count w dark = sum_below w (λ y. sum_below w (λ x. count_if (dark x y) 1))
 

@@ -10,7 +10,7 @@ has_place row k = has_bit row k
 abbrev pub EndsBefore : ℕ → ℕ → Type 0
 EndsBefore width row = row < 2 ^ width
 
--- so has none of the rows
+-- none of the rows has a place from `width` on
 abbrev pub AllEndBefore : ℕ → List ℕ → Type 0
 AllEndBefore width rows = (y : ℕ) → EndsBefore width (slice_index_or rows y 0)
 

@@ -6,7 +6,7 @@ ghost use Rattle.qrcode_penalty.specs.Rows.{AllEndBefore, EndsBefore, has_place,
 
 use crate::line::Line;
 
-/// The places of row y at which a column begins or changes its colour.
+// The places of row y at which a column begins or changes its colour.
 #[inline(always)]
 fn changes_at<L: Line>(rows: &[L], y: usize, width: u32) -> L
     requires room { width + 3 ≤ L.room }
@@ -20,7 +20,7 @@ fn changes_at<L: Line>(rows: &[L], y: usize, width: u32) -> L
     rows[y - 1].xor(rows[y])
 }
 
-/// What the windows of five that begin in row y cost, over all columns.
+// What the windows of five that begin in row y cost, over all columns.
 #[inline(always)]
 fn column_runs<L: Line>(rows: &[L], y: usize, width: u32) -> u32
     requires room { width + 3 ≤ L.room }
@@ -37,7 +37,7 @@ fn column_runs<L: Line>(rows: &[L], y: usize, width: u32) -> u32
     windows.count_ones() + 2 * begins.count_ones()
 }
 
-/// The k-th row of a square with four light rows before it and light rows behind it.
+// The k-th row of a square with four light rows before it and light rows behind it.
 #[inline(always)]
 fn padded_row<L: Line>(rows: &[L], k: usize) -> L
     requires { 0 < L.room }
@@ -49,7 +49,7 @@ fn padded_row<L: Line>(rows: &[L], k: usize) -> L
     L::first(0)
 }
 
-/// Where one of the four rows from the k-th on is dark, light rows being put around the square.
+// Where one of the four rows from the k-th on is dark, light rows being put around the square.
 #[inline(always)]
 fn four_rows<L: Line>(rows: &[L], k: usize) -> L
     requires room { 0 < L.room }
@@ -67,7 +67,7 @@ fn four_rows<L: Line>(rows: &[L], k: usize) -> L
     first.or(second)
 }
 
-/// What the finder forms that begin in row y cost, over all columns.
+// What the finder forms that begin in row y cost, over all columns.
 #[inline(always)]
 fn column_finders<L: Line>(rows: &[L], y: usize, width: u32) -> u32
     requires narrow { width ≤ 189 }
@@ -90,12 +90,13 @@ fn column_finders<L: Line>(rows: &[L], y: usize, width: u32) -> u32
     40 * forms.without(crowded).count_ones()
 }
 
-/// 3 for each two by two modules of one colour between two neighbouring rows.
+// 3 for each two by two modules of one colour between two neighbouring rows.
 #[inline(always)]
 fn blocks_between<L: Line>(upper: L, lower: L, width: u32) -> u32
     requires wide { 7 ≤ width }
     requires room { width + 3 ≤ L.room }
-    ensures value { let upper = has_place (L.places upper) in let lower = has_place (L.places lower) in result
+    ensures value { let upper = has_place (L.places upper) in
+        let lower = has_place (L.places lower) in result
         ≡ sum_below (width - 1) (λ x. count_if (same (upper x) (upper (x + 1)) && same (upper x) (lower x)
         && same (upper x) (lower (x + 1))) 3) }
     ensures most { result ≤ 600 }

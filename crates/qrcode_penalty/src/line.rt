@@ -58,7 +58,7 @@ pub trait Line: Copy {
     fn first_word(self) -> u64
         ensures { result ≡ places self % 2 ^ 64 };
 
-    // No type has more.
+    // No type has room for more than 192 places.
     ghost small: { room ≤ 192 };
 }
 

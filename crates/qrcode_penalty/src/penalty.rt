@@ -12,6 +12,7 @@ use crate::rows::{dark_count, light_count, row_penalties};
 
 /// The penalty of a square of a Normal version, of `width` modules along a side, given by its rows
 /// (ISO/IEC 18004:2006, 6.8.3): place k of a row is set where the module in column k is dark.
+/// A side has at least 7 modules, and a row of type `L` room for three places more than a side.
 pub fn normal_penalty<L: Line>(rows: &[L], width: u32) -> u32
     requires wide { 7 ≤ width }
     requires room { width + 3 ≤ L.room }
@@ -33,6 +34,7 @@ pub fn normal_penalty<L: Line>(rows: &[L], width: u32) -> u32
 
 /// The penalty of a square of a Micro version, of `width` modules along a side, given by its rows
 /// (ISO/IEC 18004:2006, 6.8.3): place k of a row is set where the module in column k is dark.
+/// A side has at least 7 modules, and a row of type `L` room for three places more than a side.
 pub fn micro_penalty<L: Line>(rows: &[L], width: u32) -> u32
     requires wide { 7 ≤ width }
     requires room { width + 3 ≤ L.room }

@@ -20,6 +20,7 @@ turns Fields x y = (x * y) % 2 + (x * y) % 3 == 0
 turns Diamonds x y = ((x * y) % 2 + (x * y) % 3) % 2 == 0
 turns Meadow x y = ((x + y) % 2 + (x * y) % 3) % 2 == 0
 
+-- the number of a mask, 0 to 7, as the standard numbers them
 abbrev pub mask_number : MaskPattern → ℕ
 mask_number Checkerboard = 0
 mask_number HorizontalLines = 1

@@ -80,12 +80,15 @@ pattern v x y = option_or (finder v x y) (option_or (alignment v x y) (option_or
 
 -- Where bit i of a copy of the format word stands, bit 0 being the highest.
 
+-- in the copy of Normal at the top left
 abbrev pub first_format_place : ℕ → ℕ × ℕ
 first_format_place i = if nat_le i 5 then (i, 8) else (if i == 6 then (7, 8) else (if i == 7 then (8, 8) else (if i == 8 then (8, 7) else (8, 14 - i))))
 
+-- in the copy of Normal at the bottom left and at the top right
 abbrev pub second_format_place : ℕ → ℕ → ℕ × ℕ
 second_format_place w i = if nat_le i 6 then (8, w - 1 - i) else (w - 15 + i, 8)
 
+-- in the copy of Micro
 abbrev pub micro_format_place : ℕ → ℕ × ℕ
 micro_format_place i = if nat_le i 7 then (i + 1, 8) else (8, 15 - i)
 
@@ -96,6 +99,7 @@ format_copies (Micro v) = map micro_format_place (range_with_len 0 15) ∷ []
 
 -- Which bit of the format word stands at a place, if any: the same places, looked at the other way.
 
+-- in Normal, with w modules along a side
 abbrev pub normal_format_index : ℕ → ℕ → ℕ → Option ℕ
 normal_format_index w x y =
     elim (y == 8) [
@@ -104,6 +108,7 @@ normal_format_index w x y =
           elim (x == 8) [ true ↦ (if y == 7 then Some 8 else (if nat_le y 5 then Some (14 - y) else (if nat_le (w - 7) y && nat_lt y w then Some (w - 1 - y) else None))) | false ↦ None ]
     ]
 
+-- in Micro
 abbrev pub micro_format_index : ℕ → ℕ → Option ℕ
 micro_format_index x y =
     elim (y == 8) [
@@ -112,6 +117,7 @@ micro_format_index x y =
           elim (x == 8) [ true ↦ (if nat_le 1 y && nat_le y 7 then Some (15 - y) else None) | false ↦ None ]
     ]
 
+-- in any version
 unfoldable pub format_index : Version → ℕ → ℕ → Option ℕ
 format_index (Normal v) x y = normal_format_index (4 * nat_abs v + 17) x y
 format_index (Micro v) x y = micro_format_index x y

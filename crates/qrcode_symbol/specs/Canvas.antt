@@ -36,14 +36,17 @@ module_index v x y = wrapped (side v) y * side v + wrapped (side v) x
 abbrev pub blank : Version → List Module
 blank v = replicate (side v * side v) Empty
 
+-- the colour of a module; an empty one is light
 abbrev pub color_of_module : Module → Color
 color_of_module Empty = Light
 color_of_module (Masked c) = c
 color_of_module (Unmasked c) = c
 
+-- the colours of modules
 abbrev pub colors_of : List Module → List Color
 colors_of modules = map color_of_module modules
 
+-- nothing is drawn in the module
 abbrev pub is_empty : Module → Bool
 is_empty Empty = true
 is_empty (Masked c) = false
@@ -63,6 +66,7 @@ map_modules v f modules = let w = side v in map (λ i. f (i % w) (i / w) (slice_
 abbrev pub pattern_module : Version → ℕ → ℕ → Module → Module
 pattern_module v x y m = elim (pattern v x y) [ Some c ↦ Masked c | None ↦ elim (format_index v x y) [ Some i ↦ Masked Light | None ↦ m ] ]
 
+-- all modules after the functional patterns are drawn
 unfoldable pub with_patterns : Version → List Module → List Module
 with_patterns v modules = map_modules v (pattern_module v) modules
 
@@ -80,6 +84,7 @@ put_bits [] bits modules = modules
 put_bits (p ∷ places) [] modules = modules
 put_bits (p ∷ places) (b ∷ bits) modules = put_bits places bits (slice_set modules p (Unmasked (color_of b)))
 
+-- all modules after bits are drawn at the empty places
 unfoldable pub with_bits_drawn : Version → List Bool → List Module → List Module
 with_bits_drawn v bits modules = put_bits (empty_places v modules) bits modules
 
@@ -87,6 +92,7 @@ with_bits_drawn v bits modules = put_bits (empty_places v modules) bits modules
 abbrev pub mask_module : Version → ℕ → MaskPattern → ℕ → ℕ → Module → Module
 mask_module v word k x y m = elim (format_index v x y) [ Some i ↦ Masked (color_of (has_bit word (14 - i))) | None ↦ elim (dark_module v x y) [ Some c ↦ Masked c | None ↦ masked_module (turns k x y) m ] ]
 
+-- all modules after a mask, with its format word
 unfoldable pub with_mask : Version → EcLevel → MaskPattern → List Module → List Module
 with_mask v l k modules = map_modules v (mask_module v (format_word v l k) k) modules
 

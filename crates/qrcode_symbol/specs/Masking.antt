@@ -48,6 +48,7 @@ fixed_bit v word x y = elim (format_index v x y) [ Some i ↦ Some (has_bit word
 unfoldable pub masked_dark : Version → ℕ → MaskPattern → List ℕ → List ℕ → ℕ → ℕ → Bool
 masked_dark v word k dark free x y = unwrap_or (fixed_bit v word x y) (turned_if (dark_in free x y && turns k x y) (dark_in dark x y))
 
+-- the k-th mask of Normal
 abbrev pub normal_mask : ℕ → MaskPattern
 normal_mask zero = Checkerboard
 normal_mask (suc zero) = HorizontalLines
@@ -58,6 +59,7 @@ normal_mask (suc (suc (suc (suc (suc zero))))) = Fields
 normal_mask (suc (suc (suc (suc (suc (suc zero)))))) = Diamonds
 normal_mask (suc (suc (suc (suc (suc (suc (suc k))))))) = Meadow
 
+-- the k-th mask of Micro
 abbrev pub micro_mask : ℕ → MaskPattern
 micro_mask zero = HorizontalLines
 micro_mask (suc zero) = LargeCheckerboard
@@ -69,6 +71,7 @@ abbrev pub nth_mask : Version → ℕ → MaskPattern
 nth_mask (Normal v) k = normal_mask k
 nth_mask (Micro v) k = micro_mask k
 
+-- how many masks a version has
 abbrev pub mask_count : Version → ℕ
 mask_count (Normal v) = 8
 mask_count (Micro v) = 4

@@ -16,7 +16,7 @@ pub record DrawsTowards (v : Version) (old new : List Module) : Type 0 where
   pub same : with_patterns v new ≡ with_patterns v old
   pub kept : (i : ℕ) → IsPatterned v old i → IsPatterned v new i
 
--- so are all modules of so many columns and rows, from a column and a row on
+-- the functional patterns leave as they are all modules of so many columns and rows, from a column and a row on
 abbrev pub IsRectanglePatterned : Version → List Module → ℕ → ℕ → ℕ → ℕ → Type 0
 IsRectanglePatterned v modules left top across down =
     (x y : ℕ) → left ≤ x → x < left + across → top ≤ y → y < top + down → IsPatterned v modules (y * side v + x)

@@ -1,4 +1,5 @@
-//! Symbols: patterns, data and masks on a canvas of modules. The modules below are given again.
+//! Symbols: patterns, data and masks on a canvas of modules. Error correction and the types stand
+//! here too, as `ec` and `types`.
 #![tactic(auto)]
 
 pub mod canvas;

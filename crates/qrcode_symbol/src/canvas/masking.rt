@@ -108,7 +108,8 @@ fn nth_cost<L: Line>(square: &PackedSquare<'_, L>, k: usize, masked: &mut [L]) -
 fn least_mask<L: Line>(square: &PackedSquare<'_, L>, masked: &mut [L]) -> usize
     requires { length masked.old ≡ square.now.width }
     ensures { IsFirstLeastCost (nth_cost square.now.version square.now.ec_level square.now.width
-        (map L.places square.now.dark.now) (map L.places square.now.free.now)) (mask_count square.now.version) result }
+        (map L.places square.now.dark.now) (map L.places square.now.free.now))
+        (mask_count square.now.version) result }
 {
     let mut best = 0;
     let mut least = u32::MAX;

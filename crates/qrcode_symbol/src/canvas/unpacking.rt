@@ -12,8 +12,10 @@ use super::patterns::color_of;
 use qrcode_penalty::line::Line;
 use qrcode_types::types::Color;
 
+// Light, its name short so that four colours can be seen.
 const L: Color = Color::Light;
 
+// Dark.
 const D: Color = Color::Dark;
 
 // Four colours by the bits of a number, the lowest first.
@@ -103,7 +105,8 @@ pub(super) fn unpack_rows<R: Line, S: Shown>(width: usize, rows: &[R], square: &
     requires size { length rows.now ≡ width }
     requires square { length square.old ≡ width * width }
     ensures { (x y : ℕ) → x < width → y < width
-        → slice_index_or square.new (y * width + x) (S.of Light) ≡ S.of (color_of (dark_in (map R.places rows.now) x y)) }
+        → slice_index_or square.new (y * width + x) (S.of Light)
+        ≡ S.of (color_of (dark_in (map R.places rows.now) x y)) }
 {
     for y in 0..width {
         unpack_row(rows[y], &mut square[y * width..(y + 1) * width]);
