@@ -9,31 +9,32 @@ unfolding number_bits
 begun_bit zero begun tail h = absurd (omega arith)
 begun_bit (suc n) begun tail h = let e : suc n - 1 ≡ n = omega arith in rw e refl
 
-top_of : (m : ℕ) (byte : ℕ) (rest : List ℕ) → take (suc (suc (suc (suc (suc (suc (suc (suc m)))))))) (bits_of (byte ∷ rest)) ≡ has_bit byte 7 ∷ (number_bits 7 byte ++ take m (bits_of rest))
+top_of : (m : ℕ) (byte : ℕ) (rest : List ℕ) → take (suc (suc (suc (suc (suc (suc (suc (suc m)))))))) (bits_of (byte ∷ rest)) ≡ number_bits 8 byte ++ take m (bits_of rest)
 unfolding number_bits
 top_of m byte rest = refl
 
 -- of a byte that is drawn whole
-pub whole_byte : (n byte : ℕ) (rest : List ℕ) → 8 ≤ n → take n (bits_of (byte ∷ rest)) ≡ has_bit byte 7 ∷ (number_bits 7 byte ++ take (n - 8) (bits_of rest))
+whole_byte : (n byte : ℕ) (rest : List ℕ) → 8 ≤ n → take n (bits_of (byte ∷ rest)) ≡ number_bits 8 byte ++ take (n - 8) (bits_of rest)
 whole_byte n byte rest h =
     let e : n ≡ suc (suc (suc (suc (suc (suc (suc (suc (n - 8)))))))) = omega arith in
     ap (λ (k : ℕ). take k (bits_of (byte ∷ rest))) e ∙ top_of (n - 8) byte rest
 
-four_bits : (byte : ℕ) → take 4 (bits_of (byte ∷ [])) ≡ has_bit byte 7 ∷ has_bit byte 6 ∷ has_bit byte 5 ∷ has_bit byte 4 ∷ []
+high_bits : (byte : ℕ) → take 4 (bits_of (byte ∷ [])) ≡ has_bit byte 7 ∷ has_bit byte 6 ∷ has_bit byte 5 ∷ has_bit byte 4 ∷ []
 unfolding number_bits
-four_bits byte = refl
+high_bits byte = refl
 
-three_bits : (n : ℕ) → number_bits 3 n ≡ has_bit n 2 ∷ has_bit n 1 ∷ has_bit n 0 ∷ []
+four_bits : (n : ℕ) → number_bits 4 n ≡ has_bit n 3 ∷ has_bit n 2 ∷ has_bit n 1 ∷ has_bit n 0 ∷ []
 unfolding number_bits
-three_bits n = refl
+four_bits n = refl
 
 -- of a half codeword
-pub half_byte : (byte : ℕ) → take 4 (bits_of (byte ∷ [])) ≡ has_bit byte 7 ∷ number_bits 3 (byte / 16)
+half_byte : (byte : ℕ) → take 4 (bits_of (byte ∷ [])) ≡ number_bits 4 (byte / 16)
 half_byte byte =
-    let a : has_bit (byte / 16) 2 ≡ has_bit byte 6 = grind (arith, nat_tests) in
-    let b : has_bit (byte / 16) 1 ≡ has_bit byte 5 = grind (arith, nat_tests) in
-    let d : has_bit (byte / 16) 0 ≡ has_bit byte 4 = grind (arith, nat_tests) in
-    four_bits byte ∙ sym (ap (λ (bits : List Bool). has_bit byte 7 ∷ bits) (three_bits (byte / 16) ∙ rw (a, b, d) refl))
+    let a : has_bit (byte / 16) 3 ≡ has_bit byte 7 = grind (arith, nat_tests) in
+    let b : has_bit (byte / 16) 2 ≡ has_bit byte 6 = grind (arith, nat_tests) in
+    let d : has_bit (byte / 16) 1 ≡ has_bit byte 5 = grind (arith, nat_tests) in
+    let e : has_bit (byte / 16) 0 ≡ has_bit byte 4 = grind (arith, nat_tests) in
+    high_bits byte ∙ sym (four_bits (byte / 16) ∙ rw (a, b, d, e) refl)
 
 -- the bits that are not yet drawn
 abbrev pub bits_left : ℕ → ℕ → List ℕ → Bool → List ℕ → List Bool
@@ -42,8 +43,12 @@ bits_left left begun bytes half ec = number_bits left begun ++ (take (8 * length
 pub next_begun : (left begun : ℕ) (bytes : List ℕ) (half : Bool) (ec : List ℕ) → 0 < left → bits_left left begun bytes half ec ≡ has_bit begun (left - 1) ∷ bits_left (left - 1) begun bytes half ec
 next_begun left begun bytes half ec h = begun_bit left begun (take (8 * length bytes - cond half 4 0) (bits_of bytes) ++ bits_of ec) h
 
+nothing_begun : (left begun : ℕ) (tail : List Bool) → left ≡ 0 → number_bits left begun ++ tail ≡ tail
+unfolding number_bits
+nothing_begun left begun tail z = rw z refl
+
 half_last : (left begun : ℕ) (bytes ec : List ℕ) → left ≡ 0 → 0 < length bytes → length (drop 1 bytes) ≡ 0
-    → bits_left left begun bytes true ec ≡ has_bit (get_or bytes 0 0) 7 ∷ bits_left 3 (get_or bytes 0 0 / 16) (drop 1 bytes) true ec
+    → bits_left left begun bytes true ec ≡ bits_left 4 (get_or bytes 0 0 / 16) (drop 1 bytes) true ec
 unfolding number_bits
 half_last left begun [] ec z some last = absurd (omega arith)
 half_last left begun (b ∷ []) ec z some last =
@@ -51,20 +56,21 @@ half_last left begun (b ∷ []) ec z some last =
     rw z (ap (λ (bits : List Bool). bits ++ bits_of ec) (ap (λ (k : ℕ). take k (bits_of (b ∷ []))) e ∙ half_byte b))
 half_last left begun (b ∷ d ∷ bytes) ec z some last = absurd (omega arith)
 
-pub next_half : (left begun : ℕ) (bytes : List ℕ) (half : Bool) (ec : List ℕ) → left ≡ 0 → 0 < length bytes → half ≡ true → length (drop 1 bytes) ≡ 0
-    → bits_left left begun bytes half ec ≡ has_bit (get_or bytes 0 0) 7 ∷ bits_left 3 (get_or bytes 0 0 / 16) (drop 1 bytes) half ec
-next_half left begun bytes half ec z some is last = rw is (half_last left begun bytes ec z some last)
+-- the same bits, when the next byte is begun
+pub begin_half : (left begun : ℕ) (bytes : List ℕ) (half : Bool) (ec : List ℕ) → left ≡ 0 → 0 < length bytes → half ≡ true → length (drop 1 bytes) ≡ 0
+    → bits_left left begun bytes half ec ≡ bits_left 4 (get_or bytes 0 0 / 16) (drop 1 bytes) half ec
+begin_half left begun bytes half ec z some is last = rw is (half_last left begun bytes ec z some last)
 
-pub next_whole : (left begun : ℕ) (bytes : List ℕ) (half : Bool) (ec : List ℕ) → left ≡ 0 → 0 < length bytes → half ≡ false ⊎ 0 < length (drop 1 bytes)
-    → bits_left left begun bytes half ec ≡ has_bit (get_or bytes 0 0) 7 ∷ bits_left 7 (get_or bytes 0 0) (drop 1 bytes) half ec
-unfolding number_bits
-next_whole left begun [] half ec z some more = absurd (omega arith)
-next_whole left begun (b ∷ bytes) half ec z some more =
+pub begin_whole : (left begun : ℕ) (bytes : List ℕ) (half : Bool) (ec : List ℕ) → left ≡ 0 → 0 < length bytes → half ≡ false ⊎ 0 < length (drop 1 bytes)
+    → bits_left left begun bytes half ec ≡ bits_left 8 (get_or bytes 0 0) (drop 1 bytes) half ec
+begin_whole left begun [] half ec z some more = absurd (omega arith)
+begin_whole left begun (b ∷ bytes) half ec z some more =
     let n = 8 * length (b ∷ bytes) - cond half 4 0 in
     let long : 8 ≤ n = elim more [ inl whole ↦ (rw whole (omega arith)) | inr rest ↦ omega (arith, at_most_four half) ] in
     let e : n - 8 ≡ 8 * length bytes - cond half 4 0 = omega arith in
-    rw z (ap (λ (bits : List Bool). bits ++ bits_of ec) (whole_byte n b bytes long ∙ ap (λ (k : ℕ). has_bit b 7 ∷ (number_bits 7 b ++ take k (bits_of bytes))) e)
-    ∙ ap (λ (bits : List Bool). has_bit b 7 ∷ bits) (append_assoc (number_bits 7 b) (take (8 * length bytes - cond half 4 0) (bits_of bytes)) (bits_of ec))) where
+    nothing_begun left begun (take n (bits_of (b ∷ bytes)) ++ bits_of ec) z
+    ∙ ap (λ (bits : List Bool). bits ++ bits_of ec) (whole_byte n b bytes long ∙ ap (λ (k : ℕ). number_bits 8 b ++ take k (bits_of bytes)) e)
+    ∙ append_assoc (number_bits 8 b) (take (8 * length bytes - cond half 4 0) (bits_of bytes)) (bits_of ec) where
       at_most_four : (t : Bool) → cond t 4 0 ≤ 4
       at_most_four true = omega arith
       at_most_four false = omega arith
@@ -74,11 +80,11 @@ no_data [] zero e = refl
 no_data [] (suc n) e = refl
 no_data (b ∷ bytes) n e = absurd (omega arith)
 
-pub next_ec : (left begun : ℕ) (bytes : List ℕ) (half : Bool) (ec : List ℕ) → left ≡ 0 → length bytes ≡ 0 → 0 < length ec
-    → bits_left left begun bytes half ec ≡ has_bit (get_or ec 0 0) 7 ∷ bits_left 7 (get_or ec 0 0) bytes half (drop 1 ec)
+pub begin_ec : (left begun : ℕ) (bytes : List ℕ) (half : Bool) (ec : List ℕ) → left ≡ 0 → length bytes ≡ 0 → 0 < length ec
+    → bits_left left begun bytes half ec ≡ bits_left 8 (get_or ec 0 0) bytes half (drop 1 ec)
 unfolding number_bits
-next_ec left begun bytes half [] z none some = absurd (omega arith)
-next_ec left begun bytes half (b ∷ ec) z none some = rw (z, no_data bytes (8 * length bytes - cond half 4 0) none) refl
+begin_ec left begun bytes half [] z none some = absurd (omega arith)
+begin_ec left begun bytes half (b ∷ ec) z none some = rw (z, no_data bytes (8 * length bytes - cond half 4 0) none) refl
 
 pub next_none : (left begun : ℕ) (bytes : List ℕ) (half : Bool) (ec : List ℕ) → left ≡ 0 → length bytes ≡ 0 → length ec ≡ 0 → bits_left left begun bytes half ec ≡ []
 unfolding number_bits

@@ -53,29 +53,24 @@ impl<'a> Codewords<'a> {
         ensures value { result ≡ slice_get self.old 0 }
         ensures rest { self.new ≡ drop 1 self.old }
     {
-        if self.bits_left > 0 {
-            self.bits_left -= 1;
-            return Some((self.begun >> self.bits_left) % 2 == 1);
-        }
-        if !self.bytes.is_empty() {
-            let byte = self.bytes[0] as u32;
-            self.bytes = &self.bytes[1..];
-            if self.has_half && self.bytes.is_empty() {
-                self.begun = byte >> 4;
-                self.bits_left = 3;
-                return Some((byte >> 7) % 2 == 1);
+        if self.bits_left == 0 {
+            if !self.bytes.is_empty() {
+                self.begun = self.bytes[0] as u32;
+                self.bits_left = 8;
+                self.bytes = &self.bytes[1..];
+                if self.has_half && self.bytes.is_empty() {
+                    self.begun >>= 4;
+                    self.bits_left = 4;
+                }
+            } else if !self.ec.is_empty() {
+                self.begun = self.ec[0] as u32;
+                self.bits_left = 8;
+                self.ec = &self.ec[1..];
+            } else {
+                return None;
             }
-            self.begun = byte;
-            self.bits_left = 7;
-            return Some((byte >> 7) % 2 == 1);
         }
-        if self.ec.is_empty() {
-            return None;
-        }
-        let byte = self.ec[0] as u32;
-        self.ec = &self.ec[1..];
-        self.begun = byte;
-        self.bits_left = 7;
-        Some((byte >> 7) % 2 == 1)
+        self.bits_left -= 1;
+        Some((self.begun >> self.bits_left) % 2 == 1)
     }
 }
