@@ -1,5 +1,5 @@
 use Rattle.std.proofs.lemmas.List.{length-map}
-use Rattle.std.proofs.Common.{◌≡◌, ◌+◌, ◌*◌, ℕ, count_ones, ap, sym, ◌∙◌, arith, map}
+use Rattle.std.proofs.Common.{◌≡◌, ◌+◌, ◌*◌, count_ones, ap, sym, ◌∙◌, arith, map}
 use Rattle.qrcode_penalty.proofs.ColumnWords.{read, column_forms, columns_alike, columns_crowded, column_finders_of}
 use Rattle.qrcode_penalty.proofs.Lines.{none_left}
 use Rattle.qrcode_penalty.proofs.columns.column_finders.Goals as goal

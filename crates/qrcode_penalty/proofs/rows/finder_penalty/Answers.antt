@@ -1,4 +1,4 @@
-use Rattle.std.proofs.Common.{◌≡◌, ℕ, ◌*◌, ◌/◌, ◌^◌, count_ones, ap, sym, ◌∙◌, arith, bit_and}
+use Rattle.std.proofs.Common.{◌≡◌, ◌*◌, ◌/◌, ◌^◌, count_ones, ap, sym, ◌∙◌, arith, bit_and}
 use Rattle.qrcode_penalty.proofs.Lines.{fits_up, without, none_left}
 use Rattle.qrcode_penalty.proofs.Finders.{finders_of, forms, darks, lights, crowded, twos, fours, twos_room, crowded_room}
 use Rattle.qrcode_penalty.proofs.rows.finder_penalty.Goals as goal
