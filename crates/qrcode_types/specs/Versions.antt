@@ -23,11 +23,6 @@ is_micro (Micro v) = true
 
 -- What follows takes the number of a version without its sign: whoever speaks of any version asks `is_valid` first.
 
--- the number of a version
-abbrev pub number : Version → ℕ
-number (Normal v) = nat_abs v
-number (Micro v) = nat_abs v
-
 -- the modules along a side
 abbrev pub side : Version → ℕ
 side (Normal v) = 4 * nat_abs v + 17
