@@ -10,7 +10,7 @@ use Rattle.qrcode_types.specs.declared.types.QrError.{QrError}
 use Rattle.qrcode_bits.specs.BitList.{BitList}
 use Rattle.qrcode_bits.specs.Pushes.{Changes, PushesAll, with_bits}
 use Rattle.qrcode_bits.specs.Segments.{AreInside, character_count, cost_of, cost, total_cost}
-use Rattle.qrcode_bits.specs.Refusals.{piece_refusal, pieces_refusal, first_some, IsCause, StopsAt}
+use Rattle.qrcode_bits.specs.Refusals.{piece_refusal, pieces_refusal, first_some, IsCause, StopsAtLast}
 use Rattle.qrcode_bits.specs.Written.{Piece, written_piece, written, pieces_of}
 use Rattle.qrcode_bits.specs.declared.optimize.Segment.{Segment}
 use Rattle.qrcode_bits.proofs.Lengths.{length-piece}
@@ -96,17 +96,20 @@ handed_on (Err x) e P h p = subst P (sym h.1) p
 
 -- the segment behind those that were written is refused
 stops : (v : Version) (old : List Bool) (bytes : List ℕ) (ss : List Segment) (s : Segment) (now : List Bool) (e : QrError)
-    → PushesAll v old bytes ss now → IsCause (piece_refusal v (length now) (piece_of bytes s)) e → StopsAt v old (pieces_of bytes (ss ++ s ∷ [])) e now
+    → PushesAll v old bytes ss now → IsCause (piece_refusal v (length now) (piece_of bytes s)) e → StopsAtLast v old (pieces_of bytes (ss ++ s ∷ [])) e now
 stops v old bytes ss s now e before cause =
     let ps = pieces_of bytes ss in
     let p = piece_of bytes s in
     let front : take (length ps) (ps ++ p ∷ []) ≡ ps = take_at ps (p ∷ []) (length ps) refl in
-    subst (λ qs. StopsAt v old qs e now) (sym (pieces_of-push bytes ss s)) (record {
-      place = length ps;
-      inside = omega (arith, length-append ps (p ∷ []));
-      before = ap (pieces_refusal v (length old)) front ∙ before.taken;
-      written = before.bits ∙ ap (λ qs. old ++ written v qs) (sym front);
-      cause = subst (λ o. IfSome o (λ q. IsCause (piece_refusal v (length now) q) e)) (sym (at_end ps p)) cause;
+    subst (λ qs. StopsAtLast v old qs e now) (sym (pieces_of-push bytes ss s)) (record {
+      stops = record {
+        place = length ps;
+        inside = omega (arith, length-append ps (p ∷ []));
+        before = ap (pieces_refusal v (length old)) front ∙ before.taken;
+        written = before.bits ∙ ap (λ qs. old ++ written v qs) (sym front);
+        cause = subst (λ o. IfSome o (λ q. IsCause (piece_refusal v (length now) q) e)) (sym (at_end ps p)) cause;
+      };
+      last = omega (arith, length-append ps (p ∷ []));
     })
 
 -- a segment that is pushed, behind others
@@ -126,9 +129,9 @@ pushes_segment v old bytes ss s now new u range same before pushed =
 pub refuses_segment : (v : Version) (old : List Bool) (bytes : List ℕ) (ss : List Segment) (s : Segment) (now new : BitList) (e : QrError)
     → now.version ≡ v → PushesAll v old bytes ss now.bits
     → Changes (piece_refusal now.version (length now.bits) (piece_of bytes s)) now (with_bits now (written_piece now.version (piece_of bytes s))) new (Err e)
-    → StopsAt v old (pieces_of bytes (ss ++ s ∷ [])) e new.bits
+    → StopsAtLast v old (pieces_of bytes (ss ++ s ∷ [])) e new.bits
 refuses_segment v old bytes ss s now new e same before refused =
     let p = piece_of bytes s in
     let cause = cause_of (piece_refusal now.version (length now.bits) p) now (with_bits now (written_piece now.version p)) new e refused in
     let stop = stops v old bytes ss s now.bits e before (subst (λ w. IsCause (piece_refusal w (length now.bits) p) e) same cause) in
-    subst (StopsAt v old (pieces_of bytes (ss ++ s ∷ [])) e) (sym (ap (λ (l : BitList). l.bits) refused.unchanged)) stop
+    subst (StopsAtLast v old (pieces_of bytes (ss ++ s ∷ [])) e) (sym (ap (λ (l : BitList). l.bits) refused.unchanged)) stop

@@ -12,7 +12,7 @@ ghost use Rattle.qrcode_types.specs.declared.types.QrError.TheVariants.{DataTooL
 ghost use Rattle.qrcode_bits.specs.Segments.{character_count, cost_of, AreInside};
 ghost use Rattle.qrcode_bits.specs.Written.{Piece, written, written_piece, pieces_of, terminated, eci_bits};
 ghost use Rattle.qrcode_bits.specs.Spelling.{IsReadable, SpellsOnly};
-ghost use Rattle.qrcode_bits.specs.Refusals.{bit_limit, piece_refusal, count_refusal, append_refusal, indicator_bits, eci_refusal, terminator_refusal, StopsAt};
+ghost use Rattle.qrcode_bits.specs.Refusals.{bit_limit, piece_refusal, count_refusal, append_refusal, indicator_bits, eci_refusal, terminator_refusal, StopsAtLast};
 ghost use Rattle.qrcode_bits.specs.declared.optimize.Segment.{Segment};
 ghost use Rattle.qrcode_bits.specs.Pushes.{Changes, Appends, PushesAll};
 
@@ -307,7 +307,7 @@ impl Bits {
             × PushesAll self.old.version self.old.bits «data».now given self.new.bits)) }
         ensures stopped { IfErr result (λ e. (given : List Segment) × ((rest : I)
             × (Yields I.next_gives segments given rest
-            × StopsAt self.old.version self.old.bits (pieces_of «data».now given) e
+            × StopsAtLast self.old.version self.old.bits (pieces_of «data».now given) e
             self.new.bits))) }
         ensures version { self.new.version ≡ self.old.version }
     {

@@ -40,5 +40,5 @@ returns-clause-stopped c =
     if_err c.push_segments.result
     (λ e stopped.
     let r = given_first into_iter_steps c.args.segments.items c.into_iter.result stopped.1.0 stopped.0 (gives k) stopped.1.1.0 in
-    subst (λ ss. StopsAt old.version old.bits (pieces_of bytes ss) e new) (sym r.1.0) (stops_first old.version old.bits bytes stopped.0 r.0 e new stopped.1.1.1))
+    subst (λ ss. StopsAt old.version old.bits (pieces_of bytes ss) e new) (sym r.1.0) (stops_first old.version old.bits bytes stopped.0 r.0 e new stopped.1.1.1.stops))
     c.push_segments.ensures.stopped

@@ -1,7 +1,7 @@
 use Rattle.std.proofs.Common.{◌≤◌, List, [], ◌∷◌, ◌++◌, length}
 use Rattle.std.specs.Iterator.{HoldsAlong, Yields}
 use Rattle.std.proofs.iter.Next.{Yields-more}
-use Rattle.qrcode_bits.specs.Refusals.{StopsAt}
+use Rattle.qrcode_bits.specs.Refusals.{StopsAtLast}
 use Rattle.qrcode_bits.specs.Segments.{AreInside}
 use Rattle.qrcode_bits.specs.Written.{pieces_of}
 use Rattle.qrcode_bits.specs.declared.optimize.Segment.{Segment}
@@ -43,6 +43,6 @@ returns-in_err-push_segment-clause-stopped g c =
     let yields : Yields g.I.Iterator.next_gives c.args.segments (xs ++ x ∷ []) c.next.new.self = rw it.ensures.into_iter_gives at more in
     let stop = refuses_segment old.version old.bits bytes xs x c.loop-segment.self c.push_segment.new.self e c.loop-segment.invariant.version c.loop-segment.invariant.pushed c.in_err-push_segment.ensures in
     handed_on c.from_residual.result e
-    (λ e. (given : List Segment) × ((rest : _) × (Yields g.I.Iterator.next_gives c.args.segments given rest × StopsAt old.version old.bits (pieces_of bytes given) e new)))
+    (λ e. (given : List Segment) × ((rest : _) × (Yields g.I.Iterator.next_gives c.args.segments given rest × StopsAtLast old.version old.bits (pieces_of bytes given) e new)))
     c.from_residual.ensures
     (xs ++ x ∷ [], (c.next.new.self, (yields, stop)))
