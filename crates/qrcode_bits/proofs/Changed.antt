@@ -1,6 +1,7 @@
 -- The three ways in which a push ends, and what refuses a piece.
 use Rattle.std.proofs.Common.{◌≡◌, ℕ, ◌+◌, ◌^◌, ◌<◌, ◌≤◌, ◌++◌, Bool, true, false, not, ◌&&◌, List, length, refl, sym, subst, ap, ◌∙◌, arith, Option, Some, None, IsTrue, if◌then◌else◌, length-append}
 use Rattle.std.specs.Prelude.{nat_le, nat_lt, Result, Ok, Err, OnOk, IsErr, IsErrAnd}
+use Rattle.std.specs.Option.{option_or}
 use Rattle.std.proofs.lemmas.Result.{on_ok_weaker}
 use Rattle.std.proofs.lemmas.Bool.{not-true, not-false, false≢true, ltb-true, leb-true, cond-true, cond-false, le-leb, lt-leb}
 use Rattle.qrcode_types.specs.Versions.{has_level, capacity}
@@ -50,13 +51,7 @@ terminator_fits v l used exists fits =
 
 -- a count that is refused refuses the piece
 pub by_count : (v : Version) (used : ℕ) (p : Piece) (e : QrError) → count_refusal v used p.mode (character_count p.mode (length p.chunk)) ≡ Some e → piece_refusal v used p ≡ Some e
-by_count v used p e h =
-    let count = character_count p.mode (length p.chunk) in
-    by_tests (not (has_mode v p.mode)) (not (nat_lt count (2 ^ length_bits_count p.mode v) && nat_le (used + cost_of v p.mode count) bit_limit)) (is_checked p.mode && not (can_write p.mode p.chunk)) h where
-      by_tests : (a b c : Bool) → (if a then Some UnsupportedCharacterSet else (if b then Some DataTooLong else None)) ≡ Some e → (if a then Some UnsupportedCharacterSet else (if b then Some DataTooLong else (if c then Some InvalidCharacter else None))) ≡ Some e
-      by_tests true b c h = h
-      by_tests false true c h = h
-      by_tests false false c h = cc
+by_count v used p e h = ap (λ o. option_or o (if is_checked p.mode && not (can_write p.mode p.chunk) then Some InvalidCharacter else None)) h
 
 -- a count that is not refused: its mode exists, it fits its length field, and the list has room
 pub record Takes (v : Version) (used : ℕ) (m : Mode) (count : ℕ) : Type 0 where
@@ -77,13 +72,7 @@ takes v used m count h =
 -- then its bytes alone may refuse it
 by_bytes : (v : Version) (used : ℕ) (p : Piece) → count_refusal v used p.mode (character_count p.mode (length p.chunk)) ≡ None
     → piece_refusal v used p ≡ (if is_checked p.mode && not (can_write p.mode p.chunk) then Some InvalidCharacter else None)
-by_bytes v used p h =
-    let count = character_count p.mode (length p.chunk) in
-    by_tests (not (has_mode v p.mode)) (not (nat_lt count (2 ^ length_bits_count p.mode v) && nat_le (used + cost_of v p.mode count) bit_limit)) (is_checked p.mode && not (can_write p.mode p.chunk)) h where
-      by_tests : (a b c : Bool) → (if a then Some UnsupportedCharacterSet else (if b then Some DataTooLong else None)) ≡ None → (if a then Some UnsupportedCharacterSet else (if b then Some DataTooLong else (if c then Some InvalidCharacter else None))) ≡ (if c then Some InvalidCharacter else None)
-      by_tests true b c h = cc
-      by_tests false true c h = cc
-      by_tests false false c h = refl
+by_bytes v used p h = ap (λ o. option_or o (if is_checked p.mode && not (can_write p.mode p.chunk) then Some InvalidCharacter else None)) h
 
 -- bytes that the mode cannot write
 pub bad_bytes : (v : Version) (used : ℕ) (p : Piece) → count_refusal v used p.mode (character_count p.mode (length p.chunk)) ≡ None

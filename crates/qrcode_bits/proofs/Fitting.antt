@@ -2,6 +2,7 @@
 use Rattle.std.proofs.Common.{◌≡◌, ℕ, zero, suc, ◌+◌, ◌^◌, ◌≤◌, ◌<◌, Bool, true, false, not, ◌&&◌, List, [], ◌∷◌, length, take, refl, ap, subst, ◌∙◌, arith, ◌⊎◌, inl, inr, Option, Some, None, IsTrue, length-append, if◌then◌else◌}
 use Rattle.std.specs.Prelude.{slice_get, slice_range, nat_le, nat_lt, IfSome}
 use Rattle.std.specs.List.{AllByRecursion}
+use Rattle.std.specs.Option.{option_or}
 use Rattle.std.proofs.lemmas.Bool.{and_from, le-leb, lt-ltb}
 use Rattle.qrcode_types.specs.Versions.{is_valid, capacity}
 use Rattle.qrcode_types.specs.Modes.{has_mode, length_bits_count}
@@ -33,7 +34,7 @@ sound_cause v used p e sound =
     let count = character_count p.mode (length p.chunk) in
     by_tests (not (has_mode v p.mode)) (not (nat_lt count (2 ^ length_bits_count p.mode v) && nat_le (used + cost_of v p.mode count) bit_limit)) (is_checked p.mode && not (can_write p.mode p.chunk))
     (ap not sound.0) (checked (is_checked p.mode) (can_write p.mode p.chunk) sound.1) where
-      by_tests : (a b c : Bool) → a ≡ false → c ≡ false → IsCause (if a then Some UnsupportedCharacterSet else (if b then Some DataTooLong else (if c then Some InvalidCharacter else None))) e → (e ≡ DataTooLong) ⊎ (e ≡ OutOfMemory)
+      by_tests : (a b c : Bool) → a ≡ false → c ≡ false → IsCause (option_or (if a then Some UnsupportedCharacterSet else (if b then Some DataTooLong else None)) (if c then Some InvalidCharacter else None)) e → (e ≡ DataTooLong) ⊎ (e ≡ OutOfMemory)
       by_tests true b c h k = λ is. cc
       by_tests false true c h k = λ is. inl is
       by_tests false false true h k = λ is. cc
@@ -48,7 +49,7 @@ readable_taken v used p r room =
     ap not (and_from _ _ (lt-ltb count (2 ^ length_bits_count p.mode v) r.counted) (le-leb (used + cost_of v p.mode count) bit_limit fits)) in
     by_tests (not (has_mode v p.mode)) (not (nat_lt count (2 ^ length_bits_count p.mode v) && nat_le (used + cost_of v p.mode count) bit_limit)) (is_checked p.mode && not (can_write p.mode p.chunk))
     (ap not r.mode_exists) long (checked (is_checked p.mode) (can_write p.mode p.chunk) r.writable) where
-      by_tests : (a b c : Bool) → a ≡ false → b ≡ false → c ≡ false → (if a then Some UnsupportedCharacterSet else (if b then Some DataTooLong else (if c then Some InvalidCharacter else None))) ≡ None
+      by_tests : (a b c : Bool) → a ≡ false → b ≡ false → c ≡ false → option_or (if a then Some UnsupportedCharacterSet else (if b then Some DataTooLong else None)) (if c then Some InvalidCharacter else None) ≡ None
       by_tests true b c h k l = cc
       by_tests false true c h k l = cc
       by_tests false false true h k l = cc

@@ -2,6 +2,7 @@
 use Rattle.std.proofs.Common.{◌≡◌, ℕ, ◌+◌, ◌-◌, ◌≤◌, ◌++◌, Bool, List, [], ◌∷◌, length, take, refl, sym, ap, subst, ◌∙◌, arith, Option, Some, None, length-append, append_assoc, append-nil}
 use Rattle.std.specs.Prelude.{slice_get, slice_range, Result, Ok, Err, IsErr, IsErrAnd, IfErr, IfSome}
 use Rattle.std.specs.List.{AllByRecursion}
+use Rattle.std.specs.Option.{option_or}
 use Rattle.std.proofs.lemmas.Grind.{flat_map-append}
 use Rattle.std.proofs.lemmas.List.{map-append, take_at}
 use Rattle.std.proofs.lemmas.List.Sums.{sum_by-cons}
@@ -10,30 +11,30 @@ use Rattle.qrcode_types.specs.declared.types.QrError.{QrError}
 use Rattle.qrcode_bits.specs.BitList.{BitList}
 use Rattle.qrcode_bits.specs.Pushes.{Changes, PushesAll, with_bits}
 use Rattle.qrcode_bits.specs.Segments.{AreInside, character_count, cost_of, cost, total_cost}
-use Rattle.qrcode_bits.specs.Refusals.{piece_refusal, pieces_refusal, first_some, IsCause, StopsAtLast}
+use Rattle.qrcode_bits.specs.Refusals.{piece_refusal, pieces_refusal, IsCause, StopsAtLast}
 use Rattle.qrcode_bits.specs.Written.{Piece, written_piece, written, pieces_of}
 use Rattle.qrcode_bits.specs.declared.optimize.Segment.{Segment}
 use Rattle.qrcode_bits.proofs.Lengths.{length-piece}
 use Rattle.qrcode_bits.proofs.SegmentRanges.{length-range}
 
-first_some-None : {A : Type 0} (a b : Option A) → first_some a b ≡ None → (a ≡ None) × (b ≡ None)
-first_some-None (Some x) b h = cc
-first_some-None None b h = (refl, h)
+option_or-None : {A : Type 0} (a b : Option A) → option_or a b ≡ None → (a ≡ None) × (b ≡ None)
+option_or-None (Some x) b h = cc
+option_or-None None b h = (refl, h)
 
-first_some-both : {A : Type 0} (a b : Option A) → a ≡ None → b ≡ None → first_some a b ≡ None
-first_some-both (Some x) b h k = cc
-first_some-both None b h k = k
+option_or-both : {A : Type 0} (a b : Option A) → a ≡ None → b ≡ None → option_or a b ≡ None
+option_or-both (Some x) b h k = cc
+option_or-both None b h k = k
 
 -- one piece more
 refusal-push : (v : Version) (used : ℕ) (ps : List Piece) (p : Piece) → pieces_refusal v used ps ≡ None → piece_refusal v (used + length (written v ps)) p ≡ None → pieces_refusal v used (ps ++ p ∷ []) ≡ None
 refusal-push v used [] p h k =
     let e : used + 0 ≡ used = omega arith in
-    first_some-both (piece_refusal v used p) None (sym (ap (λ n. piece_refusal v n p) e) ∙ k) refl
+    option_or-both (piece_refusal v used p) None (sym (ap (λ n. piece_refusal v n p) e) ∙ k) refl
 refusal-push v used (q ∷ ps) p h k =
     let used' = used + cost_of v q.mode (character_count q.mode (length q.chunk)) in
-    let both = first_some-None (piece_refusal v used q) (pieces_refusal v used' ps) h in
+    let both = option_or-None (piece_refusal v used q) (pieces_refusal v used' ps) h in
     let e : used + length (written v (q ∷ ps)) ≡ used' + length (written v ps) = omega (arith, length-append (written_piece v q) (written v ps), length-piece v q) in
-    first_some-both (piece_refusal v used q) (pieces_refusal v used' (ps ++ p ∷ [])) both.0
+    option_or-both (piece_refusal v used q) (pieces_refusal v used' (ps ++ p ∷ [])) both.0
     (refusal-push v used' ps p both.1 (sym (ap (λ n. piece_refusal v n p) e) ∙ k))
 
 written-push : (v : Version) (ps : List Piece) (p : Piece) → written v (ps ++ p ∷ []) ≡ written v ps ++ written_piece v p

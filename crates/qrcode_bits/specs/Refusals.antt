@@ -1,5 +1,6 @@
 -- What the pushes of a list of bits refuse, and how far they come. Where nothing refuses, want of memory still may.
 use Rattle.std.specs.Prelude.{◌≡◌, ℕ, ◌+◌, ◌^◌, ◌<◌, nat_le, nat_lt, ◌&&◌, ◌++◌, not, Bool, true, false, List, [], ◌∷◌, length, take, slice_get, IfSome, Option, Some, None, if◌then◌else◌}
+use Rattle.std.specs.Option.{option_or}
 use Rattle.qrcode_types.specs.Bits.{number_bits}
 use Rattle.qrcode_types.specs.Characters.{can_write}
 use Rattle.qrcode_types.specs.Versions.{has_level, capacity}
@@ -41,19 +42,12 @@ count_refusal v used m count =
 -- field, or the list would grow too long; the mode cannot write a byte.
 abbrev pub piece_refusal : Version → ℕ → Piece → Option QrError
 piece_refusal v used p =
-    let count = character_count p.mode (length p.chunk) in
-    if not (has_mode v p.mode) then Some UnsupportedCharacterSet else
-    (if not (nat_lt count (2 ^ length_bits_count p.mode v) && nat_le (used + cost_of v p.mode count) bit_limit) then Some DataTooLong else
-    (if is_checked p.mode && not (can_write p.mode p.chunk) then Some InvalidCharacter else None))
-
-abbrev pub first_some : {A : Type 0} → Option A → Option A → Option A
-first_some (Some a) other = Some a
-first_some None other = other
+    option_or (count_refusal v used p.mode (character_count p.mode (length p.chunk))) (if is_checked p.mode && not (can_write p.mode p.chunk) then Some InvalidCharacter else None)
 
 -- the first refusal of pieces that are written one after the other
 abbrev pub pieces_refusal : Version → ℕ → List Piece → Option QrError
 pieces_refusal v used [] = None
-pieces_refusal v used (p ∷ pieces) = first_some (piece_refusal v used p) (pieces_refusal v (used + cost_of v p.mode (character_count p.mode (length p.chunk))) pieces)
+pieces_refusal v used (p ∷ pieces) = option_or (piece_refusal v used p) (pieces_refusal v (used + cost_of v p.mode (character_count p.mode (length p.chunk))) pieces)
 
 -- the bits of a mode indicator; none where the version lacks it
 abbrev pub indicator_bits : Version → ExtendedMode → Option (List Bool)
