@@ -1,5 +1,5 @@
 -- Which data a constructor accepts, and what it makes of it.
-use Rattle.std.specs.Prelude.{◌≡◌, ℕ, ◌≤◌, Bool, List, length, IsTrue}
+use Rattle.std.specs.Prelude.{ℕ, ◌≤◌, List, length, IsTrue}
 use Rattle.qrcode_types.specs.Versions.{has_level, capacity}
 use Rattle.qrcode_types.specs.declared.types.Version.{Version}
 use Rattle.qrcode_types.specs.declared.types.EcLevel.{EcLevel}
@@ -7,7 +7,6 @@ use Rattle.qrcode_types.specs.declared.types.Color.{Color}
 use Rattle.qrcode_bits.specs.Cuts.{IsCut, IsLeastCut, FitsIn}
 use Rattle.qrcode_bits.specs.Choice.{IsChosen}
 use Rattle.qrcode_bits.specs.Refusals.{data_limit}
-use Rattle.qrcode_bits.specs.Spelling.{Spells}
 use Rattle.qrcode_bits.specs.Written.{written, terminated, pieces_of}
 use Rattle.qrcode_bits.specs.declared.optimize.Segment.{Segment}
 use Rattle.qrcode.specs.Reading.{ReadsOnly, Encodes}
@@ -21,10 +20,6 @@ pub record IsAccepted (v : Version) (l : EcLevel) (bytes : List ℕ) : Type 0 wh
 -- the data can be cut into segments in modes of the version
 abbrev pub HasCut : Version → List ℕ → Type 0
 HasCut v bytes = (segments : List Segment) × IsCut v bytes segments
-
--- some bits that fill a symbol spell the data
-abbrev pub IsSpelled : Version → EcLevel → List ℕ → Type 0
-IsSpelled v l bytes = (bits : List Bool) × ((length bits ≡ capacity v l) × Spells v bits bytes)
 
 -- the symbol of the bits of segments, of which every damaged symbol is read as the data and as nothing else
 abbrev pub EncodesCut : Version → EcLevel → List ℕ → List Segment → List Color → Type 0

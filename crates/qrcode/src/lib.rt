@@ -22,7 +22,7 @@ ghost use Rattle.qrcode_bits.specs.Segments.{total_cost, AreInside};
 ghost use Rattle.qrcode_bits.specs.Spelling.{IsReadable, SpellsOnly};
 ghost use Rattle.qrcode_bits.specs.Written.{written, terminated, pieces_of};
 ghost use Rattle.qrcode_bits.specs.declared.optimize.Segment.{Segment};
-ghost use Rattle.qrcode.specs.Acceptance.{IsAccepted, HasCut, IsSpelled, IsLeastSymbol, IsChosenSymbol};
+ghost use Rattle.qrcode.specs.Acceptance.{IsAccepted, HasCut, IsLeastSymbol, IsChosenSymbol};
 ghost use Rattle.qrcode.specs.Drawing.{IsBestDrawing};
 ghost use Rattle.qrcode.specs.Pictures.{quiet_zone, debug_text};
 ghost use Rattle.qrcode.specs.Reading.{Encodes};

@@ -13,7 +13,7 @@ use Rattle.qrcode_types.specs.declared.types.Mode.{Mode}
 use Rattle.qrcode_types.specs.declared.types.Mode.TheVariants.{Numeric, Alphanumeric, Byte, Kanji}
 use Rattle.qrcode_bits.specs.Segments.{character_count, cost_of, cost, total_cost, Tile}
 use Rattle.qrcode_bits.specs.Written.{Piece, written_piece, written, pieces_of, terminated}
-use Rattle.qrcode_bits.specs.Spelling.{IsReadable, IsReadAs, Spells}
+use Rattle.qrcode_bits.specs.Spelling.{IsReadable, IsReadAs, Spells, IsSpelled}
 use Rattle.qrcode_bits.specs.Cuts.{IsCut, FitsIn}
 use Rattle.qrcode_bits.specs.declared.optimize.Segment.{Segment}
 use Rattle.qrcode_bits.proofs.Lengths.{length-piece}
@@ -87,7 +87,7 @@ spells_cut v bits bytes h =
     } in
     (ranges 0 ps, (cut, omega (arith, ranges_cost v 0 ps, written_within v bits ps h.read)))
 
-pub fits_spelled : (v : Version) (bytes : List ℕ) → IsTrue (is_valid v) → (l : EcLevel) → FitsIn v bytes (capacity v l) ↔ ((bits : List Bool) × ((length bits ≡ capacity v l) × Spells v bits bytes))
+pub fits_spelled : (v : Version) (bytes : List ℕ) → IsTrue (is_valid v) → (l : EcLevel) → FitsIn v bytes (capacity v l) ↔ IsSpelled v l bytes
 fits_spelled v bytes h l = (
   λ fits.
       let ss = fits.0 in

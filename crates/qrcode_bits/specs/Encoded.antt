@@ -1,5 +1,5 @@
 -- What the automatic choice of a version gives.
-use Rattle.std.specs.Prelude.{◌≡◌, ℕ, ◌≤◌, pos, Bool, List, length, IsTrue}
+use Rattle.std.specs.Prelude.{◌≡◌, ℕ, ◌≤◌, pos, List, length, IsTrue}
 use Rattle.qrcode_types.specs.Versions.{capacity, has_level}
 use Rattle.qrcode_types.specs.declared.types.Version.{Version}
 use Rattle.qrcode_types.specs.declared.types.Version.TheVariants.{Normal}
@@ -9,7 +9,7 @@ use Rattle.qrcode_bits.specs.Segments.{total_cost}
 use Rattle.qrcode_bits.specs.Cuts.{IsCut, IsLeastCut}
 use Rattle.qrcode_bits.specs.Choice.{least_version, IsChosen}
 use Rattle.qrcode_bits.specs.Written.{written, pieces_of, terminated}
-use Rattle.qrcode_bits.specs.Spelling.{Spells, SpellsOnly}
+use Rattle.qrcode_bits.specs.Spelling.{SpellsOnly}
 use Rattle.qrcode_bits.specs.declared.optimize.Segment.{Segment}
 
 -- the list is for a version, and its bits are the segments of a cut, terminated; they are read as the data, and as no other
@@ -33,10 +33,6 @@ pub record IsChosenList (l : EcLevel) (bytes : List ℕ) (list : BitList) : Type
   pub segments : List Segment
   pub chosen : IsChosen l bytes list.version segments
   pub terminated : IsTerminated list.version l bytes segments list
-
--- some bits that fill a symbol of a Normal version spell the data
-abbrev pub IsSpelledIn : ℕ → EcLevel → List ℕ → Type 0
-IsSpelledIn n l bytes = (bits : List Bool) × ((length bits ≡ capacity (Normal (pos n)) l) × Spells (Normal (pos n)) bits bytes)
 
 -- a Normal version of at most a number
 abbrev pub IsNormalUpTo : ℕ → Version → Type 0

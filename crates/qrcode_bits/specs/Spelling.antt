@@ -2,7 +2,9 @@
 use Rattle.std.specs.Prelude.{◌≡◌, ℕ, ◌^◌, ◌<◌, not, Bool, List, [], ◌∷◌, ◌++◌, length, take, flat_map, IsTrue, IsFalse}
 use Rattle.std.specs.List.{list_all}
 use Rattle.qrcode_types.specs.Modes.{has_mode, length_bits_count}
+use Rattle.qrcode_types.specs.Versions.{capacity}
 use Rattle.qrcode_types.specs.declared.types.Version.{Version}
+use Rattle.qrcode_types.specs.declared.types.EcLevel.{EcLevel}
 use Rattle.qrcode_types.specs.Characters.{can_write}
 use Rattle.qrcode_bits.specs.Segments.{character_count}
 use Rattle.qrcode_bits.specs.Written.{Piece, written_piece, terminator_length}
@@ -28,6 +30,10 @@ pub record Spells (v : Version) (bits : List Bool) (bytes : List ℕ) : Type 0 w
   pub pieces : List Piece
   pub read : IsReadAs v bits pieces
   pub joined : flat_map (λ p. p.chunk) pieces ≡ bytes
+
+-- some bits that fill a symbol spell the data
+abbrev pub IsSpelled : Version → EcLevel → List ℕ → Type 0
+IsSpelled v l bytes = (bits : List Bool) × ((length bits ≡ capacity v l) × Spells v bits bytes)
 
 -- a reader finds these bytes in the bits, and no others
 pub record SpellsOnly (v : Version) (bits : List Bool) (bytes : List ℕ) : Type 0 where

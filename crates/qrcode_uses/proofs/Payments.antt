@@ -10,9 +10,8 @@ use Rattle.qrcode_types.specs.Characters.{can_write}
 use Rattle.qrcode_types.specs.declared.types.EcLevel.TheVariants.{M}
 use Rattle.qrcode_types.specs.declared.types.Mode.TheVariants.{Byte}
 use Rattle.qrcode_types.specs.declared.types.Version.TheVariants.{Normal}
-use Rattle.qrcode_bits.specs.Spelling.{is_end}
+use Rattle.qrcode_bits.specs.Spelling.{is_end, IsSpelled}
 use Rattle.qrcode_bits.specs.Written.{Piece, written_piece}
-use Rattle.qrcode.specs.Acceptance.{IsSpelled}
 
 length-number_bits : (count n : ℕ) → length (number_bits count n) ≡ count
 unfolding number_bits

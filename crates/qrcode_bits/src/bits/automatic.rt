@@ -11,7 +11,8 @@ ghost use Rattle.qrcode_bits.specs.Segments.{total_cost};
 ghost use Rattle.qrcode_bits.specs.Cuts.{IsCut, FitsIn};
 ghost use Rattle.qrcode_bits.specs.Choice as choice;
 ghost use Rattle.qrcode_bits.specs.Choice.{bands, NoneHolds, IsChosen};
-ghost use Rattle.qrcode_bits.specs.Encoded.{IsTerminated, IsHeld, IsChosenList, IsSpelledIn, IsNormalUpTo};
+ghost use Rattle.qrcode_bits.specs.Encoded.{IsTerminated, IsHeld, IsChosenList, IsNormalUpTo};
+ghost use Rattle.qrcode_bits.specs.Spelling.{IsSpelled};
 ghost use Rattle.qrcode_bits.specs.Refusals.{data_limit};
 ghost use Rattle.qrcode_bits.specs.declared.optimize.Segment.{Segment};
 
@@ -40,12 +41,12 @@ pub fn encode_auto(alloc: Global, data: &[u8], ec_level: EcLevel) -> QrResult<Bi
     // A version of Normal holds the data just where some bits that fill a symbol of it spell the data.
     ensures held { (n : ℕ) → 1 ≤ n → n ≤ 40
         → FitsIn (Normal (pos n)) «data».now (versions.capacity (Normal (pos n)) ec_level)
-        ↔ IsSpelledIn n ec_level «data».now }
+        ↔ IsSpelled (Normal (pos n)) ec_level «data».now }
 
     // Data that some version of Normal holds is taken, in a version that is no greater.
-    ensures takes { (n : ℕ) → 1 ≤ n → n ≤ 40 → IsSpelledIn n ec_level «data».now
+    ensures takes { (n : ℕ) → 1 ≤ n → n ≤ 40 → IsSpelled (Normal (pos n)) ec_level «data».now
         → IsOkUnless result OutOfMemory }
-    ensures least_version { (n : ℕ) → 1 ≤ n → n ≤ 40 → IsSpelledIn n ec_level «data».now
+    ensures least_version { (n : ℕ) → 1 ≤ n → n ≤ 40 → IsSpelled (Normal (pos n)) ec_level «data».now
         → IfOk result (λ list. IsNormalUpTo n list.version) }
 {
     if data.len() > DATA_LIMIT {

@@ -1,13 +1,13 @@
 //! Data in the fewest bits.
 
-ghost use Rattle.std.specs.Prelude.{◌≡◌, ◌+◌, ◌<◌, ◌≤◌, ◌⊎◌, ◌↔◌, Bool, List, length, Err, IfErr, OnOk, IsOkUnless};
+ghost use Rattle.std.specs.Prelude.{◌≡◌, ◌+◌, ◌<◌, ◌≤◌, ◌⊎◌, ◌↔◌, List, length, Err, IfErr, OnOk, IsOkUnless};
 ghost use Rattle.qrcode_types.specs.Versions.{capacity};
 ghost use Rattle.qrcode_types.specs.declared.types.EcLevel.{EcLevel};
 ghost use Rattle.qrcode_types.specs.declared.types.QrError.TheVariants.{DataTooLong, UnsupportedCharacterSet, OutOfMemory};
 ghost use Rattle.qrcode_bits.specs.Segments.{AreInside};
 ghost use Rattle.qrcode_bits.specs.Cuts.{IsCut, FitsIn};
 ghost use Rattle.qrcode_bits.specs.Written.{pieces_of};
-ghost use Rattle.qrcode_bits.specs.Spelling.{Spells};
+ghost use Rattle.qrcode_bits.specs.Spelling.{IsSpelled};
 ghost use Rattle.qrcode_bits.specs.Refusals.{StopsAt, data_limit, bit_limit};
 ghost use Rattle.qrcode_bits.specs.Pushes.{PushesAll};
 ghost use Rattle.qrcode_bits.specs.Optimal.{PushesLeast, StopsInLeast};
@@ -51,8 +51,7 @@ impl Bits {
         // A cut of the data fits a symbol just where some bits that fill the symbol spell the data.
         ensures held { (level : EcLevel)
             → FitsIn self.old.version «data».now (capacity self.old.version level)
-            ↔ ((bits : List Bool) × ((length bits ≡ capacity self.old.version level)
-            × Spells self.old.version bits «data».now)) }
+            ↔ IsSpelled self.old.version level «data».now }
         ensures version { self.new.version ≡ self.old.version }
     {
         let version = self.version();

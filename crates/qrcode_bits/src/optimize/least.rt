@@ -1,6 +1,6 @@
 //! Segments of the fewest bits.
 
-ghost use Rattle.std.specs.Prelude.{◌≡◌, ℕ, ◌<◌, ◌≤◌, ◌⊎◌, ◌↔◌, Bool, List, length, drop, flat_map, IsTrue, IfOk, IfErr, IsOkUnless, Err};
+ghost use Rattle.std.specs.Prelude.{◌≡◌, ℕ, ◌<◌, ◌≤◌, ◌⊎◌, ◌↔◌, List, length, drop, flat_map, IsTrue, IfOk, IfErr, IsOkUnless, Err};
 ghost use Rattle.qrcode_types.specs.Versions.{is_valid, capacity};
 ghost use Rattle.std.specs.List.{list_all, AllByRecursion};
 ghost use Rattle.qrcode_types.specs.Characters as characters;
@@ -12,7 +12,7 @@ ghost use Rattle.qrcode_bits.specs.LeastBits.{headers_of, AreSmall, IsSmall, res
 ghost use Rattle.qrcode_bits.specs.Segments.{AreInside};
 ghost use Rattle.qrcode_bits.specs.Cuts.{IsCut, IsLeastCut, FitsIn};
 ghost use Rattle.qrcode_bits.specs.Written.{pieces_of};
-ghost use Rattle.qrcode_bits.specs.Spelling.{Spells};
+ghost use Rattle.qrcode_bits.specs.Spelling.{IsSpelled};
 ghost use Rattle.qrcode_bits.specs.Refusals.{data_limit};
 ghost use Rattle.qrcode_bits.specs.declared.optimize.Segment.{Segment};
 
@@ -48,8 +48,7 @@ pub fn least_segments(alloc: Global, data: &[u8], version: Version) -> QrResult<
 
     // A cut fits a symbol just where some bits that fill the symbol spell the data.
     ensures fits { (level : EcLevel) → FitsIn version «data».now (capacity version level)
-        ↔ ((bits : List Bool)
-        × ((length bits ≡ capacity version level) × Spells version bits «data».now)) }
+        ↔ IsSpelled version level «data».now }
 {
     if !can_be_cut(data, version) {
         return Err(QrError::UnsupportedCharacterSet);

@@ -3,7 +3,8 @@ use Rattle.qrcode_types.specs.Versions.{has_level, capacity}
 use Rattle.qrcode_bits.specs.BitList.{BitList}
 use Rattle.qrcode_bits.specs.Cuts.{FitsIn}
 use Rattle.qrcode_bits.specs.Optimal.{PushesLeast}
-use Rattle.qrcode.specs.Acceptance.{IsSpelled, IsLeastSymbol}
+use Rattle.qrcode_bits.specs.Spelling.{IsSpelled}
+use Rattle.qrcode.specs.Acceptance.{IsLeastSymbol}
 use Rattle.qrcode.proofs.Sealing.{can_be_ended, ended_symbol}
 use Rattle.qrcode.proofs.QrCode.with_version.Goals as goal
 

@@ -10,7 +10,7 @@ use Rattle.qrcode_render.specs.Drawn.{drawn}
 use Rattle.qrcode_render.specs.Setting.{Setting, side_of, drawing_of, IsLeastSize}
 use Rattle.qrcode_render.specs.Vectors.{svg_start, svg_rect, svg_end}
 use Rattle.qrcode_render.specs.declared.svg.Color.{Color}
-use Rattle.qrcode.specs.Acceptance.{IsSpelled}
+use Rattle.qrcode_bits.specs.Spelling.{IsSpelled}
 use Rattle.qrcode.specs.Pictures.{quiet_zone}
 use Rattle.qrcode_uses.specs.Drawings.{svg_text}
 use Rattle.qrcode_uses.proofs.Payments.{text_spelled}
