@@ -1,5 +1,5 @@
 -- What a constructor that ends in `with_bits` promises of its data.
-use Rattle.std.proofs.Common.{◌≡◌, ◌⊎◌, inl, inr, ℕ, ◌+◌, ◌-◌, ◌*◌, ◌/◌, ◌≤◌, min, nat_le, not, IsTrue, if◌then◌else◌, Bool, true, false, List, [], ◌++◌, length, flat_map, replicate, length-append, ap, ◌∙◌, arith, Some, None, Result, Ok, Err, refl, IfOk, sym, subst, true≢false}
+use Rattle.std.proofs.Common.{◌≡◌, ◌⊎◌, inl, inr, ℕ, ◌≤◌, nat_le, not, IsTrue, if◌then◌else◌, Bool, true, false, List, [], length, flat_map, length-append, ap, ◌∙◌, arith, Some, None, Result, Ok, Err, refl, IfOk, sym, subst, true≢false}
 use Rattle.std.specs.List.{AllByRecursion}
 use Rattle.std.proofs.lemmas.Bool.{le-leb}
 use Rattle.qrcode_types.specs.Versions.{has_level, capacity}
@@ -16,7 +16,7 @@ use Rattle.qrcode_bits.specs.Optimal.{PushesLeast}
 use Rattle.qrcode_bits.specs.Refusals.{terminator_refusal}
 use Rattle.qrcode_bits.specs.Segments.{total_cost}
 use Rattle.qrcode_bits.specs.Spelling.{IsReadable, SpellsOnly}
-use Rattle.qrcode_bits.specs.Written.{Piece, written, terminator_length, padding, terminated, pieces_of}
+use Rattle.qrcode_bits.specs.Written.{Piece, written, terminator_length, ending, terminated, pieces_of}
 use Rattle.qrcode_bits.specs.declared.optimize.Segment.{Segment}
 use Rattle.qrcode.specs.Acceptance.{EncodesCut, IsLeastSymbol, IsChosenSymbol}
 use Rattle.qrcode.specs.Reading.{ReadsOnly, Encodes}
@@ -57,10 +57,7 @@ can_be_ended v l bytes bits has fits least =
 
 terminated-longer : (v : Version) (l : EcLevel) (bits : List Bool) → length bits ≤ length (terminated v l bits)
 unfolding terminated
-terminated-longer v l bits =
-    let room = capacity v l in
-    let end = min (8 * ((min (length bits + terminator_length v) room + 7) / 8)) room in
-    omega (arith, length-append (bits ++ replicate (end - length bits) false) (padding (room - end)), length-append bits (replicate (end - length bits) false))
+terminated-longer v l bits = omega (arith, length-append bits (ending (terminator_length v) (length bits) (capacity v l)))
 
 -- the symbol of data that was written in segments of a least cut and ended
 pub ended_symbol : (v : Version) (l : EcLevel) (bytes : List ℕ) (bits : List Bool) (ended : BitList) (code : Result Code QrError) → PushesLeast v [] bytes bits

@@ -19,7 +19,7 @@ ghost use Rattle.qrcode_bits.specs.Cuts.{FitsIn};
 ghost use Rattle.qrcode_bits.specs.Encoded.{IsNormalUpTo};
 ghost use Rattle.qrcode_bits.specs.Refusals.{data_limit, pieces_refusal};
 ghost use Rattle.qrcode_bits.specs.Segments.{total_cost, AreInside};
-ghost use Rattle.qrcode_bits.specs.Spelling.{IsReadable, SpellsOnly};
+ghost use Rattle.qrcode_bits.specs.Spelling.{IsReadable, SpellsOnly, IsSpelled};
 ghost use Rattle.qrcode_bits.specs.Written.{written, terminated, pieces_of};
 ghost use Rattle.qrcode_bits.specs.declared.optimize.Segment.{Segment};
 ghost use Rattle.qrcode.specs.Acceptance.{IsAccepted, HasCut, IsLeastSymbol, IsChosenSymbol};

@@ -13,9 +13,8 @@ use Rattle.qrcode_types.specs.declared.types.EcLevel.{EcLevel}
 use Rattle.qrcode_types.specs.declared.types.Mode.{Mode}
 use Rattle.qrcode_types.specs.declared.types.Mode.TheVariants.{Numeric, Alphanumeric, Byte, Kanji}
 use Rattle.qrcode_bits.specs.Segments.{character_count}
-use Rattle.qrcode_bits.specs.Written.{Piece, written_piece, written, data_bits_in, terminator_length, terminated, padding}
+use Rattle.qrcode_bits.specs.Written.{Piece, written_piece, written, data_bits_in, terminator_length, terminated, ending, zeros_end, padding}
 use Rattle.qrcode_bits.specs.Spelling.{is_end, IsReadable, IsReadAs, Spells, SpellsOnly}
-use Rattle.qrcode_bits.specs.Endings.{ending, zeros_end}
 use Rattle.qrcode_bits.proofs.Paddings.{length-padding, padding-nil}
 use Rattle.qrcode_bits.proofs.Numbers.{has_one, length-number_bits}
 use Rattle.qrcode_bits.proofs.Spellings.{normal_small, one_text}
@@ -94,11 +93,8 @@ length-ending t used room h =
     omega (arith, length-append (replicate (z - used) false) (padding (room - z)), length-replicate (z - used) false, length-padding (room - z))
 
 pub terminated-ending : (v : Version) (l : EcLevel) (bits : List Bool) → terminated v l bits ≡ bits ++ ending (terminator_length v) (length bits) (capacity v l)
-unfolding terminated ending zeros_end
-terminated-ending v l bits =
-    let room = capacity v l in
-    let z = min (8 * ((min (length bits + terminator_length v) room + 7) / 8)) room in
-    append_assoc bits (replicate (z - length bits) false) (padding (room - z))
+unfolding terminated
+terminated-ending v l bits = refl
 
 pub length-terminated : (v : Version) (l : EcLevel) (bits : List Bool) → length bits ≤ capacity v l → length (terminated v l bits) ≡ capacity v l
 length-terminated v l bits h =

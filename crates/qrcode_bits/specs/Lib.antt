@@ -2,7 +2,6 @@ pub mod BitList
 pub mod Choice
 pub mod Cuts
 pub mod Encoded
-pub mod Endings
 pub mod GroupSteps
 pub mod Grouping
 pub mod Groups

@@ -64,14 +64,18 @@ terminator_length (Micro v) = 2 * nat_abs v + 1
 unfoldable pub padding : ℕ → List Bool
 padding n = flat_map (λ i. number_bits 8 (if i % 2 == 0 then 0xEC else 0x11)) (range_with_len 0 (n / 8)) ++ replicate (n % 8) false
 
--- Bits with terminator and padding, as many as the capacity: zeros for the terminator and on to a whole byte, all cut at
--- the capacity, then the bytes of the padding, and zeros where a half codeword is left. It says nothing of bits that are
--- more than the capacity.
+-- the end of the zeros behind so many bits, with a terminator of so many, where so many have room
+unfoldable pub zeros_end : ℕ → ℕ → ℕ → ℕ
+zeros_end terminator used room = min (8 * ((min (used + terminator) room + 7) / 8)) room
+
+-- Zeros for the terminator and on to a whole byte, all cut at the room, then the bytes of the padding, and zeros where a
+-- half codeword is left.
+unfoldable pub ending : ℕ → ℕ → ℕ → List Bool
+ending terminator used room = replicate (zeros_end terminator used room - used) false ++ padding (room - zeros_end terminator used room)
+
+-- Bits with terminator and padding, as many as the capacity. It says nothing of bits that are more than the capacity.
 unfoldable pub terminated : Version → EcLevel → List Bool → List Bool
-terminated v l bits =
-    let room = capacity v l in
-    let zeros_end = min (8 * ((min (length bits + terminator_length v) room + 7) / 8)) room in
-    bits ++ replicate (zeros_end - length bits) false ++ padding (room - zeros_end)
+terminated v l bits = bits ++ ending (terminator_length v) (length bits) (capacity v l)
 
 -- the number of a character set, below 1,000,000, in one, two or three bytes
 unfoldable pub eci_bits : ℕ → List Bool

@@ -2,8 +2,7 @@
 
 ghost use Rattle.std.specs.Prelude.{◌≡◌, ◌+◌, ◌*◌, ◌%◌, ◌==◌, ◌<◌, ◌≤◌, ◌++◌, IsTrue, if◌then◌else◌};
 ghost use Rattle.qrcode_types.specs.Versions.{is_valid};
-ghost use Rattle.qrcode_bits.specs.Written as written;
-ghost use Rattle.qrcode_bits.specs.Endings.{ending};
+ghost use Rattle.qrcode_bits.specs.Written.{terminator_length, ending, padding};
 
 use super::stream::Stream;
 use qrcode_types::types::Version;
@@ -11,7 +10,7 @@ use qrcode_types::types::Version;
 // The zeros of the terminator, where there is room for them.
 pub(super) fn terminator_length(version: Version) -> usize
     requires { IsTrue (is_valid version) }
-    ensures value { result ≡ written.terminator_length version }
+    ensures value { result ≡ terminator_length version }
     ensures small { result ≤ 9 }
 {
     match version {
@@ -37,7 +36,7 @@ pub(super) fn push_ending(stream: &mut Stream, terminator: usize, used: usize, c
 // Appends so many bits: the bytes 0xEC and 0x11 by turns, and zeros where no whole byte fits.
 fn push_padding(stream: &mut Stream, count: usize)
     requires { count ≤ stream.old.room }
-    ensures { stream.new.bits ≡ stream.old.bits ++ written.padding count }
+    ensures { stream.new.bits ≡ stream.old.bits ++ padding count }
 {
     for i in 0..count / 8 {
         stream.push_number(8, padding_byte(i));

@@ -2,9 +2,8 @@ use Rattle.std.proofs.Common.{◌≡◌, ◌≤◌, ◌++◌, arith, length, sym
 use Rattle.std.specs.Prelude.{flat_map}
 use Rattle.qrcode_types.specs.Versions.{is_valid, capacity}
 use Rattle.qrcode_bits.specs.BitList.{BitList}
-use Rattle.qrcode_bits.specs.Written.{written, terminated, terminator_length}
+use Rattle.qrcode_bits.specs.Written.{written, terminated, terminator_length, ending}
 use Rattle.qrcode_bits.specs.Spelling.{SpellsOnly}
-use Rattle.qrcode_bits.specs.Endings.{ending}
 use Rattle.qrcode_bits.proofs.Changed.{list_of, changed, terminator_fits}
 use Rattle.qrcode_bits.proofs.Endings.{terminated-ending, length-terminated, spells_only_terminated}
 use Rattle.qrcode_bits.proofs.bits.Bits.push_terminator.Goals as goal

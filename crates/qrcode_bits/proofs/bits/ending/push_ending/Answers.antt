@@ -1,5 +1,5 @@
 use Rattle.std.proofs.Common.{refl, append_assoc}
-use Rattle.qrcode_bits.specs.Endings.{ending, zeros_end}
+use Rattle.qrcode_bits.specs.Written.{ending, zeros_end}
 use Rattle.qrcode_bits.proofs.Packing.{number_bits-zero}
 use Rattle.qrcode_bits.proofs.bits.ending.push_ending.Goals as goal
 
