@@ -16,6 +16,7 @@ ghost use Rattle.qrcode_bits.specs.Refusals.{bit_limit, piece_refusal, count_ref
 ghost use Rattle.qrcode_bits.specs.declared.optimize.Segment.{Segment};
 ghost use Rattle.qrcode_bits.specs.Pushes.{Changes, Appends, PushesAll};
 
+use crate::characters::character_count;
 use crate::optimize::Segment;
 use crate::optimize::headers::has_mode;
 use qrcode_types::tables;
@@ -33,7 +34,7 @@ pub use automatic::encode_auto;
 use ending::{push_ending, terminator_length};
 pub use optimal::DATA_LIMIT;
 use stream::Stream;
-use written::{character_count, indicator, may_write, push_written};
+use written::{indicator, may_write, push_written};
 
 // The bits of a list at most.
 const BIT_LIMIT: usize = 16_777_216;

@@ -3,7 +3,20 @@
 ghost use Rattle.std.specs.Prelude.{◌≡◌, ◌+◌, ◌-◌, ◌*◌, ◌/◌, ◌%◌, ◌<◌, IsTrue};
 ghost use Rattle.std.specs.List.{list_all};
 ghost use Rattle.qrcode_types.specs.Characters as characters;
+ghost use Rattle.qrcode_bits.specs.Segments as segments;
 ghost use Rattle.qrcode_bits.specs.Tokens.{mark_tests};
+
+use qrcode_types::types::Mode;
+
+// The characters in so many bytes.
+pub(crate) fn character_count(mode: Mode, bytes: usize) -> usize
+    ensures { result ≡ segments.character_count mode bytes }
+{
+    match mode {
+        Mode::Kanji => bytes / 2,
+        Mode::Numeric | Mode::Alphanumeric | Mode::Byte => bytes,
+    }
+}
 
 fn is_between(low: u8, high: u8, byte: u8) -> bool
     ensures { result ≡ characters.is_between low high byte }
@@ -21,7 +34,7 @@ pub(crate) fn is_lead(byte: u8) -> bool
 pub(crate) fn is_digit(byte: u8) -> bool
     ensures { result ≡ characters.is_digit byte }
 {
-    is_between(b'0', b'9', byte)
+    byte.is_ascii_digit()
 }
 
 pub(crate) fn are_digits(data: &[u8]) -> bool

@@ -9,6 +9,7 @@ ghost use Rattle.qrcode_bits.specs.Groups.{range_limit};
 pub use self::groups::Optimizer;
 pub use self::least::least_segments;
 pub use self::runs::Parser;
+use crate::characters::character_count;
 use qrcode_types::types::{Mode, Version};
 
 mod groups;
@@ -37,11 +38,7 @@ impl Segment {
         ensures value { result ≡ cost version self.now }
         ensures bound { result < 2 ^ 31 }
     {
-        let bytes = self.end - self.begin;
-        let characters = match self.mode {
-            Mode::Kanji => bytes / 2,
-            _ => bytes,
-        };
+        let characters = character_count(self.mode, self.end - self.begin);
         version.mode_bits_count()
             + self.mode.length_bits_count(version)
             + self.mode.data_bits_count(characters)

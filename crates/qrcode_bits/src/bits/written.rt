@@ -11,7 +11,9 @@ ghost use Rattle.qrcode_bits.specs.Refusals.{is_checked};
 ghost use Rattle.qrcode_bits.specs.Written.{written_piece, numeric_bits, alphanumeric_bits, kanji_bits};
 
 use super::stream::Stream;
-use crate::characters::{alphanumeric_number, are_digits, digit_number, is_kanji, kanji_number};
+use crate::characters::{
+    alphanumeric_number, are_digits, character_count, digit_number, is_kanji, kanji_number,
+};
 use qrcode_types::types::{Mode, Version};
 
 // The number that a mode indicator writes.
@@ -31,16 +33,6 @@ pub(super) fn indicator(version: Version, mode: Mode) -> u32
             Mode::Byte => 2,
             Mode::Kanji => 3,
         },
-    }
-}
-
-// The characters in so many bytes.
-pub(super) fn character_count(mode: Mode, bytes: usize) -> usize
-    ensures { result ≡ segments.character_count mode bytes }
-{
-    match mode {
-        Mode::Kanji => bytes / 2,
-        Mode::Numeric | Mode::Alphanumeric | Mode::Byte => bytes,
     }
 }
 
