@@ -1,6 +1,6 @@
 //! The least version for data.
 
-ghost use Rattle.std.specs.Prelude.{◌≡◌, ℕ, ◌<◌, ◌≤◌, ◌⊎◌, ◌↔◌, pos, length, List, Err, MatchOption, IsTrue, IfOk, IfErr, OnOk, IsOkUnless};
+ghost use Rattle.std.specs.Prelude.{◌≡◌, ℕ, ◌<◌, ◌≤◌, ◌⊎◌, ◌↔◌, pos, length, List, Err, MatchOption, IsTrue, IfOk, IfErr, IsOkUnless};
 ghost use Rattle.std.specs.List.{count_by};
 ghost use Rattle.qrcode_types.specs.Characters as characters;
 ghost use Rattle.qrcode_types.specs.Versions as versions;
@@ -30,7 +30,6 @@ use std::alloc::Global;
 /// `DataTooLong`: no version of Normal holds the data, or it has more than 1,048,576 bytes.
 pub fn encode_auto(alloc: Global, data: &[u8], ec_level: EcLevel) -> QrResult<Bits>
     ensures too_long { data_limit < length «data».now → result ≡ Err QrError.DataTooLong }
-    ensures only { OnOk result (length «data».now ≤ data_limit) }
     ensures refuses { NoneHolds bands ec_level «data».now
         → (result ≡ Err QrError.DataTooLong) ⊎ (result ≡ Err QrError.OutOfMemory) }
     ensures accepts { (version : Version) (segments : List Segment)
