@@ -81,7 +81,7 @@ at_end : {X : Type 0} (xs : List X) (x : X) → slice_get (xs ++ x ∷ []) (leng
 at_end [] x = refl
 at_end (y ∷ xs) x = at_end xs x
 
--- a push that isn't refused has no cause, and the error of another is its cause
+-- a push that is not refused has no cause, and the error of another is its cause
 not_refused : (r : Option QrError) (old after new : BitList) (u : Unit {0}) → Changes r old after new (Ok u) → r ≡ None
 not_refused (Some cause) old after new u h = let same = h.refused cause refl in cc
 not_refused None old after new u h = refl

@@ -32,7 +32,7 @@ module _ {S : Type 0} (steps : S → Option Segment → S → Type 0) where
   abbrev pub CanGroup : (S → Type 0) → (S → Count) → Optimizer S → Type 0
   CanGroup can left o = MatchOption o.last ⊤ (λ s. IsTrue (is_valid o.version) × (can o.segments × (IsFinite (left o.segments) × HoldsAlong steps o.segments (λ xs. IsJoinable (s ∷ xs)))))
 
-  -- a call took further segments, which joined the first, up to one that doesn't join, or to the end
+  -- a call took further segments, which joined the first, up to one that does not join, or to the end
   pub record TakesGroup (o : Optimizer S) (group : Segment) (t : Optimizer S) : Type 0 where
     pub first : Segment
     pub further : List Segment

@@ -18,6 +18,7 @@ pub record Group : Type 0 where
   pub first : Segment
   pub further : List Segment
 
+-- a segment and further ones as one
 abbrev pub joint_of : Segment → List Segment → Segment
 joint_of a [] = a
 joint_of a (s ∷ further) = joint_of (joint a s) further
@@ -27,11 +28,12 @@ abbrev pub is_group : Version → Segment → List Segment → Bool
 is_group v a [] = true
 is_group v a (s ∷ further) = is_joined v a s && is_group v (joint a s) further
 
--- the first segment of the next group didn't join
+-- the first segment of the next group did not join
 abbrev pub ends_before : Version → Segment → List Group → Bool
 ends_before v a [] = true
 ends_before v a (g ∷ groups) = not (is_joined v a g.first)
 
+-- within each group every further segment joined, and the first of the next group did not
 abbrev pub are_groups : Version → List Group → Bool
 are_groups v [] = true
 are_groups v (g ∷ groups) = is_group v g.first g.further && ends_before v (joint_of g.first g.further) groups && are_groups v groups
@@ -49,6 +51,7 @@ abbrev pub grouping_from : Version → Segment → List Segment → List Segment
 grouping_from v a [] = a ∷ []
 grouping_from v a (s ∷ segments) = elim (is_joined v a s) [ true ↦ grouping_from v (joint a s) segments | false ↦ a ∷ grouping_from v s segments ]
 
+-- the grouping of all segments, which goes on from the first
 abbrev pub grouping : Version → List Segment → List Segment
 grouping v [] = []
 grouping v (s ∷ segments) = grouping_from v s segments

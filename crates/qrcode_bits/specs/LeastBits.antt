@@ -26,14 +26,14 @@ header_in h Alphanumeric = h.alphanumeric
 header_in h Byte = h.byte
 header_in h Kanji = h.kanji
 
--- sums of two such numbers and a few bits more do not wrap
+-- no header is more than no_way, so that sums of two and a few bits more do not wrap
 pub record AreSmall (h : Headers) : Type 0 where
   pub numeric : h.numeric ≤ no_way
   pub alphanumeric : h.alphanumeric ≤ no_way
   pub byte : h.byte ≤ no_way
   pub kanji : h.kanji ≤ no_way
 
--- nor do sums of these
+-- no number of a rest is more than no_way
 pub record IsSmall (r : Rest) : Type 0 where
   pub start : r.start.bits ≤ no_way
   pub digits : r.digits ≤ no_way

@@ -8,6 +8,7 @@ use Rattle.qrcode_bits.specs.declared.optimize.Segment.{Segment}
 use Rattle.qrcode_bits.specs.declared.optimize.Kind.{Kind}
 use Rattle.qrcode_bits.specs.declared.optimize.Kind.TheVariants.{Pair, LoneLead, Digit, Letter, Other}
 
+-- the mode in which a token is written
 abbrev pub mode_of : Kind → Mode
 mode_of Pair = Kanji
 mode_of LoneLead = Byte

@@ -18,9 +18,11 @@ character_count Kanji n = n / 2
 abbrev pub cost_of : Version → Mode → ℕ → ℕ
 cost_of v m count = mode_bits_count v + length_bits_count m v + data_bits_count m count
 
+-- the bits that a segment takes
 abbrev pub cost : Version → Segment → ℕ
 cost v s = cost_of v s.mode (character_count s.mode (s.end - s.begin))
 
+-- the bits that all segments take
 abbrev pub total_cost : Version → List Segment → ℕ
 total_cost v segments = sum_by (cost v) segments
 

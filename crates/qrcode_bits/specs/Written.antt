@@ -32,6 +32,7 @@ kanji_bits [] = []
 kanji_bits (a ∷ []) = []
 kanji_bits (a ∷ b ∷ more) = number_bits 13 (kanji_number a b) ++ kanji_bits more
 
+-- the data bits of bytes in a mode
 abbrev pub data_bits_in : Mode → List ℕ → List Bool
 data_bits_in Numeric bytes = numeric_bits bytes
 data_bits_in Alphanumeric bytes = alphanumeric_bits bytes
@@ -48,6 +49,7 @@ abbrev pub written_piece : Version → Piece → List Bool
 written_piece v p =
     number_bits (mode_bits_count v) (indicator v p.mode) ++ (number_bits (length_bits_count p.mode v) (character_count p.mode (length p.chunk)) ++ data_bits_in p.mode p.chunk)
 
+-- the pieces one after the other
 abbrev pub written : Version → List Piece → List Bool
 written v pieces = flat_map (written_piece v) pieces
 

@@ -132,7 +132,7 @@ impl Bits {
         self.stream.into_bytes()
     }
 
-    /// Appends the mode indicator that announces something. ISO/IEC 18004:2006, 6.4.1.
+    /// Appends the mode indicator that announces something (ISO/IEC 18004:2006, 6.4.1).
     ///
     /// `UnsupportedCharacterSet`: the version has no such indicator. `DataTooLong`: the list would
     /// pass 16,777,216 bits.
@@ -144,8 +144,8 @@ impl Bits {
         self.push_number(self.version.mode_bits_count() as u32, number)
     }
 
-    /// Appends the mode indicator of ECI and the number of a character set. ISO/IEC 18004:2006,
-    /// 6.4.2.
+    /// Appends the mode indicator of ECI and the number of a character set (ISO/IEC 18004:2006,
+    /// 6.4.2).
     ///
     /// `UnsupportedCharacterSet`: the version is one of Micro QR. `InvalidEciDesignator`: the number
     /// is 1,000,000 or more. `DataTooLong`: the list would pass 16,777,216 bits.
@@ -169,7 +169,7 @@ impl Bits {
         }
     }
 
-    /// Appends digits, with mode indicator and length field. ISO/IEC 18004:2006, 6.4.3.
+    /// Appends digits, with mode indicator and length field (ISO/IEC 18004:2006, 6.4.3).
     ///
     /// `UnsupportedCharacterSet`: never, since each version has the mode. `DataTooLong`: the length
     /// field is too small, or the list would pass 16,777,216 bits. `InvalidCharacter`: a byte is no
@@ -186,7 +186,7 @@ impl Bits {
     }
 
     /// Appends digits, capital letters and the nine other characters of the alphabet, with mode
-    /// indicator and length field. Any other byte is written as `0` is. ISO/IEC 18004:2006, 6.4.4.
+    /// indicator and length field (ISO/IEC 18004:2006, 6.4.4). Any other byte is written as `0` is.
     ///
     /// `UnsupportedCharacterSet`: the version lacks the mode. `DataTooLong`: the length field is too
     /// small, or the list would pass 16,777,216 bits.
@@ -202,7 +202,7 @@ impl Bits {
         self.push_piece(Mode::Alphanumeric, data)
     }
 
-    /// Appends bytes, with mode indicator and length field. ISO/IEC 18004:2006, 6.4.5.
+    /// Appends bytes, with mode indicator and length field (ISO/IEC 18004:2006, 6.4.5).
     ///
     /// `UnsupportedCharacterSet`: the version lacks the mode. `DataTooLong`: the length field is too
     /// small, or the list would pass 16,777,216 bits.
@@ -217,8 +217,8 @@ impl Bits {
         self.push_piece(Mode::Byte, data)
     }
 
-    /// Appends pairs of bytes of Shift JIS, with mode indicator and length field. ISO/IEC
-    /// 18004:2006, 6.4.6.
+    /// Appends pairs of bytes of Shift JIS, with mode indicator and length field (ISO/IEC
+    /// 18004:2006, 6.4.6).
     ///
     /// `UnsupportedCharacterSet`: the version lacks the mode. `DataTooLong`: the length field is too
     /// small for the pairs, or the list would pass 16,777,216 bits. `InvalidCharacter`: the bytes
@@ -234,7 +234,7 @@ impl Bits {
         self.push_piece(Mode::Kanji, data)
     }
 
-    /// Appends the mode indicator of FNC1 in the first position. ISO/IEC 18004:2006, 6.4.8.1.
+    /// Appends the mode indicator of FNC1 in the first position (ISO/IEC 18004:2006, 6.4.8.1).
     ///
     /// `UnsupportedCharacterSet`: the version is one of Micro QR. `DataTooLong`: the list would pass
     /// 16,777,216 bits.
@@ -247,7 +247,7 @@ impl Bits {
     }
 
     /// Appends the mode indicator of FNC1 in the second position and the indicator of the
-    /// application, as eight bits. ISO/IEC 18004:2006, 6.4.8.2.
+    /// application, as eight bits (ISO/IEC 18004:2006, 6.4.8.2).
     ///
     /// `UnsupportedCharacterSet`: the version is one of Micro QR. `DataTooLong`: the list would pass
     /// 16,777,216 bits.
@@ -265,7 +265,7 @@ impl Bits {
     }
 
     /// Ends the list: appends the terminator, and padding up to the bits that a symbol of the version
-    /// and level holds. A list of so many bits stays as it is. ISO/IEC 18004:2006, 6.4.9 and 6.4.10.
+    /// and level holds (ISO/IEC 18004:2006, 6.4.9 and 6.4.10). A list of so many bits stays as it is.
     ///
     /// `InvalidVersion`: the version lacks the level. `DataTooLong`: the list is longer than the
     /// symbol holds.

@@ -74,7 +74,7 @@ pub(crate) fn is_kanji(first: u8, second: u8) -> bool
 }
 
 // The number of a pair, in rows of 192: the pairs from 0x8140 on, and behind them those from 0xe040
-// on. ISO/IEC 18004:2006, 6.4.6.
+// on (ISO/IEC 18004:2006, 6.4.6).
 #[tactic(auto, using(crate::proofs::Chunks::least_pair), unfolding(qrcode_types::specs::Characters::kanji_number))]
 pub(crate) fn kanji_number(first: u8, second: u8) -> u32
     requires { IsTrue (characters.is_kanji first second) }
@@ -104,8 +104,8 @@ pub(crate) fn digit_number(byte: u8) -> u32
     u32::from(byte - b'0')
 }
 
-// The number of a character of the mode Alphanumeric, and 0 for any other byte. ISO/IEC 18004:2006,
-// table 5.
+// The number of a character of the mode Alphanumeric, and 0 for any other byte (ISO/IEC 18004:2006,
+// table 5).
 #[tactic(auto, using(crate::proofs::Alphabet::alphanumeric_number_by_cases))]
 pub(crate) fn alphanumeric_number(byte: u8) -> u32
     ensures value { result ≡ characters.alphanumeric_number byte }

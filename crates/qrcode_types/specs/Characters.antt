@@ -4,9 +4,11 @@ use Rattle.std.specs.List.{list_all}
 use Rattle.qrcode_types.specs.declared.types.Mode.{Mode}
 use Rattle.qrcode_types.specs.declared.types.Mode.TheVariants.{Numeric, Alphanumeric, Byte, Kanji}
 
+-- from low to high, both included
 abbrev pub is_between : ℕ → ℕ → ℕ → Bool
 is_between low high b = nat_le low b && nat_le b high
 
+-- the characters 0 to 9
 abbrev pub is_digit : ℕ → Bool
 is_digit b = is_between 48 57 b
 
@@ -14,6 +16,7 @@ is_digit b = is_between 48 57 b
 unfoldable pub alphabet : List ℕ
 alphabet = codes "0123456789ABCDEFGHIJKLMNOPQRSTUVWXYZ $%*+-./:"
 
+-- a character of the alphabet
 unfoldable pub is_alphanumeric : ℕ → Bool
 is_alphanumeric b = is_some (position (λ c. c == b) alphabet)
 
