@@ -17,7 +17,7 @@ use Rattle.qrcode_types.proofs.Writing.{writes}
 use Rattle.qrcode_bits.specs.Segments.{cost, total_cost, Tile}
 use Rattle.qrcode_bits.specs.Cuts.{IsCut}
 use Rattle.qrcode_bits.specs.Refusals.{data_limit}
-use Rattle.qrcode_bits.specs.ModeHeaders.{no_way, widest_mode}
+use Rattle.qrcode_bits.specs.ModeHeaders.{more_than_any, widest_mode}
 use Rattle.qrcode_bits.specs.LeastBits.{headers_of, rest_of, IsSmall, data_bits}
 use Rattle.qrcode_bits.specs.declared.optimize.Segment.{Segment}
 use Rattle.qrcode_bits.proofs.VersionModes.{header_at, header_is, header_short, has_widest, below_widest, at_widest}
@@ -75,7 +75,7 @@ pub cut_is_written : (v : Version) (bytes : List ℕ) (ss : List Segment) → Is
 cut_is_written v bytes ss valid are cut = widest_from v bytes 0 ss valid are cut.tiles cut.modes cut.writable
 
 -- one segment in the widest mode
-pub one_segment : (v : Version) (bytes : List ℕ) → IsTrue (is_valid v) → can_write (widest_mode v) bytes ≡ true → (ss : List Segment) × (IsCut v bytes ss × (length bytes ≤ data_limit → total_cost v ss < no_way))
+pub one_segment : (v : Version) (bytes : List ℕ) → IsTrue (is_valid v) → can_write (widest_mode v) bytes ≡ true → (ss : List Segment) × (IsCut v bytes ss × (length bytes ≤ data_limit → total_cost v ss < more_than_any))
 one_segment v [] valid e = ([], (record { tiles = refl; modes = tt; writable = tt }, λ limit. omega arith))
 one_segment v (b ∷ bytes) valid e =
     let m = widest_mode v in
@@ -95,7 +95,7 @@ one_segment v (b ∷ bytes) valid e =
       data_small Kanji n = omega arith
 
 -- so there is a way to write the data
-pub bits_small : (v : Version) (bytes : List ℕ) → IsTrue (is_valid v) → can_write (widest_mode v) bytes ≡ true → length bytes ≤ data_limit → (rest_of (headers_of v) bytes).start.bits < no_way
+pub bits_small : (v : Version) (bytes : List ℕ) → IsTrue (is_valid v) → can_write (widest_mode v) bytes ≡ true → length bytes ≤ data_limit → (rest_of (headers_of v) bytes).start.bits < more_than_any
 bits_small v bytes valid e limit =
     let one = one_segment v bytes valid e in
     omega (arith, least_bits v bytes one.0 one.1.0, one.1.1 limit)
@@ -111,10 +111,10 @@ writes_rest v n bytes =
     at_widest (λ m. can_write m bytes ≡ true → can_write m (drop n bytes) ≡ true) v
     (list_all_drop is_digit n bytes) (list_all_drop is_alphanumeric n bytes) (list_all_drop (λ b. nat_lt b 256) n bytes)
 
-pub rest_small : (v : Version) (bytes : List ℕ) → IsTrue (is_valid v) → can_write (widest_mode v) bytes ≡ true → length bytes ≤ data_limit → (place : ℕ) → (rest_of (headers_of v) (drop place bytes)).start.bits < no_way
+pub rest_small : (v : Version) (bytes : List ℕ) → IsTrue (is_valid v) → can_write (widest_mode v) bytes ≡ true → length bytes ≤ data_limit → (place : ℕ) → (rest_of (headers_of v) (drop place bytes)).start.bits < more_than_any
 rest_small v bytes valid e limit place = bits_small v (drop place bytes) valid (writes_rest v place bytes e) (omega (arith, length-drop place bytes))
 
-small_at : (v : Version) (rest : List ℕ) → ((place : ℕ) → (rest_of (headers_of v) (drop place rest)).start.bits < no_way) → IsSmall (rest_of (headers_of v) rest)
+small_at : (v : Version) (rest : List ℕ) → ((place : ℕ) → (rest_of (headers_of v) (drop place rest)).start.bits < more_than_any) → IsSmall (rest_of (headers_of v) rest)
 small_at v [] few = record { start = omega arith; digits = omega arith; one_digit = omega arith; two_digits = omega arith; letters = omega arith; odd_letter = omega arith; bytes = omega arith; pairs = omega arith; half_pair = omega arith }
 small_at v (b ∷ rest) few = all_small (headers_of v) b rest (omega (arith, few 0)) (omega (arith, few 1))
 

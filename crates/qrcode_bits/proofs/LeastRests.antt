@@ -7,7 +7,7 @@ use Rattle.qrcode_types.specs.declared.types.Mode.{Mode}
 use Rattle.qrcode_types.specs.declared.types.Mode.TheVariants.{Numeric, Alphanumeric, Byte, Kanji}
 use Rattle.qrcode_types.specs.Characters.{is_digit, is_alphanumeric, is_kanji, are_kanji, can_write}
 use Rattle.qrcode_bits.specs.Tokens.{kind_at, first_byte}
-use Rattle.qrcode_bits.specs.ModeHeaders.{no_way}
+use Rattle.qrcode_bits.specs.ModeHeaders.{more_than_any}
 use Rattle.qrcode_bits.specs.LeastBits.{header_in, better, byte_start, letter_start, step, rest_of, IsSmall, data_bits}
 use Rattle.qrcode_bits.specs.declared.optimize.Kind.{Kind}
 use Rattle.qrcode_bits.specs.declared.optimize.Kind.TheVariants.{Pair, LoneLead, Digit, Letter, Other}
@@ -52,7 +52,7 @@ half_was h Other next = refl
 half_was h Pair next = refl
 
 -- a rest is small where it takes few bits, and so does the rest behind its first byte
-pub all_small : (h : Headers) (b : ℕ) (bytes : List ℕ) → (rest_of h (b ∷ bytes)).start.bits ≤ no_way → (rest_of h bytes).start.bits ≤ no_way → IsSmall (rest_of h (b ∷ bytes))
+pub all_small : (h : Headers) (b : ℕ) (bytes : List ℕ) → (rest_of h (b ∷ bytes)).start.bits ≤ more_than_any → (rest_of h bytes).start.bits ≤ more_than_any → IsSmall (rest_of h (b ∷ bytes))
 all_small h b bytes here next =
     let e = ends h (b ∷ bytes) in
     record {

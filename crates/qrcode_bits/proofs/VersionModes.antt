@@ -8,7 +8,7 @@ use Rattle.qrcode_types.specs.declared.types.Version.{Version}
 use Rattle.qrcode_types.specs.declared.types.Version.TheVariants.{Normal, Micro}
 use Rattle.qrcode_types.specs.declared.types.Mode.{Mode}
 use Rattle.qrcode_types.specs.declared.types.Mode.TheVariants.{Numeric, Alphanumeric, Byte, Kanji}
-use Rattle.qrcode_bits.specs.ModeHeaders.{no_way, header, widest_mode}
+use Rattle.qrcode_bits.specs.ModeHeaders.{more_than_any, header, widest_mode}
 use Rattle.qrcode_bits.specs.LeastBits.{header_in, headers_of}
 
 -- a mode that the version has is at most the widest, and its header is short
@@ -51,10 +51,10 @@ header_at v Byte = refl
 header_at v Kanji = refl
 
 pub header_is : (v : Version) (m : Mode) → has_mode v m ≡ true → header v m ≡ mode_bits_count v + length_bits_count m v
-header_is v m has = cond-true (has_mode v m) (mode_bits_count v + length_bits_count m v) no_way has
+header_is v m has = cond-true (has_mode v m) (mode_bits_count v + length_bits_count m v) more_than_any has
 
-pub header_tells : (v : Version) (m : Mode) → header v m < no_way → has_mode v m ≡ true
-header_tells v m = cond_both (has_mode v m) (mode_bits_count v + length_bits_count m v) no_way (λ n. n < no_way → has_mode v m ≡ true) (λ has _. has) (λ lacks below. absurd (omega (arith, below)))
+pub header_tells : (v : Version) (m : Mode) → header v m < more_than_any → has_mode v m ≡ true
+header_tells v m = cond_both (has_mode v m) (mode_bits_count v + length_bits_count m v) more_than_any (λ n. n < more_than_any → has_mode v m ≡ true) (λ has _. has) (λ lacks below. absurd (omega (arith, below)))
 
 pub widest_numeric : (v : Version) → mode_bits_count v ≡ 0 → widest_mode v ≡ Numeric
 widest_numeric v e = cond-true (mode_bits_count v == 0) Numeric (cond (mode_bits_count v == 1) Alphanumeric Byte) (eq-eqb (mode_bits_count v) 0 e)

@@ -6,7 +6,7 @@ use Rattle.qrcode_types.specs.declared.types.Version.{Version}
 use Rattle.qrcode_types.specs.declared.types.Mode.{Mode}
 use Rattle.qrcode_types.specs.declared.types.Mode.TheVariants.{Numeric, Alphanumeric, Byte, Kanji}
 use Rattle.qrcode_bits.specs.Segments.{character_count}
-use Rattle.qrcode_bits.specs.ModeHeaders.{no_way, header}
+use Rattle.qrcode_bits.specs.ModeHeaders.{more_than_any, header}
 use Rattle.qrcode_bits.specs.Tokens.{kind_at, first_byte}
 use Rattle.qrcode_bits.specs.declared.optimize.Segment.{Segment}
 use Rattle.qrcode_bits.specs.declared.optimize.Kind.{Kind}
@@ -26,24 +26,24 @@ header_in h Alphanumeric = h.alphanumeric
 header_in h Byte = h.byte
 header_in h Kanji = h.kanji
 
--- no header is more than no_way, so that sums of two and a few bits more do not wrap
+-- each header is at most more_than_any, so that sums of two and a few bits more do not wrap
 pub record AreSmall (h : Headers) : Type 0 where
-  pub numeric : h.numeric ≤ no_way
-  pub alphanumeric : h.alphanumeric ≤ no_way
-  pub byte : h.byte ≤ no_way
-  pub kanji : h.kanji ≤ no_way
+  pub numeric : h.numeric ≤ more_than_any
+  pub alphanumeric : h.alphanumeric ≤ more_than_any
+  pub byte : h.byte ≤ more_than_any
+  pub kanji : h.kanji ≤ more_than_any
 
--- no number of a rest is more than no_way
+-- each number of a rest is at most more_than_any
 pub record IsSmall (r : Rest) : Type 0 where
-  pub start : r.start.bits ≤ no_way
-  pub digits : r.digits ≤ no_way
-  pub one_digit : r.one_digit ≤ no_way
-  pub two_digits : r.two_digits ≤ no_way
-  pub letters : r.letters ≤ no_way
-  pub odd_letter : r.odd_letter ≤ no_way
-  pub bytes : r.bytes ≤ no_way
-  pub pairs : r.pairs ≤ no_way
-  pub half_pair : r.half_pair ≤ no_way
+  pub start : r.start.bits ≤ more_than_any
+  pub digits : r.digits ≤ more_than_any
+  pub one_digit : r.one_digit ≤ more_than_any
+  pub two_digits : r.two_digits ≤ more_than_any
+  pub letters : r.letters ≤ more_than_any
+  pub odd_letter : r.odd_letter ≤ more_than_any
+  pub bytes : r.bytes ≤ more_than_any
+  pub pairs : r.pairs ≤ more_than_any
+  pub half_pair : r.half_pair ≤ more_than_any
 
 -- the better of a start and one in another mode
 abbrev pub better : Start → Mode → ℕ → Start

@@ -6,8 +6,8 @@ use Rattle.qrcode_types.specs.declared.types.Mode.{Mode}
 use Rattle.qrcode_types.specs.declared.types.Mode.TheVariants.{Numeric, Alphanumeric, Byte, Kanji}
 
 -- more bits than any data takes
-abbrev pub no_way : ℕ
-no_way = 1073741824
+abbrev pub more_than_any : ℕ
+more_than_any = 1073741824
 
 -- the mode of a version that can write all that its other modes can
 abbrev pub widest_mode : Version → Mode
@@ -15,7 +15,7 @@ widest_mode v = if mode_bits_count v == 0 then Numeric else (if mode_bits_count 
 
 -- mode indicator and length field, where the version has the mode
 abbrev pub header : Version → Mode → ℕ
-header v m = if has_mode v m then mode_bits_count v + length_bits_count m v else no_way
+header v m = if has_mode v m then mode_bits_count v + length_bits_count m v else more_than_any
 
 -- the bytes of a character
 abbrev pub bytes_each : Mode → ℕ

@@ -3,23 +3,24 @@
 ghost use Rattle.std.specs.Prelude.{◌≡◌, ◌≤◌, IsTrue};
 ghost use Rattle.qrcode_types.specs.Versions.{is_valid};
 ghost use Rattle.qrcode_types.specs.Modes.{has_mode};
-ghost use Rattle.qrcode_bits.specs.ModeHeaders.{no_way, header};
+ghost use Rattle.qrcode_bits.specs.ModeHeaders.{more_than_any, header};
 
 use qrcode_types::types::{Mode, Version};
 
 // More bits than any data takes.
-const NO_WAY: u32 = 1 << 30;
+const MORE_THAN_ANY: u32 = 1 << 30;
 
-// The bits of a mode indicator and a length field, or `NO_WAY` where the version lacks the mode.
+// The bits of a mode indicator and a length field, or `MORE_THAN_ANY` where the version lacks the
+// mode.
 pub(super) fn header(version: Version, mode: Mode) -> u32
     requires { IsTrue (is_valid version) }
     ensures value { result ≡ header version mode }
-    ensures bound { result ≤ no_way }
+    ensures bound { result ≤ more_than_any }
 {
     if has_mode(version, mode) {
         (version.mode_bits_count() + mode.length_bits_count(version)) as u32
     } else {
-        NO_WAY
+        MORE_THAN_ANY
     }
 }
 
