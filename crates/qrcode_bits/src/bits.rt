@@ -137,7 +137,8 @@ impl Bits {
     /// `UnsupportedCharacterSet`: the version has no such indicator. `DataTooLong`: the list would
     /// pass 16,777,216 bits.
     pub fn push_mode_indicator(&mut self, mode: ExtendedMode) -> QrResult<()>
-        ensures { Appends (append_refusal (length self.old.bits) (indicator_bits self.old.version mode))
+        ensures { Appends
+            (append_refusal (length self.old.bits) (indicator_bits self.old.version mode))
             (unwrap_or (indicator_bits self.old.version mode) []) self.old self.new result }
     {
         let number = extended_indicator(self.version, mode)?;
@@ -180,7 +181,8 @@ impl Bits {
             (written_piece self.old.version (record { mode = Mode.Numeric; chunk = «data».now }))
             self.old self.new result }
         ensures longer { OnOk result (length self.new.bits ≡ length self.old.bits
-            + cost_of self.old.version Mode.Numeric (character_count Mode.Numeric (length «data».now))) }
+            + cost_of self.old.version Mode.Numeric
+            (character_count Mode.Numeric (length «data».now))) }
     {
         self.push_piece(Mode::Numeric, data)
     }
@@ -197,7 +199,8 @@ impl Bits {
             (record { mode = Mode.Alphanumeric; chunk = «data».now }))
             self.old self.new result }
         ensures longer { OnOk result (length self.new.bits ≡ length self.old.bits
-            + cost_of self.old.version Mode.Alphanumeric (character_count Mode.Alphanumeric (length «data».now))) }
+            + cost_of self.old.version Mode.Alphanumeric
+            (character_count Mode.Alphanumeric (length «data».now))) }
     {
         self.push_piece(Mode::Alphanumeric, data)
     }
@@ -212,7 +215,8 @@ impl Bits {
             (written_piece self.old.version (record { mode = Mode.Byte; chunk = «data».now }))
             self.old self.new result }
         ensures longer { OnOk result (length self.new.bits ≡ length self.old.bits
-            + cost_of self.old.version Mode.Byte (character_count Mode.Byte (length «data».now))) }
+            + cost_of self.old.version Mode.Byte
+            (character_count Mode.Byte (length «data».now))) }
     {
         self.push_piece(Mode::Byte, data)
     }
@@ -229,7 +233,8 @@ impl Bits {
             (written_piece self.old.version (record { mode = Mode.Kanji; chunk = «data».now }))
             self.old self.new result }
         ensures longer { OnOk result (length self.new.bits ≡ length self.old.bits
-            + cost_of self.old.version Mode.Kanji (character_count Mode.Kanji (length «data».now))) }
+            + cost_of self.old.version Mode.Kanji
+            (character_count Mode.Kanji (length «data».now))) }
     {
         self.push_piece(Mode::Kanji, data)
     }
@@ -270,10 +275,12 @@ impl Bits {
     /// `InvalidVersion`: the version lacks the level. `DataTooLong`: the list is longer than the
     /// symbol holds.
     pub fn push_terminator(&mut self, ec_level: EcLevel) -> QrResult<()>
-        ensures ends { Changes (terminator_refusal self.old.version ec_level (length self.old.bits)) self.old
+        ensures ends { Changes
+            (terminator_refusal self.old.version ec_level (length self.old.bits)) self.old
             (record self.old { bits = terminated self.old.version ec_level self.old.bits })
             self.new result }
-        ensures full { OnOk result (length self.new.bits ≡ versions.capacity self.old.version ec_level) }
+        ensures full { OnOk result
+            (length self.new.bits ≡ versions.capacity self.old.version ec_level) }
 
         // Pieces that a reader takes are then read as their bytes, and as no others.
         ensures spelled { (pieces : List Piece)

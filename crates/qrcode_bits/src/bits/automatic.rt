@@ -37,15 +37,17 @@ pub fn encode_auto(alloc: Global, data: &[u8], ec_level: EcLevel) -> QrResult<Bi
     ensures errors { IfErr result (λ e. (e ≡ DataTooLong) ⊎ (e ≡ OutOfMemory)) }
     ensures bits { IfOk result (IsChosenList ec_level «data».now) }
 
-    // A version of Normal holds the data just where some bits that fill a symbol of it spell the data.
+    // A version of Normal holds the data just where some bits that fill a symbol of it spell the
+    // data.
     ensures held { (n : ℕ) → 1 ≤ n → n ≤ 40
         → FitsIn (Normal (pos n)) «data».now (versions.capacity (Normal (pos n)) ec_level)
         ↔ IsSpelled (Normal (pos n)) ec_level «data».now }
 
     // Data that some version of Normal holds is taken, in a version that is no greater.
-    ensures takes { (n : ℕ) → 1 ≤ n → n ≤ 40 → IsSpelled (Normal (pos n)) ec_level «data».now
-        → IsOkUnless result OutOfMemory }
-    ensures least_version { (n : ℕ) → 1 ≤ n → n ≤ 40 → IsSpelled (Normal (pos n)) ec_level «data».now
+    ensures takes { (n : ℕ) → 1 ≤ n → n ≤ 40
+        → IsSpelled (Normal (pos n)) ec_level «data».now → IsOkUnless result OutOfMemory }
+    ensures least_version { (n : ℕ) → 1 ≤ n → n ≤ 40
+        → IsSpelled (Normal (pos n)) ec_level «data».now
         → IfOk result (λ list. IsNormalUpTo n list.version) }
 {
     if data.len() > DATA_LIMIT {
@@ -74,8 +76,8 @@ fn encode_within(
     number: usize,
 ) -> QrResult<Option<Bits>>
     requires limit { length «data».now ≤ data_limit }
-    requires least { (version : Version) (segments : List Segment) → IsCut version «data».now segments
-        → least ≤ total_cost version segments }
+    requires least { (version : Version) (segments : List Segment)
+        → IsCut version «data».now segments → least ≤ total_cost version segments }
     requires some { 1 ≤ number }
     requires most { number ≤ 40 }
     ensures held { IfOk result (λ found. MatchOption found

@@ -32,7 +32,8 @@ impl Bits {
         ensures no_cut { length «data».now ≤ data_limit
             → ((segments : List Segment) → ¬ IsCut self.old.version «data».now segments)
             → (result ≡ Err QrError.UnsupportedCharacterSet) × (self.new ≡ self.old) }
-        ensures pushed { OnOk result (PushesLeast self.old.version self.old.bits «data».now self.new.bits) }
+        ensures pushed { OnOk result
+            (PushesLeast self.old.version self.old.bits «data».now self.new.bits) }
         ensures stopped { (cut : List Segment) → length «data».now ≤ data_limit
             → IsCut self.old.version «data».now cut
             → IfErr result (λ e. ((e ≡ OutOfMemory) × (self.new ≡ self.old))
@@ -65,8 +66,8 @@ impl Bits {
     // Appends the bytes of all segments in their modes.
     pub(super) fn push_all(&mut self, data: &[u8], segments: Vec<Segment>) -> QrResult<()>
         requires { AreInside (length «data».now) segments.items }
-        ensures pushed { OnOk result (PushesAll self.old.version self.old.bits «data».now segments.items
-            self.new.bits) }
+        ensures pushed { OnOk result
+            (PushesAll self.old.version self.old.bits «data».now segments.items self.new.bits) }
         ensures stopped { IfErr result (λ e. StopsAt self.old.version self.old.bits
             (pieces_of «data».now segments.items) e self.new.bits) }
         ensures version { self.new.version ≡ self.old.version }
