@@ -1,5 +1,6 @@
 -- A Greek text of 16 characters fits Normal 1.
 use Rattle.std.proofs.Common.{◌≡◌, ℕ, ◌+◌, ◌*◌, ◌≤◌, ◌&&◌, nat_le, nat_lt, not, pos, Bool, true, List, ◌++◌, length, Option, Some, None, if◌then◌else◌, refl, ap, ◌∙◌, arith}
+use Rattle.std.specs.Option.{option_or}
 use Rattle.std.proofs.lemmas.Bool.{and_from, lt-ltb, le-leb}
 use Rattle.qrcode_types.specs.Tables.{block_table}
 use Rattle.qrcode_types.specs.Bits.{number_bits}
@@ -31,7 +32,7 @@ pub bytes_taken : (text : List ℕ) → length text ≤ 16 → piece_refusal (No
 bytes_taken text h =
     let counted : (nat_lt (length text) 256 && nat_le (12 + (12 + 8 * length text)) bit_limit) ≡ true =
     and_from (nat_lt (length text) 256) (nat_le (12 + (12 + 8 * length text)) bit_limit) (lt-ltb (length text) 256 (omega arith)) (le-leb (12 + (12 + 8 * length text)) bit_limit (omega arith)) in
-    ap (λ (b : Bool). the_refusal (not b) DataTooLong) counted
+    ap (λ (b : Bool). option_or (the_refusal (not b) DataTooLong) None) counted
 
 room : capacity (Normal (pos 1)) L ≡ 152
 unfolding capacity data_length block_lengths blocks_entry block_table
