@@ -2,4 +2,5 @@ pub mod Bars
 pub mod Charsets
 pub mod Drawings
 pub mod Payments
+pub mod Refusals
 pub mod Tickets

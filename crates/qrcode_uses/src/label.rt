@@ -1,9 +1,10 @@
 //! A canvas of one's own: the bars that a label printer fills.
 
 ghost use Rattle.std.proofs.Common.{rules};
-ghost use Rattle.std.specs.Prelude.{◌≡◌, ◌⊎◌, ◌+◌, ◌*◌, ◌^◌, ◌<◌, ◌≤◌, ◌==◌, ◌&&◌, ℕ, List, [], ◌∷◌, ◌++◌, IfOk, IfErr, OnOk, IsOkUnless};
-ghost use Rattle.qrcode_types.specs.declared.types.QrError.TheVariants.{OutOfMemory, DataTooLong};
+ghost use Rattle.std.specs.Prelude.{◌≡◌, ◌+◌, ◌*◌, ◌^◌, ◌<◌, ◌≤◌, ◌==◌, ◌&&◌, ℕ, List, [], ◌∷◌, ◌++◌, IfOk, IfErr, OnOk, IsOkUnless};
+ghost use Rattle.qrcode_types.specs.declared.types.QrError.TheVariants.{OutOfMemory};
 ghost use Rattle.qrcode_uses.specs.Bars.{with_bar, goes_on, IsLabel};
+ghost use Rattle.qrcode_uses.specs.Refusals.{IsRefused};
 
 use qrcode::QrCode;
 use qrcode::render::{Canvas, Pixel};
@@ -34,7 +35,7 @@ impl Bar {
 /// a row are one bar.
 pub fn label_bars(alloc: Global, data: &[u8]) -> QrResult<Vec<Bar>>
     ensures bars { IfOk result (λ bars. IsLabel «data».now bars.items) }
-    ensures errors { IfErr result (λ e. (e ≡ DataTooLong) ⊎ (e ≡ OutOfMemory)) }
+    ensures causes { IfErr result (IsRefused «data».now) }
 {
     let code = QrCode::new(alloc, data)?;
     code.render::<Dot>().build(alloc)
