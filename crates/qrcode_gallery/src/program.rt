@@ -1,8 +1,10 @@
 //! The program, over any writer.
 
-ghost use Rattle.std.specs.Prelude.{◌≡◌, IfOk, IfSome, IfNone, IsErrOf};
+ghost use Rattle.std.specs.Prelude.{◌≡◌, ◌⊎◌, IfOk, IfErr, IfSome, IfNone, IsErrOf};
 ghost use Rattle.std.specs.Io.KnownBytes.{Appends};
 ghost use Rattle.qrcode_uses.specs.Drawings.{IsDrawnAs};
+ghost use Rattle.qrcode_uses.specs.Refusals.{IsRefused};
+ghost use Rattle.qrcode_gallery.specs.Faults.{IsCannotWrite, IsCause};
 ghost use Rattle.qrcode_gallery.specs.Kinds.{name_of, drawing_in, Writes};
 ghost use Rattle.qrcode_gallery.specs.declared.program.Kind.{Kind};
 
@@ -55,7 +57,8 @@ fn kind_of(name: &str) -> Option<Kind>
 
 // The drawing of data in a kind.
 fn draw(alloc: Global, kind: Kind, data: &[u8]) -> QrResult<Vec<u8>>
-    ensures { IfOk result (λ drawing. IsDrawnAs (drawing_in kind) «data».now drawing.items) }
+    ensures drawing { IfOk result (λ drawing. IsDrawnAs (drawing_in kind) «data».now drawing.items) }
+    ensures causes { IfErr result (IsRefused «data».now) }
 {
     let text = match kind {
         Kind::Chars => drawings::as_chars(alloc, data)?,
@@ -73,6 +76,9 @@ fn draw(alloc: Global, kind: Kind, data: &[u8]) -> QrResult<Vec<u8>>
 pub fn run<W: Write>(alloc: Global, name: &str, text: &str, out: &mut W) -> Result<(), Fault>
     ensures usage { IsErrOf result Fault.Usage → (kind : Kind) → ¬ (name.now ≡ name_of kind) }
     ensures wrote { IfOk result (λ _. Writes (Appends (W.contents out.old) (W.contents out.new)) name.now text.now) }
+    ensures nothing { IfErr result (λ fault.
+        IsCannotWrite fault ⊎ (W.contents out.new ≡ W.contents out.old)) }
+    ensures causes { IfErr result (IsCause name.now text.now) }
 {
     let Some(kind) = kind_of(name) else {
         return Err(Fault::Usage);
