@@ -39,7 +39,8 @@ use written::{indicator, may_write, push_written};
 // The bits of a list at most.
 const BIT_LIMIT: usize = 16_777_216;
 
-/// A list of bits for a symbol of some version. A push that is refused leaves it as it was.
+/// A list of bits for a symbol of some version. A push that is refused leaves it as it was; of
+/// several segments, those before the refused one stand.
 #[derive(Drop)]
 pub struct Bits {
     version: Version,
