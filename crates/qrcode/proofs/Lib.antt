@@ -2,6 +2,7 @@ pub mod BlockLists
 pub mod Distances
 pub mod HalfBlocks
 pub mod Readings
+pub mod Refusals
 pub mod Sides
 pub mod Symbols
 pub mod Sealing

@@ -1,8 +1,10 @@
 -- Which data a constructor accepts, and what it makes of it.
-use Rattle.std.specs.Prelude.{ℕ, ◌≤◌, List, length, IsTrue}
+use Rattle.std.specs.Prelude.{◌≡◌, ◌⊎◌, ℕ, ◌≤◌, List, length, IsTrue}
 use Rattle.qrcode_types.specs.Versions.{has_level, capacity}
 use Rattle.qrcode_types.specs.declared.types.Version.{Version}
 use Rattle.qrcode_types.specs.declared.types.EcLevel.{EcLevel}
+use Rattle.qrcode_types.specs.declared.types.QrError.{QrError}
+use Rattle.qrcode_types.specs.declared.types.QrError.TheVariants.{DataTooLong, OutOfMemory}
 use Rattle.qrcode_types.specs.declared.types.Color.{Color}
 use Rattle.qrcode_bits.specs.Cuts.{IsCut, IsLeastCut, FitsIn}
 use Rattle.qrcode_bits.specs.Choice.{IsChosen}
@@ -36,3 +38,11 @@ pub record IsChosenSymbol (v : Version) (l : EcLevel) (bytes : List ℕ) (s : Li
   pub segments : List Segment
   pub chosen : IsChosen l bytes v segments
   pub encodes : EncodesCut v l bytes segments s
+
+-- a symbol can be chosen for the data
+abbrev pub HasSymbol : EcLevel → List ℕ → Type 0
+HasSymbol l bytes = (v : Version) × (s : List Color) × IsChosenSymbol v l bytes s
+
+-- memory was refused, or no version and segments can be chosen for the data
+abbrev pub IsRefused : EcLevel → List ℕ → QrError → Type 0
+IsRefused l bytes e = (e ≡ OutOfMemory) ⊎ ((e ≡ DataTooLong) × ((v : Version) (segments : List Segment) → ¬ IsChosen l bytes v segments))

@@ -22,7 +22,7 @@ ghost use Rattle.qrcode_bits.specs.Segments.{total_cost, AreInside};
 ghost use Rattle.qrcode_bits.specs.Spelling.{IsReadable, SpellsOnly, IsSpelled};
 ghost use Rattle.qrcode_bits.specs.Written.{written, terminated, pieces_of};
 ghost use Rattle.qrcode_bits.specs.declared.optimize.Segment.{Segment};
-ghost use Rattle.qrcode.specs.Acceptance.{IsAccepted, HasCut, IsLeastSymbol, IsChosenSymbol};
+ghost use Rattle.qrcode.specs.Acceptance.{IsAccepted, HasCut, IsLeastSymbol, IsChosenSymbol, IsRefused};
 ghost use Rattle.qrcode.specs.Drawing.{IsBestDrawing};
 ghost use Rattle.qrcode.specs.Pictures.{quiet_zone, debug_text};
 ghost use Rattle.qrcode.specs.Reading.{Encodes};
@@ -78,7 +78,7 @@ impl QrCode {
             → (result ≡ Err DataTooLong) ⊎ (result ≡ Err OutOfMemory) }
         ensures accepts { (v : Version) (segments : List Segment)
             → IsChosen M «data».now v segments → IsOkUnless result OutOfMemory }
-        ensures errors { IfErr result (λ e. (e ≡ DataTooLong) ⊎ (e ≡ OutOfMemory)) }
+        ensures causes { IfErr result (IsRefused M «data».now) }
         ensures refuses_unspelled { ((n : ℕ) → 1 ≤ n → n ≤ 40 → ¬ IsSpelled (Normal (pos n)) M «data».now)
             → (result ≡ Err DataTooLong) ⊎ (result ≡ Err OutOfMemory) }
         ensures accepts_spelled { (n : ℕ) → 1 ≤ n → n ≤ 40
@@ -107,7 +107,7 @@ impl QrCode {
             → (result ≡ Err DataTooLong) ⊎ (result ≡ Err OutOfMemory) }
         ensures accepts { (v : Version) (segments : List Segment)
             → IsChosen ec_level «data».now v segments → IsOkUnless result OutOfMemory }
-        ensures errors { IfErr result (λ e. (e ≡ DataTooLong) ⊎ (e ≡ OutOfMemory)) }
+        ensures causes { IfErr result (IsRefused ec_level «data».now) }
         ensures refuses_unspelled { ((n : ℕ) → 1 ≤ n → n ≤ 40 → ¬ IsSpelled (Normal (pos n)) ec_level «data».now)
             → (result ≡ Err DataTooLong) ⊎ (result ≡ Err OutOfMemory) }
         ensures accepts_spelled { (n : ℕ) → 1 ≤ n → n ≤ 40

@@ -1,10 +1,7 @@
 -- Why the program fails.
 use Rattle.std.specs.Prelude.{◌≡◌, ℕ, List, ⊤}
-use Rattle.qrcode_types.specs.declared.types.Color.{Color}
 use Rattle.qrcode_types.specs.declared.types.EcLevel.TheVariants.{M}
-use Rattle.qrcode_types.specs.declared.types.Version.{Version}
-use Rattle.qrcode.specs.Acceptance.{IsChosenSymbol}
-use Rattle.qrcode_uses.specs.Refusals.{IsRefused}
+use Rattle.qrcode.specs.Acceptance.{HasSymbol, IsRefused}
 use Rattle.qrcode_gallery.specs.Kinds.{name_of}
 use Rattle.qrcode_gallery.specs.declared.program.Fault.{Fault}
 use Rattle.qrcode_gallery.specs.declared.program.Fault.TheVariants.{Usage, Qr, CannotWrite}
@@ -20,12 +17,8 @@ IsCannotWrite (Qr e) = ⊥
 abbrev pub HasKind : List ℕ → Type 0
 HasKind name = (kind : Kind) × (name ≡ name_of kind)
 
--- a version and segments can be chosen for the text
-abbrev pub HasSymbol : List ℕ → Type 0
-HasSymbol text = (v : Version) × (s : List Color) × IsChosenSymbol v M text s
-
 -- the cause of a fault, for a name and a text
 abbrev pub IsCause : List ℕ → List ℕ → Fault → Type 0
 IsCause name text Usage = ¬ HasKind name
-IsCause name text (Qr e) = HasKind name × IsRefused text e
-IsCause name text CannotWrite = HasKind name × HasSymbol text
+IsCause name text (Qr e) = HasKind name × IsRefused M text e
+IsCause name text CannotWrite = HasKind name × HasSymbol M text

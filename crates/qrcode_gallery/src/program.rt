@@ -2,8 +2,9 @@
 
 ghost use Rattle.std.specs.Prelude.{◌≡◌, ◌⊎◌, IfOk, IfErr, IfSome, IfNone, IsErrOf};
 ghost use Rattle.std.specs.Io.KnownBytes.{Appends};
+ghost use Rattle.qrcode_types.specs.declared.types.EcLevel.TheVariants.{M};
+ghost use Rattle.qrcode.specs.Acceptance.{IsRefused};
 ghost use Rattle.qrcode_uses.specs.Drawings.{IsDrawnAs};
-ghost use Rattle.qrcode_uses.specs.Refusals.{IsRefused};
 ghost use Rattle.qrcode_gallery.specs.Faults.{IsCannotWrite, IsCause};
 ghost use Rattle.qrcode_gallery.specs.Kinds.{name_of, drawing_in, Writes};
 ghost use Rattle.qrcode_gallery.specs.declared.program.Kind.{Kind};
@@ -58,7 +59,7 @@ fn kind_of(name: &str) -> Option<Kind>
 // The drawing of data in a kind.
 fn draw(alloc: Global, kind: Kind, data: &[u8]) -> QrResult<Vec<u8>>
     ensures drawing { IfOk result (λ drawing. IsDrawnAs (drawing_in kind) «data».now drawing.items) }
-    ensures causes { IfErr result (IsRefused «data».now) }
+    ensures causes { IfErr result (IsRefused M «data».now) }
 {
     let text = match kind {
         Kind::Chars => drawings::as_chars(alloc, data)?,

@@ -2,5 +2,4 @@ pub mod Bars
 pub mod Charsets
 pub mod Drawings
 pub mod Payments
-pub mod Refusals
 pub mod Tickets

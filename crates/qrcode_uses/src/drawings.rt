@@ -1,8 +1,9 @@
 //! The six ways to draw a symbol.
 
 ghost use Rattle.std.specs.Prelude.{string_bytes, IfOk, IfErr};
+ghost use Rattle.qrcode_types.specs.declared.types.EcLevel.TheVariants.{M};
+ghost use Rattle.qrcode.specs.Acceptance.{IsRefused};
 ghost use Rattle.qrcode_uses.specs.Drawings.{IsDrawnAs, char_text, pair_text, half_block_text, svg_text, pic_text, grey_map};
-ghost use Rattle.qrcode_uses.specs.Refusals.{IsRefused};
 
 use qrcode::QrCode;
 use qrcode::render::image::Luma;
@@ -15,7 +16,7 @@ use std::alloc::Global;
 /// A character for each module.
 pub fn as_chars(alloc: Global, data: &[u8]) -> QrResult<String>
     ensures drawing { IfOk result (λ text. IsDrawnAs char_text «data».now (string_bytes text)) }
-    ensures causes { IfErr result (IsRefused «data».now) }
+    ensures causes { IfErr result (IsRefused M «data».now) }
 {
     rectangles_make_pictures::<char>();
     let code = QrCode::new(alloc, data)?;
@@ -25,7 +26,7 @@ pub fn as_chars(alloc: Global, data: &[u8]) -> QrResult<String>
 /// Two characters for each module, so that it is about as wide as high.
 pub fn as_pairs(alloc: Global, data: &[u8]) -> QrResult<String>
     ensures drawing { IfOk result (λ text. IsDrawnAs pair_text «data».now (string_bytes text)) }
-    ensures causes { IfErr result (IsRefused «data».now) }
+    ensures causes { IfErr result (IsRefused M «data».now) }
 {
     rectangles_make_pictures::<Str<'_>>();
     let code = QrCode::new(alloc, data)?;
@@ -38,7 +39,7 @@ pub fn as_pairs(alloc: Global, data: &[u8]) -> QrResult<String>
 /// A character for each two modules, one above the other.
 pub fn as_half_blocks(alloc: Global, data: &[u8]) -> QrResult<String>
     ensures drawing { IfOk result (λ text. IsDrawnAs half_block_text «data».now (string_bytes text)) }
-    ensures causes { IfErr result (IsRefused «data».now) }
+    ensures causes { IfErr result (IsRefused M «data».now) }
 {
     rectangles_make_pictures::<Dense1x2>();
     let code = QrCode::new(alloc, data)?;
@@ -48,7 +49,7 @@ pub fn as_half_blocks(alloc: Global, data: &[u8]) -> QrResult<String>
 /// An SVG text.
 pub fn as_svg(alloc: Global, data: &[u8]) -> QrResult<String>
     ensures drawing { IfOk result (λ text. IsDrawnAs (svg_text 8) «data».now (string_bytes text)) }
-    ensures causes { IfErr result (IsRefused «data».now) }
+    ensures causes { IfErr result (IsRefused M «data».now) }
 {
     let code = QrCode::new(alloc, data)?;
     code.render::<svg::Color>().build(alloc)
@@ -57,7 +58,7 @@ pub fn as_svg(alloc: Global, data: &[u8]) -> QrResult<String>
 /// A PIC text, whose unit is a module.
 pub fn as_pic(alloc: Global, data: &[u8]) -> QrResult<String>
     ensures drawing { IfOk result (λ text. IsDrawnAs pic_text «data».now (string_bytes text)) }
-    ensures causes { IfErr result (IsRefused «data».now) }
+    ensures causes { IfErr result (IsRefused M «data».now) }
 {
     let code = QrCode::new(alloc, data)?;
     code.render::<pic::Color>().module_size(1).build(alloc)
@@ -66,7 +67,7 @@ pub fn as_pic(alloc: Global, data: &[u8]) -> QrResult<String>
 /// Rows of grey pixels, as a PGM file.
 pub fn as_grey_map(alloc: Global, data: &[u8]) -> QrResult<Vec<u8>>
     ensures drawing { IfOk result (λ file. IsDrawnAs grey_map «data».now file.items) }
-    ensures causes { IfErr result (IsRefused «data».now) }
+    ensures causes { IfErr result (IsRefused M «data».now) }
 {
     rectangles_make_pictures::<Luma>();
     let code = QrCode::new(alloc, data)?;

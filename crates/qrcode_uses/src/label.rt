@@ -2,9 +2,10 @@
 
 ghost use Rattle.std.proofs.Common.{rules};
 ghost use Rattle.std.specs.Prelude.{◌≡◌, ◌+◌, ◌*◌, ◌^◌, ◌<◌, ◌≤◌, ◌==◌, ◌&&◌, ℕ, List, [], ◌∷◌, ◌++◌, IfOk, IfErr, OnOk, IsOkUnless};
+ghost use Rattle.qrcode_types.specs.declared.types.EcLevel.TheVariants.{M};
 ghost use Rattle.qrcode_types.specs.declared.types.QrError.TheVariants.{OutOfMemory};
+ghost use Rattle.qrcode.specs.Acceptance.{IsRefused};
 ghost use Rattle.qrcode_uses.specs.Bars.{with_bar, goes_on, IsLabel};
-ghost use Rattle.qrcode_uses.specs.Refusals.{IsRefused};
 
 use qrcode::QrCode;
 use qrcode::render::{Canvas, Pixel};
@@ -35,7 +36,7 @@ impl Bar {
 /// a row are one bar.
 pub fn label_bars(alloc: Global, data: &[u8]) -> QrResult<Vec<Bar>>
     ensures bars { IfOk result (λ bars. IsLabel «data».now bars.items) }
-    ensures causes { IfErr result (IsRefused «data».now) }
+    ensures causes { IfErr result (IsRefused M «data».now) }
 {
     let code = QrCode::new(alloc, data)?;
     code.render::<Dot>().build(alloc)

@@ -1,7 +1,9 @@
 //! A payment as an SVG picture, for a bill.
 
-ghost use Rattle.std.specs.Prelude.{◌≡◌, ◌⊎◌, ◌≤◌, ◌++◌, length, string_bytes, IfOk, IfErr, OnOk, IsOkUnless};
-ghost use Rattle.qrcode_types.specs.declared.types.QrError.TheVariants.{OutOfMemory, DataTooLong};
+ghost use Rattle.std.specs.Prelude.{◌≡◌, ◌≤◌, ◌++◌, length, string_bytes, IfOk, IfErr, OnOk, IsOkUnless};
+ghost use Rattle.qrcode_types.specs.declared.types.EcLevel.TheVariants.{M};
+ghost use Rattle.qrcode_types.specs.declared.types.QrError.TheVariants.{OutOfMemory};
+ghost use Rattle.qrcode.specs.Acceptance.{IsRefused};
 ghost use Rattle.qrcode_uses.specs.Payments.{amount_text, payment_text, IsPicture};
 
 use qrcode::QrCode;
@@ -27,7 +29,7 @@ pub struct Payment<'a> {
 pub fn payment_picture(alloc: Global, payment: &Payment<'_>) -> QrResult<String>
     ensures picture { IfOk result (λ svg. IsPicture (payment_text payment.now) (string_bytes svg)) }
     ensures accepts { length (payment_text payment.now) ≤ 331 → IsOkUnless result OutOfMemory }
-    ensures errors { IfErr result (λ e. (e ≡ DataTooLong) ⊎ (e ≡ OutOfMemory)) }
+    ensures causes { IfErr result (IsRefused M (payment_text payment.now)) }
 {
     let text = payment_text(alloc, payment)?;
     picture_of(alloc, text.as_bytes())
@@ -37,7 +39,7 @@ pub fn payment_picture(alloc: Global, payment: &Payment<'_>) -> QrResult<String>
 fn picture_of(alloc: Global, text: &[u8]) -> QrResult<String>
     ensures picture { IfOk result (λ svg. IsPicture text.now (string_bytes svg)) }
     ensures accepts { length text.now ≤ 331 → IsOkUnless result OutOfMemory }
-    ensures errors { IfErr result (λ e. (e ≡ DataTooLong) ⊎ (e ≡ OutOfMemory)) }
+    ensures causes { IfErr result (IsRefused M text.now) }
 {
     let code = QrCode::new(alloc, text)?;
     code.render::<svg::Color>()

@@ -1,13 +1,9 @@
 -- What the program writes, and why it fails.
-use Rattle.std.specs.Prelude.{◌≡◌, ◌⊎◌, ℕ, List, ◌∷◌, ◌++◌, codes, ⊤}
+use Rattle.std.specs.Prelude.{ℕ, List, ◌∷◌, ◌++◌, codes, ⊤}
 use Rattle.qrcode_types.specs.declared.types.Color.{Color}
 use Rattle.qrcode_types.specs.declared.types.EcLevel.TheVariants.{M}
-use Rattle.qrcode_types.specs.declared.types.QrError.{QrError}
-use Rattle.qrcode_types.specs.declared.types.QrError.TheVariants.{DataTooLong, OutOfMemory}
 use Rattle.qrcode_types.specs.declared.types.Version.{Version}
-use Rattle.qrcode_bits.specs.Choice.{IsChosen}
-use Rattle.qrcode_bits.specs.declared.optimize.Segment.{Segment}
-use Rattle.qrcode.specs.Acceptance.{IsChosenSymbol}
+use Rattle.qrcode.specs.Acceptance.{IsChosenSymbol, HasSymbol, IsRefused}
 use Rattle.qrcode.specs.Pictures.{cells_text}
 use Rattle.qrencode.specs.declared.program.Fault.{Fault}
 use Rattle.qrencode.specs.declared.program.Fault.TheVariants.{MissingArgument, Qr, CannotWrite}
@@ -24,22 +20,14 @@ terminal_text v s = cells_text v s (cell (codes "[7m")) (cell (codes "[49m"))
 abbrev pub Writes : (List ℕ → Type 0) → List ℕ → Type 0
 Writes Written text = (v : Version) × (s : List Color) × IsChosenSymbol v M text s × Written (terminal_text v s)
 
--- memory was refused, or no version and segments can be chosen for the text
-abbrev pub IsRefused : List ℕ → QrError → Type 0
-IsRefused text e = (e ≡ OutOfMemory) ⊎ ((e ≡ DataTooLong) × ((v : Version) (segments : List Segment) → ¬ IsChosen M text v segments))
-
 -- the writer failed
 abbrev pub IsCannotWrite : Fault → Type 0
 IsCannotWrite CannotWrite = ⊤
 IsCannotWrite MissingArgument = ⊥
 IsCannotWrite (Qr e) = ⊥
 
--- a version and segments can be chosen for the text
-abbrev pub HasSymbol : List ℕ → Type 0
-HasSymbol text = (v : Version) × (s : List Color) × IsChosenSymbol v M text s
-
 -- the cause of a fault, where there is a text
 abbrev pub IsCause : List ℕ → Fault → Type 0
-IsCause text CannotWrite = HasSymbol text
+IsCause text CannotWrite = HasSymbol M text
 IsCause text MissingArgument = ⊥
-IsCause text (Qr e) = IsRefused text e
+IsCause text (Qr e) = IsRefused M text e

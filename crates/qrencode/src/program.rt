@@ -5,8 +5,8 @@ ghost use Rattle.std.specs.Io.KnownBytes.{Appends};
 ghost use Rattle.qrcode_types.specs.declared.types.Color.{Color};
 ghost use Rattle.qrcode_types.specs.declared.types.EcLevel.TheVariants.{M};
 ghost use Rattle.qrcode_types.specs.declared.types.Version.{Version};
-ghost use Rattle.qrcode.specs.Acceptance.{IsChosenSymbol};
-ghost use Rattle.qrencode.specs.Words.{terminal_text, Writes, IsCause, IsCannotWrite, IsRefused};
+ghost use Rattle.qrcode.specs.Acceptance.{IsChosenSymbol, IsRefused};
+ghost use Rattle.qrencode.specs.Words.{terminal_text, Writes, IsCause, IsCannotWrite};
 
 use qrcode::render::string::Str;
 use qrcode::types::{QrError, QrResult};
@@ -60,7 +60,7 @@ pub fn run<W: Write>(alloc: Global, text: Option<&str>, out: &mut W) -> Result<(
 fn cells(alloc: Global, data: &[u8]) -> QrResult<String>
     ensures value { IfOk result (λ text. (v : Version) × (s : List Color)
         × IsChosenSymbol v M «data».now s × (string_bytes text ≡ terminal_text v s)) }
-    ensures causes { IfErr result (IsRefused «data».now) }
+    ensures causes { IfErr result (IsRefused M «data».now) }
 {
     render::rectangles_make_pictures::<Str<'_>>();
     let code = QrCode::new(alloc, data)?;

@@ -2,6 +2,7 @@ use Rattle.std.proofs.Common.{rules, ℕ, ◌≤◌, pos, refl, arith}
 use Rattle.qrcode_types.specs.Versions.{capacity}
 use Rattle.qrcode_types.specs.declared.types.Version.TheVariants.{Normal}
 use Rattle.qrcode_bits.specs.Cuts.{FitsIn}
+use Rattle.qrcode.proofs.Refusals.{refusal_handed_on}
 use Rattle.qrcode.proofs.Sealing.{chosen_symbol, version_up_to, no_value}
 use Rattle.qrcode.proofs.QrCode.with_error_correction_level.Goals as goal
 
@@ -9,6 +10,11 @@ pub returns-in_err-bits-clause-accepts : goal.returns-in_err-bits-clause-accepts
 returns-in_err-bits-clause-accepts c = λ v segments chosen.
     let accepted = c.in_err-bits.ensures.accepts v segments chosen in
     search rules
+
+pub returns-in_err-bits-clause-causes : goal.returns-in_err-bits-clause-causes
+returns-in_err-bits-clause-causes c =
+    let known = c.in_err-bits.ensures in
+    refusal_handed_on c.args.ec_level c.args.data.now c.from_residual.result c.in_err-bits.field-0.0 c.from_residual.ensures known.errors known.accepts
 
 pub returns-in_err-bits-clause-accepts_spelled : goal.returns-in_err-bits-clause-accepts_spelled
 returns-in_err-bits-clause-accepts_spelled c = λ n some most spelled.

@@ -5,13 +5,7 @@ use Rattle.qrcode_render.specs.Picture.{picture}
 use Rattle.qrcode_render.specs.Texts.{text_of}
 use Rattle.qrcode_uses.specs.Drawings.{layout_in}
 use Rattle.qrcode_uses.proofs.PictureTexts.{set_picture}
-use Rattle.qrcode_uses.proofs.Refusals.{refusal_handed_on}
 use Rattle.qrcode_uses.proofs.drawings.as_chars.Goals as goal
-
-pub returns-in_err-code-clause-causes : goal.returns-in_err-code-clause-causes
-returns-in_err-code-clause-causes c =
-    let known = c.in_err-code.ensures in
-    refusal_handed_on c.from_residual.result c.args.data.now c.in_err-code.field-0.0 c.from_residual.ensures known.errors known.accepts
 
 pub returns-clause-drawing : goal.returns-clause-drawing
 returns-clause-drawing c =

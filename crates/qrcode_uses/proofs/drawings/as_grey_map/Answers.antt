@@ -10,13 +10,7 @@ use Rattle.qrcode_render.specs.Texts.{channels}
 use Rattle.qrcode_render.specs.declared.image.Luma.{Luma}
 use Rattle.qrcode_uses.specs.Drawings.{layout_in}
 use Rattle.qrcode_uses.proofs.PictureTexts.{set_picture, grey_bytes}
-use Rattle.qrcode_uses.proofs.Refusals.{refusal_handed_on}
 use Rattle.qrcode_uses.proofs.drawings.as_grey_map.Goals as goal
-
-pub returns-in_err-code-clause-causes : goal.returns-in_err-code-clause-causes
-returns-in_err-code-clause-causes c =
-    let known = c.in_err-code.ensures in
-    refusal_handed_on c.from_residual.result c.args.data.now c.in_err-code.field-0.0 c.from_residual.ensures known.errors known.accepts
 
 bytes : Luma → List ℕ
 bytes = channels 1 (λ (pixel : Luma) i. slice_index pixel.0 i)

@@ -6,13 +6,7 @@ use Rattle.qrcode_render.specs.Vectors.{pic_start, pic_rect}
 use Rattle.qrcode_render.specs.declared.pic.Color.{Color}
 use Rattle.qrcode.specs.Pictures.{quiet_zone}
 use Rattle.qrcode_uses.proofs.Settings.{drawing_with, layout_with, set_drawing}
-use Rattle.qrcode_uses.proofs.Refusals.{refusal_handed_on}
 use Rattle.qrcode_uses.proofs.drawings.as_pic.Goals as goal
-
-pub returns-in_err-code-clause-causes : goal.returns-in_err-code-clause-causes
-returns-in_err-code-clause-causes c =
-    let known = c.in_err-code.ensures in
-    refusal_handed_on c.from_residual.result c.args.data.now c.in_err-code.field-0.0 c.from_residual.ensures known.errors known.accepts
 
 pub returns-clause-drawing : goal.returns-clause-drawing
 unfolding drawing_with layout_with

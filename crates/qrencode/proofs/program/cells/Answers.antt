@@ -8,15 +8,8 @@ use Rattle.qrcode_render.specs.Texts.{text_of}
 use Rattle.qrcode_render.specs.declared.string.Str.{Str}
 use Rattle.qrcode.specs.Pictures.{plain_layout, quiet_zone, cells_text}
 use Rattle.qrencode.proofs.Cells.{plain_drawing}
-use Rattle.qrencode.proofs.Faults.{handed_on, refused}
-use Rattle.qrencode.specs.Words.{IsRefused, terminal_text}
+use Rattle.qrencode.specs.Words.{terminal_text}
 use Rattle.qrencode.proofs.program.cells.Goals as goal
-
-pub returns-in_err-code-clause-causes : goal.returns-in_err-code-clause-causes
-returns-in_err-code-clause-causes c =
-    let e = c.in_err-code.field-0.0 in
-    let known = c.in_err-code.ensures in
-    handed_on c.from_residual.result e (IsRefused c.args.data.now) c.from_residual.ensures (refused c.args.data.now e known.errors known.accepts)
 
 pub returns-clause-value : goal.returns-clause-value
 returns-clause-value c =
