@@ -88,7 +88,7 @@ pub record StopsAt (v : Version) (old : List Bool) (pieces : List Piece) (e : Qr
   pub written : new ≡ old ++ written v (take place pieces)
   pub cause : IfSome (slice_get pieces place) (λ p. IsCause (piece_refusal v (length new) p) e)
 
--- the pieces before a refused one are written, and it is the last that was taken
+-- the pieces before the last are written, and the last is refused
 pub record StopsAtLast (v : Version) (old : List Bool) (pieces : List Piece) (e : QrError) (new : List Bool) : Type 0 where
   pub stops : StopsAt v old pieces e new
   pub last : stops.place + 1 ≡ length pieces
