@@ -1,8 +1,7 @@
 //! QR and Micro QR symbols.
 #![tactic(auto)]
 
-ghost use Rattle.std.specs.Prelude.{◌≡◌, ◌⊎◌, ◌↔◌, ℕ, ◌+◌, ◌*◌, ◌-◌, ◌/◌, ◌%◌, ◌<◌, ◌≤◌, ◌++◌, List, Bool, true, false, None, Some, pos, string_bytes, length, slice_index, slice_get, map, flat_map, IsTrue, IfOk, IfErr, OnOk, IsOkUnless};
-ghost use Rattle.std.specs.List.{AllByRecursion};
+ghost use Rattle.std.specs.Prelude.{◌≡◌, ◌⊎◌, ◌↔◌, ℕ, ◌+◌, ◌*◌, ◌-◌, ◌/◌, ◌%◌, ◌<◌, ◌≤◌, ◌++◌, List, true, false, Some, pos, string_bytes, length, slice_index, slice_get, map, IsTrue, IfOk, IfErr, OnOk, IsOkUnless};
 ghost use Rattle.qrcode_types.specs.Versions.{is_valid, side, has_level, capacity, data_length, total_ec_length, has_half_codeword};
 ghost use Rattle.qrcode_types.specs.declared.types.Version.TheVariants.{Normal};
 ghost use Rattle.qrcode_types.specs.declared.types.QrError.TheVariants.{OutOfMemory, InvalidVersion, DataTooLong, UnsupportedCharacterSet};
@@ -17,10 +16,8 @@ ghost use Rattle.qrcode_symbol.specs.Reading.{ReadsBitsOnly};
 ghost use Rattle.qrcode_bits.specs.Choice.{bands, IsChosen, NoneHolds};
 ghost use Rattle.qrcode_bits.specs.Cuts.{FitsIn};
 ghost use Rattle.qrcode_bits.specs.Encoded.{IsNormalUpTo};
-ghost use Rattle.qrcode_bits.specs.Refusals.{data_limit, pieces_refusal};
-ghost use Rattle.qrcode_bits.specs.Segments.{total_cost, AreInside};
-ghost use Rattle.qrcode_bits.specs.Spelling.{IsReadable, SpellsOnly, IsSpelled};
-ghost use Rattle.qrcode_bits.specs.Written.{written, terminated, pieces_of};
+ghost use Rattle.qrcode_bits.specs.Refusals.{data_limit};
+ghost use Rattle.qrcode_bits.specs.Spelling.{IsSpelled};
 ghost use Rattle.qrcode_bits.specs.declared.optimize.Segment.{Segment};
 ghost use Rattle.qrcode.specs.Acceptance.{IsAccepted, HasCut, IsLeastSymbol, IsChosenSymbol, IsRefused};
 ghost use Rattle.qrcode.specs.Drawing.{IsBestDrawing};

@@ -1,6 +1,6 @@
 //! The list of bits in which segments are written.
 
-ghost use Rattle.std.specs.Prelude.{◌≡◌, ℕ, false, ◌+◌, ◌*◌, ◌<◌, ◌≤◌, ◌^◌, ◌==◌, [], ◌++◌, ◌∷◌, length, slice_range, flat_map, replicate, unwrap_or, List, Some, None, Ok, Err, is_ok, IsTrue, IfOk, IfErr, OnOk, if◌then◌else◌};
+ghost use Rattle.std.specs.Prelude.{◌≡◌, ℕ, false, ◌+◌, ◌<◌, ◌≤◌, ◌^◌, ◌==◌, [], ◌++◌, length, slice_range, flat_map, replicate, unwrap_or, List, Some, None, Ok, Err, is_ok, IsTrue, IfOk, IfErr, OnOk, if◌then◌else◌};
 ghost use Rattle.std.specs.List.{AllByRecursion};
 ghost use Rattle.std.specs.Iterator.{IsFinite, HoldsAlong, Drains, Yields};
 ghost use Rattle.std.specs.Option.{option_map};

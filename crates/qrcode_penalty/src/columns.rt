@@ -1,8 +1,8 @@
 //! What the columns of a square and its two by two modules cost: the columns lie side by side in the words of its rows.
 
-ghost use Rattle.std.specs.Prelude.{◌≡◌, ℕ, ◌+◌, ◌-◌, ◌*◌, ◌<◌, ◌≤◌, ◌^◌, ◌&&◌, not, length, map, bit_or};
+ghost use Rattle.std.specs.Prelude.{◌≡◌, ℕ, ◌+◌, ◌-◌, ◌*◌, ◌<◌, ◌≤◌, ◌^◌, ◌&&◌, length, map, bit_or};
 ghost use Rattle.qrcode_penalty.specs.Penalty.{run_penalty_at, finder_penalty_at, block_penalty, light_count, sum_below, count_if, same, begins_run};
-ghost use Rattle.qrcode_penalty.specs.Rows.{AllEndBefore, EndsBefore, has_place, dark_in, padded_row};
+ghost use Rattle.qrcode_penalty.specs.Rows.{AllEndBefore, has_place, dark_in, padded_row};
 
 use crate::line::Line;
 

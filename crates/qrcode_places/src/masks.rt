@@ -1,6 +1,6 @@
 //! The masks.
 
-ghost use Rattle.std.specs.Prelude.{◌≡◌, nat_abs, IsTrue};
+ghost use Rattle.std.specs.Prelude.{◌≡◌, nat_abs};
 ghost use Rattle.qrcode_places.specs.Masks.{turns, mask_number, micro_mask_number, exists_in, IsCoordinate};
 
 use crate::mask_functions;

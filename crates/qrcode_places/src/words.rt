@@ -1,6 +1,6 @@
 //! The words that name level and mask, and the version.
 
-ghost use Rattle.std.specs.Prelude.{◌≡◌, ℕ, ◌+◌, ◌*◌, ◌<◌, ◌≤◌, IsTrue};
+ghost use Rattle.std.specs.Prelude.{◌≡◌, ◌+◌, ◌*◌, ◌≤◌, IsTrue};
 ghost use Rattle.qrcode_types.specs.Versions.{has_level};
 ghost use Rattle.qrcode_places.specs.Masks.{exists_in};
 ghost use Rattle.qrcode_places.specs.Words.{level_bits, format_bits, format_word, version_word};

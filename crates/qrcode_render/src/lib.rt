@@ -1,7 +1,7 @@
 //! Pictures of a symbol: text, half blocks, SVG, PIC and rows of pixels.
 #![tactic(auto)]
 
-ghost use Rattle.std.specs.Prelude.{◌≡◌, ℕ, ◌+◌, ◌-◌, ◌*◌, ◌^◌, ◌<◌, ◌≤◌, List, length, fold, IfOk, OnOk, IsOkUnless, IsTrue, true, false, max};
+ghost use Rattle.std.specs.Prelude.{◌≡◌, ℕ, ◌+◌, ◌-◌, ◌*◌, ◌^◌, ◌<◌, ◌≤◌, List, length, fold, IfOk, OnOk, IsOkUnless, IsTrue, true, max};
 ghost use Rattle.qrcode_types.specs.declared.types.QrError.TheVariants.{OutOfMemory};
 ghost use Rattle.qrcode_types.specs.declared.types.Color.{Color};
 ghost use Rattle.std.specs.List.{range_with_len};

@@ -1,6 +1,6 @@
 //! Texts that stand for two marks, and for four.
 
-ghost use Rattle.std.specs.Prelude.{◌≡◌, ℕ, ◌+◌, ◌*◌, ◌<◌, ◌≤◌, Bool, List, [], ◌∷◌, ◌++◌, length, map, vec_len, string_bytes, IfOk, OnOk, IsOkUnless, if◌then◌else◌};
+ghost use Rattle.std.specs.Prelude.{◌≡◌, ◌+◌, ◌*◌, ◌<◌, ◌++◌, length, map, string_bytes, IfOk, OnOk, IsOkUnless};
 ghost use Rattle.qrcode_types.specs.declared.types.QrError.TheVariants.{OutOfMemory};
 ghost use Rattle.qrcode_render.specs.Lines.{paired, pair_number};
 

@@ -1,6 +1,6 @@
 //! Rows of pixels while they are drawn, and what stands for dark and for light.
 
-ghost use Rattle.std.specs.Prelude.{◌≡◌, ℕ, ◌+◌, ◌*◌, ◌<◌, ◌≤◌, length, IfOk, IsOkUnless};
+ghost use Rattle.std.specs.Prelude.{◌≡◌, ◌+◌, ◌*◌, ◌<◌, ◌≤◌, length, IfOk, IsOkUnless};
 ghost use Rattle.qrcode_types.specs.declared.types.QrError.TheVariants.{OutOfMemory};
 ghost use Rattle.qrcode_render.specs.Drawn.{drawn_row, filled};
 ghost use Rattle.qrcode_render.specs.Picture.{blank, with_dark_pixel};

@@ -1,7 +1,7 @@
 //! Pictures as texts, with a text for each pixel.
 
 ghost use Rattle.std.proofs.Common.{rules};
-ghost use Rattle.std.specs.Prelude.{◌≡◌, ℕ, ◌+◌, ◌-◌, ◌*◌, ◌<◌, ◌≤◌, Bool, List, [], ◌∷◌, ◌++◌, length, encode_utf8, string_bytes, vec_len, IfOk, IfSome, OnOk, IsOkUnless, if◌then◌else◌};
+ghost use Rattle.std.specs.Prelude.{◌≡◌, ℕ, ◌+◌, ◌-◌, ◌*◌, ◌<◌, Bool, List, [], ◌∷◌, ◌++◌, length, encode_utf8, string_bytes, IfOk, IfSome, OnOk, IsOkUnless};
 ghost use Rattle.qrcode_types.specs.declared.types.Color.{Color};
 ghost use Rattle.qrcode_types.specs.declared.types.QrError.TheVariants.{OutOfMemory};
 ghost use Rattle.qrcode_types.specs.Colors.{select_of};

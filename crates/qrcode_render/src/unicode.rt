@@ -1,10 +1,10 @@
 //! Pictures as texts of half blocks: two rows of pixels in a line.
 
 ghost use Rattle.std.proofs.Common.{rules};
-ghost use Rattle.std.specs.Prelude.{◌≡◌, ℕ, ◌+◌, ◌*◌, ◌/◌, ◌<◌, ◌≤◌, Bool, true, false, List, [], ◌∷◌, ◌++◌, length, string_bytes, IfOk, OnOk, IsOkUnless, flat_map};
+ghost use Rattle.std.specs.Prelude.{◌≡◌, ◌+◌, ◌*◌, ◌/◌, ◌<◌, Bool, true, false, [], ◌++◌, length, string_bytes, IfOk, OnOk, IsOkUnless};
 ghost use Rattle.qrcode_types.specs.declared.types.QrError.TheVariants.{OutOfMemory};
 ghost use Rattle.qrcode_types.specs.Colors.{is_dark};
-ghost use Rattle.qrcode_render.specs.Dense.{is_dark_dense, column_text, top_text, columns_text, dense_sketch_text};
+ghost use Rattle.qrcode_render.specs.Dense.{is_dark_dense, column_text, columns_text, dense_sketch_text};
 ghost use Rattle.qrcode_render.specs.Drawn.{filled};
 ghost use Rattle.qrcode_render.specs.PaletteOf.{two_text};
 ghost use Rattle.qrcode_render.specs.Picture.{Raster, blank, with_dark_pixel};

@@ -1,6 +1,6 @@
 //! Data as segments and as bits.
 
-ghost use Rattle.std.specs.Prelude.{◌≡◌, pos, [], ◌∷◌, ◌++◌, codes, map, length, replicate};
+ghost use Rattle.std.specs.Prelude.{◌≡◌, pos, [], ◌∷◌, codes, map, replicate};
 ghost use Rattle.qrcode_types.specs.Bits.{bytes_of};
 ghost use Rattle.qrcode_types.specs.declared.types.Version.TheVariants.{Normal, Micro};
 ghost use Rattle.qrcode_types.specs.declared.types.EcLevel.TheVariants.{L, Q};

@@ -1,7 +1,7 @@
 //! What a user of the renderer writes: an element, and a canvas whose drawing takes memory.
 
 ghost use Rattle.std.proofs.Common.{rules};
-ghost use Rattle.std.specs.Prelude.{◌≡◌, ℕ, ◌+◌, ◌*◌, ◌%◌, ◌^◌, ◌<◌, List, [], ◌∷◌, ◌++◌, codes, if◌then◌else◌};
+ghost use Rattle.std.specs.Prelude.{◌≡◌, ◌+◌, ◌*◌, ◌%◌, ◌^◌, ◌<◌, List, [], ◌∷◌, ◌++◌, codes, if◌then◌else◌};
 ghost use Rattle.qrcode_types.specs.Colors.{is_dark};
 
 use crate::digest::Item;

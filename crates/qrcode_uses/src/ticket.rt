@@ -1,6 +1,6 @@
 //! A ticket number as a Micro symbol.
 
-ghost use Rattle.std.specs.Prelude.{string_bytes, decimal, IfOk, IsOkUnless};
+ghost use Rattle.std.specs.Prelude.{string_bytes, IfOk, IsOkUnless};
 ghost use Rattle.qrcode_types.specs.declared.types.QrError.TheVariants.{OutOfMemory};
 ghost use Rattle.qrcode_uses.specs.Tickets.{IsTicket};
 

@@ -1,6 +1,6 @@
 //! The program, over any writer.
 
-ghost use Rattle.std.specs.Prelude.{◌≡◌, ◌⊎◌, ◌↔◌, ◌≤◌, List, Some, None, length, string_bytes, IfOk, IfErr, OnErr, IsErrOf, IfSome};
+ghost use Rattle.std.specs.Prelude.{◌≡◌, ◌⊎◌, ◌↔◌, List, Some, None, string_bytes, IfOk, IfErr, IsErrOf, IfSome};
 ghost use Rattle.std.specs.Io.KnownBytes.{Appends};
 ghost use Rattle.qrcode_types.specs.declared.types.Color.{Color};
 ghost use Rattle.qrcode_types.specs.declared.types.EcLevel.TheVariants.{M};

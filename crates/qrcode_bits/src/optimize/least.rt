@@ -8,7 +8,7 @@ ghost use Rattle.qrcode_types.specs.Characters.{can_write};
 ghost use Rattle.qrcode_types.specs.declared.types.EcLevel.{EcLevel};
 ghost use Rattle.qrcode_types.specs.declared.types.QrError.TheVariants.{UnsupportedCharacterSet, OutOfMemory};
 ghost use Rattle.qrcode_bits.specs.ModeHeaders.{widest_mode, bytes_each};
-ghost use Rattle.qrcode_bits.specs.LeastBits.{headers_of, AreSmall, IsSmall, rest_of, AreStarts, IsFirst};
+ghost use Rattle.qrcode_bits.specs.LeastBits.{AreSmall, IsSmall, rest_of, AreStarts, IsFirst};
 ghost use Rattle.qrcode_bits.specs.Segments.{AreInside};
 ghost use Rattle.qrcode_bits.specs.Cuts.{IsCut, IsLeastCut, FitsIn};
 ghost use Rattle.qrcode_bits.specs.Written.{pieces_of};

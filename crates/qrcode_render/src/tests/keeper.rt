@@ -1,8 +1,7 @@
 // A canvas of a user, which keeps its calls.
 
 ghost use Rattle.std.proofs.Common.{rules};
-ghost use Rattle.std.specs.Prelude.{◌≡◌, ◌++◌, ◌∷◌, [], List, ℕ, OnOk, IfOk, IsOkUnless, ◌<◌, ◌≤◌, ◌+◌, ◌*◌, ◌^◌};
-ghost use Rattle.qrcode_types.specs.declared.types.QrError.TheVariants.{OutOfMemory};
+ghost use Rattle.std.specs.Prelude.{◌≡◌, ◌++◌, ◌∷◌, [], List, ◌<◌, ◌+◌, ◌^◌};
 
 use super::{DIAGONAL, picture};
 use crate::{Canvas, Pixel, Renderer, fill_rect};

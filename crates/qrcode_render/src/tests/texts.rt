@@ -132,7 +132,7 @@ fn writes_a_symbol_in_half_blocks(rt: HostRuntime) -> Result<(), Fail> {
 struct Digit(bool);
 
 impl Element for Digit {
-    ghost use Rattle.std.specs.Prelude.{◌≡◌, ℕ, List, [], ◌∷◌, if◌then◌else◌};
+    ghost use Rattle.std.specs.Prelude.{◌≡◌, [], ◌∷◌, if◌then◌else◌};
     ghost use Rattle.qrcode_types.specs.Colors.{is_dark};
 
     ghost text = { λ digit. if digit.0 then 49 ∷ [] else 48 ∷ 48 ∷ [] };

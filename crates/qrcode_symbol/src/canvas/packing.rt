@@ -1,6 +1,6 @@
 //! Modules packed into rows of places: which are dark, and which a mask may turn.
 
-ghost use Rattle.std.specs.Prelude.{◌≡◌, ℕ, ◌+◌, ◌*◌, ◌<◌, ◌≤◌, length, map, Bool, List, IsTrue};
+ghost use Rattle.std.specs.Prelude.{◌≡◌, ◌+◌, ◌*◌, ◌<◌, ◌≤◌, length, map, Bool, List, IsTrue};
 ghost use Rattle.qrcode_types.specs.Versions.{is_valid, has_level, side};
 ghost use Rattle.qrcode_penalty.specs.Rows.{AllEndBefore};
 ghost use Rattle.qrcode_symbol.specs.Masking.{is_dark_module, is_free, digit, packed, ShowsModules};
