@@ -1,5 +1,5 @@
 -- Laws of `xor` on numbers, and of `xor_sum`.
-use Rattle.std.proofs.Common.{◌≡◌, ℕ, zero, suc, ◌+◌, ◌-◌, ◌*◌, ◌/◌, ◌%◌, ◌^◌, ◌<◌, ◌≤◌, refl, sym, ap, ap₂, ◌∙◌, arith}
+use Rattle.std.proofs.Common.{◌≡◌, ℕ, zero, suc, ◌+◌, ◌*◌, ◌/◌, ◌%◌, ◌^◌, ◌<◌, ◌≤◌, refl, sym, ap, ap₂, ◌∙◌, arith}
 use Rattle.std.specs.Int.Bits.{bit_xor, xor_comm, xor_assoc, xor_self, xor_zero_r, xor_block, xor_shr, xor_mod}
 use Rattle.qrcode_types.specs.Bits.{xor_sum}
 
@@ -39,24 +39,6 @@ xor_split a =
     let y : 0 * 2 ^ 1 + a % 2 ≡ a % 2 = omega arith in
     let w : a ≡ a / 2 * 2 ^ 1 + a % 2 = omega arith in
     w ∙ ap (λ x. x * 2 ^ 1 + a % 2) (sym (xor_zero_r (a / 2))) ∙ sym e ∙ (λ i. bit_xor (z i) (y i))
-
-pub xor_sixteen : (a b : ℕ) → bit_xor a b * 16 ≡ bit_xor (a * 16) (b * 16)
-xor_sixteen a b =
-    let e = xor_block 4 a b 0 0 (omega arith) (omega arith) in
-    let whole : bit_xor a b * 16 ≡ bit_xor a b * 2 ^ 4 + 0 = omega arith in
-    let first : a * 2 ^ 4 + 0 ≡ a * 16 = omega arith in
-    let second : b * 2 ^ 4 + 0 ≡ b * 16 = omega arith in
-    whole ∙ sym e ∙ ap₂ bit_xor first second
-
--- a number is what is left of it without its two lowest bits, xor these
-pub xor_fourth : (k : ℕ) → bit_xor (k - k % 4) (k % 4) ≡ k
-xor_fourth k =
-    let high : k - k % 4 ≡ k / 4 * 2 ^ 2 + 0 = omega arith in
-    let low : k % 4 ≡ 0 * 2 ^ 2 + k % 4 = omega arith in
-    let small : k % 4 < 2 ^ 2 = omega arith in
-    let none : 0 < 2 ^ 2 = omega arith in
-    ap₂ bit_xor high low ∙ xor_block 2 (k / 4) 0 0 (k % 4) none small
-    ∙ ap (λ x. x * 2 ^ 2 + k % 4) (xor_zero_r (k / 4)) ∙ omega arith
 
 -- ---- sums
 

@@ -2,7 +2,7 @@
 
 ghost use Rattle.std.specs.Prelude.{◌≡◌, ℕ, suc, ◌<◌, ◌≤◌, ◌++◌, ◌*◌, ◌∷◌, [], length, slice_index, slice_index_or, bit_xor};
 ghost use Rattle.qrcode_types.specs.Bits.{AreBytes};
-ghost use Rattle.qrcode_ec.specs.Field.{product};
+ghost use Rattle.qrcode_ec.specs.Field.{product, times_x};
 ghost use Rattle.qrcode_ec.specs.Codes.{Vanishes};
 ghost use Rattle.qrcode_ec.specs.Dividing.{AreMultiples, Divides};
 
@@ -44,19 +44,35 @@ fn generator(degree: usize) -> [u8; ROOM]
     coefficients
 }
 
-// The first coefficients of the generator, as many as its degree, times the factor. The others are
-// zeros.
-fn multiple(generator: &[u8; ROOM], degree: usize, factor: u8) -> [u8; ROOM]
-    requires degree { degree ≤ 69 }
-    requires ends { (j : ℕ) → degree ≤ j → slice_index generator.now j ≡ 0 }
-    ensures { (j : ℕ) → j < 72
-        → slice_index result j ≡ product factor (slice_index generator.now j) }
+// A byte times x.
+#[inline(always)]
+fn times_x(byte: u8) -> u8
+    ensures { result ≡ times_x byte }
 {
-    let mut row = [0; ROOM];
-    for j in 0..degree {
-        row[j] = product(factor, generator[j]);
+    if byte < 128 {
+        byte << 1
+    } else {
+        (byte << 1) ^ 0x1d
     }
-    row
+}
+
+// A row times x.
+fn double(row: &[u8; ROOM]) -> [u8; ROOM]
+    ensures { (j : ℕ) → j < 72 → slice_index result j ≡ times_x (slice_index row.now j) }
+{
+    let mut doubled = [0; ROOM];
+    for j in 0..ROOM {
+        doubled[j] = times_x(row[j]);
+    }
+    doubled
+}
+
+// A row times x^4.
+#[inline(never)]
+fn sixteenfold(row: &[u8; ROOM]) -> [u8; ROOM]
+    ensures { (j : ℕ) → j < 72 → slice_index result j ≡ product 16 (slice_index row.now j) }
+{
+    double(&double(&double(&double(row))))
 }
 
 // The sum of two rows.
@@ -71,44 +87,32 @@ fn sum(first: &[u8; ROOM], second: &[u8; ROOM]) -> [u8; ROOM]
     row
 }
 
-// The generator times k units, where the rows before have the lesser multiples: a product of each
-// coefficient, or the sum of two earlier rows.
-fn row(
-    rows: &[[u8; ROOM]; 16],
-    generator: &[u8; ROOM],
-    degree: usize,
-    unit: u8,
-    k: u8,
-) -> [u8; ROOM]
-    requires number { k < 16 }
-    requires most { unit ≤ 16 }
-    requires degree { degree ≤ 69 }
-    requires ends { (j : ℕ) → degree ≤ j → slice_index generator.now j ≡ 0 }
-    requires keeps_sums { (a b : ℕ) → bit_xor a b * unit ≡ bit_xor (a * unit) (b * unit) }
-    requires earlier { (i j : ℕ) → i < k → j < 72
-        → slice_index (slice_index_or rows.now i []) j
-        ≡ product (i * unit) (slice_index generator.now j) }
+// Row k, where the rows before have the lesser multiples of row 1: twice one of them, or the sum of
+// the last one and row 1.
+fn row(rows: &[[u8; ROOM]; 16], k: usize) -> [u8; ROOM]
+    requires least { 2 ≤ k }
+    requires most { k < 16 }
+    requires earlier { (i j : ℕ) → i < k → j < 72 → slice_index (slice_index_or rows.now i []) j
+        ≡ product i (slice_index (slice_index_or rows.now 1 []) j) }
     ensures { (j : ℕ) → j < 72
-        → slice_index result j ≡ product (k * unit) (slice_index generator.now j) }
+        → slice_index result j ≡ product k (slice_index (slice_index_or rows.now 1 []) j) }
 {
-    let low = k % 4;
-    if low == 0 || low == k {
-        return multiple(generator, degree, k * unit);
+    if k % 2 == 0 {
+        return double(&rows[k / 2]);
     }
-    sum(&rows[usize::from(k - low)], &rows[usize::from(low)])
+    sum(&rows[k - 1], &rows[1])
 }
 
-// The multiples of the generator by 0, the unit, twice the unit and so on.
-fn multiples(generator: &[u8; ROOM], degree: usize, unit: u8) -> [[u8; ROOM]; 16]
-    requires most { unit ≤ 16 }
-    requires degree { degree ≤ 69 }
-    requires ends { (j : ℕ) → degree ≤ j → slice_index generator.now j ≡ 0 }
-    requires keeps_sums { (a b : ℕ) → bit_xor a b * unit ≡ bit_xor (a * unit) (b * unit) }
-    ensures { AreMultiples generator.now unit result }
+// The multiples of a row by 0, 1, 2 and so on. It is not inlined, nor is `sixteenfold`: LLVM would
+// then no longer see that a divider's room need not be set to zeros before it is written.
+#[inline(never)]
+fn multiples(first: &[u8; ROOM]) -> [[u8; ROOM]; 16]
+    ensures { AreMultiples first.now 1 result }
 {
     let mut rows = [[0; ROOM]; 16];
-    for k in 0..16 {
-        rows[usize::from(k)] = row(&rows, generator, degree, unit, k);
+    rows[1] = *first;
+    for k in 2..16 {
+        rows[k] = row(&rows, k);
     }
     rows
 }
@@ -142,8 +146,8 @@ impl Divider {
     {
         let generator = generator(degree);
         Divider {
-            low: multiples(&generator, degree, 1),
-            high: multiples(&generator, degree, 16),
+            low: multiples(&generator),
+            high: multiples(&sixteenfold(&generator)),
         }
     }
 

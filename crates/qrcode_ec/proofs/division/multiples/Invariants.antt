@@ -1,9 +1,10 @@
-use Rattle.std.proofs.Common.{◌≡◌, ℕ, ◌*◌, ◌<◌, [], get_or, length}
+use Rattle.std.proofs.Common.{◌≡◌, ℕ, ◌<◌, [], get_or, length}
 use Rattle.qrcode_ec.specs.Field.{product}
 use Rattle.qrcode_ec.proofs.division.multiples.Given as goal
 
 abbrev pub invariant-loop-k : goal.invariant-loop-k
 invariant-loop-k l = record {
   long : length l.rows ≡ 16;
-  below : (k j : ℕ) → k < l.k → j < 72 → get_or (get_or l.rows k []) j 0 ≡ product (k * l.unit) (get_or l.generator j 0);
+  one : (j : ℕ) → get_or (get_or l.rows 1 []) j 0 ≡ get_or l.first j 0;
+  below : (i j : ℕ) → i < l.k → j < 72 → get_or (get_or l.rows i []) j 0 ≡ product i (get_or l.first j 0);
 }

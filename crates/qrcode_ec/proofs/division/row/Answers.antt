@@ -1,19 +1,20 @@
-use Rattle.std.proofs.Common.{◌≡◌, ◌*◌, ◌%◌, ◌-◌, [], get_or, sym, ap, ap₂, ◌∙◌, arith}
+use Rattle.std.proofs.Common.{◌≡◌, ◌*◌, ◌/◌, ◌-◌, [], get_or, ap, ap₂, ◌∙◌, arith}
 use Rattle.std.specs.Int.Bits.{bit_xor}
-use Rattle.qrcode_ec.specs.Field.{product}
-use Rattle.qrcode_ec.proofs.Products.{product_xor_l}
-use Rattle.qrcode_ec.proofs.Xor.{xor_fourth}
+use Rattle.qrcode_ec.specs.Field.{product, times_x}
+use Rattle.qrcode_ec.proofs.Products.{product_twice, product_next}
 use Rattle.qrcode_ec.proofs.division.row.Goals as goal
 
-pub returns : goal.returns
-returns c j within =
+pub returns-then-k-eq0 : goal.returns-then-k-eq0
+returns-then-k-eq0 c = λ j within.
     let k = c.args.k in
-    let unit = c.args.unit in
-    let g = get_or c.args.generator.now j 0 in
-    let high : c.from.result ≡ k - k % 4 = c.from.ensures in
-    let low : c.from-2.result ≡ k % 4 = c.from-2.ensures in
-    c.sum.ensures j within
-    ∙ ap₂ (λ a b. bit_xor (get_or (get_or c.args.rows.now a []) j 0) (get_or (get_or c.args.rows.now b []) j 0)) high low
-    ∙ ap₂ bit_xor (c.requires.earlier (k - k % 4) j (omega arith) within) (c.requires.earlier (k % 4) j (omega arith) within)
-    ∙ sym (product_xor_l ((k - k % 4) * unit) (k % 4 * unit) g)
-    ∙ ap (λ x. product x g) (sym (c.requires.keeps_sums (k - k % 4) (k % 4)) ∙ ap (λ x. x * unit) (xor_fourth k))
+    let first = get_or (get_or c.args.rows.now 1 []) j 0 in
+    let whole : k / 2 * 2 ≡ k = omega arith in
+    c.double.ensures j within ∙ ap times_x (c.requires.earlier (k / 2) j (omega arith) within)
+    ∙ product_twice (k / 2) first (omega arith) ∙ ap (λ n. product n first) whole
+
+pub returns : goal.returns
+returns c = λ j within.
+    let k = c.args.k in
+    let first = get_or (get_or c.args.rows.now 1 []) j 0 in
+    c.sum.ensures j within ∙ ap₂ bit_xor (c.requires.earlier (k - 1) j (omega arith) within) (c.requires.earlier 1 j (omega arith) within)
+    ∙ product_next k first (omega arith)
