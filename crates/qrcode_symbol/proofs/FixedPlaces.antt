@@ -1,17 +1,13 @@
 -- The places of a row that no mask decides.
-use Rattle.std.proofs.Common.{◌≡◌, ◌≢◌, ℕ, suc, ◌+◌, ◌-◌, ◌^◌, ◌<◌, ◌≤◌, Bool, true, false, not, ◌==◌, ◌&&◌, ◌||◌, refl, ap, ap₂, sym, ◌∙◌, arith, bit_or, bit_and, bit_xor, below_more, inl, inr, unwrap_or}
-use Rattle.std.proofs.lemmas.Bool.{ne_eqb}
-use Rattle.std.proofs.lemmas.Bool.Decides.{eqb_tells, leb_tells}
-use Rattle.std.specs.declared.option.Option.{Option}
+use Rattle.std.proofs.Common.{◌≡◌, ◌≢◌, ℕ, suc, ◌+◌, ◌-◌, ◌^◌, ◌<◌, ◌≤◌, Bool, true, false, not, ◌&&◌, ◌||◌, refl, ap, ap₂, sym, ◌∙◌, arith, bit_or, bit_and, bit_xor, below_more, inl, inr, unwrap_or}
+use Rattle.std.proofs.lemmas.Bool.Decides.{eqb_tells, leb_tells, nat_tests}
 use Rattle.std.specs.declared.option.Option.TheVariants.{Some, None}
 use Rattle.qrcode_types.specs.declared.types.Version.{Version}
 use Rattle.qrcode_types.specs.declared.types.Version.TheVariants.{Normal, Micro}
 use Rattle.qrcode_penalty.specs.Rows.{has_place}
 use Rattle.qrcode_penalty.proofs.Places.{has_or, has_without, has_first, has_first_above, has_above, below_from_places}
-use Rattle.qrcode_types.specs.Bits.{has_bit}
-use Rattle.qrcode_types.specs.Colors.{is_dark}
-use Rattle.qrcode_types.specs.declared.types.Color.{Color}
-use Rattle.qrcode_places.specs.Patterns.{format_index, dark_module, where_true}
+use Rattle.qrcode_types.specs.Versions.{side}
+use Rattle.qrcode_places.specs.Patterns.{format_index, dark_module}
 use Rattle.qrcode_symbol.specs.Masking.{fixed_bit}
 
 -- the number with one place, as the code makes it
@@ -63,40 +59,21 @@ unset_other n p k h = has_without n (one p) k ∙ ap (λ b. has_place n k && not
 pub ends_after_put : (new row p width : ℕ) → ((k : ℕ) → k ≢ p → has_place new k ≡ has_place row k) → p < width → row < 2 ^ width → new < 2 ^ width
 ends_after_put new row p width others inside ends = below_from_places new width (λ k h. others k (λ e. absurd (omega arith)) ∙ has_above row width k ends h)
 
--- the choice of two tests, both of which fail
-abbrev pick : Bool → Option ℕ → Option ℕ → Option ℕ
-pick p a b = elim p [ true ↦ a | false ↦ b ]
-
-neither : (p q : Bool) (a b : Option ℕ) → p ≡ false → q ≡ false → pick p a (pick q b None) ≡ None
-neither true q a b e f = cc
-neither false true a b e f = cc
-neither false false a b e f = refl
-
-format_elsewhere : (v : Version) (x y : ℕ) → x ≢ 8 → y ≢ 8 → format_index v x y ≡ None
-unfolding format_index
-format_elsewhere (Normal v) x y h k = neither (y == 8) (x == 8) _ _ (ne_eqb y 8 k) (ne_eqb x 8 h)
-format_elsewhere (Micro v) x y h k = neither (y == 8) (x == 8) _ _ (ne_eqb y 8 k) (ne_eqb x 8 h)
-
-where_false : (p : Bool) (q : Bool) → p ≡ false → where_true (p && q) true ≡ None
-where_false true q e = cc
-where_false false q e = refl
-
-dark_elsewhere : (v : Version) (x y : ℕ) → x ≢ 8 → dark_module v x y ≡ None
-unfolding dark_module
-dark_elsewhere (Normal v) x y h = where_false (x == 8) _ (ne_eqb x 8 h)
-dark_elsewhere (Micro v) x y h = refl
-
-abbrev pub bit_of : ℕ → Option ℕ → Option Color → Option Bool
-bit_of word o d = elim o [ Some i ↦ Some (has_bit word (14 - i)) | None ↦ elim d [ Some c ↦ Some (is_dark c) | None ↦ None ] ]
-
-fixed_nothing : (word : ℕ) (o : Option ℕ) (d : Option Color) → o ≡ None → d ≡ None → bit_of word o d ≡ None
-fixed_nothing word None None e f = refl
-fixed_nothing word None (Some c) e f = cc
-fixed_nothing word (Some i) d e f = cc
-
 elsewhere : (v : Version) (word x y : ℕ) → x ≢ 8 → y ≢ 8 → fixed_bit v word x y ≡ None
-unfolding fixed_bit
-elsewhere v word x y h k = fixed_nothing word (format_index v x y) (dark_module v x y) (format_elsewhere v x y h k) (dark_elsewhere v x y h)
+unfolding fixed_bit format_index dark_module
+elsewhere (Normal v) word x y h k = grind (arith, nat_tests)
+elsewhere (Micro v) word x y h k = grind (arith, nat_tests)
+
+-- between the corners of row 8 and of column 8 a mask decides every place
+row_between : (v : Version) (word x : ℕ) → 8 < x → x + 8 < side v → fixed_bit v word x 8 ≡ None
+unfolding fixed_bit format_index dark_module
+row_between (Normal v) word x h k = grind (arith, nat_tests)
+row_between (Micro v) word x h k = grind (arith, nat_tests)
+
+pub column_between : (v : Version) (word y : ℕ) → 8 < y → y + 8 < side v → fixed_bit v word 8 y ≡ None
+unfolding fixed_bit format_index dark_module
+column_between (Normal v) word y h k = grind (arith, nat_tests)
+column_between (Micro v) word y h k = grind (arith, nat_tests)
 
 pub place_some : (v : Version) (word y new row : ℕ) (b : Bool) → y ≢ 8 → fixed_bit v word 8 y ≡ Some b → has_place new 8 ≡ b → ((k : ℕ) → k ≢ 8 → has_place new k ≡ has_place row k) →
     (x : ℕ) → has_place new x ≡ unwrap_or (fixed_bit v word x y) (has_place row x)
@@ -113,26 +90,36 @@ place_none v word y row k e x =
       | inr p ↦ sym (ap (λ o. unwrap_or o (has_place row x)) (elsewhere v word x y p.1 k))
     ]
 
--- row 8 below place x is done, and from there on as it was
-pub record IsFixedBelow (v : Version) (word row width line x : ℕ) : Type 0 where
-  pub done : (k : ℕ) → k < x → has_place line k ≡ unwrap_or (fixed_bit v word k 8) (has_place row k)
-  pub rest : (k : ℕ) → x ≤ k → has_place line k ≡ has_place row k
+-- row 8 is done from one place on and below x, and elsewhere as it was
+pub record IsFixedFrom (v : Version) (word row width line from x : ℕ) : Type 0 where
+  pub done : (k : ℕ) → k < x → from ≤ k → has_place line k ≡ unwrap_or (fixed_bit v word k 8) (has_place row k)
+  pub before : (k : ℕ) → k < from → has_place line k ≡ has_place row k
+  pub behind : (k : ℕ) → x ≤ k → has_place line k ≡ has_place row k
   pub ends : line < 2 ^ width
 
-pub fixed_some : (v : Version) (word row width line x new : ℕ) (b : Bool) → x < width → fixed_bit v word x 8 ≡ Some b → has_place new x ≡ b → ((k : ℕ) → k ≢ x → has_place new k ≡ has_place line k) →
-    IsFixedBelow v word row width line x → IsFixedBelow v word row width new (x + 1)
-fixed_some v word row width line x new b inside e here others before = record {
-  done = below_more (λ k. has_place new k ≡ unwrap_or (fixed_bit v word k 8) (has_place row k)) x
-      (λ k l. others k (λ h. absurd (omega arith)) ∙ before.done k l)
-      (here ∙ sym (ap (λ o. unwrap_or o (has_place row x)) e));
-  rest = λ k h. others k (λ e. absurd (omega arith)) ∙ before.rest k (omega arith);
-  ends = ends_after_put new line x width others inside before.ends;
+pub fixed_more : (v : Version) (word row width line from x new : ℕ) → from ≤ x → x < width → has_place new x ≡ unwrap_or (fixed_bit v word x 8) (has_place line x) →
+    ((k : ℕ) → k ≢ x → has_place new k ≡ has_place line k) → IsFixedFrom v word row width line from x → IsFixedFrom v word row width new from (x + 1)
+fixed_more v word row width line from x new low inside here others so_far = record {
+  done = below_more (λ k. from ≤ k → has_place new k ≡ unwrap_or (fixed_bit v word k 8) (has_place row k)) x
+      (λ k l h. others k (λ e. absurd (omega (arith, l, e))) ∙ so_far.done k l h)
+      (λ h. here ∙ ap (unwrap_or (fixed_bit v word x 8)) (so_far.behind x (omega arith)));
+  before = λ k h. others k (λ e. absurd (omega (arith, h, e, low))) ∙ so_far.before k h;
+  behind = λ k h. others k (λ e. absurd (omega (arith, h, e))) ∙ so_far.behind k (omega (arith, h));
+  ends = ends_after_put new line x width others inside so_far.ends;
 }
 
-pub fixed_none : (v : Version) (word row width line x : ℕ) → fixed_bit v word x 8 ≡ None → IsFixedBelow v word row width line x → IsFixedBelow v word row width line (x + 1)
-fixed_none v word row width line x e before = record {
-  done = below_more (λ k. has_place line k ≡ unwrap_or (fixed_bit v word k 8) (has_place row k)) x before.done
-      (before.rest x (omega arith) ∙ sym (ap (λ o. unwrap_or o (has_place row x)) e));
-  rest = λ k h. before.rest k (omega arith);
-  ends = before.ends;
-}
+-- what the places of both corners make of the row
+pub both_corners : (v : Version) (word row left new : ℕ) → ((k : ℕ) → k < 9 → has_place left k ≡ unwrap_or (fixed_bit v word k 8) (has_place row k)) →
+    ((k : ℕ) → 9 ≤ k → has_place left k ≡ has_place row k) →
+    ((k : ℕ) → 9 ≤ k → side v ≤ k + 8 → k < side v → has_place new k ≡ unwrap_or (fixed_bit v word k 8) (has_place left k)) →
+    ((k : ℕ) → k < 9 → has_place new k ≡ has_place left k) →
+    ((k : ℕ) → k + 8 < side v → has_place new k ≡ has_place left k) →
+    (x : ℕ) → x < side v → has_place new x ≡ unwrap_or (fixed_bit v word x 8) (has_place row x)
+both_corners v word row left new low high last same others x h =
+    elim (leb_tells 9 x) [
+      | inl p ↦ elim (leb_tells (x + 9) (side v)) [
+        | inl q ↦ others x (omega (arith, q.1)) ∙ high x p.1 ∙ sym (ap (λ o. unwrap_or o (has_place row x)) (row_between v word x p.1 (omega (arith, q.1))))
+        | inr q ↦ last x p.1 (omega (arith, q.1)) h ∙ ap (λ b. unwrap_or (fixed_bit v word x 8) b) (high x p.1)
+      ]
+      | inr p ↦ same x p.1 ∙ low x p.1
+    ]

@@ -27,7 +27,6 @@ use Rattle.qrcode_symbol.specs.declared.canvas.Module.TheVariants.{Empty, Masked
 use Rattle.qrcode_symbol.specs.Canvas.{color_of_module, colors_of, masked_module, mask_module, with_mask}
 use Rattle.qrcode_symbol.specs.Penalties.{penalty, penalty_of}
 use Rattle.qrcode_symbol.specs.Masking.{is_dark_module, is_free, fixed_bit, masked_dark, nth_cost, nth_mask, ShowsModules}
-use Rattle.qrcode_symbol.proofs.FixedPlaces.{bit_of}
 
 pub dark_color : (b : Bool) → is_dark (color_of b) ≡ b
 dark_color true = refl
@@ -40,6 +39,9 @@ color_dark Dark = refl
 -- a module under a mask, by the bit of the format word, the dark module and the mask at its place
 abbrev pub module_of : ℕ → Option ℕ → Option Color → Bool → Module → Module
 module_of word o d t m = elim o [ Some i ↦ Masked (color_of (has_bit word (14 - i))) | None ↦ elim d [ Some c ↦ Masked c | None ↦ masked_module t m ] ]
+
+abbrev bit_of : ℕ → Option ℕ → Option Color → Option Bool
+bit_of word o d = elim o [ Some i ↦ Some (has_bit word (14 - i)) | None ↦ elim d [ Some c ↦ Some (is_dark c) | None ↦ None ] ]
 
 decided : (word : ℕ) (o : Option ℕ) (d : Option Color) (t : Bool) (m : Module) → unwrap_or (bit_of word o d) (turned_if (is_free m && t) (is_dark_module m)) ≡ is_dark_module (module_of word o d t m)
 decided word (Some i) d t m = sym (dark_color (has_bit word (14 - i)))

@@ -72,16 +72,21 @@ fn put<L: Line>(row: L, place: u32, set: bool) -> L
     row.without(one)
 }
 
-// Row 8 with the bits that no mask decides.
-fn fixed_row<L: Line>(layer: Layer, row: L) -> L
+// Row 8 with the bits that no mask decides at some places, from one on and up to another.
+#[inline(always)]
+fn fixed_places<L: Line>(layer: Layer, from: usize, to: usize, row: L) -> L
     requires room { layer.width + 3 ≤ L.room }
+    requires order { from ≤ to }
+    requires inside { to ≤ layer.width }
     requires ends { EndsBefore layer.width (L.places row) }
-    ensures shown { (x : ℕ) → x < layer.width → has_place (L.places result) x
+    ensures between { (x : ℕ) → from ≤ x → x < to → has_place (L.places result) x
         ≡ unwrap_or (fixed_bit layer.version layer.word x 8) (has_place (L.places row) x) }
+    ensures before { (x : ℕ) → x < from → has_place (L.places result) x ≡ has_place (L.places row) x }
+    ensures behind { (x : ℕ) → to ≤ x → has_place (L.places result) x ≡ has_place (L.places row) x }
     ensures ends { EndsBefore layer.width (L.places result) }
 {
     let mut line = row;
-    for x in 0..layer.width {
+    for x in from..to {
         if let Some(bit) = fixed_bit(layer, x, 8) {
             line = put(line, x as u32, bit);
         }
@@ -89,7 +94,21 @@ fn fixed_row<L: Line>(layer: Layer, row: L) -> L
     line
 }
 
-// Another row with the bit that no mask decides, if it has one: only column 8 has such bits there.
+// Row 8 with the bits that no mask decides, all of which stand in its corners. Not inlined, it keeps the loop over the
+// rows short.
+#[inline(never)]
+fn fixed_row<L: Line>(layer: Layer, row: L) -> L
+    requires room { layer.width + 3 ≤ L.room }
+    requires ends { EndsBefore layer.width (L.places row) }
+    ensures shown { (x : ℕ) → x < layer.width → has_place (L.places result) x
+        ≡ unwrap_or (fixed_bit layer.version layer.word x 8) (has_place (L.places row) x) }
+    ensures ends { EndsBefore layer.width (L.places result) }
+{
+    let left = fixed_places(layer, 0, 9, row);
+    fixed_places(layer, (layer.width - 8).max(9), layer.width, left)
+}
+
+// Another row with the bit that no mask decides, if it has one: only column 8 has such bits there, in the corners.
 #[inline(always)]
 fn fixed_place<L: Line>(layer: Layer, y: usize, row: L) -> L
     requires room { layer.width + 3 ≤ L.room }
@@ -99,28 +118,32 @@ fn fixed_place<L: Line>(layer: Layer, y: usize, row: L) -> L
         ≡ unwrap_or (fixed_bit layer.version layer.word x y) (has_place (L.places row) x) }
     ensures ends { EndsBefore layer.width (L.places result) }
 {
+    if 8 < y && y < layer.width - 8 {
+        return row;
+    }
     match fixed_bit(layer, 8, y) {
         Some(bit) => put(row, 8, bit),
         None => row,
     }
 }
 
-// A row under a mask, by its dark places and those that a mask may turn.
+// A row under a mask, by its dark places and those that a mask may turn. The layer is lent, so that it is copied for
+// row 8 alone.
 #[inline(always)]
-fn masked_row<L: Line>(layer: Layer, y: usize, dark: L, free: L) -> L
-    requires room { layer.width + 3 ≤ L.room }
-    requires dark_ends { EndsBefore layer.width (L.places dark) }
-    requires free_ends { EndsBefore layer.width (L.places free) }
-    ensures shown { (x : ℕ) → x < layer.width → has_place (L.places result) x
-        ≡ unwrap_or (fixed_bit layer.version layer.word x y)
-        (turned_if (has_place (L.places free) x && turns layer.mask x y) (has_place (L.places dark) x)) }
-    ensures ends { EndsBefore layer.width (L.places result) }
+fn masked_row<L: Line>(layer: &Layer, y: usize, dark: L, free: L) -> L
+    requires room { layer.now.width + 3 ≤ L.room }
+    requires dark_ends { EndsBefore layer.now.width (L.places dark) }
+    requires free_ends { EndsBefore layer.now.width (L.places free) }
+    ensures shown { (x : ℕ) → x < layer.now.width → has_place (L.places result) x
+        ≡ unwrap_or (fixed_bit layer.now.version layer.now.word x y)
+        (turned_if (has_place (L.places free) x && turns layer.now.mask x y) (has_place (L.places dark) x)) }
+    ensures ends { EndsBefore layer.now.width (L.places result) }
 {
     let turned = dark.xor(free.and(turned_places(layer.mask, y)));
     if y == 8 {
-        return fixed_row(layer, turned);
+        return fixed_row(*layer, turned);
     }
-    fixed_place(layer, y, turned)
+    fixed_place(*layer, y, turned)
 }
 
 /// Writes the rows under a mask, with its format word.
@@ -140,6 +163,6 @@ pub(super) fn mask_rows<L: Line>(square: &PackedSquare<'_, L>, mask: MaskPattern
     };
     let (dark, free) = (square.dark, square.free);
     for y in 0..square.width {
-        masked[y] = masked_row(layer, y, dark[y], free[y]);
+        masked[y] = masked_row(&layer, y, dark[y], free[y]);
     }
 }

@@ -1,0 +1,5 @@
+use Rattle.qrcode_symbol.proofs.FixedPlaces.{IsFixedFrom}
+use Rattle.qrcode_symbol.proofs.canvas.masked_rows.fixed_places.Given as goal
+
+abbrev pub invariant-loop-x : goal.invariant-loop-x
+invariant-loop-x g l = IsFixedFrom l.layer.version l.layer.word (g.L.Line.places l.fn.row) l.layer.width (g.L.Line.places l.line) l.from l.x
