@@ -1,6 +1,6 @@
 //! The data of the cases.
 
-ghost use Rattle.std.specs.Prelude.{◌≡◌, ◌<◌, length, vec_len, IfOk};
+ghost use Rattle.std.specs.Prelude.{◌≡◌, ℕ, ◌%◌, ◌<◌, length, slice_index, vec_len, IfOk};
 
 use qrcode::types::QrResult;
 use std::alloc::Global;
@@ -18,7 +18,9 @@ pub static MIXED: &[u8] =
 /// So many bytes of a text that is repeated.
 pub fn repeated(alloc: Global, text: &[u8], count: usize) -> QrResult<Vec<u8>>
     requires { 0 < length text.now }
-    ensures { IfOk result (λ bytes. vec_len bytes ≡ count) }
+    ensures length { IfOk result (λ bytes. vec_len bytes ≡ count) }
+    ensures bytes { IfOk result (λ bytes. (i : ℕ) → i < count
+        → slice_index bytes.items i ≡ slice_index text.now (i % length text.now)) }
 {
     let mut bytes = Vec::with_capacity(alloc, count)?;
     for i in 0..count {

@@ -1,6 +1,6 @@
 //! The digest of what a scenario made.
 
-ghost use Rattle.std.specs.Prelude.{◌≡◌, ℕ, ◌+◌, ◌*◌, ◌%◌, ◌<◌, ◌^◌, length, fold, if◌then◌else◌};
+ghost use Rattle.std.specs.Prelude.{◌≡◌, ℕ, ◌+◌, ◌-◌, ◌*◌, ◌%◌, ◌<◌, ◌^◌, length, min, fold, if◌then◌else◌};
 ghost use Rattle.qrcode_types.specs.Colors.{select_of};
 
 use qrcode::types::Color;
@@ -68,7 +68,8 @@ impl Digest {
 
     /// The digest of two digests.
     pub fn and(self, other: Digest) -> Digest
-        ensures { result.sum ≡ (self.sum * 257 + other.sum) % 4294967291 }
+        ensures length { result.length ≡ min (self.length + other.length) (2 ^ 64 - 1) }
+        ensures sum { result.sum ≡ (self.sum * 257 + other.sum) % 4294967291 }
     {
         Digest {
             length: self.length.saturating_add(other.length),
