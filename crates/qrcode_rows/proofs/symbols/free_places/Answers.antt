@@ -1,8 +1,0 @@
-use Rattle.qrcode_rows.proofs.PlaceRows as rows
-use Rattle.qrcode_rows.proofs.symbols.free_places.Goals as goal
-
-pub returns-clause-normal : goal.returns-clause-normal
-returns-clause-normal c = rows.normal
-
-pub returns-clause-micro : goal.returns-clause-micro
-returns-clause-micro c = rows.micro
