@@ -4,9 +4,9 @@ use Rattle.std.specs.Int.{abs_diff}
 use Rattle.std.proofs.lemmas.Bool.Decides.{nat_tests}
 use Rattle.std.specs.Option.{option_or}
 use Rattle.qrcode_types.specs.declared.types.Color.{Color}
-use Rattle.qrcode_places.specs.Patterns.{where_true, finder_at, alignment_between, version_copy, normal_format_index}
+use Rattle.qrcode_places.specs.Patterns.{color_if, finder_at, alignment_between, version_copy, normal_format_index}
 
-pub where_some : (t d : Bool) → is_some (where_true t d) ≡ t
+pub where_some : (t d : Bool) → is_some (color_if t d) ≡ t
 where_some true d = refl
 where_some false d = refl
 

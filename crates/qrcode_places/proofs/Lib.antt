@@ -2,9 +2,11 @@ pub mod Below
 pub mod Formats
 pub mod WordTables
 pub mod CentreTable
+pub mod MaskLists
 pub mod Named
 pub mod WordLaws
 pub mod Zigzag
+pub mod Corners
 pub mod Figures
 pub mod LeftOut
 pub mod FormatPlaces

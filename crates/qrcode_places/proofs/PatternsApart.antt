@@ -7,7 +7,7 @@ use Rattle.std.proofs.lemmas.Bool.Decides.{nat_tests}
 use Rattle.std.specs.Option.{option_or}
 use Rattle.qrcode_types.specs.declared.types.Version.TheVariants.{Normal, Micro}
 use Rattle.qrcode_types.specs.declared.types.Color.{Color}
-use Rattle.qrcode_places.specs.Patterns.{centres, is_near, where_true, finder_at, finder, alignment, alignment_between, timing, dark_module, version_copy, version_pattern, pattern, normal_format_index, micro_format_index, format_index, is_corner_centre}
+use Rattle.qrcode_places.specs.Patterns.{centres, is_near, color_if, finder_at, finder, alignment, alignment_between, timing, dark_module, version_copy, version_pattern, pattern, normal_format_index, micro_format_index, format_index, is_corner_centre}
 use Rattle.qrcode_places.specs.Laws.{FormatPlacesAreNoPatterns, DarkModuleIsInThePattern}
 use Rattle.qrcode_places.proofs.Formats.{within}
 use Rattle.qrcode_places.proofs.Near.{found, is_placed, centres_placed, low_centre, high_centre}
@@ -30,7 +30,7 @@ corner_test w x y a b wide at pa na pb nb = elim at [
   ]
 ]
 
-none_where : (t d : Bool) → t ≡ false → where_true t d ≡ None
+none_where : (t d : Bool) → t ≡ false → color_if t d ≡ None
 none_where true d e = absurd (cc)
 none_where false d e = refl
 
@@ -105,7 +105,7 @@ format_places_are_no_patterns (Normal (pos n)) x y i valid e =
     (none_or _ _ (normal_timing n x y i e) (none_or _ _ (normal_dark n x y i e) (normal_version n x y i e))))
 format_places_are_no_patterns (Micro (pos n)) x y i valid e = micro_none n x y i e
 
-where_is : (t d : Bool) (c : Color) → where_true t d ≡ Some c → t ≡ true
+where_is : (t d : Bool) (c : Color) → color_if t d ≡ Some c → t ≡ true
 where_is true d c e = refl
 where_is false d c e = absurd (cc)
 

@@ -1,7 +1,9 @@
 -- The masks.
-use Rattle.std.specs.Prelude.{ℕ, ℤ, pos, ◌≤ℤ◌, ◌+◌, ◌*◌, ◌/◌, ◌%◌, ◌==◌, nat_lt, ◌&&◌, ◌||◌, not, Bool, true, false}
+use Rattle.std.specs.Prelude.{ℕ, ℤ, pos, List, [], ◌∷◌, length, slice_index_or, ◌≤ℤ◌, ◌+◌, ◌*◌, ◌/◌, ◌%◌, ◌==◌, nat_lt, ◌&&◌, ◌||◌, not, Bool, true, false}
+use Rattle.std.specs.List.{position_or_len}
 use Rattle.qrcode_types.specs.Versions.{is_valid, is_micro}
 use Rattle.qrcode_types.specs.declared.types.Version.{Version}
+use Rattle.qrcode_types.specs.declared.types.Version.TheVariants.{Normal, Micro}
 use Rattle.qrcode_places.specs.declared.masks.MaskPattern.{MaskPattern}
 use Rattle.qrcode_places.specs.declared.masks.MaskPattern.TheVariants.{Checkerboard, HorizontalLines, VerticalLines, DiagonalLines, LargeCheckerboard, Fields, Diamonds, Meadow}
 
@@ -31,16 +33,25 @@ mask_number Fields = 5
 mask_number Diamonds = 6
 mask_number Meadow = 7
 
--- the number of a mask of Micro, in the same order, and 4 for a mask that Micro lacks
+-- the masks of a version, in the order of their numbers (ISO/IEC 18004:2006, table 10)
+abbrev pub masks_of : Version → List MaskPattern
+masks_of (Normal v) =
+    Checkerboard ∷ HorizontalLines ∷ VerticalLines ∷ DiagonalLines ∷
+    LargeCheckerboard ∷ Fields ∷ Diamonds ∷ Meadow ∷ []
+masks_of (Micro v) = HorizontalLines ∷ LargeCheckerboard ∷ Diamonds ∷ Meadow ∷ []
+
+-- how many masks a version has
+abbrev pub mask_count : Version → ℕ
+mask_count v = length (masks_of v)
+
+-- the k-th mask of a version
+abbrev pub nth_mask : Version → ℕ → MaskPattern
+nth_mask v k = slice_index_or (masks_of v) k Checkerboard
+
+-- the number of a mask in Micro, which is its place in the list, and 4 for a mask that Micro lacks
 abbrev pub micro_mask_number : MaskPattern → ℕ
-micro_mask_number HorizontalLines = 0
-micro_mask_number LargeCheckerboard = 1
-micro_mask_number Diamonds = 2
-micro_mask_number Meadow = 3
-micro_mask_number Checkerboard = 4
-micro_mask_number VerticalLines = 4
-micro_mask_number DiagonalLines = 4
-micro_mask_number Fields = 4
+micro_mask_number k =
+    position_or_len (λ j. mask_number j == mask_number k) (masks_of (Micro (pos 1)))
 
 -- the version has the mask: Normal has all, Micro four
 abbrev pub exists_in : Version → MaskPattern → Bool

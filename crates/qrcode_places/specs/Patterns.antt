@@ -1,10 +1,10 @@
 -- The functional patterns, by places inside a symbol; what they give outside means nothing.
-use Rattle.std.specs.Prelude.{ℕ, ◌+◌, ◌-◌, ◌*◌, ◌%◌, ◌==◌, nat_le, nat_lt, ◌&&◌, ◌||◌, not, max, nat_abs, Bool, true, false, List, [], ◌∷◌, map, find, Option, Some, None, is_some, slice_index_or, if◌then◌else◌}
+use Rattle.std.specs.Prelude.{ℕ, ◌+◌, ◌-◌, ◌*◌, ◌%◌, ◌==◌, nat_le, nat_lt, ◌&&◌, ◌||◌, not, max, nat_abs, Bool, true, false, List, [], ◌∷◌, map, find, Option, option_map, Some, None, is_some, slice_index_or, if◌then◌else◌}
 use Rattle.std.specs.Int.{abs_diff}
 use Rattle.std.specs.List.{range_with_len}
 use Rattle.std.specs.Option.{option_or}
 use Rattle.qrcode_types.specs.Bits.{has_bit}
-use Rattle.qrcode_types.specs.Colors.{color_of}
+use Rattle.qrcode_types.specs.Colors.{color_of, is_dark}
 use Rattle.qrcode_types.specs.Versions.{side}
 use Rattle.qrcode_types.specs.declared.types.Version.{Version}
 use Rattle.qrcode_types.specs.declared.types.Version.TheVariants.{Normal, Micro}
@@ -13,14 +13,14 @@ use Rattle.qrcode_places.specs.Centres.{centre_table}
 use Rattle.qrcode_places.specs.Words.{version_word}
 
 -- the colour that a test gives, at the places of a pattern
-abbrev pub where_true : Bool → Bool → Option Color
-where_true true dark = Some (color_of dark)
-where_true false dark = None
+abbrev pub color_if : Bool → Bool → Option Color
+color_if true dark = Some (color_of dark)
+color_if false dark = None
 
 -- a finder pattern round its centre, by the greater of the two distances: dark to 1, light at 2, dark at 3, and light at
 -- 4, which is the separator
 abbrev pub finder_at : ℕ → ℕ → ℕ → ℕ → Option Color
-finder_at a b x y = let d = max (abs_diff a x) (abs_diff b y) in where_true (nat_le d 4) (nat_le d 1 || d == 3)
+finder_at a b x y = let d = max (abs_diff a x) (abs_diff b y) in color_if (nat_le d 4) (nat_le d 1 || d == 3)
 
 -- finder patterns in three corners of Normal and in one of Micro
 unfoldable pub finder : Version → ℕ → ℕ → Option Color
@@ -47,7 +47,7 @@ is_corner_centre w a b = (a == 6 && (b == 6 || b == w - 7)) || (a == w - 7 && b 
 abbrev pub alignment_between : ℕ → Option ℕ → Option ℕ → ℕ → ℕ → Option Color
 alignment_between w None b x y = None
 alignment_between w (Some a) None x y = None
-alignment_between w (Some a) (Some b) x y = where_true (not (is_corner_centre w a b)) (not (max (abs_diff a x) (abs_diff b y) == 1))
+alignment_between w (Some a) (Some b) x y = color_if (not (is_corner_centre w a b)) (not (max (abs_diff a x) (abs_diff b y) == 1))
 
 -- alignment patterns at all pairs of the coordinates; those near a place are at most one in columns and one in rows
 unfoldable pub alignment : Version → ℕ → ℕ → Option Color
@@ -56,12 +56,12 @@ alignment v x y = let cs = centres v in alignment_between (side v) (find (is_nea
 -- the row and the column of timing modules, dark and light by turns
 unfoldable pub timing : Version → ℕ → ℕ → Option Color
 timing (Normal v) x y = let last = 4 * nat_abs v + 8 in
-    where_true ((y == 6 && nat_le 8 x && nat_le x last) || (x == 6 && nat_le 8 y && nat_le y last)) ((x + y) % 2 == 0)
-timing (Micro v) x y = where_true ((y == 0 && nat_le 8 x) || (x == 0 && nat_le 8 y)) ((x + y) % 2 == 0)
+    color_if ((y == 6 && nat_le 8 x && nat_le x last) || (x == 6 && nat_le 8 y && nat_le y last)) ((x + y) % 2 == 0)
+timing (Micro v) x y = color_if ((y == 0 && nat_le 8 x) || (x == 0 && nat_le 8 y)) ((x + y) % 2 == 0)
 
 -- the module of Normal that is always dark
 unfoldable pub dark_module : Version → ℕ → ℕ → Option Color
-dark_module (Normal v) x y = where_true (x == 8 && y == 4 * nat_abs v + 9) true
+dark_module (Normal v) x y = color_if (x == 8 && y == 4 * nat_abs v + 9) true
 dark_module (Micro v) x y = None
 
 -- one copy of the version word, in six columns of three rows from `far` on: the lowest bit first, down each column
@@ -125,3 +125,8 @@ format_index (Micro v) x y = micro_format_index x y
 -- the place belongs to a pattern or to the format word
 unfoldable pub is_functional_place : Version → ℕ → ℕ → Bool
 is_functional_place v x y = is_some (pattern v x y) || is_some (format_index v x y)
+
+-- the bit of a place that no mask decides: of the format word, or of the dark module
+unfoldable pub decided_bit : Version → ℕ → ℕ → ℕ → Option Bool
+decided_bit v word x y =
+    option_or (option_map (λ i. has_bit word (14 - i)) (format_index v x y)) (option_map is_dark (dark_module v x y))

@@ -5,4 +5,6 @@ pub mod centres;
 pub mod laws;
 pub mod mask_functions;
 pub mod masks;
+pub mod patterns;
+pub mod walk;
 pub mod words;

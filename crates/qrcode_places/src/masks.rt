@@ -1,7 +1,8 @@
 //! The masks.
 
-ghost use Rattle.std.specs.Prelude.{◌≡◌, nat_abs};
-ghost use Rattle.qrcode_places.specs.Masks.{turns, mask_number, micro_mask_number, exists_in, IsCoordinate};
+ghost use Rattle.std.specs.Prelude.{◌≡◌, ◌<◌, ◌≤◌, nat_abs, IsTrue};
+ghost use Rattle.qrcode_types.specs.Versions.{is_valid};
+ghost use Rattle.qrcode_places.specs.Masks.{turns, mask_number, micro_mask_number, masks_of, mask_count, nth_mask, exists_in, IsCoordinate};
 
 use crate::mask_functions;
 use qrcode_types::types::Version;
@@ -39,13 +40,11 @@ impl MaskPattern {
     pub fn micro_number(self) -> usize
         ensures { result ≡ micro_mask_number self }
     {
-        match self {
-            MaskPattern::HorizontalLines => 0,
-            MaskPattern::LargeCheckerboard => 1,
-            MaskPattern::Diamonds => 2,
-            MaskPattern::Meadow => 3,
-            _ => 4,
-        }
+        let number = self.number();
+        MICRO_MASKS
+            .iter()
+            .position(|mask| mask.number() == number)
+            .unwrap_or(4)
     }
 
     /// Whether the version is valid and has the mask: Normal has all, Micro `HorizontalLines`,
@@ -73,4 +72,52 @@ impl MaskPattern {
             MaskPattern::Meadow => mask_functions::meadow(x, y),
         }
     }
+}
+
+// The masks of Normal, in the order of their numbers.
+static NORMAL_MASKS: [MaskPattern; 8] = [
+    MaskPattern::Checkerboard,
+    MaskPattern::HorizontalLines,
+    MaskPattern::VerticalLines,
+    MaskPattern::DiagonalLines,
+    MaskPattern::LargeCheckerboard,
+    MaskPattern::Fields,
+    MaskPattern::Diamonds,
+    MaskPattern::Meadow,
+];
+
+// The masks of Micro, in the order of their numbers there.
+static MICRO_MASKS: [MaskPattern; 4] = [
+    MaskPattern::HorizontalLines,
+    MaskPattern::LargeCheckerboard,
+    MaskPattern::Diamonds,
+    MaskPattern::Meadow,
+];
+
+/// The masks of a version, in the order of their numbers.
+pub fn masks_of(version: Version) -> &'static [MaskPattern]
+    ensures { result.now ≡ masks_of version }
+{
+    match version {
+        Version::Normal(_) => &NORMAL_MASKS,
+        Version::Micro(_) => &MICRO_MASKS,
+    }
+}
+
+/// How many masks a version has: eight in Normal, four in Micro.
+pub fn mask_count(version: Version) -> usize
+    ensures value { result ≡ mask_count version }
+    ensures at_least { 1 ≤ result }
+{
+    masks_of(version).len()
+}
+
+/// The mask of a version that has the number `k`, which is below `mask_count`.
+pub fn nth_mask(version: Version, k: usize) -> MaskPattern
+    requires valid { IsTrue (is_valid version) }
+    requires exists { k < mask_count version }
+    ensures value { result ≡ nth_mask version k }
+    ensures exists { IsTrue (exists_in version result) }
+{
+    masks_of(version)[k]
 }

@@ -5,7 +5,7 @@ use Rattle.qrcode_types.specs.Versions.{side}
 use Rattle.qrcode_types.specs.declared.types.Version.{Version}
 use Rattle.qrcode_types.specs.declared.types.EcLevel.{EcLevel}
 use Rattle.qrcode_penalty.specs.Rows.{Shows, dark_in}
-use Rattle.qrcode_places.specs.Masks.{exists_in}
+use Rattle.qrcode_places.specs.Masks.{exists_in, nth_mask, mask_count}
 use Rattle.qrcode_places.specs.Words.{format_word}
 use Rattle.qrcode_places.specs.declared.masks.MaskPattern.{MaskPattern}
 use Rattle.qrcode_symbol.specs.declared.canvas.Module.{Module}
@@ -13,7 +13,7 @@ use Rattle.qrcode_symbol.specs.declared.canvas.Module.TheVariants.{Masked}
 use Rattle.qrcode_types.specs.declared.types.Color.{Color}
 use Rattle.qrcode_types.specs.declared.types.Color.TheVariants.{Light}
 use Rattle.qrcode_symbol.specs.Canvas.{color_of_module, with_mask, IsBestMask}
-use Rattle.qrcode_symbol.specs.Masking.{is_dark_module, is_free, masked_dark, nth_cost, nth_mask, mask_count, ShowsModules, IsFirstLeastCost, IsBestMasked, IsBestShown}
+use Rattle.qrcode_symbol.specs.Masking.{is_dark_module, is_free, masked_dark, nth_cost, ShowsModules, IsFirstLeastCost, IsBestMasked, IsBestShown}
 use Rattle.qrcode_symbol.proofs.Choices.{best_of_least}
 use Rattle.qrcode_symbol.proofs.MaskedSquares.{cost_same, list_same, all_masked, length_with_mask}
 use Rattle.qrcode_symbol.proofs.Remasking.{first_least_of}

@@ -13,14 +13,14 @@ use Rattle.qrcode_types.specs.declared.types.Version.{Version}
 use Rattle.qrcode_types.specs.declared.types.Version.TheVariants.{Normal, Micro}
 use Rattle.qrcode_types.specs.declared.types.Color.{Color}
 use Rattle.qrcode_types.specs.declared.types.Color.TheVariants.{Light}
-use Rattle.qrcode_places.specs.Patterns.{pattern, format_index, where_true, finder_at, finder, alignment, alignment_between, centres, is_near, timing, dark_module, version_copy, version_pattern, is_corner_centre}
+use Rattle.qrcode_places.specs.Patterns.{pattern, format_index, color_if, finder_at, finder, alignment, alignment_between, centres, is_near, timing, dark_module, version_copy, version_pattern, is_corner_centre}
 use Rattle.qrcode_symbol.specs.Canvas.{pattern_module}
 use Rattle.qrcode_symbol.specs.Patterned.{IsBlockAt, IsCentre}
 use Rattle.qrcode_symbol.specs.declared.canvas.Module.{Module}
 use Rattle.qrcode_symbol.specs.declared.canvas.Module.TheVariants.{Empty, Masked}
 use Rattle.qrcode_symbol.specs.declared.canvas.drawing.blocks.TheConstants.{NORMAL_TOP_LEFT, NORMAL_TOP_RIGHT, NORMAL_BOTTOM_LEFT, MICRO_TOP_LEFT, ALIGNMENT}
 use Rattle.qrcode_symbol.proofs.Centres.{IsGood, centre_good, centre_found, centre_inside, found}
-use Rattle.qrcode_symbol.proofs.Corners.{no_where, no_or, or_none, far_finder}
+use Rattle.qrcode_places.proofs.Corners.{no_where, no_or, or_none, far_finder}
 use Rattle.qrcode_symbol.proofs.Covered.{no_copy, no_if, no_timing}
 
 -- a module that has a pattern, or else a format place
@@ -60,7 +60,7 @@ near_finder : (a b x y : ℕ) → abs_diff a x ≤ 4 → abs_diff b y ≤ 4 → 
 near_finder a b x y p q e =
     let d = max (abs_diff a x) (abs_diff b y) in
     let near : nat_le d 4 ≡ true = grind (arith, nat_tests) in
-    let none : where_true true (nat_le d 1 || d == 3) ≡ None = rw near at e in
+    let none : color_if true (nat_le d 1 || d == 3) ≡ None = rw near at e in
     cc
 
 left_none : (a b : Option Color) → option_or a b ≡ None → a ≡ None
@@ -201,7 +201,7 @@ top_right_finder n i y il yl some =
     let e : 4 * n + 13 ≡ 4 * n + 9 + 4 = omega arith in
     let d : abs_diff (4 * n + 13) x ≡ abs_diff 4 i = rw e (shifted (4 * n + 9) 4 i) in
     rw (far_finder 3 3 x y (inl (omega arith)), far_finder 3 (4 * n + 13) x y (inl (omega arith)))
-    (or_none (finder_at (4 * n + 13) 3 x y) ∙ ap (λ a. let d = max a (abs_diff 3 y) in where_true (nat_le d 4) (nat_le d 1 || d == 3)) d)
+    (or_none (finder_at (4 * n + 13) 3 x y) ∙ ap (λ a. let d = max a (abs_diff 3 y) in color_if (nat_le d 4) (nat_le d 1 || d == 3)) d)
 
 top_right_pattern : (n i y : ℕ) → i < 8 → y < 9 → 1 ≤ n → pattern (Normal (pos n)) (4 * n + 9 + i) y ≡ finder_at 4 3 i y
 top_right_pattern n i y il yl some =
@@ -240,7 +240,7 @@ normal_top_right n some i j p q m =
 
 -- the bottom left of Normal
 bottom_left_part : ℕ → ℕ → Option Color
-bottom_left_part x j = option_or (finder_at 3 4 x j) (option_or (where_true (x == 8 && j == 0) true) None)
+bottom_left_part x j = option_or (finder_at 3 4 x j) (option_or (color_if (x == 8 && j == 0) true) None)
 
 bottom_left_finder : (n x j : ℕ) → x < 9 → j < 8 → 1 ≤ n → finder (Normal (pos n)) x (4 * n + 9 + j) ≡ finder_at 3 4 x j
 unfolding finder
@@ -249,9 +249,9 @@ bottom_left_finder n x j xl jl some =
     let e : 4 * n + 13 ≡ 4 * n + 9 + 4 = omega arith in
     let d : abs_diff (4 * n + 13) y ≡ abs_diff 4 j = rw e (shifted (4 * n + 9) 4 j) in
     rw (far_finder 3 3 x y (inr (omega arith)), far_finder (4 * n + 13) 3 x y (inr (omega arith)))
-    (ap (λ b. let d = max (abs_diff 3 x) b in where_true (nat_le d 4) (nat_le d 1 || d == 3)) d)
+    (ap (λ b. let d = max (abs_diff 3 x) b in color_if (nat_le d 4) (nat_le d 1 || d == 3)) d)
 
-bottom_left_dark : (n x j : ℕ) → dark_module (Normal (pos n)) x (4 * n + 9 + j) ≡ where_true (x == 8 && j == 0) true
+bottom_left_dark : (n x j : ℕ) → dark_module (Normal (pos n)) x (4 * n + 9 + j) ≡ color_if (x == 8 && j == 0) true
 unfolding dark_module
 bottom_left_dark n x j = elim (cases_eq j 0) [
   | inl e ↦ (let at : (4 * n + 9 + j == 4 * n + 9) ≡ true = grind (arith, nat_tests) in let zero : (j == 0) ≡ true = grind (arith, nat_tests) in rw (at, zero) refl)
@@ -262,19 +262,19 @@ bottom_left_pattern : (n x j : ℕ) → x < 9 → j < 8 → 1 ≤ n → pattern 
 unfolding bottom_left_part
 bottom_left_pattern n x j xl jl some =
     let y = 4 * n + 9 + j in
-    parts (Normal (pos n)) x y (finder_at 3 4 x j) None (where_true (x == 8 && j == 0) true) (bottom_left_finder n x j xl jl some)
+    parts (Normal (pos n)) x y (finder_at 3 4 x j) None (color_if (x == 8 && j == 0) true) (bottom_left_finder n x j xl jl some)
     (no_alignment n x y (λ a b ca cb p q. let ea = first_centre n a ca (omega arith) in let eb = last_centre n b cb (omega arith) in rw (ea, eb) (first_last n)))
     (no_timing n x y (inl (omega arith)) (inr (inr (omega arith)))) (bottom_left_dark n x j)
     (no_words n x y (no_copy n (4 * n + 6) x y (inr (inr (omega arith)))) (no_copy n (4 * n + 6) y x (inl (omega arith))))
 
-first_dark : where_true (8 == 8 && 0 == 0) true ≡ None → ⊥
+first_dark : color_if (8 == 8 && 0 == 0) true ≡ None → ⊥
 first_dark e = cc
 
 bottom_left_format : (n x j : ℕ) → x < 9 → j < 8 → 1 ≤ n → bottom_left_part x j ≡ None → is_some (format_index (Normal (pos n)) x (4 * n + 9 + j)) ≡ true
 unfolding bottom_left_part
 bottom_left_format n x j xl jl some e =
     let no_finder = left_none (finder_at 3 4 x j) _ e in
-    let no_dark = left_none (where_true (x == 8 && j == 0) true) None (right_none (finder_at 3 4 x j) _ e) in
+    let no_dark = left_none (color_if (x == 8 && j == 0) true) None (right_none (finder_at 3 4 x j) _ e) in
     elim (cases_eq x 8) [
       | inl ex ↦ elim (cases_eq j 0) [
         | inl ej ↦ absurd (first_dark (rw (ex, ej) at no_dark))

@@ -15,7 +15,7 @@ use Rattle.qrcode_symbol.specs.Patterned.{IsPatterned, IsRectanglePatterned, Are
 use Rattle.qrcode_symbol.specs.declared.canvas.Module.{Module}
 use Rattle.qrcode_symbol.specs.declared.canvas.Module.TheVariants.{Masked}
 use Rattle.qrcode_symbol.proofs.Centres.{found, centre_inside}
-use Rattle.qrcode_symbol.proofs.Corners.{no_where, no_or, far_finder}
+use Rattle.qrcode_places.proofs.Corners.{no_where, no_or, far_finder}
 
 -- the place is in none of the rectangles of Normal but those of alignment
 pub record IsOutside (w x y : ℕ) : Type 0 where

@@ -5,7 +5,6 @@ pub mod Carried
 pub mod Centres
 pub mod Choices
 pub mod Codewords
-pub mod Corners
 pub mod Covered
 pub mod EightBits
 pub mod Filled

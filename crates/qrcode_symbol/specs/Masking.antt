@@ -1,17 +1,15 @@
 -- How a mask is chosen on rows packed into numbers.
-use Rattle.std.specs.Prelude.{◌≡◌, ℕ, zero, suc, ◌+◌, ◌-◌, ◌*◌, ◌<◌, ◌≤◌, Bool, true, false, ◌&&◌, List, [], ◌∷◌, Option, Some, None, map, slice_index_or, if◌then◌else◌, unwrap_or}
+use Rattle.std.specs.Prelude.{◌≡◌, ℕ, ◌+◌, ◌-◌, ◌*◌, ◌<◌, ◌≤◌, Bool, true, false, ◌&&◌, List, [], ◌∷◌, Option, Some, None, map, slice_index_or, if◌then◌else◌, unwrap_or}
 use Rattle.qrcode_types.specs.Bits.{has_bit}
 use Rattle.qrcode_types.specs.Colors.{is_dark}
 use Rattle.qrcode_types.specs.declared.types.Color.{Color}
 use Rattle.qrcode_types.specs.declared.types.Version.{Version}
-use Rattle.qrcode_types.specs.declared.types.Version.TheVariants.{Normal, Micro}
 use Rattle.qrcode_types.specs.declared.types.EcLevel.{EcLevel}
 use Rattle.qrcode_penalty.specs.Rows.{Shows, inside, dark_in}
-use Rattle.qrcode_places.specs.Masks.{turns, turned_if}
+use Rattle.qrcode_places.specs.Masks.{turns, turned_if, nth_mask}
 use Rattle.qrcode_places.specs.Words.{format_word}
 use Rattle.qrcode_places.specs.Patterns.{format_index, dark_module}
 use Rattle.qrcode_places.specs.declared.masks.MaskPattern.{MaskPattern}
-use Rattle.qrcode_places.specs.declared.masks.MaskPattern.TheVariants.{Checkerboard, HorizontalLines, VerticalLines, DiagonalLines, LargeCheckerboard, Fields, Diamonds, Meadow}
 use Rattle.qrcode_symbol.specs.declared.canvas.Module.{Module}
 use Rattle.qrcode_symbol.specs.declared.canvas.Module.TheVariants.{Empty, Masked, Unmasked}
 use Rattle.qrcode_symbol.specs.Canvas.{color_of_module, colors_of, with_mask, with_patterns, with_bits_drawn, blank, IsBestMask}
@@ -47,34 +45,6 @@ fixed_bit v word x y = elim (format_index v x y) [ Some i ↦ Some (has_bit word
 -- the place is dark under a mask, by rows of what is dark and of what a mask may turn
 unfoldable pub masked_dark : Version → ℕ → MaskPattern → List ℕ → List ℕ → ℕ → ℕ → Bool
 masked_dark v word k dark free x y = unwrap_or (fixed_bit v word x y) (turned_if (dark_in free x y && turns k x y) (dark_in dark x y))
-
--- the k-th mask of Normal
-abbrev pub normal_mask : ℕ → MaskPattern
-normal_mask zero = Checkerboard
-normal_mask (suc zero) = HorizontalLines
-normal_mask (suc (suc zero)) = VerticalLines
-normal_mask (suc (suc (suc zero))) = DiagonalLines
-normal_mask (suc (suc (suc (suc zero)))) = LargeCheckerboard
-normal_mask (suc (suc (suc (suc (suc zero))))) = Fields
-normal_mask (suc (suc (suc (suc (suc (suc zero)))))) = Diamonds
-normal_mask (suc (suc (suc (suc (suc (suc (suc k))))))) = Meadow
-
--- the k-th mask of Micro
-abbrev pub micro_mask : ℕ → MaskPattern
-micro_mask zero = HorizontalLines
-micro_mask (suc zero) = LargeCheckerboard
-micro_mask (suc (suc zero)) = Diamonds
-micro_mask (suc (suc (suc k))) = Meadow
-
--- the k-th mask of a version
-abbrev pub nth_mask : Version → ℕ → MaskPattern
-nth_mask (Normal v) k = normal_mask k
-nth_mask (Micro v) k = micro_mask k
-
--- how many masks a version has
-abbrev pub mask_count : Version → ℕ
-mask_count (Normal v) = 8
-mask_count (Micro v) = 4
 
 -- what such rows cost under the k-th mask
 unfoldable pub nth_cost : Version → EcLevel → ℕ → List ℕ → List ℕ → ℕ → ℕ

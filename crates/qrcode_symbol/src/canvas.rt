@@ -28,7 +28,6 @@ mod layout;
 mod masked_rows;
 mod masking;
 mod packing;
-mod patterns;
 mod unpacking;
 
 use applying::mask_modules;

@@ -6,9 +6,9 @@ ghost use Rattle.qrcode_places.specs.Masks.{exists_in};
 ghost use Rattle.qrcode_symbol.specs.Canvas.{mask_module, with_mask};
 
 use super::layer::{Layer, fixed_bit};
-use super::patterns::color_of;
 use super::{Module, side};
 use qrcode_places::masks::MaskPattern;
+use qrcode_places::patterns::color_of;
 use qrcode_places::words::format_word;
 use qrcode_types::types::{EcLevel, Version};
 

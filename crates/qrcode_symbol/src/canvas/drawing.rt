@@ -11,8 +11,8 @@ mod blocks;
 
 use super::Module;
 use super::layout::Layout;
-use super::patterns::{format_index, is_corner_centre, near_centre, pattern};
 use blocks::{ALIGNMENT, MICRO_TOP_LEFT, NORMAL_BOTTOM_LEFT, NORMAL_TOP_LEFT, NORMAL_TOP_RIGHT};
+use qrcode_places::patterns::{format_index, is_corner_centre, near_centre, pattern};
 use qrcode_types::types::{Color, Version};
 
 /// Whether a pattern or the format word has a place.

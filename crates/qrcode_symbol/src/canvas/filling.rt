@@ -2,30 +2,14 @@
 
 ghost use Rattle.std.specs.Prelude.{◌≡◌, ◌+◌, ◌*◌, ◌%◌, ◌<◌, ◌≤◌, length, slice_get, IsTrue};
 ghost use Rattle.qrcode_types.specs.Versions.{is_valid, side};
-ghost use Rattle.qrcode_places.specs.Stream.{right_column};
 ghost use Rattle.qrcode_symbol.specs.Canvas.{with_bits_drawn};
 ghost use Rattle.qrcode_symbol.specs.Filling.{filled_from, drawn_if, left_if, is_empty_at};
 
 use super::codewords::Codewords;
-use super::patterns::color_of;
 use super::{Module, side};
+use qrcode_places::patterns::color_of;
+use qrcode_places::walk::right_column;
 use qrcode_types::types::Version;
-
-// The right column of a pair of columns of the walk.
-fn right_column(version: Version, width: usize, pair: usize) -> usize
-    requires wide { width ≡ side version }
-    requires pair { 2 * pair + 3 ≤ width }
-    ensures value { result ≡ right_column version pair }
-    ensures least { 1 ≤ result }
-    ensures most { result < width }
-{
-    let column = width - 1 - 2 * pair;
-    if !version.is_micro() && column <= 6 {
-        column - 1
-    } else {
-        column
-    }
-}
 
 // Draws the next bit at an index, if there is one and the module is empty.
 fn draw_bit(codewords: &mut Codewords<'_>, modules: &mut [Module], index: usize)

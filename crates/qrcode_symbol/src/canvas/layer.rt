@@ -4,8 +4,8 @@ ghost use Rattle.std.specs.Prelude.{◌≡◌, ◌<◌, ◌≤◌, IsTrue};
 ghost use Rattle.qrcode_types.specs.Versions.{is_valid, side};
 ghost use Rattle.qrcode_symbol.specs.Masking.{fixed_bit};
 
-use super::patterns::{dark_module, format_index};
 use qrcode_places::masks::MaskPattern;
+use qrcode_places::patterns::{dark_module, format_index};
 use qrcode_types::types::{Color, Version};
 
 /// A mask of a symbol, with its format word.

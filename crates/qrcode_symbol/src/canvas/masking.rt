@@ -5,9 +5,9 @@ ghost use Rattle.std.specs.Prelude.{◌≡◌, ℕ, ◌+◌, ◌*◌, ◌<◌, �
 ghost use Rattle.qrcode_types.specs.Versions.{is_valid, has_level, side};
 ghost use Rattle.qrcode_types.specs.declared.types.QrError.TheVariants.{OutOfMemory};
 ghost use Rattle.qrcode_penalty.specs.Rows.{AllEndBefore, Shows, inside};
-ghost use Rattle.qrcode_places.specs.Masks.{exists_in};
+ghost use Rattle.qrcode_places.specs.Masks.{mask_count};
 ghost use Rattle.qrcode_symbol.specs.Penalties.{penalty_of};
-ghost use Rattle.qrcode_symbol.specs.Masking.{is_dark_module, is_free, ShowsModules, nth_mask, normal_mask, micro_mask, mask_count, nth_cost, IsFirstLeastCost, IsBestShown};
+ghost use Rattle.qrcode_symbol.specs.Masking.{is_dark_module, is_free, ShowsModules, nth_cost, IsFirstLeastCost, IsBestShown};
 ghost use Rattle.qrcode_symbol.specs.declared.canvas.Module.{Module};
 
 use super::masked_rows::mask_rows;
@@ -16,7 +16,7 @@ use super::unpacking::{Shown, unpack_rows};
 use super::{Module, side};
 use qrcode_penalty::line::{Line, ThreeWords};
 use qrcode_penalty::penalty::{micro_penalty, normal_penalty};
-use qrcode_places::masks::MaskPattern;
+use qrcode_places::masks::{mask_count, nth_mask};
 use qrcode_types::types::{Color, EcLevel, QrResult, Version};
 use std::alloc::Global;
 
@@ -35,60 +35,6 @@ fn penalty<L: Line>(version: Version, rows: &[L], width: usize) -> u32
     match version {
         Version::Normal(_) => normal_penalty(rows, width as u32),
         Version::Micro(_) => micro_penalty(rows, width as u32),
-    }
-}
-
-// The k-th mask of Normal.
-fn normal_mask(k: usize) -> MaskPattern
-    requires { k < 8 }
-    ensures { result ≡ normal_mask k }
-{
-    match k {
-        0 => MaskPattern::Checkerboard,
-        1 => MaskPattern::HorizontalLines,
-        2 => MaskPattern::VerticalLines,
-        3 => MaskPattern::DiagonalLines,
-        4 => MaskPattern::LargeCheckerboard,
-        5 => MaskPattern::Fields,
-        6 => MaskPattern::Diamonds,
-        _ => MaskPattern::Meadow,
-    }
-}
-
-// The k-th mask of Micro.
-fn micro_mask(k: usize) -> MaskPattern
-    requires { k < 4 }
-    ensures { result ≡ micro_mask k }
-{
-    match k {
-        0 => MaskPattern::HorizontalLines,
-        1 => MaskPattern::LargeCheckerboard,
-        2 => MaskPattern::Diamonds,
-        _ => MaskPattern::Meadow,
-    }
-}
-
-// The k-th mask of a version.
-fn nth_mask(version: Version, k: usize) -> MaskPattern
-    requires valid { IsTrue (is_valid version) }
-    requires exists { k < mask_count version }
-    ensures value { result ≡ nth_mask version k }
-    ensures exists { IsTrue (exists_in version result) }
-{
-    match version {
-        Version::Normal(_) => normal_mask(k),
-        Version::Micro(_) => micro_mask(k),
-    }
-}
-
-// How many masks a version has.
-fn mask_count(version: Version) -> usize
-    ensures value { result ≡ mask_count version }
-    ensures least { 1 ≤ result }
-{
-    match version {
-        Version::Normal(_) => 8,
-        Version::Micro(_) => 4,
     }
 }
 

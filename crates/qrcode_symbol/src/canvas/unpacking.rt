@@ -8,8 +8,8 @@ ghost use Rattle.qrcode_penalty.specs.Rows.{has_place, dark_in};
 ghost use Rattle.qrcode_symbol.specs.declared.canvas.Module.TheVariants.{Masked};
 
 use super::Module;
-use super::patterns::color_of;
 use qrcode_penalty::line::Line;
+use qrcode_places::patterns::color_of;
 use qrcode_types::types::Color;
 
 // Light, its name short so that four colours can be seen.

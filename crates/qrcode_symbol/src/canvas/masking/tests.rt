@@ -1,6 +1,6 @@
 ghost use Rattle.std.specs.Prelude.{◌≡◌, ◌+◌, ◌*◌, ◌<◌, ◌≤◌, length, vec_len, IsTrue, IfOk};
 ghost use Rattle.qrcode_types.specs.Versions.{has_level, side};
-ghost use Rattle.qrcode_symbol.specs.Masking.{mask_count};
+ghost use Rattle.qrcode_places.specs.Masks.{mask_count};
 
 use super::super::Canvas;
 use super::*;

@@ -12,6 +12,6 @@ loop-step-preserved c =
     rw (row_up (side v) c.args.pair c.loop-step.step c.requires.up, c.right_column-right.ensures.value, c.side-width.ensures.value) refl in
     row_step v c.args.pair c.loop-step.step index
     c.loop-step.codewords c.draw_bit.new.codewords c.draw_bit-in-loop-step.new.codewords c.loop-step.modules c.draw_bit.new.modules c.draw_bit-in-loop-step.new.modules
-    (apart v c.requires.valid) c.requires.pair (omega arith) at (rw (← c.right_column-right.ensures.value) c.right_column-right.ensures.least)
+    (apart v c.requires.valid) c.requires.pair (omega arith) at (rw (← c.right_column-right.ensures.value) c.right_column-right.ensures.at_least)
     c.draw_bit.ensures.rest c.draw_bit.ensures.after c.draw_bit-in-loop-step.ensures.rest c.draw_bit-in-loop-step.ensures.after
     ∙ c.loop-step.invariant

@@ -4,9 +4,9 @@ use Rattle.std.specs.Int.{abs_diff}
 use Rattle.std.proofs.lemmas.Bool.Decides.{nat_tests}
 use Rattle.std.specs.Option.{option_or}
 use Rattle.qrcode_types.specs.declared.types.Color.{Color}
-use Rattle.qrcode_places.specs.Patterns.{where_true, finder_at}
+use Rattle.qrcode_places.specs.Patterns.{color_if, finder_at}
 
-pub no_where : (t dark : Bool) → t ≡ false → where_true t dark ≡ None
+pub no_where : (t dark : Bool) → t ≡ false → color_if t dark ≡ None
 no_where t dark e = rw e refl
 
 pub no_or : (a b : Option Color) → a ≡ None → b ≡ None → option_or a b ≡ None

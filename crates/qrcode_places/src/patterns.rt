@@ -4,21 +4,21 @@ ghost use Rattle.std.specs.Prelude.{◌≡◌, ◌+◌, ◌*◌, ◌<◌, ◌≤
 ghost use Rattle.qrcode_types.specs.Colors.{color_of};
 ghost use Rattle.qrcode_types.specs.Versions.{is_valid, side};
 ghost use Rattle.qrcode_types.specs.declared.types.Version.TheVariants.{Normal};
-ghost use Rattle.qrcode_places.specs.Patterns.{where_true, finder_at, finder, is_near, centres, alignment_between, alignment, timing, dark_module, version_copy, version_pattern, pattern, normal_format_index, micro_format_index, format_index, is_corner_centre};
+ghost use Rattle.qrcode_places.specs.Patterns.{color_if, finder_at, finder, is_near, centres, alignment_between, alignment, timing, dark_module, version_copy, version_pattern, pattern, normal_format_index, micro_format_index, format_index, decided_bit, is_corner_centre};
 
-use qrcode_places::words::version_word;
+use crate::words::version_word;
 use qrcode_types::types::{Color, Version};
 
 /// Dark where the test holds.
-pub(super) fn color_of(dark: bool) -> Color
+pub fn color_of(dark: bool) -> Color
     ensures { result ≡ color_of dark }
 {
     if dark { Color::Dark } else { Color::Light }
 }
 
 // The colour that a test gives, at the places of a pattern.
-fn where_true(holds: bool, dark: bool) -> Option<Color>
-    ensures { result ≡ where_true holds dark }
+fn color_if(holds: bool, dark: bool) -> Option<Color>
+    ensures { result ≡ color_if holds dark }
 {
     if holds { Some(color_of(dark)) } else { None }
 }
@@ -28,14 +28,14 @@ fn finder_at(a: usize, b: usize, x: usize, y: usize) -> Option<Color>
     ensures { result ≡ finder_at a b x y }
 {
     let distance = a.abs_diff(x).max(b.abs_diff(y));
-    where_true(distance <= 4, distance <= 1 || distance == 3)
+    color_if(distance <= 4, distance <= 1 || distance == 3)
 }
 
 // The finder patterns in the corners: only that of the nearest corner can have a place.
-#[tactic(auto, using(crate::proofs::Corners::top_left, crate::proofs::Corners::top_right, crate::proofs::Corners::bottom_left, crate::proofs::Corners::bottom_right), unfolding(qrcode_places::specs::Patterns::finder))]
+#[tactic(auto, using(crate::proofs::Corners::top_left, crate::proofs::Corners::top_right, crate::proofs::Corners::bottom_left, crate::proofs::Corners::bottom_right), unfolding(crate::specs::Patterns::finder))]
 fn finder(version: Version, width: usize, x: usize, y: usize) -> Option<Color>
     requires valid { IsTrue (is_valid version) }
-    requires wide { width ≡ side version }
+    requires width { width ≡ side version }
     requires column { x < width }
     requires row { y < width }
     ensures { result ≡ finder version x y }
@@ -52,7 +52,7 @@ fn finder(version: Version, width: usize, x: usize, y: usize) -> Option<Color>
 }
 
 /// The first coordinate that is at most 2 away.
-pub(super) fn near_centre(centres: &[u8], x: usize) -> Option<usize>
+pub fn near_centre(centres: &[u8], x: usize) -> Option<usize>
     ensures { result ≡ find (is_near x) centres.now }
 {
     centres
@@ -62,7 +62,7 @@ pub(super) fn near_centre(centres: &[u8], x: usize) -> Option<usize>
 }
 
 /// Whether two coordinates of alignment centres meet in a corner where a finder pattern is.
-pub(super) fn is_corner_centre(width: usize, a: usize, b: usize) -> bool
+pub fn is_corner_centre(width: usize, a: usize, b: usize) -> bool
     requires { 7 ≤ width }
     ensures { result ≡ is_corner_centre width a b }
 {
@@ -85,14 +85,14 @@ fn alignment_between(
         return None;
     };
     let dark = a.abs_diff(x).max(b.abs_diff(y)) != 1;
-    where_true(!is_corner_centre(width, a, b), dark)
+    color_if(!is_corner_centre(width, a, b), dark)
 }
 
 // The row and the column of timing modules.
-#[tactic(auto, unfolding(qrcode_places::specs::Patterns::timing))]
+#[tactic(auto, unfolding(crate::specs::Patterns::timing))]
 fn timing(version: Version, width: usize, x: usize, y: usize) -> Option<Color>
     requires valid { IsTrue (is_valid version) }
-    requires wide { width ≡ side version }
+    requires width { width ≡ side version }
     requires small { x + y < 1000 }
     ensures { result ≡ timing version x y }
 {
@@ -103,18 +103,18 @@ fn timing(version: Version, width: usize, x: usize, y: usize) -> Option<Color>
         }
         Version::Micro(_) => (y == 0 && 8 <= x) || (x == 0 && 8 <= y),
     };
-    where_true(on_line, (x + y) % 2 == 0)
+    color_if(on_line, (x + y) % 2 == 0)
 }
 
 // The module of Normal that is always dark.
-#[tactic(auto, unfolding(qrcode_places::specs::Patterns::dark_module))]
-pub(super) fn dark_module(version: Version, width: usize, x: usize, y: usize) -> Option<Color>
+#[tactic(auto, unfolding(crate::specs::Patterns::dark_module))]
+pub fn dark_module(version: Version, width: usize, x: usize, y: usize) -> Option<Color>
     requires valid { IsTrue (is_valid version) }
-    requires wide { width ≡ side version }
+    requires width { width ≡ side version }
     ensures { result ≡ dark_module version x y }
 {
     match version {
-        Version::Normal(_) => where_true(x == 8 && y == width - 8, true),
+        Version::Normal(_) => color_if(x == 8 && y == width - 8, true),
         Version::Micro(_) => None,
     }
 }
@@ -135,10 +135,10 @@ fn version_copy(number: usize, far: usize, x: usize, y: usize) -> Option<Color>
 }
 
 // Both copies of the version word, from Normal 7 on.
-#[tactic(auto, unfolding(qrcode_places::specs::Patterns::version_pattern))]
+#[tactic(auto, unfolding(crate::specs::Patterns::version_pattern))]
 fn version_pattern(version: Version, width: usize, x: usize, y: usize) -> Option<Color>
     requires valid { IsTrue (is_valid version) }
-    requires wide { width ≡ side version }
+    requires width { width ≡ side version }
     ensures { result ≡ version_pattern version x y }
 {
     match version {
@@ -153,8 +153,8 @@ fn version_pattern(version: Version, width: usize, x: usize, y: usize) -> Option
 
 /// The colour of a place in the functional patterns, the format word aside. `near_x` and `near_y`
 /// are the coordinates of alignment centres that are near the place.
-#[tactic(auto, unfolding(qrcode_places::specs::Patterns::pattern, qrcode_places::specs::Patterns::alignment))]
-pub(super) fn pattern(
+#[tactic(auto, unfolding(crate::specs::Patterns::pattern, crate::specs::Patterns::alignment))]
+pub fn pattern(
     version: Version,
     width: usize,
     near_x: Option<usize>,
@@ -163,7 +163,7 @@ pub(super) fn pattern(
     y: usize,
 ) -> Option<Color>
     requires valid { IsTrue (is_valid version) }
-    requires wide { width ≡ side version }
+    requires width { width ≡ side version }
     requires near_x { near_x ≡ find (is_near x) (centres version) }
     requires near_y { near_y ≡ find (is_near y) (centres version) }
     requires column { x < width }
@@ -225,10 +225,10 @@ fn micro_format_index(x: usize, y: usize) -> Option<usize>
 }
 
 /// Which bit of the format word stands at a place, if any, the highest bit being 0.
-#[tactic(auto, unfolding(qrcode_places::specs::Patterns::format_index))]
-pub(super) fn format_index(version: Version, width: usize, x: usize, y: usize) -> Option<usize>
+#[tactic(auto, unfolding(crate::specs::Patterns::format_index))]
+pub fn format_index(version: Version, width: usize, x: usize, y: usize) -> Option<usize>
     requires valid { IsTrue (is_valid version) }
-    requires wide { width ≡ side version }
+    requires width { width ≡ side version }
     requires inside { x < 1000 }
     ensures value { result ≡ format_index version x y }
     ensures bit { IfSome result (λ i. i < 15) }
@@ -237,4 +237,18 @@ pub(super) fn format_index(version: Version, width: usize, x: usize, y: usize) -
         Version::Normal(_) => normal_format_index(width, x, y),
         Version::Micro(_) => micro_format_index(x, y),
     }
+}
+
+/// The bit of a place that no mask decides, of the format word or of the dark module, if it has one.
+#[tactic(auto, unfolding(crate::specs::Patterns::decided_bit))]
+pub fn decided_bit(version: Version, width: usize, word: u16, x: usize, y: usize) -> Option<bool>
+    requires valid { IsTrue (is_valid version) }
+    requires width { width ≡ side version }
+    requires inside { x < 1000 }
+    ensures { result ≡ decided_bit version word x y }
+{
+    if let Some(i) = format_index(version, width, x, y) {
+        return Some((word >> (14 - i)) % 2 == 1);
+    }
+    dark_module(version, width, x, y).map(|color| color == Color::Dark)
 }
