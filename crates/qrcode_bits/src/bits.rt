@@ -430,6 +430,3 @@ fn normal_indicator(version: Version, number: u32) -> QrResult<u32>
     }
     Ok(number)
 }
-
-#[cfg(test)]
-mod tests;

@@ -70,6 +70,3 @@ enum Kind {
     Letter,
     Other,
 }
-
-#[cfg(test)]
-mod tests;

@@ -121,6 +121,3 @@ fn reserved_codewords(version: Version, ec_level: EcLevel) -> usize
         _ => 0,
     }
 }
-
-#[cfg(test)]
-mod tests;

@@ -5,5 +5,3 @@ mod columns;
 pub mod line;
 pub mod penalty;
 mod rows;
-#[cfg(test)]
-mod tests;

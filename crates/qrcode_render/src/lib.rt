@@ -24,8 +24,6 @@ pub mod pic;
 mod sheet;
 pub mod string;
 pub mod svg;
-#[cfg(test)]
-mod tests;
 pub mod unicode;
 
 /// A pixel: what stands for dark or light in a picture.

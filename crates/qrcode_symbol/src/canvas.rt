@@ -335,6 +335,3 @@ pub fn is_functional(version: Version, width: i16, x: i16, y: i16) -> bool
 {
     is_functional_place(Layout::new(version), wrapped(width, x), wrapped(width, y))
 }
-
-#[cfg(test)]
-mod tests;

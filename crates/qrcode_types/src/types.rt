@@ -338,6 +338,3 @@ impl PartialOrd for Mode {
         }
     }
 }
-
-#[cfg(test)]
-mod tests;

@@ -133,6 +133,3 @@ pub(super) fn best<S: Shown>(
     }
     best_by::<ThreeWords, S>(alloc, version, ec_level, modules)
 }
-
-#[cfg(test)]
-mod tests;

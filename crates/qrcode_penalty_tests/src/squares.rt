@@ -1,14 +1,15 @@
+//! Squares of many kinds: what their packed rows cost, and what a count module by module says.
+
 ghost use Rattle.std.specs.Prelude.{◌≡◌, ◌+◌, ◌<◌, ◌≤◌, length, map, vec_len, IfOk};
 ghost use Rattle.qrcode_penalty.specs.Rows.{EndsBefore, AllEndBefore};
 
-use crate::line::{Line, ThreeWords};
-use crate::penalty::{micro_penalty, normal_penalty};
-use crate::rows::{finder_penalty, run_penalty};
+use qrcode_penalty::line::{Line, ThreeWords};
+use qrcode_penalty::penalty::{micro_penalty, normal_penalty};
 use std::alloc::{AllocError, Global};
 
-// Squares, each given by which of its places are dark.
+/// Squares, each given by which of its places are dark.
 #[derive(Copy, Clone)]
-enum Square {
+pub enum Square<'a> {
     Light,
     Dark,
     // Modules as a hash of their places.
@@ -19,9 +20,15 @@ enum Square {
     Runs,
     // The bits of each row.
     Rows([u16; 11]),
+    // A chessboard, in whose row 88 the places from the first to before the second number are of one colour.
+    RunInRow(u32, u32),
+    // One finder form, in row 88 from this column on.
+    FormInRow(u32),
+    // Whether each place of a square of this side is dark, row by row.
+    Places(&'a [bool], u32),
 }
 
-impl Square {
+impl Square<'_> {
     fn is_dark(self, x: u32, y: u32) -> bool {
         match self {
             Square::Light => false,
@@ -30,6 +37,9 @@ impl Square {
             Square::Forms => matches!(x.wrapping_sub(y), 0 | 2..=4 | 6),
             Square::Runs => x.wrapping_sub(y) < 5 + y % 4 || x % 2 == 0,
             Square::Rows(rows) => is_dark_in_rows(&rows, x, y),
+            Square::RunInRow(first, past) => is_dark_by_run(first, past, x, y),
+            Square::FormInRow(first) => y == 88 && matches!(x.wrapping_sub(first), 0 | 2..=4 | 6),
+            Square::Places(places, width) => is_dark_in_places(places, width, x, y),
         }
     }
 }
@@ -45,6 +55,24 @@ fn is_dark_in_rows(rows: &[u16; 11], x: u32, y: u32) -> bool {
     y < 11 && x < 11 && (rows[y as usize] >> x) % 2 == 1
 }
 
+// Whether a place of the chessboard with a run is dark.
+fn is_dark_by_run(first: u32, past: u32, x: u32, y: u32) -> bool {
+    let column = match x {
+        _ if y != 88 || x <= first => x,
+        _ if x < past => first,
+        _ => first.wrapping_add(1).wrapping_add(x.wrapping_sub(past)),
+    };
+    column.wrapping_add(y) % 2 == 0
+}
+
+// Whether a list of the places of a square says so.
+fn is_dark_in_places(places: &[bool], width: u32, x: u32, y: u32) -> bool {
+    let place = (y as usize)
+        .wrapping_mul(width as usize)
+        .wrapping_add(x as usize);
+    x < width && places.get(place) == Some(&true)
+}
+
 // The row with the places from `first` to before `past` changed.
 fn changed<L: Line>(row: L, first: u32, past: u32) -> L
     requires first { first < L.room }
@@ -54,7 +82,7 @@ fn changed<L: Line>(row: L, first: u32, past: u32) -> L
 }
 
 // The first `width` places of a row.
-#[tactic(auto, using(crate::proofs::WrittenRows::cut_ends))]
+#[tactic(auto, using(qrcode_penalty::proofs::WrittenRows::cut_ends))]
 fn cut<L: Line>(row: L, width: u32) -> L
     requires { width < L.room }
     ensures { EndsBefore width (L.places result) }
@@ -96,8 +124,8 @@ fn rows_of<L: Line>(alloc: Global, square: Square, width: u32) -> Result<Vec<L>,
     Ok(rows)
 }
 
-// The penalties of Normal and of Micro, on packed rows.
-fn packed<L: Line>(alloc: Global, square: Square, width: u32) -> Result<(u32, u32), AllocError>
+/// The penalties of Normal and of Micro, on packed rows.
+pub fn packed<L: Line>(alloc: Global, square: Square, width: u32) -> Result<(u32, u32), AllocError>
     requires wide { 7 ≤ width }
     requires room { width + 3 ≤ L.room }
 {
@@ -208,8 +236,8 @@ fn plain_last(square: Square, is_column: bool, width: u32) -> u32 {
     light
 }
 
-// The penalties of Normal and of Micro, module by module.
-fn plain(square: Square, width: u32) -> (u32, u32) {
+/// The penalties of Normal and of Micro, module by module.
+pub fn plain(square: Square, width: u32) -> (u32, u32) {
     let normal = plain_lines(square, width).wrapping_add(plain_rest(square, width));
     let (row, column) = (
         plain_last(square, false, width),
@@ -278,32 +306,20 @@ fn masks_of_micro(rt: HostRuntime) -> Result<(), AllocError> {
     Ok(())
 }
 
-// Places by turns, of which those from `first` to before `past` are of one colour.
-fn with_run(first: u32, past: u32) -> ThreeWords
-    requires first { first ≤ 177 }
-    requires past { past ≤ 177 }
-    ensures { EndsBefore 177 (⟦<ThreeWords as Line>⟧.places result) }
-{
-    let mut row = ThreeWords::first(0);
-    let mut dark = false;
-    for x in 0..177 {
-        if x <= first || past <= x {
-            dark = !dark;
-        }
-        if dark {
-            row = changed(row, x, x + 1);
-        }
-    }
-    cut(row, 177)
-}
-
+// Runs and finder forms that lie in two words of a row.
 #[test]
-fn lines_across_words(rt: HostRuntime) {
+fn lines_across_words(rt: HostRuntime) -> Result<(), AllocError> {
     for (first, past, cost) in [(126, 131, 3), (123, 129, 4), (62, 67, 3)] {
-        assert_eq!(rt; run_penalty(with_run(first, past), 177), cost);
+        let square = Square::RunInRow(first, past);
+        assert_eq!(rt; plain_runs(square, false, 88, 177), cost);
+        let packed = packed::<ThreeWords>(rt.alloc(), square, 177)?;
+        assert_eq!(rt; packed, plain(square, 177));
     }
     for place in [0, 61, 124, 170] {
-        let row = row_of::<ThreeWords>(Square::Forms, place, 177);
-        assert_eq!(rt; finder_penalty(row, 177), 40);
+        let square = Square::FormInRow(place);
+        assert_eq!(rt; plain_finders(square, false, 88, 177), 40);
+        let packed = packed::<ThreeWords>(rt.alloc(), square, 177)?;
+        assert_eq!(rt; packed, plain(square, 177));
     }
+    Ok(())
 }

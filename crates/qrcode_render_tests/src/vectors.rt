@@ -1,9 +1,9 @@
-// Pictures in SVG and PIC.
+//! Pictures in SVG and PIC.
 
 ghost use Rattle.std.specs.Prelude.{◌≡◌, length};
 
-use super::{DIAGONAL, MICRO_2, NORMAL_1, modules, picture, writes};
-use crate::{Canvas, Pixel, Renderer, pic, svg};
+use crate::drawings::{DIAGONAL, MICRO_2, NORMAL_1, modules, picture, writes};
+use qrcode_render::{Canvas, Pixel, Renderer, pic, svg};
 use qrcode_types::types::{Color, QrResult};
 use std::alloc::Global;
 use std::process::Abort;

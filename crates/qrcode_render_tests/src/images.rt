@@ -1,8 +1,8 @@
-// Pictures as rows of pixels, and their sides.
+//! Pictures as rows of pixels, and their sides.
 
-use super::{DIAGONAL, MICRO_2, NORMAL_1, modules, picture};
-use crate::image::{Channels, ImageBuffer, Luma, LumaA, Rgb, Rgba};
-use crate::{Pixel, Renderer};
+use crate::drawings::{DIAGONAL, MICRO_2, NORMAL_1, modules, picture};
+use qrcode_render::image::{Channels, ImageBuffer, Luma, LumaA, Rgb, Rgba};
+use qrcode_render::{Pixel, Renderer};
 use qrcode_types::types::{Color, QrResult};
 use std::alloc::Global;
 use std::process::Abort;

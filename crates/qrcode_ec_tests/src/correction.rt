@@ -1,4 +1,11 @@
-use super::*;
+//! Products of the field, the correction bytes of data, and the order of codewords.
+
+use qrcode_ec::{
+    construct_codewords, create_error_correction_code, max_allowed_errors, power, product,
+};
+use qrcode_types::tables::Blocks;
+use qrcode_types::types::{EcLevel, QrError, QrResult, Version};
+use std::alloc::Global;
 use std::process::Abort;
 use std::test::Fail;
 

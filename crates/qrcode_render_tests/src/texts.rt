@@ -1,9 +1,9 @@
-// Pictures of characters, texts and half blocks.
+//! Pictures of characters, texts and half blocks.
 
-use super::{DIAGONAL, MICRO_2, NORMAL_1, modules, writes};
-use crate::string::{Canvas, Element, Str};
-use crate::unicode::Dense1x2;
-use crate::{Pixel, Renderer};
+use crate::drawings::{DIAGONAL, MICRO_2, NORMAL_1, modules, writes};
+use qrcode_render::string::{Canvas, Element, Str};
+use qrcode_render::unicode::Dense1x2;
+use qrcode_render::{Pixel, Renderer};
 use qrcode_types::types::{Color, QrResult};
 use std::alloc::Global;
 use std::process::Abort;

@@ -1,9 +1,11 @@
+//! Data cut into segments, and segments joined.
+
 ghost use Rattle.std.specs.Prelude.{◌≡◌, length, IsTrue};
 ghost use Rattle.qrcode_types.specs.Versions.{is_valid};
 ghost use Rattle.qrcode_bits.specs.Groups.{IsJoinable};
 
-use super::*;
-use qrcode_types::types::{QrError, QrResult};
+use qrcode_bits::optimize::{Optimizer, Parser, Segment, least_segments, total_encoded_len};
+use qrcode_types::types::{Mode, QrError, QrResult, Version};
 use std::alloc::{AllocError, Global};
 use std::process::Abort;
 use std::test::Fail;

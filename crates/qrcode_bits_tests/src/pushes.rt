@@ -1,40 +1,12 @@
-ghost use Rattle.std.specs.Prelude.{length};
-ghost use Rattle.qrcode_bits.specs.Segments.{AreInside};
+//! Pushes to a list of bits, what they are refused for, and the versions that are chosen.
 
-use super::*;
-use std::alloc::AllocError;
+use qrcode_bits::bits::{Bits, ExtendedMode, encode_auto};
+use qrcode_bits::optimize::Segment;
+use qrcode_pushes::{Push, make_push, push_ranges};
+use qrcode_types::types::{EcLevel, Mode, QrError, QrResult, Version};
+use std::alloc::{AllocError, Global};
 use std::process::Abort;
 use std::test::Fail;
-
-// One push.
-#[derive(Copy, Clone)]
-enum Push<'a> {
-    Indicator(ExtendedMode),
-    Eci(u32),
-    Numeric(&'a [u8]),
-    Alphanumeric(&'a [u8]),
-    Byte(&'a [u8]),
-    Kanji(&'a [u8]),
-    Fnc1First,
-    Fnc1Second(u8),
-    Optimal(&'a [u8]),
-    End(EcLevel),
-}
-
-fn pushed(bits: &mut Bits, push: Push<'_>) -> QrResult<()> {
-    match push {
-        Push::Indicator(mode) => bits.push_mode_indicator(mode),
-        Push::Eci(number) => bits.push_eci_designator(number),
-        Push::Numeric(data) => bits.push_numeric_data(data),
-        Push::Alphanumeric(data) => bits.push_alphanumeric_data(data),
-        Push::Byte(data) => bits.push_byte_data(data),
-        Push::Kanji(data) => bits.push_kanji_data(data),
-        Push::Fnc1First => bits.push_fnc1_first_position(),
-        Push::Fnc1Second(indicator) => bits.push_fnc1_second_position(indicator),
-        Push::Optimal(data) => bits.push_optimal_data(data),
-        Push::End(level) => bits.push_terminator(level),
-    }
-}
 
 // A list of bits for a version, with these pushes.
 fn list(alloc: Global, version: Version, pushes: &[Push<'_>]) -> QrResult<Bits> {
@@ -42,8 +14,8 @@ fn list(alloc: Global, version: Version, pushes: &[Push<'_>]) -> QrResult<Bits> 
         return Err(QrError::InvalidVersion);
     }
     let mut bits = Bits::new(alloc, version);
-    for push in pushes {
-        pushed(&mut bits, *push)?;
+    for next in pushes {
+        make_push(&mut bits, *next)?;
     }
     Ok(bits)
 }
@@ -82,7 +54,7 @@ fn refuses(
 ) -> QrResult<()> {
     let mut bits = list(alloc, version, pushes)?;
     let length = bits.len();
-    assert!(rt; pushed(&mut bits, last).err() == Some(error));
+    assert!(rt; make_push(&mut bits, last).err() == Some(error));
     holds(rt, bits, bytes, length);
     Ok(())
 }
@@ -101,11 +73,16 @@ fn give_all(rt: &impl Abort, alloc: Global, rows: &[Given]) -> QrResult<()> {
 }
 
 static INDICATORS: [Given; 11] = [
-    (ONE, &[Push::Eci(9)], &[0x70, 0x90], 12),
-    (ONE, &[Push::Eci(899)], &[0x78, 0x38, 0x30], 20),
-    (ONE, &[Push::Eci(999_999)], &[0x7c, 0xf4, 0x23, 0xf0], 28),
-    (ONE, &[Push::Fnc1First], &[0x50], 4),
-    (ONE, &[Push::Fnc1Second(37)], &[0x92, 0x50], 12),
+    (ONE, &[Push::Designator(9)], &[0x70, 0x90], 12),
+    (ONE, &[Push::Designator(899)], &[0x78, 0x38, 0x30], 20),
+    (
+        ONE,
+        &[Push::Designator(999_999)],
+        &[0x7c, 0xf4, 0x23, 0xf0],
+        28,
+    ),
+    (ONE, &[Push::FirstPosition], &[0x50], 4),
+    (ONE, &[Push::SecondPosition(37)], &[0x92, 0x50], 12),
     (ONE, &[Push::Indicator(ExtendedMode::Eci)], &[0x70], 4),
     (
         ONE,
@@ -197,21 +174,25 @@ fn refuse_all(rt: &impl Abort, alloc: Global, rows: &[Refused]) -> QrResult<()> 
     Ok(())
 }
 
-static REFUSED: [Refused; 18] = [
-    (ONE, Push::Eci(1_000_000), QrError::InvalidEciDesignator),
+static REFUSED: [Refused; 17] = [
+    (
+        ONE,
+        Push::Designator(1_000_000),
+        QrError::InvalidEciDesignator,
+    ),
     (
         Version::Micro(4),
-        Push::Eci(9),
+        Push::Designator(9),
         QrError::UnsupportedCharacterSet,
     ),
     (
         Version::Micro(4),
-        Push::Fnc1First,
+        Push::FirstPosition,
         QrError::UnsupportedCharacterSet,
     ),
     (
         Version::Micro(4),
-        Push::Fnc1Second(1),
+        Push::SecondPosition(1),
         QrError::UnsupportedCharacterSet,
     ),
     (
@@ -256,13 +237,8 @@ static REFUSED: [Refused; 18] = [
     (ONE, Push::Kanji(b"\xeb\xc0"), QrError::InvalidCharacter),
     (
         Version::Micro(1),
-        Push::End(EcLevel::M),
+        Push::Terminator(EcLevel::M),
         QrError::InvalidVersion,
-    ),
-    (
-        Version::Micro(2),
-        Push::Optimal(b"1a"),
-        QrError::UnsupportedCharacterSet,
     ),
 ];
 
@@ -282,7 +258,7 @@ static NOT_ENDED: [(Version, Push<'static>, EcLevel, &[u8]); 2] = [
     ),
     (
         ONE,
-        Push::Optimal(b">>>>>>>>"),
+        Push::Byte(b">>>>>>>>"),
         EcLevel::H,
         &[0x40, 0x83, 0xe3, 0xe3, 0xe3, 0xe3, 0xe3, 0xe3, 0xe3, 0xe0],
     ),
@@ -292,34 +268,31 @@ static NOT_ENDED: [(Version, Push<'static>, EcLevel, &[u8]); 2] = [
 fn refused_terminators(rt: HostRuntime) -> Result<(), Fail> {
     let error = QrError::DataTooLong;
     for (version, push, level, bytes) in NOT_ENDED {
-        let end = Push::End(level);
+        let end = Push::Terminator(level);
         refuses(&rt, rt.alloc(), version, &[push], end, error, bytes)?;
     }
     Ok(())
 }
 
-const END: Push<'static> = Push::End(EcLevel::L);
+const END: Push<'static> = Push::Terminator(EcLevel::L);
 
 // The bytes of `HELLO WORLD` with a terminator for level Q.
 const HELLO: &[u8] = b"\x20\x5b\x0b\x78\xd1\x72\xdc\x4d\x43\x40\xec\x11\xec";
 
-static TERMINATED: [Given; 11] = [
+static TERMINATED: [Given; 9] = [
     (
         ONE,
-        &[Push::Alphanumeric(b"HELLO WORLD"), Push::End(EcLevel::Q)],
-        HELLO,
-        104,
-    ),
-    (
-        ONE,
-        &[Push::Optimal(b"HELLO WORLD"), Push::End(EcLevel::Q)],
+        &[
+            Push::Alphanumeric(b"HELLO WORLD"),
+            Push::Terminator(EcLevel::Q),
+        ],
         HELLO,
         104,
     ),
     (
         ONE,
         &[
-            Push::Eci(9),
+            Push::Designator(9),
             Push::Byte(b"\xca\xfe\xe4\xe9\xea\xe1\xf2 QR"),
             END,
         ],
@@ -363,12 +336,6 @@ static TERMINATED: [Given; 11] = [
         20,
     ),
     (
-        Version::Micro(2),
-        &[Push::Optimal(b"123A"), END],
-        &[0x18, 0xf7, 0x25, 0x00, 0xec],
-        40,
-    ),
-    (
         Version::Micro(3),
         &[Push::Numeric(b"00000000000000000000"), END],
         &[0x28, 0, 0, 0, 0, 0, 0, 0, 0, 0, 0],
@@ -382,34 +349,45 @@ fn terminated_lists(rt: HostRuntime) -> Result<(), Fail> {
     Ok(())
 }
 
-// Where numbers of several sizes meet in a byte.
-#[test]
-fn numbers_across_bytes(rt: HostRuntime) -> Result<(), Fail> {
-    let numbers = [
-        (3, 0b010),
-        (3, 0b110),
-        (3, 0b101),
-        (7, 0b001_1010),
-        (4, 0b1100),
-        (12, 0b1011_0110_1101),
-        (10, 0b01_1001_0001),
-        (15, 0b111_0010_1110_0011),
-    ];
-    let mut bits = Bits::new(rt.alloc(), ONE);
-    for (count, number) in numbers {
-        assert!(rt; count <= 15 && number < 1 << count);
-        bits.push_number(count, number)?;
+// A version, data that is pushed in the segments of fewest bits, the level that the list is ended for,
+// the bytes, and how many bits.
+static OPTIMAL: [(Version, &[u8], EcLevel, &[u8], usize); 2] = [
+    (ONE, b"HELLO WORLD", EcLevel::Q, HELLO, 104),
+    (
+        Version::Micro(2),
+        b"123A",
+        EcLevel::L,
+        &[0x18, 0xf7, 0x25, 0x00, 0xec],
+        40,
+    ),
+];
+
+// A list with data in the segments of fewest bits.
+fn optimal(alloc: Global, version: Version, data: &[u8]) -> QrResult<Bits> {
+    if !version.is_valid() {
+        return Err(QrError::InvalidVersion);
     }
-    let bytes = [0x5a, 0x9a, 0xcb, 0x6d, 0x64, 0x79, 0x71, 0x80];
-    holds(&rt, bits, &bytes, 57);
-    Ok(())
+    let mut bits = Bits::new(alloc, version);
+    bits.push_optimal_data(data)?;
+    Ok(bits)
 }
 
-fn push_ranges(bits: &mut Bits, alloc: Global, data: &[u8], segments: &[Segment]) -> QrResult<()>
-    requires { AreInside (length «data».now) segments.now }
-{
-    let segments = Vec::from_slice(alloc, segments)?;
-    bits.push_all(data, segments)
+#[test]
+fn optimal_data(rt: HostRuntime) -> Result<(), Fail> {
+    for (version, data, level, bytes, length) in OPTIMAL {
+        let mut bits = optimal(rt.alloc(), version, data)?;
+        bits.push_terminator(level)?;
+        holds(&rt, bits, bytes, length);
+    }
+    let mut bits = optimal(rt.alloc(), ONE, b">>>>>>>>")?;
+    let error = QrError::DataTooLong;
+    assert!(rt; bits.push_terminator(EcLevel::H) == Err(error));
+    holds(&rt, bits, b"\x40\x83\xe3\xe3\xe3\xe3\xe3\xe3\xe3\xe0", 76);
+    let mut bits = Bits::new(rt.alloc(), Version::Micro(2));
+    let error = QrError::UnsupportedCharacterSet;
+    assert!(rt; bits.push_optimal_data(b"1a") == Err(error));
+    holds(&rt, bits, &[], 0);
+    Ok(())
 }
 
 #[test]
@@ -421,11 +399,12 @@ fn segments(rt: HostRuntime) -> Result<(), Fail> {
         end,
     };
     let mut bits = Bits::new(alloc, ONE);
-    push_ranges(&mut bits, alloc, b"12", &[digits(0, 2), digits(0, 2)])?;
+    let ranges = vec![in alloc; digits(0, 2), digits(0, 2)]?;
+    push_ranges(&mut bits, b"12", ranges)?;
     holds(&rt, bits, &[0x10, 0x08, 0x60, 0x80, 0x43, 0x00], 42);
 
     let mut bits = Bits::new(alloc, ONE);
-    push_ranges(&mut bits, alloc, b"", &[digits(0, 0)])?;
+    push_ranges(&mut bits, b"", vec![in alloc; digits(0, 0)]?)?;
     holds(&rt, bits, &[0x10, 0x00], 14);
 
     let mut bits = Bits::new(alloc, Version::Micro(2));
@@ -434,23 +413,24 @@ fn segments(rt: HostRuntime) -> Result<(), Fail> {
         begin: 1,
         end: 2,
     };
-    let result = push_ranges(&mut bits, alloc, b"1a", &[digits(0, 1), byte]);
+    let ranges = vec![in alloc; digits(0, 1), byte]?;
+    let result = push_ranges(&mut bits, b"1a", ranges);
     assert_eq!(rt; result, Err(QrError::UnsupportedCharacterSet));
     holds(&rt, bits, &[0x08, 0x80], 9);
     Ok(())
 }
 
 // A list of so many bits refuses the push as too long, and keeps its bits.
-fn is_full(rt: &impl Abort, bits: &mut Bits, length: usize, push: Push<'_>) {
+fn is_full(rt: &impl Abort, bits: &mut Bits, length: usize, next: Push<'_>) {
     assert_eq!(rt; bits.len(), length);
-    assert!(rt; pushed(bits, push) == Err(QrError::DataTooLong));
+    assert!(rt; make_push(bits, next) == Err(QrError::DataTooLong));
     assert_eq!(rt; bits.len(), length);
 }
 
 // Pushes the bytes so many times.
 fn push_times(bits: &mut Bits, bytes: &[u8], count: usize) -> QrResult<()> {
     for _ in 0..count {
-        pushed(bits, Push::Byte(bytes))?;
+        make_push(bits, Push::Byte(bytes))?;
     }
     Ok(())
 }
@@ -463,7 +443,7 @@ fn limits(rt: HostRuntime) -> Result<(), Fail> {
     is_full(&rt, &mut bits, 16_253_300, Push::Byte(&data));
     let data = Vec::from_elem(rt.alloc(), b'a', 65_487)?;
     push_times(&mut bits, &data, 1)?;
-    is_full(&rt, &mut bits, 16_777_216, Push::Fnc1First);
+    is_full(&rt, &mut bits, 16_777_216, Push::FirstPosition);
     Ok(())
 }
 
@@ -471,7 +451,8 @@ fn limits(rt: HostRuntime) -> Result<(), Fail> {
 fn longest_data(rt: HostRuntime) -> Result<(), Fail> {
     let long = Vec::from_elem(rt.alloc(), b'1', 1_048_577)?;
     let mut bits = Bits::new(rt.alloc(), ONE);
-    is_full(&rt, &mut bits, 0, Push::Optimal(&long));
+    assert!(rt; bits.push_optimal_data(&long) == Err(QrError::DataTooLong));
+    assert_eq!(rt; bits.len(), 0);
     let refusal = version_of(rt.alloc(), &long, EcLevel::L);
     assert!(rt; refusal == Err(QrError::DataTooLong));
     Ok(())

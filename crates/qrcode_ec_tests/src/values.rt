@@ -1,5 +1,8 @@
-use super::*;
-use crate::tables::capacity;
+//! Refusals, colours, levels, versions and modes.
+
+use qrcode_types::tables::capacity;
+use qrcode_types::types::{Color, EcLevel, Mode, QrError, Version};
+use std::alloc::{AllocError, AllocFailed};
 use std::test::Fail;
 
 static REFUSALS: [(QrError, &str); 6] = [

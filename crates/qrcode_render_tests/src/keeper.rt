@@ -1,10 +1,10 @@
-// A canvas of a user, which keeps its calls.
+//! A canvas of a user, which keeps its calls.
 
 ghost use Rattle.std.proofs.Common.{rules};
 ghost use Rattle.std.specs.Prelude.{◌≡◌, ◌++◌, ◌∷◌, [], List, ◌<◌, ◌+◌, ◌^◌};
 
-use super::{DIAGONAL, picture};
-use crate::{Canvas, Pixel, Renderer, fill_rect};
+use crate::drawings::{DIAGONAL, picture};
+use qrcode_render::{Canvas, Pixel, Renderer, fill_rect};
 use qrcode_types::types::{Color, QrResult};
 use std::alloc::Global;
 use std::test::Fail;
@@ -48,8 +48,8 @@ impl Pixel for Mark {
 }
 
 impl Canvas for Keeper {
-    ghost use Rattle.qrcode_render.specs.declared.tests.keeper.Call.{Call};
-    ghost use Rattle.qrcode_render.specs.declared.tests.keeper.Call.TheVariants.{Dot, Area};
+    ghost use Rattle.qrcode_render_tests.specs.declared.keeper.Call.{Call};
+    ghost use Rattle.qrcode_render_tests.specs.declared.keeper.Call.TheVariants.{Dot, Area};
 
     type Pixel = Mark;
 

@@ -1,8 +1,11 @@
-ghost use Rattle.std.specs.Prelude.{IsTrue};
+//! Canvases: patterns, codewords and masks, drawn as letters.
+
+ghost use Rattle.std.specs.Prelude.{◌≡◌, IsTrue, IfOk};
 ghost use Rattle.qrcode_types.specs.Versions.{is_valid};
 
-use super::*;
-use qrcode_types::types::QrError;
+use qrcode_symbol::canvas::{Canvas, MaskPattern, Module, is_functional};
+use qrcode_types::types::{Color, EcLevel, QrError, QrResult, Version};
+use std::alloc::Global;
 use std::process::Abort;
 use std::test::Fail;
 
@@ -18,22 +21,48 @@ fn letter(place: Module) -> char {
     }
 }
 
-// The letters of a canvas, row by row.
-fn letters(alloc: Global, canvas: &Canvas) -> QrResult<String> {
-    Ok(canvas.modules.iter().map(|m| letter(*m)).collect(alloc)?)
+// The letters of a canvas of a version, row by row.
+fn letters(alloc: Global, canvas: &Canvas, version: Version) -> QrResult<String>
+    requires { canvas.now.version ≡ version }
+{
+    let width = version.width();
+    let mut text = String::new(alloc);
+    for y in 0..width {
+        for x in 0..width {
+            text.push(letter(canvas.get(x, y)))?;
+        }
+    }
+    Ok(text)
 }
 
-// A canvas has these letters, row by row.
-fn shows(rt: &impl Abort, alloc: Global, canvas: &Canvas, text: &str) -> QrResult<()> {
-    let letters = letters(alloc, canvas)?;
+// A canvas of a version has these letters, row by row.
+fn shows(
+    rt: &impl Abort,
+    alloc: Global,
+    canvas: &Canvas,
+    version: Version,
+    text: &str,
+) -> QrResult<()>
+    requires { canvas.now.version ≡ version }
+{
+    let letters = letters(alloc, canvas, version)?;
     assert_eq!(rt; letters.as_str(), text);
     Ok(())
 }
 
-// Two canvases have the same letters.
-fn look_alike(rt: &impl Abort, alloc: Global, first: &Canvas, second: &Canvas) -> QrResult<()> {
-    let expected = letters(alloc, second)?;
-    shows(rt, alloc, first, expected.as_str())
+// Two canvases of a version have the same letters.
+fn look_alike(
+    rt: &impl Abort,
+    alloc: Global,
+    first: &Canvas,
+    second: &Canvas,
+    version: Version,
+) -> QrResult<()>
+    requires first { first.now.version ≡ version }
+    requires second { second.now.version ≡ version }
+{
+    let expected = letters(alloc, second, version)?;
+    shows(rt, alloc, first, version, expected.as_str())
 }
 
 // The bools are true where the text has `#`.
@@ -47,6 +76,8 @@ fn are_dark(rt: &impl Abort, bools: &[bool], text: &str) {
 // A new canvas with the functional patterns.
 fn patterned(alloc: Global, version: Version, ec_level: EcLevel) -> QrResult<Canvas>
     requires { IsTrue (is_valid version) }
+    ensures version { IfOk result (λ canvas. canvas.version ≡ version) }
+    ensures level { IfOk result (λ canvas. canvas.level ≡ ec_level) }
 {
     let mut canvas = Canvas::new(alloc, version, ec_level)?;
     canvas.draw_all_functional_patterns();
@@ -54,8 +85,12 @@ fn patterned(alloc: Global, version: Version, ec_level: EcLevel) -> QrResult<Can
 }
 
 // Applies a mask that exists in the version.
-fn mask_all(canvas: &mut Canvas, mask: MaskPattern) {
-    let (version, ec_level) = (canvas.version, canvas.ec_level);
+fn mask_all(canvas: &mut Canvas, version: Version, ec_level: EcLevel, mask: MaskPattern)
+    requires version { canvas.old.version ≡ version }
+    requires level { canvas.old.level ≡ ec_level }
+    ensures version { canvas.new.version ≡ version }
+    ensures level { canvas.new.level ≡ ec_level }
+{
     if version.has_level(ec_level) && mask.exists_in(version) {
         canvas.apply_mask(mask);
     }
@@ -82,7 +117,7 @@ fn modules_are_lent(rt: HostRuntime) -> Result<(), Fail> {
 fn canvas_is_cloned(rt: HostRuntime) -> Result<(), Fail> {
     let canvas = patterned(rt.alloc(), Version::Micro(2), EcLevel::L)?;
     let copy = canvas.clone()?;
-    look_alike(&rt, rt.alloc(), &copy, &canvas)?;
+    look_alike(&rt, rt.alloc(), &copy, &canvas, Version::Micro(2))?;
     Ok(())
 }
 
@@ -124,7 +159,7 @@ fn draws_patterns(rt: &impl Abort, alloc: Global, version: Version, text: &str) 
     requires { IsTrue (is_valid version) }
 {
     let canvas = patterned(alloc, version, EcLevel::L)?;
-    shows(rt, alloc, &canvas, text)
+    shows(rt, alloc, &canvas, version, text)
 }
 
 #[test]
@@ -142,7 +177,7 @@ fn alignment_is_drawn_over_a_module(rt: HostRuntime) -> Result<(), Fail> {
     canvas.draw_all_functional_patterns();
     assert_eq!(rt; canvas.get(18, 18), Module::Masked(Color::Dark));
     let whole = patterned(rt.alloc(), Version::Normal(2), EcLevel::L)?;
-    look_alike(&rt, rt.alloc(), &canvas, &whole)?;
+    look_alike(&rt, rt.alloc(), &canvas, &whole, Version::Normal(2))?;
     Ok(())
 }
 
@@ -151,29 +186,57 @@ fn draws(
     rt: &impl Abort,
     alloc: Global,
     canvas: &mut Canvas,
-    (data, ec): (&[u8], &[u8]),
+    version: Version,
+    codewords: (&[u8], &[u8]),
     text: &str,
-) -> QrResult<()> {
+) -> QrResult<()>
+    requires { canvas.old.version ≡ version }
+    ensures { canvas.new.version ≡ version }
+{
+    let (data, ec) = codewords;
     canvas.draw_data(data, ec);
-    shows(rt, alloc, canvas, text)
+    shows(rt, alloc, canvas, version, text)
 }
 
 #[test]
 fn codewords_are_drawn(rt: HostRuntime) -> Result<(), Fail> {
     let mut canvas = patterned(rt.alloc(), Version::Micro(1), EcLevel::L)?;
     let codewords: (&[u8], &[u8]) = (&[0xa5, 0x3c, 0x70], &[0x81, 0xe6]);
-    draws(&rt, rt.alloc(), &mut canvas, codewords, DATA_OF_MICRO_1)?;
+    let version = Version::Micro(1);
+    draws(
+        &rt,
+        rt.alloc(),
+        &mut canvas,
+        version,
+        codewords,
+        DATA_OF_MICRO_1,
+    )?;
     Ok(())
 }
 
 #[test]
 fn bits_without_a_codeword_stay_empty(rt: HostRuntime) -> Result<(), Fail> {
-    let mut canvas = patterned(rt.alloc(), Version::Normal(2), EcLevel::L)?;
-    let empty = letters(rt.alloc(), &canvas)?;
-    draws(&rt, rt.alloc(), &mut canvas, (&[], &[]), empty.as_str())?;
+    let version = Version::Normal(2);
+    let mut canvas = patterned(rt.alloc(), version, EcLevel::L)?;
+    let empty = letters(rt.alloc(), &canvas, version)?;
+    draws(
+        &rt,
+        rt.alloc(),
+        &mut canvas,
+        version,
+        (&[], &[]),
+        empty.as_str(),
+    )?;
     let data = [0x6d, 0xb6, 0xdb].repeat(rt.alloc(), 14)?;
     let codewords: (&[u8], &[u8]) = (&data, &[0x6d, 0xb6]);
-    draws(&rt, rt.alloc(), &mut canvas, codewords, DATA_OF_NORMAL_2)?;
+    draws(
+        &rt,
+        rt.alloc(),
+        &mut canvas,
+        version,
+        codewords,
+        DATA_OF_NORMAL_2,
+    )?;
     Ok(())
 }
 
@@ -186,6 +249,7 @@ fn half_codeword_fills_the_symbol(rt: HostRuntime) -> Result<(), Fail> {
         &rt,
         rt.alloc(),
         &mut canvas,
+        Version::Micro(3),
         codewords,
         HALF_CODEWORD_OF_MICRO_3,
     )?;
@@ -205,10 +269,11 @@ static EC_OF_DIGITS: &[u8; 10] = b"\xa5\x24\xd4\xc1\xed\x36\xc7\x87\x2c\x55";
 
 #[test]
 fn symbol_is_drawn(rt: HostRuntime) -> Result<(), Fail> {
-    let mut canvas = patterned(rt.alloc(), Version::Normal(1), EcLevel::M)?;
+    let (version, ec_level) = (Version::Normal(1), EcLevel::M);
+    let mut canvas = patterned(rt.alloc(), version, ec_level)?;
     canvas.draw_data(DATA_OF_DIGITS, EC_OF_DIGITS);
-    mask_all(&mut canvas, MaskPattern::VerticalLines);
-    shows(&rt, rt.alloc(), &canvas, SYMBOL_OF_NORMAL_1)?;
+    mask_all(&mut canvas, version, ec_level, MaskPattern::VerticalLines);
+    shows(&rt, rt.alloc(), &canvas, version, SYMBOL_OF_NORMAL_1)?;
     let bools = canvas.to_bools(rt.alloc())?;
     are_dark(&rt, &bools, SYMBOL_OF_NORMAL_1);
     let colors = canvas.into_colors(rt.alloc())?;
@@ -218,44 +283,77 @@ fn symbol_is_drawn(rt: HostRuntime) -> Result<(), Fail> {
 
 #[test]
 fn micro_symbol_is_drawn(rt: HostRuntime) -> Result<(), Fail> {
-    let mut canvas = patterned(rt.alloc(), Version::Micro(2), EcLevel::L)?;
+    let (version, ec_level) = (Version::Micro(2), EcLevel::L);
+    let mut canvas = patterned(rt.alloc(), version, ec_level)?;
     canvas.draw_data(b"\x40\x18\xac\xc3\x00", b"\x86\x0d\x22\xae\x30");
-    mask_all(&mut canvas, MaskPattern::LargeCheckerboard);
-    shows(&rt, rt.alloc(), &canvas, SYMBOL_OF_MICRO_2)?;
+    mask_all(
+        &mut canvas,
+        version,
+        ec_level,
+        MaskPattern::LargeCheckerboard,
+    );
+    shows(&rt, rt.alloc(), &canvas, version, SYMBOL_OF_MICRO_2)?;
     Ok(())
 }
 
 #[test]
 fn second_mask_changes_the_format_places(rt: HostRuntime) -> Result<(), Fail> {
-    let mut canvas = patterned(rt.alloc(), Version::Normal(1), EcLevel::M)?;
-    mask_all(&mut canvas, MaskPattern::VerticalLines);
-    shows(&rt, rt.alloc(), &canvas, NORMAL_1_UNDER_VERTICAL_LINES)?;
-    mask_all(&mut canvas, MaskPattern::Checkerboard);
-    shows(&rt, rt.alloc(), &canvas, NORMAL_1_UNDER_CHECKERBOARD)?;
+    let (version, ec_level) = (Version::Normal(1), EcLevel::M);
+    let mut canvas = patterned(rt.alloc(), version, ec_level)?;
+    mask_all(&mut canvas, version, ec_level, MaskPattern::VerticalLines);
+    shows(
+        &rt,
+        rt.alloc(),
+        &canvas,
+        version,
+        NORMAL_1_UNDER_VERTICAL_LINES,
+    )?;
+    mask_all(&mut canvas, version, ec_level, MaskPattern::Checkerboard);
+    shows(
+        &rt,
+        rt.alloc(),
+        &canvas,
+        version,
+        NORMAL_1_UNDER_CHECKERBOARD,
+    )?;
     Ok(())
 }
 
-// A canvas under its best mask, and the colours of that.
-fn best(alloc: Global, canvas: &Canvas) -> QrResult<(Canvas, Vec<Color>)> {
-    if !canvas.version.has_level(canvas.ec_level) {
+// A canvas under its best mask has these letters, and so have its colours.
+fn is_best(
+    rt: &impl Abort,
+    alloc: Global,
+    canvas: &Canvas,
+    version: Version,
+    ec_level: EcLevel,
+    text: &str,
+) -> QrResult<()>
+    requires version { canvas.now.version ≡ version }
+    requires level { canvas.now.level ≡ ec_level }
+{
+    if !version.has_level(ec_level) {
         return Err(QrError::InvalidVersion);
     }
-    Ok((canvas.apply_best_mask(alloc)?, canvas.best_colors(alloc)?))
-}
-
-// A canvas under its best mask has these letters, and so have its colours.
-fn is_best(rt: &impl Abort, alloc: Global, canvas: &Canvas, text: &str) -> QrResult<()> {
-    let (best, colors) = best(alloc, canvas)?;
-    shows(rt, alloc, &best, text)?;
+    let best = canvas.apply_best_mask(alloc)?;
+    shows(rt, alloc, &best, version, text)?;
+    let colors = canvas.best_colors(alloc)?;
     are_dark(rt, &dark_of(alloc, &colors)?, text);
     Ok(())
 }
 
 #[test]
 fn symbol_is_under_its_best_mask(rt: HostRuntime) -> Result<(), Fail> {
-    let mut canvas = patterned(rt.alloc(), Version::Normal(1), EcLevel::M)?;
+    let (version, ec_level) = (Version::Normal(1), EcLevel::M);
+    let mut canvas = patterned(rt.alloc(), version, ec_level)?;
     canvas.draw_data(DATA_OF_DIGITS, EC_OF_DIGITS);
-    is_best(&rt, rt.alloc(), &canvas, SYMBOL_OF_NORMAL_1)?;
+    is_best(
+        &rt,
+        rt.alloc(),
+        &canvas,
+        version,
+        ec_level,
+        SYMBOL_OF_NORMAL_1,
+    )?;
     Ok(())
 }
 
@@ -263,12 +361,14 @@ fn symbol_is_under_its_best_mask(rt: HostRuntime) -> Result<(), Fail> {
 // taken, with the format word 0x4445.
 #[test]
 fn equal_penalties_choose_the_first_mask(rt: HostRuntime) -> Result<(), Fail> {
-    let canvas = Canvas {
-        version: Version::Micro(1),
-        ec_level: EcLevel::L,
-        modules: vec![in rt.alloc(); Module::Masked(Color::Light); 121]?,
-    };
-    is_best(&rt, rt.alloc(), &canvas, LIGHT_MICRO_1)?;
+    let (version, ec_level) = (Version::Micro(1), EcLevel::L);
+    let mut canvas = Canvas::new(rt.alloc(), version, ec_level)?;
+    for y in 0..11i16 {
+        for x in 0..11i16 {
+            canvas.put(x, y, Color::Light);
+        }
+    }
+    is_best(&rt, rt.alloc(), &canvas, version, ec_level, LIGHT_MICRO_1)?;
     Ok(())
 }
 
