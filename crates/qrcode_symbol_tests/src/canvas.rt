@@ -1,6 +1,8 @@
 //! Canvases: patterns, codewords and masks, drawn as letters.
 
-ghost use Rattle.std.specs.Prelude.{◌≡◌, IsTrue, IfOk};
+ghost use Rattle.std.specs.Prelude.{◌≡◌, pos, IsTrue, IfOk};
+ghost use Rattle.qrcode_types.specs.declared.types.EcLevel.TheVariants.{L};
+ghost use Rattle.qrcode_types.specs.declared.types.Version.TheVariants.{Micro};
 ghost use Rattle.qrcode_types.specs.Versions.{is_valid};
 
 use qrcode_symbol::canvas::{Canvas, MaskPattern, Module, is_functional};
@@ -21,15 +23,29 @@ fn letter(place: Module) -> char {
     }
 }
 
+// The module in a column and a row that are not negative, where it is inside.
+fn module_at(canvas: &Canvas, version: Version, x: i16, y: i16) -> Module
+    requires valid { IsTrue (is_valid version) }
+    requires version { canvas.now.version ≡ version }
+{
+    let width = version.width();
+    if 0 <= x && x < width && 0 <= y && y < width {
+        canvas.get(x, y)
+    } else {
+        Module::Empty
+    }
+}
+
 // The letters of a canvas of a version, row by row.
 fn letters(alloc: Global, canvas: &Canvas, version: Version) -> QrResult<String>
-    requires { canvas.now.version ≡ version }
+    requires valid { IsTrue (is_valid version) }
+    requires version { canvas.now.version ≡ version }
 {
     let width = version.width();
     let mut text = String::new(alloc);
     for y in 0..width {
         for x in 0..width {
-            text.push(letter(canvas.get(x, y)))?;
+            text.push(letter(module_at(canvas, version, x, y)))?;
         }
     }
     Ok(text)
@@ -43,7 +59,8 @@ fn shows(
     version: Version,
     text: &str,
 ) -> QrResult<()>
-    requires { canvas.now.version ≡ version }
+    requires valid { IsTrue (is_valid version) }
+    requires version { canvas.now.version ≡ version }
 {
     let letters = letters(alloc, canvas, version)?;
     assert_eq!(rt; letters.as_str(), text);
@@ -58,6 +75,7 @@ fn look_alike(
     second: &Canvas,
     version: Version,
 ) -> QrResult<()>
+    requires valid { IsTrue (is_valid version) }
     requires first { first.now.version ≡ version }
     requires second { second.now.version ≡ version }
 {
@@ -190,7 +208,8 @@ fn draws(
     codewords: (&[u8], &[u8]),
     text: &str,
 ) -> QrResult<()>
-    requires { canvas.old.version ≡ version }
+    requires valid { IsTrue (is_valid version) }
+    requires version { canvas.old.version ≡ version }
     ensures { canvas.new.version ≡ version }
 {
     let (data, ec) = codewords;
@@ -328,6 +347,7 @@ fn is_best(
     ec_level: EcLevel,
     text: &str,
 ) -> QrResult<()>
+    requires valid { IsTrue (is_valid version) }
     requires version { canvas.now.version ≡ version }
     requires level { canvas.now.level ≡ ec_level }
 {
@@ -357,17 +377,26 @@ fn symbol_is_under_its_best_mask(rt: HostRuntime) -> Result<(), Fail> {
     Ok(())
 }
 
-// All modules are light and stay so under each mask: all penalties are 170, and the first mask is
-// taken, with the format word 0x4445.
-#[test]
-fn equal_penalties_choose_the_first_mask(rt: HostRuntime) -> Result<(), Fail> {
-    let (version, ec_level) = (Version::Micro(1), EcLevel::L);
-    let mut canvas = Canvas::new(rt.alloc(), version, ec_level)?;
+// A canvas of Micro 1 whose modules are all light.
+fn light_micro_1(alloc: Global) -> QrResult<Canvas>
+    ensures version { IfOk result (λ canvas. canvas.version ≡ Micro (pos 1)) }
+    ensures level { IfOk result (λ canvas. canvas.level ≡ L) }
+{
+    let mut canvas = Canvas::new(alloc, Version::Micro(1), EcLevel::L)?;
     for y in 0..11i16 {
         for x in 0..11i16 {
             canvas.put(x, y, Color::Light);
         }
     }
+    Ok(canvas)
+}
+
+// All modules are light and stay so under each mask: all penalties are 170, and the first mask is
+// taken, with the format word 0x4445.
+#[test]
+fn equal_penalties_choose_the_first_mask(rt: HostRuntime) -> Result<(), Fail> {
+    let (version, ec_level) = (Version::Micro(1), EcLevel::L);
+    let canvas = light_micro_1(rt.alloc())?;
     is_best(&rt, rt.alloc(), &canvas, version, ec_level, LIGHT_MICRO_1)?;
     Ok(())
 }
