@@ -1,7 +1,5 @@
 //! Calls that take memory, made with ample memory on whole symbols.
 
-use crate::reader::{self, Read};
-use crate::square::{self, Square};
 use crate::symbols;
 use qrcode::bits::encode_auto;
 use qrcode::canvas::Canvas;
@@ -11,6 +9,9 @@ use qrcode::render::unicode::Dense1x2;
 use qrcode::render::{self, Pixel, fill_rect, image, pic, string, svg, unicode};
 use qrcode::types::{QrError, QrResult};
 use qrcode::{EcLevel, QrCode, Version};
+use qrcode_judge::codewords;
+use qrcode_judge::reading::Read;
+use qrcode_judge::square::{self, Square};
 use std::alloc::Global;
 use std::process::Abort;
 
@@ -18,7 +19,7 @@ use std::process::Abort;
 fn rooms_of_normal(alloc: Global) -> Read<Vec<usize>> {
     let mut rooms = Vec::new(alloc);
     for v in 1..41i16 {
-        rooms.push(reader::capacity(alloc, Version::Normal(v), EcLevel::M)?)?;
+        rooms.push(codewords::capacity(alloc, Version::Normal(v), EcLevel::M)?)?;
     }
     Ok(rooms)
 }
@@ -166,7 +167,7 @@ fn each_pixel_type_is_built(rt: HostRuntime) {
         .expect(&rt, "a symbol")
         .clone()
         .expect(&rt, "memory");
-    let dark = Square::of(alloc, &code)
+    let dark = symbols::square_of(alloc, &code)
         .expect(&rt, "memory")
         .count_of_dark();
     check_images(&rt, alloc, &code, dark);

@@ -1,9 +1,10 @@
 //! Damaged symbols are read.
 
-use crate::reader::{self, Read, Unreadable};
-use crate::square::{Place, Square};
-use crate::{field, symbols};
+use crate::symbols;
 use qrcode::{EcLevel, QrCode, Version};
+use qrcode_judge::reading::{self, Read, Unreadable};
+use qrcode_judge::square::{Place, Square};
+use qrcode_judge::{codewords, field};
 use std::alloc::Global;
 use std::process::Abort;
 
@@ -55,13 +56,13 @@ fn five_wrong_codewords_without_finders_are_read(rt: HostRuntime) {
     let alloc = rt.alloc();
     let (version, ec_level) = (Version::Normal(1), EcLevel::M);
     let code = QrCode::with_version(alloc, b"01234567", version, ec_level).expect(&rt, "a symbol");
-    let mut square = Square::of(alloc, &code).expect(&rt, "memory");
+    let mut square = symbols::square_of(alloc, &code).expect(&rt, "memory");
     let places = square.places(alloc).expect(&rt, "memory");
-    let words = reader::codeword_places(alloc, version, ec_level, &places).expect(&rt, "memory");
+    let words = codewords::codeword_places(alloc, version, ec_level, &places).expect(&rt, "memory");
     change_some(&mut square, &words, &[0xff, 0x01, 0x80, 0x5a, 0x11]);
     turn_format_bits(&mut square, &[0, 7, 14]);
     lighten_finders(&mut square);
-    let reading = reader::read(alloc, &square, &places).expect(&rt, "a reading");
+    let reading = reading::read(alloc, &square, &places).expect(&rt, "a reading");
     symbols::check_bytes(&rt, &reading.bytes, b"01234567");
     assert_eq!(rt; reading.wrong, 5);
     assert_eq!(rt; reading.mask, 2);
@@ -92,7 +93,7 @@ fn corrected_by_trial(alloc: Global, block: &[u8]) -> Read<Vec<Vec<u8>>> {
 
 // The only block of Micro 1 that is found by trial in a square.
 fn found_by_trial(alloc: Global, square: &Square, places: &[Place], mask: usize) -> Read<Vec<u8>> {
-    let blocks = reader::read_blocks(alloc, square, places, EcLevel::L, mask)?;
+    let blocks = codewords::read_blocks(alloc, square, places, EcLevel::L, mask)?;
     let block = blocks.first().ok_or(Unreadable)?;
     let mut found = corrected_by_trial(alloc, block)?;
     if found.len() == 1 {
@@ -117,9 +118,9 @@ impl Sound {
         let code = QrCode::with_version(alloc, b"123", Version::Micro(1), EcLevel::L).expect(
             rt, "a symbol",
         );
-        let square = Square::of(alloc, &code).expect(rt, "memory");
+        let square = symbols::square_of(alloc, &code).expect(rt, "memory");
         let places = square.places(alloc).expect(rt, "memory");
-        let mask = reader::read(alloc, &square, &places)
+        let mask = reading::read(alloc, &square, &places)
             .expect(rt, "a reading")
             .mask;
         let block = found_by_trial(alloc, &square, &places, mask).expect(rt, "one block");
@@ -160,9 +161,12 @@ fn each_wrong_codeword_of_micro_1_is_found_by_trial(rt: HostRuntime) {
     let mut sound = Sound::of_digits(&rt, alloc);
     // The count 3 in three bits, 123 in ten, the terminator, and zeros.
     assert!(rt; sound.block.starts_with(&[0x63, 0xd8, 0x00]));
-    let words = reader::codeword_places(alloc, Version::Micro(1), EcLevel::L, &sound.places).expect(
-        &rt, "memory",
-    );
+    let words = codewords::codeword_places(
+        alloc,
+        Version::Micro(1),
+        EcLevel::L,
+        &sound.places,
+    ).expect(&rt, "memory");
     let mut squares = 0u32;
     for word in &words {
         squares = squares.wrapping_add(sound.check_word(&rt, alloc, word));

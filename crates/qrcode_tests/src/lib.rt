@@ -1,4 +1,4 @@
-//! Tests that cross the crates, and the small reader that they read symbols with.
+//! The tests of whole symbols, which the judge (`qrcode_judge`) reads.
 #![tactic(auto)]
 
 #[cfg(test)]
@@ -6,24 +6,14 @@ mod calls;
 #[cfg(test)]
 mod damage;
 #[cfg(test)]
-mod field;
-#[cfg(test)]
 mod lists;
 #[cfg(test)]
 mod masks;
 #[cfg(test)]
-mod penalty;
-#[cfg(test)]
 mod printed;
 #[cfg(test)]
-mod reader;
+mod read_back;
 #[cfg(test)]
 mod rows;
 #[cfg(test)]
-mod square;
-#[cfg(test)]
 mod symbols;
-#[cfg(test)]
-mod tables;
-#[cfg(test)]
-mod tests;

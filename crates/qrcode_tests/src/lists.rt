@@ -1,22 +1,17 @@
 //! Lists of bits that no data gives: odd ranges, and lists of each length that fill a symbol.
 
-ghost use Rattle.std.specs.Prelude.{◌≡◌, length};
-ghost use Rattle.qrcode_bits.specs.Segments.{AreInside};
+ghost use Rattle.std.specs.Prelude.{◌≡◌};
 
-use crate::reader::{self, Read};
-use crate::{square, symbols};
+use crate::symbols;
 use qrcode::bits::Bits;
 use qrcode::optimize::Segment;
 use qrcode::types::{Mode, QrResult};
 use qrcode::{EcLevel, QrCode, Version};
+use qrcode_judge::reading::Read;
+use qrcode_judge::{codewords, spelling, square};
+use qrcode_pushes::push_ranges;
 use std::alloc::Global;
 use std::process::Abort;
-
-fn push_ranges(bits: &mut Bits, data: &[u8], segments: Vec<Segment>) -> QrResult<()>
-    requires { AreInside (length «data».now) segments.items }
-{
-    bits.push_segments(data, segments.into_iter())
-}
 
 fn range(mode: Mode, begin: usize, end: usize) -> Segment
     ensures { result ≡ record { mode = mode; begin = begin; end = end } }
@@ -107,7 +102,7 @@ fn pushed(rt: &impl Abort, alloc: Global, version: Version, pushes: &[usize]) ->
 // The bits of bytes, as far as there are so many.
 fn bits_of(alloc: Global, bytes: &[u8], count: usize) -> Read<Vec<bool>> {
     let mut bits = Vec::new(alloc);
-    reader::push_bits(&mut bits, bytes, count)?;
+    spelling::push_bits(&mut bits, bytes, count)?;
     Ok(bits)
 }
 
@@ -134,7 +129,7 @@ fn ended(alloc: Global, v: i16, bits: &[bool], full: usize) -> Read<Vec<bool>> {
     for k in 0..full / 8 {
         if list.len().wrapping_add(8) <= full {
             let byte = if k % 2 == 0 { 0xec } else { 0x11 };
-            reader::push_bits(&mut list, &[byte], full)?;
+            spelling::push_bits(&mut list, &[byte], full)?;
         }
     }
     push_zeros(&mut list, 8, full)?;
@@ -181,7 +176,7 @@ fn check_ended(
     length: usize,
 ) {
     let version = Version::Micro(v);
-    let full = reader::capacity(alloc, version, ec_level).expect(rt, "a level");
+    let full = codewords::capacity(alloc, version, ec_level).expect(rt, "a level");
     let bits = pushed(rt, alloc, version, pushes);
     assert_eq!(rt; bits.len(), length);
     let bits = bits_of(alloc, &bits.into_bytes(), length).expect(rt, "memory");
@@ -195,7 +190,7 @@ fn check_ended(
 
 // Each length up to the greatest that pushes of digits can give is ended; how many lengths.
 fn check_lengths(rt: &impl Abort, alloc: Global, v: i16, ec_level: EcLevel) -> u32 {
-    let full = reader::capacity(alloc, Version::Micro(v), ec_level).expect(rt, "a level");
+    let full = codewords::capacity(alloc, Version::Micro(v), ec_level).expect(rt, "a level");
     let lists = pushes_by_length(alloc, v, full).expect(rt, "memory");
     let mut reached = 0u32;
     for (length, pushes) in lists.iter().enumerate() {

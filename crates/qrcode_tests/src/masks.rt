@@ -1,21 +1,22 @@
 //! The mask of a symbol is the first one of least penalty, by a count of the modules.
 
-use crate::penalty::{self, Penalty, TERMS, Term};
-use crate::reader::{self, Read, Reading, Unreadable};
-use crate::square::{self, Place, Square};
 use crate::symbols;
 use qrcode::{EcLevel, QrCode, Version};
+use qrcode_judge::penalty::{self, Penalty, TERMS, Term};
+use qrcode_judge::reading::{self, Read, Reading, Unreadable};
+use qrcode_judge::square::{self, Place, Square};
+use qrcode_judge::{codewords, format, spelling};
 use std::alloc::Global;
 use std::process::Abort;
 
 // A symbol is read, and its mask is the first one of least penalty; the penalties under all masks.
 fn check_mask(rt: &impl Abort, alloc: Global, code: &QrCode) -> (Reading, Vec<Penalty>) {
-    let square = Square::of(alloc, code).expect(rt, "memory");
+    let square = symbols::square_of(alloc, code).expect(rt, "memory");
     let places = square.places(alloc).expect(rt, "memory");
-    let reading = reader::read(alloc, &square, &places).expect(rt, "a reading");
+    let reading = reading::read(alloc, &square, &places).expect(rt, "a reading");
     let penalties = penalty::penalties(alloc, &square, &places, &reading).expect(rt, "memory");
     let first = penalty::first_least(&penalties, None);
-    assert_eq!(rt; reader::mask_of(reading.version, first), reading.mask);
+    assert_eq!(rt; format::mask_of(reading.version, first), reading.mask);
     (reading, penalties)
 }
 
@@ -47,11 +48,11 @@ fn each_term_decides_some_masks_of_normal(rt: HostRuntime) {
         (b"GOQLANIS 6", Version::Normal(1), EcLevel::L, Term::Blocks),
         (b"GOQLANIS 2", Version::Normal(7), EcLevel::L, Term::Blocks),
         (b"GOQLANIS 1", Version::Normal(12), EcLevel::H, Term::Blocks),
-        (b"GOQLANIS 2", Version::Normal(1), EcLevel::L, Term::Forms),
-        (b"GOQLANIS 0", Version::Normal(2), EcLevel::Q, Term::Forms),
-        (b"GOQLANIS 0", Version::Normal(12), EcLevel::H, Term::Forms),
-        (b"GOQLANIS 55", Version::Normal(1), EcLevel::L, Term::Share),
-        (b"GOQLANIS 52", Version::Normal(1), EcLevel::M, Term::Share),
+        (b"GOQLANIS 2", Version::Normal(1), EcLevel::L, Term::FinderLike),
+        (b"GOQLANIS 0", Version::Normal(2), EcLevel::Q, Term::FinderLike),
+        (b"GOQLANIS 0", Version::Normal(12), EcLevel::H, Term::FinderLike),
+        (b"GOQLANIS 55", Version::Normal(1), EcLevel::L, Term::Balance),
+        (b"GOQLANIS 52", Version::Normal(1), EcLevel::M, Term::Balance),
     ]);
 }
 
@@ -92,9 +93,9 @@ fn light_bits(alloc: Global, version: Version, mask: usize, noisy: usize) -> Rea
     let ec_level = EcLevel::L;
     let width = square::width_of(version);
     let places = square::data_places(alloc, version, width)?;
-    let words = reader::codeword_places(alloc, version, ec_level, &places)?;
+    let words = codewords::codeword_places(alloc, version, ec_level, &places)?;
     let blocks = square::blocks_of(alloc, version, ec_level)?;
-    let numbers = reader::block_words(alloc, &blocks)?;
+    let numbers = codewords::block_words(alloc, &blocks)?;
     let mut bits = Vec::new(alloc);
     for (block, length) in numbers.iter().zip(&blocks.lengths) {
         for number in block.iter().take(*length) {
@@ -103,7 +104,7 @@ fn light_bits(alloc: Global, version: Version, mask: usize, noisy: usize) -> Rea
                 bits.push(if is_noisy {
                     noise(*place)
                 } else {
-                    reader::turns(mask, *place)
+                    format::turns(mask, *place)
                 })?;
             }
         }
@@ -117,7 +118,7 @@ fn bytes_behind_header(alloc: Global, bits: &[bool]) -> Read<Vec<u8>> {
     for i in 0..bits.len().saturating_sub(24) / 8 {
         let begin = i.wrapping_mul(8).wrapping_add(20);
         let bits = bits.get(begin..begin.wrapping_add(8)).ok_or(Unreadable)?;
-        bytes.push(reader::byte_of(bits))?;
+        bytes.push(spelling::byte_of(bits))?;
     }
     Ok(bytes)
 }

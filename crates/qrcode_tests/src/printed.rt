@@ -1,8 +1,9 @@
 //! Printed symbols of the digits `01234567`: they are read, and drawn.
 
-use crate::square::Square;
-use crate::{reader, symbols};
+use crate::symbols;
 use qrcode::{EcLevel, QrCode, Version};
+use qrcode_judge::reading;
+use qrcode_judge::square::Square;
 use std::alloc::Global;
 use std::process::Abort;
 
@@ -50,7 +51,7 @@ static DIGITS_MICRO: [&str; 13] = [
 fn check_reading(rt: &impl Abort, alloc: Global, rows: &[&str]) {
     let square = Square::drawn(alloc, rows).expect(rt, "memory");
     let places = square.places(alloc).expect(rt, "memory");
-    let reading = reader::read(alloc, &square, &places).expect(rt, "a symbol");
+    let reading = reading::read(alloc, &square, &places).expect(rt, "a symbol");
     symbols::check_bytes(rt, &reading.bytes, b"01234567");
     assert_eq!(rt; reading.wrong, 0);
 }

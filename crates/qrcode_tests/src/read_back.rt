@@ -1,13 +1,14 @@
 //! Symbols are read back.
 
 use crate::damage::turn_format_bits;
-use crate::reader::{self, Read, Unreadable};
-use crate::square::{self, Place, Square};
 use crate::symbols;
 use qrcode::render::image::Luma;
 use qrcode::render::string::Str;
 use qrcode::types::QrError;
 use qrcode::{EcLevel, QrCode, Version};
+use qrcode_judge::reading::{self, Read, Unreadable};
+use qrcode_judge::square::{self, Place, Square};
+use qrcode_judge::{codewords, format};
 use std::alloc::Global;
 use std::process::Abort;
 
@@ -38,7 +39,7 @@ fn check_digits(
     digits: &[u8],
 ) -> Square {
     let code = QrCode::with_version(alloc, digits, version, ec_level).expect(rt, "a symbol");
-    let square = Square::of(alloc, &code).expect(rt, "memory");
+    let square = symbols::square_of(alloc, &code).expect(rt, "memory");
     check_pictures(rt, alloc, &code, &square);
     check_reading(rt, alloc, &square, places, ec_level, digits, 0);
     square
@@ -67,14 +68,14 @@ fn check_reading(
     data: &[u8],
     wrong: usize,
 ) {
-    let reading = reader::read(alloc, square, places).expect(rt, "a reading");
+    let reading = reading::read(alloc, square, places).expect(rt, "a reading");
     symbols::check_bytes(rt, &reading.bytes, data);
     assert!(rt; reading.ec_level == ec_level);
     assert_eq!(rt; reading.wrong, wrong);
-    let word = reader::word_of(square.version(), ec_level, reading.mask).expect(rt, "a word");
+    let word = format::word_of(square.version(), ec_level, reading.mask).expect(rt, "a word");
     for copy in 0..square.format_copies() {
         let expected = if wrong == 0 { 0 } else { 3 };
-        assert_eq!(rt; reader::wrong_bits(square, copy, word), expected);
+        assert_eq!(rt; format::wrong_bits(square, copy, word), expected);
     }
 }
 
@@ -84,9 +85,9 @@ fn damage(alloc: Global, square: &mut Square, places: &[Place], ec_level: EcLeve
     turn_format_bits(square, &[4, 7, 10]);
     let version = square.version();
     let blocks = square::blocks_of(alloc, version, ec_level)?;
-    let places = reader::codeword_places(alloc, version, ec_level, places)?;
+    let places = codewords::codeword_places(alloc, version, ec_level, places)?;
     let mut wrong = 0usize;
-    for numbers in &reader::block_words(alloc, &blocks)? {
+    for numbers in &codewords::block_words(alloc, &blocks)? {
         wrong = wrong.wrapping_add(damage_block(square, &places, numbers, blocks.ec_length / 2)?);
     }
     Ok(wrong)
@@ -136,7 +137,7 @@ fn check_version(rt: &impl Abort, alloc: Global, version: Version) -> u32 {
     let places = square::data_places(alloc, version, width).expect(rt, "memory");
     let mut levels = 0u32;
     for ec_level in &[EcLevel::L, EcLevel::M, EcLevel::Q, EcLevel::H] {
-        if let Ok(room) = reader::capacity(alloc, version, *ec_level) {
+        if let Ok(room) = codewords::capacity(alloc, version, *ec_level) {
             check_level(rt, alloc, version, *ec_level, &places, room);
             levels = levels.wrapping_add(1);
         } else {

@@ -1,12 +1,13 @@
 //! Calls of a symbol, each once with ample memory.
 
-use crate::reader::{self, Read};
 use crate::symbols;
 use qrcode::bits::Bits;
 use qrcode::render::image::{ImageBuffer, Luma, Rgb};
 use qrcode::render::{svg, unicode};
 use qrcode::types::{QrError, QrResult};
 use qrcode::{Color, EcLevel, QrCode, Version};
+use qrcode_judge::reading::Read;
+use qrcode_judge::spelling;
 use std::alloc::Global;
 use std::process::Abort;
 
@@ -118,7 +119,7 @@ fn symbols_hold_so_many_bytes_and_no_more(rt: HostRuntime) {
 fn bytes_of(alloc: Global, bits: &[bool]) -> Read<Vec<u8>> {
     let mut bytes = Vec::new(alloc);
     for bits in bits.chunks(8) {
-        bytes.push(reader::byte_of(bits))?;
+        bytes.push(spelling::byte_of(bits))?;
     }
     Ok(bytes)
 }

@@ -1,12 +1,12 @@
 //! What tests do with symbols: they end bits, read and draw, and compare what they find.
 
-use crate::reader::{self, Reading};
-use crate::square::Square;
 use qrcode::bits::Bits;
 use qrcode::render::Pixel;
 use qrcode::render::image::ImageBuffer;
 use qrcode::types::QrResult;
 use qrcode::{EcLevel, QrCode, Version};
+use qrcode_judge::reading::{self, Read, Reading};
+use qrcode_judge::square::Square;
 use std::alloc::Global;
 use std::process::Abort;
 
@@ -22,11 +22,16 @@ pub fn of_ended_bits(alloc: Global, mut bits: Bits, ec_level: EcLevel) -> QrResu
     QrCode::with_bits(alloc, bits, ec_level)
 }
 
+/// The square that a symbol shows.
+pub fn square_of(alloc: Global, code: &QrCode) -> Read<Square> {
+    Square::of(alloc, code.width(), &code.to_colors(alloc)?)
+}
+
 /// What a symbol is read as.
 pub fn read(rt: &impl Abort, alloc: Global, code: &QrCode) -> Reading {
-    let square = Square::of(alloc, code).expect(rt, "memory");
+    let square = square_of(alloc, code).expect(rt, "memory");
     let places = square.places(alloc).expect(rt, "memory");
-    reader::read(alloc, &square, &places).expect(rt, "a reading")
+    reading::read(alloc, &square, &places).expect(rt, "a reading")
 }
 
 /// The picture of a symbol in pixels of a type, as it is drawn unless said otherwise.
