@@ -4,7 +4,7 @@ use Rattle.std.proofs.Math.Arith.{bin_ind}
 use Rattle.std.proofs.lemmas.Nat.Bits.{bit_at_lowest, bit_at-suc, bit_at_above}
 use Rattle.std.specs.Int.{bit_at}
 use Rattle.std.specs.Int.Bits.{bit_xor, xor_comm, xor_self, xor_zero_r}
-use Rattle.qrcode_types.specs.Bits.{xor_sum, carryless}
+use Rattle.qrcode_types.specs.Polynomials.{xor_sum, carryless}
 use Rattle.qrcode_ec.proofs.Xor.{xor_four, xor_twice, xor_half, xor_odd, xor_split, xor_sum_same, xor_sum_map, xor_sum_more}
 
 lt_pow : (n : ℕ) → n < 2 ^ n

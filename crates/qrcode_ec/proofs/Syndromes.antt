@@ -3,7 +3,7 @@ use Rattle.std.proofs.Common.{◌≡◌, ℕ, zero, suc, ◌+◌, ◌-◌, ◌*�
 use Rattle.std.proofs.Math.Seq.{take-append-add}
 use Rattle.std.proofs.lemmas.List.{get_or-drop, get_or-append_right, take-append-drop}
 use Rattle.std.specs.Int.Bits.{bit_xor, xor_assoc, xor_zero_r, xor_lt}
-use Rattle.qrcode_types.specs.Bits.{xor_sum}
+use Rattle.qrcode_types.specs.Polynomials.{xor_sum}
 use Rattle.qrcode_ec.specs.Field.{product, power}
 use Rattle.qrcode_ec.specs.Codes.{syndrome, Vanishes}
 use Rattle.qrcode_ec.proofs.Xor.{xor_sum_same, xor_sum_none, xor_sum_xor, xor_sum_map}

@@ -1,7 +1,7 @@
 -- Laws of `xor` on numbers, and of `xor_sum`.
 use Rattle.std.proofs.Common.{◌≡◌, ℕ, zero, suc, ◌+◌, ◌*◌, ◌/◌, ◌%◌, ◌^◌, ◌<◌, ◌≤◌, refl, sym, ap, ap₂, ◌∙◌, arith}
 use Rattle.std.specs.Int.Bits.{bit_xor, xor_comm, xor_assoc, xor_self, xor_zero_r, xor_block, xor_shr, xor_mod}
-use Rattle.qrcode_types.specs.Bits.{xor_sum}
+use Rattle.qrcode_types.specs.Polynomials.{xor_sum}
 
 pub xor_swap : (a b c : ℕ) → bit_xor a (bit_xor b c) ≡ bit_xor b (bit_xor a c)
 xor_swap a b c = sym (xor_assoc a b c) ∙ ap (λ x. bit_xor x c) (xor_comm a b) ∙ xor_assoc b a c

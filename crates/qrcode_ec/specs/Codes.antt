@@ -1,6 +1,7 @@
 -- Lists of bytes as polynomials, which vanish at powers of 2.
 use Rattle.std.specs.Prelude.{◌≡◌, ℕ, ◌+◌, ◌-◌, ◌*◌, ◌/◌, ◌<◌, ◌≤◌, ◌==◌, List, [], ◌∷◌, length, slice_index, if◌then◌else◌}
-use Rattle.qrcode_types.specs.Bits.{AreBytes, xor_sum}
+use Rattle.qrcode_types.specs.Bits.{AreBytes}
+use Rattle.qrcode_types.specs.Polynomials.{xor_sum}
 use Rattle.qrcode_ec.specs.Field.{product, power}
 
 -- the value of a polynomial at the i-th power of 2, its first coefficient being that of the highest power

@@ -2,11 +2,11 @@
 use Rattle.std.proofs.Common.{◌≡◌, ℕ, ℤ, ◌+◌, ◌-◌, ◌<◌, ◌≤◌, ◌==◌, true, get_or, refl, ap, ◌∙◌, arith, IsTrue}
 use Rattle.std.specs.Prelude.{bit_xor}
 use Rattle.std.proofs.lemmas.Bool.{eqb-true}
-use Rattle.qrcode_types.specs.Bits.{carryless, xor_sum}
+use Rattle.qrcode_types.specs.Polynomials.{remainder_from, remainder}
 use Rattle.qrcode_types.specs.declared.types.Version.{Version}
 use Rattle.qrcode_types.specs.declared.types.Version.TheVariants.{Normal, Micro}
 use Rattle.qrcode_types.specs.declared.types.EcLevel.{EcLevel}
-use Rattle.qrcode_places.specs.Words.{multiple_with_top, version_word, format_bits, format_word}
+use Rattle.qrcode_places.specs.Words.{with_check_bits, version_word, format_bits, format_word}
 use Rattle.qrcode_places.specs.declared.masks.MaskPattern.{MaskPattern}
 use Rattle.qrcode_places.specs.declared.words.TheConstants.{NORMAL_WORDS, MICRO_WORDS, VERSION_WORDS}
 use Rattle.qrcode_types.specs.Versions.{has_level}
@@ -16,18 +16,18 @@ use Rattle.qrcode_places.proofs.Below.{passes_below, below}
 
 -- the format word of five bits
 unfoldable pub word : ℕ → ℕ → ℕ
-word mask i = bit_xor (multiple_with_top 0x537 5 10 i) mask
+word mask i = bit_xor (with_check_bits 0x537 10 i) mask
 
 normal_words : passes_below (λ i. get_or NORMAL_WORDS i 0 == word 0x5412 i) 32 ≡ true
-unfolding word multiple_with_top carryless xor_sum
+unfolding word with_check_bits remainder remainder_from
 normal_words = refl
 
 micro_words : passes_below (λ i. get_or MICRO_WORDS i 0 == word 0x4445 i) 32 ≡ true
-unfolding word multiple_with_top carryless xor_sum
+unfolding word with_check_bits remainder remainder_from
 micro_words = refl
 
 version_words : passes_below (λ i. get_or VERSION_WORDS i 0 == version_word (i + 7)) 34 ≡ true
-unfolding version_word multiple_with_top carryless xor_sum
+unfolding version_word with_check_bits remainder remainder_from
 version_words = refl
 
 pub normal_at : (i : ℕ) → i < 32 → get_or NORMAL_WORDS i 0 ≡ word 0x5412 i

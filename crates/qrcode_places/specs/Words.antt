@@ -1,7 +1,7 @@
 -- The format and version words.
-use Rattle.std.specs.Prelude.{◌≡◌, ◌≢◌, ℕ, ◌+◌, ◌-◌, ◌*◌, ◌/◌, ◌^◌, ◌<◌, ◌≤◌, ◌==◌, map, find, unwrap_or, bit_xor, nat_abs, IsTrue}
-use Rattle.std.specs.List.{range_with_len}
-use Rattle.qrcode_types.specs.Bits.{carryless, number_bits, bit_distance}
+use Rattle.std.specs.Prelude.{◌≡◌, ◌≢◌, ℕ, ◌+◌, ◌-◌, ◌*◌, ◌^◌, ◌<◌, ◌≤◌, bit_xor, nat_abs, IsTrue}
+use Rattle.qrcode_types.specs.Bits.{number_bits, bit_distance}
+use Rattle.qrcode_types.specs.Polynomials.{remainder}
 use Rattle.qrcode_types.specs.Versions.{is_micro, has_level, level_number}
 use Rattle.qrcode_types.specs.declared.types.Version.{Version}
 use Rattle.qrcode_types.specs.declared.types.Version.TheVariants.{Normal, Micro}
@@ -10,10 +10,9 @@ use Rattle.qrcode_types.specs.declared.types.EcLevel.TheVariants.{L, M, Q, H}
 use Rattle.qrcode_places.specs.Masks.{mask_number, micro_mask_number, exists_in}
 use Rattle.qrcode_places.specs.declared.masks.MaskPattern.{MaskPattern}
 
--- the carryless multiple of a divisor that has `top` in its `count` highest bits, above `check` others
-unfoldable pub multiple_with_top : ℕ → ℕ → ℕ → ℕ → ℕ
-multiple_with_top divisor count check top =
-    unwrap_or (find (λ word. word / 2 ^ check == top) (map (carryless divisor) (range_with_len 0 (2 ^ count)))) 0
+-- A message with `count` check bits behind it, by a divisor of that degree: the remainder of the message times x^count.
+unfoldable pub with_check_bits : ℕ → ℕ → ℕ → ℕ
+with_check_bits divisor count message = message * 2 ^ count + remainder divisor (message * 2 ^ count)
 
 -- the two bits of a level in Normal
 abbrev pub level_bits : EcLevel → ℕ
@@ -33,13 +32,13 @@ abbrev pub format_mask : Version → ℕ
 format_mask (Normal v) = 0x5412
 format_mask (Micro v) = 0x4445
 
--- the fifteen bits that name level and mask
+-- the fifteen bits that name level and mask; the divisor is x^10 + x^8 + x^5 + x^4 + x^2 + x + 1
 unfoldable pub format_word : Version → EcLevel → MaskPattern → ℕ
-format_word v l k = bit_xor (multiple_with_top 0x537 5 10 (format_bits v l k)) (format_mask v)
+format_word v l k = bit_xor (with_check_bits 0x537 10 (format_bits v l k)) (format_mask v)
 
--- the eighteen bits that name a version, from Normal 7 on
+-- the eighteen bits that name a version, from Normal 7 on; the divisor is x^12 + x^11 + x^10 + x^9 + x^8 + x^5 + x^2 + 1
 unfoldable pub version_word : ℕ → ℕ
-version_word v = multiple_with_top 0x1f25 6 12 v
+version_word v = with_check_bits 0x1f25 12 v
 
 -- two version words differ in at least eight bits
 abbrev pub VersionWordsAreApart : Type 0

@@ -1,5 +1,5 @@
--- Numbers as bits, the highest bit first; bytes; products without carries.
-use Rattle.std.specs.Prelude.{ℕ, zero, suc, ◌+◌, ◌*◌, ◌/◌, ◌^◌, ◌<◌, ◌==◌, Bool, true, false, List, [], ◌∷◌, length, map, fold, flat_map, slice_index_or, bit_xor, if◌then◌else◌}
+-- Numbers as bits, the highest bit first, and bytes.
+use Rattle.std.specs.Prelude.{ℕ, zero, suc, ◌+◌, ◌*◌, ◌/◌, ◌<◌, ◌==◌, Bool, true, false, List, [], ◌∷◌, length, map, fold, flat_map, slice_index_or, if◌then◌else◌}
 use Rattle.std.specs.Int.{bit_at}
 use Rattle.std.specs.List.{range_with_len, AllByRecursion}
 
@@ -38,13 +38,3 @@ bit_distance [] cs = 0
 bit_distance (b ∷ bs) [] = 0
 bit_distance (true ∷ bs) (c ∷ cs) = (if c then 0 else 1) + bit_distance bs cs
 bit_distance (false ∷ bs) (c ∷ cs) = (if c then 1 else 0) + bit_distance bs cs
-
--- f 0 xor f 1 xor .. xor f (n - 1)
-unfoldable pub xor_sum : ℕ → (ℕ → ℕ) → ℕ
-xor_sum zero f = 0
-xor_sum (suc n) f = bit_xor (f 0) (xor_sum n (λ i. f (suc i)))
-
--- The product of two polynomials over two elements, whose coefficients are the bits of a and b: the multiples of a by
--- the powers of two at which b has a one, combined by exclusive or. A number b has at most b bits.
-unfoldable pub carryless : ℕ → ℕ → ℕ
-carryless a b = xor_sum b (λ i. bit_at b i * (a * 2 ^ i))

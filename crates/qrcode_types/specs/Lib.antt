@@ -6,5 +6,6 @@ pub mod Errors
 pub mod Fetching
 pub mod ModeLaws
 pub mod Modes
+pub mod Polynomials
 pub mod Tables
 pub mod Versions

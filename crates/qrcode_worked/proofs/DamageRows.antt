@@ -1,14 +1,15 @@
 -- A damaged square is read as the same bits, and one with too much damage is none.
 use Rattle.std.proofs.Common.{pos, [], ◌∷◌, ◌≤◌, refl, lit≤, arith}
-use Rattle.qrcode_types.specs.Bits.{number_bits, number_of, byte_at, bytes_of, carryless, xor_sum}
+use Rattle.qrcode_types.specs.Bits.{number_bits, number_of, byte_at, bytes_of}
+use Rattle.qrcode_types.specs.Polynomials.{carryless, xor_sum, remainder_from, remainder}
 use Rattle.qrcode_types.specs.Tables.{block_table}
 use Rattle.qrcode_types.specs.Versions.{blocks_entry, block_lengths, data_length, capacity, total_ec_length}
 use Rattle.qrcode_types.specs.declared.types.Version.TheVariants.{Normal}
 use Rattle.qrcode_types.specs.declared.types.EcLevel.TheVariants.{M}
-use Rattle.qrcode_ec.specs.Field.{times_x, remainder_from, remainder, product, power}
+use Rattle.qrcode_ec.specs.Field.{product, power}
 use Rattle.qrcode_ec.specs.Codes.{syndrome}
 use Rattle.qrcode_ec.specs.Blocks.{codewords, interleaved_place, block, blocks, data_bytes, data_bits}
-use Rattle.qrcode_places.specs.Words.{multiple_with_top, format_word}
+use Rattle.qrcode_places.specs.Words.{with_check_bits, format_word}
 use Rattle.qrcode_places.specs.Patterns.{finder, centres, alignment, timing, dark_module, version_pattern, pattern, format_copies, format_index, is_functional_place}
 use Rattle.qrcode_places.specs.Stream.{zigzag_place, zigzag, free_places, stream}
 use Rattle.qrcode_places.specs.declared.masks.MaskPattern.TheVariants.{VerticalLines}
@@ -20,15 +21,15 @@ use Rattle.qrcode_worked.specs.Squares.{normal_square, damaged_square, too_damag
 use Rattle.qrcode_worked.proofs.CodeRows.{normal_bytes, normal_vanishes}
 
 pub damaged : IsDamaged (Normal (pos 1)) M VerticalLines normal_square damaged_square
-unfolding number_bits number_of byte_at bytes_of carryless xor_sum block_table blocks_entry block_lengths data_length capacity total_ec_length times_x remainder_from remainder product power syndrome codewords interleaved_place block blocks data_bytes data_bits multiple_with_top format_word finder centres alignment timing dark_module version_pattern pattern format_copies format_index is_functional_place zigzag_place zigzag free_places stream padding zeros_end ending terminated
+unfolding number_bits number_of byte_at bytes_of carryless xor_sum block_table blocks_entry block_lengths data_length capacity total_ec_length remainder_from remainder product power syndrome codewords interleaved_place block blocks data_bytes data_bits with_check_bits format_word finder centres alignment timing dark_module version_pattern pattern format_copies format_index is_functional_place zigzag_place zigzag free_places stream padding zeros_end ending terminated
 damaged = record { square = refl; format = (lit≤ tt, (lit≤ tt, tt)); blocks = (lit≤ tt, tt) }
 
 pub too_damaged : ¬ IsDamaged (Normal (pos 1)) M VerticalLines normal_square too_damaged_square
-unfolding number_bits number_of byte_at bytes_of carryless xor_sum block_table blocks_entry block_lengths data_length capacity total_ec_length times_x remainder_from remainder product power syndrome codewords interleaved_place block blocks data_bytes data_bits multiple_with_top format_word finder centres alignment timing dark_module version_pattern pattern format_copies format_index is_functional_place zigzag_place zigzag free_places stream padding zeros_end ending terminated
+unfolding number_bits number_of byte_at bytes_of carryless xor_sum block_table blocks_entry block_lengths data_length capacity total_ec_length remainder_from remainder product power syndrome codewords interleaved_place block blocks data_bytes data_bits with_check_bits format_word finder centres alignment timing dark_module version_pattern pattern format_copies format_index is_functional_place zigzag_place zigzag free_places stream padding zeros_end ending terminated
 too_damaged = λ h. let more : 6 ≤ 5 = h.blocks.0 in absurd (omega (arith, more))
 
 pub read : ReadsBits damaged_square (Normal (pos 1)) M normal_bits
-unfolding number_bits number_of byte_at bytes_of carryless xor_sum block_table blocks_entry block_lengths data_length capacity total_ec_length times_x remainder_from remainder product power syndrome codewords interleaved_place block blocks data_bytes data_bits multiple_with_top format_word finder centres alignment timing dark_module version_pattern pattern format_copies format_index is_functional_place zigzag_place zigzag free_places stream padding zeros_end ending terminated
+unfolding number_bits number_of byte_at bytes_of carryless xor_sum block_table blocks_entry block_lengths data_length capacity total_ec_length remainder_from remainder product power syndrome codewords interleaved_place block blocks data_bytes data_bits with_check_bits format_word finder centres alignment timing dark_module version_pattern pattern format_copies format_index is_functional_place zigzag_place zigzag free_places stream padding zeros_end ending terminated
 read = record {
   exists = refl;
   square = refl;
