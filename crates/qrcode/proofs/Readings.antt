@@ -1,7 +1,6 @@
 -- A damaged symbol is read as its bits, and in no other way.
-use Rattle.std.proofs.Common.{◌≡◌, ℕ, zero, suc, ◌/◌, ◌≤◌, Bool, List, [], ◌∷◌, length, map, refl, sym, ap, ap₂, ◌∙◌, arith, subst, IsTrue, inl, inr}
+use Rattle.std.proofs.Common.{◌≡◌, ℕ, zero, suc, ◌/◌, ◌≤◌, Bool, List, [], ◌∷◌, length, map, refl, sym, ap, ap₂, ◌∙◌, arith, subst, IsTrue}
 use Rattle.std.specs.List.{AllByRecursion, AllZip, range_with_len}
-use Rattle.std.proofs.lemmas.Bool.{cases_eq}
 use Rattle.std.proofs.lemmas.List.{length-map}
 use Rattle.std.proofs.lemmas.List.FromFn.{length-map-range_with_len}
 use Rattle.qrcode_types.specs.Bits.{AreBytes, number_bits, bit_distance}
@@ -13,7 +12,7 @@ use Rattle.qrcode_types.specs.declared.types.Color.{Color}
 use Rattle.qrcode_ec.specs.Codes.{Corrects, Vanishes, IsOnlyWithin, distance}
 use Rattle.qrcode_ec.specs.Blocks.{codewords, data_bits}
 use Rattle.qrcode_places.specs.Masks.{exists_in}
-use Rattle.qrcode_places.specs.Words.{format_word, FormatWordsAreApart, FormatWordsTell}
+use Rattle.qrcode_places.specs.Words.{format_word, FormatWordsAreApart}
 use Rattle.qrcode_places.specs.Patterns.{format_copies, first_format_place, micro_format_place}
 use Rattle.qrcode_places.specs.Stream.{stream}
 use Rattle.qrcode_places.specs.declared.masks.MaskPattern.{MaskPattern}
@@ -80,16 +79,14 @@ unfolding format_copies
 near_words (Normal v) s a b f g p q = near_through (Normal v) s (map first_format_place (range_with_len 0 15)) a b (length-map-range_with_len first_format_place 0 15) f g p.0 q.0
 near_words (Micro v) s a b f g p q = near_through (Micro v) s (map micro_format_place (range_with_len 0 15)) a b (length-map-range_with_len micro_format_place 0 15) f g p.0 q.0
 
-same_words : FormatWordsAreApart → FormatWordsTell → (s : List Color) (v : Version) (l m : EcLevel) (bits others : List Bool)
+same_words : FormatWordsAreApart → (s : List Color) (v : Version) (l m : EcLevel) (bits others : List Bool)
     → (p : ReadsBits s v l bits) (q : ReadsBits s v m others) → (m ≡ l) × (q.mask ≡ p.mask)
-same_words apart tell s v l m bits others p q =
-    let a = format_word v m q.mask in
-    let b = format_word v l p.mask in
-    let near = near_words v s (number_bits 15 a) (number_bits 15 b) (length-number_bits 15 a) (length-number_bits 15 b) q.format p.format in
-    elim (cases_eq a b) [
-      | inl same ↦ tell v m l q.mask p.mask q.exists p.exists q.mask_exists p.mask_exists same
-      | inr other ↦ absurd (omega (arith, near, apart v v m l q.mask p.mask refl q.exists p.exists q.mask_exists p.mask_exists other))
-    ]
+same_words apart s v l m bits others p q =
+    let a = number_bits 15 (format_word v m q.mask) in
+    let b = number_bits 15 (format_word v l p.mask) in
+    let near = near_words v s a b (length-number_bits 15 (format_word v m q.mask)) (length-number_bits 15 (format_word v l p.mask)) q.format p.format in
+    let same = apart v v m l q.mask p.mask refl q.exists p.exists q.mask_exists p.mask_exists (omega (arith, near)) in
+    (same.level, same.mask)
 
 same_block : (n : ℕ) (r c d : List ℕ) → IsOnlyWithin c n → Corrects r n c → Corrects r n d → d ≡ c
 same_block n r c d only p q =
@@ -114,20 +111,20 @@ same_side : (s : List Color) (v u : Version) (l m : EcLevel) (bits others : List
 same_side s v u l m bits others p q = same_version u v (valid_of u m q.exists) (valid_of v l p.exists) (same_root (side u) (side v) (sym q.square ∙ p.square))
 
 -- a reading whose corrected blocks are the only near ones is the only reading
-one_reading : FormatWordsAreApart → FormatWordsTell → (s : List Color) (v : Version) (l : EcLevel) (bits : List Bool)
+one_reading : FormatWordsAreApart → (s : List Color) (v : Version) (l : EcLevel) (bits : List Bool)
     → (p : ReadsBits s v l bits) → AllByRecursion (λ c. IsOnlyWithin c (ec_length v l)) p.corrected
     → (u : Version) (m : EcLevel) (others : List Bool) → ReadsBits s u m others → (u ≡ v) × (m ≡ l) × (others ≡ bits)
-one_reading apart tell s v l bits p only u m others q =
+one_reading apart s v l bits p only u m others q =
     let e = same_side s v u l m bits others p q in
     let r = subst (λ x. ReadsBits s x m others) e q in
-    let f = (same_words apart tell s v l m bits others p r).0 in
+    let f = (same_words apart s v l m bits others p r).0 in
     let t = subst (λ x. ReadsBits s v x others) f r in
-    (e, f, same_bits s v l bits others p only t (same_words apart tell s v l l bits others p t).1)
+    (e, f, same_bits s v l bits others p only t (same_words apart s v l l bits others p t).1)
 
 -- a damaged symbol is read as its bits, and in no other way
-pub reads_bits_only : FormatWordsAreApart → FormatWordsTell → (v : Version) (l : EcLevel) (bits : List Bool) (k : MaskPattern) (s : List Color) → IsTrue (has_level v l) → IsTrue (exists_in v k)
+pub reads_bits_only : FormatWordsAreApart → (v : Version) (l : EcLevel) (bits : List Bool) (k : MaskPattern) (s : List Color) → IsTrue (has_level v l) → IsTrue (exists_in v k)
     → AllByRecursion AreBytes (blocks_in v l k s) → AllByRecursion (λ b. IsOnlyWithin b (ec_length v l)) (blocks_in v l k s)
     → IsSymbol v l bits k s → (other : List Color) → IsDamaged v l k s other → ReadsBitsOnly other v l bits
-reads_bits_only apart tell v l bits k s p q are only symbol other damage =
+reads_bits_only apart v l bits k s p q are only symbol other damage =
     let found = damaged v l bits k s other p q are symbol damage in
-    record { found = found; only = one_reading apart tell other v l bits found only }
+    record { found = found; only = one_reading apart other v l bits found only }

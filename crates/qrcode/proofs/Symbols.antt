@@ -13,7 +13,7 @@ use Rattle.qrcode_types.specs.declared.types.Color.{Color}
 use Rattle.qrcode_ec.specs.Codes.{Vanishes, IsOnlyWithin}
 use Rattle.qrcode_ec.specs.Blocks.{blocks, data_bytes, data_bits}
 use Rattle.qrcode_places.specs.Masks.{exists_in}
-use Rattle.qrcode_places.specs.Words.{FormatWordsAreApart, FormatWordsTell}
+use Rattle.qrcode_places.specs.Words.{FormatWordsAreApart}
 use Rattle.qrcode_places.specs.declared.masks.MaskPattern.{MaskPattern}
 use Rattle.qrcode_symbol.specs.Symbol.{Carries, IsSymbol}
 use Rattle.qrcode_symbol.specs.Penalties.{IsFirstLeast}
@@ -49,10 +49,10 @@ is_symbol v l bits words k s are carries = record {
 }
 
 -- the symbol of bits under the first mask of least penalty
-pub encodes_bits : FormatWordsAreApart → FormatWordsTell → (v : Version) (l : EcLevel) (bits : List Bool) (words : List ℕ) (k : MaskPattern) (s : List Color)
+pub encodes_bits : FormatWordsAreApart → (v : Version) (l : EcLevel) (bits : List Bool) (words : List ℕ) (k : MaskPattern) (s : List Color)
     → IsTrue (has_level v l) → IsTrue (exists_in v k) → AreCodewords v l bits words → Carries v l words k s → IsFirstLeast v l k s
     → Encodes (λ other. ReadsBitsOnly other v l bits) v l bits s
-encodes_bits far tell v l bits words k s p q are carries least =
+encodes_bits far v l bits words k s p q are carries least =
     let symbol = is_symbol v l bits words k s are carries in
     let bytes = subst (λ w. AllByRecursion AreBytes (blocks v l w)) (sym carries.holds) (blocks-bytes v l words are.bytes) in
     let only = subst (λ w. AllByRecursion (λ b. IsOnlyWithin b (ec_length v l)) (blocks v l w)) (sym carries.holds) are.apart in
@@ -61,7 +61,7 @@ encodes_bits far tell v l bits words k s p q are carries least =
       mask_exists = q;
       symbol = symbol;
       first_least = least;
-      read = reads_bits_only far tell v l bits k s p q bytes only symbol;
+      read = reads_bits_only far v l bits k s p q bytes only symbol;
     }
 
 -- colours of which one list of bits is read spell what the bits spell
@@ -148,15 +148,15 @@ half_is_high v l bits rest raw half some len all is =
 pub encodes_drawn : (v : Version) (l : EcLevel) (bits : List Bool) (rest : ℕ) (raw words : List ℕ) (s : List Color) → IsTrue (has_level v l) → length bits ≡ capacity v l
     → bits_of raw ≡ bits ++ replicate rest false → AreBytes words → data_bytes v l (blocks v l words) ≡ raw
     → AllByRecursion (λ b. Vanishes b (ec_length v l)) (blocks v l words) → AllByRecursion (λ b. IsOnlyWithin b (ec_length v l)) (blocks v l words)
-    → FormatWordsAreApart → FormatWordsTell → IsBestDrawing v l words s → Encodes (λ other. ReadsBitsOnly other v l bits) v l bits s
-encodes_drawn v l bits rest raw words s exists len is bytes holds vanish apart far tell drawn =
+    → FormatWordsAreApart → IsBestDrawing v l words s → Encodes (λ other. ReadsBitsOnly other v l bits) v l bits s
+encodes_drawn v l bits rest raw words s exists len is bytes holds vanish apart far drawn =
     let are : AreCodewords v l bits words = record {
       bytes = bytes;
       holds = data_bits-from v l bits (replicate rest false) raw (blocks v l words) len is holds;
       vanish = vanish;
       apart = apart;
     } in
-    encodes_bits far tell v l bits words drawn.mask s exists drawn.mask_exists are drawn.carries drawn.first_least
+    encodes_bits far v l bits words drawn.mask s exists drawn.mask_exists are drawn.carries drawn.first_least
 
 -- bytes, joined
 pub joined_bytes : (a b : List ℕ) → AreBytes a → AreBytes b → AreBytes (a ++ b)

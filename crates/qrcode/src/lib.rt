@@ -10,7 +10,7 @@ ghost use Rattle.qrcode_types.specs.declared.types.Version.{Version};
 ghost use Rattle.qrcode_types.specs.declared.types.EcLevel.TheVariants.{M};
 ghost use Rattle.qrcode_ec.specs.Allowed.{reserved_codewords};
 ghost use Rattle.qrcode_places.specs.Patterns.{is_functional_place};
-ghost use Rattle.qrcode_places.specs.Words.{FormatWordsAreApart, FormatWordsTell};
+ghost use Rattle.qrcode_places.specs.Words.{FormatWordsAreApart};
 ghost use Rattle.qrcode_symbol.specs.Patterned.{IsDrawn};
 ghost use Rattle.qrcode_symbol.specs.Reading.{ReadsBitsOnly};
 ghost use Rattle.qrcode_bits.specs.Choice.{bands, IsChosen, NoneHolds};
@@ -360,7 +360,7 @@ fn draw_codewords(
     requires half { IsTrue (has_half_codeword version ec_level) → slice_index «data».now (length «data».now - 1) % 16 ≡ 0 }
     ensures memory { IsOkUnless result OutOfMemory }
     ensures drawn { IfOk result (λ colors. IsBestDrawing version ec_level («data».now ++ ec.now) colors.items) }
-    ensures words { IfOk result (λ _. FormatWordsAreApart × FormatWordsTell) }
+    ensures words { IfOk result (λ _. FormatWordsAreApart) }
 {
     let mut canvas = Canvas::new(alloc, version, ec_level)?;
     canvas.draw_all_functional_patterns();

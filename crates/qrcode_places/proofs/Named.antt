@@ -1,16 +1,16 @@
--- The number that names level and mask tells both.
-use Rattle.std.proofs.Common.{◌≡◌, ℕ, zero, suc, ◌+◌, ◌-◌, ◌*◌, ◌<◌, pos, negsuc, refl, sym, ap, ◌∙◌, arith, true≢false, false, true, IsTrue}
-use Rattle.std.proofs.lemmas.Bool.{and_parts}
-use Rattle.qrcode_types.specs.Versions.{level_number}
+-- The five bits of a format word tell what it names.
+use Rattle.std.proofs.Common.{◌≡◌, ℕ, zero, suc, ◌+◌, ◌-◌, ◌*◌, ◌<◌, pos, negsuc, refl, sym, ap, ◌∙◌, arith, IsTrue}
+use Rattle.qrcode_types.specs.Tables.{block_table}
+use Rattle.qrcode_types.specs.Versions.{is_micro, level_number, blocks_entry, has_level}
 use Rattle.qrcode_types.specs.declared.types.Version.{Version}
 use Rattle.qrcode_types.specs.declared.types.Version.TheVariants.{Normal, Micro}
 use Rattle.qrcode_types.specs.declared.types.EcLevel.{EcLevel}
 use Rattle.qrcode_types.specs.declared.types.EcLevel.TheVariants.{L, M, Q, H}
-use Rattle.qrcode_places.specs.Words.{level_bits, format_bits}
+use Rattle.qrcode_places.specs.Words.{level_bits, format_bits, NameTheSame}
 use Rattle.qrcode_places.specs.Masks.{mask_number, micro_mask_number, exists_in}
 use Rattle.qrcode_places.specs.declared.masks.MaskPattern.{MaskPattern}
 use Rattle.qrcode_places.specs.declared.masks.MaskPattern.TheVariants.{Checkerboard, HorizontalLines, VerticalLines, DiagonalLines, LargeCheckerboard, Fields, Diamonds, Meadow}
-use Rattle.qrcode_places.proofs.Formats.{mask_number-lt, micro_mask}
+use Rattle.qrcode_places.proofs.Formats.{mask_number-lt, micro_mask, valid_of, within}
 
 level_of_bits : ℕ → EcLevel
 level_of_bits zero = M
@@ -25,18 +25,37 @@ level_of_bits-is M = refl
 level_of_bits-is Q = refl
 level_of_bits-is H = refl
 
-level_of : ℕ → EcLevel
-level_of zero = L
-level_of (suc zero) = M
-level_of (suc (suc zero)) = Q
-level_of _ = H
+-- the version and the level of Micro with this number
+pair_of : ℕ → ℕ × EcLevel
+pair_of zero = (1, L)
+pair_of (suc zero) = (2, L)
+pair_of (suc (suc zero)) = (2, M)
+pair_of (suc (suc (suc zero))) = (3, L)
+pair_of (suc (suc (suc (suc zero)))) = (3, M)
+pair_of (suc (suc (suc (suc (suc zero))))) = (4, L)
+pair_of (suc (suc (suc (suc (suc (suc zero)))))) = (4, M)
+pair_of _ = (4, Q)
 
-level_of-is : (l : EcLevel) → level_of (level_number l) ≡ l
-unfolding level_of
-level_of-is L = refl
-level_of-is M = refl
-level_of-is Q = refl
-level_of-is H = refl
+pair_of-is : (n : ℕ) (l : EcLevel) → IsTrue (has_level (Micro (pos n)) l) → pair_of (2 * n - 3 + level_number l) ≡ (n, l)
+unfolding pair_of blocks_entry block_table
+pair_of-is zero l h = cc
+pair_of-is (suc zero) L h = refl
+pair_of-is (suc zero) M h = cc
+pair_of-is (suc zero) Q h = cc
+pair_of-is (suc zero) H h = cc
+pair_of-is (suc (suc zero)) L h = refl
+pair_of-is (suc (suc zero)) M h = refl
+pair_of-is (suc (suc zero)) Q h = cc
+pair_of-is (suc (suc zero)) H h = cc
+pair_of-is (suc (suc (suc zero))) L h = refl
+pair_of-is (suc (suc (suc zero))) M h = refl
+pair_of-is (suc (suc (suc zero))) Q h = cc
+pair_of-is (suc (suc (suc zero))) H h = cc
+pair_of-is (suc (suc (suc (suc zero)))) L h = refl
+pair_of-is (suc (suc (suc (suc zero)))) M h = refl
+pair_of-is (suc (suc (suc (suc zero)))) Q h = refl
+pair_of-is (suc (suc (suc (suc zero)))) H h = cc
+pair_of-is (suc (suc (suc (suc (suc n))))) l h = absurd (omega (arith, within (suc (suc (suc (suc (suc n))))) 4 (valid_of (Micro (pos (suc (suc (suc (suc (suc n))))))) l h)))
 
 mask_of : ℕ → MaskPattern
 mask_of zero = Checkerboard
@@ -76,19 +95,30 @@ micro_mask_of-is Fields h = absurd (omega arith)
 micro_mask_of-is Diamonds h = refl
 micro_mask_of-is Meadow h = refl
 
-parts : (a b c d : ℕ) → b < 8 → d < 8 → 8 * a + b ≡ 8 * c + d → (a ≡ c) × (b ≡ d)
-parts a b c d p q e = (omega arith, omega arith)
-
-micro_parts : (z a b c d : ℕ) → b < 4 → d < 4 → 4 * (z + a) + b ≡ 4 * (z + c) + d → (a ≡ c) × (b ≡ d)
-micro_parts z a b c d p q e = (omega arith, omega arith)
-
-pub same_names : (v : Version) (l m : EcLevel) (j k : MaskPattern) → IsTrue (exists_in v j) → IsTrue (exists_in v k) → format_bits v l j ≡ format_bits v m k → (l ≡ m) × (j ≡ k)
-same_names (Normal v) l m j k r s e =
-    let f = parts (level_bits l) (mask_number j) (level_bits m) (mask_number k) (mask_number-lt j) (mask_number-lt k) e in
-    (sym (level_of_bits-is l) ∙ ap level_of_bits f.0 ∙ level_of_bits-is m, sym (mask_of-is j) ∙ ap mask_of f.1 ∙ mask_of-is k)
-same_names (Micro (negsuc n)) l m j k r s e = absurd (true≢false (sym (and_parts false true r).0))
-same_names (Micro (pos n)) l m j k r s e =
-    let c = micro_mask n j r in
-    let d = micro_mask n k s in
-    let f = micro_parts (2 * n - 3) (level_number l) (micro_mask_number j) (level_number m) (micro_mask_number k) c d e in
-    (sym (level_of-is l) ∙ ap level_of f.0 ∙ level_of-is m, sym (micro_mask_of-is j c) ∙ ap micro_mask_of f.1 ∙ micro_mask_of-is k d)
+pub same_names : (u v : Version) (l m : EcLevel) (j k : MaskPattern) → is_micro u ≡ is_micro v → IsTrue (has_level u l) → IsTrue (has_level v m)
+    → IsTrue (exists_in u j) → IsTrue (exists_in v k) → format_bits u l j ≡ format_bits v m k → NameTheSame u v l m j k
+same_names (Normal u) (Normal v) l m j k same p q r s e =
+    let one = mask_number-lt j in
+    let two = mask_number-lt k in
+    let levels : level_bits l ≡ level_bits m = omega arith in
+    let masks : mask_number j ≡ mask_number k = omega arith in
+    record {
+      micro_version = λ is. absurd (cc);
+      level = sym (level_of_bits-is l) ∙ ap level_of_bits levels ∙ level_of_bits-is m;
+      mask = sym (mask_of-is j) ∙ ap mask_of masks ∙ mask_of-is k;
+    }
+same_names (Micro (pos n)) (Micro (pos o)) l m j k same p q r s e =
+    let one = micro_mask n j r in
+    let two = micro_mask o k s in
+    let pairs : 2 * n - 3 + level_number l ≡ 2 * o - 3 + level_number m = omega arith in
+    let masks : micro_mask_number j ≡ micro_mask_number k = omega arith in
+    let pair = sym (pair_of-is n l p) ∙ ap pair_of pairs ∙ pair_of-is o m q in
+    record {
+      micro_version = λ is. ap (λ t. Micro (pos t.0)) pair;
+      level = ap (λ t. t.1) pair;
+      mask = sym (micro_mask_of-is j one) ∙ ap micro_mask_of masks ∙ micro_mask_of-is k two;
+    }
+same_names (Micro (negsuc n)) v l m j k same p q r s e = absurd (cc)
+same_names (Micro (pos n)) (Micro (negsuc o)) l m j k same p q r s e = absurd (cc)
+same_names (Normal u) (Micro v) l m j k same p q r s e = absurd (cc)
+same_names (Micro (pos n)) (Normal v) l m j k same p q r s e = absurd (cc)

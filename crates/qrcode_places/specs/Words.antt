@@ -1,5 +1,5 @@
 -- The format and version words.
-use Rattle.std.specs.Prelude.{◌≡◌, ◌≢◌, ℕ, ◌+◌, ◌-◌, ◌*◌, ◌^◌, ◌<◌, ◌≤◌, bit_xor, nat_abs, IsTrue}
+use Rattle.std.specs.Prelude.{◌≡◌, ℕ, ◌+◌, ◌-◌, ◌*◌, ◌^◌, ◌<◌, ◌≤◌, bit_xor, nat_abs, IsTrue}
 use Rattle.qrcode_types.specs.Bits.{number_bits, bit_distance}
 use Rattle.qrcode_types.specs.Polynomials.{remainder}
 use Rattle.qrcode_types.specs.Versions.{is_micro, has_level, level_number}
@@ -44,15 +44,16 @@ version_word v = with_check_bits 0x1f25 12 v
 abbrev pub VersionWordsAreApart : Type 0
 VersionWordsAreApart = (a b : ℕ) → 7 ≤ a → a < b → b ≤ 40 → 8 ≤ bit_distance (number_bits 18 (version_word a)) (number_bits 18 (version_word b))
 
--- two format words of Normal, or two of Micro, are one or differ in at least seven bits
+-- two format words name the same level and mask, and those of Micro the same version
+pub record NameTheSame (u v : Version) (l m : EcLevel) (j k : MaskPattern) : Type 0 where
+  pub micro_version : IsTrue (is_micro u) → u ≡ v
+  pub level : l ≡ m
+  pub mask : j ≡ k
+
+-- Two format words of Normal, or two of Micro, that name another level, mask or version of Micro differ in at least seven
+-- bits: those that differ in fewer name the same.
 abbrev pub FormatWordsAreApart : Type 0
 FormatWordsAreApart =
     (u v : Version) (l m : EcLevel) (j k : MaskPattern) → is_micro u ≡ is_micro v → IsTrue (has_level u l) → IsTrue (has_level v m)
-    → IsTrue (exists_in u j) → IsTrue (exists_in v k) → format_word u l j ≢ format_word v m k
-    → 7 ≤ bit_distance (number_bits 15 (format_word u l j)) (number_bits 15 (format_word v m k))
-
--- in one version the format word tells level and mask
-abbrev pub FormatWordsTell : Type 0
-FormatWordsTell =
-    (v : Version) (l m : EcLevel) (j k : MaskPattern) → IsTrue (has_level v l) → IsTrue (has_level v m)
-    → IsTrue (exists_in v j) → IsTrue (exists_in v k) → format_word v l j ≡ format_word v m k → (l ≡ m) × (j ≡ k)
+    → IsTrue (exists_in u j) → IsTrue (exists_in v k)
+    → bit_distance (number_bits 15 (format_word u l j)) (number_bits 15 (format_word v m k)) < 7 → NameTheSame u v l m j k

@@ -1,14 +1,13 @@
 //! Laws of the words and places, each on the contract of a function that does nothing.
 
-ghost use Rattle.qrcode_places.specs.Words.{VersionWordsAreApart, FormatWordsAreApart, FormatWordsTell};
+ghost use Rattle.qrcode_places.specs.Words.{VersionWordsAreApart, FormatWordsAreApart};
 ghost use Rattle.qrcode_places.specs.Stream.{FreePlacesAreFilled};
 ghost use Rattle.qrcode_places.specs.Laws.{FormatCopiesAreIndexed, FormatPlacesAreInCopies, FormatPlacesAreNoPatterns, DarkModuleIsInThePattern, WalkIsInside, WalkIsApart, WalkIsWhole, LeftOutIsFunctional, FreePlacesAreApart, FreePlacesAreWhole};
 
-/// Words are far from one another, and the format word tells level and mask.
+/// Words that name different things are far from one another.
 pub fn words()
     ensures versions { VersionWordsAreApart }
     ensures formats { FormatWordsAreApart }
-    ensures tell { FormatWordsTell }
 {}
 
 /// The walk goes to each place but those of one column, whose places are all functional, and to no

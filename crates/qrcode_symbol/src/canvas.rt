@@ -6,7 +6,7 @@ ghost use Rattle.qrcode_types.specs.Versions.{is_valid, has_level, side};
 ghost use Rattle.qrcode_places.specs.Masks.{exists_in};
 ghost use Rattle.qrcode_places.specs.Patterns.{is_functional_place};
 ghost use Rattle.qrcode_places.specs.Stream.{FreePlacesAreFilled};
-ghost use Rattle.qrcode_places.specs.Words.{VersionWordsAreApart, FormatWordsAreApart, FormatWordsTell};
+ghost use Rattle.qrcode_places.specs.Words.{VersionWordsAreApart, FormatWordsAreApart};
 ghost use Rattle.qrcode_types.specs.Colors.{is_dark};
 ghost use Rattle.qrcode_types.specs.declared.types.QrError.TheVariants.{OutOfMemory};
 ghost use Rattle.qrcode_symbol.specs.Canvas.{wrapped, module_index, blank, color_of_module, colors_of, masked_module, drawn_bits, with_bits_drawn, with_patterns, with_mask};
@@ -252,9 +252,8 @@ impl Canvas {
           modules = with_mask self.old.version self.old.level mask self.old.modules;
         } }
 
-        // The format words are far from one another, and tell level and mask.
+        // The format words are far from one another.
         ensures words_apart { FormatWordsAreApart }
-        ensures words_tell { FormatWordsTell }
     {
         laws::words();
         mask_modules(self.version, self.ec_level, mask, &mut self.modules);
@@ -270,9 +269,8 @@ impl Canvas {
             IsBestMasked self.now.version self.now.level self.now.modules best.modules) }
         ensures memory { IsOkUnless result OutOfMemory }
 
-        // The format words are far from one another, and tell level and mask.
+        // The format words are far from one another.
         ensures words_apart { FormatWordsAreApart }
-        ensures words_tell { FormatWordsTell }
     {
         laws::words();
         let modules = masking::best(alloc, self.version, self.ec_level, &self.modules)?;
@@ -291,9 +289,8 @@ impl Canvas {
             AreBestColors self.now.version self.now.level self.now.modules colors.items) }
         ensures memory { IsOkUnless result OutOfMemory }
 
-        // The format words are far from one another, and tell level and mask.
+        // The format words are far from one another.
         ensures words_apart { FormatWordsAreApart }
-        ensures words_tell { FormatWordsTell }
     {
         laws::words();
         masking::best(alloc, self.version, self.ec_level, &self.modules)

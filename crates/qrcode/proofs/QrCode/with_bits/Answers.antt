@@ -46,7 +46,6 @@ returns-clause-symbol c =
     let known = c.in_ok-data.ensures in
     let joined : c.deref-2.result.now ++ c.deref-3.result.now ≡ words = ap₂ (λ (a b : List ℕ). a ++ b) c.deref-2.ensures.value c.deref-3.ensures.value in
     let drawn = subst (λ w. IsBestDrawing v l w c.in_ok-content.content.items) joined c.in_ok-content.ensures.drawn in
-    let words_told = c.in_ok-content.ensures.words in
     let encodes = encodes_drawn v l bits c.into_bytes-data.ensures.0 raw words c.in_ok-content.content.items exists len c.into_bytes-data.ensures.2
-    (joined_bytes c.in_ok-data.data.items c.in_ok-data.ec.items known.bytes.0 known.bytes.1) (known.holds ∙ c.deref.ensures.value) known.vanishes known.apart words_told.0 words_told.1 drawn in
+    (joined_bytes c.in_ok-data.data.items c.in_ok-data.ec.items known.bytes.0 known.bytes.1) (known.holds ∙ c.deref.ensures.value) known.vanishes known.apart c.in_ok-content.ensures.words drawn in
     subst (λ v. Encodes (λ other. ReadsBitsOnly other v l bits) v l bits c.in_ok-content.content.items) e encodes
