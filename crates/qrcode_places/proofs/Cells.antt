@@ -5,7 +5,8 @@ use Rattle.std.specs.List.{find}
 use Rattle.std.specs.Option.{option_or}
 use Rattle.qrcode_types.specs.declared.types.Version.TheVariants.{Normal}
 use Rattle.qrcode_types.specs.declared.types.Color.{Color}
-use Rattle.qrcode_places.specs.Patterns.{centres, is_near, finder, alignment, timing, dark_module, version_copy, version_pattern, pattern, format_index, is_functional_place}
+use Rattle.qrcode_places.specs.Patterns.{centres, is_near, finder, alignment, timing, dark_module, version_copy, version_pattern, pattern, is_functional_place}
+use Rattle.qrcode_places.proofs.FormatPlaces.{normal_index}
 use Rattle.qrcode_places.proofs.Figures.{where_some, or_some, finder_some, is_it, alignment_some, version_some, format_some}
 
 -- the tests of a coordinate; `cs` are the coordinates of the alignment centres
@@ -39,7 +40,7 @@ or_is : (a b : Option Color) (s t : Bool) → is_some a ≡ s → is_some b ≡ 
 or_is a b s t e f = or_some a b ∙ ap₂ (λ m n. m || n) e f
 
 pub functional_is : (n x y : ℕ) → let cs = centres (Normal (pos n)) in is_functional_place (Normal (pos n)) x y ≡ cell (nat_le 7 n) (tests n cs x) (tests n cs y)
-unfolding is_functional_place pattern finder alignment timing dark_module version_pattern format_index cell tests
+unfolding is_functional_place pattern finder alignment timing dark_module version_pattern cell tests
 functional_is n x y =
     let cs = centres (Normal (pos n)) in
     let far = 4 * n + 13 in
@@ -49,4 +50,4 @@ functional_is n x y =
     ap₂ (λ a b. a || b)
     (or_is _ _ _ _ finders (or_is _ _ _ _ (alignment_some (4 * n + 17) x y (find (is_near x) cs) (find (is_near y) cs))
     (or_is _ _ _ _ (where_some _ _) (or_is _ _ _ _ (where_some _ _) versions))))
-    (format_some (4 * n + 17) x y)
+    (ap is_some (normal_index (Normal (pos n)) x y refl) ∙ format_some (4 * n + 17) x y)

@@ -4,7 +4,8 @@ use Rattle.std.specs.Int.{abs_diff}
 use Rattle.std.proofs.lemmas.Bool.Decides.{nat_tests}
 use Rattle.std.specs.Option.{option_or}
 use Rattle.qrcode_types.specs.declared.types.Color.{Color}
-use Rattle.qrcode_places.specs.Patterns.{color_if, finder_at, alignment_between, version_copy, normal_format_index}
+use Rattle.qrcode_places.specs.Patterns.{color_if, finder_at, alignment_between, version_copy}
+use Rattle.qrcode_places.proofs.FormatPlaces.{normal_cases}
 
 pub where_some : (t d : Bool) → is_some (color_if t d) ≡ t
 where_some true d = refl
@@ -37,7 +38,7 @@ version_some v far x y = go (nat_le x 5 && nat_le far y && nat_le y (far + 2)) _
   go true c = refl
   go false c = refl
 
-pub format_some : (w x y : ℕ) → is_some (normal_format_index w x y)
+pub format_some : (w x y : ℕ) → is_some (normal_cases w x y)
     ≡ ((y == 8 && (nat_le x 5 || x == 7 || x == 8 || (nat_le (w - 8) x && nat_lt x w)))
     || (not (y == 8) && (x == 8 && (y == 7 || nat_le y 5 || (nat_le (w - 7) y && nat_lt y w)))))
 format_some w x y = grind (arith, nat_tests)

@@ -9,7 +9,7 @@ use Rattle.qrcode_types.specs.declared.types.Version.TheVariants.{Normal, Micro}
 use Rattle.qrcode_types.specs.declared.types.EcLevel.{EcLevel}
 use Rattle.qrcode_types.specs.declared.types.EcLevel.TheVariants.{L, M, Q, H}
 use Rattle.qrcode_places.specs.Centres.{centre_table}
-use Rattle.qrcode_places.specs.Patterns.{centres, finder, alignment, timing, dark_module, version_pattern, pattern, format_index, is_functional_place}
+use Rattle.qrcode_places.specs.Patterns.{centres, finder, alignment, timing, dark_module, version_pattern, pattern, format_copies, format_index, is_functional_place}
 use Rattle.qrcode_places.specs.Stream.{zigzag_place, zigzag, free_places, FreePlacesAreFilled, right_column}
 use Rattle.qrcode_places.proofs.Below.{passes_below, below}
 use Rattle.qrcode_places.proofs.Formats.{within, valid_of}
@@ -86,7 +86,7 @@ unfolding normal_count columns_count rows_of centres centre_table tests cell is_
 normals_filled = refl
 
 micros_filled : passes_below (λ i. fills_all (Micro (pos (i + 1))) (length (free_places (Micro (pos (i + 1)))))) 4 ≡ true
-unfolding free_places zigzag zigzag_place is_functional_place pattern finder alignment centres timing dark_module version_pattern format_index capacity total_ec_length data_length block_lengths blocks_entry block_table
+unfolding free_places zigzag zigzag_place is_functional_place pattern finder alignment centres timing dark_module version_pattern format_copies format_index capacity total_ec_length data_length block_lengths blocks_entry block_table
 micros_filled = refl
 
 filled : (v : Version) (count : ℕ) (l : EcLevel) → fills_all v count ≡ true → IsTrue (has_level v l) → count ≡ capacity v l + 8 * total_ec_length v l + remainder_bits v

@@ -6,10 +6,10 @@ pub mod MaskLists
 pub mod Named
 pub mod WordLaws
 pub mod Zigzag
+pub mod FormatPlaces
 pub mod Corners
 pub mod Figures
 pub mod LeftOut
-pub mod FormatPlaces
 pub mod Near
 pub mod PatternsApart
 pub mod Totals

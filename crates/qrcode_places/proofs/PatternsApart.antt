@@ -1,5 +1,5 @@
 -- No pattern has a place of the format word, and only one the dark module's.
-use Rattle.std.proofs.Common.{◌≡◌, ℕ, ◌+◌, ◌*◌, ◌<◌, ◌≤◌, ◌==◌, nat_le, ℤ, pos, negsuc, Bool, true, false, not, ◌&&◌, List, Option, Some, None, arith, refl, inl, inr, ◌⊎◌}
+use Rattle.std.proofs.Common.{◌≡◌, ℕ, ◌+◌, ◌*◌, ◌<◌, ◌≤◌, ◌==◌, nat_le, ℤ, pos, negsuc, Bool, true, false, not, ◌&&◌, List, Option, Some, None, arith, refl, sym, ◌∙◌, inl, inr, ◌⊎◌}
 use Rattle.std.specs.Int.{abs_diff}
 use Rattle.std.specs.List.{find, list_all}
 use Rattle.std.proofs.lemmas.Bool.{and_parts, cases_lt, eqb-true, le-leb, lt-leb}
@@ -7,9 +7,10 @@ use Rattle.std.proofs.lemmas.Bool.Decides.{nat_tests}
 use Rattle.std.specs.Option.{option_or}
 use Rattle.qrcode_types.specs.declared.types.Version.TheVariants.{Normal, Micro}
 use Rattle.qrcode_types.specs.declared.types.Color.{Color}
-use Rattle.qrcode_places.specs.Patterns.{centres, is_near, color_if, finder_at, finder, alignment, alignment_between, timing, dark_module, version_copy, version_pattern, pattern, normal_format_index, micro_format_index, format_index, is_corner_centre}
+use Rattle.qrcode_places.specs.Patterns.{centres, is_near, color_if, finder_at, finder, alignment, alignment_between, timing, dark_module, version_copy, version_pattern, pattern, is_corner_centre}
 use Rattle.qrcode_places.specs.Laws.{FormatPlacesAreNoPatterns, DarkModuleIsInThePattern}
 use Rattle.qrcode_places.proofs.Formats.{within}
+use Rattle.qrcode_places.proofs.FormatPlaces.{normal_cases, micro_cases, normal_index, micro_index}
 use Rattle.qrcode_places.proofs.Near.{found, is_placed, centres_placed, low_centre, high_centre}
 
 -- the coordinate is near the far side
@@ -52,7 +53,7 @@ no_alignment n x y low high at =
 none_or : (a b : Option Color) → a ≡ None → b ≡ None → option_or a b ≡ None
 none_or a b e f = rw (e, f) refl
 
-index_corner : (w x y i : ℕ) → 21 ≤ w → normal_format_index w x y ≡ Some i → InCorner w x y
+index_corner : (w x y i : ℕ) → 21 ≤ w → normal_cases w x y ≡ Some i → InCorner w x y
 index_corner w x y i wide e = elim (cases_lt 8 y) [
   | inr low ↦ elim (cases_lt 8 x) [
     | inr left ↦ inl (left, low)
@@ -64,46 +65,47 @@ index_corner w x y i wide e = elim (cases_lt 8 y) [
 no_finder_at : (a b x y : ℕ) → (nat_le (abs_diff a x) 4 && nat_le (abs_diff b y) 4) ≡ false → finder_at a b x y ≡ None
 no_finder_at a b x y e = none_where _ _ (grind (arith, nat_tests))
 
-normal_finder : (n x y i : ℕ) → normal_format_index (4 * n + 17) x y ≡ Some i → finder (Normal (pos n)) x y ≡ None
+normal_finder : (n x y i : ℕ) → normal_cases (4 * n + 17) x y ≡ Some i → finder (Normal (pos n)) x y ≡ None
 unfolding finder
 normal_finder n x y i e =
     none_or _ _ (no_finder_at 3 3 x y (grind (arith, nat_tests)))
     (none_or _ _ (no_finder_at (4 * n + 13) 3 x y (grind (arith, nat_tests))) (no_finder_at 3 (4 * n + 13) x y (grind (arith, nat_tests))))
 
-normal_timing : (n x y i : ℕ) → normal_format_index (4 * n + 17) x y ≡ Some i → timing (Normal (pos n)) x y ≡ None
+normal_timing : (n x y i : ℕ) → normal_cases (4 * n + 17) x y ≡ Some i → timing (Normal (pos n)) x y ≡ None
 unfolding timing
 normal_timing n x y i e = none_where _ _ (grind (arith, nat_tests))
 
-normal_dark : (n x y i : ℕ) → normal_format_index (4 * n + 17) x y ≡ Some i → dark_module (Normal (pos n)) x y ≡ None
+normal_dark : (n x y i : ℕ) → normal_cases (4 * n + 17) x y ≡ Some i → dark_module (Normal (pos n)) x y ≡ None
 unfolding dark_module
 normal_dark n x y i e = none_where _ _ (grind (arith, nat_tests))
 
 no_copy : (v far x y : ℕ) → (nat_le x 5 && nat_le far y && nat_le y (far + 2)) ≡ false → version_copy v far x y ≡ None
 no_copy v far x y e = rw (e, version_copy) refl
 
-normal_version : (n x y i : ℕ) → normal_format_index (4 * n + 17) x y ≡ Some i → version_pattern (Normal (pos n)) x y ≡ None
+normal_version : (n x y i : ℕ) → normal_cases (4 * n + 17) x y ≡ Some i → version_pattern (Normal (pos n)) x y ≡ None
 unfolding version_pattern
 normal_version n x y i e = elim (cases_lt n 7) [
   | inl early ↦ rw (lt-leb 7 n early) refl
   | inr late ↦ rw (le-leb 7 n late) (none_or _ _ (no_copy n (4 * n + 6) x y (grind (arith, nat_tests))) (no_copy n (4 * n + 6) y x (grind (arith, nat_tests))))
 ]
 
-micro_none : (n x y i : ℕ) → micro_format_index x y ≡ Some i → pattern (Micro (pos n)) x y ≡ None
+micro_none : (n x y i : ℕ) → micro_cases x y ≡ Some i → pattern (Micro (pos n)) x y ≡ None
 unfolding pattern finder alignment centres timing dark_module version_pattern
 micro_none n x y i e =
     none_or _ _ (no_finder_at 3 3 x y (grind (arith, nat_tests)))
     (none_or _ _ refl (none_or _ _ (none_where _ _ (grind (arith, nat_tests))) refl))
 
 pub format_places_are_no_patterns : FormatPlacesAreNoPatterns
-unfolding pattern format_index
+unfolding pattern
 format_places_are_no_patterns (Normal (negsuc n)) x y i valid e = absurd (cc)
 format_places_are_no_patterns (Micro (negsuc n)) x y i valid e = absurd (cc)
 format_places_are_no_patterns (Normal (pos n)) x y i valid e =
     let range = within n 40 valid in
-    none_or _ _ (normal_finder n x y i e)
-    (none_or _ _ (no_alignment n x y range.0 range.1 (index_corner (4 * n + 17) x y i (omega arith) e))
-    (none_or _ _ (normal_timing n x y i e) (none_or _ _ (normal_dark n x y i e) (normal_version n x y i e))))
-format_places_are_no_patterns (Micro (pos n)) x y i valid e = micro_none n x y i e
+    let at = sym (normal_index (Normal (pos n)) x y refl) ∙ e in
+    none_or _ _ (normal_finder n x y i at)
+    (none_or _ _ (no_alignment n x y range.0 range.1 (index_corner (4 * n + 17) x y i (omega arith) at))
+    (none_or _ _ (normal_timing n x y i at) (none_or _ _ (normal_dark n x y i at) (normal_version n x y i at))))
+format_places_are_no_patterns (Micro (pos n)) x y i valid e = micro_none n x y i (sym (micro_index (Micro (pos n)) x y refl) ∙ e)
 
 where_is : (t d : Bool) (c : Color) → color_if t d ≡ Some c → t ≡ true
 where_is true d c e = refl

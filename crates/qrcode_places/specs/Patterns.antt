@@ -1,7 +1,7 @@
 -- The functional patterns, by places inside a symbol; what they give outside means nothing.
-use Rattle.std.specs.Prelude.{ℕ, ◌+◌, ◌-◌, ◌*◌, ◌%◌, ◌==◌, nat_le, nat_lt, ◌&&◌, ◌||◌, not, max, nat_abs, Bool, true, false, List, [], ◌∷◌, map, find, Option, option_map, Some, None, is_some, slice_index_or, if◌then◌else◌}
+use Rattle.std.specs.Prelude.{ℕ, ◌+◌, ◌-◌, ◌*◌, ◌%◌, ◌==◌, nat_le, ◌&&◌, ◌||◌, not, max, nat_abs, Bool, true, false, List, [], ◌∷◌, map, find, Option, option_map, Some, None, is_some, slice_get, slice_index_or, if◌then◌else◌}
 use Rattle.std.specs.Int.{abs_diff}
-use Rattle.std.specs.List.{range_with_len}
+use Rattle.std.specs.List.{range_with_len, position_from, filter_map}
 use Rattle.std.specs.Option.{option_or}
 use Rattle.qrcode_types.specs.Bits.{has_bit}
 use Rattle.qrcode_types.specs.Colors.{color_of, is_dark}
@@ -97,30 +97,13 @@ unfoldable pub format_copies : Version → List (List (ℕ × ℕ))
 format_copies (Normal v) = map first_format_place (range_with_len 0 15) ∷ map (second_format_place (4 * nat_abs v + 17)) (range_with_len 0 15) ∷ []
 format_copies (Micro v) = map micro_format_place (range_with_len 0 15) ∷ []
 
--- Which bit of the format word stands at a place, if any: the same places, looked at the other way.
+-- the place is in column x and row y
+abbrev pub is_at : ℕ → ℕ → ℕ × ℕ → Bool
+is_at x y place = place.0 == x && place.1 == y
 
--- in Normal, with w modules along a side
-abbrev pub normal_format_index : ℕ → ℕ → ℕ → Option ℕ
-normal_format_index w x y =
-    elim (y == 8) [
-      | true ↦ (if nat_le x 5 then Some x else (if x == 7 then Some 6 else (if x == 8 then Some 7 else (if nat_le (w - 8) x && nat_lt x w then Some (x + 15 - w) else None))))
-      | false ↦
-          elim (x == 8) [ true ↦ (if y == 7 then Some 8 else (if nat_le y 5 then Some (14 - y) else (if nat_le (w - 7) y && nat_lt y w then Some (w - 1 - y) else None))) | false ↦ None ]
-    ]
-
--- in Micro
-abbrev pub micro_format_index : ℕ → ℕ → Option ℕ
-micro_format_index x y =
-    elim (y == 8) [
-      | true ↦ (if nat_le 1 x && nat_le x 8 then Some (x - 1) else None)
-      | false ↦
-          elim (x == 8) [ true ↦ (if nat_le 1 y && nat_le y 7 then Some (15 - y) else None) | false ↦ None ]
-    ]
-
--- in any version
+-- which bit of the format word stands at a place, if any, the highest being 0: the position of the place in a copy
 unfoldable pub format_index : Version → ℕ → ℕ → Option ℕ
-format_index (Normal v) x y = normal_format_index (4 * nat_abs v + 17) x y
-format_index (Micro v) x y = micro_format_index x y
+format_index v x y = slice_get (filter_map (position_from (is_at x y) 0) (format_copies v)) 0
 
 -- the place belongs to a pattern or to the format word
 unfoldable pub is_functional_place : Version → ℕ → ℕ → Bool

@@ -1,10 +1,10 @@
 //! The functional patterns, place by place.
 
-ghost use Rattle.std.specs.Prelude.{◌≡◌, ◌+◌, ◌*◌, ◌<◌, ◌≤◌, find, IfSome, IsTrue};
+ghost use Rattle.std.specs.Prelude.{◌≡◌, ◌+◌, ◌*◌, ◌<◌, ◌≤◌, find, IfSome, IsTrue, true, false};
 ghost use Rattle.qrcode_types.specs.Colors.{color_of};
-ghost use Rattle.qrcode_types.specs.Versions.{is_valid, side};
+ghost use Rattle.qrcode_types.specs.Versions.{is_valid, is_micro, side};
 ghost use Rattle.qrcode_types.specs.declared.types.Version.TheVariants.{Normal};
-ghost use Rattle.qrcode_places.specs.Patterns.{color_if, finder_at, finder, is_near, centres, alignment_between, alignment, timing, dark_module, version_copy, version_pattern, pattern, normal_format_index, micro_format_index, format_index, decided_bit, is_corner_centre};
+ghost use Rattle.qrcode_places.specs.Patterns.{color_if, finder_at, finder, is_near, centres, alignment_between, alignment, timing, dark_module, version_copy, version_pattern, pattern, format_index, decided_bit, is_corner_centre};
 
 use crate::words::version_word;
 use qrcode_types::types::{Color, Version};
@@ -183,13 +183,15 @@ pub fn pattern(
     dark_module(version, width, x, y).or(version_pattern(version, width, x, y))
 }
 
-// Which bit of the format word of Normal stands at a place, if any, the highest bit being 0.
-fn normal_format_index(width: usize, x: usize, y: usize) -> Option<usize>
-    requires least { 21 ≤ width }
-    requires most { width ≤ 177 }
+// Which bit of the format word of Normal stands at a place, if any, the highest being 0.
+#[tactic(auto, using(crate::proofs::FormatPlaces::normal_index))]
+fn normal_format_index(version: Version, width: usize, x: usize, y: usize) -> Option<usize>
+    requires normal { is_micro version ≡ false }
+    requires valid { IsTrue (is_valid version) }
+    requires width { width ≡ side version }
     requires inside { x < 1000 }
-    ensures value { result ≡ normal_format_index width x y }
-    ensures bit { IfSome result (λ i. i < 15) }
+    ensures value { result ≡ format_index version x y }
+    ensures at_most { IfSome result (λ i. i < 15) }
 {
     if y == 8 {
         match x {
@@ -211,9 +213,11 @@ fn normal_format_index(width: usize, x: usize, y: usize) -> Option<usize>
 }
 
 // The same of Micro.
-fn micro_format_index(x: usize, y: usize) -> Option<usize>
-    ensures value { result ≡ micro_format_index x y }
-    ensures bit { IfSome result (λ i. i < 15) }
+#[tactic(auto, using(crate::proofs::FormatPlaces::micro_index))]
+fn micro_format_index(version: Version, x: usize, y: usize) -> Option<usize>
+    requires { is_micro version ≡ true }
+    ensures value { result ≡ format_index version x y }
+    ensures at_most { IfSome result (λ i. i < 15) }
 {
     if y == 8 {
         if 1 <= x && x <= 8 { Some(x - 1) } else { None }
@@ -224,18 +228,17 @@ fn micro_format_index(x: usize, y: usize) -> Option<usize>
     }
 }
 
-/// Which bit of the format word stands at a place, if any, the highest bit being 0.
-#[tactic(auto, unfolding(crate::specs::Patterns::format_index))]
+/// Which bit of the format word stands at a place, if any, the highest being 0.
 pub fn format_index(version: Version, width: usize, x: usize, y: usize) -> Option<usize>
     requires valid { IsTrue (is_valid version) }
     requires width { width ≡ side version }
     requires inside { x < 1000 }
     ensures value { result ≡ format_index version x y }
-    ensures bit { IfSome result (λ i. i < 15) }
+    ensures at_most { IfSome result (λ i. i < 15) }
 {
     match version {
-        Version::Normal(_) => normal_format_index(width, x, y),
-        Version::Micro(_) => micro_format_index(x, y),
+        Version::Normal(_) => normal_format_index(version, width, x, y),
+        Version::Micro(_) => micro_format_index(version, x, y),
     }
 }
 

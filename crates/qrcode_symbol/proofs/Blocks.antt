@@ -20,6 +20,7 @@ use Rattle.qrcode_symbol.specs.declared.canvas.Module.{Module}
 use Rattle.qrcode_symbol.specs.declared.canvas.Module.TheVariants.{Empty, Masked}
 use Rattle.qrcode_symbol.specs.declared.canvas.drawing.blocks.TheConstants.{NORMAL_TOP_LEFT, NORMAL_TOP_RIGHT, NORMAL_BOTTOM_LEFT, MICRO_TOP_LEFT, ALIGNMENT}
 use Rattle.qrcode_symbol.proofs.Centres.{IsGood, centre_good, centre_found, centre_inside, found}
+use Rattle.qrcode_places.proofs.FormatPlaces.{normal_index, micro_index}
 use Rattle.qrcode_places.proofs.Corners.{no_where, no_or, or_none, far_finder}
 use Rattle.qrcode_symbol.proofs.Covered.{no_copy, no_if, no_timing}
 
@@ -143,12 +144,10 @@ top_left_pattern n x y xl yl some =
     (no_words n x y (no_copy n (4 * n + 6) x y (inr (inl (omega arith)))) (no_copy n (4 * n + 6) y x (inr (inl (omega arith)))))
 
 format_column : (n y : ℕ) → y < 9 → y ≢ 6 → is_some (format_index (Normal (pos n)) 8 y) ≡ true
-unfolding format_index
-format_column n y yl other = grind (arith, nat_tests)
+format_column n y yl other = rw (normal_index (Normal (pos n)) 8 y refl) (grind (arith, nat_tests))
 
 format_row : (n x : ℕ) → x < 9 → x ≢ 6 → is_some (format_index (Normal (pos n)) x 8) ≡ true
-unfolding format_index
-format_row n x xl other = grind (arith, nat_tests)
+format_row n x xl other = rw (normal_index (Normal (pos n)) x 8 refl) (grind (arith, nat_tests))
 
 timed_column : timing (Normal (pos 1)) 8 6 ≡ None → ⊥
 unfolding timing
@@ -213,12 +212,10 @@ top_right_pattern n i y il yl some =
     ∙ or_none (finder_at 4 3 i y)
 
 last_row : (n x : ℕ) → 4 * n + 9 ≤ x → x < 4 * n + 17 → is_some (format_index (Normal (pos n)) x 8) ≡ true
-unfolding format_index
-last_row n x from to = grind (arith, nat_tests)
+last_row n x from to = rw (normal_index (Normal (pos n)) x 8 refl) (grind (arith, nat_tests))
 
 last_column : (n y : ℕ) → 4 * n + 9 < y → y < 4 * n + 17 → is_some (format_index (Normal (pos n)) 8 y) ≡ true
-unfolding format_index
-last_column n y from to = grind (arith, nat_tests)
+last_column n y from to = rw (normal_index (Normal (pos n)) 8 y refl) (grind (arith, nat_tests))
 
 top_right_format : (n i y : ℕ) → i < 8 → y < 9 → 1 ≤ n → finder_at 4 3 i y ≡ None → is_some (format_index (Normal (pos n)) (4 * n + 9 + i) y) ≡ true
 top_right_format n i y il yl some none = elim (cases_eq y 8) [
@@ -304,11 +301,11 @@ unfolding micro_part pattern finder alignment centres timing dark_module version
 micro_pattern n x y = refl
 
 micro_format : (n : ℤ) (x y : ℕ) → x < 9 → y < 9 → micro_part x y ≡ None → is_some (format_index (Micro n) x y) ≡ true
-unfolding micro_part timing format_index
+unfolding micro_part timing
 micro_format n x y xl yl e =
     let no_finder = left_none (finder_at 3 3 x y) _ e in
     let no_timing = left_none (timing (Micro (pos 1)) x y) None (right_none (finder_at 3 3 x y) _ e) in
-    elim (cases_eq x 8) [
+    rw (micro_index (Micro n) x y refl) (elim (cases_eq x 8) [
       | inl ex ↦ elim (cases_eq y 0) [
         | inl ey ↦ (let clash : timing (Micro (pos 1)) 8 0 ≡ None = rw (ex, ey) at no_timing in cc)
         | inr other ↦ rw ex (grind (arith, nat_tests))
@@ -320,7 +317,7 @@ micro_format n x y xl yl e =
         ]
         | inr ny ↦ absurd (near_finder 3 3 x y (omega arith) (omega arith) no_finder)
       ]
-    ]
+    ])
 
 micro_table : MICRO_TOP_LEFT ≡ table 9 9 (λ x y. drawn_or_light (micro_part x y))
 unfolding table drawn_or_light micro_part timing

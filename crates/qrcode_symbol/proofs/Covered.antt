@@ -15,6 +15,7 @@ use Rattle.qrcode_symbol.specs.Patterned.{IsPatterned, IsRectanglePatterned, Are
 use Rattle.qrcode_symbol.specs.declared.canvas.Module.{Module}
 use Rattle.qrcode_symbol.specs.declared.canvas.Module.TheVariants.{Masked}
 use Rattle.qrcode_symbol.proofs.Centres.{found, centre_inside}
+use Rattle.qrcode_places.proofs.FormatPlaces.{normal_index, micro_index}
 use Rattle.qrcode_places.proofs.Corners.{no_where, no_or, far_finder}
 
 -- the place is in none of the rectangles of Normal but those of alignment
@@ -78,8 +79,7 @@ no_version n x y out =
     (no_copy n (4 * n + 6) y x (elim (out.right_word wide) [ inl h ↦ inl h | inr h ↦ inr (inl (omega arith)) ])))
 
 no_format : (n x y : ℕ) → IsOutside (4 * n + 17) x y → x < 4 * n + 17 → format_index (Normal (pos n)) x y ≡ None
-unfolding format_index
-no_format n x y out lt = grind (arith, nat_tests)
+no_format n x y out lt = rw (normal_index (Normal (pos n)) x y refl) (grind (arith, nat_tests))
 
 no_pattern : (n x y : ℕ) → IsOutside (4 * n + 17) x y → alignment (Normal (pos n)) x y ≡ None → pattern (Normal (pos n)) x y ≡ None
 unfolding pattern finder
@@ -192,9 +192,8 @@ no_micro_pattern n x y out column row =
     no_or _ _ (far_finder 3 3 x y (elim out [ inl h ↦ inl (omega arith) | inr h ↦ inr (omega arith) ])) (no_or _ _ refl (no_or _ _ (no_where _ _ (grind (arith, nat_tests))) (no_or _ _ refl refl)))
 
 no_micro_format : (n : ℤ) (x y : ℕ) → 9 ≤ x ⊎ 9 ≤ y → x ≢ 0 → y ≢ 0 → format_index (Micro n) x y ≡ None
-unfolding format_index
-no_micro_format n x y (inl h) column row = grind (arith, nat_tests)
-no_micro_format n x y (inr h) column row = grind (arith, nat_tests)
+no_micro_format n x y (inl h) column row = rw (micro_index (Micro n) x y refl) (grind (arith, nat_tests))
+no_micro_format n x y (inr h) column row = rw (micro_index (Micro n) x y refl) (grind (arith, nat_tests))
 
 micro_outside : (n : ℤ) (m : List Module) (x y : ℕ) → AreMicroPatterned (Micro n) m → x < side (Micro n) → y < side (Micro n) → 9 ≤ x ⊎ 9 ≤ y → IsPatterned (Micro n) m (y * side (Micro n) + x)
 micro_outside n m x y all xl yl out = elim (cases_eq y 0) [

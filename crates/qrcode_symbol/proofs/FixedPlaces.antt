@@ -7,7 +7,8 @@ use Rattle.qrcode_types.specs.declared.types.Version.TheVariants.{Normal, Micro}
 use Rattle.qrcode_penalty.specs.Rows.{has_place}
 use Rattle.qrcode_penalty.proofs.Places.{has_or, has_without, has_first, has_first_above, has_above, below_from_places}
 use Rattle.qrcode_types.specs.Versions.{side}
-use Rattle.qrcode_places.specs.Patterns.{format_index, dark_module}
+use Rattle.qrcode_places.specs.Patterns.{dark_module}
+use Rattle.qrcode_places.proofs.FormatPlaces.{normal_index, micro_index}
 use Rattle.qrcode_symbol.specs.Masking.{fixed_bit}
 
 -- the number with one place, as the code makes it
@@ -60,20 +61,20 @@ pub ends_after_put : (new row p width : ℕ) → ((k : ℕ) → k ≢ p → has_
 ends_after_put new row p width others inside ends = below_from_places new width (λ k h. others k (λ e. absurd (omega arith)) ∙ has_above row width k ends h)
 
 elsewhere : (v : Version) (word x y : ℕ) → x ≢ 8 → y ≢ 8 → fixed_bit v word x y ≡ None
-unfolding fixed_bit format_index dark_module
-elsewhere (Normal v) word x y h k = grind (arith, nat_tests)
-elsewhere (Micro v) word x y h k = grind (arith, nat_tests)
+unfolding fixed_bit dark_module
+elsewhere (Normal v) word x y h k = rw (normal_index (Normal v) x y refl, fixed_bit) (grind (arith, nat_tests))
+elsewhere (Micro v) word x y h k = rw (micro_index (Micro v) x y refl, fixed_bit) (grind (arith, nat_tests))
 
 -- between the corners of row 8 and of column 8 a mask decides every place
 row_between : (v : Version) (word x : ℕ) → 8 < x → x + 8 < side v → fixed_bit v word x 8 ≡ None
-unfolding fixed_bit format_index dark_module
-row_between (Normal v) word x h k = grind (arith, nat_tests)
-row_between (Micro v) word x h k = grind (arith, nat_tests)
+unfolding fixed_bit dark_module
+row_between (Normal v) word x h k = rw (normal_index (Normal v) x 8 refl, fixed_bit) (grind (arith, nat_tests))
+row_between (Micro v) word x h k = rw (micro_index (Micro v) x 8 refl, fixed_bit) (grind (arith, nat_tests))
 
 pub column_between : (v : Version) (word y : ℕ) → 8 < y → y + 8 < side v → fixed_bit v word 8 y ≡ None
-unfolding fixed_bit format_index dark_module
-column_between (Normal v) word y h k = grind (arith, nat_tests)
-column_between (Micro v) word y h k = grind (arith, nat_tests)
+unfolding fixed_bit dark_module
+column_between (Normal v) word y h k = rw (normal_index (Normal v) 8 y refl, fixed_bit) (grind (arith, nat_tests))
+column_between (Micro v) word y h k = rw (micro_index (Micro v) 8 y refl, fixed_bit) (grind (arith, nat_tests))
 
 pub place_some : (v : Version) (word y new row : ℕ) (b : Bool) → y ≢ 8 → fixed_bit v word 8 y ≡ Some b → has_place new 8 ≡ b → ((k : ℕ) → k ≢ 8 → has_place new k ≡ has_place row k) →
     (x : ℕ) → has_place new x ≡ unwrap_or (fixed_bit v word x y) (has_place row x)
