@@ -1,9 +1,13 @@
 -- The words that the standard prints, and how the rows below go through versions, levels and masks.
-use Rattle.std.specs.Prelude.{ℕ, nat_le, ◌&&◌, Bool, true, List, [], ◌∷◌}
+use Rattle.std.specs.Prelude.{ℕ, pos, nat_le, ◌&&◌, Bool, true, List, [], ◌∷◌}
 use Rattle.std.specs.List.{list_all}
 use Rattle.qrcode_types.specs.Bits.{number_bits, bit_distance}
 use Rattle.qrcode_types.specs.declared.types.EcLevel.{EcLevel}
 use Rattle.qrcode_types.specs.declared.types.EcLevel.TheVariants.{L, M, Q, H}
+use Rattle.qrcode_types.specs.declared.types.Mode.{Mode}
+use Rattle.qrcode_types.specs.declared.types.Mode.TheVariants.{Numeric, Alphanumeric, Byte, Kanji}
+use Rattle.qrcode_types.specs.declared.types.Version.{Version}
+use Rattle.qrcode_types.specs.declared.types.Version.TheVariants.{Normal, Micro}
 use Rattle.qrcode_places.specs.declared.masks.MaskPattern.{MaskPattern}
 use Rattle.qrcode_places.specs.declared.masks.MaskPattern.TheVariants.{Checkerboard, HorizontalLines, VerticalLines, DiagonalLines, LargeCheckerboard, Fields, Diamonds, Meadow}
 
@@ -56,3 +60,23 @@ micro_pairs = (1, L) ∷ (2, L) ∷ (2, M) ∷ (3, L) ∷ (3, M) ∷ (4, L) ∷ 
 abbrev pub are_apart : ℕ → List ℕ → Bool
 are_apart least [] = true
 are_apart least (w ∷ ws) = list_all (λ u. nat_le least (bit_distance (number_bits 18 w) (number_bits 18 u))) ws && are_apart least ws
+
+-- the modes in the order of the standard's tables
+abbrev pub modes : List Mode
+modes = Numeric ∷ Alphanumeric ∷ Byte ∷ Kanji ∷ []
+
+-- the first and the last version of each band
+abbrev pub band_ends : List Version
+band_ends = Normal (pos 1) ∷ Normal (pos 9) ∷ Normal (pos 10) ∷ Normal (pos 26) ∷ Normal (pos 27) ∷ Normal (pos 40) ∷ []
+
+-- the versions of Micro
+abbrev pub micro_versions : List Version
+micro_versions = Micro (pos 1) ∷ Micro (pos 2) ∷ Micro (pos 3) ∷ Micro (pos 4) ∷ []
+
+-- the pairs of Shift JIS bytes at the ends of the ranges of first and second bytes
+abbrev pub ends_of_pairs : List ℕ
+ends_of_pairs = 0x8140 ∷ 0x817e ∷ 0x8180 ∷ 0x81fc ∷ 0x9f40 ∷ 0x9ffc ∷ 0xe040 ∷ 0xe07e ∷ 0xea80 ∷ 0xeafc ∷ 0xeb40 ∷ 0xeb7e ∷ 0xeb80 ∷ 0xebbf ∷ []
+
+-- two bytes beside these, which are none
+abbrev pub beside_pairs : List ℕ
+beside_pairs = 0x8040 ∷ 0x80fc ∷ 0x813f ∷ 0x817f ∷ 0x81fd ∷ 0x9ffd ∷ 0xa040 ∷ 0xdffc ∷ 0xe03f ∷ 0xea7f ∷ 0xeafd ∷ 0xeb3f ∷ 0xeb7f ∷ 0xebc0 ∷ 0xec40 ∷ []

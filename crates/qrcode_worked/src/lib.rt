@@ -3,4 +3,5 @@
 
 pub mod data;
 pub mod symbols;
+pub mod tables;
 pub mod words;
