@@ -1,12 +1,13 @@
--- The blocks in codewords: bytes, and as long as the version and level say.
-use Rattle.std.proofs.Common.{◌≡◌, ℕ, zero, suc, ◌+◌, ◌*◌, ◌<◌, List, [], ◌∷◌, ◌++◌, length, map, get_or, slice_index, sym, ap₂, ◌∙◌, arith, length-append}
+-- The blocks in codewords: bytes, as long as the version and level say, which is 153 at most.
+use Rattle.std.proofs.Common.{◌≡◌, ℕ, zero, suc, ◌+◌, ◌*◌, ◌<◌, List, [], ◌∷◌, ◌++◌, length, map, get_or, slice_index, sym, ap₂, ◌∙◌, arith, length-append, replicate, ◌≤◌, IsTrue}
 use Rattle.std.specs.List.{range_with_len, All, AllByRecursion, AllZip}
 use Rattle.std.proofs.lemmas.List.FromFn.{length-map-range_with_len}
 use Rattle.std.proofs.lemmas.List.Elements.{recursion_from_All, All-append, All-map}
 use Rattle.qrcode_types.specs.Bits.{AreBytes}
-use Rattle.qrcode_types.specs.Versions.{block_lengths, ec_length, data_length}
+use Rattle.qrcode_types.specs.Versions.{has_level, blocks_entry, block_lengths, ec_length, data_length}
 use Rattle.qrcode_types.specs.declared.types.Version.{Version}
 use Rattle.qrcode_types.specs.declared.types.EcLevel.{EcLevel}
+use Rattle.qrcode_types.proofs.BlockTable.{bounded}
 use Rattle.qrcode_ec.specs.Blocks.{block, blocks, interleaved_place}
 
 -- what is read from bytes is a byte, the default included
@@ -53,3 +54,26 @@ pub blocks-lengths : (v : Version) (l : EcLevel) (words others : List ℕ) → A
 unfolding blocks
 blocks-lengths v l words others =
     zip_maps (λ b c. length b ≡ length c) (block v l words) (block v l others) (range_with_len 0 (length (block_lengths v l))) (λ n. length-block v l words n ∙ sym (length-block v l others n))
+
+long_at : (n s i : ℕ) → get_or (replicate n s) i 0 ≤ s
+long_at zero s i = omega arith
+long_at (suc n) s zero = omega arith
+long_at (suc n) s (suc i) = long_at n s i
+
+mixed_at : (n k s i : ℕ) → get_or (replicate n s ++ replicate k (s + 1)) i 0 ≤ s + 1
+mixed_at zero k s i = long_at k (s + 1) i
+mixed_at (suc n) k s zero = omega arith
+mixed_at (suc n) k s (suc i) = mixed_at n k s i
+
+data_at_most : (v : Version) (l : EcLevel) (b : ℕ) → slice_index (block_lengths v l) b ≤ (blocks_entry v l).2 + 1
+unfolding block_lengths
+data_at_most v l b = let e = blocks_entry v l in mixed_at e.1 e.3 e.2 b
+
+-- no block is too long to be corrected in one way
+pub blocks-short : (v : Version) (l : EcLevel) (words : List ℕ) → IsTrue (has_level v l) → AllByRecursion (λ b. length b ≤ 255) (blocks v l words)
+unfolding blocks
+blocks-short v l words has =
+    let places = range_with_len 0 (length (block_lengths v l)) in
+    let e = bounded v l has in
+    let short : (b : ℕ) → length (block v l words b) ≤ 255 = λ b. omega (arith, length-block v l words b, data_at_most v l b, e.ec_at_most, e.data_at_most) in
+    recursion_from_All (λ b. length b ≤ 255) (map (block v l words) places) (All-map (λ b. length b ≤ 255) (block v l words) places (λ k d i. short (get_or places k d)))

@@ -1,4 +1,4 @@
--- A damaged symbol is read as its bits, and in no other way.
+-- A damaged symbol is read as its bits, and no square is read in two ways.
 use Rattle.std.proofs.Common.{◌≡◌, ℕ, zero, suc, ◌/◌, ◌≤◌, Bool, List, [], ◌∷◌, length, map, refl, sym, ap, ap₂, ◌∙◌, arith, subst, IsTrue}
 use Rattle.std.specs.List.{AllByRecursion, AllZip, range_with_len}
 use Rattle.std.proofs.lemmas.List.{length-map}
@@ -9,16 +9,21 @@ use Rattle.qrcode_types.specs.declared.types.Version.{Version}
 use Rattle.qrcode_types.specs.declared.types.Version.TheVariants.{Normal, Micro}
 use Rattle.qrcode_types.specs.declared.types.EcLevel.{EcLevel}
 use Rattle.qrcode_types.specs.declared.types.Color.{Color}
-use Rattle.qrcode_ec.specs.Codes.{Corrects, Vanishes, IsOnlyWithin, distance}
+use Rattle.qrcode_ec.specs.Codes.{Corrects, Vanishes, distance}
 use Rattle.qrcode_ec.specs.Blocks.{codewords, data_bits}
+use Rattle.qrcode_ec.proofs.Distances.{only_within}
 use Rattle.qrcode_places.specs.Masks.{exists_in}
-use Rattle.qrcode_places.specs.Words.{format_word, FormatWordsAreApart}
+use Rattle.qrcode_places.specs.Words.{format_word}
 use Rattle.qrcode_places.specs.Patterns.{format_copies, first_format_place, micro_format_place}
 use Rattle.qrcode_places.specs.Stream.{stream}
 use Rattle.qrcode_places.specs.declared.masks.MaskPattern.{MaskPattern}
+use Rattle.qrcode_places.proofs.WordLaws.{format_words_are_apart}
 use Rattle.qrcode_symbol.specs.Symbol.{bits_at, blocks_in, IsSymbol, IsDamaged}
 use Rattle.qrcode_symbol.specs.Reading.{ReadsBits, ReadsBitsOnly}
-use Rattle.qrcode.proofs.BlockLists.{blocks-lengths}
+use Rattle.qrcode_bits.specs.Spelling.{Spells, SpellsOnly}
+use Rattle.qrcode_bits.proofs.Spellings.{one_text}
+use Rattle.qrcode.specs.Reading.{Reads, ReadsOnly, BitsAreReadOneWay, BytesAreReadOneWay}
+use Rattle.qrcode.proofs.BlockLists.{blocks-lengths, blocks-short}
 use Rattle.qrcode.proofs.Distances.{bit_distance-turned, bit_distance-through, distance-turned, distance-through}
 use Rattle.qrcode.proofs.Sides.{valid_of, same_version, same_root}
 
@@ -44,7 +49,7 @@ formats_near v s other word (places ∷ copies) e d = (
   formats_near v s other word copies e.1 d.1,
 )
 
-abbrev damaged : (v : Version) (l : EcLevel) (bits : List Bool) (k : MaskPattern) (s other : List Color) → IsTrue (has_level v l) → IsTrue (exists_in v k)
+damaged : (v : Version) (l : EcLevel) (bits : List Bool) (k : MaskPattern) (s other : List Color) → IsTrue (has_level v l) → IsTrue (exists_in v k)
     → AllByRecursion AreBytes (blocks_in v l k s) → IsSymbol v l bits k s → IsDamaged v l k s other → ReadsBits other v l bits
 damaged v l bits k s other p q are symbol damage = record {
   exists = p;
@@ -58,7 +63,7 @@ damaged v l bits k s other p q are symbol damage = record {
   holds = symbol.holds;
 }
 
--- One reading only.
+-- One way to read.
 
 length-number_bits : (count n : ℕ) → length (number_bits count n) ≡ count
 unfolding number_bits
@@ -79,21 +84,21 @@ unfolding format_copies
 near_words (Normal v) s a b f g p q = near_through (Normal v) s (map first_format_place (range_with_len 0 15)) a b (length-map-range_with_len first_format_place 0 15) f g p.0 q.0
 near_words (Micro v) s a b f g p q = near_through (Micro v) s (map micro_format_place (range_with_len 0 15)) a b (length-map-range_with_len micro_format_place 0 15) f g p.0 q.0
 
-same_words : FormatWordsAreApart → (s : List Color) (v : Version) (l m : EcLevel) (bits others : List Bool)
-    → (p : ReadsBits s v l bits) (q : ReadsBits s v m others) → (m ≡ l) × (q.mask ≡ p.mask)
-same_words apart s v l m bits others p q =
+same_words : (s : List Color) (v : Version) (l m : EcLevel) (bits others : List Bool) → (p : ReadsBits s v l bits) (q : ReadsBits s v m others) → (m ≡ l) × (q.mask ≡ p.mask)
+same_words s v l m bits others p q =
     let a = number_bits 15 (format_word v m q.mask) in
     let b = number_bits 15 (format_word v l p.mask) in
     let near = near_words v s a b (length-number_bits 15 (format_word v m q.mask)) (length-number_bits 15 (format_word v l p.mask)) q.format p.format in
-    let same = apart v v m l q.mask p.mask refl q.exists p.exists q.mask_exists p.mask_exists (omega (arith, near)) in
+    let same = format_words_are_apart v v m l q.mask p.mask refl q.exists p.exists q.mask_exists p.mask_exists (omega (arith, near)) in
     (same.level, same.mask)
 
-same_block : (n : ℕ) (r c d : List ℕ) → IsOnlyWithin c n → Corrects r n c → Corrects r n d → d ≡ c
-same_block n r c d only p q =
-    only d q.bytes (sym q.equal_length ∙ p.equal_length) q.vanishes
+-- of a short block there is one correction
+same_block : (n : ℕ) (r c d : List ℕ) → length r ≤ 255 → Corrects r n c → Corrects r n d → d ≡ c
+same_block n r c d short p q =
+    only_within n c p.bytes (subst (λ m. m ≤ 255) p.equal_length short) p.vanishes d q.bytes (sym q.equal_length ∙ p.equal_length) q.vanishes
     (omega (arith, distance-through c r d (sym p.equal_length) q.equal_length, distance-turned c r, p.near, q.near))
 
-same_corrected : (n : ℕ) (rs cs ds : List (List ℕ)) → AllByRecursion (λ c. IsOnlyWithin c n) cs → AllZip (λ r c. Corrects r n c) rs cs → AllZip (λ r c. Corrects r n c) rs ds → ds ≡ cs
+same_corrected : (n : ℕ) (rs cs ds : List (List ℕ)) → AllByRecursion (λ r. length r ≤ 255) rs → AllZip (λ r c. Corrects r n c) rs cs → AllZip (λ r c. Corrects r n c) rs ds → ds ≡ cs
 same_corrected n [] [] [] h p q = refl
 same_corrected n [] [] (d ∷ ds) h p q = absurd q
 same_corrected n [] (c ∷ cs) ds h p q = absurd p
@@ -101,30 +106,34 @@ same_corrected n (r ∷ rs) [] ds h p q = absurd p
 same_corrected n (r ∷ rs) (c ∷ cs) [] h p q = absurd q
 same_corrected n (r ∷ rs) (c ∷ cs) (d ∷ ds) h p q = ap₂ (λ (x : List ℕ) (xs : List (List ℕ)). x ∷ xs) (same_block n r c d h.0 p.0 q.0) (same_corrected n rs cs ds h.1 p.1 q.1)
 
-same_bits : (s : List Color) (v : Version) (l : EcLevel) (bits others : List Bool) → (p : ReadsBits s v l bits) → AllByRecursion (λ c. IsOnlyWithin c (ec_length v l)) p.corrected
-    → (q : ReadsBits s v l others) → q.mask ≡ p.mask → others ≡ bits
-same_bits s v l bits others p only q e =
+same_bits : (s : List Color) (v : Version) (l : EcLevel) (bits others : List Bool) → (p : ReadsBits s v l bits) (q : ReadsBits s v l others) → q.mask ≡ p.mask → others ≡ bits
+same_bits s v l bits others p q e =
+    let short = blocks-short v l (codewords v l (stream v p.mask s)) p.exists in
     let corrects = subst (λ k. AllZip (λ r c. Corrects r (ec_length v l) c) (blocks_in v l k s) q.corrected) e q.corrects in
-    sym q.holds ∙ ap (data_bits v l) (same_corrected (ec_length v l) (blocks_in v l p.mask s) p.corrected q.corrected only p.corrects corrects) ∙ p.holds
+    sym q.holds ∙ ap (data_bits v l) (same_corrected (ec_length v l) (blocks_in v l p.mask s) p.corrected q.corrected short p.corrects corrects) ∙ p.holds
 
-same_side : (s : List Color) (v u : Version) (l m : EcLevel) (bits others : List Bool) → ReadsBits s v l bits → ReadsBits s u m others → u ≡ v
-same_side s v u l m bits others p q = same_version u v (valid_of u m q.exists) (valid_of v l p.exists) (same_root (side u) (side v) (sym q.square ∙ p.square))
-
--- a reading whose corrected blocks are the only near ones is the only reading
-one_reading : FormatWordsAreApart → (s : List Color) (v : Version) (l : EcLevel) (bits : List Bool)
-    → (p : ReadsBits s v l bits) → AllByRecursion (λ c. IsOnlyWithin c (ec_length v l)) p.corrected
-    → (u : Version) (m : EcLevel) (others : List Bool) → ReadsBits s u m others → (u ≡ v) × (m ≡ l) × (others ≡ bits)
-one_reading apart s v l bits p only u m others q =
-    let e = same_side s v u l m bits others p q in
+pub bits_are_read_one_way : BitsAreReadOneWay
+bits_are_read_one_way s v u l m bits others p q =
+    let e = same_version u v (valid_of u m q.exists) (valid_of v l p.exists) (same_root (side u) (side v) (sym q.square ∙ p.square)) in
     let r = subst (λ x. ReadsBits s x m others) e q in
-    let f = (same_words apart s v l m bits others p r).0 in
+    let f = (same_words s v l m bits others p r).0 in
     let t = subst (λ x. ReadsBits s v x others) f r in
-    (e, f, same_bits s v l bits others p only t (same_words apart s v l l bits others p t).1)
+    (e, f, same_bits s v l bits others p t (same_words s v l l bits others p t).1)
+
+pub bytes_are_read_one_way : BytesAreReadOneWay
+bytes_are_read_one_way s bytes others p q =
+    let e = bits_are_read_one_way s p.version q.version p.level q.level p.bits q.bits p.read q.read in
+    one_text p.version p.bits bytes others p.spelled (subst (λ b. Spells p.version b others) e.2 (subst (λ v. Spells v q.bits others) e.0 q.spelled))
 
 -- a damaged symbol is read as its bits, and in no other way
-pub reads_bits_only : FormatWordsAreApart → (v : Version) (l : EcLevel) (bits : List Bool) (k : MaskPattern) (s : List Color) → IsTrue (has_level v l) → IsTrue (exists_in v k)
-    → AllByRecursion AreBytes (blocks_in v l k s) → AllByRecursion (λ b. IsOnlyWithin b (ec_length v l)) (blocks_in v l k s)
-    → IsSymbol v l bits k s → (other : List Color) → IsDamaged v l k s other → ReadsBitsOnly other v l bits
-reads_bits_only apart v l bits k s p q are only symbol other damage =
+pub reads_bits_only : (v : Version) (l : EcLevel) (bits : List Bool) (k : MaskPattern) (s : List Color) → IsTrue (has_level v l) → IsTrue (exists_in v k)
+    → AllByRecursion AreBytes (blocks_in v l k s) → IsSymbol v l bits k s → (other : List Color) → IsDamaged v l k s other → ReadsBitsOnly other v l bits
+reads_bits_only v l bits k s p q are symbol other damage =
     let found = damaged v l bits k s other p q are symbol damage in
-    record { found = found; only = one_reading apart other v l bits found only }
+    record { found = found; only = λ u m others. bits_are_read_one_way other v u l m bits others found }
+
+-- colours of which bits are read are read as the bytes that the bits spell, and in no other way
+pub reads_only : (s : List Color) (v : Version) (l : EcLevel) (bits : List Bool) (bytes : List ℕ) → ReadsBits s v l bits → Spells v bits bytes → ReadsOnly s bytes
+reads_only s v l bits bytes read spelled =
+    let found : Reads s bytes = record { version = v; level = l; bits = bits; read = read; spelled = spelled } in
+    record { found = found; only = λ others. bytes_are_read_one_way s bytes others found }

@@ -10,28 +10,23 @@ use Rattle.qrcode_types.specs.Versions.{capacity, data_length, ec_length, has_ha
 use Rattle.qrcode_types.specs.declared.types.Version.{Version}
 use Rattle.qrcode_types.specs.declared.types.EcLevel.{EcLevel}
 use Rattle.qrcode_types.specs.declared.types.Color.{Color}
-use Rattle.qrcode_ec.specs.Codes.{Vanishes, IsOnlyWithin}
+use Rattle.qrcode_ec.specs.Codes.{Vanishes}
 use Rattle.qrcode_ec.specs.Blocks.{blocks, data_bytes, data_bits}
-use Rattle.qrcode_places.specs.Masks.{exists_in}
-use Rattle.qrcode_places.specs.Words.{FormatWordsAreApart}
 use Rattle.qrcode_places.specs.declared.masks.MaskPattern.{MaskPattern}
 use Rattle.qrcode_symbol.specs.Symbol.{Carries, IsSymbol}
-use Rattle.qrcode_symbol.specs.Penalties.{IsFirstLeast}
-use Rattle.qrcode_symbol.specs.Reading.{ReadsBitsOnly}
 use Rattle.qrcode_bits.specs.Spelling.{Spells}
 use Rattle.qrcode.specs.Drawing.{IsBestDrawing}
-use Rattle.qrcode.specs.Reading.{ReadsOnly, Encodes}
+use Rattle.qrcode.specs.Reading.{EncodesBits, EncodesBytes}
 use Rattle.qrcode.proofs.BlockLists.{blocks-bytes}
-use Rattle.qrcode.proofs.Readings.{reads_bits_only}
+use Rattle.qrcode.proofs.Readings.{reads_bits_only, reads_only}
 
 -- The codewords of a symbol, as they come from its bits.
 
--- codewords whose blocks hold bits, vanish, and are the only near ones
+-- codewords whose blocks hold bits, and vanish
 pub record AreCodewords (v : Version) (l : EcLevel) (bits : List Bool) (words : List ℕ) : Type 0 where
   pub bytes : AreBytes words
   pub holds : data_bits v l (blocks v l words) ≡ bits
   pub vanish : AllByRecursion (λ b. Vanishes b (ec_length v l)) (blocks v l words)
-  pub apart : AllByRecursion (λ b. IsOnlyWithin b (ec_length v l)) (blocks v l words)
 
 -- the bits that fill a symbol, from bytes that are those bits and others behind them
 pub data_bits-from : (v : Version) (l : EcLevel) (bits rest : List Bool) (raw : List ℕ) (bs : List (List ℕ)) → length bits ≡ capacity v l → bits_of raw ≡ bits ++ rest
@@ -49,40 +44,25 @@ is_symbol v l bits words k s are carries = record {
 }
 
 -- the symbol of bits under the first mask of least penalty
-pub encodes_bits : FormatWordsAreApart → (v : Version) (l : EcLevel) (bits : List Bool) (words : List ℕ) (k : MaskPattern) (s : List Color)
-    → IsTrue (has_level v l) → IsTrue (exists_in v k) → AreCodewords v l bits words → Carries v l words k s → IsFirstLeast v l k s
-    → Encodes (λ other. ReadsBitsOnly other v l bits) v l bits s
-encodes_bits far v l bits words k s p q are carries least =
-    let symbol = is_symbol v l bits words k s are carries in
-    let bytes = subst (λ w. AllByRecursion AreBytes (blocks v l w)) (sym carries.holds) (blocks-bytes v l words are.bytes) in
-    let only = subst (λ w. AllByRecursion (λ b. IsOnlyWithin b (ec_length v l)) (blocks v l w)) (sym carries.holds) are.apart in
+pub encodes_bits : (v : Version) (l : EcLevel) (bits : List Bool) (words : List ℕ) (s : List Color) → IsTrue (has_level v l) → AreCodewords v l bits words → IsBestDrawing v l words s
+    → EncodesBits v l bits s
+encodes_bits v l bits words s exists are drawn =
+    let k = drawn.mask in
+    let symbol = is_symbol v l bits words k s are drawn.carries in
+    let bytes = subst (λ w. AllByRecursion AreBytes (blocks v l w)) (sym drawn.carries.holds) (blocks-bytes v l words are.bytes) in
     record {
       mask = k;
-      mask_exists = q;
+      mask_exists = drawn.mask_exists;
       symbol = symbol;
-      first_least = least;
-      read = reads_bits_only far v l bits k s p q bytes only symbol;
+      first_least = drawn.first_least;
+      read = reads_bits_only v l bits k s exists drawn.mask_exists bytes symbol;
     }
 
--- colours of which one list of bits is read spell what the bits spell
-pub reads_only : (s : List Color) (v : Version) (l : EcLevel) (bits : List Bool) (bytes : List ℕ) → ReadsBitsOnly s v l bits
-    → Spells v bits bytes → ((others : List ℕ) → Spells v bits others → others ≡ bytes) → ReadsOnly s bytes
-reads_only s v l bits bytes read spelled only = record {
-  found = record { version = v; level = l; bits = bits; read = read.found; spelled = spelled };
-  only = λ others r.
-      let e = read.only r.version r.level r.bits r.read in
-      only others (subst (λ b. Spells v b others) e.2 (subst (λ u. Spells u r.bits others) e.0 r.spelled));
-}
-
--- bits that spell one list of bytes only: what is read of their symbol is these bytes
-pub encodes_bytes : (v : Version) (l : EcLevel) (bits : List Bool) (s : List Color) (bytes : List ℕ) → Encodes (λ other. ReadsBitsOnly other v l bits) v l bits s
-    → Spells v bits bytes → ((others : List ℕ) → Spells v bits others → others ≡ bytes) → Encodes (λ other. ReadsOnly other bytes) v l bits s
-encodes_bytes v l bits s bytes encodes spelled only = record {
-  mask = encodes.mask;
-  mask_exists = encodes.mask_exists;
-  symbol = encodes.symbol;
-  first_least = encodes.first_least;
-  read = λ other damage. reads_only other v l bits bytes (encodes.read other damage) spelled only;
+-- what is read of the symbol of bits are the bytes that the bits spell
+pub encodes_bytes : (v : Version) (l : EcLevel) (bits : List Bool) (s : List Color) (bytes : List ℕ) → EncodesBits v l bits s → Spells v bits bytes → EncodesBytes v l bits bytes s
+encodes_bytes v l bits s bytes encodes spelled = record {
+  encodes = encodes;
+  read = λ other damage. reads_only other v l bits bytes (encodes.read other damage).found spelled;
 }
 
 -- The bytes that bits fill.
@@ -147,16 +127,10 @@ half_is_high v l bits rest raw half some len all is =
 -- what is drawn of the codewords of bits encodes the bits
 pub encodes_drawn : (v : Version) (l : EcLevel) (bits : List Bool) (rest : ℕ) (raw words : List ℕ) (s : List Color) → IsTrue (has_level v l) → length bits ≡ capacity v l
     → bits_of raw ≡ bits ++ replicate rest false → AreBytes words → data_bytes v l (blocks v l words) ≡ raw
-    → AllByRecursion (λ b. Vanishes b (ec_length v l)) (blocks v l words) → AllByRecursion (λ b. IsOnlyWithin b (ec_length v l)) (blocks v l words)
-    → FormatWordsAreApart → IsBestDrawing v l words s → Encodes (λ other. ReadsBitsOnly other v l bits) v l bits s
-encodes_drawn v l bits rest raw words s exists len is bytes holds vanish apart far drawn =
-    let are : AreCodewords v l bits words = record {
-      bytes = bytes;
-      holds = data_bits-from v l bits (replicate rest false) raw (blocks v l words) len is holds;
-      vanish = vanish;
-      apart = apart;
-    } in
-    encodes_bits far v l bits words drawn.mask s exists drawn.mask_exists are drawn.carries drawn.first_least
+    → AllByRecursion (λ b. Vanishes b (ec_length v l)) (blocks v l words) → IsBestDrawing v l words s → EncodesBits v l bits s
+encodes_drawn v l bits rest raw words s exists len is bytes holds vanish drawn =
+    let are : AreCodewords v l bits words = record { bytes = bytes; holds = data_bits-from v l bits (replicate rest false) raw (blocks v l words) len is holds; vanish = vanish } in
+    encodes_bits v l bits words s exists are drawn
 
 -- bytes, joined
 pub joined_bytes : (a b : List ℕ) → AreBytes a → AreBytes b → AreBytes (a ++ b)

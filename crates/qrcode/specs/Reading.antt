@@ -7,7 +7,7 @@ use Rattle.qrcode_places.specs.Masks.{exists_in}
 use Rattle.qrcode_places.specs.declared.masks.MaskPattern.{MaskPattern}
 use Rattle.qrcode_symbol.specs.Symbol.{IsSymbol, IsDamaged}
 use Rattle.qrcode_symbol.specs.Penalties.{IsFirstLeast}
-use Rattle.qrcode_symbol.specs.Reading.{ReadsBits}
+use Rattle.qrcode_symbol.specs.Reading.{ReadsBits, ReadsBitsOnly}
 use Rattle.qrcode_bits.specs.Spelling.{Spells}
 
 -- a reader finds these bytes
@@ -23,10 +23,25 @@ pub record ReadsOnly (s : List Color) (bytes : List ℕ) : Type 0 where
   pub found : Reads s bytes
   pub only : (others : List ℕ) → Reads s others → others ≡ bytes
 
--- the symbol of bits under the first mask of least penalty, of which every damaged symbol is read as `Read` says
-pub record Encodes (Read : List Color → Type 0) (v : Version) (l : EcLevel) (bits : List Bool) (s : List Color) : Type 0 where
+-- no square at all is read in two ways: not as other bits, nor of another version or level
+abbrev pub BitsAreReadOneWay : Type 0
+BitsAreReadOneWay =
+    (s : List Color) (v u : Version) (l m : EcLevel) (bits others : List Bool) → ReadsBits s v l bits → ReadsBits s u m others
+    → (u ≡ v) × (m ≡ l) × (others ≡ bits)
+
+-- nor as other bytes
+abbrev pub BytesAreReadOneWay : Type 0
+BytesAreReadOneWay = (s : List Color) (bytes others : List ℕ) → Reads s bytes → Reads s others → others ≡ bytes
+
+-- the symbol of bits under the first mask of least penalty, of which every damaged symbol is read as these bits and no others
+pub record EncodesBits (v : Version) (l : EcLevel) (bits : List Bool) (s : List Color) : Type 0 where
   pub mask : MaskPattern
   pub mask_exists : IsTrue (exists_in v mask)
   pub symbol : IsSymbol v l bits mask s
   pub first_least : IsFirstLeast v l mask s
-  pub read : (other : List Color) → IsDamaged v l mask s other → Read other
+  pub read : (other : List Color) → IsDamaged v l mask s other → ReadsBitsOnly other v l bits
+
+-- such a symbol, of which every damaged symbol is read as these bytes and no others
+pub record EncodesBytes (v : Version) (l : EcLevel) (bits : List Bool) (bytes : List ℕ) (s : List Color) : Type 0 where
+  pub encodes : EncodesBits v l bits s
+  pub read : (other : List Color) → IsDamaged v l encodes.mask s other → ReadsOnly other bytes

@@ -1,28 +1,18 @@
 //! QR and Micro QR symbols.
 #![tactic(auto)]
 
-ghost use Rattle.std.specs.Prelude.{◌≡◌, ◌⊎◌, ◌↔◌, ℕ, ◌+◌, ◌*◌, ◌-◌, ◌/◌, ◌%◌, ◌<◌, ◌≤◌, ◌++◌, List, true, false, Some, pos, string_bytes, length, slice_index, slice_get, map, IsTrue, IfOk, IfErr, OnOk, IsOkUnless};
-ghost use Rattle.qrcode_types.specs.Versions.{is_valid, side, has_level, capacity, data_length, total_ec_length, has_half_codeword};
-ghost use Rattle.qrcode_types.specs.declared.types.Version.TheVariants.{Normal};
-ghost use Rattle.qrcode_types.specs.declared.types.QrError.TheVariants.{OutOfMemory, InvalidVersion, DataTooLong, UnsupportedCharacterSet};
+ghost use Rattle.std.specs.Prelude.{◌≡◌, ◌↔◌, ◌+◌, ◌*◌, ◌-◌, ◌/◌, ◌%◌, ◌<◌, ◌≤◌, ◌++◌, true, false, Some, string_bytes, length, slice_index, slice_get, map, IsTrue, IfOk, IfErr, OnOk, IsOkUnless};
+ghost use Rattle.qrcode_types.specs.Versions.{side, has_level, capacity, data_length, total_ec_length, has_half_codeword};
+ghost use Rattle.qrcode_types.specs.declared.types.QrError.TheVariants.{OutOfMemory, InvalidVersion, DataTooLong};
 ghost use Rattle.qrcode_types.specs.Colors.{is_dark};
-ghost use Rattle.qrcode_types.specs.declared.types.Version.{Version};
 ghost use Rattle.qrcode_types.specs.declared.types.EcLevel.TheVariants.{M};
 ghost use Rattle.qrcode_ec.specs.Allowed.{reserved_codewords};
 ghost use Rattle.qrcode_places.specs.Patterns.{is_functional_place};
-ghost use Rattle.qrcode_places.specs.Words.{FormatWordsAreApart};
 ghost use Rattle.qrcode_symbol.specs.Patterned.{IsDrawn};
-ghost use Rattle.qrcode_symbol.specs.Reading.{ReadsBitsOnly};
-ghost use Rattle.qrcode_bits.specs.Choice.{bands, IsChosen, NoneHolds};
-ghost use Rattle.qrcode_bits.specs.Cuts.{FitsIn};
-ghost use Rattle.qrcode_bits.specs.Encoded.{IsNormalUpTo};
-ghost use Rattle.qrcode_bits.specs.Refusals.{data_limit};
-ghost use Rattle.qrcode_bits.specs.Spelling.{IsSpelled};
-ghost use Rattle.qrcode_bits.specs.declared.optimize.Segment.{Segment};
-ghost use Rattle.qrcode.specs.Acceptance.{IsAccepted, HasCut, IsLeastSymbol, IsChosenSymbol, IsRefused};
+ghost use Rattle.qrcode.specs.Acceptance.{IsAutomatic, IsAccepted, IsLeastSymbol, IsRefusedAt};
 ghost use Rattle.qrcode.specs.Drawing.{IsBestDrawing};
 ghost use Rattle.qrcode.specs.Pictures.{quiet_zone, debug_text};
-ghost use Rattle.qrcode.specs.Reading.{Encodes};
+ghost use Rattle.qrcode.specs.Reading.{EncodesBits};
 
 use bits::{Bits, DATA_LIMIT};
 use canvas::Canvas;
@@ -36,6 +26,8 @@ use std::marker::Model;
 use std::ops::Index;
 use types::QrError;
 pub use types::{Color, EcLevel, QrResult, Version};
+
+pub mod laws;
 
 /// A symbol.
 #[derive(Drop)]
@@ -65,103 +57,59 @@ impl Model for QrCode {
 }
 
 impl QrCode {
-    /// The symbol of data at level `M`, of the least Normal version that holds it.
+    /// The symbol of bytes at level `M`, of the least Normal version that holds them.
     ///
-    /// Refuses with `DataTooLong` where no Normal version holds the data, or where it has more than
-    /// 1,048,576 bytes, and with `OutOfMemory`.
-    pub fn new(alloc: Global, data: &[u8]) -> QrResult<Self>
-        ensures too_long { data_limit < length «data».now → result ≡ Err DataTooLong }
-        ensures refuses { NoneHolds bands M «data».now
-            → (result ≡ Err DataTooLong) ⊎ (result ≡ Err OutOfMemory) }
-        ensures accepts { (v : Version) (segments : List Segment)
-            → IsChosen M «data».now v segments → IsOkUnless result OutOfMemory }
-        ensures causes { IfErr result (IsRefused M «data».now) }
-        ensures refuses_unspelled { ((n : ℕ) → 1 ≤ n → n ≤ 40 → ¬ IsSpelled (Normal (pos n)) M «data».now)
-            → (result ≡ Err DataTooLong) ⊎ (result ≡ Err OutOfMemory) }
-        ensures accepts_spelled { (n : ℕ) → 1 ≤ n → n ≤ 40
-            → IsSpelled (Normal (pos n)) M «data».now → IsOkUnless result OutOfMemory }
-        ensures least_version { (n : ℕ) → 1 ≤ n → n ≤ 40
-            → IsSpelled (Normal (pos n)) M «data».now
-            → IfOk result (λ code. IsNormalUpTo n code.version) }
-        ensures only_spelled { IfOk result (λ code. IsSpelled code.version M «data».now) }
-        ensures level { IfOk result (λ code. code.level ≡ M) }
-        ensures symbol { IfOk result (λ code.
-            IsChosenSymbol code.version M «data».now code.modules) }
+    /// `DataTooLong`: no Normal version holds the bytes, or they are more than 1,048,576.
+    /// `OutOfMemory`: memory was refused.
+    pub fn new(alloc: Global, bytes: &[u8]) -> QrResult<Self>
+        ensures { IsAutomatic M bytes.now result }
     {
-        QrCode::with_error_correction_level(alloc, data, EcLevel::M)
+        QrCode::with_error_correction_level(alloc, bytes, EcLevel::M)
     }
 
-    /// The symbol of data at a level, of the least Normal version that holds it.
+    /// The symbol of bytes at a level, of the least Normal version that holds them.
     ///
-    /// Refuses as `new` does.
+    /// `DataTooLong`: no Normal version holds the bytes, or they are more than 1,048,576.
+    /// `OutOfMemory`: memory was refused.
     pub fn with_error_correction_level(
         alloc: Global,
-        data: &[u8],
+        bytes: &[u8],
         ec_level: EcLevel,
     ) -> QrResult<Self>
-        ensures too_long { data_limit < length «data».now → result ≡ Err DataTooLong }
-        ensures refuses { NoneHolds bands ec_level «data».now
-            → (result ≡ Err DataTooLong) ⊎ (result ≡ Err OutOfMemory) }
-        ensures accepts { (v : Version) (segments : List Segment)
-            → IsChosen ec_level «data».now v segments → IsOkUnless result OutOfMemory }
-        ensures causes { IfErr result (IsRefused ec_level «data».now) }
-        ensures refuses_unspelled { ((n : ℕ) → 1 ≤ n → n ≤ 40 → ¬ IsSpelled (Normal (pos n)) ec_level «data».now)
-            → (result ≡ Err DataTooLong) ⊎ (result ≡ Err OutOfMemory) }
-        ensures accepts_spelled { (n : ℕ) → 1 ≤ n → n ≤ 40
-            → IsSpelled (Normal (pos n)) ec_level «data».now → IsOkUnless result OutOfMemory }
-        ensures least_version { (n : ℕ) → 1 ≤ n → n ≤ 40
-            → IsSpelled (Normal (pos n)) ec_level «data».now
-            → IfOk result (λ code. IsNormalUpTo n code.version) }
-        ensures only_spelled { IfOk result (λ code. IsSpelled code.version ec_level «data».now) }
-        ensures level { IfOk result (λ code. code.level ≡ ec_level) }
-        ensures symbol { IfOk result (λ code.
-            IsChosenSymbol code.version ec_level «data».now code.modules) }
+        ensures { IsAutomatic ec_level bytes.now result }
     {
-        let bits = bits::encode_auto(alloc, data, ec_level)?;
+        let bits = bits::encode_auto(alloc, bytes, ec_level)?;
         QrCode::with_bits(alloc, bits, ec_level)
     }
 
-    /// The symbol of data, of a version and level.
+    /// The symbol of bytes, of a version and level.
     ///
-    /// Refuses, in this order, with `InvalidVersion` where there is no such version, with
-    /// `DataTooLong` where the data has more than 1,048,576 bytes, with `UnsupportedCharacterSet`
-    /// where it needs a mode that the version lacks, with `InvalidVersion` where the version lacks
-    /// the level, and with `DataTooLong` where the symbol does not hold the data; and with
-    /// `OutOfMemory`.
+    /// It is refused by the first of these causes that applies. `InvalidVersion`: there is no such
+    /// version. `DataTooLong`: the bytes are more than 1,048,576. `UnsupportedCharacterSet`: they
+    /// need a mode that the version lacks. `InvalidVersion`: the version lacks the level.
+    /// `DataTooLong`: the symbol does not hold the bytes. And `OutOfMemory` may come in place of the
+    /// last two, or where none applies.
     pub fn with_version(
         alloc: Global,
-        data: &[u8],
+        bytes: &[u8],
         version: Version,
         ec_level: EcLevel,
     ) -> QrResult<Self>
-        ensures invalid { is_valid version ≡ false → result ≡ Err InvalidVersion }
-        ensures too_long { IsTrue (is_valid version) → data_limit < length «data».now
-            → result ≡ Err DataTooLong }
-        ensures no_cut { IsTrue (is_valid version) → length «data».now ≤ data_limit
-            → ¬ HasCut version «data».now → result ≡ Err UnsupportedCharacterSet }
-        ensures no_level { IsTrue (is_valid version) → length «data».now ≤ data_limit
-            → HasCut version «data».now → has_level version ec_level ≡ false
-            → (result ≡ Err InvalidVersion) ⊎ (result ≡ Err OutOfMemory) }
-        ensures no_room { IsTrue (has_level version ec_level) → HasCut version «data».now
-            → ¬ FitsIn version «data».now (capacity version ec_level)
-            → (result ≡ Err DataTooLong) ⊎ (result ≡ Err OutOfMemory) }
-        ensures accepts { IsAccepted version ec_level «data».now → IsOkUnless result OutOfMemory }
-        ensures only_accepted { OnOk result (IsAccepted version ec_level «data».now) }
-        ensures accepts_spelled { IsTrue (has_level version ec_level)
-            → IsSpelled version ec_level «data».now → IsOkUnless result OutOfMemory }
-        ensures only_spelled { OnOk result (IsSpelled version ec_level «data».now) }
         ensures version { IfOk result (λ code. code.version ≡ version) }
         ensures level { IfOk result (λ code. code.level ≡ ec_level) }
         ensures symbol { IfOk result (λ code.
-            IsLeastSymbol version ec_level «data».now code.modules) }
+            IsLeastSymbol version ec_level bytes.now code.modules) }
+        ensures accepts { IsAccepted version ec_level bytes.now → IsOkUnless result OutOfMemory }
+        ensures only_accepted { OnOk result (IsAccepted version ec_level bytes.now) }
+        ensures causes { IfErr result (IsRefusedAt version ec_level bytes.now) }
     {
         if !version.is_valid() {
             return Err(QrError::InvalidVersion);
         }
         let mut bits = Bits::new(alloc, version);
-        if let Err(error) = bits.push_optimal_data(data) {
+        if let Err(error) = bits.push_optimal_data(bytes) {
             // Within the limit, a missing level is told before that the symbol lacks the room.
-            if error == QrError::DataTooLong && data.len() <= DATA_LIMIT {
+            if error == QrError::DataTooLong && bytes.len() <= DATA_LIMIT {
                 bits.max_len(ec_level)?;
             }
             return Err(error);
@@ -170,24 +118,23 @@ impl QrCode {
         QrCode::with_bits(alloc, bits, ec_level)
     }
 
-    /// The symbol of a list of bits, which has the bits' version.
+    /// The symbol of a list of bits, which has the bits' version. Bits that do not fill the symbol
+    /// are ended by `Bits::push_terminator` first.
     ///
-    /// Refuses with `InvalidVersion` where the version lacks the level, with `DataTooLong` where the
-    /// symbol holds fewer bits, and with `OutOfMemory`. Bits that do not fill the symbol are ended
-    /// by `Bits::push_terminator` first.
+    /// `InvalidVersion`: the version lacks the level. `DataTooLong`: the symbol holds fewer bits.
+    /// `OutOfMemory`: memory was refused.
     pub fn with_bits(alloc: Global, bits: Bits, ec_level: EcLevel) -> QrResult<Self>
         requires { IsTrue (has_level bits.version ec_level)
             → capacity bits.version ec_level ≤ length bits.bits }
-        ensures missing { has_level bits.version ec_level ≡ false → result ≡ Err InvalidVersion }
-        ensures too_long { IsTrue (has_level bits.version ec_level)
-            → capacity bits.version ec_level < length bits.bits → result ≡ Err DataTooLong }
-        ensures accepts { IsTrue (has_level bits.version ec_level)
-            → length bits.bits ≤ capacity bits.version ec_level → IsOkUnless result OutOfMemory }
         ensures version { IfOk result (λ code. code.version ≡ bits.version) }
         ensures level { IfOk result (λ code. code.level ≡ ec_level) }
         ensures symbol { IfOk result (λ code.
-            Encodes (λ other. ReadsBitsOnly other bits.version ec_level bits.bits)
-            bits.version ec_level bits.bits code.modules) }
+            EncodesBits bits.version ec_level bits.bits code.modules) }
+        ensures no_level { has_level bits.version ec_level ≡ false → result ≡ Err InvalidVersion }
+        ensures no_room { IsTrue (has_level bits.version ec_level)
+            → capacity bits.version ec_level < length bits.bits → result ≡ Err DataTooLong }
+        ensures accepts { IsTrue (has_level bits.version ec_level)
+            → length bits.bits ≤ capacity bits.version ec_level → IsOkUnless result OutOfMemory }
     {
         let version = bits.version();
         let Some(room) = tables::capacity(version, ec_level) else {
@@ -196,9 +143,9 @@ impl QrCode {
         if bits.len() > room {
             return Err(QrError::DataTooLong);
         }
-        let data = bits.into_bytes();
-        let (data, ec) = ec::construct_codewords(alloc, &data, version, ec_level)?;
-        let content = draw_codewords(alloc, version, ec_level, &data, &ec)?;
+        let bytes = bits.into_bytes();
+        let (data, ec) = ec::construct_codewords(alloc, &bytes, version, ec_level)?;
+        let content = drawn_symbol(alloc, version, ec_level, &data, &ec)?;
         Ok(QrCode {
             content,
             version,
@@ -225,6 +172,7 @@ impl QrCode {
     /// The modules along a side, without a quiet zone.
     pub fn width(&self) -> usize
         ensures across { result ≡ side self.now.version }
+        ensures at_most { result ≤ 177 }
         ensures square { length self.now.modules ≡ result * result }
     {
         self.width
@@ -346,24 +294,25 @@ impl Clone for QrCode {
     }
 }
 
-// The colours of codewords, with all patterns, under the first mask of least penalty.
-fn draw_codewords(
+// The colours of the symbol of codewords, with all patterns, under the first mask of least penalty.
+fn drawn_symbol(
     alloc: Global,
     version: Version,
     ec_level: EcLevel,
-    data: &[u8],
-    ec: &[u8],
+    data_codewords: &[u8],
+    ec_codewords: &[u8],
 ) -> QrResult<Vec<Color>>
     requires exists { IsTrue (has_level version ec_level) }
-    requires data_length { length «data».now ≡ data_length version ec_level }
-    requires ec_length { length ec.now ≡ total_ec_length version ec_level }
-    requires half { IsTrue (has_half_codeword version ec_level) → slice_index «data».now (length «data».now - 1) % 16 ≡ 0 }
+    requires data_length { length data_codewords.now ≡ data_length version ec_level }
+    requires ec_length { length ec_codewords.now ≡ total_ec_length version ec_level }
+    requires half { IsTrue (has_half_codeword version ec_level)
+        → slice_index data_codewords.now (length data_codewords.now - 1) % 16 ≡ 0 }
+    ensures drawn { IfOk result (λ colors. IsBestDrawing version ec_level
+        (data_codewords.now ++ ec_codewords.now) colors.items) }
     ensures memory { IsOkUnless result OutOfMemory }
-    ensures drawn { IfOk result (λ colors. IsBestDrawing version ec_level («data».now ++ ec.now) colors.items) }
-    ensures words { IfOk result (λ _. FormatWordsAreApart) }
 {
     let mut canvas = Canvas::new(alloc, version, ec_level)?;
     canvas.draw_all_functional_patterns();
-    canvas.draw_data(data, ec);
+    canvas.draw_data(data_codewords, ec_codewords);
     canvas.best_colors(alloc)
 }

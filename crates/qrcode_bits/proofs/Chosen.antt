@@ -1,82 +1,74 @@
--- The version that is chosen is the least that holds the data.
-use Rattle.std.proofs.Common.{◌≡◌, ℕ, ◌≤◌, ◌<◌, List, pos, refl, subst, ◌∙◌, arith, inl, inr}
-use Rattle.std.specs.Prelude.{◌↔◌}
-use Rattle.std.proofs.lemmas.Bool.{cases_lt, le-leb, lt-leb}
-use Rattle.std.proofs.lemmas.Bool.Decides.{nat_tests}
-use Rattle.qrcode_types.specs.Versions.{capacity}
+-- The version that is chosen is the least that holds the data; and data can be cut, or not.
+use Rattle.std.proofs.Common.{◌≡◌, ◌⊎◌, ℕ, zero, suc, ◌≤◌, ◌<◌, Bool, true, false, true≢false, nat_le, if◌then◌else◌, List, pos, refl, sym, subst, ◌∙◌, arith, inl, inr, IsTrue}
+use Rattle.std.specs.Prelude.{Contains}
+use Rattle.std.proofs.lemmas.Bool.{cases_lt}
+use Rattle.qrcode_types.specs.Bits.{AreBytes}
+use Rattle.qrcode_types.specs.Versions.{is_valid}
+use Rattle.qrcode_types.specs.Characters.{can_write}
+use Rattle.qrcode_types.specs.declared.types.Version.{Version}
 use Rattle.qrcode_types.specs.declared.types.Version.TheVariants.{Normal}
 use Rattle.qrcode_types.specs.declared.types.EcLevel.{EcLevel}
 use Rattle.qrcode_bits.specs.BitList.{BitList}
 use Rattle.qrcode_bits.specs.Segments.{total_cost}
-use Rattle.qrcode_bits.specs.Cuts.{FitsIn}
-use Rattle.qrcode_bits.specs.Choice.{bands, NoneHolds}
-use Rattle.qrcode_bits.specs.Encoded.{IsHeld, IsNormalUpTo}
-use Rattle.qrcode_bits.specs.Spelling.{IsSpelled}
-use Rattle.qrcode_bits.proofs.Bands.{last_of, cost_le, cost_same, cut_in, fits_last, least_version-is, normal_valid}
-use Rattle.qrcode_bits.proofs.SpelledCuts.{fits_spelled}
+use Rattle.qrcode_bits.specs.Choice.{Holds, NormalHolds, bands}
+use Rattle.qrcode_bits.specs.Cuts.{IsCut}
+use Rattle.qrcode_bits.specs.Encoded.{IsTerminated, IsHeld, IsChosenList}
+use Rattle.qrcode_bits.specs.ModeHeaders.{widest_mode}
+use Rattle.qrcode_bits.specs.declared.optimize.Segment.{Segment}
+use Rattle.qrcode_bits.proofs.LeastCuts.{cut_is_written, one_segment}
+use Rattle.qrcode_bits.proofs.Bands.{last_of, cost_le, cost_same, cut_in, fits_last, least_version-is}
 
-pub held_in : (l : EcLevel) (bytes : List ℕ) (n : ℕ) → 1 ≤ n → n ≤ 40 → FitsIn (Normal (pos n)) bytes (capacity (Normal (pos n)) l) ↔ IsSpelled (Normal (pos n)) l bytes
-held_in l bytes n some most = fits_spelled (Normal (pos n)) bytes (normal_valid n some most) l
+-- what holds of 9, 26 and 40 holds of each band
+pub each_band : (P : ℕ → Type 0) → P 9 → P 26 → P 40 → (n : ℕ) → Contains bands n → P n
+each_band P a b c n (zero, _, e) = subst P e a
+each_band P a b c n (suc zero, _, e) = subst P e b
+each_band P a b c n (suc (suc zero), _, e) = subst P e c
+each_band P a b c n (suc (suc (suc k)), inside, e) = absurd (omega (arith, inside))
 
--- Where a version holds the data, so does the last one of its band; so it's in a later band than those that do not.
-after_first : (l : EcLevel) (bytes : List ℕ) (n : ℕ) → 1 ≤ n → n ≤ 40 → FitsIn (Normal (pos n)) bytes (capacity (Normal (pos n)) l) → ¬ FitsIn (Normal (pos 9)) bytes (capacity (Normal (pos 9)) l) → 9 < n
-after_first l bytes n some most fits not_first = elim (cases_lt 9 n) [
-  | inl lt ↦ lt
-  | inr le ↦
-      let e : last_of n ≡ 9 = let t = le-leb n 9 le in rw t refl in
-      absurd (not_first (subst (λ k. FitsIn (Normal (pos k)) bytes (capacity (Normal (pos k)) l)) e (fits_last l bytes n some most fits)))
-]
+last_in : (n : ℕ) → Contains bands (last_of n)
+last_in n = by_tests (nat_le n 9) (nat_le n 26) where
+  by_tests : (a b : Bool) → Contains bands (if a then 9 else (if b then 26 else 40))
+  by_tests true b = (0, omega arith, refl)
+  by_tests false true = (1, omega arith, refl)
+  by_tests false false = (2, omega arith, refl)
 
-after_second : (l : EcLevel) (bytes : List ℕ) (n : ℕ) → 9 < n → n ≤ 40 → FitsIn (Normal (pos n)) bytes (capacity (Normal (pos n)) l) → ¬ FitsIn (Normal (pos 26)) bytes (capacity (Normal (pos 26)) l) → 26 < n
-after_second l bytes n high most fits not_first = elim (cases_lt 26 n) [
-  | inl lt ↦ lt
-  | inr le ↦
-      let e : last_of n ≡ 26 = let t = lt-leb n 9 high in let u = le-leb n 26 le in rw (t, u) refl in
-      absurd (not_first (subst (λ k. FitsIn (Normal (pos k)) bytes (capacity (Normal (pos k)) l)) e (fits_last l bytes n (omega arith) most fits)))
-]
+module _ (l : EcLevel) (bytes : List ℕ) where
+  -- where a version holds the data, so does the last one of its band
+  last_holds : (n : ℕ) → NormalHolds n l bytes → Holds (Normal (pos (last_of n))) l bytes
+  last_holds n h = fits_last l bytes n h.at_least h.at_most h.holds
 
-after_third : (l : EcLevel) (bytes : List ℕ) (n : ℕ) → 26 < n → n ≤ 40 → FitsIn (Normal (pos n)) bytes (capacity (Normal (pos n)) l) → ¬ FitsIn (Normal (pos 40)) bytes (capacity (Normal (pos 40)) l) → ⊥
-after_third l bytes n high most fits not_first =
-    let t = lt-leb n 9 (omega arith) in
-    let u = lt-leb n 26 high in
-    let e : last_of n ≡ 40 = rw (t, u) refl in
-    not_first (subst (λ k. FitsIn (Normal (pos k)) bytes (capacity (Normal (pos k)) l)) e (fits_last l bytes n (omega arith) most fits))
+  pub none_holds : ((n : ℕ) → Contains bands n → ¬ Holds (Normal (pos n)) l bytes) → (n : ℕ) → NormalHolds n l bytes → ⊥
+  none_holds none n h = none (last_of n) (last_in n) (last_holds n h)
 
-pub none_held : (l : EcLevel) (bytes : List ℕ) (n : ℕ) → 1 ≤ n → n ≤ 40 → NoneHolds bands l bytes → IsSpelled (Normal (pos n)) l bytes → ⊥
-none_held l bytes n some most none spelled =
-    let fits = (held_in l bytes n some most).1 spelled in
-    let one = after_first l bytes n some most fits none.0 in
-    let two = after_second l bytes n one most fits none.1.0 in
-    after_third l bytes n two most fits none.1.1.0
+  -- the list of the first band that holds the data
+  pub chosen_list : (list : BitList) (c : ℕ) → Contains bands c → 1 ≤ c → c ≤ 40 → ((n : ℕ) → Contains bands n → n < c → ¬ Holds (Normal (pos n)) l bytes)
+      → IsHeld (Normal (pos c)) l bytes list → IsChosenList l bytes list
+  chosen_list list c is_band some most first held =
+      let segments = held.segments in
+      let used = total_cost (Normal (pos c)) segments in
+      let chosen = least_version-is l used c some most held.room in
+      let number = chosen.0 in
+      let is = held.terminated.version ∙ chosen.1.is in
+      let low : number ≤ c = chosen.1.least c some most held.room in
+      record {
+        segments = segments;
+        chosen = record { band = c; is_band = is_band; first = first; cut = held.least; room = held.room; version = held.terminated.version };
+        least_version = record {
+          number = number;
+          is = is;
+          holds = record { at_least = chosen.1.some; at_most = chosen.1.most; holds = (segments, (cut_in c number bytes segments held.least.reached, omega (arith, cost_le number c segments low, chosen.1.room))) };
+          least = λ n h.
+              let band : c ≤ last_of n = elim (cases_lt (last_of n) c) [ inl lt ↦ absurd (first (last_of n) (last_in n) lt (last_holds n h)) | inr le ↦ le ] in
+              let fits = h.holds in
+              chosen.1.least n h.at_least h.at_most
+              (omega (arith, held.least.least fits.0 (cut_in n c bytes fits.0 fits.1.0), cost_le c (last_of n) fits.0 band, cost_same n fits.0 h.at_most, fits.1.1));
+        };
+        terminated = subst (λ v. IsTerminated v l bytes segments list) (sym held.terminated.version) held.terminated;
+      }
 
--- the version of a list is at most any that holds the data, in the band that decides or a later one
-up_to : (l : EcLevel) (bytes : List ℕ) (list : BitList) (c n : ℕ) → 1 ≤ c → c ≤ 40 → 1 ≤ n → n ≤ 40 → c ≤ last_of n → IsHeld (Normal (pos c)) l bytes list
-    → FitsIn (Normal (pos n)) bytes (capacity (Normal (pos n)) l) → IsNormalUpTo n list.version
-up_to l bytes list c n c_some c_most some most band held fits =
-    let used = total_cost (Normal (pos c)) held.segments in
-    let chosen = least_version-is l used c c_some c_most held.room in
-    let room : used ≤ capacity (Normal (pos n)) l =
-    omega (arith, held.least.least fits.0 (cut_in n c bytes fits.0 fits.1.0), cost_le c (last_of n) fits.0 band, cost_same n fits.0 most, fits.1.1) in
-    (chosen.0, (held.terminated.version ∙ chosen.1.is, (chosen.1.some, chosen.1.least n some most room)))
-
-pub up_to_first : (l : EcLevel) (bytes : List ℕ) (list : BitList) (n : ℕ) → 1 ≤ n → n ≤ 40 → IsHeld (Normal (pos 9)) l bytes list → IsSpelled (Normal (pos n)) l bytes → IsNormalUpTo n list.version
-up_to_first l bytes list n some most held spelled =
-    let band : 9 ≤ last_of n = grind (arith, nat_tests) in
-    up_to l bytes list 9 n (omega arith) (omega arith) some most band held ((held_in l bytes n some most).1 spelled)
-
-pub up_to_second : (l : EcLevel) (bytes : List ℕ) (list : BitList) (n : ℕ) → 1 ≤ n → n ≤ 40 → ¬ FitsIn (Normal (pos 9)) bytes (capacity (Normal (pos 9)) l)
-    → IsHeld (Normal (pos 26)) l bytes list → IsSpelled (Normal (pos n)) l bytes → IsNormalUpTo n list.version
-up_to_second l bytes list n some most not_first held spelled =
-    let fits = (held_in l bytes n some most).1 spelled in
-    let one = after_first l bytes n some most fits not_first in
-    let band : 26 ≤ last_of n = grind (arith, nat_tests, one) in
-    up_to l bytes list 26 n (omega arith) (omega arith) some most band held fits
-
-pub up_to_third : (l : EcLevel) (bytes : List ℕ) (list : BitList) (n : ℕ) → 1 ≤ n → n ≤ 40 → ¬ FitsIn (Normal (pos 9)) bytes (capacity (Normal (pos 9)) l) → ¬ FitsIn (Normal (pos 26)) bytes (capacity (Normal (pos 26)) l)
-    → IsHeld (Normal (pos 40)) l bytes list → IsSpelled (Normal (pos n)) l bytes → IsNormalUpTo n list.version
-up_to_third l bytes list n some most not_first not_second held spelled =
-    let fits = (held_in l bytes n some most).1 spelled in
-    let one = after_first l bytes n some most fits not_first in
-    let two = after_second l bytes n one most fits not_second in
-    let band : 40 ≤ last_of n = grind (arith, nat_tests, two) in
-    up_to l bytes list 40 n (omega arith) (omega arith) some most band held fits
+-- data can be cut, or not
+pub cut_or_none : (v : Version) (bytes : List ℕ) → IsTrue (is_valid v) → AreBytes bytes → ((segments : List Segment) × IsCut v bytes segments) ⊎ ((segments : List Segment) → ¬ IsCut v bytes segments)
+cut_or_none v bytes valid are = by_test (can_write (widest_mode v) bytes) refl where
+  by_test : (b : Bool) → can_write (widest_mode v) bytes ≡ b → ((segments : List Segment) × IsCut v bytes segments) ⊎ ((segments : List Segment) → ¬ IsCut v bytes segments)
+  by_test true e = let one = one_segment v bytes valid e in inl (one.0, one.1.0)
+  by_test false e = inr (λ segments cut. true≢false (sym (cut_is_written v bytes segments valid are cut) ∙ e))

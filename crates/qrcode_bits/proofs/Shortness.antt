@@ -17,7 +17,6 @@ use Rattle.qrcode_types.specs.declared.types.Mode.TheVariants.{Numeric, Alphanum
 use Rattle.qrcode_types.proofs.BlockTable.{data_of, data_length-is}
 use Rattle.qrcode_bits.specs.Segments.{character_count, cost, total_cost, Tile}
 use Rattle.qrcode_bits.specs.Cuts.{IsCut, FitsIn}
-use Rattle.qrcode_bits.specs.Choice.{IsChosen}
 use Rattle.qrcode_bits.specs.declared.optimize.Segment.{Segment}
 use Rattle.qrcode_bits.proofs.FirstSegments.{pairs_even}
 use Rattle.qrcode_bits.proofs.LeastCuts.{AreWritable}
@@ -82,10 +81,3 @@ capacity_at_most v l =
 -- data of which a cut fits a symbol
 pub fitting_short : (v : Version) (l : EcLevel) (bytes : List ℕ) → FitsIn v bytes (capacity v l) → length bytes ≤ 23648
 fitting_short v l bytes fits = omega (arith, least_cut v bytes fits.0 fits.1.0, count_by-le-length is_digit bytes, fits.1.1, capacity_at_most v l)
-
--- data for which a version and segments are chosen
-pub chosen_short : (l : EcLevel) (bytes : List ℕ) (v : Version) (segments : List Segment) → IsChosen l bytes v segments → length bytes ≤ 23648
-chosen_short l bytes v segments (inl first) = fitting_short (Normal (pos 9)) l bytes (segments, (first.0.reached, first.1.0))
-chosen_short l bytes v segments (inr (_, inl second)) = fitting_short (Normal (pos 26)) l bytes (segments, (second.0.reached, second.1.0))
-chosen_short l bytes v segments (inr (_, inr (_, inl third))) = fitting_short (Normal (pos 40)) l bytes (segments, (third.0.reached, third.1.0))
-chosen_short l bytes v segments (inr (_, inr (_, inr (_, none)))) = absurd none

@@ -1,13 +1,12 @@
 -- What the automatic choice of a version gives.
-use Rattle.std.specs.Prelude.{◌≡◌, ℕ, ◌≤◌, pos, List, length, IsTrue}
+use Rattle.std.specs.Prelude.{◌≡◌, ℕ, ◌≤◌, List, length, IsTrue}
 use Rattle.qrcode_types.specs.Versions.{capacity, has_level}
 use Rattle.qrcode_types.specs.declared.types.Version.{Version}
-use Rattle.qrcode_types.specs.declared.types.Version.TheVariants.{Normal}
 use Rattle.qrcode_types.specs.declared.types.EcLevel.{EcLevel}
 use Rattle.qrcode_bits.specs.BitList.{BitList}
 use Rattle.qrcode_bits.specs.Segments.{total_cost}
 use Rattle.qrcode_bits.specs.Cuts.{IsCut, IsLeastCut}
-use Rattle.qrcode_bits.specs.Choice.{least_version, IsChosen}
+use Rattle.qrcode_bits.specs.Choice.{least_version, IsChosen, IsLeastHolding}
 use Rattle.qrcode_bits.specs.Written.{written, pieces_of, terminated}
 use Rattle.qrcode_bits.specs.Spelling.{SpellsOnly}
 use Rattle.qrcode_bits.specs.declared.optimize.Segment.{Segment}
@@ -28,12 +27,9 @@ pub record IsHeld (v : Version) (l : EcLevel) (bytes : List ℕ) (list : BitList
   pub room : total_cost v segments ≤ capacity v l
   pub terminated : IsTerminated (least_version l (total_cost v segments)) l bytes segments list
 
--- the list has the data in the version and the segments that are chosen
+-- the list has the data in the segments that are chosen, and in the version, which is the least that holds the data
 pub record IsChosenList (l : EcLevel) (bytes : List ℕ) (list : BitList) : Type 0 where
   pub segments : List Segment
   pub chosen : IsChosen l bytes list.version segments
+  pub least_version : IsLeastHolding l bytes list.version
   pub terminated : IsTerminated list.version l bytes segments list
-
--- a Normal version of at most a number
-abbrev pub IsNormalUpTo : ℕ → Version → Type 0
-IsNormalUpTo most v = (n : ℕ) × ((v ≡ Normal (pos n)) × ((1 ≤ n) × (n ≤ most)))

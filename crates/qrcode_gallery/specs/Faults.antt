@@ -1,7 +1,8 @@
 -- Why the program fails.
 use Rattle.std.specs.Prelude.{◌≡◌, ℕ, List, ⊤}
 use Rattle.qrcode_types.specs.declared.types.EcLevel.TheVariants.{M}
-use Rattle.qrcode.specs.Acceptance.{HasSymbol, IsRefused}
+use Rattle.qrcode_bits.specs.Choice.{IsRefused}
+use Rattle.qrcode.specs.Acceptance.{HasSymbol}
 use Rattle.qrcode_gallery.specs.Kinds.{name_of}
 use Rattle.qrcode_gallery.specs.declared.program.Fault.{Fault}
 use Rattle.qrcode_gallery.specs.declared.program.Fault.TheVariants.{Usage, Qr, CannotWrite}

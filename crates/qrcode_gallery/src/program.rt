@@ -3,7 +3,7 @@
 ghost use Rattle.std.specs.Prelude.{◌≡◌, ◌⊎◌, IfOk, IfErr, IfSome, IfNone, IsErrOf};
 ghost use Rattle.std.specs.Io.KnownBytes.{Appends};
 ghost use Rattle.qrcode_types.specs.declared.types.EcLevel.TheVariants.{M};
-ghost use Rattle.qrcode.specs.Acceptance.{IsRefused};
+ghost use Rattle.qrcode_bits.specs.Choice.{IsRefused};
 ghost use Rattle.qrcode_uses.specs.Drawings.{IsDrawnAs};
 ghost use Rattle.qrcode_gallery.specs.Faults.{IsCannotWrite, IsCause};
 ghost use Rattle.qrcode_gallery.specs.Kinds.{name_of, drawing_in, Writes};

@@ -43,6 +43,5 @@ number_accepted n h =
     let cost : total_cost (Micro (pos 2)) (segment ∷ []) ≤ 40 = omega (arith, small) in
     record {
       exists = exists;
-      within = omega (arith, small);
-      fits = (segment ∷ [], (record { tiles = (refl, (some, refl)); modes = (refl, tt); writable = (subst (λ x. IsTrue (list_all is_digit x)) (sym whole) (digits n (omega arith)), tt) }, omega (arith, cost, room)));
+      holds = (segment ∷ [], (record { tiles = (refl, (some, refl)); modes = (refl, tt); writable = (subst (λ x. IsTrue (list_all is_digit x)) (sym whole) (digits n (omega arith)), tt) }, omega (arith, cost, room)));
     }

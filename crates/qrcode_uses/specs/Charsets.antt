@@ -6,9 +6,8 @@ use Rattle.qrcode_types.specs.declared.types.EcLevel.TheVariants.{L}
 use Rattle.qrcode_types.specs.declared.types.Color.{Color}
 use Rattle.qrcode_types.specs.declared.types.Mode.TheVariants.{Byte}
 use Rattle.qrcode_bits.specs.Written.{written_piece, terminated, eci_bits}
-use Rattle.qrcode_symbol.specs.Reading.{ReadsBitsOnly}
 use Rattle.qrcode.specs.Pictures.{debug_text}
-use Rattle.qrcode.specs.Reading.{Encodes}
+use Rattle.qrcode.specs.Reading.{EncodesBits}
 
 -- the number of the character set, the bytes, and the end
 abbrev pub greek_bits : List ℕ → List Bool
@@ -18,5 +17,5 @@ greek_bits text =
 -- the symbol of these bits in rows of `#` and `.`, of which every damaged symbol is read as these bits and as no others
 pub record IsGreekSymbol (text rows : List ℕ) : Type 0 where
   pub colors : List Color
-  pub encodes : Encodes (λ other. ReadsBitsOnly other (Normal (pos 1)) L (greek_bits text)) (Normal (pos 1)) L (greek_bits text) colors
+  pub encodes : EncodesBits (Normal (pos 1)) L (greek_bits text) colors
   pub drawn : rows ≡ debug_text (Normal (pos 1)) colors 35 46

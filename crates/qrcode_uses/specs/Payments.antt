@@ -1,10 +1,10 @@
 -- The text and the picture of a payment.
-use Rattle.std.specs.Prelude.{◌≡◌, ℕ, ◌+◌, ◌*◌, ◌/◌, ◌%◌, ◌≤◌, List, ◌++◌, length, codes, decimal}
+use Rattle.std.specs.Prelude.{◌≡◌, ℕ, ◌+◌, ◌*◌, ◌/◌, ◌%◌, ◌≤◌, pos, List, ◌++◌, length, codes, decimal}
 use Rattle.qrcode_types.specs.Versions.{side}
 use Rattle.qrcode_types.specs.declared.types.Version.{Version}
+use Rattle.qrcode_types.specs.declared.types.Version.TheVariants.{Normal}
 use Rattle.qrcode_types.specs.declared.types.EcLevel.TheVariants.{M}
 use Rattle.qrcode_types.specs.declared.types.Color.{Color}
-use Rattle.qrcode_bits.specs.Encoded.{IsNormalUpTo}
 use Rattle.qrcode_render.specs.Setting.{IsLeastSize}
 use Rattle.qrcode.specs.Acceptance.{IsChosenSymbol}
 use Rattle.qrcode.specs.Pictures.{quiet_zone}
@@ -20,6 +20,10 @@ unfoldable pub payment_text : Payment → List ℕ
 payment_text p =
     codes "BCD\n002\n1\nSCT\n" ++ (p.bic.now ++ (codes "\n" ++ (p.name.now ++ (codes "\n" ++ (p.iban.now ++ codes "\n")))))
     ++ amount_text p.cents ++ (codes "\n\n\n" ++ p.purpose.now)
+
+-- a Normal version of at most a number
+abbrev pub IsNormalUpTo : ℕ → Version → Type 0
+IsNormalUpTo most v = (n : ℕ) × ((v ≡ Normal (pos n)) × ((1 ≤ n) × (n ≤ most)))
 
 -- the symbol that is chosen for a text at level M, in modules of the least size that makes it 200 pixels wide
 pub record IsPicture (text svg : List ℕ) : Type 0 where

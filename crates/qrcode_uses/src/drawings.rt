@@ -2,7 +2,7 @@
 
 ghost use Rattle.std.specs.Prelude.{string_bytes, IfOk, IfErr};
 ghost use Rattle.qrcode_types.specs.declared.types.EcLevel.TheVariants.{M};
-ghost use Rattle.qrcode.specs.Acceptance.{IsRefused};
+ghost use Rattle.qrcode_bits.specs.Choice.{IsRefused};
 ghost use Rattle.qrcode_uses.specs.Drawings.{IsDrawnAs, char_text, pair_text, half_block_text, svg_text, pic_text, grey_map};
 
 use qrcode::QrCode;

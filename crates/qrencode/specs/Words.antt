@@ -3,7 +3,8 @@ use Rattle.std.specs.Prelude.{ℕ, List, ◌∷◌, ◌++◌, codes, ⊤}
 use Rattle.qrcode_types.specs.declared.types.Color.{Color}
 use Rattle.qrcode_types.specs.declared.types.EcLevel.TheVariants.{M}
 use Rattle.qrcode_types.specs.declared.types.Version.{Version}
-use Rattle.qrcode.specs.Acceptance.{IsChosenSymbol, HasSymbol, IsRefused}
+use Rattle.qrcode_bits.specs.Choice.{IsRefused}
+use Rattle.qrcode.specs.Acceptance.{IsChosenSymbol, HasSymbol}
 use Rattle.qrcode.specs.Pictures.{cells_text}
 use Rattle.qrencode.specs.declared.program.Fault.{Fault}
 use Rattle.qrencode.specs.declared.program.Fault.TheVariants.{MissingArgument, Qr, CannotWrite}

@@ -5,7 +5,8 @@ ghost use Rattle.std.specs.Io.KnownBytes.{Appends};
 ghost use Rattle.qrcode_types.specs.declared.types.Color.{Color};
 ghost use Rattle.qrcode_types.specs.declared.types.EcLevel.TheVariants.{M};
 ghost use Rattle.qrcode_types.specs.declared.types.Version.{Version};
-ghost use Rattle.qrcode.specs.Acceptance.{IsChosenSymbol, IsRefused};
+ghost use Rattle.qrcode_bits.specs.Choice.{IsRefused};
+ghost use Rattle.qrcode.specs.Acceptance.{IsChosenSymbol};
 ghost use Rattle.qrencode.specs.Words.{terminal_text, Writes, IsCause, IsCannotWrite};
 
 use qrcode::render::string::Str;

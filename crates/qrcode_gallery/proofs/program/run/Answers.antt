@@ -1,6 +1,6 @@
 use Rattle.std.proofs.Common.{subst}
 use Rattle.qrcode_types.specs.declared.types.EcLevel.TheVariants.{M}
-use Rattle.qrcode.specs.Acceptance.{IsRefused}
+use Rattle.qrcode_bits.specs.Choice.{IsRefused}
 use Rattle.qrcode_gallery.proofs.program.run.Goals as goal
 
 pub returns-in-Err-clause-causes : goal.returns-in-Err-clause-causes

@@ -3,9 +3,8 @@ use Rattle.std.proofs.lemmas.Result.{IfOk-weaker}
 use Rattle.qrcode_types.specs.Versions.{has_level, capacity}
 use Rattle.qrcode_types.specs.declared.types.EcLevel.TheVariants.{L}
 use Rattle.qrcode_types.specs.declared.types.Version.TheVariants.{Normal}
-use Rattle.qrcode_symbol.specs.Reading.{ReadsBitsOnly}
 use Rattle.qrcode.specs.Pictures.{debug_text}
-use Rattle.qrcode.specs.Reading.{Encodes}
+use Rattle.qrcode.specs.Reading.{EncodesBits}
 use Rattle.qrcode_uses.proofs.Charsets.{level_exists}
 use Rattle.qrcode_uses.proofs.charset.greek_symbol.Goals as goal
 
@@ -25,6 +24,6 @@ returns-clause-symbol c =
     let known = c.in_ok-bits.ensures in
     let made = c.in_ok-code.ensures in
     let s = c.in_ok-code.code.modules in
-    let of_version = subst (λ v. Encodes (λ other. ReadsBitsOnly other v L bits.bits) v L bits.bits s) known.version made.symbol in
-    let of_bits = subst (λ b. Encodes (λ other. ReadsBitsOnly other (Normal (pos 1)) L b) (Normal (pos 1)) L b s) known.bits of_version in
+    let of_version = subst (λ v. EncodesBits v L bits.bits s) known.version made.symbol in
+    let of_bits = subst (λ b. EncodesBits (Normal (pos 1)) L b s) known.bits of_version in
     IfOk-weaker c.to_debug_str.result _ _ (λ rows e. record { colors = s; encodes = of_bits; drawn = e ∙ ap (λ v. debug_text v s 35 46) (made.version ∙ known.version) }) c.to_debug_str.ensures.value

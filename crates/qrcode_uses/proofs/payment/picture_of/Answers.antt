@@ -1,29 +1,27 @@
-use Rattle.std.proofs.Common.{◌≡◌, ℕ, ◌+◌, ◌*◌, ◌<◌, ◌≤◌, ◌++◌, List, length, get_or, true, refl, sym, ap, ap₂, subst, ◌∙◌, arith, rules, pos}
+use Rattle.std.proofs.Common.{◌≡◌, ℕ, ◌+◌, ◌*◌, ◌<◌, ◌≤◌, ◌++◌, List, length, get_or, true, refl, sym, ap, ap₂, subst, ◌∙◌, arith, rules}
 use Rattle.std.specs.Prelude.{codes}
 use Rattle.std.proofs.lemmas.Result.{IfOk-weaker}
 use Rattle.qrcode_types.specs.Versions.{side}
 use Rattle.qrcode_types.specs.declared.types.EcLevel.TheVariants.{M}
-use Rattle.qrcode_types.specs.declared.types.Version.TheVariants.{Normal}
-use Rattle.qrcode_types.proofs.Writing.{bytes_are_written}
 use Rattle.qrcode_bits.proofs.SegmentRanges.{are_bytes}
 use Rattle.qrcode_render.specs.Drawn.{drawn}
 use Rattle.qrcode_render.specs.Setting.{Setting, side_of, drawing_of, IsLeastSize}
 use Rattle.qrcode_render.specs.Vectors.{svg_start, svg_rect, svg_end}
 use Rattle.qrcode_render.specs.declared.svg.Color.{Color}
-use Rattle.qrcode_bits.specs.Spelling.{IsSpelled}
+use Rattle.qrcode_bits.specs.Choice.{NormalHolds}
 use Rattle.qrcode.specs.Pictures.{quiet_zone}
 use Rattle.qrcode_uses.specs.Drawings.{svg_text}
-use Rattle.qrcode_uses.proofs.Payments.{text_spelled}
+use Rattle.qrcode_uses.proofs.Payments.{text_held}
 use Rattle.qrcode_uses.proofs.Settings.{drawing_with, layout_with, set_drawing, set_side, least_fits}
 use Rattle.qrcode_uses.proofs.payment.picture_of.Goals as goal
 
-spelled : (text : List ℕ) → ((k : ℕ) → get_or text k 0 < 256) → length text ≤ 331 → IsSpelled (Normal (pos 13)) M text
-spelled text below small = text_spelled text (bytes_are_written text (are_bytes text below)) small
+held : (text : List ℕ) → ((k : ℕ) → get_or text k 0 < 256) → length text ≤ 331 → NormalHolds 13 M text
+held text below small = text_held text (are_bytes text below) small
 
 pub returns-in_err-code-clause-accepts : goal.returns-in_err-code-clause-accepts
 returns-in_err-code-clause-accepts c = λ small.
     let text = c.args.text.now in
-    let memory = c.in_err-code.ensures.accepts_spelled 13 (omega arith) (omega arith) (spelled text (λ k. omega (arith, c.type_inv.text k)) small) in
+    let memory = c.in_err-code.ensures.accepts 13 (held text (λ k. omega (arith, c.type_inv.text k)) small) in
     search rules
 
 pub build-requires : goal.build-requires
@@ -65,7 +63,9 @@ returns-clause-picture c =
       version = v;
       colors = colors;
       symbol = c.in_ok-code.ensures.symbol;
-      small = λ small. c.in_ok-code.ensures.least_version 13 (omega arith) (omega arith) (spelled text (λ k. omega (arith, c.type_inv.text k)) small);
+      small = λ small.
+          let least = c.in_ok-code.ensures.symbol.least_version in
+          (least.number, (least.is, (least.holds.at_least, least.least 13 (held text (λ k. omega (arith, c.type_inv.text k)) small))));
       pixels = s.across;
       wide = wide;
       drawn = e ∙ texts;

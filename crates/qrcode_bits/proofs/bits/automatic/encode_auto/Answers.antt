@@ -1,76 +1,59 @@
-use Rattle.std.proofs.Common.{pos, subst, arith}
-use Rattle.std.specs.Prelude.{MatchOption}
-use Rattle.qrcode_types.specs.Versions.{capacity}
+use Rattle.std.proofs.Common.{ℕ, ◌<◌, ◌≤◌, pos, refl, arith, inr}
 use Rattle.qrcode_types.specs.declared.types.Version.TheVariants.{Normal}
-use Rattle.qrcode_bits.specs.Cuts.{FitsIn}
+use Rattle.qrcode_bits.specs.Choice.{Holds, NormalHolds}
 use Rattle.qrcode_bits.specs.Encoded.{IsHeld}
-use Rattle.qrcode_bits.proofs.Chosen.{held_in, none_held, up_to_first, up_to_second, up_to_third}
-use Rattle.qrcode_bits.proofs.Shortness.{chosen_short, fitting_short}
+use Rattle.qrcode_bits.proofs.Chosen.{each_band, none_holds, chosen_list}
+use Rattle.qrcode_bits.proofs.Shortness.{fitting_short}
 use Rattle.qrcode_bits.proofs.bits.automatic.encode_auto.Goals as goal
+use Rattle.qrcode_bits.proofs.bits.automatic.encode_auto.Goals.{Then-bytes-gt-DATA_LIMIT, In_default-3}
 
-pub returns-then-data-gt-DATA_LIMIT-clause-accepts : goal.returns-then-data-gt-DATA_LIMIT-clause-accepts
-returns-then-data-gt-DATA_LIMIT-clause-accepts c = λ v segments chosen.
-    absurd (omega (arith, c.if-data-gt-DATA_LIMIT.true, chosen_short c.args.ec_level c.args.«data».now v segments chosen))
+too_long : (c : Then-bytes-gt-DATA_LIMIT) (n : ℕ) → NormalHolds n c.args.ec_level c.args.bytes.now → ⊥
+too_long c n h = omega (arith, c.if-bytes-gt-DATA_LIMIT.true, fitting_short (Normal (pos n)) c.args.ec_level c.args.bytes.now h.holds)
 
-pub returns-then-data-gt-DATA_LIMIT-clause-takes : goal.returns-then-data-gt-DATA_LIMIT-clause-takes
-returns-then-data-gt-DATA_LIMIT-clause-takes c = λ n some most spelled.
+pub returns-then-bytes-gt-DATA_LIMIT-clause-accepts : goal.returns-then-bytes-gt-DATA_LIMIT-clause-accepts
+returns-then-bytes-gt-DATA_LIMIT-clause-accepts c = λ n h. absurd (too_long c n h)
+
+pub returns-then-bytes-gt-DATA_LIMIT-clause-causes : goal.returns-then-bytes-gt-DATA_LIMIT-clause-causes
+returns-then-bytes-gt-DATA_LIMIT-clause-causes c = inr (refl, too_long c)
+
+pub returns-in-Some-clause-bits : goal.returns-in-Some-clause-bits
+returns-in-Some-clause-bits c =
     let l = c.args.ec_level in
-    let bytes = c.args.«data».now in
-    absurd (omega (arith, c.if-data-gt-DATA_LIMIT.true, fitting_short (Normal (pos n)) l bytes ((held_in l bytes n some most).1 spelled)))
+    let bytes = c.args.bytes.now in
+    let held : IsHeld (Normal (pos 9)) l bytes c.in-Some.bits = rw c.in-Some.is at c.in_ok-bits.ensures.holds in
+    let first = each_band (λ n. n < 9 → ¬ Holds (Normal (pos n)) l bytes) (λ less. absurd (omega arith)) (λ less. absurd (omega arith)) (λ less. absurd (omega arith)) in
+    chosen_list l bytes c.in-Some.bits 9 (0, omega arith, refl) (omega arith) (omega arith) first held
 
-pub returns-then-data-gt-DATA_LIMIT-clause-held : goal.returns-then-data-gt-DATA_LIMIT-clause-held
-returns-then-data-gt-DATA_LIMIT-clause-held c = held_in c.args.ec_level c.args.«data».now
-
-pub returns-in_err-bits-clause-held : goal.returns-in_err-bits-clause-held
-returns-in_err-bits-clause-held c = held_in c.args.ec_level c.args.«data».now
-
-pub returns-in-Some-clause-held : goal.returns-in-Some-clause-held
-returns-in-Some-clause-held c = held_in c.args.ec_level c.args.«data».now
-
-pub returns-in_err-bits-2-clause-held : goal.returns-in_err-bits-2-clause-held
-returns-in_err-bits-2-clause-held c = held_in c.args.ec_level c.args.«data».now
-
-pub returns-in-Some-2-clause-held : goal.returns-in-Some-2-clause-held
-returns-in-Some-2-clause-held c = held_in c.args.ec_level c.args.«data».now
-
-pub returns-in_err-bits-3-clause-held : goal.returns-in_err-bits-3-clause-held
-returns-in_err-bits-3-clause-held c = held_in c.args.ec_level c.args.«data».now
-
-pub returns-in-Some-3-clause-held : goal.returns-in-Some-3-clause-held
-returns-in-Some-3-clause-held c = held_in c.args.ec_level c.args.«data».now
-
-pub returns-clause-held : goal.returns-clause-held
-returns-clause-held c = held_in c.args.ec_level c.args.«data».now
-
-pub returns-in-Some-clause-least_version : goal.returns-in-Some-clause-least_version
-returns-in-Some-clause-least_version c = λ n some most.
+pub returns-in-Some-2-clause-bits : goal.returns-in-Some-2-clause-bits
+returns-in-Some-2-clause-bits c =
     let l = c.args.ec_level in
-    let bytes = c.args.«data».now in
-    let held = subst (λ o. MatchOption o (¬ FitsIn (Normal (pos 9)) bytes (capacity (Normal (pos 9)) l)) (IsHeld (Normal (pos 9)) l bytes)) c.in-Some.is c.in_ok-bits.ensures.held in
-    up_to_first l bytes c.in-Some.bits n some most held
+    let bytes = c.args.bytes.now in
+    let not_first : ¬ Holds (Normal (pos 9)) l bytes = rw c.in_default.is at c.in_ok-bits.ensures.holds in
+    let held : IsHeld (Normal (pos 26)) l bytes c.in-Some-2.bits = rw c.in-Some-2.is at c.in_ok-bits-2.ensures.holds in
+    let first = each_band (λ n. n < 26 → ¬ Holds (Normal (pos n)) l bytes) (λ less. not_first) (λ less. absurd (omega arith)) (λ less. absurd (omega arith)) in
+    chosen_list l bytes c.in-Some-2.bits 26 (1, omega arith, refl) (omega arith) (omega arith) first held
 
-pub returns-in-Some-2-clause-least_version : goal.returns-in-Some-2-clause-least_version
-returns-in-Some-2-clause-least_version c = λ n some most.
+pub returns-in-Some-3-clause-bits : goal.returns-in-Some-3-clause-bits
+returns-in-Some-3-clause-bits c =
     let l = c.args.ec_level in
-    let bytes = c.args.«data».now in
-    let not_first = subst (λ o. MatchOption o (¬ FitsIn (Normal (pos 9)) bytes (capacity (Normal (pos 9)) l)) (IsHeld (Normal (pos 9)) l bytes)) c.in_default.is c.in_ok-bits.ensures.held in
-    let held = subst (λ o. MatchOption o (¬ FitsIn (Normal (pos 26)) bytes (capacity (Normal (pos 26)) l)) (IsHeld (Normal (pos 26)) l bytes)) c.in-Some-2.is c.in_ok-bits-2.ensures.held in
-    up_to_second l bytes c.in-Some-2.bits n some most not_first held
+    let bytes = c.args.bytes.now in
+    let not_first : ¬ Holds (Normal (pos 9)) l bytes = rw c.in_default.is at c.in_ok-bits.ensures.holds in
+    let not_second : ¬ Holds (Normal (pos 26)) l bytes = rw c.in_default-2.is at c.in_ok-bits-2.ensures.holds in
+    let held : IsHeld (Normal (pos 40)) l bytes c.in-Some-3.bits = rw c.in-Some-3.is at c.in_ok-bits-3.ensures.holds in
+    let first = each_band (λ n. n < 40 → ¬ Holds (Normal (pos n)) l bytes) (λ less. not_first) (λ less. not_second) (λ less. absurd (omega arith)) in
+    chosen_list l bytes c.in-Some-3.bits 40 (2, omega arith, refl) (omega arith) (omega arith) first held
 
-pub returns-in-Some-3-clause-least_version : goal.returns-in-Some-3-clause-least_version
-returns-in-Some-3-clause-least_version c = λ n some most.
+none : (c : In_default-3) (n : ℕ) → NormalHolds n c.args.ec_level c.args.bytes.now → ⊥
+none c =
     let l = c.args.ec_level in
-    let bytes = c.args.«data».now in
-    let not_first = subst (λ o. MatchOption o (¬ FitsIn (Normal (pos 9)) bytes (capacity (Normal (pos 9)) l)) (IsHeld (Normal (pos 9)) l bytes)) c.in_default.is c.in_ok-bits.ensures.held in
-    let not_second = subst (λ o. MatchOption o (¬ FitsIn (Normal (pos 26)) bytes (capacity (Normal (pos 26)) l)) (IsHeld (Normal (pos 26)) l bytes)) c.in_default-2.is c.in_ok-bits-2.ensures.held in
-    let held = subst (λ o. MatchOption o (¬ FitsIn (Normal (pos 40)) bytes (capacity (Normal (pos 40)) l)) (IsHeld (Normal (pos 40)) l bytes)) c.in-Some-3.is c.in_ok-bits-3.ensures.held in
-    up_to_third l bytes c.in-Some-3.bits n some most not_first not_second held
+    let bytes = c.args.bytes.now in
+    let not_first : ¬ Holds (Normal (pos 9)) l bytes = rw c.in_default.is at c.in_ok-bits.ensures.holds in
+    let not_second : ¬ Holds (Normal (pos 26)) l bytes = rw c.in_default-2.is at c.in_ok-bits-2.ensures.holds in
+    let not_third : ¬ Holds (Normal (pos 40)) l bytes = rw c.in_default-3.is at c.in_ok-bits-3.ensures.holds in
+    none_holds l bytes (each_band (λ n. ¬ Holds (Normal (pos n)) l bytes) not_first not_second not_third)
 
-pub returns-clause-takes : goal.returns-clause-takes
-returns-clause-takes c = λ n some most spelled.
-    let l = c.args.ec_level in
-    let bytes = c.args.«data».now in
-    let not_first = subst (λ o. MatchOption o (¬ FitsIn (Normal (pos 9)) bytes (capacity (Normal (pos 9)) l)) (IsHeld (Normal (pos 9)) l bytes)) c.in_default.is c.in_ok-bits.ensures.held in
-    let not_second = subst (λ o. MatchOption o (¬ FitsIn (Normal (pos 26)) bytes (capacity (Normal (pos 26)) l)) (IsHeld (Normal (pos 26)) l bytes)) c.in_default-2.is c.in_ok-bits-2.ensures.held in
-    let not_third = subst (λ o. MatchOption o (¬ FitsIn (Normal (pos 40)) bytes (capacity (Normal (pos 40)) l)) (IsHeld (Normal (pos 40)) l bytes)) c.in_default-3.is c.in_ok-bits-3.ensures.held in
-    absurd (none_held l bytes n some most (not_first, (not_second, (not_third, tt))) spelled)
+pub returns-clause-accepts : goal.returns-clause-accepts
+returns-clause-accepts c = λ n h. absurd (none c n h)
+
+pub returns-clause-causes : goal.returns-clause-causes
+returns-clause-causes c = inr (refl, none c)

@@ -6,5 +6,5 @@ use Rattle.qrcode_bits.proofs.bits.automatic.least_bits.Goals as goal
 
 pub returns : goal.returns
 returns c = λ version segments cut.
-    let bytes = c.args.«data».now in
+    let bytes = c.args.bytes.now in
     omega (arith, least_cut version bytes segments cut, c.count_digits-digits.ensures, count_by-le-length is_digit bytes)

@@ -14,4 +14,4 @@ pub returns : goal.returns
 returns c =
     let n = c.args.number in
     ap Normal (to_z_pos w16 n (omega arith))
-    ∙ sym (least_version-first c.args.ec_level c.args.used n c.requires.some c.requires.most c.requires.room (λ k some less. c.loop-lesser.invariant.none k some (omega arith)))
+    ∙ sym (least_version-first c.args.ec_level c.args.used n c.requires.at_least c.requires.at_most c.requires.room (λ k some less. c.loop-lesser.invariant.none k some (omega arith)))

@@ -15,20 +15,20 @@ use Rattle.qrcode_bits.proofs.Changed.{list_of}
 use Rattle.qrcode_bits.proofs.CutPieces.{cut_inside, cut_joined, cut_pieces}
 use Rattle.qrcode_bits.proofs.Fitting.{fitting_stop}
 use Rattle.qrcode_bits.proofs.Several.{handed_on}
-use Rattle.qrcode_bits.proofs.bits.automatic.encode_in.Goals as goal
-use Rattle.qrcode_bits.proofs.bits.automatic.encode_in.Goals.{After-new-bits}
+use Rattle.qrcode_bits.proofs.bits.automatic.encode_segments.Goals as goal
+use Rattle.qrcode_bits.proofs.bits.automatic.encode_segments.Goals.{After-new-bits}
 
 valid : (c : After-new-bits) → IsTrue (is_valid c.args.version)
 valid c = (and_parts (is_valid c.args.version) _ c.requires.level).0
 
 pub push_all-requires : goal.push_all-requires
-push_all-requires c = cut_inside c.args.version c.args.«data».now c.args.segments.items c.requires.cut
+push_all-requires c = cut_inside c.args.version c.args.bytes.now c.args.segments.items c.requires.cut
 
 pub returns-in_err-push_all-clause-memory : goal.returns-in_err-push_all-clause-memory
 returns-in_err-push_all-clause-memory c =
     let k = (goal.at.returns-in_err-push_all-clause-memory c).After-new-bits in
     let v = c.args.version in
-    let bytes = c.args.«data».now in
+    let bytes = c.args.bytes.now in
     let ss = c.args.segments.items in
     let e = c.in_err-push_all.field-0.0 in
     let new = c.push_all.new.self.bits in
@@ -41,7 +41,7 @@ returns-clause-terminated c =
     let k = (goal.at.returns-clause-terminated c).After-new-bits in
     let v = c.args.version in
     let l = c.args.ec_level in
-    let bytes = c.args.«data».now in
+    let bytes = c.args.bytes.now in
     let ss = c.args.segments.items in
     let ps = pieces_of bytes ss in
     let list = c.push_all.new.self in
