@@ -1,5 +1,5 @@
 -- Alignment centres are in the corners' columns and rows or away from the corners.
-use Rattle.std.proofs.Common.{◌≡◌, ℕ, ◌+◌, ◌-◌, ◌*◌, ◌<◌, ◌≤◌, ◌==◌, nat_le, pos, Bool, true, false, ◌&&◌, ◌||◌, List, [], ◌∷◌, get_or, cond, Some, arith, refl, subst, inl, inr}
+use Rattle.std.proofs.Common.{◌≡◌, ℕ, ◌+◌, ◌-◌, ◌*◌, ◌%◌, ◌<◌, ◌≤◌, ◌==◌, nat_le, pos, Bool, true, false, ◌&&◌, ◌||◌, List, [], ◌∷◌, get_or, cond, Some, arith, refl, subst, inl, inr}
 use Rattle.std.specs.List.{find, list_all}
 use Rattle.std.proofs.lemmas.Bool.{and_parts, cases_lt, le-leb, lt-leb}
 use Rattle.std.proofs.lemmas.Bool.Decides.{nat_tests}
@@ -18,9 +18,9 @@ found p q (x ∷ xs) a h e = let parts = and_parts (q x) (list_all q xs) h in pi
       (subst (λ (y : ℕ). p y ≡ true) same is, subst (λ (y : ℕ). q y ≡ true) same has)
   pick false is has rest e = rest e
 
--- a centre is in line with a corner, or more than ten modules from the sides
+-- a coordinate is even, and in line with a corner or far from both sides
 abbrev pub is_placed : ℕ → ℕ → Bool
-is_placed w a = a == 6 || (a + 7 == w || (nat_le 11 a && nat_le (a + 11) w))
+is_placed w a = a % 2 == 0 && (a == 6 || (a + 7 == w || (nat_le 11 a && nat_le (a + 16) w)))
 
 table_placed : passes_below (λ i. list_all (is_placed (4 * (i + 7) + 17)) (get_or centre_table i [])) 34 ≡ true
 unfolding centre_table
@@ -44,5 +44,5 @@ centres_placed n high = elim (cases_lt n 7) [
 pub low_centre : (w x a : ℕ) → 21 ≤ w → x ≤ 8 → is_placed w a ≡ true → is_near x a ≡ true → a ≡ 6
 low_centre w x a wide low placed near = grind (arith, nat_tests)
 
-pub high_centre : (w x a : ℕ) → 21 ≤ w → w ≤ x + 8 → x < w → is_placed w a ≡ true → is_near x a ≡ true → a ≡ w - 7
-high_centre w x a wide high lt placed near = grind (arith, nat_tests)
+pub high_centre : (w x a : ℕ) → 21 ≤ w → w ≤ x + 11 → is_placed w a ≡ true → is_near x a ≡ true → a ≡ w - 7
+high_centre w x a wide high placed near = grind (arith, nat_tests)

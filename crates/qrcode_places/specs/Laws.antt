@@ -5,7 +5,7 @@ use Rattle.qrcode_types.specs.Versions.{is_valid, side}
 use Rattle.qrcode_types.specs.declared.types.Version.{Version}
 use Rattle.qrcode_types.specs.declared.types.Version.TheVariants.{Normal, Micro}
 use Rattle.qrcode_types.specs.declared.types.Color.{Color}
-use Rattle.qrcode_places.specs.Patterns.{pattern, dark_module, format_copies, format_index, is_functional_place}
+use Rattle.qrcode_places.specs.Patterns.{finder, alignment, timing, dark_module, version_pattern, pattern, format_copies, format_index, is_functional_place}
 use Rattle.qrcode_places.specs.Stream.{zigzag_place, free_places}
 
 -- column and row lie in the square
@@ -16,9 +16,17 @@ IsInside v x y = (x < side v) × (y < side v)
 abbrev pub FormatPlacesAreNoPatterns : Type 0
 FormatPlacesAreNoPatterns = (v : Version) (x y i : ℕ) → IsTrue (is_valid v) → format_index v x y ≡ Some i → pattern v x y ≡ None
 
--- no other pattern has the place of the dark module
-abbrev pub DarkModuleIsInThePattern : Type 0
-DarkModuleIsInThePattern = (v : Version) (x y : ℕ) (c : Color) → IsTrue (is_valid v) → dark_module v x y ≡ Some c → pattern v x y ≡ Some c
+-- each rule of patterns that has a place gives it the colour of the pattern: where two rules meet they agree
+pub record RulesAgree (v : Version) (x y : ℕ) (c : Color) : Type 0 where
+  pub finders : finder v x y ≡ Some c → pattern v x y ≡ Some c
+  pub alignments : alignment v x y ≡ Some c → pattern v x y ≡ Some c
+  pub timings : timing v x y ≡ Some c → pattern v x y ≡ Some c
+  pub dark : dark_module v x y ≡ Some c → pattern v x y ≡ Some c
+  pub versions : version_pattern v x y ≡ Some c → pattern v x y ≡ Some c
+
+-- the rules of patterns agree at all places
+abbrev pub PatternRulesAgree : Type 0
+PatternRulesAgree = (v : Version) (x y : ℕ) (c : Color) → IsTrue (is_valid v) → RulesAgree v x y c
 
 -- fifteen places in the square, of which the i-th is that of bit i of the format word
 pub record IsFormatCopy (v : Version) (places : List (ℕ × ℕ)) : Type 0 where

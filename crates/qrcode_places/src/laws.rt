@@ -2,7 +2,7 @@
 
 ghost use Rattle.qrcode_places.specs.Words.{VersionWordsAreApart, FormatWordsAreApart};
 ghost use Rattle.qrcode_places.specs.Stream.{FreePlacesAreFilled};
-ghost use Rattle.qrcode_places.specs.Laws.{FormatCopiesAreIndexed, FormatPlacesAreInCopies, FormatPlacesAreNoPatterns, DarkModuleIsInThePattern, WalkIsInside, WalkIsApart, WalkIsWhole, LeftOutIsFunctional, FreePlacesAreApart, FreePlacesAreWhole};
+ghost use Rattle.qrcode_places.specs.Laws.{FormatCopiesAreIndexed, FormatPlacesAreInCopies, FormatPlacesAreNoPatterns, PatternRulesAgree, WalkIsInside, WalkIsApart, WalkIsWhole, LeftOutIsFunctional, FreePlacesAreApart, FreePlacesAreWhole};
 
 /// Words that name different things are far from one another.
 pub fn words()
@@ -24,7 +24,7 @@ pub fn format_places()
     ensures copies { FormatCopiesAreIndexed }
     ensures places { FormatPlacesAreInCopies }
     ensures apart { FormatPlacesAreNoPatterns }
-    ensures dark_module { DarkModuleIsInThePattern }
+    ensures agree { PatternRulesAgree }
 {}
 
 /// The list of free places has each of them once, and the codewords and the remainder bits of a

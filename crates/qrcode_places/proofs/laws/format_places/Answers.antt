@@ -1,5 +1,5 @@
 use Rattle.qrcode_places.proofs.FormatPlaces.{format_copies_are_indexed, format_places_are_in_copies}
-use Rattle.qrcode_places.proofs.PatternsApart.{format_places_are_no_patterns, dark_module_is_in_the_pattern}
+use Rattle.qrcode_places.proofs.PatternsApart.{format_places_are_no_patterns, rules_agree}
 use Rattle.qrcode_places.proofs.laws.format_places.Goals as goal
 
 pub returns-clause-copies : goal.returns-clause-copies
@@ -11,5 +11,5 @@ returns-clause-places c = format_places_are_in_copies
 pub returns-clause-apart : goal.returns-clause-apart
 returns-clause-apart c = format_places_are_no_patterns
 
-pub returns-clause-dark_module : goal.returns-clause-dark_module
-returns-clause-dark_module c = dark_module_is_in_the_pattern
+pub returns-clause-agree : goal.returns-clause-agree
+returns-clause-agree c = rules_agree
