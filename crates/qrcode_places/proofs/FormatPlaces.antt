@@ -60,10 +60,10 @@ in_copies test [] (Some i) hit whole = let h = (whole i refl).1 in absurd (cc)
 in_copies test (f ∷ fs) r hit whole =
     go (position_from test 0 (copy f)) refl
     (λ a. in_copies test fs r (λ i lt h. hit i lt (or_right _ _ h)) (λ i e. let h = whole i e in (h.0, rw (missed test f 0 15 i a (omega arith) h.0) at h.1))) where
-  go : (o : Option ℕ) → position_from test 0 (copy f) ≡ o → (position_from test 0 (copy f) ≡ None → slice_get (filter_map (position_from test 0) (map copy fs)) 0 ≡ r)
-      → slice_get (cons_option o (filter_map (position_from test 0) (map copy fs))) 0 ≡ r
-  go (Some i) a rest = let h = found_at test f 0 15 i a in sym (hit i h.0 (or_left _ _ h.1))
-  go None a rest = rest a
+      go : (o : Option ℕ) → position_from test 0 (copy f) ≡ o → (position_from test 0 (copy f) ≡ None → slice_get (filter_map (position_from test 0) (map copy fs)) 0 ≡ r)
+          → slice_get (cons_option o (filter_map (position_from test 0) (map copy fs))) 0 ≡ r
+      go (Some i) a rest = let h = found_at test f 0 15 i a in sym (hit i h.0 (or_left _ _ h.1))
+      go None a rest = rest a
 
 or_none : (b : Bool) → (b || false) ≡ true → b ≡ true
 or_none true h = refl

@@ -1,5 +1,5 @@
 -- Alignment centres are in the corners' columns and rows or away from the corners.
-use Rattle.std.proofs.Common.{◌≡◌, ℕ, ◌+◌, ◌-◌, ◌*◌, ◌%◌, ◌<◌, ◌≤◌, ◌==◌, nat_le, pos, Bool, true, false, ◌&&◌, ◌||◌, List, [], ◌∷◌, get_or, cond, Some, arith, refl, subst, inl, inr}
+use Rattle.std.proofs.Common.{◌≡◌, ℕ, ◌+◌, ◌-◌, ◌*◌, ◌%◌, ◌≤◌, ◌==◌, nat_le, pos, Bool, true, false, ◌&&◌, ◌||◌, List, [], ◌∷◌, get_or, cond, Some, arith, refl, subst, inl, inr}
 use Rattle.std.specs.List.{find, list_all}
 use Rattle.std.proofs.lemmas.Bool.{and_parts, cases_lt, le-leb, lt-leb}
 use Rattle.std.proofs.lemmas.Bool.Decides.{nat_tests}
@@ -9,9 +9,9 @@ use Rattle.qrcode_places.specs.Patterns.{centres, is_near}
 use Rattle.qrcode_places.proofs.Below.{passes_below, below}
 
 -- what is found passes, and has what all have
-pub found : (p q : ℕ → Bool) (xs : List ℕ) (a : ℕ) → list_all q xs ≡ true → find p xs ≡ Some a → (p a ≡ true) × (q a ≡ true)
-found p q [] a h e = absurd (cc)
-found p q (x ∷ xs) a h e = let parts = and_parts (q x) (list_all q xs) h in pick (p x) refl parts.0 (λ later. found p q xs a parts.1 later) e where
+pub found_has : (p q : ℕ → Bool) (xs : List ℕ) (a : ℕ) → list_all q xs ≡ true → find p xs ≡ Some a → (p a ≡ true) × (q a ≡ true)
+found_has p q [] a h e = absurd (cc)
+found_has p q (x ∷ xs) a h e = let parts = and_parts (q x) (list_all q xs) h in pick (p x) refl parts.0 (λ later. found_has p q xs a parts.1 later) e where
   pick : (b : Bool) → p x ≡ b → q x ≡ true → (find p xs ≡ Some a → (p a ≡ true) × (q a ≡ true)) → cond b (Some x) (find p xs) ≡ Some a → (p a ≡ true) × (q a ≡ true)
   pick true is has rest e =
       let same : x ≡ a = cc in

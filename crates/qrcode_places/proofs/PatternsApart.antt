@@ -1,5 +1,6 @@
 -- No pattern has a place of the format word, and where two rules of patterns meet they agree.
-use Rattle.std.proofs.Common.{◌≡◌, ℕ, ◌+◌, ◌-◌, ◌*◌, ◌%◌, ◌<◌, ◌≤◌, ◌==◌, nat_le, max, ℤ, pos, negsuc, Bool, true, false, not, ◌&&◌, ◌||◌, List, Option, Some, None, is_some, arith, refl, sym, ap, ap₂, ◌∙◌, inl, inr, ◌⊎◌, IsTrue}
+use Rattle.std.proofs.Common.{◌≡◌, ℕ, ◌+◌, ◌*◌, ◌%◌, ◌≤◌, ◌==◌, nat_le, max, ℤ, pos, negsuc, Bool, true, false, not, ◌&&◌, ◌||◌, List, Option, Some, None, is_some, arith, refl, sym, ap, ap₂, ◌∙◌, inl, inr, ◌⊎◌, IsTrue}
+use Rattle.std.specs.Prelude.{IfSome}
 use Rattle.std.specs.Int.{abs_diff}
 use Rattle.std.specs.List.{find, list_all}
 use Rattle.std.proofs.lemmas.Bool.{and_parts, or_cases, cases_lt, eqb-true, le-leb, lt-leb}
@@ -9,13 +10,13 @@ use Rattle.qrcode_types.specs.Versions.{is_valid}
 use Rattle.qrcode_types.specs.declared.types.Version.{Version}
 use Rattle.qrcode_types.specs.declared.types.Version.TheVariants.{Normal, Micro}
 use Rattle.qrcode_types.specs.declared.types.Color.{Color}
-use Rattle.qrcode_places.specs.Patterns.{centres, is_near, color_if, finder_at, finder, alignment, alignment_between, timing, dark_module, version_copy, version_pattern, pattern, is_corner_centre}
+use Rattle.qrcode_places.specs.Patterns.{centres, is_near, color_if, finder_at, finder, alignment, alignment_between, timing, dark_module, version_copy, version_pattern, pattern, format_index, is_corner_centre}
 use Rattle.qrcode_places.specs.Laws.{FormatPlacesAreNoPatterns, RulesAgree}
 use Rattle.qrcode_places.proofs.Corners.{no_where, no_or}
 use Rattle.qrcode_places.proofs.Figures.{or_some, finder_some, version_some}
 use Rattle.qrcode_places.proofs.Formats.{within}
 use Rattle.qrcode_places.proofs.FormatPlaces.{normal_cases, micro_cases, normal_index, micro_index}
-use Rattle.qrcode_places.proofs.Near.{found, is_placed, centres_placed, low_centre, high_centre}
+use Rattle.qrcode_places.proofs.Near.{found_has, is_placed, centres_placed, low_centre, high_centre}
 
 -- the place is in one of the corners where finder patterns, format words and version words are
 abbrev InCorner : ℕ → ℕ → ℕ → Type 0
@@ -37,8 +38,8 @@ none_between : (w x y : ℕ) (cs : List ℕ) (o p : Option ℕ) → 21 ≤ w →
 none_between w x y cs None p wide at all eo ep = refl
 none_between w x y cs (Some a) None wide at all eo ep = refl
 none_between w x y cs (Some a) (Some b) wide at all eo ep =
-    let f = found (is_near x) (is_placed w) cs a all eo in
-    let g = found (is_near y) (is_placed w) cs b all ep in
+    let f = found_has (is_near x) (is_placed w) cs a all eo in
+    let g = found_has (is_near y) (is_placed w) cs b all ep in
     no_where _ _ (corner_test w x y a b wide at f.1 f.0 g.1 g.0)
 
 -- the colour that a test gives is given where it holds
@@ -168,8 +169,8 @@ module _ (n x y : ℕ) where
     same_between cs None p d low all eo ep h = absurd (cc)
     same_between cs (Some a) None d low all eo ep h = absurd (cc)
     same_between cs (Some a) (Some b) d low all eo ep h =
-        let f = found (is_near x) (is_placed w) cs a all eo in
-        let g = found (is_near y) (is_placed w) cs b all ep in
+        let f = found_has (is_near x) (is_placed w) cs a all eo in
+        let g = found_has (is_near y) (is_placed w) cs b all ep in
         let shown : Some d ≡ Some c = sym (where_is _ _ d h).1 ∙ ap (color_if true) (meets a b low f.1 f.0 g.1 g.0) ∙ timing_color in
         cc
 
@@ -267,3 +268,12 @@ pub rules_agree : (v : Version) (x y : ℕ) (c : Color) → IsTrue (is_valid v) 
 rules_agree (Normal (pos n)) x y c valid = let range = within n 40 valid in normal_rules n x y c range.0 range.1
 rules_agree (Normal (negsuc n)) x y c valid = absurd (cc)
 rules_agree (Micro z) x y c valid = micro_rules z x y c
+
+-- no other rule takes the place of the dark module
+pub dark_module_is_in_the_pattern : (v : Version) (x y : ℕ) (c : Color) → IsTrue (is_valid v) → dark_module v x y ≡ Some c → pattern v x y ≡ Some c
+dark_module_is_in_the_pattern v x y c valid = (rules_agree v x y c valid).dark
+
+-- where a bit of the format word is found, no pattern is
+pub apart_where_some : (v : Version) (x y : ℕ) (found : Option ℕ) → IsTrue (is_valid v) → found ≡ format_index v x y → IfSome found (λ i. pattern v x y ≡ None)
+apart_where_some v x y None valid e = tt
+apart_where_some v x y (Some i) valid e = format_places_are_no_patterns v x y i valid (sym e)

@@ -24,10 +24,6 @@ pub record RulesAgree (v : Version) (x y : ℕ) (c : Color) : Type 0 where
   pub dark : dark_module v x y ≡ Some c → pattern v x y ≡ Some c
   pub versions : version_pattern v x y ≡ Some c → pattern v x y ≡ Some c
 
--- the rules of patterns agree at all places
-abbrev pub PatternRulesAgree : Type 0
-PatternRulesAgree = (v : Version) (x y : ℕ) (c : Color) → IsTrue (is_valid v) → RulesAgree v x y c
-
 -- fifteen places in the square, of which the i-th is that of bit i of the format word
 pub record IsFormatCopy (v : Version) (places : List (ℕ × ℕ)) : Type 0 where
   pub count : length places ≡ 15

@@ -1,15 +1,11 @@
 -- The masks.
-use Rattle.std.specs.Prelude.{ℕ, ℤ, pos, List, [], ◌∷◌, length, slice_index_or, ◌≤ℤ◌, ◌+◌, ◌*◌, ◌/◌, ◌%◌, ◌==◌, nat_lt, ◌&&◌, ◌||◌, not, Bool, true, false}
+use Rattle.std.specs.Prelude.{ℕ, ℤ, pos, List, [], ◌∷◌, length, slice_index_or, ◌+ℤ◌, nat_abs, ◌+◌, ◌*◌, ◌/◌, ◌%◌, ◌==◌, nat_lt, ◌&&◌, ◌||◌, not, Bool, true, false}
 use Rattle.std.specs.List.{position_or_len}
 use Rattle.qrcode_types.specs.Versions.{is_valid, is_micro}
 use Rattle.qrcode_types.specs.declared.types.Version.{Version}
 use Rattle.qrcode_types.specs.declared.types.Version.TheVariants.{Normal, Micro}
 use Rattle.qrcode_places.specs.declared.masks.MaskPattern.{MaskPattern}
 use Rattle.qrcode_places.specs.declared.masks.MaskPattern.TheVariants.{Checkerboard, HorizontalLines, VerticalLines, DiagonalLines, LargeCheckerboard, Fields, Diamonds, Meadow}
-
--- a column or a row of the largest symbol
-abbrev pub IsCoordinate : ℤ → Type 0
-IsCoordinate x = (pos 0 ≤ℤ x) × (x ≤ℤ pos 176)
 
 -- the mask turns the module in column x and row y
 abbrev pub turns : MaskPattern → ℕ → ℕ → Bool
@@ -21,6 +17,11 @@ turns LargeCheckerboard x y = (y / 2 + x / 3) % 2 == 0
 turns Fields x y = (x * y) % 2 + (x * y) % 3 == 0
 turns Diamonds x y = ((x * y) % 2 + (x * y) % 3) % 2 == 0
 turns Meadow x y = ((x + y) % 2 + (x * y) % 3) % 2 == 0
+
+-- the same formulas at coordinates of any sign: only for the diagonal lines do signs count
+abbrev pub turns_at : MaskPattern → ℤ → ℤ → Bool
+turns_at DiagonalLines x y = nat_abs (x +ℤ y) % 3 == 0
+turns_at k x y = turns k (nat_abs x) (nat_abs y)
 
 -- the number of a mask, 0 to 7, as the standard numbers them
 abbrev pub mask_number : MaskPattern → ℕ

@@ -1,8 +1,9 @@
-//! Laws of the words and places, each on the contract of a function that does nothing.
+//! Laws of words and places that are about more than one call, each on the contract of a function that
+//! does nothing.
 
 ghost use Rattle.qrcode_places.specs.Words.{VersionWordsAreApart, FormatWordsAreApart};
 ghost use Rattle.qrcode_places.specs.Stream.{FreePlacesAreFilled};
-ghost use Rattle.qrcode_places.specs.Laws.{FormatCopiesAreIndexed, FormatPlacesAreInCopies, FormatPlacesAreNoPatterns, PatternRulesAgree, WalkIsInside, WalkIsApart, WalkIsWhole, LeftOutIsFunctional, FreePlacesAreApart, FreePlacesAreWhole};
+ghost use Rattle.qrcode_places.specs.Laws.{FormatCopiesAreIndexed, FormatPlacesAreInCopies, WalkIsInside, WalkIsApart, WalkIsWhole, LeftOutIsFunctional, FreePlacesAreApart, FreePlacesAreWhole};
 
 /// Words that name different things are far from one another.
 pub fn words()
@@ -10,27 +11,21 @@ pub fn words()
     ensures formats { FormatWordsAreApart }
 {}
 
-/// The walk goes to each place but those of one column, whose places are all functional, and to no
-/// place twice.
-pub fn zigzag()
-    ensures inside { WalkIsInside }
-    ensures apart { WalkIsApart }
-    ensures whole { WalkIsWhole }
-    ensures left_out { LeftOutIsFunctional }
-{}
-
-/// The copies of the format word and the places of its bits are the same, and no pattern has them.
-pub fn format_places()
+/// Each copy of the format word has its fifteen bits in turn, and no other place has one.
+pub fn format_copies()
     ensures copies { FormatCopiesAreIndexed }
     ensures places { FormatPlacesAreInCopies }
-    ensures apart { FormatPlacesAreNoPatterns }
-    ensures agree { PatternRulesAgree }
 {}
 
-/// The list of free places has each of them once, and the codewords and the remainder bits of a
-/// version fill it.
+/// The walk goes to each place but those of one column, whose places are all functional, and to no
+/// place twice. So it comes to each free place once, and the codewords and the remainder bits of a
+/// version fill these.
 pub fn free_places()
-    ensures filled { FreePlacesAreFilled }
+    ensures inside { WalkIsInside }
+    ensures walk_apart { WalkIsApart }
+    ensures walk_whole { WalkIsWhole }
+    ensures left_out { LeftOutIsFunctional }
     ensures apart { FreePlacesAreApart }
     ensures whole { FreePlacesAreWhole }
+    ensures filled { FreePlacesAreFilled }
 {}

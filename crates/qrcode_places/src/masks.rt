@@ -1,8 +1,8 @@
 //! The masks.
 
-ghost use Rattle.std.specs.Prelude.{◌≡◌, ◌<◌, ◌≤◌, nat_abs, IsTrue};
+ghost use Rattle.std.specs.Prelude.{◌≡◌, ◌<◌, ◌≤◌, pos, ◌≤ℤ◌, nat_abs, IsTrue};
 ghost use Rattle.qrcode_types.specs.Versions.{is_valid};
-ghost use Rattle.qrcode_places.specs.Masks.{turns, mask_number, micro_mask_number, masks_of, mask_count, nth_mask, exists_in, IsCoordinate};
+ghost use Rattle.qrcode_places.specs.Masks.{turns, mask_number, micro_mask_number, masks_of, mask_count, nth_mask, exists_in, turns_at};
 
 use crate::mask_functions;
 use qrcode_types::types::Version;
@@ -55,11 +55,10 @@ impl MaskPattern {
         version.is_valid() && (!version.is_micro() || self.micro_number() < 4)
     }
 
-    /// Whether the mask turns the module in column `x` and row `y`, both from 0 to 176.
+    /// Whether the mask turns the module in column `x` and row `y`.
     pub fn turns(self, x: i16, y: i16) -> bool
-        requires column { IsCoordinate x }
-        requires row { IsCoordinate y }
-        ensures { result ≡ turns self (nat_abs x) (nat_abs y) }
+        ensures value { result ≡ turns_at self x y }
+        ensures inside { pos 0 ≤ℤ x → pos 0 ≤ℤ y → result ≡ turns self (nat_abs x) (nat_abs y) }
     {
         match self {
             MaskPattern::Checkerboard => mask_functions::checkerboard(x, y),

@@ -1,9 +1,11 @@
 //! The functional patterns, place by place.
 
-ghost use Rattle.std.specs.Prelude.{◌≡◌, ◌+◌, ◌*◌, ◌<◌, ◌≤◌, find, IfSome, IsTrue, true, false};
+ghost use Rattle.std.specs.Prelude.{◌≡◌, ◌+◌, ◌*◌, ◌<◌, ◌≤◌, find, IfSome, IsTrue, None, true, false};
 ghost use Rattle.qrcode_types.specs.Colors.{color_of};
 ghost use Rattle.qrcode_types.specs.Versions.{is_valid, is_micro, side};
+ghost use Rattle.qrcode_types.specs.declared.types.Color.{Color};
 ghost use Rattle.qrcode_types.specs.declared.types.Version.TheVariants.{Normal};
+ghost use Rattle.qrcode_places.specs.Laws.{RulesAgree};
 ghost use Rattle.qrcode_places.specs.Patterns.{color_if, finder_at, finder, is_near, centres, alignment_between, alignment, timing, dark_module, version_copy, version_pattern, pattern, format_index, decided_bit, is_corner_centre};
 
 use crate::words::version_word;
@@ -169,7 +171,10 @@ pub fn pattern(
     requires column { x < width }
     requires row { y < width }
     requires small { width ≤ 177 }
-    ensures { result ≡ pattern version x y }
+    ensures value { result ≡ pattern version x y }
+
+    // Where two rules of patterns meet they agree.
+    ensures agree { (c : Color) → RulesAgree version x y c }
 {
     if let Some(color) = finder(version, width, x, y) {
         return Some(color);
@@ -235,6 +240,7 @@ pub fn format_index(version: Version, width: usize, x: usize, y: usize) -> Optio
     requires inside { x < 1000 }
     ensures value { result ≡ format_index version x y }
     ensures at_most { IfSome result (λ i. i < 15) }
+    ensures apart { IfSome result (λ _. pattern version x y ≡ None) }
 {
     match version {
         Version::Normal(_) => normal_format_index(version, width, x, y),

@@ -6,11 +6,11 @@ pub returns-then-is_some-clause-drawn : goal.returns-then-is_some-clause-drawn
 returns-then-is_some-clause-drawn c =
     let v = c.args.layout.version in
     drawn_there v c.args.x c.args.y c.is_some.result c.requires.column c.requires.row
-    (by_pattern v c.args.x c.args.y c.is_some.result (c.is_some.ensures ∙ ap is_some c.pattern.ensures) c.if-is_some.true)
+    (by_pattern v c.args.x c.args.y c.is_some.result (c.is_some.ensures ∙ ap is_some c.pattern.ensures.value) c.if-is_some.true)
 
 pub returns-else-is_some-clause-drawn : goal.returns-else-is_some-clause-drawn
 returns-else-is_some-clause-drawn c =
     let v = c.args.layout.version in
     drawn_there v c.args.x c.args.y c.is_some-else-is_some.result c.requires.column c.requires.row
-    (by_format v c.args.x c.args.y c.is_some-else-is_some.result (sym (c.is_some.ensures ∙ ap is_some c.pattern.ensures) ∙ c.if-is_some.false)
+    (by_format v c.args.x c.args.y c.is_some-else-is_some.result (sym (c.is_some.ensures ∙ ap is_some c.pattern.ensures.value) ∙ c.if-is_some.false)
     (c.is_some-else-is_some.ensures ∙ ap is_some c.format_index.ensures.value))
