@@ -11,7 +11,7 @@ use Rattle.qrcode_types.specs.declared.types.EcLevel.{EcLevel}
 use Rattle.qrcode_types.specs.declared.types.Color.{Color}
 use Rattle.qrcode_ec.specs.Codes.{Corrects, Vanishes, distance}
 use Rattle.qrcode_ec.specs.Blocks.{codewords, data_bits}
-use Rattle.qrcode_ec.proofs.Distances.{only_within}
+use Rattle.qrcode_ec.proofs.Distances.{distance_above}
 use Rattle.qrcode_places.specs.Masks.{exists_in}
 use Rattle.qrcode_places.specs.Words.{format_word}
 use Rattle.qrcode_places.specs.Patterns.{format_copies, first_format_place, micro_format_place}
@@ -95,7 +95,7 @@ same_words s v l m bits others p q =
 -- of a short block there is one correction
 same_block : (n : ℕ) (r c d : List ℕ) → length r ≤ 255 → Corrects r n c → Corrects r n d → d ≡ c
 same_block n r c d short p q =
-    only_within n c p.bytes (subst (λ m. m ≤ 255) p.equal_length short) p.vanishes d q.bytes (sym q.equal_length ∙ p.equal_length) q.vanishes
+    distance_above n c p.bytes (subst (λ m. m ≤ 255) p.equal_length short) p.vanishes d q.bytes (sym q.equal_length ∙ p.equal_length) q.vanishes
     (omega (arith, distance-through c r d (sym p.equal_length) q.equal_length, distance-turned c r, p.near, q.near))
 
 same_corrected : (n : ℕ) (rs cs ds : List (List ℕ)) → AllByRecursion (λ r. length r ≤ 255) rs → AllZip (λ r c. Corrects r n c) rs cs → AllZip (λ r c. Corrects r n c) rs ds → ds ≡ cs

@@ -11,7 +11,7 @@ use Rattle.qrcode_types.specs.declared.types.Version.{Version}
 use Rattle.qrcode_types.specs.declared.types.EcLevel.{EcLevel}
 use Rattle.qrcode_types.specs.declared.types.Color.{Color}
 use Rattle.qrcode_ec.specs.Codes.{Vanishes}
-use Rattle.qrcode_ec.specs.Blocks.{blocks, data_bytes, data_bits}
+use Rattle.qrcode_ec.specs.Blocks.{blocks, data_bytes, data_bits, AreCodewords}
 use Rattle.qrcode_places.specs.declared.masks.MaskPattern.{MaskPattern}
 use Rattle.qrcode_symbol.specs.Symbol.{Carries, IsSymbol}
 use Rattle.qrcode_bits.specs.Spelling.{Spells}
@@ -23,7 +23,7 @@ use Rattle.qrcode.proofs.Readings.{reads_bits_only, reads_only}
 -- The codewords of a symbol, as they come from its bits.
 
 -- codewords whose blocks hold bits, and vanish
-pub record AreCodewords (v : Version) (l : EcLevel) (bits : List Bool) (words : List ℕ) : Type 0 where
+pub record AreWordsOf (v : Version) (l : EcLevel) (bits : List Bool) (words : List ℕ) : Type 0 where
   pub bytes : AreBytes words
   pub holds : data_bits v l (blocks v l words) ≡ bits
   pub vanish : AllByRecursion (λ b. Vanishes b (ec_length v l)) (blocks v l words)
@@ -35,7 +35,7 @@ unfolding data_bits
 data_bits-from v l bits rest raw bs len raw_is holds =
     ap (λ x. take (capacity v l) (bits_of x)) holds ∙ ap (take (capacity v l)) raw_is ∙ take_at bits rest (capacity v l) len
 
-pub is_symbol : (v : Version) (l : EcLevel) (bits : List Bool) (words : List ℕ) (k : MaskPattern) (s : List Color) → AreCodewords v l bits words → Carries v l words k s → IsSymbol v l bits k s
+pub is_symbol : (v : Version) (l : EcLevel) (bits : List Bool) (words : List ℕ) (k : MaskPattern) (s : List Color) → AreWordsOf v l bits words → Carries v l words k s → IsSymbol v l bits k s
 is_symbol v l bits words k s are carries = record {
   patterns = carries.patterns;
   holds = ap (λ w. data_bits v l (blocks v l w)) carries.holds ∙ are.holds;
@@ -44,7 +44,7 @@ is_symbol v l bits words k s are carries = record {
 }
 
 -- the symbol of bits under the first mask of least penalty
-pub encodes_bits : (v : Version) (l : EcLevel) (bits : List Bool) (words : List ℕ) (s : List Color) → IsTrue (has_level v l) → AreCodewords v l bits words → IsBestDrawing v l words s
+pub encodes_bits : (v : Version) (l : EcLevel) (bits : List Bool) (words : List ℕ) (s : List Color) → IsTrue (has_level v l) → AreWordsOf v l bits words → IsBestDrawing v l words s
     → EncodesBits v l bits s
 encodes_bits v l bits words s exists are drawn =
     let k = drawn.mask in
@@ -125,14 +125,14 @@ half_is_high v l bits rest raw half some len all is =
     four_low (slice_index raw n) (zero_at 4 (omega arith) (omega arith)) (zero_at 5 (omega arith) (omega arith)) (zero_at 6 (omega arith) (omega arith)) (zero_at 7 (omega arith) (omega arith))
 
 -- what is drawn of the codewords of bits encodes the bits
-pub encodes_drawn : (v : Version) (l : EcLevel) (bits : List Bool) (rest : ℕ) (raw words : List ℕ) (s : List Color) → IsTrue (has_level v l) → length bits ≡ capacity v l
-    → bits_of raw ≡ bits ++ replicate rest false → AreBytes words → data_bytes v l (blocks v l words) ≡ raw
-    → AllByRecursion (λ b. Vanishes b (ec_length v l)) (blocks v l words) → IsBestDrawing v l words s → EncodesBits v l bits s
-encodes_drawn v l bits rest raw words s exists len is bytes holds vanish drawn =
-    let are : AreCodewords v l bits words = record { bytes = bytes; holds = data_bits-from v l bits (replicate rest false) raw (blocks v l words) len is holds; vanish = vanish } in
+pub encodes_drawn : (v : Version) (l : EcLevel) (bits : List Bool) (rest : ℕ) (raw data_words ec_words : List ℕ) (s : List Color) → IsTrue (has_level v l)
+    → length bits ≡ capacity v l → bits_of raw ≡ bits ++ replicate rest false → AreCodewords v l raw data_words ec_words
+    → IsBestDrawing v l (data_words ++ ec_words) s → EncodesBits v l bits s
+encodes_drawn v l bits rest raw data_words ec_words s exists len is known drawn =
+    let words = data_words ++ ec_words in
+    let are : AreWordsOf v l bits words = record {
+      bytes = known.are_bytes;
+      holds = data_bits-from v l bits (replicate rest false) raw (blocks v l words) len is known.holds;
+      vanish = known.vanishes;
+    } in
     encodes_bits v l bits words s exists are drawn
-
--- bytes, joined
-pub joined_bytes : (a b : List ℕ) → AreBytes a → AreBytes b → AreBytes (a ++ b)
-joined_bytes [] b p q = q
-joined_bytes (x ∷ a) b p q = (p.0, joined_bytes a b p.1 q)

@@ -6,7 +6,7 @@ ghost use Rattle.qrcode_types.specs.Versions.{side, has_level, capacity, data_le
 ghost use Rattle.qrcode_types.specs.declared.types.QrError.TheVariants.{OutOfMemory, InvalidVersion, DataTooLong};
 ghost use Rattle.qrcode_types.specs.Colors.{is_dark};
 ghost use Rattle.qrcode_types.specs.declared.types.EcLevel.TheVariants.{M};
-ghost use Rattle.qrcode_ec.specs.Allowed.{reserved_codewords};
+ghost use Rattle.qrcode_ec.specs.Allowed.{misdecode_protection};
 ghost use Rattle.qrcode_places.specs.Patterns.{is_functional_place};
 ghost use Rattle.qrcode_symbol.specs.Patterned.{IsDrawn};
 ghost use Rattle.qrcode.specs.Acceptance.{IsAutomatic, IsAccepted, IsLeastSymbol, IsRefusedAt};
@@ -182,7 +182,7 @@ impl QrCode {
     /// correction block by block: half of a block's error correction codewords, rounded down.
     pub fn max_allowed_errors(&self) -> usize
         ensures { result ≡ (total_ec_length self.now.version self.now.level
-            - reserved_codewords self.now.version self.now.level) / 2 }
+            - misdecode_protection self.now.version self.now.level) / 2 }
     {
         ec::max_allowed_errors(self.version, self.ec_level).unwrap()
     }

@@ -4,7 +4,7 @@ use Rattle.std.proofs.lemmas.Bool.{eq-eqb, eqb-true}
 use Rattle.std.specs.Int.Bits.{bit_xor, xor_self, xor_lt}
 use Rattle.qrcode_types.specs.Bits.{AreBytes}
 use Rattle.qrcode_ec.specs.Field.{product, power}
-use Rattle.qrcode_ec.specs.Codes.{syndrome, Vanishes, distance, IsOnlyWithin}
+use Rattle.qrcode_ec.specs.Codes.{syndrome, Vanishes, distance, HasDistanceAbove}
 use Rattle.qrcode_ec.proofs.Xor.{xor_four, same_from_xor}
 use Rattle.qrcode_ec.proofs.Products.{product_lt, product_assoc, product_zero_l, product_zero_r, product_one_r, product_xor_r, product_xor_l, product_swap}
 use Rattle.qrcode_ec.proofs.Powers.{power_lt, power_zero, power_add, no_zero_divisor, powers_differ}
@@ -194,8 +194,8 @@ same_within n xs ys a b h l same d =
     same_from_weight xs ys h z
 
 -- a list that vanishes is the only one near to it
-pub only_within : (n : ℕ) (xs : List ℕ) → AreBytes xs → length xs ≤ 255 → Vanishes xs n → IsOnlyWithin xs n
-only_within n xs a l v other b k w d = sym (same_within n xs other a b (sym k) l (λ i below. v i below ∙ sym (w i below)) d)
+pub distance_above : (n : ℕ) (xs : List ℕ) → AreBytes xs → length xs ≤ 255 → Vanishes xs n → HasDistanceAbove n xs
+distance_above n xs a l v other b k w d = sym (same_within n xs other a b (sym k) l (λ i below. v i below ∙ sym (w i below)) d)
 
 cond_le : (b : Bool) → cond b 0 1 ≤ 1
 cond_le true = omega arith

@@ -7,44 +7,45 @@ use Rattle.std.proofs.lemmas.Nat.{mul-add-lt}
 use Rattle.std.proofs.lemmas.List.{get_or_append_left, get_or-append-add, take_all, take_at, drop_all, append-nil, ext_get_or}
 use Rattle.std.proofs.lemmas.List.Folds.{drop_split}
 use Rattle.std.proofs.lemmas.List.FromFn.{length-map-range_with_len, get_or-map-range_with_len, fill_by_all}
-use Rattle.qrcode_types.specs.Blocks.{AreBlocks}
+use Rattle.qrcode_types.specs.Blocks.{AreBlocks, count_of, data_length_of}
 use Rattle.qrcode_types.specs.Versions.{block_lengths, data_length, ec_length}
-use Rattle.qrcode_types.proofs.BlockTable.{length-block_lengths}
+use Rattle.qrcode_types.proofs.BlockTable.{length-block_lengths, total_ec_length-is, ec_of}
 use Rattle.qrcode_types.specs.declared.types.Version.{Version}
 use Rattle.qrcode_types.specs.declared.types.EcLevel.{EcLevel}
 use Rattle.qrcode_types.specs.declared.tables.Blocks.{Blocks}
-use Rattle.qrcode_ec.specs.Blocks.{interleaved_place, block, blocks, data_bytes}
-use Rattle.qrcode_ec.specs.Interleaving.{data_block, start_of, length_of}
+use Rattle.qrcode_ec.specs.Blocks.{interleaved_place, block, blocks, data_bytes, AreCodewords}
+use Rattle.qrcode_ec.specs.Codes.{Vanishes, HasDistanceAbove}
+use Rattle.qrcode_ec.specs.Interleaving.{data_block, start_of, length_of, ec_block, HasRows, HasEnds, MakeVanish}
 use Rattle.qrcode_types.specs.Bits.{AreBytes}
-use Rattle.qrcode_ec.proofs.Bytes.{take_bytes, drop_bytes}
-use Rattle.qrcode_ec.proofs.Columns.{column}
-use Rattle.qrcode_ec.proofs.Parts.{total, more, length-data_block}
+use Rattle.qrcode_ec.proofs.Bytes.{bytes_append, take_bytes, drop_bytes}
+use Rattle.qrcode_ec.proofs.Columns.{column, column_bytes}
+use Rattle.qrcode_ec.proofs.Distances.{distance_above}
+use Rattle.qrcode_ec.proofs.Parts.{more, length-data_block}
 use Rattle.qrcode_ec.proofs.Places.{short_and_long, row_place, end_place, length_at}
 
--- the blocks of a version and level, their data, and the list in which that stands interleaved
+-- the blocks of a version and level, their data bytes, and the list in which they stand interleaved
 pub record IsInterleaved (v : Version) (l : EcLevel) (b : Blocks) (bytes words : List ℕ) : Type 0 where
   pub entry : AreBlocks v l b
-  pub some : 1 ≤ b.short_blocks
-  pub whole : length bytes ≡ total b
-  pub as_long : length words ≡ total b
-  pub all : data_length v l ≡ total b
-  pub rows : (i k : ℕ) → i < b.short_length → k < b.short_blocks + b.long_blocks → get_or words (i * (b.short_blocks + b.long_blocks) + k) 0 ≡ get_or (data_block b bytes k) i 0
-  pub ends : (k : ℕ) → k < b.long_blocks → get_or words (b.short_length * (b.short_blocks + b.long_blocks) + k) 0 ≡ get_or (data_block b bytes (b.short_blocks + k)) b.short_length 0
+  pub whole : length bytes ≡ data_length_of b
+  pub as_long : length words ≡ data_length_of b
+  pub all : data_length v l ≡ data_length_of b
+  pub rows : HasRows b bytes words
+  pub ends : HasEnds b bytes words
 
 lengths_are : (v : Version) (l : EcLevel) (b : Blocks) → AreBlocks v l b → block_lengths v l ≡ short_and_long b.short_blocks b.long_blocks b.short_length
 unfolding block_lengths
 lengths_are v l b e = ap (λ t. replicate t.1 t.2 ++ replicate t.3 (t.2 + 1)) e
 
-pub count_is : (v : Version) (l : EcLevel) (b : Blocks) → AreBlocks v l b → length (block_lengths v l) ≡ b.short_blocks + b.long_blocks
+count_is : (v : Version) (l : EcLevel) (b : Blocks) → AreBlocks v l b → length (block_lengths v l) ≡ count_of b
 count_is v l b e = length-block_lengths v l ∙ ap (λ t. t.1 + t.3) e
 
 -- the first i bytes of all blocks stand at the front
-row_inside : (b : Blocks) (i k : ℕ) → i < b.short_length → k < b.short_blocks + b.long_blocks → i * (b.short_blocks + b.long_blocks) + k < total b
-row_inside b i k within exists = omega (arith, mul-add-lt i (b.short_blocks + b.long_blocks) k b.short_length within exists)
+row_inside : (b : Blocks) (i k : ℕ) → i < b.short_length → k < count_of b → i * (count_of b) + k < data_length_of b
+row_inside b i k within exists = omega (arith, mul-add-lt i (count_of b) k b.short_length within exists)
 
 -- a byte of a block stands at its place
 byte_at_place : (v : Version) (l : EcLevel) (b : Blocks) (bytes words ec : List ℕ) → IsInterleaved v l b bytes words
-    → (k i : ℕ) → k < b.short_blocks + b.long_blocks → i < length_of b k
+    → (k i : ℕ) → k < count_of b → i < length_of b k
     → get_or (words ++ ec) (interleaved_place (short_and_long b.short_blocks b.long_blocks b.short_length) i k) 0 ≡ get_or (data_block b bytes k) i 0
 byte_at_place v l b bytes words ec is k i exists within =
     let short = b.short_blocks in
@@ -67,14 +68,16 @@ byte_at_place v l b bytes words ec is k i exists within =
       ]
     ]
 
--- a block is its data and its column of error correction bytes
-pub block_is : (v : Version) (l : EcLevel) (b : Blocks) (bytes words ec : List ℕ) → IsInterleaved v l b bytes words
-    → (k : ℕ) → k < b.short_blocks + b.long_blocks
-    → block v l (words ++ ec) k ≡ data_block b bytes k ++ column (ec_length v l) (b.short_blocks + b.long_blocks) k ec
+ec_length_is : (v : Version) (l : EcLevel) (b : Blocks) → AreBlocks v l b → ec_length v l ≡ b.ec_length
+ec_length_is v l b e = ap (λ t. t.0) e
+
+-- a block is its data bytes and its error correction bytes
+block_is : (v : Version) (l : EcLevel) (b : Blocks) (bytes words ec : List ℕ) → IsInterleaved v l b bytes words
+    → (k : ℕ) → k < count_of b → block v l (words ++ ec) k ≡ data_block b bytes k ++ ec_block b ec k
 unfolding block
 block_is v l b bytes words ec is k exists =
     let lengths = short_and_long b.short_blocks b.long_blocks b.short_length in
-    let count = b.short_blocks + b.long_blocks in
+    let count = count_of b in
     let n = ec_length v l in
     let behind = λ (i : ℕ). get_or (words ++ ec) (length words + i * count + k) 0 in
     let long = length-data_block b bytes k exists is.whole in
@@ -88,15 +91,15 @@ block_is v l b bytes words ec is k exists =
     ∙ ap (λ p. get_or (words ++ ec) p 0) (let z : length words + i * count + k ≡ length words + (i * count + k) = omega arith in z) ∙ get_or-append-add words ec (i * count + k) 0) in
     ap₂ (λ x y. x ++ y)
     (ap (λ ls. map (λ i. get_or (words ++ ec) (interleaved_place ls i k) 0) (range_with_len 0 (get_or ls k 0))) (lengths_are v l b is.entry) ∙ front)
-    (ap₂ (λ d m. map (λ i. get_or (words ++ ec) (d + i * m + k) 0) (range_with_len 0 n)) (is.all ∙ sym is.as_long) (count_is v l b is.entry) ∙ back)
+    (ap₂ (λ d m. map (λ i. get_or (words ++ ec) (d + i * m + k) 0) (range_with_len 0 n)) (is.all ∙ sym is.as_long) (count_is v l b is.entry) ∙ back ∙ ap (λ m. column m count k ec) (ec_length_is v l b is.entry))
 
 -- what holds of each block
 each_number : (P : List ℕ → Type 0) (f : ℕ → List ℕ) (a n : ℕ) → ((k : ℕ) → k < a + n → P (f k)) → AllByRecursion P (map f (range_with_len a n))
 each_number P f a zero h = tt
 each_number P f a (suc n) h = (h a (omega arith), each_number P f (a + 1) n (λ k below. h k (omega arith)))
 
-pub each_block : (P : List ℕ → Type 0) (v : Version) (l : EcLevel) (b : Blocks) (bytes words ec : List ℕ) → IsInterleaved v l b bytes words
-    → ((k : ℕ) → k < b.short_blocks + b.long_blocks → P (data_block b bytes k ++ column (ec_length v l) (b.short_blocks + b.long_blocks) k ec))
+each_block : (P : List ℕ → Type 0) (v : Version) (l : EcLevel) (b : Blocks) (bytes words ec : List ℕ) → IsInterleaved v l b bytes words
+    → ((k : ℕ) → k < count_of b → P (data_block b bytes k ++ ec_block b ec k))
     → AllByRecursion P (blocks v l (words ++ ec))
 unfolding blocks
 each_block P v l b bytes words ec is holds =
@@ -122,9 +125,9 @@ joined_from b bytes a (suc n) =
       | inr less ↦ omega (arith, less.1, ap {B = ℕ} (λ t. cond t 1 0) less.0)
     ]
 
-joined : (b : Blocks) (bytes : List ℕ) → length bytes ≡ total b → flat_map (data_block b bytes) (range_with_len 0 (b.short_blocks + b.long_blocks)) ≡ bytes
+joined : (b : Blocks) (bytes : List ℕ) → length bytes ≡ data_length_of b → flat_map (data_block b bytes) (range_with_len 0 (count_of b)) ≡ bytes
 joined b bytes whole =
-    let count = b.short_blocks + b.long_blocks in
+    let count = count_of b in
     let parts = flat_map (data_block b bytes) (range_with_len 0 count) in
     let begin : start_of b 0 ≡ 0 = omega arith in
     let all : length bytes ≤ start_of b (0 + count) = omega (arith, whole) in
@@ -135,17 +138,17 @@ flat_map_each : (f : List ℕ → List ℕ) (g h : ℕ → List ℕ) (a n : ℕ)
 flat_map_each f g h a zero same = refl
 flat_map_each f g h a (suc n) same = ap₂ (λ x y. x ++ y) (same a (omega arith)) (flat_map_each f g h (a + 1) n (λ k below. same k (omega arith)))
 
-pub blocks_hold : (v : Version) (l : EcLevel) (b : Blocks) (bytes words ec : List ℕ) → IsInterleaved v l b bytes words
+blocks_hold : (v : Version) (l : EcLevel) (b : Blocks) (bytes words ec : List ℕ) → IsInterleaved v l b bytes words
     → data_bytes v l (blocks v l (words ++ ec)) ≡ bytes
 unfolding data_bytes blocks
 blocks_hold v l b bytes words ec is =
     let count = count_is v l b is.entry in
     let n = ec_length v l in
-    let all = b.short_blocks + b.long_blocks in
+    let all = count_of b in
     let front : (k : ℕ) → k < 0 + length (block_lengths v l) → take (length (block v l (words ++ ec) k) - n) (block v l (words ++ ec) k) ≡ data_block b bytes k = λ k below.
     let part = data_block b bytes k in
-    let ends = column n all k ec in
-    let long : length ends ≡ n = length-map-range_with_len (λ i. get_or ec (i * all + k) 0) 0 n in
+    let ends = ec_block b ec k in
+    let long : length ends ≡ n = length-map-range_with_len (λ i. get_or ec (i * all + k) 0) 0 b.ec_length ∙ sym (ec_length_is v l b is.entry) in
     ap (λ (c : List ℕ). take (length c - n) c) (block_is v l b bytes words ec is k (omega (arith, count, below)))
     ∙ take_at part ends (length (part ++ ends) - n) (omega (arith, length-append part ends, long)) in
     flat_map_each (λ c. take (length c - n) c) (block v l (words ++ ec)) (data_block b bytes) 0 (length (block_lengths v l)) front
@@ -157,10 +160,10 @@ pub one_block : (v : Version) (l : EcLevel) (b : Blocks) (bytes words : List ℕ
 unfolding data_block
 one_block v l b bytes words is one =
     let count = count_is v l b is.entry in
-    let single : b.short_blocks + b.long_blocks ≡ 1 = omega (arith, count, one) in
-    let short : b.short_blocks ≡ 1 = omega (arith, single, is.some) in
-    let long : b.long_blocks ≡ 0 = omega (arith, single, is.some) in
-    let size : total b ≡ b.short_length = ap₂ (λ x y. x * b.short_length + y * (b.short_length + 1)) short long ∙ omega arith in
+    let single : count_of b ≡ 1 = omega (arith, count, one) in
+    let short : b.short_blocks ≡ 1 = omega (arith, single, b.some_blocks) in
+    let long : b.long_blocks ≡ 0 = omega (arith, single, b.some_blocks) in
+    let size : data_length_of b ≡ b.short_length = ap₂ (λ x y. x * b.short_length + y * (b.short_length + 1)) short long ∙ omega arith in
     let begin : start_of b 0 ≡ 0 = omega arith in
     let none : more b.short_blocks 0 ≡ 0 = elim (leb_tells b.short_blocks 0) [ inl most ↦ absurd (omega (arith, most.1, short)) | inr less ↦ ap {B = ℕ} (λ t. cond t 1 0) less.0 ] in
     let first : data_block b bytes 0 ≡ bytes =
@@ -168,11 +171,11 @@ one_block v l b bytes words is one =
     ∙ take_all (0 + b.short_length - 0) bytes (omega (arith, is.whole, size)) in
     ext_get_or 0 words bytes (is.as_long ∙ sym is.whole)
     (λ i below.
-    let place : i * (b.short_blocks + b.long_blocks) + 0 ≡ i = ap (λ m. i * m + 0) single ∙ omega arith in
+    let place : i * (count_of b) + 0 ≡ i = ap (λ m. i * m + 0) single ∙ omega arith in
     ap (λ p. get_or words p 0) (sym place) ∙ is.rows i 0 (omega (arith, below, is.as_long, size)) (omega (arith, single)) ∙ ap (λ (xs : List ℕ). get_or xs i 0) first)
 
 -- a block is of bytes, and not too long for the law of distance
-pub block_bytes : (b : Blocks) (bytes : List ℕ) (k : ℕ) → AreBytes bytes → AreBytes (data_block b bytes k)
+block_bytes : (b : Blocks) (bytes : List ℕ) (k : ℕ) → AreBytes bytes → AreBytes (data_block b bytes k)
 unfolding data_block
 block_bytes b bytes k all = take_bytes (start_of b k + length_of b k - start_of b k) (drop (start_of b k) bytes) (drop_bytes (start_of b k) bytes all)
 
@@ -180,13 +183,33 @@ bit_le : (t : Bool) → cond t 1 0 ≤ 1
 bit_le true = omega arith
 bit_le false = omega arith
 
-pub length-block_with : (b : Blocks) (bytes : List ℕ) (k n count : ℕ) (ec : List ℕ) → k < b.short_blocks + b.long_blocks → length bytes ≡ total b
-    → length (data_block b bytes k ++ column n count k ec) ≤ b.short_length + 1 + n
-length-block_with b bytes k n count ec exists whole =
+length-block_with : (b : Blocks) (bytes : List ℕ) (k : ℕ) (ec : List ℕ) → k < count_of b → length bytes ≡ data_length_of b
+    → length (data_block b bytes k ++ ec_block b ec k) ≤ 255
+length-block_with b bytes k ec exists whole =
     omega (
       arith,
-      length-append (data_block b bytes k) (column n count k ec),
+      b.ec_at_most,
+      b.data_at_most,
+      length-append (data_block b bytes k) (ec_block b ec k),
       length-data_block b bytes k exists whole,
       bit_le (nat_le b.short_blocks k),
-      length-map-range_with_len (λ i. get_or ec (i * count + k) 0) 0 n,
+      length-map-range_with_len (λ i. get_or ec (i * count_of b + k) 0) 0 b.ec_length,
     )
+
+-- words in which data bytes stand interleaved, and error correction bytes that make each block vanish, are codewords
+pub are_codewords : (v : Version) (l : EcLevel) (b : Blocks) (bytes words ec : List ℕ) → IsInterleaved v l b bytes words
+    → AreBytes bytes → AreBytes words → AreBytes ec → length ec ≡ b.ec_length * count_of b → MakeVanish b bytes ec → AreCodewords v l bytes words ec
+are_codewords v l b bytes words ec is bb wb eb long make =
+    let n = ec_length v l in
+    let vanish = λ (k : ℕ) (exists : k < count_of b). subst (λ m. Vanishes (data_block b bytes k ++ ec_block b ec k) m) (sym (ec_length_is v l b is.entry)) (make k exists) in
+    record {
+      data_long = is.as_long ∙ sym is.all;
+      ec_long = long ∙ sym (total_ec_length-is v l ∙ ap ec_of is.entry);
+      are_bytes = bytes_append words ec wb eb;
+      holds = blocks_hold v l b bytes words ec is;
+      vanishes = each_block (λ c. Vanishes c n) v l b bytes words ec is vanish;
+      distance = each_block (HasDistanceAbove n) v l b bytes words ec is (λ k exists.
+          distance_above n (data_block b bytes k ++ ec_block b ec k)
+          (bytes_append (data_block b bytes k) (ec_block b ec k) (block_bytes b bytes k bb) (column_bytes b.ec_length (count_of b) k ec eb))
+          (length-block_with b bytes k ec exists is.whole) (vanish k exists));
+    }

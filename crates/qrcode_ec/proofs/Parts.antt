@@ -1,6 +1,7 @@
 -- The data is parted into its blocks.
 use Rattle.std.proofs.Common.{◌≡◌, ℕ, ◌+◌, ◌*◌, ◌-◌, ◌<◌, ◌≤◌, nat_le, cond, inl, inr, ap, List, length, drop, length-drop, arith}
 use Rattle.std.proofs.lemmas.List.{length-take}
+use Rattle.qrcode_types.specs.Blocks.{count_of, data_length_of}
 use Rattle.qrcode_types.specs.declared.tables.Blocks.{Blocks}
 use Rattle.qrcode_ec.specs.Interleaving.{data_block, start_of, length_of}
 use Rattle.std.proofs.lemmas.Bool.Decides.{leb_tells}
@@ -19,11 +20,7 @@ block_fits b short long s exists =
       | inr less ↦ omega (arith, rows, ap {B = ℕ} (λ t. cond t 1 0) less.0, less.1)
     ]
 
--- as many bytes as the data of all blocks has
-abbrev pub total : Blocks → ℕ
-total blocks = blocks.short_blocks * blocks.short_length + blocks.long_blocks * (blocks.short_length + 1)
-
-pub length-data_block : (blocks : Blocks) (bytes : List ℕ) (b : ℕ) → b < blocks.short_blocks + blocks.long_blocks → length bytes ≡ total blocks
+pub length-data_block : (blocks : Blocks) (bytes : List ℕ) (b : ℕ) → b < count_of blocks → length bytes ≡ data_length_of blocks
     → length (data_block blocks bytes b) ≡ length_of blocks b
 unfolding data_block
 length-data_block blocks bytes b exists whole =

@@ -1,8 +1,8 @@
 -- The powers of 2 in the field.
 use Rattle.std.proofs.Common.{◌*◌, ◌/◌, ◌%◌, ◌≡◌, ℕ, zero, suc, ◌+◌, ◌-◌, ◌<◌, ◌≤◌, inl, inr, refl, sym, ap, subst, ◌∙◌, arith, Bool, true, false, eqb}
 use Rattle.std.proofs.lemmas.Bool.{cases_lt, eqb-true, eq-eqb}
-use Rattle.qrcode_ec.specs.Field.{times_x, product, power}
-use Rattle.qrcode_ec.proofs.Products.{product_lt, product_assoc, product_zero_l, product_zero_r, product_one_r, product_one_l, product_two}
+use Rattle.qrcode_ec.specs.Field.{product, power}
+use Rattle.qrcode_ec.proofs.Products.{times_x, product_lt, product_assoc, product_zero_l, product_zero_r, product_one_r, product_one_l, product_two}
 
 unfoldable pub pow : ℕ → ℕ
 pow zero = 1

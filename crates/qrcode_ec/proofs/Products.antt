@@ -4,11 +4,15 @@ use Rattle.std.proofs.lemmas.Bool.{cases_lt}
 use Rattle.std.proofs.Math.Arith.{bin_ind}
 use Rattle.std.specs.Int.Bits.{bit_xor, xor_assoc, xor_comm, xor_self, xor_zero_r, xor_block, xor_shr, xor_lt}
 use Rattle.qrcode_types.specs.Polynomials.{carryless, reduced, remainder_from, remainder}
-use Rattle.qrcode_ec.specs.Field.{modulus, IsProduct, times_x, product}
+use Rattle.qrcode_ec.specs.Field.{modulus, IsProduct, product}
 use Rattle.qrcode_ec.proofs.Xor.{xor_four, xor_twice, xor_half, xor_odd, xor_split}
 use Rattle.qrcode_ec.proofs.Carryless.{zero_times, one_times, even, half, bit_mul, carryless_step, carryless_twice, carryless_zero_r, carryless_zero_l, carryless_xor_r, carryless_xor_l, carryless_comm, carryless_assoc}
 
 -- ---- one step
+-- a byte p times x
+unfoldable pub times_x : ℕ → ℕ
+times_x p = bit_xor (p * 2) (p / 128 * 0x11d)
+
 high_bit : (h r : ℕ) → h < 2 → r < 128 → bit_xor ((h * 128 + r) * 2) (h * 0x11d) < 256
 high_bit zero r p q =
     let e : (0 * 128 + r) * 2 ≡ r * 2 = omega arith in

@@ -1,7 +1,8 @@
 -- The tables hold the powers of 2, and their exponents.
 use Rattle.std.proofs.Common.{◌≡◌, ℕ, zero, suc, ◌+◌, ◌<◌, refl, sym, ap, ◌∙◌, arith, Bool, true, false, eqb, ltb, List, [], ◌∷◌, length, get_or}
 use Rattle.std.proofs.lemmas.Bool.{eqb-true, ltb-true}
-use Rattle.qrcode_ec.specs.Field.{times_x, power}
+use Rattle.qrcode_ec.specs.Field.{power}
+use Rattle.qrcode_ec.proofs.Products.{times_x}
 use Rattle.qrcode_ec.proofs.Powers.{pow, power_is}
 use Rattle.qrcode_ec.specs.declared.field.TheConstants.{POWERS, LOGARITHMS}
 

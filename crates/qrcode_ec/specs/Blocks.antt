@@ -1,10 +1,11 @@
 -- Codewords, and the blocks that are interleaved in them.
-use Rattle.std.specs.Prelude.{ℕ, ◌+◌, ◌-◌, ◌*◌, nat_lt, min, Bool, List, ◌++◌, length, map, sum_by, count_by, take, drop, slice_index}
-use Rattle.std.specs.List.{range_with_len, flat_map}
-use Rattle.qrcode_types.specs.Bits.{bits_of, bytes_of}
+use Rattle.std.specs.Prelude.{◌≡◌, ℕ, ◌+◌, ◌-◌, ◌*◌, nat_lt, min, Bool, List, ◌++◌, length, map, sum_by, count_by, take, drop, slice_index}
+use Rattle.std.specs.List.{range_with_len, flat_map, AllByRecursion}
+use Rattle.qrcode_types.specs.Bits.{AreBytes, bits_of, bytes_of}
 use Rattle.qrcode_types.specs.Versions.{capacity, block_lengths, ec_length, total_ec_length, data_length}
 use Rattle.qrcode_types.specs.declared.types.Version.{Version}
 use Rattle.qrcode_types.specs.declared.types.EcLevel.{EcLevel}
+use Rattle.qrcode_ec.specs.Codes.{Vanishes, HasDistanceAbove}
 
 -- the codewords of a stream of bits: the data codewords, the last of four bits and four zeros where there is a half one,
 -- and then the error correction codewords
@@ -35,3 +36,13 @@ data_bytes v l bs = flat_map (λ b. take (length b - ec_length v l) b) bs
 -- the same as bits, without the four zeros of a half codeword
 unfoldable pub data_bits : Version → EcLevel → List (List ℕ) → List Bool
 data_bits v l bs = take (capacity v l) (bits_of (data_bytes v l bs))
+
+-- The data codewords and the error correction codewords of bytes: their blocks hold the bytes in order, each of them is a
+-- codeword of the Reed-Solomon code, and any other such codeword is farther from it than there are error correction bytes.
+pub record AreCodewords (v : Version) (l : EcLevel) (bytes data_words ec_words : List ℕ) : Type 0 where
+  pub data_long : length data_words ≡ data_length v l
+  pub ec_long : length ec_words ≡ total_ec_length v l
+  pub are_bytes : AreBytes (data_words ++ ec_words)
+  pub holds : data_bytes v l (blocks v l (data_words ++ ec_words)) ≡ bytes
+  pub vanishes : AllByRecursion (λ block. Vanishes block (ec_length v l)) (blocks v l (data_words ++ ec_words))
+  pub distance : AllByRecursion (HasDistanceAbove (ec_length v l)) (blocks v l (data_words ++ ec_words))

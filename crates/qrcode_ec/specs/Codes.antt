@@ -18,9 +18,9 @@ distance [] ys = 0
 distance (x ∷ xs) [] = 0
 distance (x ∷ xs) (y ∷ ys) = (if x == y then 0 else 1) + distance xs ys
 
--- any other list of as many bytes that vanishes at the n points differs in more than n places
-abbrev pub IsOnlyWithin : List ℕ → ℕ → Type 0
-IsOnlyWithin c n = (other : List ℕ) → AreBytes other → length other ≡ length c → Vanishes other n → distance c other ≤ n → other ≡ c
+-- any other list of as many bytes that vanishes at the n points has a distance above n from this one
+abbrev pub HasDistanceAbove : ℕ → List ℕ → Type 0
+HasDistanceAbove n c = (other : List ℕ) → AreBytes other → length other ≡ length c → Vanishes other n → distance c other ≤ n → other ≡ c
 
 -- c is a list of bytes that vanishes at n points, as long as r, and differs from r in at most half as many places
 pub record Corrects (r : List ℕ) (n : ℕ) (c : List ℕ) : Type 0 where

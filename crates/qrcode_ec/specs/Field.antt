@@ -1,5 +1,5 @@
 -- The field of bytes: polynomials over two elements, modulo x^8 + x^4 + x^3 + x^2 + 1.
-use Rattle.std.specs.Prelude.{◌≡◌, ℕ, zero, suc, ◌*◌, ◌/◌, ◌<◌, bit_xor}
+use Rattle.std.specs.Prelude.{◌≡◌, ℕ, zero, suc, ◌<◌, bit_xor}
 use Rattle.qrcode_types.specs.Polynomials.{carryless, remainder}
 
 -- x^8 + x^4 + x^3 + x^2 + 1
@@ -15,10 +15,6 @@ pub record IsProduct (a b p : ℕ) : Type 0 where
 -- the product, which `IsProduct` describes
 unfoldable pub product : ℕ → ℕ → ℕ
 product a b = remainder modulus (carryless a b)
-
--- a byte p times x
-unfoldable pub times_x : ℕ → ℕ
-times_x p = bit_xor (p * 2) (p / 128 * 0x11d)
 
 -- the powers of 2, which is x
 unfoldable pub power : ℕ → ℕ

@@ -1,10 +1,10 @@
 //! Division by generators, whose remainders are the error correction bytes.
 
-ghost use Rattle.std.specs.Prelude.{◌≡◌, ℕ, suc, ◌<◌, ◌≤◌, ◌++◌, ◌*◌, ◌∷◌, [], length, slice_index, slice_index_or, bit_xor};
+ghost use Rattle.std.specs.Prelude.{◌≡◌, ℕ, suc, ◌<◌, ◌≤◌, ◌++◌, ◌*◌, ◌∷◌, [], length, take, slice_index, slice_index_or, bit_xor};
 ghost use Rattle.qrcode_types.specs.Bits.{AreBytes};
-ghost use Rattle.qrcode_ec.specs.Field.{product, times_x};
+ghost use Rattle.qrcode_ec.specs.Field.{product};
 ghost use Rattle.qrcode_ec.specs.Codes.{Vanishes};
-ghost use Rattle.qrcode_ec.specs.Dividing.{AreMultiples, Divides};
+ghost use Rattle.qrcode_ec.specs.Dividing.{AreMultiples, AreOfGenerator};
 
 use crate::field::{power, product};
 
@@ -44,35 +44,19 @@ fn generator(degree: usize) -> [u8; ROOM]
     coefficients
 }
 
-// A byte times x.
-#[inline(always)]
-fn times_x(byte: u8) -> u8
-    ensures { result ≡ times_x byte }
+// The coefficients times a byte, where those from `degree` on are zeros.
+fn scaled(coefficients: &[u8; ROOM], degree: usize, factor: u8) -> [u8; ROOM]
+    requires at_most { degree ≤ 72 }
+    requires ends { (j : ℕ) → degree ≤ j → slice_index coefficients.now j ≡ 0 }
+    ensures value { (j : ℕ) → j < 72
+        → slice_index result j ≡ product factor (slice_index coefficients.now j) }
+    ensures ends { (j : ℕ) → degree ≤ j → slice_index result j ≡ 0 }
 {
-    if byte < 128 {
-        byte << 1
-    } else {
-        (byte << 1) ^ 0x1d
+    let mut multiple = [0; ROOM];
+    for j in 0..degree {
+        multiple[j] = product(factor, coefficients[j]);
     }
-}
-
-// A row times x.
-fn double(row: &[u8; ROOM]) -> [u8; ROOM]
-    ensures { (j : ℕ) → j < 72 → slice_index result j ≡ times_x (slice_index row.now j) }
-{
-    let mut doubled = [0; ROOM];
-    for j in 0..ROOM {
-        doubled[j] = times_x(row[j]);
-    }
-    doubled
-}
-
-// A row times x^4.
-#[inline(never)]
-fn sixteenfold(row: &[u8; ROOM]) -> [u8; ROOM]
-    ensures { (j : ℕ) → j < 72 → slice_index result j ≡ product 16 (slice_index row.now j) }
-{
-    double(&double(&double(&double(row))))
+    multiple
 }
 
 // The sum of two rows.
@@ -87,32 +71,38 @@ fn sum(first: &[u8; ROOM], second: &[u8; ROOM]) -> [u8; ROOM]
     row
 }
 
-// Row k, where the rows before have the lesser multiples of row 1: twice one of them, or the sum of
-// the last one and row 1.
-fn row(rows: &[[u8; ROOM]; 16], k: usize) -> [u8; ROOM]
-    requires least { 2 ≤ k }
-    requires most { k < 16 }
+// Row k, where the rows before have the lesser multiples of row 1. A multiple by a power of two is
+// computed by products, and each other one is the sum of two rows before it.
+fn next_multiple(rows: &[[u8; ROOM]; 16], degree: usize, k: usize) -> [u8; ROOM]
+    requires at_least { 2 ≤ k }
+    requires at_most { k < 16 }
+    requires degree_at_most { degree ≤ 72 }
+    requires ends { (j : ℕ) → degree ≤ j → slice_index (slice_index_or rows.now 1 []) j ≡ 0 }
     requires earlier { (i j : ℕ) → i < k → j < 72 → slice_index (slice_index_or rows.now i []) j
         ≡ product i (slice_index (slice_index_or rows.now 1 []) j) }
     ensures { (j : ℕ) → j < 72
         → slice_index result j ≡ product k (slice_index (slice_index_or rows.now 1 []) j) }
 {
-    if k % 2 == 0 {
-        return double(&rows[k / 2]);
+    let rest = k & (k - 1);
+    if rest == 0 {
+        return scaled(&rows[1], degree, k as u8);
     }
-    sum(&rows[k - 1], &rows[1])
+    sum(&rows[rest], &rows[k - rest])
 }
 
-// The multiples of a row by 0, 1, 2 and so on. It is not inlined, nor is `sixteenfold`: LLVM would
-// then no longer see that a divider's room need not be set to zeros before it is written.
+// The multiples of a row by 0, 1, 2 and so on. It is not inlined: LLVM would then no longer see that
+// a divider's room need not be set to zeros before it is written.
 #[inline(never)]
-fn multiples(first: &[u8; ROOM]) -> [[u8; ROOM]; 16]
-    ensures { AreMultiples first.now 1 result }
+fn multiples(first: &[u8; ROOM], degree: usize) -> [[u8; ROOM]; 16]
+    requires at_most { degree ≤ 72 }
+    requires ends { (j : ℕ) → degree ≤ j → slice_index first.now j ≡ 0 }
+    ensures first { slice_index_or result 1 [] ≡ first.now }
+    ensures multiples { AreMultiples first.now 1 result }
 {
     let mut rows = [[0; ROOM]; 16];
     rows[1] = *first;
     for k in 2..16 {
-        rows[k] = row(&rows, k);
+        rows[k] = next_multiple(&rows, degree, k);
     }
     rows
 }
@@ -134,33 +124,36 @@ fn advance(register: &mut [u8; ROOM], low: &[u8; ROOM], high: &[u8; ROOM])
 /// Any byte is the sum of one of the first and one of the second.
 #[derive(Drop)]
 pub(crate) struct Divider {
+    /// The degree of the generator, and the length of a remainder.
+    pub(crate) degree: usize,
     low: [[u8; ROOM]; 16],
     high: [[u8; ROOM]; 16],
+    pub ghost at_most: { degree ≤ 69 },
+    pub ghost generator: { AreOfGenerator degree low high },
 }
 
 impl Divider {
     /// Divides by the generator of this degree.
     pub(crate) fn new(degree: usize) -> Divider
         requires { degree ≤ 69 }
-        ensures { Divides result degree }
+        ensures { result.degree ≡ degree }
     {
         let generator = generator(degree);
         Divider {
-            low: multiples(&generator),
-            high: multiples(&sixteenfold(&generator)),
+            degree,
+            low: multiples(&generator, degree),
+            high: multiples(&scaled(&generator, degree, 16), degree),
         }
     }
 
-    /// The remainder of the data with zeros behind it, as many as the generator's degree. It makes
-    /// the data vanish where the generator does.
-    pub(crate) fn remainder(&self, data: &[u8]) -> [u8; ROOM]
-        ensures vanishes { (n : ℕ) → Divides self.now n → Vanishes («data».now ++ result) n }
-        ensures ends { (n : ℕ) → Divides self.now n
-            → (j : ℕ) → n ≤ j → slice_index result j ≡ 0 }
-        ensures bytes { (n : ℕ) → Divides self.now n → AreBytes result }
+    /// The remainder of these bytes with zeros behind them, as many as the generator's degree. Behind
+    /// the bytes it makes them vanish where the generator does.
+    pub(crate) fn remainder(&self, bytes: &[u8]) -> [u8; ROOM]
+        ensures vanishes { Vanishes (bytes.now ++ take self.now.degree result) self.now.degree }
+        ensures bytes { AreBytes result }
     {
         let mut register = [0; ROOM];
-        for byte in data {
+        for byte in bytes {
             let factor = usize::from(*byte ^ register[0]);
             advance(
                 &mut register,

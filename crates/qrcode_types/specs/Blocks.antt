@@ -1,5 +1,5 @@
 -- The blocks of a version and level, as the code hands them out.
-use Rattle.std.specs.Prelude.{◌≡◌}
+use Rattle.std.specs.Prelude.{◌≡◌, ℕ, ◌+◌, ◌*◌}
 use Rattle.qrcode_types.specs.Versions.{blocks_entry}
 use Rattle.qrcode_types.specs.declared.types.Version.{Version}
 use Rattle.qrcode_types.specs.declared.types.EcLevel.{EcLevel}
@@ -8,3 +8,11 @@ use Rattle.qrcode_types.specs.declared.tables.Blocks.{Blocks}
 -- the entry of the table
 abbrev pub AreBlocks : Version → EcLevel → Blocks → Type 0
 AreBlocks v l b = blocks_entry v l ≡ (b.ec_length, b.short_blocks, b.short_length, b.long_blocks)
+
+-- how many blocks there are
+abbrev pub count_of : Blocks → ℕ
+count_of b = b.short_blocks + b.long_blocks
+
+-- the data bytes of all blocks
+abbrev pub data_length_of : Blocks → ℕ
+data_length_of b = b.short_blocks * b.short_length + b.long_blocks * (b.short_length + 1)

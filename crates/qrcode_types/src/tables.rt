@@ -29,7 +29,7 @@ pub struct Blocks {
 }
 
 impl Blocks {
-    ghost use Rattle.qrcode_types.specs.Blocks.{AreBlocks};
+    ghost use Rattle.qrcode_types.specs.Blocks.{AreBlocks, count_of, data_length_of};
 
     /// The blocks of a version at a level, or `None` where there is no such version or it lacks the
     /// level.
@@ -60,7 +60,7 @@ impl Blocks {
 
     /// The number of blocks.
     pub fn count(self) -> usize
-        ensures value { result ≡ self.short_blocks + self.long_blocks }
+        ensures value { result ≡ count_of self }
         ensures of_version { (v : Version) (l : EcLevel)
             → AreBlocks v l self → result ≡ length (block_lengths v l) }
     {
@@ -69,8 +69,7 @@ impl Blocks {
 
     /// The data bytes of all blocks.
     pub fn data_length(self) -> usize
-        ensures value { result
-            ≡ self.short_blocks * self.short_length + self.long_blocks * (self.short_length + 1) }
+        ensures value { result ≡ data_length_of self }
         ensures of_version { (v : Version) (l : EcLevel)
             → AreBlocks v l self → result ≡ data_length v l }
     {
@@ -79,7 +78,7 @@ impl Blocks {
 
     /// The error correction bytes of all blocks.
     pub fn total_ec_length(self) -> usize
-        ensures value { result ≡ self.ec_length * (self.short_blocks + self.long_blocks) }
+        ensures value { result ≡ self.ec_length * count_of self }
         ensures of_version { (v : Version) (l : EcLevel)
             → AreBlocks v l self → result ≡ total_ec_length v l }
     {

@@ -1,9 +1,9 @@
 -- Data with error correction vanishes.
 use Rattle.std.proofs.Common.{ℕ, List, [], ◌∷◌, ◌++◌, lit<, refl}
 use Rattle.qrcode_types.specs.Bits.{AreBytes}
-use Rattle.qrcode_ec.specs.Field.{times_x}
 use Rattle.qrcode_ec.specs.Codes.{Vanishes}
 use Rattle.qrcode_ec.proofs.Powers.{pow}
+use Rattle.qrcode_ec.proofs.Products.{times_x}
 use Rattle.qrcode_worked.specs.Data.{hello_data, normal_block, micro_block}
 use Rattle.qrcode_worked.proofs.Values.{times, value, vanishes_by_values}
 

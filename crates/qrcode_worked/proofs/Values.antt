@@ -4,9 +4,9 @@ use Rattle.std.specs.Prelude.{bit_xor}
 use Rattle.std.specs.List.{range_with_len, list_all}
 use Rattle.std.proofs.lemmas.Bool.{eqb-true}
 use Rattle.qrcode_types.specs.Bits.{AreBytes}
-use Rattle.qrcode_ec.specs.Field.{times_x, product, power}
+use Rattle.qrcode_ec.specs.Field.{product, power}
 use Rattle.qrcode_ec.specs.Codes.{syndrome, Vanishes}
-use Rattle.qrcode_ec.proofs.Products.{product_step, product_zero_r, remainder_small}
+use Rattle.qrcode_ec.proofs.Products.{times_x, product_step, product_zero_r, remainder_small}
 use Rattle.qrcode_ec.proofs.Powers.{pow, power_is, power_lt}
 use Rattle.qrcode_ec.proofs.Syndromes.{syndrome_cons, syndrome_nil}
 use Rattle.qrcode_worked.proofs.Below.{below}

@@ -11,4 +11,4 @@ first_two first (suc zero) j byte less = sym (product_one_l (get_or first j 0) b
 first_two first (suc (suc i)) j byte less = absurd (omega arith)
 
 pub loop-k-init : goal.loop-k-init
-loop-k-init c = record { long = refl; one = λ j. refl; below = λ i j less within. first_two c.args.first.now i j (c.fits-first j) less }
+loop-k-init c = record { long = refl; one = refl; below = λ i j less within. first_two c.args.first.now i j (c.fits-first j) less }

@@ -5,7 +5,7 @@ use Rattle.qrcode_ec.proofs.interleaving.spread.Goals as goal
 
 pub bounds-codewords-place : goal.bounds-codewords-place
 bounds-codewords-place c =
-    omega (arith, c.loop-byte.invariant.at, c.requires.room, mul-add-lt c.loop-byte.byte-index c.args.step c.args.first (length c.args.bytes.now) c.loop-byte-test.true c.requires.begins)
+    omega (arith, c.loop-byte.invariant.at, c.requires.fits, mul-add-lt c.loop-byte.byte-index c.args.step c.args.first (length c.args.bytes.now) c.loop-byte-test.true c.requires.begins)
 
 pub loop-byte-preserved : goal.loop-byte-preserved
 loop-byte-preserved c =
@@ -27,6 +27,6 @@ loop-byte-preserved c =
             ap (λ k. get_or (set old place byte) (k * step + first) 0) last ∙ ap (λ p. get_or (set old place byte) p 0) (sym before.at) ∙ get_or-set_same old place byte 0 inside
             ∙ ap (λ k. get_or c.args.bytes.now k 0) (sym last)
       ];
-      others = λ i k within other. get_or-set_other old place (i * step + k) byte 0
-          (λ same. absurd (other (same_from_place i k row first step within c.requires.begins (same ∙ before.at)).1)) ∙ before.others i k within other;
+      unchanged = λ i k within other. get_or-set_other old place (i * step + k) byte 0
+          (λ same. absurd (other (same_from_place i k row first step within c.requires.begins (same ∙ before.at)).1)) ∙ before.unchanged i k within other;
     }

@@ -4,7 +4,7 @@ use mir.Val.{bool_byte}
 use Rattle.qrcode_types.specs.declared.tables.Blocks.{Blocks}
 use Rattle.qrcode_ec.specs.Interleaving.{data_block, length_of}
 use Rattle.qrcode_ec.proofs.Parts.{block_fits, length-data_block}
-use Rattle.qrcode_ec.proofs.interleaving.block_of.Goals as goal
+use Rattle.qrcode_ec.proofs.interleaving.DataBlocks.block.Goals as goal
 
 bit_as_number : (b : Bool) → bool_byte b ≡ cond b 1 0
 bit_as_number true = refl
@@ -15,19 +15,21 @@ one_more blocks b more is = ap (λ n. blocks.short_length + n) (is ∙ bit_as_nu
 
 pub slice_bounds-result-end : goal.slice_bounds-result-end
 slice_bounds-result-end c =
+    let b = c.args.self.now.blocks in
     omega (
       arith,
-      one_more c.args.blocks c.args.block c.from.result c.from.ensures,
+      one_more b c.args.index c.from.result c.from.ensures,
       c.saturating_sub.ensures,
-      c.requires.whole,
-      block_fits c.args.block c.args.blocks.short_blocks c.args.blocks.long_blocks c.args.blocks.short_length c.requires.exists,
+      c.args.self.now.whole,
+      block_fits c.args.index b.short_blocks b.long_blocks b.short_length c.requires,
     )
 
 pub returns-clause-value : goal.returns-clause-value
 unfolding data_block
 returns-clause-value c =
-    ap₂ (λ start long. slice_range c.args.rawbits.now start (start + long)) (ap (λ n. c.args.block * c.args.blocks.short_length + n) c.saturating_sub.ensures)
-    (one_more c.args.blocks c.args.block c.from.result c.from.ensures)
+    let b = c.args.self.now.blocks in
+    ap₂ (λ start long. slice_range c.args.self.now.bytes.now start (start + long)) (ap (λ n. c.args.index * b.short_length + n) c.saturating_sub.ensures)
+    (one_more b c.args.index c.from.result c.from.ensures)
 
 pub returns-clause-length : goal.returns-clause-length
-returns-clause-length c = ap length (returns-clause-value c) ∙ length-data_block c.args.blocks c.args.rawbits.now c.args.block c.requires.exists c.requires.whole
+returns-clause-length c = ap length (returns-clause-value c) ∙ length-data_block c.args.self.now.blocks c.args.self.now.bytes.now c.args.index c.requires c.args.self.now.whole

@@ -4,41 +4,39 @@ use Rattle.qrcode_ec.specs.Codes.{Vanishes}
 use Rattle.qrcode_ec.specs.Interleaving.{data_block}
 use Rattle.qrcode_ec.proofs.Bytes.{bytes_from}
 use Rattle.qrcode_ec.proofs.Columns.{column, column_written, column_kept}
-use Rattle.qrcode_ec.proofs.Syndromes.{vanishes_behind}
-use Rattle.qrcode_ec.proofs.interleaving.correct_blocks.Goals as goal
+use Rattle.qrcode_ec.proofs.interleaving.DataBlocks.write_ec.Goals as goal
 
 pub loop-b-preserved : goal.loop-b-preserved
 loop-b-preserved c =
-    let blocks = c.args.blocks in
+    let blocks = c.args.self.now.blocks in
     let n = blocks.ec_length in
     let count = c.count-count.result in
     let at = c.loop-b.b in
-    let bytes = c.args.rawbits.now in
-    let code = c.remainder-code.result in
+    let bytes = c.args.self.now.bytes.now in
+    let ec = c.remainder-ec.result in
     let old = c.loop-b.codewords in
     let new = c.spread.new.codewords in
-    let all = c.count-count.ensures.value in
-    let long : n ≤ length code = omega arith in
-    let here : Vanishes (data_block blocks bytes at ++ take n code) n =
-    subst (λ part. Vanishes (part ++ take n code) n) c.block_of.ensures.value
-    (vanishes_behind n c.block_of.result.now code long (c.remainder-code.ensures.ends n c.new-divider.ensures) (c.remainder-code.ensures.vanishes n c.new-divider.ensures)) in
+    let long : n ≤ length ec = omega arith in
+    let here : Vanishes (data_block blocks bytes at ++ take n ec) n =
+    subst (λ d. Vanishes (data_block blocks bytes at ++ take d ec) d) c.new-divider.ensures
+    (subst (λ part. Vanishes (part ++ take c.new-divider.result.degree ec) c.new-divider.result.degree) c.block.ensures.value c.remainder-ec.ensures.vanishes) in
     record {
-      all = all;
+      all = c.count-count.ensures.value;
       bytes = λ j. omega (arith, c.type_inv.codewords j);
       vanishes = λ b below. elim (cases_lt b at) [
         | inl less ↦ subst (λ ec. Vanishes (data_block blocks bytes b ++ ec) n)
-            (column_kept n count at b old new (omega (arith, less, c.loop-b-test.true)) (omega (arith, less)) c.spread.ensures.others)
+            (column_kept n count at b old new (omega (arith, less, c.loop-b-test.true)) (omega (arith, less)) c.spread.ensures.unchanged)
             (c.loop-b.invariant.vanishes b less)
         | inr most ↦
             let same : at ≡ b = omega arith in
             subst (λ k. Vanishes (data_block blocks bytes k ++ column n count k new) n) same
-            (subst (λ ec. Vanishes (data_block blocks bytes at ++ ec) n) (sym (column_written n count at code new long c.spread.ensures.written)) here)
+            (subst (λ ec. Vanishes (data_block blocks bytes at ++ ec) n) (sym (column_written n count at ec new long c.spread.ensures.written)) here)
       ];
     }
 
 pub returns-clause-vanishes : goal.returns-clause-vanishes
 returns-clause-vanishes c = λ b below.
-    subst (λ count. Vanishes (data_block c.args.blocks c.args.rawbits.now b ++ column c.args.blocks.ec_length count b c.loop-b.codewords) c.args.blocks.ec_length)
+    subst (λ count. Vanishes (data_block c.args.self.now.blocks c.args.self.now.bytes.now b ++ column c.args.self.now.blocks.ec_length count b c.loop-b.codewords) c.args.self.now.blocks.ec_length)
     c.count-count.ensures.value (c.loop-b.invariant.vanishes b (omega (arith, below, c.count-count.ensures.value)))
 
 pub returns-clause-bytes : goal.returns-clause-bytes
