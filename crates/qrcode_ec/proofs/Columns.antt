@@ -27,8 +27,3 @@ column_kept n count place other old new within apart kept =
 
 pub column_bytes : (n count place : ℕ) (words : List ℕ) → AreBytes words → AreBytes (column n count place words)
 column_bytes n count place words all = map_bytes (λ i. get_or words (i * count + place) 0) (range_with_len 0 n) (λ i. byte_at words (i * count + place) all)
-
--- a list whose items were written through a slice
-pub written_back : (len : ℕ) (new old : List ℕ) → length new ≡ length old → length old ≡ len → take len (new ++ drop (length new) old) ≡ new
-written_back len new old same long =
-    ap (λ rest. take len (new ++ rest)) (drop_all (length new) old (omega arith)) ∙ ap (take len) (append-nil new) ∙ take_all len new (omega arith)

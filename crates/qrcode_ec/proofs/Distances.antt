@@ -7,7 +7,7 @@ use Rattle.qrcode_ec.specs.Field.{product, power}
 use Rattle.qrcode_ec.specs.Codes.{syndrome, Vanishes, distance, HasDistanceAbove}
 use Rattle.qrcode_ec.proofs.Xor.{xor_four, same_from_xor}
 use Rattle.qrcode_ec.proofs.Products.{product_lt, product_assoc, product_zero_l, product_zero_r, product_one_r, product_xor_r, product_xor_l, product_swap}
-use Rattle.qrcode_ec.proofs.Powers.{power_lt, power_zero, power_add, no_zero_divisor, powers_differ}
+use Rattle.qrcode_ec.proofs.Powers.{power_lt, power_zero, power_add, no_zero_divisor, power_injective}
 use Rattle.qrcode_ec.proofs.Syndromes.{syndrome_append, syndrome_cons, syndrome_nil, syndrome_zero}
 
 -- ---- the number of items that are not 0
@@ -73,7 +73,7 @@ weight_weigh m (c ∷ cs) b l h =
     let d = bit_xor (power (length cs)) (power m) in
     let ih = weight_weigh m cs b.1 (omega arith) h in
     let dl : d < 256 = xor_lt 8 (power (length cs)) (power m) (power_lt (length cs)) (power_lt m) in
-    let dp : d ≡ 0 → ⊥ = λ e. powers_differ (length cs) m (omega arith) h (same_from_xor (power (length cs)) (power m) e) in
+    let dp : d ≡ 0 → ⊥ = λ e. absurd (omega (arith, power_injective (length cs) m (omega arith) h (same_from_xor (power (length cs)) (power m) e))) in
     elim (pos_or_zero c) [
       | inl z ↦ weight_none (product c d) (weigh (power m) cs) (ap (λ x. product x d) z ∙ product_zero_l d) ∙ ih ∙ sym (weight_none c cs z)
       | inr p ↦

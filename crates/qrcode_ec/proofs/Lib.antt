@@ -10,5 +10,4 @@ pub mod Places
 pub mod Powers
 pub mod Products
 pub mod Syndromes
-pub mod Tables
 pub mod Xor

@@ -43,14 +43,6 @@ pub times_x_small : (p : ℕ) → p < 128 → times_x p ≡ p * 2
 unfolding times_x
 times_x_small p l = let e : p / 128 ≡ 0 = omega arith in ap (λ x. bit_xor (p * 2) (x * 0x11d)) e ∙ xor_zero_r (p * 2)
 
-pub times_x_large : (p : ℕ) → 128 ≤ p → p < 256 → bit_xor (p * 2 % 256) 29 ≡ times_x p
-unfolding times_x
-times_x_large p least most =
-    let high : p / 128 ≡ 1 = omega arith in
-    let twice : p * 2 ≡ 1 * 2 ^ 8 + p * 2 % 256 = omega arith in
-    let low : 0 + bit_xor (p * 2 % 256) 29 ≡ bit_xor (p * 2 % 256) 29 = omega arith in
-    sym (ap₂ bit_xor twice (ap (λ x. x * 0x11d) high) ∙ xor_block 8 1 1 (p * 2 % 256) 29 (omega arith) (omega arith) ∙ low)
-
 -- ---- the remainder
 -- the remainder of n in the field
 abbrev pub residue : ℕ → ℕ
@@ -204,28 +196,6 @@ pub product_two : (a : ℕ) → a < 256 → product 2 a ≡ times_x a
 product_two a l =
     product_comm 2 a ∙ product_step a 2
     ∙ ap₂ (λ x y. bit_xor x (times_x y)) (zero_times (residue a)) (product_one_r a l)
-
--- ---- multiples
-pub product_twice : (n a : ℕ) → n < 128 → times_x (product n a) ≡ product (n * 2) a
-product_twice n a small =
-    sym (product_two (product n a) (product_lt n a)) ∙ sym (product_assoc 2 n a)
-    ∙ ap (λ x. product x a) (product_two n (omega arith) ∙ times_x_small n small)
-
-pub product_next : (n a : ℕ) → n % 2 ≡ 1 → bit_xor (product (n - 1) a) (product 1 a) ≡ product n a
-product_next n a odd =
-    let even : n - 1 ≡ n / 2 * 2 = omega arith in
-    sym (product_xor_l (n - 1) 1 a) ∙ ap (λ x. product x a) (ap₂ bit_xor even (sym odd) ∙ sym (xor_split n))
-
-twice_more : (n a m : ℕ) → n < 128 → m < 128 → product n a ≡ m → product (n * 2) a ≡ m * 2
-twice_more n a m small less is = sym (product_twice n a small) ∙ ap times_x is ∙ times_x_small m less
-
-pub product_sixteen : (n a : ℕ) → n < 16 → product n (product 16 a) ≡ product (n * 16) a
-product_sixteen n a small =
-    let two = twice_more 1 n n (omega arith) (omega arith) (product_one_l n (omega arith)) in
-    let four = twice_more 2 n (n * 2) (omega arith) (omega arith) two in
-    let eight = twice_more 4 n (n * 2 * 2) (omega arith) (omega arith) four in
-    let sixteen = twice_more 8 n (n * 2 * 2 * 2) (omega arith) (omega arith) eight in
-    sym (product_assoc n 16 a) ∙ ap (λ x. product x a) (product_comm n 16 ∙ sixteen ∙ (let e : n * 2 * 2 * 2 * 2 ≡ n * 16 = omega arith in e))
 
 -- ---- the product is the one number that `IsProduct` describes
 quotient_bit : (t m : ℕ) → t < 2 → carryless t m ≡ t * m

@@ -1,7 +1,7 @@
 use Rattle.std.proofs.Common.{◌≡◌, ◌<◌, get_or, subst, sym, ap, ◌∙◌, arith}
 use Rattle.qrcode_ec.specs.Field.{power}
 use Rattle.qrcode_ec.specs.declared.field.TheConstants.{LOGARITHMS}
-use Rattle.qrcode_ec.proofs.Tables.{logarithm_at}
+use Rattle.qrcode_ec.proofs.Powers.{logarithm_at}
 use Rattle.qrcode_ec.proofs.field.logarithm.Goals as goal
 
 entry : (c : goal.After-into) → c.into.result ≡ get_or LOGARITHMS c.args.byte 0

@@ -1,7 +1,6 @@
 use Rattle.std.proofs.Common.{ap, sym, ◌∙◌, ◌%◌, arith}
 use Rattle.qrcode_ec.specs.Field.{power, product}
-use Rattle.qrcode_ec.proofs.Powers.{power_add, power_mod, power_injective}
-use Rattle.qrcode_ec.proofs.Tables.{power_at}
+use Rattle.qrcode_ec.proofs.Powers.{power_add, power_mod, power_injective, power_at}
 use Rattle.qrcode_ec.proofs.field.power.Goals as goal
 
 pub returns-clause-value : goal.returns-clause-value
