@@ -4,7 +4,7 @@ use Rattle.std.proofs.lemmas.Bool.{cases_lt}
 use Rattle.std.proofs.Math.Arith.{bin_ind}
 use Rattle.std.specs.Int.Bits.{bit_xor, xor_assoc, xor_comm, xor_self, xor_zero_r, xor_block, xor_shr, xor_lt}
 use Rattle.qrcode_types.specs.Polynomials.{carryless, reduced, remainder_from, remainder}
-use Rattle.qrcode_ec.specs.Field.{modulus, IsProduct, product}
+use Rattle.qrcode_ec.specs.Field.{modulus, IsProduct, HasFieldLaws, product}
 use Rattle.qrcode_ec.proofs.Xor.{xor_four, xor_twice, xor_half, xor_odd, xor_split}
 use Rattle.qrcode_ec.proofs.Carryless.{zero_times, one_times, even, half, bit_mul, carryless_step, carryless_twice, carryless_zero_r, carryless_zero_l, carryless_xor_r, carryless_xor_l, carryless_comm, carryless_assoc}
 
@@ -225,6 +225,9 @@ quotient =
 pub product_is : (a b : ℕ) → IsProduct a b (product a b)
 unfolding product
 product_is a b = let q = quotient (carryless a b) in record { byte = remainder_lt (carryless a b); quotient = q.0; differs = q.1 }
+
+pub product_laws : (a b : ℕ) → HasFieldLaws a b (product a b)
+product_laws a b = record { commutes = product_comm a b; associates = product_assoc a b; distributes = product_xor_r a b }
 
 pub product_swap : (a b c : ℕ) → product a (product b c) ≡ product b (product a c)
 product_swap a b c = sym (product_assoc a b c) ∙ ap (λ x. product x c) (product_comm a b) ∙ product_assoc b a c

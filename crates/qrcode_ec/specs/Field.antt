@@ -20,3 +20,9 @@ product a b = remainder modulus (carryless a b)
 unfoldable pub power : ℕ → ℕ
 power zero = 1
 power (suc e) = product 2 (power e)
+
+-- the product p of a and b has the laws of a field: it commutes, associates, and distributes over the sum
+pub record HasFieldLaws (a b p : ℕ) : Type 0 where
+  pub commutes : p ≡ product b a
+  pub associates : (c : ℕ) → product p c ≡ product a (product b c)
+  pub distributes : (c : ℕ) → product a (bit_xor b c) ≡ bit_xor p (product a c)

@@ -90,8 +90,8 @@ fn next_multiple(rows: &[[u8; ROOM]; 16], degree: usize, k: usize) -> [u8; ROOM]
     sum(&rows[rest], &rows[k - rest])
 }
 
-// The multiples of a row by 0, 1, 2 and so on. It is not inlined: LLVM would then no longer see that
-// a divider's room need not be set to zeros before it is written.
+// The multiples of a row by 0, 1, 2 and so on. It is not inlined, since LLVM would then set the room
+// of a divider to zeros before it writes to it.
 #[inline(never)]
 fn multiples(first: &[u8; ROOM], degree: usize) -> [[u8; ROOM]; 16]
     requires at_most { degree ≤ 72 }
@@ -146,8 +146,8 @@ impl Divider {
         }
     }
 
-    /// The remainder of these bytes with zeros behind them, as many as the generator's degree. Behind
-    /// the bytes it makes them vanish where the generator does.
+    /// The remainder of these bytes with as many zeros behind them as the generator's degree. Put
+    /// behind the bytes, it makes the whole vanish where the generator does.
     pub(crate) fn remainder(&self, bytes: &[u8]) -> [u8; ROOM]
         ensures vanishes { Vanishes (bytes.now ++ take self.now.degree result) self.now.degree }
         ensures bytes { AreBytes result }

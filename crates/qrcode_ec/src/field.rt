@@ -1,7 +1,7 @@
 //! The field of bytes: polynomials over two elements, modulo x^8 + x^4 + x^3 + x^2 + 1.
 
-ghost use Rattle.std.specs.Prelude.{◌≡◌, ◌≢◌, ℕ, ◌+◌, ◌<◌, ◌⊎◌, bit_xor};
-ghost use Rattle.qrcode_ec.specs.Field.{IsProduct, product, power};
+ghost use Rattle.std.specs.Prelude.{◌≡◌, ◌≢◌, ℕ, ◌+◌, ◌<◌, ◌≤◌, ◌⊎◌};
+ghost use Rattle.qrcode_ec.specs.Field.{IsProduct, HasFieldLaws, product, power};
 
 // The powers of 2, from exponent 0 on. They come round after 255.
 static POWERS: [u8; 255] = [
@@ -20,7 +20,7 @@ static POWERS: [u8; 255] = [
     131, 27, 54, 108, 216, 173, 71, 142,
 ];
 
-// The exponent of each byte as a power of 2. Zero is no power, and what stands for it is never read.
+// The exponent of each byte as a power of 2. Zero is no power: what stands for it is never read.
 static LOGARITHMS: [u8; 256] = [
     0, 0, 1, 25, 2, 50, 26, 198, 3, 223, 51, 238, 27, 104, 199, 75, 4, 100, 224, 14, 52, 141, 239,
     129, 28, 193, 105, 248, 200, 8, 76, 113, 5, 138, 101, 47, 225, 36, 15, 33, 53, 147, 142, 218,
@@ -40,10 +40,10 @@ static LOGARITHMS: [u8; 256] = [
 /// The power of 2, which is x, with this exponent.
 pub fn power(exponent: usize) -> u8
     ensures value { result ≡ power exponent }
-    ensures adds { (other : ℕ) → power (exponent + other) ≡ product result (power other) }
+    ensures sum { (other : ℕ) → power (exponent + other) ≡ product result (power other) }
 
     // The first 255 powers differ from one another.
-    ensures differs { (other : ℕ) → exponent < 255 → other < 255 → other ≢ exponent
+    ensures apart { (other : ℕ) → exponent < 255 → other < 255 → other ≢ exponent
         → power other ≢ result }
 {
     POWERS[exponent % 255]
@@ -52,19 +52,17 @@ pub fn power(exponent: usize) -> u8
 // The exponent below 255 of a byte that is not zero.
 fn logarithm(byte: u8) -> usize
     requires { 0 < byte }
-    ensures below { result < 255 }
+    ensures at_most { result ≤ 254 }
     ensures value { power result ≡ byte }
 {
     LOGARITHMS[usize::from(byte)].into()
 }
 
-/// The product of two bytes.
+/// The product of two bytes in the field.
 pub fn product(a: u8, b: u8) -> u8
     ensures value { result ≡ product a b }
     ensures is_product { IsProduct a b result }
-    ensures commutes { result ≡ product b a }
-    ensures associates { (c : ℕ) → product result c ≡ product a (product b c) }
-    ensures distributes { (c : ℕ) → product a (bit_xor b c) ≡ bit_xor result (product a c) }
+    ensures laws { HasFieldLaws a b result }
     ensures no_zero_divisors { result ≡ 0 → (a ≡ 0) ⊎ (b ≡ 0) }
 {
     if a == 0 || b == 0 {

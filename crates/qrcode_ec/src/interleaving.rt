@@ -76,8 +76,10 @@ impl<'a> DataBlocks<'a> {
     pub(crate) fn data_codewords(&self, alloc: Global) -> Result<Vec<u8>, AllocError>
         ensures length { IfOk result (λ words. vec_len words ≡ data_length_of self.now.blocks) }
         ensures bytes { IfOk result (λ words. AreBytes words.items) }
-        ensures rows { IfOk result (λ words. HasRows self.now.blocks self.now.bytes.now words.items) }
-        ensures ends { IfOk result (λ words. HasEnds self.now.blocks self.now.bytes.now words.items) }
+        ensures rows { IfOk result (λ words.
+            HasRows self.now.blocks self.now.bytes.now words.items) }
+        ensures ends { IfOk result (λ words.
+            HasEnds self.now.blocks self.now.bytes.now words.items) }
     {
         let mut codewords = vec![in alloc; 0; self.bytes.len()]?;
         self.write_data(&mut codewords);

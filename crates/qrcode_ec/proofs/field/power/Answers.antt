@@ -6,9 +6,9 @@ use Rattle.qrcode_ec.proofs.field.power.Goals as goal
 pub returns-clause-value : goal.returns-clause-value
 returns-clause-value c = power_at (c.args.exponent % 255) (omega arith) ∙ power_mod c.args.exponent
 
-pub returns-clause-adds : goal.returns-clause-adds
-returns-clause-adds c = λ other. power_add c.args.exponent other ∙ ap (λ x. product x (power other)) (sym (returns-clause-value c))
+pub returns-clause-sum : goal.returns-clause-sum
+returns-clause-sum c = λ other. power_add c.args.exponent other ∙ ap (λ x. product x (power other)) (sym (returns-clause-value c))
 
-pub returns-clause-differs : goal.returns-clause-differs
-returns-clause-differs c = λ other below other_below differ same.
+pub returns-clause-apart : goal.returns-clause-apart
+returns-clause-apart c = λ other below other_below differ same.
     differ (power_injective other c.args.exponent other_below below (same ∙ returns-clause-value c))

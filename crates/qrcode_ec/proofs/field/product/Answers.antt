@@ -1,8 +1,7 @@
-use Rattle.std.proofs.Common.{inr, sym, ap, ap₂, subst, ◌∙◌, arith}
-use Rattle.std.specs.Int.Bits.{bit_xor}
-use Rattle.qrcode_ec.specs.Field.{product, IsProduct}
+use Rattle.std.proofs.Common.{◌≡◌, inr, sym, ap, ap₂, subst, ◌∙◌, arith}
+use Rattle.qrcode_ec.specs.Field.{product, IsProduct, HasFieldLaws}
 use Rattle.qrcode_ec.proofs.Powers.{power_add, no_zero_divisor}
-use Rattle.qrcode_ec.proofs.Products.{product_is, product_comm, product_assoc, product_xor_r, product_zero_l, product_zero_r}
+use Rattle.qrcode_ec.proofs.Products.{product_is, product_laws, product_zero_l, product_zero_r}
 use Rattle.qrcode_ec.proofs.field.product.Goals as goal
 use Rattle.qrcode_ec.proofs.field.product.Goals.{then-a-eq0-via-then-a-eq0, then-a-eq0-via-else-a-eq0+then-b-eq0}
 
@@ -15,14 +14,8 @@ returns-then-a-eq0-clause-value c = elim c.then-a-eq0.branch [
 pub returns-then-a-eq0-clause-is_product : goal.returns-then-a-eq0-clause-is_product
 returns-then-a-eq0-clause-is_product c = subst (IsProduct c.args.a c.args.b) (sym (returns-then-a-eq0-clause-value c)) (product_is c.args.a c.args.b)
 
-pub returns-then-a-eq0-clause-commutes : goal.returns-then-a-eq0-clause-commutes
-returns-then-a-eq0-clause-commutes c = returns-then-a-eq0-clause-value c ∙ product_comm c.args.a c.args.b
-
-pub returns-then-a-eq0-clause-associates : goal.returns-then-a-eq0-clause-associates
-returns-then-a-eq0-clause-associates c = λ x. ap (λ p. product p x) (returns-then-a-eq0-clause-value c) ∙ product_assoc c.args.a c.args.b x
-
-pub returns-then-a-eq0-clause-distributes : goal.returns-then-a-eq0-clause-distributes
-returns-then-a-eq0-clause-distributes c = λ x. product_xor_r c.args.a c.args.b x ∙ ap (λ p. bit_xor p (product c.args.a x)) (sym (returns-then-a-eq0-clause-value c))
+pub returns-then-a-eq0-clause-laws : goal.returns-then-a-eq0-clause-laws
+returns-then-a-eq0-clause-laws c = subst (HasFieldLaws c.args.a c.args.b) (sym (returns-then-a-eq0-clause-value c)) (product_laws c.args.a c.args.b)
 
 pub returns-clause-value : goal.returns-clause-value
 returns-clause-value c =
@@ -32,14 +25,8 @@ returns-clause-value c =
 pub returns-clause-is_product : goal.returns-clause-is_product
 returns-clause-is_product c = subst (IsProduct c.args.a c.args.b) (sym (returns-clause-value c)) (product_is c.args.a c.args.b)
 
-pub returns-clause-commutes : goal.returns-clause-commutes
-returns-clause-commutes c = returns-clause-value c ∙ product_comm c.args.a c.args.b
-
-pub returns-clause-associates : goal.returns-clause-associates
-returns-clause-associates c = λ x. ap (λ p. product p x) (returns-clause-value c) ∙ product_assoc c.args.a c.args.b x
-
-pub returns-clause-distributes : goal.returns-clause-distributes
-returns-clause-distributes c = λ x. product_xor_r c.args.a c.args.b x ∙ ap (λ p. bit_xor p (product c.args.a x)) (sym (returns-clause-value c))
+pub returns-clause-laws : goal.returns-clause-laws
+returns-clause-laws c = subst (HasFieldLaws c.args.a c.args.b) (sym (returns-clause-value c)) (product_laws c.args.a c.args.b)
 
 pub returns-clause-no_zero_divisors : goal.returns-clause-no_zero_divisors
 returns-clause-no_zero_divisors c = λ zero. inr (no_zero_divisor c.args.a c.args.b (omega arith) (omega arith) (omega arith) (sym (returns-clause-value c) ∙ zero))
