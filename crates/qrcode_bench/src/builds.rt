@@ -7,7 +7,7 @@ ghost use Rattle.qrcode_types.specs.Versions.{is_valid, has_level};
 
 use crate::cases::Case;
 use crate::contents::{DIGITS, MIXED, WORDS, repeated};
-use crate::digest::{of_bytes, of_canvas, of_code, of_segments, with_number};
+use crate::digest::{of_bytes, of_canvas, of_code, of_segments};
 use qrcode::QrCode;
 use qrcode::bits::{Bits, encode_auto};
 use qrcode::canvas::Canvas;
@@ -15,6 +15,7 @@ use qrcode::ec::construct_codewords;
 use qrcode::optimize::least_segments;
 use qrcode::render::{Pixel, image, pic, svg, unicode};
 use qrcode::types::{EcLevel, QrResult, Version};
+use qrcode_digest::Digest;
 use qrcode_types::tables::Blocks;
 use std::alloc::Global;
 
@@ -23,7 +24,7 @@ const CODEWORDS: usize = 3706;
 
 /// Builds a case so many times, and gives the digest of what was built.
 #[tactic(auto, unfolding(qrcode_types::specs::Tables::block_table, qrcode_types::specs::Versions::blocks_entry))]
-pub fn build(alloc: Global, case: Case, count: u32) -> QrResult<u64> {
+pub fn build(alloc: Global, case: Case, count: u32) -> QrResult<Digest> {
     match case {
         Case::Micro2Digits => in_version(alloc, Version::Micro(2), EcLevel::L, count),
         Case::Normal1Digits => in_version(alloc, Version::Normal(1), EcLevel::M, count),
@@ -53,18 +54,18 @@ pub fn build(alloc: Global, case: Case, count: u32) -> QrResult<u64> {
 }
 
 // Builds something so many times.
-fn repeat<F: Fn() -> QrResult<u64>>(count: u32, build: F) -> QrResult<u64>
+fn repeat<F: Fn() -> QrResult<Digest>>(count: u32, build: F) -> QrResult<Digest>
     requires { F.IsAlwaysCallable build }
 {
-    let mut digest = 0;
+    let mut digest = Digest::of::<u8>(&[]);
     for _ in 0..count {
-        digest = with_number(digest, build()?);
+        digest = digest.and(build()?);
     }
     Ok(digest)
 }
 
 // Symbols of eight digits, of a version and level.
-fn in_version(alloc: Global, version: Version, ec_level: EcLevel, count: u32) -> QrResult<u64> {
+fn in_version(alloc: Global, version: Version, ec_level: EcLevel, count: u32) -> QrResult<Digest> {
     let data = repeated(alloc, DIGITS, 8)?;
     repeat(count, || {
         let code = QrCode::with_version(alloc, &data, version, ec_level)?;
@@ -73,7 +74,7 @@ fn in_version(alloc: Global, version: Version, ec_level: EcLevel, count: u32) ->
 }
 
 // Symbols of the least version for data.
-fn at_level(alloc: Global, text: &[u8], size: usize, ec_level: EcLevel, count: u32) -> QrResult<u64>
+fn at_level(alloc: Global, text: &[u8], size: usize, ec_level: EcLevel, count: u32) -> QrResult<Digest>
     requires { 0 < length text.now }
 {
     let data = repeated(alloc, text, size)?;
@@ -84,7 +85,7 @@ fn at_level(alloc: Global, text: &[u8], size: usize, ec_level: EcLevel, count: u
 }
 
 // Lists of bits, each with one push of digits.
-fn push(alloc: Global, size: usize, count: u32) -> QrResult<u64> {
+fn push(alloc: Global, size: usize, count: u32) -> QrResult<Digest> {
     let data = repeated(alloc, DIGITS, size)?;
     repeat(count, || {
         let mut bits = Bits::new(alloc, Version::Normal(40));
@@ -94,7 +95,7 @@ fn push(alloc: Global, size: usize, count: u32) -> QrResult<u64> {
 }
 
 // Terminated lists of bits, of the least version for mixed data.
-fn automatic(alloc: Global, size: usize, count: u32) -> QrResult<u64> {
+fn automatic(alloc: Global, size: usize, count: u32) -> QrResult<Digest> {
     let data = repeated(alloc, MIXED, size)?;
     repeat(count, || {
         let bits = encode_auto(alloc, &data, EcLevel::M)?;
@@ -103,7 +104,7 @@ fn automatic(alloc: Global, size: usize, count: u32) -> QrResult<u64> {
 }
 
 // Segments of mixed data.
-fn least(alloc: Global, size: usize, count: u32) -> QrResult<u64>
+fn least(alloc: Global, size: usize, count: u32) -> QrResult<Digest>
     requires { size ≤ data_limit }
 {
     let data = repeated(alloc, MIXED, size)?;
@@ -114,13 +115,13 @@ fn least(alloc: Global, size: usize, count: u32) -> QrResult<u64>
 }
 
 // Codewords of all blocks of a version.
-fn codewords(alloc: Global, version: Version, ec_level: EcLevel, count: u32) -> QrResult<u64>
+fn codewords(alloc: Global, version: Version, ec_level: EcLevel, count: u32) -> QrResult<Digest>
     requires { IsTrue (has_level version ec_level) }
 {
     let data = repeated(alloc, WORDS, data_length(version, ec_level))?;
     repeat(count, || {
         let (data, ec) = construct_codewords(alloc, &data, version, ec_level)?;
-        Ok(with_number(of_bytes(&data), of_bytes(&ec)))
+        Ok(of_bytes(&data).and(of_bytes(&ec)))
     })
 }
 
@@ -138,7 +139,7 @@ fn patterns_and_data(
     version: Version,
     ec_level: EcLevel,
     count: u32,
-) -> QrResult<u64>
+) -> QrResult<Digest>
     requires { IsTrue (is_valid version) }
 {
     let codewords = repeated(alloc, WORDS, CODEWORDS)?;
@@ -161,7 +162,7 @@ fn drawn(alloc: Global, version: Version, ec_level: EcLevel, codewords: &[u8]) -
 }
 
 // Canvases under their best masks.
-fn best_mask(alloc: Global, version: Version, ec_level: EcLevel, count: u32) -> QrResult<u64>
+fn best_mask(alloc: Global, version: Version, ec_level: EcLevel, count: u32) -> QrResult<Digest>
     requires { IsTrue (has_level version ec_level) }
 {
     let codewords = repeated(alloc, WORDS, CODEWORDS)?;
@@ -173,7 +174,7 @@ fn best_mask(alloc: Global, version: Version, ec_level: EcLevel, count: u32) -> 
 }
 
 // Texts that are pictures of the symbol of words.
-fn text<P: Pixel<Image = String>>(alloc: Global, size: usize, count: u32) -> QrResult<u64>
+fn text<P: Pixel<Image = String>>(alloc: Global, size: usize, count: u32) -> QrResult<Digest>
     requires across { P.unit.0 ≤ 8 }
     requires down { P.unit.1 ≤ 8 }
 {
@@ -194,7 +195,7 @@ fn picture<P: Pixel>(alloc: Global, code: &QrCode) -> QrResult<P::Image>
 }
 
 // Rows of pixels that are pictures of the symbol of words.
-fn pixels(alloc: Global, size: usize, count: u32) -> QrResult<u64> {
+fn pixels(alloc: Global, size: usize, count: u32) -> QrResult<Digest> {
     let data = repeated(alloc, WORDS, size)?;
     let code = QrCode::new(alloc, &data)?;
     repeat(count, || {

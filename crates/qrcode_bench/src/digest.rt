@@ -1,44 +1,33 @@
-//! Digests: small numbers made of what was built.
-
-ghost use Rattle.std.specs.Prelude.{◌≡◌, ◌+◌, ◌*◌, ◌%◌, ◌^◌};
+//! Digests that look at a few items alone, so that they cost little beside what is built.
 
 use qrcode::QrCode;
 use qrcode::canvas::Canvas;
 use qrcode::optimize::Segment;
-
-/// A digest with a number more.
-pub fn with_number(digest: u64, number: u64) -> u64
-    ensures { result ≡ (31 * digest + number) % 2 ^ 64 }
-{
-    digest.wrapping_mul(31).wrapping_add(number)
-}
+use qrcode_digest::Digest;
 
 /// The digest of a symbol: of its width and of the module in the middle.
-pub fn of_code(code: &QrCode) -> u64 {
+pub fn of_code(code: &QrCode) -> Digest {
     let middle = code.width() / 2;
-    with_number(code.width() as u64, code[(middle, middle)].select(1, 0))
+    Digest::of_one(code.width(), code[(middle, middle)])
 }
 
 /// The digest of a canvas: of its first and its last module.
 #[tactic(auto, using(crate::proofs::Sides::side_least))]
-pub fn of_canvas(canvas: &Canvas) -> u64 {
-    with_number(
-        u64::from(canvas.get(0, 0).is_dark()),
-        u64::from(canvas.get(-1, -1).is_dark()),
-    )
+pub fn of_canvas(canvas: &Canvas) -> Digest {
+    Digest::of(&[canvas.get(0, 0).is_dark(), canvas.get(-1, -1).is_dark()])
 }
 
 /// The digest of bytes: of how many there are, and of the one in the middle.
-pub fn of_bytes(bytes: &[u8]) -> u64 {
+pub fn of_bytes(bytes: &[u8]) -> Digest {
     let middle = bytes.get(bytes.len() / 2).copied().unwrap_or(0);
-    with_number(bytes.len() as u64, u64::from(middle))
+    Digest::of_one(bytes.len(), middle)
 }
 
 /// The digest of segments: of how many there are, and of where the last begins.
-pub fn of_segments(segments: &[Segment]) -> u64 {
+pub fn of_segments(segments: &[Segment]) -> Digest {
     let last = match segments.last() {
         Some(segment) => segment.begin,
         None => 0,
     };
-    with_number(segments.len() as u64, last as u64)
+    Digest::of_one(segments.len(), (last % 4_294_967_296) as u32)
 }

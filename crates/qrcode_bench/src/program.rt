@@ -8,6 +8,7 @@ ghost use Rattle.qrcode_bench.specs.Faults.{IsCannotWrite};
 use crate::builds::build;
 use crate::cases::{CASES, Case, lines};
 use qrcode::types::{QrError, QrResult};
+use qrcode_digest::Digest;
 use std::alloc::Global;
 use std::io::Write;
 use thiserror::Error;
@@ -75,8 +76,8 @@ fn number(text: Option<&str>) -> Option<u32> {
     }
 }
 
-// The digest of so many builds, as a line of 16 digits.
+// The digest of so many builds, as a line.
 fn digest_line(alloc: Global, case: Case, count: u32) -> QrResult<String> {
-    let digest = build(alloc, case, count)?;
-    Ok(format!(in alloc; "{digest:016x}\n")?)
+    let Digest { length, sum } = build(alloc, case, count)?;
+    Ok(format!(in alloc; "length {length}, checksum {sum:08x}\n")?)
 }

@@ -1,9 +1,7 @@
 //! What symbols cost under each mask, and which mask they take.
 
-ghost use Rattle.std.specs.Prelude.{◌≡◌, ◌<◌, ◌≤◌, IfOk};
-
-use crate::squares::{Square, packed, plain};
-use qrcode_penalty::line::ThreeWords;
+use crate::squares::penalties;
+use qrcode_judge::square::{Square, width_of};
 use qrcode_symbol::canvas::{Canvas, MaskPattern};
 use qrcode_types::types::{Color, EcLevel, QrError, QrResult, Version};
 use std::alloc::Global;
@@ -61,25 +59,16 @@ fn places(
     canvas.to_bools(alloc)
 }
 
-// What a square costs on packed rows, in the least type of rows that has room for it.
-fn packed_cost(alloc: Global, square: Square<'_>, width: u32) -> QrResult<(u32, u32)> {
-    match width {
-        7..=61 => Ok(packed::<u64>(alloc, square, width)?),
-        62..=125 => Ok(packed::<u128>(alloc, square, width)?),
-        126..=177 => Ok(packed::<ThreeWords>(alloc, square, width)?),
-        _ => Err(QrError::InvalidVersion),
-    }
-}
-
-// What a symbol of these places costs, which is the same on packed rows and module by module.
-fn cost(rt: &impl Abort, alloc: Global, version: Version, places: &[bool]) -> QrResult<u32> {
-    let width = places.len().isqrt() as u32;
-    let square = Square::Places(places, width);
-    let costs = packed_cost(alloc, square, width)?;
-    assert_eq!(rt; costs, plain(square, width), "{version:?}");
+// What a symbol of these places costs.
+fn cost(rt: &impl Abort, alloc: Global, version: Version, places: Vec<bool>) -> u32 {
+    let square = Square {
+        width: width_of(version),
+        modules: places,
+    };
+    let (normal, micro) = penalties(rt, alloc, &square);
     match version {
-        Version::Normal(_) => Ok(costs.0),
-        Version::Micro(_) => Ok(costs.1),
+        Version::Normal(_) => normal,
+        Version::Micro(_) => micro,
     }
 }
 
@@ -94,7 +83,7 @@ fn costs(
     let mut costs = Vec::new(alloc);
     for mask in masks(version) {
         let places = places(alloc, version, ec_level, codewords, Some(*mask))?;
-        costs.push(cost(rt, alloc, version, &places)?)?;
+        costs.push(cost(rt, alloc, version, places))?;
     }
     Ok(costs)
 }
@@ -178,7 +167,7 @@ fn places_of_lines(alloc: Global, mask: MaskPattern) -> QrResult<Vec<bool>> {
 fn a_known_row_and_column_have_their_penalty(rt: HostRuntime) -> Result<(), Fail> {
     for mask in MICRO_MASKS {
         let places = places_of_lines(rt.alloc(), mask)?;
-        let cost = cost(&rt, rt.alloc(), Version::Micro(4), &places)?;
+        let cost = cost(&rt, rt.alloc(), Version::Micro(4), places);
         assert_eq!(rt; cost, 168, "{mask:?}");
     }
     Ok(())

@@ -6,7 +6,7 @@ ghost use Rattle.qrcode_bits.specs.Segments.{AreInside};
 
 use qrcode_bits::bits::{Bits, ExtendedMode};
 use qrcode_bits::optimize::Segment;
-use qrcode_types::types::{EcLevel, QrResult};
+use qrcode_types::types::{EcLevel, QrError, QrResult};
 
 /// A call that appends to a list of bits, or ends it.
 #[derive(Clone, Copy)]
@@ -37,6 +37,38 @@ pub fn make_push(bits: &mut Bits, push: Push<'_>) -> QrResult<()>
         Push::SecondPosition(application) => bits.push_fnc1_second_position(application),
         Push::Terminator(ec_level) => bits.push_terminator(ec_level),
     }
+}
+
+/// Why pushes made nothing.
+#[derive(Clone, Copy)]
+pub enum Fault {
+    /// A call refused.
+    Refused(QrError),
+    /// A call refused for want of memory, and left another list than it may leave.
+    Corrupted,
+}
+
+impl From<QrError> for Fault {
+    fn from(error: QrError) -> Fault {
+        Fault::Refused(error)
+    }
+}
+
+/// Makes a call, and once more where memory was refused to it; whether it was.
+pub fn push_again(bits: &mut Bits, push: Push<'_>) -> Result<bool, Fault>
+    ensures unchanged { OnErr result (bits.new ≡ bits.old) }
+{
+    let length = bits.len();
+    match make_push(bits, push) {
+        Ok(()) => return Ok(false),
+        Err(QrError::OutOfMemory) => {}
+        Err(error) => return Err(Fault::Refused(error)),
+    }
+    if bits.len() != length {
+        return Err(Fault::Corrupted);
+    }
+    make_push(bits, push)?;
+    Ok(true)
 }
 
 /// Appends ranges of bytes, each in its mode; all ranges lie inside.

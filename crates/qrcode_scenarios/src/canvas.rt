@@ -1,39 +1,59 @@
 //! Symbols while they are drawn.
 
-ghost use Rattle.std.specs.Prelude.{◌≡◌, pos, IfOk, IsTrue};
+ghost use Rattle.std.specs.Prelude.{◌≡◌, IsTrue};
 ghost use Rattle.qrcode_types.specs.Versions.{has_level};
-ghost use Rattle.qrcode_types.specs.declared.types.Version.TheVariants.{Normal};
 
-use crate::digest::Digest;
-use crate::scenario::{Memory, Scenario};
 use qrcode::canvas::{Canvas, MaskPattern, is_functional};
 use qrcode::types::{Color, EcLevel, QrError, QrResult, Version};
+use qrcode_digest::Digest;
 use std::alloc::Global;
 
-/// The scenarios of this module.
-pub static SCENARIOS: [Scenario; 8] = [
-    Scenario("Canvas::new", Memory::Takes, None),
-    Scenario("Canvas: draws", Memory::NoMoreThan("Canvas::new"), None),
-    Scenario("Canvas::apply_best_mask", Memory::Takes, None),
-    Scenario("Canvas::best_colors", Memory::Takes, None),
-    Scenario("Canvas::to_bools", Memory::Takes, None),
-    Scenario("Canvas::into_colors", Memory::Takes, None),
-    Scenario("Canvas::clone", Memory::Takes, None),
-    Scenario("canvas::is_functional", Memory::NoMoreThan("nothing"), None),
-];
+/// A call of a canvas with patterns and data, but for the first.
+#[derive(Clone, Copy)]
+pub enum CanvasCall {
+    /// `new`: a canvas on which nothing is drawn.
+    New,
+    /// `apply_mask`, `put` and `get_mut`.
+    Draws,
+    /// `apply_best_mask`.
+    BestMask,
+    /// `best_colors`.
+    BestColors,
+    /// `to_bools`.
+    Bools,
+    /// `into_colors`.
+    Colors,
+    /// `clone`.
+    Clone,
+}
 
-/// What a scenario of this module makes.
-pub fn made(alloc: Global, name: &str) -> Option<QrResult<Digest>> {
-    match name {
-        "Canvas::new" => Some(corners_of_new(alloc)),
-        "Canvas: draws" => Some(corners_of_drawn(alloc)),
-        "Canvas::apply_best_mask" => Some(best_masked(alloc)),
-        "Canvas::best_colors" => Some(best_colors(alloc)),
-        "Canvas::to_bools" => Some(bools(alloc)),
-        "Canvas::into_colors" => Some(colors(alloc)),
-        "Canvas::clone" => Some(cloned(alloc)),
-        "canvas::is_functional" => Some(Ok(functional())),
-        _ => None,
+/// Makes a call of a canvas of a version and level.
+pub fn run(
+    alloc: Global,
+    version: Version,
+    ec_level: EcLevel,
+    call: CanvasCall,
+) -> QrResult<Digest> {
+    if !version.is_valid() || !version.has_level(ec_level) {
+        return Err(QrError::InvalidVersion);
+    }
+    let mut canvas = Canvas::new(alloc, version, ec_level)?;
+    if matches!(call, CanvasCall::New) {
+        return Ok(corners(&canvas));
+    }
+    canvas.draw_all_functional_patterns();
+    canvas.draw_data(DATA, EC);
+    match call {
+        CanvasCall::New => Ok(corners(&canvas)),
+        CanvasCall::Draws => draws(canvas, version),
+        CanvasCall::BestMask => Ok(Digest::of(&canvas.apply_best_mask(alloc)?.into_colors(alloc)?)),
+        CanvasCall::BestColors => Ok(Digest::of(&canvas.best_colors(alloc)?)),
+        CanvasCall::Bools => Ok(Digest::of(&canvas.to_bools(alloc)?)),
+        CanvasCall::Colors => Ok(Digest::of(&canvas.into_colors(alloc)?)),
+        CanvasCall::Clone => {
+            let other = canvas.clone()?;
+            Ok(corners(&canvas).and(Digest::of(&other.into_colors(alloc)?)))
+        }
     }
 }
 
@@ -43,6 +63,7 @@ static DATA: &[u8; 16] = b"sixteen bytes in";
 static EC: &[u8; 10] = b"ten others";
 
 // Two corners, and two modules between.
+#[tactic(auto, using(crate::proofs::Sides::side_least))]
 fn corners(canvas: &Canvas) -> Digest {
     Digest::of(&[
         canvas.get(0, 0).is_dark(),
@@ -52,30 +73,15 @@ fn corners(canvas: &Canvas) -> Digest {
     ])
 }
 
-fn corners_of_new(alloc: Global) -> QrResult<Digest> {
-    let canvas = Canvas::new(alloc, Version::Normal(1), EcLevel::M)?;
-    Ok(corners(&canvas))
-}
-
-// A canvas with patterns and data.
-fn drawn(alloc: Global) -> QrResult<Canvas>
-    ensures version { IfOk result (λ canvas. canvas.version ≡ Normal (pos 1)) }
-    ensures level { IfOk result (λ canvas. IsTrue (has_level canvas.version canvas.level)) }
+// What takes no memory.
+#[tactic(auto, using(crate::proofs::Sides::side_least))]
+fn draws(canvas: Canvas, version: Version) -> QrResult<Digest>
+    requires version { canvas.version ≡ version }
+    requires level { IsTrue (has_level canvas.version canvas.level) }
 {
-    let (version, ec_level) = (Version::Normal(1), EcLevel::M);
-    if !version.has_level(ec_level) {
-        return Err(QrError::InvalidVersion);
-    }
-    let mut canvas = Canvas::new(alloc, version, ec_level)?;
-    canvas.draw_all_functional_patterns();
-    canvas.draw_data(DATA, EC);
-    Ok(canvas)
-}
-
-fn corners_of_drawn(alloc: Global) -> QrResult<Digest> {
-    let mut canvas = drawn(alloc)?;
-    let mask = MaskPattern::Checkerboard;
-    if !mask.exists_in(Version::Normal(1)) {
+    let mut canvas = canvas;
+    let mask = MaskPattern::Diamonds;
+    if !mask.exists_in(version) {
         return Err(QrError::InvalidVersion);
     }
     canvas.apply_mask(mask);
@@ -84,30 +90,8 @@ fn corners_of_drawn(alloc: Global) -> QrResult<Digest> {
     Ok(corners(&canvas))
 }
 
-fn best_masked(alloc: Global) -> QrResult<Digest> {
-    let colors = drawn(alloc)?.apply_best_mask(alloc)?.into_colors(alloc)?;
-    Ok(Digest::of(&colors))
-}
-
-fn best_colors(alloc: Global) -> QrResult<Digest> {
-    Ok(Digest::of(&drawn(alloc)?.best_colors(alloc)?))
-}
-
-fn bools(alloc: Global) -> QrResult<Digest> {
-    Ok(Digest::of(&drawn(alloc)?.to_bools(alloc)?))
-}
-
-fn colors(alloc: Global) -> QrResult<Digest> {
-    Ok(Digest::of(&drawn(alloc)?.into_colors(alloc)?))
-}
-
-fn cloned(alloc: Global) -> QrResult<Digest> {
-    let canvas = drawn(alloc)?;
-    let other = canvas.clone()?;
-    Ok(corners(&canvas).and(Digest::of(&other.into_colors(alloc)?)))
-}
-
-fn functional() -> Digest {
+/// Which of some modules of Normal 7 are functional.
+pub fn functional() -> Digest {
     let version = Version::Normal(7);
     Digest::of(&[
         is_functional(version, 45, 0, 0),

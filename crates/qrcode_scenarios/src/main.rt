@@ -3,114 +3,127 @@
 #![tactic(auto)]
 
 mod canvas;
-mod causes;
-mod code;
 mod correction;
-mod digest;
+mod data;
 mod pictures;
 mod pushes;
+mod rows;
 mod scenario;
 mod segments;
-mod user;
+mod symbols;
+mod word;
 
-use digest::Digest;
 use qrcode::types::QrResult;
-use scenario::{Answer, Fault, Memory, Note, Outcome, Scenario, outcome_of};
+use qrcode_digest::Digest;
+use qrcode_pushes::Fault;
+use rows::groups;
+use scenario::{Answer, Call, Memory, Note, Outcome, Scenario, Single, outcome_of};
 use std::alloc::Global;
 use std::io::Print;
 use std::process::ExitCode;
 use std::{env, io};
 
 fn main(rt: HostRuntime) -> ExitCode {
-    let said = match env::args(&rt) {
+    let printed = match env::args(&rt) {
         Err(_) => println!(rt; "out of memory"),
         Ok(mut args) => match args.nth(1) {
             None => list_all(&rt),
-            Some(name) => match outcome(rt.alloc(), name.as_str()) {
-                Some(outcome) => tell(&rt, outcome),
+            Some(name) => match named(name.as_str()) {
+                Some(scenario) => print(&rt, run(rt.alloc(), scenario.3)),
                 None => return ExitCode::FAILURE,
             },
         },
     };
-    match said {
+    match printed {
         Ok(()) => ExitCode::SUCCESS,
         Err(_) => ExitCode::FAILURE,
     }
 }
 
-// The answer of a scenario, where there is one of the name.
-fn outcome(alloc: Global, name: &str) -> Option<Outcome> {
-    if let Some(outcome) = pushes::outcome(alloc, name) {
-        return Some(outcome);
+// The scenario of a name, if there is one.
+fn named(name: &str) -> Option<Scenario> {
+    for group in groups() {
+        if let Some(scenario) = group.iter().copied().find(|it| it.0 == name) {
+            return Some(scenario);
+        }
     }
-    if let Some(outcome) = segments::outcome(alloc, name) {
-        return Some(outcome);
-    }
-    Some(outcome_of(made(alloc, name)?))
+    None
 }
 
-// What a scenario makes that repeats no call.
-fn made(alloc: Global, name: &str) -> Option<QrResult<Digest>> {
-    if let Some(made) = correction::made(alloc, name) {
-        return Some(made);
+// The answer of a scenario's call.
+fn run(alloc: Global, call: Call) -> Outcome {
+    match call {
+        Call::Pushes(version, pushes) => pushes::run(alloc, version, pushes),
+        Call::Segments => segments::pushed(alloc),
+        Call::Optimal => segments::optimal(alloc),
+        Call::Once(call) => outcome_of(digest(alloc, call)),
     }
-    if let Some(made) = canvas::made(alloc, name) {
-        return Some(made);
+}
+
+// The digest of what a call makes that is made once.
+fn digest(alloc: Global, call: Single) -> QrResult<Digest> {
+    match call {
+        Single::Data(data) => Ok(Digest::of_one(data.hold(alloc)?.bytes().len(), false)),
+        Single::Push(data) => segments::push_of_bytes(alloc, data),
+        Single::Optimal(version, data) => segments::optimal_in(alloc, version, data),
+        Single::Automatic(data, ec_level) => segments::automatic(alloc, data, ec_level),
+        Single::Least(version, data) => segments::least(alloc, version, data),
+        Single::Runs => Ok(segments::runs()),
+        Single::BitsAsked => pushes::asked(alloc),
+        Single::Correction(data, count) => correction::of_block(alloc, data, count),
+        Single::Codewords(version, ec_level, data) => {
+            correction::codewords(alloc, version, ec_level, data)
+        }
+        Single::Products => correction::products(),
+        Single::Canvas(version, ec_level, call) => canvas::run(alloc, version, ec_level, call),
+        Single::Functional => Ok(canvas::functional()),
+        Single::Code(constructor) => symbols::construct(alloc, constructor),
+        Single::Symbol(version, call) => symbols::run(alloc, version, call),
+        Single::Picture(kind, frame) => pictures::run(alloc, kind, frame),
+        Single::Image => pictures::image(alloc),
     }
-    if let Some(made) = code::made(alloc, name) {
-        return Some(made);
-    }
-    if let Some(made) = causes::made(alloc, name) {
-        return Some(made);
-    }
-    pictures::made(alloc, name)
 }
 
 // Prints the answer of a scenario.
-fn tell<R: Print>(rt: &R, outcome: Outcome) -> io::Result<()> {
+fn print<R: Print>(rt: &R, outcome: Outcome) -> io::Result<()> {
     match outcome {
         Ok(Answer { digest, note }) => {
             print!(rt; "length {}, checksum {:08x}", digest.length, digest.sum)?;
-            tell_note(rt, note)
+            print_note(rt, note)
         }
         Err(Fault::Refused(error)) => println!(rt; "{error}"),
-        Err(Fault::Spoilt) => println!(rt; "a refused call left a list that it may not leave"),
+        Err(Fault::Corrupted) => println!(rt; "a refused call changed the list"),
     }
 }
 
 // Prints what was refused, and ends the line.
-fn tell_note<R: Print>(rt: &R, note: Note) -> io::Result<()> {
+fn print_note<R: Print>(rt: &R, note: Note) -> io::Result<()> {
     match note {
         Note::Whole => println!(rt; ""),
         Note::Unchanged => println!(rt; "; refused, the list unchanged"),
-        Note::Stood(count) => println!(rt; "; refused, {count} segments stood"),
+        Note::Kept(count) => println!(rt; "; refused, {count} segments kept"),
     }
 }
 
 // Prints all scenarios, each with what it asks of memory and the cause that refuses it.
 fn list_all<R: Print>(rt: &R) -> io::Result<()> {
-    for row in &pushes::ROWS {
-        list(rt, row.0)?;
+    for group in groups() {
+        list_each(rt, group)?;
     }
-    list_each(rt, &segments::SCENARIOS)?;
-    list_each(rt, &correction::SCENARIOS)?;
-    list_each(rt, &canvas::SCENARIOS)?;
-    list_each(rt, &code::SCENARIOS)?;
-    list_each(rt, &causes::SCENARIOS)?;
-    list_each(rt, &pictures::SCENARIOS)
+    Ok(())
 }
 
 // Prints scenarios.
 fn list_each<R: Print>(rt: &R, scenarios: &[Scenario]) -> io::Result<()> {
-    for &scenario in scenarios {
-        list(rt, scenario)?;
+    for scenario in scenarios {
+        list(rt, *scenario)?;
     }
     Ok(())
 }
 
 // Prints a scenario.
 fn list<R: Print>(rt: &R, scenario: Scenario) -> io::Result<()> {
-    let Scenario(name, memory, cause) = scenario;
+    let Scenario(name, memory, cause, _) = scenario;
     match memory {
         Memory::Takes => print!(rt; "{name} | takes")?,
         Memory::Repeats => print!(rt; "{name} | repeats")?,

@@ -1,7 +1,17 @@
 //! What a scenario is, and what it answers.
 
-use crate::digest::Digest;
-use qrcode::types::QrError;
+use crate::canvas::CanvasCall;
+use crate::data::Data;
+use crate::pictures::{Frame, Kind};
+use crate::symbols::{Constructor, SymbolCall};
+use qrcode::types::{EcLevel, QrError, QrResult, Version};
+use qrcode_digest::Digest;
+use qrcode_pushes::{Fault, Push};
+
+/// A scenario: its name, what it asks of memory, the cause that it is refused by, where it is to be
+/// refused, and the call that it makes.
+#[derive(Clone, Copy)]
+pub struct Scenario(pub &'static str, pub Memory, pub Option<QrError>, pub Call);
 
 /// What a scenario asks of memory.
 #[derive(Clone, Copy)]
@@ -14,20 +24,66 @@ pub enum Memory {
     NoMoreThan(&'static str),
 }
 
-/// A scenario: its name, what it asks of memory, and the cause that it is refused by, where it is
-/// to be refused.
+/// What a scenario calls.
 #[derive(Clone, Copy)]
-pub struct Scenario(pub &'static str, pub Memory, pub Option<QrError>);
+pub enum Call {
+    /// Pushes to the empty list of a version, each again where memory was refused to it.
+    Pushes(Version, &'static [Push<'static>]),
+    /// `push_segments` to a list of Normal 1 with a few bits, and the segments that were refused one by
+    /// one.
+    Segments,
+    /// `push_optimal_data` of the same.
+    Optimal,
+    /// A call that is not made again.
+    Once(Single),
+}
 
-/// What a list of bits was after a refusal.
+/// A call that is made once.
+#[derive(Clone, Copy)]
+pub enum Single {
+    /// Nothing but the data is made.
+    Data(Data),
+    /// `push_byte_data` to the empty list of Normal 40.
+    Push(Data),
+    /// `push_optimal_data` to the empty list of a version.
+    Optimal(Version, Data),
+    /// `encode_auto`.
+    Automatic(Data, EcLevel),
+    /// `least_segments`.
+    Least(Version, Data),
+    /// `Parser`, joined by its `optimize` in Normal 1.
+    Runs,
+    /// What a list of bits is asked.
+    BitsAsked,
+    /// `create_error_correction_code` of so many bytes.
+    Correction(Data, usize),
+    /// `construct_codewords`.
+    Codewords(Version, EcLevel, Data),
+    /// `product`, `power` and `max_allowed_errors`.
+    Products,
+    /// A call of a canvas of a version and level.
+    Canvas(Version, EcLevel, CanvasCall),
+    /// `is_functional`.
+    Functional,
+    /// A constructor.
+    Code(Constructor),
+    /// A call of the symbol of a version at level L.
+    Symbol(Version, SymbolCall),
+    /// A picture of a kind in a frame.
+    Picture(Kind, Frame),
+    /// `to_image` of a small symbol in grey pixels.
+    Image,
+}
+
+/// What became of a list of bits after a refusal.
 #[derive(Clone, Copy)]
 pub enum Note {
     /// Nothing was refused.
     Whole,
     /// The list was what it was before the refused call.
     Unchanged,
-    /// So many segments of a call stood.
-    Stood(usize),
+    /// So many segments of a call were kept.
+    Kept(usize),
 }
 
 /// What a scenario made.
@@ -37,28 +93,13 @@ pub struct Answer {
     pub note: Note,
 }
 
-/// Why a scenario made nothing.
-#[derive(Clone, Copy)]
-pub enum Fault {
-    /// A call refused.
-    Refused(QrError),
-    /// A call refused, and left a list that it may not leave.
-    Spoilt,
-}
-
-impl From<QrError> for Fault {
-    fn from(error: QrError) -> Fault {
-        Fault::Refused(error)
-    }
-}
-
 /// The answer of a scenario.
 pub type Outcome = Result<Answer, Fault>;
 
 /// The answer of a scenario that repeats no call.
-pub fn outcome_of(made: Result<Digest, QrError>) -> Outcome {
+pub fn outcome_of(digest: QrResult<Digest>) -> Outcome {
     Ok(Answer {
-        digest: made?,
+        digest: digest?,
         note: Note::Whole,
     })
 }

@@ -1,47 +1,23 @@
 //! Data in segments.
 
-ghost use Rattle.std.specs.Prelude.{◌≤◌, length, IsTrue};
 ghost use Rattle.std.specs.Iterator.{IsFinite};
-ghost use Rattle.qrcode_types.specs.Versions.{is_valid};
 
-use crate::digest::Digest;
-use crate::pushes::{Push, append, digest_of};
-use crate::scenario::{Answer, Fault, Memory, Note, Outcome, Scenario, outcome_of};
-use qrcode::bits::{Bits, encode_auto};
+use crate::data::Data;
+use crate::pushes::digest_of;
+use crate::scenario::{Answer, Note, Outcome};
+use qrcode::bits::{Bits, DATA_LIMIT, encode_auto};
 use qrcode::optimize::{Parser, Segment, least_segments};
 use qrcode::types::{EcLevel, QrError, QrResult, Version};
+use qrcode_digest::Digest;
+use qrcode_pushes::{Fault, Push, push_again};
 use std::alloc::Global;
-
-/// The scenarios of this module.
-pub static SCENARIOS: [Scenario; 8] = [
-    Scenario("Bits::push_segments", Memory::Repeats, None),
-    Scenario("Bits::push_optimal_data", Memory::Repeats, None),
-    Scenario("bits::encode_auto", Memory::Takes, None),
-    Scenario(
-        "bits::encode_auto: no room",
-        Memory::Takes,
-        Some(QrError::DataTooLong),
-    ),
-    Scenario("optimize::least_segments", Memory::Takes, None),
-    Scenario(
-        "optimize::least_segments: no such mode",
-        Memory::NoMoreThan("nothing"),
-        Some(QrError::UnsupportedCharacterSet),
-    ),
-    Scenario(
-        "Bits::push_optimal_data: no such mode",
-        Memory::NoMoreThan("nothing"),
-        Some(QrError::UnsupportedCharacterSet),
-    ),
-    Scenario("optimize::Parser", Memory::NoMoreThan("nothing"), None),
-];
 
 // Ten bytes, 20 digits, 20 letters and ten pairs of Kanji.
 static DATA: &[u8; 70] =
     b"some bytes01234567890123456789QUICK BROWN FOX JUMP\x93\x5f\xe4\xaa\x93\x5f\xe4\xaa\x93\x5f\xe4\xaa\x93\x5f\xe4\xaa\x93\x5f\xe4\xaa";
 
 // The pushes of its least segments in Normal 1.
-static PUSHES: [Push; 4] = [
+static PUSHES: [Push<'static>; 4] = [
     Push::Byte(b"some bytes"),
     Push::Numeric(b"01234567890123456789"),
     Push::Alphanumeric(b"QUICK BROWN FOX JUMP"),
@@ -50,112 +26,112 @@ static PUSHES: [Push; 4] = [
     ),
 ];
 
-// The bits of the list where so many of the segments stand, in Normal 1: 12 without any, and then
-// 4 + 8 + 80, 4 + 10 + 67, 4 + 9 + 110 and 4 + 8 + 130 more. Where the last stands, nothing refused.
+// The bits of the list where so many of the segments are kept, in Normal 1: 12 without any, and then
+// 4 + 8 + 80, 4 + 10 + 67, 4 + 9 + 110 and 4 + 8 + 130 more. Where the last is kept, nothing was refused.
 static LENGTHS: [usize; 4] = [12, 104, 185, 308];
-
-/// The answer of a scenario of this module.
-pub fn outcome(alloc: Global, name: &str) -> Option<Outcome> {
-    match name {
-        "Bits::push_segments" => Some(segments_pushed(alloc)),
-        "Bits::push_optimal_data" => Some(data_pushed(alloc)),
-        "bits::encode_auto" => Some(outcome_of(encoded(alloc))),
-        "bits::encode_auto: no room" => Some(outcome_of(encoded_long(alloc))),
-        "optimize::least_segments" => Some(outcome_of(least(alloc, DATA, Version::Normal(1)))),
-        "optimize::least_segments: no such mode" => {
-            Some(outcome_of(least(alloc, b"A", Version::Micro(1))))
-        }
-        "Bits::push_optimal_data: no such mode" => Some(outcome_of(pushed_to_micro(alloc))),
-        "optimize::Parser" => {
-            let segments = Parser::new(DATA).optimize(Version::Normal(1));
-            Some(outcome_of(Ok(digest_of_segments(segments))))
-        }
-        _ => None,
-    }
-}
 
 // A list with a few bits, and whether memory was refused to its push.
 fn begun(alloc: Global) -> Result<(Bits, bool), Fault> {
     let mut bits = Bits::new(alloc, Version::Normal(1));
-    let is_again = append(&mut bits, Push::Designator(9))?;
+    let is_again = push_again(&mut bits, Push::Designator(9))?;
     Ok((bits, is_again))
 }
 
-// The segments, of which those that were refused are pushed one by one.
-fn segments_pushed(alloc: Global) -> Outcome {
+/// The segments of the data, of which those that were refused are pushed one by one.
+pub fn pushed(alloc: Global) -> Outcome {
     let (mut bits, is_again) = begun(alloc)?;
     let pushed = bits.push_segments(DATA, Parser::new(DATA).optimize(Version::Normal(1)));
-    let stood = stood(pushed, bits.len())?;
-    finish(bits, stood, is_again)
+    let kept = kept(pushed, bits.len())?;
+    finish(bits, kept, is_again)
 }
 
-// The data in segments of the fewest bits, again where none of them stood.
-fn data_pushed(alloc: Global) -> Outcome {
+/// The data in segments of the fewest bits, again where none of them was kept.
+pub fn optimal(alloc: Global) -> Outcome {
     let (mut bits, is_again) = begun(alloc)?;
     let pushed = bits.push_optimal_data(DATA);
-    let stood = stood(pushed, bits.len())?;
-    if stood == Some(0) {
+    let kept = kept(pushed, bits.len())?;
+    if kept == Some(0) {
         bits.push_optimal_data(DATA)?;
         return finish(bits, None, true);
     }
-    finish(bits, stood, is_again)
+    finish(bits, kept, is_again)
 }
 
-// How many segments stood after a call that was refused memory.
-fn stood(pushed: QrResult<()>, length: usize) -> Result<Option<usize>, Fault> {
+// How many segments were kept by a call that was refused memory.
+fn kept(pushed: QrResult<()>, length: usize) -> Result<Option<usize>, Fault> {
     match pushed {
         Ok(()) => Ok(None),
         Err(QrError::OutOfMemory) => match LENGTHS.iter().position(|bits| *bits == length) {
             Some(count) => Ok(Some(count)),
-            None => Err(Fault::Spoilt),
+            None => Err(Fault::Corrupted),
         },
         Err(error) => Err(Fault::Refused(error)),
     }
 }
 
-// Pushes the segments that did not stand.
-fn finish(bits: Bits, stood: Option<usize>, is_again: bool) -> Outcome {
+// Pushes the segments that were not kept.
+fn finish(bits: Bits, kept: Option<usize>, is_again: bool) -> Outcome {
     let mut bits = bits;
-    if let Some(count) = stood {
+    if let Some(count) = kept {
         for push in PUSHES.iter().skip(count) {
-            append(&mut bits, *push)?;
+            push_again(&mut bits, *push)?;
         }
     }
     Ok(Answer {
         digest: digest_of(bits),
-        note: match stood {
-            Some(count) => Note::Stood(count),
+        note: match kept {
+            Some(count) => Note::Kept(count),
             None if is_again => Note::Unchanged,
             None => Note::Whole,
         },
     })
 }
 
-fn encoded(alloc: Global) -> QrResult<Digest> {
-    Ok(digest_of(encode_auto(alloc, DATA, EcLevel::Q)?))
+/// The bits of data in the least version.
+pub fn automatic(alloc: Global, data: Data, ec_level: EcLevel) -> QrResult<Digest> {
+    let held = data.hold(alloc)?;
+    Ok(digest_of(encode_auto(alloc, held.bytes(), ec_level)?))
 }
 
-// More letters than a symbol holds.
-fn encoded_long(alloc: Global) -> QrResult<Digest> {
-    let letters = Vec::from_elem(alloc, b'a', 2332)?;
-    Ok(digest_of(encode_auto(alloc, &letters, EcLevel::M)?))
-}
-
-fn least(alloc: Global, data: &[u8], version: Version) -> QrResult<Digest>
-    requires valid { IsTrue (is_valid version) }
-    requires short { length «data».now ≤ 100 }
-{
-    let segments = least_segments(alloc, data, version)?;
-    Ok(digest_of_segments(segments.into_iter()))
-}
-
-fn pushed_to_micro(alloc: Global) -> QrResult<Digest> {
-    let mut bits = Bits::new(alloc, Version::Micro(2));
-    bits.push_optimal_data(b"a")?;
+/// The bits of data in a version.
+pub fn optimal_in(alloc: Global, version: Version, data: Data) -> QrResult<Digest> {
+    if !version.is_valid() {
+        return Err(QrError::InvalidVersion);
+    }
+    let held = data.hold(alloc)?;
+    let mut bits = Bits::new(alloc, version);
+    bits.push_optimal_data(held.bytes())?;
     Ok(digest_of(bits))
 }
 
-// The digest of segments: of each a number for the mode, and the last bytes of its ends.
+/// The bits of bytes in Normal 40.
+pub fn push_of_bytes(alloc: Global, data: Data) -> QrResult<Digest> {
+    let held = data.hold(alloc)?;
+    let mut bits = Bits::new(alloc, Version::Normal(40));
+    bits.push_byte_data(held.bytes())?;
+    Ok(digest_of(bits))
+}
+
+/// The segments of data that take the fewest bits in a version.
+pub fn least(alloc: Global, version: Version, data: Data) -> QrResult<Digest> {
+    let held = data.hold(alloc)?;
+    if !version.is_valid() {
+        return Err(QrError::InvalidVersion);
+    }
+    let bytes = held.bytes();
+    if bytes.len() > DATA_LIMIT {
+        return Err(QrError::DataTooLong);
+    }
+    let segments = least_segments(alloc, bytes, version)?;
+    Ok(digest_of_segments(segments.into_iter()))
+}
+
+/// The runs of the data, joined.
+pub fn runs() -> Digest {
+    digest_of_segments(Parser::new(DATA).optimize(Version::Normal(1)))
+}
+
+// The digest of segments: of each a number for the mode, and its ends.
 fn digest_of_segments<I: Iterator<Item = Segment> + Drop>(segments: I) -> Digest
     requires can { I.can_next segments }
     requires ends { IsFinite (I.remaining segments) }
@@ -164,9 +140,9 @@ fn digest_of_segments<I: Iterator<Item = Segment> + Drop>(segments: I) -> Digest
     for segment in segments {
         let mode = segment.mode.data_bits_count(100) % 256;
         digest = digest.and(Digest::of(&[
-            mode as u8,
-            (segment.begin % 256) as u8,
-            (segment.end % 256) as u8,
+            mode as u32,
+            (segment.begin % 4_294_967_296) as u32,
+            (segment.end % 4_294_967_296) as u32,
         ]));
     }
     digest

@@ -6,12 +6,15 @@ use qrcode::canvas::Canvas;
 use qrcode::render::image::{Channels, ImageBuffer, Luma, LumaA, Rgb, Rgba};
 use qrcode::render::string::Str;
 use qrcode::render::unicode::Dense1x2;
-use qrcode::render::{self, Pixel, fill_rect, image, pic, string, svg, unicode};
+use qrcode::render::{
+    self, Canvas as _, Pixel, Renderer, fill_rect, image, pic, string, svg, unicode,
+};
 use qrcode::types::{QrError, QrResult};
-use qrcode::{EcLevel, QrCode, Version};
+use qrcode::{Color, EcLevel, QrCode, Version};
 use qrcode_judge::codewords;
 use qrcode_judge::reading::Read;
 use qrcode_judge::square::{self, Square};
+use qrcode_uses::label::{Bar, Dot, Label};
 use std::alloc::Global;
 use std::process::Abort;
 
@@ -109,6 +112,50 @@ fn each_canvas_is_drawn_on(rt: HostRuntime) {
     let greys = dotted::<image::Canvas<Luma>>(alloc, Luma([7]), Luma([9])).expect(&rt, "greys");
     let pixels = [9, 7, 9, 9, 9, 9, 7, 7, 9, 9, 7, 7, 7, 7, 9, 9];
     symbols::check_bytes(&rt, &greys.into_raw(), &pixels);
+}
+
+// The bar of these numbers.
+fn bar(left: u32, top: u32, width: u32, height: u32) -> Bar {
+    Bar {
+        left,
+        top,
+        width,
+        height,
+    }
+}
+
+// Two modules along a side, of which the first and the last are dark.
+static DIAGONAL: [Color; 4] = [Color::Dark, Color::Light, Color::Light, Color::Dark];
+
+// The bars of the diagonal with a quiet zone of one module, each module of two pixels by one.
+fn diagonal_bars(alloc: Global) -> QrResult<Vec<Bar>> {
+    let mut renderer = Renderer::<Dot>::new(&DIAGONAL, 2, 1);
+    renderer.module_dimensions(2, 0).quiet_zone(true);
+    if !renderer.fits() {
+        return Err(QrError::DataTooLong);
+    }
+    renderer.build(alloc)
+}
+
+// The bars of two by two pixels, which are filled row by row.
+fn filled_bars(alloc: Global) -> QrResult<Vec<Bar>> {
+    let mut label = Label::new(alloc, 9, 9, Dot, Dot)?;
+    fill_rect(&mut label, 2, 3, 2, 2)?;
+    label.into_image()
+}
+
+#[test]
+fn a_users_canvas_is_drawn_on(rt: HostRuntime) {
+    let alloc = rt.alloc();
+    let bars = diagonal_bars(alloc).expect(&rt, "bars");
+    let expected = [bar(2, 1, 2, 1), bar(4, 2, 2, 1)];
+    assert_eq!(rt; bars.as_slice(), expected.as_slice());
+    let bars = filled_bars(alloc).expect(&rt, "bars");
+    let expected = [bar(2, 3, 2, 1), bar(2, 4, 2, 1)];
+    assert_eq!(rt; bars.as_slice(), expected.as_slice());
+    let bars = dotted::<Label>(alloc, Dot, Dot).expect(&rt, "bars");
+    let expected = [bar(1, 0, 1, 1), bar(2, 1, 2, 2), bar(0, 3, 2, 1)];
+    assert_eq!(rt; bars.as_slice(), expected.as_slice());
 }
 
 // A picture has these sides, and so many pixels whose first channel is dark.

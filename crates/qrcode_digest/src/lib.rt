@@ -1,9 +1,10 @@
-//! The digest of what a scenario made.
+//! Digests: a length and a checksum, by which programs say what they made.
+#![tactic(auto)]
 
 ghost use Rattle.std.specs.Prelude.{◌≡◌, ℕ, ◌+◌, ◌-◌, ◌*◌, ◌%◌, ◌<◌, ◌^◌, length, min, fold, if◌then◌else◌};
 ghost use Rattle.qrcode_types.specs.Colors.{select_of};
 
-use qrcode::types::Color;
+use qrcode_types::types::Color;
 
 /// The greatest prime below 2^32.
 const PRIME: u64 = 4_294_967_291;
@@ -30,6 +31,14 @@ impl Item for u8 {
 
     fn number(self) -> u32 {
         u32::from(self)
+    }
+}
+
+impl Item for u32 {
+    ghost number_of = { λ number. number };
+
+    fn number(self) -> u32 {
+        self
     }
 }
 
@@ -63,6 +72,17 @@ impl Digest {
         Digest {
             length: items.len(),
             sum,
+        }
+    }
+
+    /// The digest of a list of which only its length and one item are looked at.
+    pub fn of_one<T: Item>(length: usize, item: T) -> Digest
+        ensures length { result.length ≡ length }
+        ensures sum { result.sum ≡ (T.number_of item + 1) % 4294967291 }
+    {
+        Digest {
+            length,
+            sum: (u64::from(item.number()) + 1) % PRIME,
         }
     }
 

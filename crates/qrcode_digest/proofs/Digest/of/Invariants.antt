@@ -1,5 +1,5 @@
 use Rattle.std.proofs.Common.{◌≡◌, ◌+◌, ◌*◌, ◌%◌, ◌<◌, fold, drop}
-use Rattle.qrcode_scenarios.proofs.digest.Digest.of.Given as goal
+use Rattle.qrcode_digest.proofs.Digest.of.Given as goal
 
 abbrev pub invariant-loop-item : goal.invariant-loop-item
 invariant-loop-item g l =

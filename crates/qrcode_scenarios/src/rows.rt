@@ -1,0 +1,23 @@
+//! The scenarios.
+
+use crate::scenario::{Memory, Scenario};
+
+mod canvases;
+mod pictures;
+mod pushes;
+mod segments;
+mod symbols;
+
+// No more memory than the start of the program takes.
+const NOTHING: Memory = Memory::NoMoreThan("nothing");
+
+/// All scenarios, in groups.
+pub fn groups() -> [&'static [Scenario]; 5] {
+    [
+        pushes::SCENARIOS.as_slice(),
+        segments::SCENARIOS.as_slice(),
+        canvases::SCENARIOS.as_slice(),
+        symbols::SCENARIOS.as_slice(),
+        pictures::SCENARIOS.as_slice(),
+    ]
+}
