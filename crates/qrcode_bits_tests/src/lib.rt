@@ -2,6 +2,10 @@
 #![tactic(auto)]
 
 #[cfg(test)]
+mod cuts;
+#[cfg(test)]
 mod optimizer;
 #[cfg(test)]
 mod pushes;
+#[cfg(test)]
+mod versions;

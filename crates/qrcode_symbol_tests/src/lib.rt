@@ -3,3 +3,5 @@
 
 #[cfg(test)]
 mod canvas;
+#[cfg(test)]
+mod drawings;
