@@ -6,7 +6,7 @@ ghost use Rattle.qrcode_types.specs.declared.types.Version.TheVariants.{Micro};
 ghost use Rattle.qrcode_types.specs.Versions.{is_valid};
 
 use crate::drawings::{
-    DATA_OF_MICRO_1, DATA_OF_NORMAL_2, HALF_CODEWORD_OF_MICRO_3, LIGHT_MICRO_1,
+    DATA_OF_MICRO_1, DATA_OF_NORMAL_2, HALF_CODEWORD_OF_MICRO_3, LIGHT_MICRO_1, MOST_OF_NORMAL_2,
     NORMAL_1_UNDER_CHECKERBOARD, NORMAL_1_UNDER_VERTICAL_LINES, PATTERNS_OF_MICRO_1,
     PATTERNS_OF_NORMAL_2, PATTERNS_OF_NORMAL_7, SYMBOL_OF_MICRO_2, SYMBOL_OF_NORMAL_1,
 };
@@ -177,22 +177,6 @@ fn modules_are_masked(rt: HostRuntime) {
     }
 }
 
-// The patterns of a version at level L have these letters.
-fn draws_patterns(rt: &impl Abort, alloc: Global, version: Version, text: &str) -> QrResult<()>
-    requires { IsTrue (is_valid version) }
-{
-    let canvas = patterned(alloc, version, EcLevel::L)?;
-    shows(rt, alloc, &canvas, version, text)
-}
-
-#[test]
-fn patterns_are_drawn(rt: HostRuntime) -> Result<(), Fail> {
-    draws_patterns(&rt, rt.alloc(), Version::Normal(2), PATTERNS_OF_NORMAL_2)?;
-    draws_patterns(&rt, rt.alloc(), Version::Normal(7), PATTERNS_OF_NORMAL_7)?;
-    draws_patterns(&rt, rt.alloc(), Version::Micro(1), PATTERNS_OF_MICRO_1)?;
-    Ok(())
-}
-
 #[test]
 fn alignment_is_drawn_over_a_module(rt: HostRuntime) -> Result<(), Fail> {
     let mut canvas = Canvas::new(rt.alloc(), Version::Normal(2), EcLevel::L)?;
@@ -204,80 +188,39 @@ fn alignment_is_drawn_over_a_module(rt: HostRuntime) -> Result<(), Fail> {
     Ok(())
 }
 
-// A canvas on which these codewords are drawn has these letters.
-fn draws(
-    rt: &impl Abort,
-    alloc: Global,
-    canvas: &mut Canvas,
-    version: Version,
-    codewords: (&[u8], &[u8]),
-    text: &str,
-) -> QrResult<()>
-    requires valid { IsTrue (is_valid version) }
-    requires version { canvas.old.version ≡ version }
-    ensures { canvas.new.version ≡ version }
+// Codewords of data and of error correction.
+type Codewords = (&'static [u8], &'static [u8]);
+
+// A canvas with patterns: its version and level, its codewords, and the masks that are applied one after
+// the other.
+#[derive(Copy, Clone)]
+struct Drawing(
+    Version,
+    EcLevel,
+    Codewords,
+    Option<MaskPattern>,
+    Option<MaskPattern>,
+);
+
+// Draws a canvas.
+fn draw(alloc: Global, drawing: Drawing) -> QrResult<Canvas>
+    ensures valid { IfOk result (λ canvas. IsTrue (is_valid drawing.0)) }
+    ensures version { IfOk result (λ canvas. canvas.version ≡ drawing.0) }
+    ensures level { IfOk result (λ canvas. canvas.level ≡ drawing.1) }
 {
-    let (data, ec) = codewords;
-    canvas.draw_data(data, ec);
-    shows(rt, alloc, canvas, version, text)
-}
-
-#[test]
-fn codewords_are_drawn(rt: HostRuntime) -> Result<(), Fail> {
-    let mut canvas = patterned(rt.alloc(), Version::Micro(1), EcLevel::L)?;
-    let codewords: (&[u8], &[u8]) = (&[0xa5, 0x3c, 0x70], &[0x81, 0xe6]);
-    let version = Version::Micro(1);
-    draws(
-        &rt,
-        rt.alloc(),
-        &mut canvas,
-        version,
-        codewords,
-        DATA_OF_MICRO_1,
-    )?;
-    Ok(())
-}
-
-#[test]
-fn bits_without_a_codeword_stay_empty(rt: HostRuntime) -> Result<(), Fail> {
-    let version = Version::Normal(2);
-    let mut canvas = patterned(rt.alloc(), version, EcLevel::L)?;
-    let empty = letters(rt.alloc(), &canvas, version)?;
-    draws(
-        &rt,
-        rt.alloc(),
-        &mut canvas,
-        version,
-        (&[], &[]),
-        empty.as_str(),
-    )?;
-    let data = [0x6d, 0xb6, 0xdb].repeat(rt.alloc(), 14)?;
-    let codewords: (&[u8], &[u8]) = (&data, &[0x6d, 0xb6]);
-    draws(
-        &rt,
-        rt.alloc(),
-        &mut canvas,
-        version,
-        codewords,
-        DATA_OF_NORMAL_2,
-    )?;
-    Ok(())
-}
-
-// Of the data 84 bits are drawn, of the error correction 48, and no module stays empty.
-#[test]
-fn half_codeword_fills_the_symbol(rt: HostRuntime) -> Result<(), Fail> {
-    let mut canvas = patterned(rt.alloc(), Version::Micro(3), EcLevel::L)?;
-    let codewords: (&[u8], &[u8]) = (&[0; 11], &[0xff; 6]);
-    draws(
-        &rt,
-        rt.alloc(),
-        &mut canvas,
-        Version::Micro(3),
-        codewords,
-        HALF_CODEWORD_OF_MICRO_3,
-    )?;
-    Ok(())
+    let Drawing(version, ec_level, codewords, mask, second_mask) = drawing;
+    if !version.is_valid() {
+        return Err(QrError::InvalidVersion);
+    }
+    let mut canvas = patterned(alloc, version, ec_level)?;
+    canvas.draw_data(codewords.0, codewords.1);
+    if let Some(mask) = mask {
+        mask_all(&mut canvas, version, ec_level, mask);
+    }
+    if let Some(mask) = second_mask {
+        mask_all(&mut canvas, version, ec_level, mask);
+    }
+    Ok(canvas)
 }
 
 // Which of the colours are dark.
@@ -286,60 +229,70 @@ fn dark_of(alloc: Global, colors: &[Color]) -> QrResult<Vec<bool>> {
 }
 
 // The codewords of `01234567` in Normal 1 at M.
-static DATA_OF_DIGITS: &[u8; 16] =
-    b"\x10\x20\x0c\x56\x61\x80\xec\x11\xec\x11\xec\x11\xec\x11\xec\x11";
+const DIGITS: Codewords = (
+    b"\x10\x20\x0c\x56\x61\x80\xec\x11\xec\x11\xec\x11\xec\x11\xec\x11",
+    b"\xa5\x24\xd4\xc1\xed\x36\xc7\x87\x2c\x55",
+);
 
-static EC_OF_DIGITS: &[u8; 10] = b"\xa5\x24\xd4\xc1\xed\x36\xc7\x87\x2c\x55";
+const EMPTY: Codewords = (&[], &[]);
+
+// Their symbol, without a mask and under one.
+const DIGITS_DRAWN: Drawing = Drawing(Version::Normal(1), EcLevel::M, DIGITS, None, None);
+
+const DIGITS_MASKED: Drawing = Drawing(
+    Version::Normal(1),
+    EcLevel::M,
+    DIGITS,
+    Some(MaskPattern::VerticalLines),
+    None,
+);
+
+// Canvases and their letters.
+#[rattlefmt::skip]
+static DRAWN: [(Drawing, &str); 10] = [
+    // Bits without a codeword stay empty.
+    (Drawing(Version::Normal(2), EcLevel::L, EMPTY, None, None), PATTERNS_OF_NORMAL_2),
+    (Drawing(Version::Normal(7), EcLevel::L, EMPTY, None, None), PATTERNS_OF_NORMAL_7),
+    (Drawing(Version::Micro(1), EcLevel::L, EMPTY, None, None), PATTERNS_OF_MICRO_1),
+    (Drawing(Version::Micro(1), EcLevel::L, (&[0xa5, 0x3c, 0x70], &[0x81, 0xe6]), None, None), DATA_OF_MICRO_1),
+    (Drawing(Version::Normal(2), EcLevel::L, (MOST_OF_NORMAL_2, &[0x6d, 0xb6]), None, None), DATA_OF_NORMAL_2),
+    // Of the data 84 bits are drawn, of the error correction 48, and no module stays empty.
+    (Drawing(Version::Micro(3), EcLevel::L, (&[0; 11], &[0xff; 6]), None, None), HALF_CODEWORD_OF_MICRO_3),
+    (DIGITS_MASKED, SYMBOL_OF_NORMAL_1),
+    (Drawing(
+        Version::Micro(2), EcLevel::L, (b"\x40\x18\xac\xc3\x00", b"\x86\x0d\x22\xae\x30"),
+        Some(MaskPattern::LargeCheckerboard), None,
+    ), SYMBOL_OF_MICRO_2),
+    (Drawing(
+        Version::Normal(1), EcLevel::M, EMPTY, Some(MaskPattern::VerticalLines), None,
+    ), NORMAL_1_UNDER_VERTICAL_LINES),
+    // A second mask changes the places of the format word.
+    (Drawing(
+        Version::Normal(1), EcLevel::M, EMPTY, Some(MaskPattern::VerticalLines), Some(MaskPattern::Checkerboard),
+    ), NORMAL_1_UNDER_CHECKERBOARD),
+];
+
+// The drawing has these letters.
+fn draws(rt: &impl Abort, alloc: Global, drawing: Drawing, text: &str) -> QrResult<()> {
+    let canvas = draw(alloc, drawing)?;
+    shows(rt, alloc, &canvas, drawing.0, text)
+}
 
 #[test]
-fn symbol_is_drawn(rt: HostRuntime) -> Result<(), Fail> {
-    let (version, ec_level) = (Version::Normal(1), EcLevel::M);
-    let mut canvas = patterned(rt.alloc(), version, ec_level)?;
-    canvas.draw_data(DATA_OF_DIGITS, EC_OF_DIGITS);
-    mask_all(&mut canvas, version, ec_level, MaskPattern::VerticalLines);
-    shows(&rt, rt.alloc(), &canvas, version, SYMBOL_OF_NORMAL_1)?;
+fn canvases_are_drawn(rt: HostRuntime) -> Result<(), Fail> {
+    for (drawing, text) in DRAWN {
+        draws(&rt, rt.alloc(), drawing, text)?;
+    }
+    Ok(())
+}
+
+#[test]
+fn modules_are_given_as_bools_and_colors(rt: HostRuntime) -> Result<(), Fail> {
+    let canvas = draw(rt.alloc(), DIGITS_MASKED)?;
     let bools = canvas.to_bools(rt.alloc())?;
     are_dark(&rt, &bools, SYMBOL_OF_NORMAL_1);
     let colors = canvas.into_colors(rt.alloc())?;
     are_dark(&rt, &dark_of(rt.alloc(), &colors)?, SYMBOL_OF_NORMAL_1);
-    Ok(())
-}
-
-#[test]
-fn micro_symbol_is_drawn(rt: HostRuntime) -> Result<(), Fail> {
-    let (version, ec_level) = (Version::Micro(2), EcLevel::L);
-    let mut canvas = patterned(rt.alloc(), version, ec_level)?;
-    canvas.draw_data(b"\x40\x18\xac\xc3\x00", b"\x86\x0d\x22\xae\x30");
-    mask_all(
-        &mut canvas,
-        version,
-        ec_level,
-        MaskPattern::LargeCheckerboard,
-    );
-    shows(&rt, rt.alloc(), &canvas, version, SYMBOL_OF_MICRO_2)?;
-    Ok(())
-}
-
-#[test]
-fn second_mask_changes_the_format_places(rt: HostRuntime) -> Result<(), Fail> {
-    let (version, ec_level) = (Version::Normal(1), EcLevel::M);
-    let mut canvas = patterned(rt.alloc(), version, ec_level)?;
-    mask_all(&mut canvas, version, ec_level, MaskPattern::VerticalLines);
-    shows(
-        &rt,
-        rt.alloc(),
-        &canvas,
-        version,
-        NORMAL_1_UNDER_VERTICAL_LINES,
-    )?;
-    mask_all(&mut canvas, version, ec_level, MaskPattern::Checkerboard);
-    shows(
-        &rt,
-        rt.alloc(),
-        &canvas,
-        version,
-        NORMAL_1_UNDER_CHECKERBOARD,
-    )?;
     Ok(())
 }
 
@@ -369,8 +322,7 @@ fn is_best(
 #[test]
 fn symbol_is_under_its_best_mask(rt: HostRuntime) -> Result<(), Fail> {
     let (version, ec_level) = (Version::Normal(1), EcLevel::M);
-    let mut canvas = patterned(rt.alloc(), version, ec_level)?;
-    canvas.draw_data(DATA_OF_DIGITS, EC_OF_DIGITS);
+    let canvas = draw(rt.alloc(), DIGITS_DRAWN)?;
     is_best(
         &rt,
         rt.alloc(),

@@ -1,8 +1,13 @@
 //! Drawn canvases, row by row: `?` where nothing is drawn, `#` and `.` for masked modules that are dark
 //! and light, `*` and `-` for unmasked ones.
 
+/// Data codewords of Normal 2: three bytes again and again.
+pub const MOST_OF_NORMAL_2: &[u8] =
+    b"\x6d\xb6\xdb\x6d\xb6\xdb\x6d\xb6\xdb\x6d\xb6\xdb\x6d\xb6\xdb\x6d\xb6\xdb\x6d\xb6\xdb\
+    \x6d\xb6\xdb\x6d\xb6\xdb\x6d\xb6\xdb\x6d\xb6\xdb\x6d\xb6\xdb\x6d\xb6\xdb\x6d\xb6\xdb";
+
 /// The patterns of Normal 2.
-pub static PATTERNS_OF_NORMAL_2: &str = "#######..????????.#######\
+pub const PATTERNS_OF_NORMAL_2: &str = "#######..????????.#######\
     #.....#..????????.#.....#\
     #.###.#..????????.#.###.#\
     #.###.#..????????.#.###.#\
@@ -29,7 +34,7 @@ pub static PATTERNS_OF_NORMAL_2: &str = "#######..????????.#######\
     #######..????????????????";
 
 /// The patterns of Normal 7.
-pub static PATTERNS_OF_NORMAL_7: &str = "#######..?????????????????????????..#.#######\
+pub const PATTERNS_OF_NORMAL_7: &str = "#######..?????????????????????????..#.#######\
     #.....#..?????????????????????????.#..#.....#\
     #.###.#..?????????????????????????.#..#.###.#\
     #.###.#..?????????????????????????.##.#.###.#\
@@ -76,7 +81,7 @@ pub static PATTERNS_OF_NORMAL_7: &str = "#######..?????????????????????????..#.#
     #######..????????????????????????????????????";
 
 /// The patterns of Micro 1.
-pub static PATTERNS_OF_MICRO_1: &str = "#######.#.#\
+pub const PATTERNS_OF_MICRO_1: &str = "#######.#.#\
     #.....#..??\
     #.###.#..??\
     #.###.#..??\
@@ -89,7 +94,7 @@ pub static PATTERNS_OF_MICRO_1: &str = "#######.#.#\
     #??????????";
 
 /// Light modules of Micro 1 under the first mask, with the format word 0x4445.
-pub static LIGHT_MICRO_1: &str = "...........\
+pub const LIGHT_MICRO_1: &str = "...........\
     ........#..\
     ...........\
     ........#..\
@@ -102,7 +107,7 @@ pub static LIGHT_MICRO_1: &str = "...........\
     ...........";
 
 /// Patterns and codewords of Micro 1.
-pub static DATA_OF_MICRO_1: &str = "#######.#.#\
+pub const DATA_OF_MICRO_1: &str = "#######.#.#\
     #.....#..**\
     #.###.#..*-\
     #.###.#..--\
@@ -115,7 +120,7 @@ pub static DATA_OF_MICRO_1: &str = "#######.#.#\
     #*--*-----*";
 
 /// Patterns and codewords of Normal 2, of which some are left out.
-pub static DATA_OF_NORMAL_2: &str = "#######..**-***-*.#######\
+pub const DATA_OF_NORMAL_2: &str = "#######..**-***-*.#######\
     #.....#..*-*-*-*-.#.....#\
     #.###.#..-***-***.#.###.#\
     #.###.#..**-***-*.#.###.#\
@@ -142,7 +147,7 @@ pub static DATA_OF_NORMAL_2: &str = "#######..**-***-*.#######\
     #######..-***-**-****-**-";
 
 /// Zeros as data and ones as error correction in Micro 3.
-pub static HALF_CODEWORD_OF_MICRO_3: &str = "#######.#.#.#.#\
+pub const HALF_CODEWORD_OF_MICRO_3: &str = "#######.#.#.#.#\
     #.....#..------\
     #.###.#..------\
     #.###.#..------\
@@ -159,7 +164,7 @@ pub static HALF_CODEWORD_OF_MICRO_3: &str = "#######.#.#.#.#\
     #********------";
 
 /// The symbol of `01234567` in Micro 2 at level L (ISO/IEC 18004:2006, Annex I).
-pub static SYMBOL_OF_MICRO_2: &str = "#######.#.#.#\
+pub const SYMBOL_OF_MICRO_2: &str = "#######.#.#.#\
     #.....#.###.#\
     #.###.#..##.#\
     #.###.#..####\
@@ -174,7 +179,7 @@ pub static SYMBOL_OF_MICRO_2: &str = "#######.#.#.#\
     ###.#..##.###";
 
 /// An empty canvas of Normal 1 with patterns under a mask.
-pub static NORMAL_1_UNDER_VERTICAL_LINES: &str = "#######..#..#.#######\
+pub const NORMAL_1_UNDER_VERTICAL_LINES: &str = "#######..#..#.#######\
     #.....#..#..#.#.....#\
     #.###.#.##..#.#.###.#\
     #.###.#.##..#.#.###.#\
@@ -197,7 +202,7 @@ pub static NORMAL_1_UNDER_VERTICAL_LINES: &str = "#######..#..#.#######\
     #######.##..#..#..#..";
 
 /// The same under another mask after the first.
-pub static NORMAL_1_UNDER_CHECKERBOARD: &str = "#######..#..#.#######\
+pub const NORMAL_1_UNDER_CHECKERBOARD: &str = "#######..#..#.#######\
     #.....#.##..#.#.....#\
     #.###.#..#..#.#.###.#\
     #.###.#..#..#.#.###.#\
@@ -220,7 +225,7 @@ pub static NORMAL_1_UNDER_CHECKERBOARD: &str = "#######..#..#.#######\
     #######.##..#..#..#..";
 
 /// The symbol of `01234567` in Normal 1 at level M (ISO/IEC 18004:2006, Annex I).
-pub static SYMBOL_OF_NORMAL_1: &str = "#######..#.##.#######\
+pub const SYMBOL_OF_NORMAL_1: &str = "#######..#.##.#######\
     #.....#..####.#.....#\
     #.###.#.#.....#.###.#\
     #.###.#.##....#.###.#\
