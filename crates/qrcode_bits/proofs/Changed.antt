@@ -7,14 +7,14 @@ use Rattle.std.proofs.lemmas.Bool.{not-true, not-false, false≢true, ltb-true, 
 use Rattle.qrcode_types.specs.Versions.{has_level, capacity}
 use Rattle.qrcode_types.specs.declared.types.EcLevel.{EcLevel}
 use Rattle.qrcode_types.specs.Modes.{has_mode, length_bits_count}
-use Rattle.qrcode_types.specs.Characters.{can_write}
+use Rattle.qrcode_types.specs.Characters.{can_write, character_count}
 use Rattle.qrcode_types.specs.declared.types.Version.{Version}
 use Rattle.qrcode_types.specs.declared.types.Mode.{Mode}
 use Rattle.qrcode_types.specs.declared.types.QrError.{QrError}
 use Rattle.qrcode_types.specs.declared.types.QrError.TheVariants.{DataTooLong, InvalidVersion, UnsupportedCharacterSet, InvalidCharacter, OutOfMemory}
 use Rattle.qrcode_bits.specs.BitList.{BitList}
 use Rattle.qrcode_bits.specs.Pushes.{Changes, with_bits}
-use Rattle.qrcode_bits.specs.Segments.{character_count, cost_of}
+use Rattle.qrcode_bits.specs.Segments.{cost_of}
 use Rattle.qrcode_bits.specs.Refusals.{is_checked, append_refusal, terminator_refusal, piece_refusal, count_refusal, bit_limit}
 use Rattle.qrcode_bits.specs.Written.{Piece, written_piece}
 use Rattle.qrcode_bits.proofs.Lengths.{length-piece}

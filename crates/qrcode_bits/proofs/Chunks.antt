@@ -8,13 +8,10 @@ use Rattle.std.proofs.lemmas.List.Quantifiers.{position-Some}
 use Rattle.qrcode_types.specs.Bits.{number_bits}
 use Rattle.qrcode_types.specs.declared.types.Mode.{Mode}
 use Rattle.qrcode_types.specs.declared.types.Mode.TheVariants.{Numeric, Alphanumeric, Byte, Kanji}
-use Rattle.qrcode_types.specs.Characters.{is_between, is_digit, alphabet, is_alphanumeric, alphanumeric_number, is_kanji, kanji_number, are_kanji, can_write}
-use Rattle.qrcode_bits.specs.Segments.{character_count}
+use Rattle.qrcode_types.specs.Characters.{is_between, is_digit, alphabet, is_alphanumeric, alphanumeric_number, is_kanji, kanji_number, are_kanji, can_write, character_count}
 use Rattle.qrcode_bits.specs.Written.{numeric_bits, alphanumeric_bits, kanji_bits, data_bits_in}
+use Rattle.qrcode_types.proofs.Pairs.{in_range, pair_at, same_pair}
 use Rattle.qrcode_bits.proofs.Numbers.{same_number}
-
-pub in_range : (low high b : ℕ) → is_between low high b ≡ true → (low ≤ b) × (b ≤ high)
-in_range low high b h = let p = and_parts (nat_le low b) (nat_le b high) h in (leb-true low b p.0, leb-true b high p.1)
 
 -- ---- digits
 same_digits : (a b : List ℕ) (x y : List Bool) → list_all is_digit a ≡ true → list_all is_digit b ≡ true → length a ≡ length b → numeric_bits a ++ x ≡ numeric_bits b ++ y → (a ≡ b) × (x ≡ y)
@@ -125,81 +122,6 @@ same_bytes [] (b ∷ v) x y p q l e = absurd (omega arith)
 same_bytes (a ∷ u) [] x y p q l e = absurd (omega arith)
 
 -- ---- pairs
--- where a pair stands: rows of 192, of which the first 31 begin at 0x81 and the others at 0xe0
-pub record IsPair (b c n : ℕ) : Type 0 where
-  pub row : ℕ
-  pub number : n ≡ row * 192 + (c - 64)
-  pub small : n < 8192
-  pub least : 64 ≤ c
-  pub most : c ≤ 252
-  pub first : ((row < 31) × (b ≡ row + 129)) ⊎ ((31 ≤ row) × (b ≡ row + 193))
-
-number_at : (b c : ℕ) (t : Bool) → ℕ
-number_at b c t = let n = 256 * b + c - cond t 0x8140 0xc140 in n / 256 * 0xc0 + n % 256
-
-low_pair : (b c : ℕ) → 0x81 ≤ b → b ≤ 0x9f → 64 ≤ c → c ≤ 252 → IsPair b c (kanji_number b c)
-unfolding kanji_number number_at
-low_pair b c p q r s =
-    let t : 256 * b + c < 0xe040 = omega arith in
-    let e : number_at b c true ≡ (b - 129) * 192 + (c - 64) = omega arith in
-    let f : kanji_number b c ≡ (b - 129) * 192 + (c - 64) = ap (number_at b c) (lt-ltb (256 * b + c) 0xe040 t) ∙ e in
-    record { row = b - 129; number = f; small = omega (arith, f); least = r; most = s; first = inl (omega arith, omega arith) }
-
-high_pair : (b c : ℕ) → 0xe0 ≤ b → 64 ≤ c → c ≤ 252 → (b - 193) * 192 + (c - 64) < 8192 → IsPair b c (kanji_number b c)
-unfolding kanji_number number_at
-high_pair b c p r s small =
-    let t : 0xe040 ≤ 256 * b + c = omega arith in
-    let e : number_at b c false ≡ (b - 193) * 192 + (c - 64) = omega arith in
-    let f : kanji_number b c ≡ (b - 193) * 192 + (c - 64) = ap (number_at b c) (le-ltb (256 * b + c) 0xe040 t) ∙ e in
-    record { row = b - 193; number = f; small = omega (arith, f, small); least = r; most = s; first = inr (omega arith, omega arith) }
-
-second : (c high : ℕ) → (is_between 0x40 0x7e c || is_between 0x80 high c) ≡ true → 0x7e ≤ high → (64 ≤ c) × (c ≤ high)
-second c high h g = elim (or_cases (is_between 0x40 0x7e c) (is_between 0x80 high c) h) [
-  | inl a ↦ let r = in_range 0x40 0x7e c a in (r.0, omega (arith, r.1))
-  | inr a ↦ let r = in_range 0x80 high c a in (omega (arith, r.0), r.1)
-]
-
-pub pair_at : (b c : ℕ) → is_kanji b c ≡ true → IsPair b c (kanji_number b c)
-unfolding is_kanji
-pair_at b c h =
-    let low = is_between 0x81 0x9f b in
-    let high = is_between 0xe0 0xea b in
-    let behind = is_between 0x40 0x7e c || is_between 0x80 0xfc c in
-    let last = is_between 0x40 0x7e c || is_between 0x80 0xbf c in
-    elim (or_cases ((low || high) && behind) (b == 0xeb && last) h) [
-      | inl a ↦
-          let p = and_parts (low || high) behind a in
-          let s = second c 0xfc p.1 (omega arith) in
-          elim (or_cases low high p.0) [
-            | inl f ↦ let r = in_range 0x81 0x9f b f in low_pair b c r.0 r.1 s.0 s.1
-            | inr f ↦ let r = in_range 0xe0 0xea b f in high_pair b c r.0 s.0 s.1 (omega (arith, r.1, s.1))
-          ]
-      | inr a ↦
-          let p = and_parts (b == 0xeb) last a in
-          let s = second c 0xbf p.1 (omega arith) in
-          let e = eqb-true b 0xeb p.0 in
-          high_pair b c (omega (arith, e)) s.0 (omega (arith, s.1)) (omega (arith, e, s.1))
-    ]
-
--- the least pair is 0x8140, and no pair has a number of more than 13 bits
-pub least_pair : (b c : ℕ) → is_kanji b c ≡ true → 0x8140 ≤ 256 * b + c
-least_pair b c h =
-    let p = pair_at b c h in
-    elim p.first [ inl f ↦ omega (arith, p.least, f.1) | inr f ↦ omega (arith, p.least, f.0, f.1) ]
-
-pub kanji_number-small : (b c : ℕ) → is_kanji b c ≡ true → kanji_number b c < 2 ^ 13
-kanji_number-small b c h = omega (arith, (pair_at b c h).small)
-
-same_pair : (a b c d : ℕ) → IsPair a b (kanji_number a b) → IsPair c d (kanji_number c d) → kanji_number a b ≡ kanji_number c d → (a ≡ c) × (b ≡ d)
-same_pair a b c d p q e =
-    let r = same_from_place p.row (b - 64) q.row (d - 64) 192 (omega (arith, p.most)) (omega (arith, q.most)) (sym p.number ∙ e ∙ q.number) in (
-      elim p.first [
-        | inl f ↦ elim q.first [ inl g ↦ omega (arith, f.1, g.1, r.0) | inr g ↦ absurd (omega (arith, f.0, g.0, r.0)) ]
-        | inr f ↦ elim q.first [ inl g ↦ absurd (omega (arith, f.0, g.0, r.0)) | inr g ↦ omega (arith, f.1, g.1, r.0) ]
-      ],
-      omega (arith, r.1, p.least, q.least),
-    )
-
 same_pairs : (a b : List ℕ) (x y : List Bool) → are_kanji a ≡ true → are_kanji b ≡ true → length a / 2 ≡ length b / 2 → kanji_bits a ++ x ≡ kanji_bits b ++ y → (a ≡ b) × (x ≡ y)
 same_pairs [] [] x y p q l e = (refl, e)
 same_pairs (a ∷ []) b x y p q l e = absurd (true≢false (sym p))
@@ -226,7 +148,7 @@ same_pairs (a ∷ b ∷ u) (c ∷ d ∷ v) x y p q l e =
 -- ---- data
 pub same_data : (m : Mode) (a b : List ℕ) (x y : List Bool) → can_write m a ≡ true → can_write m b ≡ true → character_count m (length a) ≡ character_count m (length b)
     → data_bits_in m a ++ x ≡ data_bits_in m b ++ y → (a ≡ b) × (x ≡ y)
-same_data Numeric a b x y p q l e = same_digits a b x y p q l e
-same_data Alphanumeric a b x y p q l e = same_characters a b x y p q l e
-same_data Byte a b x y p q l e = same_bytes a b x y p q l e
+same_data Numeric a b x y p q l e = same_digits a b x y p q (omega arith) e
+same_data Alphanumeric a b x y p q l e = same_characters a b x y p q (omega arith) e
+same_data Byte a b x y p q l e = same_bytes a b x y p q (omega arith) e
 same_data Kanji a b x y p q l e = same_pairs a b x y p q l e

@@ -6,13 +6,13 @@ use Rattle.std.proofs.lemmas.List.{drop-drop, take_all}
 use Rattle.std.proofs.lemmas.List.Sums.{sum_by-cons}
 use Rattle.qrcode_types.specs.Versions.{is_valid, capacity}
 use Rattle.qrcode_types.specs.Modes.{has_mode, length_bits_count}
-use Rattle.qrcode_types.specs.Characters.{are_kanji, can_write}
+use Rattle.qrcode_types.specs.Characters.{are_kanji, can_write, character_count}
 use Rattle.qrcode_types.specs.declared.types.Version.{Version}
 use Rattle.qrcode_types.specs.declared.types.EcLevel.{EcLevel}
 use Rattle.qrcode_types.specs.declared.types.Mode.{Mode}
 use Rattle.qrcode_types.specs.declared.types.Mode.TheVariants.{Numeric, Alphanumeric, Byte, Kanji}
 use Rattle.qrcode_types.proofs.LengthFields.{counts_fit}
-use Rattle.qrcode_bits.specs.Segments.{character_count, cost_of, cost, total_cost, Tile, AreInside}
+use Rattle.qrcode_bits.specs.Segments.{cost_of, cost, total_cost, Tile, AreInside}
 use Rattle.qrcode_bits.specs.Written.{Piece, written_piece, written, pieces_of}
 use Rattle.qrcode_bits.specs.Spelling.{IsReadable}
 use Rattle.qrcode_bits.specs.Cuts.{IsCut}
@@ -47,9 +47,9 @@ some_pair (a ∷ []) h l = absurd (true≢false (sym h))
 some_pair (a ∷ b ∷ u) h l = omega arith
 
 some_character : (m : Mode) (a : List ℕ) → can_write m a ≡ true → 0 < length a → 0 < character_count m (length a)
-some_character Numeric a h l = l
-some_character Alphanumeric a h l = l
-some_character Byte a h l = l
+some_character Numeric a h l = omega arith
+some_character Alphanumeric a h l = omega arith
+some_character Byte a h l = omega arith
 some_character Kanji a h l = some_pair a h l
 
 pub readable : (v : Version) (l : EcLevel) (bytes : List ℕ) (from : ℕ) (ss : List Segment) (to : ℕ) → IsTrue (is_valid v) → Tile from ss to → to ≤ length bytes

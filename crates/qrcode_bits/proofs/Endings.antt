@@ -12,7 +12,7 @@ use Rattle.qrcode_types.specs.declared.types.Version.TheVariants.{Normal, Micro}
 use Rattle.qrcode_types.specs.declared.types.EcLevel.{EcLevel}
 use Rattle.qrcode_types.specs.declared.types.Mode.{Mode}
 use Rattle.qrcode_types.specs.declared.types.Mode.TheVariants.{Numeric, Alphanumeric, Byte, Kanji}
-use Rattle.qrcode_bits.specs.Segments.{character_count}
+use Rattle.qrcode_types.specs.Characters.{character_count}
 use Rattle.qrcode_bits.specs.Written.{Piece, written_piece, written, data_bits_in, terminator_length, terminated, ending, zeros_end, padding}
 use Rattle.qrcode_bits.specs.Spelling.{is_end, IsReadable, IsReadAs, Spells, SpellsOnly}
 use Rattle.qrcode_bits.proofs.Paddings.{length-padding, padding-nil}

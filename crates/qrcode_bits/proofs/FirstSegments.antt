@@ -7,9 +7,7 @@ use Rattle.qrcode_types.specs.Bits.{AreBytes}
 use Rattle.qrcode_types.specs.Modes.{data_bits_count}
 use Rattle.qrcode_types.specs.declared.types.Mode.{Mode}
 use Rattle.qrcode_types.specs.declared.types.Mode.TheVariants.{Numeric, Alphanumeric, Byte, Kanji}
-use Rattle.qrcode_types.specs.Characters.{is_kanji, are_kanji, can_write}
-use Rattle.qrcode_bits.specs.Segments.{character_count}
-use Rattle.qrcode_bits.specs.ModeHeaders.{bytes_each}
+use Rattle.qrcode_types.specs.Characters.{is_kanji, are_kanji, can_write, character_count, bytes_each}
 use Rattle.qrcode_bits.specs.LeastBits.{header_in, rest_of, AreStarts, past_end}
 use Rattle.qrcode_bits.specs.declared.optimize.rests.Start.{Start}
 use Rattle.qrcode_bits.specs.declared.optimize.rests.Headers.{Headers}

@@ -6,12 +6,12 @@ use Rattle.std.specs.Option.{option_or}
 use Rattle.std.proofs.lemmas.Bool.{and_from, le-leb, lt-ltb}
 use Rattle.qrcode_types.specs.Versions.{is_valid, capacity}
 use Rattle.qrcode_types.specs.Modes.{has_mode, length_bits_count}
-use Rattle.qrcode_types.specs.Characters.{can_write}
+use Rattle.qrcode_types.specs.Characters.{can_write, character_count}
 use Rattle.qrcode_types.specs.declared.types.Version.{Version}
 use Rattle.qrcode_types.specs.declared.types.EcLevel.{EcLevel}
 use Rattle.qrcode_types.specs.declared.types.QrError.{QrError}
 use Rattle.qrcode_types.specs.declared.types.QrError.TheVariants.{DataTooLong, UnsupportedCharacterSet, InvalidCharacter, OutOfMemory}
-use Rattle.qrcode_bits.specs.Segments.{character_count, cost_of, total_cost}
+use Rattle.qrcode_bits.specs.Segments.{cost_of, total_cost}
 use Rattle.qrcode_bits.specs.Refusals.{is_checked, piece_refusal, IsCause, StopsAt, bit_limit}
 use Rattle.qrcode_bits.specs.Written.{Piece, written_piece, written, pieces_of}
 use Rattle.qrcode_bits.specs.Spelling.{IsReadable}

@@ -8,7 +8,7 @@ use Rattle.std.proofs.lemmas.List.Folds.{drop_split}
 use Rattle.std.proofs.lemmas.List.Sums.{sum_by-cons}
 use Rattle.qrcode_types.specs.Bits.{AreBytes}
 use Rattle.qrcode_types.specs.Versions.{is_valid}
-use Rattle.qrcode_types.specs.Modes.{has_mode}
+use Rattle.qrcode_types.specs.Modes.{has_mode, widest_mode}
 use Rattle.qrcode_types.specs.Characters.{is_digit, is_alphanumeric, can_write}
 use Rattle.qrcode_types.specs.declared.types.Version.{Version}
 use Rattle.qrcode_types.specs.declared.types.Mode.{Mode}
@@ -17,7 +17,7 @@ use Rattle.qrcode_types.proofs.Writing.{writes}
 use Rattle.qrcode_bits.specs.Segments.{cost, total_cost, Tile}
 use Rattle.qrcode_bits.specs.Cuts.{IsCut}
 use Rattle.qrcode_bits.specs.Refusals.{data_limit}
-use Rattle.qrcode_bits.specs.ModeHeaders.{more_than_any, widest_mode}
+use Rattle.qrcode_bits.specs.ModeHeaders.{more_than_any}
 use Rattle.qrcode_bits.specs.LeastBits.{headers_of, rest_of, IsSmall, data_bits}
 use Rattle.qrcode_bits.specs.declared.optimize.Segment.{Segment}
 use Rattle.qrcode_bits.proofs.VersionModes.{header_at, header_is, header_short, has_widest, below_widest, at_widest}

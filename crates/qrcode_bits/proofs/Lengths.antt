@@ -6,8 +6,8 @@ use Rattle.qrcode_types.specs.Modes.{indicator, mode_bits_count, length_bits_cou
 use Rattle.qrcode_types.specs.declared.types.Version.{Version}
 use Rattle.qrcode_types.specs.declared.types.Mode.{Mode}
 use Rattle.qrcode_types.specs.declared.types.Mode.TheVariants.{Numeric, Alphanumeric, Byte, Kanji}
-use Rattle.qrcode_types.specs.Characters.{alphanumeric_number, kanji_number}
-use Rattle.qrcode_bits.specs.Segments.{character_count, cost_of}
+use Rattle.qrcode_types.specs.Characters.{alphanumeric_number, kanji_number, character_count}
+use Rattle.qrcode_bits.specs.Segments.{cost_of}
 use Rattle.qrcode_bits.specs.Written.{Piece, written_piece, numeric_bits, alphanumeric_bits, kanji_bits, data_bits_in}
 use Rattle.qrcode_bits.proofs.Numbers.{length-number_bits}
 
@@ -36,9 +36,9 @@ length-kanji (a ∷ []) = omega arith
 length-kanji (a ∷ b ∷ u) = omega (arith, length-append (number_bits 13 (kanji_number a b)) (kanji_bits u), length-number_bits 13 (kanji_number a b), length-kanji u)
 
 pub length-data : (m : Mode) (a : List ℕ) → length (data_bits_in m a) ≡ data_bits_count m (character_count m (length a))
-length-data Numeric a = length-numeric a
-length-data Alphanumeric a = length-alphanumeric a
-length-data Byte a = length-bytes a
+length-data Numeric a = omega (arith, length-numeric a)
+length-data Alphanumeric a = omega (arith, length-alphanumeric a)
+length-data Byte a = omega (arith, length-bytes a)
 length-data Kanji a = length-kanji a
 
 pub length-piece : (v : Version) (p : Piece) → length (written_piece v p) ≡ cost_of v p.mode (character_count p.mode (length p.chunk))

@@ -1,5 +1,3 @@
-pub mod Alphabet
-pub mod AlphabetTests
 pub mod Bands
 pub mod Changed
 pub mod Chosen
@@ -14,7 +12,6 @@ pub mod Given
 pub mod GroupCalls
 pub mod GroupKeeps
 pub mod GroupingLaws
-pub mod Groups
 pub mod Headers
 pub mod LeastCuts
 pub mod LeastRests

@@ -7,9 +7,8 @@ use Rattle.std.proofs.lemmas.List.{length-take-le, length-drop}
 use Rattle.qrcode_types.specs.Bits.{AreBytes}
 use Rattle.qrcode_types.specs.declared.types.Mode.{Mode}
 use Rattle.qrcode_types.specs.declared.types.Mode.TheVariants.{Numeric, Alphanumeric, Byte, Kanji}
-use Rattle.qrcode_types.specs.Characters.{is_digit, is_alphanumeric, is_kanji, are_kanji, can_write}
+use Rattle.qrcode_types.specs.Characters.{is_digit, is_alphanumeric, is_kanji, are_kanji, can_write, bytes_each}
 use Rattle.qrcode_bits.specs.Segments.{Tile}
-use Rattle.qrcode_bits.specs.ModeHeaders.{bytes_each}
 use Rattle.qrcode_bits.specs.declared.optimize.Segment.{Segment}
 
 pub length-range : (xs : List ℕ) (a b : ℕ) → a ≤ b → b ≤ length xs → length (slice_range xs a b) ≡ b - a
@@ -37,11 +36,6 @@ pub all-take : {X : Type 0} (P : X → Type 0) (n : ℕ) (xs : List X) → AllBy
 all-take P zero xs a = tt
 all-take P (suc n) [] a = a
 all-take P (suc n) (x ∷ xs) a = (a.0, all-take P n xs a.1)
-
--- the items of a slice of bytes
-pub are_bytes : (xs : List ℕ) → ((k : ℕ) → get_or xs k 0 < 256) → AreBytes xs
-are_bytes [] h = tt
-are_bytes (x ∷ xs) h = (h 0, are_bytes xs (λ k. h (suc k)))
 
 pub range_bytes : (bytes : List ℕ) (a b : ℕ) → AreBytes bytes → AreBytes (slice_range bytes a b)
 range_bytes bytes a b are = all-take (λ n. n < 256) (b - a) (drop a bytes) (all-drop (λ n. n < 256) a bytes are)

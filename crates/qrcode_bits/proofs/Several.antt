@@ -10,7 +10,8 @@ use Rattle.qrcode_types.specs.declared.types.Version.{Version}
 use Rattle.qrcode_types.specs.declared.types.QrError.{QrError}
 use Rattle.qrcode_bits.specs.BitList.{BitList}
 use Rattle.qrcode_bits.specs.Pushes.{Changes, PushesAll, with_bits}
-use Rattle.qrcode_bits.specs.Segments.{AreInside, character_count, cost_of, cost, total_cost}
+use Rattle.qrcode_bits.specs.Segments.{AreInside, cost_of, cost, total_cost}
+use Rattle.qrcode_types.specs.Characters.{character_count}
 use Rattle.qrcode_bits.specs.Refusals.{piece_refusal, pieces_refusal, IsCause, StopsAtLast}
 use Rattle.qrcode_bits.specs.Written.{Piece, written_piece, written, pieces_of}
 use Rattle.qrcode_bits.specs.declared.optimize.Segment.{Segment}

@@ -8,14 +8,14 @@ use Rattle.std.proofs.lemmas.List.Sums.{sum_by-cons, sum_by-append, count_by-le-
 use Rattle.qrcode_types.specs.Tables.{block_table}
 use Rattle.qrcode_types.specs.Versions.{row_of, level_number, blocks_entry, capacity}
 use Rattle.qrcode_types.specs.Modes.{data_bits_count}
-use Rattle.qrcode_types.specs.Characters.{is_digit, can_write}
+use Rattle.qrcode_types.specs.Characters.{is_digit, can_write, character_count}
 use Rattle.qrcode_types.specs.declared.types.Version.{Version}
 use Rattle.qrcode_types.specs.declared.types.Version.TheVariants.{Normal}
 use Rattle.qrcode_types.specs.declared.types.EcLevel.{EcLevel}
 use Rattle.qrcode_types.specs.declared.types.Mode.{Mode}
 use Rattle.qrcode_types.specs.declared.types.Mode.TheVariants.{Numeric, Alphanumeric, Byte, Kanji}
 use Rattle.qrcode_types.proofs.BlockTable.{data_of, data_length-is}
-use Rattle.qrcode_bits.specs.Segments.{character_count, cost, total_cost, Tile}
+use Rattle.qrcode_bits.specs.Segments.{cost, total_cost, Tile}
 use Rattle.qrcode_bits.specs.Cuts.{IsCut, FitsIn}
 use Rattle.qrcode_bits.specs.declared.optimize.Segment.{Segment}
 use Rattle.qrcode_bits.proofs.FirstSegments.{pairs_even}

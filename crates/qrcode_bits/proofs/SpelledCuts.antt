@@ -6,12 +6,12 @@ use Rattle.std.proofs.lemmas.List.{take_at, drop-drop, drop_at}
 use Rattle.std.proofs.lemmas.List.Sums.{sum_by-cons}
 use Rattle.qrcode_types.specs.Versions.{is_valid, capacity}
 use Rattle.qrcode_types.specs.Modes.{has_mode}
-use Rattle.qrcode_types.specs.Characters.{can_write}
+use Rattle.qrcode_types.specs.Characters.{can_write, character_count}
 use Rattle.qrcode_types.specs.declared.types.Version.{Version}
 use Rattle.qrcode_types.specs.declared.types.EcLevel.{EcLevel}
 use Rattle.qrcode_types.specs.declared.types.Mode.{Mode}
 use Rattle.qrcode_types.specs.declared.types.Mode.TheVariants.{Numeric, Alphanumeric, Byte, Kanji}
-use Rattle.qrcode_bits.specs.Segments.{character_count, cost_of, cost, total_cost, Tile}
+use Rattle.qrcode_bits.specs.Segments.{cost_of, cost, total_cost, Tile}
 use Rattle.qrcode_bits.specs.Written.{Piece, written_piece, written, pieces_of, terminated}
 use Rattle.qrcode_bits.specs.Spelling.{IsReadable, IsReadAs, Spells, IsSpelled}
 use Rattle.qrcode_bits.specs.Cuts.{IsCut, FitsIn}
@@ -38,9 +38,9 @@ written_within v bits (p ∷ ps) h =
     omega (arith, ap length h.1.0, length-append (written_piece v p) h.0, length-append (written_piece v p) (written v ps), written_within v h.0 ps h.1.1.1.1)
 
 some_byte : (m : Mode) (n : ℕ) → 0 < character_count m n → 0 < n
-some_byte Numeric n h = h
-some_byte Alphanumeric n h = h
-some_byte Byte n h = h
+some_byte Numeric n h = omega arith
+some_byte Alphanumeric n h = omega arith
+some_byte Byte n h = omega arith
 some_byte Kanji n h = omega arith
 
 ranges_tile : (v : Version) (from : ℕ) (ps : List Piece) → AllByRecursion (IsReadable v) ps → Tile from (ranges from ps) (from + length (chunks ps))

@@ -8,7 +8,7 @@ use Rattle.qrcode_types.specs.declared.types.Version.{Version}
 use Rattle.qrcode_types.specs.declared.types.Version.TheVariants.{Normal, Micro}
 use Rattle.qrcode_types.specs.declared.types.Mode.{Mode}
 use Rattle.qrcode_types.specs.declared.types.Mode.TheVariants.{Numeric, Alphanumeric, Byte, Kanji}
-use Rattle.qrcode_bits.specs.Segments.{character_count}
+use Rattle.qrcode_types.specs.Characters.{character_count}
 use Rattle.qrcode_bits.specs.Written.{Piece, written_piece, data_bits_in}
 use Rattle.qrcode_bits.specs.Spelling.{IsReadable, IsReadAs, Spells}
 use Rattle.qrcode_bits.proofs.Numbers.{same_number}

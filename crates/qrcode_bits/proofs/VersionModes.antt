@@ -2,13 +2,13 @@
 use Rattle.std.proofs.Common.{◌≡◌, ◌+◌, ◌<◌, ◌≤◌, nat_le, ◌==◌, pos, negsuc, Bool, true, cond, not, ap, ◌∙◌, ◌&&◌, ◌||◌, IsTrue, refl, inl, inr, arith}
 use Rattle.std.proofs.lemmas.Bool.{agree_below, agree_below_at, and_parts, cond_both, cond-true, cond-false, eq-eqb, eqb-true, or_cases, not-true, both_ways, leb-true}
 use Rattle.qrcode_types.specs.Versions.{is_valid}
-use Rattle.qrcode_types.specs.Modes.{has_mode, mode_bits_count, length_bits_count, is_at_most}
+use Rattle.qrcode_types.specs.Modes.{has_mode, mode_bits_count, length_bits_count, is_at_most, widest_mode}
 use Rattle.qrcode_types.specs.ModeLaws.{for_all, at_each}
 use Rattle.qrcode_types.specs.declared.types.Version.{Version}
 use Rattle.qrcode_types.specs.declared.types.Version.TheVariants.{Normal, Micro}
 use Rattle.qrcode_types.specs.declared.types.Mode.{Mode}
 use Rattle.qrcode_types.specs.declared.types.Mode.TheVariants.{Numeric, Alphanumeric, Byte, Kanji}
-use Rattle.qrcode_bits.specs.ModeHeaders.{more_than_any, header, widest_mode}
+use Rattle.qrcode_bits.specs.ModeHeaders.{more_than_any, header}
 use Rattle.qrcode_bits.specs.LeastBits.{header_in, headers_of}
 
 -- a mode that the version has is at most the widest, and its header is short

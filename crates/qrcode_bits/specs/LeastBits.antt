@@ -1,11 +1,10 @@
 -- The fewest bits that a rest of the data takes, from its end on.
 use Rattle.std.specs.Prelude.{◌≡◌, ℕ, ◌+◌, ◌-◌, ◌<◌, ◌≤◌, nat_lt, min, List, [], ◌∷◌, length, drop, slice_index_or, slice_range, IsTrue, if◌then◌else◌}
 use Rattle.qrcode_types.specs.Modes.{data_bits_count}
-use Rattle.qrcode_types.specs.Characters.{can_write}
+use Rattle.qrcode_types.specs.Characters.{can_write, character_count}
 use Rattle.qrcode_types.specs.declared.types.Version.{Version}
 use Rattle.qrcode_types.specs.declared.types.Mode.{Mode}
 use Rattle.qrcode_types.specs.declared.types.Mode.TheVariants.{Numeric, Alphanumeric, Byte, Kanji}
-use Rattle.qrcode_bits.specs.Segments.{character_count}
 use Rattle.qrcode_bits.specs.ModeHeaders.{more_than_any, header}
 use Rattle.qrcode_bits.specs.Tokens.{kind_at, first_byte}
 use Rattle.qrcode_bits.specs.declared.optimize.Segment.{Segment}

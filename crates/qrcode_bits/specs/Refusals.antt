@@ -2,7 +2,7 @@
 use Rattle.std.specs.Prelude.{◌≡◌, ℕ, ◌+◌, ◌^◌, ◌<◌, nat_le, nat_lt, ◌&&◌, ◌++◌, not, Bool, true, false, List, [], ◌∷◌, length, take, slice_get, IfSome, Option, Some, None, if◌then◌else◌}
 use Rattle.std.specs.Option.{option_or}
 use Rattle.qrcode_types.specs.Bits.{number_bits}
-use Rattle.qrcode_types.specs.Characters.{can_write}
+use Rattle.qrcode_types.specs.Characters.{can_write, character_count}
 use Rattle.qrcode_types.specs.Versions.{has_level, capacity}
 use Rattle.qrcode_types.specs.Modes.{has_mode, indicator, mode_bits_count, length_bits_count}
 use Rattle.qrcode_types.specs.declared.types.Version.{Version}
@@ -12,7 +12,7 @@ use Rattle.qrcode_types.specs.declared.types.Mode.{Mode}
 use Rattle.qrcode_types.specs.declared.types.Mode.TheVariants.{Numeric, Alphanumeric, Byte, Kanji}
 use Rattle.qrcode_types.specs.declared.types.QrError.{QrError}
 use Rattle.qrcode_types.specs.declared.types.QrError.TheVariants.{DataTooLong, InvalidVersion, UnsupportedCharacterSet, InvalidEciDesignator, InvalidCharacter, OutOfMemory}
-use Rattle.qrcode_bits.specs.Segments.{character_count, cost_of}
+use Rattle.qrcode_bits.specs.Segments.{cost_of}
 use Rattle.qrcode_bits.specs.Written.{Piece, written, eci_bits}
 use Rattle.qrcode_bits.specs.declared.bits.ExtendedMode.{ExtendedMode}
 use Rattle.qrcode_bits.specs.declared.bits.ExtendedMode.TheVariants.{Eci, Data, Fnc1First, Fnc1Second, StructuredAppend}

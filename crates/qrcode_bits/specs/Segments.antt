@@ -1,18 +1,11 @@
 -- Segments: ranges of the data, each in a mode.
-use Rattle.std.specs.Prelude.{◌≡◌, ℕ, ◌+◌, ◌-◌, ◌/◌, ◌<◌, ◌≤◌, List, [], ◌∷◌, sum_by, ⊤}
+use Rattle.std.specs.Prelude.{◌≡◌, ℕ, ◌+◌, ◌-◌, ◌<◌, ◌≤◌, List, [], ◌∷◌, sum_by, ⊤}
 use Rattle.std.specs.List.{AllByRecursion}
 use Rattle.qrcode_types.specs.Modes.{mode_bits_count, length_bits_count, data_bits_count}
 use Rattle.qrcode_types.specs.declared.types.Version.{Version}
 use Rattle.qrcode_types.specs.declared.types.Mode.{Mode}
-use Rattle.qrcode_types.specs.declared.types.Mode.TheVariants.{Numeric, Alphanumeric, Byte, Kanji}
+use Rattle.qrcode_types.specs.Characters.{character_count}
 use Rattle.qrcode_bits.specs.declared.optimize.Segment.{Segment}
-
--- the characters in so many bytes
-abbrev pub character_count : Mode → ℕ → ℕ
-character_count Numeric n = n
-character_count Alphanumeric n = n
-character_count Byte n = n
-character_count Kanji n = n / 2
 
 -- the bits that so many characters take, with mode indicator and length field
 abbrev pub cost_of : Version → Mode → ℕ → ℕ

@@ -5,8 +5,7 @@ use Rattle.qrcode_types.specs.Modes.{has_mode, length_bits_count}
 use Rattle.qrcode_types.specs.Versions.{capacity}
 use Rattle.qrcode_types.specs.declared.types.Version.{Version}
 use Rattle.qrcode_types.specs.declared.types.EcLevel.{EcLevel}
-use Rattle.qrcode_types.specs.Characters.{can_write}
-use Rattle.qrcode_bits.specs.Segments.{character_count}
+use Rattle.qrcode_types.specs.Characters.{can_write, character_count}
 use Rattle.qrcode_bits.specs.Written.{Piece, written_piece, terminator_length}
 
 -- the pieces end here: the terminator, or as much of it as is left

@@ -1,13 +1,9 @@
--- The kind of the token that begins at a byte, and the alphabet as ranges.
-use Rattle.std.specs.Prelude.{ℕ, ◌==◌, ◌||◌, Bool, if◌then◌else◌, List, [], ◌∷◌}
-use Rattle.qrcode_types.specs.Characters.{is_between, is_kanji}
+-- The kind of the token that begins at a byte.
+use Rattle.std.specs.Prelude.{ℕ, if◌then◌else◌, List, [], ◌∷◌}
+use Rattle.qrcode_types.specs.Characters.{is_kanji}
 use Rattle.qrcode_bits.specs.Runs.{single_kind}
 use Rattle.qrcode_bits.specs.declared.optimize.Kind.{Kind}
 use Rattle.qrcode_bits.specs.declared.optimize.Kind.TheVariants.{Pair}
-
--- the characters of the alphabet that are neither digits nor letters
-abbrev pub mark_tests : ℕ → Bool
-mark_tests b = b == 32 || b == 36 || b == 37 || is_between 42 43 b || is_between 45 47 b || b == 58
 
 -- the kind of a token by its first byte and the byte after it
 abbrev pub kind_at : ℕ → ℕ → Kind

@@ -9,8 +9,7 @@ use Rattle.qrcode_types.specs.declared.types.Version.TheVariants.{Normal, Micro}
 use Rattle.qrcode_types.specs.declared.types.EcLevel.{EcLevel}
 use Rattle.qrcode_types.specs.declared.types.Mode.{Mode}
 use Rattle.qrcode_types.specs.declared.types.Mode.TheVariants.{Numeric, Alphanumeric, Byte, Kanji}
-use Rattle.qrcode_types.specs.Characters.{alphanumeric_number, kanji_number}
-use Rattle.qrcode_bits.specs.Segments.{character_count}
+use Rattle.qrcode_types.specs.Characters.{alphanumeric_number, kanji_number, character_count}
 use Rattle.qrcode_bits.specs.declared.optimize.Segment.{Segment}
 
 -- three digits in ten bits, two in seven, one in four

@@ -9,16 +9,17 @@ ghost use Rattle.qrcode_types.specs.Versions as versions;
 ghost use Rattle.qrcode_types.specs.Modes.{mode_bits_count};
 ghost use Rattle.qrcode_types.specs.declared.types.EcLevel.{EcLevel};
 ghost use Rattle.qrcode_types.specs.declared.types.QrError.TheVariants.{DataTooLong, InvalidVersion, UnsupportedCharacterSet};
-ghost use Rattle.qrcode_bits.specs.Segments.{character_count, cost_of, AreInside};
+ghost use Rattle.qrcode_bits.specs.Segments.{cost_of, AreInside};
+ghost use Rattle.qrcode_types.specs.Characters.{character_count};
 ghost use Rattle.qrcode_bits.specs.Written.{Piece, written, written_piece, pieces_of, terminated, eci_bits};
 ghost use Rattle.qrcode_bits.specs.Spelling.{IsReadable, SpellsOnly};
 ghost use Rattle.qrcode_bits.specs.Refusals.{bit_limit, piece_refusal, count_refusal, append_refusal, indicator_bits, eci_refusal, terminator_refusal, StopsAtLast};
 ghost use Rattle.qrcode_bits.specs.declared.optimize.Segment.{Segment};
 ghost use Rattle.qrcode_bits.specs.Pushes.{Changes, Appends, PushesAll};
 
-use crate::characters::character_count;
 use crate::optimize::Segment;
-use crate::optimize::headers::has_mode;
+use qrcode_types::characters::character_count;
+use qrcode_types::modes::{has_mode, indicator};
 use qrcode_types::tables;
 use qrcode_types::types::{EcLevel, Mode, QrError, QrResult, Version};
 use std::alloc::Global;
@@ -34,7 +35,7 @@ pub use automatic::encode_auto;
 use ending::{push_ending, terminator_length};
 pub use optimal::DATA_LIMIT;
 use stream::Stream;
-use written::{indicator, may_write, push_written};
+use written::{may_write, push_written};
 
 // The bits of a list at most.
 const BIT_LIMIT: usize = 16_777_216;

@@ -2,5 +2,4 @@
 #![tactic(auto)]
 
 pub mod bits;
-mod characters;
 pub mod optimize;

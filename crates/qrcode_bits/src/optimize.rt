@@ -9,11 +9,11 @@ ghost use Rattle.qrcode_bits.specs.Groups.{range_limit};
 pub use self::groups::Optimizer;
 pub use self::least::least_segments;
 pub use self::runs::Parser;
-use crate::characters::character_count;
+use qrcode_types::characters::character_count;
 use qrcode_types::types::{Mode, Version};
 
 mod groups;
-pub(crate) mod headers;
+mod headers;
 mod least;
 mod rests;
 mod runs;

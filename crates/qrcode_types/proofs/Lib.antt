@@ -1,3 +1,5 @@
+pub mod Alphabet
 pub mod BlockTable
 pub mod LengthFields
+pub mod Pairs
 pub mod Writing

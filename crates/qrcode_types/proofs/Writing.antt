@@ -1,5 +1,5 @@
 -- A greater mode writes all bytes that a lesser one can.
-use Rattle.std.proofs.Common.{◌≡◌, ℕ, ◌<◌, nat_le, true, not, ◌||◌, IsTrue, List, [], ◌∷◌, refl, inl, inr, arith}
+use Rattle.std.proofs.Common.{◌≡◌, ℕ, suc, ◌<◌, nat_le, true, not, ◌||◌, IsTrue, List, [], ◌∷◌, get_or, refl, inl, inr, arith}
 use Rattle.std.specs.List.{list_all}
 use Rattle.std.proofs.lemmas.Bool.{agree_below_at, and_parts, and_from, or_cases, both_ways, not-true, leb-true, lt-ltb}
 use Rattle.qrcode_types.specs.Bits.{AreBytes}
@@ -20,6 +20,11 @@ digits_are_alphanumeric [] e = e
 digits_are_alphanumeric (b ∷ bytes) e =
     let parts = and_parts (is_digit b) (list_all is_digit bytes) e in
     and_from _ _ (digit_is_alphanumeric b parts.0) (digits_are_alphanumeric bytes parts.1)
+
+-- the items of a slice of bytes
+pub are_bytes : (numbers : List ℕ) → ((i : ℕ) → get_or numbers i 0 < 256) → AreBytes numbers
+are_bytes [] each = tt
+are_bytes (n ∷ numbers) each = (each 0, are_bytes numbers (λ i. each (suc i)))
 
 pub bytes_are_written : (bytes : List ℕ) → AreBytes bytes → IsTrue (can_write Byte bytes)
 bytes_are_written [] e = refl

@@ -53,3 +53,14 @@ can_write Numeric bytes = list_all is_digit bytes
 can_write Alphanumeric bytes = list_all is_alphanumeric bytes
 can_write Byte bytes = list_all (λ b. nat_lt b 256) bytes
 can_write Kanji bytes = are_kanji bytes
+
+-- the bytes of a character: in Kanji a pair of bytes is one
+abbrev pub bytes_each : Mode → ℕ
+bytes_each Numeric = 1
+bytes_each Alphanumeric = 1
+bytes_each Byte = 1
+bytes_each Kanji = 2
+
+-- the characters in so many bytes
+abbrev pub character_count : Mode → ℕ → ℕ
+character_count m n = n / bytes_each m

@@ -1,5 +1,5 @@
 -- Modes: which exist, their indicators, length fields and data bits, and their order.
-use Rattle.std.specs.Prelude.{ℕ, ◌+◌, ◌-◌, ◌*◌, ◌/◌, ◌^◌, ◌<◌, ◌≤◌, nat_le, nat_lt, Bool, true, false, IsTrue, nat_abs, Option, Some, None, if◌then◌else◌}
+use Rattle.std.specs.Prelude.{ℕ, ◌+◌, ◌-◌, ◌*◌, ◌/◌, ◌^◌, ◌<◌, ◌≤◌, ◌==◌, nat_le, nat_lt, Bool, true, false, IsTrue, nat_abs, Option, Some, None, if◌then◌else◌}
 use Rattle.std.specs.declared.cmp.Ordering.{Ordering}
 use Rattle.std.specs.declared.cmp.Ordering.TheVariants.{Less, Equal, Greater}
 use Rattle.qrcode_types.specs.Versions.{capacity}
@@ -35,6 +35,10 @@ indicator (Micro v) m = micro_indicator m
 abbrev pub has_mode : Version → Mode → Bool
 has_mode (Normal v) m = true
 has_mode (Micro v) m = nat_lt (micro_indicator m) (2 ^ (nat_abs v - 1))
+
+-- the mode of a version that can write all that its other modes can: in Micro 1 there are digits alone, in Micro 2 no bytes
+abbrev pub widest_mode : Version → Mode
+widest_mode v = if mode_bits_count v == 0 then Numeric else (if mode_bits_count v == 1 then Alphanumeric else Byte)
 
 -- one of three numbers, for Normal 1 to 9, 10 to 26 and 27 to 40
 abbrev pub by_band : ℕ → ℕ → ℕ → ℕ → ℕ

@@ -2,5 +2,7 @@
 //! and modes.
 #![tactic(auto)]
 
+pub mod characters;
+pub mod modes;
 pub mod tables;
 pub mod types;

@@ -16,8 +16,8 @@ ghost use Rattle.qrcode_bits.specs.Refusals.{data_limit};
 ghost use Rattle.qrcode_bits.specs.declared.optimize.Segment.{Segment};
 
 use super::{Bits, DATA_LIMIT};
-use crate::characters::is_digit;
 use crate::optimize::{Segment, least_segments, total_encoded_len};
+use qrcode_types::characters::is_digit;
 use qrcode_types::tables;
 use qrcode_types::types::{EcLevel, QrError, QrResult, Version};
 use std::alloc::Global;

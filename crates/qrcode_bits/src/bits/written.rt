@@ -11,63 +11,30 @@ ghost use Rattle.qrcode_bits.specs.Refusals.{is_checked};
 ghost use Rattle.qrcode_bits.specs.Written.{written_piece, numeric_bits, alphanumeric_bits, kanji_bits};
 
 use super::stream::Stream;
-use crate::characters::{
-    alphanumeric_number, are_digits, character_count, digit_number, is_kanji, kanji_number,
+use qrcode_types::characters::{
+    alphanumeric_number, can_write, character_count, digit_number, kanji_number,
 };
+use qrcode_types::modes::indicator;
 use qrcode_types::types::{Mode, Version};
-
-// The number that a mode indicator writes.
-pub(super) fn indicator(version: Version, mode: Mode) -> u32
-    ensures { result ≡ modes.indicator version mode }
-{
-    match version {
-        Version::Normal(_) => match mode {
-            Mode::Numeric => 0b0001,
-            Mode::Alphanumeric => 0b0010,
-            Mode::Byte => 0b0100,
-            Mode::Kanji => 0b1000,
-        },
-        Version::Micro(_) => match mode {
-            Mode::Numeric => 0,
-            Mode::Alphanumeric => 1,
-            Mode::Byte => 2,
-            Mode::Kanji => 3,
-        },
-    }
-}
 
 // Whether a push in the mode takes the bytes.
 pub(super) fn may_write(mode: Mode, data: &[u8]) -> bool
     ensures { result ≡ not (is_checked mode && not (characters.can_write mode «data».now)) }
 {
     match mode {
-        Mode::Numeric => are_digits(data),
-        Mode::Kanji => are_kanji(data),
+        Mode::Numeric | Mode::Kanji => can_write(mode, data),
         Mode::Alphanumeric | Mode::Byte => true,
     }
-}
-
-fn are_kanji(data: &[u8]) -> bool
-    ensures { result ≡ characters.are_kanji «data».now }
-{
-    let mut at = 0;
-    while data.len() - at >= 2 {
-        if !is_kanji(data[at], data[at + 1]) {
-            return false;
-        }
-        at += 2;
-    }
-    at == data.len()
 }
 
 // Appends a piece.
 pub(super) fn push_written(stream: &mut Stream, version: Version, mode: Mode, data: &[u8])
     requires valid { IsTrue (is_valid version) }
     requires mode { IsTrue (modes.has_mode version mode) }
-    requires counted { segments.character_count mode (length «data».now)
+    requires counted { characters.character_count mode (length «data».now)
         < 2 ^ modes.length_bits_count mode version }
     requires writable { is_checked mode && not (characters.can_write mode «data».now) ≡ false }
-    requires room { segments.cost_of version mode (segments.character_count mode (length «data».now))
+    requires room { segments.cost_of version mode (characters.character_count mode (length «data».now))
         ≤ stream.old.room }
     ensures { stream.new.bits
         ≡ stream.old.bits ++ written_piece version (record { mode = mode; chunk = «data».now }) }
@@ -101,25 +68,24 @@ fn push_header(stream: &mut Stream, version: Version, mode: Mode, count: usize)
 }
 
 // Appends digits, three in ten bits, two in seven, one in four.
-#[tactic(auto, using(crate::proofs::Groups::digit_at))]
+
 fn push_digits(stream: &mut Stream, digits: &[u8])
     requires digits { IsTrue (list_all characters.is_digit digits.now) }
     requires room { (10 * length digits.now + 2) / 3 ≤ stream.old.room }
     ensures { stream.new.bits ≡ stream.old.bits ++ numeric_bits digits.now }
 {
-    let mut at = 0;
-    while digits.len() - at >= 3 {
-        let number = 100 * digit_number(digits[at])
-            + 10 * digit_number(digits[at + 1])
-            + digit_number(digits[at + 2]);
+    let mut rest = digits;
+    while let [first, second, third, more @ ..] = rest {
+        let number = 100 * digit_number(*first) + 10 * digit_number(*second) + digit_number(*third);
         stream.push_number(10, number);
-        at += 3;
+        rest = more;
     }
-    if digits.len() - at == 2 {
-        let number = 10 * digit_number(digits[at]) + digit_number(digits[at + 1]);
-        stream.push_number(7, number);
-    } else if digits.len() - at == 1 {
-        stream.push_number(4, digit_number(digits[at]));
+    match rest {
+        [first, second] => {
+            stream.push_number(7, 10 * digit_number(*first) + digit_number(*second));
+        }
+        [last] => stream.push_number(4, digit_number(*last)),
+        _ => {}
     }
 }
 
@@ -128,14 +94,16 @@ fn push_characters(stream: &mut Stream, text: &[u8])
     requires room { (11 * length text.now + 1) / 2 ≤ stream.old.room }
     ensures { stream.new.bits ≡ stream.old.bits ++ alphanumeric_bits text.now }
 {
-    let mut at = 0;
-    while text.len() - at >= 2 {
-        let number = 45 * alphanumeric_number(text[at]) + alphanumeric_number(text[at + 1]);
-        stream.push_number(11, number);
-        at += 2;
+    let mut rest = text;
+    while let [first, second, more @ ..] = rest {
+        stream.push_number(
+            11,
+            45 * alphanumeric_number(*first) + alphanumeric_number(*second),
+        );
+        rest = more;
     }
-    if text.len() - at == 1 {
-        stream.push_number(6, alphanumeric_number(text[at]));
+    if let [last] = rest {
+        stream.push_number(6, alphanumeric_number(*last));
     }
 }
 
@@ -150,15 +118,14 @@ fn push_bytes(stream: &mut Stream, bytes: &[u8])
 }
 
 // Appends pairs of bytes, each in thirteen bits.
-#[tactic(auto, using(crate::proofs::Groups::next_pair))]
 fn push_pairs(stream: &mut Stream, pairs: &[u8])
     requires pairs { IsTrue (characters.are_kanji pairs.now) }
     requires room { 13 * (length pairs.now / 2) ≤ stream.old.room }
     ensures { stream.new.bits ≡ stream.old.bits ++ kanji_bits pairs.now }
 {
-    let mut at = 0;
-    while pairs.len() - at >= 2 {
-        stream.push_number(13, kanji_number(pairs[at], pairs[at + 1]));
-        at += 2;
+    let mut rest = pairs;
+    while let [first, second, more @ ..] = rest {
+        stream.push_number(13, kanji_number(*first, *second));
+        rest = more;
     }
 }

@@ -2,9 +2,9 @@
 
 ghost use Rattle.std.specs.Prelude.{◌≡◌, ◌≤◌, IsTrue};
 ghost use Rattle.qrcode_types.specs.Versions.{is_valid};
-ghost use Rattle.qrcode_types.specs.Modes.{has_mode};
 ghost use Rattle.qrcode_bits.specs.ModeHeaders.{more_than_any, header};
 
+use qrcode_types::modes::has_mode;
 use qrcode_types::types::{Mode, Version};
 
 // More bits than any data takes.
@@ -21,17 +21,5 @@ pub(super) fn header(version: Version, mode: Mode) -> u32
         (version.mode_bits_count() + mode.length_bits_count(version)) as u32
     } else {
         MORE_THAN_ANY
-    }
-}
-
-// Whether the version has the mode: all are in Normal, and in Micro those whose number fits the
-// indicator.
-pub(crate) fn has_mode(version: Version, mode: Mode) -> bool
-    requires { IsTrue (is_valid version) }
-    ensures { result ≡ has_mode version mode }
-{
-    match version {
-        Version::Normal(_) => true,
-        Version::Micro(_) => (mode as u32) < 1 << version.mode_bits_count(),
     }
 }

@@ -2,12 +2,11 @@
 
 ghost use Rattle.std.specs.Prelude.{◌≡◌, ℕ, ◌<◌, ◌≤◌, ◌⊎◌, ◌↔◌, List, length, drop, flat_map, IsTrue, IfOk, IfErr, IsOkUnless, Err};
 ghost use Rattle.qrcode_types.specs.Versions.{is_valid, capacity};
-ghost use Rattle.std.specs.List.{list_all, AllByRecursion};
-ghost use Rattle.qrcode_types.specs.Characters as characters;
+ghost use Rattle.std.specs.List.{AllByRecursion};
 ghost use Rattle.qrcode_types.specs.Characters.{can_write};
+ghost use Rattle.qrcode_types.specs.Modes.{widest_mode};
 ghost use Rattle.qrcode_types.specs.declared.types.EcLevel.{EcLevel};
 ghost use Rattle.qrcode_types.specs.declared.types.QrError.TheVariants.{UnsupportedCharacterSet, OutOfMemory};
-ghost use Rattle.qrcode_bits.specs.ModeHeaders.{widest_mode, bytes_each};
 ghost use Rattle.qrcode_bits.specs.LeastBits.{AreSmall, IsSmall, rest_of, AreStarts, IsFirst};
 ghost use Rattle.qrcode_bits.specs.Segments.{AreInside};
 ghost use Rattle.qrcode_bits.specs.Cuts.{IsCut, IsLeastCut, FitsIn};
@@ -18,7 +17,8 @@ ghost use Rattle.qrcode_bits.specs.declared.optimize.Segment.{Segment};
 
 use super::rests::{Headers, Openings, Rest, Start};
 use super::{Kind, Segment};
-use crate::characters::{are_digits, is_alphanumeric};
+use qrcode_types::characters::{bytes_each, can_write};
+use qrcode_types::modes::widest_mode;
 use qrcode_types::types::{Mode, QrError, QrResult, Version};
 use std::alloc::{AllocError, Global};
 
@@ -70,20 +70,7 @@ fn can_be_cut(data: &[u8], version: Version) -> bool
     requires { IsTrue (is_valid version) }
     ensures { result ≡ can_write (widest_mode version) «data».now }
 {
-    let bits = version.mode_bits_count();
-    if bits == 0 {
-        are_digits(data)
-    } else if bits == 1 {
-        are_alphanumeric(data)
-    } else {
-        true
-    }
-}
-
-fn are_alphanumeric(data: &[u8]) -> bool
-    ensures { result ≡ list_all characters.is_alphanumeric «data».now }
-{
-    data.iter().all(|byte| is_alphanumeric(*byte))
+    can_write(widest_mode(version), data)
 }
 
 // For each place of the data, and for its end, how the rest from there on begins in the fewest bits.
@@ -129,14 +116,4 @@ fn first_segment(data: &[u8], starts: &[Start], headers: Headers, begin: usize) 
         }
     }
     unreachable!()
-}
-
-// The bytes of a character.
-fn bytes_each(mode: Mode) -> usize
-    ensures { result ≡ bytes_each mode }
-{
-    match mode {
-        Mode::Kanji => 2,
-        _ => 1,
-    }
 }

@@ -7,7 +7,7 @@ ghost use Rattle.qrcode_bits.specs.declared.optimize.Kind.TheVariants.{Digit, Le
 ghost use Rattle.qrcode_bits.specs.Tokens.{kind_at, first_byte};
 
 use super::Kind;
-use crate::characters::{is_alphanumeric, is_digit, is_kanji, is_lead};
+use qrcode_types::characters::{is_alphanumeric, is_digit, is_kanji, is_lead};
 use qrcode_types::types::Mode;
 
 impl Kind {

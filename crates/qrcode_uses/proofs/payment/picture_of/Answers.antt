@@ -3,7 +3,7 @@ use Rattle.std.specs.Prelude.{codes}
 use Rattle.std.proofs.lemmas.Result.{IfOk-weaker}
 use Rattle.qrcode_types.specs.Versions.{side}
 use Rattle.qrcode_types.specs.declared.types.EcLevel.TheVariants.{M}
-use Rattle.qrcode_bits.proofs.SegmentRanges.{are_bytes}
+use Rattle.qrcode_types.proofs.Writing.{are_bytes}
 use Rattle.qrcode_render.specs.Drawn.{drawn}
 use Rattle.qrcode_render.specs.Setting.{Setting, side_of, drawing_of, IsLeastSize}
 use Rattle.qrcode_render.specs.Vectors.{svg_start, svg_rect, svg_end}

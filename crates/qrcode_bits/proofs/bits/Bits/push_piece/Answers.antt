@@ -3,7 +3,7 @@ use Rattle.qrcode_types.specs.declared.types.QrError.TheVariants.{InvalidCharact
 use Rattle.qrcode_bits.specs.BitList.{BitList}
 use Rattle.qrcode_bits.specs.Pushes.{with_bits}
 use Rattle.qrcode_bits.specs.Refusals.{count_refusal, bit_limit}
-use Rattle.qrcode_bits.specs.Segments.{character_count}
+use Rattle.qrcode_types.specs.Characters.{character_count}
 use Rattle.qrcode_bits.specs.Written.{Piece, written_piece}
 use Rattle.qrcode_bits.proofs.Changed.{list_of, refused, changed, good_bytes, bad_bytes, room_after}
 use Rattle.qrcode_bits.proofs.bits.Bits.push_piece.Goals as goal

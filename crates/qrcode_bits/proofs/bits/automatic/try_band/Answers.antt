@@ -7,7 +7,7 @@ use Rattle.qrcode_bits.specs.Segments.{total_cost}
 use Rattle.qrcode_bits.specs.Cuts.{IsCut, IsLeastCut}
 use Rattle.qrcode_bits.specs.Choice.{least_version}
 use Rattle.qrcode_bits.proofs.Bands.{byte_cut, normal_level, cost_le, cut_in, least_version-is, IsLeastVersion}
-use Rattle.qrcode_bits.proofs.SegmentRanges.{are_bytes}
+use Rattle.qrcode_types.proofs.Writing.{are_bytes}
 use Rattle.qrcode_bits.proofs.Several.{handed_on, small_inside}
 use Rattle.qrcode_bits.proofs.bits.automatic.try_band.Goals as goal
 use Rattle.qrcode_bits.proofs.bits.automatic.try_band.Goals.{In_ok-segments, After-least_version-chosen}

@@ -1,20 +1,11 @@
-use Rattle.std.proofs.Common.{◌++◌, arith, append_assoc, append-nil, sym, ap, ◌∙◌}
-use Rattle.qrcode_bits.proofs.Groups.{kanji_two, kanji_bits_end, next_pair}
+use Rattle.std.proofs.Common.{arith}
+use Rattle.std.proofs.lemmas.Grind.{common_steps}
+use Rattle.qrcode_types.proofs.Pairs.{pairs_behind}
 use Rattle.qrcode_bits.proofs.bits.written.push_pairs.Goals as goal
 
-pub loop-at-preserved : goal.loop-at-preserved
-loop-at-preserved c =
-    let step = kanji_two c.args.pairs.now c.loop-at.at (omega arith) in
-    record {
-      at = omega arith;
-      bits = rw (c.push_number.ensures.bits, append_assoc, c.kanji_number.ensures) (rw step at c.loop-at.invariant.bits);
-      room = omega arith;
-      pairs = (next_pair c.args.pairs.now c.loop-at.at (omega arith) c.loop-at.invariant.pairs).rest;
-    }
-
-pub returns : goal.returns
-returns c =
-    let pairs = c.args.pairs.now in
-    sym (append-nil c.loop-at.stream.bits)
-    ∙ ap (λ r. c.loop-at.stream.bits ++ r) (sym (kanji_bits_end pairs c.loop-at.at c.loop-at.invariant.at (omega arith)))
-    ∙ c.loop-at.invariant.bits
+pub loop-rest-preserved : goal.loop-rest-preserved
+loop-rest-preserved c = record {
+  pairs = pairs_behind c.loop-rest.rest.now c.in-len2-up.len_at_least c.loop-rest.invariant.pairs;
+  bits = grind (arith, common_steps);
+  room = omega arith;
+}

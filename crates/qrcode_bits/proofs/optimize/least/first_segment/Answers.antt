@@ -2,12 +2,10 @@ use Rattle.std.proofs.Common.{◌≡◌, ◌+◌, ◌-◌, ◌*◌, ◌≤◌, g
 use Rattle.std.specs.Prelude.{slice_range}
 use Rattle.std.proofs.lemmas.Bool.{cases_lt}
 use Rattle.qrcode_types.specs.Modes.{data_bits_count}
-use Rattle.qrcode_types.specs.Characters.{can_write}
-use Rattle.qrcode_bits.specs.Segments.{character_count}
-use Rattle.qrcode_bits.specs.ModeHeaders.{bytes_each}
+use Rattle.qrcode_types.specs.Characters.{can_write, character_count, bytes_each}
 use Rattle.qrcode_bits.specs.LeastBits.{past_end}
 use Rattle.qrcode_bits.specs.declared.optimize.rests.Start.{Start}
-use Rattle.qrcode_bits.proofs.SegmentRanges.{are_bytes}
+use Rattle.qrcode_types.proofs.Writing.{are_bytes}
 use Rattle.qrcode_bits.proofs.FirstSegments.{found_at, some_bytes, less_bytes, counted_back}
 use Rattle.qrcode_bits.proofs.optimize.least.first_segment.Goals as goal
 
@@ -20,7 +18,7 @@ returns-then-bits-header c =
     let end = c.loop-end.end + c.bytes_each-width.result in
     let are = are_bytes bytes (λ k. omega (arith, c.type_inv.data k)) in
     let f = found_at c.args.headers bytes c.args.starts.now place c.requires.starts are c.requires.begin in
-    let w : c.bytes_each-width.result ≡ bytes_each m = c.bytes_each-width.ensures in
+    let w : c.bytes_each-width.result ≡ bytes_each m = c.bytes_each-width.ensures.value in
     let is : end ≡ place + count * bytes_each m = omega (arith, w, ap (λ n. c.loop-end.count * n) w, c.loop-end.invariant.end) in
     let first : count ≤ f.count = elim (cases_lt f.count count) [
       | inl below ↦ absurd (c.loop-end.invariant.none f.count f.some (omega arith) f.matches)
@@ -48,7 +46,7 @@ unreachable-requires c =
     let m = (get_or c.args.starts.now place past_end).mode in
     let are = are_bytes c.args.data.now (λ k. omega (arith, c.type_inv.data k)) in
     let f = found_at c.args.headers c.args.data.now c.args.starts.now place c.requires.starts are c.requires.begin in
-    let w : c.bytes_each-width.result ≡ bytes_each m = c.bytes_each-width.ensures in
+    let w : c.bytes_each-width.result ≡ bytes_each m = c.bytes_each-width.ensures.value in
     elim (cases_lt c.loop-end.count f.count) [
       | inl above ↦ absurd (omega (arith, w, ap (λ n. c.loop-end.count * n) w, c.loop-end.invariant.end, less_bytes m (c.loop-end.count + 1) f.count (omega arith), f.inside, c.loop-end-test.false))
       | inr below ↦ c.loop-end.invariant.none f.count f.some below f.matches

@@ -6,7 +6,8 @@ use Rattle.qrcode_types.specs.Modes.{has_mode}
 use Rattle.qrcode_types.specs.Characters.{can_write}
 use Rattle.qrcode_bits.specs.Segments.{Tile, cost, total_cost}
 use Rattle.qrcode_bits.specs.LeastBits.{rest_of, IsSmall, IsFirst}
-use Rattle.qrcode_bits.proofs.SegmentRanges.{are_bytes, tile-push, all-append}
+use Rattle.qrcode_bits.proofs.SegmentRanges.{tile-push, all-append}
+use Rattle.qrcode_types.proofs.Writing.{are_bytes}
 use Rattle.qrcode_bits.proofs.VersionModes.{header_at, header_is, header_tells}
 use Rattle.qrcode_bits.proofs.LeastCuts.{HaveModes, AreWritable, bits_at_end, least_bits, cut_is_written, one_segment, bits_small, rests_small, cut_at_end}
 use Rattle.qrcode_bits.proofs.CutPieces.{cut_inside, cut_joined, cut_writable}

@@ -2,7 +2,7 @@ use Rattle.std.proofs.Common.{subst, arith, length}
 use Rattle.qrcode_bits.specs.Runs.{runs}
 use Rattle.qrcode_bits.specs.Segments.{Tile}
 use Rattle.qrcode_bits.proofs.RunLaws.{runs-tile, runs-valid}
-use Rattle.qrcode_bits.proofs.SegmentRanges.{are_bytes}
+use Rattle.qrcode_types.proofs.Writing.{are_bytes}
 use Rattle.qrcode_bits.proofs.OnlyRuns.{runs-are, only-runs}
 use Rattle.qrcode_bits.proofs.Fronts.{parser-inside}
 use Rattle.qrcode_bits.proofs.optimize.runs.Parser.new.Goals as goal
