@@ -13,7 +13,7 @@ use Rattle.qrcode_types.specs.declared.types.Mode.{Mode}
 use Rattle.qrcode_types.specs.declared.types.QrError.{QrError}
 use Rattle.qrcode_types.specs.declared.types.QrError.TheVariants.{DataTooLong, InvalidVersion, UnsupportedCharacterSet, InvalidCharacter, OutOfMemory}
 use Rattle.qrcode_bits.specs.BitList.{BitList}
-use Rattle.qrcode_bits.specs.Pushes.{Changes, with_bits}
+use Rattle.qrcode_bits.specs.Pushes.{Changes, Appends, PushesPiece}
 use Rattle.qrcode_bits.specs.Segments.{cost_of}
 use Rattle.qrcode_bits.specs.Refusals.{is_checked, append_refusal, terminator_refusal, piece_refusal, count_refusal, bit_limit}
 use Rattle.qrcode_bits.specs.Written.{Piece, written_piece}
@@ -93,7 +93,13 @@ room_after v bits p h =
     let t = takes v (length bits) p.mode (character_count p.mode (length p.chunk)) h in
     omega (arith, t.room, length-append bits (written_piece v p), length-piece v p)
 
--- a list is longer by what an appended piece costs
-pub longer : (v : Version) (p : Piece) (refusal : Option QrError) (old new : BitList) (result : Result (Unit {0}) QrError) → Changes refusal old (with_bits old (written_piece v p)) new result → OnOk result (length new.bits ≡ length old.bits + cost_of v p.mode (character_count p.mode (length p.chunk)))
-longer v p refusal old new result c =
-    on_ok_weaker result (λ e. ap (λ (l : BitList). length l.bits) e ∙ length-append old.bits (written_piece v p) ∙ ap (λ n. length old.bits + n) (length-piece v p)) c.changed
+-- a piece that is appended makes the list longer by what it costs
+pub pushes : (m : Mode) (bytes : List ℕ) (old new : BitList) (result : Result (Unit {0}) QrError) → let p : Piece = record { mode = m; chunk = bytes } in
+    Appends (piece_refusal old.version (length old.bits) p) (written_piece old.version p) old new result → PushesPiece m bytes old new result
+pushes m bytes old new result c =
+    let p : Piece = record { mode = m; chunk = bytes } in
+    let bits = written_piece old.version p in
+    record {
+      appends = c;
+      longer = on_ok_weaker result (λ e. ap (λ (l : BitList). length l.bits) e ∙ length-append old.bits bits ∙ ap (λ n. length old.bits + n) (length-piece old.version p)) c.changed;
+    }

@@ -4,9 +4,11 @@ use Rattle.qrcode_types.specs.declared.types.QrError.{QrError}
 use Rattle.qrcode_types.specs.declared.types.QrError.TheVariants.{OutOfMemory}
 use Rattle.qrcode_types.specs.declared.types.Version.{Version}
 use Rattle.qrcode_bits.specs.BitList.{BitList}
-use Rattle.qrcode_bits.specs.Segments.{total_cost}
-use Rattle.qrcode_bits.specs.Refusals.{pieces_refusal}
-use Rattle.qrcode_bits.specs.Written.{written, pieces_of}
+use Rattle.qrcode_types.specs.declared.types.Mode.{Mode}
+use Rattle.qrcode_types.specs.Characters.{character_count}
+use Rattle.qrcode_bits.specs.Segments.{cost_of, total_cost}
+use Rattle.qrcode_bits.specs.Refusals.{piece_refusal, pieces_refusal}
+use Rattle.qrcode_bits.specs.Written.{Piece, written, written_piece, pieces_of}
 use Rattle.qrcode_bits.specs.declared.optimize.Segment.{Segment}
 
 -- The list becomes another, or is refused and stays as it was: where there is a refusal, by it and no other; and else
@@ -24,6 +26,11 @@ with_bits list bits = record list { bits = list.bits ++ bits }
 -- bits are appended, or the list is refused
 abbrev pub Appends : Option QrError → List Bool → BitList → BitList → Result (Unit {0}) QrError → Type 0
 Appends refusal bits old new result = Changes refusal old (with_bits old bits) new result
+
+-- bytes are appended in a mode, with mode indicator and length field, or are refused
+pub record PushesPiece (m : Mode) (bytes : List ℕ) (old new : BitList) (result : Result (Unit {0}) QrError) : Type 0 where
+  pub appends : let p : Piece = record { mode = m; chunk = bytes } in Appends (piece_refusal old.version (length old.bits) p) (written_piece old.version p) old new result
+  pub longer : OnOk result (length new.bits ≡ length old.bits + cost_of old.version m (character_count m (length bytes)))
 
 -- none of the segments' pieces is refused, and all are written
 pub record PushesAll (v : Version) (old : List Bool) (bytes : List ℕ) (segments : List Segment) (new : List Bool) : Type 0 where

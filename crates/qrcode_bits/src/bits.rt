@@ -15,7 +15,7 @@ ghost use Rattle.qrcode_bits.specs.Written.{Piece, written, written_piece, piece
 ghost use Rattle.qrcode_bits.specs.Spelling.{IsReadable, SpellsOnly};
 ghost use Rattle.qrcode_bits.specs.Refusals.{bit_limit, piece_refusal, count_refusal, append_refusal, indicator_bits, eci_refusal, terminator_refusal, StopsAtLast};
 ghost use Rattle.qrcode_bits.specs.declared.optimize.Segment.{Segment};
-ghost use Rattle.qrcode_bits.specs.Pushes.{Changes, Appends, PushesAll};
+ghost use Rattle.qrcode_bits.specs.Pushes.{Changes, Appends, PushesPiece, PushesAll};
 
 use crate::optimize::Segment;
 use qrcode_types::characters::character_count;
@@ -177,16 +177,10 @@ impl Bits {
     /// `UnsupportedCharacterSet`: never, since each version has the mode. `DataTooLong`: the length
     /// field is too small, or the list would pass 16,777,216 bits. `InvalidCharacter`: a byte is no
     /// digit.
-    pub fn push_numeric_data(&mut self, data: &[u8]) -> QrResult<()>
-        ensures appends { Appends (piece_refusal self.old.version (length self.old.bits)
-            (record { mode = Mode.Numeric; chunk = «data».now }))
-            (written_piece self.old.version (record { mode = Mode.Numeric; chunk = «data».now }))
-            self.old self.new result }
-        ensures longer { OnOk result (length self.new.bits ≡ length self.old.bits
-            + cost_of self.old.version Mode.Numeric
-            (character_count Mode.Numeric (length «data».now))) }
+    pub fn push_numeric_data(&mut self, bytes: &[u8]) -> QrResult<()>
+        ensures { PushesPiece Mode.Numeric bytes.now self.old self.new result }
     {
-        self.push_piece(Mode::Numeric, data)
+        self.push_piece(Mode::Numeric, bytes)
     }
 
     /// Appends digits, capital letters and the nine other characters of the alphabet, with mode
@@ -194,33 +188,20 @@ impl Bits {
     ///
     /// `UnsupportedCharacterSet`: the version lacks the mode. `DataTooLong`: the length field is too
     /// small, or the list would pass 16,777,216 bits.
-    pub fn push_alphanumeric_data(&mut self, data: &[u8]) -> QrResult<()>
-        ensures appends { Appends (piece_refusal self.old.version (length self.old.bits)
-            (record { mode = Mode.Alphanumeric; chunk = «data».now }))
-            (written_piece self.old.version
-            (record { mode = Mode.Alphanumeric; chunk = «data».now }))
-            self.old self.new result }
-        ensures longer { OnOk result (length self.new.bits ≡ length self.old.bits
-            + cost_of self.old.version Mode.Alphanumeric
-            (character_count Mode.Alphanumeric (length «data».now))) }
+    pub fn push_alphanumeric_data(&mut self, bytes: &[u8]) -> QrResult<()>
+        ensures { PushesPiece Mode.Alphanumeric bytes.now self.old self.new result }
     {
-        self.push_piece(Mode::Alphanumeric, data)
+        self.push_piece(Mode::Alphanumeric, bytes)
     }
 
     /// Appends bytes, with mode indicator and length field (ISO/IEC 18004:2006, 6.4.5).
     ///
     /// `UnsupportedCharacterSet`: the version lacks the mode. `DataTooLong`: the length field is too
     /// small, or the list would pass 16,777,216 bits.
-    pub fn push_byte_data(&mut self, data: &[u8]) -> QrResult<()>
-        ensures appends { Appends (piece_refusal self.old.version (length self.old.bits)
-            (record { mode = Mode.Byte; chunk = «data».now }))
-            (written_piece self.old.version (record { mode = Mode.Byte; chunk = «data».now }))
-            self.old self.new result }
-        ensures longer { OnOk result (length self.new.bits ≡ length self.old.bits
-            + cost_of self.old.version Mode.Byte
-            (character_count Mode.Byte (length «data».now))) }
+    pub fn push_byte_data(&mut self, bytes: &[u8]) -> QrResult<()>
+        ensures { PushesPiece Mode.Byte bytes.now self.old self.new result }
     {
-        self.push_piece(Mode::Byte, data)
+        self.push_piece(Mode::Byte, bytes)
     }
 
     /// Appends pairs of bytes of Shift JIS, with mode indicator and length field (ISO/IEC
@@ -229,16 +210,10 @@ impl Bits {
     /// `UnsupportedCharacterSet`: the version lacks the mode. `DataTooLong`: the length field is too
     /// small for the pairs, or the list would pass 16,777,216 bits. `InvalidCharacter`: the bytes
     /// are not pairs that the mode can write.
-    pub fn push_kanji_data(&mut self, data: &[u8]) -> QrResult<()>
-        ensures appends { Appends (piece_refusal self.old.version (length self.old.bits)
-            (record { mode = Mode.Kanji; chunk = «data».now }))
-            (written_piece self.old.version (record { mode = Mode.Kanji; chunk = «data».now }))
-            self.old self.new result }
-        ensures longer { OnOk result (length self.new.bits ≡ length self.old.bits
-            + cost_of self.old.version Mode.Kanji
-            (character_count Mode.Kanji (length «data».now))) }
+    pub fn push_kanji_data(&mut self, bytes: &[u8]) -> QrResult<()>
+        ensures { PushesPiece Mode.Kanji bytes.now self.old self.new result }
     {
-        self.push_piece(Mode::Kanji, data)
+        self.push_piece(Mode::Kanji, bytes)
     }
 
     /// Appends the mode indicator of FNC1 in the first position (ISO/IEC 18004:2006, 6.4.8.1).
@@ -307,42 +282,34 @@ impl Bits {
     /// It refuses as the first refused segment does; the segments before it stand.
     pub fn push_segments<I: Iterator<Item = Segment> + Drop>(
         &mut self,
-        data: &[u8],
+        bytes: &[u8],
         segments: I,
     ) -> QrResult<()>
         requires can { I.can_next segments }
         requires ends { IsFinite (I.remaining segments) }
-        requires inside { HoldsAlong I.next_gives segments (AreInside (length «data».now)) }
+        requires inside { HoldsAlong I.next_gives segments (AreInside (length bytes.now)) }
         ensures pushed { OnOk result ((given : List Segment) × (Drains I.next_gives segments given
-            × PushesAll self.old.version self.old.bits «data».now given self.new.bits)) }
+            × PushesAll self.old.version self.old.bits bytes.now given self.new.bits)) }
         ensures stopped { IfErr result (λ e. (given : List Segment) × ((rest : I)
             × (Yields I.next_gives segments given rest
-            × StopsAtLast self.old.version self.old.bits (pieces_of «data».now given) e
+            × StopsAtLast self.old.version self.old.bits (pieces_of bytes.now given) e
             self.new.bits))) }
         ensures version { self.new.version ≡ self.old.version }
     {
         for segment in segments {
-            self.push_segment(data, segment)?;
+            self.push_segment(bytes, segment)?;
         }
         Ok(())
     }
 
     // Appends the bytes of a segment in its mode.
-    fn push_segment(&mut self, data: &[u8], segment: Segment) -> QrResult<()>
+    fn push_segment(&mut self, bytes: &[u8], segment: Segment) -> QrResult<()>
         requires ordered { segment.begin ≤ segment.end }
-        requires inside { segment.end ≤ length «data».now }
-        ensures { Appends (piece_refusal self.old.version (length self.old.bits)
-            (record {
-              mode = segment.mode;
-              chunk = slice_range «data».now segment.begin segment.end;
-            }))
-            (written_piece self.old.version (record {
-              mode = segment.mode;
-              chunk = slice_range «data».now segment.begin segment.end;
-            }))
+        requires inside { segment.end ≤ length bytes.now }
+        ensures { PushesPiece segment.mode (slice_range bytes.now segment.begin segment.end)
             self.old self.new result }
     {
-        self.push_piece(segment.mode, &data[segment.begin..segment.end])
+        self.push_piece(segment.mode, &bytes[segment.begin..segment.end])
     }
 
     // Appends the bits of a number.
@@ -361,18 +328,15 @@ impl Bits {
     }
 
     // Appends a piece.
-    fn push_piece(&mut self, mode: Mode, data: &[u8]) -> QrResult<()>
-        ensures { Appends (piece_refusal self.old.version (length self.old.bits)
-            (record { mode = mode; chunk = «data».now }))
-            (written_piece self.old.version (record { mode = mode; chunk = «data».now }))
-            self.old self.new result }
+    fn push_piece(&mut self, mode: Mode, bytes: &[u8]) -> QrResult<()>
+        ensures { PushesPiece mode bytes.now self.old self.new result }
     {
-        let length = self.piece_length(mode, character_count(mode, data.len()))?;
-        if !may_write(mode, data) {
+        let length = self.piece_length(mode, character_count(mode, bytes.len()))?;
+        if !may_write(mode, bytes) {
             return Err(QrError::InvalidCharacter);
         }
         self.stream.reserve(length)?;
-        push_written(&mut self.stream, self.version, mode, data);
+        push_written(&mut self.stream, self.version, mode, bytes);
         Ok(())
     }
 

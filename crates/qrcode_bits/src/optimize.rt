@@ -1,10 +1,11 @@
 //! Segments of the data, each in a mode.
 
-ghost use Rattle.std.specs.Prelude.{◌≡◌, ◌-◌, ◌≤◌, ◌<◌, ◌^◌, IsTrue};
+ghost use Rattle.std.specs.Prelude.{◌≡◌, ◌-◌, ◌≤◌, ◌<◌, ◌^◌, ◌↔◌, IsTrue};
 ghost use Rattle.std.specs.List.{AllByRecursion};
 ghost use Rattle.qrcode_types.specs.Versions.{is_valid};
 ghost use Rattle.qrcode_bits.specs.Segments.{cost, total_cost};
 ghost use Rattle.qrcode_bits.specs.Groups.{range_limit};
+ghost use Rattle.qrcode_bits.specs.declared.optimize.Segment.{Segment};
 
 pub use self::groups::Optimizer;
 pub use self::least::least_segments;
@@ -34,9 +35,13 @@ impl Segment {
     pub fn encoded_len(&self, version: Version) -> usize
         requires valid { IsTrue (is_valid version) }
         requires ordered { self.now.begin ≤ self.now.end }
-        requires small { self.now.end - self.now.begin ≤ range_limit }
+        requires at_most { self.now.end - self.now.begin ≤ range_limit }
         ensures value { result ≡ cost version self.now }
-        ensures bound { result < 2 ^ 31 }
+        ensures at_most { result < 2 ^ 31 }
+
+        // Segments are equal by `==` exactly when mode, begin and end are.
+        ensures equal { (other : Segment)
+            → IsTrue (⟦<Segment as PartialEq>⟧.eq self.now other) ↔ (self.now ≡ other) }
     {
         let characters = character_count(self.mode, self.end - self.begin);
         version.mode_bits_count()

@@ -26,52 +26,52 @@ impl Bits {
     /// `DataTooLong`: the data has more than 1,048,576 bytes. `UnsupportedCharacterSet`: no modes of
     /// the version can write it. Both, and `OutOfMemory` in the search, leave the list as it was. And
     /// then whatever refuses one of the segments, before which the others stand.
-    pub fn push_optimal_data(&mut self, data: &[u8]) -> QrResult<()>
-        ensures too_long { data_limit < length «data».now
+    pub fn push_optimal_data(&mut self, bytes: &[u8]) -> QrResult<()>
+        ensures too_long { data_limit < length bytes.now
             → (result ≡ Err QrError.DataTooLong) × (self.new ≡ self.old) }
-        ensures no_cut { length «data».now ≤ data_limit
-            → ((segments : List Segment) → ¬ IsCut self.old.version «data».now segments)
+        ensures no_cut { length bytes.now ≤ data_limit
+            → ((segments : List Segment) → ¬ IsCut self.old.version bytes.now segments)
             → (result ≡ Err QrError.UnsupportedCharacterSet) × (self.new ≡ self.old) }
         ensures pushed { OnOk result
-            (PushesLeast self.old.version self.old.bits «data».now self.new.bits) }
-        ensures stopped { (cut : List Segment) → length «data».now ≤ data_limit
-            → IsCut self.old.version «data».now cut
+            (PushesLeast self.old.version self.old.bits bytes.now self.new.bits) }
+        ensures stopped { (cut : List Segment) → length bytes.now ≤ data_limit
+            → IsCut self.old.version bytes.now cut
             → IfErr result (λ e. ((e ≡ OutOfMemory) × (self.new ≡ self.old))
-            ⊎ StopsInLeast self.old.version self.old.bits «data».now e self.new.bits) }
+            ⊎ StopsInLeast self.old.version self.old.bits bytes.now e self.new.bits) }
 
         // Where the data can be cut, it is at most too long.
-        ensures causes { (cut : List Segment) → IsCut self.old.version «data».now cut
+        ensures causes { (cut : List Segment) → IsCut self.old.version bytes.now cut
             → IfErr result (λ e. (e ≡ DataTooLong) ⊎ (e ≡ OutOfMemory)) }
 
         // Data that fits a symbol is taken.
         ensures fits { (level : EcLevel)
             → length self.old.bits + capacity self.old.version level ≤ bit_limit
-            → FitsIn self.old.version «data».now (capacity self.old.version level)
+            → FitsIn self.old.version bytes.now (capacity self.old.version level)
             → IsOkUnless result OutOfMemory }
 
         // A cut of the data fits a symbol just where some bits that fill the symbol spell the data.
         ensures held { (level : EcLevel)
-            → FitsIn self.old.version «data».now (capacity self.old.version level)
-            ↔ IsSpelled self.old.version level «data».now }
+            → FitsIn self.old.version bytes.now (capacity self.old.version level)
+            ↔ IsSpelled self.old.version level bytes.now }
         ensures version { self.new.version ≡ self.old.version }
     {
         let version = self.version();
-        if data.len() > DATA_LIMIT {
+        if bytes.len() > DATA_LIMIT {
             return Err(QrError::DataTooLong);
         }
-        let segments = least_segments(self.stream.allocator(), data, version)?;
-        self.push_all(data, segments)
+        let segments = least_segments(self.stream.allocator(), bytes, version)?;
+        self.push_all(bytes, segments)
     }
 
     // Appends the bytes of all segments in their modes.
-    pub(super) fn push_all(&mut self, data: &[u8], segments: Vec<Segment>) -> QrResult<()>
-        requires { AreInside (length «data».now) segments.items }
+    pub(super) fn push_all(&mut self, bytes: &[u8], segments: Vec<Segment>) -> QrResult<()>
+        requires { AreInside (length bytes.now) segments.items }
         ensures pushed { OnOk result
-            (PushesAll self.old.version self.old.bits «data».now segments.items self.new.bits) }
+            (PushesAll self.old.version self.old.bits bytes.now segments.items self.new.bits) }
         ensures stopped { IfErr result (λ e. StopsAt self.old.version self.old.bits
-            (pieces_of «data».now segments.items) e self.new.bits) }
+            (pieces_of bytes.now segments.items) e self.new.bits) }
         ensures version { self.new.version ≡ self.old.version }
     {
-        self.push_segments(data, segments.into_iter())
+        self.push_segments(bytes, segments.into_iter())
     }
 }

@@ -18,33 +18,33 @@ use qrcode_types::modes::indicator;
 use qrcode_types::types::{Mode, Version};
 
 // Whether a push in the mode takes the bytes.
-pub(super) fn may_write(mode: Mode, data: &[u8]) -> bool
-    ensures { result ≡ not (is_checked mode && not (characters.can_write mode «data».now)) }
+pub(super) fn may_write(mode: Mode, bytes: &[u8]) -> bool
+    ensures { result ≡ not (is_checked mode && not (characters.can_write mode bytes.now)) }
 {
     match mode {
-        Mode::Numeric | Mode::Kanji => can_write(mode, data),
+        Mode::Numeric | Mode::Kanji => can_write(mode, bytes),
         Mode::Alphanumeric | Mode::Byte => true,
     }
 }
 
 // Appends a piece.
-pub(super) fn push_written(stream: &mut Stream, version: Version, mode: Mode, data: &[u8])
+pub(super) fn push_written(stream: &mut Stream, version: Version, mode: Mode, bytes: &[u8])
     requires valid { IsTrue (is_valid version) }
     requires mode { IsTrue (modes.has_mode version mode) }
-    requires counted { characters.character_count mode (length «data».now)
+    requires counted { characters.character_count mode (length bytes.now)
         < 2 ^ modes.length_bits_count mode version }
-    requires writable { is_checked mode && not (characters.can_write mode «data».now) ≡ false }
-    requires room { segments.cost_of version mode (characters.character_count mode (length «data».now))
+    requires writable { is_checked mode && not (characters.can_write mode bytes.now) ≡ false }
+    requires room { segments.cost_of version mode (characters.character_count mode (length bytes.now))
         ≤ stream.old.room }
     ensures { stream.new.bits
-        ≡ stream.old.bits ++ written_piece version (record { mode = mode; chunk = «data».now }) }
+        ≡ stream.old.bits ++ written_piece version (record { mode = mode; chunk = bytes.now }) }
 {
-    push_header(stream, version, mode, character_count(mode, data.len()));
+    push_header(stream, version, mode, character_count(mode, bytes.len()));
     match mode {
-        Mode::Numeric => push_digits(stream, data),
-        Mode::Alphanumeric => push_characters(stream, data),
-        Mode::Byte => push_bytes(stream, data),
-        Mode::Kanji => push_pairs(stream, data),
+        Mode::Numeric => push_digits(stream, bytes),
+        Mode::Alphanumeric => push_characters(stream, bytes),
+        Mode::Byte => push_bytes(stream, bytes),
+        Mode::Kanji => push_pairs(stream, bytes),
     }
 }
 

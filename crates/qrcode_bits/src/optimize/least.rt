@@ -27,38 +27,38 @@ use std::alloc::{AllocError, Global};
 /// a range may begin wherever its bytes pair up.
 ///
 /// `UnsupportedCharacterSet`: there is no such cut. `OutOfMemory`: memory was refused.
-pub fn least_segments(alloc: Global, data: &[u8], version: Version) -> QrResult<Vec<Segment>>
+pub fn least_segments(alloc: Global, bytes: &[u8], version: Version) -> QrResult<Vec<Segment>>
     requires valid { IsTrue (is_valid version) }
-    requires limit { length «data».now ≤ data_limit }
-    ensures least { IfOk result (λ segments. IsLeastCut version «data».now segments.items) }
+    requires limit { length bytes.now ≤ data_limit }
+    ensures least { IfOk result (λ segments. IsLeastCut version bytes.now segments.items) }
 
     // Where the data cannot be cut, that is known before memory is asked for.
-    ensures none { ((segments : List Segment) → ¬ IsCut version «data».now segments)
+    ensures none { ((segments : List Segment) → ¬ IsCut version bytes.now segments)
         → result ≡ Err UnsupportedCharacterSet }
     ensures exists { (segments : List Segment)
-        → IsCut version «data».now segments → IsOkUnless result OutOfMemory }
+        → IsCut version bytes.now segments → IsOkUnless result OutOfMemory }
     ensures errors { IfErr result (λ e. (e ≡ UnsupportedCharacterSet) ⊎ (e ≡ OutOfMemory)) }
 
     // The ranges lie in the data, in order they give it back, and each mode can write its range.
-    ensures inside { IfOk result (λ segments. AreInside (length «data».now) segments.items) }
+    ensures inside { IfOk result (λ segments. AreInside (length bytes.now) segments.items) }
     ensures joined { IfOk result (λ segments.
-        flat_map (λ p. p.chunk) (pieces_of «data».now segments.items) ≡ «data».now) }
+        flat_map (λ p. p.chunk) (pieces_of bytes.now segments.items) ≡ bytes.now) }
     ensures writable { IfOk result (λ segments. AllByRecursion
-        (λ p. IsTrue (can_write p.mode p.chunk)) (pieces_of «data».now segments.items)) }
+        (λ p. IsTrue (can_write p.mode p.chunk)) (pieces_of bytes.now segments.items)) }
 
     // A cut fits a symbol just where some bits that fill the symbol spell the data.
-    ensures fits { (level : EcLevel) → FitsIn version «data».now (capacity version level)
-        ↔ IsSpelled version level «data».now }
+    ensures fits { (level : EcLevel) → FitsIn version bytes.now (capacity version level)
+        ↔ IsSpelled version level bytes.now }
 {
-    if !can_be_cut(data, version) {
+    if !can_be_cut(bytes, version) {
         return Err(QrError::UnsupportedCharacterSet);
     }
     let headers = Headers::of(version);
-    let starts = least_starts(alloc, data, headers)?;
+    let starts = least_starts(alloc, bytes, headers)?;
     let mut segments = Vec::new(alloc);
     let mut begin = 0;
-    while begin < data.len() {
-        let segment = first_segment(data, &starts, headers, begin);
+    while begin < bytes.len() {
+        let segment = first_segment(bytes, &starts, headers, begin);
         segments.push(segment)?;
         begin = segment.end;
     }
@@ -66,25 +66,25 @@ pub fn least_segments(alloc: Global, data: &[u8], version: Version) -> QrResult<
 }
 
 // Whether some mode of the version can write all of the data.
-fn can_be_cut(data: &[u8], version: Version) -> bool
+fn can_be_cut(bytes: &[u8], version: Version) -> bool
     requires { IsTrue (is_valid version) }
-    ensures { result ≡ can_write (widest_mode version) «data».now }
+    ensures { result ≡ can_write (widest_mode version) bytes.now }
 {
-    can_write(widest_mode(version), data)
+    can_write(widest_mode(version), bytes)
 }
 
 // For each place of the data, and for its end, how the rest from there on begins in the fewest bits.
-fn least_starts(alloc: Global, data: &[u8], headers: Headers) -> Result<Vec<Start>, AllocError>
+fn least_starts(alloc: Global, bytes: &[u8], headers: Headers) -> Result<Vec<Start>, AllocError>
     requires headers { AreSmall headers }
-    requires limit { length «data».now ≤ data_limit }
-    requires rests { (place : ℕ) → IsSmall (rest_of headers (drop place «data».now)) }
-    ensures { IfOk result (λ starts. AreStarts headers «data».now starts.items) }
+    requires limit { length bytes.now ≤ data_limit }
+    requires rests { (place : ℕ) → IsSmall (rest_of headers (drop place bytes.now)) }
+    ensures { IfOk result (λ starts. AreStarts headers bytes.now starts.items) }
 {
     let openings = Openings::of(headers);
     let mut rest = Rest::at_end();
-    let mut starts = Vec::from_elem(alloc, rest.start, data.len() + 1)?;
-    for i in (0..data.len()).rev() {
-        rest = rest.behind(openings, Kind::at(data, i));
+    let mut starts = Vec::from_elem(alloc, rest.start, bytes.len() + 1)?;
+    for i in (0..bytes.len()).rev() {
+        rest = rest.behind(openings, Kind::at(bytes, i));
 
         // Field by field, as joining them into one number first takes longer.
         let start = &mut starts[i];
@@ -96,19 +96,19 @@ fn least_starts(alloc: Global, data: &[u8], headers: Headers) -> Result<Vec<Star
 
 // The first segment from a place on, in the mode of its start: the shortest with which the rest
 // takes as few bits as the start says.
-fn first_segment(data: &[u8], starts: &[Start], headers: Headers, begin: usize) -> Segment
-    requires limit { length «data».now ≤ data_limit }
+fn first_segment(bytes: &[u8], starts: &[Start], headers: Headers, begin: usize) -> Segment
+    requires limit { length bytes.now ≤ data_limit }
     requires headers { AreSmall headers }
-    requires starts { AreStarts headers «data».now starts.now }
-    requires begin { begin < length «data».now }
-    ensures { IsFirst headers «data».now begin result }
+    requires starts { AreStarts headers bytes.now starts.now }
+    requires begin { begin < length bytes.now }
+    ensures { IsFirst headers bytes.now begin result }
 {
     let Start { bits, mode } = starts[begin];
     let header = headers.in_mode(mode) as usize;
     let width = bytes_each(mode);
     let mut end = begin;
     let mut count = 0;
-    while end + width <= data.len() {
+    while end + width <= bytes.len() {
         end += width;
         count += 1;
         if bits as usize == header + mode.data_bits_count(count) + starts[end].bits as usize {

@@ -32,26 +32,26 @@ impl<'a> Parser<'a> {
     ghost use Rattle.qrcode_bits.specs.RunsLeft.{runs_left, data_end, data_left};
 
     /// A parser of data, which it borrows.
-    pub fn new(data: &'a [u8]) -> Parser<'a>
-        ensures runs { runs_left result ≡ runs «data».now }
-        ensures end { data_end result ≡ length «data».now }
-        ensures left { data_left result ≡ length «data».now }
+    pub fn new(bytes: &'a [u8]) -> Parser<'a>
+        ensures runs { runs_left result ≡ runs bytes.now }
+        ensures end { data_end result ≡ length bytes.now }
+        ensures left { data_left result ≡ length bytes.now }
 
         // The runs are the maximal rows of tokens of one kind, and no other segments are.
-        ensures are { IsRuns «data».now (runs «data».now) }
+        ensures are { IsRuns bytes.now (runs bytes.now) }
         ensures only { (segments : List Segment)
-            → IsRuns «data».now segments → segments ≡ runs «data».now }
+            → IsRuns bytes.now segments → segments ≡ runs bytes.now }
 
         // They cover the data, none is empty, and each mode can write its range.
-        ensures tile { Tile 0 (runs «data».now) (length «data».now) }
+        ensures tile { Tile 0 (runs bytes.now) (length bytes.now) }
         ensures writable { AllByRecursion
-            (λ s. IsTrue (can_write s.mode (slice_range «data».now s.begin s.end)))
-            (runs «data».now) }
+            (λ s. IsTrue (can_write s.mode (slice_range bytes.now s.begin s.end)))
+            (runs bytes.now) }
         ensures inside { HoldsAlong (YieldsFirst runs_left) result
-            (AreInside (length «data».now)) }
+            (AreInside (length bytes.now)) }
     {
         Parser {
-            rest: data,
+            rest: bytes,
             begin: 0,
         }
     }

@@ -31,15 +31,15 @@ impl Kind {
     }
 
     // The kind of the token that the byte at a place begins.
-    pub(super) fn at(data: &[u8], place: usize) -> Kind
-        requires { place < length «data».now }
-        ensures { result ≡ kind_at (slice_index «data».now place)
-            (first_byte (drop (place + 1) «data».now)) }
+    pub(super) fn at(bytes: &[u8], place: usize) -> Kind
+        requires { place < length bytes.now }
+        ensures { result ≡ kind_at (slice_index bytes.now place)
+            (first_byte (drop (place + 1) bytes.now)) }
     {
-        let byte = data[place];
+        let byte = bytes[place];
         if byte < 0x81 {
             Kind::of_low(byte)
-        } else if place + 1 < data.len() && is_kanji(byte, data[place + 1]) {
+        } else if place + 1 < bytes.len() && is_kanji(byte, bytes[place + 1]) {
             Kind::Pair
         } else {
             Kind::of_single(byte)

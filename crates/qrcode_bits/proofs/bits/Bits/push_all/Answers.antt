@@ -19,13 +19,13 @@ pub push_segments-requires-clause-inside : goal.push_segments-requires-clause-in
 push_segments-requires-clause-inside c = λ xs t yields.
     let k = (goal.at.push_segments-requires-clause-inside c).After-into_iter in
     let r = given_first into_iter_steps c.args.segments.items c.into_iter.result t xs (gives k) yields in
-    first_inside (length c.args.«data».now) xs r.0 (subst (AreInside (length c.args.«data».now)) r.1.0 c.requires)
+    first_inside (length c.args.bytes.now) xs r.0 (subst (AreInside (length c.args.bytes.now)) r.1.0 c.requires)
 
 pub returns-clause-pushed : goal.returns-clause-pushed
 returns-clause-pushed c =
     let k = (goal.at.returns-clause-pushed c).After-into_iter in
     let old = c.args.self.now in
-    let bytes = c.args.«data».now in
+    let bytes = c.args.bytes.now in
     let new = c.push_segments.new.self.bits in
     on_ok c.push_segments.result
     (λ pushed. subst (λ ss. PushesAll old.version old.bits bytes ss new) (sym (given_all into_iter_steps c.args.segments.items c.into_iter.result pushed.0 (gives k) pushed.1.0)) pushed.1.1)
@@ -35,7 +35,7 @@ pub returns-clause-stopped : goal.returns-clause-stopped
 returns-clause-stopped c =
     let k = (goal.at.returns-clause-stopped c).After-into_iter in
     let old = c.args.self.now in
-    let bytes = c.args.«data».now in
+    let bytes = c.args.bytes.now in
     let new = c.push_segments.new.self.bits in
     if_err c.push_segments.result
     (λ e stopped.

@@ -13,14 +13,14 @@ use Rattle.qrcode_bits.proofs.bits.Bits.push_optimal_data.Goals.{After-version-v
 valid : (c : After-version-version) → IsTrue (is_valid c.args.self.now.version)
 valid c = subst (λ v. IsTrue (is_valid v)) c.version-version.ensures.value c.version-version.ensures.valid
 
-least : (c : In_ok-segments) → IsLeastCut c.args.self.now.version c.args.«data».now c.in_ok-segments.segments.items
-least c = subst (λ v. IsLeastCut v c.args.«data».now c.in_ok-segments.segments.items) c.version-version.ensures.value c.in_ok-segments.ensures.least
+least : (c : In_ok-segments) → IsLeastCut c.args.self.now.version c.args.bytes.now c.in_ok-segments.segments.items
+least c = subst (λ v. IsLeastCut v c.args.bytes.now c.in_ok-segments.segments.items) c.version-version.ensures.value c.in_ok-segments.ensures.least
 
 pub returns-clause-pushed : goal.returns-clause-pushed
 returns-clause-pushed c =
     let k = (goal.at.returns-clause-pushed c).In_ok-segments in
     let v = c.args.self.now.version in
-    let bytes = c.args.«data».now in
+    let bytes = c.args.bytes.now in
     let ss = c.in_ok-segments.segments.items in
     on_ok c.push_all.result
     (λ pushed. record {
@@ -36,7 +36,7 @@ pub returns-clause-causes : goal.returns-clause-causes
 returns-clause-causes c = λ cut is_cut.
     let k = (goal.at.returns-clause-causes c).In_ok-segments in
     if_err c.push_all.result
-    (λ e stop. cut_stop c.args.self.now.version c.args.self.now.bits c.args.«data».now c.in_ok-segments.segments.items e c.push_all.new.self.bits (least k).reached stop)
+    (λ e stop. cut_stop c.args.self.now.version c.args.self.now.bits c.args.bytes.now c.in_ok-segments.segments.items e c.push_all.new.self.bits (least k).reached stop)
     c.push_all.ensures.stopped
 
 pub returns-clause-fits : goal.returns-clause-fits
@@ -46,18 +46,18 @@ returns-clause-fits c = λ level room fits.
     let ss = c.in_ok-segments.segments.items in
     let small : total_cost v ss ≤ capacity v level = omega (arith, (least k).least fits.0 fits.1.0, fits.1.1) in
     if_err c.push_all.result
-    (λ e stop. fitting_stop v level c.args.self.now.bits c.args.«data».now ss e c.push_all.new.self.bits (valid (goal.at.returns-clause-fits c).After-version-version) (least k).reached small room stop)
+    (λ e stop. fitting_stop v level c.args.self.now.bits c.args.bytes.now ss e c.push_all.new.self.bits (valid (goal.at.returns-clause-fits c).After-version-version) (least k).reached small room stop)
     c.push_all.ensures.stopped
 
-pub returns-then-data-gt-DATA_LIMIT-clause-fits : goal.returns-then-data-gt-DATA_LIMIT-clause-fits
-returns-then-data-gt-DATA_LIMIT-clause-fits c = λ level room fits.
-    absurd (omega (arith, c.if-data-gt-DATA_LIMIT.true, fitting_short c.args.self.now.version level c.args.«data».now fits))
+pub returns-then-bytes-gt-DATA_LIMIT-clause-fits : goal.returns-then-bytes-gt-DATA_LIMIT-clause-fits
+returns-then-bytes-gt-DATA_LIMIT-clause-fits c = λ level room fits.
+    absurd (omega (arith, c.if-bytes-gt-DATA_LIMIT.true, fitting_short c.args.self.now.version level c.args.bytes.now fits))
 
-pub returns-then-data-gt-DATA_LIMIT-clause-held : goal.returns-then-data-gt-DATA_LIMIT-clause-held
-returns-then-data-gt-DATA_LIMIT-clause-held c = fits_spelled c.args.self.now.version c.args.«data».now (valid (goal.at.returns-then-data-gt-DATA_LIMIT-clause-held c).After-version-version)
+pub returns-then-bytes-gt-DATA_LIMIT-clause-held : goal.returns-then-bytes-gt-DATA_LIMIT-clause-held
+returns-then-bytes-gt-DATA_LIMIT-clause-held c = fits_spelled c.args.self.now.version c.args.bytes.now (valid (goal.at.returns-then-bytes-gt-DATA_LIMIT-clause-held c).After-version-version)
 
 pub returns-in_err-segments-clause-held : goal.returns-in_err-segments-clause-held
-returns-in_err-segments-clause-held c = fits_spelled c.args.self.now.version c.args.«data».now (valid (goal.at.returns-in_err-segments-clause-held c).After-version-version)
+returns-in_err-segments-clause-held c = fits_spelled c.args.self.now.version c.args.bytes.now (valid (goal.at.returns-in_err-segments-clause-held c).After-version-version)
 
 pub returns-clause-held : goal.returns-clause-held
-returns-clause-held c = fits_spelled c.args.self.now.version c.args.«data».now (valid (goal.at.returns-clause-held c).After-version-version)
+returns-clause-held c = fits_spelled c.args.self.now.version c.args.bytes.now (valid (goal.at.returns-clause-held c).After-version-version)

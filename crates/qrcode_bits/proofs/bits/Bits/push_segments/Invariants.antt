@@ -5,5 +5,5 @@ use Rattle.qrcode_bits.proofs.bits.Bits.push_segments.Given as goal
 abbrev pub invariant-loop-segment : goal.invariant-loop-segment
 invariant-loop-segment g l = record {
   version : l.self.version ≡ l.fn.self.version;
-  pushed : PushesAll l.fn.self.version l.fn.self.bits l.fn.«data» l.yielded l.self.bits;
+  pushed : PushesAll l.fn.self.version l.fn.self.bits l.fn.bytes l.yielded l.self.bits;
 }

@@ -11,12 +11,12 @@ use Rattle.qrcode_bits.proofs.optimize.least.first_segment.Goals as goal
 
 pub returns-then-bits-header : goal.returns-then-bits-header
 returns-then-bits-header c =
-    let bytes = c.args.data.now in
+    let bytes = c.args.bytes.now in
     let place = c.args.begin in
     let m = (get_or c.args.starts.now place past_end).mode in
     let count = c.loop-end.count + 1 in
     let end = c.loop-end.end + c.bytes_each-width.result in
-    let are = are_bytes bytes (λ k. omega (arith, c.type_inv.data k)) in
+    let are = are_bytes bytes (λ k. omega (arith, c.type_inv.bytes k)) in
     let f = found_at c.args.headers bytes c.args.starts.now place c.requires.starts are c.requires.begin in
     let w : c.bytes_each-width.result ≡ bytes_each m = c.bytes_each-width.ensures.value in
     let is : end ≡ place + count * bytes_each m = omega (arith, w, ap (λ n. c.loop-end.count * n) w, c.loop-end.invariant.end) in
@@ -44,8 +44,8 @@ pub unreachable-requires : goal.unreachable-requires
 unreachable-requires c =
     let place = c.args.begin in
     let m = (get_or c.args.starts.now place past_end).mode in
-    let are = are_bytes c.args.data.now (λ k. omega (arith, c.type_inv.data k)) in
-    let f = found_at c.args.headers c.args.data.now c.args.starts.now place c.requires.starts are c.requires.begin in
+    let are = are_bytes c.args.bytes.now (λ k. omega (arith, c.type_inv.bytes k)) in
+    let f = found_at c.args.headers c.args.bytes.now c.args.starts.now place c.requires.starts are c.requires.begin in
     let w : c.bytes_each-width.result ≡ bytes_each m = c.bytes_each-width.ensures.value in
     elim (cases_lt c.loop-end.count f.count) [
       | inl above ↦ absurd (omega (arith, w, ap (λ n. c.loop-end.count * n) w, c.loop-end.invariant.end, less_bytes m (c.loop-end.count + 1) f.count (omega arith), f.inside, c.loop-end-test.false))

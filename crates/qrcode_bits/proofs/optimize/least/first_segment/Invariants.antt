@@ -5,9 +5,9 @@ use Rattle.qrcode_bits.proofs.optimize.least.first_segment.Given as goal
 abbrev pub invariant-loop-end : goal.invariant-loop-end
 invariant-loop-end l = record {
   end : l.end ≡ l.begin + l.count * l.width;
-  inside : l.end ≤ length l.«data»;
-  none : (k : ℕ) → 1 ≤ k → k ≤ l.count → Matches l.fn.headers l.«data» l.begin l.mode k → ⊥;
+  inside : l.end ≤ length l.bytes;
+  none : (k : ℕ) → 1 ≤ k → k ≤ l.count → Matches l.fn.headers l.bytes l.begin l.mode k → ⊥;
 }
 
 abbrev pub decreases-loop-end : goal.decreases-loop-end
-decreases-loop-end l = length l.«data» - l.end
+decreases-loop-end l = length l.bytes - l.end

@@ -16,28 +16,28 @@ use Rattle.qrcode_bits.proofs.optimize.least.least_segments.Goals as goal
 
 pub returns-then-not-can_be_cut-clause-exists : goal.returns-then-not-can_be_cut-clause-exists
 returns-then-not-can_be_cut-clause-exists c = λ ss cut.
-    let are = are_bytes c.args.data.now (λ k. omega (arith, c.type_inv.data k)) in
-    absurd (true≢false (sym (cut_is_written c.args.version c.args.data.now ss c.requires.valid are cut) ∙ sym c.can_be_cut.ensures ∙ c.if-not-can_be_cut.true))
+    let are = are_bytes c.args.bytes.now (λ k. omega (arith, c.type_inv.bytes k)) in
+    absurd (true≢false (sym (cut_is_written c.args.version c.args.bytes.now ss c.requires.valid are cut) ∙ sym c.can_be_cut.ensures ∙ c.if-not-can_be_cut.true))
 
 pub returns-in_err-starts-clause-none : goal.returns-in_err-starts-clause-none
 returns-in_err-starts-clause-none c = λ none.
-    let one = one_segment c.args.version c.args.data.now c.requires.valid (sym c.can_be_cut.ensures ∙ c.if-not-can_be_cut.false) in
+    let one = one_segment c.args.version c.args.bytes.now c.requires.valid (sym c.can_be_cut.ensures ∙ c.if-not-can_be_cut.false) in
     absurd (none one.0 one.1.0)
 
 pub returns-in_err-push-clause-none : goal.returns-in_err-push-clause-none
 returns-in_err-push-clause-none c = λ none.
-    let one = one_segment c.args.version c.args.data.now c.requires.valid (sym c.can_be_cut.ensures ∙ c.if-not-can_be_cut.false) in
+    let one = one_segment c.args.version c.args.bytes.now c.requires.valid (sym c.can_be_cut.ensures ∙ c.if-not-can_be_cut.false) in
     absurd (none one.0 one.1.0)
 
 pub least_starts-requires-clause-rests : goal.least_starts-requires-clause-rests
 least_starts-requires-clause-rests c = λ place.
-    subst (λ h. IsSmall (rest_of h (drop place c.args.data.now))) (sym c.of-headers.ensures.value)
-    (rests_small c.args.version c.args.data.now c.requires.valid (sym c.can_be_cut.ensures ∙ c.if-not-can_be_cut.false) c.requires.limit place)
+    subst (λ h. IsSmall (rest_of h (drop place c.args.bytes.now))) (sym c.of-headers.ensures.value)
+    (rests_small c.args.version c.args.bytes.now c.requires.valid (sym c.can_be_cut.ensures ∙ c.if-not-can_be_cut.false) c.requires.limit place)
 
 pub loop-begin-preserved : goal.loop-begin-preserved
 loop-begin-preserved c =
     let v = c.args.version in
-    let bytes = c.args.data.now in
+    let bytes = c.args.bytes.now in
     let old = c.loop-begin.segments.items in
     let s = c.first_segment-segment.result in
     let k = subst (λ h. IsFirst h bytes c.loop-begin.begin s) c.of-headers.ensures.value c.first_segment-segment.ensures in
@@ -63,29 +63,29 @@ loop-begin-preserved c =
 pub returns-clause-least : goal.returns-clause-least
 returns-clause-least c =
     let v = c.args.version in
-    let bytes = c.args.data.now in
+    let bytes = c.args.bytes.now in
     record {
-      reached = cut_at_end c.args.version c.args.data.now c.loop-begin.begin c.loop-begin.segments.items (omega arith) c.loop-begin.invariant.tiles c.loop-begin.invariant.modes c.loop-begin.invariant.writable;
+      reached = cut_at_end c.args.version c.args.bytes.now c.loop-begin.begin c.loop-begin.segments.items (omega arith) c.loop-begin.invariant.tiles c.loop-begin.invariant.modes c.loop-begin.invariant.writable;
       least = λ others cut. omega (arith, least_bits v bytes others cut, bits_at_end v bytes c.loop-begin.begin (omega arith), c.loop-begin.invariant.bits);
     }
 
 pub returns-clause-inside : goal.returns-clause-inside
-returns-clause-inside c = cut_inside c.args.version c.args.data.now c.loop-begin.segments.items (cut_at_end c.args.version c.args.data.now c.loop-begin.begin c.loop-begin.segments.items (omega arith) c.loop-begin.invariant.tiles c.loop-begin.invariant.modes c.loop-begin.invariant.writable)
+returns-clause-inside c = cut_inside c.args.version c.args.bytes.now c.loop-begin.segments.items (cut_at_end c.args.version c.args.bytes.now c.loop-begin.begin c.loop-begin.segments.items (omega arith) c.loop-begin.invariant.tiles c.loop-begin.invariant.modes c.loop-begin.invariant.writable)
 
 pub returns-clause-joined : goal.returns-clause-joined
-returns-clause-joined c = cut_joined c.args.version c.args.data.now c.loop-begin.segments.items (cut_at_end c.args.version c.args.data.now c.loop-begin.begin c.loop-begin.segments.items (omega arith) c.loop-begin.invariant.tiles c.loop-begin.invariant.modes c.loop-begin.invariant.writable)
+returns-clause-joined c = cut_joined c.args.version c.args.bytes.now c.loop-begin.segments.items (cut_at_end c.args.version c.args.bytes.now c.loop-begin.begin c.loop-begin.segments.items (omega arith) c.loop-begin.invariant.tiles c.loop-begin.invariant.modes c.loop-begin.invariant.writable)
 
 pub returns-clause-writable : goal.returns-clause-writable
-returns-clause-writable c = cut_writable c.args.version c.args.data.now c.loop-begin.segments.items (cut_at_end c.args.version c.args.data.now c.loop-begin.begin c.loop-begin.segments.items (omega arith) c.loop-begin.invariant.tiles c.loop-begin.invariant.modes c.loop-begin.invariant.writable)
+returns-clause-writable c = cut_writable c.args.version c.args.bytes.now c.loop-begin.segments.items (cut_at_end c.args.version c.args.bytes.now c.loop-begin.begin c.loop-begin.segments.items (omega arith) c.loop-begin.invariant.tiles c.loop-begin.invariant.modes c.loop-begin.invariant.writable)
 
 pub returns-clause-fits : goal.returns-clause-fits
-returns-clause-fits c = fits_spelled c.args.version c.args.data.now c.requires.valid
+returns-clause-fits c = fits_spelled c.args.version c.args.bytes.now c.requires.valid
 
 pub returns-then-not-can_be_cut-clause-fits : goal.returns-then-not-can_be_cut-clause-fits
-returns-then-not-can_be_cut-clause-fits c = fits_spelled c.args.version c.args.data.now c.requires.valid
+returns-then-not-can_be_cut-clause-fits c = fits_spelled c.args.version c.args.bytes.now c.requires.valid
 
 pub returns-in_err-starts-clause-fits : goal.returns-in_err-starts-clause-fits
-returns-in_err-starts-clause-fits c = fits_spelled c.args.version c.args.data.now c.requires.valid
+returns-in_err-starts-clause-fits c = fits_spelled c.args.version c.args.bytes.now c.requires.valid
 
 pub returns-in_err-push-clause-fits : goal.returns-in_err-push-clause-fits
-returns-in_err-push-clause-fits c = fits_spelled c.args.version c.args.data.now c.requires.valid
+returns-in_err-push-clause-fits c = fits_spelled c.args.version c.args.bytes.now c.requires.valid

@@ -5,12 +5,12 @@ use Rattle.qrcode_bits.proofs.optimize.least.least_segments.Given as goal
 
 abbrev pub invariant-loop-begin : goal.invariant-loop-begin
 invariant-loop-begin l = record {
-  inside : l.begin ≤ length l.«data»;
+  inside : l.begin ≤ length l.bytes;
   tiles : Tile 0 l.segments.items l.begin;
   modes : HaveModes l.fn.version l.segments.items;
-  writable : AreWritable l.«data» l.segments.items;
-  bits : total_cost l.fn.version l.segments.items + bits_from l.fn.version l.«data» l.begin ≡ bits_from l.fn.version l.«data» 0;
+  writable : AreWritable l.bytes l.segments.items;
+  bits : total_cost l.fn.version l.segments.items + bits_from l.fn.version l.bytes l.begin ≡ bits_from l.fn.version l.bytes 0;
 }
 
 abbrev pub decreases-loop-begin : goal.decreases-loop-begin
-decreases-loop-begin l = length l.«data» - l.begin
+decreases-loop-begin l = length l.bytes - l.begin

@@ -10,7 +10,7 @@ behind-rest-requires-clause-rest c = subst IsSmall (sym c.loop-i.invariant.rest)
 
 pub loop-i-preserved : goal.loop-i-preserved
 loop-i-preserved c =
-    let bytes = c.args.data.now in
+    let bytes = c.args.bytes.now in
     let h = c.args.headers in
     let i = c.loop-i.i in
     let place = i - 1 in

@@ -4,7 +4,7 @@ use Rattle.qrcode_bits.proofs.optimize.least.least_starts.Given as goal
 
 abbrev pub invariant-loop-i : goal.invariant-loop-i
 invariant-loop-i l = record {
-  count : vec_len l.starts ≡ length l.«data» + 1;
-  rest : l.rest ≡ rest_of l.fn.headers (drop l.i l.«data»);
-  done : (k : ℕ) → l.i ≤ k → k ≤ length l.«data» → get_or l.starts.items k past_end ≡ (rest_of l.fn.headers (drop k l.«data»)).start;
+  count : vec_len l.starts ≡ length l.bytes + 1;
+  rest : l.rest ≡ rest_of l.fn.headers (drop l.i l.bytes);
+  done : (k : ℕ) → l.i ≤ k → k ≤ length l.bytes → get_or l.starts.items k past_end ≡ (rest_of l.fn.headers (drop k l.bytes)).start;
 }
