@@ -8,19 +8,19 @@ use Rattle.qrcode_types.specs.Modes.{data_bits_count}
 use Rattle.qrcode_types.specs.declared.types.Mode.{Mode}
 use Rattle.qrcode_types.specs.declared.types.Mode.TheVariants.{Numeric, Alphanumeric, Byte, Kanji}
 use Rattle.qrcode_types.specs.Characters.{is_kanji, are_kanji, can_write, character_count, bytes_each}
-use Rattle.qrcode_bits.specs.LeastBits.{header_in, rest_of, AreStarts, past_end}
-use Rattle.qrcode_bits.specs.declared.optimize.rests.Start.{Start}
-use Rattle.qrcode_bits.specs.declared.optimize.rests.Headers.{Headers}
+use Rattle.qrcode_bits.specs.LeastBits.{header_in, costs_of, AreStarts, past_end}
+use Rattle.qrcode_bits.specs.declared.optimize.costs.BestStart.{BestStart}
+use Rattle.qrcode_bits.specs.declared.optimize.costs.HeaderBits.{HeaderBits}
 use Rattle.qrcode_bits.proofs.SegmentRanges.{all-drop, write_front}
 use Rattle.qrcode_bits.proofs.LeastStarts.{Begins, begins}
 
 -- a segment of so many characters from a place on, and the rest behind it, take what is counted there
-abbrev pub Matches : Headers → List ℕ → ℕ → Mode → ℕ → Type 0
+abbrev pub Matches : HeaderBits → List ℕ → ℕ → Mode → ℕ → Type 0
 Matches h bytes place m count =
-    (rest_of h (drop place bytes)).start.bits ≡ header_in h m + data_bits_count m count + (rest_of h (drop (place + count * bytes_each m) bytes)).start.bits
+    (costs_of h (drop place bytes)).start.bits ≡ header_in h m + data_bits_count m count + (costs_of h (drop (place + count * bytes_each m) bytes)).start.bits
 
 -- some number of characters does, and the mode can write them
-pub record Found (h : Headers) (bytes : List ℕ) (place : ℕ) (m : Mode) : Type 0 where
+pub record Found (h : HeaderBits) (bytes : List ℕ) (place : ℕ) (m : Mode) : Type 0 where
   pub count : ℕ
   pub some : 1 ≤ count
   pub inside : place + count * bytes_each m ≤ length bytes
@@ -63,10 +63,10 @@ less_bytes Alphanumeric k n le = omega arith
 less_bytes Byte k n le = omega arith
 less_bytes Kanji k n le = omega arith
 
-found_from : (h : Headers) (bytes : List ℕ) (place : ℕ) → place < length bytes → Begins h (drop place bytes) (rest_of h (drop place bytes)).start
-    → Found h bytes place (rest_of h (drop place bytes)).start.mode
+found_from : (h : HeaderBits) (bytes : List ℕ) (place : ℕ) → place < length bytes → Begins h (drop place bytes) (costs_of h (drop place bytes)).start
+    → Found h bytes place (costs_of h (drop place bytes)).start.mode
 found_from h bytes place inside b =
-    let m = (rest_of h (drop place bytes)).start.mode in
+    let m = (costs_of h (drop place bytes)).start.mode in
     let n = length b.chunk in
     let count = character_count m n in
     let whole : count * bytes_each m ≡ n = whole_count m b.chunk b.writable in
@@ -76,7 +76,7 @@ found_from h bytes place inside b =
       count = count;
       some = some_count m b.chunk whole b.nonempty;
       inside = omega (arith, whole, length-drop place bytes, ap length b.whole, length-append b.chunk b.rest);
-      matches = b.adds ∙ ap (λ (r : List ℕ). header_in h m + data_bits_count m count + (rest_of h r).start.bits) (sym back);
+      matches = b.adds ∙ ap (λ (r : List ℕ). header_in h m + data_bits_count m count + (costs_of h r).start.bits) (sym back);
       writable = λ k le.
           let fits : k * bytes_each m ≤ n = omega (arith, less_bytes m k count le, whole) in
           let d : place + k * bytes_each m - place ≡ k * bytes_each m = omega arith in
@@ -85,16 +85,16 @@ found_from h bytes place inside b =
           ap (can_write m) front ∙ write_front m k b.chunk b.writable;
     }
 
-found : (h : Headers) (bytes : List ℕ) (place : ℕ) → AreBytes bytes → place < length bytes
-    → Found h bytes place (rest_of h (drop place bytes)).start.mode
+found : (h : HeaderBits) (bytes : List ℕ) (place : ℕ) → AreBytes bytes → place < length bytes
+    → Found h bytes place (costs_of h (drop place bytes)).start.mode
 found h bytes place are inside =
     let e = drop_more bytes place 0 inside in
     found_from h bytes place inside
-    (subst (λ (r : List ℕ). Begins h r (rest_of h r).start) (sym e)
+    (subst (λ (r : List ℕ). Begins h r (costs_of h r).start) (sym e)
     (begins h (get_or bytes place 0) (drop (place + 1) bytes) (subst AreBytes e (all-drop (λ n. n < 256) place bytes are))))
 
 -- the mode of a start finds one
-pub found_at : (h : Headers) (bytes : List ℕ) (starts : List Start) (place : ℕ) → AreStarts h bytes starts → AreBytes bytes → place < length bytes
+pub found_at : (h : HeaderBits) (bytes : List ℕ) (starts : List BestStart) (place : ℕ) → AreStarts h bytes starts → AreBytes bytes → place < length bytes
     → Found h bytes place (get_or starts place past_end).mode
 found_at h bytes starts place are_starts are inside =
-    subst (λ (s : Start). Found h bytes place s.mode) (sym (are_starts.least place (omega arith))) (found h bytes place are inside)
+    subst (λ (s : BestStart). Found h bytes place s.mode) (sym (are_starts.least place (omega arith))) (found h bytes place are inside)

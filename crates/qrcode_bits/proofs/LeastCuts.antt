@@ -18,18 +18,18 @@ use Rattle.qrcode_bits.specs.Segments.{cost, total_cost, Tile}
 use Rattle.qrcode_bits.specs.Cuts.{IsCut}
 use Rattle.qrcode_bits.specs.Refusals.{data_limit}
 use Rattle.qrcode_bits.specs.ModeHeaders.{more_than_any}
-use Rattle.qrcode_bits.specs.LeastBits.{headers_of, rest_of, IsSmall, data_bits}
+use Rattle.qrcode_bits.specs.LeastBits.{headers_of, costs_of, IsSmall, data_bits}
 use Rattle.qrcode_bits.specs.declared.optimize.Segment.{Segment}
 use Rattle.qrcode_bits.proofs.VersionModes.{header_at, header_is, header_short, has_widest, below_widest, at_widest}
 use Rattle.qrcode_bits.proofs.SegmentRanges.{length-range, tile_le, range_bytes, write_both, write_none}
-use Rattle.qrcode_bits.proofs.LeastRests.{segment_takes, all_small}
+use Rattle.qrcode_bits.proofs.LeastCosts.{segment_takes, all_small}
 
 -- what is counted for the rest of the data from a place on
 abbrev pub bits_from : Version → List ℕ → ℕ → ℕ
-bits_from v bytes place = (rest_of (headers_of v) (drop place bytes)).start.bits
+bits_from v bytes place = (costs_of (headers_of v) (drop place bytes)).start.bits
 
 pub bits_at_end : (v : Version) (bytes : List ℕ) (place : ℕ) → length bytes ≤ place → bits_from v bytes place ≡ 0
-bits_at_end v bytes place past = ap (λ (rest : List ℕ). (rest_of (headers_of v) rest).start.bits) (drop_all place bytes past)
+bits_at_end v bytes place past = ap (λ (rest : List ℕ). (costs_of (headers_of v) rest).start.bits) (drop_all place bytes past)
 
 abbrev pub HaveModes : Version → List Segment → Type 0
 HaveModes v ss = AllByRecursion (λ s. IsTrue (has_mode v s.mode)) ss
@@ -49,7 +49,7 @@ least_from v bytes from (s ∷ ss) t has w =
     let parted : drop from bytes ≡ chunk ++ rest = ap (λ n. drop n bytes) (sym t.0) ∙ drop_split bytes s.begin s.end (omega (arith, t.1.0)) in
     omega (
       arith,
-      ap (λ (r : List ℕ). (rest_of h r).start.bits) parted,
+      ap (λ (r : List ℕ). (costs_of h r).start.bits) parted,
       segment_takes h s.mode chunk rest (omega (arith, count, t.1.0)) w.0,
       ap (data_bits s.mode) count,
       header_at v s.mode ∙ header_is v s.mode has.0,
@@ -58,7 +58,7 @@ least_from v bytes from (s ∷ ss) t has w =
     )
 
 -- no cut takes fewer bits than are counted
-pub least_bits : (v : Version) (bytes : List ℕ) (ss : List Segment) → IsCut v bytes ss → (rest_of (headers_of v) bytes).start.bits ≤ total_cost v ss
+pub least_bits : (v : Version) (bytes : List ℕ) (ss : List Segment) → IsCut v bytes ss → (costs_of (headers_of v) bytes).start.bits ≤ total_cost v ss
 least_bits v bytes ss cut = least_from v bytes 0 ss cut.tiles cut.modes cut.writable
 
 -- what is cut, the widest mode can write whole
@@ -95,7 +95,7 @@ one_segment v (b ∷ bytes) valid e =
       data_small Kanji n = omega arith
 
 -- so there is a way to write the data
-pub bits_small : (v : Version) (bytes : List ℕ) → IsTrue (is_valid v) → can_write (widest_mode v) bytes ≡ true → length bytes ≤ data_limit → (rest_of (headers_of v) bytes).start.bits < more_than_any
+pub bits_small : (v : Version) (bytes : List ℕ) → IsTrue (is_valid v) → can_write (widest_mode v) bytes ≡ true → length bytes ≤ data_limit → (costs_of (headers_of v) bytes).start.bits < more_than_any
 bits_small v bytes valid e limit =
     let one = one_segment v bytes valid e in
     omega (arith, least_bits v bytes one.0 one.1.0, one.1.1 limit)
@@ -111,15 +111,15 @@ writes_rest v n bytes =
     at_widest (λ m. can_write m bytes ≡ true → can_write m (drop n bytes) ≡ true) v
     (list_all_drop is_digit n bytes) (list_all_drop is_alphanumeric n bytes) (list_all_drop (λ b. nat_lt b 256) n bytes)
 
-pub rest_small : (v : Version) (bytes : List ℕ) → IsTrue (is_valid v) → can_write (widest_mode v) bytes ≡ true → length bytes ≤ data_limit → (place : ℕ) → (rest_of (headers_of v) (drop place bytes)).start.bits < more_than_any
+pub rest_small : (v : Version) (bytes : List ℕ) → IsTrue (is_valid v) → can_write (widest_mode v) bytes ≡ true → length bytes ≤ data_limit → (place : ℕ) → (costs_of (headers_of v) (drop place bytes)).start.bits < more_than_any
 rest_small v bytes valid e limit place = bits_small v (drop place bytes) valid (writes_rest v place bytes e) (omega (arith, length-drop place bytes))
 
-small_at : (v : Version) (rest : List ℕ) → ((place : ℕ) → (rest_of (headers_of v) (drop place rest)).start.bits < more_than_any) → IsSmall (rest_of (headers_of v) rest)
+small_at : (v : Version) (rest : List ℕ) → ((place : ℕ) → (costs_of (headers_of v) (drop place rest)).start.bits < more_than_any) → IsSmall (costs_of (headers_of v) rest)
 small_at v [] few = record { start = omega arith; digits = omega arith; one_digit = omega arith; two_digits = omega arith; letters = omega arith; odd_letter = omega arith; bytes = omega arith; pairs = omega arith; half_pair = omega arith }
 small_at v (b ∷ rest) few = all_small (headers_of v) b rest (omega (arith, few 0)) (omega (arith, few 1))
 
 -- so no rest is too great a number
-pub rests_small : (v : Version) (bytes : List ℕ) → IsTrue (is_valid v) → can_write (widest_mode v) bytes ≡ true → length bytes ≤ data_limit → (place : ℕ) → IsSmall (rest_of (headers_of v) (drop place bytes))
+pub rests_small : (v : Version) (bytes : List ℕ) → IsTrue (is_valid v) → can_write (widest_mode v) bytes ≡ true → length bytes ≤ data_limit → (place : ℕ) → IsSmall (costs_of (headers_of v) (drop place bytes))
 rests_small v bytes valid e limit place =
     let rest = drop place bytes in
     small_at v rest (rest_small v rest valid (writes_rest v place bytes e) (omega (arith, length-drop place bytes)))

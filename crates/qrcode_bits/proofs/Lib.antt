@@ -14,7 +14,7 @@ pub mod GroupKeeps
 pub mod GroupingLaws
 pub mod Headers
 pub mod LeastCuts
-pub mod LeastRests
+pub mod LeastCosts
 pub mod LeastStarts
 pub mod Lengths
 pub mod Numbers

@@ -1,5 +1,5 @@
 -- The fewest bits that a rest of the data takes, from its end on.
-use Rattle.std.specs.Prelude.{◌≡◌, ℕ, ◌+◌, ◌-◌, ◌<◌, ◌≤◌, nat_lt, min, List, [], ◌∷◌, length, drop, slice_index_or, slice_range, IsTrue, if◌then◌else◌}
+use Rattle.std.specs.Prelude.{◌≡◌, ℕ, ◌+◌, ◌-◌, ◌<◌, ◌≤◌, nat_lt, min, Bool, true, false, List, [], ◌∷◌, length, drop, slice_index_or, slice_range, IsTrue, if◌then◌else◌}
 use Rattle.qrcode_types.specs.Modes.{data_bits_count}
 use Rattle.qrcode_types.specs.Characters.{can_write, character_count}
 use Rattle.qrcode_types.specs.declared.types.Version.{Version}
@@ -10,30 +10,30 @@ use Rattle.qrcode_bits.specs.Tokens.{kind_at, first_byte}
 use Rattle.qrcode_bits.specs.declared.optimize.Segment.{Segment}
 use Rattle.qrcode_bits.specs.declared.optimize.Kind.{Kind}
 use Rattle.qrcode_bits.specs.declared.optimize.Kind.TheVariants.{Pair, LoneLead, Digit, Letter, Other}
-use Rattle.qrcode_bits.specs.declared.optimize.rests.Start.{Start}
-use Rattle.qrcode_bits.specs.declared.optimize.rests.Rest.{Rest}
-use Rattle.qrcode_bits.specs.declared.optimize.rests.Headers.{Headers}
+use Rattle.qrcode_bits.specs.declared.optimize.costs.BestStart.{BestStart}
+use Rattle.qrcode_bits.specs.declared.optimize.costs.Costs.{Costs}
+use Rattle.qrcode_bits.specs.declared.optimize.costs.HeaderBits.{HeaderBits}
 
 -- the headers of a version
-abbrev pub headers_of : Version → Headers
+abbrev pub headers_of : Version → HeaderBits
 headers_of v = record { numeric = header v Numeric; alphanumeric = header v Alphanumeric; byte = header v Byte; kanji = header v Kanji }
 
 -- the header of a mode
-abbrev pub header_in : Headers → Mode → ℕ
+abbrev pub header_in : HeaderBits → Mode → ℕ
 header_in h Numeric = h.numeric
 header_in h Alphanumeric = h.alphanumeric
 header_in h Byte = h.byte
 header_in h Kanji = h.kanji
 
 -- each header is at most more_than_any, so that sums of two and a few bits more do not wrap
-pub record AreSmall (h : Headers) : Type 0 where
+pub record AreSmall (h : HeaderBits) : Type 0 where
   pub numeric : h.numeric ≤ more_than_any
   pub alphanumeric : h.alphanumeric ≤ more_than_any
   pub byte : h.byte ≤ more_than_any
   pub kanji : h.kanji ≤ more_than_any
 
--- each number of a rest is at most more_than_any
-pub record IsSmall (r : Rest) : Type 0 where
+-- each of the costs is at most more_than_any
+pub record IsSmall (r : Costs) : Type 0 where
   pub start : r.start.bits ≤ more_than_any
   pub digits : r.digits ≤ more_than_any
   pub one_digit : r.one_digit ≤ more_than_any
@@ -44,59 +44,65 @@ pub record IsSmall (r : Rest) : Type 0 where
   pub pairs : r.pairs ≤ more_than_any
   pub half_pair : r.half_pair ≤ more_than_any
 
+-- a segment of the mode goes on with a byte of the kind, and in Kanji with both bytes of a pair
+abbrev pub takes : Mode → Kind → Bool
+takes Numeric Digit = true
+takes Alphanumeric Digit = true
+takes Alphanumeric Letter = true
+takes Byte k = true
+takes Kanji Pair = true
+takes _ _ = false
+
+-- what a segment takes that begins here: its header, the bits of its first character, and what follows
+abbrev pub begun : HeaderBits → Mode → Costs → ℕ
+begun h Numeric next = h.numeric + 4 + next.one_digit
+begun h Alphanumeric next = h.alphanumeric + 6 + next.odd_letter
+begun h Byte next = h.byte + 8 + next.bytes
+begun h Kanji next = h.kanji + 13 + next.half_pair
+
 -- the better of a start and one in another mode
-abbrev pub better : Start → Mode → ℕ → Start
+abbrev pub better : BestStart → Mode → ℕ → BestStart
 better s m bits = if nat_lt bits s.bits then record { bits = bits; mode = m } else s
 
--- the start of bytes
-abbrev pub byte_start : Headers → Rest → Start
-byte_start h next = record { bits = h.byte + 8 + next.bytes; mode = Byte }
+-- the same, where the other mode can write the byte
+abbrev pub better_if : Bool → BestStart → Mode → ℕ → BestStart
+better_if true s m bits = better s m bits
+better_if false s m bits = s
 
--- the better of it and a start of letters
-abbrev pub letter_start : Headers → Rest → Start
-letter_start h next = better (byte_start h next) Alphanumeric (h.alphanumeric + 6 + next.odd_letter)
+-- the best start of all modes that can write the byte
+abbrev pub best_start : HeaderBits → Kind → Costs → BestStart
+best_start h k next =
+    let bytes : BestStart = record { bits = begun h Byte next; mode = Byte } in
+    let letters = better_if (takes Alphanumeric k) bytes Alphanumeric (begun h Alphanumeric next) in
+    let digits = better_if (takes Numeric k) letters Numeric (begun h Numeric next) in
+    better_if (takes Kanji k) digits Kanji (begun h Kanji next)
 
--- the best of both and a start of digits
-abbrev pub digit_start : Headers → Rest → Start
-digit_start h next = better (letter_start h next) Numeric (h.numeric + 4 + next.one_digit)
+-- an open segment goes on, where its mode can write the byte, or it ends and another begins
+abbrev pub open_or : ℕ → Bool → ℕ → ℕ
+open_or start true goes_on = min start goes_on
+open_or start false goes_on = start
 
--- the better of a start of bytes and one of pairs
-abbrev pub pair_start : Headers → Rest → Start
-pair_start h next = better (byte_start h next) Kanji (h.kanji + 13 + next.half_pair)
-
--- no segment but one of bytes can go on
-abbrev pub only_bytes : Start → Rest → Rest
-only_bytes s next = record {
+-- The costs one byte earlier, by the kind of that byte and the best start there. Each line is a mode and what an open segment
+-- has behind its last whole group: the bits of one character more, and what it has behind the group then.
+abbrev pub costs_before : Kind → BestStart → Costs → Costs
+costs_before k s next = record {
   start = s;
-  digits = s.bits;
-  one_digit = s.bits;
-  two_digits = s.bits;
-  letters = s.bits;
-  odd_letter = s.bits;
-  bytes = min s.bits (8 + next.bytes);
-  pairs = s.bits;
+  digits = open_or s.bits (takes Numeric k) (4 + next.one_digit);
+  one_digit = open_or s.bits (takes Numeric k) (3 + next.two_digits);
+  two_digits = open_or s.bits (takes Numeric k) (3 + next.digits);
+  letters = open_or s.bits (takes Alphanumeric k) (6 + next.odd_letter);
+  odd_letter = open_or s.bits (takes Alphanumeric k) (5 + next.letters);
+  bytes = open_or s.bits (takes Byte k) (8 + next.bytes);
+  pairs = open_or s.bits (takes Kanji k) (13 + next.half_pair);
   half_pair = next.pairs;
 }
 
--- an open segment of letters can go on too
-abbrev pub with_letter : Rest → Rest → Rest
-with_letter r next = record r { letters = min r.start.bits (6 + next.odd_letter); odd_letter = min r.start.bits (5 + next.letters) }
-
--- a rest one byte earlier, by the kind of that byte
-abbrev pub step : Headers → Kind → Rest → Rest
-step h Digit next = let s = digit_start h next in
-    record (with_letter (only_bytes s next) next) {
-      digits = min s.bits (4 + next.one_digit);
-      one_digit = min s.bits (3 + next.two_digits);
-      two_digits = min s.bits (3 + next.digits);
-    }
-step h Letter next = with_letter (only_bytes (letter_start h next) next) next
-step h LoneLead next = only_bytes (byte_start h next) next
-step h Other next = only_bytes (byte_start h next) next
-step h Pair next = let s = pair_start h next in record (only_bytes s next) { pairs = min s.bits (13 + next.half_pair) }
+-- the same with the best start
+abbrev pub step : HeaderBits → Kind → Costs → Costs
+step h k next = costs_before k (best_start h k next) next
 
 -- the end of the data
-abbrev pub at_end : Rest
+abbrev pub at_end : Costs
 at_end = record {
   start = record { bits = 0; mode = Byte };
   digits = 0;
@@ -110,27 +116,27 @@ at_end = record {
 }
 
 -- what the rest takes, byte by byte from its end
-abbrev pub rest_of : Headers → List ℕ → Rest
-rest_of h [] = at_end
-rest_of h (b ∷ bytes) = step h (kind_at b (first_byte bytes)) (rest_of h bytes)
+abbrev pub costs_of : HeaderBits → List ℕ → Costs
+costs_of h [] = at_end
+costs_of h (b ∷ bytes) = step h (kind_at b (first_byte bytes)) (costs_of h bytes)
 
 -- what is read past the end of a list of starts
-abbrev pub past_end : Start
+abbrev pub past_end : BestStart
 past_end = record { bits = 0; mode = Numeric }
 
 -- a start for each place of the data, and one for its end
-pub record AreStarts (h : Headers) (bytes : List ℕ) (starts : List Start) : Type 0 where
+pub record AreStarts (h : HeaderBits) (bytes : List ℕ) (starts : List BestStart) : Type 0 where
   pub count : length starts ≡ length bytes + 1
-  pub least : (place : ℕ) → place ≤ length bytes → slice_index_or starts place past_end ≡ (rest_of h (drop place bytes)).start
+  pub least : (place : ℕ) → place ≤ length bytes → slice_index_or starts place past_end ≡ (costs_of h (drop place bytes)).start
 
 -- the bits of so many bytes in a mode, without a header
 abbrev pub data_bits : Mode → ℕ → ℕ
 data_bits m count = data_bits_count m (character_count m count)
 
 -- a segment that begins at a place, with which a rest takes the fewest bits
-pub record IsFirst (h : Headers) (bytes : List ℕ) (place : ℕ) (s : Segment) : Type 0 where
+pub record IsFirst (h : HeaderBits) (bytes : List ℕ) (place : ℕ) (s : Segment) : Type 0 where
   pub begins : s.begin ≡ place
   pub nonempty : s.begin < s.end
   pub inside : s.end ≤ length bytes
   pub writable : IsTrue (can_write s.mode (slice_range bytes s.begin s.end))
-  pub adds : (rest_of h (drop place bytes)).start.bits ≡ header_in h s.mode + data_bits s.mode (s.end - s.begin) + (rest_of h (drop s.end bytes)).start.bits
+  pub adds : (costs_of h (drop place bytes)).start.bits ≡ header_in h s.mode + data_bits s.mode (s.end - s.begin) + (costs_of h (drop s.end bytes)).start.bits

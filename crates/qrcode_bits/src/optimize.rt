@@ -13,10 +13,10 @@ pub use self::runs::Parser;
 use qrcode_types::characters::character_count;
 use qrcode_types::types::{Mode, Version};
 
+mod costs;
 mod groups;
 mod headers;
 mod least;
-mod rests;
 mod runs;
 mod tokens;
 

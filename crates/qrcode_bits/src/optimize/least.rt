@@ -7,7 +7,7 @@ ghost use Rattle.qrcode_types.specs.Characters.{can_write};
 ghost use Rattle.qrcode_types.specs.Modes.{widest_mode};
 ghost use Rattle.qrcode_types.specs.declared.types.EcLevel.{EcLevel};
 ghost use Rattle.qrcode_types.specs.declared.types.QrError.TheVariants.{UnsupportedCharacterSet, OutOfMemory};
-ghost use Rattle.qrcode_bits.specs.LeastBits.{AreSmall, IsSmall, rest_of, AreStarts, IsFirst};
+ghost use Rattle.qrcode_bits.specs.LeastBits.{AreSmall, IsSmall, costs_of, AreStarts, IsFirst};
 ghost use Rattle.qrcode_bits.specs.Segments.{AreInside};
 ghost use Rattle.qrcode_bits.specs.Cuts.{IsCut, IsLeastCut, FitsIn};
 ghost use Rattle.qrcode_bits.specs.Written.{pieces_of};
@@ -15,7 +15,7 @@ ghost use Rattle.qrcode_bits.specs.Spelling.{IsSpelled};
 ghost use Rattle.qrcode_bits.specs.Refusals.{data_limit};
 ghost use Rattle.qrcode_bits.specs.declared.optimize.Segment.{Segment};
 
-use super::rests::{Headers, Openings, Rest, Start};
+use super::costs::{BestStart, Costs, HeaderBits, SingleCosts};
 use super::{Kind, Segment};
 use qrcode_types::characters::{bytes_each, can_write};
 use qrcode_types::modes::widest_mode;
@@ -53,7 +53,7 @@ pub fn least_segments(alloc: Global, bytes: &[u8], version: Version) -> QrResult
     if !can_be_cut(bytes, version) {
         return Err(QrError::UnsupportedCharacterSet);
     }
-    let headers = Headers::of(version);
+    let headers = HeaderBits::of(version);
     let starts = least_starts(alloc, bytes, headers)?;
     let mut segments = Vec::new(alloc);
     let mut begin = 0;
@@ -74,36 +74,40 @@ fn can_be_cut(bytes: &[u8], version: Version) -> bool
 }
 
 // For each place of the data, and for its end, how the rest from there on begins in the fewest bits.
-fn least_starts(alloc: Global, bytes: &[u8], headers: Headers) -> Result<Vec<Start>, AllocError>
+fn least_starts(
+    alloc: Global,
+    bytes: &[u8],
+    headers: HeaderBits,
+) -> Result<Vec<BestStart>, AllocError>
     requires headers { AreSmall headers }
     requires limit { length bytes.now ≤ data_limit }
-    requires rests { (place : ℕ) → IsSmall (rest_of headers (drop place bytes.now)) }
+    requires rests { (place : ℕ) → IsSmall (costs_of headers (drop place bytes.now)) }
     ensures { IfOk result (λ starts. AreStarts headers bytes.now starts.items) }
 {
-    let openings = Openings::of(headers);
-    let mut rest = Rest::at_end();
-    let mut starts = Vec::from_elem(alloc, rest.start, bytes.len() + 1)?;
+    let single = SingleCosts::of(headers);
+    let mut costs = Costs::at_end();
+    let mut starts = Vec::from_elem(alloc, costs.start, bytes.len() + 1)?;
     for i in (0..bytes.len()).rev() {
-        rest = rest.behind(openings, Kind::at(bytes, i));
+        costs = costs.with_byte_before(single, Kind::at(bytes, i));
 
         // Field by field, as joining them into one number first takes longer.
         let start = &mut starts[i];
-        start.bits = rest.start.bits;
-        start.mode = rest.start.mode;
+        start.bits = costs.start.bits;
+        start.mode = costs.start.mode;
     }
     Ok(starts)
 }
 
 // The first segment from a place on, in the mode of its start: the shortest with which the rest
 // takes as few bits as the start says.
-fn first_segment(bytes: &[u8], starts: &[Start], headers: Headers, begin: usize) -> Segment
+fn first_segment(bytes: &[u8], starts: &[BestStart], headers: HeaderBits, begin: usize) -> Segment
     requires limit { length bytes.now ≤ data_limit }
     requires headers { AreSmall headers }
     requires starts { AreStarts headers bytes.now starts.now }
     requires begin { begin < length bytes.now }
     ensures { IsFirst headers bytes.now begin result }
 {
-    let Start { bits, mode } = starts[begin];
+    let BestStart { bits, mode } = starts[begin];
     let header = headers.in_mode(mode) as usize;
     let width = bytes_each(mode);
     let mut end = begin;

@@ -4,7 +4,7 @@ use Rattle.std.proofs.lemmas.Bool.{cases_lt}
 use Rattle.qrcode_types.specs.Modes.{data_bits_count}
 use Rattle.qrcode_types.specs.Characters.{can_write, character_count, bytes_each}
 use Rattle.qrcode_bits.specs.LeastBits.{past_end}
-use Rattle.qrcode_bits.specs.declared.optimize.rests.Start.{Start}
+use Rattle.qrcode_bits.specs.declared.optimize.costs.BestStart.{BestStart}
 use Rattle.qrcode_types.proofs.Writing.{are_bytes}
 use Rattle.qrcode_bits.proofs.FirstSegments.{found_at, some_bytes, less_bytes, counted_back}
 use Rattle.qrcode_bits.proofs.optimize.least.first_segment.Goals as goal
@@ -32,8 +32,8 @@ returns-then-bits-header c =
       writable = ap (λ n. can_write m (slice_range bytes place n)) is ∙ f.writable count first;
       adds = omega (
         arith,
-        ap (λ (s : Start). s.bits) (c.requires.starts.least place (omega arith)),
-        ap (λ (s : Start). s.bits) (c.requires.starts.least end c.loop-end-test.true),
+        ap (λ (s : BestStart). s.bits) (c.requires.starts.least place (omega arith)),
+        ap (λ (s : BestStart). s.bits) (c.requires.starts.least end c.loop-end-test.true),
         c.in_mode-header.ensures,
         c.data_bits_count.ensures,
         ap (data_bits_count m) (ap (character_count m) bytes_in ∙ counted_back m count),

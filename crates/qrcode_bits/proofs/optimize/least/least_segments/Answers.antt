@@ -5,7 +5,7 @@ use Rattle.std.specs.Prelude.{IsTrue, slice_range}
 use Rattle.qrcode_types.specs.Modes.{has_mode}
 use Rattle.qrcode_types.specs.Characters.{can_write}
 use Rattle.qrcode_bits.specs.Segments.{Tile, cost, total_cost}
-use Rattle.qrcode_bits.specs.LeastBits.{rest_of, IsSmall, IsFirst}
+use Rattle.qrcode_bits.specs.LeastBits.{costs_of, IsSmall, IsFirst}
 use Rattle.qrcode_bits.proofs.SegmentRanges.{tile-push, all-append}
 use Rattle.qrcode_types.proofs.Writing.{are_bytes}
 use Rattle.qrcode_bits.proofs.VersionModes.{header_at, header_is, header_tells}
@@ -31,7 +31,7 @@ returns-in_err-push-clause-none c = λ none.
 
 pub least_starts-requires-clause-rests : goal.least_starts-requires-clause-rests
 least_starts-requires-clause-rests c = λ place.
-    subst (λ h. IsSmall (rest_of h (drop place c.args.bytes.now))) (sym c.of-headers.ensures.value)
+    subst (λ h. IsSmall (costs_of h (drop place c.args.bytes.now))) (sym c.of-headers.ensures.value)
     (rests_small c.args.version c.args.bytes.now c.requires.valid (sym c.can_be_cut.ensures ∙ c.if-not-can_be_cut.false) c.requires.limit place)
 
 pub loop-begin-preserved : goal.loop-begin-preserved

@@ -1,8 +1,8 @@
-//! What a rest of the data takes at least.
+//! What a rest of the data takes at least, by what stands before it.
 
 ghost use Rattle.std.specs.Prelude.{◌≡◌, ◌+◌, IsTrue};
 ghost use Rattle.qrcode_types.specs.Versions.{is_valid};
-ghost use Rattle.qrcode_bits.specs.LeastBits.{headers_of, header_in, AreSmall, IsSmall, better, byte_start, letter_start, only_bytes, with_letter, step, at_end};
+ghost use Rattle.qrcode_bits.specs.LeastBits.{headers_of, header_in, AreSmall, IsSmall, better, begun, best_start, costs_before, step, at_end};
 
 use super::Kind;
 use super::headers::header;
@@ -11,20 +11,20 @@ use qrcode_types::types::{Mode, Version};
 // The bits of mode indicator and length field in each mode, and more than any data takes where the
 // version lacks it.
 #[derive(Copy, Clone)]
-pub(super) struct Headers {
+pub(super) struct HeaderBits {
     numeric: u32,
     alphanumeric: u32,
     byte: u32,
     kanji: u32,
 }
 
-impl Headers {
-    pub(super) fn of(version: Version) -> Headers
+impl HeaderBits {
+    pub(super) fn of(version: Version) -> HeaderBits
         requires { IsTrue (is_valid version) }
         ensures value { result ≡ headers_of version }
-        ensures small { AreSmall result }
+        ensures at_most { AreSmall result }
     {
-        Headers {
+        HeaderBits {
             numeric: header(version, Mode::Numeric),
             alphanumeric: header(version, Mode::Alphanumeric),
             byte: header(version, Mode::Byte),
@@ -44,10 +44,10 @@ impl Headers {
     }
 }
 
-// The bits of a segment of one character in each mode, so that none are added up again for each byte.
+// The bits of a segment of one character in each mode, added up once.
 #[derive(Copy, Clone)]
-pub(super) struct Openings {
-    headers: Headers,
+pub(super) struct SingleCosts {
+    headers: HeaderBits,
     digit: u32,
     letter: u32,
     byte: u32,
@@ -58,12 +58,12 @@ pub(super) struct Openings {
     ghost of_pair: { pair ≡ headers.kanji + 13 },
 }
 
-impl Openings {
-    pub(super) fn of(headers: Headers) -> Openings
+impl SingleCosts {
+    pub(super) fn of(headers: HeaderBits) -> SingleCosts
         requires { AreSmall headers }
         ensures { result.headers ≡ headers }
     {
-        Openings {
+        SingleCosts {
             headers,
             digit: headers.numeric + 4,
             letter: headers.alphanumeric + 6,
@@ -75,18 +75,18 @@ impl Openings {
 
 // How a segment begins a rest of the data so that it takes the fewest bits.
 #[derive(Copy, Clone)]
-pub(super) struct Start {
+pub(super) struct BestStart {
     pub(super) bits: u32,
     pub(super) mode: Mode,
 }
 
-impl Start {
+impl BestStart {
     // This one, or one in another mode where that takes fewer bits.
-    fn or(self, mode: Mode, bits: u32) -> Start
+    fn better_of(self, mode: Mode, bits: u32) -> BestStart
         ensures { result ≡ better self mode bits }
     {
         if bits < self.bits {
-            Start { bits, mode }
+            BestStart { bits, mode }
         } else {
             self
         }
@@ -98,8 +98,8 @@ impl Start {
 // behind its last group of three, one of letters by whether they are odd, and `half_pair` is `pairs`
 // one byte on.
 #[derive(Copy, Clone)]
-pub(super) struct Rest {
-    pub(super) start: Start,
+pub(super) struct Costs {
+    pub(super) start: BestStart,
     digits: u32,
     one_digit: u32,
     two_digits: u32,
@@ -110,13 +110,13 @@ pub(super) struct Rest {
     half_pair: u32,
 }
 
-impl Rest {
+impl Costs {
     // What the end of the data takes.
-    pub(super) fn at_end() -> Rest
+    pub(super) fn at_end() -> Costs
         ensures { result ≡ at_end }
     {
-        Rest {
-            start: Start {
+        Costs {
+            start: BestStart {
                 bits: 0,
                 mode: Mode::Byte,
             },
@@ -132,25 +132,25 @@ impl Rest {
     }
 
     // The rest that begins one byte earlier, by the kind of that byte.
-    pub(super) fn behind(self, openings: Openings, kind: Kind) -> Rest
-        requires headers { AreSmall openings.headers }
+    pub(super) fn with_byte_before(self, single: SingleCosts, kind: Kind) -> Costs
+        requires headers { AreSmall single.headers }
         requires rest { IsSmall self }
-        ensures { result ≡ step openings.headers kind self }
+        ensures { result ≡ step single.headers kind self }
     {
         match kind {
             Kind::Digit => {
                 let start = self
-                    .letter_start(openings)
-                    .or(Mode::Numeric, openings.digit + self.one_digit);
+                    .letter_start(single)
+                    .better_of(Mode::Numeric, single.digit + self.one_digit);
                 let mut rest = self.with_letter(start);
                 rest.digits = start.bits.min(4 + self.one_digit);
                 rest.one_digit = start.bits.min(3 + self.two_digits);
                 rest.two_digits = start.bits.min(3 + self.digits);
                 rest
             }
-            Kind::Letter => self.with_letter(self.letter_start(openings)),
+            Kind::Letter => self.with_letter(self.letter_start(single)),
             Kind::LoneLead | Kind::Other => {
-                let mut rest = self.only_bytes(self.byte_start(openings));
+                let mut rest = self.only_bytes(self.byte_start(single));
 
                 // To go on takes no header, and so fewer bits than the start.
                 rest.bytes = 8 + self.bytes;
@@ -158,8 +158,8 @@ impl Rest {
             }
             Kind::Pair => {
                 let start = self
-                    .byte_start(openings)
-                    .or(Mode::Kanji, openings.pair + self.half_pair);
+                    .byte_start(single)
+                    .better_of(Mode::Kanji, single.pair + self.half_pair);
                 let mut rest = self.only_bytes(start);
                 rest.pairs = start.bits.min(13 + self.half_pair);
                 rest
@@ -167,32 +167,32 @@ impl Rest {
         }
     }
 
-    fn byte_start(self, openings: Openings) -> Start
-        requires headers { AreSmall openings.headers }
+    fn byte_start(self, single: SingleCosts) -> BestStart
+        requires headers { AreSmall single.headers }
         requires rest { IsSmall self }
-        ensures { result ≡ byte_start openings.headers self }
+        ensures { result ≡ record { bits = begun single.headers Mode.Byte self; mode = Mode.Byte } }
     {
-        Start {
-            bits: openings.byte + self.bytes,
+        BestStart {
+            bits: single.byte + self.bytes,
             mode: Mode::Byte,
         }
     }
 
-    fn letter_start(self, openings: Openings) -> Start
-        requires headers { AreSmall openings.headers }
+    fn letter_start(self, single: SingleCosts) -> BestStart
+        requires headers { AreSmall single.headers }
         requires rest { IsSmall self }
-        ensures { result ≡ letter_start openings.headers self }
+        ensures { result ≡ best_start single.headers Kind.Letter self }
     {
-        self.byte_start(openings)
-            .or(Mode::Alphanumeric, openings.letter + self.odd_letter)
+        self.byte_start(single)
+            .better_of(Mode::Alphanumeric, single.letter + self.odd_letter)
     }
 
     // Behind a byte with which no open segment but one of bytes can go on.
-    fn only_bytes(self, start: Start) -> Rest
+    fn only_bytes(self, start: BestStart) -> Costs
         requires { IsSmall self }
-        ensures { result ≡ only_bytes start self }
+        ensures { result ≡ costs_before Kind.Other start self }
     {
-        Rest {
+        Costs {
             start,
             digits: start.bits,
             one_digit: start.bits,
@@ -206,9 +206,9 @@ impl Rest {
     }
 
     // Behind a character of the alphabet.
-    fn with_letter(self, start: Start) -> Rest
+    fn with_letter(self, start: BestStart) -> Costs
         requires { IsSmall self }
-        ensures { result ≡ with_letter (only_bytes start self) self }
+        ensures { result ≡ costs_before Kind.Letter start self }
     {
         let mut rest = self.only_bytes(start);
         rest.letters = start.bits.min(6 + self.odd_letter);
