@@ -13,7 +13,7 @@ use Rattle.qrcode_bits.specs.Segments.{total_cost}
 use Rattle.qrcode_bits.specs.Choice.{Holds, NormalHolds, bands}
 use Rattle.qrcode_bits.specs.Cuts.{IsCut}
 use Rattle.qrcode_bits.specs.Encoded.{IsTerminated, IsHeld, IsChosenList}
-use Rattle.qrcode_bits.specs.ModeHeaders.{widest_mode}
+use Rattle.qrcode_types.specs.Modes.{widest_mode}
 use Rattle.qrcode_bits.specs.declared.optimize.Segment.{Segment}
 use Rattle.qrcode_bits.proofs.LeastCuts.{cut_is_written, one_segment}
 use Rattle.qrcode_bits.proofs.Bands.{last_of, cost_le, cost_same, cut_in, fits_last, least_version-is}

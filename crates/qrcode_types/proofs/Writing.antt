@@ -1,9 +1,9 @@
 -- A greater mode writes all bytes that a lesser one can.
-use Rattle.std.proofs.Common.{◌≡◌, ℕ, suc, ◌<◌, nat_le, true, not, ◌||◌, IsTrue, List, [], ◌∷◌, get_or, refl, inl, inr, arith}
+use Rattle.std.proofs.Common.{◌≡◌, ℕ, suc, ◌/◌, ◌<◌, nat_le, true, not, ◌||◌, IsTrue, List, [], ◌∷◌, get_or, refl, inl, inr, arith}
 use Rattle.std.specs.List.{list_all}
 use Rattle.std.proofs.lemmas.Bool.{agree_below_at, and_parts, and_from, or_cases, both_ways, not-true, leb-true, lt-ltb}
 use Rattle.qrcode_types.specs.Bits.{AreBytes}
-use Rattle.qrcode_types.specs.Characters.{is_digit, is_alphanumeric, alphabet, can_write}
+use Rattle.qrcode_types.specs.Characters.{is_digit, is_alphanumeric, alphabet, can_write, bytes_each, character_count}
 use Rattle.qrcode_types.specs.Modes.{is_at_most}
 use Rattle.qrcode_types.specs.declared.types.Mode.{Mode}
 use Rattle.qrcode_types.specs.declared.types.Mode.TheVariants.{Numeric, Alphanumeric, Byte, Kanji}
@@ -44,3 +44,10 @@ writes Byte Alphanumeric e bytes are written = cc
 writes Byte Kanji e bytes are written = cc
 writes Kanji Numeric e bytes are written = cc
 writes Kanji Alphanumeric e bytes are written = cc
+
+-- the characters in so many bytes, by the bytes of each
+pub counted : (m : Mode) (n : ℕ) → n / bytes_each m ≡ character_count m n
+counted Numeric n = omega arith
+counted Alphanumeric n = omega arith
+counted Byte n = omega arith
+counted Kanji n = refl

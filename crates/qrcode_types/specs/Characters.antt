@@ -63,4 +63,7 @@ bytes_each Kanji = 2
 
 -- the characters in so many bytes
 abbrev pub character_count : Mode → ℕ → ℕ
-character_count m n = n / bytes_each m
+character_count Numeric n = n
+character_count Alphanumeric n = n
+character_count Byte n = n
+character_count Kanji n = n / bytes_each Kanji

@@ -30,6 +30,7 @@ pub fn bytes_each(mode: Mode) -> usize
 }
 
 /// The characters in so many bytes.
+#[tactic(auto, using(crate::proofs::Writing::counted))]
 pub fn character_count(mode: Mode, bytes: usize) -> usize
     ensures { result ≡ characters.character_count mode bytes }
 {

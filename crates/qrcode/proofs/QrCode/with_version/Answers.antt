@@ -6,7 +6,7 @@ use Rattle.qrcode_bits.specs.Choice.{Holds}
 use Rattle.qrcode_bits.specs.Cuts.{IsCut}
 use Rattle.qrcode_bits.specs.Optimal.{PushesLeast}
 use Rattle.qrcode_bits.specs.declared.optimize.Segment.{Segment}
-use Rattle.qrcode_bits.proofs.SegmentRanges.{are_bytes}
+use Rattle.qrcode_types.proofs.Writing.{are_bytes}
 use Rattle.qrcode_bits.proofs.Several.{handed_on}
 use Rattle.qrcode.specs.Acceptance.{IsLeastSymbol, IsRefusedAt}
 use Rattle.qrcode.proofs.Causes.{above_limit, behind_cut, not_too_long}
