@@ -2,8 +2,8 @@
 use Rattle.std.proofs.Common.{◌≡◌, ℕ, zero, suc, ◌+◌, ◌-◌, ◌*◌, ◌/◌, ◌^◌, ◌<◌, ◌≤◌, Bool, true, false, not, ◌&&◌, ◌||◌, refl, ap, ap₂, sym, ◌∙◌, arith, count_ones, bit_and, bit_or, add_assoc, nat_le, leb-true}
 use Rattle.std.proofs.lemmas.Nat.{or_lt, and_le_r, pow_below}
 use Rattle.std.proofs.Math.Pow.{pow_mono}
-use Rattle.qrcode_penalty.specs.Rows.{has_place}
-use Rattle.qrcode_penalty.proofs.Places.{has_and, has_or, has_without, has_shr, has_shl, has_shl_below, has_above}
+use Rattle.qrcode_packed.specs.Rows.{is_set}
+use Rattle.qrcode_packed.proofs.Places.{has_and, has_or, has_without, has_shr, has_shl, has_shl_below, has_above}
 use Rattle.qrcode_penalty.specs.Penalty.{is_finder_like, finder_penalty_at, finder_penalty, is_light_from}
 use Rattle.qrcode_penalty.proofs.Sums.{weigh_places}
 use Rattle.qrcode_penalty.proofs.Lines.{without, finder_test, fits_up}
@@ -124,61 +124,61 @@ or_turn false true true false = refl
 or_turn false true false false = refl
 or_turn false false c false = refl
 
-once_at : (a k : ℕ) → has_place (a * 2 ^ 1) k ≡ pad (has_place a) (k + 3)
+once_at : (a k : ℕ) → is_set (a * 2 ^ 1) k ≡ pad (is_set a) (k + 3)
 once_at a zero = has_shl_below a 1 0 (omega arith)
 once_at a (suc k) =
     let e : suc k ≡ k + 1 = omega arith in
-    ap (λ i. has_place (a * 2 ^ 1) i) e ∙ has_shl a 1 k ∙ sym (pad_from (has_place a) (suc k + 3) k (omega arith))
+    ap (λ i. is_set (a * 2 ^ 1) i) e ∙ has_shl a 1 k ∙ sym (pad_from (is_set a) (suc k + 3) k (omega arith))
 
-twos_at : (a k : ℕ) → has_place (twos a) k ≡ (pad (has_place a) (k + 4) || pad (has_place a) (k + 3))
-twos_at a k = has_or a (a * 2 ^ 1) k ∙ ap₂ (λ (x y : Bool). x || y) (sym (pad_from (has_place a) (k + 4) k refl)) (once_at a k)
+twos_at : (a k : ℕ) → is_set (twos a) k ≡ (pad (is_set a) (k + 4) || pad (is_set a) (k + 3))
+twos_at a k = has_or a (a * 2 ^ 1) k ∙ ap₂ (λ (x y : Bool). x || y) (sym (pad_from (is_set a) (k + 4) k refl)) (once_at a k)
 
-twice_at : (a k : ℕ) → has_place (twos a * 2 ^ 2) k ≡ (pad (has_place a) (k + 2) || pad (has_place a) (k + 1))
+twice_at : (a k : ℕ) → is_set (twos a * 2 ^ 2) k ≡ (pad (is_set a) (k + 2) || pad (is_set a) (k + 1))
 twice_at a zero = has_shl_below (twos a) 2 0 (omega arith)
 twice_at a (suc zero) = has_shl_below (twos a) 2 1 (omega arith)
 twice_at a (suc (suc k)) =
     let e : suc (suc k) ≡ k + 2 = omega arith in
     let f : k + 4 ≡ suc (suc k) + 2 = omega arith in
     let g : k + 3 ≡ suc (suc k) + 1 = omega arith in
-    ap (λ i. has_place (twos a * 2 ^ 2) i) e ∙ has_shl (twos a) 2 k ∙ twos_at a k
-    ∙ ap₂ (λ (i j : ℕ). pad (has_place a) i || pad (has_place a) j) f g
+    ap (λ i. is_set (twos a * 2 ^ 2) i) e ∙ has_shl (twos a) 2 k ∙ twos_at a k
+    ∙ ap₂ (λ (i j : ℕ). pad (is_set a) i || pad (is_set a) j) f g
 
-fours_at : (a k : ℕ) → has_place (fours a) k ≡ four (pad (has_place a)) (k + 1)
+fours_at : (a k : ℕ) → is_set (fours a) k ≡ four (pad (is_set a)) (k + 1)
 fours_at a k =
     has_or (twos a) (twos a * 2 ^ 2) k ∙ ap₂ (λ (x y : Bool). x || y) (twos_at a k) (twice_at a k)
-    ∙ simp add_assoc (or_turn (pad (has_place a) (k + 4)) (pad (has_place a) (k + 3)) (pad (has_place a) (k + 2)) (pad (has_place a) (k + 1)))
+    ∙ simp add_assoc (or_turn (pad (is_set a) (k + 4)) (pad (is_set a) (k + 3)) (pad (is_set a) (k + 2)) (pad (is_set a) (k + 1)))
 
-crowded_at : (a k : ℕ) → has_place (crowded a) k ≡ (four (pad (has_place a)) k && four (pad (has_place a)) (k + 11))
+crowded_at : (a k : ℕ) → is_set (crowded a) k ≡ (four (pad (is_set a)) k && four (pad (is_set a)) (k + 11))
 crowded_at a zero = has_shl_below (bit_and (fours a) (fours a / 2 ^ 11)) 1 0 (omega arith)
 crowded_at a (suc k) =
     let e : suc k ≡ k + 1 = omega arith in
     let f : k + 11 + 1 ≡ suc k + 11 = omega arith in
-    ap (λ i. has_place (crowded a) i) e ∙ has_shl (bit_and (fours a) (fours a / 2 ^ 11)) 1 k
+    ap (λ i. is_set (crowded a) i) e ∙ has_shl (bit_and (fours a) (fours a / 2 ^ 11)) 1 k
     ∙ has_and (fours a) (fours a / 2 ^ 11) k
     ∙ ap₂ (λ (x y : Bool). x && y)
-    (fours_at a k ∙ ap (four (pad (has_place a))) (sym e))
-    (has_shr (fours a) 11 k ∙ fours_at a (k + 11) ∙ ap (four (pad (has_place a))) f)
+    (fours_at a k ∙ ap (four (pad (is_set a))) (sym e))
+    (has_shr (fours a) 11 k ∙ fours_at a (k + 11) ∙ ap (four (pad (is_set a))) f)
 
-darks_at : (a k : ℕ) → has_place (darks a) k ≡ (((has_place a k && has_place a (k + 2)) && (has_place a (k + 4) && has_place a (k + 6))) && has_place a (k + 3))
+darks_at : (a k : ℕ) → is_set (darks a) k ≡ (((is_set a k && is_set a (k + 2)) && (is_set a (k + 4) && is_set a (k + 6))) && is_set a (k + 3))
 darks_at a k = simp (has_and, has_shr, add_assoc)
 
-forms_at : (a k : ℕ) → has_place (forms a) k ≡ ((((((has_place a k && has_place a (k + 2)) && (has_place a (k + 4) && has_place a (k + 6))) && has_place a (k + 3)) && not (has_place a (k + 1) || has_place a (k + 5))) && not (four (pad (has_place a)) k && four (pad (has_place a)) (k + 11))))
+forms_at : (a k : ℕ) → is_set (forms a) k ≡ ((((((is_set a k && is_set a (k + 2)) && (is_set a (k + 4) && is_set a (k + 6))) && is_set a (k + 3)) && not (is_set a (k + 1) || is_set a (k + 5))) && not (four (pad (is_set a)) k && four (pad (is_set a)) (k + 11))))
 forms_at a k =
     has_without (without (darks a) (lights a)) (crowded a) k
     ∙ ap₂ (λ (x y : Bool). x && not y)
     (has_without (darks a) (lights a) k ∙ ap₂ (λ (x y : Bool). x && not y) (darks_at a k) (has_or (a / 2 ^ 1) (a / 2 ^ 5) k ∙ ap₂ (λ (x y : Bool). x || y) (has_shr a 1 k) (has_shr a 5 k)))
     (crowded_at a k)
 
-forms_above : (a n k : ℕ) → a < 2 ^ n → n - 6 ≤ k → has_place (forms a) k ≡ false
+forms_above : (a n k : ℕ) → a < 2 ^ n → n - 6 ≤ k → is_set (forms a) k ≡ false
 forms_above a n k w h =
-    forms_at a k ∙ ap (λ t. ((((has_place a k && has_place a (k + 2)) && (has_place a (k + 4) && t)) && has_place a (k + 3)) && not (has_place a (k + 1) || has_place a (k + 5))) && not (four (pad (has_place a)) k && four (pad (has_place a)) (k + 11))) (has_above a n (k + 6) w (omega arith))
-    ∙ last_false (has_place a k && has_place a (k + 2)) (has_place a (k + 4)) (has_place a (k + 3)) (not (has_place a (k + 1) || has_place a (k + 5))) (not (four (pad (has_place a)) k && four (pad (has_place a)) (k + 11)))
+    forms_at a k ∙ ap (λ t. ((((is_set a k && is_set a (k + 2)) && (is_set a (k + 4) && t)) && is_set a (k + 3)) && not (is_set a (k + 1) || is_set a (k + 5))) && not (four (pad (is_set a)) k && four (pad (is_set a)) (k + 11))) (has_above a n (k + 6) w (omega arith))
+    ∙ last_false (is_set a k && is_set a (k + 2)) (is_set a (k + 4)) (is_set a (k + 3)) (not (is_set a (k + 1) || is_set a (k + 5))) (not (four (pad (is_set a)) k && four (pad (is_set a)) (k + 11)))
 
-pub finders_of : (a n : ℕ) → a < 2 ^ n → 40 * count_ones (forms a) ≡ finder_penalty n (has_place a)
+pub finders_of : (a n : ℕ) → a < 2 ^ n → 40 * count_ones (forms a) ≡ finder_penalty n (is_set a)
 unfolding finder_penalty finder_penalty_at is_finder_like
 finders_of a n w =
-    weigh_places 40 (forms a) (λ k. is_finder_like (has_place a) k && (is_light_from n (has_place a) (k - 4) (k - (k - 4)) || is_light_from n (has_place a) (k + 7) 4)) (n - 6)
-    (λ k h. forms_at a k ∙ finder_at (has_place a) n (λ j l. has_above a n j w l) k)
+    weigh_places 40 (forms a) (λ k. is_finder_like (is_set a) k && (is_light_from n (is_set a) (k - 4) (k - (k - 4)) || is_light_from n (is_set a) (k + 7) 4)) (n - 6)
+    (λ k h. forms_at a k ∙ finder_at (is_set a) n (λ j l. has_above a n j w l) k)
     (λ k h. forms_above a n k w h)
 
 -- what the words need of room

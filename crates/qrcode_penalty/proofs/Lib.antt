@@ -1,8 +1,6 @@
 pub mod ColumnWords
 pub mod Finders
+pub mod LastColumn
 pub mod Lines
-pub mod Places
 pub mod Squares
 pub mod Sums
-pub mod Words
-pub mod WrittenRows

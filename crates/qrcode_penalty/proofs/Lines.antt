@@ -4,8 +4,8 @@ use Rattle.std.proofs.lemmas.Nat.{xor_lt, shr_le, pow-add, pow_pos, zero_from_on
 use Rattle.std.proofs.Math.Nat.{mul-lt-mul_of_pos_right}
 use Rattle.std.proofs.Math.Pow.{pow_mono}
 use Rattle.std.specs.Int.Count.{ones}
-use Rattle.qrcode_penalty.specs.Rows.{has_place}
-use Rattle.qrcode_penalty.proofs.Places.{differ, has_and, has_or, has_xor, has_without, has_shr, has_shl, has_shl_below, has_first, has_first_above}
+use Rattle.qrcode_packed.specs.Rows.{is_set}
+use Rattle.qrcode_packed.proofs.Places.{differ, has_and, has_or, has_xor, has_without, has_shr, has_shl, has_shl_below, has_first, has_first_above}
 use Rattle.qrcode_penalty.specs.Penalty.{sum_below, count_if, is_run, run_penalty_at, same, run_penalty, begins_run}
 use Rattle.qrcode_penalty.proofs.Sums.{run_places, weigh_places}
 
@@ -65,15 +65,15 @@ pub none_left : (a b : ℕ) → count_ones a ≡ 0 → count_ones (without a b) 
 unfolding ones
 none_left a b h = ap (λ n. count_ones (without n b)) (zero_from_ones a h)
 
-spread_at : (a k : ℕ) → not (has_place (spread a) k) ≡ is_run (has_place a) k 5
-spread_at a k = simp (has_or, has_xor, has_shr, add_assoc) (run_test (has_place a k) (has_place a (k + 1)) (has_place a (k + 2)) (has_place a (k + 3)) (has_place a (k + 4)))
+spread_at : (a k : ℕ) → not (is_set (spread a) k) ≡ is_run (is_set a) k 5
+spread_at a k = simp (has_or, has_xor, has_shr, add_assoc) (run_test (is_set a k) (is_set a (k + 1)) (is_set a (k + 2)) (is_set a (k + 3)) (is_set a (k + 4)))
 
 -- the first n places but those of b
-pub without_at : (n b k : ℕ) → k < n → has_place (without (2 ^ n - 1) b) k ≡ not (has_place b k)
-without_at n b k h = has_without (2 ^ n - 1) b k ∙ ap (λ t. t && not (has_place b k)) (has_first n k h)
+pub without_at : (n b k : ℕ) → k < n → is_set (without (2 ^ n - 1) b) k ≡ not (is_set b k)
+without_at n b k h = has_without (2 ^ n - 1) b k ∙ ap (λ t. t && not (is_set b k)) (has_first n k h)
 
-pub without_above : (n b k : ℕ) → n ≤ k → has_place (without (2 ^ n - 1) b) k ≡ false
-without_above n b k h = has_without (2 ^ n - 1) b k ∙ ap (λ t. t && not (has_place b k)) (has_first_above n k h)
+pub without_above : (n b k : ℕ) → n ≤ k → is_set (without (2 ^ n - 1) b) k ≡ false
+without_above n b k h = has_without (2 ^ n - 1) b k ∙ ap (λ t. t && not (is_set b k)) (has_first_above n k h)
 
 abbrev pub windows : ℕ → ℕ → ℕ
 windows a n = without (2 ^ (n - 4) - 1) (spread a)
@@ -91,35 +91,35 @@ or_false : (a : Bool) → (a || false) ≡ a
 or_false true = refl
 or_false false = refl
 
-begins_at : (a k : ℕ) → has_place (bit_or (edges a * 2 ^ 1) (2 ^ 1 - 1)) k ≡ begins_run (has_place a) k
+begins_at : (a k : ℕ) → is_set (bit_or (edges a * 2 ^ 1) (2 ^ 1 - 1)) k ≡ begins_run (is_set a) k
 begins_at a zero = has_or (edges a * 2 ^ 1) (2 ^ 1 - 1) 0 ∙ ap₂ (λ (x y : Bool). x || y) (has_shl_below (edges a) 1 0 (omega arith)) (has_first 1 0 (omega arith))
 begins_at a (suc k) =
     let e : suc k ≡ k + 1 = omega arith in
-    let other : has_place (2 ^ 1 - 1) (suc k) ≡ false = has_first_above 1 (suc k) (omega arith) in
-    let shifted : has_place (edges a * 2 ^ 1) (suc k) ≡ has_place (edges a) k = ap (λ i. has_place (edges a * 2 ^ 1) i) e ∙ has_shl (edges a) 1 k in
-    let here : has_place (edges a) k ≡ not (same (has_place a k) (has_place a (suc k))) = has_xor a (a / 2 ^ 1) k ∙ ap (λ b. differ (has_place a k) b) (has_shr a 1 k ∙ ap (λ i. has_place a i) (sym e)) ∙ not_same (has_place a k) (has_place a (suc k)) in
-    has_or (edges a * 2 ^ 1) (2 ^ 1 - 1) (suc k) ∙ ap₂ (λ (x y : Bool). x || y) (shifted ∙ here) other ∙ or_false (not (same (has_place a k) (has_place a (suc k))))
+    let other : is_set (2 ^ 1 - 1) (suc k) ≡ false = has_first_above 1 (suc k) (omega arith) in
+    let shifted : is_set (edges a * 2 ^ 1) (suc k) ≡ is_set (edges a) k = ap (λ i. is_set (edges a * 2 ^ 1) i) e ∙ has_shl (edges a) 1 k in
+    let here : is_set (edges a) k ≡ not (same (is_set a k) (is_set a (suc k))) = has_xor a (a / 2 ^ 1) k ∙ ap (λ b. differ (is_set a k) b) (has_shr a 1 k ∙ ap (λ i. is_set a i) (sym e)) ∙ not_same (is_set a k) (is_set a (suc k)) in
+    has_or (edges a * 2 ^ 1) (2 ^ 1 - 1) (suc k) ∙ ap₂ (λ (x y : Bool). x || y) (shifted ∙ here) other ∙ or_false (not (same (is_set a k) (is_set a (suc k))))
 
-pub runs_of : (a n : ℕ) → count_ones (windows a n) + 2 * count_ones (first_windows a n) ≡ run_penalty n (has_place a)
+pub runs_of : (a n : ℕ) → count_ones (windows a n) + 2 * count_ones (first_windows a n) ≡ run_penalty n (is_set a)
 unfolding run_penalty run_penalty_at
 runs_of a n =
-    run_places (windows a n) (first_windows a n) (n - 4) (run_penalty_at (has_place a)) (λ k. is_run (has_place a) k 5) (begins_run (has_place a))
+    run_places (windows a n) (first_windows a n) (n - 4) (run_penalty_at (is_set a)) (λ k. is_run (is_set a) k 5) (begins_run (is_set a))
     (λ k h. without_at (n - 4) (spread a) k h ∙ spread_at a k)
     (λ k h. without_above (n - 4) (spread a) k h)
     (λ k h. has_and (windows a n) (bit_or (edges a * 2 ^ 1) (2 ^ 1 - 1)) k ∙ ap₂ (λ (x y : Bool). x && y) (without_at (n - 4) (spread a) k h ∙ spread_at a k) (begins_at a k))
-    (λ k h. has_and (windows a n) (bit_or (edges a * 2 ^ 1) (2 ^ 1 - 1)) k ∙ ap (λ x. x && has_place (bit_or (edges a * 2 ^ 1) (2 ^ 1 - 1)) k) (without_above (n - 4) (spread a) k h))
+    (λ k h. has_and (windows a n) (bit_or (edges a * 2 ^ 1) (2 ^ 1 - 1)) k ∙ ap (λ x. x && is_set (bit_or (edges a * 2 ^ 1) (2 ^ 1 - 1)) k) (without_above (n - 4) (spread a) k h))
     (λ k h. refl)
 
 -- the words of block_penalty
 abbrev pub mixed : ℕ → ℕ → ℕ
 mixed a b = bit_or (bit_or (bit_xor a b) (bit_xor a b / 2 ^ 1)) (bit_xor a (a / 2 ^ 1))
 
-mixed_at : (a b k : ℕ) → not (has_place (mixed a b) k) ≡ (same (has_place a k) (has_place a (k + 1)) && same (has_place a k) (has_place b k) && same (has_place a k) (has_place b (k + 1)))
-mixed_at a b k = simp (has_or, has_xor, has_shr) (block_test (has_place a k) (has_place a (k + 1)) (has_place b k) (has_place b (k + 1)))
+mixed_at : (a b k : ℕ) → not (is_set (mixed a b) k) ≡ (same (is_set a k) (is_set a (k + 1)) && same (is_set a k) (is_set b k) && same (is_set a k) (is_set b (k + 1)))
+mixed_at a b k = simp (has_or, has_xor, has_shr) (block_test (is_set a k) (is_set a (k + 1)) (is_set b k) (is_set b (k + 1)))
 
-pub blocks_of : (a b n : ℕ) → 3 * count_ones (without (2 ^ (n - 1) - 1) (mixed a b)) ≡ sum_below (n - 1) (λ x. count_if (same (has_place a x) (has_place a (x + 1)) && same (has_place a x) (has_place b x) && same (has_place a x) (has_place b (x + 1))) 3)
+pub blocks_of : (a b n : ℕ) → 3 * count_ones (without (2 ^ (n - 1) - 1) (mixed a b)) ≡ sum_below (n - 1) (λ x. count_if (same (is_set a x) (is_set a (x + 1)) && same (is_set a x) (is_set b x) && same (is_set a x) (is_set b (x + 1))) 3)
 blocks_of a b n =
-    weigh_places 3 (without (2 ^ (n - 1) - 1) (mixed a b)) (λ x. same (has_place a x) (has_place a (x + 1)) && same (has_place a x) (has_place b x) && same (has_place a x) (has_place b (x + 1))) (n - 1)
+    weigh_places 3 (without (2 ^ (n - 1) - 1) (mixed a b)) (λ x. same (is_set a x) (is_set a (x + 1)) && same (is_set a x) (is_set b x) && same (is_set a x) (is_set b (x + 1))) (n - 1)
     (λ k h. without_at (n - 1) (mixed a b) k h ∙ mixed_at a b k)
     (λ k h. without_above (n - 1) (mixed a b) k h)
 

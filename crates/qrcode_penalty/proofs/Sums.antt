@@ -4,8 +4,8 @@ use Rattle.std.specs.Int.{bit_at}
 use Rattle.std.specs.Int.Count.{ones, ones_step}
 use Rattle.std.proofs.lemmas.Nat.{shr_below}
 use Rattle.std.proofs.lemmas.Nat.Bits.{bit_at_lowest, bit_at-suc, bit_at-lt}
-use Rattle.qrcode_penalty.specs.Rows.{has_place}
-use Rattle.qrcode_penalty.proofs.Places.{below_from_places}
+use Rattle.qrcode_packed.specs.Rows.{is_set}
+use Rattle.qrcode_packed.proofs.Places.{below_from_places}
 use Rattle.qrcode_penalty.specs.Penalty.{sum_below, count_if}
 
 pub sum_same : (f g : ℕ → ℕ) (n : ℕ) → ((k : ℕ) → k < n → f k ≡ g k) → sum_below n f ≡ sum_below n g
@@ -44,8 +44,8 @@ bit_value (suc zero) h = refl
 bit_value (suc (suc x)) h = absurd (omega arith)
 
 -- the ones of a number are its places that are one
-ones_sum : (w n : ℕ) → n < 2 ^ w → ones n ≡ sum_below w (λ k. count_if (has_place n k) 1)
-unfolding ones has_place sum_below
+ones_sum : (w n : ℕ) → n < 2 ^ w → ones n ≡ sum_below w (λ k. count_if (is_set n k) 1)
+unfolding ones is_set sum_below
 ones_sum zero n h = let e : n ≡ 0 = omega arith in rw e refl
 ones_sum (suc w) n h =
     let half : n / 2 < 2 ^ w = shr_below n w 1 (let e : w + 1 ≡ suc w = omega arith in rw e h) in
@@ -55,17 +55,17 @@ ones_sum (suc w) n h =
     ∙ sym (sum_front (λ k. count_if (bit_at n k == 1) 1) w)
 
 -- the ones of a line, where its places are a test's answers at the first places
-pub count_places : (n : ℕ) (f : ℕ → Bool) (w : ℕ) → ((k : ℕ) → k < w → has_place n k ≡ f k) → ((k : ℕ) → w ≤ k → has_place n k ≡ false) → count_ones n ≡ sum_below w (λ k. count_if (f k) 1)
+pub count_places : (n : ℕ) (f : ℕ → Bool) (w : ℕ) → ((k : ℕ) → k < w → is_set n k ≡ f k) → ((k : ℕ) → w ≤ k → is_set n k ≡ false) → count_ones n ≡ sum_below w (λ k. count_if (f k) 1)
 count_places n f w inside above =
     ones_sum w n (below_from_places n w above)
-    ∙ sum_same (λ k. count_if (has_place n k) 1) (λ k. count_if (f k) 1) w (λ k l. ap (λ b. count_if b 1) (inside k l))
+    ∙ sum_same (λ k. count_if (is_set n k) 1) (λ k. count_if (f k) 1) w (λ k l. ap (λ b. count_if b 1) (inside k l))
 
 times_if : (c : ℕ) (b : Bool) → c * count_if b 1 ≡ count_if b c
 times_if c true = omega arith
 times_if c false = omega arith
 
 -- the same, where each such place counts c
-pub weigh_places : (c n : ℕ) (f : ℕ → Bool) (w : ℕ) → ((k : ℕ) → k < w → has_place n k ≡ f k) → ((k : ℕ) → w ≤ k → has_place n k ≡ false) → c * count_ones n ≡ sum_below w (λ k. count_if (f k) c)
+pub weigh_places : (c n : ℕ) (f : ℕ → Bool) (w : ℕ) → ((k : ℕ) → k < w → is_set n k ≡ f k) → ((k : ℕ) → w ≤ k → is_set n k ≡ false) → c * count_ones n ≡ sum_below w (λ k. count_if (f k) c)
 weigh_places c n f w inside above =
     ap (λ a. c * a) (count_places n f w inside above)
     ∙ sym (sum_times c (λ k. count_if (f k) 1) w)
@@ -76,8 +76,15 @@ one_or_three true true = refl
 one_or_three true false = refl
 one_or_three false q = refl
 
-pub run_places : (windows first : ℕ) (w : ℕ) (term : ℕ → ℕ) (f g : ℕ → Bool) → ((k : ℕ) → k < w → has_place windows k ≡ f k) → ((k : ℕ) → w ≤ k → has_place windows k ≡ false) → ((k : ℕ) → k < w → has_place first k ≡ (f k && g k)) → ((k : ℕ) → w ≤ k → has_place first k ≡ false) → ((k : ℕ) → k < w → count_if (f k) (if g k then 3 else 1) ≡ term k) → count_ones windows + 2 * count_ones first ≡ sum_below w term
+pub run_places : (windows first : ℕ) (w : ℕ) (term : ℕ → ℕ) (f g : ℕ → Bool) → ((k : ℕ) → k < w → is_set windows k ≡ f k) → ((k : ℕ) → w ≤ k → is_set windows k ≡ false) → ((k : ℕ) → k < w → is_set first k ≡ (f k && g k)) → ((k : ℕ) → w ≤ k → is_set first k ≡ false) → ((k : ℕ) → k < w → count_if (f k) (if g k then 3 else 1) ≡ term k) → count_ones windows + 2 * count_ones first ≡ sum_below w term
 run_places windows first w term f g a b c d e =
     ap₂ (λ (x y : ℕ). x + y) (count_places windows f w a b) (weigh_places 2 first (λ k. f k && g k) w c d)
     ∙ sym (sum_plus (λ k. count_if (f k) 1) (λ k. count_if (f k && g k) 2) w)
     ∙ sum_same (λ k. count_if (f k) 1 + count_if (f k && g k) 2) term w (λ k l. one_or_three (f k) (g k) ∙ e k l)
+
+-- a sum goes on with the next number
+pub sum_step : (f : ℕ → ℕ) (n s v : ℕ) → s ≡ sum_below n f → v ≡ f n → s + v ≡ sum_below (n + 1) f
+unfolding sum_below
+sum_step f n s v h k =
+    let e : n + 1 ≡ suc n = omega arith in
+    ap₂ (λ (a b : ℕ). a + b) h k ∙ ap (λ m. sum_below m f) (sym e)

@@ -67,9 +67,13 @@ block_penalty_at dark y x = count_if (same (dark x y) (dark (x + 1) y) && same (
 unfoldable pub block_penalty : ℕ → (ℕ → ℕ → Bool) → ℕ
 block_penalty w dark = sum_below (w - 1) (λ y. sum_below (w - 1) (block_penalty_at dark y))
 
+-- how many places of a line are dark
+unfoldable pub dark_count_in : ℕ → (ℕ → Bool) → ℕ
+dark_count_in n line = sum_below n (λ x. count_if (line x) 1)
+
 -- how many places of a square are dark
 unfoldable pub dark_count : ℕ → (ℕ → ℕ → Bool) → ℕ
-dark_count w dark = sum_below w (λ y. sum_below w (λ x. count_if (dark x y) 1))
+dark_count w dark = sum_below w (λ y. dark_count_in w (λ x. dark x y))
 
 -- how far the share of dark modules is from half, in steps of half a hundredth, the share being rounded down
 unfoldable pub balance_penalty : ℕ → (ℕ → ℕ → Bool) → ℕ

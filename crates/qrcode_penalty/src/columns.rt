@@ -1,180 +1,160 @@
 //! What the columns of a square and its two by two modules cost: the columns lie side by side in the words of its rows.
 
-ghost use Rattle.std.specs.Prelude.{◌≡◌, ℕ, ◌+◌, ◌-◌, ◌*◌, ◌<◌, ◌≤◌, ◌^◌, ◌&&◌, length, map, bit_or};
-ghost use Rattle.qrcode_penalty.specs.Penalty.{run_penalty_at, finder_penalty_at, block_penalty, light_count, sum_below, count_if, same, begins_run};
-ghost use Rattle.qrcode_penalty.specs.Rows.{AllEndBefore, has_place, dark_in, padded_row};
+ghost use Rattle.std.specs.Prelude.{◌≡◌, ℕ, ◌+◌, ◌-◌, ◌*◌, ◌<◌, ◌≤◌, ◌^◌, bit_or};
+ghost use Rattle.qrcode_packed.specs.Rows.{is_set, dark_in};
+ghost use Rattle.qrcode_penalty.specs.Penalty.{run_penalty_at, finder_penalty_at, block_penalty, block_penalty_at, sum_below, begins_run};
+ghost use Rattle.qrcode_penalty.specs.Padding.{padded_row};
 
-use crate::line::Line;
+use qrcode_packed::row::PackedRow;
+use qrcode_packed::square::PackedSquare;
 
-// The places of row y at which a column begins or changes its colour.
+// The columns in which a run begins in row y.
 #[inline(always)]
-fn changes_at<L: Line>(rows: &[L], y: usize, width: u32) -> L
-    requires room { width + 3 ≤ L.room }
-    requires inside { y < length rows.now }
-    ensures { (x : ℕ) → x < width
-        → has_place (L.places result) x ≡ begins_run (dark_in (map L.places rows.now) x) y }
+fn begun_at<R: PackedRow>(square: &PackedSquare<'_, R>, y: usize) -> R
+    requires { y < square.now.width }
+    ensures { (x : ℕ) → x < square.now.width
+        → is_set (R.bits result) x ≡ begins_run (dark_in square.now.rows x) y }
 {
     if y == 0 {
-        return L::first(width);
+        return R::first(square.width());
     }
-    rows[y - 1].xor(rows[y])
+    square.row(y - 1).xor(square.row(y))
 }
 
 // What the windows of five that begin in row y cost, over all columns.
 #[inline(always)]
-fn column_runs<L: Line>(rows: &[L], y: usize, width: u32) -> u32
-    requires room { width + 3 ≤ L.room }
-    requires inside { y + 4 < length rows.now }
-    ensures value { result
-        ≡ sum_below width (λ x. run_penalty_at (dark_in (map L.places rows.now) x) y) }
-    ensures most { result ≤ 600 }
+fn column_runs<R: PackedRow>(square: &PackedSquare<'_, R>, y: usize) -> u32
+    requires { y + 4 < square.now.width }
+    ensures value { result ≡ sum_below square.now.width
+        (λ x. run_penalty_at (dark_in square.now.rows x) y) }
+    ensures at_most { result ≤ 600 }
 {
-    let top = rows[y];
-    let near = top.xor(rows[y + 1]).or(top.xor(rows[y + 2]));
-    let far = top.xor(rows[y + 3]).or(top.xor(rows[y + 4]));
-    let windows = L::first(width).without(near.or(far));
-    let begins = windows.and(changes_at(rows, y, width));
+    let width = square.width();
+    let top = square.row(y);
+    let near = top.xor(square.row(y + 1)).or(top.xor(square.row(y + 2)));
+    let far = top.xor(square.row(y + 3)).or(top.xor(square.row(y + 4)));
+    let windows = R::first(width).without(near.or(far));
+    let begins = windows.and(begun_at(square, y));
     windows.count_ones() + 2 * begins.count_ones()
 }
 
 // The k-th row of a square with four light rows before it and light rows behind it.
 #[inline(always)]
-fn padded_row<L: Line>(rows: &[L], k: usize) -> L
-    requires { 0 < L.room }
-    ensures { L.places result ≡ padded_row (map L.places rows.now) k }
+fn padded_row<R: PackedRow>(square: &PackedSquare<'_, R>, k: usize) -> R
+    ensures { R.bits result ≡ padded_row square.now.rows k }
 {
-    if k >= 4 && k - 4 < rows.len() {
-        return rows[k - 4];
+    let width = square.width();
+    if k >= 4 && k - 4 < width as usize {
+        return square.row(k - 4);
     }
-    L::first(0)
+    R::first(0)
 }
 
 // Where one of the four rows from the k-th on is dark, light rows being put around the square.
 #[inline(always)]
-fn four_rows<L: Line>(rows: &[L], k: usize) -> L
-    requires room { 0 < L.room }
-    requires small { k < 2 ^ 32 }
-    ensures { let rows = map L.places rows.now in L.places result
-        ≡ bit_or (bit_or (padded_row rows k) (padded_row rows (k + 1)))
-        (bit_or (padded_row rows (k + 2)) (padded_row rows (k + 3))) }
+fn four_rows<R: PackedRow>(square: &PackedSquare<'_, R>, k: usize) -> R
+    requires { k < 2 ^ 32 }
+    ensures { let row = padded_row square.now.rows in R.bits result
+        ≡ bit_or (bit_or (row k) (row (k + 1))) (bit_or (row (k + 2)) (row (k + 3))) }
 {
-    if k >= 4 && k < rows.len() {
-        let first = rows[k - 4].or(rows[k - 3]);
-        return first.or(rows[k - 2].or(rows[k - 1]));
+    let width = square.width();
+    if k >= 4 && k < width as usize {
+        let first = square.row(k - 4).or(square.row(k - 3));
+        return first.or(square.row(k - 2).or(square.row(k - 1)));
     }
-    let first = padded_row(rows, k).or(padded_row(rows, k + 1));
-    let second = padded_row(rows, k + 2).or(padded_row(rows, k + 3));
+    let first = padded_row(square, k).or(padded_row(square, k + 1));
+    let second = padded_row(square, k + 2).or(padded_row(square, k + 3));
     first.or(second)
 }
 
 // What the finder forms that begin in row y cost, over all columns.
 #[inline(always)]
-fn column_finders<L: Line>(rows: &[L], y: usize, width: u32) -> u32
-    requires narrow { width ≤ 189 }
-    requires room { width + 3 ≤ L.room }
-    requires inside { y + 6 < length rows.now }
-    requires square { length rows.now ≡ width }
-    requires ends { AllEndBefore width (map L.places rows.now) }
-    ensures value { result
-        ≡ sum_below width (λ x. finder_penalty_at width (dark_in (map L.places rows.now) x) y) }
-    ensures most { result ≤ 8000 }
+fn column_finders<R: PackedRow>(square: &PackedSquare<'_, R>, y: usize) -> u32
+    requires { y + 6 < square.now.width }
+    ensures value { result ≡ sum_below square.now.width
+        (λ x. finder_penalty_at square.now.width (dark_in square.now.rows x) y) }
+    ensures at_most { result ≤ 8000 }
 {
-    let ends = rows[y].and(rows[y + 2]).and(rows[y + 4].and(rows[y + 6]));
-    let dark = ends.and(rows[y + 3]);
-    let light = rows[y + 1].or(rows[y + 5]);
+    let _width = square.width();
+    let upper = square.row(y).and(square.row(y + 2));
+    let ends = upper.and(square.row(y + 4).and(square.row(y + 6)));
+    let dark = ends.and(square.row(y + 3));
+    let light = square.row(y + 1).or(square.row(y + 5));
     let forms = dark.without(light);
     if forms.count_ones() == 0 {
         return 0;
     }
-    let crowded = four_rows(rows, y).and(four_rows(rows, y + 11));
+    let crowded = four_rows(square, y).and(four_rows(square, y + 11));
     40 * forms.without(crowded).count_ones()
 }
 
-// 3 for each two by two modules of one colour between two neighbouring rows.
+// 3 for each two by two modules of one colour between row y and the next.
 #[inline(always)]
-fn blocks_between<L: Line>(upper: L, lower: L, width: u32) -> u32
-    requires wide { 7 ≤ width }
-    requires room { width + 3 ≤ L.room }
-    ensures value { let upper = has_place (L.places upper) in
-        let lower = has_place (L.places lower) in result
-        ≡ sum_below (width - 1) (λ x. count_if (same (upper x) (upper (x + 1)) && same (upper x) (lower x)
-        && same (upper x) (lower (x + 1))) 3) }
-    ensures most { result ≤ 600 }
+fn blocks_below<R: PackedRow>(square: &PackedSquare<'_, R>, y: usize) -> u32
+    requires { y + 1 < square.now.width }
+    ensures value { result ≡ sum_below (square.now.width - 1)
+        (block_penalty_at (dark_in square.now.rows) y) }
+    ensures at_most { result ≤ 600 }
 {
-    let across = upper.xor(lower);
+    let width = square.width();
+    let upper = square.row(y);
+    let across = upper.xor(square.row(y + 1));
     let along = upper.xor(upper.down(1));
     let mixed = across.or(across.down(1)).or(along);
-    3 * L::first(width - 1).without(mixed).count_ones()
+    3 * R::first(width - 1).without(mixed).count_ones()
 }
 
 /// What the runs of all columns cost, by the rows in which their windows begin.
-#[tactic(auto, using(crate::proofs::Squares::sum_step), unfolding(crate::specs::Penalty::sum_below))]
-pub(crate) fn column_run_penalties<L: Line>(rows: &[L], width: u32) -> u32
-    requires wide { 7 ≤ width }
-    requires narrow { width ≤ 189 }
-    requires room { width + 3 ≤ L.room }
-    requires square { length rows.now ≡ width }
-    ensures value { result ≡ sum_below (width - 4)
-        (λ y. sum_below width (λ x. run_penalty_at (dark_in (map L.places rows.now) x) y)) }
-    ensures most { result ≤ 10000 * width }
+#[tactic(auto, using(crate::proofs::Sums::sum_step), unfolding(crate::specs::Penalty::sum_below))]
+pub(crate) fn column_run_penalties<R: PackedRow>(square: &PackedSquare<'_, R>) -> u32
+    ensures value { result ≡ sum_below (square.now.width - 4)
+        (λ y. sum_below square.now.width (λ x. run_penalty_at (dark_in square.now.rows x) y)) }
+    ensures at_most { result ≤ 10000 * square.now.width }
 {
     let mut total = 0;
-    for y in 0..rows.len() - 4 {
-        total += column_runs(rows, y, width);
+    for y in 0..square.width() as usize - 4 {
+        total += column_runs(square, y);
     }
     total
 }
 
 /// What the finder forms of all columns cost, by the rows in which they begin.
-#[tactic(auto, using(crate::proofs::Squares::sum_step), unfolding(crate::specs::Penalty::sum_below))]
-pub(crate) fn column_finder_penalties<L: Line>(rows: &[L], width: u32) -> u32
-    requires wide { 7 ≤ width }
-    requires narrow { width ≤ 189 }
-    requires room { width + 3 ≤ L.room }
-    requires square { length rows.now ≡ width }
-    requires ends { AllEndBefore width (map L.places rows.now) }
-    ensures value { result ≡ sum_below (width - 6)
-        (λ y. sum_below width (λ x. finder_penalty_at width (dark_in (map L.places rows.now) x) y)) }
-    ensures most { result ≤ 10000 * width }
+#[tactic(auto, using(crate::proofs::Sums::sum_step), unfolding(crate::specs::Penalty::sum_below))]
+pub(crate) fn column_finder_penalties<R: PackedRow>(square: &PackedSquare<'_, R>) -> u32
+    ensures value { let width = square.now.width in result ≡ sum_below (width - 6)
+        (λ y. sum_below width (λ x. finder_penalty_at width (dark_in square.now.rows x) y)) }
+    ensures at_most { result ≤ 10000 * square.now.width }
 {
     let mut total = 0;
-    for y in 0..rows.len() - 6 {
-        total += column_finders(rows, y, width);
+    for y in 0..square.width() as usize - 6 {
+        total += column_finders(square, y);
     }
     total
 }
 
 /// What all two by two modules of one colour cost.
-#[tactic(auto, unfolding(crate::specs::Penalty::sum_below, crate::specs::Penalty::block_penalty))]
-pub(crate) fn block_penalties<L: Line>(rows: &[L], width: u32) -> u32
-    requires wide { 7 ≤ width }
-    requires narrow { width ≤ 189 }
-    requires room { width + 3 ≤ L.room }
-    requires square { length rows.now ≡ width }
-    ensures value { result ≡ block_penalty width (dark_in (map L.places rows.now)) }
-    ensures most { result ≤ 10000 * width }
+#[tactic(auto, using(crate::proofs::Sums::sum_step), unfolding(crate::specs::Penalty::sum_below, crate::specs::Penalty::block_penalty))]
+pub(crate) fn block_penalties<R: PackedRow>(square: &PackedSquare<'_, R>) -> u32
+    ensures value { result ≡ block_penalty square.now.width (dark_in square.now.rows) }
+    ensures at_most { result ≤ 10000 * square.now.width }
 {
     let mut total = 0;
-    for y in 0..rows.len() - 1 {
-        total += blocks_between(rows[y], rows[y + 1], width);
+    for y in 0..square.width() as usize - 1 {
+        total += blocks_below(square, y);
     }
     total
 }
 
-/// How many places of the last column are light, the first one aside.
-#[tactic(auto, unfolding(crate::specs::Penalty::sum_below))]
-pub(crate) fn last_column_light_count<L: Line>(rows: &[L], width: u32) -> u32
-    requires wide { 7 ≤ width }
-    requires narrow { width ≤ 189 }
-    requires room { width + 3 ≤ L.room }
-    requires square { length rows.now ≡ width }
-    ensures value { result ≡ light_count width (dark_in (map L.places rows.now) (width - 1)) }
-    ensures most { result ≤ 192 * width }
+/// The last column as a row: bit y stands for its module in row y.
+pub(crate) fn last_column<R: PackedRow>(square: &PackedSquare<'_, R>) -> R
+    ensures { (y : ℕ) → y < square.now.width
+        → is_set (R.bits result) y ≡ dark_in square.now.rows (square.now.width - 1) y }
 {
-    let last = L::first(width).without(L::first(width - 1));
-    let mut total = 0;
-    for y in 0..rows.len() - 1 {
-        total += last.without(rows[y + 1]).count_ones();
+    let width = square.width();
+    let last = R::first(width).without(R::first(width - 1));
+    let mut column = R::first(0);
+    for y in 0..width as usize {
+        column = column.down(1).or(square.row(y).and(last));
     }
-    total
+    column
 }

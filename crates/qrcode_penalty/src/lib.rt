@@ -2,6 +2,5 @@
 #![tactic(auto)]
 
 mod columns;
-pub mod line;
 pub mod penalty;
 mod rows;

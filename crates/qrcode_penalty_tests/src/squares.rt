@@ -1,12 +1,13 @@
 //! Squares of many kinds: what their packed rows cost, and what the judge counts module by module.
 
-ghost use Rattle.std.specs.Prelude.{◌≡◌, ◌+◌, ◌<◌, ◌≤◌, length, map, vec_len, IfOk};
-ghost use Rattle.qrcode_penalty.specs.Rows.{EndsBefore, AllEndBefore};
+ghost use Rattle.std.specs.Prelude.{◌≡◌, ◌+◌, ◌<◌, ◌≤◌, length, map, IfOk};
+ghost use Rattle.qrcode_packed.specs.Rows.{FitsWidth, IsSquare};
 
 use qrcode_judge::penalty::{Penalty, Term};
 use qrcode_judge::reading::{Read, Unreadable};
 use qrcode_judge::square::{Place, Square};
-use qrcode_penalty::line::{Line, ThreeWords};
+use qrcode_packed::row::{PackedRow, Row192};
+use qrcode_packed::square::PackedSquare;
 use qrcode_penalty::penalty::{micro_penalty, normal_penalty};
 use std::alloc::Global;
 use std::process::Abort;
@@ -81,27 +82,27 @@ fn is_dark_by_run(first: usize, past: usize, x: usize, y: usize) -> bool {
 }
 
 // The row with the places from `first` to before `past` changed.
-fn changed<L: Line>(row: L, first: u32, past: u32) -> L
-    requires first { first < L.room }
-    requires past { past < L.room }
+fn changed<R: PackedRow>(row: R, first: u32, past: u32) -> R
+    requires first { first < R.room }
+    requires past { past < R.room }
 {
-    row.xor(L::first(past)).xor(L::first(first))
+    row.xor(R::first(past)).xor(R::first(first))
 }
 
 // The first `width` places of a row.
-#[tactic(auto, using(qrcode_penalty::proofs::WrittenRows::cut_ends))]
-fn cut<L: Line>(row: L, width: u32) -> L
-    requires { width < L.room }
-    ensures { EndsBefore width (L.places result) }
+#[tactic(auto, using(qrcode_packed::proofs::RowLists::cut_fits))]
+fn cut<R: PackedRow>(row: R, width: u32) -> R
+    requires { width < R.room }
+    ensures { FitsWidth width (R.bits result) }
 {
-    row.and(L::first(width))
+    row.and(R::first(width))
 }
 
-fn row_of<L: Line>(square: &Square, y: usize, width: u32) -> L
-    requires { width < L.room }
-    ensures { EndsBefore width (L.places result) }
+fn row_of<R: PackedRow>(square: &Square, y: usize, width: u32) -> R
+    requires { width < R.room }
+    ensures { FitsWidth width (R.bits result) }
 {
-    let mut row = L::first(0);
+    let mut row = R::first(0);
     for x in 0..width {
         let place = Place { x: x as usize, y };
         if square.is_dark(place) {
@@ -111,10 +112,11 @@ fn row_of<L: Line>(square: &Square, y: usize, width: u32) -> L
     cut(row, width)
 }
 
-fn fill<L: Line>(square: &Square, width: u32, rows: &mut [L])
-    requires room { width < L.room }
-    requires size { length rows.old ≡ width }
-    ensures { AllEndBefore width (map L.places rows.new) }
+fn fill<R: PackedRow>(square: &Square, width: u32, rows: &mut [R])
+    requires at_least { 7 ≤ width }
+    requires room { width + 3 ≤ R.room }
+    requires length { length rows.old ≡ width }
+    ensures { IsSquare R.room (record { width = width; rows = map R.bits rows.new }) }
 {
     for y in 0..rows.len() {
         rows[y] = row_of(square, y, width);
@@ -122,23 +124,25 @@ fn fill<L: Line>(square: &Square, width: u32, rows: &mut [L])
 }
 
 // The rows of a square.
-fn rows_of<L: Line>(alloc: Global, square: &Square, width: u32) -> Read<Vec<L>>
-    requires room { width < L.room }
-    ensures size { IfOk result (λ rows. vec_len rows ≡ width) }
-    ensures end { IfOk result (λ rows. AllEndBefore width (map L.places rows.items)) }
+fn rows_of<R: PackedRow>(alloc: Global, square: &Square, width: u32) -> Read<Vec<R>>
+    requires at_least { 7 ≤ width }
+    requires room { width + 3 ≤ R.room }
+    ensures { IfOk result (λ rows.
+        IsSquare R.room (record { width = width; rows = map R.bits rows.items })) }
 {
-    let mut rows = vec![in alloc; L::first(0); width as usize]?;
+    let mut rows = vec![in alloc; R::first(0); width as usize]?;
     fill(square, width, &mut rows);
     Ok(rows)
 }
 
 // The penalties of Normal and of Micro, on packed rows.
-fn packed_in<L: Line>(alloc: Global, square: &Square, width: u32) -> Read<(u32, u32)>
-    requires wide { 7 ≤ width }
-    requires room { width + 3 ≤ L.room }
+fn packed_in<R: PackedRow>(alloc: Global, square: &Square, width: u32) -> Read<(u32, u32)>
+    requires at_least { 7 ≤ width }
+    requires room { width + 3 ≤ R.room }
 {
-    let rows = rows_of::<L>(alloc, square, width)?;
-    Ok((normal_penalty(&rows, width), micro_penalty(&rows, width)))
+    let rows = rows_of::<R>(alloc, square, width)?;
+    let packed = PackedSquare::new(&rows, width);
+    Ok((normal_penalty(&packed), micro_penalty(&packed)))
 }
 
 // The types of rows.
@@ -154,7 +158,7 @@ fn packed(alloc: Global, square: &Square, rows: Rows) -> Read<(u32, u32)> {
     match (rows, square.width) {
         (Rows::OneWord, 7..=61) => packed_in::<u64>(alloc, square, square.width as u32),
         (Rows::TwoWords, 7..=125) => packed_in::<u128>(alloc, square, square.width as u32),
-        (Rows::ThreeWords, 7..=177) => packed_in::<ThreeWords>(alloc, square, square.width as u32),
+        (Rows::ThreeWords, 7..=177) => packed_in::<Row192>(alloc, square, square.width as u32),
         _ => Err(Unreadable),
     }
 }

@@ -4,8 +4,8 @@ use Rattle.std.proofs.lemmas.Bool.Decides.{eqb_tells, leb_tells, nat_tests}
 use Rattle.std.specs.declared.option.Option.TheVariants.{Some, None}
 use Rattle.qrcode_types.specs.declared.types.Version.{Version}
 use Rattle.qrcode_types.specs.declared.types.Version.TheVariants.{Normal, Micro}
-use Rattle.qrcode_penalty.specs.Rows.{has_place}
-use Rattle.qrcode_penalty.proofs.Places.{has_or, has_without, has_first, has_first_above, has_above, below_from_places}
+use Rattle.qrcode_packed.specs.Rows.{is_set}
+use Rattle.qrcode_packed.proofs.Places.{has_or, has_without, has_first, has_first_above, has_above, below_from_places}
 use Rattle.qrcode_types.specs.Versions.{side}
 use Rattle.qrcode_places.specs.Patterns.{dark_module}
 use Rattle.qrcode_places.proofs.FormatPlaces.{normal_index, micro_index}
@@ -15,17 +15,17 @@ use Rattle.qrcode_symbol.specs.Masking.{fixed_bit}
 abbrev pub one : ℕ → ℕ
 one p = bit_xor (2 ^ (p + 1) - 1) (bit_and (2 ^ (p + 1) - 1) (2 ^ p - 1))
 
-one_at : (p : ℕ) → has_place (one p) p ≡ true
+one_at : (p : ℕ) → is_set (one p) p ≡ true
 one_at p =
     has_without (2 ^ (p + 1) - 1) (2 ^ p - 1) p
     ∙ ap₂ (λ (a b : Bool). a && not b) (has_first (p + 1) p (omega arith)) (has_first_above p p (omega arith))
 
-one_other : (p k : ℕ) → k ≢ p → has_place (one p) k ≡ false
+one_other : (p k : ℕ) → k ≢ p → is_set (one p) k ≡ false
 one_other p k h =
     has_without (2 ^ (p + 1) - 1) (2 ^ p - 1) k
     ∙ elim (leb_tells (suc k) p) [
       | inl q ↦ ap₂ (λ (a b : Bool). a && not b) (has_first (p + 1) k (omega (arith, q.1))) (has_first p k (omega (arith, q.1)))
-      | inr q ↦ ap (λ a. a && not (has_place (2 ^ p - 1) k)) (has_first_above (p + 1) k (omega (arith, q.1, h)))
+      | inr q ↦ ap (λ a. a && not (is_set (2 ^ p - 1) k)) (has_first_above (p + 1) k (omega (arith, q.1, h)))
     ]
 
 or_true : (a : Bool) → (a || true) ≡ true
@@ -44,20 +44,20 @@ and_true : (a : Bool) → (a && true) ≡ a
 and_true true = refl
 and_true false = refl
 
-pub set_here : (n p : ℕ) → has_place (bit_or n (one p)) p ≡ true
-set_here n p = has_or n (one p) p ∙ ap (λ b. has_place n p || b) (one_at p) ∙ or_true (has_place n p)
+pub set_here : (n p : ℕ) → is_set (bit_or n (one p)) p ≡ true
+set_here n p = has_or n (one p) p ∙ ap (λ b. is_set n p || b) (one_at p) ∙ or_true (is_set n p)
 
-pub set_other : (n p k : ℕ) → k ≢ p → has_place (bit_or n (one p)) k ≡ has_place n k
-set_other n p k h = has_or n (one p) k ∙ ap (λ b. has_place n k || b) (one_other p k h) ∙ or_false (has_place n k)
+pub set_other : (n p k : ℕ) → k ≢ p → is_set (bit_or n (one p)) k ≡ is_set n k
+set_other n p k h = has_or n (one p) k ∙ ap (λ b. is_set n k || b) (one_other p k h) ∙ or_false (is_set n k)
 
-pub unset_here : (n p : ℕ) → has_place (bit_xor n (bit_and n (one p))) p ≡ false
-unset_here n p = has_without n (one p) p ∙ ap (λ b. has_place n p && not b) (one_at p) ∙ and_false (has_place n p)
+pub unset_here : (n p : ℕ) → is_set (bit_xor n (bit_and n (one p))) p ≡ false
+unset_here n p = has_without n (one p) p ∙ ap (λ b. is_set n p && not b) (one_at p) ∙ and_false (is_set n p)
 
-pub unset_other : (n p k : ℕ) → k ≢ p → has_place (bit_xor n (bit_and n (one p))) k ≡ has_place n k
-unset_other n p k h = has_without n (one p) k ∙ ap (λ b. has_place n k && not b) (one_other p k h) ∙ and_true (has_place n k)
+pub unset_other : (n p k : ℕ) → k ≢ p → is_set (bit_xor n (bit_and n (one p))) k ≡ is_set n k
+unset_other n p k h = has_without n (one p) k ∙ ap (λ b. is_set n k && not b) (one_other p k h) ∙ and_true (is_set n k)
 
 -- a row that differs from another in one place at most
-pub ends_after_put : (new row p width : ℕ) → ((k : ℕ) → k ≢ p → has_place new k ≡ has_place row k) → p < width → row < 2 ^ width → new < 2 ^ width
+pub ends_after_put : (new row p width : ℕ) → ((k : ℕ) → k ≢ p → is_set new k ≡ is_set row k) → p < width → row < 2 ^ width → new < 2 ^ width
 ends_after_put new row p width others inside ends = below_from_places new width (λ k h. others k (λ e. absurd (omega arith)) ∙ has_above row width k ends h)
 
 elsewhere : (v : Version) (word x y : ℕ) → x ≢ 8 → y ≢ 8 → fixed_bit v word x y ≡ None
@@ -76,32 +76,32 @@ unfolding fixed_bit dark_module
 column_between (Normal v) word y h k = rw (normal_index (Normal v) 8 y refl, fixed_bit) (grind (arith, nat_tests))
 column_between (Micro v) word y h k = rw (micro_index (Micro v) 8 y refl, fixed_bit) (grind (arith, nat_tests))
 
-pub place_some : (v : Version) (word y new row : ℕ) (b : Bool) → y ≢ 8 → fixed_bit v word 8 y ≡ Some b → has_place new 8 ≡ b → ((k : ℕ) → k ≢ 8 → has_place new k ≡ has_place row k) →
-    (x : ℕ) → has_place new x ≡ unwrap_or (fixed_bit v word x y) (has_place row x)
+pub place_some : (v : Version) (word y new row : ℕ) (b : Bool) → y ≢ 8 → fixed_bit v word 8 y ≡ Some b → is_set new 8 ≡ b → ((k : ℕ) → k ≢ 8 → is_set new k ≡ is_set row k) →
+    (x : ℕ) → is_set new x ≡ unwrap_or (fixed_bit v word x y) (is_set row x)
 place_some v word y new row b k e here others x =
     elim (eqb_tells x 8) [
-      | inl p ↦ ap (has_place new) p.1 ∙ here ∙ sym (ap (λ o. unwrap_or o (has_place row x)) (ap (λ i. fixed_bit v word i y) p.1 ∙ e))
-      | inr p ↦ others x p.1 ∙ sym (ap (λ o. unwrap_or o (has_place row x)) (elsewhere v word x y p.1 k))
+      | inl p ↦ ap (is_set new) p.1 ∙ here ∙ sym (ap (λ o. unwrap_or o (is_set row x)) (ap (λ i. fixed_bit v word i y) p.1 ∙ e))
+      | inr p ↦ others x p.1 ∙ sym (ap (λ o. unwrap_or o (is_set row x)) (elsewhere v word x y p.1 k))
     ]
 
-pub place_none : (v : Version) (word y row : ℕ) → y ≢ 8 → fixed_bit v word 8 y ≡ None → (x : ℕ) → has_place row x ≡ unwrap_or (fixed_bit v word x y) (has_place row x)
+pub place_none : (v : Version) (word y row : ℕ) → y ≢ 8 → fixed_bit v word 8 y ≡ None → (x : ℕ) → is_set row x ≡ unwrap_or (fixed_bit v word x y) (is_set row x)
 place_none v word y row k e x =
     elim (eqb_tells x 8) [
-      | inl p ↦ sym (ap (λ o. unwrap_or o (has_place row x)) (ap (λ i. fixed_bit v word i y) p.1 ∙ e))
-      | inr p ↦ sym (ap (λ o. unwrap_or o (has_place row x)) (elsewhere v word x y p.1 k))
+      | inl p ↦ sym (ap (λ o. unwrap_or o (is_set row x)) (ap (λ i. fixed_bit v word i y) p.1 ∙ e))
+      | inr p ↦ sym (ap (λ o. unwrap_or o (is_set row x)) (elsewhere v word x y p.1 k))
     ]
 
 -- row 8 is done from one place on and below x, and elsewhere as it was
 pub record IsFixedFrom (v : Version) (word row width line from x : ℕ) : Type 0 where
-  pub done : (k : ℕ) → k < x → from ≤ k → has_place line k ≡ unwrap_or (fixed_bit v word k 8) (has_place row k)
-  pub before : (k : ℕ) → k < from → has_place line k ≡ has_place row k
-  pub behind : (k : ℕ) → x ≤ k → has_place line k ≡ has_place row k
+  pub done : (k : ℕ) → k < x → from ≤ k → is_set line k ≡ unwrap_or (fixed_bit v word k 8) (is_set row k)
+  pub before : (k : ℕ) → k < from → is_set line k ≡ is_set row k
+  pub behind : (k : ℕ) → x ≤ k → is_set line k ≡ is_set row k
   pub ends : line < 2 ^ width
 
-pub fixed_more : (v : Version) (word row width line from x new : ℕ) → from ≤ x → x < width → has_place new x ≡ unwrap_or (fixed_bit v word x 8) (has_place line x) →
-    ((k : ℕ) → k ≢ x → has_place new k ≡ has_place line k) → IsFixedFrom v word row width line from x → IsFixedFrom v word row width new from (x + 1)
+pub fixed_more : (v : Version) (word row width line from x new : ℕ) → from ≤ x → x < width → is_set new x ≡ unwrap_or (fixed_bit v word x 8) (is_set line x) →
+    ((k : ℕ) → k ≢ x → is_set new k ≡ is_set line k) → IsFixedFrom v word row width line from x → IsFixedFrom v word row width new from (x + 1)
 fixed_more v word row width line from x new low inside here others so_far = record {
-  done = below_more (λ k. from ≤ k → has_place new k ≡ unwrap_or (fixed_bit v word k 8) (has_place row k)) x
+  done = below_more (λ k. from ≤ k → is_set new k ≡ unwrap_or (fixed_bit v word k 8) (is_set row k)) x
       (λ k l h. others k (λ e. absurd (omega (arith, l, e))) ∙ so_far.done k l h)
       (λ h. here ∙ ap (unwrap_or (fixed_bit v word x 8)) (so_far.behind x (omega arith)));
   before = λ k h. others k (λ e. absurd (omega (arith, h, e, low))) ∙ so_far.before k h;
@@ -110,16 +110,16 @@ fixed_more v word row width line from x new low inside here others so_far = reco
 }
 
 -- what the places of both corners make of the row
-pub both_corners : (v : Version) (word row left new : ℕ) → ((k : ℕ) → k < 9 → has_place left k ≡ unwrap_or (fixed_bit v word k 8) (has_place row k)) →
-    ((k : ℕ) → 9 ≤ k → has_place left k ≡ has_place row k) →
-    ((k : ℕ) → 9 ≤ k → side v ≤ k + 8 → k < side v → has_place new k ≡ unwrap_or (fixed_bit v word k 8) (has_place left k)) →
-    ((k : ℕ) → k < 9 → has_place new k ≡ has_place left k) →
-    ((k : ℕ) → k + 8 < side v → has_place new k ≡ has_place left k) →
-    (x : ℕ) → x < side v → has_place new x ≡ unwrap_or (fixed_bit v word x 8) (has_place row x)
+pub both_corners : (v : Version) (word row left new : ℕ) → ((k : ℕ) → k < 9 → is_set left k ≡ unwrap_or (fixed_bit v word k 8) (is_set row k)) →
+    ((k : ℕ) → 9 ≤ k → is_set left k ≡ is_set row k) →
+    ((k : ℕ) → 9 ≤ k → side v ≤ k + 8 → k < side v → is_set new k ≡ unwrap_or (fixed_bit v word k 8) (is_set left k)) →
+    ((k : ℕ) → k < 9 → is_set new k ≡ is_set left k) →
+    ((k : ℕ) → k + 8 < side v → is_set new k ≡ is_set left k) →
+    (x : ℕ) → x < side v → is_set new x ≡ unwrap_or (fixed_bit v word x 8) (is_set row x)
 both_corners v word row left new low high last same others x h =
     elim (leb_tells 9 x) [
       | inl p ↦ elim (leb_tells (x + 9) (side v)) [
-        | inl q ↦ others x (omega (arith, q.1)) ∙ high x p.1 ∙ sym (ap (λ o. unwrap_or o (has_place row x)) (row_between v word x p.1 (omega (arith, q.1))))
+        | inl q ↦ others x (omega (arith, q.1)) ∙ high x p.1 ∙ sym (ap (λ o. unwrap_or o (is_set row x)) (row_between v word x p.1 (omega (arith, q.1))))
         | inr q ↦ last x p.1 (omega (arith, q.1)) h ∙ ap (λ b. unwrap_or (fixed_bit v word x 8) b) (high x p.1)
       ]
       | inr p ↦ same x p.1 ∙ low x p.1

@@ -4,7 +4,7 @@ use Rattle.std.proofs.Math.Nat.{mul-add}
 use Rattle.std.proofs.lemmas.Nat.{shr_split}
 use Rattle.std.proofs.lemmas.Nat.Bits.{bit_at_cat_low}
 use Rattle.std.specs.Int.{bit_at}
-use Rattle.qrcode_penalty.specs.Rows.{has_place}
+use Rattle.qrcode_packed.specs.Rows.{is_set}
 use Rattle.qrcode_penalty.specs.Penalty.{same}
 use Rattle.qrcode_places.specs.Masks.{turns, mask_number}
 use borrow.Author.Tests.{ltb-true}
@@ -13,8 +13,8 @@ use Rattle.qrcode_places.specs.declared.masks.MaskPattern.{MaskPattern}
 use Rattle.qrcode_places.specs.declared.masks.MaskPattern.TheVariants.{Checkerboard, HorizontalLines, VerticalLines, DiagonalLines, LargeCheckerboard, Fields, Diamonds, Meadow}
 
 -- the places of a number that is cut
-pub has_mod : (n room k : ℕ) → k < room → has_place (n % 2 ^ room) k ≡ has_place n k
-unfolding has_place
+pub has_mod : (n room k : ℕ) → k < room → is_set (n % 2 ^ room) k ≡ is_set n k
+unfolding is_set
 has_mod n room k h = ap (λ x. x == 1) (sym (bit_at_cat_low (n / 2 ^ room) room (n % 2 ^ room) k h) ∙ ap (λ m. bit_at m k) (shr_split n room))
 
 and_l : (a b : Bool) → (a && b) ≡ true → a ≡ true
@@ -53,15 +53,15 @@ turned_by_two six = bit_and (bit_or (six / 2 ^ 2) (six * 2 ^ 4 % 2 ^ 64)) 63
 abbrev pub repeated_words : ℕ → ℕ
 repeated_words six = (copies_of (turned_by_two six) * 2 ^ 64 + copies_of (turned_by_four six)) * 2 ^ 64 + copies_of six
 
-table : all_below 64 (λ six. all_below 192 (λ k. same (has_place (repeated_words six) k) (has_place six (k % 6)))) ≡ true
-unfolding has_place all_below
+table : all_below 64 (λ six. all_below 192 (λ k. same (is_set (repeated_words six) k) (is_set six (k % 6)))) ≡ true
+unfolding is_set all_below
 table = refl
 
-pub has_repeated : (six room k : ℕ) → six < 64 → k < 192 → k < room → has_place (repeated_words six % 2 ^ room) k ≡ has_place six (k % 6)
+pub has_repeated : (six room k : ℕ) → six < 64 → k < 192 → k < room → is_set (repeated_words six % 2 ^ room) k ≡ is_set six (k % 6)
 has_repeated six room k h l r =
     has_mod (repeated_words six) room k r
-    ∙ same_true (has_place (repeated_words six) k) (has_place six (k % 6))
-    (all_holds 192 (λ k. same (has_place (repeated_words six) k) (has_place six (k % 6))) (all_holds 64 (λ six. all_below 192 (λ k. same (has_place (repeated_words six) k) (has_place six (k % 6)))) table six h) k l)
+    ∙ same_true (is_set (repeated_words six) k) (is_set six (k % 6))
+    (all_holds 192 (λ k. same (is_set (repeated_words six) k) (is_set six (k % 6))) (all_holds 64 (λ six. all_below 192 (λ k. same (is_set (repeated_words six) k) (is_set six (k % 6)))) table six h) k l)
 
 fields_step : (x y : ℕ) → x * y ≡ 6 * (x / 6 * y) + x % 6 * y
 fields_step x y =
@@ -108,8 +108,8 @@ rows_periodic Diamonds x y = ap₂ (λ (a b : ℕ). (a + b) % 2 == 0) (rows_two 
 rows_periodic Meadow x y = let e : (x + y % 12) % 2 ≡ (x + y) % 2 = omega arith in ap₂ (λ (a b : ℕ). (a + b) % 2 == 0) e (rows_three x y)
 
 -- the table of the code: six columns of twelve rows of each mask
-turned_table : (p : MaskPattern) → all_below 12 (λ y. all_below 6 (λ x. same (has_place (slice_index_or (slice_index_or TURNED (mask_number p) []) y 0) x) (turns p x y))) ≡ true
-unfolding has_place all_below
+turned_table : (p : MaskPattern) → all_below 12 (λ y. all_below 6 (λ x. same (is_set (slice_index_or (slice_index_or TURNED (mask_number p) []) y 0) x) (turns p x y))) ≡ true
+unfolding is_set all_below
 turned_table Checkerboard = refl
 turned_table HorizontalLines = refl
 turned_table VerticalLines = refl
@@ -123,10 +123,10 @@ small_table : all_below 8 (λ n. all_below 12 (λ y. nat_lt (slice_index_or (sli
 unfolding all_below
 small_table = refl
 
-pub six_at : (p : MaskPattern) (x y : ℕ) → x < 6 → has_place (slice_index_or (slice_index_or TURNED (mask_number p) []) (y % 12) 0) x ≡ turns p x y
+pub six_at : (p : MaskPattern) (x y : ℕ) → x < 6 → is_set (slice_index_or (slice_index_or TURNED (mask_number p) []) (y % 12) 0) x ≡ turns p x y
 six_at p x y h =
-    let test = λ (y x : ℕ). same (has_place (slice_index_or (slice_index_or TURNED (mask_number p) []) y 0) x) (turns p x y) in
-    same_true (has_place (slice_index_or (slice_index_or TURNED (mask_number p) []) (y % 12) 0) x) (turns p x (y % 12))
+    let test = λ (y x : ℕ). same (is_set (slice_index_or (slice_index_or TURNED (mask_number p) []) y 0) x) (turns p x y) in
+    same_true (is_set (slice_index_or (slice_index_or TURNED (mask_number p) []) (y % 12) 0) x) (turns p x (y % 12))
     (all_holds 6 (test (y % 12)) (all_holds 12 (λ y. all_below 6 (test y)) (turned_table p) (y % 12) (omega arith)) x h)
     ∙ rows_periodic p x y
 

@@ -3,7 +3,7 @@ use Rattle.std.proofs.Common.{◌≡◌, ℕ, zero, suc, ◌+◌, ◌-◌, ◌*�
 use Rattle.std.proofs.lemmas.Nat.{pow_pos, mod_low}
 use Rattle.std.specs.Int.{bit_at}
 use Rattle.std.proofs.lemmas.Nat.Bits.{bit_at_lowest, bit_at-suc}
-use Rattle.qrcode_penalty.specs.Rows.{has_place}
+use Rattle.qrcode_packed.specs.Rows.{is_set}
 use Rattle.qrcode_symbol.specs.Masking.{digit, packed}
 
 pub digit_le : (b : Bool) → digit b ≤ 1
@@ -38,19 +38,19 @@ next_eight f xs first past count e h =
     let behind : drop past xs ≡ drop 8 (drop first xs) = ap (λ n. drop n xs) e ∙ sym (drop-drop 8 first xs) in
     omega (arith, ap (packed f) behind, ap (λ n. packed f (take n (drop first xs))) h, packed_cut f 8 (drop first xs))
 
-has_digit : (n : ℕ) (b : Bool) → has_place (2 * n + digit b) 0 ≡ b
-unfolding has_place
+has_digit : (n : ℕ) (b : Bool) → is_set (2 * n + digit b) 0 ≡ b
+unfolding is_set
 has_digit n true = let e : (2 * n + 1) % 2 ≡ 1 = omega arith in ap (λ x. x == 1) (bit_at_lowest (2 * n + 1) ∙ e)
 has_digit n false = let e : (2 * n + 0) % 2 ≡ 0 = omega arith in ap (λ x. x == 1) (bit_at_lowest (2 * n + 0) ∙ e)
 
-has_twice : (n : ℕ) (b : Bool) (k : ℕ) → has_place (2 * n + digit b) (suc k) ≡ has_place n k
-unfolding has_place
+has_twice : (n : ℕ) (b : Bool) (k : ℕ) → is_set (2 * n + digit b) (suc k) ≡ is_set n k
+unfolding is_set
 has_twice n b k =
     let small : digit b ≤ 1 = digit_le b in
     let half : (2 * n + digit b) / 2 ≡ n = omega arith in
     ap (λ x. x == 1) (bit_at-suc (2 * n + digit b) k ∙ ap (λ m. bit_at m k) half)
 
-pub has_packed : {A : Type 0} (f : A → Bool) (xs : List A) (k : ℕ) (d : A) → k < length xs → has_place (packed f xs) k ≡ f (get_or xs k d)
+pub has_packed : {A : Type 0} (f : A → Bool) (xs : List A) (k : ℕ) (d : A) → k < length xs → is_set (packed f xs) k ≡ f (get_or xs k d)
 has_packed f [] k d h = absurd (omega arith)
 has_packed f (x ∷ xs) zero d h = has_digit (packed f xs) (f x)
 has_packed f (x ∷ xs) (suc k) d h = has_twice (packed f xs) (f x) k ∙ has_packed f xs k d (omega arith)

@@ -3,9 +3,9 @@ use Rattle.std.proofs.Common.{◌≡◌, ◌==◌, ◌&&◌, ◌++◌, ℕ, true
 use Rattle.std.proofs.lemmas.Nat.{mul-add-lt}
 use Rattle.std.proofs.lemmas.List.{get_or-take, get_or-drop, get_or_append_left, get_or-append-add}
 use borrow.Rule.Slice.PartMut.{put_mid, post_of}
-use Rattle.qrcode_penalty.specs.Rows.{has_place, dark_in, AllEndBefore}
-use Rattle.qrcode_penalty.proofs.Places.{differ, has_and, has_xor}
-use Rattle.qrcode_penalty.proofs.WrittenRows.{ends_all}
+use Rattle.qrcode_packed.specs.Rows.{is_set, dark_in, FitsWidth}
+use Rattle.qrcode_packed.proofs.Places.{differ, has_and, has_xor}
+use Rattle.qrcode_packed.proofs.RowLists.{rows_fit}
 use Rattle.qrcode_types.specs.declared.types.Version.{Version}
 use Rattle.qrcode_places.specs.Masks.{turns, turned_if}
 use Rattle.qrcode_places.specs.declared.masks.MaskPattern.{MaskPattern}
@@ -29,22 +29,22 @@ module _ (test : Module → Bool) (modules : List Module) (w : ℕ) (square : le
   pub shows_packed : ShowsModules test w modules rows
   unfolding dark_in
   shows_packed = λ x y h l.
-      sym (ap (λ n. has_place n x) (are y l) ∙ has_packed test (modules_of_row w modules y) x Empty (long_row x y h l)
+      sym (ap (λ n. is_set n x) (are y l) ∙ has_packed test (modules_of_row w modules y) x Empty (long_row x y h l)
       ∙ ap test (get_or-take w (drop (y * w) modules) x Empty h ∙ get_or-drop (y * w) modules x Empty))
 
-  pub ends_packed : length rows ≡ w → AllEndBefore w rows
-  ends_packed e = ends_all rows w e (λ y h. subst (λ (n : ℕ). n < 2 ^ w) (sym (are y h)) (packed_lt test (modules_of_row w modules y) w (omega (arith, length-take w (drop (y * w) modules)))))
+  pub fits_packed : length rows ≡ w → ((y : ℕ) → FitsWidth w (slice_index_or rows y 0))
+  fits_packed e = rows_fit rows w e (λ y h. subst (λ (n : ℕ). n < 2 ^ w) (sym (are y h)) (packed_lt test (modules_of_row w modules y) w (omega (arith, length-take w (drop (y * w) modules)))))
 
 -- row k under a mask
 pub record IsMaskedRow (v : Version) (w word : ℕ) (mask : MaskPattern) (dark free : List ℕ) (k row : ℕ) : Type 0 where
-  pub shows : (x : ℕ) → x < w → has_place row x ≡ masked_dark v word mask dark free x k
+  pub shows : (x : ℕ) → x < w → is_set row x ≡ masked_dark v word mask dark free x k
   pub ends : row < 2 ^ w
 
 pub masked_row_is : (v : Version) (w word : ℕ) (mask : MaskPattern) (dark free : List ℕ) (k row d f : ℕ) → d ≡ slice_index_or dark k 0 → f ≡ slice_index_or free k 0 →
-    ((x : ℕ) → x < w → has_place row x ≡ unwrap_or (fixed_bit v word x k) (turned_if (has_place f x && turns mask x k) (has_place d x))) → row < 2 ^ w → IsMaskedRow v w word mask dark free k row
+    ((x : ℕ) → x < w → is_set row x ≡ unwrap_or (fixed_bit v word x k) (turned_if (is_set f x && turns mask x k) (is_set d x))) → row < 2 ^ w → IsMaskedRow v w word mask dark free k row
 unfolding masked_dark dark_in
 masked_row_is v w word mask dark free k row d f p q shows ends = record {
-  shows = λ x h. shows x h ∙ ap₂ (λ (m n : ℕ). unwrap_or (fixed_bit v word x k) (turned_if (has_place n x && turns mask x k) (has_place m x))) p q;
+  shows = λ x h. shows x h ∙ ap₂ (λ (m n : ℕ). unwrap_or (fixed_bit v word x k) (turned_if (is_set n x && turns mask x k) (is_set m x))) p q;
   ends = ends;
 }
 
@@ -55,15 +55,15 @@ differ_turned false true = refl
 differ_turned false false = refl
 
 -- a row whose free places are turned by a mask
-pub turned_at : (d f m x : ℕ) (t : Bool) → has_place m x ≡ t → has_place (bit_xor d (bit_and f m)) x ≡ turned_if (has_place f x && t) (has_place d x)
+pub turned_at : (d f m x : ℕ) (t : Bool) → is_set m x ≡ t → is_set (bit_xor d (bit_and f m)) x ≡ turned_if (is_set f x && t) (is_set d x)
 turned_at d f m x t e =
     has_xor d (bit_and f m) x
-    ∙ ap (differ (has_place d x)) (has_and f m x ∙ ap (λ b. has_place f x && b) e)
-    ∙ differ_turned (has_place f x && t) (has_place d x)
+    ∙ ap (differ (is_set d x)) (has_and f m x ∙ ap (λ b. is_set f x && b) e)
+    ∙ differ_turned (is_set f x && t) (is_set d x)
 
 -- the lowest bit of what is left of a row
-pub first_bit : (rest word line i : ℕ) → word ≡ rest % 2 ^ 64 → rest ≡ line / 2 ^ i → (word % 2 == 1) ≡ has_place line i
-unfolding has_place
+pub first_bit : (rest word line i : ℕ) → word ≡ rest % 2 ^ 64 → rest ≡ line / 2 ^ i → (word % 2 == 1) ≡ is_set line i
+unfolding is_set
 first_bit rest word line i e f =
     let cut : word % 2 ≡ rest % 2 = omega arith in
     ap (λ n. n == 1) (cut ∙ ap (λ n. n % 2) f)

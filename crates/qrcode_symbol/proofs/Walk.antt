@@ -1,5 +1,5 @@
 -- What is left to draw, at any step of the walk.
-use Rattle.std.proofs.Common.{◌≡◌, ℕ, zero, suc, ◌+◌, ◌-◌, ◌*◌, ◌/◌, ◌%◌, ◌<◌, ◌≤◌, ◌≢◌, Bool, true, false, List, [], ◌∷◌, map, set, get_or, arith, sym, ap, ap₂, refl, ◌∙◌, ◌==◌, if◌then◌else◌}
+use Rattle.std.proofs.Common.{◌≡◌, ℕ, zero, suc, ◌+◌, ◌-◌, ◌*◌, ◌/◌, ◌%◌, ◌<◌, ◌≤◌, ◌≢◌, Bool, true, false, List, [], ◌∷◌, map, set, get_or, arith, sym, ap, ap₂, refl, ◌∙◌}
 use Rattle.std.specs.Prelude.{slice_get, IsTrue}
 use Rattle.std.specs.List.{range_with_len, filter}
 use Rattle.std.proofs.lemmas.List.{get_or-set_other}
@@ -12,7 +12,7 @@ use Rattle.qrcode_types.specs.declared.types.Version.{Version}
 use Rattle.qrcode_places.specs.Stream.{zigzag, zigzag_place, right_column}
 use Rattle.qrcode_places.proofs.Zigzag.{walk_is_inside, walk_is_apart}
 use Rattle.qrcode_symbol.specs.Canvas.{is_empty, put_bits, with_bits_drawn}
-use Rattle.qrcode_symbol.specs.Filling.{place_index, empty_from, filled_from, drawn_if, left_if, is_empty_at}
+use Rattle.qrcode_symbol.specs.Filling.{row_of_step, place_index, empty_from, filled_from, drawn_if, left_if, is_empty_at}
 use Rattle.qrcode_symbol.specs.declared.canvas.Module.{Module}
 use Rattle.qrcode_symbol.specs.declared.canvas.Module.TheVariants.{Empty, Unmasked}
 
@@ -82,10 +82,6 @@ pair_of w pair r lt = let e : 2 * w * pair + r ≡ pair * (2 * w) + r = omega ar
 step_of : (w pair r : ℕ) → r < 2 * w → (2 * w * pair + r) % (2 * w) ≡ r
 step_of w pair r lt = let e : 2 * w * pair + r ≡ pair * (2 * w) + r = omega arith in rw e (mod-mul-add pair (2 * w) r lt)
 
--- the row of a step in a pair of columns: upwards in the first pair, and by turns
-abbrev pub row_of_step : ℕ → ℕ → ℕ → ℕ
-row_of_step width pair step = if pair % 2 == 0 then width - 1 - step else step
-
 -- the places of a row in a pair of columns
 pub right_place : (v : Version) (pair row : ℕ) → row < side v → place_index v (2 * side v * pair + 2 * row) ≡ row_of_step (side v) pair row * side v + right_column v pair
 unfolding zigzag_place
@@ -135,13 +131,6 @@ row_step v pair row index bits bits1 bits2 m m1 m2 apart p r at some rest1 after
     ap (λ (n : ℕ). filled_from v bits2 m2 n) e
     ∙ step_at v bits1 m1 (t + 1) (index - 1) bits2 m2 apart (omega arith) left rest2 after2
     ∙ step_at v bits m t index bits1 m1 apart (omega arith) right rest1 after1
-
--- the rows of a pair by its direction
-pub row_up : (w pair step : ℕ) → pair % 2 ≡ 0 → row_of_step w pair step ≡ w - 1 - step
-row_up w pair step e = rw e refl
-
-pub row_down : (w pair step : ℕ) → pair % 2 ≡ 1 → row_of_step w pair step ≡ step
-row_down w pair step e = rw e refl
 
 -- the pairs are as many as the walk has
 pub last_pair : (w pair : ℕ) → w % 2 ≡ 1 → w / 2 ≤ pair → w * (w - 1) ≤ 2 * w * pair

@@ -1,5 +1,5 @@
 -- What the calls of a canvas do to its modules, which are a list in row order.
-use Rattle.std.specs.Prelude.{ℕ, ◌+◌, ◌-◌, ◌*◌, ◌/◌, ◌%◌, ◌<◌, ◌≤◌, ℤ, pos, negsuc, Bool, true, false, List, [], ◌∷◌, ◌++◌, map, filter, length, take, replicate, IsTrue, Some, None, slice_index_or, slice_set, if◌then◌else◌}
+use Rattle.std.specs.Prelude.{ℕ, ◌+◌, ◌-◌, ◌*◌, ◌/◌, ◌%◌, ◌<◌, ◌≤◌, ℤ, pos, negsuc, neg_ℤ, ◌≤ℤ◌, ◌<ℤ◌, Bool, true, false, List, [], ◌∷◌, ◌++◌, map, filter, length, take, replicate, IsTrue, Some, None, slice_index_or, slice_set, if◌then◌else◌}
 use Rattle.std.specs.List.{range_with_len}
 use Rattle.qrcode_types.specs.Bits.{bits_of, has_bit}
 use Rattle.qrcode_types.specs.Colors.{is_dark, color_of}
@@ -27,6 +27,14 @@ pub record Drawing : Type 0 where
 abbrev pub wrapped : ℕ → ℤ → ℕ
 wrapped w (pos n) = n
 wrapped w (negsuc n) = w - (n + 1)
+
+-- a coordinate of a canvas whose side is w
+abbrev pub IsCoordinate : ℕ → ℤ → Type 0
+IsCoordinate w x = (neg_ℤ (pos w) ≤ℤ x) × (x <ℤ pos w)
+
+-- a column and a row of the version's canvas
+abbrev pub IsOnCanvas : Version → ℤ → ℤ → Type 0
+IsOnCanvas v x y = IsCoordinate (side v) x × IsCoordinate (side v) y
 
 -- where the module of two coordinates stands in the list
 abbrev pub module_index : Version → ℤ → ℤ → ℕ

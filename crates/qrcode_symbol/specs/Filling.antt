@@ -1,5 +1,5 @@
 -- Bits drawn along the walk, one place after the other.
-use Rattle.std.specs.Prelude.{ℕ, ◌+◌, ◌-◌, ◌*◌, Bool, true, false, List, map, filter, drop, Option, Some, None, slice_index_or, slice_set}
+use Rattle.std.specs.Prelude.{ℕ, ◌+◌, ◌-◌, ◌*◌, ◌%◌, ◌==◌, if◌then◌else◌, Bool, true, false, List, map, filter, drop, Option, Some, None, slice_index_or, slice_set}
 use Rattle.std.specs.List.{range_with_len}
 use Rattle.qrcode_types.specs.Colors.{color_of}
 use Rattle.qrcode_types.specs.Versions.{side}
@@ -8,6 +8,10 @@ use Rattle.qrcode_places.specs.Stream.{zigzag_place}
 use Rattle.qrcode_symbol.specs.Canvas.{is_empty, put_bits}
 use Rattle.qrcode_symbol.specs.declared.canvas.Module.{Module}
 use Rattle.qrcode_symbol.specs.declared.canvas.Module.TheVariants.{Empty, Unmasked}
+
+-- the row of a step in a pair of columns: upwards in the first pair, and by turns
+abbrev pub row_of_step : ℕ → ℕ → ℕ → ℕ
+row_of_step width pair step = if pair % 2 == 0 then width - 1 - step else step
 
 -- where the t-th place of the walk is, in row order
 abbrev pub place_index : Version → ℕ → ℕ

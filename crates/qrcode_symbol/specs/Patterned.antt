@@ -1,5 +1,5 @@
 -- Modules on the way to the functional patterns.
-use Rattle.std.specs.Prelude.{◌≡◌, ℕ, ◌+◌, ◌-◌, ◌*◌, ◌/◌, ◌%◌, ◌<◌, ◌≤◌, false, List, [], length, slice_get, slice_index_or, IfSome}
+use Rattle.std.specs.Prelude.{◌≡◌, ◌≢◌, ℕ, ◌+◌, ◌-◌, ◌*◌, ◌/◌, ◌%◌, ◌<◌, ◌≤◌, false, List, [], length, slice_get, slice_index_or, IfSome}
 use Rattle.qrcode_types.specs.Versions.{side}
 use Rattle.qrcode_types.specs.declared.types.Version.{Version}
 use Rattle.qrcode_places.specs.Patterns.{centres, is_corner_centre}
@@ -39,4 +39,4 @@ AreAlignmentsPatterned v modules rows =
 
 -- the patterns on a new canvas leave no empty module in column x and row y
 abbrev pub IsDrawn : Version → ℕ → ℕ → Type 0
-IsDrawn v x y = IfSome (slice_get (with_patterns v (blank v)) (y * side v + x)) (λ m. m ≡ Empty → ⊥)
+IsDrawn v x y = IfSome (slice_get (with_patterns v (blank v)) (y * side v + x)) (λ m. m ≢ Empty)

@@ -9,7 +9,7 @@ ghost use Rattle.qrcode_places.specs.Stream.{FreePlacesAreFilled};
 ghost use Rattle.qrcode_places.specs.Words.{VersionWordsAreApart, FormatWordsAreApart};
 ghost use Rattle.qrcode_types.specs.Colors.{is_dark};
 ghost use Rattle.qrcode_types.specs.declared.types.QrError.TheVariants.{OutOfMemory};
-ghost use Rattle.qrcode_symbol.specs.Canvas.{wrapped, module_index, blank, color_of_module, colors_of, masked_module, drawn_bits, with_bits_drawn, with_patterns, with_mask};
+ghost use Rattle.qrcode_symbol.specs.Canvas.{IsCoordinate, IsOnCanvas, wrapped, module_index, blank, color_of_module, colors_of, masked_module, drawn_bits, with_bits_drawn, with_patterns, with_mask};
 ghost use Rattle.qrcode_symbol.specs.Carried.{CarriesAll};
 ghost use Rattle.qrcode_symbol.specs.Lending.{LendsModule};
 ghost use Rattle.qrcode_symbol.specs.Masking.{IsBestMasked, AreBestColors};
@@ -24,17 +24,17 @@ mod codewords;
 mod drawing;
 mod filling;
 mod layer;
-mod layout;
 mod masked_rows;
 mod masking;
 mod packing;
+mod pattern_places;
 mod unpacking;
 
 use applying::mask_modules;
 use codewords::Codewords;
 use drawing::{draw_patterns, is_functional_place};
 use filling::draw_codewords;
-use layout::Layout;
+use pattern_places::PatternPlaces;
 use qrcode_places::laws;
 use qrcode_types::types::{Color, EcLevel, QrResult, Version};
 use std::alloc::Global;
@@ -115,8 +115,8 @@ impl Model for Canvas {
 fn side(version: Version) -> usize
     requires { IsTrue (is_valid version) }
     ensures value { result ≡ side version }
-    ensures least { 11 ≤ result }
-    ensures most { result ≤ 177 }
+    ensures at_least { 11 ≤ result }
+    ensures at_most { result ≤ 177 }
     ensures odd { result % 2 ≡ 1 }
 {
     version.width() as usize
@@ -124,9 +124,8 @@ fn side(version: Version) -> usize
 
 // A coordinate from -width to width - 1 as one from 0 to width - 1.
 fn wrapped(width: i16, x: i16) -> usize
-    requires wide { pos 11 ≤ℤ width }
-    requires least { neg_ℤ width ≤ℤ x }
-    requires most { x <ℤ width }
+    requires at_least { pos 11 ≤ℤ width }
+    requires inside { IsCoordinate (nat_abs width) x }
     ensures value { result ≡ wrapped (nat_abs width) x }
     ensures inside { result < nat_abs width }
 {
@@ -140,10 +139,7 @@ fn wrapped(width: i16, x: i16) -> usize
 // The index of the module of two coordinates in a list of rows.
 fn module_index(version: Version, x: i16, y: i16) -> usize
     requires valid { IsTrue (is_valid version) }
-    requires x_least { neg_ℤ (pos (side version)) ≤ℤ x }
-    requires x_most { x <ℤ pos (side version) }
-    requires y_least { neg_ℤ (pos (side version)) ≤ℤ y }
-    requires y_most { y <ℤ pos (side version) }
+    requires inside { IsOnCanvas version x y }
     ensures value { result ≡ module_index version x y }
     ensures inside { result < side version * side version }
 {
@@ -155,7 +151,7 @@ impl Canvas {
     /// A canvas of empty modules.
     pub fn new(alloc: Global, version: Version, ec_level: EcLevel) -> QrResult<Self>
         requires { IsTrue (is_valid version) }
-        ensures blank { IfOk result (λ canvas. canvas
+        ensures value { IfOk result (λ canvas. canvas
             ≡ record { version = version; level = ec_level; modules = blank version }) }
         ensures memory { IsOkUnless result OutOfMemory }
     {
@@ -171,10 +167,7 @@ impl Canvas {
     /// The module in column `x` and row `y`, each from `-width` to `width - 1`; negative ones count
     /// from the far side.
     pub fn get(&self, x: i16, y: i16) -> Module
-        requires x_least { neg_ℤ (pos (side self.now.version)) ≤ℤ x }
-        requires x_most { x <ℤ pos (side self.now.version) }
-        requires y_least { neg_ℤ (pos (side self.now.version)) ≤ℤ y }
-        requires y_most { y <ℤ pos (side self.now.version) }
+        requires { IsOnCanvas self.now.version x y }
         ensures { result
             ≡ slice_index_or self.now.modules (module_index self.now.version x y) Empty }
     {
@@ -183,10 +176,7 @@ impl Canvas {
 
     /// The module in column `x` and row `y`, to be changed; coordinates are those of `get`.
     pub fn get_mut(&mut self, x: i16, y: i16) -> &mut Module
-        requires x_least { neg_ℤ (pos (side self.old.version)) ≤ℤ x }
-        requires x_most { x <ℤ pos (side self.old.version) }
-        requires y_least { neg_ℤ (pos (side self.old.version)) ≤ℤ y }
-        requires y_most { y <ℤ pos (side self.old.version) }
+        requires { IsOnCanvas self.old.version x y }
         ensures* lends { sem 𝓛 (LendsModule self.entry x y result) }
         ensures value { result.now
             ≡ slice_index_or self.old.modules (module_index self.old.version x y) Empty }
@@ -197,10 +187,7 @@ impl Canvas {
 
     /// Draws a module that no mask turns; coordinates are those of `get`.
     pub fn put(&mut self, x: i16, y: i16, color: Color)
-        requires x_least { neg_ℤ (pos (side self.old.version)) ≤ℤ x }
-        requires x_most { x <ℤ pos (side self.old.version) }
-        requires y_least { neg_ℤ (pos (side self.old.version)) ≤ℤ y }
-        requires y_most { y <ℤ pos (side self.old.version) }
+        requires { IsOnCanvas self.old.version x y }
         ensures { self.new ≡ record self.old {
           modules = slice_set self.old.modules (module_index self.old.version x y) (Masked color);
         } }
@@ -231,23 +218,23 @@ impl Canvas {
     /// 6.7.3): the data, of whose last byte only the high half is drawn where the version
     /// and level have a half codeword, and then the error correction. Bits without a place are
     /// dropped.
-    pub fn draw_data(&mut self, data: &[u8], ec: &[u8])
+    pub fn draw_data(&mut self, bytes: &[u8], ec: &[u8])
         ensures after { self.new ≡ record self.old {
           modules = with_bits_drawn self.old.version
-              (drawn_bits self.old.version self.old.level «data».now ec.now) self.old.modules;
+              (drawn_bits self.old.version self.old.level bytes.now ec.now) self.old.modules;
         } }
 
         // Over the patterns of a new canvas they make the square of the codewords, under each mask.
-        ensures carries { CarriesAll self.old «data».now ec.now self.new }
+        ensures carries { CarriesAll self.old bytes.now ec.now self.new }
     {
-        let codewords = Codewords::new(self.version, self.ec_level, data, ec);
+        let codewords = Codewords::new(self.version, self.ec_level, bytes, ec);
         draw_codewords(self.version, codewords, &mut self.modules);
     }
 
     /// Masks every module, and then draws the format word and the dark module.
     pub fn apply_mask(&mut self, mask: MaskPattern)
-        requires level { IsTrue (has_level self.old.version self.old.level) }
-        requires mask { IsTrue (exists_in self.old.version mask) }
+        requires exists { IsTrue (has_level self.old.version self.old.level) }
+        requires mask_exists { IsTrue (exists_in self.old.version mask) }
         ensures after { self.new ≡ record self.old {
           modules = with_mask self.old.version self.old.level mask self.old.modules;
         } }
@@ -319,10 +306,7 @@ impl Canvas {
 pub fn is_functional(version: Version, width: i16, x: i16, y: i16) -> bool
     requires valid { IsTrue (is_valid version) }
     requires width { width ≡ pos (side version) }
-    requires x_least { neg_ℤ width ≤ℤ x }
-    requires x_most { x <ℤ width }
-    requires y_least { neg_ℤ width ≤ℤ y }
-    requires y_most { y <ℤ width }
+    requires inside { IsOnCanvas version x y }
     ensures place { result
         ≡ is_functional_place version (wrapped (side version) x) (wrapped (side version) y) }
 
@@ -330,5 +314,9 @@ pub fn is_functional(version: Version, width: i16, x: i16, y: i16) -> bool
     ensures drawn { IsTrue result
         ↔ IsDrawn version (wrapped (side version) x) (wrapped (side version) y) }
 {
-    is_functional_place(Layout::new(version), wrapped(width, x), wrapped(width, y))
+    is_functional_place(
+        PatternPlaces::new(version),
+        wrapped(width, x),
+        wrapped(width, y),
+    )
 }

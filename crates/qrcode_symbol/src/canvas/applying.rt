@@ -33,8 +33,8 @@ pub(super) fn mask_modules(
     mask: MaskPattern,
     modules: &mut [Module],
 )
-    requires level { IsTrue (has_level version ec_level) }
-    requires mask { IsTrue (exists_in version mask) }
+    requires exists { IsTrue (has_level version ec_level) }
+    requires mask_exists { IsTrue (exists_in version mask) }
     requires square { length modules.old ≡ side version * side version }
     ensures { modules.new ≡ with_mask version ec_level mask modules.old }
 {

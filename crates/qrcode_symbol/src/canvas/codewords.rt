@@ -35,14 +35,14 @@ impl<'a> Model for Codewords<'a> {
 
 impl<'a> Codewords<'a> {
     // The codewords that are drawn.
-    pub(super) fn new(version: Version, ec_level: EcLevel, data: &'a [u8], ec: &'a [u8]) -> Self
+    pub(super) fn new(version: Version, ec_level: EcLevel, bytes: &'a [u8], ec: &'a [u8]) -> Self
         requires { IsTrue (is_valid version) }
-        ensures { result ≡ drawn_bits version ec_level «data».now ec.now }
+        ensures { result ≡ drawn_bits version ec_level bytes.now ec.now }
     {
         Codewords {
             begun: 0,
             bits_left: 0,
-            bytes: data,
+            bytes,
             has_half: has_half_codeword(version, ec_level),
             ec,
         }

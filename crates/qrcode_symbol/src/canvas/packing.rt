@@ -2,33 +2,32 @@
 
 ghost use Rattle.std.specs.Prelude.{◌≡◌, ◌+◌, ◌*◌, ◌<◌, ◌≤◌, length, map, Bool, List, IsTrue};
 ghost use Rattle.qrcode_types.specs.Versions.{is_valid, has_level, side};
-ghost use Rattle.qrcode_penalty.specs.Rows.{AllEndBefore};
+ghost use Rattle.qrcode_packed.specs.Rows.{IsSquare};
 ghost use Rattle.qrcode_symbol.specs.Masking.{is_dark_module, is_free, digit, packed, ShowsModules};
 ghost use Rattle.qrcode_symbol.specs.declared.canvas.Module.{Module};
 
 use super::Module;
-use qrcode_penalty::line::Line;
+use qrcode_packed::row::PackedRow;
+use qrcode_packed::square::PackedSquare;
 use qrcode_types::types::{EcLevel, Version};
 
-/// The modules of a symbol in rows: place x of row y of `dark` is set where the module in column x and
+/// The modules of a symbol in rows: bit x of row y of `dark` is set where the module in column x and
 /// row y is dark, and of `free` where a mask may turn it.
 #[derive(Drop)]
-pub(super) struct PackedSquare<'a, L: Line> {
+pub(super) struct PackedModules<'a, R: PackedRow> {
     pub(super) version: Version,
     pub(super) ec_level: EcLevel,
     pub(super) width: usize,
-    pub(super) dark: &'a [L],
-    pub(super) free: &'a [L],
-    pub(super) ghost level: { IsTrue (has_level version ec_level) },
+    pub(super) dark: PackedSquare<'a, R>,
+    pub(super) free: PackedSquare<'a, R>,
+    pub(super) ghost exists: { IsTrue (has_level version ec_level) },
     pub(super) ghost valid: { IsTrue (is_valid version) },
-    pub(super) ghost wide: { width ≡ side version },
-    pub(super) ghost least: { 11 ≤ width },
-    pub(super) ghost small: { width ≤ 177 },
-    pub(super) ghost room: { width + 3 ≤ L.room },
-    pub(super) ghost dark_size: { length dark.now ≡ width },
-    pub(super) ghost free_size: { length free.now ≡ width },
-    pub(super) ghost dark_ends: { AllEndBefore width (map L.places dark.now) },
-    pub(super) ghost free_ends: { AllEndBefore width (map L.places free.now) },
+    pub(super) ghost side: { width ≡ side version },
+    pub(super) ghost at_least: { 11 ≤ width },
+    pub(super) ghost at_most: { width ≤ 177 },
+    pub(super) ghost room: { width + 3 ≤ R.room },
+    pub(super) ghost dark_width: { dark.width ≡ width },
+    pub(super) ghost free_width: { free.width ≡ width },
 }
 
 // 1 for a dark module, and 0 for a light one.
@@ -127,10 +126,10 @@ fn pack_word(modules: &[Module]) -> (u64, u64)
 }
 
 // Which modules of a row are dark, and which a mask may turn.
-fn pack_row<L: Line>(row: &[Module]) -> (L, L)
-    requires { length row.now ≤ L.room }
-    ensures dark { L.places result.0 ≡ packed is_dark_module row.now }
-    ensures free { L.places result.1 ≡ packed is_free row.now }
+fn pack_row<R: PackedRow>(row: &[Module]) -> (R, R)
+    requires { length row.now ≤ R.room }
+    ensures dark { R.bits result.0 ≡ packed is_dark_module row.now }
+    ensures free { R.bits result.1 ≡ packed is_free row.now }
 {
     let first = row.len().min(64);
     let second = row.len().min(128);
@@ -138,22 +137,28 @@ fn pack_row<L: Line>(row: &[Module]) -> (L, L)
     let middle = pack_word(&row[first..second]);
     let high = pack_word(&row[second..]);
     (
-        L::of_words(low.0, middle.0, high.0),
-        L::of_words(low.1, middle.1, high.1),
+        R::of_words(low.0, middle.0, high.0),
+        R::of_words(low.1, middle.1, high.1),
     )
 }
 
 /// Packs each row of a square.
 #[tactic(auto, using(std::proofs::lemmas::Nat::rows))]
-pub(super) fn pack_rows<L: Line>(width: usize, modules: &[Module], dark: &mut [L], free: &mut [L])
-    requires room { width ≤ L.room }
+pub(super) fn pack_rows<R: PackedRow>(
+    width: usize,
+    modules: &[Module],
+    dark: &mut [R],
+    free: &mut [R],
+)
+    requires at_least { 7 ≤ width }
+    requires room { width + 3 ≤ R.room }
     requires square { length modules.now ≡ width * width }
-    requires dark_size { length dark.old ≡ width }
-    requires free_size { length free.old ≡ width }
-    ensures dark { ShowsModules is_dark_module width modules.now (map L.places dark.new) }
-    ensures free { ShowsModules is_free width modules.now (map L.places free.new) }
-    ensures dark_ends { AllEndBefore width (map L.places dark.new) }
-    ensures free_ends { AllEndBefore width (map L.places free.new) }
+    requires dark_length { length dark.old ≡ width }
+    requires free_length { length free.old ≡ width }
+    ensures dark { ShowsModules is_dark_module width modules.now (map R.bits dark.new) }
+    ensures free { ShowsModules is_free width modules.now (map R.bits free.new) }
+    ensures dark_square { IsSquare R.room (record { width = width; rows = map R.bits dark.new }) }
+    ensures free_square { IsSquare R.room (record { width = width; rows = map R.bits free.new }) }
 {
     for y in 0..width {
         let packed = pack_row(&modules[y * width..(y + 1) * width]);

@@ -4,11 +4,11 @@ ghost use Rattle.std.specs.Prelude.{◌≡◌, ℕ, ◌+◌, ◌*◌, ◌/◌, �
 ghost use Rattle.qrcode_types.specs.Colors.{color_of};
 ghost use Rattle.qrcode_types.specs.declared.types.Color.{Color};
 ghost use Rattle.qrcode_types.specs.declared.types.Color.TheVariants.{Light};
-ghost use Rattle.qrcode_penalty.specs.Rows.{has_place, dark_in};
+ghost use Rattle.qrcode_packed.specs.Rows.{is_set, dark_in};
 ghost use Rattle.qrcode_symbol.specs.declared.canvas.Module.TheVariants.{Masked};
 
 use super::Module;
-use qrcode_penalty::line::Line;
+use qrcode_packed::row::PackedRow;
 use qrcode_places::patterns::color_of;
 use qrcode_types::types::Color;
 
@@ -27,40 +27,40 @@ static FOURS: [[Color; 4]; 16] = [
     [L, L, D, D], [D, L, D, D], [L, D, D, D], [D, D, D, D],
 ];
 
-/// What the colour of a place is written as.
-pub(super) trait Shown: Copy {
+/// An item that a colour is written as.
+pub(super) trait FromColor: Copy {
     // The item of a colour.
-    ghost of: { Color → Self };
+    ghost from_color: { Color → Self };
 
     /// The item of a colour.
-    fn of(color: Color) -> Self
-        ensures { result ≡ of color };
+    fn from_color(color: Color) -> Self
+        ensures { result ≡ from_color color };
 
     /// The items of four colours.
-    fn four(colors: [Color; 4]) -> [Self; 4]
-        ensures { result ≡ map of colors };
+    fn from_four(colors: [Color; 4]) -> [Self; 4]
+        ensures { result ≡ map from_color colors };
 }
 
-impl Shown for Color {
-    ghost of = { λ color. color };
+impl FromColor for Color {
+    ghost from_color = { λ color. color };
 
-    fn of(color: Color) -> Color {
+    fn from_color(color: Color) -> Color {
         color
     }
 
-    fn four(colors: [Color; 4]) -> [Color; 4] {
+    fn from_four(colors: [Color; 4]) -> [Color; 4] {
         colors
     }
 }
 
-impl Shown for Module {
-    ghost of = { Masked };
+impl FromColor for Module {
+    ghost from_color = { Masked };
 
-    fn of(color: Color) -> Module {
+    fn from_color(color: Color) -> Module {
         Module::Masked(color)
     }
 
-    fn four(colors: [Color; 4]) -> [Module; 4] {
+    fn from_four(colors: [Color; 4]) -> [Module; 4] {
         let [a, b, c, d] = colors;
         [
             Module::Masked(a),
@@ -72,14 +72,14 @@ impl Shown for Module {
 }
 
 // Writes the whole fours of a row, and gives the places that are left.
-fn unpack_fours<R: Line, S: Shown>(line: R, row: &mut [S]) -> R
+fn unpack_fours<R: PackedRow, S: FromColor>(line: R, row: &mut [S]) -> R
     ensures done { (x : ℕ) → x < 4 * (length row.old / 4)
-        → slice_index_or row.new x (S.of Light) ≡ S.of (color_of (has_place (R.places line) x)) }
-    ensures rest { R.places result ≡ R.places line / 2 ^ (4 * (length row.old / 4)) }
+        → slice_index_or row.new x (S.from_color Light) ≡ S.from_color (color_of (is_set (R.bits line) x)) }
+    ensures rest { R.bits result ≡ R.bits line / 2 ^ (4 * (length row.old / 4)) }
 {
     let mut rest = line;
     for j in 0..row.len() / 4 {
-        let four = S::four(FOURS[(rest.first_word() % 16) as usize]);
+        let four = S::from_four(FOURS[(rest.first_word() % 16) as usize]);
         row[4 * j..4 * j + 4].copy_from_slice(&four);
         rest = rest.down(4);
     }
@@ -87,26 +87,26 @@ fn unpack_fours<R: Line, S: Shown>(line: R, row: &mut [S]) -> R
 }
 
 // Writes a row by its places, of which the dark ones are set.
-fn unpack_row<R: Line, S: Shown>(line: R, row: &mut [S])
+fn unpack_row<R: PackedRow, S: FromColor>(line: R, row: &mut [S])
     ensures { (x : ℕ) → x < length row.old
-        → slice_index_or row.new x (S.of Light) ≡ S.of (color_of (has_place (R.places line) x)) }
+        → slice_index_or row.new x (S.from_color Light) ≡ S.from_color (color_of (is_set (R.bits line) x)) }
 {
     let mut rest = unpack_fours(line, row);
     for x in 4 * (row.len() / 4)..row.len() {
-        row[x] = S::of(color_of(rest.first_word() % 2 == 1));
+        row[x] = S::from_color(color_of(rest.first_word() % 2 == 1));
         rest = rest.down(1);
     }
 }
 
 /// Writes the rows of a square by their places, of which the dark ones are set.
 #[tactic(auto, using(std::proofs::lemmas::Nat::rows))]
-pub(super) fn unpack_rows<R: Line, S: Shown>(width: usize, rows: &[R], square: &mut [S])
-    requires small { width ≤ 177 }
-    requires size { length rows.now ≡ width }
+pub(super) fn unpack_rows<R: PackedRow, S: FromColor>(width: usize, rows: &[R], square: &mut [S])
+    requires at_most { width ≤ 177 }
+    requires length { length rows.now ≡ width }
     requires square { length square.old ≡ width * width }
     ensures { (x y : ℕ) → x < width → y < width
-        → slice_index_or square.new (y * width + x) (S.of Light)
-        ≡ S.of (color_of (dark_in (map R.places rows.now) x y)) }
+        → slice_index_or square.new (y * width + x) (S.from_color Light)
+        ≡ S.from_color (color_of (dark_in (map R.bits rows.now) x y)) }
 {
     for y in 0..width {
         unpack_row(rows[y], &mut square[y * width..(y + 1) * width]);

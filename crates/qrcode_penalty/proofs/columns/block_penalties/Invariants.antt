@@ -1,7 +1,7 @@
-use Rattle.std.proofs.Common.{◌≡◌, ◌-◌, ◌*◌, ◌≤◌, map}
+use Rattle.std.proofs.Common.{◌≡◌, ◌≤◌, ◌-◌, ◌*◌}
+use Rattle.qrcode_packed.specs.Rows.{dark_in}
 use Rattle.qrcode_penalty.specs.Penalty.{sum_below, block_penalty_at}
-use Rattle.qrcode_penalty.specs.Rows.{dark_in}
 use Rattle.qrcode_penalty.proofs.columns.block_penalties.Given as goal
 
 abbrev pub invariant-loop-y : goal.invariant-loop-y
-invariant-loop-y g l = record { value : l.total ≡ sum_below l.y (λ y. sum_below (l.width - 1) (block_penalty_at (dark_in (map g.L.Line.places l.rows)) y)); most : l.total ≤ 10000 * l.y }
+invariant-loop-y g l = record { value : l.total ≡ sum_below l.y (λ y. sum_below (l.square.width - 1) (block_penalty_at (dark_in l.square.rows) y)); at_most : l.total ≤ 10000 * l.y }

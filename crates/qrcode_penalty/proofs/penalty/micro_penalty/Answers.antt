@@ -1,24 +1,22 @@
-use Rattle.std.proofs.lemmas.List.{length-map}
-use Rattle.std.proofs.Common.{◌≡◌, ◌+◌, ◌-◌, ◌*◌, ap, ◌∙◌, arith, map, length}
-use Rattle.qrcode_penalty.specs.Penalty.{micro_penalty}
-use Rattle.qrcode_penalty.proofs.ColumnWords.{read, row}
-use Rattle.qrcode_penalty.proofs.Squares.{micro_cost, last_row, same_square}
+use Rattle.std.proofs.Common.{◌≡◌, ℕ, ◌+◌, ◌-◌, ◌*◌, ap, ap₂, ◌∙◌}
+use Rattle.qrcode_penalty.specs.Penalty.{micro_penalty, light_count}
+use Rattle.qrcode_packed.specs.Rows.{is_set, dark_in}
+use Rattle.qrcode_penalty.proofs.ColumnWords.{row}
+use Rattle.qrcode_penalty.proofs.Squares.{micro_cost, light_same, same_square}
 use Rattle.qrcode_penalty.proofs.penalty.micro_penalty.Goals as goal
 
 pub returns-clause-value : goal.returns-clause-value
+unfolding dark_in
 returns-clause-value g c =
-    let places = g.L.Line.places in
-    let rows = map places c.args.rows.now in
-    let n = c.args.width in
-    let h = c.light_count-row.result in
-    let v = c.last_column_light_count-column.result in
-    let at = read places c.args.rows.now (length c.args.rows.now - 1) c.index-rows-rows.result (omega arith) c.index-rows-rows.is in
-    let last : places c.index-rows-rows.result ≡ row rows (n - 1) = at ∙ ap (λ m. row rows (m - 1)) c.requires.square in
-    ap (λ m. h + v + 15 * m) c.max.ensures
-    ∙ micro_cost rows n h v (last_row rows n (places c.index-rows-rows.result) h last c.light_count-row.ensures.value) c.last_column_light_count-column.ensures.value
+    let square = c.args.square.now in
+    let n = square.width in
+    let last : ◌≡◌ {A = ℕ} (c.width-width.result - 1) (n - 1) = ap (λ w. w - 1) c.width-width.ensures.value in
+    ap (λ m. c.light_count-row.result + c.light_count-column.result + 15 * m) c.max.ensures
+    ∙ micro_cost square.rows n c.light_count-row.result c.light_count-column.result
+    (c.light_count-row.ensures.value ∙ ap₂ (λ (w r : ℕ). light_count w (is_set r)) c.width-width.ensures.value (c.row.ensures.value ∙ ap (row square.rows) last))
+    (c.light_count-column.ensures.value ∙ ap (λ (w : ℕ). light_count w (is_set (g.R.PackedRow.bits c.last_column.result))) c.width-width.ensures.value ∙ light_same n _ _ c.last_column.ensures)
 
 pub returns-clause-shown : goal.returns-clause-shown
 returns-clause-shown g c = λ dark shows.
-    let rows = map g.L.Line.places c.args.rows.now in
-    let square : length rows ≡ c.args.width = length-map c.args.rows.now g.L.Line.places ∙ c.requires.square in
-    returns-clause-value g c ∙ ap (micro_penalty c.args.width) (same_square c.args.width rows dark square c.requires.ends shows)
+    let square = c.args.square.now in
+    returns-clause-value g c ∙ ap (micro_penalty square.width) (same_square square.width square.rows dark c.width-width.ensures.square.length c.width-width.ensures.square.fits shows)

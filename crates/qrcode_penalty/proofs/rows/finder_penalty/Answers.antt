@@ -4,32 +4,32 @@ use Rattle.qrcode_penalty.proofs.Finders.{finders_of, forms, darks, lights, crow
 use Rattle.qrcode_penalty.proofs.rows.finder_penalty.Goals as goal
 
 pub up-requires-clause-fits : goal.up-requires-clause-fits
-up-requires-clause-fits g c = fits_up (g.L.Line.places c.args.row) c.args.width 1 g.L.Line.room c.requires.ends (omega (arith, c.requires.room))
+up-requires-clause-fits g c = fits_up (g.R.PackedRow.bits c.args.row) c.args.width 1 g.R.PackedRow.room c.requires.fits (omega (arith, c.requires.room))
 
 pub up-requires-2-clause-fits : goal.up-requires-2-clause-fits
 up-requires-2-clause-fits g c =
-    let row = g.L.Line.places c.args.row in
-    let word : g.L.Line.places c.or-twos.result ≡ twos row = simp (c.or-twos.ensures, c.up.ensures) in
-    rw word (twos_room row c.args.width g.L.Line.room c.requires.room c.requires.ends)
+    let row = g.R.PackedRow.bits c.args.row in
+    let word : g.R.PackedRow.bits c.or-twos.result ≡ twos row = simp (c.or-twos.ensures, c.up.ensures) in
+    rw word (twos_room row c.args.width g.R.PackedRow.room c.requires.room c.requires.fits)
 
 pub up-crowded-requires-clause-fits : goal.up-crowded-requires-clause-fits
 up-crowded-requires-clause-fits g c =
-    let row = g.L.Line.places c.args.row in
-    let word : g.L.Line.places c.and-2.result ≡ bit_and (fours row) (fours row / 2 ^ 11) =
+    let row = g.R.PackedRow.bits c.args.row in
+    let word : g.R.PackedRow.bits c.and-2.result ≡ bit_and (fours row) (fours row / 2 ^ 11) =
     simp (c.and-2.ensures, c.down-6.ensures, c.or-fours.ensures, c.up-2.ensures, c.or-twos.ensures, c.up.ensures) in
-    rw word (crowded_room row c.args.width g.L.Line.room c.requires.room c.requires.ends)
+    rw word (crowded_room row c.args.width g.R.PackedRow.room c.requires.room c.requires.fits)
 
 pub returns-then-count_ones-eq0-clause-value : goal.returns-then-count_ones-eq0-clause-value
 returns-then-count_ones-eq0-clause-value g c =
-    let row = g.L.Line.places c.args.row in
-    let word : g.L.Line.places c.without-forms.result ≡ without (darks row) (lights row) =
+    let row = g.R.PackedRow.bits c.args.row in
+    let word : g.R.PackedRow.bits c.without-forms.result ≡ without (darks row) (lights row) =
     simp (c.without-forms.ensures, c.or-light.ensures, c.down-5.ensures, c.down-4.ensures, c.and-dark.ensures, c.down-3.ensures, c.and.ensures, c.down-2.ensures, c.and-ends.ensures, c.down.ensures) in
     let none : count_ones (forms row) ≡ 0 = none_left (without (darks row) (lights row)) (crowded row) (ap count_ones (sym word) ∙ sym c.count_ones.ensures.value ∙ c.if-count_ones-eq0.true) in
-    sym (ap (λ x. 40 * x) none) ∙ finders_of row c.args.width c.requires.ends
+    sym (ap (λ x. 40 * x) none) ∙ finders_of row c.args.width c.requires.fits
 
 pub returns-clause-value : goal.returns-clause-value
 returns-clause-value g c =
-    let row = g.L.Line.places c.args.row in
-    let word : g.L.Line.places c.without.result ≡ forms row =
+    let row = g.R.PackedRow.bits c.args.row in
+    let word : g.R.PackedRow.bits c.without.result ≡ forms row =
     simp (c.without.ensures, c.up-crowded.ensures, c.and-2.ensures, c.down-6.ensures, c.or-fours.ensures, c.up-2.ensures, c.or-twos.ensures, c.up.ensures, c.without-forms.ensures, c.or-light.ensures, c.down-5.ensures, c.down-4.ensures, c.and-dark.ensures, c.down-3.ensures, c.and.ensures, c.down-2.ensures, c.and-ends.ensures, c.down.ensures) in
-    ap (λ x. 40 * x) (c.count_ones-2.ensures.value ∙ ap count_ones word) ∙ finders_of row c.args.width c.requires.ends
+    ap (λ x. 40 * x) (c.count_ones-2.ensures.value ∙ ap count_ones word) ∙ finders_of row c.args.width c.requires.fits

@@ -1,7 +1,7 @@
-use Rattle.std.proofs.Common.{◌≡◌, ◌*◌, ◌≤◌, map}
+use Rattle.std.proofs.Common.{◌≡◌, ◌≤◌, ◌*◌}
+use Rattle.qrcode_packed.specs.Rows.{dark_in}
 use Rattle.qrcode_penalty.specs.Penalty.{sum_below, line_penalty}
-use Rattle.qrcode_penalty.specs.Rows.{dark_in}
 use Rattle.qrcode_penalty.proofs.rows.row_penalties.Given as goal
 
 abbrev pub invariant-loop-y : goal.invariant-loop-y
-invariant-loop-y g l = record { value : l.total ≡ sum_below l.y (λ y. line_penalty l.width (λ x. dark_in (map g.L.Line.places l.rows) x y)); most : l.total ≤ 10000 * l.y }
+invariant-loop-y g l = record { value : l.total ≡ sum_below l.y (λ y. line_penalty l.square.width (λ x. dark_in l.square.rows x y)); at_most : l.total ≤ 10000 * l.y }

@@ -1,4 +1,4 @@
-//! Blocks of functional modules that look alike in all versions that have them, row by row.
+//! Blocks of functional modules that are the same in all versions that have them, row by row.
 
 use super::super::Module;
 use qrcode_types::types::Color;

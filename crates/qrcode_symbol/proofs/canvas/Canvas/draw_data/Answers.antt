@@ -14,8 +14,8 @@ pub returns-clause-carries : goal.returns-clause-carries
 returns-clause-carries c = λ level start p q half k exists.
     let v = c.args.self.now.version in
     let l = c.args.self.now.level in
-    let bytes = c.args.data.now in
+    let bytes = c.args.bytes.now in
     let ec = c.args.ec.now in
     let after = ap (λ (d : Drawing). d.modules) (returns-clause-after c) ∙ ap (with_bits_drawn v (drawn_bits v l bytes ec)) start in
     subst (λ (modules : List Module). Carries v l (bytes ++ ec) k (colors_of (with_mask v l k modules))) (sym after)
-    (carried v l bytes ec k level (are_bytes bytes (λ i. omega (arith, c.type_inv.data i))) (are_bytes ec (λ i. omega (arith, c.type_inv.ec i))) p q half)
+    (carried v l bytes ec k level (are_bytes bytes (λ i. omega (arith, c.type_inv.bytes i))) (are_bytes ec (λ i. omega (arith, c.type_inv.ec i))) p q half)

@@ -6,7 +6,7 @@ use Rattle.qrcode_symbol.proofs.canvas.drawing.draw_alignment_row.Given as goal
 
 abbrev pub invariant-loop-a : goal.invariant-loop-a
 invariant-loop-a l = record {
-  towards : DrawsTowards l.layout.version l.initial.modules l.modules;
-  drawn : (i : ℕ) → i < l.a-index → is_corner_centre (side l.layout.version) (get_or (centres l.layout.version) i 0) l.b ≡ false
-      → IsRectanglePatterned l.layout.version l.modules (get_or (centres l.layout.version) i 0 - 2) (l.b - 2) 5 5;
+  towards : DrawsTowards l.places.version l.initial.modules l.modules;
+  drawn : (i : ℕ) → i < l.a-index → is_corner_centre (side l.places.version) (get_or (centres l.places.version) i 0) l.b ≡ false
+      → IsRectanglePatterned l.places.version l.modules (get_or (centres l.places.version) i 0 - 2) (l.b - 2) 5 5;
 }

@@ -7,17 +7,17 @@ use Rattle.qrcode_symbol.proofs.canvas.drawing.draw_block.Goals as goal
 
 pub loop-row-preserved : goal.loop-row-preserved
 loop-row-preserved g c =
-    let v = c.args.layout.version in
+    let v = c.args.places.version in
     let old = c.loop-row.modules in
     let row = c.copy_from_slice.new.self in
     let n = c.loop-row.row in
     let across = g.row.ACROSS in
     let left = c.args.left in
     let top = c.args.top in
-    let start = (top + n) * c.args.layout.width + left in
+    let start = (top + n) * c.args.places.width + left in
     let read : c.index-block-row.result ≡ get_or c.args.block.now n [] = get_or_read c.args.block.now n _ (omega arith) c.index-block-row.is [] in
     let count : start + across - start ≡ across = omega arith in
-    let at : start ≡ (top + n) * side v + left = ap (λ w. (top + n) * w + left) c.args.layout.wide in
+    let at : start ≡ (top + n) * side v + left = ap (λ w. (top + n) * w + left) c.args.places.side in
     let inside = row_inside (side v) left across (top + n) c.requires.columns (omega arith) in
     let room : length (take (start + across - start) (drop start old)) ≡ across = simp (length-take, length-drop) (omega arith) in
     let long : length row ≡ across = c.copy_from_slice.ensures.len ∙ room in

@@ -3,6 +3,6 @@ use Rattle.qrcode_symbol.proofs.canvas.drawing.draw_block.Given as goal
 
 abbrev pub invariant-loop-row : goal.invariant-loop-row
 invariant-loop-row g l = record {
-  towards : DrawsTowards l.layout.version l.initial.modules l.modules;
-  drawn : IsRectanglePatterned l.layout.version l.modules l.left l.top g.row.ACROSS l.row;
+  towards : DrawsTowards l.places.version l.initial.modules l.modules;
+  drawn : IsRectanglePatterned l.places.version l.modules l.left l.top g.row.ACROSS l.row;
 }

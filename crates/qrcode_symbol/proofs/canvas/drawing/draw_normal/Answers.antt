@@ -8,31 +8,31 @@ use Rattle.qrcode_symbol.proofs.canvas.drawing.draw_normal.Goals as goal
 
 pub draw_block-requires : goal.draw_block-requires
 draw_block-requires c =
-    let v = c.args.layout.version in
-    let wide = normal_side v c.args.layout.valid c.requires.normal in
+    let v = c.args.places.version in
+    let wide = normal_side v c.args.places.valid c.requires.normal in
     let fits : 0 + 9 ≤ side v = omega (arith, wide) in
-    (omega arith, (fits, (fits, (c.requires.small, (top_left_shown v c.args.layout.valid c.requires.normal, c.requires.square)))))
+    (omega arith, (fits, (fits, (top_left_shown v c.args.places.valid c.requires.normal, c.requires.square))))
 
 pub draw_block-requires-2 : goal.draw_block-requires-2
 draw_block-requires-2 c =
-    let v = c.args.layout.version in
-    let wide = normal_side v c.args.layout.valid c.requires.normal in
-    let columns : c.args.layout.width - 8 + 8 ≤ side v = omega (arith, wide) in
+    let v = c.args.places.version in
+    let wide = normal_side v c.args.places.valid c.requires.normal in
+    let columns : c.args.places.width - 8 + 8 ≤ side v = omega (arith, wide) in
     let rows : 0 + 9 ≤ side v = omega (arith, wide) in
-    (omega arith, (columns, (rows, (c.requires.small, (rw c.args.layout.wide (top_right_shown v c.args.layout.valid c.requires.normal), c.draw_block.auto.modules ∙ c.requires.square)))))
+    (omega arith, (columns, (rows, (rw c.args.places.side (top_right_shown v c.args.places.valid c.requires.normal), c.draw_block.auto.modules ∙ c.requires.square))))
 
 pub draw_block-requires-3 : goal.draw_block-requires-3
 draw_block-requires-3 c =
-    let v = c.args.layout.version in
-    let wide = normal_side v c.args.layout.valid c.requires.normal in
+    let v = c.args.places.version in
+    let wide = normal_side v c.args.places.valid c.requires.normal in
     let columns : 0 + 9 ≤ side v = omega (arith, wide) in
-    let rows : c.args.layout.width - 8 + 8 ≤ side v = omega (arith, wide) in
-    (omega arith, (columns, (rows, (c.requires.small, (rw c.args.layout.wide (bottom_left_shown v c.args.layout.valid c.requires.normal), c.draw_block-2.auto.modules ∙ c.draw_block.auto.modules ∙ c.requires.square)))))
+    let rows : c.args.places.width - 8 + 8 ≤ side v = omega (arith, wide) in
+    (omega arith, (columns, (rows, (rw c.args.places.side (bottom_left_shown v c.args.places.valid c.requires.normal), c.draw_block-2.auto.modules ∙ c.draw_block.auto.modules ∙ c.requires.square))))
 
 pub returns : goal.returns
 returns c =
-    let v = c.args.layout.version in
-    let w = c.args.layout.width in
+    let v = c.args.places.version in
+    let w = c.args.places.width in
     let m = c.args.modules.now in
     let m1 = c.draw_block.new.modules in
     let m2 = c.draw_block-2.new.modules in
@@ -50,14 +50,14 @@ returns c =
     let towards = towards_more v m m1 m7 c.draw_block.ensures.towards from_1 in
     let patterned : AreNormalPatterned v m7 = record {
       top_left = rectangle_kept v m1 m7 0 0 9 9 from_1 c.draw_block.ensures.drawn;
-      top_right = subst (λ n. IsRectanglePatterned v m7 (n - 8) 0 8 9) c.args.layout.wide (rectangle_kept v m2 m7 (w - 8) 0 8 9 from_2 c.draw_block-2.ensures.drawn);
-      bottom_left = subst (λ n. IsRectanglePatterned v m7 0 (n - 8) 9 8) c.args.layout.wide (rectangle_kept v m3 m7 0 (w - 8) 9 8 from_3 c.draw_block-3.ensures.drawn);
-      row = subst (λ n. IsRectanglePatterned v m7 9 6 (n - 17) 1) c.args.layout.wide (rectangle_kept v m4 m7 9 6 (w - 17) 1 from_4 c.draw_rectangle.ensures.drawn);
-      column = subst (λ n. IsRectanglePatterned v m7 6 9 1 (n - 17)) c.args.layout.wide (rectangle_kept v m5 m7 6 9 1 (w - 17) from_5 c.draw_rectangle-2.ensures.drawn);
+      top_right = subst (λ n. IsRectanglePatterned v m7 (n - 8) 0 8 9) c.args.places.side (rectangle_kept v m2 m7 (w - 8) 0 8 9 from_2 c.draw_block-2.ensures.drawn);
+      bottom_left = subst (λ n. IsRectanglePatterned v m7 0 (n - 8) 9 8) c.args.places.side (rectangle_kept v m3 m7 0 (w - 8) 9 8 from_3 c.draw_block-3.ensures.drawn);
+      row = subst (λ n. IsRectanglePatterned v m7 9 6 (n - 17) 1) c.args.places.side (rectangle_kept v m4 m7 9 6 (w - 17) 1 from_4 c.draw_rectangle.ensures.drawn);
+      column = subst (λ n. IsRectanglePatterned v m7 6 9 1 (n - 17)) c.args.places.side (rectangle_kept v m5 m7 6 9 1 (w - 17) from_5 c.draw_rectangle-2.ensures.drawn);
       squares = λ j h i k apart. rectangle_kept v m6 m7 _ _ 5 5 from_6 (c.draw_alignments.ensures.drawn j h i k apart);
       right_word = c.draw_version_words.ensures.top_right;
       left_word = c.draw_version_words.ensures.bottom_left;
     } in
     let square = c.draw_version_words.auto.modules ∙ c.draw_alignments.auto.modules ∙ c.draw_rectangle-2.auto.modules ∙ c.draw_rectangle.auto.modules ∙ c.draw_block-3.auto.modules
     ∙ c.draw_block-2.auto.modules ∙ c.draw_block.auto.modules ∙ c.requires.square in
-    drawn_all v m m7 towards square (normal_covered v m7 c.args.layout.valid c.requires.normal patterned)
+    drawn_all v m m7 towards square (normal_covered v m7 c.args.places.valid c.requires.normal patterned)

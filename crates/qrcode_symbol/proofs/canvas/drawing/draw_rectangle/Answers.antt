@@ -3,7 +3,7 @@ use Rattle.qrcode_symbol.proofs.canvas.drawing.draw_rectangle.Goals as goal
 
 pub loop-row-preserved : goal.loop-row-preserved
 loop-row-preserved c =
-    let v = c.args.layout.version in
+    let v = c.args.places.version in
     let old = c.loop-row.modules in
     let new = c.draw_row.new.modules in
     record {

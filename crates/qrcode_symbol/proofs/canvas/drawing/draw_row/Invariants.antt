@@ -3,6 +3,6 @@ use Rattle.qrcode_symbol.proofs.canvas.drawing.draw_row.Given as goal
 
 abbrev pub invariant-loop-column : goal.invariant-loop-column
 invariant-loop-column l = record {
-  towards : DrawsTowards l.layout.version l.initial.modules l.modules;
-  drawn : IsRectanglePatterned l.layout.version l.modules l.left l.y l.column 1;
+  towards : DrawsTowards l.places.version l.initial.modules l.modules;
+  drawn : IsRectanglePatterned l.places.version l.modules l.left l.y l.column 1;
 }

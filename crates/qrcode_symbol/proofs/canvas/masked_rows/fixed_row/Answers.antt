@@ -7,7 +7,7 @@ fixed_places-requires-clause-order g c = let right : c.max.result ≡ max (c.arg
 
 pub returns-clause-shown : goal.returns-clause-shown
 returns-clause-shown g c = λ x h.
-    let places = g.L.Line.places in
+    let places = g.R.PackedRow.bits in
     let layer = c.args.layer in
     let right : c.max.result ≡ max (layer.width - 8) 9 = c.max.ensures in
     both_corners layer.version layer.word (places c.args.row) (places c.fixed_places-left.result) (places c.fixed_places.result)

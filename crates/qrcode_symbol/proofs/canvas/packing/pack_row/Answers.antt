@@ -3,7 +3,7 @@ use Rattle.qrcode_symbol.proofs.PackedLists.{packed_in_room}
 use Rattle.qrcode_symbol.proofs.canvas.packing.pack_row.Goals as goal
 
 pub returns-clause-dark : goal.returns-clause-dark
-returns-clause-dark g c = simp (c.of_words.ensures, c.pack_word-low.ensures.dark, c.pack_word-middle.ensures.dark, c.pack_word-high.ensures.dark, c.min-first.ensures, c.min-second.ensures) (packed_in_room is_dark_module c.args.row.now g.L.Line.room c.requires)
+returns-clause-dark g c = simp (c.of_words.ensures, c.pack_word-low.ensures.dark, c.pack_word-middle.ensures.dark, c.pack_word-high.ensures.dark, c.min-first.ensures, c.min-second.ensures) (packed_in_room is_dark_module c.args.row.now g.R.PackedRow.room c.requires)
 
 pub returns-clause-free : goal.returns-clause-free
-returns-clause-free g c = simp (c.of_words-2.ensures, c.pack_word-low.ensures.free, c.pack_word-middle.ensures.free, c.pack_word-high.ensures.free, c.min-first.ensures, c.min-second.ensures) (packed_in_room is_free c.args.row.now g.L.Line.room c.requires)
+returns-clause-free g c = simp (c.of_words-2.ensures, c.pack_word-low.ensures.free, c.pack_word-middle.ensures.free, c.pack_word-high.ensures.free, c.min-first.ensures, c.min-second.ensures) (packed_in_room is_free c.args.row.now g.R.PackedRow.room c.requires)

@@ -1,6 +1,6 @@
 use Rattle.std.proofs.Common.{◌≡◌, suc, ◌+◌, ◌-◌, ◌*◌, ◌/◌, ◌^◌, ◌<◌, ◌≤◌, slice_index_or, length, take, drop, length-take, length-drop, ap, sym, ◌∙◌, arith, inl, inr}
 use Rattle.qrcode_types.specs.Colors.{color_of}
-use Rattle.qrcode_penalty.specs.Rows.{has_place}
+use Rattle.qrcode_packed.specs.Rows.{is_set}
 use Rattle.qrcode_types.specs.declared.types.Color.TheVariants.{Light}
 use Rattle.std.proofs.lemmas.Nat.{shr-shr}
 use Rattle.std.proofs.lemmas.Bool.Decides.{leb_tells}
@@ -11,8 +11,8 @@ use Rattle.qrcode_symbol.proofs.canvas.unpacking.unpack_fours.Goals as goal
 
 pub loop-j-preserved : goal.loop-j-preserved
 loop-j-preserved g c =
-    let places = g.R.Line.places in
-    let of = g.S.Shown.of in
+    let places = g.R.PackedRow.bits in
+    let of = g.S.FromColor.from_color in
     let j = c.loop-j.j in
     let line = places c.args.line in
     let old = c.loop-j.row in
@@ -32,8 +32,8 @@ loop-j-preserved g c =
             let kept : length new ≡ length (take count (drop (4 * j) old)) = c.copy_from_slice.ensures.len in
             ap (λ n. slice_index_or (put_mid (4 * j) count old new) n (of Light)) e
             ∙ part_inside (of Light) (4 * j) count old new i (omega (arith, room)) (omega (arith, wide, kept))
-            ∙ ap (λ l. slice_index_or l i (of Light)) (c.copy_from_slice.ensures.after ∙ c.four-four.ensures)
+            ∙ ap (λ l. slice_index_or l i (of Light)) (c.copy_from_slice.ensures.after ∙ c.from_four-four.ensures)
             ∙ four_at of (places c.loop-j.rest) c.first_word.result line j i low c.first_word.ensures c.loop-j.invariant.rest
-            ∙ ap (λ n. of (color_of (has_place line n))) (sym e)
+            ∙ ap (λ n. of (color_of (is_set line n))) (sym e)
       ];
     }

@@ -1,0 +1,5 @@
+//! Squares of modules whose rows are packed into words.
+#![tactic(auto)]
+
+pub mod row;
+pub mod square;

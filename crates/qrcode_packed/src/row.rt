@@ -1,0 +1,283 @@
+//! Rows of modules, packed into words.
+
+ghost use Rattle.std.specs.Prelude.{◌≡◌, ℕ, ◌+◌, ◌-◌, ◌*◌, ◌/◌, ◌%◌, ◌<◌, ◌≤◌, ◌^◌, bit_and, bit_or, bit_xor, count_ones};
+ghost use Rattle.std.proofs.Common.{lit≤};
+
+/// A row of modules, packed into words: bit x is set where a test holds of the module in column x.
+pub trait PackedRow: Copy {
+    // How many bits there are.
+    ghost room: { ℕ };
+
+    // The number that has these bits.
+    ghost bits: { Self → ℕ };
+
+    // No type has room for more than 192 bits.
+    ghost room_at_most: { room ≤ 192 };
+
+    /// The row in which the first `count` bits are set.
+    fn first(count: u32) -> Self
+        requires { count < room }
+        ensures { bits result ≡ 2 ^ count - 1 };
+
+    /// The bits that are set in both rows.
+    fn and(self, other: Self) -> Self
+        ensures { bits result ≡ bit_and (bits self) (bits other) };
+
+    /// The bits that are set in either row.
+    fn or(self, other: Self) -> Self
+        ensures { bits result ≡ bit_or (bits self) (bits other) };
+
+    /// The bits that are set in one of the rows alone.
+    fn xor(self, other: Self) -> Self
+        ensures { bits result ≡ bit_xor (bits self) (bits other) };
+
+    /// The bits of this row that are not set in the other.
+    fn without(self, other: Self) -> Self
+        ensures { bits result ≡ bit_xor (bits self) (bit_and (bits self) (bits other)) };
+
+    /// Each bit moves down by `count`, from 1 to 63; what goes below bit 0 is left out.
+    fn down(self, count: u32) -> Self
+        requires at_least { 0 < count }
+        requires at_most { count < 64 }
+        ensures { bits result ≡ bits self / 2 ^ count };
+
+    /// Each bit moves up by `count`, from 1 to 63; none may go past the room.
+    fn up(self, count: u32) -> Self
+        requires at_least { 0 < count }
+        requires at_most { count < 64 }
+        requires fits { bits self * 2 ^ count < 2 ^ room }
+        ensures { bits result ≡ bits self * 2 ^ count };
+
+    /// How many bits are set.
+    fn count_ones(self) -> u32
+        ensures value { result ≡ count_ones (bits self) }
+        ensures at_most { result ≤ 192 };
+
+    /// The row of three words, `low` being its first 64 bits; what goes past the room is left out.
+    fn of_words(low: u64, middle: u64, high: u64) -> Self
+        ensures { bits result ≡ ((high * 2 ^ 64 + middle) * 2 ^ 64 + low) % 2 ^ room };
+
+    /// The first 64 bits.
+    fn first_word(self) -> u64
+        ensures { result ≡ bits self % 2 ^ 64 };
+}
+
+impl PackedRow for u64 {
+    ghost room = { 64 };
+
+    ghost bits = { λ row. row };
+
+    ghost room_at_most = { lit≤ tt };
+
+    #[inline(always)]
+    fn first(count: u32) -> u64 {
+        (1 << count) - 1
+    }
+
+    #[inline(always)]
+    fn and(self, other: u64) -> u64 {
+        self & other
+    }
+
+    #[inline(always)]
+    fn or(self, other: u64) -> u64 {
+        self | other
+    }
+
+    #[inline(always)]
+    fn xor(self, other: u64) -> u64 {
+        self ^ other
+    }
+
+    #[inline(always)]
+    fn without(self, other: u64) -> u64 {
+        self ^ (self & other)
+    }
+
+    #[inline(always)]
+    fn down(self, count: u32) -> u64 {
+        self >> count
+    }
+
+    #[inline(always)]
+    fn up(self, count: u32) -> u64 {
+        self << count
+    }
+
+    #[inline(always)]
+    fn count_ones(self) -> u32 {
+        u64::count_ones(self)
+    }
+
+    #[inline(always)]
+    fn of_words(low: u64, _middle: u64, _high: u64) -> u64 {
+        low
+    }
+
+    #[inline(always)]
+    fn first_word(self) -> u64 {
+        self
+    }
+}
+
+impl PackedRow for u128 {
+    ghost room = { 128 };
+
+    ghost bits = { λ row. row };
+
+    ghost room_at_most = { lit≤ tt };
+
+    #[inline(always)]
+    fn first(count: u32) -> u128 {
+        (1 << count) - 1
+    }
+
+    #[inline(always)]
+    fn and(self, other: u128) -> u128 {
+        self & other
+    }
+
+    #[inline(always)]
+    fn or(self, other: u128) -> u128 {
+        self | other
+    }
+
+    #[inline(always)]
+    fn xor(self, other: u128) -> u128 {
+        self ^ other
+    }
+
+    #[inline(always)]
+    fn without(self, other: u128) -> u128 {
+        self ^ (self & other)
+    }
+
+    #[inline(always)]
+    fn down(self, count: u32) -> u128 {
+        self >> count
+    }
+
+    #[inline(always)]
+    fn up(self, count: u32) -> u128 {
+        self << count
+    }
+
+    #[inline(always)]
+    fn count_ones(self) -> u32 {
+        u128::count_ones(self)
+    }
+
+    #[inline(always)]
+    fn of_words(low: u64, middle: u64, _high: u64) -> u128 {
+        (u128::from(middle) << 64) | u128::from(low)
+    }
+
+    #[inline(always)]
+    fn first_word(self) -> u64 {
+        (self & 0xffff_ffff_ffff_ffff) as u64
+    }
+}
+
+/// A row of up to 192 bits in three words.
+#[derive(Copy, Clone)]
+pub struct Row192 {
+    low: u64,
+    middle: u64,
+    high: u64,
+}
+
+impl PackedRow for Row192 {
+    ghost room = { 192 };
+
+    ghost bits = { λ row. (row.high * 2 ^ 64 + row.middle) * 2 ^ 64 + row.low };
+
+    ghost room_at_most = { lit≤ tt };
+
+    #[inline(always)]
+    fn first(count: u32) -> Row192 {
+        if count < 64 {
+            return Row192 {
+                low: (1 << count) - 1,
+                middle: 0,
+                high: 0,
+            };
+        }
+        if count < 128 {
+            return Row192 {
+                low: u64::MAX,
+                middle: (1 << (count - 64)) - 1,
+                high: 0,
+            };
+        }
+        Row192 {
+            low: u64::MAX,
+            middle: u64::MAX,
+            high: (1 << (count - 128)) - 1,
+        }
+    }
+
+    #[inline(always)]
+    fn and(self, other: Row192) -> Row192 {
+        Row192 {
+            low: self.low & other.low,
+            middle: self.middle & other.middle,
+            high: self.high & other.high,
+        }
+    }
+
+    #[inline(always)]
+    fn or(self, other: Row192) -> Row192 {
+        Row192 {
+            low: self.low | other.low,
+            middle: self.middle | other.middle,
+            high: self.high | other.high,
+        }
+    }
+
+    #[inline(always)]
+    fn xor(self, other: Row192) -> Row192 {
+        Row192 {
+            low: self.low ^ other.low,
+            middle: self.middle ^ other.middle,
+            high: self.high ^ other.high,
+        }
+    }
+
+    #[inline(always)]
+    fn without(self, other: Row192) -> Row192 {
+        self.xor(self.and(other))
+    }
+
+    #[inline(always)]
+    fn down(self, count: u32) -> Row192 {
+        Row192 {
+            low: (self.middle << (64 - count)) | (self.low >> count),
+            middle: (self.high << (64 - count)) | (self.middle >> count),
+            high: self.high >> count,
+        }
+    }
+
+    #[inline(always)]
+    fn up(self, count: u32) -> Row192 {
+        Row192 {
+            low: self.low << count,
+            middle: (self.middle << count) | (self.low >> (64 - count)),
+            high: (self.high << count) | (self.middle >> (64 - count)),
+        }
+    }
+
+    #[inline(always)]
+    fn count_ones(self) -> u32 {
+        self.high.count_ones() + self.middle.count_ones() + self.low.count_ones()
+    }
+
+    #[inline(always)]
+    fn of_words(low: u64, middle: u64, high: u64) -> Row192 {
+        Row192 { low, middle, high }
+    }
+
+    #[inline(always)]
+    fn first_word(self) -> u64 {
+        self.low
+    }
+}
