@@ -38,6 +38,7 @@ static LOGARITHMS: [u8; 256] = [
 ];
 
 /// The power of 2, which is x, with this exponent.
+#[inline(always)]
 pub fn power(exponent: usize) -> u8
     ensures value { result ≡ power exponent }
     ensures sum { (other : ℕ) → power (exponent + other) ≡ product result (power other) }
@@ -50,6 +51,7 @@ pub fn power(exponent: usize) -> u8
 }
 
 // The exponent below 255 of a byte that is not zero.
+#[inline(always)]
 fn logarithm(byte: u8) -> usize
     requires { 0 < byte }
     ensures at_most { result ≤ 254 }
@@ -59,6 +61,7 @@ fn logarithm(byte: u8) -> usize
 }
 
 /// The product of two bytes in the field.
+#[inline(always)]
 pub fn product(a: u8, b: u8) -> u8
     ensures value { result ≡ product a b }
     ensures is_product { IsProduct a b result }

@@ -3,6 +3,7 @@
 #![tactic(auto)]
 
 pub mod characters;
+pub mod laws;
 pub mod modes;
 pub mod tables;
 pub mod types;

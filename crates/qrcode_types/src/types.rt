@@ -46,6 +46,9 @@ pub type QrResult<T> = Result<T, QrError>;
 impl fmt::Display for QrError {
     ghost output = { λ e. Some (error_text e) };
 
+    // A width, a fill and a precision change nothing.
+    ghost styled_output = { λ e _. Some (error_text e) };
+
     fn fmt<W: fmt::Write>(&self, f: &mut fmt::Formatter<W>) -> fmt::Result {
         match self {
             QrError::DataTooLong => f.write_str("data too long"),
@@ -79,7 +82,9 @@ impl<T: Drop> From<AllocFailed<T>> for QrError {
 /// The colour of a module.
 #[derive(Copy, Clone, PartialEq, Eq, Hash, Debug)]
 pub enum Color {
+    /// A light module, which stands for 0.
     Light,
+    /// A dark module, which stands for 1.
     Dark,
 }
 
@@ -112,9 +117,13 @@ impl Not for Color {
 /// An error correction level, from the least correction to the most.
 #[derive(Copy, Clone, PartialEq, Eq, PartialOrd, Ord, Debug)]
 pub enum EcLevel {
+    /// Low: about 7 % of the codewords can be restored.
     L,
+    /// Medium: about 15 %.
     M,
+    /// Quartile: about 25 %.
     Q,
+    /// High: about 30 %.
     H,
 }
 
@@ -138,7 +147,9 @@ impl EcLevel {
 /// The version of a symbol, which decides its size: `Normal` from 1 to 40, or `Micro` from 1 to 4.
 #[derive(Copy, Clone, PartialEq, Eq, Debug)]
 pub enum Version {
+    /// A QR code of this version, from 1 to 40.
     Normal(i16),
+    /// A Micro QR code of this version, from 1 to 4.
     Micro(i16),
 }
 

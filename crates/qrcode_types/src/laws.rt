@@ -1,0 +1,17 @@
+//! Laws of the types that no call stands for, on the contract of a function that does nothing.
+
+ghost use Rattle.std.specs.Prelude.{◌≡◌, ◌↔◌, IsTrue};
+ghost use Rattle.qrcode_types.specs.declared.types.QrError.{QrError};
+ghost use Rattle.qrcode_types.specs.declared.types.Color.{Color};
+ghost use Rattle.qrcode_types.specs.declared.types.Version.{Version};
+ghost use Rattle.qrcode_types.specs.declared.types.Mode.{Mode};
+
+use crate::types::{Color, Mode, QrError, Version};
+
+/// Two values are equal by `==` exactly when they are the same. Of levels `EcLevel::number` says so.
+pub fn equality()
+    ensures errors { (a b : QrError) → IsTrue (⟦<QrError as PartialEq>⟧.eq a b) ↔ (a ≡ b) }
+    ensures colors { (a b : Color) → IsTrue (⟦<Color as PartialEq>⟧.eq a b) ↔ (a ≡ b) }
+    ensures versions { (a b : Version) → IsTrue (⟦<Version as PartialEq>⟧.eq a b) ↔ (a ≡ b) }
+    ensures modes { (a b : Mode) → IsTrue (⟦<Mode as PartialEq>⟧.eq a b) ↔ (a ≡ b) }
+{}
