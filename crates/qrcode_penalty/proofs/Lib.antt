@@ -2,5 +2,6 @@ pub mod ColumnWords
 pub mod Finders
 pub mod LastColumn
 pub mod Lines
+pub mod Runs
 pub mod Squares
 pub mod Sums

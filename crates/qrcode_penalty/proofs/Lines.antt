@@ -7,6 +7,7 @@ use Rattle.std.specs.Int.Count.{ones}
 use Rattle.qrcode_packed.specs.Rows.{is_set}
 use Rattle.qrcode_packed.proofs.Places.{differ, has_and, has_or, has_xor, has_without, has_shr, has_shl, has_shl_below, has_first, has_first_above}
 use Rattle.qrcode_penalty.specs.Penalty.{sum_below, count_if, is_run, run_penalty_at, same, run_penalty, begins_run}
+use Rattle.qrcode_penalty.proofs.Runs.{run_penalty-windows}
 use Rattle.qrcode_penalty.proofs.Sums.{run_places, weigh_places}
 
 run_test : (a b c d e : Bool) → not ((differ a b || differ b c) || (differ c d || differ d e)) ≡ (same a a && (same a b && (same a c && (same a d && (same a e && true)))))
@@ -101,7 +102,7 @@ begins_at a (suc k) =
     has_or (edges a * 2 ^ 1) (2 ^ 1 - 1) (suc k) ∙ ap₂ (λ (x y : Bool). x || y) (shifted ∙ here) other ∙ or_false (not (same (is_set a k) (is_set a (suc k))))
 
 pub runs_of : (a n : ℕ) → count_ones (windows a n) + 2 * count_ones (first_windows a n) ≡ run_penalty n (is_set a)
-unfolding run_penalty run_penalty_at
+unfolding run_penalty_at
 runs_of a n =
     run_places (windows a n) (first_windows a n) (n - 4) (run_penalty_at (is_set a)) (λ k. is_run (is_set a) k 5) (begins_run (is_set a))
     (λ k h. without_at (n - 4) (spread a) k h ∙ spread_at a k)
@@ -109,6 +110,7 @@ runs_of a n =
     (λ k h. has_and (windows a n) (bit_or (edges a * 2 ^ 1) (2 ^ 1 - 1)) k ∙ ap₂ (λ (x y : Bool). x && y) (without_at (n - 4) (spread a) k h ∙ spread_at a k) (begins_at a k))
     (λ k h. has_and (windows a n) (bit_or (edges a * 2 ^ 1) (2 ^ 1 - 1)) k ∙ ap (λ x. x && is_set (bit_or (edges a * 2 ^ 1) (2 ^ 1 - 1)) k) (without_above (n - 4) (spread a) k h))
     (λ k h. refl)
+    ∙ sym (run_penalty-windows n (is_set a))
 
 -- the words of block_penalty
 abbrev pub mixed : ℕ → ℕ → ℕ

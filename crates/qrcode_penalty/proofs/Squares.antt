@@ -8,6 +8,7 @@ use Rattle.qrcode_packed.specs.Rows.{is_set}
 use Rattle.qrcode_packed.proofs.Places.{has_above, has_shr, has_zero}
 use Rattle.qrcode_penalty.specs.Penalty.{sum_below, count_if, same, run_penalty_at, run_penalty, finder_penalty_at, finder_penalty, line_penalty, block_penalty, dark_count, balance_penalty, normal_penalty, light_count, micro_penalty}
 use Rattle.qrcode_packed.specs.Rows.{dark_in, FitsWidth, Shows, inside}
+use Rattle.qrcode_penalty.proofs.Runs.{run_penalty-windows}
 use Rattle.qrcode_penalty.proofs.Sums.{count_places, sum_plus, sum_same, sum_swap}
 use Rattle.qrcode_penalty.proofs.Lines.{without, without_at, without_above}
 use Rattle.qrcode_penalty.proofs.ColumnWords.{row}
@@ -19,9 +20,9 @@ pub square_cost : (rows : List ℕ) (n a b d e f : ℕ) →
     e ≡ block_penalty n (dark_in rows) →
     f ≡ balance_penalty n (dark_in rows) →
     a + b + d + e + f ≡ normal_penalty n (dark_in rows)
-unfolding normal_penalty run_penalty finder_penalty
+unfolding normal_penalty finder_penalty
 square_cost rows n a b d e f ra rb rd re rf =
-    let runs : b ≡ sum_below n (λ x. run_penalty n (dark_in rows x)) = rb ∙ sum_swap (λ x y. run_penalty_at (dark_in rows x) y) (n - 4) n in
+    let runs : b ≡ sum_below n (λ x. run_penalty n (dark_in rows x)) = rb ∙ sum_swap (λ x y. run_penalty_at (dark_in rows x) y) (n - 4) n ∙ sum_same _ _ n (λ x h. sym (run_penalty-windows n (dark_in rows x))) in
     let finders : d ≡ sum_below n (λ x. finder_penalty n (dark_in rows x)) = rd ∙ sum_swap (λ x y. finder_penalty_at n (dark_in rows x) y) (n - 6) n in
     let columns : b + d ≡ sum_below n (λ x. line_penalty n (dark_in rows x)) = ap₂ (λ (u v : ℕ). u + v) runs finders ∙ sym (sum_plus (λ x. run_penalty n (dark_in rows x)) (λ x. finder_penalty n (dark_in rows x)) n) in
     let group : a + b + d + e + f ≡ a + (b + d) + e + f = omega arith in

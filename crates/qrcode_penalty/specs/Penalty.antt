@@ -1,5 +1,5 @@
 -- What a square of modules costs, by which of its places are dark.
-use Rattle.std.specs.Prelude.{ℕ, zero, suc, ◌+◌, ◌-◌, ◌*◌, ◌/◌, nat_le, ◌&&◌, ◌||◌, not, max, Bool, true, false, if◌then◌else◌}
+use Rattle.std.specs.Prelude.{ℕ, zero, suc, ◌+◌, ◌-◌, ◌*◌, ◌/◌, nat_le, ◌==◌, ◌&&◌, ◌||◌, not, max, Bool, true, false, if◌then◌else◌}
 use Rattle.std.specs.Int.{abs_diff}
 use Rattle.std.specs.List.{range_with_len, list_all}
 
@@ -29,13 +29,26 @@ abbrev pub begins_run : (ℕ → Bool) → ℕ → Bool
 begins_run line zero = true
 begins_run line (suc i) = not (same (line i) (line (suc i)))
 
--- five equal places count 1, and 2 more where they begin their run: a run of five or more counts its length less 2
+-- a run ends at place i of the first n: it is the last of them, or the next is of the other colour
+abbrev pub ends_run : ℕ → (ℕ → Bool) → ℕ → Bool
+ends_run n line i = suc i == n || not (same (line i) (line (suc i)))
+
+-- how many places the run has up to place i
+unfoldable pub run_length : (ℕ → Bool) → ℕ → ℕ
+run_length line zero = 1
+run_length line (suc i) = if same (line i) (line (suc i)) then suc (run_length line i) else 1
+
+-- a run of 5 + i places costs 3 + i
+abbrev pub run_cost : ℕ → ℕ
+run_cost length = if nat_le 5 length then 3 + (length - 5) else 0
+
+-- what the runs of a line of n places cost, each counted where it ends
+unfoldable pub run_penalty : ℕ → (ℕ → Bool) → ℕ
+run_penalty n line = sum_below n (λ i. count_if (ends_run n line i) (run_cost (run_length line i)))
+
+-- the same by windows: five equal places from i on count 1, and 3 where their run begins
 unfoldable pub run_penalty_at : (ℕ → Bool) → ℕ → ℕ
 run_penalty_at line i = count_if (is_run line i 5) (if begins_run line i then 3 else 1)
-
--- what the runs of a line of n places cost
-unfoldable pub run_penalty : ℕ → (ℕ → Bool) → ℕ
-run_penalty n line = sum_below (n - 4) (run_penalty_at line)
 
 -- the `count` places from i on are light, where they are inside
 abbrev pub is_light_from : ℕ → (ℕ → Bool) → ℕ → ℕ → Bool
