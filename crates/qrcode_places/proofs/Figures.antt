@@ -33,10 +33,7 @@ alignment_some w x y (Some a) None = refl
 alignment_some w x y (Some a) (Some b) = where_some _ _
 
 pub version_some : (v far x y : ℕ) → is_some (version_copy v far x y) ≡ (nat_le x 5 && nat_le far y && nat_le y (far + 2))
-version_some v far x y = go (nat_le x 5 && nat_le far y && nat_le y (far + 2)) _ where
-  go : (t : Bool) (c : Color) → is_some (elim t as (λ _. Option Color) [ true ↦ Some c | false ↦ None ]) ≡ t
-  go true c = refl
-  go false c = refl
+version_some v far x y = where_some _ _
 
 pub format_some : (w x y : ℕ) → is_some (normal_cases w x y)
     ≡ ((y == 8 && (nat_le x 5 || x == 7 || x == 8 || (nat_le (w - 8) x && nat_lt x w)))

@@ -1,7 +1,7 @@
 -- The free places of each version are as many as its bits and its remainder.
-use Rattle.std.proofs.Common.{◌≡◌, ℕ, ◌+◌, ◌-◌, ◌*◌, ◌==◌, nat_le, pos, negsuc, Bool, true, false, not, ◌&&◌, ◌||◌, List, map, length, arith, refl, ap, ap₂, ◌∙◌, IsTrue, inl, inr, subst}
+use Rattle.std.proofs.Common.{◌≡◌, ℕ, ◌+◌, ◌-◌, ◌*◌, ◌==◌, nat_le, pos, negsuc, Bool, true, not, ◌&&◌, ◌||◌, List, map, length, arith, refl, ap, ap₂, ◌∙◌, IsTrue, inl, inr, subst}
 use Rattle.std.specs.List.{range_with_len}
-use Rattle.std.proofs.lemmas.Bool.{or_cases, both_ways, not-true, eqb-true}
+use Rattle.std.proofs.lemmas.Bool.{and_parts, or_cases, both_ways, not-true, eqb-true}
 use Rattle.qrcode_types.specs.Tables.{block_table}
 use Rattle.qrcode_types.specs.Versions.{has_level, capacity, total_ec_length, remainder_bits, blocks_entry, block_lengths, data_length}
 use Rattle.qrcode_types.specs.declared.types.Version.{Version}
@@ -68,18 +68,11 @@ fills v count l = not (has_level v l) || count == capacity v l + 8 * total_ec_le
 abbrev fills_all : Version → ℕ → Bool
 fills_all v count = fills v count L && (fills v count M && (fills v count Q && fills v count H))
 
-four : (a b c d : Bool) → (a && (b && (c && d))) ≡ true → (a ≡ true) × (b ≡ true) × (c ≡ true) × (d ≡ true)
-four true true true true h = (refl, refl, refl, refl)
-four true true true false h = absurd (cc)
-four true true false d h = absurd (cc)
-four true false c d h = absurd (cc)
-four false b c d h = absurd (cc)
-
 fills_at : (v : Version) (count : ℕ) (l : EcLevel) → fills_all v count ≡ true → fills v count l ≡ true
-fills_at v count L h = (four (fills v count L) (fills v count M) (fills v count Q) (fills v count H) h).0
-fills_at v count M h = (four (fills v count L) (fills v count M) (fills v count Q) (fills v count H) h).1
-fills_at v count Q h = (four (fills v count L) (fills v count M) (fills v count Q) (fills v count H) h).2
-fills_at v count H h = (four (fills v count L) (fills v count M) (fills v count Q) (fills v count H) h).3
+fills_at v count L h = (and_parts _ _ h).0
+fills_at v count M h = (and_parts _ _ (and_parts (fills v count L) _ h).1).0
+fills_at v count Q h = (and_parts _ _ (and_parts (fills v count M) _ (and_parts (fills v count L) _ h).1).1).0
+fills_at v count H h = (and_parts (fills v count Q) _ (and_parts (fills v count M) _ (and_parts (fills v count L) _ h).1).1).1
 
 normals_filled : passes_below (λ i. fills_all (Normal (pos (i + 1))) (normal_count (i + 1))) 40 ≡ true
 unfolding normal_count columns_count rows_of centres centre_table tests cell is_same insert tally weighed capacity total_ec_length data_length block_lengths blocks_entry block_table

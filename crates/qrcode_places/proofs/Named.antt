@@ -1,5 +1,5 @@
 -- The five bits of a format word tell what it names.
-use Rattle.std.proofs.Common.{◌≡◌, ℕ, zero, suc, ◌+◌, ◌-◌, ◌*◌, ◌<◌, pos, negsuc, refl, sym, ap, ◌∙◌, arith, IsTrue}
+use Rattle.std.proofs.Common.{◌≡◌, ℕ, zero, suc, ◌+◌, ◌-◌, ◌*◌, pos, negsuc, refl, sym, ap, ◌∙◌, arith, IsTrue}
 use Rattle.qrcode_types.specs.Tables.{block_table}
 use Rattle.qrcode_types.specs.Versions.{is_micro, level_number, blocks_entry, has_level}
 use Rattle.qrcode_types.specs.declared.types.Version.{Version}
@@ -7,9 +7,9 @@ use Rattle.qrcode_types.specs.declared.types.Version.TheVariants.{Normal, Micro}
 use Rattle.qrcode_types.specs.declared.types.EcLevel.{EcLevel}
 use Rattle.qrcode_types.specs.declared.types.EcLevel.TheVariants.{L, M, Q, H}
 use Rattle.qrcode_places.specs.Words.{level_bits, format_bits, NameTheSame}
-use Rattle.qrcode_places.specs.Masks.{mask_number, micro_mask_number, exists_in}
+use Rattle.qrcode_places.specs.Masks.{mask_number, micro_mask_number, exists_in, nth_mask}
 use Rattle.qrcode_places.specs.declared.masks.MaskPattern.{MaskPattern}
-use Rattle.qrcode_places.specs.declared.masks.MaskPattern.TheVariants.{Checkerboard, HorizontalLines, VerticalLines, DiagonalLines, LargeCheckerboard, Fields, Diamonds, Meadow}
+use Rattle.qrcode_places.proofs.MaskLists.{nth_of_number}
 use Rattle.qrcode_places.proofs.Formats.{mask_number-lt, micro_mask, valid_of, within}
 
 level_of_bits : ℕ → EcLevel
@@ -57,44 +57,6 @@ pair_of-is (suc (suc (suc (suc zero)))) Q h = refl
 pair_of-is (suc (suc (suc (suc zero)))) H h = cc
 pair_of-is (suc (suc (suc (suc (suc n))))) l h = absurd (omega (arith, within (suc (suc (suc (suc (suc n))))) 4 (valid_of (Micro (pos (suc (suc (suc (suc (suc n))))))) l h)))
 
-mask_of : ℕ → MaskPattern
-mask_of zero = Checkerboard
-mask_of (suc zero) = HorizontalLines
-mask_of (suc (suc zero)) = VerticalLines
-mask_of (suc (suc (suc zero))) = DiagonalLines
-mask_of (suc (suc (suc (suc zero)))) = LargeCheckerboard
-mask_of (suc (suc (suc (suc (suc zero))))) = Fields
-mask_of (suc (suc (suc (suc (suc (suc zero)))))) = Diamonds
-mask_of _ = Meadow
-
-mask_of-is : (k : MaskPattern) → mask_of (mask_number k) ≡ k
-unfolding mask_of
-mask_of-is Checkerboard = refl
-mask_of-is HorizontalLines = refl
-mask_of-is VerticalLines = refl
-mask_of-is DiagonalLines = refl
-mask_of-is LargeCheckerboard = refl
-mask_of-is Fields = refl
-mask_of-is Diamonds = refl
-mask_of-is Meadow = refl
-
-micro_mask_of : ℕ → MaskPattern
-micro_mask_of zero = HorizontalLines
-micro_mask_of (suc zero) = LargeCheckerboard
-micro_mask_of (suc (suc zero)) = Diamonds
-micro_mask_of _ = Meadow
-
-micro_mask_of-is : (k : MaskPattern) → micro_mask_number k < 4 → micro_mask_of (micro_mask_number k) ≡ k
-unfolding micro_mask_of
-micro_mask_of-is Checkerboard h = absurd (omega arith)
-micro_mask_of-is HorizontalLines h = refl
-micro_mask_of-is VerticalLines h = absurd (omega arith)
-micro_mask_of-is DiagonalLines h = absurd (omega arith)
-micro_mask_of-is LargeCheckerboard h = refl
-micro_mask_of-is Fields h = absurd (omega arith)
-micro_mask_of-is Diamonds h = refl
-micro_mask_of-is Meadow h = refl
-
 pub same_names : (u v : Version) (l m : EcLevel) (j k : MaskPattern) → is_micro u ≡ is_micro v → IsTrue (has_level u l) → IsTrue (has_level v m)
     → IsTrue (exists_in u j) → IsTrue (exists_in v k) → format_bits u l j ≡ format_bits v m k → NameTheSame u v l m j k
 same_names (Normal u) (Normal v) l m j k same p q r s e =
@@ -105,7 +67,7 @@ same_names (Normal u) (Normal v) l m j k same p q r s e =
     record {
       micro_version = λ is. absurd (cc);
       level = sym (level_of_bits-is l) ∙ ap level_of_bits levels ∙ level_of_bits-is m;
-      mask = sym (mask_of-is j) ∙ ap mask_of masks ∙ mask_of-is k;
+      mask = sym (nth_of_number (Normal u) j r) ∙ ap (nth_mask (Normal u)) masks ∙ nth_of_number (Normal v) k s;
     }
 same_names (Micro (pos n)) (Micro (pos o)) l m j k same p q r s e =
     let one = micro_mask n j r in
@@ -116,7 +78,7 @@ same_names (Micro (pos n)) (Micro (pos o)) l m j k same p q r s e =
     record {
       micro_version = λ is. ap (λ t. Micro (pos t.0)) pair;
       level = ap (λ t. t.1) pair;
-      mask = sym (micro_mask_of-is j one) ∙ ap micro_mask_of masks ∙ micro_mask_of-is k two;
+      mask = sym (nth_of_number (Micro (pos n)) j r) ∙ ap (nth_mask (Micro (pos n))) masks ∙ nth_of_number (Micro (pos o)) k s;
     }
 same_names (Micro (negsuc n)) v l m j k same p q r s e = absurd (cc)
 same_names (Micro (pos n)) (Micro (negsuc o)) l m j k same p q r s e = absurd (cc)

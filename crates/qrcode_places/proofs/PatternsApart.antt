@@ -10,7 +10,7 @@ use Rattle.qrcode_types.specs.Versions.{is_valid}
 use Rattle.qrcode_types.specs.declared.types.Version.{Version}
 use Rattle.qrcode_types.specs.declared.types.Version.TheVariants.{Normal, Micro}
 use Rattle.qrcode_types.specs.declared.types.Color.{Color}
-use Rattle.qrcode_places.specs.Patterns.{centres, is_near, color_if, finder_at, finder, alignment, alignment_between, timing, dark_module, version_copy, version_pattern, pattern, format_index, is_corner_centre}
+use Rattle.qrcode_places.specs.Patterns.{centres, is_near, color_if, finder_at, finder, alignment, alignment_between, timing, dark_module, version_pattern, pattern, format_index, is_corner_centre}
 use Rattle.qrcode_places.specs.Laws.{FormatPlacesAreNoPatterns, RulesAgree}
 use Rattle.qrcode_places.proofs.Corners.{no_where, no_or}
 use Rattle.qrcode_places.proofs.Figures.{or_some, finder_some, version_some}
@@ -50,9 +50,6 @@ where_is false d c e = absurd (cc)
 no_finder_at : (a b x y : ℕ) → (nat_le (abs_diff a x) 4 && nat_le (abs_diff b y) 4) ≡ false → finder_at a b x y ≡ None
 no_finder_at a b x y e = no_where _ _ (grind (arith, nat_tests))
 
-no_copy : (v far x y : ℕ) → (nat_le x 5 && nat_le far y && nat_le y (far + 2)) ≡ false → version_copy v far x y ≡ None
-no_copy v far x y e = rw (e, version_copy) refl
-
 after : (a b r : Option Color) → a ≡ None → b ≡ r → option_or a b ≡ r
 after a b r e f = rw e f
 
@@ -91,7 +88,7 @@ module _ (n x y : ℕ) where
   unfolding version_pattern
   no_words e f = elim (cases_lt n 7) [
     | inl early ↦ rw (lt-leb 7 n early) refl
-    | inr late ↦ rw (le-leb 7 n late) (no_or _ _ (no_copy n (4 * n + 6) x y (e late)) (no_copy n (4 * n + 6) y x (f late)))
+    | inr late ↦ rw (le-leb 7 n late) (no_or _ _ (no_where _ _ (e late)) (no_where _ _ (f late)))
   ]
 
   -- at a place of the format word

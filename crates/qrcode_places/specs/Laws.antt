@@ -14,7 +14,8 @@ IsInside v x y = (x < side v) × (y < side v)
 
 -- a place of the format word belongs to no pattern
 abbrev pub FormatPlacesAreNoPatterns : Type 0
-FormatPlacesAreNoPatterns = (v : Version) (x y i : ℕ) → IsTrue (is_valid v) → format_index v x y ≡ Some i → pattern v x y ≡ None
+FormatPlacesAreNoPatterns =
+    (v : Version) (x y i : ℕ) → IsTrue (is_valid v) → format_index v x y ≡ Some i → pattern v x y ≡ None
 
 -- each rule of patterns that has a place gives it the colour of the pattern: where two rules meet they agree
 pub record RulesAgree (v : Version) (x y : ℕ) (c : Color) : Type 0 where
@@ -28,7 +29,8 @@ pub record RulesAgree (v : Version) (x y : ℕ) (c : Color) : Type 0 where
 pub record IsFormatCopy (v : Version) (places : List (ℕ × ℕ)) : Type 0 where
   pub count : length places ≡ 15
   pub inside : (i : ℕ) → i < 15 → let p = slice_index_or places i (0, 0) in IsInside v p.0 p.1
-  pub index : (i : ℕ) → i < 15 → let p = slice_index_or places i (0, 0) in format_index v p.0 p.1 ≡ Some i
+  pub index :
+      (i : ℕ) → i < 15 → let p = slice_index_or places i (0, 0) in format_index v p.0 p.1 ≡ Some i
 
 -- each copy of the format word has its bits in turn
 abbrev pub FormatCopiesAreIndexed : Type 0
@@ -38,7 +40,8 @@ FormatCopiesAreIndexed = (v : Version) → IsTrue (is_valid v) → AllByRecursio
 abbrev pub FormatPlacesAreInCopies : Type 0
 FormatPlacesAreInCopies =
     (v : Version) (x y i : ℕ) → IsTrue (is_valid v) → format_index v x y ≡ Some i
-    → (i < 15) × ((copy : ℕ) × ((copy < length (format_copies v)) × (slice_index_or (slice_index_or (format_copies v) copy []) i (0, 0) ≡ (x, y))))
+    → (i < 15) × ((copy : ℕ) × ((copy < length (format_copies v))
+    × (slice_index_or (slice_index_or (format_copies v) copy []) i (0, 0) ≡ (x, y))))
 
 -- the column that the walk leaves out
 abbrev pub left_out : Version → ℕ
@@ -47,21 +50,26 @@ left_out (Micro v) = 0
 
 -- the walk stays in the square
 abbrev pub WalkIsInside : Type 0
-WalkIsInside = (v : Version) (t : ℕ) → IsTrue (is_valid v) → t < side v * (side v - 1) → IsInside v (zigzag_place v t).0 (zigzag_place v t).1
+WalkIsInside =
+    (v : Version) (t : ℕ) → IsTrue (is_valid v) → t < side v * (side v - 1)
+    → IsInside v (zigzag_place v t).0 (zigzag_place v t).1
 
 -- the walk comes to no place twice
 abbrev pub WalkIsApart : Type 0
 WalkIsApart =
-    (v : Version) (s t : ℕ) → IsTrue (is_valid v) → s < side v * (side v - 1) → t < side v * (side v - 1) → zigzag_place v s ≡ zigzag_place v t → s ≡ t
+    (v : Version) (s t : ℕ) → IsTrue (is_valid v) → s < side v * (side v - 1)
+    → t < side v * (side v - 1) → zigzag_place v s ≡ zigzag_place v t → s ≡ t
 
 -- the walk comes to each place of the other columns
 abbrev pub WalkIsWhole : Type 0
 WalkIsWhole =
-    (v : Version) (x y : ℕ) → IsTrue (is_valid v) → IsInside v x y → x ≢ left_out v → (t : ℕ) × ((t < side v * (side v - 1)) × (zigzag_place v t ≡ (x, y)))
+    (v : Version) (x y : ℕ) → IsTrue (is_valid v) → IsInside v x y → x ≢ left_out v
+    → (t : ℕ) × ((t < side v * (side v - 1)) × (zigzag_place v t ≡ (x, y)))
 
 -- no place of the column that the walk leaves out is free
 abbrev pub LeftOutIsFunctional : Type 0
-LeftOutIsFunctional = (v : Version) (y : ℕ) → IsTrue (is_valid v) → y < side v → IsTrue (is_functional_place v (left_out v) y)
+LeftOutIsFunctional =
+    (v : Version) (y : ℕ) → IsTrue (is_valid v) → y < side v → IsTrue (is_functional_place v (left_out v) y)
 
 -- the list of free places has each once
 abbrev pub FreePlacesAreApart : Type 0
@@ -69,4 +77,6 @@ FreePlacesAreApart = (v : Version) → IsTrue (is_valid v) → AllPairs (λ p q.
 
 -- the list of free places has all of them
 abbrev pub FreePlacesAreWhole : Type 0
-FreePlacesAreWhole = (v : Version) (x y : ℕ) → IsTrue (is_valid v) → IsInside v x y → is_functional_place v x y ≡ false → Contains (free_places v) (x, y)
+FreePlacesAreWhole =
+    (v : Version) (x y : ℕ) → IsTrue (is_valid v) → IsInside v x y
+    → is_functional_place v x y ≡ false → Contains (free_places v) (x, y)

@@ -7,7 +7,7 @@ use Rattle.qrcode_types.specs.declared.types.Version.TheVariants.{Normal, Micro}
 use Rattle.qrcode_places.specs.declared.masks.MaskPattern.{MaskPattern}
 use Rattle.qrcode_places.specs.declared.masks.MaskPattern.TheVariants.{Checkerboard, HorizontalLines, VerticalLines, DiagonalLines, LargeCheckerboard, Fields, Diamonds, Meadow}
 
--- the mask turns the module in column x and row y
+-- the mask turns the module in column x and row y (ISO/IEC 18004:2006, table 10)
 abbrev pub turns : MaskPattern → ℕ → ℕ → Bool
 turns Checkerboard x y = (x + y) % 2 == 0
 turns HorizontalLines x y = y % 2 == 0
@@ -21,7 +21,7 @@ turns Meadow x y = ((x + y) % 2 + (x * y) % 3) % 2 == 0
 -- the same formulas at coordinates of any sign: only for the diagonal lines do signs count
 abbrev pub turns_at : MaskPattern → ℤ → ℤ → Bool
 turns_at DiagonalLines x y = nat_abs (x +ℤ y) % 3 == 0
-turns_at k x y = turns k (nat_abs x) (nat_abs y)
+turns_at mask x y = turns mask (nat_abs x) (nat_abs y)
 
 -- the number of a mask, 0 to 7, as the standard numbers them
 abbrev pub mask_number : MaskPattern → ℕ
@@ -45,18 +45,18 @@ masks_of (Micro v) = HorizontalLines ∷ LargeCheckerboard ∷ Diamonds ∷ Mead
 abbrev pub mask_count : Version → ℕ
 mask_count v = length (masks_of v)
 
--- the k-th mask of a version
+-- the mask of a version that has a number
 abbrev pub nth_mask : Version → ℕ → MaskPattern
-nth_mask v k = slice_index_or (masks_of v) k Checkerboard
+nth_mask v number = slice_index_or (masks_of v) number Checkerboard
 
 -- the number of a mask in Micro, which is its place in the list, and 4 for a mask that Micro lacks
 abbrev pub micro_mask_number : MaskPattern → ℕ
-micro_mask_number k =
-    position_or_len (λ j. mask_number j == mask_number k) (masks_of (Micro (pos 1)))
+micro_mask_number mask =
+    position_or_len (λ other. mask_number other == mask_number mask) (masks_of (Micro (pos 1)))
 
 -- the version has the mask: Normal has all, Micro four
 abbrev pub exists_in : Version → MaskPattern → Bool
-exists_in v k = is_valid v && (not (is_micro v) || nat_lt (micro_mask_number k) 4)
+exists_in v mask = is_valid v && (not (is_micro v) || nat_lt (micro_mask_number mask) 4)
 
 -- a module's bit under a mask that turns it or not
 abbrev pub turned_if : Bool → Bool → Bool

@@ -24,14 +24,18 @@ finder_at a b x y = let d = max (abs_diff a x) (abs_diff b y) in color_if (nat_l
 
 -- finder patterns in three corners of Normal and in one of Micro
 unfoldable pub finder : Version → ℕ → ℕ → Option Color
-finder (Normal v) x y = let far = 4 * nat_abs v + 13 in option_or (finder_at 3 3 x y) (option_or (finder_at far 3 x y) (finder_at 3 far x y))
+finder (Normal v) x y =
+    let far = 4 * nat_abs v + 13 in
+    option_or (finder_at 3 3 x y) (option_or (finder_at far 3 x y) (finder_at 3 far x y))
 finder (Micro v) x y = finder_at 3 3 x y
 
 -- The coordinates of the alignment centres. Normal 2 to 6 have one centre; the first coordinate serves only the corners
 -- where finder patterns are.
 unfoldable pub centres : Version → List ℕ
-centres (Normal v) = let n = nat_abs v in
-    if nat_le 7 n then slice_index_or centre_table (n - 7) [] else (if nat_le 2 n then 6 ∷ (4 * n + 10) ∷ [] else [])
+centres (Normal v) =
+    let n = nat_abs v in
+    if nat_le 7 n then slice_index_or centre_table (n - 7) []
+    else (if nat_le 2 n then 6 ∷ (4 * n + 10) ∷ [] else [])
 centres (Micro v) = []
 
 -- an alignment pattern reaches two modules from its centre
@@ -47,7 +51,8 @@ is_corner_centre w a b = (a == 6 && (b == 6 || b == w - 7)) || (a == w - 7 && b 
 abbrev pub alignment_between : ℕ → Option ℕ → Option ℕ → ℕ → ℕ → Option Color
 alignment_between w None b x y = None
 alignment_between w (Some a) None x y = None
-alignment_between w (Some a) (Some b) x y = color_if (not (is_corner_centre w a b)) (not (max (abs_diff a x) (abs_diff b y) == 1))
+alignment_between w (Some a) (Some b) x y =
+    color_if (not (is_corner_centre w a b)) (not (max (abs_diff a x) (abs_diff b y) == 1))
 
 -- alignment patterns at all pairs of the coordinates; those near a place are at most one in columns and one in rows
 unfoldable pub alignment : Version → ℕ → ℕ → Option Color
@@ -55,8 +60,11 @@ alignment v x y = let cs = centres v in alignment_between (side v) (find (is_nea
 
 -- the row and the column of timing modules, dark and light by turns
 unfoldable pub timing : Version → ℕ → ℕ → Option Color
-timing (Normal v) x y = let last = 4 * nat_abs v + 8 in
-    color_if ((y == 6 && nat_le 8 x && nat_le x last) || (x == 6 && nat_le 8 y && nat_le y last)) ((x + y) % 2 == 0)
+timing (Normal v) x y =
+    let last = 4 * nat_abs v + 8 in
+    let is_in_row = y == 6 && nat_le 8 x && nat_le x last in
+    let is_in_column = x == 6 && nat_le 8 y && nat_le y last in
+    color_if (is_in_row || is_in_column) ((x + y) % 2 == 0)
 timing (Micro v) x y = color_if ((y == 0 && nat_le 8 x) || (x == 0 && nat_le 8 y)) ((x + y) % 2 == 0)
 
 -- the module of Normal that is always dark
@@ -66,23 +74,30 @@ dark_module (Micro v) x y = None
 
 -- one copy of the version word, in six columns of three rows from `far` on: the lowest bit first, down each column
 abbrev pub version_copy : ℕ → ℕ → ℕ → ℕ → Option Color
-version_copy v far x y = elim (nat_le x 5 && nat_le far y && nat_le y (far + 2)) [ true ↦ Some (color_of (has_bit (version_word v) (3 * x + (y - far)))) | false ↦ None ]
+version_copy v far x y =
+    color_if (nat_le x 5 && nat_le far y && nat_le y (far + 2)) (has_bit (version_word v) (3 * x + (y - far)))
 
 -- both copies of the version word, from Normal 7 on; they mirror each other
 unfoldable pub version_pattern : Version → ℕ → ℕ → Option Color
-version_pattern (Normal v) x y = let n = nat_abs v in
-    if nat_le 7 n then option_or (version_copy n (4 * n + 6) x y) (version_copy n (4 * n + 6) y x) else None
+version_pattern (Normal v) x y =
+    let n = nat_abs v in
+    let far = 4 * n + 6 in
+    if nat_le 7 n then option_or (version_copy n far x y) (version_copy n far y x) else None
 version_pattern (Micro v) x y = None
 
 -- the colour of a place in the functional patterns, the format word aside
 unfoldable pub pattern : Version → ℕ → ℕ → Option Color
-pattern v x y = option_or (finder v x y) (option_or (alignment v x y) (option_or (timing v x y) (option_or (dark_module v x y) (version_pattern v x y))))
+pattern v x y =
+    option_or (finder v x y) (option_or (alignment v x y)
+    (option_or (timing v x y) (option_or (dark_module v x y) (version_pattern v x y))))
 
 -- Where bit i of a copy of the format word stands, bit 0 being the highest.
 
 -- in the copy of Normal at the top left
 abbrev pub first_format_place : ℕ → ℕ × ℕ
-first_format_place i = if nat_le i 5 then (i, 8) else (if i == 6 then (7, 8) else (if i == 7 then (8, 8) else (if i == 8 then (8, 7) else (8, 14 - i))))
+first_format_place i =
+    if nat_le i 5 then (i, 8)
+    else (if i == 6 then (7, 8) else (if i == 7 then (8, 8) else (if i == 8 then (8, 7) else (8, 14 - i))))
 
 -- in the copy of Normal at the bottom left and at the top right
 abbrev pub second_format_place : ℕ → ℕ → ℕ × ℕ
@@ -94,7 +109,9 @@ micro_format_place i = if nat_le i 7 then (i + 1, 8) else (8, 15 - i)
 
 -- the places of each copy of the format word, the highest bit first: two copies in Normal, one in Micro
 unfoldable pub format_copies : Version → List (List (ℕ × ℕ))
-format_copies (Normal v) = map first_format_place (range_with_len 0 15) ∷ map (second_format_place (4 * nat_abs v + 17)) (range_with_len 0 15) ∷ []
+format_copies (Normal v) =
+    let second = second_format_place (4 * nat_abs v + 17) in
+    map first_format_place (range_with_len 0 15) ∷ map second (range_with_len 0 15) ∷ []
 format_copies (Micro v) = map micro_format_place (range_with_len 0 15) ∷ []
 
 -- the place is in column x and row y
@@ -112,4 +129,5 @@ is_functional_place v x y = is_some (pattern v x y) || is_some (format_index v x
 -- the bit of a place that no mask decides: of the format word, or of the dark module
 unfoldable pub decided_bit : Version → ℕ → ℕ → ℕ → Option Bool
 decided_bit v word x y =
-    option_or (option_map (λ i. has_bit word (14 - i)) (format_index v x y)) (option_map is_dark (dark_module v x y))
+    option_or (option_map (λ i. has_bit word (14 - i)) (format_index v x y))
+    (option_map is_dark (dark_module v x y))

@@ -17,7 +17,9 @@ color_at v s x y = slice_index_or s (y * side v + x) Light
 
 -- the right column of a pair of columns; Normal leaves out column 6
 abbrev pub right_column : Version → ℕ → ℕ
-right_column v pair = let column = side v - 1 - 2 * pair in if not (is_micro v) && nat_le column 6 then column - 1 else column
+right_column v pair =
+    let column = side v - 1 - 2 * pair in
+    if not (is_micro v) && nat_le column 6 then column - 1 else column
 
 -- The t-th place, column and row, of the walk through pairs of columns, from the right, up and down by turns, the right
 -- module of each row first. Normal leaves out its column of timing modules, 6, and Micro its own, 0.
@@ -38,9 +40,11 @@ free_places v = filter (λ p. not (is_functional_place v p.0 p.1)) (zigzag v)
 
 -- the bits at the free places: a dark module is a one, turned where the mask turns
 unfoldable pub stream : Version → MaskPattern → List Color → List Bool
-stream v k s = map (λ p. turned_if (turns k p.0 p.1) (is_dark (color_at v s p.0 p.1))) (free_places v)
+stream v mask s =
+    map (λ p. turned_if (turns mask p.0 p.1) (is_dark (color_at v s p.0 p.1))) (free_places v)
 
 -- the free places of each version number its data bits, its error correction bits and its remainder, at each of its levels
 abbrev pub FreePlacesAreFilled : Type 0
 FreePlacesAreFilled =
-    (v : Version) (l : EcLevel) → IsTrue (has_level v l) → length (free_places v) ≡ capacity v l + 8 * total_ec_length v l + remainder_bits v
+    (v : Version) (l : EcLevel) → IsTrue (has_level v l)
+    → length (free_places v) ≡ capacity v l + 8 * total_ec_length v l + remainder_bits v

@@ -52,9 +52,9 @@ static CENTRES: [&[u8]; 40] = [
 ];
 
 // The coordinates for Normal, by the number of the version.
-fn row(number: usize) -> &'static [u8]
-    requires low { 1 ≤ number }
-    requires high { number ≤ 40 }
+fn normal_centres(number: usize) -> &'static [u8]
+    requires at_least { 1 ≤ number }
+    requires at_most { number ≤ 40 }
     ensures { result.now ≡ centres (Normal (pos number)) }
 {
     CENTRES[number - 1]
@@ -68,7 +68,7 @@ pub fn centres(version: Version) -> &'static [u8]
     ensures { result.now ≡ centres version }
 {
     match version {
-        Version::Normal(v) => row(v as usize),
+        Version::Normal(v) => normal_centres(v as usize),
         Version::Micro(_) => &[],
     }
 }

@@ -111,12 +111,12 @@ pub fn mask_count(version: Version) -> usize
     masks_of(version).len()
 }
 
-/// The mask of a version that has the number `k`, which is below `mask_count`.
-pub fn nth_mask(version: Version, k: usize) -> MaskPattern
+/// The mask of a valid version that has a number, which is below `mask_count`.
+pub fn nth_mask(version: Version, number: usize) -> MaskPattern
     requires valid { IsTrue (is_valid version) }
-    requires exists { k < mask_count version }
-    ensures value { result ≡ nth_mask version k }
+    requires exists { number < mask_count version }
+    ensures value { result ≡ nth_mask version number }
     ensures exists { IsTrue (exists_in version result) }
 {
-    masks_of(version)[k]
+    masks_of(version)[number]
 }

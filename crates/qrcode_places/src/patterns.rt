@@ -26,10 +26,10 @@ fn color_if(holds: bool, dark: bool) -> Option<Color>
 }
 
 // A finder pattern with its separator, round a centre.
-fn finder_at(a: usize, b: usize, x: usize, y: usize) -> Option<Color>
-    ensures { result ≡ finder_at a b x y }
+fn finder_at(centre_x: usize, centre_y: usize, x: usize, y: usize) -> Option<Color>
+    ensures { result ≡ finder_at centre_x centre_y x y }
 {
-    let distance = a.abs_diff(x).max(b.abs_diff(y));
+    let distance = centre_x.abs_diff(x).max(centre_y.abs_diff(y));
     color_if(distance <= 4, distance <= 1 || distance == 3)
 }
 
@@ -53,14 +53,15 @@ fn finder(version: Version, width: usize, x: usize, y: usize) -> Option<Color>
     }
 }
 
-/// The first coordinate that is at most 2 away.
+/// The coordinate of an alignment centre that is at most 2 away, if there is one: of several the
+/// first.
 pub fn near_centre(centres: &[u8], x: usize) -> Option<usize>
     ensures { result ≡ find (is_near x) centres.now }
 {
     centres
         .iter()
-        .map(|a| *a as usize)
-        .find(|a| a.abs_diff(x) <= 2)
+        .map(|centre| *centre as usize)
+        .find(|centre| centre.abs_diff(x) <= 2)
 }
 
 /// Whether two coordinates of alignment centres meet in a corner where a finder pattern is.
@@ -83,11 +84,11 @@ fn alignment_between(
     requires { 7 ≤ width }
     ensures { result ≡ alignment_between width near_x near_y x y }
 {
-    let (Some(a), Some(b)) = (near_x, near_y) else {
+    let (Some(centre_x), Some(centre_y)) = (near_x, near_y) else {
         return None;
     };
-    let dark = a.abs_diff(x).max(b.abs_diff(y)) != 1;
-    color_if(!is_corner_centre(width, a, b), dark)
+    let distance = centre_x.abs_diff(x).max(centre_y.abs_diff(y));
+    color_if(!is_corner_centre(width, centre_x, centre_y), distance != 1)
 }
 
 // The row and the column of timing modules.
@@ -95,7 +96,7 @@ fn alignment_between(
 fn timing(version: Version, width: usize, x: usize, y: usize) -> Option<Color>
     requires valid { IsTrue (is_valid version) }
     requires width { width ≡ side version }
-    requires small { x + y < 1000 }
+    requires fits { x + y < 1000 }
     ensures { result ≡ timing version x y }
 {
     let on_line = match version {
@@ -123,9 +124,9 @@ pub fn dark_module(version: Version, width: usize, x: usize, y: usize) -> Option
 
 // One copy of the version word, in six columns of three rows from `far` on.
 fn version_copy(number: usize, far: usize, x: usize, y: usize) -> Option<Color>
-    requires low { 7 ≤ number }
-    requires high { number ≤ 40 }
-    requires far { far < 200 }
+    requires at_least { 7 ≤ number }
+    requires at_most { number ≤ 40 }
+    requires fits { far < 200 }
     ensures { result ≡ version_copy number far x y }
 {
     if x <= 5 && far <= y && y <= far + 2 {
@@ -170,7 +171,7 @@ pub fn pattern(
     requires near_y { near_y ≡ find (is_near y) (centres version) }
     requires column { x < width }
     requires row { y < width }
-    requires small { width ≤ 177 }
+    requires width_at_most { width ≤ 177 }
     ensures value { result ≡ pattern version x y }
 
     // Where two rules of patterns meet they agree.
@@ -194,7 +195,7 @@ fn normal_format_index(version: Version, width: usize, x: usize, y: usize) -> Op
     requires normal { is_micro version ≡ false }
     requires valid { IsTrue (is_valid version) }
     requires width { width ≡ side version }
-    requires inside { x < 1000 }
+    requires fits { x < 1000 }
     ensures value { result ≡ format_index version x y }
     ensures at_most { IfSome result (λ i. i < 15) }
 {
@@ -237,7 +238,7 @@ fn micro_format_index(version: Version, x: usize, y: usize) -> Option<usize>
 pub fn format_index(version: Version, width: usize, x: usize, y: usize) -> Option<usize>
     requires valid { IsTrue (is_valid version) }
     requires width { width ≡ side version }
-    requires inside { x < 1000 }
+    requires fits { x < 1000 }
     ensures value { result ≡ format_index version x y }
     ensures at_most { IfSome result (λ i. i < 15) }
     ensures apart { IfSome result (λ _. pattern version x y ≡ None) }
@@ -253,7 +254,7 @@ pub fn format_index(version: Version, width: usize, x: usize, y: usize) -> Optio
 pub fn decided_bit(version: Version, width: usize, word: u16, x: usize, y: usize) -> Option<bool>
     requires valid { IsTrue (is_valid version) }
     requires width { width ≡ side version }
-    requires inside { x < 1000 }
+    requires fits { x < 1000 }
     ensures { result ≡ decided_bit version word x y }
 {
     if let Some(i) = format_index(version, width, x, y) {

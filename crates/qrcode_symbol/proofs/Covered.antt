@@ -56,13 +56,10 @@ no_dark_module : (n x y : ℕ) → IsOutside (4 * n + 17) x y → dark_module (N
 unfolding dark_module
 no_dark_module n x y out = no_where _ _ (elim out.bottom_left [ inl h ↦ grind (arith, nat_tests) | inr h ↦ grind (arith, nat_tests) ])
 
-unread : (t : Bool) (c : Color) → t ≡ false → elim t as (λ _. Option Color) [ true ↦ Some c | false ↦ None ] ≡ None
-unread t c e = rw e refl
-
 pub no_copy : (v far x y : ℕ) → 6 ≤ x ⊎ (y < far ⊎ far + 2 < y) → version_copy v far x y ≡ None
-no_copy v far x y (inl h) = unread _ _ (grind (arith, nat_tests))
-no_copy v far x y (inr (inl h)) = unread _ _ (grind (arith, nat_tests))
-no_copy v far x y (inr (inr h)) = unread _ _ (grind (arith, nat_tests))
+no_copy v far x y (inl h) = no_where _ _ (grind (arith, nat_tests))
+no_copy v far x y (inr (inl h)) = no_where _ _ (grind (arith, nat_tests))
+no_copy v far x y (inr (inr h)) = no_where _ _ (grind (arith, nat_tests))
 
 pub no_if : (t : Bool) (o : Option Color) → (t ≡ true → o ≡ None) → cond t o None ≡ None
 no_if true o e = e refl
