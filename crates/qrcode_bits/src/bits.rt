@@ -37,11 +37,11 @@ pub use optimal::DATA_LIMIT;
 use stream::Stream;
 use written::{may_write, push_written};
 
-// The bits of a list at most.
+// A list has no more bits than this.
 const BIT_LIMIT: usize = 16_777_216;
 
-/// A list of bits for a symbol of some version. A push that is refused leaves it as it was; of
-/// several segments, those before the refused one stand.
+/// A list of bits for a symbol of some version. A push that fails leaves it as it was; of several
+/// segments, those before the failing one stay appended.
 #[derive(Drop)]
 pub struct Bits {
     version: Version,
@@ -120,7 +120,7 @@ impl Bits {
     pub fn max_len(&self, ec_level: EcLevel) -> QrResult<usize>
         ensures exists { is_ok result ≡ versions.has_level self.now.version ec_level }
         ensures value { IfOk result (λ bits. bits ≡ versions.capacity self.now.version ec_level) }
-        ensures missing { IfErr result (λ e. e ≡ QrError.InvalidVersion) }
+        ensures no_level { IfErr result (λ e. e ≡ QrError.InvalidVersion) }
         ensures at_most { IfOk result (λ bits. bits ≤ 23648) }
     {
         tables::capacity(self.version, ec_level).ok_or(QrError::InvalidVersion)
@@ -279,14 +279,14 @@ impl Bits {
 
     /// Appends the bytes of each segment in its mode. Ranges may come in any order, again, or empty.
     ///
-    /// It refuses as the first refused segment does; the segments before it stand.
+    /// It fails as the first failing segment does; the segments before it stay appended.
     pub fn push_segments<I: Iterator<Item = Segment> + Drop>(
         &mut self,
         bytes: &[u8],
         segments: I,
     ) -> QrResult<()>
         requires can { I.can_next segments }
-        requires ends { IsFinite (I.remaining segments) }
+        requires finite { IsFinite (I.remaining segments) }
         requires inside { HoldsAlong I.next_gives segments (AreInside (length bytes.now)) }
         ensures pushed { OnOk result ((given : List Segment) × (Drains I.next_gives segments given
             × PushesAll self.old.version self.old.bits bytes.now given self.new.bits)) }
@@ -378,15 +378,15 @@ fn extended_indicator(version: Version, mode: ExtendedMode) -> QrResult<u32>
             }
             Ok(indicator(version, mode))
         }
-        ExtendedMode::Eci => normal_indicator(version, 0b0111),
-        ExtendedMode::Fnc1First => normal_indicator(version, 0b0101),
-        ExtendedMode::Fnc1Second => normal_indicator(version, 0b1001),
-        ExtendedMode::StructuredAppend => normal_indicator(version, 0b0011),
+        ExtendedMode::Eci => only_normal(version, 0b0111),
+        ExtendedMode::Fnc1First => only_normal(version, 0b0101),
+        ExtendedMode::Fnc1Second => only_normal(version, 0b1001),
+        ExtendedMode::StructuredAppend => only_normal(version, 0b0011),
     }
 }
 
 // An indicator that Micro QR lacks.
-fn normal_indicator(version: Version, number: u32) -> QrResult<u32>
+fn only_normal(version: Version, number: u32) -> QrResult<u32>
     ensures { result
         ≡ (if versions.is_micro version then Err QrError.UnsupportedCharacterSet else Ok number) }
 {

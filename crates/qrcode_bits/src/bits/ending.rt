@@ -11,7 +11,7 @@ use qrcode_types::types::Version;
 pub(super) fn terminator_length(version: Version) -> usize
     requires { IsTrue (is_valid version) }
     ensures value { result ≡ terminator_length version }
-    ensures small { result ≤ 9 }
+    ensures at_most { result ≤ 9 }
 {
     match version {
         Version::Normal(_) => 4,
@@ -46,7 +46,7 @@ fn push_padding(stream: &mut Stream, count: usize)
 
 fn padding_byte(place: usize) -> u32
     ensures value { result ≡ (if place % 2 == 0 then 0xEC else 0x11) }
-    ensures small { result < 256 }
+    ensures at_most { result < 256 }
 {
     if place % 2 == 0 { 0xEC } else { 0x11 }
 }

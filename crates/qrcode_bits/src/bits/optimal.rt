@@ -17,7 +17,7 @@ use super::Bits;
 use crate::optimize::{Segment, least_segments};
 use qrcode_types::types::{QrError, QrResult};
 
-/// The bytes of data that are taken at most.
+/// No more bytes of data than this are taken.
 pub const DATA_LIMIT: usize = 1_048_576;
 
 impl Bits {
@@ -39,18 +39,18 @@ impl Bits {
             → IfErr result (λ e. ((e ≡ OutOfMemory) × (self.new ≡ self.old))
             ⊎ StopsInLeast self.old.version self.old.bits bytes.now e self.new.bits) }
 
-        // Where the data can be cut, it is at most too long.
+        // Data that can be cut fails only for its length, or for lack of memory.
         ensures causes { (cut : List Segment) → IsCut self.old.version bytes.now cut
             → IfErr result (λ e. (e ≡ DataTooLong) ⊎ (e ≡ OutOfMemory)) }
 
         // Data that fits a symbol is taken.
-        ensures fits { (level : EcLevel)
+        ensures accepts { (level : EcLevel)
             → length self.old.bits + capacity self.old.version level ≤ bit_limit
             → FitsIn self.old.version bytes.now (capacity self.old.version level)
             → IsOkUnless result OutOfMemory }
 
-        // A cut of the data fits a symbol just where some bits that fill the symbol spell the data.
-        ensures held { (level : EcLevel)
+        // A cut of the data fits a symbol exactly when some bits that fill the symbol spell it.
+        ensures spelled { (level : EcLevel)
             → FitsIn self.old.version bytes.now (capacity self.old.version level)
             ↔ IsSpelled self.old.version level bytes.now }
         ensures version { self.new.version ≡ self.old.version }

@@ -1,3 +1,5 @@
+//! Bits packed into bytes, as they are appended.
+
 ghost use Rattle.std.specs.Prelude.{◌≡◌, ℕ, false, ◌+◌, ◌-◌, ◌*◌, ◌<◌, ◌≤◌, ◌^◌, [], ◌++◌, length, replicate, vec_len, vec_capacity, OnOk};
 ghost use Rattle.qrcode_types.specs.Bits.{number_bits, bits_of};
 

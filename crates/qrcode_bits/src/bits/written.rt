@@ -34,8 +34,8 @@ pub(super) fn push_written(stream: &mut Stream, version: Version, mode: Mode, by
     requires counted { characters.character_count mode (length bytes.now)
         < 2 ^ modes.length_bits_count mode version }
     requires writable { is_checked mode && not (characters.can_write mode bytes.now) ≡ false }
-    requires room { segments.cost_of version mode (characters.character_count mode (length bytes.now))
-        ≤ stream.old.room }
+    requires room { let count = characters.character_count mode (length bytes.now) in
+        segments.cost_of version mode count ≤ stream.old.room }
     ensures { stream.new.bits
         ≡ stream.old.bits ++ written_piece version (record { mode = mode; chunk = bytes.now }) }
 {

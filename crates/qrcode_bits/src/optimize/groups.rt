@@ -1,4 +1,5 @@
-//! Segments joined where that takes no more bits.
+//! Segments joined where that takes no more bits. No constructor of a symbol calls the optimizer:
+//! `least_segments` does their work, and the optimizer stays for its callers.
 
 ghost use Rattle.std.specs.Prelude.{◌≡◌, ℕ, List, [], ◌∷◌, IsTrue};
 ghost use Rattle.std.specs.Iterator.{IsFinite, Drains, HoldsAlong};
@@ -26,10 +27,10 @@ impl<I: Iterator<Item = Segment>> Optimizer<I> {
     pub fn new(mut segments: I, version: Version) -> Optimizer<I>
         requires valid { IsTrue (is_valid version) }
         requires can { I.can_next segments }
-        requires ends { IsFinite (I.remaining segments) }
+        requires finite { IsFinite (I.remaining segments) }
         requires joinable { HoldsAlong I.next_gives segments IsJoinable }
         ensures can { CanGroup I.next_gives I.can_next I.remaining result }
-        ensures ends { IsFinite (groups_left I.remaining result) }
+        ensures finite { IsFinite (groups_left I.remaining result) }
 
         // All items together are the groups of all segments.
         ensures groups { (groups : List Segment) → Drains (GroupsStep I.next_gives) result groups

@@ -15,7 +15,7 @@ const MORE_THAN_ANY: u32 = 1 << 30;
 pub(super) fn header(version: Version, mode: Mode) -> u32
     requires { IsTrue (is_valid version) }
     ensures value { result ≡ header version mode }
-    ensures bound { result ≤ more_than_any }
+    ensures at_most { result ≤ more_than_any }
 {
     if has_mode(version, mode) {
         (version.mode_bits_count() + mode.length_bits_count(version)) as u32

@@ -33,11 +33,11 @@ pub fn least_segments(alloc: Global, bytes: &[u8], version: Version) -> QrResult
     ensures least { IfOk result (λ segments. IsLeastCut version bytes.now segments.items) }
 
     // Where the data cannot be cut, that is known before memory is asked for.
-    ensures none { ((segments : List Segment) → ¬ IsCut version bytes.now segments)
+    ensures no_cut { ((segments : List Segment) → ¬ IsCut version bytes.now segments)
         → result ≡ Err UnsupportedCharacterSet }
-    ensures exists { (segments : List Segment)
+    ensures accepts { (segments : List Segment)
         → IsCut version bytes.now segments → IsOkUnless result OutOfMemory }
-    ensures errors { IfErr result (λ e. (e ≡ UnsupportedCharacterSet) ⊎ (e ≡ OutOfMemory)) }
+    ensures causes { IfErr result (λ e. (e ≡ UnsupportedCharacterSet) ⊎ (e ≡ OutOfMemory)) }
 
     // The ranges lie in the data, in order they give it back, and each mode can write its range.
     ensures inside { IfOk result (λ segments. AreInside (length bytes.now) segments.items) }
@@ -46,8 +46,8 @@ pub fn least_segments(alloc: Global, bytes: &[u8], version: Version) -> QrResult
     ensures writable { IfOk result (λ segments. AllByRecursion
         (λ p. IsTrue (can_write p.mode p.chunk)) (pieces_of bytes.now segments.items)) }
 
-    // A cut fits a symbol just where some bits that fill the symbol spell the data.
-    ensures fits { (level : EcLevel) → FitsIn version bytes.now (capacity version level)
+    // A cut fits a symbol exactly when some bits that fill the symbol spell the data.
+    ensures spelled { (level : EcLevel) → FitsIn version bytes.now (capacity version level)
         ↔ IsSpelled version level bytes.now }
 {
     if !can_be_cut(bytes, version) {

@@ -1,4 +1,5 @@
-//! The runs of the data.
+//! The runs of the data. No constructor of a symbol calls the parser: `least_segments` does their
+//! work, and the parser stays for its callers.
 
 ghost use Rattle.std.specs.Prelude.{◌≡◌, ◌+◌, ◌<◌, ◌^◌, List, length, slice_range, IsTrue};
 ghost use Rattle.std.specs.List.{AllByRecursion};
@@ -59,9 +60,9 @@ impl<'a> Parser<'a> {
     /// The runs that are left, joined where that takes no more bits in the version.
     pub fn optimize(self, version: Version) -> Optimizer<Parser<'a>>
         requires valid { IsTrue (is_valid version) }
-        requires small { data_left self ≤ range_limit }
+        requires at_most { data_left self ≤ range_limit }
         ensures can { CanGroup (YieldsFirst runs_left) (λ _. ⊤) (item_count runs_left) result }
-        ensures ends { IsFinite (groups_left (item_count runs_left) result) }
+        ensures finite { IsFinite (groups_left (item_count runs_left) result) }
         ensures groups { (groups : List Segment)
             → Drains (GroupsStep (YieldsFirst runs_left)) result groups
             → AreGroups version (runs_left self.entry) groups }

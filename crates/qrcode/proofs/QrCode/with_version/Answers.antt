@@ -37,7 +37,7 @@ returns-in_err-max_len-clause-causes c =
     let long : c.in-Err.error ≡ DataTooLong = search rules in
     let lacks : has_level v l ≡ false = sym (c.in_err-max_len.ensures.exists ∙ ap (λ u. has_level u l) (c.in-Err.ensures.version ∙ version k)) in
     handed_on c.from_residual.result e (IsRefusedAt v l bytes) c.from_residual.ensures
-    (behind_cut v l bytes (valid k) e (omega arith) (some_cut k long (omega arith)) (inr (inl (lacks, c.in_err-max_len.ensures.missing))))
+    (behind_cut v l bytes (valid k) e (omega arith) (some_cut k long (omega arith)) (inr (inl (lacks, c.in_err-max_len.ensures.no_level))))
 
 pub returns-in-Err-clause-causes : goal.returns-in-Err-clause-causes
 returns-in-Err-clause-causes c =
@@ -51,7 +51,7 @@ returns-in-Err-clause-causes c =
       | then-eq+then-bytes-le-DATA_LIMIT+in_ok-max_len w ↦
           let long : e ≡ DataTooLong = search rules in
           let has : has_level v l ≡ true = sym (w.in_ok-max_len.ensures.exists ∙ ap (λ u. has_level u l) (known.version ∙ version k)) in
-          let too_small : ¬ Holds v l bytes = λ holds. let memory = known.fits l (omega (arith, c.new-bits.ensures.room l, ap (λ u. capacity u l) (version k), ap (λ (b : BitList). length b.bits) c.new-bits.ensures.empty)) (subst (λ u. Holds u l bytes) (sym (version k)) holds) in cc in
+          let too_small : ¬ Holds v l bytes = λ holds. let memory = known.accepts l (omega (arith, c.new-bits.ensures.room l, ap (λ u. capacity u l) (version k), ap (λ (b : BitList). length b.bits) c.new-bits.ensures.empty)) (subst (λ u. Holds u l bytes) (sym (version k)) holds) in cc in
           behind_cut v l bytes (valid k) e (omega arith) (some_cut k long (omega arith)) (inr (inr (λ no. true≢false (sym has ∙ no), (too_small, long))))
       | else-eq w ↦
           elim w.else-eq.branch [

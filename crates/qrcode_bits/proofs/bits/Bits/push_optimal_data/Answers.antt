@@ -39,25 +39,25 @@ returns-clause-causes c = λ cut is_cut.
     (λ e stop. cut_stop c.args.self.now.version c.args.self.now.bits c.args.bytes.now c.in_ok-segments.segments.items e c.push_all.new.self.bits (least k).reached stop)
     c.push_all.ensures.stopped
 
-pub returns-clause-fits : goal.returns-clause-fits
-returns-clause-fits c = λ level room fits.
-    let k = (goal.at.returns-clause-fits c).In_ok-segments in
+pub returns-clause-accepts : goal.returns-clause-accepts
+returns-clause-accepts c = λ level room fits.
+    let k = (goal.at.returns-clause-accepts c).In_ok-segments in
     let v = c.args.self.now.version in
     let ss = c.in_ok-segments.segments.items in
     let small : total_cost v ss ≤ capacity v level = omega (arith, (least k).least fits.0 fits.1.0, fits.1.1) in
     if_err c.push_all.result
-    (λ e stop. fitting_stop v level c.args.self.now.bits c.args.bytes.now ss e c.push_all.new.self.bits (valid (goal.at.returns-clause-fits c).After-version-version) (least k).reached small room stop)
+    (λ e stop. fitting_stop v level c.args.self.now.bits c.args.bytes.now ss e c.push_all.new.self.bits (valid (goal.at.returns-clause-accepts c).After-version-version) (least k).reached small room stop)
     c.push_all.ensures.stopped
 
-pub returns-then-bytes-gt-DATA_LIMIT-clause-fits : goal.returns-then-bytes-gt-DATA_LIMIT-clause-fits
-returns-then-bytes-gt-DATA_LIMIT-clause-fits c = λ level room fits.
+pub returns-then-bytes-gt-DATA_LIMIT-clause-accepts : goal.returns-then-bytes-gt-DATA_LIMIT-clause-accepts
+returns-then-bytes-gt-DATA_LIMIT-clause-accepts c = λ level room fits.
     absurd (omega (arith, c.if-bytes-gt-DATA_LIMIT.true, fitting_short c.args.self.now.version level c.args.bytes.now fits))
 
-pub returns-then-bytes-gt-DATA_LIMIT-clause-held : goal.returns-then-bytes-gt-DATA_LIMIT-clause-held
-returns-then-bytes-gt-DATA_LIMIT-clause-held c = fits_spelled c.args.self.now.version c.args.bytes.now (valid (goal.at.returns-then-bytes-gt-DATA_LIMIT-clause-held c).After-version-version)
+pub returns-then-bytes-gt-DATA_LIMIT-clause-spelled : goal.returns-then-bytes-gt-DATA_LIMIT-clause-spelled
+returns-then-bytes-gt-DATA_LIMIT-clause-spelled c = fits_spelled c.args.self.now.version c.args.bytes.now (valid (goal.at.returns-then-bytes-gt-DATA_LIMIT-clause-spelled c).After-version-version)
 
-pub returns-in_err-segments-clause-held : goal.returns-in_err-segments-clause-held
-returns-in_err-segments-clause-held c = fits_spelled c.args.self.now.version c.args.bytes.now (valid (goal.at.returns-in_err-segments-clause-held c).After-version-version)
+pub returns-in_err-segments-clause-spelled : goal.returns-in_err-segments-clause-spelled
+returns-in_err-segments-clause-spelled c = fits_spelled c.args.self.now.version c.args.bytes.now (valid (goal.at.returns-in_err-segments-clause-spelled c).After-version-version)
 
-pub returns-clause-held : goal.returns-clause-held
-returns-clause-held c = fits_spelled c.args.self.now.version c.args.bytes.now (valid (goal.at.returns-clause-held c).After-version-version)
+pub returns-clause-spelled : goal.returns-clause-spelled
+returns-clause-spelled c = fits_spelled c.args.self.now.version c.args.bytes.now (valid (goal.at.returns-clause-spelled c).After-version-version)

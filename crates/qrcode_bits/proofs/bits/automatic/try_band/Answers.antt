@@ -23,7 +23,7 @@ returns-in_err-segments-clause-memory c =
     let cut = byte_cut c.args.number bytes (are_bytes bytes (λ k. omega (arith, c.type_inv.bytes k))) in
     let version : Normal (to_z w16 c.args.number) ≡ Normal (pos c.args.number) = ap Normal (to_z_pos w16 c.args.number (omega arith)) in
     handed_on c.from_residual.result e (λ e. e ≡ OutOfMemory) c.from_residual.ensures
-    (c.in_err-segments.ensures.exists cut.0 (subst (λ v. IsCut v bytes cut.0) (sym version) cut.1.0))
+    (c.in_err-segments.ensures.accepts cut.0 (subst (λ v. IsCut v bytes cut.0) (sym version) cut.1.0))
 
 -- the segments, in the words of the number
 least : (c : In_ok-segments) → IsLeastCut (Normal (pos c.args.number)) c.args.bytes.now c.in_ok-segments.segments.items

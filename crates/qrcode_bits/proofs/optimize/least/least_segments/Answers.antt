@@ -14,18 +14,18 @@ use Rattle.qrcode_bits.proofs.CutPieces.{cut_inside, cut_joined, cut_writable}
 use Rattle.qrcode_bits.proofs.SpelledCuts.{fits_spelled}
 use Rattle.qrcode_bits.proofs.optimize.least.least_segments.Goals as goal
 
-pub returns-then-not-can_be_cut-clause-exists : goal.returns-then-not-can_be_cut-clause-exists
-returns-then-not-can_be_cut-clause-exists c = λ ss cut.
+pub returns-then-not-can_be_cut-clause-accepts : goal.returns-then-not-can_be_cut-clause-accepts
+returns-then-not-can_be_cut-clause-accepts c = λ ss cut.
     let are = are_bytes c.args.bytes.now (λ k. omega (arith, c.type_inv.bytes k)) in
     absurd (true≢false (sym (cut_is_written c.args.version c.args.bytes.now ss c.requires.valid are cut) ∙ sym c.can_be_cut.ensures ∙ c.if-not-can_be_cut.true))
 
-pub returns-in_err-starts-clause-none : goal.returns-in_err-starts-clause-none
-returns-in_err-starts-clause-none c = λ none.
+pub returns-in_err-starts-clause-no_cut : goal.returns-in_err-starts-clause-no_cut
+returns-in_err-starts-clause-no_cut c = λ none.
     let one = one_segment c.args.version c.args.bytes.now c.requires.valid (sym c.can_be_cut.ensures ∙ c.if-not-can_be_cut.false) in
     absurd (none one.0 one.1.0)
 
-pub returns-in_err-push-clause-none : goal.returns-in_err-push-clause-none
-returns-in_err-push-clause-none c = λ none.
+pub returns-in_err-push-clause-no_cut : goal.returns-in_err-push-clause-no_cut
+returns-in_err-push-clause-no_cut c = λ none.
     let one = one_segment c.args.version c.args.bytes.now c.requires.valid (sym c.can_be_cut.ensures ∙ c.if-not-can_be_cut.false) in
     absurd (none one.0 one.1.0)
 
@@ -78,14 +78,14 @@ returns-clause-joined c = cut_joined c.args.version c.args.bytes.now c.loop-begi
 pub returns-clause-writable : goal.returns-clause-writable
 returns-clause-writable c = cut_writable c.args.version c.args.bytes.now c.loop-begin.segments.items (cut_at_end c.args.version c.args.bytes.now c.loop-begin.begin c.loop-begin.segments.items (omega arith) c.loop-begin.invariant.tiles c.loop-begin.invariant.modes c.loop-begin.invariant.writable)
 
-pub returns-clause-fits : goal.returns-clause-fits
-returns-clause-fits c = fits_spelled c.args.version c.args.bytes.now c.requires.valid
+pub returns-clause-spelled : goal.returns-clause-spelled
+returns-clause-spelled c = fits_spelled c.args.version c.args.bytes.now c.requires.valid
 
-pub returns-then-not-can_be_cut-clause-fits : goal.returns-then-not-can_be_cut-clause-fits
-returns-then-not-can_be_cut-clause-fits c = fits_spelled c.args.version c.args.bytes.now c.requires.valid
+pub returns-then-not-can_be_cut-clause-spelled : goal.returns-then-not-can_be_cut-clause-spelled
+returns-then-not-can_be_cut-clause-spelled c = fits_spelled c.args.version c.args.bytes.now c.requires.valid
 
-pub returns-in_err-starts-clause-fits : goal.returns-in_err-starts-clause-fits
-returns-in_err-starts-clause-fits c = fits_spelled c.args.version c.args.bytes.now c.requires.valid
+pub returns-in_err-starts-clause-spelled : goal.returns-in_err-starts-clause-spelled
+returns-in_err-starts-clause-spelled c = fits_spelled c.args.version c.args.bytes.now c.requires.valid
 
-pub returns-in_err-push-clause-fits : goal.returns-in_err-push-clause-fits
-returns-in_err-push-clause-fits c = fits_spelled c.args.version c.args.bytes.now c.requires.valid
+pub returns-in_err-push-clause-spelled : goal.returns-in_err-push-clause-spelled
+returns-in_err-push-clause-spelled c = fits_spelled c.args.version c.args.bytes.now c.requires.valid
