@@ -1,6 +1,6 @@
 -- The three ways in which a push ends, and what refuses a piece.
 use Rattle.std.proofs.Common.{◌≡◌, ℕ, ◌+◌, ◌^◌, ◌<◌, ◌≤◌, ◌++◌, Bool, true, false, not, ◌&&◌, List, length, refl, sym, subst, ap, ◌∙◌, arith, Option, Some, None, IsTrue, if◌then◌else◌, length-append}
-use Rattle.std.specs.Prelude.{nat_le, nat_lt, Result, Ok, Err, OnOk, IsErr, IsErrAnd}
+use Rattle.std.specs.Prelude.{nat_le, nat_lt, Result, Ok, Err, IsErr, IsErrAnd}
 use Rattle.std.specs.Option.{option_or}
 use Rattle.std.proofs.lemmas.Result.{on_ok_weaker}
 use Rattle.std.proofs.lemmas.Bool.{not-true, not-false, false≢true, ltb-true, leb-true, cond-true, cond-false, le-leb, lt-leb}

@@ -1,14 +1,13 @@
 -- The data of a piece is read from its bits, where the mode and the number of characters are known.
-use Rattle.std.proofs.Common.{◌≡◌, ℕ, ◌+◌, ◌-◌, ◌*◌, ◌/◌, ◌%◌, ◌<◌, ◌≤◌, ◌==◌, ◌^◌, nat_le, nat_lt, Bool, true, false, cond, ◌&&◌, ◌||◌, List, [], ◌∷◌, ◌++◌, length, get_or, refl, sym, ap, ap₂, ◌∙◌, arith, subst, true≢false, ◌⊎◌, inl, inr, Option, Some, None, append_assoc}
+use Rattle.std.proofs.Common.{◌≡◌, ℕ, ◌+◌, ◌-◌, ◌*◌, ◌/◌, ◌<◌, ◌==◌, nat_lt, Bool, true, List, [], ◌∷◌, ◌++◌, length, get_or, refl, sym, ap, ap₂, ◌∙◌, arith, subst, true≢false, Option, Some, None, append_assoc}
 use Rattle.std.specs.Prelude.{is_some, unwrap_or, position, flat_map}
 use Rattle.std.specs.List.{list_all}
-use Rattle.std.proofs.lemmas.Bool.{and_parts, or_cases, leb-true, ltb-true, eqb-true, lt-ltb, le-ltb}
-use Rattle.std.proofs.lemmas.Nat.{same_from_place}
+use Rattle.std.proofs.lemmas.Bool.{and_parts, ltb-true, eqb-true}
 use Rattle.std.proofs.lemmas.List.Quantifiers.{position-Some}
 use Rattle.qrcode_types.specs.Bits.{number_bits}
 use Rattle.qrcode_types.specs.declared.types.Mode.{Mode}
 use Rattle.qrcode_types.specs.declared.types.Mode.TheVariants.{Numeric, Alphanumeric, Byte, Kanji}
-use Rattle.qrcode_types.specs.Characters.{is_between, is_digit, alphabet, is_alphanumeric, alphanumeric_number, is_kanji, kanji_number, are_kanji, can_write, character_count}
+use Rattle.qrcode_types.specs.Characters.{is_digit, alphabet, is_alphanumeric, alphanumeric_number, is_kanji, kanji_number, are_kanji, can_write, character_count}
 use Rattle.qrcode_bits.specs.Written.{numeric_bits, alphanumeric_bits, kanji_bits, data_bits_in}
 use Rattle.qrcode_types.proofs.Pairs.{in_range, pair_at, same_pair}
 use Rattle.qrcode_bits.proofs.Numbers.{same_number}

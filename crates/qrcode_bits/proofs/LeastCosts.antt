@@ -10,7 +10,7 @@ use Rattle.qrcode_bits.specs.Tokens.{kind_at, first_byte}
 use Rattle.qrcode_bits.specs.ModeHeaders.{more_than_any}
 use Rattle.qrcode_bits.specs.LeastBits.{header_in, takes, begun, better, better_if, best_start, open_or, costs_of, IsSmall, data_bits}
 use Rattle.qrcode_bits.specs.declared.optimize.Kind.{Kind}
-use Rattle.qrcode_bits.specs.declared.optimize.Kind.TheVariants.{Pair, LoneLead, Digit, Letter, Other}
+use Rattle.qrcode_bits.specs.declared.optimize.Kind.TheVariants.{Digit, Letter}
 use Rattle.qrcode_bits.specs.declared.optimize.costs.BestStart.{BestStart}
 use Rattle.qrcode_bits.specs.declared.optimize.costs.Costs.{Costs}
 use Rattle.qrcode_bits.specs.declared.optimize.costs.HeaderBits.{HeaderBits}

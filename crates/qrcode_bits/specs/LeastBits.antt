@@ -9,7 +9,7 @@ use Rattle.qrcode_bits.specs.ModeHeaders.{more_than_any, header}
 use Rattle.qrcode_bits.specs.Tokens.{kind_at, first_byte}
 use Rattle.qrcode_bits.specs.declared.optimize.Segment.{Segment}
 use Rattle.qrcode_bits.specs.declared.optimize.Kind.{Kind}
-use Rattle.qrcode_bits.specs.declared.optimize.Kind.TheVariants.{Pair, LoneLead, Digit, Letter, Other}
+use Rattle.qrcode_bits.specs.declared.optimize.Kind.TheVariants.{Pair, Digit, Letter}
 use Rattle.qrcode_bits.specs.declared.optimize.costs.BestStart.{BestStart}
 use Rattle.qrcode_bits.specs.declared.optimize.costs.Costs.{Costs}
 use Rattle.qrcode_bits.specs.declared.optimize.costs.HeaderBits.{HeaderBits}

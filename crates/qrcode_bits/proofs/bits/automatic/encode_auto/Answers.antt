@@ -1,4 +1,4 @@
-use Rattle.std.proofs.Common.{ℕ, ◌<◌, ◌≤◌, pos, refl, arith, inr}
+use Rattle.std.proofs.Common.{ℕ, ◌<◌, pos, refl, arith, inr}
 use Rattle.qrcode_types.specs.declared.types.Version.TheVariants.{Normal}
 use Rattle.qrcode_bits.specs.Choice.{Holds, NormalHolds}
 use Rattle.qrcode_bits.specs.Encoded.{IsHeld}
