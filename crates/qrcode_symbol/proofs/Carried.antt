@@ -28,6 +28,7 @@ use Rattle.qrcode_symbol.specs.Carried.{HasZeroHalf}
 use Rattle.qrcode_symbol.specs.Symbol.{bits_at, HasPatterns, Carries}
 use Rattle.qrcode_symbol.specs.declared.canvas.Module.{Module}
 use Rattle.qrcode_symbol.specs.declared.canvas.Module.TheVariants.{Empty, Masked}
+use Rattle.qrcode_symbol.proofs.MaskedSquares.{module_is}
 use Rattle.qrcode_symbol.proofs.BitLists.{length_number_bits, number_bits_at}
 use Rattle.qrcode_symbol.proofs.Codewords.{codewords_drawn, length_drawn}
 use Rattle.qrcode_symbol.proofs.Filled.{drawn_at, filled_at, filled_other, free_is_empty}
@@ -56,7 +57,7 @@ after f d word t m = elim f as (λ _. Module) [ Some i ↦ Masked (color_of (has
 
 after_is : (v : Version) (word : ℕ) (k : MaskPattern) (x y : ℕ) (m : Module) → mask_module v word k x y m ≡ after (format_index v x y) (dark_module v x y) word (turns k x y) m
 unfolding after
-after_is v word k x y m = refl
+after_is v word k x y m = module_is v word k x y m
 
 at_format : (f : Option ℕ) (d : Option Color) (word : ℕ) (t : Bool) (m : Module) (i : ℕ) → f ≡ Some i → is_dark (color_of_module (after f d word t m)) ≡ has_bit word (14 - i)
 unfolding after

@@ -9,7 +9,7 @@ use Rattle.qrcode_packed.proofs.Places.{has_or, has_without, has_first, has_firs
 use Rattle.qrcode_types.specs.Versions.{side}
 use Rattle.qrcode_places.specs.Patterns.{dark_module}
 use Rattle.qrcode_places.proofs.FormatPlaces.{normal_index, micro_index}
-use Rattle.qrcode_symbol.specs.Masking.{fixed_bit}
+use Rattle.qrcode_places.specs.Patterns.{decided_bit}
 
 -- the number with one place, as the code makes it
 abbrev pub one : ℕ → ℕ
@@ -60,67 +60,67 @@ unset_other n p k h = has_without n (one p) k ∙ ap (λ b. is_set n k && not b)
 pub ends_after_put : (new row p width : ℕ) → ((k : ℕ) → k ≢ p → is_set new k ≡ is_set row k) → p < width → row < 2 ^ width → new < 2 ^ width
 ends_after_put new row p width others inside ends = below_from_places new width (λ k h. others k (λ e. absurd (omega arith)) ∙ has_above row width k ends h)
 
-elsewhere : (v : Version) (word x y : ℕ) → x ≢ 8 → y ≢ 8 → fixed_bit v word x y ≡ None
-unfolding fixed_bit dark_module
-elsewhere (Normal v) word x y h k = rw (normal_index (Normal v) x y refl, fixed_bit) (grind (arith, nat_tests))
-elsewhere (Micro v) word x y h k = rw (micro_index (Micro v) x y refl, fixed_bit) (grind (arith, nat_tests))
+elsewhere : (v : Version) (word x y : ℕ) → x ≢ 8 → y ≢ 8 → decided_bit v word x y ≡ None
+unfolding decided_bit dark_module
+elsewhere (Normal v) word x y h k = rw (normal_index (Normal v) x y refl, decided_bit) (grind (arith, nat_tests))
+elsewhere (Micro v) word x y h k = rw (micro_index (Micro v) x y refl, decided_bit) (grind (arith, nat_tests))
 
 -- between the corners of row 8 and of column 8 a mask decides every place
-row_between : (v : Version) (word x : ℕ) → 8 < x → x + 8 < side v → fixed_bit v word x 8 ≡ None
-unfolding fixed_bit dark_module
-row_between (Normal v) word x h k = rw (normal_index (Normal v) x 8 refl, fixed_bit) (grind (arith, nat_tests))
-row_between (Micro v) word x h k = rw (micro_index (Micro v) x 8 refl, fixed_bit) (grind (arith, nat_tests))
+row_between : (v : Version) (word x : ℕ) → 8 < x → x + 8 < side v → decided_bit v word x 8 ≡ None
+unfolding decided_bit dark_module
+row_between (Normal v) word x h k = rw (normal_index (Normal v) x 8 refl, decided_bit) (grind (arith, nat_tests))
+row_between (Micro v) word x h k = rw (micro_index (Micro v) x 8 refl, decided_bit) (grind (arith, nat_tests))
 
-pub column_between : (v : Version) (word y : ℕ) → 8 < y → y + 8 < side v → fixed_bit v word 8 y ≡ None
-unfolding fixed_bit dark_module
-column_between (Normal v) word y h k = rw (normal_index (Normal v) 8 y refl, fixed_bit) (grind (arith, nat_tests))
-column_between (Micro v) word y h k = rw (micro_index (Micro v) 8 y refl, fixed_bit) (grind (arith, nat_tests))
+pub column_between : (v : Version) (word y : ℕ) → 8 < y → y + 8 < side v → decided_bit v word 8 y ≡ None
+unfolding decided_bit dark_module
+column_between (Normal v) word y h k = rw (normal_index (Normal v) 8 y refl, decided_bit) (grind (arith, nat_tests))
+column_between (Micro v) word y h k = rw (micro_index (Micro v) 8 y refl, decided_bit) (grind (arith, nat_tests))
 
-pub place_some : (v : Version) (word y new row : ℕ) (b : Bool) → y ≢ 8 → fixed_bit v word 8 y ≡ Some b → is_set new 8 ≡ b → ((k : ℕ) → k ≢ 8 → is_set new k ≡ is_set row k) →
-    (x : ℕ) → is_set new x ≡ unwrap_or (fixed_bit v word x y) (is_set row x)
+pub place_some : (v : Version) (word y new row : ℕ) (b : Bool) → y ≢ 8 → decided_bit v word 8 y ≡ Some b → is_set new 8 ≡ b → ((k : ℕ) → k ≢ 8 → is_set new k ≡ is_set row k) →
+    (x : ℕ) → is_set new x ≡ unwrap_or (decided_bit v word x y) (is_set row x)
 place_some v word y new row b k e here others x =
     elim (eqb_tells x 8) [
-      | inl p ↦ ap (is_set new) p.1 ∙ here ∙ sym (ap (λ o. unwrap_or o (is_set row x)) (ap (λ i. fixed_bit v word i y) p.1 ∙ e))
+      | inl p ↦ ap (is_set new) p.1 ∙ here ∙ sym (ap (λ o. unwrap_or o (is_set row x)) (ap (λ i. decided_bit v word i y) p.1 ∙ e))
       | inr p ↦ others x p.1 ∙ sym (ap (λ o. unwrap_or o (is_set row x)) (elsewhere v word x y p.1 k))
     ]
 
-pub place_none : (v : Version) (word y row : ℕ) → y ≢ 8 → fixed_bit v word 8 y ≡ None → (x : ℕ) → is_set row x ≡ unwrap_or (fixed_bit v word x y) (is_set row x)
+pub place_none : (v : Version) (word y row : ℕ) → y ≢ 8 → decided_bit v word 8 y ≡ None → (x : ℕ) → is_set row x ≡ unwrap_or (decided_bit v word x y) (is_set row x)
 place_none v word y row k e x =
     elim (eqb_tells x 8) [
-      | inl p ↦ sym (ap (λ o. unwrap_or o (is_set row x)) (ap (λ i. fixed_bit v word i y) p.1 ∙ e))
+      | inl p ↦ sym (ap (λ o. unwrap_or o (is_set row x)) (ap (λ i. decided_bit v word i y) p.1 ∙ e))
       | inr p ↦ sym (ap (λ o. unwrap_or o (is_set row x)) (elsewhere v word x y p.1 k))
     ]
 
 -- row 8 is done from one place on and below x, and elsewhere as it was
 pub record IsFixedFrom (v : Version) (word row width line from x : ℕ) : Type 0 where
-  pub done : (k : ℕ) → k < x → from ≤ k → is_set line k ≡ unwrap_or (fixed_bit v word k 8) (is_set row k)
+  pub done : (k : ℕ) → k < x → from ≤ k → is_set line k ≡ unwrap_or (decided_bit v word k 8) (is_set row k)
   pub before : (k : ℕ) → k < from → is_set line k ≡ is_set row k
   pub behind : (k : ℕ) → x ≤ k → is_set line k ≡ is_set row k
   pub ends : line < 2 ^ width
 
-pub fixed_more : (v : Version) (word row width line from x new : ℕ) → from ≤ x → x < width → is_set new x ≡ unwrap_or (fixed_bit v word x 8) (is_set line x) →
+pub fixed_more : (v : Version) (word row width line from x new : ℕ) → from ≤ x → x < width → is_set new x ≡ unwrap_or (decided_bit v word x 8) (is_set line x) →
     ((k : ℕ) → k ≢ x → is_set new k ≡ is_set line k) → IsFixedFrom v word row width line from x → IsFixedFrom v word row width new from (x + 1)
 fixed_more v word row width line from x new low inside here others so_far = record {
-  done = below_more (λ k. from ≤ k → is_set new k ≡ unwrap_or (fixed_bit v word k 8) (is_set row k)) x
+  done = below_more (λ k. from ≤ k → is_set new k ≡ unwrap_or (decided_bit v word k 8) (is_set row k)) x
       (λ k l h. others k (λ e. absurd (omega (arith, l, e))) ∙ so_far.done k l h)
-      (λ h. here ∙ ap (unwrap_or (fixed_bit v word x 8)) (so_far.behind x (omega arith)));
+      (λ h. here ∙ ap (unwrap_or (decided_bit v word x 8)) (so_far.behind x (omega arith)));
   before = λ k h. others k (λ e. absurd (omega (arith, h, e, low))) ∙ so_far.before k h;
   behind = λ k h. others k (λ e. absurd (omega (arith, h, e))) ∙ so_far.behind k (omega (arith, h));
   ends = ends_after_put new line x width others inside so_far.ends;
 }
 
 -- what the places of both corners make of the row
-pub both_corners : (v : Version) (word row left new : ℕ) → ((k : ℕ) → k < 9 → is_set left k ≡ unwrap_or (fixed_bit v word k 8) (is_set row k)) →
+pub both_corners : (v : Version) (word row left new : ℕ) → ((k : ℕ) → k < 9 → is_set left k ≡ unwrap_or (decided_bit v word k 8) (is_set row k)) →
     ((k : ℕ) → 9 ≤ k → is_set left k ≡ is_set row k) →
-    ((k : ℕ) → 9 ≤ k → side v ≤ k + 8 → k < side v → is_set new k ≡ unwrap_or (fixed_bit v word k 8) (is_set left k)) →
+    ((k : ℕ) → 9 ≤ k → side v ≤ k + 8 → k < side v → is_set new k ≡ unwrap_or (decided_bit v word k 8) (is_set left k)) →
     ((k : ℕ) → k < 9 → is_set new k ≡ is_set left k) →
     ((k : ℕ) → k + 8 < side v → is_set new k ≡ is_set left k) →
-    (x : ℕ) → x < side v → is_set new x ≡ unwrap_or (fixed_bit v word x 8) (is_set row x)
+    (x : ℕ) → x < side v → is_set new x ≡ unwrap_or (decided_bit v word x 8) (is_set row x)
 both_corners v word row left new low high last same others x h =
     elim (leb_tells 9 x) [
       | inl p ↦ elim (leb_tells (x + 9) (side v)) [
         | inl q ↦ others x (omega (arith, q.1)) ∙ high x p.1 ∙ sym (ap (λ o. unwrap_or o (is_set row x)) (row_between v word x p.1 (omega (arith, q.1))))
-        | inr q ↦ last x p.1 (omega (arith, q.1)) h ∙ ap (λ b. unwrap_or (fixed_bit v word x 8) b) (high x p.1)
+        | inr q ↦ last x p.1 (omega (arith, q.1)) h ∙ ap (λ b. unwrap_or (decided_bit v word x 8) b) (high x p.1)
       ]
       | inr p ↦ same x p.1 ∙ low x p.1
     ]

@@ -24,9 +24,11 @@ use Rattle.qrcode_places.specs.Stream.{color_at}
 use Rattle.qrcode_places.specs.declared.masks.MaskPattern.{MaskPattern}
 use Rattle.qrcode_symbol.specs.declared.canvas.Module.{Module}
 use Rattle.qrcode_symbol.specs.declared.canvas.Module.TheVariants.{Empty, Masked, Unmasked}
+use Rattle.std.specs.Option.{option_map, option_map_or, option_or}
 use Rattle.qrcode_symbol.specs.Canvas.{color_of_module, colors_of, masked_module, mask_module, with_mask}
 use Rattle.qrcode_symbol.specs.Penalties.{penalty, penalty_of}
-use Rattle.qrcode_symbol.specs.Masking.{is_dark_module, is_free, fixed_bit, masked_dark, nth_cost, ShowsModules}
+use Rattle.qrcode_places.specs.Patterns.{decided_bit}
+use Rattle.qrcode_symbol.specs.Masking.{is_dark_module, is_free, masked_dark, nth_cost, ShowsModules}
 
 pub dark_color : (b : Bool) → is_dark (color_of b) ≡ b
 dark_color true = refl
@@ -41,7 +43,18 @@ abbrev pub module_of : ℕ → Option ℕ → Option Color → Bool → Module �
 module_of word o d t m = elim o [ Some i ↦ Masked (color_of (has_bit word (14 - i))) | None ↦ elim d [ Some c ↦ Masked c | None ↦ masked_module t m ] ]
 
 abbrev bit_of : ℕ → Option ℕ → Option Color → Option Bool
-bit_of word o d = elim o [ Some i ↦ Some (has_bit word (14 - i)) | None ↦ elim d [ Some c ↦ Some (is_dark c) | None ↦ None ] ]
+bit_of word o d = option_or (option_map (λ i. has_bit word (14 - i)) o) (option_map is_dark d)
+
+by_options : (word : ℕ) (o : Option ℕ) (d : Option Color) (t : Bool) (m : Module) → option_map_or (λ b. Masked (color_of b)) (bit_of word o d) (masked_module t m) ≡ module_of word o d t m
+by_options word (Some i) d t m = refl
+by_options word None (Some Light) t m = refl
+by_options word None (Some Dark) t m = refl
+by_options word None None t m = refl
+
+-- a module after a mask, by what stands at its place
+pub module_is : (v : Version) (word : ℕ) (k : MaskPattern) (x y : ℕ) (m : Module) → mask_module v word k x y m ≡ module_of word (format_index v x y) (dark_module v x y) (turns k x y) m
+unfolding decided_bit
+module_is v word k x y m = by_options word (format_index v x y) (dark_module v x y) (turns k x y) m
 
 decided : (word : ℕ) (o : Option ℕ) (d : Option Color) (t : Bool) (m : Module) → unwrap_or (bit_of word o d) (turned_if (is_free m && t) (is_dark_module m)) ≡ is_dark_module (module_of word o d t m)
 decided word (Some i) d t m = sym (dark_color (has_bit word (14 - i)))
@@ -98,7 +111,10 @@ module _ (v : Version) (l : EcLevel) (modules : List Module) where
   pub all_masked : (k : MaskPattern) → map (λ m. Masked (color_of_module m)) (with_mask v l k modules) ≡ with_mask v l k modules
   unfolding with_mask
   all_masked k = map_kept (λ m. Masked (color_of_module m)) (λ i. mask_module v (format_word v l k) k (i % side v) (i / side v) (slice_index_or modules i Empty))
-      (λ i. always_masked (format_word v l k) (format_index v (i % side v) (i / side v)) (dark_module v (i % side v) (i / side v)) (turns k (i % side v) (i / side v)) (slice_index_or modules i Empty))
+      (λ i.
+      let m = slice_index_or modules i Empty in
+      let is = module_is v (format_word v l k) k (i % side v) (i / side v) m in
+      ap (λ m. Masked (color_of_module m)) is ∙ always_masked (format_word v l k) (format_index v (i % side v) (i / side v)) (dark_module v (i % side v) (i / side v)) (turns k (i % side v) (i / side v)) m ∙ sym is)
       (range_with_len 0 (side v * side v))
 
   pub place_under_mask : (k : MaskPattern) (x y : ℕ) → x < side v → y < side v → slice_index_or (with_mask v l k modules) (y * side v + x) Empty ≡ mask_module v (format_word v l k) k x y (slice_index_or modules (y * side v + x) Empty)
@@ -111,10 +127,11 @@ module _ (v : Version) (l : EcLevel) (modules : List Module) where
 
   module _ (dark free : List ℕ) (darks : ShowsModules is_dark_module (side v) modules dark) (frees : ShowsModules is_free (side v) modules free) where
     pub masked_same : (word : ℕ) (k : MaskPattern) (x y : ℕ) → x < side v → y < side v → masked_dark v word k dark free x y ≡ is_dark_module (mask_module v word k x y (slice_index_or modules (y * side v + x) Empty))
-    unfolding masked_dark fixed_bit
+    unfolding masked_dark decided_bit
     masked_same word k x y h p =
-        ap₂ (λ (a b : Bool). unwrap_or (fixed_bit v word x y) (turned_if (a && turns k x y) b)) (sym (frees x y h p)) (sym (darks x y h p))
+        ap₂ (λ (a b : Bool). unwrap_or (decided_bit v word x y) (turned_if (a && turns k x y) b)) (sym (frees x y h p)) (sym (darks x y h p))
         ∙ decided word (format_index v x y) (dark_module v x y) (turns k x y) (slice_index_or modules (y * side v + x) Empty)
+        ∙ ap is_dark_module (sym (module_is v word k x y (slice_index_or modules (y * side v + x) Empty)))
 
     pub cost_same : (k : ℕ) → nth_cost v l (side v) dark free k ≡ penalty v (colors_of (with_mask v l (nth_mask v k) modules))
     unfolding nth_cost penalty

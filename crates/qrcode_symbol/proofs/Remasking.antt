@@ -24,7 +24,7 @@ use Rattle.qrcode_symbol.specs.declared.canvas.Module.TheVariants.{Empty, Masked
 use Rattle.qrcode_symbol.specs.Canvas.{blank, color_of_module, colors_of, is_empty, masked_module, mask_module, pattern_module, with_patterns, put_bits, empty_places, with_bits_drawn, with_mask, IsBestMask}
 use Rattle.qrcode_symbol.specs.Penalties.{penalty, remasked, remasked_at, IsFirstLeast}
 use Rattle.qrcode_symbol.specs.Masking.{is_free}
-use Rattle.qrcode_symbol.proofs.MaskedSquares.{module_of, with_mask_at, length_with_mask, color_under_mask, split, div_below, side_positive}
+use Rattle.qrcode_symbol.proofs.MaskedSquares.{module_is, module_of, with_mask_at, length_with_mask, color_under_mask, split, div_below, side_positive}
 
 -- a module after bits were drawn: one that was not empty stays, and one that was may be turned by masks
 record IsKept (before : List Module) (i : ℕ) (m : Module) : Type 0 where
@@ -145,11 +145,12 @@ module _ (v : Version) (l : EcLevel) (modules : List Module) (bits : List Bool) 
       let e : before ≡ base (pattern v x y) (format_index v x y) = patterns_at v i h in
       let color : color_at v (colors_of (with_mask v l k modules)) x y ≡ color_of_module (mask_module v (format_word v l k) k x y m) =
       color_under_mask v l modules k x y column row ∙ ap (λ n. color_of_module (mask_module v (format_word v l k) k x y (slice_index_or modules n Empty))) (sym (split i (side v))) in
-      ap (remask_of (format_word v l j) (format_index v x y) (pattern v x y) (turns k x y) (turns j x y)) color
+      ap (remask_of (format_word v l j) (format_index v x y) (pattern v x y) (turns k x y) (turns j x y)) (color ∙ ap color_of_module (module_is v (format_word v l k) k x y m))
       ∙ remask_place (format_word v l k) (format_word v l j) (format_index v x y) (pattern v x y) (dark_module v x y) (turns k x y) (turns j x y) m
       (dark_module_in_pattern v x y)
       (λ f. (kept_at i).stays (ap is_empty e ∙ f) ∙ e)
       (λ f. (kept_at i).free (ap is_empty e ∙ f))
+      ∙ ap color_of_module (sym (module_is v (format_word v l j) j x y m))
 
   remasked_same : (k j : MaskPattern) → remasked v l k j (colors_of (with_mask v l k modules)) ≡ colors_of (with_mask v l j modules)
   unfolding remasked

@@ -11,7 +11,8 @@ use Rattle.qrcode_places.specs.Masks.{turns, turned_if}
 use Rattle.qrcode_places.specs.declared.masks.MaskPattern.{MaskPattern}
 use Rattle.qrcode_symbol.specs.declared.canvas.Module.{Module}
 use Rattle.qrcode_symbol.specs.declared.canvas.Module.TheVariants.{Empty}
-use Rattle.qrcode_symbol.specs.Masking.{packed, ShowsModules, fixed_bit, masked_dark}
+use Rattle.qrcode_places.specs.Patterns.{decided_bit}
+use Rattle.qrcode_symbol.specs.Masking.{packed, ShowsModules, masked_dark}
 use Rattle.qrcode_symbol.proofs.PackedLists.{packed_lt, has_packed}
 
 -- the modules of row y
@@ -41,10 +42,10 @@ pub record IsMaskedRow (v : Version) (w word : ℕ) (mask : MaskPattern) (dark f
   pub ends : row < 2 ^ w
 
 pub masked_row_is : (v : Version) (w word : ℕ) (mask : MaskPattern) (dark free : List ℕ) (k row d f : ℕ) → d ≡ slice_index_or dark k 0 → f ≡ slice_index_or free k 0 →
-    ((x : ℕ) → x < w → is_set row x ≡ unwrap_or (fixed_bit v word x k) (turned_if (is_set f x && turns mask x k) (is_set d x))) → row < 2 ^ w → IsMaskedRow v w word mask dark free k row
+    ((x : ℕ) → x < w → is_set row x ≡ unwrap_or (decided_bit v word x k) (turned_if (is_set f x && turns mask x k) (is_set d x))) → row < 2 ^ w → IsMaskedRow v w word mask dark free k row
 unfolding masked_dark dark_in
 masked_row_is v w word mask dark free k row d f p q shows ends = record {
-  shows = λ x h. shows x h ∙ ap₂ (λ (m n : ℕ). unwrap_or (fixed_bit v word x k) (turned_if (is_set n x && turns mask x k) (is_set m x))) p q;
+  shows = λ x h. shows x h ∙ ap₂ (λ (m n : ℕ). unwrap_or (decided_bit v word x k) (turned_if (is_set n x && turns mask x k) (is_set m x))) p q;
   ends = ends;
 }
 

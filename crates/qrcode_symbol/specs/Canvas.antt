@@ -1,6 +1,7 @@
 -- What the calls of a canvas do to its modules, which are a list in row order.
 use Rattle.std.specs.Prelude.{ℕ, ◌+◌, ◌-◌, ◌*◌, ◌/◌, ◌%◌, ◌<◌, ◌≤◌, ℤ, pos, negsuc, neg_ℤ, ◌≤ℤ◌, ◌<ℤ◌, Bool, true, false, List, [], ◌∷◌, ◌++◌, map, filter, length, take, replicate, IsTrue, Some, None, slice_index_or, slice_set, if◌then◌else◌}
 use Rattle.std.specs.List.{range_with_len}
+use Rattle.std.specs.Option.{option_map_or}
 use Rattle.qrcode_types.specs.Bits.{bits_of, has_bit}
 use Rattle.qrcode_types.specs.Colors.{is_dark, color_of}
 use Rattle.qrcode_types.specs.Versions.{side, has_half_codeword}
@@ -10,7 +11,7 @@ use Rattle.qrcode_types.specs.declared.types.Color.{Color}
 use Rattle.qrcode_types.specs.declared.types.Color.TheVariants.{Light}
 use Rattle.qrcode_places.specs.Masks.{turns, turned_if, exists_in, mask_number}
 use Rattle.qrcode_places.specs.Words.{format_word}
-use Rattle.qrcode_places.specs.Patterns.{pattern, format_index, dark_module}
+use Rattle.qrcode_places.specs.Patterns.{pattern, format_index, decided_bit}
 use Rattle.qrcode_places.specs.Stream.{zigzag}
 use Rattle.qrcode_places.specs.declared.masks.MaskPattern.{MaskPattern}
 use Rattle.qrcode_symbol.specs.Penalties.{penalty}
@@ -96,9 +97,10 @@ put_bits (p ∷ places) (b ∷ bits) modules = put_bits places bits (slice_set m
 unfoldable pub with_bits_drawn : Version → List Bool → List Module → List Module
 with_bits_drawn v bits modules = put_bits (empty_places v modules) bits modules
 
--- a module after a mask: the bit of the format word, the dark module, or the module masked; `word` is the format word
+-- a module after a mask: the bit that no mask decides, or the module masked; `word` is the format word
 abbrev pub mask_module : Version → ℕ → MaskPattern → ℕ → ℕ → Module → Module
-mask_module v word k x y m = elim (format_index v x y) [ Some i ↦ Masked (color_of (has_bit word (14 - i))) | None ↦ elim (dark_module v x y) [ Some c ↦ Masked c | None ↦ masked_module (turns k x y) m ] ]
+mask_module v word k x y m =
+    option_map_or (λ b. Masked (color_of b)) (decided_bit v word x y) (masked_module (turns k x y) m)
 
 -- all modules after a mask, with its format word
 unfoldable pub with_mask : Version → EcLevel → MaskPattern → List Module → List Module

@@ -8,7 +8,7 @@ use Rattle.qrcode_types.specs.declared.types.EcLevel.{EcLevel}
 use Rattle.qrcode_packed.specs.Rows.{Shows, inside, dark_in}
 use Rattle.qrcode_places.specs.Masks.{turns, turned_if, nth_mask}
 use Rattle.qrcode_places.specs.Words.{format_word}
-use Rattle.qrcode_places.specs.Patterns.{format_index, dark_module}
+use Rattle.qrcode_places.specs.Patterns.{decided_bit}
 use Rattle.qrcode_places.specs.declared.masks.MaskPattern.{MaskPattern}
 use Rattle.qrcode_symbol.specs.declared.canvas.Module.{Module}
 use Rattle.qrcode_symbol.specs.declared.canvas.Module.TheVariants.{Empty, Masked, Unmasked}
@@ -38,13 +38,9 @@ packed test (x ∷ xs) = 2 * packed test xs + digit (test x)
 abbrev pub ShowsModules : (Module → Bool) → ℕ → List Module → List ℕ → Type 0
 ShowsModules test w modules rows = Shows w rows (λ x y. test (slice_index_or modules (y * w + x) Empty))
 
--- the bit of a place that no mask decides: of the format word, or of the dark module
-unfoldable pub fixed_bit : Version → ℕ → ℕ → ℕ → Option Bool
-fixed_bit v word x y = elim (format_index v x y) [ Some i ↦ Some (has_bit word (14 - i)) | None ↦ elim (dark_module v x y) [ Some c ↦ Some (is_dark c) | None ↦ None ] ]
-
 -- the place is dark under a mask, by rows of what is dark and of what a mask may turn
 unfoldable pub masked_dark : Version → ℕ → MaskPattern → List ℕ → List ℕ → ℕ → ℕ → Bool
-masked_dark v word k dark free x y = unwrap_or (fixed_bit v word x y) (turned_if (dark_in free x y && turns k x y) (dark_in dark x y))
+masked_dark v word k dark free x y = unwrap_or (decided_bit v word x y) (turned_if (dark_in free x y && turns k x y) (dark_in dark x y))
 
 -- what such rows cost under the k-th mask
 unfoldable pub nth_cost : Version → EcLevel → ℕ → List ℕ → List ℕ → ℕ → ℕ

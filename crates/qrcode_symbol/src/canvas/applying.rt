@@ -13,7 +13,6 @@ use qrcode_places::words::format_word;
 use qrcode_types::types::{EcLevel, Version};
 
 // A module after a mask: the bit of the format word, the dark module, or the module masked.
-#[tactic(auto, unfolding(crate::specs::Masking::fixed_bit))]
 fn mask_module(layer: Layer, x: usize, y: usize, old: Module) -> Module
     requires column { x < layer.width }
     requires row { y < layer.width }

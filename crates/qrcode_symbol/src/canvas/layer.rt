@@ -2,11 +2,11 @@
 
 ghost use Rattle.std.specs.Prelude.{◌≡◌, ◌<◌, ◌≤◌, IsTrue};
 ghost use Rattle.qrcode_types.specs.Versions.{is_valid, side};
-ghost use Rattle.qrcode_symbol.specs.Masking.{fixed_bit};
+ghost use Rattle.qrcode_places.specs.Patterns.{decided_bit};
 
 use qrcode_places::masks::MaskPattern;
-use qrcode_places::patterns::{dark_module, format_index};
-use qrcode_types::types::{Color, Version};
+use qrcode_places::patterns::decided_bit;
+use qrcode_types::types::Version;
 
 /// A mask of a symbol, with its format word.
 #[derive(Copy, Clone)]
@@ -22,16 +22,9 @@ pub(super) struct Layer {
 }
 
 /// The bit of a place that no mask decides: of the format word, or of the dark module.
-#[tactic(auto, unfolding(crate::specs::Masking::fixed_bit))]
 pub(super) fn fixed_bit(layer: Layer, x: usize, y: usize) -> Option<bool>
     requires { x < 1000 }
-    ensures { result ≡ fixed_bit layer.version layer.word x y }
+    ensures { result ≡ decided_bit layer.version layer.word x y }
 {
-    if let Some(i) = format_index(layer.version, layer.width, x, y) {
-        return Some((layer.word >> (14 - i)) % 2 == 1);
-    }
-    match dark_module(layer.version, layer.width, x, y) {
-        Some(color) => Some(color == Color::Dark),
-        None => None,
-    }
+    decided_bit(layer.version, layer.width, layer.word, x, y)
 }

@@ -4,7 +4,8 @@ ghost use Rattle.std.specs.Prelude.{◌≡◌, ◌≢◌, ℕ, ◌+◌, ◌%◌,
 ghost use Rattle.qrcode_packed.specs.Rows.{FitsWidth, IsSquare, is_set, Shows};
 ghost use Rattle.qrcode_places.specs.Masks.{turns, turned_if, exists_in};
 ghost use Rattle.qrcode_places.specs.Words.{format_word};
-ghost use Rattle.qrcode_symbol.specs.Masking.{fixed_bit, masked_dark};
+ghost use Rattle.qrcode_places.specs.Patterns.{decided_bit};
+ghost use Rattle.qrcode_symbol.specs.Masking.{masked_dark};
 
 use super::layer::{Layer, fixed_bit};
 use super::packing::PackedModules;
@@ -80,7 +81,7 @@ fn fixed_places<R: PackedRow>(layer: Layer, from: usize, to: usize, row: R) -> R
     requires inside { to ≤ layer.width }
     requires fits { FitsWidth layer.width (R.bits row) }
     ensures between { (x : ℕ) → from ≤ x → x < to → is_set (R.bits result) x
-        ≡ unwrap_or (fixed_bit layer.version layer.word x 8) (is_set (R.bits row) x) }
+        ≡ unwrap_or (decided_bit layer.version layer.word x 8) (is_set (R.bits row) x) }
     ensures before { (x : ℕ) → x < from → is_set (R.bits result) x ≡ is_set (R.bits row) x }
     ensures behind { (x : ℕ) → to ≤ x → is_set (R.bits result) x ≡ is_set (R.bits row) x }
     ensures fits { FitsWidth layer.width (R.bits result) }
@@ -101,7 +102,7 @@ fn fixed_row<R: PackedRow>(layer: Layer, row: R) -> R
     requires room { layer.width + 3 ≤ R.room }
     requires fits { FitsWidth layer.width (R.bits row) }
     ensures shown { (x : ℕ) → x < layer.width → is_set (R.bits result) x
-        ≡ unwrap_or (fixed_bit layer.version layer.word x 8) (is_set (R.bits row) x) }
+        ≡ unwrap_or (decided_bit layer.version layer.word x 8) (is_set (R.bits row) x) }
     ensures fits { FitsWidth layer.width (R.bits result) }
 {
     let left = fixed_places(layer, 0, 9, row);
@@ -115,7 +116,7 @@ fn fixed_place<R: PackedRow>(layer: Layer, y: usize, row: R) -> R
     requires other { y ≢ 8 }
     requires fits { FitsWidth layer.width (R.bits row) }
     ensures shown { (x : ℕ) → x < layer.width → is_set (R.bits result) x
-        ≡ unwrap_or (fixed_bit layer.version layer.word x y) (is_set (R.bits row) x) }
+        ≡ unwrap_or (decided_bit layer.version layer.word x y) (is_set (R.bits row) x) }
     ensures fits { FitsWidth layer.width (R.bits result) }
 {
     if 8 < y && y < layer.width - 8 {
@@ -135,7 +136,7 @@ fn masked_row<R: PackedRow>(layer: &Layer, y: usize, dark: R, free: R) -> R
     requires dark_fits { FitsWidth layer.now.width (R.bits dark) }
     requires free_fits { FitsWidth layer.now.width (R.bits free) }
     ensures shown { (x : ℕ) → x < layer.now.width → is_set (R.bits result) x
-        ≡ unwrap_or (fixed_bit layer.now.version layer.now.word x y)
+        ≡ unwrap_or (decided_bit layer.now.version layer.now.word x y)
         (turned_if (is_set (R.bits free) x && turns layer.now.mask x y)
         (is_set (R.bits dark) x)) }
     ensures fits { FitsWidth layer.now.width (R.bits result) }

@@ -1,7 +1,7 @@
 use Rattle.std.proofs.Common.{ℕ, ◌≤◌, Bool, bit_xor, ap, ap₂, sym, ◌∙◌, arith, unwrap_or}
 use Rattle.qrcode_packed.specs.Rows.{is_set}
 use Rattle.qrcode_places.specs.Masks.{turns}
-use Rattle.qrcode_symbol.specs.Masking.{fixed_bit}
+use Rattle.qrcode_places.specs.Patterns.{decided_bit}
 use Rattle.qrcode_symbol.proofs.RowLists.{turned_at}
 use Rattle.std.proofs.lemmas.Nat.{xor_lt, and_le_l}
 use Rattle.qrcode_symbol.proofs.canvas.masked_rows.masked_row.Goals as goal
@@ -17,7 +17,7 @@ returns-then-y-eq8-clause-shown g c = λ x h.
     let wide : c.args.layer.now.width ≤ 189 = omega arith in
     let here = turned_at (places c.args.dark) (places c.args.free) (places c.turned_places.result) x (turns c.args.layer.now.mask x c.args.y) (c.turned_places.ensures x (omega arith) (omega (arith, c.requires.room))) in
     c.fixed_row.ensures.shown x h
-    ∙ ap₂ (λ (y : ℕ) (b : Bool). unwrap_or (fixed_bit c.args.layer.now.version c.args.layer.now.word x y) b) (sym c.if-y-eq8.true)
+    ∙ ap₂ (λ (y : ℕ) (b : Bool). unwrap_or (decided_bit c.args.layer.now.version c.args.layer.now.word x y) b) (sym c.if-y-eq8.true)
     (ap (λ n. is_set n x) (c.xor-turned.ensures ∙ ap (bit_xor (places c.args.dark)) c.and.ensures) ∙ here)
 
 pub fixed_place-requires-clause-fits : goal.fixed_place-requires-clause-fits
@@ -31,5 +31,5 @@ returns-clause-shown g c = λ x h.
     let wide : c.args.layer.now.width ≤ 189 = omega arith in
     let here = turned_at (places c.args.dark) (places c.args.free) (places c.turned_places.result) x (turns c.args.layer.now.mask x c.args.y) (c.turned_places.ensures x (omega arith) (omega (arith, c.requires.room))) in
     c.fixed_place.ensures.shown x h
-    ∙ ap (λ b. unwrap_or (fixed_bit c.args.layer.now.version c.args.layer.now.word x c.args.y) b)
+    ∙ ap (λ b. unwrap_or (decided_bit c.args.layer.now.version c.args.layer.now.word x c.args.y) b)
     (ap (λ n. is_set n x) (c.xor-turned.ensures ∙ ap (bit_xor (places c.args.dark)) c.and.ensures) ∙ here)
