@@ -4,9 +4,11 @@ use super::NOTHING;
 use crate::data::Data::{Bytes, Times};
 use crate::scenario::Call::{self, Once};
 use crate::scenario::Memory::{NoMoreThan, Repeats, Takes};
-use crate::scenario::{Scenario, Single};
+use crate::scenario::Scenario;
+use crate::scenario::Single::{Automatic, BitsAsked, Least, Optimal, Runs};
+use qrcode::types::EcLevel::{L, M, Q};
 use qrcode::types::QrError::{DataTooLong, UnsupportedCharacterSet};
-use qrcode::types::{EcLevel, Version};
+use qrcode::types::Version::{Micro, Normal};
 
 // Seventy bytes: a text, digits, letters and pairs of Kanji.
 const MIXED: &[u8] =
@@ -16,19 +18,19 @@ const MIXED: &[u8] =
 pub static SCENARIOS: [Scenario; 17] = [
     Scenario("Bits::push_segments", Repeats, None, Call::Segments),
     Scenario("Bits::push_optimal_data", Repeats, None, Call::Optimal),
-    Scenario("Bits::push_optimal_data: nothing", Takes, None, Once(Single::Optimal(Version::Micro(1), Bytes(b"")))),
-    Scenario("Bits::push_optimal_data: 65,535 bytes", Takes, None, Once(Single::Optimal(Version::Normal(40), Times(b'a', 65_535)))),
-    Scenario("Bits::push_optimal_data: no such mode", NOTHING, Some(UnsupportedCharacterSet), Once(Single::Optimal(Version::Micro(2), Bytes(b"a")))),
-    Scenario("Bits::push_optimal_data: long data", NoMoreThan("long data"), Some(DataTooLong), Once(Single::Optimal(Version::Normal(40), Times(b'7', 1_048_577)))),
-    Scenario("bits::encode_auto", Takes, None, Once(Single::Automatic(Bytes(MIXED), EcLevel::Q))),
-    Scenario("bits::encode_auto: nothing", Takes, None, Once(Single::Automatic(Bytes(b""), EcLevel::L))),
-    Scenario("bits::encode_auto: 7,089 digits", Takes, None, Once(Single::Automatic(Times(b'7', 7089), EcLevel::L))),
-    Scenario("bits::encode_auto: no room", Takes, Some(DataTooLong), Once(Single::Automatic(Times(b'a', 2332), EcLevel::M))),
-    Scenario("bits::encode_auto: long data", NoMoreThan("long data"), Some(DataTooLong), Once(Single::Automatic(Times(b'7', 1_048_577), EcLevel::L))),
-    Scenario("optimize::least_segments", Takes, None, Once(Single::Least(Version::Normal(1), Bytes(MIXED)))),
-    Scenario("optimize::least_segments: nothing", Takes, None, Once(Single::Least(Version::Micro(1), Bytes(b"")))),
-    Scenario("optimize::least_segments: 1,048,576 digits", Takes, None, Once(Single::Least(Version::Normal(40), Times(b'7', 1_048_576)))),
-    Scenario("optimize::least_segments: no such mode", NOTHING, Some(UnsupportedCharacterSet), Once(Single::Least(Version::Micro(1), Bytes(b"A")))),
-    Scenario("optimize::Parser", NOTHING, None, Once(Single::Runs)),
-    Scenario("Bits: asked", NOTHING, None, Once(Single::BitsAsked)),
+    Scenario("Bits::push_optimal_data: nothing", Takes, None, Once(Optimal(Micro(1), Bytes(b"")))),
+    Scenario("Bits::push_optimal_data: 65,535 bytes", Takes, None, Once(Optimal(Normal(40), Times(b'a', 65_535)))),
+    Scenario("Bits::push_optimal_data: no such mode", NOTHING, Some(UnsupportedCharacterSet), Once(Optimal(Micro(2), Bytes(b"a")))),
+    Scenario("Bits::push_optimal_data: long data", NoMoreThan("long data"), Some(DataTooLong), Once(Optimal(Normal(40), Times(b'7', 1_048_577)))),
+    Scenario("bits::encode_auto", Takes, None, Once(Automatic(Bytes(MIXED), Q))),
+    Scenario("bits::encode_auto: nothing", Takes, None, Once(Automatic(Bytes(b""), L))),
+    Scenario("bits::encode_auto: 7,089 digits", Takes, None, Once(Automatic(Times(b'7', 7089), L))),
+    Scenario("bits::encode_auto: no room", Takes, Some(DataTooLong), Once(Automatic(Times(b'a', 2332), M))),
+    Scenario("bits::encode_auto: long data", NoMoreThan("long data"), Some(DataTooLong), Once(Automatic(Times(b'7', 1_048_577), L))),
+    Scenario("optimize::least_segments", Takes, None, Once(Least(Normal(1), Bytes(MIXED)))),
+    Scenario("optimize::least_segments: nothing", Takes, None, Once(Least(Micro(1), Bytes(b"")))),
+    Scenario("optimize::least_segments: 1,048,576 digits", Takes, None, Once(Least(Normal(40), Times(b'7', 1_048_576)))),
+    Scenario("optimize::least_segments: no such mode", NOTHING, Some(UnsupportedCharacterSet), Once(Least(Micro(1), Bytes(b"A")))),
+    Scenario("optimize::Parser", NOTHING, None, Once(Runs)),
+    Scenario("Bits: asked", NOTHING, None, Once(BitsAsked)),
 ];
