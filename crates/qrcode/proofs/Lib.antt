@@ -6,4 +6,3 @@ pub mod Readings
 pub mod Sides
 pub mod Symbols
 pub mod Sealing
-pub mod PlainPictures

@@ -172,6 +172,7 @@ impl QrCode {
     /// The modules along a side, without a quiet zone.
     pub fn width(&self) -> usize
         ensures across { result ≡ side self.now.version }
+        ensures at_least { 11 ≤ result }
         ensures at_most { result ≤ 177 }
         ensures square { length self.now.modules ≡ result * result }
     {
@@ -206,7 +207,6 @@ impl QrCode {
             ≡ debug_text self.now.version self.now.modules on_char off_char) }
         ensures memory { IsOkUnless result OutOfMemory }
     {
-        render::rectangles_make_pictures::<char>();
         self.render()
             .quiet_zone(false)
             .dark_color(on_char)
@@ -254,10 +254,13 @@ impl QrCode {
     pub fn render<P: Pixel>(&self) -> Renderer<'_, P>
         ensures content { result.content ≡ self.now.modules }
         ensures count { result.count ≡ side self.now.version }
-        ensures small { result.count ≤ 177 }
+        ensures count_at_least { 11 ≤ result.count }
+        ensures count_at_most { result.count ≤ 177 }
         ensures square { length self.now.modules ≡ result.count * result.count }
         ensures zone { result.zone ≡ quiet_zone self.now.version }
-        ensures on { result.has_zone ≡ true }
+        ensures zone_at_most { result.zone ≤ 4 }
+        ensures whole_zone { result.whole_zone ≡ quiet_zone self.now.version }
+        ensures whole_zone_at_most { result.whole_zone ≤ 4 }
         ensures across { result.across ≡ P.unit.0 }
         ensures down { result.down ≡ P.unit.1 }
         ensures dark { P.is_default_color Color.Dark result.dark }

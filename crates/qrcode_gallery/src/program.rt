@@ -1,14 +1,16 @@
 //! The program, over any writer.
 
-ghost use Rattle.std.specs.Prelude.{◌≡◌, ◌⊎◌, IfOk, IfErr, IfSome, IfNone, IsErrOf};
+ghost use Rattle.std.specs.Prelude.{◌≡◌, ◌⊎◌, IfOk, IfErr, IfSome, IfNone, IsErrOf, IsOkUnless};
 ghost use Rattle.std.specs.Io.KnownBytes.{Appends};
 ghost use Rattle.qrcode_types.specs.declared.types.EcLevel.TheVariants.{M};
+ghost use Rattle.qrcode_types.specs.declared.types.QrError.TheVariants.{OutOfMemory};
 ghost use Rattle.qrcode_bits.specs.Choice.{IsRefused};
 ghost use Rattle.qrcode_uses.specs.Drawings.{IsDrawnAs};
 ghost use Rattle.qrcode_gallery.specs.Faults.{IsCannotWrite, IsCause};
 ghost use Rattle.qrcode_gallery.specs.Kinds.{name_of, drawing_in, Writes};
 ghost use Rattle.qrcode_gallery.specs.declared.program.Kind.{Kind};
 
+use qrcode::QrCode;
 use qrcode::types::{QrError, QrResult};
 use qrcode_uses::drawings;
 use std::alloc::Global;
@@ -56,18 +58,30 @@ fn kind_of(name: &str) -> Option<Kind>
     }
 }
 
-// The drawing of data in a kind.
-fn draw(alloc: Global, kind: Kind, data: &[u8]) -> QrResult<Vec<u8>>
-    ensures drawing { IfOk result (λ drawing. IsDrawnAs (drawing_in kind) «data».now drawing.items) }
-    ensures causes { IfErr result (IsRefused M «data».now) }
+// The drawing of bytes in a kind.
+fn draw(alloc: Global, kind: Kind, bytes: &[u8]) -> QrResult<Vec<u8>>
+    ensures drawing { IfOk result (λ drawing.
+        IsDrawnAs (drawing_in kind) bytes.now drawing.items) }
+    ensures causes { IfErr result (IsRefused M bytes.now) }
+{
+    let code = QrCode::new(alloc, bytes)?;
+    let drawing = drawing_of(alloc, kind, &code)?;
+    Ok(drawing)
+}
+
+// The drawing of a symbol in a kind.
+fn drawing_of(alloc: Global, kind: Kind, code: &QrCode) -> QrResult<Vec<u8>>
+    ensures drawing { IfOk result (λ drawing.
+        drawing.items ≡ drawing_in kind code.now.version code.now.modules) }
+    ensures memory { IsOkUnless result OutOfMemory }
 {
     let text = match kind {
-        Kind::Chars => drawings::as_chars(alloc, data)?,
-        Kind::Pairs => drawings::as_pairs(alloc, data)?,
-        Kind::HalfBlocks => drawings::as_half_blocks(alloc, data)?,
-        Kind::Svg => drawings::as_svg(alloc, data)?,
-        Kind::Pic => drawings::as_pic(alloc, data)?,
-        Kind::Pixels => return drawings::as_grey_map(alloc, data),
+        Kind::Chars => drawings::as_chars(alloc, code)?,
+        Kind::Pairs => drawings::as_pairs(alloc, code)?,
+        Kind::HalfBlocks => drawings::as_half_blocks(alloc, code)?,
+        Kind::Svg => drawings::as_svg(alloc, code)?,
+        Kind::Pic => drawings::as_pic(alloc, code)?,
+        Kind::Pixels => return drawings::as_grey_map(alloc, code),
     };
     Ok(text.into_bytes())
 }
@@ -76,7 +90,8 @@ fn draw(alloc: Global, kind: Kind, data: &[u8]) -> QrResult<Vec<u8>>
 /// write.
 pub fn run<W: Write>(alloc: Global, name: &str, text: &str, out: &mut W) -> Result<(), Fault>
     ensures usage { IsErrOf result Fault.Usage → (kind : Kind) → ¬ (name.now ≡ name_of kind) }
-    ensures wrote { IfOk result (λ _. Writes (Appends (W.contents out.old) (W.contents out.new)) name.now text.now) }
+    ensures wrote { IfOk result (λ _.
+        Writes (Appends (W.contents out.old) (W.contents out.new)) name.now text.now) }
     ensures nothing { IfErr result (λ fault.
         IsCannotWrite fault ⊎ (W.contents out.new ≡ W.contents out.old)) }
     ensures causes { IfErr result (IsCause name.now text.now) }

@@ -1,12 +1,9 @@
-pub mod DenseTexts
 pub mod Folds
 pub mod LineTexts
 pub mod MarkedLines
-pub mod Painting
 pub mod Palettes
 pub mod Paths
-pub mod PictureTexts
 pub mod Pictures
-pub mod PixelTexts
+pub mod RasterPictures
 pub mod Rectangles
 pub mod Sizes

@@ -1,10 +1,12 @@
 -- Texts of marks, and lines of a text.
-use Rattle.std.proofs.Common.{◌≡◌, ℕ, zero, suc, ◌+◌, ◌<◌, ◌≤◌, ◌-◌, List, [], ◌∷◌, ◌++◌, Bool, false, length, get_or, take, drop, map, refl, ap, ◌∙◌, sym, arith, append_assoc, add-zero, if◌then◌else◌}
+use Rattle.std.proofs.Common.{◌≡◌, ℕ, zero, suc, ◌+◌, ◌<◌, ◌≤◌, ◌-◌, List, [], ◌∷◌, ◌++◌, Bool, false, length, get_or, take, drop, map, refl, ap, ◌∙◌, sym, arith, append_assoc, add-zero, if◌then◌else◌, ◌==◌}
 use Rattle.std.specs.List.{flat_map, join_with_byte, range_with_len}
 use Rattle.std.proofs.lemmas.List.{take_more, take-append-drop, take_all, append-nil, length-drop}
+use Rattle.std.proofs.lemmas.Bool.Decides.{nat_tests}
 use Rattle.std.proofs.lemmas.List.Concat.{flat_map-append}
 use Rattle.std.proofs.lemmas.List.FromFn.{map-range_with_len_more, length-map-range_with_len}
-use Rattle.qrcode_render.specs.Lines.{marks_text, line_start}
+use Rattle.qrcode_render.specs.Lines.{line_start}
+use Rattle.qrcode_render.specs.Texts.{marks_text, lines_text}
 
 -- one more element
 flat_map_one : {A B : Type 0} (f : A → List B) (xs : List A) (i j : ℕ) (d : A) → i + 1 ≡ j → i < length xs → flat_map f (take j xs) ≡ flat_map f (take i xs) ++ f (get_or xs i d)
@@ -66,3 +68,8 @@ joined_more f y =
     ap (join_with_byte 10) (map-range_with_len_more f 0 y y (omega arith))
     ∙ join-push lines (f y)
     ∙ ap (λ n. join_with_byte 10 lines ++ line_start n ++ f y) (length-map-range_with_len f 0 y)
+
+-- lines that have a width
+pub some_lines : (across : ℕ) (lines : List (List ℕ)) → 0 < across → lines_text across lines ≡ join_with_byte 10 lines
+some_lines zero lines h = absurd (omega arith)
+some_lines (suc n) lines h = let some : (suc n == 0) ≡ false = grind (arith, nat_tests) in ap (λ b. if b then [] else join_with_byte 10 lines) some

@@ -5,7 +5,7 @@ use Rattle.qrcode_types.specs.Colors.{is_dark}
 use Rattle.qrcode_types.specs.declared.types.Color.{Color}
 use Rattle.qrcode_types.specs.declared.types.Color.TheVariants.{Light, Dark}
 use Rattle.qrcode_render.specs.Drawn.{filled, drawn_row}
-use Rattle.qrcode_render.specs.Sketch.{Sketch, with_mark, marked_line}
+use Rattle.qrcode_render.specs.Bitmap.{marked, marked_line}
 
 or_false : (b : Bool) → (b || false) ≡ b
 or_false true = refl
@@ -16,18 +16,18 @@ or_true true = refl
 or_true false = refl
 
 -- the rectangles of the dark modules of a row, each of one pixel
-pub drawn_row-line : (left y : ℕ) (line : List Color) (s : Sketch) → drawn_row (filled with_mark) left y 1 1 line s ≡ record s { marks = marked_line (y * s.across + left) line s.marks }
-drawn_row-line left y [] s = refl
-drawn_row-line left y (Light ∷ line) s =
-    let start = y * s.across + left in
-    let next : y * s.across + (left + 1) ≡ start + 1 = omega arith in
-    let same : s.marks ≡ set s.marks start (get_or s.marks start false || false) = sym (ap (set s.marks start) (or_false (get_or s.marks start false)) ∙ set-get_or s.marks start false) in
-    drawn_row-line (left + 1) y line s ∙ ap₂ (λ k ms. record s { marks = marked_line k line ms }) next same
-drawn_row-line left y (Dark ∷ line) s =
-    let start = y * s.across + left in
-    let next : y * s.across + (left + 1) ≡ start + 1 = omega arith in
-    let same : set s.marks start true ≡ set s.marks start (get_or s.marks start false || true) = ap (set s.marks start) (sym (or_true (get_or s.marks start false))) in
-    drawn_row-line (left + 1) y line (with_mark left y s) ∙ ap₂ (λ k ms. record s { marks = marked_line k line ms }) next same
+pub drawn_row-line : (across left y : ℕ) (line : List Color) (marks : List Bool) → drawn_row (filled (marked across)) left y 1 1 line marks ≡ marked_line (y * across + left) line marks
+drawn_row-line across left y [] marks = refl
+drawn_row-line across left y (Light ∷ line) marks =
+    let start = y * across + left in
+    let next : y * across + (left + 1) ≡ start + 1 = omega arith in
+    let same : marks ≡ set marks start (get_or marks start false || false) = sym (ap (set marks start) (or_false (get_or marks start false)) ∙ set-get_or marks start false) in
+    drawn_row-line across (left + 1) y line marks ∙ ap₂ (λ k ms. marked_line k line ms) next same
+drawn_row-line across left y (Dark ∷ line) marks =
+    let start = y * across + left in
+    let next : y * across + (left + 1) ≡ start + 1 = omega arith in
+    let same : set marks start true ≡ set marks start (get_or marks start false || true) = ap (set marks start) (sym (or_true (get_or marks start false))) in
+    drawn_row-line across (left + 1) y line (marked across left y marks) ∙ ap₂ (λ k ms. marked_line k line ms) next same
 
 -- the rest of a row, from its first module on
 pub marked_line_more : (start k : ℕ) (line : List Color) (c : Color) (marks : List Bool) → k < length line → marked_line start (drop k line) marks ≡ marked_line (start + 1) (drop (k + 1) line) (set marks start (get_or marks start false || is_dark (get_or line k c)))

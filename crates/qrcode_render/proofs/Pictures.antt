@@ -12,9 +12,10 @@ use Rattle.qrcode_types.specs.Colors.{is_dark}
 use Rattle.qrcode_types.specs.declared.types.Color.{Color}
 use Rattle.qrcode_types.specs.declared.types.Color.TheVariants.{Light, Dark}
 use Rattle.qrcode_render.specs.Drawn.{filled, drawn_from, drawn}
-use Rattle.qrcode_render.specs.Layout.{Layout, modules_across}
-use Rattle.qrcode_render.specs.Picture.{blank, picture, with_dark_pixel, is_dark_pixel}
-use Rattle.qrcode_render.proofs.Rectangles.{darkened, Outcome, rect_outcome, length-filled, drawn-by_list}
+use Rattle.qrcode_render.specs.Layout.{Layout, modules_across, pixels_across, pixels_down}
+use Rattle.qrcode_render.specs.Bitmap.{marked}
+use Rattle.qrcode_render.specs.Picture.{picture, is_dark_pixel}
+use Rattle.qrcode_render.proofs.Rectangles.{Outcome, rect_outcome, length-filled}
 
 -- the module of a pixel, where it is inside
 abbrev module_at : Layout → ℕ → ℕ → ℕ
@@ -29,22 +30,16 @@ record IsHit (at : Layout) (content : List Color) (i x y : ℕ) : Type 0 where
   before : module_at at x y < i
   dark : get_or content (module_at at x y) Light ≡ Dark
 
-abbrev wide : Layout → ℕ
-wide at = modules_across at * at.across
-
-abbrev high : Layout → ℕ
-high at = modules_across at * at.down
-
 -- the modules before the i-th are drawn
-abbrev IsDrawn : {P : Type 0} → Layout → List Color → P → P → ℕ → List P → Type 0
-IsDrawn at content dark light i ps = (x y : ℕ) → x < wide at → y < high at → Outcome (IsHit at content i x y) (get_or ps (y * wide at + x) light) dark light
+abbrev IsDrawn : Layout → List Color → ℕ → List Bool → Type 0
+IsDrawn at content i ps = (x y : ℕ) → x < pixels_across at → y < pixels_down at → Outcome (IsHit at content i x y) (get_or ps (y * pixels_across at + x) false) false
 
 hit_by : (at : Layout) (content : List Color) (i j x y : ℕ) → IsHit at content i x y → module_at at x y < j → IsHit at content j x y
 hit_by at content i j x y h before = record { left = h.left; right = h.right; top = h.top; bottom = h.bottom; before = before; dark = h.dark }
 
 -- a light module changes nothing
-past_light : {P : Type 0} (at : Layout) (content : List Color) (dark light : P) (i : ℕ) (ps : List P) → get_or content i Light ≡ Light → IsDrawn at content dark light i ps → IsDrawn at content dark light (i + 1) ps
-past_light at content dark light i ps is drawn x y inside below =
+past_light : (at : Layout) (content : List Color) (i : ℕ) (ps : List Bool) → get_or content i Light ≡ Light → IsDrawn at content i ps → IsDrawn at content (i + 1) ps
+past_light at content i ps is drawn x y inside below =
     elim (drawn x y inside below) [
       | inl hit ↦ let before = hit.0.before in inl (hit_by at content i (i + 1) x y hit.0 (omega arith), hit.1)
       | inr none ↦
@@ -86,7 +81,7 @@ some_side : (w h k : ℕ) → k < w * h → 0 < w
 some_side zero h k inside = omega arith
 some_side (suc w) h k inside = omega arith
 
-get_or-replicate_same : {P : Type 0} (n : ℕ) (a : P) (i : ℕ) → get_or (replicate n a) i a ≡ a
+get_or-replicate_same : {A : Type 0} (n : ℕ) (a : A) (i : ℕ) → get_or (replicate n a) i a ≡ a
 get_or-replicate_same zero a i = refl
 get_or-replicate_same (suc n) a zero = refl
 get_or-replicate_same (suc n) a (suc i) = get_or-replicate_same n a i
@@ -97,9 +92,9 @@ next_same content rest c i same k =
     same (suc k) ∙ ap (λ j. get_or content j Light) more
 
 -- a dark module makes its rectangle dark
-past_dark : {P : Type 0} (at : Layout) (content : List Color) (dark light : P) (i : ℕ) (ps : List P) → 1 ≤ at.across → 1 ≤ at.down → i < at.count * at.count → length ps ≡ wide at * high at → get_or content i Light ≡ Dark → IsDrawn at content dark light i ps
-    → IsDrawn at content dark light (i + 1) (filled (darkened (wide at) dark) ((i % at.count + at.zone) * at.across) ((i / at.count + at.zone) * at.down) at.across at.down ps)
-past_dark at content dark light i ps some_wide some_high within whole is drawn x y inside below =
+past_dark : (at : Layout) (content : List Color) (i : ℕ) (ps : List Bool) → 1 ≤ at.across → 1 ≤ at.down → i < at.count * at.count → length ps ≡ pixels_across at * pixels_down at → get_or content i Light ≡ Dark → IsDrawn at content i ps
+    → IsDrawn at content (i + 1) (filled (marked (pixels_across at)) ((i % at.count + at.zone) * at.across) ((i / at.count + at.zone) * at.down) at.across at.down ps)
+past_dark at content i ps some_wide some_high within whole is drawn x y inside below =
     let n = at.count in
     let some : 0 < n = some_count n i within in
     let column : i % n < n = mod_below i n some in
@@ -107,10 +102,10 @@ past_dark at content dark light i ps some_wide some_high within whole is drawn x
     let place = div-add-mod' i n in
     let left = (i % n + at.zone) * at.across in
     let top = (i / n + at.zone) * at.down in
-    let fits : left + at.across ≤ wide at = cell_fits (i % n + at.zone) (modules_across at) at.across (omega arith) in
-    let low : top + at.down ≤ high at = cell_fits (i / n + at.zone) (modules_across at) at.down (omega arith) in
-    let room : (top + at.down) * wide at ≤ length ps = omega (arith, mul-le-mul_right (wide at) low) in
-    elim (rect_outcome (wide at) dark light left top at.across at.down x y ps fits inside room) [
+    let fits : left + at.across ≤ pixels_across at = cell_fits (i % n + at.zone) (modules_across at) at.across (omega arith) in
+    let low : top + at.down ≤ pixels_down at = cell_fits (i / n + at.zone) (modules_across at) at.down (omega arith) in
+    let room : (top + at.down) * pixels_across at ≤ length ps = omega (arith, mul-le-mul_right (pixels_across at) low) in
+    elim (rect_outcome (pixels_across at) left top at.across at.down x y ps fits inside room) [
       | inl in' ↦
           let across : x / at.across ≡ i % n + at.zone = cell_is (i % n + at.zone) at.across x in'.0.0 in'.0.1 in
           let down : y / at.down ≡ i / n + at.zone = cell_is (i / n + at.zone) at.down y in'.0.2 in'.0.3 in
@@ -151,21 +146,21 @@ past_dark at content dark light i ps some_wide some_high within whole is drawn x
     ]
 
 -- the drawing of the modules from the i-th on
-drawn_to_end : {P : Type 0} (at : Layout) (content : List Color) (dark light : P) (i : ℕ) (rest : List Color) (ps : List P) → 1 ≤ at.across → 1 ≤ at.down → i + length rest ≡ at.count * at.count → length ps ≡ wide at * high at → ((k : ℕ) → get_or rest k Light ≡ get_or content (i + k) Light) → IsDrawn at content dark light i ps
-    → (length (drawn_from (filled (darkened (wide at) dark)) at i rest ps) ≡ wide at * high at) × IsDrawn at content dark light (at.count * at.count) (drawn_from (filled (darkened (wide at) dark)) at i rest ps)
-drawn_to_end at content dark light i [] ps some_wide some_high end whole same drawn =
+drawn_to_end : (at : Layout) (content : List Color) (i : ℕ) (rest : List Color) (ps : List Bool) → 1 ≤ at.across → 1 ≤ at.down → i + length rest ≡ at.count * at.count → length ps ≡ pixels_across at * pixels_down at → ((k : ℕ) → get_or rest k Light ≡ get_or content (i + k) Light) → IsDrawn at content i ps
+    → (length (drawn_from (filled (marked (pixels_across at))) at i rest ps) ≡ pixels_across at * pixels_down at) × IsDrawn at content (at.count * at.count) (drawn_from (filled (marked (pixels_across at))) at i rest ps)
+drawn_to_end at content i [] ps some_wide some_high end whole same drawn =
     let last : i ≡ at.count * at.count = omega arith in
-    (whole, subst (λ k. IsDrawn at content dark light k ps) last drawn)
-drawn_to_end at content dark light i (Light ∷ rest) ps some_wide some_high end whole same drawn =
+    (whole, subst (λ k. IsDrawn at content k ps) last drawn)
+drawn_to_end at content i (Light ∷ rest) ps some_wide some_high end whole same drawn =
     let first : get_or content i Light ≡ Light = ap (λ k. get_or content k Light) (sym (add-zero i)) ∙ sym (same 0) in
-    drawn_to_end at content dark light (i + 1) rest ps some_wide some_high (omega arith) whole (λ k. next_same content rest Light i same k) (past_light at content dark light i ps first drawn)
-drawn_to_end at content dark light i (Dark ∷ rest) ps some_wide some_high end whole same drawn =
+    drawn_to_end at content (i + 1) rest ps some_wide some_high (omega arith) whole (λ k. next_same content rest Light i same k) (past_light at content i ps first drawn)
+drawn_to_end at content i (Dark ∷ rest) ps some_wide some_high end whole same drawn =
     let first : get_or content i Light ≡ Dark = ap (λ k. get_or content k Light) (sym (add-zero i)) ∙ sym (same 0) in
     let left = (i % at.count + at.zone) * at.across in
     let top = (i / at.count + at.zone) * at.down in
-    let ps' = filled (darkened (wide at) dark) left top at.across at.down ps in
-    drawn_to_end at content dark light (i + 1) rest ps' some_wide some_high (omega arith) (length-filled (wide at) dark left top at.across at.down ps ∙ whole) (λ k. next_same content rest Dark i same k)
-    (past_dark at content dark light i ps some_wide some_high (omega arith) whole first drawn)
+    let ps' = filled (marked (pixels_across at)) left top at.across at.down ps in
+    drawn_to_end at content (i + 1) rest ps' some_wide some_high (omega arith) (length-filled (pixels_across at) left top at.across at.down ps ∙ whole) (λ k. next_same content rest Dark i same k)
+    (past_dark at content i ps some_wide some_high (omega arith) whole first drawn)
 
 both_from : (a b : Bool) → (a && b) ≡ true → (a ≡ true) × (b ≡ true)
 both_from true b h = (refl, h)
@@ -209,28 +204,26 @@ dark_is_hit at content x y h =
     }
 
 -- the pixels are those of the picture
-pixels_are : {P : Type 0} (at : Layout) (content : List Color) (dark light : P) (ps : List P) → length ps ≡ wide at * high at → IsDrawn at content dark light (at.count * at.count) ps
-    → ps ≡ map (λ k. if is_dark_pixel at content (k % wide at) (k / wide at) then dark else light) (range_with_len 0 (wide at * high at))
-pixels_are at content dark light ps whole drawn =
-    fill_by_all (λ k. if is_dark_pixel at content (k % wide at) (k / wide at) then dark else light) ps (wide at * high at) light whole (λ k inside.
-    let turned : k < high at * wide at = omega arith in
-    let some : 0 < wide at = some_side (wide at) (high at) k inside in
-    let x = k % wide at in
-    let y = k / wide at in
-    let place : y * wide at + x ≡ k = div-add-mod' k (wide at) in
-    elim (drawn x y (mod_below k (wide at) some) (div_below k (wide at) (high at) some turned)) [
-      | inl hit ↦ ap (λ j. get_or ps j light) (sym place) ∙ hit.1 ∙ ap (λ b. if b then dark else light) (sym (hit_is_dark at content (at.count * at.count) x y hit.0))
-      | inr none ↦ ap (λ j. get_or ps j light) (sym place) ∙ none.1 ∙ ap (λ b. if b then dark else light) (sym (not_true (is_dark_pixel at content x y) (λ h. none.0 (dark_is_hit at content x y h))))
+pixels_are : (at : Layout) (content : List Color) (ps : List Bool) → length ps ≡ pixels_across at * pixels_down at → IsDrawn at content (at.count * at.count) ps
+    → ps ≡ map (λ k. is_dark_pixel at content (k % pixels_across at) (k / pixels_across at)) (range_with_len 0 (pixels_across at * pixels_down at))
+pixels_are at content ps whole drawn =
+    fill_by_all (λ k. is_dark_pixel at content (k % pixels_across at) (k / pixels_across at)) ps (pixels_across at * pixels_down at) false whole (λ k inside.
+    let turned : k < pixels_down at * pixels_across at = omega arith in
+    let some : 0 < pixels_across at = some_side (pixels_across at) (pixels_down at) k inside in
+    let x = k % pixels_across at in
+    let y = k / pixels_across at in
+    let place : y * pixels_across at + x ≡ k = div-add-mod' k (pixels_across at) in
+    elim (drawn x y (mod_below k (pixels_across at) some) (div_below k (pixels_across at) (pixels_down at) some turned)) [
+      | inl hit ↦ ap (λ j. get_or ps j false) (sym place) ∙ hit.1 ∙ sym (hit_is_dark at content (at.count * at.count) x y hit.0)
+      | inr none ↦ ap (λ j. get_or ps j false) (sym place) ∙ none.1 ∙ sym (not_true (is_dark_pixel at content x y) (λ h. none.0 (dark_is_hit at content x y h)))
     ])
 
--- the drawing of the dark modules on light pixels is the picture
-pub drawn-is_picture : {P : Type 0} (at : Layout) (content : List Color) (dark light : P) → length content ≡ at.count * at.count → 1 ≤ at.across → 1 ≤ at.down → drawn (filled with_dark_pixel) at content (blank (modules_across at * at.across) (modules_across at * at.down) dark light) ≡ picture at content dark light
-drawn-is_picture {P = P} at content dark light square some_wide some_high =
-    let w = wide at in
-    let h = high at in
-    let ps : List P = replicate (w * h) light in
-    let start : IsDrawn at content dark light 0 ps = λ x y inside below. inr ((λ hit. let before = hit.before in omega arith), get_or-replicate_same (w * h) light (y * w + x)) in
+-- the marks of a drawing on light pixels are those of the picture
+pub drawn-marks : (at : Layout) (content : List Color) → length content ≡ at.count * at.count → 1 ≤ at.across → 1 ≤ at.down
+    → drawn (filled (marked (pixels_across at))) at content (replicate (pixels_across at * pixels_down at) false) ≡ (picture at content).marks
+drawn-marks at content square some_wide some_high =
+    let none = pixels_across at * pixels_down at in
+    let start : IsDrawn at content 0 (replicate none false) = λ x y inside below. inr ((λ hit. let before = hit.before in omega arith), get_or-replicate_same none false (y * pixels_across at + x)) in
     let same : (k : ℕ) → get_or content k Light ≡ get_or content (0 + k) Light = λ k. ap (λ j. get_or content j Light) (omega arith) in
-    let end = drawn_to_end at content dark light 0 content ps some_wide some_high (omega arith) (length-replicate (w * h) light) same start in
-    drawn-by_list at content dark light w h ps
-    ∙ ap (λ xs. record { across = w; down = h; dark = dark; light = light; pixels = xs }) (pixels_are at content dark light (drawn (filled (darkened w dark)) at content ps) end.0 end.1)
+    let end = drawn_to_end at content 0 content (replicate none false) some_wide some_high (omega arith) (length-replicate none false) same start in
+    pixels_are at content (drawn (filled (marked (pixels_across at))) at content (replicate none false)) end.0 end.1

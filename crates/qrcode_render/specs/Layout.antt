@@ -8,12 +8,17 @@ pub record Layout : Type 0 where
   pub across : ℕ
   pub down : ℕ
 
+abbrev pub layout : ℕ → ℕ → ℕ → ℕ → Layout
+layout count zone across down = record { count = count; zone = zone; across = across; down = down }
+
 -- the modules along a side, with the quiet zone
 abbrev pub modules_across : Layout → ℕ
 modules_across at = at.count + 2 * at.zone
 
--- the modules and the pixels along each side are below 2^32
-pub record PixelsFit (at : Layout) : Type 0 where
-  pub modules : modules_across at < 2 ^ 32
-  pub across : modules_across at * at.across < 2 ^ 32
-  pub down : modules_across at * at.down < 2 ^ 32
+-- the pixels of a picture across
+abbrev pub pixels_across : Layout → ℕ
+pixels_across at = modules_across at * at.across
+
+-- the pixels of a picture down
+abbrev pub pixels_down : Layout → ℕ
+pixels_down at = modules_across at * at.down

@@ -1,14 +1,10 @@
 -- How texts of pictures are put together.
-use Rattle.std.specs.Prelude.{ℕ, zero, suc, Bool, true, false, List, [], ◌∷◌, ◌++◌, map, flat_map, if◌then◌else◌}
+use Rattle.std.specs.Prelude.{ℕ, zero, suc, Bool, true, false, List, [], ◌∷◌, ◌++◌, map, flat_map, slice_index_or}
 
 -- what a line begins with: a newline, but for the first line
 abbrev pub line_start : ℕ → List ℕ
 line_start zero = []
 line_start (suc y) = 10 ∷ []
-
--- the texts that stand for marks, one after the other
-abbrev pub marks_text : List ℕ → List ℕ → List Bool → List ℕ
-marks_text dark light marks = flat_map (λ m. if m then dark else light) marks
 
 -- each text followed by each, the second changing first
 abbrev pub paired : List (List ℕ) → List (List ℕ)
@@ -20,3 +16,7 @@ pair_number false false = 0
 pair_number false true = 1
 pair_number true false = 2
 pair_number true true = 3
+
+-- the text that stands for two marks, of the four that stand for pairs
+abbrev pub two_text : List (List ℕ) → Bool → Bool → List ℕ
+two_text twos a b = slice_index_or twos (pair_number a b) []

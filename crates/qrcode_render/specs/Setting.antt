@@ -1,10 +1,12 @@
 -- What a renderer is set to.
-use Rattle.std.specs.Prelude.{ℕ, ◌+◌, ◌-◌, ◌*◌, ◌/◌, ◌^◌, ◌≤◌, ◌≡◌, ◌⊎◌, max, nat_lt, ◌&&◌, Bool, List, length, if◌then◌else◌}
+use Rattle.std.specs.Prelude.{ℕ, ◌+◌, ◌-◌, ◌*◌, ◌/◌, ◌^◌, ◌≤◌, ◌≡◌, ◌⊎◌, max, nat_lt, ◌&&◌, Bool, List, length}
 use Rattle.qrcode_types.specs.declared.types.Color.{Color}
-use Rattle.qrcode_render.specs.Layout.{Layout, modules_across}
+use Rattle.qrcode_render.specs.Bitmap.{Bitmap}
 use Rattle.qrcode_render.specs.Drawn.{drawn}
+use Rattle.qrcode_render.specs.Layout.{Layout, layout, modules_across, pixels_across, pixels_down}
+use Rattle.qrcode_render.specs.Picture.{picture}
 
--- modules in row order, the modules along a side, the modules of the quiet zone, the pixels of a module across and down, the pixels that stand for dark and light, and whether the quiet zone is drawn
+-- modules in row order, the modules along a side, the modules of the quiet zone that is drawn, the pixels of a module across and down, the pixels that stand for dark and light, and the modules of the quiet zone where it is switched on
 pub record Setting (P : Type 0) : Type 0 where
   pub content : List Color
   pub count : ℕ
@@ -13,7 +15,7 @@ pub record Setting (P : Type 0) : Type 0 where
   pub down : ℕ
   pub dark : P
   pub light : P
-  pub has_zone : Bool
+  pub whole_zone : ℕ
 
 -- what holds of every renderer: its modules make a square, and each has a pixel or more across and down
 pub record IsWhole {P : Type 0} (s : Setting P) : Type 0 where
@@ -21,21 +23,31 @@ pub record IsWhole {P : Type 0} (s : Setting P) : Type 0 where
   pub across : 1 ≤ s.across
   pub down : 1 ≤ s.down
 
--- where modules stand, with the quiet zone only where it is switched on
+-- where modules stand
 abbrev pub layout_of : {P : Type 0} → Setting P → Layout
-layout_of s = record { count = s.count; zone = if s.has_zone then s.zone else 0; across = s.across; down = s.down }
+layout_of s = layout s.count s.zone s.across s.down
 
 -- the modules along a side of the picture
 abbrev pub side_of : {P : Type 0} → Setting P → ℕ
 side_of s = modules_across (layout_of s)
 
+-- the picture has a column and a row of pixels
+pub record HasPixels {P : Type 0} (s : Setting P) : Type 0 where
+  pub across : 1 ≤ pixels_across (layout_of s)
+  pub down : 1 ≤ pixels_down (layout_of s)
+
 -- the modules and the pixels along each side are below 2^32
 abbrev pub fits : {P : Type 0} → Setting P → Bool
 fits s = nat_lt (side_of s) (2 ^ 32) && nat_lt (side_of s * s.across) (2 ^ 32) && nat_lt (side_of s * s.down) (2 ^ 32)
 
+-- which pixels of the picture are dark
+abbrev pub picture_of : {P : Type 0} → Setting P → Bitmap
+picture_of s = picture (layout_of s) s.content
+
 -- what a canvas shows in the end: its start, and the rectangles of the dark modules in row order
 abbrev pub drawing_of : {P D : Type 0} → (ℕ → ℕ → P → P → D) → (ℕ → ℕ → ℕ → ℕ → D → D) → Setting P → D
-drawing_of start rect s = drawn rect (layout_of s) s.content (start (side_of s * s.across) (side_of s * s.down) s.dark s.light)
+drawing_of start rect s =
+    drawn rect (layout_of s) s.content (start (pixels_across (layout_of s)) (pixels_down (layout_of s)) s.dark s.light)
 
 -- the pixels of a module of which `side` modules reach `pixels`
 abbrev pub least_size : ℕ → ℕ → ℕ

@@ -1,15 +1,19 @@
 -- The texts and bytes of pictures.
-use Rattle.std.specs.Prelude.{ℕ, ◌+◌, ◌*◌, ◌/◌, ◌==◌, nat_lt, ◌&&◌, Bool, true, false, List, [], ◌∷◌, map, flat_map, if◌then◌else◌}
+use Rattle.std.specs.Prelude.{ℕ, ◌+◌, ◌*◌, ◌/◌, ◌==◌, nat_lt, Bool, true, false, List, [], ◌∷◌, length, map, flat_map, slice_index_or, if◌then◌else◌}
 use Rattle.std.specs.List.{range_with_len, join_with_byte}
-use Rattle.qrcode_render.specs.Picture.{Raster, pixel_at}
+use Rattle.qrcode_render.specs.Bitmap.{Bitmap, row_of}
+
+-- what stands for each pixel, one after the other: dark pixels stand for one text, light ones for another
+abbrev pub marks_text : List ℕ → List ℕ → List Bool → List ℕ
+marks_text dark light marks = flat_map (λ m. if m then dark else light) marks
 
 -- lines with a newline between each two, and nothing where they have no width
 abbrev pub lines_text : ℕ → List (List ℕ) → List ℕ
 lines_text across lines = if across == 0 then [] else join_with_byte 10 lines
 
--- each pixel's own text, row by row
-abbrev pub text_of : {P : Type 0} → (P → List ℕ) → Raster P → List ℕ
-text_of text r = lines_text r.across (map (λ y. flat_map (λ x. text (pixel_at r x y)) (range_with_len 0 r.across)) (range_with_len 0 r.down))
+-- a line for each row, with the text of a dark or of a light pixel for each pixel
+unfoldable pub text_of : List ℕ → List ℕ → Bitmap → List ℕ
+text_of dark light b = lines_text b.across (map (λ y. marks_text dark light (row_of b y)) (range_with_len 0 b.down))
 
 -- a space, the lower half, the upper half or the whole block
 abbrev pub half_blocks : Bool → Bool → List ℕ
@@ -18,14 +22,26 @@ half_blocks false true = 0xe2 ∷ 0x96 ∷ 0x84 ∷ []
 half_blocks true false = 0xe2 ∷ 0x96 ∷ 0x80 ∷ []
 half_blocks true true = 0xe2 ∷ 0x96 ∷ 0x88 ∷ []
 
--- two pixel rows in a line; a last row without another stands over light pixels
-abbrev pub dense_text : {P : Type 0} → (P → Bool) → Raster P → List ℕ
-dense_text is_dark r = lines_text r.across (map (λ i. flat_map (λ x. half_blocks (is_dark (pixel_at r x (2 * i))) (nat_lt (2 * i + 1) r.down && is_dark (pixel_at r x (2 * i + 1)))) (range_with_len 0 r.across)) (range_with_len 0 ((r.down + 1) / 2)))
+-- the character of two marks, one above the other, where marked pixels are drawn dark or not and others dark or not
+abbrev pub column_text : Bool → Bool → Bool → Bool → List ℕ
+column_text marked other upper lower = half_blocks (if upper then marked else other) (if lower then marked else other)
 
--- the channels of a pixel, given by their number and the value of each
-abbrev pub channels : {P : Type 0} → ℕ → (P → ℕ → ℕ) → P → List ℕ
-channels number value pixel = map (value pixel) (range_with_len 0 number)
+-- the characters of two rows, column by column
+abbrev pub columns_text : (Bool → Bool → List ℕ) → List Bool → List Bool → List ℕ
+columns_text text upper lower =
+    flat_map (λ x. text (slice_index_or upper x false) (slice_index_or lower x false)) (range_with_len 0 (length upper))
 
--- each pixel's channels, row by row
-abbrev pub raw_bytes : {P : Type 0} → (P → List ℕ) → Raster P → List ℕ
-raw_bytes channels r = flat_map channels r.pixels
+-- a line of two rows, or of a last row alone, which stands over light pixels
+abbrev pub dense_line : Bool → Bool → Bitmap → ℕ → List ℕ
+dense_line marked other b i =
+    if nat_lt (2 * i + 1) b.down
+    then columns_text (column_text marked other) (row_of b (2 * i)) (row_of b (2 * i + 1))
+    else marks_text (half_blocks marked false) (half_blocks other false) (row_of b (2 * i))
+
+-- a line for every two rows
+unfoldable pub dense_text : Bool → Bool → Bitmap → List ℕ
+dense_text marked other b = lines_text b.across (map (dense_line marked other b) (range_with_len 0 ((b.down + 1) / 2)))
+
+-- the bytes of the pixels, row by row
+abbrev pub raw_bytes : List ℕ → List ℕ → Bitmap → List ℕ
+raw_bytes dark light b = marks_text dark light b.marks

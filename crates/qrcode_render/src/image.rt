@@ -1,15 +1,15 @@
 //! Pictures as rows of pixels, each of one or more bytes.
 
 ghost use Rattle.std.proofs.Common.{rules};
-ghost use Rattle.std.specs.Prelude.{◌≡◌, ℕ, ◌+◌, ◌*◌, ◌<◌, [], ◌∷◌, ◌++◌, IfOk, OnOk, IsOkUnless, slice_index, flat_map, if◌then◌else◌};
+ghost use Rattle.std.specs.Prelude.{◌≡◌, ℕ, ◌+◌, ◌*◌, ◌<◌, List, [], ◌∷◌, ◌++◌, IfOk, OnOk, IsOkUnless};
 ghost use Rattle.qrcode_types.specs.declared.types.QrError.TheVariants.{OutOfMemory};
 ghost use Rattle.qrcode_types.specs.Colors.{select_of};
-ghost use Rattle.qrcode_render.specs.Drawn.{filled};
-ghost use Rattle.qrcode_render.specs.Picture.{Raster, blank, with_dark_pixel};
-ghost use Rattle.qrcode_render.specs.Texts.{channels};
+ghost use Rattle.qrcode_types.specs.declared.types.Color.{Color};
+ghost use Rattle.qrcode_render.specs.Texts.{marks_text};
 
 use crate::Pixel;
-use crate::sheet::Sheet;
+use crate::marks::Marks;
+use crate::sheet::{Ending, Sheet};
 use qrcode_types::types::{Color, QrError, QrResult};
 use std::alloc::Global;
 use std::marker::PhantomData;
@@ -30,158 +30,97 @@ pub struct Rgb(pub [u8; 3]);
 #[derive(Copy, Clone, PartialEq, Eq)]
 pub struct Rgba(pub [u8; 4]);
 
-/// The bytes of a pixel.
+/// A pixel of one or more bytes.
 pub trait Channels: Copy {
-    ghost number: { ℕ };
+    ghost bytes: { Self → List ℕ };
 
-    ghost value: { Self → ℕ → ℕ };
+    // The bytes of a colour unless said otherwise.
+    ghost default_bytes: { Color → List ℕ };
 
-    /// How many bytes each pixel has.
-    fn count() -> usize
-        ensures { result ≡ number };
+    /// What stands for a colour unless said otherwise: black for dark and white for light, opaque.
+    fn of_color(color: Color) -> Self
+        ensures { bytes result ≡ default_bytes color };
 
-    /// The byte of a number, counted from 0.
-    fn channel(self, i: usize) -> u8
-        requires { i < number }
-        ensures { result ≡ value self i };
+    /// The bytes of the pixel.
+    fn channels(&self) -> &[u8]
+        ensures { result.now ≡ bytes self.now };
 }
 
 impl Channels for Luma {
-    ghost number = { 1 };
+    ghost bytes = { λ pixel. pixel.0 };
 
-    ghost value = { λ pixel i. slice_index pixel.0 i };
+    ghost default_bytes = { λ c. select_of c 0 255 ∷ [] };
 
-    fn count() -> usize {
-        1
-    }
-
-    fn channel(self, i: usize) -> u8 {
-        self.0[i]
-    }
-}
-
-impl Pixel for Luma {
-    type Image = ImageBuffer<Luma>;
-
-    type Canvas = Canvas<Luma>;
-
-    ghost unit = { (8, 8) };
-
-    ghost unit_positive = { Prim.search rules };
-
-    ghost is_default_color = { λ c pixel. pixel.0 ≡ select_of c 0 255 ∷ [] };
-
-    fn default_unit_size() -> (u32, u32) {
-        (8, 8)
-    }
-
-    fn default_color(color: Color) -> Luma {
+    fn of_color(color: Color) -> Luma {
         Luma([color.select(0, 255)])
+    }
+
+    fn channels(&self) -> &[u8] {
+        &self.0
     }
 }
 
 impl Channels for LumaA {
-    ghost number = { 2 };
+    ghost bytes = { λ pixel. pixel.0 };
 
-    ghost value = { λ pixel i. slice_index pixel.0 i };
+    ghost default_bytes = { λ c. select_of c 0 255 ∷ 255 ∷ [] };
 
-    fn count() -> usize {
-        2
+    fn of_color(color: Color) -> LumaA {
+        LumaA([color.select(0, 255), 255])
     }
 
-    fn channel(self, i: usize) -> u8 {
-        self.0[i]
-    }
-}
-
-impl Pixel for LumaA {
-    type Image = ImageBuffer<LumaA>;
-
-    type Canvas = Canvas<LumaA>;
-
-    ghost unit = { (8, 8) };
-
-    ghost unit_positive = { Prim.search rules };
-
-    ghost is_default_color = { λ c pixel. pixel.0 ≡ select_of c 0 255 ∷ 255 ∷ [] };
-
-    fn default_unit_size() -> (u32, u32) {
-        (8, 8)
-    }
-
-    fn default_color(color: Color) -> LumaA {
-        let grey = color.select(0, 255);
-        LumaA([grey, 255])
+    fn channels(&self) -> &[u8] {
+        &self.0
     }
 }
 
 impl Channels for Rgb {
-    ghost number = { 3 };
+    ghost bytes = { λ pixel. pixel.0 };
 
-    ghost value = { λ pixel i. slice_index pixel.0 i };
+    ghost default_bytes = { λ c. select_of c 0 255 ∷ select_of c 0 255 ∷ select_of c 0 255 ∷ [] };
 
-    fn count() -> usize {
-        3
-    }
-
-    fn channel(self, i: usize) -> u8 {
-        self.0[i]
-    }
-}
-
-impl Pixel for Rgb {
-    type Image = ImageBuffer<Rgb>;
-
-    type Canvas = Canvas<Rgb>;
-
-    ghost unit = { (8, 8) };
-
-    ghost unit_positive = { Prim.search rules };
-
-    ghost is_default_color = { λ c pixel. pixel.0 ≡ select_of c 0 255 ∷ select_of c 0 255 ∷ select_of c 0 255 ∷ [] };
-
-    fn default_unit_size() -> (u32, u32) {
-        (8, 8)
-    }
-
-    fn default_color(color: Color) -> Rgb {
+    fn of_color(color: Color) -> Rgb {
         let grey = color.select(0, 255);
         Rgb([grey, grey, grey])
+    }
+
+    fn channels(&self) -> &[u8] {
+        &self.0
     }
 }
 
 impl Channels for Rgba {
-    ghost number = { 4 };
+    ghost bytes = { λ pixel. pixel.0 };
 
-    ghost value = { λ pixel i. slice_index pixel.0 i };
+    ghost default_bytes = { λ c. select_of c 0 255 ∷ select_of c 0 255 ∷ select_of c 0 255 ∷ 255 ∷ [] };
 
-    fn count() -> usize {
-        4
+    fn of_color(color: Color) -> Rgba {
+        let grey = color.select(0, 255);
+        Rgba([grey, grey, grey, 255])
     }
 
-    fn channel(self, i: usize) -> u8 {
-        self.0[i]
+    fn channels(&self) -> &[u8] {
+        &self.0
     }
 }
 
-impl Pixel for Rgba {
-    type Image = ImageBuffer<Rgba>;
+impl<P: Channels> Pixel for P {
+    type Image = ImageBuffer<P>;
 
-    type Canvas = Canvas<Rgba>;
+    type Canvas = Canvas<P>;
 
     ghost unit = { (8, 8) };
 
     ghost unit_positive = { Prim.search rules };
 
-    ghost is_default_color = { λ c pixel. pixel.0 ≡ select_of c 0 255 ∷ select_of c 0 255 ∷ select_of c 0 255 ∷ 255 ∷ [] };
+    ghost is_default_color = { λ c pixel. P.bytes pixel ≡ P.default_bytes c };
 
     fn default_unit_size() -> (u32, u32) {
         (8, 8)
     }
 
-    fn default_color(color: Color) -> Rgba {
-        let grey = color.select(0, 255);
-        Rgba([grey, grey, grey, 255])
+    fn default_color(color: Color) -> P {
+        P::of_color(color)
     }
 }
 
@@ -213,101 +152,27 @@ impl<P> ImageBuffer<P> {
 }
 
 /// Rows of pixels while they are drawn.
-#[derive(Drop)]
-pub struct Canvas<P> {
-    sheet: Sheet<P>,
-}
+pub type Canvas<P> = Sheet<P, Rows>;
 
-// Appends the bytes of a pixel.
-fn push_pixel<P: Channels>(raw: &mut Vec<u8>, pixel: P) -> QrResult<()>
-    ensures bytes { OnOk result (raw.new.items ≡ raw.old.items ++ channels P.number P.value pixel) }
-    ensures memory { IsOkUnless result OutOfMemory }
-{
-    for i in 0..P::count() {
-        raw.push(pixel.channel(i))?;
-    }
-    Ok(())
-}
+/// Ends rows of pixels as their bytes.
+#[derive(Copy, Clone)]
+pub struct Rows;
 
-// The bytes of the pixels that stand for marks.
-fn bytes_of<P: Channels>(alloc: Global, marks: &[bool], dark: P, light: P) -> QrResult<Vec<u8>>
-    ensures bytes { IfOk result (λ raw. raw.items ≡ flat_map (λ m. channels P.number P.value (if m then dark else light)) marks.now) }
-    ensures memory { IsOkUnless result OutOfMemory }
-{
-    let room = marks
-        .len()
-        .checked_mul(P::count())
-        .ok_or(QrError::OutOfMemory)?;
-    let mut raw = Vec::with_capacity(alloc, room)?;
-    for mark in marks {
-        push_pixel(&mut raw, if *mark { dark } else { light })?;
-    }
-    Ok(raw)
-}
-
-impl<P: Channels> crate::Canvas for Canvas<P> {
-    ghost use Rattle.qrcode_render.specs.SheetOf.{raster};
+impl<P: Channels> Ending<P> for Rows {
     ghost use Rattle.qrcode_render.specs.Shown.{IsBufferOf};
-
-    type Pixel = P;
 
     type Image = ImageBuffer<P>;
 
-    ghost Drawing = { Raster P };
+    ghost is_image = { λ b dark light. IsBufferOf (P.bytes dark) (P.bytes light) b };
 
-    ghost shown = { λ canvas. raster canvas.sheet };
-
-    ghost across = { λ canvas. canvas.sheet.marks.width };
-
-    ghost down = { λ canvas. canvas.sheet.marks.height };
-
-    ghost start = { blank };
-
-    ghost pixel_step = { with_dark_pixel };
-
-    ghost rect_step = { filled with_dark_pixel };
-
-    ghost is_end = { IsBufferOf (channels P.number P.value) };
-
-    ghost sides_fit = { λ canvas. (canvas.sheet.marks.width_fits, canvas.sheet.marks.height_fits) };
-
-    fn new(
-        alloc: Global,
-        width: u32,
-        height: u32,
-        dark_pixel: P,
-        light_pixel: P,
-    ) -> QrResult<Canvas<P>> {
-        let sheet = Sheet::new(alloc, width, height, dark_pixel, light_pixel)?;
-        Ok(Canvas { sheet })
-    }
-
-    fn draw_dark_pixel(&mut self, x: u32, y: u32) -> QrResult<()> {
-        self.sheet.put(x, y);
-        Ok(())
-    }
-
-    fn draw_dark_rect(&mut self, left: u32, top: u32, width: u32, height: u32) -> QrResult<()> {
-        self.sheet.put_rect(left, top, width, height);
-        Ok(())
-    }
-
-    fn draw_dark_modules(
-        &mut self,
-        line: &[Color],
-        left: u32,
-        top: u32,
-        width: u32,
-        height: u32,
-    ) -> QrResult<()> {
-        self.sheet.put_modules(line, left, top, width, height);
-        Ok(())
-    }
-
-    fn into_image(self) -> QrResult<ImageBuffer<P>> {
-        let Sheet { marks, dark, light } = self.sheet;
+    fn image(marks: Marks, dark: P, light: P) -> QrResult<ImageBuffer<P>> {
         let (width, height) = marks.sides();
-        let raw = bytes_of(marks.alloc(), marks.as_slice(), dark, light)?;
+        let raw = bytes_of(
+            marks.alloc(),
+            marks.as_slice(),
+            dark.channels(),
+            light.channels(),
+        )?;
         Ok(ImageBuffer {
             width,
             height,
@@ -315,4 +180,18 @@ impl<P: Channels> crate::Canvas for Canvas<P> {
             of: PhantomData,
         })
     }
+}
+
+// The bytes of the pixels that stand for marks.
+fn bytes_of(alloc: Global, marks: &[bool], dark: &[u8], light: &[u8]) -> QrResult<Vec<u8>>
+    ensures bytes { IfOk result (λ raw. raw.items ≡ marks_text dark.now light.now marks.now) }
+    ensures memory { IsOkUnless result OutOfMemory }
+{
+    let longer = dark.len().max(light.len());
+    let room = marks.len().checked_mul(longer).ok_or(QrError::OutOfMemory)?;
+    let mut raw = Vec::with_capacity(alloc, room)?;
+    for mark in marks {
+        raw.extend_from_slice(if *mark { dark } else { light })?;
+    }
+    Ok(raw)
 }

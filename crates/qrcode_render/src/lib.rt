@@ -1,16 +1,13 @@
 //! Pictures of a symbol: text, half blocks, SVG, PIC and rows of pixels.
 #![tactic(auto)]
 
-ghost use Rattle.std.specs.Prelude.{◌≡◌, ℕ, ◌+◌, ◌-◌, ◌*◌, ◌^◌, ◌<◌, ◌≤◌, List, length, fold, IfOk, OnOk, IsOkUnless, IsTrue, true, max};
+ghost use Rattle.std.specs.Prelude.{◌≡◌, ℕ, ◌+◌, ◌-◌, ◌*◌, ◌^◌, ◌<◌, ◌≤◌, length, fold, IfOk, OnOk, IsOkUnless, IsTrue, max, if◌then◌else◌};
 ghost use Rattle.qrcode_types.specs.declared.types.QrError.TheVariants.{OutOfMemory};
 ghost use Rattle.qrcode_types.specs.declared.types.Color.{Color};
 ghost use Rattle.std.specs.List.{range_with_len};
 ghost use Rattle.qrcode_render.specs.Drawn.{drawn, drawn_row, filled};
-ghost use Rattle.qrcode_render.specs.Layout.{Layout, modules_across, PixelsFit};
-ghost use Rattle.qrcode_render.specs.LayoutOf.{layout};
-ghost use Rattle.qrcode_render.specs.Picture.{blank, picture, with_dark_pixel};
-ghost use Rattle.qrcode_render.specs.Texts.{text_of};
-ghost use Rattle.qrcode_render.specs.Setting.{Setting, IsWhole, layout_of, side_of, fits, drawing_of, least_size, greatest_size, IsLeastSize, IsGreatestSize};
+ghost use Rattle.qrcode_render.specs.Layout.{layout};
+ghost use Rattle.qrcode_render.specs.Setting.{Setting, IsWhole, HasPixels, side_of, fits, drawing_of, least_size, greatest_size, IsLeastSize, IsGreatestSize};
 
 use qrcode_types::types::{Color, QrResult};
 use std::alloc::Global;
@@ -81,7 +78,11 @@ pub trait Canvas: Drop {
     // The image is what a drawing ends as.
     ghost is_end: { Drawing → Self.Image → Type 0 };
 
-    /// A canvas of light pixels, of a width and a height in pixels.
+    // The image is the picture of what a renderer is set to: what `drawing_of start rect_step` ends
+    // as, or what can be said of that in simpler words.
+    ghost is_picture: { Setting Self.Pixel → Self.Image → Type 0 };
+
+    /// A canvas of light pixels, of a width and a height in pixels. Refuses with `OutOfMemory` alone.
     fn new(
         alloc: Global,
         width: u32,
@@ -89,32 +90,36 @@ pub trait Canvas: Drop {
         dark_pixel: Self::Pixel,
         light_pixel: Self::Pixel,
     ) -> QrResult<Self>
-        ensures starts { IfOk result (λ canvas. shown canvas ≡ start width height dark_pixel light_pixel) }
-        ensures wide { IfOk result (λ canvas. across canvas ≡ width) }
-        ensures high { IfOk result (λ canvas. down canvas ≡ height) }
+        ensures starts { IfOk result (λ canvas.
+            shown canvas ≡ start width height dark_pixel light_pixel) }
+        ensures across { IfOk result (λ canvas. across canvas ≡ width) }
+        ensures down { IfOk result (λ canvas. down canvas ≡ height) }
         ensures memory { IsOkUnless result OutOfMemory };
 
-    /// Draws the dark pixel in column `x` and row `y`, each counted from 0 at the upper left.
+    /// Draws the dark pixel in column `x` and row `y`, each counted from 0 at the upper left, and
+    /// inside. Refuses with `OutOfMemory` alone.
     fn draw_dark_pixel(&mut self, x: u32, y: u32) -> QrResult<()>
         requires inside_across { x < across self.old }
         requires inside_down { y < down self.old }
         ensures draws { OnOk result (shown self.new ≡ pixel_step x y (shown self.old)) }
-        ensures wide { OnOk result (across self.new ≡ across self.old) }
-        ensures high { OnOk result (down self.new ≡ down self.old) }
+        ensures across { OnOk result (across self.new ≡ across self.old) }
+        ensures down { OnOk result (down self.new ≡ down self.old) }
         ensures memory { IsOkUnless result OutOfMemory };
 
-    /// Draws a rectangle of dark pixels, given by its first column and row and its sides in pixels.
+    /// Draws a rectangle of dark pixels, given by its first column and row and its sides in pixels,
+    /// and inside. Refuses with `OutOfMemory` alone.
     fn draw_dark_rect(&mut self, left: u32, top: u32, width: u32, height: u32) -> QrResult<()>
         requires inside_across { left + width ≤ across self.old }
         requires inside_down { top + height ≤ down self.old }
-        ensures draws { OnOk result (shown self.new ≡ rect_step left top width height (shown self.old)) }
-        ensures wide { OnOk result (across self.new ≡ across self.old) }
-        ensures high { OnOk result (down self.new ≡ down self.old) }
+        ensures draws { OnOk result
+            (shown self.new ≡ rect_step left top width height (shown self.old)) }
+        ensures across { OnOk result (across self.new ≡ across self.old) }
+        ensures down { OnOk result (down self.new ≡ down self.old) }
         ensures memory { IsOkUnless result OutOfMemory };
 
     /// Draws the dark modules of a row of modules, each `width` by `height` pixels, the first with
-    /// its first pixel in column `left` and row `top`. A canvas that can draw a row at once has a
-    /// body of its own.
+    /// its first pixel in column `left` and row `top`, and all inside. A canvas that can draw a row at
+    /// once has a body of its own. Refuses with `OutOfMemory` alone.
     fn draw_dark_modules(
         &mut self,
         line: &[Color],
@@ -125,9 +130,10 @@ pub trait Canvas: Drop {
     ) -> QrResult<()>
         requires inside_across { left + length line.now * width ≤ across self.old }
         requires inside_down { top + height ≤ down self.old }
-        ensures draws { OnOk result (shown self.new ≡ drawn_row rect_step left top width height line.now (shown self.old)) }
-        ensures wide { OnOk result (across self.new ≡ across self.old) }
-        ensures high { OnOk result (down self.new ≡ down self.old) }
+        ensures draws { OnOk result (shown self.new
+            ≡ drawn_row rect_step left top width height line.now (shown self.old)) }
+        ensures across { OnOk result (across self.new ≡ across self.old) }
+        ensures down { OnOk result (down self.new ≡ down self.old) }
         ensures memory { IsOkUnless result OutOfMemory }
     {
         let mut x = left;
@@ -141,15 +147,20 @@ pub trait Canvas: Drop {
         Ok(())
     }
 
-    /// The picture.
+    /// The picture. Refuses with `OutOfMemory` alone.
     fn into_image(self) -> QrResult<Self::Image>
         ensures ends { IfOk result (is_end (shown self)) }
-        ensures memory { IsOkUnless result OutOfMemory };
+        ensures memory { IsOkUnless result OutOfMemory }
+
+        // What a renderer draws ends as its picture.
+        ensures picture { (s : Setting Self.Pixel) → IsWhole s
+            → shown self ≡ drawing_of start rect_step s → IfOk result (is_picture s) };
 
     ghost sides_fit: { (canvas : Self) → (across canvas < 2 ^ 32) × (down canvas < 2 ^ 32) };
 }
 
-/// Draws the dark pixels of a rectangle one by one, row by row.
+/// Draws the dark pixels of a rectangle inside one by one, row by row. Refuses with `OutOfMemory`
+/// alone.
 #[tactic(auto, using(crate::proofs::Folds::fold_range_more))]
 pub fn fill_rect<C: Canvas>(
     canvas: &mut C,
@@ -160,9 +171,10 @@ pub fn fill_rect<C: Canvas>(
 ) -> QrResult<()>
     requires inside_across { left + width ≤ C.across canvas.old }
     requires inside_down { top + height ≤ C.down canvas.old }
-    ensures draws { OnOk result (C.shown canvas.new ≡ filled C.pixel_step left top width height (C.shown canvas.old)) }
-    ensures wide { OnOk result (C.across canvas.new ≡ C.across canvas.old) }
-    ensures high { OnOk result (C.down canvas.new ≡ C.down canvas.old) }
+    ensures draws { OnOk result (C.shown canvas.new
+        ≡ filled C.pixel_step left top width height (C.shown canvas.old)) }
+    ensures across { OnOk result (C.across canvas.new ≡ C.across canvas.old) }
+    ensures down { OnOk result (C.down canvas.new ≡ C.down canvas.old) }
     ensures memory { IsOkUnless result OutOfMemory }
 {
     for row in 0..height {
@@ -176,9 +188,10 @@ pub fn fill_rect<C: Canvas>(
 fn fill_row<C: Canvas>(canvas: &mut C, left: u32, y: u32, width: u32) -> QrResult<()>
     requires inside_across { left + width ≤ C.across canvas.old }
     requires inside_down { y < C.down canvas.old }
-    ensures draws { OnOk result (C.shown canvas.new ≡ fold (λ d x. C.pixel_step x y d) (C.shown canvas.old) (range_with_len left width)) }
-    ensures wide { OnOk result (C.across canvas.new ≡ C.across canvas.old) }
-    ensures high { OnOk result (C.down canvas.new ≡ C.down canvas.old) }
+    ensures draws { OnOk result (C.shown canvas.new
+        ≡ fold (λ d x. C.pixel_step x y d) (C.shown canvas.old) (range_with_len left width)) }
+    ensures across { OnOk result (C.across canvas.new ≡ C.across canvas.old) }
+    ensures down { OnOk result (C.down canvas.new ≡ C.down canvas.old) }
     ensures memory { IsOkUnless result OutOfMemory }
 {
     for column in 0..width {
@@ -187,51 +200,31 @@ fn fill_row<C: Canvas>(canvas: &mut C, left: u32, y: u32, width: u32) -> QrResul
     Ok(())
 }
 
-// Where modules stand: the modules along a side, those of the quiet zone at each side, and the
-// pixels of a module.
-#[derive(Clone, Copy)]
-struct Places {
+// Draws the dark modules of a square row by row, behind a quiet zone.
+fn draw_modules<C: Canvas>(
+    canvas: &mut C,
+    content: &[Color],
     count: u32,
     zone: u32,
-    across: u32,
-    down: u32,
-}
-
-// Draws the dark modules, row by row.
-fn draw_modules<C: Canvas>(canvas: &mut C, at: Places, content: &[Color]) -> QrResult<()>
-    requires square { length content.now ≡ at.count * at.count }
-    requires across { C.across canvas.old ≡ modules_across (layout at) * at.across }
-    requires down { C.down canvas.old ≡ modules_across (layout at) * at.down }
-    requires fits { PixelsFit (layout at) }
-    ensures draws { OnOk result (C.shown canvas.new ≡ drawn C.rect_step (layout at) content.now (C.shown canvas.old)) }
+    width: u32,
+    height: u32,
+) -> QrResult<()>
+    requires square { length content.now ≡ count * count }
+    requires side_fits { count + 2 * zone < 2 ^ 32 }
+    requires across { C.across canvas.old ≡ (count + 2 * zone) * width }
+    requires down { C.down canvas.old ≡ (count + 2 * zone) * height }
+    ensures draws { OnOk result (C.shown canvas.new ≡ drawn C.rect_step
+        (layout count zone width height) content.now (C.shown canvas.old)) }
     ensures memory { IsOkUnless result OutOfMemory }
 {
-    let count = at.count as usize;
-    for row in 0..at.count {
-        let start = row as usize * count;
-        let left = at.zone * at.across;
-        let top = (row + at.zone) * at.down;
-        let line = &content[start..start + count];
-        canvas.draw_dark_modules(line, left, top, at.across, at.down)?;
+    let left = zone * width;
+    for row in 0..count {
+        let start = row as usize * count as usize;
+        let line = &content[start..start + count as usize];
+        canvas.draw_dark_modules(line, left, (row + zone) * height, width, height)?;
     }
     Ok(())
 }
-
-/// The law of pictures: on light pixels the rectangles of the dark modules make the picture, in
-/// which a pixel is dark where its module is inside and dark; and where pixels are texts, the text of a
-/// picture is the same for all pixels of these texts. A call does nothing.
-pub fn rectangles_make_pictures<P: Copy>()
-    ensures pictures { (at : Layout) (content : List Color) (dark light : P) → length content ≡ at.count * at.count → 1 ≤ at.across → 1 ≤ at.down
-        → drawn (filled with_dark_pixel) at content (blank (modules_across at * at.across) (modules_across at * at.down) dark light) ≡ picture at content dark light }
-    ensures texts { (text : P → List ℕ) (at : Layout) (content : List Color) (dark light : P)
-        → text_of text (picture at content dark light) ≡ text_of (λ t. t) (picture at content (text dark) (text light)) }
-{}
-
-/// The law of renderers: whatever it is set to, the rectangles that a renderer draws on light pixels
-/// make its picture. A call does nothing.
-pub fn renderers_make_pictures<P: Copy>()
-    ensures { (s : Setting P) → IsWhole s → drawing_of blank (filled with_dark_pixel) s ≡ picture (layout_of s) s.content s.dark s.light }
-{}
 
 /// Draws pictures of a square of modules, as it is set.
 #[derive(Drop)]
@@ -243,7 +236,7 @@ pub struct Renderer<'a, P> {
     module_height: u32,
     dark_color: P,
     light_color: P,
-    has_quiet_zone: bool,
+    whole_quiet_zone: u32,
 }
 
 impl<'a, P> Model for Renderer<'a, P> {
@@ -252,9 +245,19 @@ impl<'a, P> Model for Renderer<'a, P> {
 
     ghost Value = { Setting P };
 
-    ghost view = { λ r. record { content = r.content.now; count = r.modules_count; zone = r.quiet_zone; across = r.module_width; down = r.module_height; dark = r.dark_color; light = r.light_color; has_zone = r.has_quiet_zone } };
+    ghost view = { λ r. record {
+      content = r.content.now;
+      count = r.modules_count;
+      zone = r.quiet_zone;
+      across = r.module_width;
+      down = r.module_height;
+      dark = r.dark_color;
+      light = r.light_color;
+      whole_zone = r.whole_quiet_zone;
+    } };
 
-    ghost invariant = { λ r. (length r.content.now ≡ r.modules_count * r.modules_count) × (1 ≤ r.module_width) × (1 ≤ r.module_height) };
+    ghost invariant = { λ r. (length r.content.now ≡ r.modules_count * r.modules_count)
+        × (1 ≤ r.module_width) × (1 ≤ r.module_height) };
 }
 
 impl<'a, P: Pixel> Renderer<'a, P> {
@@ -263,11 +266,11 @@ impl<'a, P: Pixel> Renderer<'a, P> {
     /// and the colours are those that the pixel has by default.
     pub fn new(content: &'a [Color], modules_count: usize, quiet_zone: u32) -> Renderer<'a, P>
         requires square { length content.now ≡ modules_count * modules_count }
-        requires small { modules_count < 2 ^ 32 }
+        requires at_most { modules_count < 2 ^ 32 }
         ensures content { result.content ≡ content.now }
         ensures count { result.count ≡ modules_count }
         ensures zone { result.zone ≡ quiet_zone }
-        ensures on { result.has_zone ≡ true }
+        ensures whole_zone { result.whole_zone ≡ quiet_zone }
         ensures across { result.across ≡ P.unit.0 }
         ensures down { result.down ≡ P.unit.1 }
         ensures dark { P.is_default_color Color.Dark result.dark }
@@ -282,7 +285,7 @@ impl<'a, P: Pixel> Renderer<'a, P> {
             module_height,
             dark_color: P::default_color(Color::Dark),
             light_color: P::default_color(Color::Light),
-            has_quiet_zone: true,
+            whole_quiet_zone: quiet_zone,
         }
     }
 
@@ -307,16 +310,27 @@ impl<'a, P: Pixel> Renderer<'a, P> {
     /// Switches the quiet zone on or off. Sizes of modules that were set before stay.
     pub fn quiet_zone(&mut self, has_quiet_zone: bool) -> &mut Self
         ensures same { result.ghost_name ≡ self.entry.ghost_name }
-        ensures sets { result.now ≡ record self.old { has_zone = has_quiet_zone } }
+        ensures sets { result.now ≡ record self.old {
+          zone = if has_quiet_zone then self.old.whole_zone else 0;
+        } }
     {
-        self.has_quiet_zone = has_quiet_zone;
+        self.quiet_zone = if has_quiet_zone {
+            self.whole_quiet_zone
+        } else {
+            0
+        };
         self
     }
 
     /// Sets the pixels of a module across and down, each raised to at least 1.
+    ///
+    /// A picture of up to 65,536 modules along a side fits with modules of up to 65,535 pixels.
     pub fn module_dimensions(&mut self, width: u32, height: u32) -> &mut Self
         ensures same { result.ghost_name ≡ self.entry.ghost_name }
-        ensures sets { result.now ≡ record self.old { across = max width 1; down = max height 1 } }
+        ensures sets { result.now
+            ≡ record self.old { across = max width 1; down = max height 1 } }
+        ensures fits { side_of self.old ≤ 2 ^ 16 → width < 2 ^ 16 → height < 2 ^ 16
+            → IsTrue (fits result.now) }
     {
         self.module_width = width.max(1);
         self.module_height = height.max(1);
@@ -324,9 +338,13 @@ impl<'a, P: Pixel> Renderer<'a, P> {
     }
 
     /// Sets the pixels of a module across and down to the same number, raised to at least 1.
+    ///
+    /// A picture of up to 65,536 modules along a side fits with modules of up to 65,535 pixels.
     pub fn module_size(&mut self, width: u32) -> &mut Self
         ensures same { result.ghost_name ≡ self.entry.ghost_name }
-        ensures sets { result.now ≡ record self.old { across = max width 1; down = max width 1 } }
+        ensures sets { result.now
+            ≡ record self.old { across = max width 1; down = max width 1 } }
+        ensures fits { side_of self.old ≤ 2 ^ 16 → width < 2 ^ 16 → IsTrue (fits result.now) }
     {
         self.module_dimensions(width, width)
     }
@@ -336,24 +354,28 @@ impl<'a, P: Pixel> Renderer<'a, P> {
         requires { side_of self.now < 2 ^ 32 }
         ensures { result ≡ side_of self.now }
     {
-        if self.has_quiet_zone {
-            self.modules_count + 2 * self.quiet_zone
-        } else {
-            self.modules_count
-        }
+        self.modules_count + 2 * self.quiet_zone
     }
 
     /// Sets the least size of a module with which the picture has at least so many pixels across
-    /// and down, with the quiet zone where it is on at this call.
+    /// and down, with the quiet zone where it is on at this call. The picture fits then.
+    ///
+    /// The picture has a module, and its modules along a side and the pixels asked for are together
+    /// at most 4,294,967,296.
+    #[tactic(auto, using(crate::proofs::Sizes::is_least_size))]
     pub fn min_dimensions(&mut self, width: u32, height: u32) -> &mut Self
         requires some { 1 ≤ side_of self.old }
-        requires fits { side_of self.old < 2 ^ 32 }
-        requires across { width + side_of self.old - 1 < 2 ^ 32 }
-        requires down { height + side_of self.old - 1 < 2 ^ 32 }
+        requires side_fits { side_of self.old < 2 ^ 32 }
+        requires across_fits { width + side_of self.old - 1 < 2 ^ 32 }
+        requires down_fits { height + side_of self.old - 1 < 2 ^ 32 }
         ensures same { result.ghost_name ≡ self.entry.ghost_name }
-        ensures sets { result.now ≡ record self.old { across = least_size (side_of self.old) width; down = least_size (side_of self.old) height } }
+        ensures sets { result.now ≡ record self.old {
+          across = least_size (side_of self.old) width;
+          down = least_size (side_of self.old) height;
+        } }
         ensures least_across { IsLeastSize (side_of self.old) width result.now.across }
         ensures least_down { IsLeastSize (side_of self.old) height result.now.down }
+        ensures fits { IsTrue (fits result.now) }
     {
         let side = self.side();
         let more = side - 1;
@@ -361,27 +383,42 @@ impl<'a, P: Pixel> Renderer<'a, P> {
     }
 
     /// Sets the least size of a module with which the picture has at least so many pixels across
-    /// and down alike.
+    /// and down alike. The picture fits then.
+    ///
+    /// The picture has a module, and its modules along a side and the pixels asked for are together
+    /// at most 4,294,967,296.
     pub fn min_width(&mut self, width: u32) -> &mut Self
         requires some { 1 ≤ side_of self.old }
-        requires fits { side_of self.old < 2 ^ 32 }
-        requires across { width + side_of self.old - 1 < 2 ^ 32 }
+        requires side_fits { side_of self.old < 2 ^ 32 }
+        requires across_fits { width + side_of self.old - 1 < 2 ^ 32 }
         ensures same { result.ghost_name ≡ self.entry.ghost_name }
-        ensures sets { result.now ≡ record self.old { across = least_size (side_of self.old) width; down = least_size (side_of self.old) width } }
+        ensures sets { result.now ≡ record self.old {
+          across = least_size (side_of self.old) width;
+          down = least_size (side_of self.old) width;
+        } }
         ensures least { IsLeastSize (side_of self.old) width result.now.across }
+        ensures fits { IsTrue (fits result.now) }
     {
         self.min_dimensions(width, width)
     }
 
     /// Sets the greatest size of a module with which the picture has at most so many pixels across
-    /// and down, or 1 where no size has, with the quiet zone where it is on at this call.
+    /// and down, or 1 where no size has, with the quiet zone where it is on at this call. The picture
+    /// fits then.
+    ///
+    /// The picture has a module, and at most 4,294,967,295 along a side.
+    #[tactic(auto, using(crate::proofs::Sizes::is_greatest_size))]
     pub fn max_dimensions(&mut self, width: u32, height: u32) -> &mut Self
         requires some { 1 ≤ side_of self.old }
-        requires fits { side_of self.old < 2 ^ 32 }
+        requires side_fits { side_of self.old < 2 ^ 32 }
         ensures same { result.ghost_name ≡ self.entry.ghost_name }
-        ensures sets { result.now ≡ record self.old { across = greatest_size (side_of self.old) width; down = greatest_size (side_of self.old) height } }
+        ensures sets { result.now ≡ record self.old {
+          across = greatest_size (side_of self.old) width;
+          down = greatest_size (side_of self.old) height;
+        } }
         ensures greatest_across { IsGreatestSize (side_of self.old) width result.now.across }
         ensures greatest_down { IsGreatestSize (side_of self.old) height result.now.down }
+        ensures fits { IsTrue (fits result.now) }
     {
         let side = self.side();
         self.module_dimensions(width / side, height / side)
@@ -392,54 +429,56 @@ impl<'a, P: Pixel> Renderer<'a, P> {
     pub fn fits(&self) -> bool
         ensures { result ≡ fits self.now }
     {
-        let zone = if self.has_quiet_zone {
-            2 * self.quiet_zone as u64
-        } else {
-            0
-        };
-        let side = self.modules_count as u64 + zone;
+        let side = self.modules_count as u64 + 2 * self.quiet_zone as u64;
         side < 1 << 32
             && side * (self.module_width as u64) < 1 << 32
             && side * (self.module_height as u64) < 1 << 32
     }
 
     /// The picture. Its sides are the modules along a side, with the quiet zone where it is on,
-    /// times the pixels of a module. Refuses with `OutOfMemory` alone.
+    /// times the pixels of a module; they fit, as `fits` tells. Refuses with `OutOfMemory` alone.
     pub fn build(&self, alloc: Global) -> QrResult<P::Image>
         requires { IsTrue (fits self.now) }
-        ensures whole { IsWhole self.now }
-        ensures picture { IfOk result (P.Canvas.is_end (drawing_of P.Canvas.start P.Canvas.rect_step self.now)) }
+        ensures picture { IfOk result (P.Canvas.is_picture self.now) }
         ensures memory { IsOkUnless result OutOfMemory }
+
+        // A module or more makes a column and a row of pixels.
+        ensures some { 1 ≤ self.now.count → HasPixels self.now }
+        ensures whole { IsWhole self.now }
+
+        // On any canvas, the picture is what the drawing of the dark modules ends as.
+        ensures ends { IfOk result
+            (P.Canvas.is_end (drawing_of P.Canvas.start P.Canvas.rect_step self.now)) }
     {
-        let zone = if self.has_quiet_zone {
-            self.quiet_zone
-        } else {
-            0
-        };
-        let at = Places {
-            count: self.modules_count,
-            zone,
-            across: self.module_width,
-            down: self.module_height,
-        };
-        let side = at.count + 2 * at.zone;
+        let side = self.side();
+        let (width, height) = (self.module_width, self.module_height);
         let mut canvas = P::Canvas::new(
             alloc,
-            side * at.across,
-            side * at.down,
+            side * width,
+            side * height,
             self.dark_color,
             self.light_color,
         )?;
-        draw_modules(&mut canvas, at, self.content)?;
+        draw_modules(
+            &mut canvas,
+            self.content,
+            self.modules_count,
+            self.quiet_zone,
+            width,
+            height,
+        )?;
         canvas.into_image()
     }
 
     /// The picture, as `build` gives it.
     pub fn to_image(&self, alloc: Global) -> QrResult<P::Image>
         requires { IsTrue (fits self.now) }
-        ensures whole { IsWhole self.now }
-        ensures picture { IfOk result (P.Canvas.is_end (drawing_of P.Canvas.start P.Canvas.rect_step self.now)) }
+        ensures picture { IfOk result (P.Canvas.is_picture self.now) }
         ensures memory { IsOkUnless result OutOfMemory }
+        ensures some { 1 ≤ self.now.count → HasPixels self.now }
+        ensures whole { IsWhole self.now }
+        ensures ends { IfOk result
+            (P.Canvas.is_end (drawing_of P.Canvas.start P.Canvas.rect_step self.now)) }
     {
         self.build(alloc)
     }

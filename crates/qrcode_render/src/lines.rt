@@ -3,8 +3,8 @@
 ghost use Rattle.std.specs.Prelude.{◌≡◌, ◌+◌, ◌*◌, ◌<◌, ◌≤◌, Bool, [], ◌∷◌, ◌++◌, length, take, vec_len, string_bytes, OnOk, IsOkUnless};
 ghost use Rattle.std.specs.Str.{IsUtf8};
 ghost use Rattle.qrcode_types.specs.declared.types.QrError.TheVariants.{OutOfMemory};
-ghost use Rattle.qrcode_render.specs.Lines.{line_start, marks_text};
-ghost use Rattle.qrcode_render.specs.PaletteOf.{two_text};
+ghost use Rattle.qrcode_render.specs.Lines.{line_start, two_text};
+ghost use Rattle.qrcode_render.specs.Texts.{marks_text};
 
 use crate::palette::Palette;
 use qrcode_types::types::QrResult;
@@ -13,7 +13,7 @@ use std::str::from_utf8;
 
 /// Begins a line: a newline stands before each line but the first.
 pub fn begin_line(text: &mut String, y: u32) -> QrResult<()>
-    ensures bytes { OnOk result (string_bytes text.new ≡ string_bytes text.old ++ line_start y) }
+    ensures appends { OnOk result (string_bytes text.new ≡ string_bytes text.old ++ line_start y) }
     ensures memory { IsOkUnless result OutOfMemory }
 {
     if y > 0 {
@@ -24,7 +24,8 @@ pub fn begin_line(text: &mut String, y: u32) -> QrResult<()>
 
 /// Appends the text that stands for each mark.
 pub fn push_ones(text: &mut String, dark: &str, light: &str, marks: &[bool]) -> QrResult<()>
-    ensures bytes { OnOk result (string_bytes text.new ≡ string_bytes text.old ++ marks_text dark.now light.now marks.now) }
+    ensures appends { OnOk result (string_bytes text.new
+        ≡ string_bytes text.old ++ marks_text dark.now light.now marks.now) }
     ensures memory { IsOkUnless result OutOfMemory }
 {
     for mark in marks {
@@ -41,8 +42,10 @@ pub fn push_marks(
     light: &str,
     marks: &[bool],
 ) -> QrResult<()>
-    requires { (a b : Bool) → two_text palette.now a b ≡ marks_text dark.now light.now (a ∷ b ∷ []) }
-    ensures bytes { OnOk result (string_bytes text.new ≡ string_bytes text.old ++ marks_text dark.now light.now marks.now) }
+    requires { (a b : Bool) →
+        two_text palette.now a b ≡ marks_text dark.now light.now (a ∷ b ∷ []) }
+    ensures appends { OnOk result (string_bytes text.new
+        ≡ string_bytes text.old ++ marks_text dark.now light.now marks.now) }
     ensures memory { IsOkUnless result OutOfMemory }
 {
     let fours = marks.len() / 4;

@@ -1,15 +1,18 @@
 //! Texts that stand for two marks, and for four.
 
-ghost use Rattle.std.specs.Prelude.{◌≡◌, ◌+◌, ◌*◌, ◌<◌, ◌++◌, length, map, string_bytes, IfOk, OnOk, IsOkUnless};
+ghost use Rattle.std.specs.Prelude.{◌≡◌, ℕ, ◌+◌, ◌*◌, ◌<◌, List, ◌++◌, length, map, string_bytes, IfOk, OnOk, IsOkUnless};
 ghost use Rattle.qrcode_types.specs.declared.types.QrError.TheVariants.{OutOfMemory};
-ghost use Rattle.qrcode_render.specs.Lines.{paired, pair_number};
+ghost use Rattle.qrcode_render.specs.Lines.{paired, pair_number, two_text};
 
 use qrcode_types::types::QrResult;
 use std::alloc::Global;
+use std::marker::Model;
 
 // Appends each text after the first one.
 fn push_pairs(pairs: &mut Vec<String>, alloc: Global, first: &str, texts: &[String]) -> QrResult<()>
-    ensures texts { OnOk result (map string_bytes pairs.new.items ≡ map string_bytes pairs.old.items ++ map (λ b. first.now ++ b) (map string_bytes texts.now)) }
+    ensures appends { OnOk result (map string_bytes pairs.new.items
+        ≡ map string_bytes pairs.old.items
+        ++ map (λ b. first.now ++ b) (map string_bytes texts.now)) }
     ensures memory { IsOkUnless result OutOfMemory }
 {
     for second in texts {
@@ -22,7 +25,8 @@ fn push_pairs(pairs: &mut Vec<String>, alloc: Global, first: &str, texts: &[Stri
 
 /// Each text followed by each, the second changing first.
 pub fn pairs(alloc: Global, texts: &[String]) -> QrResult<Vec<String>>
-    ensures texts { IfOk result (λ v. map string_bytes v.items ≡ paired (map string_bytes texts.now)) }
+    ensures value { IfOk result (λ v.
+        map string_bytes v.items ≡ paired (map string_bytes texts.now)) }
     ensures memory { IsOkUnless result OutOfMemory }
 {
     let mut pairs = Vec::new(alloc);
@@ -49,17 +53,22 @@ fn pair_number(first: bool, second: bool) -> usize
 pub struct Palette {
     twos: Vec<String>,
     fours: Vec<String>,
-    ghost two_count: { length twos.items ≡ 4 },
-    ghost fours_are: { map string_bytes fours.items ≡ paired (map string_bytes twos.items) },
+}
+
+impl Model for Palette {
+    ghost Value = { List (List ℕ) };
+
+    ghost view = { λ p. map string_bytes p.twos.items };
+
+    ghost invariant = { λ p. (length p.twos.items ≡ 4)
+        × (map string_bytes p.fours.items ≡ paired (map string_bytes p.twos.items)) };
 }
 
 impl Palette {
-    ghost use Rattle.qrcode_render.specs.PaletteOf.{two_text};
-
-    /// The palette of the texts that stand for two marks.
+    /// The palette of the texts that stand for two marks. Refuses with `OutOfMemory` alone.
     pub fn new(alloc: Global, twos: Vec<String>) -> QrResult<Palette>
         requires { length twos.items ≡ 4 }
-        ensures twos { IfOk result (λ palette. palette.twos.items ≡ twos.items) }
+        ensures twos { IfOk result (λ palette. palette ≡ map string_bytes twos.items) }
         ensures memory { IsOkUnless result OutOfMemory }
     {
         let fours = pairs(alloc, &twos)?;

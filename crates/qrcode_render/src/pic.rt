@@ -3,7 +3,8 @@
 ghost use Rattle.std.proofs.Common.{rules};
 ghost use Rattle.std.specs.Prelude.{◌≡◌, ℕ, ◌^◌, ◌<◌, List, string_bytes, OnOk, IsOkUnless};
 ghost use Rattle.qrcode_types.specs.declared.types.QrError.TheVariants.{OutOfMemory};
-ghost use Rattle.qrcode_render.specs.Vectors.{pic_start, pic_rect};
+ghost use Rattle.qrcode_render.specs.Setting.{layout_of};
+ghost use Rattle.qrcode_render.specs.Vectors.{pic_start, pic_rect, pic_text};
 
 use crate::Pixel;
 use qrcode_types::types::QrResult;
@@ -46,7 +47,8 @@ pub struct Canvas {
 
 // Appends the line of a rectangle.
 fn push_rect(text: &mut String, left: u32, top: u32, width: u32, height: u32) -> QrResult<()>
-    ensures bytes { OnOk result (string_bytes text.new ≡ pic_rect left top width height (string_bytes text.old)) }
+    ensures appends { OnOk result (string_bytes text.new
+        ≡ pic_rect left top width height (string_bytes text.old)) }
     ensures memory { IsOkUnless result OutOfMemory }
 {
     write!(text, "p({left},{top},{width},{height})\n")?;
@@ -73,6 +75,8 @@ impl crate::Canvas for Canvas {
     ghost rect_step = { pic_rect };
 
     ghost is_end = { λ text image. string_bytes image ≡ text };
+
+    ghost is_picture = { λ s image. string_bytes image ≡ pic_text (layout_of s) s.content };
 
     ghost sides_fit = { λ canvas. (canvas.width_fits, canvas.height_fits) };
 

@@ -5,19 +5,15 @@ ghost use Rattle.std.specs.Prelude.{◌≡◌, ℕ, ◌+◌, ◌-◌, ◌*◌, �
 ghost use Rattle.qrcode_types.specs.declared.types.Color.{Color};
 ghost use Rattle.qrcode_types.specs.declared.types.QrError.TheVariants.{OutOfMemory};
 ghost use Rattle.qrcode_types.specs.Colors.{select_of};
-ghost use Rattle.qrcode_render.specs.Drawn.{filled};
-ghost use Rattle.qrcode_render.specs.Picture.{Raster, blank, with_dark_pixel};
-ghost use Rattle.qrcode_render.specs.Texts.{text_of};
-ghost use Rattle.qrcode_render.specs.Lines.{marks_text};
-ghost use Rattle.qrcode_render.specs.PaletteOf.{two_text};
-ghost use Rattle.qrcode_render.specs.SketchOf.{sketch};
-ghost use Rattle.qrcode_render.specs.Sketch.{sketch_text, dark_count};
+ghost use Rattle.qrcode_render.specs.Bitmap.{dark_count};
+ghost use Rattle.qrcode_render.specs.Lines.{two_text};
+ghost use Rattle.qrcode_render.specs.Texts.{marks_text, text_of};
 
 use crate::Pixel;
 use crate::lines::{begin_line, push_marks};
 use crate::marks::Marks;
 use crate::palette::{Palette, pairs};
-use crate::sheet::Sheet;
+use crate::sheet::{Ending, Sheet};
 use qrcode_types::types::{Color, QrError, QrResult};
 use std::alloc::Global;
 
@@ -133,9 +129,32 @@ impl<'a> Pixel for Str<'a> {
 
 /// Rows of pixels while they are drawn. The picture is a line of text for each row, with a newline
 /// between two lines and none at the end; without a column it is empty.
-#[derive(Drop)]
-pub struct Canvas<P> {
-    sheet: Sheet<P>,
+pub type Canvas<P> = Sheet<P, Lines>;
+
+/// Ends rows of pixels as lines of text.
+#[derive(Copy, Clone)]
+pub struct Lines;
+
+impl<P: Element> Ending<P> for Lines {
+    type Image = String;
+
+    ghost is_image = { λ b dark light image. string_bytes image ≡ text_of (P.text dark) (P.text light) b };
+
+    #[tactic(auto, unfolding(crate::specs::Texts::text_of))]
+    fn image(marks: Marks, dark: P, light: P) -> QrResult<String> {
+        let alloc = marks.alloc();
+        let (width, _) = marks.sides();
+        if width == 0 {
+            return Ok(String::new(alloc));
+        }
+        let dark_text = element_text(alloc, dark)?;
+        let light_text = element_text(alloc, light)?;
+        let palette = palette_of(alloc, &dark_text, &light_text)?;
+        let room = room_of(&marks, dark_text.len(), light_text.len()).ok_or(QrError::OutOfMemory)?;
+        let mut text = String::with_capacity(alloc, room)?;
+        push_lines(&mut text, &marks, &palette, &dark_text, &light_text)?;
+        Ok(text)
+    }
 }
 
 // The text of an element.
@@ -150,7 +169,8 @@ fn element_text<P: Element>(alloc: Global, element: P) -> QrResult<String>
 
 // The palette of the texts that stand for a dark and a light mark.
 fn palette_of(alloc: Global, dark: &str, light: &str) -> QrResult<Palette>
-    ensures twos { IfOk result (λ palette. (a b : Bool) → two_text palette a b ≡ marks_text dark.now light.now (a ∷ b ∷ [])) }
+    ensures twos { IfOk result (λ palette. (a b : Bool) →
+        two_text palette a b ≡ marks_text dark.now light.now (a ∷ b ∷ [])) }
     ensures memory { IsOkUnless result OutOfMemory }
 {
     let mut ones = Vec::with_capacity(alloc, 2)?;
@@ -162,7 +182,9 @@ fn palette_of(alloc: Global, dark: &str, light: &str) -> QrResult<Palette>
 // Room for the lines of marks, each with a newline: so many bytes for a dark mark, and so many for
 // another. None where it cannot be counted.
 fn room_of(marks: &Marks, dark: usize, light: usize) -> Option<usize>
-    ensures { IfSome result (λ room. room ≡ dark_count (sketch marks.now) * dark + (length (sketch marks.now).marks - dark_count (sketch marks.now)) * light + marks.now.height) }
+    ensures { IfSome result (λ room. room
+        ≡ dark_count marks.now * dark + (length marks.now.marks - dark_count marks.now) * light
+        + marks.now.down) }
 {
     let (_, height) = marks.sides();
     let count = marks.count();
@@ -182,8 +204,10 @@ fn push_lines(
     light: &str,
 ) -> QrResult<()>
     requires empty { string_bytes text.old ≡ [] }
-    requires twos { (a b : Bool) → two_text palette.now a b ≡ marks_text dark.now light.now (a ∷ b ∷ []) }
-    ensures lines { OnOk result (string_bytes text.new ≡ sketch_text dark.now light.now (sketch marks.now)) }
+    requires some { 0 < marks.now.across }
+    requires twos { (a b : Bool) →
+        two_text palette.now a b ≡ marks_text dark.now light.now (a ∷ b ∷ []) }
+    ensures value { OnOk result (string_bytes text.new ≡ text_of dark.now light.now marks.now) }
     ensures memory { IsOkUnless result OutOfMemory }
 {
     let (_, height) = marks.sides();
@@ -192,79 +216,4 @@ fn push_lines(
         push_marks(text, palette, dark, light, marks.row(y))?;
     }
     Ok(())
-}
-
-impl<P: Element> crate::Canvas for Canvas<P> {
-    ghost use Rattle.qrcode_render.specs.SheetOf.{raster};
-
-    type Pixel = P;
-
-    type Image = String;
-
-    ghost Drawing = { Raster P };
-
-    ghost shown = { λ canvas. raster canvas.sheet };
-
-    ghost across = { λ canvas. canvas.sheet.marks.width };
-
-    ghost down = { λ canvas. canvas.sheet.marks.height };
-
-    ghost start = { blank };
-
-    ghost pixel_step = { with_dark_pixel };
-
-    ghost rect_step = { filled with_dark_pixel };
-
-    ghost is_end = { λ r image. string_bytes image ≡ text_of P.text r };
-
-    ghost sides_fit = { λ canvas. (canvas.sheet.marks.width_fits, canvas.sheet.marks.height_fits) };
-
-    fn new(
-        alloc: Global,
-        width: u32,
-        height: u32,
-        dark_pixel: P,
-        light_pixel: P,
-    ) -> QrResult<Canvas<P>> {
-        let sheet = Sheet::new(alloc, width, height, dark_pixel, light_pixel)?;
-        Ok(Canvas { sheet })
-    }
-
-    fn draw_dark_pixel(&mut self, x: u32, y: u32) -> QrResult<()> {
-        self.sheet.put(x, y);
-        Ok(())
-    }
-
-    fn draw_dark_rect(&mut self, left: u32, top: u32, width: u32, height: u32) -> QrResult<()> {
-        self.sheet.put_rect(left, top, width, height);
-        Ok(())
-    }
-
-    fn draw_dark_modules(
-        &mut self,
-        line: &[Color],
-        left: u32,
-        top: u32,
-        width: u32,
-        height: u32,
-    ) -> QrResult<()> {
-        self.sheet.put_modules(line, left, top, width, height);
-        Ok(())
-    }
-
-    fn into_image(self) -> QrResult<String> {
-        let Sheet { marks, dark, light } = self.sheet;
-        let alloc = marks.alloc();
-        let (width, _) = marks.sides();
-        if width == 0 {
-            return Ok(String::new(alloc));
-        }
-        let dark_text = element_text(alloc, dark)?;
-        let light_text = element_text(alloc, light)?;
-        let palette = palette_of(alloc, &dark_text, &light_text)?;
-        let room = room_of(&marks, dark_text.len(), light_text.len()).ok_or(QrError::OutOfMemory)?;
-        let mut text = String::with_capacity(alloc, room)?;
-        push_lines(&mut text, &marks, &palette, &dark_text, &light_text)?;
-        Ok(text)
-    }
 }

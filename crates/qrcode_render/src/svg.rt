@@ -7,7 +7,8 @@ ghost use Rattle.qrcode_render.specs.LineOf.{written};
 ghost use Rattle.qrcode_types.specs.declared.types.QrError.TheVariants.{OutOfMemory};
 ghost use Rattle.qrcode_types.specs.Colors.{select_of};
 ghost use Rattle.qrcode_render.specs.declared.svg.TheConstants.{LONGEST_PATH};
-ghost use Rattle.qrcode_render.specs.Vectors.{svg_frame, svg_ground, svg_start, svg_rect, svg_end};
+ghost use Rattle.qrcode_render.specs.Setting.{layout_of};
+ghost use Rattle.qrcode_render.specs.Vectors.{svg_frame, svg_ground, svg_start, svg_rect, svg_end, svg_text};
 
 use crate::Pixel;
 use crate::lines::Line;
@@ -91,7 +92,8 @@ struct Row {
     ghost top_fits: { top < 2 ^ 32 },
     ghost width_fits: { width < 2 ^ 32 },
     ghost height_fits: { height < 2 ^ 32 },
-    ghost sides_are: { string_bytes sides ≡ codes " " ++ (decimal top ++ (codes "h" ++ (decimal width ++ (codes "v" ++ decimal height)))) },
+    ghost sides_are: { string_bytes sides
+        ≡ codes " " ++ (decimal top ++ (codes "h" ++ (decimal width ++ (codes "v" ++ decimal height)))) },
     ghost back_is: { string_bytes back ≡ codes "V" ++ decimal top },
 }
 
@@ -116,7 +118,8 @@ impl Row {
 
 // Appends the path of a rectangle.
 fn push_rect(text: &mut String, left: u32, top: u32, width: u32, height: u32) -> QrResult<()>
-    ensures bytes { OnOk result (string_bytes text.new ≡ svg_rect left top width height (string_bytes text.old)) }
+    ensures appends { OnOk result (string_bytes text.new
+        ≡ svg_rect left top width height (string_bytes text.old)) }
     ensures memory { IsOkUnless result OutOfMemory }
 {
     write!(text, "M{left} {top}h{width}v{height}H{left}V{top}")?;
@@ -129,8 +132,9 @@ const LONGEST_PATH: usize = 66;
 // Writes the path of a rectangle that begins in a column and a row.
 fn write_path(paths: &mut Line, column: &Column, row: &Row)
     requires { paths.old.end + LONGEST_PATH ≤ vec_len paths.old.bytes }
-    ensures writes { written paths.new ≡ svg_rect column.now.left row.now.top row.now.width row.now.height (written paths.old) }
-    ensures short { paths.new.end ≤ paths.old.end + LONGEST_PATH }
+    ensures appends { written paths.new ≡ svg_rect
+        column.now.left row.now.top row.now.width row.now.height (written paths.old) }
+    ensures at_most { paths.new.end ≤ paths.old.end + LONGEST_PATH }
     ensures room { vec_len paths.new.bytes ≡ vec_len paths.old.bytes }
 {
     paths.push(&column.start);
@@ -148,8 +152,10 @@ fn write_module(
     row: &Row,
 ) -> QrResult<()>
     requires { paths.old.end + LONGEST_PATH ≤ vec_len paths.old.bytes }
-    ensures writes { OnOk result (written paths.new ≡ select_of color (svg_rect left row.now.top row.now.width row.now.height (written paths.old)) (written paths.old)) }
-    ensures short { OnOk result (paths.new.end ≤ paths.old.end + LONGEST_PATH) }
+    ensures appends { OnOk result (written paths.new ≡ select_of color
+        (svg_rect left row.now.top row.now.width row.now.height (written paths.old))
+        (written paths.old)) }
+    ensures at_most { OnOk result (paths.new.end ≤ paths.old.end + LONGEST_PATH) }
     ensures room { OnOk result (vec_len paths.new.bytes ≡ vec_len paths.old.bytes) }
     ensures memory { IsOkUnless result OutOfMemory }
 {
@@ -174,7 +180,8 @@ fn write_modules(
 ) -> QrResult<()>
     requires inside { left + length line.now * row.now.width < 2 ^ 32 }
     requires room { paths.old.end + LONGEST_PATH * length line.now ≤ vec_len paths.old.bytes }
-    ensures writes { OnOk result (written paths.new ≡ drawn_row svg_rect left row.now.top row.now.width row.now.height line.now (written paths.old)) }
+    ensures appends { OnOk result (written paths.new ≡ drawn_row svg_rect
+        left row.now.top row.now.width row.now.height line.now (written paths.old)) }
     ensures memory { IsOkUnless result OutOfMemory }
 {
     let alloc = *columns.allocator();
@@ -191,7 +198,8 @@ fn write_modules(
 
 // Appends the sides and the view of the picture.
 fn push_frame(text: &mut String, width: u32, height: u32) -> QrResult<()>
-    ensures bytes { OnOk result (string_bytes text.new ≡ string_bytes text.old ++ svg_frame width height) }
+    ensures appends { OnOk result (string_bytes text.new
+        ≡ string_bytes text.old ++ svg_frame width height) }
     ensures memory { IsOkUnless result OutOfMemory }
 {
     write!(
@@ -203,7 +211,8 @@ fn push_frame(text: &mut String, width: u32, height: u32) -> QrResult<()>
 
 // Appends the light ground and the start of the dark path.
 fn push_ground(text: &mut String, width: u32, height: u32, dark: &str, light: &str) -> QrResult<()>
-    ensures bytes { OnOk result (string_bytes text.new ≡ string_bytes text.old ++ svg_ground width height dark.now light.now) }
+    ensures appends { OnOk result (string_bytes text.new
+        ≡ string_bytes text.old ++ svg_ground width height dark.now light.now) }
     ensures memory { IsOkUnless result OutOfMemory }
 {
     write!(
@@ -233,6 +242,8 @@ impl<'a> crate::Canvas for Canvas<'a> {
     ghost rect_step = { svg_rect };
 
     ghost is_end = { λ text image. string_bytes image ≡ text ++ svg_end };
+
+    ghost is_picture = { λ s image. string_bytes image ≡ svg_text (layout_of s) s.content s.dark.0.now s.light.0.now };
 
     ghost sides_fit = { λ canvas. (canvas.width_fits, canvas.height_fits) };
 
@@ -288,6 +299,7 @@ impl<'a> crate::Canvas for Canvas<'a> {
         Ok(())
     }
 
+    #[tactic(auto, unfolding(crate::specs::Vectors::svg_text))]
     fn into_image(self) -> QrResult<String> {
         let mut text = self.text;
         text.push_str("\"/></svg>")?;

@@ -4,18 +4,15 @@ ghost use Rattle.std.proofs.Common.{rules};
 ghost use Rattle.std.specs.Prelude.{◌≡◌, ◌+◌, ◌*◌, ◌/◌, ◌<◌, Bool, true, false, [], ◌++◌, length, string_bytes, IfOk, OnOk, IsOkUnless};
 ghost use Rattle.qrcode_types.specs.declared.types.QrError.TheVariants.{OutOfMemory};
 ghost use Rattle.qrcode_types.specs.Colors.{is_dark};
-ghost use Rattle.qrcode_render.specs.Dense.{is_dark_dense, column_text, columns_text, dense_sketch_text};
-ghost use Rattle.qrcode_render.specs.Drawn.{filled};
-ghost use Rattle.qrcode_render.specs.PaletteOf.{two_text};
-ghost use Rattle.qrcode_render.specs.Picture.{Raster, blank, with_dark_pixel};
-ghost use Rattle.qrcode_render.specs.SketchOf.{sketch};
-ghost use Rattle.qrcode_render.specs.Texts.{half_blocks, dense_text};
+ghost use Rattle.qrcode_render.specs.Half.{is_dark_half};
+ghost use Rattle.qrcode_render.specs.Lines.{two_text};
+ghost use Rattle.qrcode_render.specs.Texts.{half_blocks, column_text, columns_text, dense_text};
 
 use crate::Pixel;
 use crate::lines::{begin_line, push_ones};
 use crate::marks::Marks;
 use crate::palette::Palette;
-use crate::sheet::Sheet;
+use crate::sheet::{Ending, Sheet};
 use qrcode_types::types::{Color, QrError, QrResult};
 use std::alloc::Global;
 
@@ -28,7 +25,7 @@ pub enum Dense1x2 {
 
 impl Dense1x2 {
     fn is_dark(self) -> bool
-        ensures { result ≡ is_dark_dense self }
+        ensures { result ≡ is_dark_half self }
     {
         match self {
             Dense1x2::Dark => true,
@@ -46,7 +43,7 @@ impl Pixel for Dense1x2 {
 
     ghost unit_positive = { Prim.search rules };
 
-    ghost is_default_color = { λ c pixel. is_dark_dense pixel ≡ is_dark c };
+    ghost is_default_color = { λ c pixel. is_dark_half pixel ≡ is_dark c };
 
     fn default_unit_size() -> (u32, u32) {
         (1, 1)
@@ -62,9 +59,37 @@ impl Pixel for Dense1x2 {
 
 /// Rows of pixels while they are drawn. The picture is a line of text for every two rows, with a
 /// newline between two lines and none at the end; a last row alone stands over light pixels.
-#[derive(Drop)]
-pub struct Canvas1x2 {
-    sheet: Sheet<Dense1x2>,
+pub type Canvas1x2 = Sheet<Dense1x2, HalfBlocks>;
+
+/// Ends rows of pixels as half blocks.
+#[derive(Copy, Clone)]
+pub struct HalfBlocks;
+
+impl Ending<Dense1x2> for HalfBlocks {
+    ghost use Rattle.qrcode_render.specs.Half.{is_dark_half};
+
+    type Image = String;
+
+    ghost is_image = { λ b dark light image. string_bytes image ≡ dense_text (is_dark_half dark) (is_dark_half light) b };
+
+    #[tactic(auto, unfolding(crate::specs::Texts::dense_text))]
+    fn image(marks: Marks, dark: Dense1x2, light: Dense1x2) -> QrResult<String> {
+        let alloc = marks.alloc();
+        let (width, height) = marks.sides();
+        if width == 0 {
+            return Ok(String::new(alloc));
+        }
+        let marked = dark.is_dark();
+        let other = light.is_dark();
+        let palette = palette_of(alloc, marked, other)?;
+        let line = LONGEST_HALF * width as usize + 1;
+        let room = line
+            .checked_mul(height.div_ceil(2) as usize)
+            .ok_or(QrError::OutOfMemory)?;
+        let mut text = String::with_capacity(alloc, room)?;
+        push_lines(&mut text, &marks, &palette, marked, other)?;
+        Ok(text)
+    }
 }
 
 // The most bytes of the character of a column.
@@ -84,7 +109,8 @@ fn half(upper: bool, lower: bool) -> &'static str
 
 // The palette of columns, where marked pixels are dark or not and others are dark or not.
 fn palette_of(alloc: Global, marked: bool, other: bool) -> QrResult<Palette>
-    ensures twos { IfOk result (λ palette. (upper lower : Bool) → two_text palette upper lower ≡ column_text marked other upper lower) }
+    ensures twos { IfOk result (λ palette. (upper lower : Bool) →
+        two_text palette upper lower ≡ column_text marked other upper lower) }
     ensures memory { IsOkUnless result OutOfMemory }
 {
     let mut columns = Vec::with_capacity(alloc, 4)?;
@@ -103,7 +129,8 @@ fn push_columns(
     lower: &[bool],
 ) -> QrResult<()>
     requires { length lower.now ≡ length upper.now }
-    ensures bytes { OnOk result (string_bytes text.new ≡ string_bytes text.old ++ columns_text (two_text palette.now) upper.now lower.now) }
+    ensures appends { OnOk result (string_bytes text.new
+        ≡ string_bytes text.old ++ columns_text (two_text palette.now) upper.now lower.now) }
     ensures memory { IsOkUnless result OutOfMemory }
 {
     let pairs = upper.len() / 2;
@@ -127,8 +154,10 @@ fn push_lines(
     other: bool,
 ) -> QrResult<()>
     requires empty { string_bytes text.old ≡ [] }
-    requires twos { (upper lower : Bool) → two_text palette.now upper lower ≡ column_text marked other upper lower }
-    ensures lines { OnOk result (string_bytes text.new ≡ dense_sketch_text marked other (sketch marks.now)) }
+    requires some { 0 < marks.now.across }
+    requires twos { (upper lower : Bool) →
+        two_text palette.now upper lower ≡ column_text marked other upper lower }
+    ensures value { OnOk result (string_bytes text.new ≡ dense_text marked other marks.now) }
     ensures memory { IsOkUnless result OutOfMemory }
 {
     let (_, height) = marks.sides();
@@ -147,83 +176,4 @@ fn push_lines(
         )?;
     }
     Ok(())
-}
-
-impl crate::Canvas for Canvas1x2 {
-    ghost use Rattle.qrcode_render.specs.declared.unicode.Dense1x2.{Dense1x2};
-    ghost use Rattle.qrcode_render.specs.SheetOf.{raster};
-
-    type Pixel = Dense1x2;
-
-    type Image = String;
-
-    ghost Drawing = { Raster Dense1x2 };
-
-    ghost shown = { λ canvas. raster canvas.sheet };
-
-    ghost across = { λ canvas. canvas.sheet.marks.width };
-
-    ghost down = { λ canvas. canvas.sheet.marks.height };
-
-    ghost start = { blank };
-
-    ghost pixel_step = { with_dark_pixel };
-
-    ghost rect_step = { filled with_dark_pixel };
-
-    ghost is_end = { λ r image. string_bytes image ≡ dense_text is_dark_dense r };
-
-    ghost sides_fit = { λ canvas. (canvas.sheet.marks.width_fits, canvas.sheet.marks.height_fits) };
-
-    fn new(
-        alloc: Global,
-        width: u32,
-        height: u32,
-        dark_pixel: Dense1x2,
-        light_pixel: Dense1x2,
-    ) -> QrResult<Canvas1x2> {
-        let sheet = Sheet::new(alloc, width, height, dark_pixel, light_pixel)?;
-        Ok(Canvas1x2 { sheet })
-    }
-
-    fn draw_dark_pixel(&mut self, x: u32, y: u32) -> QrResult<()> {
-        self.sheet.put(x, y);
-        Ok(())
-    }
-
-    fn draw_dark_rect(&mut self, left: u32, top: u32, width: u32, height: u32) -> QrResult<()> {
-        self.sheet.put_rect(left, top, width, height);
-        Ok(())
-    }
-
-    fn draw_dark_modules(
-        &mut self,
-        line: &[Color],
-        left: u32,
-        top: u32,
-        width: u32,
-        height: u32,
-    ) -> QrResult<()> {
-        self.sheet.put_modules(line, left, top, width, height);
-        Ok(())
-    }
-
-    fn into_image(self) -> QrResult<String> {
-        let Sheet { marks, dark, light } = self.sheet;
-        let alloc = marks.alloc();
-        let (width, height) = marks.sides();
-        if width == 0 {
-            return Ok(String::new(alloc));
-        }
-        let marked = dark.is_dark();
-        let other = light.is_dark();
-        let palette = palette_of(alloc, marked, other)?;
-        let line = LONGEST_HALF * width as usize + 1;
-        let room = line
-            .checked_mul(height.div_ceil(2) as usize)
-            .ok_or(QrError::OutOfMemory)?;
-        let mut text = String::with_capacity(alloc, room)?;
-        push_lines(&mut text, &marks, &palette, marked, other)?;
-        Ok(text)
-    }
 }

@@ -162,7 +162,10 @@ fn a_users_canvas_is_drawn_on(rt: HostRuntime) {
 fn check_pixels<P: Channels>(rt: &impl Abort, buffer: ImageBuffer<P>, side: u32, dark: usize) {
     symbols::check_sides(rt, &buffer, side);
     let bytes = buffer.into_raw();
-    assert_eq!(rt; symbols::count_of_dark_pixels(&bytes, P::count()), dark);
+    assert_eq!(rt;
+        symbols::count_of_dark_pixels(&bytes, P::of_color(Color::Dark).channels().len()),
+        dark
+    );
 }
 
 // A symbol of so many dark modules is drawn in each type of pixel that has bytes.

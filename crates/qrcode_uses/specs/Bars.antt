@@ -1,18 +1,19 @@
 -- The bars of a label.
 use Rattle.std.specs.Prelude.{◌≡◌, ℕ, ◌+◌, ◌==◌, ◌&&◌, Bool, List, [], ◌∷◌, if◌then◌else◌}
-use Rattle.qrcode_types.specs.Versions.{side}
 use Rattle.qrcode_types.specs.declared.types.Version.{Version}
 use Rattle.qrcode_types.specs.declared.types.EcLevel.TheVariants.{M}
 use Rattle.qrcode_types.specs.declared.types.Color.{Color}
 use Rattle.qrcode_render.specs.Drawn.{drawn}
+use Rattle.qrcode_render.specs.Layout.{Layout}
 use Rattle.qrcode.specs.Acceptance.{IsChosenSymbol}
-use Rattle.qrcode.specs.Pictures.{quiet_zone}
+use Rattle.qrcode.specs.Pictures.{layout_in}
 use Rattle.qrcode_uses.specs.declared.label.Bar.{Bar}
 
 -- the second bar begins where the first one ends
 abbrev pub goes_on : Bar → Bar → Bool
 goes_on a b = a.top == b.top && a.height == b.height && a.left + a.width == b.left
 
+-- a bar of a first column and row, a width and a height
 abbrev pub bar : ℕ → ℕ → ℕ → ℕ → Bar
 bar left top width height = record { left = left; top = top; width = width; height = height }
 
@@ -23,9 +24,13 @@ with_bar left top width height (a ∷ []) =
     if goes_on a (bar left top width height) then bar a.left a.top (a.width + width) a.height ∷ [] else a ∷ bar left top width height ∷ []
 with_bar left top width height (a ∷ b ∷ bars) = a ∷ with_bar left top width height (b ∷ bars)
 
--- the bars of the symbol that is chosen for data at level M, a bar for each run of dark modules of a row
+-- a bar for each run of dark modules of a row
+abbrev pub bars_of : Layout → List Color → List Bar
+bars_of at content = drawn with_bar at content []
+
+-- the bars of the symbol that is chosen for data at level M, in modules of 4 dots
 pub record IsLabel (bytes : List ℕ) (bars : List Bar) : Type 0 where
   pub version : Version
   pub colors : List Color
   pub symbol : IsChosenSymbol version M bytes colors
-  pub drawn : bars ≡ drawn with_bar (record { count = side version; zone = quiet_zone version; across = 4; down = 4 }) colors []
+  pub drawn : bars ≡ bars_of (layout_in 4 version) colors

@@ -1,13 +1,13 @@
 -- The text and the picture of a payment.
 use Rattle.std.specs.Prelude.{◌≡◌, ℕ, ◌+◌, ◌*◌, ◌/◌, ◌%◌, ◌≤◌, pos, List, ◌++◌, length, codes, decimal}
-use Rattle.qrcode_types.specs.Versions.{side}
 use Rattle.qrcode_types.specs.declared.types.Version.{Version}
 use Rattle.qrcode_types.specs.declared.types.Version.TheVariants.{Normal}
 use Rattle.qrcode_types.specs.declared.types.EcLevel.TheVariants.{M}
 use Rattle.qrcode_types.specs.declared.types.Color.{Color}
-use Rattle.qrcode_render.specs.Setting.{IsLeastSize}
+use Rattle.qrcode_render.specs.Setting.{least_size, IsLeastSize}
 use Rattle.qrcode.specs.Acceptance.{IsChosenSymbol}
-use Rattle.qrcode.specs.Pictures.{quiet_zone}
+use Rattle.qrcode_render.specs.Layout.{modules_across}
+use Rattle.qrcode.specs.Pictures.{layout_in}
 use Rattle.qrcode_uses.specs.Drawings.{svg_text}
 use Rattle.qrcode_uses.specs.declared.payment.Payment.{Payment}
 
@@ -25,12 +25,15 @@ payment_text p =
 abbrev pub IsNormalUpTo : ℕ → Version → Type 0
 IsNormalUpTo most v = (n : ℕ) × ((v ≡ Normal (pos n)) × ((1 ≤ n) × (n ≤ most)))
 
+-- the pixels of a module in a picture that is 200 pixels wide or a little more
+abbrev pub picture_size : Version → ℕ
+picture_size v = least_size (modules_across (layout_in 1 v)) 200
+
 -- the symbol that is chosen for a text at level M, in modules of the least size that makes it 200 pixels wide
 pub record IsPicture (text svg : List ℕ) : Type 0 where
   pub version : Version
   pub colors : List Color
   pub symbol : IsChosenSymbol version M text colors
   pub small : length text ≤ 331 → IsNormalUpTo 13 version
-  pub pixels : ℕ
-  pub wide : IsLeastSize (side version + 2 * quiet_zone version) 200 pixels
-  pub drawn : svg ≡ svg_text pixels version colors
+  pub size : IsLeastSize (modules_across (layout_in 1 version)) 200 (picture_size version)
+  pub drawn : svg ≡ svg_text (picture_size version) version colors

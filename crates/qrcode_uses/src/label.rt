@@ -5,7 +5,8 @@ ghost use Rattle.std.specs.Prelude.{◌≡◌, ◌+◌, ◌^◌, ◌<◌, ◌==�
 ghost use Rattle.qrcode_types.specs.declared.types.EcLevel.TheVariants.{M};
 ghost use Rattle.qrcode_types.specs.declared.types.QrError.TheVariants.{OutOfMemory};
 ghost use Rattle.qrcode_bits.specs.Choice.{IsRefused};
-ghost use Rattle.qrcode_uses.specs.Bars.{with_bar, goes_on, IsLabel};
+ghost use Rattle.qrcode.specs.Pictures.{layout_in};
+ghost use Rattle.qrcode_uses.specs.Bars.{with_bar, bars_of, goes_on, IsLabel};
 
 use qrcode::QrCode;
 use qrcode::render::{Canvas, Pixel};
@@ -34,11 +35,20 @@ impl Bar {
 
 /// The bars of the symbol of data, each module being 4 dots across and down. Adjoining dark modules of
 /// a row are one bar.
-pub fn label_bars(alloc: Global, data: &[u8]) -> QrResult<Vec<Bar>>
-    ensures bars { IfOk result (λ bars. IsLabel «data».now bars.items) }
-    ensures causes { IfErr result (IsRefused M «data».now) }
+pub fn label_bars(alloc: Global, bytes: &[u8]) -> QrResult<Vec<Bar>>
+    ensures bars { IfOk result (λ bars. IsLabel bytes.now bars.items) }
+    ensures causes { IfErr result (IsRefused M bytes.now) }
 {
-    let code = QrCode::new(alloc, data)?;
+    let code = QrCode::new(alloc, bytes)?;
+    bars_of(alloc, &code)
+}
+
+// The bars of a symbol.
+fn bars_of(alloc: Global, code: &QrCode) -> QrResult<Vec<Bar>>
+    ensures bars { IfOk result (λ bars.
+        bars.items ≡ bars_of (layout_in 4 code.now.version) code.now.modules) }
+    ensures memory { IsOkUnless result OutOfMemory }
+{
     code.render::<Dot>().build(alloc)
 }
 
@@ -77,6 +87,9 @@ pub struct Label {
 }
 
 impl Canvas for Label {
+    ghost use Rattle.std.specs.Prelude.{◌≡◌, List, []};
+    ghost use Rattle.qrcode_render.specs.Setting.{layout_of};
+    ghost use Rattle.qrcode_uses.specs.Bars.{with_bar, bars_of};
     ghost use Rattle.qrcode_uses.specs.declared.label.Bar.{Bar};
 
     type Pixel = Dot;
@@ -98,6 +111,8 @@ impl Canvas for Label {
     ghost rect_step = { with_bar };
 
     ghost is_end = { λ bars image. image.items ≡ bars };
+
+    ghost is_picture = { λ s image. image.items ≡ bars_of (layout_of s) s.content };
 
     ghost sides_fit = { λ label. (label.width_fits, label.height_fits) };
 
@@ -137,7 +152,8 @@ impl Canvas for Label {
 // Appends a bar, or widens the last one where the bar goes on from it.
 fn push_bar(bars: &mut Vec<Bar>, bar: Bar) -> QrResult<()>
     requires { bar.left + bar.width < 2 ^ 32 }
-    ensures draws { OnOk result (bars.new.items ≡ with_bar bar.left bar.top bar.width bar.height bars.old.items) }
+    ensures draws { OnOk result (bars.new.items
+        ≡ with_bar bar.left bar.top bar.width bar.height bars.old.items) }
     ensures memory { IsOkUnless result OutOfMemory }
 {
     match bars.pop() {

@@ -5,6 +5,7 @@ pub mod charset;
 pub mod drawings;
 pub mod label;
 pub mod payment;
+pub mod plain;
 #[cfg(test)]
 mod tests;
 pub mod ticket;

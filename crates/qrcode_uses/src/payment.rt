@@ -4,7 +4,11 @@ ghost use Rattle.std.specs.Prelude.{◌≡◌, ◌≤◌, ◌++◌, length, stri
 ghost use Rattle.qrcode_types.specs.declared.types.EcLevel.TheVariants.{M};
 ghost use Rattle.qrcode_types.specs.declared.types.QrError.TheVariants.{OutOfMemory};
 ghost use Rattle.qrcode_bits.specs.Choice.{IsRefused};
-ghost use Rattle.qrcode_uses.specs.Payments.{amount_text, payment_text, IsPicture};
+ghost use Rattle.qrcode.specs.Pictures.{layout_in};
+ghost use Rattle.qrcode_render.specs.Layout.{modules_across};
+ghost use Rattle.qrcode_render.specs.Setting.{IsLeastSize};
+ghost use Rattle.qrcode_uses.specs.Drawings.{svg_text};
+ghost use Rattle.qrcode_uses.specs.Payments.{amount_text, payment_text, picture_size, IsPicture};
 
 use qrcode::QrCode;
 use qrcode::render::svg;
@@ -42,6 +46,17 @@ fn picture_of(alloc: Global, text: &[u8]) -> QrResult<String>
     ensures causes { IfErr result (IsRefused M text.now) }
 {
     let code = QrCode::new(alloc, text)?;
+    as_picture(alloc, &code)
+}
+
+// The picture of a symbol, in modules of the least size that makes it 200 pixels wide.
+fn as_picture(alloc: Global, code: &QrCode) -> QrResult<String>
+    ensures drawing { IfOk result (λ svg. string_bytes svg
+        ≡ svg_text (picture_size code.now.version) code.now.version code.now.modules) }
+    ensures size { IsLeastSize (modules_across (layout_in 1 code.now.version)) 200
+        (picture_size code.now.version) }
+    ensures memory { IsOkUnless result OutOfMemory }
+{
     code.render::<svg::Color>()
         .min_dimensions(200, 200)
         .build(alloc)

@@ -4,7 +4,9 @@ use crate::charset::{greek_bits, greek_symbol};
 use crate::drawings::{as_chars, as_grey_map, as_half_blocks, as_pairs, as_pic, as_svg};
 use crate::label::{Bar, label_bars};
 use crate::payment::{Payment, payment_picture};
+use crate::plain;
 use crate::ticket::ticket_blocks;
+use qrcode::QrCode;
 use qrcode::types::{QrError, QrResult};
 use std::alloc::Global;
 use std::process::Abort;
@@ -120,17 +122,34 @@ fn has_line(rt: &impl Abort, text: &str, number: usize, line: &str) {
 
 #[test]
 fn each_way_draws(rt: HostRuntime) -> Result<(), Fail> {
-    let (alloc, data) = (rt.alloc(), b"01234567");
+    let alloc = rt.alloc();
+    let code = QrCode::new(alloc, b"01234567")?;
     let line = "    ███████  █ ██ ███████    ";
-    has_line(&rt, as_chars(alloc, data)?.as_str(), 4, line);
+    has_line(&rt, as_chars(alloc, &code)?.as_str(), 4, line);
     let line = "        ##############    ##  ####  ##############        ";
-    has_line(&rt, as_pairs(alloc, data)?.as_str(), 4, line);
+    has_line(&rt, as_pairs(alloc, &code)?.as_str(), 4, line);
     let line = "    █▀▀▀▀▀█  █▄██ █▀▀▀▀▀█    ";
-    has_line(&rt, as_half_blocks(alloc, data)?.as_str(), 2, line);
-    assert!(rt; as_svg(alloc, data)?.contains("viewBox=\"0 0 232 232\""));
-    assert!(rt; as_pic(alloc, data)?.starts_with("maxpswid=29;maxpsht=29;"));
-    let file = as_grey_map(alloc, data)?;
+    has_line(&rt, as_half_blocks(alloc, &code)?.as_str(), 2, line);
+    assert!(rt; as_svg(alloc, &code)?.contains("viewBox=\"0 0 232 232\""));
+    assert!(rt; as_pic(alloc, &code)?.starts_with("maxpswid=29;maxpsht=29;"));
+    let file = as_grey_map(alloc, &code)?;
     assert!(rt; file.starts_with(b"P5\n232 232\n255\n"));
     assert_eq!(rt; file.len(), 53_839);
+    Ok(())
+}
+
+#[test]
+fn plain_calls_draw(rt: HostRuntime) -> Result<(), Fail> {
+    let alloc = rt.alloc();
+    assert!(rt; plain::payment(alloc)?.contains("viewBox=\"0 0 231 231\""));
+    assert_eq!(rt; plain::ticket(alloc)?.split('\n').count(), 9);
+    assert_eq!(rt; plain::greek(alloc)?.width(), 21);
+    assert_eq!(rt; plain::chars(alloc)?.split('\n').count(), 29);
+    assert_eq!(rt; plain::texts(alloc)?.len(), 29 * 59 - 1);
+    assert!(rt; plain::svg_text(alloc)?.contains("viewBox=\"0 0 232 232\""));
+    assert!(rt; plain::pic_text(alloc)?.contains("p(4,4,1,1)\n"));
+    assert_eq!(rt; plain::greys(alloc)?.len(), 53_839);
+    assert_eq!(rt; plain::colors(alloc)?.dimensions(), (203, 203));
+    assert!(rt; plain::within(alloc)?.contains("viewBox=\"0 0 290 290\""));
     Ok(())
 }

@@ -1,17 +1,18 @@
 //! The program, over any writer.
 
-ghost use Rattle.std.specs.Prelude.{◌≡◌, ◌⊎◌, ◌↔◌, List, Some, None, string_bytes, IfOk, IfErr, IsErrOf, IfSome};
+ghost use Rattle.std.specs.Prelude.{◌≡◌, ◌⊎◌, ◌↔◌, List, Some, None, string_bytes, IfOk, IfErr, IsErrOf, IfSome, IsOkUnless};
 ghost use Rattle.std.specs.Io.KnownBytes.{Appends};
 ghost use Rattle.qrcode_types.specs.declared.types.Color.{Color};
 ghost use Rattle.qrcode_types.specs.declared.types.EcLevel.TheVariants.{M};
+ghost use Rattle.qrcode_types.specs.declared.types.QrError.TheVariants.{OutOfMemory};
 ghost use Rattle.qrcode_types.specs.declared.types.Version.{Version};
 ghost use Rattle.qrcode_bits.specs.Choice.{IsRefused};
 ghost use Rattle.qrcode.specs.Acceptance.{IsChosenSymbol};
 ghost use Rattle.qrencode.specs.Words.{terminal_text, Writes, IsCause, IsCannotWrite};
 
+use qrcode::QrCode;
 use qrcode::render::string::Str;
 use qrcode::types::{QrError, QrResult};
-use qrcode::{QrCode, render};
 use std::alloc::Global;
 use std::io::Write;
 use thiserror::Error;
@@ -49,7 +50,7 @@ pub fn run<W: Write>(alloc: Global, text: Option<&str>, out: &mut W) -> Result<(
     let Some(text) = text else {
         return Err(Fault::MissingArgument);
     };
-    let picture = match cells(alloc, text.as_bytes()) {
+    let picture = match picture(alloc, text.as_bytes()) {
         Ok(picture) => picture,
         Err(error) => return Err(Fault::Qr(error)),
     };
@@ -57,18 +58,27 @@ pub fn run<W: Write>(alloc: Global, text: Option<&str>, out: &mut W) -> Result<(
         .map_err(|_| Fault::CannotWrite)
 }
 
-// The symbol of data, as cells.
-fn cells(alloc: Global, data: &[u8]) -> QrResult<String>
+// The symbol of bytes, as cells.
+fn picture(alloc: Global, bytes: &[u8]) -> QrResult<String>
     ensures value { IfOk result (λ text. (v : Version) × (s : List Color)
-        × IsChosenSymbol v M «data».now s × (string_bytes text ≡ terminal_text v s)) }
-    ensures causes { IfErr result (IsRefused M «data».now) }
+        × IsChosenSymbol v M bytes.now s × (string_bytes text ≡ terminal_text v s)) }
+    ensures causes { IfErr result (IsRefused M bytes.now) }
 {
-    render::rectangles_make_pictures::<Str<'_>>();
-    let code = QrCode::new(alloc, data)?;
-    code.render()
-        .dark_color(Str(DARK))
-        .light_color(Str(LIGHT))
-        .build(alloc)
+    let code = QrCode::new(alloc, bytes)?;
+    let cells = cells(alloc, &code)?;
+    Ok(cells)
+}
+
+// A symbol as cells.
+fn cells(alloc: Global, code: &QrCode) -> QrResult<String>
+    ensures value { IfOk result (λ text.
+        string_bytes text ≡ terminal_text code.now.version code.now.modules) }
+    ensures memory { IsOkUnless result OutOfMemory }
+{
+    let mut renderer = code.render();
+    renderer.dark_color(Str(DARK));
+    renderer.light_color(Str(LIGHT));
+    renderer.build(alloc)
 }
 
 #[cfg(test)]

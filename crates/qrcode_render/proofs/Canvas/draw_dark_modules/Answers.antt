@@ -28,7 +28,7 @@ loop-color-preserved g c =
           let ok = w.in_ok-draw_dark_rect-in-Dark.ensures in (
             omega arith,
             ap (λ s. after (shown s)) w.self-is ∙ ap after ok.draws ∙ drawn_row-past rect x c.args.top c.args.width c.args.height k c.args.line.now _ Dark d c.loop-color-test.true w.in-Dark.is ∙ now.1,
-            ap across w.self-is ∙ ok.wide ∙ now.2,
-            ap down w.self-is ∙ ok.high ∙ now.3,
+            ap across w.self-is ∙ ok.across ∙ now.2,
+            ap down w.self-is ∙ ok.down ∙ now.3,
           )
     ]

@@ -1,6 +1,6 @@
 use Rattle.std.proofs.Common.{◌≡◌, ◌*◌, ◌++◌, take}
 use Rattle.std.specs.Prelude.{string_bytes}
-use Rattle.qrcode_render.specs.Lines.{marks_text}
+use Rattle.qrcode_render.specs.Texts.{marks_text}
 use Rattle.qrcode_render.proofs.lines.push_marks.Given as goal
 
 abbrev pub invariant-loop-i : goal.invariant-loop-i

@@ -1,5 +1,5 @@
 use Rattle.std.proofs.Common.{◌≡◌, ◌+◌, drop, length}
-use Rattle.qrcode_render.specs.Sketch.{marked_line}
+use Rattle.qrcode_render.specs.Bitmap.{marked_line}
 use Rattle.qrcode_render.proofs.marks.mark_line.Given as goal
 
 abbrev pub invariant-loop-i : goal.invariant-loop-i

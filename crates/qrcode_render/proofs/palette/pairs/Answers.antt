@@ -7,6 +7,6 @@ pub loop-first-preserved : goal.loop-first-preserved
 loop-first-preserved c =
     let texts = c.args.texts.now in
     let bytes = map string_bytes texts in
-    c.in_ok-push_pairs.ensures.texts
+    c.in_ok-push_pairs.ensures.appends
     ∙ ap₂ (λ xs a. xs ++ map (λ b. a ++ b) bytes) c.loop-first.invariant c.deref.ensures
     ∙ sym (flat_map_read (λ a. map (λ b. a ++ b) bytes) string_bytes texts c.loop-first.first-index c.first-item.result c.loop-first-test.true c.first-item.is)

@@ -8,8 +8,8 @@ regroup : (text m a s b h c v d k q : List ℕ) → text ++ (m ++ a) ++ (s ++ (b
 regroup text m a s b h c v d k q = simp append_assoc
 
 -- The text, the column, the sides, the way back along the row and along the column.
-pub returns-clause-writes : goal.returns-clause-writes
-returns-clause-writes c =
+pub returns-clause-appends : goal.returns-clause-appends
+returns-clause-appends c =
     let text = written c.args.paths.now in
     let column = c.args.column.now in
     let row = c.args.row.now in
@@ -47,7 +47,7 @@ push-requires-4 c =
     let before = c.push.ensures in
     omega (arith, c.requires, short.start, short.sides, short.along, short.up, ap length c.deref.ensures, ap length c.deref-2.ensures, ap length c.deref-3.ensures, ap length c.deref-4.ensures, before.end, before.room, c.push-2.ensures.end, c.push-2.ensures.room, c.push-3.ensures.end, c.push-3.ensures.room)
 
-pub returns-clause-short : goal.returns-clause-short
-returns-clause-short c =
+pub returns-clause-at_most : goal.returns-clause-at_most
+returns-clause-at_most c =
     let short = pieces_short c.args.column.now c.args.row.now in
     omega (arith, short.start, short.sides, short.along, short.up, ap length c.deref.ensures, ap length c.deref-2.ensures, ap length c.deref-3.ensures, ap length c.deref-4.ensures, c.push.ensures.end, c.push-2.ensures.end, c.push-3.ensures.end, c.push-4.ensures.end)

@@ -1,7 +1,7 @@
 use Rattle.std.proofs.Common.{◌≡◌, ℕ, ◌+◌, ◌*◌, ◌-◌, ◌++◌, List, length, ap, ap₂, ◌∙◌, sym, refl, get_or, false, arith, append_assoc}
 use Rattle.std.specs.Prelude.{string_bytes}
 use Rattle.std.specs.List.{flat_map, range_with_len}
-use Rattle.qrcode_render.specs.PaletteOf.{two_text}
+use Rattle.qrcode_render.specs.Lines.{two_text}
 use Rattle.qrcode_render.proofs.LineTexts.{flat_range_more}
 use Rattle.qrcode_render.proofs.unicode.push_columns.Goals as goal
 
@@ -18,8 +18,8 @@ loop-i-preserved c =
     ∙ append_assoc old (flat_map column (range_with_len 0 x)) (column x ++ column (x + 1))
     ∙ ap (λ y. old ++ y) (sym more)
 
-pub returns-in_ok-push_str-2-clause-bytes : goal.returns-in_ok-push_str-2-clause-bytes
-returns-in_ok-push_str-2-clause-bytes c =
+pub returns-in_ok-push_str-2-clause-appends : goal.returns-in_ok-push_str-2-clause-appends
+returns-in_ok-push_str-2-clause-appends c =
     let column : ℕ → List ℕ = λ x. two_text c.args.palette.now (get_or c.args.upper.now x false) (get_or c.args.lower.now x false) in
     let old = string_bytes c.args.text.now in
     let x = 2 * c.loop-i.i in

@@ -1,7 +1,7 @@
 use Rattle.std.proofs.Common.{◌≡◌, ◌*◌, ◌++◌, get_or, false}
 use Rattle.std.specs.Prelude.{string_bytes}
 use Rattle.std.specs.List.{flat_map, range_with_len}
-use Rattle.qrcode_render.specs.PaletteOf.{two_text}
+use Rattle.qrcode_render.specs.Lines.{two_text}
 use Rattle.qrcode_render.proofs.unicode.push_columns.Given as goal
 
 abbrev pub invariant-loop-i : goal.invariant-loop-i

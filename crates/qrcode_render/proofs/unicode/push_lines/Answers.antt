@@ -1,43 +1,53 @@
-use Rattle.std.proofs.Common.{◌≡◌, ◌+◌, ◌*◌, ◌/◌, ◌-◌, ◌<◌, ◌≤◌, ◌++◌, false, map, ap, ap₂, ◌∙◌, sym, arith}
+use Rattle.std.proofs.Common.{◌≡◌, ◌+◌, ◌*◌, ◌/◌, ◌-◌, ◌<◌, ◌≤◌, ◌++◌, true, false, nat_lt, map, ap, ap₂, ◌∙◌, sym, arith, if◌then◌else◌}
 use Rattle.std.specs.List.{join_with_byte, range_with_len}
-use Rattle.qrcode_render.specs.Dense.{dense_line, columns_text}
-use Rattle.qrcode_render.specs.Lines.{line_start, marks_text}
-use Rattle.qrcode_render.specs.PaletteOf.{two_text}
-use Rattle.qrcode_render.specs.Sketch.{row_of}
-use Rattle.qrcode_render.specs.SketchOf.{sketch}
-use Rattle.qrcode_render.specs.Texts.{half_blocks}
-use Rattle.qrcode_render.proofs.LineTexts.{joined_more}
-use Rattle.qrcode_render.proofs.DenseTexts.{dense_line-pair, dense_line-last, top_line}
+use Rattle.std.proofs.lemmas.Bool.Decides.{nat_tests}
+use Rattle.qrcode_render.specs.Bitmap.{row_of}
+use Rattle.qrcode_render.specs.Lines.{line_start, two_text}
+use Rattle.qrcode_render.specs.Texts.{marks_text, half_blocks, column_text, columns_text, dense_line, dense_text}
+use Rattle.qrcode_render.proofs.LineTexts.{joined_more, some_lines}
 use Rattle.qrcode_render.proofs.unicode.push_lines.Goals as goal
 
 pub loop-i-preserved : goal.loop-i-preserved
 loop-i-preserved c =
-    let s = sketch c.args.marks.now in
-    let line = dense_line c.args.marked c.args.other s in
+    let b = c.args.marks.now in
+    let line = dense_line c.args.marked c.args.other b in
     let i = c.loop-i.i in
+    let below : nat_lt (2 * i + 1) b.down ≡ true = grind (arith, nat_tests) in
     let two = two_text c.args.palette.now in
-    let below : 2 * i + 1 < s.down = omega arith in
-    let rows = ap₂ (columns_text two) c.row.ensures.row c.row-in-loop-i.ensures.row
-    ∙ (λ k. columns_text (λ upper lower. c.requires.twos upper lower k) (row_of s (2 * i)) (row_of s (2 * i + 1)))
-    ∙ sym (dense_line-pair c.args.marked c.args.other s i below) in
-    c.in_ok-push_columns.ensures.bytes
-    ∙ ap₂ (λ a b. a ++ b) (c.in_ok-begin_line.ensures.bytes ∙ ap (λ a. a ++ line_start i) c.loop-i.invariant) rows
+    let last = marks_text (half_blocks c.args.marked false) (half_blocks c.args.other false) (row_of b (2 * i)) in
+    let rows = ap₂ (columns_text two) c.row.ensures.value c.row-in-loop-i.ensures.value
+    ∙ (λ k. columns_text (λ upper lower. c.requires.twos upper lower k) (row_of b (2 * i)) (row_of b (2 * i + 1)))
+    ∙ sym (ap (λ t. if t then columns_text (column_text c.args.marked c.args.other) (row_of b (2 * i)) (row_of b (2 * i + 1)) else last) below) in
+    c.in_ok-push_columns.ensures.appends
+    ∙ ap₂ (λ x y. x ++ y) (c.in_ok-begin_line.ensures.appends ∙ ap (λ x. x ++ line_start i) c.loop-i.invariant) rows
     ∙ sym (joined_more line i)
 
-pub returns-in_ok-push_ones-clause-lines : goal.returns-in_ok-push_ones-clause-lines
-returns-in_ok-push_ones-clause-lines c =
-    let s = sketch c.args.marks.now in
-    let line = dense_line c.args.marked c.args.other s in
+pub returns-in_ok-push_ones-clause-value : goal.returns-in_ok-push_ones-clause-value
+unfolding dense_text
+returns-in_ok-push_ones-clause-value c =
+    let b = c.args.marks.now in
+    let line = dense_line c.args.marked c.args.other b in
     let i = c.loop-i.i in
-    let last : s.down ≤ 2 * i + 1 = omega arith in
+    let last : nat_lt (2 * i + 1) b.down ≡ false = grind (arith, nat_tests) in
     let place : c.sides-height.result.1 - 1 ≡ 2 * i = omega arith in
     let same : c.sides-height.result.1 / 2 ≡ i = omega arith in
-    let count : i + 1 ≡ (s.down + 1) / 2 = omega arith in
-    let row = ap₂ (λ a b. marks_text a b c.row-then-height-eq1.result.now) c.half.ensures c.half-then-height-eq1.ensures
-    ∙ ap (marks_text (half_blocks c.args.marked false) (half_blocks c.args.other false)) (c.row-then-height-eq1.ensures.row ∙ ap (row_of s) place)
-    ∙ top_line c.args.marked c.args.other (row_of s (2 * i))
-    ∙ sym (dense_line-last c.args.marked c.args.other s i last) in
-    c.in_ok-push_ones.ensures.bytes
-    ∙ ap₂ (λ a b. a ++ b) (c.in_ok-begin_line-2.ensures.bytes ∙ ap₂ (λ a n. a ++ line_start n) c.loop-i.invariant same) row
+    let count : i + 1 ≡ (b.down + 1) / 2 = omega arith in
+    let two = columns_text (column_text c.args.marked c.args.other) (row_of b (2 * i)) (row_of b (2 * i + 1)) in
+    let row = ap₂ (λ x y. marks_text x y c.row-then-height-eq1.result.now) c.half.ensures c.half-then-height-eq1.ensures
+    ∙ ap (marks_text (half_blocks c.args.marked false) (half_blocks c.args.other false)) (c.row-then-height-eq1.ensures.value ∙ ap (row_of b) place)
+    ∙ sym (ap (λ t. if t then two else marks_text (half_blocks c.args.marked false) (half_blocks c.args.other false) (row_of b (2 * i))) last) in
+    c.in_ok-push_ones.ensures.appends
+    ∙ ap₂ (λ x y. x ++ y) (c.in_ok-begin_line-2.ensures.appends ∙ ap₂ (λ x n. x ++ line_start n) c.loop-i.invariant same) row
     ∙ sym (joined_more line i)
     ∙ ap (λ n. join_with_byte 10 (map line (range_with_len 0 n))) count
+    ∙ sym (some_lines b.across (map line (range_with_len 0 ((b.down + 1) / 2))) c.requires.some)
+
+pub returns-else-height-eq1-clause-value : goal.returns-else-height-eq1-clause-value
+unfolding dense_text
+returns-else-height-eq1-clause-value c =
+    let b = c.args.marks.now in
+    let line = dense_line c.args.marked c.args.other b in
+    let count : c.loop-i.i ≡ (b.down + 1) / 2 = omega arith in
+    c.loop-i.invariant
+    ∙ ap (λ n. join_with_byte 10 (map line (range_with_len 0 n))) count
+    ∙ sym (some_lines b.across (map line (range_with_len 0 ((b.down + 1) / 2))) c.requires.some)

@@ -1,9 +1,8 @@
 use Rattle.std.proofs.Common.{◌≡◌, map}
 use Rattle.std.specs.Prelude.{string_bytes}
 use Rattle.std.specs.List.{join_with_byte, range_with_len}
-use Rattle.qrcode_render.specs.Dense.{dense_line}
-use Rattle.qrcode_render.specs.SketchOf.{sketch}
+use Rattle.qrcode_render.specs.Texts.{dense_line}
 use Rattle.qrcode_render.proofs.unicode.push_lines.Given as goal
 
 abbrev pub invariant-loop-i : goal.invariant-loop-i
-invariant-loop-i l = string_bytes l.text ≡ join_with_byte 10 (map (dense_line l.marked l.other (sketch l.marks)) (range_with_len 0 l.i))
+invariant-loop-i l = string_bytes l.text ≡ join_with_byte 10 (map (dense_line l.marked l.other l.marks) (range_with_len 0 l.i))

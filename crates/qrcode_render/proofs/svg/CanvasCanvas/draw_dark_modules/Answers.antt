@@ -14,6 +14,6 @@ returns-clause-draws c =
     let row = c.in_ok-row.ensures in
     let empty = c.in_ok-restart.ensures.empty in
     c.in_ok-push_str.ensures.bytes
-    ∙ ap (λ ys. text ++ ys) (c.as_str.ensures ∙ c.in_ok-write_modules.ensures.writes ∙ (λ k. drawn_row svg_rect c.args.left (row.top k) (row.width k) (row.height k) c.args.line.now (empty k)))
+    ∙ ap (λ ys. text ++ ys) (c.as_str.ensures ∙ c.in_ok-write_modules.ensures.appends ∙ (λ k. drawn_row svg_rect c.args.left (row.top k) (row.width k) (row.height k) c.args.line.now (empty k)))
     ∙ sym (svg_row-after c.args.left c.args.top c.args.width c.args.height c.args.line.now text [])
     ∙ ap draw (append-nil text)

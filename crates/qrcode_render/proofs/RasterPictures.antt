@@ -1,0 +1,30 @@
+-- What is drawn on rows of pixels.
+use Rattle.std.proofs.Common.{◌≡◌, ℕ, ◌+◌, ◌*◌, false, replicate, Bool, List, [], ◌∷◌, refl, ap, ◌∙◌, sym, subst}
+use Rattle.qrcode_types.specs.declared.types.Color.{Color}
+use Rattle.qrcode_types.specs.declared.types.Color.TheVariants.{Light, Dark}
+use Rattle.qrcode_render.specs.Bitmap.{Bitmap, marked, with_dark_modules}
+use Rattle.qrcode_render.specs.Drawn.{filled, drawn_row}
+use Rattle.qrcode_render.specs.Layout.{pixels_across, pixels_down}
+use Rattle.qrcode_render.specs.Raster.{Raster, light_raster, dark_rect_step}
+use Rattle.qrcode_render.specs.Setting.{Setting, IsWhole, layout_of, picture_of, drawing_of}
+use Rattle.qrcode_render.proofs.Pictures.{drawn-marks}
+use Rattle.qrcode_render.proofs.Rectangles.{drawn_from-through}
+
+-- the rectangles of a row change the bitmap alone
+pub drawn_row-raster : {P : Type 0} (left top width height : ℕ) (line : List Color) (r : Raster P)
+    → drawn_row dark_rect_step left top width height line r ≡ record r { bitmap = with_dark_modules left top width height line r.bitmap }
+drawn_row-raster left top width height [] r = refl
+drawn_row-raster left top width height (Light ∷ line) r = drawn_row-raster (left + width) top width height line r
+drawn_row-raster left top width height (Dark ∷ line) r = drawn_row-raster (left + width) top width height line (dark_rect_step left top width height r)
+
+-- an image of the drawing of a setting is an image of its picture
+pub raster-is_picture : {P I : Type 0} (is_image : Bitmap → P → P → I → Type 0) (b : Bitmap) (dark light : P) (s : Setting P) (image : I) → IsWhole s
+    → record { bitmap = b; dark = dark; light = light } ≡ drawing_of light_raster dark_rect_step s → is_image b dark light image → is_image (picture_of s) s.dark s.light image
+raster-is_picture {P = P} is_image b dark light s image whole shown is =
+    let w = pixels_across (layout_of s) in
+    let h = pixels_down (layout_of s) in
+    let with_marks : List Bool → Raster P = λ ms. record { bitmap = record { across = w; down = h; marks = ms }; dark = s.dark; light = s.light } in
+    let drawn : drawing_of light_raster dark_rect_step s ≡ with_marks (picture_of s).marks =
+    sym (drawn_from-through with_marks (filled (marked w)) dark_rect_step (λ left top width height ms. refl) (layout_of s) 0 s.content (replicate (w * h) false))
+    ∙ ap with_marks (drawn-marks (layout_of s) s.content whole.square whole.across whole.down) in
+    subst (λ (r : Raster P). is_image r.bitmap r.dark r.light image) (shown ∙ drawn) is

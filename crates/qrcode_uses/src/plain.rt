@@ -1,0 +1,113 @@
+//! Plain calls, as the README and the page on drawing show them.
+
+use qrcode::bits::Bits;
+use qrcode::render::image::{ImageBuffer, Luma, Rgb};
+use qrcode::render::string::Str;
+use qrcode::render::{pic, svg, unicode};
+use qrcode::types::QrResult;
+use qrcode::{EcLevel, QrCode, Version};
+use std::alloc::Global;
+
+/// A payment text to SVG.
+pub fn payment(alloc: Global) -> QrResult<String> {
+    let code = QrCode::new(alloc, b"BCD\n002\n1\nSCT\n..")?;
+    let picture = code
+        .render::<svg::Color>()
+        .min_dimensions(200, 200)
+        .build(alloc)?;
+    Ok(picture)
+}
+
+/// A ticket number as a Micro symbol in half blocks.
+pub fn ticket(alloc: Global) -> QrResult<String> {
+    let code = QrCode::with_version(alloc, b"01234567", Version::Micro(2), EcLevel::L)?;
+    let text = code.render::<unicode::Dense1x2>().build(alloc)?;
+    Ok(text)
+}
+
+/// Bits made by hand, with the number of a character set before the bytes.
+pub fn greek(alloc: Global) -> QrResult<QrCode> {
+    let mut bits = Bits::new(alloc, Version::Normal(1));
+    bits.push_eci_designator(9)?;
+    bits.push_byte_data(b"\xca\xfe\xe4\xe9\xea\xe1\xf2 QR")?;
+    bits.push_terminator(EcLevel::L)?;
+    let code = QrCode::with_bits(alloc, bits, EcLevel::L)?;
+    Ok(code)
+}
+
+/// A character for each module.
+pub fn chars(alloc: Global) -> QrResult<String> {
+    let code = QrCode::new(alloc, b"01234567")?;
+    let text = code.render::<char>().build(alloc)?;
+    Ok(text)
+}
+
+/// A text for each module.
+pub fn texts(alloc: Global) -> QrResult<String> {
+    let code = QrCode::new(alloc, b"01234567")?;
+    let text = code
+        .render()
+        .dark_color(Str("##"))
+        .light_color(Str("  "))
+        .build(alloc)?;
+    Ok(text)
+}
+
+/// SVG, in modules of 8 pixels.
+pub fn svg_text(alloc: Global) -> QrResult<String> {
+    let code = QrCode::new(alloc, b"01234567")?;
+    let text = code.render::<svg::Color>().build(alloc)?;
+    Ok(text)
+}
+
+/// PIC, whose unit is a module.
+pub fn pic_text(alloc: Global) -> QrResult<String> {
+    let code = QrCode::new(alloc, b"01234567")?;
+    let text = code.render::<pic::Color>().module_size(1).build(alloc)?;
+    Ok(text)
+}
+
+/// Grey pixels, as a PGM file.
+pub fn greys(alloc: Global) -> QrResult<Vec<u8>> {
+    let code = QrCode::new(alloc, b"01234567")?;
+    let image = code.render::<Luma>().build(alloc)?;
+    let (width, height) = image.dimensions();
+    let mut file = format!(in alloc; "P5\n{width} {height}\n255\n")?.into_bytes();
+    file.extend_from_slice(&image.into_raw())?;
+    Ok(file)
+}
+
+/// Pixels in colours, at least 200 across.
+pub fn colors(alloc: Global) -> QrResult<ImageBuffer<Rgb>> {
+    let code = QrCode::new(alloc, b"01234567")?;
+    let image = code
+        .render()
+        .dark_color(Rgb([128, 0, 0]))
+        .light_color(Rgb([255, 255, 128]))
+        .min_dimensions(200, 200)
+        .build(alloc)?;
+    Ok(image)
+}
+
+/// Modules of up to 4,096 pixels, without a quiet zone.
+pub fn wide(alloc: Global) -> QrResult<ImageBuffer<Luma>> {
+    let code = QrCode::new(alloc, b"01234567")?;
+    let image = code
+        .render::<Luma>()
+        .quiet_zone(false)
+        .module_dimensions(4096, 4096)
+        .build(alloc)?;
+    Ok(image)
+}
+
+/// Within 300 pixels, and the colours set after that.
+pub fn within(alloc: Global) -> QrResult<String> {
+    let code = QrCode::new(alloc, b"01234567")?;
+    let text = code
+        .render()
+        .max_dimensions(300, 300)
+        .dark_color(svg::Color("#008"))
+        .light_color(svg::Color("none"))
+        .build(alloc)?;
+    Ok(text)
+}
