@@ -1,11 +1,12 @@
 //! Questions and their answers.
 
-use crate::{checksum, contents, parts};
+use crate::{contents, drawings, parts};
 use qrcode::bits::{self, Bits};
 use qrcode::types::{Mode, QrError, QrResult};
-use qrcode::{EcLevel, QrCode, Version};
+use qrcode::{EcLevel, Version};
 use std::alloc::{AllocError, AllocFailed, Global};
 use std::io;
+use std::str::SplitWhitespace;
 use thiserror::Error;
 
 /// Why there is no answer.
@@ -46,20 +47,23 @@ impl From<io::Error> for Fault {
     }
 }
 
-/// The answer to a question:
+/// The answer to a question. Parts of a content are those of the module `parts`.
 ///
-/// - `symbol normal 7 Q numeric*8 byte=cafe`: the checksum of the symbol of such parts, its rows being
-///   lines of `#` and `.`, or why it is refused;
-/// - `most normal 7 Q`: the most digits, letters, bytes and pairs that a symbol holds;
-/// - `bits normal 7 numeric*8 byte=cafe`: how many bits such parts take;
+/// - `symbol normal 7 Q numeric*8`: the checksum of the symbol, its rows being lines of `#` and `.`;
+/// - `halfblocks normal 7 Q numeric*8`: that of its text in half blocks;
+/// - `functional normal 7`: that of the places of patterns and of the format word;
+/// - `masked normal 7 Q 5`: that of the patterns under a mask;
+/// - `codewords micro 1 L 6e5de0 2b63`: that of the patterns and of data and error correction;
+/// - `bits normal 7 numeric*8`: how many bits a content takes;
+/// - `most normal 7 Q`: the most digits, letters, bytes and pairs that a symbol holds, 0 for none;
 /// - `chosen Q numeric*8`: the version that is chosen for data.
+///
+/// What is refused is answered by the text of the refusal.
 pub fn answer(alloc: Global, question: &str) -> Result<String, Fault> {
     let given = match question.split_once(' ') {
-        Some(("symbol", rest)) => symbol(alloc, rest),
-        Some(("bits", rest)) => length(alloc, rest),
-        Some(("most", rest)) => most(alloc, rest),
         Some(("chosen", rest)) => chosen(alloc, rest),
-        _ => Err(Fault::Question),
+        Some((kind, rest)) => of_version(alloc, kind, rest),
+        None => Err(Fault::Question),
     };
     match given {
         Err(Fault::Qr(error)) if error != QrError::OutOfMemory => Ok(format!(in alloc; "{error}")?),
@@ -67,35 +71,77 @@ pub fn answer(alloc: Global, question: &str) -> Result<String, Fault> {
     }
 }
 
-fn symbol(alloc: Global, question: &str) -> Result<String, Fault> {
-    let mut words = question.split_whitespace();
+// The answer to a question on a version.
+fn of_version(alloc: Global, kind: &str, rest: &str) -> Result<String, Fault> {
+    let mut words = rest.split_whitespace();
     let version = version(words.next(), words.next())?;
-    let ec_level = level(words.next())?;
+    match kind {
+        "functional" => shown(alloc, drawings::functional_places(alloc, version)?),
+        "bits" => {
+            let bits = content(alloc, version, words)?;
+            Ok(format!(in alloc; "{}", bits.len())?)
+        }
+        _ => {
+            let ec_level = level(words.next())?;
+            of_level(alloc, kind, version, ec_level, words)
+        }
+    }
+}
+
+// The answer to a question on a version and a level.
+fn of_level(
+    alloc: Global,
+    kind: &str,
+    version: Version,
+    ec_level: EcLevel,
+    mut words: SplitWhitespace<'_>,
+) -> Result<String, Fault> {
+    match kind {
+        "symbol" => {
+            let mut bits = content(alloc, version, words)?;
+            bits.push_terminator(ec_level)?;
+            shown(alloc, drawings::symbol(alloc, bits, ec_level)?)
+        }
+        "halfblocks" => {
+            let mut bits = content(alloc, version, words)?;
+            bits.push_terminator(ec_level)?;
+            shown(alloc, drawings::half_blocks(alloc, bits, ec_level)?)
+        }
+        "masked" => {
+            let number = parts::parsed(words.next().ok_or(Fault::Question)?)? as usize;
+            shown(
+                alloc,
+                drawings::masked_patterns(alloc, version, ec_level, number)?,
+            )
+        }
+        "codewords" => {
+            let data = parts::from_hex(alloc, words.next().ok_or(Fault::Question)?)?;
+            let ec = parts::from_hex(alloc, words.next().ok_or(Fault::Question)?)?;
+            shown(
+                alloc,
+                drawings::codewords(alloc, version, ec_level, &data, &ec)?,
+            )
+        }
+        "most" => most(alloc, version, ec_level),
+        _ => Err(Fault::Question),
+    }
+}
+
+// A checksum as eight digits.
+fn shown(alloc: Global, checksum: u32) -> Result<String, Fault> {
+    Ok(format!(in alloc; "{checksum:08x}")?)
+}
+
+// The bits of a content.
+fn content(alloc: Global, version: Version, words: SplitWhitespace<'_>) -> Result<Bits, Fault> {
     let mut bits = no_bits(alloc, version)?;
     for word in words {
         parts::push(alloc, &mut bits, word)?;
     }
-    bits.push_terminator(ec_level)?;
-    let code = QrCode::with_bits(alloc, bits, ec_level)?;
-    let text = code.to_debug_str(alloc, '#', '.')?;
-    let sum = checksum::crc32(text.as_bytes());
-    Ok(format!(in alloc; "{sum:08x}")?)
+    Ok(bits)
 }
 
-fn length(alloc: Global, question: &str) -> Result<String, Fault> {
-    let mut words = question.split_whitespace();
-    let version = version(words.next(), words.next())?;
-    let mut bits = no_bits(alloc, version)?;
-    for word in words {
-        parts::push(alloc, &mut bits, word)?;
-    }
-    Ok(format!(in alloc; "{}", bits.len())?)
-}
-
-fn most(alloc: Global, question: &str) -> Result<String, Fault> {
-    let mut words = question.split_whitespace();
-    let version = version(words.next(), words.next())?;
-    let ec_level = level(words.next())?;
+fn most(alloc: Global, version: Version, ec_level: EcLevel) -> Result<String, Fault> {
     let digits = most_of(alloc, version, ec_level, Mode::Numeric)?;
     let letters = most_of(alloc, version, ec_level, Mode::Alphanumeric)?;
     let bytes = most_of(alloc, version, ec_level, Mode::Byte)?;

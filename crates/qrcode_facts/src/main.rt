@@ -5,6 +5,7 @@
 mod answers;
 mod checksum;
 mod contents;
+mod drawings;
 mod parts;
 
 use answers::Fault;

@@ -67,8 +67,8 @@ fn mode(name: &str) -> Result<Mode, Fault> {
     }
 }
 
-// The bytes of pairs of hexadecimal digits.
-fn from_hex(alloc: Global, text: &str) -> Result<Vec<u8>, Fault> {
+/// The bytes of pairs of hexadecimal digits.
+pub fn from_hex(alloc: Global, text: &str) -> Result<Vec<u8>, Fault> {
     let mut bytes = Vec::new(alloc);
     for digits in text.as_bytes().chunks(2) {
         bytes.push(byte_of(digits)?)?;

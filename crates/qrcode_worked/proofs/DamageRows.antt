@@ -17,7 +17,7 @@ use Rattle.qrcode_bits.specs.Written.{padding, zeros_end, ending, terminated}
 use Rattle.qrcode_symbol.specs.Symbol.{IsDamaged}
 use Rattle.qrcode_symbol.specs.Reading.{ReadsBits}
 use Rattle.qrcode_worked.specs.Data.{normal_bits, normal_block}
-use Rattle.qrcode_worked.specs.Squares.{normal_square, damaged_square, too_damaged_square}
+use Rattle.qrcode_worked.specs.Squares.{normal_square, damaged_square, too_damaged_square, wrong_format_square}
 use Rattle.qrcode_worked.proofs.CodeRows.{normal_bytes, normal_vanishes}
 
 pub damaged : IsDamaged (Normal (pos 1)) M VerticalLines normal_square damaged_square
@@ -27,6 +27,10 @@ damaged = record { square = refl; format = (lit≤ tt, (lit≤ tt, tt)); blocks 
 pub too_damaged : ¬ IsDamaged (Normal (pos 1)) M VerticalLines normal_square too_damaged_square
 unfolding number_bits number_of byte_at bytes_of carryless xor_sum block_table blocks_entry block_lengths data_length capacity total_ec_length remainder_from remainder product power syndrome codewords interleaved_place block blocks data_bytes data_bits with_check_bits format_word finder centres alignment timing dark_module version_pattern pattern format_copies format_index is_functional_place zigzag_place zigzag free_places stream padding zeros_end ending terminated
 too_damaged = λ h. let more : 6 ≤ 5 = h.blocks.0 in absurd (omega (arith, more))
+
+pub wrong_format : ¬ IsDamaged (Normal (pos 1)) M VerticalLines normal_square wrong_format_square
+unfolding number_bits number_of byte_at bytes_of carryless xor_sum block_table blocks_entry block_lengths data_length capacity total_ec_length remainder_from remainder product power syndrome codewords interleaved_place block blocks data_bytes data_bits with_check_bits format_word finder centres alignment timing dark_module version_pattern pattern format_copies format_index is_functional_place zigzag_place zigzag free_places stream padding zeros_end ending terminated
+wrong_format = λ h. let more : 4 ≤ 3 = h.format.0 in absurd (omega (arith, more))
 
 pub read : ReadsBits damaged_square (Normal (pos 1)) M normal_bits
 unfolding number_bits number_of byte_at bytes_of carryless xor_sum block_table blocks_entry block_lengths data_length capacity total_ec_length remainder_from remainder product power syndrome codewords interleaved_place block blocks data_bytes data_bits with_check_bits format_word finder centres alignment timing dark_module version_pattern pattern format_copies format_index is_functional_place zigzag_place zigzag free_places stream padding zeros_end ending terminated

@@ -25,6 +25,10 @@ pub leads : runs (0xEB ∷ 0xC0 ∷ []) ≡ segment Byte 0 1 ∷ segment Byte 1 
 unfolding alphabet is_alphanumeric is_kanji
 leads = refl
 
+pub no_leads : runs (0xEC ∷ 0xC0 ∷ []) ≡ segment Byte 0 2 ∷ []
+unfolding alphabet is_alphanumeric is_kanji
+no_leads = refl
+
 pub leads_joined : grouping (Normal (pos 1)) (runs (0xEB ∷ 0xC0 ∷ [])) ≡ segment Byte 0 2 ∷ []
 unfolding alphabet is_alphanumeric is_kanji
 leads_joined = refl

@@ -78,3 +78,7 @@ damaged_square = colors_in (
 -- the same with a wrong module in a sixth codeword, in column 9 of row 14
 abbrev pub too_damaged_square : List Color
 too_damaged_square = take 303 damaged_square ++ (Light ∷ drop 304 damaged_square)
+
+-- the damaged square with a fourth wrong bit in the first copy of the format word, in column 0 of row 8
+abbrev pub wrong_format_square : List Color
+wrong_format_square = take 168 damaged_square ++ (Light ∷ drop 169 damaged_square)

@@ -21,6 +21,7 @@ pub fn runs_and_groups()
     ensures parted { grouping (Micro (pos 2)) (runs (codes "123A"))
         ≡ segment Numeric 0 3 ∷ segment Alphanumeric 3 4 ∷ [] }
     ensures leads { runs (0xEB ∷ 0xC0 ∷ []) ≡ segment Byte 0 1 ∷ segment Byte 1 2 ∷ [] }
+    ensures no_leads { runs (0xEC ∷ 0xC0 ∷ []) ≡ segment Byte 0 2 ∷ [] }
     ensures leads_joined { grouping (Normal (pos 1)) (runs (0xEB ∷ 0xC0 ∷ []))
         ≡ segment Byte 0 2 ∷ [] }
     ensures pairs { runs (0x82 ∷ 0xA0 ∷ 0x81 ∷ 0x41 ∷ 0x41 ∷ 0xB1 ∷ 0x81 ∷ 0xF0 ∷ [])

@@ -13,7 +13,7 @@ ghost use Rattle.qrcode_symbol.specs.Penalties.{penalty, remasked, IsFirstLeast}
 ghost use Rattle.qrcode_symbol.specs.Reading.{ReadsBits};
 ghost use Rattle.qrcode_worked.specs.Printed.{masks, micro_masks};
 ghost use Rattle.qrcode_worked.specs.Data.{normal_bits, micro_bits, hello_data};
-ghost use Rattle.qrcode_worked.specs.Squares.{normal_square, micro_square, damaged_square, too_damaged_square};
+ghost use Rattle.qrcode_worked.specs.Squares.{normal_square, micro_square, damaged_square, too_damaged_square, wrong_format_square};
 
 /// How many places are free in Normal 1 and in the four versions of Micro.
 pub fn free_places()
@@ -61,6 +61,11 @@ pub fn damaged_symbol()
 /// With a sixth wrong codeword, one more than half of its error correction codewords, it is none of them.
 pub fn too_damaged_symbol()
     ensures { ¬ IsDamaged (Normal (pos 1)) M VerticalLines normal_square too_damaged_square }
+{}
+
+/// Nor with a fourth wrong bit in a copy of the format word.
+pub fn wrong_format()
+    ensures { ¬ IsDamaged (Normal (pos 1)) M VerticalLines normal_square wrong_format_square }
 {}
 
 /// The printed symbol of the same digits in Micro 2.

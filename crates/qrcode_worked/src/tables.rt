@@ -1,13 +1,15 @@
 //! Cells of tables that the standard prints (ISO/IEC 18004:2006).
 
-ghost use Rattle.std.specs.Prelude.{◌≡◌, ◌/◌, ◌%◌, pos, true, false, [], ◌∷◌, codes, map, flat_map};
+ghost use Rattle.std.specs.Prelude.{◌≡◌, ◌-◌, ◌/◌, ◌%◌, pos, true, false, [], ◌∷◌, codes, map, flat_map};
 ghost use Rattle.std.specs.List.{range_with_len};
 ghost use Rattle.qrcode_types.specs.Bits.{number_bits};
 ghost use Rattle.qrcode_types.specs.Characters.{is_digit, is_alphanumeric, alphanumeric_number, is_kanji, kanji_number};
-ghost use Rattle.qrcode_types.specs.Modes.{mode_bits_count, indicator, has_mode, length_bits_count};
-ghost use Rattle.qrcode_types.specs.Versions.{is_valid, side, remainder_bits};
+ghost use Rattle.qrcode_types.specs.Modes.{mode_bits_count, indicator, has_mode, length_bits_count, mode_max};
+ghost use Rattle.qrcode_types.specs.Versions.{is_valid, side, remainder_bits, ec_length};
 ghost use Rattle.qrcode_types.specs.declared.types.Version.TheVariants.{Normal, Micro};
+ghost use Rattle.qrcode_types.specs.declared.types.EcLevel.TheVariants.{L, M, Q, H};
 ghost use Rattle.qrcode_types.specs.declared.types.Mode.TheVariants.{Numeric, Alphanumeric, Byte, Kanji};
+ghost use Rattle.qrcode_ec.specs.Allowed.{reserved_codewords};
 ghost use Rattle.qrcode_bits.specs.Written.{eci_bits, terminator_length};
 ghost use Rattle.qrcode_worked.specs.Printed.{modes, band_ends, micro_versions, ends_of_pairs, beside_pairs};
 
@@ -80,4 +82,24 @@ pub fn pairs()
     ensures numbers { map (λ p. kanji_number (p / 256) (p % 256))
         (0x8140 ∷ 0x935f ∷ 0x9ffc ∷ 0xe040 ∷ 0xe4aa ∷ 0xebbf ∷ [])
         ≡ 0 ∷ 0xd9f ∷ 0x173c ∷ 0x1740 ∷ 0x1aaa ∷ 0x1fff ∷ [] }
+{}
+
+/// The least mode that can write what either of two can, in the order of `modes`.
+pub fn joined_modes()
+    ensures { map (λ a. map (mode_max a) modes) modes
+        ≡ (Numeric ∷ Alphanumeric ∷ Byte ∷ Byte ∷ []) ∷ (Alphanumeric ∷ Alphanumeric ∷ Byte ∷ Byte ∷ [])
+        ∷ (Byte ∷ Byte ∷ Byte ∷ Byte ∷ []) ∷ (Byte ∷ Byte ∷ Byte ∷ Kanji ∷ []) ∷ [] }
+{}
+
+/// Table 9: how many wrong codewords are corrected in the versions in which some error correction
+/// codewords correct nothing, and in their neighbours.
+pub fn errors()
+    ensures normal { map (λ v. map (λ l. (ec_length v l - reserved_codewords v l) / 2) (L ∷ M ∷ Q ∷ H ∷ []))
+        (Normal (pos 1) ∷ Normal (pos 2) ∷ Normal (pos 3) ∷ Normal (pos 4) ∷ [])
+        ≡ (2 ∷ 4 ∷ 6 ∷ 8 ∷ []) ∷ (4 ∷ 8 ∷ 11 ∷ 14 ∷ []) ∷ (7 ∷ 13 ∷ 9 ∷ 11 ∷ []) ∷ (10 ∷ 9 ∷ 13 ∷ 8 ∷ []) ∷ [] }
+    ensures micro { map (λ v. (ec_length v L - reserved_codewords v L) / 2) micro_versions
+        ≡ 0 ∷ 1 ∷ 2 ∷ 3 ∷ [] }
+    ensures micro_higher { map (λ v. (ec_length v M - reserved_codewords v M) / 2)
+        (Micro (pos 2) ∷ Micro (pos 3) ∷ Micro (pos 4) ∷ []) ≡ 2 ∷ 4 ∷ 5 ∷ [] }
+    ensures quartile { (ec_length (Micro (pos 4)) Q - reserved_codewords (Micro (pos 4)) Q) / 2 ≡ 7 }
 {}

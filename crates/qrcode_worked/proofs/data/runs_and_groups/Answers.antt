@@ -18,3 +18,6 @@ returns-clause-leads_joined c = segments.leads_joined
 
 pub returns-clause-pairs : goal.returns-clause-pairs
 returns-clause-pairs c = segments.pairs
+
+pub returns-clause-no_leads : goal.returns-clause-no_leads
+returns-clause-no_leads c = segments.no_leads

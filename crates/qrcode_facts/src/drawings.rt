@@ -1,0 +1,106 @@
+//! What canvases and pictures show.
+
+ghost use Rattle.std.specs.Prelude.{◌≤◌, length, IsTrue};
+ghost use Rattle.qrcode_types.specs.Versions.{has_level, capacity};
+
+use crate::answers::Fault;
+use crate::checksum;
+use qrcode::bits::Bits;
+use qrcode::canvas::{Canvas, MaskPattern};
+use qrcode::render::unicode::Dense1x2;
+use qrcode::types::{QrError, QrResult};
+use qrcode::{EcLevel, QrCode, Version};
+use std::alloc::Global;
+
+static MASKS: [MaskPattern; 8] = [
+    MaskPattern::Checkerboard,
+    MaskPattern::HorizontalLines,
+    MaskPattern::VerticalLines,
+    MaskPattern::DiagonalLines,
+    MaskPattern::LargeCheckerboard,
+    MaskPattern::Fields,
+    MaskPattern::Diamonds,
+    MaskPattern::Meadow,
+];
+
+/// The checksum of the symbol of ended bits.
+pub fn symbol(alloc: Global, bits: Bits, ec_level: EcLevel) -> QrResult<u32>
+    requires { IsTrue (has_level bits.version ec_level)
+        → capacity bits.version ec_level ≤ length bits.bits }
+{
+    let code = QrCode::with_bits(alloc, bits, ec_level)?;
+    let text = code.to_debug_str(alloc, '#', '.')?;
+    Ok(checksum::crc32(text.as_bytes()))
+}
+
+/// The checksum of its text in half blocks.
+pub fn half_blocks(alloc: Global, bits: Bits, ec_level: EcLevel) -> Result<u32, Fault>
+    requires { IsTrue (has_level bits.version ec_level)
+        → capacity bits.version ec_level ≤ length bits.bits }
+{
+    let code = QrCode::with_bits(alloc, bits, ec_level)?;
+    let renderer = code.render::<Dense1x2>();
+    if !renderer.fits() {
+        return Err(Fault::Question);
+    }
+    Ok(checksum::crc32(renderer.build(alloc)?.as_bytes()))
+}
+
+/// The checksum of which places of a version belong to patterns and to the format word.
+pub fn functional_places(alloc: Global, version: Version) -> QrResult<u32> {
+    let code = QrCode::with_version(alloc, b"1", version, EcLevel::L)?;
+    let width = code.width();
+    let mut places = Vec::new(alloc);
+    for y in 0..width {
+        for x in 0..width {
+            places.push(code.is_functional(x, y))?;
+        }
+    }
+    checksum_of(alloc, width, &places)
+}
+
+/// The checksum of the patterns of a version under a mask, all other modules being light before it.
+pub fn masked_patterns(
+    alloc: Global,
+    version: Version,
+    ec_level: EcLevel,
+    number: usize,
+) -> Result<u32, Fault> {
+    let mask = *MASKS.get(number).ok_or(Fault::Question)?;
+    if !version.has_level(ec_level) || !mask.exists_in(version) {
+        return Err(Fault::Qr(QrError::InvalidVersion));
+    }
+    let mut canvas = Canvas::new(alloc, version, ec_level)?;
+    canvas.draw_all_functional_patterns();
+    canvas.apply_mask(mask);
+    Ok(checksum_of(alloc, version.width() as usize, &canvas.to_bools(alloc)?)?)
+}
+
+/// The checksum of the patterns of a version and of codewords, without a mask.
+pub fn codewords(
+    alloc: Global,
+    version: Version,
+    ec_level: EcLevel,
+    data: &[u8],
+    ec: &[u8],
+) -> QrResult<u32> {
+    if !version.is_valid() {
+        return Err(QrError::InvalidVersion);
+    }
+    let mut canvas = Canvas::new(alloc, version, ec_level)?;
+    canvas.draw_all_functional_patterns();
+    canvas.draw_data(data, ec);
+    checksum_of(alloc, version.width() as usize, &canvas.to_bools(alloc)?)
+}
+
+// The checksum of modules as lines of `#` and `.`.
+fn checksum_of(alloc: Global, width: usize, modules: &[bool]) -> QrResult<u32> {
+    let mut text = String::new(alloc);
+    for (i, dark) in modules.iter().enumerate() {
+        if i > 0 && i % width.max(1) == 0 {
+            text.push('\n')?;
+        }
+        text.push(if *dark { '#' } else { '.' })?;
+    }
+    Ok(checksum::crc32(text.as_bytes()))
+}
