@@ -6,8 +6,8 @@ use Rattle.qrcode_types.specs.Tables.{block_table}
 use Rattle.qrcode_types.specs.Versions.{blocks_entry, block_lengths, data_length, capacity}
 use Rattle.qrcode_types.specs.Characters.{alphabet, alphanumeric_number, kanji_number}
 use Rattle.qrcode_types.specs.declared.types.Version.TheVariants.{Normal, Micro}
-use Rattle.qrcode_types.specs.declared.types.EcLevel.TheVariants.{L, Q}
-use Rattle.qrcode_types.specs.declared.types.Mode.TheVariants.{Numeric, Alphanumeric, Kanji}
+use Rattle.qrcode_types.specs.declared.types.EcLevel.TheVariants.{L, Q, H}
+use Rattle.qrcode_types.specs.declared.types.Mode.TheVariants.{Numeric, Alphanumeric, Byte, Kanji}
 use Rattle.qrcode_bits.specs.Written.{written, written_piece, padding, zeros_end, ending, terminated}
 use Rattle.qrcode_bits.specs.Spelling.{Spells}
 use Rattle.qrcode_worked.specs.Data.{piece, digits, normal_bits, micro_bits, normal_data, hello_data}
@@ -51,6 +51,10 @@ hello = refl
 pub pairs : bytes_of (written_piece (Normal (pos 1)) (piece Kanji (0x93 ∷ 0x5F ∷ 0xE4 ∷ 0xAA ∷ []))) ≡ 0x80 ∷ 0x26 ∷ 0xCF ∷ 0xEA ∷ 0xA8 ∷ []
 unfolding number_bits number_of byte_at bytes_of kanji_number
 pairs = refl
+
+pub bytes : bytes_of (terminated (Normal (pos 1)) H (written_piece (Normal (pos 1)) (piece Byte (codes "a1234bc")))) ≡ 0x40 ∷ 0x76 ∷ 0x13 ∷ 0x13 ∷ 0x23 ∷ 0x33 ∷ 0x46 ∷ 0x26 ∷ 0x30 ∷ []
+unfolding number_bits number_of byte_at bytes_of block_table blocks_entry block_lengths data_length capacity padding zeros_end ending terminated
+bytes = refl
 
 pub half : bytes_of (terminated (Micro (pos 3)) L (written_piece (Micro (pos 3)) (piece Numeric (replicate 20 48)))) ≡ 0x28 ∷ replicate 10 0
 unfolding number_bits number_of byte_at bytes_of block_table blocks_entry block_lengths data_length capacity padding zeros_end ending terminated

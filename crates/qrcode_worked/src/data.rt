@@ -3,11 +3,12 @@
 ghost use Rattle.std.specs.Prelude.{◌≡◌, pos, [], ◌∷◌, codes, map, replicate};
 ghost use Rattle.qrcode_types.specs.Bits.{bytes_of};
 ghost use Rattle.qrcode_types.specs.declared.types.Version.TheVariants.{Normal, Micro};
-ghost use Rattle.qrcode_types.specs.declared.types.EcLevel.TheVariants.{L, Q};
+ghost use Rattle.qrcode_types.specs.declared.types.EcLevel.TheVariants.{L, Q, H};
 ghost use Rattle.qrcode_types.specs.declared.types.Mode.TheVariants.{Numeric, Alphanumeric, Byte, Kanji};
 ghost use Rattle.qrcode_bits.specs.Segments.{cost, total_cost};
 ghost use Rattle.qrcode_bits.specs.Runs.{runs};
 ghost use Rattle.qrcode_bits.specs.Grouping.{grouping};
+ghost use Rattle.qrcode_bits.specs.Choice.{least_version};
 ghost use Rattle.qrcode_bits.specs.Written.{written, written_piece, terminated};
 ghost use Rattle.qrcode_bits.specs.Spelling.{Spells};
 ghost use Rattle.qrcode_worked.specs.Data.{segment, piece, digits, normal_bits, micro_bits, normal_data, hello_data};
@@ -60,10 +61,20 @@ pub fn written_text()
     ensures pairs { bytes_of (written_piece (Normal (pos 1))
         (piece Kanji (0x93 ∷ 0x5F ∷ 0xE4 ∷ 0xAA ∷ [])))
         ≡ 0x80 ∷ 0x26 ∷ 0xCF ∷ 0xEA ∷ 0xA8 ∷ [] }
+    ensures bytes { bytes_of (terminated (Normal (pos 1)) H
+        (written_piece (Normal (pos 1)) (piece Byte (codes "a1234bc"))))
+        ≡ 0x40 ∷ 0x76 ∷ 0x13 ∷ 0x13 ∷ 0x23 ∷ 0x33 ∷ 0x46 ∷ 0x26 ∷ 0x30 ∷ [] }
     ensures half { bytes_of (terminated (Micro (pos 3)) L
         (written_piece (Micro (pos 3)) (piece Numeric (replicate 20 48))))
         ≡ 0x28 ∷ replicate 10 0 }
     ensures twice { bytes_of (terminated (Micro (pos 1)) L (written (Micro (pos 1))
         (piece Numeric (codes "1") ∷ piece Numeric (codes "1") ∷ [])))
         ≡ 0x22 ∷ 0x44 ∷ 0x00 ∷ [] }
+{}
+
+/// Table 7: the least versions that hold so many bits at level L.
+pub fn least_versions()
+    ensures { map (least_version L) (152 ∷ 153 ∷ 640 ∷ 641 ∷ 22496 ∷ 22497 ∷ 23648 ∷ [])
+        ≡ Normal (pos 1) ∷ Normal (pos 2) ∷ Normal (pos 4) ∷ Normal (pos 5) ∷ Normal (pos 39)
+        ∷ Normal (pos 40) ∷ Normal (pos 40) ∷ [] }
 {}

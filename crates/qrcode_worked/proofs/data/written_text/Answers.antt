@@ -12,3 +12,6 @@ returns-clause-half c = bits.half
 
 pub returns-clause-twice : goal.returns-clause-twice
 returns-clause-twice c = bits.twice
+
+pub returns-clause-bytes : goal.returns-clause-bytes
+returns-clause-bytes c = bits.bytes
