@@ -2,6 +2,7 @@
 
 use crate::{contents, drawings, parts};
 use qrcode::bits::{self, Bits};
+use qrcode::render::{Pixel, pic, svg};
 use qrcode::types::{Mode, QrError, QrResult};
 use qrcode::{EcLevel, Version};
 use std::alloc::{AllocError, AllocFailed, Global};
@@ -51,6 +52,8 @@ impl From<io::Error> for Fault {
 ///
 /// - `symbol normal 7 Q numeric*8`: the checksum of the symbol, its rows being lines of `#` and `.`;
 /// - `halfblocks normal 7 Q numeric*8`: that of its text in half blocks;
+/// - `svg normal 7 Q 5 2 numeric*8`, `pic ..`: that of its text, in modules of so many pixels across and
+///   down;
 /// - `functional normal 7`: that of the places of patterns and of the format word;
 /// - `masked normal 7 Q 5`: that of the patterns under a mask;
 /// - `codewords micro 1 L 6e5de0 2b63`: that of the patterns and of data and error correction;
@@ -107,6 +110,8 @@ fn of_level(
             bits.push_terminator(ec_level)?;
             shown(alloc, drawings::half_blocks(alloc, bits, ec_level)?)
         }
+        "svg" => vectors::<svg::Color<'_>>(alloc, version, ec_level, words),
+        "pic" => vectors::<pic::Color>(alloc, version, ec_level, words),
         "masked" => {
             let number = parts::parsed(words.next().ok_or(Fault::Question)?)? as usize;
             shown(
@@ -125,6 +130,20 @@ fn of_level(
         "most" => most(alloc, version, ec_level),
         _ => Err(Fault::Question),
     }
+}
+
+// The answer to a question on a text of rectangles.
+fn vectors<P: Pixel<Image = String>>(
+    alloc: Global,
+    version: Version,
+    ec_level: EcLevel,
+    mut words: SplitWhitespace<'_>,
+) -> Result<String, Fault> {
+    let across = parts::parsed(words.next().ok_or(Fault::Question)?)?;
+    let down = parts::parsed(words.next().ok_or(Fault::Question)?)?;
+    let mut bits = content(alloc, version, words)?;
+    bits.push_terminator(ec_level)?;
+    shown(alloc, drawings::vectors::<P>(alloc, bits, ec_level, across, down)?)
 }
 
 // A checksum as eight digits.

@@ -7,6 +7,7 @@ use crate::answers::Fault;
 use crate::checksum;
 use qrcode::bits::Bits;
 use qrcode::canvas::{Canvas, MaskPattern};
+use qrcode::render::Pixel;
 use qrcode::render::unicode::Dense1x2;
 use qrcode::types::{QrError, QrResult};
 use qrcode::{EcLevel, QrCode, Version};
@@ -40,6 +41,26 @@ pub fn half_blocks(alloc: Global, bits: Bits, ec_level: EcLevel) -> Result<u32, 
 {
     let code = QrCode::with_bits(alloc, bits, ec_level)?;
     let renderer = code.render::<Dense1x2>();
+    if !renderer.fits() {
+        return Err(Fault::Question);
+    }
+    Ok(checksum::crc32(renderer.build(alloc)?.as_bytes()))
+}
+
+/// The checksum of its text in SVG or in PIC, in modules of so many pixels across and down.
+pub fn vectors<P: Pixel<Image = String>>(
+    alloc: Global,
+    bits: Bits,
+    ec_level: EcLevel,
+    across: u32,
+    down: u32,
+) -> Result<u32, Fault>
+    requires { IsTrue (has_level bits.version ec_level)
+        → capacity bits.version ec_level ≤ length bits.bits }
+{
+    let code = QrCode::with_bits(alloc, bits, ec_level)?;
+    let mut renderer = code.render::<P>();
+    renderer.module_dimensions(across, down);
     if !renderer.fits() {
         return Err(Fault::Question);
     }
