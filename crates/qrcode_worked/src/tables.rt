@@ -9,7 +9,7 @@ ghost use Rattle.qrcode_types.specs.Versions.{is_valid, side, remainder_bits, ec
 ghost use Rattle.qrcode_types.specs.declared.types.Version.TheVariants.{Normal, Micro};
 ghost use Rattle.qrcode_types.specs.declared.types.EcLevel.TheVariants.{L, M, Q, H};
 ghost use Rattle.qrcode_types.specs.declared.types.Mode.TheVariants.{Numeric, Alphanumeric, Byte, Kanji};
-ghost use Rattle.qrcode_ec.specs.Allowed.{reserved_codewords};
+ghost use Rattle.qrcode_ec.specs.Allowed.{misdecode_protection};
 ghost use Rattle.qrcode_bits.specs.Written.{eci_bits, terminator_length};
 ghost use Rattle.qrcode_worked.specs.Printed.{modes, band_ends, micro_versions, ends_of_pairs, beside_pairs};
 
@@ -94,12 +94,12 @@ pub fn joined_modes()
 /// Table 9: how many wrong codewords are corrected in the versions in which some error correction
 /// codewords correct nothing, and in their neighbours.
 pub fn errors()
-    ensures normal { map (λ v. map (λ l. (ec_length v l - reserved_codewords v l) / 2) (L ∷ M ∷ Q ∷ H ∷ []))
+    ensures normal { map (λ v. map (λ l. (ec_length v l - misdecode_protection v l) / 2) (L ∷ M ∷ Q ∷ H ∷ []))
         (Normal (pos 1) ∷ Normal (pos 2) ∷ Normal (pos 3) ∷ Normal (pos 4) ∷ [])
         ≡ (2 ∷ 4 ∷ 6 ∷ 8 ∷ []) ∷ (4 ∷ 8 ∷ 11 ∷ 14 ∷ []) ∷ (7 ∷ 13 ∷ 9 ∷ 11 ∷ []) ∷ (10 ∷ 9 ∷ 13 ∷ 8 ∷ []) ∷ [] }
-    ensures micro { map (λ v. (ec_length v L - reserved_codewords v L) / 2) micro_versions
+    ensures micro { map (λ v. (ec_length v L - misdecode_protection v L) / 2) micro_versions
         ≡ 0 ∷ 1 ∷ 2 ∷ 3 ∷ [] }
-    ensures micro_higher { map (λ v. (ec_length v M - reserved_codewords v M) / 2)
+    ensures micro_higher { map (λ v. (ec_length v M - misdecode_protection v M) / 2)
         (Micro (pos 2) ∷ Micro (pos 3) ∷ Micro (pos 4) ∷ []) ≡ 2 ∷ 4 ∷ 5 ∷ [] }
-    ensures quartile { (ec_length (Micro (pos 4)) Q - reserved_codewords (Micro (pos 4)) Q) / 2 ≡ 7 }
+    ensures quartile { (ec_length (Micro (pos 4)) Q - misdecode_protection (Micro (pos 4)) Q) / 2 ≡ 7 }
 {}
