@@ -143,7 +143,10 @@ fn vectors<P: Pixel<Image = String>>(
     let down = parts::parsed(words.next().ok_or(Fault::Question)?)?;
     let mut bits = content(alloc, version, words)?;
     bits.push_terminator(ec_level)?;
-    shown(alloc, drawings::vectors::<P>(alloc, bits, ec_level, across, down)?)
+    shown(
+        alloc,
+        drawings::vectors::<P>(alloc, bits, ec_level, across, down)?,
+    )
 }
 
 // A checksum as eight digits.
