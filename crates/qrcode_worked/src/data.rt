@@ -35,8 +35,8 @@ pub fn costs()
     ensures joined { cost (Normal (pos 1)) (segment Alphanumeric 0 8) ≡ 57 }
     ensures micro_apart { map (cost (Micro (pos 2))) (runs (codes "123A")) ≡ 15 ∷ 10 ∷ [] }
     ensures micro_joined { cost (Micro (pos 2)) (segment Alphanumeric 0 4) ≡ 26 }
-    ensures grouped { total_cost (Normal (pos 1)) (grouping (Normal (pos 1)) (runs (codes "a1234b")))
-        ≡ 68 }
+    ensures grouped { total_cost (Normal (pos 1))
+        (grouping (Normal (pos 1)) (runs (codes "a1234b"))) ≡ 68 }
     ensures one_segment { cost (Normal (pos 1)) (segment Byte 0 6) ≡ 60 }
 {}
 

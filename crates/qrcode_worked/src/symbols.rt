@@ -35,11 +35,11 @@ pub fn corrections()
 /// The penalties of a light square, and of the printed symbols under each mask.
 pub fn penalties()
     ensures light { normal_penalty 21 (λ x y. false) ≡ 2098 }
-    ensures normal { map (λ k. penalty (Normal (pos 1)) (remasked (Normal (pos 1)) M VerticalLines k normal_square))
-        masks
+    ensures normal { map (λ k. penalty (Normal (pos 1))
+        (remasked (Normal (pos 1)) M VerticalLines k normal_square)) masks
         ≡ 1058 ∷ 1097 ∷ 1040 ∷ 1054 ∷ 1137 ∷ 1202 ∷ 1102 ∷ 1046 ∷ [] }
-    ensures micro { map (λ k. penalty (Micro (pos 2)) (remasked (Micro (pos 2)) L LargeCheckerboard k micro_square))
-        micro_masks
+    ensures micro { map (λ k. penalty (Micro (pos 2))
+        (remasked (Micro (pos 2)) L LargeCheckerboard k micro_square)) micro_masks
         ≡ 132 ∷ 68 ∷ 68 ∷ 136 ∷ [] }
 {}
 

@@ -23,7 +23,7 @@ pub fn marks()
     ensures digits { map is_digit (codes "/09:") ≡ false ∷ true ∷ true ∷ false ∷ [] }
 {}
 
-/// Table 2: the mode indicators of Normal, and how many bits they have; those of the versions of Micro.
+/// Table 2: the mode indicators of Normal, and how many bits they have; those of Micro.
 pub fn indicators()
     ensures normal { map (indicator (Normal (pos 1))) modes ≡ 1 ∷ 2 ∷ 4 ∷ 8 ∷ [] }
     ensures micro { map (indicator (Micro (pos 4))) modes ≡ 0 ∷ 1 ∷ 2 ∷ 3 ∷ [] }
@@ -87,19 +87,23 @@ pub fn pairs()
 /// The least mode that can write what either of two can, in the order of `modes`.
 pub fn joined_modes()
     ensures { map (λ a. map (mode_max a) modes) modes
-        ≡ (Numeric ∷ Alphanumeric ∷ Byte ∷ Byte ∷ []) ∷ (Alphanumeric ∷ Alphanumeric ∷ Byte ∷ Byte ∷ [])
+        ≡ (Numeric ∷ Alphanumeric ∷ Byte ∷ Byte ∷ [])
+        ∷ (Alphanumeric ∷ Alphanumeric ∷ Byte ∷ Byte ∷ [])
         ∷ (Byte ∷ Byte ∷ Byte ∷ Byte ∷ []) ∷ (Byte ∷ Byte ∷ Byte ∷ Kanji ∷ []) ∷ [] }
 {}
 
 /// Table 9: how many wrong codewords are corrected in the versions in which some error correction
 /// codewords correct nothing, and in their neighbours.
 pub fn errors()
-    ensures normal { map (λ v. map (λ l. (ec_length v l - misdecode_protection v l) / 2) (L ∷ M ∷ Q ∷ H ∷ []))
+    ensures normal { map (λ v. map (λ l. (ec_length v l - misdecode_protection v l) / 2)
+        (L ∷ M ∷ Q ∷ H ∷ []))
         (Normal (pos 1) ∷ Normal (pos 2) ∷ Normal (pos 3) ∷ Normal (pos 4) ∷ [])
-        ≡ (2 ∷ 4 ∷ 6 ∷ 8 ∷ []) ∷ (4 ∷ 8 ∷ 11 ∷ 14 ∷ []) ∷ (7 ∷ 13 ∷ 9 ∷ 11 ∷ []) ∷ (10 ∷ 9 ∷ 13 ∷ 8 ∷ []) ∷ [] }
+        ≡ (2 ∷ 4 ∷ 6 ∷ 8 ∷ []) ∷ (4 ∷ 8 ∷ 11 ∷ 14 ∷ [])
+        ∷ (7 ∷ 13 ∷ 9 ∷ 11 ∷ []) ∷ (10 ∷ 9 ∷ 13 ∷ 8 ∷ []) ∷ [] }
     ensures micro { map (λ v. (ec_length v L - misdecode_protection v L) / 2) micro_versions
         ≡ 0 ∷ 1 ∷ 2 ∷ 3 ∷ [] }
     ensures micro_higher { map (λ v. (ec_length v M - misdecode_protection v M) / 2)
         (Micro (pos 2) ∷ Micro (pos 3) ∷ Micro (pos 4) ∷ []) ≡ 2 ∷ 4 ∷ 5 ∷ [] }
-    ensures quartile { (ec_length (Micro (pos 4)) Q - misdecode_protection (Micro (pos 4)) Q) / 2 ≡ 7 }
+    ensures quartile { (ec_length (Micro (pos 4)) Q - misdecode_protection (Micro (pos 4)) Q) / 2
+        ≡ 7 }
 {}
