@@ -1,4 +1,5 @@
--- How the codewords of each version and level are parted into blocks, and how many codewords a version has.
+-- How the codewords of each version and level are parted into blocks, how many codewords a version has, and how many
+-- remainder bits.
 use Rattle.std.specs.Prelude.{ℕ, List, [], ◌∷◌}
 
 -- A row for each version, Normal 1 to 40 and then Micro 1 to 4, and in it an entry for each of the levels L, M, Q, H: the
@@ -57,3 +58,10 @@ codeword_table =
     26 ∷ 44 ∷ 70 ∷ 100 ∷ 134 ∷ 172 ∷ 196 ∷ 242 ∷ 292 ∷ 346 ∷ 404 ∷ 466 ∷ 532 ∷ 581 ∷ 655 ∷ 733 ∷ 815 ∷ 901 ∷ 991 ∷ 1085 ∷
     1156 ∷ 1258 ∷ 1364 ∷ 1474 ∷ 1588 ∷ 1706 ∷ 1828 ∷ 1921 ∷ 2051 ∷ 2185 ∷ 2323 ∷ 2465 ∷ 2611 ∷ 2761 ∷ 2876 ∷ 3034 ∷ 3196 ∷ 3362 ∷ 3532 ∷ 3706 ∷
     5 ∷ 10 ∷ 17 ∷ 24 ∷ []
+
+-- the remainder bits of each version, the free modules behind the last codeword, in the same order of versions
+abbrev pub remainder_table : List ℕ
+remainder_table =
+    0 ∷ 7 ∷ 7 ∷ 7 ∷ 7 ∷ 7 ∷ 0 ∷ 0 ∷ 0 ∷ 0 ∷ 0 ∷ 0 ∷ 0 ∷ 3 ∷ 3 ∷ 3 ∷ 3 ∷ 3 ∷ 3 ∷ 3 ∷
+    4 ∷ 4 ∷ 4 ∷ 4 ∷ 4 ∷ 4 ∷ 4 ∷ 3 ∷ 3 ∷ 3 ∷ 3 ∷ 3 ∷ 3 ∷ 3 ∷ 0 ∷ 0 ∷ 0 ∷ 0 ∷ 0 ∷ 0 ∷
+    0 ∷ 0 ∷ 0 ∷ 0 ∷ []

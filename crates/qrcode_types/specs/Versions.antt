@@ -1,7 +1,7 @@
 -- Versions and levels, and what the tables have for them.
 use Rattle.std.specs.Prelude.{ℕ, ◌+◌, ◌-◌, ◌*◌, ◌==◌, nat_le, ◌&&◌, ◌||◌, not, ℤ, pos, negsuc, nat_abs, Bool, true, false, List, [], ◌∷◌, ◌++◌, length, map, sum, sum_by, count_by, replicate, slice_index, slice_index_or, if◌then◌else◌}
 use Rattle.std.specs.List.{range_with_len}
-use Rattle.qrcode_types.specs.Tables.{block_table, codeword_table}
+use Rattle.qrcode_types.specs.Tables.{block_table, codeword_table, remainder_table}
 use Rattle.qrcode_types.specs.declared.types.Version.{Version}
 use Rattle.qrcode_types.specs.declared.types.Version.TheVariants.{Normal, Micro}
 use Rattle.qrcode_types.specs.declared.types.EcLevel.{EcLevel}
@@ -88,6 +88,4 @@ codeword_count v = slice_index codeword_table (row_of v)
 
 -- the free modules behind the last codeword
 abbrev pub remainder_bits : Version → ℕ
-remainder_bits (Normal v) = let n = nat_abs v in
-    if nat_le n 1 then 0 else (if nat_le n 6 then 7 else (if nat_le n 13 then 0 else (if nat_le n 20 then 3 else (if nat_le n 27 then 4 else (if nat_le n 34 then 3 else 0)))))
-remainder_bits (Micro v) = 0
+remainder_bits v = slice_index remainder_table (row_of v)
