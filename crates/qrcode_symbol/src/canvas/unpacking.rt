@@ -74,7 +74,8 @@ impl FromColor for Module {
 // Writes the whole fours of a row, and gives the places that are left.
 fn unpack_fours<R: PackedRow, S: FromColor>(line: R, row: &mut [S]) -> R
     ensures done { (x : ℕ) → x < 4 * (length row.old / 4)
-        → slice_index_or row.new x (S.from_color Light) ≡ S.from_color (color_of (is_set (R.bits line) x)) }
+        → slice_index_or row.new x (S.from_color Light)
+        ≡ S.from_color (color_of (is_set (R.bits line) x)) }
     ensures rest { R.bits result ≡ R.bits line / 2 ^ (4 * (length row.old / 4)) }
 {
     let mut rest = line;
@@ -89,7 +90,8 @@ fn unpack_fours<R: PackedRow, S: FromColor>(line: R, row: &mut [S]) -> R
 // Writes a row by its places, of which the dark ones are set.
 fn unpack_row<R: PackedRow, S: FromColor>(line: R, row: &mut [S])
     ensures { (x : ℕ) → x < length row.old
-        → slice_index_or row.new x (S.from_color Light) ≡ S.from_color (color_of (is_set (R.bits line) x)) }
+        → slice_index_or row.new x (S.from_color Light)
+        ≡ S.from_color (color_of (is_set (R.bits line) x)) }
 {
     let mut rest = unpack_fours(line, row);
     for x in 4 * (row.len() / 4)..row.len() {
