@@ -88,5 +88,11 @@ fn a_refused_write_is_told(rt: HostRuntime) -> Result<(), Fail> {
         assert_eq!(rt; fault.as_str(), "qrencode: cannot write");
         assert_eq!(rt; written.len(), room);
     }
+
+    // Three thousand digits are a symbol, though as many bytes are not: the write alone fails.
+    let digits = "7".repeat(rt.alloc(), 3000)?;
+    let (fault, written) = outcome(&rt, Some(digits.as_str()), 0)?;
+    assert_eq!(rt; fault.as_str(), "qrencode: cannot write");
+    assert!(rt; written.is_empty());
     Ok(())
 }
