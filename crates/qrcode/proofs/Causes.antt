@@ -12,7 +12,7 @@ use Rattle.qrcode_bits.specs.Cuts.{IsCut}
 use Rattle.qrcode_bits.specs.Refusals.{data_limit}
 use Rattle.qrcode_bits.specs.declared.optimize.Segment.{Segment}
 use Rattle.qrcode_bits.proofs.Chosen.{cut_or_none}
-use Rattle.qrcode.specs.Acceptance.{HasCut, IfCause, IsRefusedAt}
+use Rattle.qrcode.specs.Acceptance.{IfCause, IsRefusedAt}
 
 module _ (v : Version) (l : EcLevel) (bytes : List ℕ) (valid : IsTrue (is_valid v)) (e : QrError) where
   -- more than the limit
@@ -23,7 +23,7 @@ module _ (v : Version) (l : EcLevel) (bytes : List ℕ) (valid : IsTrue (is_vali
   pub behind_cut : length bytes ≤ data_limit → ¬ ((segments : List Segment) → ¬ IsCut v bytes segments)
       → (e ≡ OutOfMemory) ⊎ IfCause (has_level v l ≡ false) (e ≡ InvalidVersion) ((¬ Holds v l bytes) × (e ≡ DataTooLong)) → IsRefusedAt v l bytes e
   behind_cut within some rest =
-      inr (λ no. true≢false (sym valid ∙ no), inr (λ long. omega (arith, within, long), inr (λ none. some (λ segments cut. none (segments, cut)), rest)))
+      inr (λ no. true≢false (sym valid ∙ no), inr (λ long. omega (arith, within, long), inr (some, rest)))
 
   -- an error of a push that is not `DataTooLong`
   pub not_too_long : AreBytes bytes → ¬ (e ≡ DataTooLong) → (data_limit < length bytes → e ≡ DataTooLong)
@@ -36,6 +36,6 @@ module _ (v : Version) (l : EcLevel) (bytes : List ℕ) (valid : IsTrue (is_vali
           | inl some ↦
               behind_cut within (λ none. none some.0 some.1) (inl (elim (causes some.0 some.1) [ inl is ↦ absurd (not is) | inr memory ↦ memory ]))
           | inr none ↦
-              inr (λ no. true≢false (sym valid ∙ no), inr (λ more. omega (arith, within, more), inl (λ some. none some.0 some.1, no_cut within none)))
+              inr (λ no. true≢false (sym valid ∙ no), inr (λ more. omega (arith, within, more), inl (none, no_cut within none)))
         ]
   ]

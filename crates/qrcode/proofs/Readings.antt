@@ -20,7 +20,7 @@ use Rattle.qrcode_places.specs.declared.masks.MaskPattern.{MaskPattern}
 use Rattle.qrcode_places.proofs.WordLaws.{format_words_are_apart}
 use Rattle.qrcode_symbol.specs.Symbol.{bits_at, blocks_in, IsSymbol, IsDamaged}
 use Rattle.qrcode_symbol.specs.Reading.{ReadsBits, ReadsBitsOnly}
-use Rattle.qrcode_bits.specs.Spelling.{Spells, SpellsOnly}
+use Rattle.qrcode_bits.specs.Spelling.{Spells}
 use Rattle.qrcode_bits.proofs.Spellings.{one_text}
 use Rattle.qrcode.specs.Reading.{Reads, ReadsOnly, BitsAreReadOneWay, BytesAreReadOneWay}
 use Rattle.qrcode.proofs.BlockLists.{blocks-lengths, blocks-short}

@@ -13,14 +13,14 @@ use Rattle.qrcode_bits.specs.Segments.{total_cost}
 use Rattle.qrcode_bits.specs.Spelling.{IsReadable, Spells, SpellsOnly}
 use Rattle.qrcode_bits.specs.Written.{Piece, written, terminator_length, ending, terminated, pieces_of}
 use Rattle.qrcode_bits.specs.declared.optimize.Segment.{Segment}
-use Rattle.qrcode.specs.Acceptance.{EncodesCut, IsLeastSymbol, IsChosenSymbol}
+use Rattle.qrcode.specs.Acceptance.{IsLeastSymbol, IsChosenSymbol}
 use Rattle.qrcode.specs.Reading.{EncodesBits, EncodesBytes}
 use Rattle.qrcode.specs.Code.{Code}
 use Rattle.qrcode.proofs.Symbols.{encodes_bytes}
 
 -- the symbol of the terminated bits of segments that spell the data
 encodes_cut : (v : Version) (l : EcLevel) (bytes : List ℕ) (segments : List Segment) (bits : List Bool) (s : List Color) → bits ≡ terminated v l (written v (pieces_of bytes segments))
-    → Spells v bits bytes → EncodesBits v l bits s → EncodesCut v l bytes segments s
+    → Spells v bits bytes → EncodesBits v l bits s → EncodesBytes v l (terminated v l (written v (pieces_of bytes segments))) bytes s
 encodes_cut v l bytes segments bits s is spelled encodes = subst (λ b. EncodesBytes v l b bytes s) is (encodes_bytes v l bits s bytes encodes spelled)
 
 terminated-longer : (v : Version) (l : EcLevel) (bits : List Bool) → length bits ≤ length (terminated v l bits)
@@ -51,9 +51,11 @@ pub chosen_symbol : (l : EcLevel) (bytes : List ℕ) (list : BitList) (code : Re
 chosen_symbol l bytes list (Err e) held version encodes = tt
 chosen_symbol l bytes list (Ok code) held version encodes =
     let made : IsChosenSymbol list.version l bytes code.modules = record {
-      segments = held.segments;
-      chosen = held.chosen;
       least_version = held.least_version;
-      encodes = encodes_cut list.version l bytes held.segments list.bits code.modules held.terminated.bits held.terminated.spelled.found encodes;
+      symbol = record {
+        segments = held.segments;
+        least = held.least;
+        encodes = encodes_cut list.version l bytes held.segments list.bits code.modules held.terminated.bits held.terminated.spelled.found encodes;
+      };
     } in
     subst (λ u. IsChosenSymbol u l bytes code.modules) (sym version) made

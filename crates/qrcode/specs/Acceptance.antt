@@ -1,35 +1,30 @@
 -- What a constructor accepts, what it makes of it, and why it refuses the rest.
-use Rattle.std.specs.Prelude.{◌≡◌, ◌⊎◌, ℕ, ◌<◌, false, List, length, Result, Err, IfOk, IfErr, IsOkUnless, IsTrue}
+use Rattle.std.specs.Prelude.{◌≡◌, ◌⊎◌, ℕ, ◌<◌, pos, false, List, length, Result, Err, IfOk, IfErr, IsOkUnless}
 use Rattle.qrcode_types.specs.Versions.{is_valid, has_level}
 use Rattle.qrcode_types.specs.declared.types.Version.{Version}
+use Rattle.qrcode_types.specs.declared.types.Version.TheVariants.{Normal}
 use Rattle.qrcode_types.specs.declared.types.EcLevel.{EcLevel}
 use Rattle.qrcode_types.specs.declared.types.QrError.{QrError}
 use Rattle.qrcode_types.specs.declared.types.QrError.TheVariants.{InvalidVersion, DataTooLong, UnsupportedCharacterSet, OutOfMemory}
 use Rattle.qrcode_types.specs.declared.types.Color.{Color}
 use Rattle.qrcode_bits.specs.Cuts.{IsCut, IsLeastCut}
-use Rattle.qrcode_bits.specs.Choice.{Holds, NormalHolds, IsLeastHolding, IsChosen, IsRefused}
+use Rattle.qrcode_bits.specs.Choice.{Holds, IsLeastHolding, IsRefused}
 use Rattle.qrcode_bits.specs.Refusals.{data_limit}
 use Rattle.qrcode_bits.specs.Written.{written, terminated, pieces_of}
 use Rattle.qrcode_bits.specs.declared.optimize.Segment.{Segment}
 use Rattle.qrcode.specs.Code.{Code}
 use Rattle.qrcode.specs.Reading.{EncodesBytes}
 
--- the symbol of the terminated bits of segments, of which every damaged symbol is read as the data and as nothing else
-abbrev pub EncodesCut : Version → EcLevel → List ℕ → List Segment → List Color → Type 0
-EncodesCut v l bytes segments s = EncodesBytes v l (terminated v l (written v (pieces_of bytes segments))) bytes s
-
--- the symbol of a least cut of the data
+-- the symbol of a least cut of the data, of which every damaged symbol is read as the data and as nothing else
 pub record IsLeastSymbol (v : Version) (l : EcLevel) (bytes : List ℕ) (s : List Color) : Type 0 where
   pub segments : List Segment
   pub least : IsLeastCut v bytes segments
-  pub encodes : EncodesCut v l bytes segments s
+  pub encodes : EncodesBytes v l (terminated v l (written v (pieces_of bytes segments))) bytes s
 
--- the symbol of the segments that are chosen for the data, and of the version, which is the least that holds the data
+-- such a symbol of the least Normal version that holds the data
 pub record IsChosenSymbol (v : Version) (l : EcLevel) (bytes : List ℕ) (s : List Color) : Type 0 where
-  pub segments : List Segment
-  pub chosen : IsChosen l bytes v segments
   pub least_version : IsLeastHolding l bytes v
-  pub encodes : EncodesCut v l bytes segments s
+  pub symbol : IsLeastSymbol v l bytes s
 
 -- a symbol can be chosen for the data
 abbrev pub HasSymbol : EcLevel → List ℕ → Type 0
@@ -39,18 +34,9 @@ HasSymbol l bytes = (v : Version) × (s : List Color) × IsChosenSymbol v l byte
 pub record IsAutomatic (l : EcLevel) (bytes : List ℕ) (result : Result Code QrError) : Type 0 where
   pub level : IfOk result (λ code. code.level ≡ l)
   pub symbol : IfOk result (λ code. IsChosenSymbol code.version l bytes code.modules)
-  pub accepts : (n : ℕ) → NormalHolds n l bytes → IsOkUnless result OutOfMemory
+  pub accepts : (n : ℕ) → Holds (Normal (pos n)) l bytes → IsOkUnless result OutOfMemory
   pub causes : IfErr result (IsRefused l bytes)
   pub too_long : data_limit < length bytes → result ≡ Err DataTooLong
-
--- the data can be cut into segments in modes of the version
-abbrev pub HasCut : Version → List ℕ → Type 0
-HasCut v bytes = (segments : List Segment) × IsCut v bytes segments
-
--- a symbol of the version and level exists, and holds the data
-pub record IsAccepted (v : Version) (l : EcLevel) (bytes : List ℕ) : Type 0 where
-  pub exists : IsTrue (has_level v l)
-  pub holds : Holds v l bytes
 
 -- this where a cause applies, and that where it does not
 abbrev pub IfCause : Type 0 → Type 0 → Type 0 → Type 0
@@ -61,7 +47,7 @@ abbrev pub IsRefusedAt : Version → EcLevel → List ℕ → QrError → Type 0
 IsRefusedAt v l bytes e =
     IfCause (is_valid v ≡ false) (e ≡ InvalidVersion) (
     IfCause (data_limit < length bytes) (e ≡ DataTooLong) (
-    IfCause (¬ HasCut v bytes) (e ≡ UnsupportedCharacterSet) (
+    IfCause ((segments : List Segment) → ¬ IsCut v bytes segments) (e ≡ UnsupportedCharacterSet) (
     (e ≡ OutOfMemory) ⊎
     IfCause (has_level v l ≡ false) (e ≡ InvalidVersion) (
     (¬ Holds v l bytes) × (e ≡ DataTooLong)))))

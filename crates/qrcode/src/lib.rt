@@ -9,7 +9,8 @@ ghost use Rattle.qrcode_types.specs.declared.types.EcLevel.TheVariants.{M};
 ghost use Rattle.qrcode_ec.specs.Allowed.{misdecode_protection};
 ghost use Rattle.qrcode_places.specs.Patterns.{is_functional_place};
 ghost use Rattle.qrcode_symbol.specs.Patterned.{IsDrawn};
-ghost use Rattle.qrcode.specs.Acceptance.{IsAutomatic, IsAccepted, IsLeastSymbol, IsRefusedAt};
+ghost use Rattle.qrcode_bits.specs.Choice.{Holds};
+ghost use Rattle.qrcode.specs.Acceptance.{IsAutomatic, IsLeastSymbol, IsRefusedAt};
 ghost use Rattle.qrcode.specs.Drawing.{IsBestDrawing};
 ghost use Rattle.qrcode.specs.Pictures.{quiet_zone, debug_text};
 ghost use Rattle.qrcode.specs.Reading.{EncodesBits};
@@ -99,8 +100,8 @@ impl QrCode {
         ensures level { IfOk result (λ code. code.level ≡ ec_level) }
         ensures symbol { IfOk result (λ code.
             IsLeastSymbol version ec_level bytes.now code.modules) }
-        ensures accepts { IsAccepted version ec_level bytes.now → IsOkUnless result OutOfMemory }
-        ensures only_accepted { OnOk result (IsAccepted version ec_level bytes.now) }
+        ensures accepts { Holds version ec_level bytes.now → IsOkUnless result OutOfMemory }
+        ensures holds { OnOk result (Holds version ec_level bytes.now) }
         ensures causes { IfErr result (IsRefusedAt version ec_level bytes.now) }
     {
         if !version.is_valid() {

@@ -43,6 +43,12 @@ normal_level (suc n) l h k =
 pub normal_valid : (n : ℕ) → 1 ≤ n → n ≤ 40 → IsTrue (is_valid (Normal (pos n)))
 normal_valid n some most = and_from _ _ (le-leb 1 n some) (le-leb n 40 most)
 
+pub normal_number : (n : ℕ) (l : EcLevel) → IsTrue (has_level (Normal (pos n)) l) → (1 ≤ n) × (n ≤ 40)
+normal_number n l has =
+    let valid = and_parts (is_valid (Normal (pos n))) _ has in
+    let within = and_parts (nat_le 1 n) (nat_le n 40) valid.0 in
+    (leb-true 1 n within.0, leb-true n 40 within.1)
+
 -- ---- costs
 band_le : (i j a b c : ℕ) → i ≤ j → a ≤ b → b ≤ c → by_band i a b c ≤ by_band j a b c
 band_le i j a b c h p q = grind (arith, nat_tests)

@@ -6,7 +6,7 @@ use Rattle.qrcode_types.specs.declared.types.EcLevel.{EcLevel}
 use Rattle.qrcode_bits.specs.BitList.{BitList}
 use Rattle.qrcode_bits.specs.Segments.{total_cost}
 use Rattle.qrcode_bits.specs.Cuts.{IsCut, IsLeastCut}
-use Rattle.qrcode_bits.specs.Choice.{least_version, IsChosen, IsLeastHolding}
+use Rattle.qrcode_bits.specs.Choice.{least_version, IsLeastHolding}
 use Rattle.qrcode_bits.specs.Written.{written, pieces_of, terminated}
 use Rattle.qrcode_bits.specs.Spelling.{SpellsOnly}
 use Rattle.qrcode_bits.specs.declared.optimize.Segment.{Segment}
@@ -27,9 +27,9 @@ pub record IsHeld (v : Version) (l : EcLevel) (bytes : List ℕ) (list : BitList
   pub room : total_cost v segments ≤ capacity v l
   pub terminated : IsTerminated (least_version l (total_cost v segments)) l bytes segments list
 
--- the list has the data in the segments that are chosen, and in the version, which is the least that holds the data
+-- the list is for the least version that holds the data, and has the data in a least cut
 pub record IsChosenList (l : EcLevel) (bytes : List ℕ) (list : BitList) : Type 0 where
-  pub segments : List Segment
-  pub chosen : IsChosen l bytes list.version segments
   pub least_version : IsLeastHolding l bytes list.version
+  pub segments : List Segment
+  pub least : IsLeastCut list.version bytes segments
   pub terminated : IsTerminated list.version l bytes segments list

@@ -5,14 +5,14 @@ use Rattle.qrcode_types.specs.Bits.{AreBytes}
 use Rattle.qrcode_types.specs.Versions.{capacity, data_length, block_lengths, blocks_entry}
 use Rattle.qrcode_types.specs.declared.types.EcLevel.TheVariants.{M}
 use Rattle.qrcode_types.specs.declared.types.Version.TheVariants.{Normal}
-use Rattle.qrcode_bits.specs.Choice.{NormalHolds}
-use Rattle.qrcode_bits.proofs.Bands.{byte_cut}
+use Rattle.qrcode_bits.specs.Choice.{Holds}
+use Rattle.qrcode_bits.proofs.Bands.{normal_level, byte_cut}
 
-room : capacity (Normal (pos 13)) M ≡ 2672
+bits_held : capacity (Normal (pos 13)) M ≡ 2672
 unfolding capacity data_length block_lengths blocks_entry block_table
-room = refl
+bits_held = refl
 
-pub text_held : (text : List ℕ) → AreBytes text → length text ≤ 331 → NormalHolds 13 M text
+pub text_held : (text : List ℕ) → AreBytes text → length text ≤ 331 → Holds (Normal (pos 13)) M text
 text_held text are small =
     let cut = byte_cut 13 text are in
-    record { at_least = omega arith; at_most = omega arith; holds = (cut.0, (cut.1.0, omega (arith, cut.1.1, room, small))) }
+    record { exists = normal_level 13 M (omega arith) (omega arith); room = (cut.0, (cut.1.0, omega (arith, cut.1.1, bits_held, small))) }

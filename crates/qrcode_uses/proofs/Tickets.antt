@@ -14,7 +14,7 @@ use Rattle.qrcode_types.specs.declared.types.Mode.TheVariants.{Numeric}
 use Rattle.qrcode_types.specs.declared.types.Version.TheVariants.{Micro}
 use Rattle.qrcode_bits.specs.Segments.{total_cost}
 use Rattle.qrcode_bits.specs.declared.optimize.Segment.{Segment}
-use Rattle.qrcode.specs.Acceptance.{IsAccepted}
+use Rattle.qrcode_bits.specs.Choice.{Holds}
 
 digit : (d : ℕ) → d < 10 → IsTrue (is_digit (48 + d))
 digit d h = and_from (nat_le 48 (48 + d)) (nat_le (48 + d) 57) (le-leb 48 (48 + d) (omega arith)) (le-leb (48 + d) 57 (omega arith))
@@ -29,11 +29,11 @@ exists : IsTrue (has_level (Micro (pos 2)) L)
 unfolding blocks_entry block_table
 exists = refl
 
-room : capacity (Micro (pos 2)) L ≡ 40
+bits_held : capacity (Micro (pos 2)) L ≡ 40
 unfolding capacity data_length block_lengths blocks_entry block_table
-room = refl
+bits_held = refl
 
-pub number_accepted : (n : ℕ) → n < 2 ^ 32 → IsAccepted (Micro (pos 2)) L (decimal n)
+pub number_accepted : (n : ℕ) → n < 2 ^ 32 → Holds (Micro (pos 2)) L (decimal n)
 number_accepted n h =
     let ds = decimal n in
     let small : length ds ≤ 10 = length-decimal-le 10 n (omega arith) (omega arith) (omega arith) in
@@ -43,5 +43,5 @@ number_accepted n h =
     let cost : total_cost (Micro (pos 2)) (segment ∷ []) ≤ 40 = omega (arith, small) in
     record {
       exists = exists;
-      holds = (segment ∷ [], (record { tiles = (refl, (some, refl)); modes = (refl, tt); writable = (subst (λ x. IsTrue (list_all is_digit x)) (sym whole) (digits n (omega arith)), tt) }, omega (arith, cost, room)));
+      room = (segment ∷ [], (record { tiles = (refl, (some, refl)); modes = (refl, tt); writable = (subst (λ x. IsTrue (list_all is_digit x)) (sym whole) (digits n (omega arith)), tt) }, omega (arith, cost, bits_held)));
     }

@@ -23,7 +23,7 @@ payment_text p =
 
 -- a Normal version of at most a number
 abbrev pub IsNormalUpTo : ℕ → Version → Type 0
-IsNormalUpTo most v = (n : ℕ) × ((v ≡ Normal (pos n)) × ((1 ≤ n) × (n ≤ most)))
+IsNormalUpTo most v = (n : ℕ) × ((v ≡ Normal (pos n)) × (n ≤ most))
 
 -- the pixels of a module in a picture that is 200 pixels wide or a little more
 abbrev pub picture_size : Version → ℕ

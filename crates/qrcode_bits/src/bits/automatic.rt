@@ -8,9 +8,9 @@ ghost use Rattle.qrcode_types.specs.declared.types.Version.{Version};
 ghost use Rattle.qrcode_types.specs.declared.types.Version.TheVariants.{Normal};
 ghost use Rattle.qrcode_types.specs.declared.types.QrError.TheVariants.{DataTooLong, OutOfMemory};
 ghost use Rattle.qrcode_bits.specs.Segments.{total_cost};
-ghost use Rattle.qrcode_bits.specs.Cuts.{IsCut};
+ghost use Rattle.qrcode_bits.specs.Cuts.{IsCut, FitsIn};
 ghost use Rattle.qrcode_bits.specs.Choice as choice;
-ghost use Rattle.qrcode_bits.specs.Choice.{Holds, NormalHolds, IsRefused};
+ghost use Rattle.qrcode_bits.specs.Choice.{Holds, IsRefused};
 ghost use Rattle.qrcode_bits.specs.Encoded.{IsTerminated, IsHeld, IsChosenList};
 ghost use Rattle.qrcode_bits.specs.Refusals.{data_limit};
 ghost use Rattle.qrcode_bits.specs.declared.optimize.Segment.{Segment};
@@ -30,7 +30,8 @@ use std::alloc::Global;
 /// `OutOfMemory`: memory was refused.
 pub fn encode_auto(alloc: Global, bytes: &[u8], ec_level: EcLevel) -> QrResult<Bits>
     ensures bits { IfOk result (IsChosenList ec_level bytes.now) }
-    ensures accepts { (n : ℕ) → NormalHolds n ec_level bytes.now → IsOkUnless result OutOfMemory }
+    ensures accepts { (n : ℕ) → Holds (Normal (pos n)) ec_level bytes.now
+        → IsOkUnless result OutOfMemory }
     ensures causes { IfErr result (IsRefused ec_level bytes.now) }
     ensures too_long { data_limit < length bytes.now → result ≡ Err DataTooLong }
 {
@@ -65,7 +66,8 @@ fn try_band(
     requires at_least { 1 ≤ number }
     requires at_most { number ≤ 40 }
     ensures holds { IfOk result (λ found. MatchOption found
-        (¬ Holds (Normal (pos number)) ec_level bytes.now)
+        (¬ FitsIn (Normal (pos number)) bytes.now
+        (versions.capacity (Normal (pos number)) ec_level))
         (IsHeld (Normal (pos number)) ec_level bytes.now)) }
     ensures memory { IsOkUnless result OutOfMemory }
 {

@@ -3,7 +3,7 @@ use Rattle.qrcode_types.specs.Versions.{is_valid, has_level, capacity}
 use Rattle.qrcode_types.specs.declared.types.QrError.TheVariants.{DataTooLong}
 use Rattle.qrcode_bits.specs.BitList.{BitList}
 use Rattle.qrcode_bits.specs.Choice.{Holds}
-use Rattle.qrcode_bits.specs.Cuts.{IsCut}
+use Rattle.qrcode_bits.specs.Cuts.{IsCut, FitsIn}
 use Rattle.qrcode_bits.specs.Optimal.{PushesLeast}
 use Rattle.qrcode_bits.specs.declared.optimize.Segment.{Segment}
 use Rattle.qrcode_types.proofs.Writing.{are_bytes}
@@ -51,7 +51,7 @@ returns-in-Err-clause-causes c =
       | then-eq+then-bytes-le-DATA_LIMIT+in_ok-max_len w ↦
           let long : e ≡ DataTooLong = search rules in
           let has : has_level v l ≡ true = sym (w.in_ok-max_len.ensures.exists ∙ ap (λ u. has_level u l) (known.version ∙ version k)) in
-          let too_small : ¬ Holds v l bytes = λ holds. let memory = known.accepts l (omega (arith, c.new-bits.ensures.room l, ap (λ u. capacity u l) (version k), ap (λ (b : BitList). length b.bits) c.new-bits.ensures.empty)) (subst (λ u. Holds u l bytes) (sym (version k)) holds) in cc in
+          let too_small : ¬ Holds v l bytes = λ holds. let memory = known.accepts l (omega (arith, c.new-bits.ensures.room l, ap (λ u. capacity u l) (version k), ap (λ (b : BitList). length b.bits) c.new-bits.ensures.empty)) (subst (λ u. FitsIn u bytes (capacity u l)) (sym (version k)) holds.room) in cc in
           behind_cut v l bytes (valid k) e (omega arith) (some_cut k long (omega arith)) (inr (inr (λ no. true≢false (sym has ∙ no), (too_small, long))))
       | else-eq w ↦
           elim w.else-eq.branch [

@@ -7,14 +7,15 @@ use Rattle.qrcode_types.specs.declared.types.Version.{Version}
 use Rattle.qrcode_render.specs.Picture.{picture}
 use Rattle.qrcode_render.specs.Texts.{dense_text}
 use Rattle.qrcode.specs.Pictures.{layout_in}
-use Rattle.qrcode.specs.Acceptance.{IsAccepted, IsLeastSymbol}
+use Rattle.qrcode_bits.specs.Choice.{Holds}
+use Rattle.qrcode.specs.Acceptance.{IsLeastSymbol}
 use Rattle.qrcode_uses.proofs.Tickets.{number_accepted}
 use Rattle.qrcode_uses.proofs.ticket.ticket_blocks.Goals as goal
 
 pub returns-in_err-code-clause-accepts : goal.returns-in_err-code-clause-accepts
 returns-in_err-code-clause-accepts c =
     let bytes = c.as_bytes.ensures.value ∙ c.in_ok-digits.ensures.ok in
-    let memory = c.in_err-code.ensures.accepts (subst (λ b. IsAccepted (Micro (pos 2)) L b) (sym bytes) (number_accepted c.args.number (omega arith))) in
+    let memory = c.in_err-code.ensures.accepts (subst (λ b. Holds (Micro (pos 2)) L b) (sym bytes) (number_accepted c.args.number (omega arith))) in
     search rules
 
 pub returns-clause-picture : goal.returns-clause-picture
