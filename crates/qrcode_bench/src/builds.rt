@@ -74,7 +74,13 @@ fn in_version(alloc: Global, version: Version, ec_level: EcLevel, count: u32) ->
 }
 
 // Symbols of the least version for data.
-fn at_level(alloc: Global, text: &[u8], size: usize, ec_level: EcLevel, count: u32) -> QrResult<Digest>
+fn at_level(
+    alloc: Global,
+    text: &[u8],
+    size: usize,
+    ec_level: EcLevel,
+    count: u32,
+) -> QrResult<Digest>
     requires { 0 < length text.now }
 {
     let data = repeated(alloc, text, size)?;
