@@ -10,7 +10,7 @@ use crate::field::{power, product};
 
 /// The coefficients that a generator or a remainder has room for, the highest power first. Zeros
 /// stand behind the last one.
-pub(crate) const ROOM: usize = 72;
+pub const ROOM: usize = 72;
 
 // Multiplies the polynomial of a leading one and these coefficients, of which there are fewer than
 // `length`, by x - root.
@@ -123,9 +123,9 @@ fn advance(register: &mut [u8; ROOM], low: &[u8; ROOM], high: &[u8; ROOM])
 /// A generator, by its multiples: those by the bytes below 16, and those by the multiples of 16.
 /// Any byte is the sum of one of the first and one of the second.
 #[derive(Drop)]
-pub(crate) struct Divider {
+pub struct Divider {
     /// The degree of the generator, and the length of a remainder.
-    pub(crate) degree: usize,
+    pub degree: usize,
     low: [[u8; ROOM]; 16],
     high: [[u8; ROOM]; 16],
     pub ghost at_most: { degree ≤ 69 },
@@ -134,7 +134,7 @@ pub(crate) struct Divider {
 
 impl Divider {
     /// Divides by the generator of this degree.
-    pub(crate) fn new(degree: usize) -> Divider
+    pub fn new(degree: usize) -> Divider
         requires { degree ≤ 69 }
         ensures { result.degree ≡ degree }
     {
@@ -148,7 +148,7 @@ impl Divider {
 
     /// The remainder of these bytes with as many zeros behind them as the generator's degree. Put
     /// behind the bytes, it makes the whole vanish where the generator does.
-    pub(crate) fn remainder(&self, bytes: &[u8]) -> [u8; ROOM]
+    pub fn remainder(&self, bytes: &[u8]) -> [u8; ROOM]
         ensures vanishes { Vanishes (bytes.now ++ take self.now.degree result) self.now.degree }
         ensures bytes { AreBytes result }
     {

@@ -73,3 +73,15 @@ pub fn product(a: u8, b: u8) -> u8
     }
     power(logarithm(a) + logarithm(b))
 }
+
+/// The byte whose product with `b` is `a`.
+#[inline(always)]
+pub fn quotient(a: u8, b: u8) -> u8
+    requires { 0 < b }
+    ensures { product result b ≡ a }
+{
+    if a == 0 {
+        return 0;
+    }
+    power(logarithm(a) + (255 - logarithm(b)))
+}

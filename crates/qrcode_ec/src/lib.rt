@@ -14,8 +14,8 @@ ghost use Rattle.qrcode_ec.specs.Allowed.{misdecode_protection};
 ghost use Rattle.qrcode_ec.specs.Blocks.{AreCodewords};
 ghost use Rattle.qrcode_ec.specs.Codes.{Vanishes, HasDistanceAbove};
 
-use division::Divider;
-pub use field::{power, product};
+pub use division::{Divider, ROOM};
+pub use field::{power, product, quotient};
 use interleaving::DataBlocks;
 use qrcode_types::tables::Blocks;
 use qrcode_types::types::{EcLevel, QrError, QrResult, Version};

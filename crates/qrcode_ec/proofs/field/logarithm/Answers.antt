@@ -1,4 +1,4 @@
-use Rattle.std.proofs.Common.{◌≡◌, ◌<◌, get_or, subst, sym, ap, ◌∙◌, arith}
+use Rattle.std.proofs.Common.{◌≡◌, get_or, ap, ◌∙◌, arith}
 use Rattle.qrcode_ec.specs.Field.{power}
 use Rattle.qrcode_ec.specs.declared.field.TheConstants.{LOGARITHMS}
 use Rattle.qrcode_ec.proofs.Powers.{logarithm_at}

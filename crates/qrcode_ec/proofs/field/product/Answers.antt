@@ -1,4 +1,4 @@
-use Rattle.std.proofs.Common.{◌≡◌, inr, sym, ap, ap₂, subst, ◌∙◌, arith}
+use Rattle.std.proofs.Common.{inr, sym, ap, ap₂, subst, ◌∙◌, arith}
 use Rattle.qrcode_ec.specs.Field.{product, IsProduct, HasFieldLaws}
 use Rattle.qrcode_ec.proofs.Powers.{power_add, no_zero_divisor}
 use Rattle.qrcode_ec.proofs.Products.{product_is, product_laws, product_zero_l, product_zero_r}
