@@ -32,7 +32,7 @@ module _ (v : Version) (l : EcLevel) (bytes : List ℕ) (valid : IsTrue (is_vali
   not_too_long are not long no_cut causes = elim (cases_lt data_limit (length bytes)) [
     | inl more ↦ absurd (not (long more))
     | inr within ↦
-        elim (cut_or_none v bytes valid are) [
+        elim (cut_or_none v bytes valid are within) [
           | inl some ↦
               behind_cut within (λ none. none some.0 some.1) (inl (elim (causes some.0 some.1) [ inl is ↦ absurd (not is) | inr memory ↦ memory ]))
           | inr none ↦

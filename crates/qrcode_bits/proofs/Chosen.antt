@@ -1,21 +1,24 @@
 -- The version that is chosen is the least that holds the data; and data can be cut, or not.
-use Rattle.std.proofs.Common.{◌≡◌, ◌⊎◌, ℕ, zero, suc, ◌≤◌, ◌<◌, Bool, true, false, true≢false, nat_le, if◌then◌else◌, List, [], ◌∷◌, pos, refl, sym, subst, ◌∙◌, arith, inl, inr, IsTrue}
+use Rattle.std.proofs.Common.{◌≡◌, ◌⊎◌, ℕ, zero, suc, ◌≤◌, ◌<◌, Bool, true, false, nat_le, if◌then◌else◌, List, [], ◌∷◌, length, pos, refl, sym, subst, ◌∙◌, arith, inl, inr, IsTrue}
 use Rattle.std.specs.Prelude.{Contains}
 use Rattle.std.proofs.lemmas.Bool.{cases_lt}
 use Rattle.qrcode_types.specs.Bits.{AreBytes}
 use Rattle.qrcode_types.specs.Versions.{is_valid, capacity}
-use Rattle.qrcode_types.specs.Characters.{can_write}
 use Rattle.qrcode_types.specs.declared.types.Version.{Version}
 use Rattle.qrcode_types.specs.declared.types.Version.TheVariants.{Normal}
 use Rattle.qrcode_types.specs.declared.types.EcLevel.{EcLevel}
 use Rattle.qrcode_bits.specs.BitList.{BitList}
 use Rattle.qrcode_bits.specs.Segments.{total_cost}
 use Rattle.qrcode_bits.specs.Choice.{Holds}
-use Rattle.qrcode_bits.specs.Cuts.{IsCut, IsLeastCut, FitsIn}
+use Rattle.qrcode_bits.specs.Cuts.{IsCut, IsLeastCut, IsCutIn, FitsIn}
 use Rattle.qrcode_bits.specs.Encoded.{IsTerminated, IsHeld, IsChosenList}
-use Rattle.qrcode_types.specs.Modes.{widest_mode}
+use Rattle.qrcode_bits.specs.ModeHeaders.{more_than_any}
+use Rattle.qrcode_bits.specs.ModeSets.{all_modes}
+use Rattle.qrcode_bits.specs.LeastBits.{costs_of, headers_of}
+use Rattle.qrcode_bits.specs.Refusals.{data_limit}
+use Rattle.qrcode_bits.specs.declared.optimize.mode_sets.Modes.{Modes}
 use Rattle.qrcode_bits.specs.declared.optimize.Segment.{Segment}
-use Rattle.qrcode_bits.proofs.LeastCuts.{cut_is_written, one_segment}
+use Rattle.qrcode_bits.proofs.LeastCuts.{in_all, cut_is_short, short_is_cut}
 use Rattle.qrcode_bits.proofs.Bands.{normal_level, normal_number, last_of, cost_le, cost_same, cut_in, fits_last, least_version-is}
 
 -- the last version of each band
@@ -81,9 +84,17 @@ module _ (l : EcLevel) (bytes : List ℕ) where
         terminated = subst (λ v. IsTerminated v l bytes segments list) (sym held.terminated.version) held.terminated;
       }
 
+-- data can be cut in the modes of a set, or not
+pub cut_in_or_none : (set : Modes) (v : Version) (bytes : List ℕ) → IsTrue (is_valid v) → AreBytes bytes → length bytes ≤ data_limit
+    → ((segments : List Segment) × IsCutIn set v bytes segments) ⊎ ((segments : List Segment) → ¬ IsCutIn set v bytes segments)
+cut_in_or_none set v bytes valid are limit = elim (cases_lt (costs_of (headers_of set v) bytes).start.bits more_than_any) [
+  | inl few ↦ inl (short_is_cut set v bytes are few)
+  | inr many ↦ inr (λ segments cut. omega (arith, many, cut_is_short set v bytes valid limit segments cut))
+]
+
 -- data can be cut, or not
-pub cut_or_none : (v : Version) (bytes : List ℕ) → IsTrue (is_valid v) → AreBytes bytes → ((segments : List Segment) × IsCut v bytes segments) ⊎ ((segments : List Segment) → ¬ IsCut v bytes segments)
-cut_or_none v bytes valid are = by_test (can_write (widest_mode v) bytes) refl where
-  by_test : (b : Bool) → can_write (widest_mode v) bytes ≡ b → ((segments : List Segment) × IsCut v bytes segments) ⊎ ((segments : List Segment) → ¬ IsCut v bytes segments)
-  by_test true e = let one = one_segment v bytes valid e in inl (one.0, one.1.0)
-  by_test false e = inr (λ segments cut. true≢false (sym (cut_is_written v bytes segments valid are cut) ∙ e))
+pub cut_or_none : (v : Version) (bytes : List ℕ) → IsTrue (is_valid v) → AreBytes bytes → length bytes ≤ data_limit → ((segments : List Segment) × IsCut v bytes segments) ⊎ ((segments : List Segment) → ¬ IsCut v bytes segments)
+cut_or_none v bytes valid are limit = elim (cut_in_or_none all_modes v bytes valid are limit) [
+  | inl some ↦ inl (some.0, some.1.cut)
+  | inr none ↦ inr (λ segments cut. none segments (in_all v bytes segments cut))
+]

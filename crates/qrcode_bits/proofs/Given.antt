@@ -1,6 +1,6 @@
 -- What an iterator over a list gives.
 use Rattle.std.proofs.Common.{◌≡◌, ℕ, zero, suc, ◌<◌, Bool, List, [], ◌∷◌, ◌++◌, length, take, refl, sym, ap, subst, ◌∙◌, arith, append-nil, length-append, Option}
-use Rattle.std.specs.Prelude.{slice_get, IfSome, IfErr, OnOk, Result, Ok, Err}
+use Rattle.std.specs.Prelude.{slice_get, IfSome, IfOk, IfErr, OnOk, Result, Ok, Err}
 use Rattle.std.specs.Iterator.{Yields, Drains, AlwaysYields}
 use Rattle.std.proofs.lemmas.List.{map-append, take-append-le}
 use Rattle.qrcode_types.specs.declared.types.Version.{Version}
@@ -55,7 +55,11 @@ stops_first v old bytes xs rest e new s =
       cause = subst (λ o. IfSome o (λ p. IsCause (piece_refusal v (length new) p) e)) (sym (get-append ps qs s.place s.inside)) s.cause;
     })
 
--- what follows from what holds on success, or of an error
+-- what follows from what holds of a value, on success, or of an error
+pub if_ok : {T : Type 0} {P Q : T → Type 0} (r : Result T QrError) → ((x : T) → P x → Q x) → IfOk r P → IfOk r Q
+if_ok (Ok x) f h = f x h
+if_ok (Err e) f h = tt
+
 pub on_ok : {P Q : Type 0} (r : Result (Unit {0}) QrError) → (P → Q) → OnOk r P → OnOk r Q
 on_ok (Ok u) f h = f h
 on_ok (Err e) f h = tt

@@ -1,6 +1,7 @@
 -- No cut of a rest of the data takes fewer bits than are counted for it.
-use Rattle.std.proofs.Common.{◌≡◌, ℕ, ◌+◌, ◌*◌, ◌/◌, ◌<◌, ◌≤◌, nat_lt, Bool, true, false, List, [], ◌∷◌, ◌++◌, length, refl, sym, ap, ◌∙◌, arith, true≢false, le_trans}
+use Rattle.std.proofs.Common.{◌≡◌, ℕ, ◌+◌, ◌*◌, ◌/◌, ◌<◌, ◌≤◌, nat_lt, Bool, true, false, List, [], ◌∷◌, ◌++◌, length, drop, get_or, ◌-◌, refl, sym, ap, ◌∙◌, arith, true≢false, le_trans}
 use Rattle.std.specs.List.{list_all}
+use Rattle.std.proofs.lemmas.List.{drop_more}
 use Rattle.std.proofs.lemmas.Bool.{and_parts, cond_both, ltb-true}
 use Rattle.std.proofs.lemmas.Bool.Decides.{nat_tests}
 use Rattle.qrcode_types.specs.declared.types.Mode.{Mode}
@@ -8,7 +9,8 @@ use Rattle.qrcode_types.specs.declared.types.Mode.TheVariants.{Numeric, Alphanum
 use Rattle.qrcode_types.specs.Characters.{is_digit, is_alphanumeric, is_kanji, are_kanji, can_write}
 use Rattle.qrcode_bits.specs.Tokens.{kind_at, first_byte}
 use Rattle.qrcode_bits.specs.ModeHeaders.{more_than_any}
-use Rattle.qrcode_bits.specs.LeastBits.{header_in, takes, begun, better, better_if, best_start, open_or, costs_of, IsSmall, data_bits}
+use Rattle.qrcode_bits.specs.Refusals.{data_limit}
+use Rattle.qrcode_bits.specs.LeastBits.{header_in, takes, begun, better, better_if, best_start, open_or, costs_of, step, cost_limit, IsSmall, data_bits}
 use Rattle.qrcode_bits.specs.declared.optimize.Kind.{Kind}
 use Rattle.qrcode_bits.specs.declared.optimize.Kind.TheVariants.{Digit, Letter}
 use Rattle.qrcode_bits.specs.declared.optimize.costs.BestStart.{BestStart}
@@ -58,7 +60,7 @@ ends h (b ∷ bytes) =
     }
 
 -- a rest is small where it takes few bits, and so does the rest behind its first byte
-pub all_small : (h : HeaderBits) (b : ℕ) (bytes : List ℕ) → (costs_of h (b ∷ bytes)).start.bits ≤ more_than_any → (costs_of h bytes).start.bits ≤ more_than_any → IsSmall (costs_of h (b ∷ bytes))
+all_small : (h : HeaderBits) (b : ℕ) (bytes : List ℕ) → (costs_of h (b ∷ bytes)).start.bits ≤ cost_limit → (costs_of h bytes).start.bits ≤ cost_limit → IsSmall (costs_of h (b ∷ bytes))
 all_small h b bytes here next =
     let e = ends h (b ∷ bytes) in
     record {
@@ -180,3 +182,28 @@ segment_takes h Kanji (b ∷ []) rest some e = absurd (true≢false (sym e))
 segment_takes h Kanji (b ∷ c ∷ chunk) rest some e =
     let parts = and_parts (is_kanji b c) (are_kanji chunk) e in
     omega (arith, start_takes h (kind_at b c) (costs_of h (c ∷ (chunk ++ rest))) Kanji (takes_pair b c parts.0), pairs_go h chunk rest parts.1)
+
+open_bytes : (h : HeaderBits) (bytes : List ℕ) → (costs_of h bytes).bytes ≤ 8 * length bytes
+open_bytes h [] = omega arith
+open_bytes h (b ∷ bytes) =
+    let next = costs_of h bytes in
+    omega (arith, open_goes (best_start h (kind_at b (first_byte bytes)) next).bits true (8 + next.bytes) refl, open_bytes h bytes)
+
+-- one segment of bytes writes all, though it may cost more than any data takes
+pub bytes_take : (h : HeaderBits) (bytes : List ℕ) → (costs_of h bytes).start.bits ≤ h.byte + 8 * length bytes
+bytes_take h [] = omega arith
+bytes_take h (b ∷ bytes) = omega (arith, start_takes h (kind_at b (first_byte bytes)) (costs_of h bytes) Byte refl, open_bytes h bytes)
+
+-- so no rest is too great a number
+pub rest_small : (h : HeaderBits) (bytes : List ℕ) → h.byte ≤ more_than_any → length bytes ≤ data_limit → IsSmall (costs_of h bytes)
+rest_small h [] byte limit = record { start = omega arith; digits = omega arith; one_digit = omega arith; two_digits = omega arith; letters = omega arith; odd_letter = omega arith; bytes = omega arith; pairs = omega arith; half_pair = omega arith }
+rest_small h (b ∷ bytes) byte limit = all_small h b bytes (omega (arith, bytes_take h (b ∷ bytes))) (omega (arith, bytes_take h bytes))
+
+-- what is counted from a place on, from what is counted behind the byte there
+pub counted_back : (h : HeaderBits) (bytes : List ℕ) (i : ℕ) → 1 ≤ i → i ≤ length bytes
+    → step h (kind_at (get_or bytes (i - 1) 0) (first_byte (drop (i - 1 + 1) bytes))) (costs_of h (drop i bytes)) ≡ costs_of h (drop (i - 1) bytes)
+counted_back h bytes i some inside =
+    let place = i - 1 in
+    let next : place + 1 ≡ i = omega arith in
+    let more = drop_more bytes place 0 (omega arith) ∙ ap (λ k. get_or bytes place 0 ∷ drop k bytes) next in
+    ap (λ k. step h (kind_at (get_or bytes place 0) (first_byte (drop k bytes))) (costs_of h (drop i bytes))) next ∙ sym (ap (costs_of h) more)

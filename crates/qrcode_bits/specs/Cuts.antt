@@ -4,7 +4,9 @@ use Rattle.std.specs.List.{AllByRecursion}
 use Rattle.qrcode_types.specs.Modes.{has_mode}
 use Rattle.qrcode_types.specs.declared.types.Version.{Version}
 use Rattle.qrcode_types.specs.Characters.{can_write}
+use Rattle.qrcode_bits.specs.ModeSets.{is_among}
 use Rattle.qrcode_bits.specs.Segments.{Tile, total_cost}
+use Rattle.qrcode_bits.specs.declared.optimize.mode_sets.Modes.{Modes}
 use Rattle.qrcode_bits.specs.declared.optimize.Segment.{Segment}
 
 -- the segments cover the data, each in a mode that the version has and that can write its bytes
@@ -21,3 +23,13 @@ pub record IsLeastCut (v : Version) (bytes : List ℕ) (segments : List Segment)
 -- the data can be cut into segments that take at most so many bits
 abbrev pub FitsIn : Version → List ℕ → ℕ → Type 0
 FitsIn v bytes most = (segments : List Segment) × (IsCut v bytes segments × (total_cost v segments ≤ most))
+
+-- a cut with modes of a set alone
+pub record IsCutIn (set : Modes) (v : Version) (bytes : List ℕ) (segments : List Segment) : Type 0 where
+  pub cut : IsCut v bytes segments
+  pub among : AllByRecursion (λ s. IsTrue (is_among set s.mode)) segments
+
+-- a cut with modes of a set that no such cut is shorter than
+pub record IsLeastCutIn (set : Modes) (v : Version) (bytes : List ℕ) (segments : List Segment) : Type 0 where
+  pub reached : IsCutIn set v bytes segments
+  pub least : (others : List Segment) → IsCutIn set v bytes others → total_cost v segments ≤ total_cost v others

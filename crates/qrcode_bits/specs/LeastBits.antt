@@ -7,6 +7,7 @@ use Rattle.qrcode_types.specs.declared.types.Mode.{Mode}
 use Rattle.qrcode_types.specs.declared.types.Mode.TheVariants.{Numeric, Alphanumeric, Byte, Kanji}
 use Rattle.qrcode_bits.specs.ModeHeaders.{more_than_any, header}
 use Rattle.qrcode_bits.specs.Tokens.{kind_at, first_byte}
+use Rattle.qrcode_bits.specs.declared.optimize.mode_sets.Modes.{Modes}
 use Rattle.qrcode_bits.specs.declared.optimize.Segment.{Segment}
 use Rattle.qrcode_bits.specs.declared.optimize.Kind.{Kind}
 use Rattle.qrcode_bits.specs.declared.optimize.Kind.TheVariants.{Pair, Digit, Letter}
@@ -14,9 +15,9 @@ use Rattle.qrcode_bits.specs.declared.optimize.costs.BestStart.{BestStart}
 use Rattle.qrcode_bits.specs.declared.optimize.costs.Costs.{Costs}
 use Rattle.qrcode_bits.specs.declared.optimize.costs.HeaderBits.{HeaderBits}
 
--- the headers of a version
-abbrev pub headers_of : Version → HeaderBits
-headers_of v = record { numeric = header v Numeric; alphanumeric = header v Alphanumeric; byte = header v Byte; kanji = header v Kanji }
+-- the headers of a version, in the modes of a set
+abbrev pub headers_of : Modes → Version → HeaderBits
+headers_of set v = record { numeric = header set v Numeric; alphanumeric = header set v Alphanumeric; byte = header set v Byte; kanji = header set v Kanji }
 
 -- the header of a mode
 abbrev pub header_in : HeaderBits → Mode → ℕ
@@ -25,24 +26,28 @@ header_in h Alphanumeric = h.alphanumeric
 header_in h Byte = h.byte
 header_in h Kanji = h.kanji
 
--- each header is at most more_than_any, so that sums of two and a few bits more do not wrap
+-- each header is at most more_than_any
 pub record AreSmall (h : HeaderBits) : Type 0 where
   pub numeric : h.numeric ≤ more_than_any
   pub alphanumeric : h.alphanumeric ≤ more_than_any
   pub byte : h.byte ≤ more_than_any
   pub kanji : h.kanji ≤ more_than_any
 
--- each of the costs is at most more_than_any
+-- more than anything is counted, and so little that with a header and a few bits more it does not wrap
+abbrev pub cost_limit : ℕ
+cost_limit = 2147483648
+
+-- each of the costs is at most that
 pub record IsSmall (r : Costs) : Type 0 where
-  pub start : r.start.bits ≤ more_than_any
-  pub digits : r.digits ≤ more_than_any
-  pub one_digit : r.one_digit ≤ more_than_any
-  pub two_digits : r.two_digits ≤ more_than_any
-  pub letters : r.letters ≤ more_than_any
-  pub odd_letter : r.odd_letter ≤ more_than_any
-  pub bytes : r.bytes ≤ more_than_any
-  pub pairs : r.pairs ≤ more_than_any
-  pub half_pair : r.half_pair ≤ more_than_any
+  pub start : r.start.bits ≤ cost_limit
+  pub digits : r.digits ≤ cost_limit
+  pub one_digit : r.one_digit ≤ cost_limit
+  pub two_digits : r.two_digits ≤ cost_limit
+  pub letters : r.letters ≤ cost_limit
+  pub odd_letter : r.odd_letter ≤ cost_limit
+  pub bytes : r.bytes ≤ cost_limit
+  pub pairs : r.pairs ≤ cost_limit
+  pub half_pair : r.half_pair ≤ cost_limit
 
 -- a segment of the mode goes on with a byte of the kind, and in Kanji with both bytes of a pair
 abbrev pub takes : Mode → Kind → Bool

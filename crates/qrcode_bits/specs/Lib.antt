@@ -7,6 +7,7 @@ pub mod Grouping
 pub mod Groups
 pub mod LeastBits
 pub mod ModeHeaders
+pub mod ModeSets
 pub mod Optimal
 pub mod Pushes
 pub mod Refusals

@@ -1,13 +1,15 @@
 -- What the modes of a version cost before any data.
-use Rattle.std.specs.Prelude.{ℕ, ◌+◌, if◌then◌else◌}
+use Rattle.std.specs.Prelude.{ℕ, ◌+◌, ◌&&◌, if◌then◌else◌}
 use Rattle.qrcode_types.specs.Modes.{has_mode, mode_bits_count, length_bits_count}
 use Rattle.qrcode_types.specs.declared.types.Version.{Version}
 use Rattle.qrcode_types.specs.declared.types.Mode.{Mode}
+use Rattle.qrcode_bits.specs.ModeSets.{is_among}
+use Rattle.qrcode_bits.specs.declared.optimize.mode_sets.Modes.{Modes}
 
 -- more bits than any data takes
 abbrev pub more_than_any : ℕ
 more_than_any = 1073741824
 
--- mode indicator and length field, where the version has the mode
-abbrev pub header : Version → Mode → ℕ
-header v m = if has_mode v m then mode_bits_count v + length_bits_count m v else more_than_any
+-- mode indicator and length field, where the version has the mode and it is in the set
+abbrev pub header : Modes → Version → Mode → ℕ
+header set v m = if has_mode v m && is_among set m then mode_bits_count v + length_bits_count m v else more_than_any

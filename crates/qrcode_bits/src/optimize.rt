@@ -8,7 +8,8 @@ ghost use Rattle.qrcode_bits.specs.Groups.{range_limit};
 ghost use Rattle.qrcode_bits.specs.declared.optimize.Segment.{Segment};
 
 pub use self::groups::Optimizer;
-pub use self::least::least_segments;
+pub use self::least::{least_segments, least_segments_in};
+pub use self::mode_sets::Modes;
 pub use self::runs::Parser;
 use qrcode_types::characters::character_count;
 use qrcode_types::types::{Mode, Version};
@@ -17,6 +18,7 @@ mod costs;
 mod groups;
 mod headers;
 mod least;
+mod mode_sets;
 mod runs;
 mod tokens;
 

@@ -4,12 +4,12 @@ ghost use Rattle.std.specs.Prelude.{◌≡◌, ◌+◌, IsTrue};
 ghost use Rattle.qrcode_types.specs.Versions.{is_valid};
 ghost use Rattle.qrcode_bits.specs.LeastBits.{headers_of, header_in, AreSmall, IsSmall, better, begun, best_start, costs_before, step, at_end};
 
-use super::Kind;
 use super::headers::header;
+use super::{Kind, Modes};
 use qrcode_types::types::{Mode, Version};
 
 // The bits of mode indicator and length field in each mode, and more than any data takes where the
-// version lacks it.
+// version or the set of modes lacks it.
 #[derive(Copy, Clone)]
 pub(super) struct HeaderBits {
     numeric: u32,
@@ -19,16 +19,16 @@ pub(super) struct HeaderBits {
 }
 
 impl HeaderBits {
-    pub(super) fn of(version: Version) -> HeaderBits
+    pub(super) fn of(version: Version, modes: Modes) -> HeaderBits
         requires { IsTrue (is_valid version) }
-        ensures value { result ≡ headers_of version }
+        ensures value { result ≡ headers_of modes version }
         ensures at_most { AreSmall result }
     {
         HeaderBits {
-            numeric: header(version, Mode::Numeric),
-            alphanumeric: header(version, Mode::Alphanumeric),
-            byte: header(version, Mode::Byte),
-            kanji: header(version, Mode::Kanji),
+            numeric: header(version, modes, Mode::Numeric),
+            alphanumeric: header(version, modes, Mode::Alphanumeric),
+            byte: header(version, modes, Mode::Byte),
+            kanji: header(version, modes, Mode::Kanji),
         }
     }
 

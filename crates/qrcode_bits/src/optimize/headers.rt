@@ -4,20 +4,21 @@ ghost use Rattle.std.specs.Prelude.{◌≡◌, ◌≤◌, IsTrue};
 ghost use Rattle.qrcode_types.specs.Versions.{is_valid};
 ghost use Rattle.qrcode_bits.specs.ModeHeaders.{more_than_any, header};
 
+use super::Modes;
 use qrcode_types::modes::has_mode;
 use qrcode_types::types::{Mode, Version};
 
 // More bits than any data takes.
-const MORE_THAN_ANY: u32 = 1 << 30;
+pub(super) const MORE_THAN_ANY: u32 = 1 << 30;
 
-// The bits of a mode indicator and a length field, or `MORE_THAN_ANY` where the version lacks the
-// mode.
-pub(super) fn header(version: Version, mode: Mode) -> u32
+// The bits of a mode indicator and a length field, or `MORE_THAN_ANY` where the version or the set
+// lacks the mode.
+pub(super) fn header(version: Version, modes: Modes, mode: Mode) -> u32
     requires { IsTrue (is_valid version) }
-    ensures value { result ≡ header version mode }
+    ensures value { result ≡ header modes version mode }
     ensures at_most { result ≤ more_than_any }
 {
-    if has_mode(version, mode) {
+    if has_mode(version, mode) && modes.has(mode) {
         (version.mode_bits_count() + mode.length_bits_count(version)) as u32
     } else {
         MORE_THAN_ANY

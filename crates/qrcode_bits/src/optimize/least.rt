@@ -1,24 +1,24 @@
 //! Segments of the fewest bits.
 
-ghost use Rattle.std.specs.Prelude.{◌≡◌, ℕ, ◌<◌, ◌≤◌, ◌⊎◌, ◌↔◌, List, length, drop, flat_map, IsTrue, IfOk, IfErr, IsOkUnless, Err};
+ghost use Rattle.std.specs.Prelude.{◌≡◌, ℕ, ◌<◌, ◌≤◌, ◌⊎◌, ◌↔◌, nat_lt, List, length, flat_map, IsTrue, IfOk, IfErr, IsOkUnless, Err};
 ghost use Rattle.qrcode_types.specs.Versions.{is_valid, capacity};
 ghost use Rattle.std.specs.List.{AllByRecursion};
 ghost use Rattle.qrcode_types.specs.Characters.{can_write};
-ghost use Rattle.qrcode_types.specs.Modes.{widest_mode};
 ghost use Rattle.qrcode_types.specs.declared.types.EcLevel.{EcLevel};
 ghost use Rattle.qrcode_types.specs.declared.types.QrError.TheVariants.{UnsupportedCharacterSet, OutOfMemory};
-ghost use Rattle.qrcode_bits.specs.LeastBits.{AreSmall, IsSmall, costs_of, AreStarts, IsFirst};
+ghost use Rattle.qrcode_bits.specs.LeastBits.{AreSmall, headers_of, costs_of, AreStarts, IsFirst};
+ghost use Rattle.qrcode_bits.specs.ModeHeaders.{more_than_any};
 ghost use Rattle.qrcode_bits.specs.Segments.{AreInside};
-ghost use Rattle.qrcode_bits.specs.Cuts.{IsCut, IsLeastCut, FitsIn};
+ghost use Rattle.qrcode_bits.specs.Cuts.{IsCut, IsLeastCut, IsCutIn, IsLeastCutIn, FitsIn};
 ghost use Rattle.qrcode_bits.specs.Written.{pieces_of};
 ghost use Rattle.qrcode_bits.specs.Spelling.{IsSpelled};
 ghost use Rattle.qrcode_bits.specs.Refusals.{data_limit};
 ghost use Rattle.qrcode_bits.specs.declared.optimize.Segment.{Segment};
 
 use super::costs::{BestStart, Costs, HeaderBits, SingleCosts};
-use super::{Kind, Segment};
-use qrcode_types::characters::{bytes_each, can_write};
-use qrcode_types::modes::widest_mode;
+use super::headers::MORE_THAN_ANY;
+use super::{Kind, Modes, Segment};
+use qrcode_types::characters::bytes_each;
 use qrcode_types::types::{Mode, QrError, QrResult, Version};
 use std::alloc::{AllocError, Global};
 
@@ -50,10 +50,42 @@ pub fn least_segments(alloc: Global, bytes: &[u8], version: Version) -> QrResult
     ensures spelled { (level : EcLevel) → FitsIn version bytes.now (capacity version level)
         ↔ IsSpelled version level bytes.now }
 {
-    if !can_be_cut(bytes, version) {
+    least_segments_in(alloc, bytes, version, Modes::ALL)
+}
+
+/// A segmentation of the data in the fewest bits with modes of a set alone: of all cuts as those of
+/// `least_segments`, but each range in a mode of the set, one of least total length.
+///
+/// `UnsupportedCharacterSet`: there is no such cut. `OutOfMemory`: memory was refused.
+pub fn least_segments_in(
+    alloc: Global,
+    bytes: &[u8],
+    version: Version,
+    modes: Modes,
+) -> QrResult<Vec<Segment>>
+    requires valid { IsTrue (is_valid version) }
+    requires limit { length bytes.now ≤ data_limit }
+    ensures least { IfOk result (λ segments.
+        IsLeastCutIn modes version bytes.now segments.items) }
+
+    // Where the data cannot be cut, that is known before memory is asked for.
+    ensures no_cut { ((segments : List Segment) → ¬ IsCutIn modes version bytes.now segments)
+        → result ≡ Err UnsupportedCharacterSet }
+    ensures accepts { (segments : List Segment)
+        → IsCutIn modes version bytes.now segments → IsOkUnless result OutOfMemory }
+    ensures causes { IfErr result (λ e. (e ≡ UnsupportedCharacterSet) ⊎ (e ≡ OutOfMemory)) }
+
+    // The ranges lie in the data, in order they give it back, and each mode can write its range.
+    ensures inside { IfOk result (λ segments. AreInside (length bytes.now) segments.items) }
+    ensures joined { IfOk result (λ segments.
+        flat_map (λ p. p.chunk) (pieces_of bytes.now segments.items) ≡ bytes.now) }
+    ensures writable { IfOk result (λ segments. AllByRecursion
+        (λ p. IsTrue (can_write p.mode p.chunk)) (pieces_of bytes.now segments.items)) }
+{
+    if !can_be_cut(bytes, version, modes) {
         return Err(QrError::UnsupportedCharacterSet);
     }
-    let headers = HeaderBits::of(version);
+    let headers = HeaderBits::of(version, modes);
     let starts = least_starts(alloc, bytes, headers)?;
     let mut segments = Vec::new(alloc);
     let mut begin = 0;
@@ -65,12 +97,29 @@ pub fn least_segments(alloc: Global, bytes: &[u8], version: Version) -> QrResult
     Ok(segments)
 }
 
-// Whether some mode of the version can write all of the data.
-fn can_be_cut(bytes: &[u8], version: Version) -> bool
-    requires { IsTrue (is_valid version) }
-    ensures { result ≡ can_write (widest_mode version) bytes.now }
+// Whether the data can be cut. Bytes can write any, and else it is counted.
+fn can_be_cut(bytes: &[u8], version: Version, modes: Modes) -> bool
+    requires valid { IsTrue (is_valid version) }
+    requires limit { length bytes.now ≤ data_limit }
+    ensures { result
+        ≡ nat_lt (costs_of (headers_of modes version) bytes.now).start.bits more_than_any }
 {
-    can_write(widest_mode(version), bytes)
+    let headers = HeaderBits::of(version, modes);
+    headers.in_mode(Mode::Byte) < MORE_THAN_ANY || counted_bits(bytes, headers) < MORE_THAN_ANY
+}
+
+// The bits that the data takes at least.
+fn counted_bits(bytes: &[u8], headers: HeaderBits) -> u32
+    requires headers { AreSmall headers }
+    requires limit { length bytes.now ≤ data_limit }
+    ensures { result ≡ (costs_of headers bytes.now).start.bits }
+{
+    let single = SingleCosts::of(headers);
+    let mut costs = Costs::at_end();
+    for i in (0..bytes.len()).rev() {
+        costs = costs.with_byte_before(single, Kind::at(bytes, i));
+    }
+    costs.start.bits
 }
 
 // For each place of the data, and for its end, how the rest from there on begins in the fewest bits.
@@ -81,7 +130,6 @@ fn least_starts(
 ) -> Result<Vec<BestStart>, AllocError>
     requires headers { AreSmall headers }
     requires limit { length bytes.now ≤ data_limit }
-    requires rests { (place : ℕ) → IsSmall (costs_of headers (drop place bytes.now)) }
     ensures { IfOk result (λ starts. AreStarts headers bytes.now starts.items) }
 {
     let single = SingleCosts::of(headers);

@@ -1,0 +1,45 @@
+//! Sets of modes.
+
+ghost use Rattle.std.specs.Prelude.{◌≡◌};
+ghost use Rattle.qrcode_bits.specs.ModeSets.{is_among};
+
+use qrcode_types::types::Mode;
+
+/// A set of modes.
+#[derive(PartialEq, Eq, Debug, Copy, Clone)]
+pub struct Modes {
+    pub numeric: bool,
+    pub alphanumeric: bool,
+    pub byte: bool,
+    pub kanji: bool,
+}
+
+impl Modes {
+    /// All four modes.
+    pub const ALL: Modes = Modes {
+        numeric: true,
+        alphanumeric: true,
+        byte: true,
+        kanji: true,
+    };
+
+    /// The modes that a text is written in: all but Kanji, whose bytes a reader takes for Shift JIS.
+    pub const TEXT: Modes = Modes {
+        numeric: true,
+        alphanumeric: true,
+        byte: true,
+        kanji: false,
+    };
+
+    /// Whether a mode is in the set.
+    pub fn has(self, mode: Mode) -> bool
+        ensures { result ≡ is_among self mode }
+    {
+        match mode {
+            Mode::Numeric => self.numeric,
+            Mode::Alphanumeric => self.alphanumeric,
+            Mode::Byte => self.byte,
+            Mode::Kanji => self.kanji,
+        }
+    }
+}
