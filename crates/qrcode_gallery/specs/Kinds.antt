@@ -1,8 +1,8 @@
--- The kinds of drawing, and what is written.
-use Rattle.std.specs.Prelude.{◌≡◌, ℕ, List, codes}
+-- The kinds of drawing.
+use Rattle.std.specs.Prelude.{ℕ, List, codes}
 use Rattle.qrcode_types.specs.declared.types.Color.{Color}
 use Rattle.qrcode_types.specs.declared.types.Version.{Version}
-use Rattle.qrcode_uses.specs.Drawings.{IsDrawnAs, char_text, pair_text, half_block_text, svg_text, pic_text, grey_map}
+use Rattle.qrcode_uses.specs.Drawings.{char_text, pair_text, half_block_text, svg_text, pic_text, grey_map}
 use Rattle.qrcode_gallery.specs.declared.program.Kind.{Kind}
 use Rattle.qrcode_gallery.specs.declared.program.Kind.TheVariants.{Chars, Pairs, HalfBlocks, Svg, Pic, Pixels}
 
@@ -22,7 +22,3 @@ drawing_in HalfBlocks = half_block_text
 drawing_in Svg = svg_text 8
 drawing_in Pic = pic_text
 drawing_in Pixels = grey_map
-
--- what is written is the drawing of a text in the kind of a name
-abbrev pub Writes : (List ℕ → Type 0) → List ℕ → List ℕ → Type 0
-Writes Written name text = (kind : Kind) × (drawing : List ℕ) × (name ≡ name_of kind) × (IsDrawnAs (drawing_in kind) text drawing × Written drawing)

@@ -3,28 +3,20 @@
 
 mod program;
 
-use program::{Fault, run};
-use qrcode::types::QrError;
-use std::env;
+use qrcode_programs::{Fault, end, words};
 use std::process::ExitCode;
 
+static USAGE: &str = "wants char|str|half-blocks|svg|pic|pixels and a text";
+
 fn main(rt: HostRuntime) -> ExitCode {
-    let fault = match env::args(&rt) {
-        Err(_) => Fault::Qr(QrError::OutOfMemory),
-        Ok(mut args) => {
-            let kind = args.nth(1);
-            let text = args.next();
-            match (&kind, &text) {
-                (Some(kind), Some(text)) => {
-                    match run(rt.alloc(), kind.as_str(), text.as_str(), &mut rt.stdout()) {
-                        Ok(()) => return ExitCode::SUCCESS,
-                        Err(fault) => fault,
-                    }
-                }
-                _ => Fault::Usage,
-            }
-        }
-    };
-    let _ = eprintln!(rt; "{fault}");
-    ExitCode::FAILURE
+    let run = draw_arguments(&rt);
+    end(&rt, "qrcode_gallery", USAGE, run)
+}
+
+// Draws the second argument on standard output, in the kind that the first names.
+fn draw_arguments(rt: &HostRuntime) -> Result<(), Fault> {
+    let mut words = words(rt)?;
+    let kind = words.nth(1).ok_or(Fault::Usage)?;
+    let text = words.next().ok_or(Fault::Usage)?;
+    program::run(rt.alloc(), kind.as_str(), text.as_str(), &mut rt.stdout())
 }

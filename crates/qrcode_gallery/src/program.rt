@@ -1,35 +1,20 @@
 //! The program, over any writer.
 
 ghost use Rattle.std.specs.Prelude.{◌≡◌, ◌⊎◌, IfOk, IfErr, IfSome, IfNone, IsErrOf, IsOkUnless};
-ghost use Rattle.std.specs.Io.KnownBytes.{Appends};
 ghost use Rattle.qrcode_types.specs.declared.types.EcLevel.TheVariants.{M};
 ghost use Rattle.qrcode_types.specs.declared.types.QrError.TheVariants.{OutOfMemory};
 ghost use Rattle.qrcode_bits.specs.Choice.{IsRefused};
+ghost use Rattle.qrcode_programs.specs.Runs.{IsRun, IsCannotWrite};
 ghost use Rattle.qrcode_uses.specs.Drawings.{IsDrawnAs};
-ghost use Rattle.qrcode_gallery.specs.Faults.{IsCannotWrite, IsCause};
-ghost use Rattle.qrcode_gallery.specs.Kinds.{name_of, drawing_in, Writes};
+ghost use Rattle.qrcode_gallery.specs.Kinds.{name_of, drawing_in};
 ghost use Rattle.qrcode_gallery.specs.declared.program.Kind.{Kind};
 
 use qrcode::QrCode;
-use qrcode::types::{QrError, QrResult};
+use qrcode::types::QrResult;
+use qrcode_programs::{Fault, deliver};
 use qrcode_uses::drawings;
 use std::alloc::Global;
 use std::io::Write;
-use thiserror::Error;
-
-/// Why nothing was drawn.
-#[derive(Debug, Drop, Error)]
-pub enum Fault {
-    /// The words are not a kind and a text.
-    #[error("usage: qrcode_gallery char|str|half-blocks|svg|pic|pixels TEXT")]
-    Usage,
-    /// There is no symbol.
-    #[error("qrcode_gallery: {0}")]
-    Qr(QrError),
-    /// The writer failed.
-    #[error("qrcode_gallery: cannot write")]
-    CannotWrite,
-}
 
 /// A way to draw.
 #[derive(Clone, Copy)]
@@ -90,18 +75,14 @@ fn drawing_of(alloc: Global, kind: Kind, code: &QrCode) -> QrResult<Vec<u8>>
 /// write.
 pub fn run<W: Write>(alloc: Global, name: &str, text: &str, out: &mut W) -> Result<(), Fault>
     ensures usage { IsErrOf result Fault.Usage → (kind : Kind) → ¬ (name.now ≡ name_of kind) }
-    ensures wrote { IfOk result (λ _.
-        Writes (Appends (W.contents out.old) (W.contents out.new)) name.now text.now) }
     ensures nothing { IfErr result (λ fault.
         IsCannotWrite fault ⊎ (W.contents out.new ≡ W.contents out.old)) }
-    ensures causes { IfErr result (IsCause name.now text.now) }
+    ensures runs { IsErrOf result Fault.Usage ⊎ ((kind : Kind) × (name.now ≡ name_of kind)
+        × IsRun (IsDrawnAs (drawing_in kind) text.now) (IsRefused M text.now)
+        (W.contents out.old) (W.contents out.new) result) }
 {
     let Some(kind) = kind_of(name) else {
         return Err(Fault::Usage);
     };
-    let drawing = match draw(alloc, kind, text.as_bytes()) {
-        Ok(drawing) => drawing,
-        Err(error) => return Err(Fault::Qr(error)),
-    };
-    out.write_all(&drawing).map_err(|_| Fault::CannotWrite)
+    deliver(draw(alloc, kind, text.as_bytes()), out)
 }

@@ -3,26 +3,20 @@
 
 mod program;
 
-use program::{Fault, run};
-use qrcode::types::QrError;
-use std::env;
+use qrcode_programs::{Fault, end, words};
 use std::process::ExitCode;
 
 fn main(rt: HostRuntime) -> ExitCode {
-    let fault = match env::args(&rt) {
-        Err(_) => Fault::Qr(QrError::OutOfMemory),
-        Ok(mut args) => {
-            let text = args.nth(1);
-            let text = match &text {
-                Some(text) => Some(text.as_str()),
-                None => None,
-            };
-            match run(rt.alloc(), text, &mut rt.stdout()) {
-                Ok(()) => return ExitCode::SUCCESS,
-                Err(fault) => fault,
-            }
-        }
+    let run = draw_argument(&rt);
+    end(&rt, "qrencode", "missing argument", run)
+}
+
+// Draws the first argument on standard output.
+fn draw_argument(rt: &HostRuntime) -> Result<(), Fault> {
+    let text = words(rt)?.nth(1);
+    let text = match &text {
+        Some(text) => Some(text.as_str()),
+        None => None,
     };
-    let _ = eprintln!(rt; "{fault}");
-    ExitCode::FAILURE
+    program::run(rt.alloc(), text, &mut rt.stdout())
 }

@@ -8,28 +8,15 @@ ghost use Rattle.qrcode_types.specs.declared.types.QrError.TheVariants.{OutOfMem
 ghost use Rattle.qrcode_types.specs.declared.types.Version.{Version};
 ghost use Rattle.qrcode_bits.specs.Choice.{IsRefused};
 ghost use Rattle.qrcode.specs.Acceptance.{IsChosenSymbol};
-ghost use Rattle.qrencode.specs.Words.{terminal_text, Writes, IsCause, IsCannotWrite};
+ghost use Rattle.qrcode_programs.specs.Runs.{IsRun, IsCannotWrite};
+ghost use Rattle.qrencode.specs.Words.{terminal_text, IsTerminalText};
 
 use qrcode::QrCode;
 use qrcode::render::string::Str;
-use qrcode::types::{QrError, QrResult};
+use qrcode::types::QrResult;
+use qrcode_programs::{Fault, deliver};
 use std::alloc::Global;
 use std::io::Write;
-use thiserror::Error;
-
-/// Why not all was written.
-#[derive(Debug, Drop, Error)]
-pub enum Fault {
-    /// There is no text.
-    #[error("qrencode: missing argument")]
-    MissingArgument,
-    /// The text is refused, or memory is.
-    #[error("qrencode: {0}")]
-    Qr(QrError),
-    /// The writer failed.
-    #[error("qrencode: cannot write")]
-    CannotWrite,
-}
 
 // A dark and a light cell: two spaces in inverse video, and two on the default background.
 static DARK: &str = "\x1b[7m  \x1b[0m";
@@ -40,33 +27,26 @@ static LIGHT: &str = "\x1b[49m  \x1b[0m";
 /// a line for each row of modules, without a newline at the end. The whole text is made before the
 /// first write.
 pub fn run<W: Write>(alloc: Global, text: Option<&str>, out: &mut W) -> Result<(), Fault>
-    ensures missing { IsErrOf result Fault.MissingArgument ↔ (text.entry ≡ None) }
-    ensures wrote { IfOk result (λ _. IfSome text.entry (λ t.
-        Writes (Appends (W.contents out.old) (W.contents out.new)) t.now)) }
+    ensures usage { IsErrOf result Fault.Usage ↔ (text.entry ≡ None) }
     ensures nothing { IfErr result (λ fault.
         IsCannotWrite fault ⊎ (W.contents out.new ≡ W.contents out.old)) }
-    ensures causes { IfErr result (λ fault. IfSome text.entry (λ t. IsCause t.now fault)) }
+    ensures runs { IfSome text.entry (λ t. IsRun (IsTerminalText t.now) (IsRefused M t.now)
+        (W.contents out.old) (W.contents out.new) result) }
 {
     let Some(text) = text else {
-        return Err(Fault::MissingArgument);
+        return Err(Fault::Usage);
     };
-    let picture = match picture(alloc, text.as_bytes()) {
-        Ok(picture) => picture,
-        Err(error) => return Err(Fault::Qr(error)),
-    };
-    out.write_all(picture.as_bytes())
-        .map_err(|_| Fault::CannotWrite)
+    deliver(picture(alloc, text.as_bytes()), out)
 }
 
 // The symbol of bytes, as cells.
-fn picture(alloc: Global, bytes: &[u8]) -> QrResult<String>
-    ensures value { IfOk result (λ text. (v : Version) × (s : List Color)
-        × IsChosenSymbol v M bytes.now s × (string_bytes text ≡ terminal_text v s)) }
+fn picture(alloc: Global, bytes: &[u8]) -> QrResult<Vec<u8>>
+    ensures value { IfOk result (λ text. IsTerminalText bytes.now text.items) }
     ensures causes { IfErr result (IsRefused M bytes.now) }
 {
     let code = QrCode::new(alloc, bytes)?;
     let cells = cells(alloc, &code)?;
-    Ok(cells)
+    Ok(cells.into_bytes())
 }
 
 // A symbol as cells.
