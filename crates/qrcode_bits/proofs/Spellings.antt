@@ -51,7 +51,8 @@ mode_of_micro-is Alphanumeric = refl
 mode_of_micro-is Byte = refl
 mode_of_micro-is Kanji = refl
 
-same_mode : (v : Version) (m n : Mode) → indicator v m ≡ indicator v n → m ≡ n
+-- an indicator tells its mode
+pub same_mode : (v : Version) (m n : Mode) → indicator v m ≡ indicator v n → m ≡ n
 same_mode (Normal v) m n e = sym (mode_of_normal-is m) ∙ ap mode_of_normal e ∙ mode_of_normal-is n
 same_mode (Micro v) m n e = sym (mode_of_micro-is m) ∙ ap mode_of_micro e ∙ mode_of_micro-is n
 

@@ -1,0 +1,6 @@
+pub mod Fronts
+pub mod Groups
+pub mod Letters
+pub mod Pairs
+pub mod Refused
+pub mod Spelled

@@ -1,0 +1,39 @@
+//! Bits read as bytes: the pieces of a symbol's data, and what they spell.
+#![tactic(auto)]
+
+mod characters;
+mod fields;
+mod pieces;
+mod refusals;
+
+ghost use Rattle.std.specs.Prelude.{◌≡◌, ◌⊎◌, ℕ, List, IsTrue, IfOk, IfErr, IsOkUnless};
+ghost use Rattle.qrcode_types.specs.Versions.{is_valid};
+ghost use Rattle.qrcode_bits.specs.Spelling.{Spells, SpellsOnly};
+ghost use Rattle.qrcode_spell.specs.declared.refusals.Unspelled.TheVariants.{NotSpelled, OutOfMemory};
+
+use pieces::{is_end, push_piece};
+use qrcode_types::types::Version;
+pub use refusals::Unspelled;
+use std::alloc::Global;
+
+/// The bytes that the data bits of a symbol spell (ISO/IEC 18004:2006, 6.4): those of all pieces up
+/// to the terminator, or to the end where that is cut off. What stands behind the terminator is not
+/// looked at.
+///
+/// `NotSpelled`: the bits are not pieces and an end, such as bits with the number of a character
+/// set. `OutOfMemory` is the only other error.
+pub fn spell(alloc: Global, bits: &[bool], version: Version) -> Result<Vec<u8>, Unspelled>
+    requires { IsTrue (is_valid version) }
+    ensures value { IfOk result (λ bytes. SpellsOnly version bits.now bytes.items) }
+    ensures accepts { (bytes : List ℕ) → Spells version bits.now bytes
+        → IsOkUnless result OutOfMemory }
+    ensures causes { IfErr result (λ e. (e ≡ OutOfMemory)
+        ⊎ ((e ≡ NotSpelled) × ((bytes : List ℕ) → ¬ Spells version bits.now bytes))) }
+{
+    let mut bytes = Vec::new(alloc);
+    let mut rest = bits;
+    while !is_end(rest, version) {
+        rest = push_piece(&mut bytes, rest, version)?;
+    }
+    Ok(bytes)
+}
