@@ -1,0 +1,30 @@
+-- The text of a network is read back.
+use Rattle.std.proofs.Common.{◌≡◌, ℕ, List, Bool, true, false, Some, codes, refl, ap, ◌∙◌}
+use Rattle.std.specs.Option.{option_and_then}
+use Rattle.qrcode_contents.specs.declared.wifi.Security.{Security}
+use Rattle.qrcode_contents.specs.declared.wifi.Security.TheVariants.{Open, Wep, Wpa, Wpa3}
+use Rattle.qrcode_contents.specs.Entries.{Entry, filled}
+use Rattle.qrcode_contents.specs.EntryTests.{are_distinct}
+use Rattle.qrcode_contents.specs.Wifi.{Network, wifi_entries, wifi_text, network_of, read_wifi}
+use Rattle.qrcode_contents.proofs.EntryReading.{read_entries-text, part_of-filled}
+
+network_of-filled : (es : List Entry) → are_distinct es ≡ true → network_of (filled es) ≡ network_of es
+network_of-filled es are =
+    rw (part_of-filled (codes "T") 0 es are, part_of-filled (codes "S") 0 es are, part_of-filled (codes "P") 0 es are, part_of-filled (codes "H") 0 es are) refl
+
+network_said : (security : Security) (ssid password : List ℕ) (hidden : Bool) → let n : Network = record { security = security; ssid = ssid; password = password; hidden = hidden } in network_of (wifi_entries n) ≡ Some n
+network_said Open ssid password true = refl
+network_said Open ssid password false = refl
+network_said Wep ssid password true = refl
+network_said Wep ssid password false = refl
+network_said Wpa ssid password true = refl
+network_said Wpa ssid password false = refl
+network_said Wpa3 ssid password true = refl
+network_said Wpa3 ssid password false = refl
+
+-- what is read is what was said
+pub wifi_read : (n : Network) → read_wifi (wifi_text n) ≡ Some n
+wifi_read n =
+    ap (option_and_then network_of) (read_entries-text (codes "WIFI:") (wifi_entries n) refl)
+    ∙ network_of-filled (wifi_entries n) refl
+    ∙ network_said n.security n.ssid n.password n.hidden

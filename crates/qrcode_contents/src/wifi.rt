@@ -1,0 +1,96 @@
+//! The text that joins a wireless network.
+
+ghost use Rattle.std.specs.Prelude.{◌≡◌, [], Some, IfOk, IsOkUnless, string_bytes, codes, if◌then◌else◌};
+ghost use Rattle.qrcode_contents.specs.declared.errors.ContentError.TheVariants.{OutOfMemory};
+ghost use Rattle.qrcode_contents.specs.Refusals.{Answers, checked};
+ghost use Rattle.qrcode_contents.specs.Wifi.{wifi_fields, wifi_refusal, wifi_text, read_wifi, security_name};
+
+use crate::entries::push_entry;
+use crate::errors::{Cause, ContentResult, Field};
+use std::alloc::Global;
+
+/// How a network is secured.
+#[derive(Copy, Clone, PartialEq, Eq, Debug)]
+pub enum Security {
+    /// Without a password.
+    Open,
+    /// WEP.
+    Wep,
+    /// WPA or WPA2 with a password.
+    Wpa,
+    /// WPA3 with a password.
+    Wpa3,
+}
+
+impl Security {
+    /// The name in the text.
+    pub fn name(self) -> &'static str
+        ensures { result.now ≡ security_name self }
+    {
+        match self {
+            Security::Open => "nopass",
+            Security::Wep => "WEP",
+            Security::Wpa => "WPA",
+            Security::Wpa3 => "SAE",
+        }
+    }
+}
+
+// `true`, or nothing.
+fn truth(holds: bool) -> &'static str
+    ensures { result.now ≡ (if holds then codes "true" else []) }
+{
+    if holds { "true" } else { "" }
+}
+
+/// A wireless network. An open network has an empty password.
+#[derive(Copy, Clone, PartialEq, Eq, Debug)]
+pub struct Wifi<'a> {
+    /// How it is secured.
+    pub security: Security,
+    /// Its name, 1 to 32 bytes.
+    pub ssid: &'a str,
+    /// Its password.
+    pub password: &'a str,
+    /// Whether it does not tell its name.
+    pub hidden: bool,
+}
+
+impl Wifi<'_> {
+    // Refuses what the text cannot say.
+    fn check(&self) -> ContentResult<()>
+        ensures { result ≡ checked (wifi_refusal (wifi_fields self.now)) }
+    {
+        let open = self.security == Security::Open;
+        Field::Ssid.refuse_if(self.ssid.is_empty(), Cause::Empty)?;
+        Field::Ssid.refuse_if(self.ssid.len() > 32, Cause::TooLong)?;
+        Field::Password.refuse_if(open && !self.password.is_empty(), Cause::Unused)?;
+        Field::Password.refuse_if(!open && self.password.is_empty(), Cause::Empty)
+    }
+
+    // The text of a network that is not refused.
+    fn written(&self, alloc: Global) -> ContentResult<String>
+        ensures value { IfOk result (λ text. string_bytes text ≡ wifi_text (wifi_fields self.now)) }
+        ensures memory { IsOkUnless result OutOfMemory }
+    {
+        let mut text = String::from_str(alloc, "WIFI:")?;
+        push_entry(&mut text, "T", &[self.security.name()])?;
+        push_entry(&mut text, "S", &[self.ssid])?;
+        push_entry(&mut text, "P", &[self.password])?;
+        push_entry(&mut text, "H", &[truth(self.hidden)])?;
+        text.push_str(";")?;
+        Ok(text)
+    }
+
+    /// The text that joins the network.
+    ///
+    /// An error names the field and why the text cannot say it, or is `OutOfMemory`.
+    pub fn text(&self, alloc: Global) -> ContentResult<String>
+        ensures reads { Answers (wifi_refusal (wifi_fields self.now)) result
+            (λ text. read_wifi text ≡ Some (wifi_fields self.now)) }
+        ensures value { IfOk result (λ text. string_bytes text ≡ wifi_text (wifi_fields self.now)) }
+    {
+        self.check()?;
+        self.written(alloc)
+    }
+}
