@@ -1,0 +1,6 @@
+mod Corrections
+mod Locators
+mod Moments
+mod Remainders
+mod Searches
+mod Sums

@@ -1,0 +1,3 @@
+pub mod Errors
+pub mod Polynomials
+pub mod Recurrences

@@ -1,0 +1,20 @@
+-- Polynomials over the field of bytes, as lists of coefficients with the lowest first.
+use Rattle.std.specs.Prelude.{◌≡◌, ℕ, ◌+◌, ◌*◌, ◌≤◌, List, ◌∷◌, length, slice_index, bit_xor}
+use Rattle.qrcode_types.specs.Polynomials.{xor_sum}
+use Rattle.qrcode_ec.specs.Field.{product, power}
+
+-- the coefficients of f times values from the i-th on, summed up
+unfoldable pub combined : List ℕ → (ℕ → ℕ) → ℕ → ℕ
+combined f values i = xor_sum (length f) (λ j. product (slice_index f j) (values (i + j)))
+
+-- the value of f at the l-th power of 2
+abbrev pub value_at : List ℕ → ℕ → ℕ
+value_at f l = combined f (λ j. power (l * j)) 0
+
+-- f has no more than n coefficients that are not zero
+abbrev pub EndsAt : List ℕ → ℕ → Type 0
+EndsAt f n = (j : ℕ) → n ≤ j → slice_index f j ≡ 0
+
+-- f is the quotient times (x - point), and the rest
+pub record IsDivision (f : List ℕ) (point : ℕ) (quotient : List ℕ) (rest : ℕ) : Type 0 where
+  pub at : (j : ℕ) → slice_index f j ≡ bit_xor (slice_index (rest ∷ quotient) j) (product point (slice_index quotient j))
