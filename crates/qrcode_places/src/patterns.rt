@@ -91,9 +91,9 @@ fn alignment_between(
     color_if(!is_corner_centre(width, centre_x, centre_y), distance != 1)
 }
 
-// The row and the column of timing modules.
+/// The row and the column of timing modules; `width` is the side of the version.
 #[tactic(auto, unfolding(crate::specs::Patterns::timing))]
-fn timing(version: Version, width: usize, x: usize, y: usize) -> Option<Color>
+pub fn timing(version: Version, width: usize, x: usize, y: usize) -> Option<Color>
     requires valid { IsTrue (is_valid version) }
     requires width { width ≡ side version }
     requires fits { x + y < 1000 }

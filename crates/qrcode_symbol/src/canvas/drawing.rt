@@ -1,9 +1,9 @@
 //! Drawing the functional patterns: blocks of modules where they are the same in all versions, and place
 //! by place elsewhere.
 
-ghost use Rattle.std.specs.Prelude.{◌≡◌, ℕ, ◌+◌, ◌-◌, ◌*◌, ◌<◌, ◌≤◌, length, find, slice_index, true, false, ◌↔◌, IsTrue};
+ghost use Rattle.std.specs.Prelude.{◌≡◌, ℕ, ◌+◌, ◌-◌, ◌*◌, ◌<◌, ◌≤◌, length, slice_index, true, false, ◌↔◌, IsTrue};
 ghost use Rattle.qrcode_types.specs.Versions.{is_valid, is_micro, side};
-ghost use Rattle.qrcode_places.specs.Patterns.{centres, is_near, is_functional_place, is_corner_centre};
+ghost use Rattle.qrcode_places.specs.Patterns.{centres, is_functional_place, is_corner_centre};
 ghost use Rattle.qrcode_symbol.specs.Canvas.{pattern_module, with_patterns};
 ghost use Rattle.qrcode_symbol.specs.Patterned.{DrawsTowards, IsRectanglePatterned, AreAlignmentsPatterned, IsBlockAt, IsCentre, IsDrawn};
 
@@ -12,7 +12,7 @@ mod blocks;
 use super::Module;
 use super::pattern_places::PatternPlaces;
 use blocks::{ALIGNMENT, MICRO_TOP_LEFT, NORMAL_BOTTOM_LEFT, NORMAL_TOP_LEFT, NORMAL_TOP_RIGHT};
-use qrcode_places::patterns::{format_index, is_corner_centre, near_centre, pattern};
+use qrcode_places::patterns::{format_index, is_corner_centre, near_centre, pattern, timing};
 use qrcode_types::types::{Color, Version};
 
 /// Whether a pattern or the format word has a place.
@@ -34,18 +34,11 @@ pub(super) fn is_functional_place(places: PatternPlaces, x: usize, y: usize) -> 
         || format_index(version, width, x, y).is_some()
 }
 
-// A module after the functional patterns are drawn, the format places light; `near_y` is the
-// coordinate of an alignment centre that is near the row.
-fn pattern_module(
-    places: PatternPlaces,
-    near_y: Option<usize>,
-    x: usize,
-    y: usize,
-    old: Module,
-) -> Module
+// A module after the functional patterns are drawn, the format places light. Most places that are
+// drawn one by one are timing modules, which need no search for a centre.
+fn pattern_module(places: PatternPlaces, x: usize, y: usize, old: Module) -> Module
     requires column { x < side places.version }
     requires row { y < side places.version }
-    requires near_y { near_y ≡ find (is_near y) (centres places.version) }
     ensures { result ≡ pattern_module places.version x y old }
 {
     let PatternPlaces {
@@ -53,7 +46,12 @@ fn pattern_module(
         width,
         coordinates,
     } = places;
-    match pattern(version, width, near_centre(coordinates, x), near_y, x, y) {
+    if let Some(color) = timing(version, width, x, y) {
+        return Module::Masked(color);
+    }
+    let near_x = near_centre(coordinates, x);
+    let near_y = near_centre(coordinates, y);
+    match pattern(version, width, near_x, near_y, x, y) {
         Some(color) => Module::Masked(color),
         None => match format_index(version, width, x, y) {
             Some(_) => Module::Masked(Color::Light),
@@ -70,11 +68,10 @@ fn draw_row(places: PatternPlaces, left: usize, across: usize, y: usize, modules
     ensures towards { DrawsTowards places.version modules.old modules.new }
     ensures drawn { IsRectanglePatterned places.version modules.new left y across 1 }
 {
-    let near_y = near_centre(places.coordinates, y);
     for column in 0..across {
         let x = left + column;
         let index = y * places.width + x;
-        modules[index] = pattern_module(places, near_y, x, y, modules[index]);
+        modules[index] = pattern_module(places, x, y, modules[index]);
     }
 }
 
