@@ -1,5 +1,5 @@
 -- Bits drawn along the walk, one place after the other.
-use Rattle.std.specs.Prelude.{ℕ, ◌+◌, ◌-◌, ◌*◌, ◌%◌, ◌==◌, if◌then◌else◌, Bool, true, false, List, map, filter, drop, Option, Some, None, slice_index_or, slice_set}
+use Rattle.std.specs.Prelude.{◌≡◌, ℕ, ◌+◌, ◌-◌, ◌*◌, ◌%◌, ◌==◌, if◌then◌else◌, Bool, true, false, List, map, filter, drop, Option, Some, None, slice_get, slice_index_or, slice_set}
 use Rattle.std.specs.List.{range_with_len}
 use Rattle.qrcode_types.specs.Colors.{color_of}
 use Rattle.qrcode_types.specs.Versions.{side}
@@ -39,3 +39,11 @@ left_if true bits = drop 1 bits
 -- the module at an index is empty
 abbrev pub is_empty_at : List Module → ℕ → Bool
 is_empty_at modules index = is_empty (slice_index_or modules index Empty)
+
+-- the next bits drawn in a row of a pair of columns, where the modules are empty: at an index, and at the one before it
+abbrev pub DrawsRow : ℕ → List Bool → List Module → List Bool → List Module → Type 0
+DrawsRow index bits modules rest new =
+    let right = is_empty_at modules index in
+    let left = is_empty_at (drawn_if right (slice_get bits 0) modules index) (index - 1) in
+    (rest ≡ left_if left (left_if right bits))
+    × (new ≡ drawn_if left (slice_get (left_if right bits) 0) (drawn_if right (slice_get bits 0) modules index) (index - 1))

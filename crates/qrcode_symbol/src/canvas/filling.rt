@@ -3,7 +3,7 @@
 ghost use Rattle.std.specs.Prelude.{◌≡◌, ◌+◌, ◌*◌, ◌%◌, ◌<◌, ◌≤◌, length, slice_get, IsTrue};
 ghost use Rattle.qrcode_types.specs.Versions.{is_valid, side};
 ghost use Rattle.qrcode_symbol.specs.Canvas.{with_bits_drawn};
-ghost use Rattle.qrcode_symbol.specs.Filling.{row_of_step, filled_from, drawn_if, left_if, is_empty_at};
+ghost use Rattle.qrcode_symbol.specs.Filling.{DrawsRow, filled_from, drawn_if, left_if, is_empty_at};
 
 use super::codewords::Codewords;
 use super::{Module, side};
@@ -26,24 +26,28 @@ fn draw_bit(codewords: &mut Codewords<'_>, modules: &mut [Module], index: usize)
     }
 }
 
-// The row at a step through a pair of columns: the walk goes upwards and downwards by turns.
+// Draws the next bits in a row of a pair of columns, the right module first.
 #[inline(always)]
-fn row_of_step(width: usize, pair: usize, step: usize) -> usize
-    requires { step < width }
-    ensures value { result ≡ row_of_step width pair step }
-    ensures inside { result < width }
+fn draw_row(codewords: &mut Codewords<'_>, modules: &mut [Module], index: usize)
+    requires some { 1 ≤ index }
+    requires inside { index < length modules.old }
+    ensures { DrawsRow index codewords.old modules.old codewords.new modules.new }
 {
-    if pair % 2 == 0 {
-        width - 1 - step
-    } else {
-        step
-    }
+    draw_bit(codewords, modules, index);
+    draw_bit(codewords, modules, index - 1);
 }
 
-// Draws the next bits in a pair of columns, the right module of each row first.
-fn draw_pair(version: Version, pair: usize, codewords: &mut Codewords<'_>, modules: &mut [Module])
+// Draws the next bits in a pair of columns, upwards. Two loops, one for each direction, go from index
+// to index by an addition.
+fn draw_upwards(
+    version: Version,
+    pair: usize,
+    codewords: &mut Codewords<'_>,
+    modules: &mut [Module],
+)
     requires valid { IsTrue (is_valid version) }
     requires pair { 2 * pair + 3 ≤ side version }
+    requires upwards { pair % 2 ≡ 0 }
     requires square { length modules.old ≡ side version * side version }
     ensures { filled_from version codewords.new modules.new (2 * side version * (pair + 1))
         ≡ filled_from version codewords.old modules.old (2 * side version * pair) }
@@ -51,9 +55,28 @@ fn draw_pair(version: Version, pair: usize, codewords: &mut Codewords<'_>, modul
     let width = side(version);
     let right = right_column(version, width, pair);
     for step in 0..width {
-        let index = row_of_step(width, pair, step) * width + right;
-        draw_bit(codewords, modules, index);
-        draw_bit(codewords, modules, index - 1);
+        draw_row(codewords, modules, (width - 1 - step) * width + right);
+    }
+}
+
+// The same, downwards.
+fn draw_downwards(
+    version: Version,
+    pair: usize,
+    codewords: &mut Codewords<'_>,
+    modules: &mut [Module],
+)
+    requires valid { IsTrue (is_valid version) }
+    requires pair { 2 * pair + 3 ≤ side version }
+    requires downwards { pair % 2 ≡ 1 }
+    requires square { length modules.old ≡ side version * side version }
+    ensures { filled_from version codewords.new modules.new (2 * side version * (pair + 1))
+        ≡ filled_from version codewords.old modules.old (2 * side version * pair) }
+{
+    let width = side(version);
+    let right = right_column(version, width, pair);
+    for step in 0..width {
+        draw_row(codewords, modules, step * width + right);
     }
 }
 
@@ -66,6 +89,10 @@ pub(super) fn draw_codewords(version: Version, codewords: Codewords<'_>, modules
 {
     let mut codewords = codewords;
     for pair in 0..side(version) / 2 {
-        draw_pair(version, pair, &mut codewords, modules);
+        if pair % 2 == 0 {
+            draw_upwards(version, pair, &mut codewords, modules);
+        } else {
+            draw_downwards(version, pair, &mut codewords, modules);
+        }
     }
 }

@@ -1,7 +1,7 @@
 use Rattle.std.proofs.Common.{◌≡◌, ◌+◌, ◌*◌}
 use Rattle.qrcode_types.specs.Versions.{side}
 use Rattle.qrcode_symbol.specs.Filling.{filled_from}
-use Rattle.qrcode_symbol.proofs.canvas.filling.draw_pair.Given as goal
+use Rattle.qrcode_symbol.proofs.canvas.filling.draw_upwards.Given as goal
 
 abbrev pub invariant-loop-step : goal.invariant-loop-step
 invariant-loop-step l =
