@@ -44,17 +44,22 @@ fn generator(degree: usize) -> [u8; ROOM]
     coefficients
 }
 
-// The coefficients times a byte, where those from `degree` on are zeros.
-fn scaled(coefficients: &[u8; ROOM], degree: usize, factor: u8) -> [u8; ROOM]
-    requires at_most { degree ≤ 72 }
-    requires ends { (j : ℕ) → degree ≤ j → slice_index coefficients.now j ≡ 0 }
-    ensures value { (j : ℕ) → j < 72
-        → slice_index result j ≡ product factor (slice_index coefficients.now j) }
-    ensures ends { (j : ℕ) → degree ≤ j → slice_index result j ≡ 0 }
+// A byte times 2, which is x: where x^7 leaves it, the modulus is taken off.
+#[inline(always)]
+fn double(byte: u8) -> u8
+    ensures { result ≡ product 2 byte }
+{
+    let shifted = byte << 1;
+    if byte < 128 { shifted } else { shifted ^ 0x1d }
+}
+
+// A row times 2.
+fn doubled(row: &[u8; ROOM]) -> [u8; ROOM]
+    ensures { (j : ℕ) → j < 72 → slice_index result j ≡ product 2 (slice_index row.now j) }
 {
     let mut multiple = [0; ROOM];
-    for j in 0..degree {
-        multiple[j] = product(factor, coefficients[j]);
+    for j in 0..ROOM {
+        multiple[j] = double(row[j]);
     }
     multiple
 }
@@ -72,12 +77,10 @@ fn sum(first: &[u8; ROOM], second: &[u8; ROOM]) -> [u8; ROOM]
 }
 
 // Row k, where the rows before have the lesser multiples of row 1. A multiple by a power of two is
-// computed by products, and each other one is the sum of two rows before it.
-fn next_multiple(rows: &[[u8; ROOM]; 16], degree: usize, k: usize) -> [u8; ROOM]
+// twice another, and each other one is the sum of two rows before it.
+fn next_multiple(rows: &[[u8; ROOM]; 16], k: usize) -> [u8; ROOM]
     requires at_least { 2 ≤ k }
     requires at_most { k < 16 }
-    requires degree_at_most { degree ≤ 72 }
-    requires ends { (j : ℕ) → degree ≤ j → slice_index (slice_index_or rows.now 1 []) j ≡ 0 }
     requires earlier { (i j : ℕ) → i < k → j < 72 → slice_index (slice_index_or rows.now i []) j
         ≡ product i (slice_index (slice_index_or rows.now 1 []) j) }
     ensures { (j : ℕ) → j < 72
@@ -85,7 +88,7 @@ fn next_multiple(rows: &[[u8; ROOM]; 16], degree: usize, k: usize) -> [u8; ROOM]
 {
     let rest = k & (k - 1);
     if rest == 0 {
-        return scaled(&rows[1], degree, k as u8);
+        return doubled(&rows[k / 2]);
     }
     sum(&rows[rest], &rows[k - rest])
 }
@@ -93,31 +96,31 @@ fn next_multiple(rows: &[[u8; ROOM]; 16], degree: usize, k: usize) -> [u8; ROOM]
 // The multiples of a row by 0, 1, 2 and so on. It is not inlined, since LLVM would then set the room
 // of a divider to zeros before it writes to it.
 #[inline(never)]
-fn multiples(first: &[u8; ROOM], degree: usize) -> [[u8; ROOM]; 16]
-    requires at_most { degree ≤ 72 }
-    requires ends { (j : ℕ) → degree ≤ j → slice_index first.now j ≡ 0 }
+fn multiples(first: &[u8; ROOM]) -> [[u8; ROOM]; 16]
     ensures first { slice_index_or result 1 [] ≡ first.now }
     ensures multiples { AreMultiples first.now 1 result }
 {
     let mut rows = [[0; ROOM]; 16];
     rows[1] = *first;
     for k in 2..16 {
-        rows[k] = next_multiple(&rows, degree, k);
+        rows[k] = next_multiple(&rows, k);
     }
     rows
 }
 
-// Moves the remainder on by one byte, and subtracts two multiples of the generator from it.
-fn advance(register: &mut [u8; ROOM], low: &[u8; ROOM], high: &[u8; ROOM])
-    ensures { (j : ℕ) → j < 72 → slice_index register.new j
+// Moves the remainder on by one byte, and subtracts two multiples of the generator from it. It and
+// they have their coefficients in the first `reach` places, the last of which is none.
+fn advance(register: &mut [u8; ROOM], low: &[u8; ROOM], high: &[u8; ROOM], reach: usize)
+    requires { reach < 72 }
+    ensures below { (j : ℕ) → j < reach → slice_index register.new j
         ≡ bit_xor (slice_index register.old (suc j))
         (bit_xor (slice_index low.now j) (slice_index high.now j)) }
+    ensures behind { (j : ℕ) → reach ≤ j
+        → slice_index register.new j ≡ slice_index register.old j }
 {
-    let last = ROOM - 1;
-    for i in 0..last {
+    for i in 0..reach {
         register[i] = register[i + 1] ^ (low[i] ^ high[i]);
     }
-    register[last] = low[last] ^ high[last];
 }
 
 /// A generator, by its multiples: those by the bytes below 16, and those by the multiples of 16.
@@ -126,9 +129,13 @@ fn advance(register: &mut [u8; ROOM], low: &[u8; ROOM], high: &[u8; ROOM])
 pub struct Divider {
     /// The degree of the generator, and the length of a remainder.
     pub degree: usize,
+    // The degree rounded up, so that whole pairs of vectors of bytes are moved.
+    reach: usize,
     low: [[u8; ROOM]; 16],
     high: [[u8; ROOM]; 16],
     pub ghost at_most: { degree ≤ 69 },
+    pub ghost reached: { degree ≤ reach },
+    pub ghost inside: { reach < 72 },
     pub ghost generator: { AreOfGenerator degree low high },
 }
 
@@ -138,11 +145,12 @@ impl Divider {
         requires { degree ≤ 69 }
         ensures { result.degree ≡ degree }
     {
-        let generator = generator(degree);
+        let low = multiples(&generator(degree));
         Divider {
             degree,
-            low: multiples(&generator, degree),
-            high: multiples(&scaled(&generator, degree, 16), degree),
+            reach: (degree.div_ceil(32) * 32).min(ROOM - 1),
+            low,
+            high: multiples(&doubled(&low[8])),
         }
     }
 
@@ -159,6 +167,7 @@ impl Divider {
                 &mut register,
                 &self.low[factor % 16],
                 &self.high[factor / 16],
+                self.reach,
             );
         }
         register

@@ -20,12 +20,16 @@ loop-byte-init c = record {
   ends = λ j _. zeros_at 72 j;
 }
 
--- the two rows are the generator times the factor together
-step : (n f : ℕ) (old new : List ℕ) (low high : List (List ℕ)) → AreOfGenerator n low high → f < 256
-    → ((j : ℕ) → j < 72 → get_or new j 0 ≡ bit_xor (get_or old (suc j) 0) (bit_xor (get_or (get_or low (f % 16) []) j 0) (get_or (get_or high (f / 16) []) j 0)))
+-- the two rows are the generator times the factor together, and all are zeros from `reach` on
+step : (n f reach : ℕ) (old new : List ℕ) (low high : List (List ℕ)) → AreOfGenerator n low high → f < 256 → n ≤ reach
+    → ((j : ℕ) → j < reach → get_or new j 0 ≡ bit_xor (get_or old (suc j) 0) (bit_xor (get_or (get_or low (f % 16) []) j 0) (get_or (get_or high (f / 16) []) j 0)))
+    → ((j : ℕ) → reach ≤ j → get_or new j 0 ≡ get_or old j 0) → ((j : ℕ) → n ≤ j → get_or old j 0 ≡ 0)
     → (j : ℕ) → j < 72 → get_or new j 0 ≡ bit_xor (get_or old (suc j) 0) (product f (get_or (get_or low 1 []) j 0))
-step n f old new low high are small at j within = at j within ∙ ap (bit_xor (get_or old (suc j) 0))
-    (ap₂ bit_xor (are.units.at (f % 16) j (omega arith) within) (are.sixteens.at (f / 16) j (omega arith) within) ∙ product_halves f (get_or (get_or low 1 []) j 0))
+step n f reach old new low high are small reached at kept ends j within = elim (cases_lt j reach) [
+  | inl less ↦ at j less ∙ ap (bit_xor (get_or old (suc j) 0))
+      (ap₂ bit_xor (are.units.at (f % 16) j (omega arith) within) (are.sixteens.at (f / 16) j (omega arith) within) ∙ product_halves f (get_or (get_or low 1 []) j 0))
+  | inr most ↦ kept j most ∙ ends j (omega arith) ∙ sym (ap₂ bit_xor (ends (suc j) (omega arith)) (ap (product f) (are.ends j (omega arith)) ∙ product_zero_r f))
+]
 
 bytes_step : (old new g : List ℕ) (f : ℕ) → length new ≡ 72 → ((j : ℕ) → j < 72 → get_or new j 0 ≡ bit_xor (get_or old (suc j) 0) (product f (get_or g j 0)))
     → ((j : ℕ) → get_or old j 0 < 256) → (j : ℕ) → get_or new j 0 < 256
@@ -56,7 +60,7 @@ loop-byte-preserved c =
     let sum : f ≡ bit_xor byte (get_or old 0 0) = c.from-factor.ensures in
     let small : f < 256 = subst (λ x. x < 256) (sym sum) (xor_lt 8 byte (get_or old 0 0) (omega (arith, c.type_inv.bytes i)) (before.bytes 0)) in
     let longer : take (i + 1) message ≡ take i message ++ byte ∷ [] = rw (add-one, take-suc message i 0 c.loop-byte-test.true) in
-    let moved = step n f old new c.args.self.now.low c.args.self.now.high are small c.advance.ensures in
+    let moved = step n f c.args.self.now.reach old new c.args.self.now.low c.args.self.now.high are small c.args.self.now.reached c.advance.ensures.below c.advance.ensures.behind before.ends in
     record {
       long = c.advance.array_long;
       bytes = bytes_step old new g f c.advance.array_long moved before.bytes;
