@@ -14,7 +14,7 @@ use qrcode::canvas::Canvas;
 use qrcode::ec::construct_codewords;
 use qrcode::optimize::least_segments;
 use qrcode::render::{Pixel, image, pic, svg, unicode};
-use qrcode::types::{EcLevel, QrResult, Version};
+use qrcode::types::{EcLevel, Mode, QrResult, Version};
 use qrcode_digest::Digest;
 use qrcode_types::tables::Blocks;
 use std::alloc::Global;
@@ -50,6 +50,7 @@ pub fn build(alloc: Global, case: Case, count: u32) -> QrResult<Digest> {
         Case::Pic40 => text::<pic::Color>(alloc, 2331, count),
         Case::Pixels1 => pixels(alloc, 14, count),
         Case::Pixels40 => pixels(alloc, 2331, count),
+        Case::Growth => growth(alloc, count),
     }
 }
 
@@ -88,6 +89,29 @@ fn at_level(
         let code = QrCode::with_error_correction_level(alloc, &data, ec_level)?;
         Ok(of_code(&code))
     })
+}
+
+// Symbols that bytes fill, at level M: the first of Normal 1, the next of Normal 2, and so on to Normal
+// 40, and from Normal 1 again.
+fn growth(alloc: Global, count: u32) -> QrResult<Digest> {
+    let data = repeated(alloc, WORDS, 2331)?;
+    let mut digest = Digest::of::<u8>(&[]);
+    for i in 0..count {
+        let version = Version::Normal((i % 40 + 1) as i16);
+        let code = filled(alloc, version, &data)?;
+        digest = digest.and(of_code(&code));
+    }
+    Ok(digest)
+}
+
+// The symbol of the first bytes of some data, as many as fill a version at level M.
+fn filled(alloc: Global, version: Version, data: &[u8]) -> QrResult<QrCode>
+    requires { IsTrue (is_valid version) }
+{
+    let header = version.mode_bits_count() + Mode::Byte.length_bits_count(version);
+    let room = Bits::new(alloc, version).max_len(EcLevel::M)?.saturating_sub(header) / 8;
+    let bytes = data.get(..room).unwrap_or(data);
+    QrCode::with_version(alloc, bytes, version, EcLevel::M)
 }
 
 // Lists of bits, each with one push of digits.

@@ -33,10 +33,11 @@ pub enum Case {
     Pic40,
     Pixels1,
     Pixels40,
+    Growth,
 }
 
 /// All cases, in the order of the list.
-pub static CASES: [Case; 24] = [
+pub static CASES: [Case; 25] = [
     Case::Micro2Digits,
     Case::Normal1Digits,
     Case::Bytes100,
@@ -61,6 +62,7 @@ pub static CASES: [Case; 24] = [
     Case::Pic40,
     Case::Pixels1,
     Case::Pixels40,
+    Case::Growth,
 ];
 
 impl Case {
@@ -93,6 +95,7 @@ impl Case {
             Case::Pic40 => "pic-40",
             Case::Pixels1 => "pixels-1",
             Case::Pixels40 => "pixels-40",
+            Case::Growth => "growth",
         }
     }
 

@@ -84,7 +84,8 @@ fn payment_text(alloc: Global, payment: &Payment<'_>) -> QrResult<String>
 
 // Appends an amount in euros.
 fn push_amount(text: &mut String, cents: u64) -> QrResult<()>
-    ensures value { OnOk result (string_bytes text.new ≡ string_bytes text.old ++ amount_text cents) }
+    ensures appends { OnOk result (
+        string_bytes text.new ≡ string_bytes text.old ++ amount_text cents) }
     ensures memory { IsOkUnless result OutOfMemory }
 {
     let euros = cents / 100;
