@@ -1,0 +1,89 @@
+-- What the calls for C answer: 0, or the number of a refusal; and the cause of each refusal.
+use Rattle.std.specs.Prelude.{◌≡◌, ◌≢◌, ◌⊎◌, ◌+◌, ◌*◌, ◌^◌, ◌<◌, ◌≤◌, ◌-◌, ◌==◌, ⊤, ℕ, pos, List, [], ◌∷◌, length, false, Option, Some, None, slice_get, if◌then◌else◌}
+use Rattle.qrcode_types.specs.Versions.{has_level}
+use Rattle.qrcode_types.specs.declared.types.EcLevel.{EcLevel}
+use Rattle.qrcode_types.specs.declared.types.Version.{Version}
+use Rattle.qrcode_types.specs.declared.types.Version.TheVariants.{Normal}
+use Rattle.qrcode_types.specs.declared.types.Color.{Color}
+use Rattle.qrcode_types.specs.declared.types.QrError.{QrError}
+use Rattle.qrcode_types.specs.declared.types.QrError.TheVariants.{DataTooLong, InvalidVersion, UnsupportedCharacterSet, InvalidEciDesignator, InvalidCharacter}
+use Rattle.qrcode_types.specs.declared.types.QrError.TheVariants as error
+use Rattle.qrcode_bits.specs.Cuts.{IsCut}
+use Rattle.qrcode_bits.specs.Choice.{Holds}
+use Rattle.qrcode_bits.specs.Refusals.{data_limit}
+use Rattle.qrcode_bits.specs.declared.optimize.Segment.{Segment}
+use Rattle.qrcode.specs.Acceptance.{IsChosenSymbol, IsLeastSymbol}
+use Rattle.qrcode_render.specs.Layout.{layout}
+use Rattle.goqlanis_c.specs.Drawings.{format_named, colors_of, drawing}
+use Rattle.goqlanis_c.specs.declared.drawing.Format.{Format}
+use Rattle.goqlanis_c.specs.Names.{level_named, version_named}
+use Rattle.goqlanis_c.specs.declared.answers.Refusal.{Refusal}
+use Rattle.goqlanis_c.specs.declared.answers.Refusal.TheVariants.{NoSuchLevel, NoSuchVersion, LevelNotInVersion, TooLong, NoMode, NoRoom, SmallBuffer, OutOfMemory, NoSuchFormat, NotSquare, NoSuchSize}
+
+-- the refusals in the order of their numbers, from 1 on
+abbrev pub refusals : List Refusal
+refusals =
+    NoSuchLevel ∷ NoSuchVersion ∷ LevelNotInVersion ∷ TooLong ∷ NoMode ∷ NoRoom ∷ SmallBuffer ∷ OutOfMemory ∷
+    NoSuchFormat ∷ NotSquare ∷ NoSuchSize ∷ []
+
+-- the refusal of an answer, where it is one
+abbrev pub refusal_of : ℕ → Option Refusal
+refusal_of n = if n == 0 then None else slice_get refusals (n - 1)
+
+-- why bytes are refused at a level, where the least Normal version is chosen and the buffer has so much room
+abbrev pub IsAutomaticCause : ℕ → List ℕ → ℕ → Refusal → Type 0
+IsAutomaticCause level bytes room NoSuchLevel = level_named level ≡ None
+IsAutomaticCause level bytes room NoSuchVersion = ⊥
+IsAutomaticCause level bytes room LevelNotInVersion = ⊥
+IsAutomaticCause level bytes room TooLong = ⊥
+IsAutomaticCause level bytes room NoMode = ⊥
+IsAutomaticCause level bytes room NoRoom = (l : EcLevel) × ((level_named level ≡ Some l) × ((n : ℕ) → ¬ Holds (Normal (pos n)) l bytes))
+IsAutomaticCause level bytes room SmallBuffer =
+    (l : EcLevel) × ((v : Version) × ((s : List Color) × ((level_named level ≡ Some l) × (IsChosenSymbol v l bytes s × (room < length s)))))
+IsAutomaticCause level bytes room OutOfMemory = ⊤
+IsAutomaticCause level bytes room NoSuchFormat = ⊥
+IsAutomaticCause level bytes room NotSquare = ⊥
+IsAutomaticCause level bytes room NoSuchSize = ⊥
+
+-- what an error of the constructor of a version and level is told as, where level, version and limit were looked at before
+abbrev pub refusal_in : QrError → Refusal
+refusal_in UnsupportedCharacterSet = NoMode
+refusal_in InvalidVersion = LevelNotInVersion
+refusal_in error.OutOfMemory = OutOfMemory
+refusal_in DataTooLong = NoRoom
+refusal_in InvalidEciDesignator = NoRoom
+refusal_in InvalidCharacter = NoRoom
+
+-- why bytes are refused at a version and level, where the buffer has so much room.
+abbrev pub IsCauseIn : ℕ → ℕ → List ℕ → ℕ → Refusal → Type 0
+IsCauseIn version level bytes room NoSuchLevel = level_named level ≡ None
+IsCauseIn version level bytes room NoSuchVersion = version_named version ≡ None
+IsCauseIn version level bytes room LevelNotInVersion =
+    (l : EcLevel) × ((v : Version) × ((level_named level ≡ Some l) × ((version_named version ≡ Some v) × (has_level v l ≡ false))))
+IsCauseIn version level bytes room TooLong = data_limit < length bytes
+IsCauseIn version level bytes room NoMode =
+    (v : Version) × ((version_named version ≡ Some v) × ((segments : List Segment) → ¬ IsCut v bytes segments))
+IsCauseIn version level bytes room NoRoom =
+    (l : EcLevel) × ((v : Version) × ((level_named level ≡ Some l) × ((version_named version ≡ Some v) × (¬ Holds v l bytes))))
+IsCauseIn version level bytes room SmallBuffer =
+    (l : EcLevel) × ((v : Version) × ((s : List Color)
+    × ((level_named level ≡ Some l) × ((version_named version ≡ Some v) × (IsLeastSymbol v l bytes s × (room < length s))))))
+IsCauseIn version level bytes room OutOfMemory = ⊤
+IsCauseIn version level bytes room NoSuchFormat = ⊥
+IsCauseIn version level bytes room NotSquare = ⊥
+IsCauseIn version level bytes room NoSuchSize = ⊥
+
+-- why modules of a width are not drawn in a format, with a quiet zone and a scale, where the buffer has so much room
+abbrev pub IsDrawingCause : List ℕ → ℕ → ℕ → ℕ → ℕ → ℕ → Refusal → Type 0
+IsDrawingCause modules width zone scale format room NoSuchFormat = format_named format ≡ None
+IsDrawingCause modules width zone scale format room NotSquare = length modules ≢ width * width
+IsDrawingCause modules width zone scale format room NoSuchSize = (scale ≡ 0) ⊎ ((2 ^ 16 ≤ scale) ⊎ (2 ^ 16 ≤ width + 2 * zone))
+IsDrawingCause modules width zone scale format room SmallBuffer =
+    (f : Format) × ((format_named format ≡ Some f) × (room < length (drawing f (layout width zone scale scale) (colors_of modules))))
+IsDrawingCause modules width zone scale format room OutOfMemory = ⊤
+IsDrawingCause modules width zone scale format room NoSuchLevel = ⊥
+IsDrawingCause modules width zone scale format room NoSuchVersion = ⊥
+IsDrawingCause modules width zone scale format room LevelNotInVersion = ⊥
+IsDrawingCause modules width zone scale format room TooLong = ⊥
+IsDrawingCause modules width zone scale format room NoMode = ⊥
+IsDrawingCause modules width zone scale format room NoRoom = ⊥

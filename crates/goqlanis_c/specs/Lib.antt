@@ -1,0 +1,4 @@
+pub mod Answers
+pub mod Drawings
+pub mod Names
+pub mod Outputs

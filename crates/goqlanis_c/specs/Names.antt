@@ -1,0 +1,16 @@
+-- The numbers that stand for levels, versions and formats in C.
+use Rattle.std.specs.Prelude.{ℕ, ◌-◌, ◌==◌, nat_le, ◌&&◌, pos, Option, Some, None, if◌then◌else◌}
+use Rattle.qrcode_types.specs.declared.types.EcLevel.{EcLevel}
+use Rattle.qrcode_types.specs.declared.types.EcLevel.TheVariants.{L, M, Q, H}
+use Rattle.qrcode_types.specs.declared.types.Version.{Version}
+use Rattle.qrcode_types.specs.declared.types.Version.TheVariants.{Normal, Micro}
+
+-- the level of a number: 0 for L, 1 for M, 2 for Q, 3 for H
+abbrev pub level_named : ℕ → Option EcLevel
+level_named n = if n == 0 then Some L else (if n == 1 then Some M else (if n == 2 then Some Q else (if n == 3 then Some H else None)))
+
+-- the version of a number: 1 to 40 for Normal, 41 to 44 for Micro
+abbrev pub version_named : ℕ → Option Version
+version_named n =
+    if nat_le 1 n && nat_le n 40 then Some (Normal (pos n))
+    else (if nat_le 41 n && nat_le n 44 then Some (Micro (pos (n - 40))) else None)

@@ -1,0 +1,113 @@
+//! Pictures of modules.
+
+ghost use Rattle.std.specs.Prelude.{◌≡◌, ℕ, ◌+◌, ◌*◌, ◌^◌, ◌<◌, ◌≤◌, length, string_bytes, IfOk, IsOkUnless, IsTrue};
+ghost use Rattle.qrcode_types.specs.declared.types.QrError.TheVariants.{OutOfMemory};
+ghost use Rattle.qrcode_render.specs.Layout.{layout};
+ghost use Rattle.goqlanis_c.specs.Drawings.{format_named, colors_of, drawing};
+
+use qrcode::render::image::Luma;
+use qrcode::render::unicode::Dense1x2;
+use qrcode::render::{Pixel, Renderer, pic, svg};
+use qrcode::types::{Color, QrResult};
+use std::alloc::Global;
+
+/// How modules are drawn.
+#[derive(Clone, Copy, Debug)]
+pub enum Format {
+    /// Text, two modules a character: blocks where modules are dark.
+    HalfBlocks,
+    /// Text, two modules a character: blocks where modules are light, for dark grounds.
+    LightHalfBlocks,
+    /// An SVG text, black on white.
+    Svg,
+    /// A PIC text.
+    Pic,
+    /// Rows of pixels, a byte each: 0 for a dark one, 255 for a light one.
+    Grey,
+}
+
+/// The format of a number, in the order above from 0 on.
+pub(crate) fn format_named(number: u32) -> Option<Format>
+    ensures value { result ≡ format_named number }
+{
+    match number {
+        0 => Some(Format::HalfBlocks),
+        1 => Some(Format::LightHalfBlocks),
+        2 => Some(Format::Svg),
+        3 => Some(Format::Pic),
+        4 => Some(Format::Grey),
+        _ => None,
+    }
+}
+
+// Bytes as modules.
+fn colors_of(alloc: Global, modules: &[u8]) -> QrResult<Vec<Color>>
+    ensures value { IfOk result (λ colors. colors.items ≡ colors_of modules.now) }
+    ensures memory { IsOkUnless result OutOfMemory }
+{
+    Ok(
+        modules
+            .iter()
+            .map(|module| if *module == 0 {
+                Color::Light
+            } else {
+                Color::Dark
+            })
+            .collect(alloc)?,
+    )
+}
+
+// The text or the bytes of modules, so many along a side, in a format.
+pub(crate) fn draw(
+    alloc: Global,
+    modules: &[u8],
+    width: u32,
+    zone: u32,
+    scale: u32,
+    format: Format,
+) -> QrResult<Vec<u8>>
+    requires square { length modules.now ≡ width * width }
+    requires side { width + 2 * zone < 2 ^ 16 }
+    requires scale { scale < 2 ^ 16 }
+    requires positive { 1 ≤ scale }
+    ensures drawing { IfOk result (λ bytes. bytes.items
+        ≡ drawing format (layout width zone scale scale) (colors_of modules.now)) }
+    ensures memory { IsOkUnless result OutOfMemory }
+{
+    let colors = colors_of(alloc, modules)?;
+    let width = width as usize;
+    match format {
+        Format::HalfBlocks => {
+            let text = Renderer::<Dense1x2>::new(&colors, width, zone)
+                .module_size(scale)
+                .build(alloc)?;
+            Ok(text.into_bytes())
+        }
+        Format::LightHalfBlocks => {
+            let text = Renderer::<Dense1x2>::new(&colors, width, zone)
+                .dark_color(Dense1x2::Light)
+                .light_color(Dense1x2::Dark)
+                .module_size(scale)
+                .build(alloc)?;
+            Ok(text.into_bytes())
+        }
+        Format::Svg => {
+            let text = Renderer::<svg::Color>::new(&colors, width, zone)
+                .module_size(scale)
+                .build(alloc)?;
+            Ok(text.into_bytes())
+        }
+        Format::Pic => {
+            let text = Renderer::<pic::Color>::new(&colors, width, zone)
+                .module_size(scale)
+                .build(alloc)?;
+            Ok(text.into_bytes())
+        }
+        Format::Grey => {
+            let image = Renderer::<Luma>::new(&colors, width, zone)
+                .module_size(scale)
+                .build(alloc)?;
+            Ok(image.into_raw())
+        }
+    }
+}
