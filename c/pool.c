@@ -1,0 +1,52 @@
+/* The library's memory from a static pool, with no malloc: the three functions that it asks. Requests are served one behind the other; what is given back
+   last, and all when nothing is out, is free again. It is for one thread. The last request of the pool can be refused, for tests. */
+#include <stdbool.h>
+#include <stddef.h>
+#include <string.h>
+
+struct rattle_request {
+    bool served;
+    unsigned char *bytes; /* not null, even where it is not served */
+};
+
+static _Alignas(16) unsigned char pool[256 * 1024];
+static size_t used, live;
+size_t pool_requests, pool_refused = (size_t)-1, pool_most;
+
+static struct rattle_request answer(unsigned char *bytes)
+{
+    return (struct rattle_request){bytes != NULL, bytes ? bytes : pool};
+}
+
+struct rattle_request rattle_alloc(size_t size, size_t alignment)
+{
+    size_t start = (used + alignment - 1) / alignment * alignment;
+    if (pool_requests++ == pool_refused || size > sizeof pool || start > sizeof pool - size)
+        return answer(NULL);
+    used = start + size;
+    pool_most = used > pool_most ? used : pool_most;
+    live++;
+    return answer(pool + start);
+}
+
+struct rattle_request rattle_realloc(unsigned char *old, size_t kept, size_t size, size_t alignment)
+{
+    struct rattle_request fresh = rattle_alloc(size, alignment);
+    if (fresh.served) {
+        memmove(fresh.bytes, old, kept < size ? kept : size);
+        live--;
+    }
+    return fresh;
+}
+
+void rattle_dealloc(unsigned char *bytes)
+{
+    (void)bytes;
+    if (--live == 0)
+        used = 0;
+}
+
+size_t pool_live(void)
+{
+    return live;
+}

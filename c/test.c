@@ -1,0 +1,116 @@
+/* What the library for C answers: every call, every answer, outputs untouched on each refusal. It prints the digest of a symbol of each pair of version and
+   level, which `c/test` compares with those of the library. */
+#include "goqlanis.h"
+#include <stdio.h>
+#include <stdlib.h>
+#include <string.h>
+
+static uint8_t modules[GOQ_MODULES_MAX], before[GOQ_MODULES_MAX], out[4000000];
+static goq_symbol symbol;
+static int wrong;
+
+static void expect(int holds, const char *what)
+{
+    if (!holds) {
+        printf("WRONG: %s\n", what);
+        wrong++;
+    }
+}
+
+static void mark(void)
+{
+    memset(modules, 7, sizeof modules);
+    memcpy(before, modules, sizeof modules);
+    symbol = (goq_symbol){99, 98, 97};
+}
+
+static int untouched(void)
+{
+    return !memcmp(modules, before, sizeof modules) && symbol.version == 99 && symbol.level == 98 && symbol.width == 97;
+}
+
+static void refuses(uint32_t answer, uint32_t wanted, const char *what)
+{
+    expect(answer == wanted, what);
+    expect(untouched(), what);
+}
+
+static void encodings(void)
+{
+    static uint8_t bytes[1048577];
+    for (size_t i = 0; i < sizeof bytes; i++)
+        bytes[i] = (uint8_t)(i * 37 + 5);
+    mark();
+    expect(goq_encode((const uint8_t *)"01234567", 8, GOQ_M, modules, sizeof modules, &symbol) == GOQ_OK, "digits");
+    expect(symbol.version == 1 && symbol.level == GOQ_M && symbol.width == 21, "what the symbol is");
+    expect(modules[0] == 1 && modules[7] == 0 && modules[21 * 21] == 7, "its modules, and the rest as it was");
+    mark();
+    expect(goq_encode(NULL, 0, GOQ_L, modules, 21 * 21, &symbol) == GOQ_OK && modules[21 * 21] == 7, "no bytes, from NULL");
+    mark();
+    refuses(goq_encode(bytes, 8, 4, modules, sizeof modules, &symbol), GOQ_NO_SUCH_LEVEL, "level 4");
+    refuses(goq_encode(bytes, 2954, GOQ_L, modules, sizeof modules, &symbol), GOQ_NO_ROOM, "2,954 bytes at L");
+    refuses(goq_encode(bytes, 8, GOQ_L, modules, 21 * 21 - 1, &symbol), GOQ_SMALL_BUFFER, "a module too few");
+    refuses(goq_encode_in(bytes, 8, 1, 4, modules, sizeof modules, &symbol), GOQ_NO_SUCH_LEVEL, "level 4 of a version");
+    refuses(goq_encode_in(bytes, 8, 0, GOQ_L, modules, sizeof modules, &symbol), GOQ_NO_SUCH_VERSION, "version 0");
+    refuses(goq_encode_in(bytes, 8, 45, GOQ_L, modules, sizeof modules, &symbol), GOQ_NO_SUCH_VERSION, "version 45");
+    refuses(goq_encode_in(bytes, sizeof bytes, 40, GOQ_L, modules, sizeof modules, &symbol), GOQ_TOO_LONG, "1,048,577 bytes");
+    refuses(goq_encode_in(bytes, 8, GOQ_MICRO(1), GOQ_L, modules, sizeof modules, &symbol), GOQ_NO_MODE, "bytes in Micro 1");
+    refuses(goq_encode_in((const uint8_t *)"1", 1, GOQ_MICRO(1), GOQ_M, modules, sizeof modules, &symbol), GOQ_LEVEL_NOT_IN_VERSION, "Micro 1 at M");
+    refuses(goq_encode_in(bytes, 100, 1, GOQ_L, modules, sizeof modules, &symbol), GOQ_NO_ROOM, "100 bytes in Normal 1");
+    refuses(goq_encode_in(bytes, 8, 2, GOQ_L, modules, 624, &symbol), GOQ_SMALL_BUFFER, "a module too few of Normal 2");
+}
+
+static void shapes(void)
+{
+    uint32_t version = 77;
+    expect(goq_width(0) == 0 && goq_width(1) == 21 && goq_width(40) == 177 && goq_width(GOQ_MICRO(1)) == 11 && goq_width(45) == 0, "widths");
+    expect(goq_is_functional(1, 0, 0) && !goq_is_functional(1, 20, 20) && !goq_is_functional(1, 21, 0) && !goq_is_functional(0, 0, 0), "patterns");
+    expect(goq_least_version((const uint8_t *)"01234567", 8, 9, &version) == GOQ_NO_SUCH_LEVEL && version == 77, "level 9");
+    expect(goq_least_version(out, 2954, GOQ_L, &version) == GOQ_NO_ROOM && version == 77, "no version");
+    expect(goq_least_version(out, 2953, GOQ_L, &version) == GOQ_OK && version == 40, "the least version");
+}
+
+static void drawings(void)
+{
+    static const char *starts[] = {"", "", "<?xml", "maxpswid"};
+    size_t count = 5, length = 0;
+    goq_encode((const uint8_t *)"01234567", 8, GOQ_M, modules, sizeof modules, &symbol);
+    for (uint32_t format = GOQ_HALF_BLOCKS; format <= GOQ_GREY; format++) {
+        expect(goq_draw_length(modules, 441, 21, 4, 2, format, &length) == GOQ_OK, "a length");
+        out[length] = 9;
+        expect(goq_draw(modules, 441, 21, 4, 2, format, out, length - 1, &count) == GOQ_SMALL_BUFFER && count == 5, "a byte too few");
+        expect(goq_draw(modules, 441, 21, 4, 2, format, out, length, &count) == GOQ_OK && count == length && out[length] == 9, "a picture");
+        if (format < GOQ_GREY)
+            expect(!memcmp(out, starts[format], strlen(starts[format])), "how it starts");
+        count = 5;
+    }
+    expect(length == 58 * 58 && out[0] == 255 && out[58 * 8 + 8] == 0, "grey pixels");
+    expect(goq_draw(modules, 441, 21, 4, 2, 5, out, sizeof out, &count) == GOQ_NO_SUCH_FORMAT, "format 5");
+    expect(goq_draw(modules, 440, 21, 4, 2, 0, out, sizeof out, &count) == GOQ_NOT_SQUARE, "440 modules");
+    expect(goq_draw(modules, 441, 21, 4, 0, 0, out, sizeof out, &count) == GOQ_NO_SUCH_SIZE, "scale 0");
+    expect(goq_draw(modules, 441, 21, 32758, 1, 0, out, sizeof out, &count) == GOQ_NO_SUCH_SIZE, "too wide a zone");
+    expect(goq_draw_length(modules, 441, 21, 4, 65536, 0, &count) == GOQ_NO_SUCH_SIZE && count == 5, "too great a scale");
+}
+
+/* A symbol of each pair of version and level of `digits` digits, as lines: version, level, width and a sum over its modules. */
+static void pairs(void)
+{
+    for (uint32_t version = 1; version <= GOQ_MICRO(4); version++)
+        for (uint32_t level = GOQ_L; level <= GOQ_H; level++) {
+            uint32_t answer = goq_encode_in((const uint8_t *)"20061", 5, version, level, modules, sizeof modules, &symbol), sum = 0;
+            if (answer == GOQ_LEVEL_NOT_IN_VERSION)
+                continue;
+            for (uint32_t i = 0; answer == GOQ_OK && i < symbol.width * symbol.width; i++)
+                sum = sum * 31 + modules[i] + 1;
+            printf("%u %u %u %08x\n", version, level, answer == GOQ_OK ? symbol.width : 0, answer == GOQ_OK ? sum : answer);
+        }
+}
+
+int main(void)
+{
+    encodings();
+    shapes();
+    drawings();
+    pairs();
+    return wrong != 0;
+}
