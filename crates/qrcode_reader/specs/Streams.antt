@@ -1,0 +1,24 @@
+-- The bits at the places of the walk, as far as it has come.
+use Rattle.std.specs.Prelude.{ℕ, not, Bool, List, [], ◌∷◌, flat_map, map, if◌then◌else◌}
+use Rattle.std.specs.List.{range_with_len}
+use Rattle.qrcode_types.specs.Colors.{is_dark}
+use Rattle.qrcode_types.specs.declared.types.Version.{Version}
+use Rattle.qrcode_types.specs.declared.types.Color.{Color}
+use Rattle.qrcode_types.specs.declared.types.EcLevel.TheVariants.{L}
+use Rattle.qrcode_places.specs.Masks.{turns, turned_if}
+use Rattle.qrcode_places.specs.Patterns.{is_functional_place}
+use Rattle.qrcode_places.specs.Stream.{color_at, zigzag_place}
+use Rattle.qrcode_places.specs.declared.masks.MaskPattern.{MaskPattern}
+use Rattle.qrcode_symbol.specs.Canvas.{Drawing, blank, with_patterns}
+
+-- a canvas on which the patterns alone are drawn
+abbrev pub patterned_canvas : Version → Drawing
+patterned_canvas v = record { version = v; level = L; modules = with_patterns v (blank v) }
+
+-- the bit at a place, where it is free
+abbrev pub bits_of_place : Version → MaskPattern → List Color → ℕ × ℕ → List Bool
+bits_of_place v mask s p = if not (is_functional_place v p.0 p.1) then turned_if (turns mask p.0 p.1) (is_dark (color_at v s p.0 p.1)) ∷ [] else []
+
+-- the bits of the first places of the walk
+unfoldable pub bits_walked : Version → MaskPattern → List Color → ℕ → List Bool
+bits_walked v mask s count = flat_map (bits_of_place v mask s) (map (zigzag_place v) (range_with_len 0 count))

@@ -1,0 +1,159 @@
+//! Level and mask of a square, from the copies of its format word.
+
+ghost use Rattle.std.specs.Prelude.{◌≡◌, ◌<◌, ◌≤◌, ◌∷◌, [], length, IsTrue, IfSome, IfNone, map};
+ghost use Rattle.std.specs.List.{range_with_len};
+ghost use Rattle.qrcode_types.specs.Bits.{has_bit, number_bits, bit_distance};
+ghost use Rattle.qrcode_types.specs.Versions.{is_valid};
+ghost use Rattle.qrcode_types.specs.Colors.{is_dark};
+ghost use Rattle.qrcode_places.specs.Stream.{color_at};
+ghost use Rattle.qrcode_types.specs.declared.types.EcLevel.{EcLevel};
+ghost use Rattle.qrcode_places.specs.declared.masks.MaskPattern.{MaskPattern};
+ghost use Rattle.qrcode_symbol.specs.Symbol.{bits_at};
+ghost use Rattle.qrcode_reader.specs.Formats.{NamesFormat, HasFormat, first_copy, last_copy};
+
+use crate::walk::side;
+use qrcode_places::masks::{MaskPattern, mask_count, nth_mask};
+use qrcode_places::words::format_word;
+use qrcode_types::types::{Color, EcLevel, Version};
+
+// One where a bit is another than that of a word, and else zero; bit 0 is the lowest.
+fn difference(bit: bool, word: u16, place: usize) -> usize
+    requires { place < 15 }
+    ensures value { result ≡ bit_distance (bit ∷ []) (has_bit word place ∷ []) }
+    ensures at_most { result ≤ 1 }
+{
+    if bit == ((word >> place) % 2 == 1) {
+        0
+    } else {
+        1
+    }
+}
+
+// In how many places bits differ from those of a word, as many of its lowest bits.
+fn distance(bits: &[bool], word: u16) -> usize
+    requires { length bits.now ≤ 15 }
+    ensures { result ≡ bit_distance bits.now (number_bits (length bits.now) word) }
+{
+    let mut rest = bits;
+    let mut count = 0;
+    while let [bit, more @ ..] = rest {
+        count += difference(*bit, word, more.len());
+        rest = more;
+    }
+    count
+}
+
+// The place of a bit of the first copy of the format word, the highest bit being 0.
+fn first_place(version: Version, i: usize) -> (usize, usize)
+    requires { i < 15 }
+    ensures { result ≡ first_copy version i }
+{
+    match version {
+        Version::Micro(_) if i <= 7 => (i + 1, 8),
+        Version::Micro(_) => (8, 15 - i),
+        Version::Normal(_) if i <= 5 => (i, 8),
+        Version::Normal(_) => match i {
+            6 => (7, 8),
+            7 => (8, 8),
+            8 => (8, 7),
+            _ => (8, 14 - i),
+        },
+    }
+}
+
+// The place of a bit of the last copy: in Micro there is but one.
+fn last_place(version: Version, i: usize) -> (usize, usize)
+    requires valid { IsTrue (is_valid version) }
+    requires below { i < 15 }
+    ensures { result ≡ last_copy version i }
+{
+    match version {
+        Version::Micro(_) => first_place(version, i),
+        Version::Normal(_) if i <= 6 => (8, side(version) - 1 - i),
+        Version::Normal(_) => (side(version) - 15 + i, 8),
+    }
+}
+
+// Whether the module at a place is dark.
+fn is_dark_at(version: Version, modules: &[Color], place: (usize, usize)) -> bool
+    requires valid { IsTrue (is_valid version) }
+    requires column { place.0 < 1000 }
+    requires row { place.1 < 1000 }
+    ensures { result ≡ is_dark (color_at version modules.now place.0 place.1) }
+{
+    match modules.get(place.1 * side(version) + place.0) {
+        Some(Color::Dark) => true,
+        _ => false,
+    }
+}
+
+// The bits of the first copy of the format word.
+fn first_bits(version: Version, modules: &[Color]) -> [bool; 15]
+    requires { IsTrue (is_valid version) }
+    ensures { result
+        ≡ bits_at version modules.now (map (first_copy version) (range_with_len 0 15)) }
+{
+    let mut bits = [false; 15];
+    for i in 0..15 {
+        bits[i] = is_dark_at(version, modules, first_place(version, i));
+    }
+    bits
+}
+
+// The bits of the last copy.
+fn last_bits(version: Version, modules: &[Color]) -> [bool; 15]
+    requires { IsTrue (is_valid version) }
+    ensures { result
+        ≡ bits_at version modules.now (map (last_copy version) (range_with_len 0 15)) }
+{
+    let mut bits = [false; 15];
+    for i in 0..15 {
+        bits[i] = is_dark_at(version, modules, last_place(version, i));
+    }
+    bits
+}
+
+// The mask with which the format word of a level is near two copies, if there is one.
+fn mask_near(
+    version: Version,
+    ec_level: EcLevel,
+    first: &[bool; 15],
+    last: &[bool; 15],
+) -> Option<MaskPattern>
+    requires { IsTrue (is_valid version) }
+    ensures some { IfSome result (NamesFormat version first.now last.now ec_level) }
+    ensures none { IfNone result ((mask : MaskPattern)
+        → ¬ NamesFormat version first.now last.now ec_level mask) }
+{
+    if !version.has_level(ec_level) {
+        return None;
+    }
+    for number in 0..mask_count(version) {
+        let mask = nth_mask(version, number);
+        let word = format_word(version, ec_level, mask);
+        if distance(first, word) <= 3 && distance(last, word) <= 3 {
+            return Some(mask);
+        }
+    }
+    None
+}
+
+/// The level and the mask whose format word is within three bits of each of its copies (ISO/IEC
+/// 18004:2006, 6.9), if there are any.
+///
+/// The version is one that exists; modules that the square lacks count as light.
+pub fn read_format(version: Version, modules: &[Color]) -> Option<(EcLevel, MaskPattern)>
+    requires { IsTrue (is_valid version) }
+    ensures some { IfSome result (λ format. HasFormat version modules.now format.0 format.1) }
+    ensures none { IfNone result ((ec_level : EcLevel) (mask : MaskPattern)
+        → ¬ HasFormat version modules.now ec_level mask) }
+{
+    let first = first_bits(version, modules);
+    let last = last_bits(version, modules);
+    for ec_level in [EcLevel::L, EcLevel::M, EcLevel::Q, EcLevel::H] {
+        if let Some(mask) = mask_near(version, ec_level, &first, &last) {
+            return Some((ec_level, mask));
+        }
+    }
+    None
+}

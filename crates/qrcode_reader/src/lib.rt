@@ -1,0 +1,12 @@
+//! Squares of modules read: version, level and mask, the bits of the free places, codewords.
+#![tactic(auto)]
+
+mod formats;
+mod sizes;
+mod walk;
+mod words;
+
+pub use formats::read_format;
+pub use sizes::version_of;
+pub use walk::stream;
+pub use words::codewords;

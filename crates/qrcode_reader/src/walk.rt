@@ -1,0 +1,150 @@
+//! The bits at the free places, along the walk, with the mask taken off.
+
+ghost use Rattle.std.specs.Prelude.{◌≡◌, ◌+◌, ◌*◌, ◌%◌, ◌<◌, ◌≤◌, ◌++◌, length, IsTrue, OnOk, IfOk, IsOkUnless, pos};
+ghost use Rattle.qrcode_types.specs.Colors.{is_dark};
+ghost use Rattle.qrcode_types.specs.Versions.{is_valid, side};
+ghost use Rattle.qrcode_types.specs.declared.types.QrError.TheVariants.{OutOfMemory};
+ghost use Rattle.qrcode_places.specs.Masks.{turned_if};
+ghost use Rattle.qrcode_places.specs.Stream.{stream};
+ghost use Rattle.qrcode_symbol.specs.Filling.{row_of_step};
+ghost use Rattle.qrcode_reader.specs.Streams.{patterned_canvas, bits_of_place, bits_walked};
+
+use qrcode_places::masks::MaskPattern;
+use qrcode_places::walk::right_column;
+use qrcode_symbol::canvas::{Canvas, Module};
+use qrcode_types::types::{Color, EcLevel, QrError, Version};
+use std::alloc::{AllocError, Global};
+
+// The modules along a side.
+pub(crate) fn side(version: Version) -> usize
+    requires { IsTrue (is_valid version) }
+    ensures value { result ≡ side version }
+    ensures at_least { 11 ≤ result }
+    ensures at_most { result ≤ 177 }
+    ensures odd { result % 2 ≡ 1 }
+{
+    version.width() as usize
+}
+
+// A new canvas with the functional patterns: the places that it leaves empty are the free ones.
+fn patterned(alloc: Global, version: Version) -> Result<Canvas, QrError>
+    requires { IsTrue (is_valid version) }
+    ensures value { IfOk result (λ canvas. canvas ≡ patterned_canvas version) }
+    ensures memory { IsOkUnless result OutOfMemory }
+{
+    let mut canvas = Canvas::new(alloc, version, EcLevel::L)?;
+    canvas.draw_all_functional_patterns();
+    Ok(canvas)
+}
+
+// A column or a row as a signed number.
+#[inline(always)]
+fn coordinate(x: usize) -> i16
+    requires { x < 1000 }
+    ensures { result ≡ pos x }
+{
+    x as i16
+}
+
+// The bit of a module that a mask turned, or did not turn.
+#[inline(always)]
+fn bit_of(color: Color, is_turned: bool) -> bool
+    ensures { result ≡ turned_if is_turned (is_dark color) }
+{
+    match color {
+        Color::Dark => !is_turned,
+        Color::Light => is_turned,
+    }
+}
+
+// Appends the bit at column `x` and row `y`, where the canvas of the patterns is empty there.
+fn push_module(
+    bits: &mut Vec<bool>,
+    canvas: &Canvas,
+    version: Version,
+    mask: MaskPattern,
+    modules: &[Color],
+    x: usize,
+    y: usize,
+) -> Result<(), AllocError>
+    requires valid { IsTrue (is_valid version) }
+    requires patterns { canvas.now ≡ patterned_canvas version }
+    requires square { length modules.now ≡ side version * side version }
+    requires column { x < side version }
+    requires row { y < side version }
+    ensures { OnOk result (bits.new.items
+        ≡ bits.old.items ++ bits_of_place version mask modules.now (x, y)) }
+{
+    let column = coordinate(x);
+    let row = coordinate(y);
+    let Module::Empty = canvas.get(column, row) else {
+        return Ok(());
+    };
+    let color = modules[y * side(version) + x];
+    bits.push(bit_of(color, mask.turns(column, row)))?;
+    Ok(())
+}
+
+// The row at a step through a pair of columns: the walk goes upwards and downwards by turns.
+#[inline(always)]
+fn row_of_step(width: usize, pair: usize, step: usize) -> usize
+    requires { step < width }
+    ensures value { result ≡ row_of_step width pair step }
+    ensures inside { result < width }
+{
+    if pair % 2 == 0 {
+        width - 1 - step
+    } else {
+        step
+    }
+}
+
+// Appends the bits of a pair of columns of the walk, the right module of each row first.
+fn push_pair(
+    bits: &mut Vec<bool>,
+    canvas: &Canvas,
+    version: Version,
+    mask: MaskPattern,
+    modules: &[Color],
+    pair: usize,
+) -> Result<(), AllocError>
+    requires valid { IsTrue (is_valid version) }
+    requires patterns { canvas.now ≡ patterned_canvas version }
+    requires square { length modules.now ≡ side version * side version }
+    requires pair { 2 * pair + 3 ≤ side version }
+    requires walked { bits.old.items ≡ bits_walked version mask modules.now (2 * side version * pair) }
+    ensures { OnOk result (bits.new.items
+        ≡ bits_walked version mask modules.now (2 * side version * (pair + 1))) }
+{
+    let width = side(version);
+    let right = right_column(version, width, pair);
+    for step in 0..width {
+        let row = row_of_step(width, pair, step);
+        push_module(bits, canvas, version, mask, modules, right, row)?;
+        push_module(bits, canvas, version, mask, modules, right - 1, row)?;
+    }
+    Ok(())
+}
+
+/// The bits at the free places, in the order of the walk, with the mask taken off (ISO/IEC
+/// 18004:2006, 6.7.3 and 6.8).
+///
+/// The version is one that exists, and the square has its side. `OutOfMemory` is the only error.
+pub fn stream(
+    alloc: Global,
+    version: Version,
+    mask: MaskPattern,
+    modules: &[Color],
+) -> Result<Vec<bool>, QrError>
+    requires valid { IsTrue (is_valid version) }
+    requires square { length modules.now ≡ side version * side version }
+    ensures value { IfOk result (λ bits. bits.items ≡ stream version mask modules.now) }
+    ensures memory { IsOkUnless result OutOfMemory }
+{
+    let canvas = patterned(alloc, version)?;
+    let mut bits = Vec::with_capacity(alloc, modules.len())?;
+    for pair in 0..side(version) / 2 {
+        push_pair(&mut bits, &canvas, version, mask, modules, pair)?;
+    }
+    Ok(bits)
+}
