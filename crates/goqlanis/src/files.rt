@@ -1,0 +1,81 @@
+//! Files: data whole, and drawings whole or not at all.
+
+use std::fs::{OpenFile, OpenOptions, Permissions};
+use std::io::{ErrorKind, Write};
+use std::rt::Files;
+use std::{fs, io};
+
+/// Writes a file whole or not at all: beside it under another name, and renamed into its place, with
+/// the permissions of the file that stood there. A link is followed. What is no regular file, as a
+/// pipe, is written straight.
+pub fn write_whole<R: Files + AllocGlobal>(rt: &R, path: &str, bytes: &[u8]) -> io::Result<()> {
+    if path.starts_with("/dev/") || path.starts_with("/proc/") {
+        return write_straight(rt, path, bytes);
+    }
+    match fs::metadata(rt, path) {
+        Ok(old) if old.is_file() => {
+            let place = fs::canonicalize(rt, path)?;
+            replace(rt, place.as_path().as_str(), Some(old.permissions()), bytes)
+        }
+        Ok(_) => write_straight(rt, path, bytes),
+        Err(error) if error.kind() == ErrorKind::NotFound => {
+            // (a link to nothing is written straight, which makes what it names)
+            match fs::symlink_metadata(rt, path) {
+                Ok(_) => write_straight(rt, path, bytes),
+                Err(_) => replace(rt, path, None, bytes),
+            }
+        }
+        Err(error) => Err(error),
+    }
+}
+
+// Writes what is no regular file.
+fn write_straight<R: Files>(rt: &R, path: &str, bytes: &[u8]) -> io::Result<()> {
+    let mut file = fs::create(rt, path)?;
+    file.write_all(bytes)
+}
+
+// The most names that are tried beside a file.
+const TRIES: u32 = 1000;
+
+// Writes a new file beside a path, and renames it there.
+fn replace<R: Files + AllocGlobal>(
+    rt: &R,
+    path: &str,
+    permissions: Option<Permissions>,
+    bytes: &[u8],
+) -> io::Result<()> {
+    for number in 0..TRIES {
+        let beside = format!(in rt.alloc(); "{path}.{number}.new")?;
+        let mut file = match OpenOptions::new()
+            .write(true)
+            .create_new(true)
+            .open(rt, beside.as_str())
+        {
+            Ok(file) => file,
+            Err(error) if error.kind() == ErrorKind::AlreadyExists => continue,
+            Err(error) => return Err(error),
+        };
+        let written = fill(&mut file, permissions, bytes);
+        drop(file);
+        let done = written.and_then(|()| fs::rename(rt, beside.as_str(), path));
+        if done.is_err() {
+            let _ = fs::remove_file(rt, beside.as_str());
+        }
+        return done;
+    }
+    Err(io::Error::from(ErrorKind::AlreadyExists))
+}
+
+// Writes all of a new file, and waits until it lies on the disk.
+fn fill<F: Write + OpenFile>(
+    file: &mut F,
+    permissions: Option<Permissions>,
+    bytes: &[u8],
+) -> io::Result<()> {
+    if let Some(permissions) = permissions {
+        file.set_permissions(permissions)?;
+    }
+    file.write_all(bytes)?;
+    file.sync_all()
+}

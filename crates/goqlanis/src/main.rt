@@ -1,0 +1,27 @@
+//! Draws QR and Micro QR symbols: `goqlanis --help` says how.
+#![tactic(auto)]
+
+mod asked;
+mod command;
+mod completions;
+mod failure;
+mod files;
+mod manual;
+mod options;
+mod program;
+
+use failure::Failure;
+use std::process::ExitCode;
+
+fn main(rt: HostRuntime) -> ExitCode {
+    match program::run(&rt) {
+        Ok(code) => code,
+        Err(failure) => {
+            let _ = eprintln!(rt; "goqlanis: {failure}");
+            match failure {
+                Failure::Usage(_) => ExitCode::from(2),
+                Failure::Refused(_) | Failure::OutOfMemory => ExitCode::FAILURE,
+            }
+        }
+    }
+}

@@ -1,0 +1,155 @@
+//! The options, in one table: the command line, its help, the completions and the manual are made of it.
+
+/// What an option takes.
+#[derive(Clone, Copy)]
+pub enum Takes {
+    /// Nothing.
+    Nothing,
+    /// A text, by the name that stands for it.
+    Text(&'static str),
+    /// The path of a file.
+    Path,
+    /// One of some words.
+    Word(&'static [&'static str]),
+    /// A whole number from one to another.
+    Number(u64, u64),
+}
+
+/// An option.
+#[derive(Clone, Copy)]
+pub struct Entry {
+    /// Its name behind two hyphens.
+    pub long: &'static str,
+    /// Its letter behind one.
+    pub short: Option<char>,
+    pub takes: Takes,
+    pub help: &'static str,
+}
+
+/// The name of the program.
+pub const NAME: &str = "goqlanis";
+
+/// What it does.
+pub const ABOUT: &str = "Draws QR and Micro QR symbols";
+
+static LEVELS: [&str; 4] = ["L", "M", "Q", "H"];
+
+static FORMATS: [&str; 6] = ["half-blocks", "terminal", "text", "svg", "pic", "pgm"];
+
+static SHELLS: [&str; 3] = ["bash", "zsh", "fish"];
+
+/// The options, in the order of the help.
+pub fn entries() -> [Entry; 15] {
+    [
+        Entry {
+            long: "input",
+            short: Some('i'),
+            takes: Takes::Path,
+            help: "Read the data from a file, in place of TEXT",
+        },
+        Entry {
+            long: "trim",
+            short: None,
+            takes: Takes::Nothing,
+            help: "Leave out one newline at the end of the data",
+        },
+        Entry {
+            long: "lines",
+            short: None,
+            takes: Takes::Nothing,
+            help: "Draw a symbol of each line of the data; files are numbered",
+        },
+        Entry {
+            long: "output",
+            short: Some('o'),
+            takes: Takes::Path,
+            help: "Write to a file, whole or not at all; - is standard output",
+        },
+        Entry {
+            long: "format",
+            short: Some('f'),
+            takes: Takes::Word(FORMATS.as_slice()),
+            help: "What to write; otherwise by the ending of the file: .txt .svg .pic .pgm",
+        },
+        Entry {
+            long: "level",
+            short: Some('l'),
+            takes: Takes::Word(LEVELS.as_slice()),
+            help: "Error correction level; M unless said otherwise",
+        },
+        Entry {
+            long: "version",
+            short: Some('v'),
+            takes: Takes::Text("VERSION"),
+            help: "Version of the symbol, 1 to 40 or M1 to M4; otherwise the least of 1 to 40",
+        },
+        Entry {
+            long: "quiet-zone",
+            short: Some('q'),
+            takes: Takes::Number(0, 255),
+            help: "Modules of the quiet zone at each side; otherwise 4, and 2 for Micro QR",
+        },
+        Entry {
+            long: "scale",
+            short: Some('s'),
+            takes: Takes::Number(1, 1000),
+            help: "Pixels of a module; otherwise 8 for svg and pgm, and 1 for texts and pic",
+        },
+        Entry {
+            long: "colour",
+            short: None,
+            takes: Takes::Text("COLOUR"),
+            help: "Colour of dark modules in SVG, as #000 or black",
+        },
+        Entry {
+            long: "background",
+            short: None,
+            takes: Takes::Text("COLOUR"),
+            help: "Colour of light modules in SVG, as #fff or white",
+        },
+        Entry {
+            long: "invert",
+            short: None,
+            takes: Takes::Nothing,
+            help: "Exchange dark and light",
+        },
+        Entry {
+            long: "completions",
+            short: None,
+            takes: Takes::Word(SHELLS.as_slice()),
+            help: "Write the completions of a shell",
+        },
+        Entry {
+            long: "manual",
+            short: None,
+            takes: Takes::Nothing,
+            help: "Write the manual page, for man -l",
+        },
+        Entry {
+            long: "release",
+            short: None,
+            takes: Takes::Nothing,
+            help: "Write the version of the program",
+        },
+    ]
+}
+
+/// Examples, of which each is a command line and what it does.
+pub static EXAMPLES: [(&str, &str); 4] = [
+    (
+        "goqlanis \"https://example.org\"",
+        "draws a symbol in the terminal",
+    ),
+    (
+        "goqlanis -o ticket.svg --scale 8 -i ticket.txt",
+        "draws the bytes of a file, as SVG",
+    ),
+    (
+        "goqlanis --level H --version M4 --format svg 1234567",
+        "draws a Micro symbol",
+    ),
+    (
+        "goqlanis --lines -o seat.svg < seats.txt",
+        "draws seat-0001.svg, seat-0002.svg and so on",
+    ),
+];

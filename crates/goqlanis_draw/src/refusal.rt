@@ -1,0 +1,134 @@
+//! What a refusal says: what, why, and what would help.
+
+use crate::request::{Choice, Request};
+use qrcode::types::{EcLevel, Mode, QrError, Version};
+use qrcode_types::tables;
+use std::alloc::{AllocError, Global};
+use std::fmt;
+
+/// The text of a refusal of so many bytes.
+pub fn refusal_text(
+    alloc: Global,
+    request: &Request<'_>,
+    count: usize,
+    error: QrError,
+) -> Result<String, AllocError> {
+    let level = request.level;
+    match (error, request.choice) {
+        (QrError::DataTooLong, Choice::Least) => {
+            let most = Grouped(byte_room(Version::Normal(40), level));
+            let count = Grouped(count);
+            let mut text = format!(in alloc; "{count} bytes at level {level:?}: at most {most}")?;
+            push_levels(&mut text, count.0)?;
+            Ok(text)
+        }
+        (QrError::DataTooLong, Choice::At(version)) => {
+            let (name, bytes) = (Name(version), Grouped(count));
+            let mut text = format!(in alloc;
+                "{bytes} bytes at version {name} and level {level:?}: too many"
+            )?;
+            let most = byte_room(version, level);
+            if most > 0 {
+                let most = Grouped(most);
+                write!(text, ", at most {most} unless they are digits or capitals")?;
+            }
+            push_version(&mut text, count, level)?;
+            Ok(text)
+        }
+        (QrError::UnsupportedCharacterSet, Choice::At(version)) => {
+            let name = Name(version);
+            let modes = match version {
+                Version::Micro(1) => "digits alone",
+                _ => "digits, capitals and $%*+-./: alone",
+            };
+            format!(in alloc; "version {name} writes {modes}; M3, M4 and 1 to 40 write any bytes")
+        }
+        (QrError::InvalidVersion, Choice::At(version)) => {
+            let name = Name(version);
+            let levels = match version {
+                Version::Micro(1) => "L alone",
+                Version::Micro(4) => "L, M and Q",
+                _ => "L and M",
+            };
+            format!(in alloc; "version {name} has no level {level:?}; it has {levels}")
+        }
+        (error, _) => format!(in alloc; "{error}"),
+    }
+}
+
+// The most bytes that a symbol holds in one segment of bytes, or 0 where it has no such segment.
+fn byte_room(version: Version, level: EcLevel) -> usize {
+    if !version.is_valid() {
+        return 0;
+    }
+    let head = version.mode_bits_count() + Mode::Byte.length_bits_count(version);
+    match tables::capacity(version, level) {
+        _ if matches!(version, Version::Micro(1 | 2)) => 0,
+        Some(bits) => bits.saturating_sub(head) / 8,
+        None => 0,
+    }
+}
+
+static LEVELS: [EcLevel; 4] = [EcLevel::H, EcLevel::Q, EcLevel::M, EcLevel::L];
+
+// Which levels hold so many bytes, at Normal 40.
+fn push_levels(text: &mut String, count: usize) -> Result<(), AllocError> {
+    let mut start = "; level ";
+    for level in LEVELS {
+        let room = byte_room(Version::Normal(40), level);
+        if room >= count {
+            let room = Grouped(room);
+            if start == ", " {
+                write!(text, ", {level:?} {room}")?;
+            } else {
+                write!(text, "; level {level:?} holds {room}")?;
+            }
+            start = ", ";
+        }
+    }
+    if start != ", " {
+        let most = Grouped(byte_room(Version::Normal(40), EcLevel::L));
+        write!(text, "; no level holds more than {most}")?;
+    }
+    Ok(())
+}
+
+// The least Normal version that holds so many bytes at a level.
+fn push_version(text: &mut String, count: usize, level: EcLevel) -> Result<(), AllocError> {
+    for number in 1..41i16 {
+        let room = byte_room(Version::Normal(number), level);
+        if room >= count {
+            let room = Grouped(room);
+            return write!(text, "; version {number} holds {room}");
+        }
+    }
+    write!(text, "; no version holds them at level {level:?}")
+}
+
+// A version by its number, or by M and its number.
+#[derive(Clone, Copy)]
+struct Name(Version);
+
+impl fmt::Display for Name {
+    fn fmt<W: fmt::Write>(&self, f: &mut fmt::Formatter<W>) -> fmt::Result {
+        match self.0 {
+            Version::Normal(number) => write!(f, "{number}"),
+            Version::Micro(number) => write!(f, "M{number}"),
+        }
+    }
+}
+
+// A number below a million, with a comma before the last three digits.
+#[derive(Clone, Copy)]
+struct Grouped(usize);
+
+impl fmt::Display for Grouped {
+    fn fmt<W: fmt::Write>(&self, f: &mut fmt::Formatter<W>) -> fmt::Result {
+        let (thousands, rest) = (self.0 / 1000, self.0 % 1000);
+        if thousands == 0 {
+            write!(f, "{rest}")
+        } else {
+            write!(f, "{thousands},{rest:03}")
+        }
+    }
+}
