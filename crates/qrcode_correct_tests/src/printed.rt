@@ -1,0 +1,72 @@
+//! Printed blocks, damaged and corrected.
+
+use qrcode_correct::{Corrector, Damaged, correct};
+use std::process::Abort;
+use std::test::Fail;
+
+// The block of 01234567 in Normal 1 at level M, as ISO/IEC 18004:2006 prints it in Annex I.
+static OF_DIGITS: [u8; 26] = [
+    0x10, 0x20, 0x0c, 0x56, 0x61, 0x80, 0xec, 0x11, 0xec, 0x11, 0xec, 0x11, 0xec, 0x11, 0xec, 0x11,
+    0xa5, 0x24, 0xd4, 0xc1, 0xed, 0x36, 0xc7, 0x87, 0x2c, 0x55,
+];
+
+// The block of the chapter on Reed-Solomon codes for coders at Wikiversity.
+static OF_CODERS: [u8; 26] = [
+    0x40, 0xd2, 0x75, 0x47, 0x76, 0x17, 0x32, 0x06, 0x27, 0x26, 0x96, 0xc6, 0xc6, 0x96, 0x70, 0xec,
+    0xbc, 0x2a, 0x90, 0x13, 0x6b, 0xaf, 0xef, 0xfd, 0x4b, 0xe0,
+];
+
+// The block with one byte in five wrong, from a place on, as many as are asked for.
+fn damaged(block: &[u8; 26], first: usize, count: usize) -> [u8; 26] {
+    let mut bytes = *block;
+    for k in 0..count.min(26) {
+        let place = first.wrapping_add(k.wrapping_mul(5)) % 26;
+        bytes[place] ^= 0x5a;
+    }
+    bytes
+}
+
+// The block is corrected from this damage.
+fn is_corrected(rt: &impl Abort, block: &[u8; 26], first: usize, count: usize) {
+    let mut bytes = damaged(block, first, count);
+    assert_eq!(rt; correct(&mut bytes, 10), Ok(count), "from {first}");
+    assert_eq!(rt; bytes.as_slice(), block.as_slice(), "from {first}");
+}
+
+#[test]
+fn printed_blocks_are_corrected_wherever_five_bytes_are_wrong(rt: HostRuntime) {
+    for first in 0..26 {
+        for count in 0..6 {
+            is_corrected(&rt, &OF_DIGITS, first, count);
+            is_corrected(&rt, &OF_CODERS, first, count);
+        }
+    }
+}
+
+#[test]
+fn six_wrong_bytes_are_refused_and_stay(rt: HostRuntime) {
+    let corrector = Corrector::new(10);
+    assert!(rt; corrector.vanishes(&OF_CODERS));
+    let mut bytes = damaged(&OF_CODERS, 0, 6);
+    assert!(rt; !corrector.vanishes(&bytes));
+    assert_eq!(rt; corrector.correct(&mut bytes), Err(Damaged));
+    assert_eq!(rt; bytes.as_slice(), damaged(&OF_CODERS, 0, 6).as_slice());
+}
+
+#[test]
+fn blocks_without_much_are_corrected(rt: HostRuntime) {
+    let mut none = [];
+    assert_eq!(rt; correct(&mut none, 0), Ok(0));
+    assert_eq!(rt; correct(&mut none, 69), Ok(0));
+    let mut zeros = [0, 7, 0];
+    assert_eq!(rt; correct(&mut zeros, 1), Err(Damaged));
+    assert_eq!(rt; correct(&mut zeros, 5), Ok(1));
+    assert_eq!(rt; zeros.as_slice(), [0, 0, 0].as_slice());
+}
+
+#[test]
+fn a_refusal_says_why(rt: HostRuntime) -> Result<(), Fail> {
+    let text = format!(in rt.alloc(); "{Damaged}")?;
+    assert_eq!(rt; text.as_str(), "too many errors in a block");
+    Ok(())
+}
