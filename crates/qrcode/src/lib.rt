@@ -318,5 +318,5 @@ fn drawn_symbol(
     let mut canvas = Canvas::new(alloc, version, ec_level)?;
     canvas.draw_all_functional_patterns();
     canvas.draw_data(data_codewords, ec_codewords);
-    canvas.best_colors(alloc)
+    canvas.into_best_colors(alloc)
 }

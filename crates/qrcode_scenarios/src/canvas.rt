@@ -19,6 +19,8 @@ pub enum CanvasCall {
     BestMask,
     /// `best_colors`.
     BestColors,
+    /// `into_best_colors`.
+    IntoBestColors,
     /// `to_bools`.
     Bools,
     /// `into_colors`.
@@ -48,6 +50,7 @@ pub fn run(
         CanvasCall::Draws => draws(canvas, version),
         CanvasCall::BestMask => Ok(Digest::of(&canvas.apply_best_mask(alloc)?.into_colors(alloc)?)),
         CanvasCall::BestColors => Ok(Digest::of(&canvas.best_colors(alloc)?)),
+        CanvasCall::IntoBestColors => Ok(Digest::of(&canvas.into_best_colors(alloc)?)),
         CanvasCall::Bools => Ok(Digest::of(&canvas.to_bools(alloc)?)),
         CanvasCall::Colors => Ok(Digest::of(&canvas.into_colors(alloc)?)),
         CanvasCall::Clone => {

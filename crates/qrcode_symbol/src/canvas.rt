@@ -283,6 +283,20 @@ impl Canvas {
         masking::best(alloc, self.version, self.ec_level, &self.modules)
     }
 
+    /// The same colours, where the canvas is freed before they are written.
+    pub fn into_best_colors(self, alloc: Global) -> QrResult<Vec<Color>>
+        requires { IsTrue (has_level self.version self.level) }
+        ensures best { IfOk result (λ colors.
+            AreBestColors self.version self.level self.modules colors.items) }
+        ensures memory { IsOkUnless result OutOfMemory }
+
+        // The format words are far from one another.
+        ensures words_apart { FormatWordsAreApart }
+    {
+        laws::words();
+        masking::into_best(alloc, self.version, self.ec_level, self.modules)
+    }
+
     /// Whether each module is dark, row by row.
     pub fn to_bools(&self, alloc: Global) -> QrResult<Vec<bool>>
         ensures value { IfOk result (λ bools.

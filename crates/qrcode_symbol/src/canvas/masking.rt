@@ -4,10 +4,10 @@
 ghost use Rattle.std.specs.Prelude.{◌≡◌, ℕ, ◌+◌, ◌*◌, ◌<◌, ◌≤◌, ◌^◌, length, map, Bool, List, IsTrue, IfOk, IsOkUnless};
 ghost use Rattle.qrcode_types.specs.Versions.{is_valid, has_level, side};
 ghost use Rattle.qrcode_types.specs.declared.types.QrError.TheVariants.{OutOfMemory};
-ghost use Rattle.qrcode_packed.specs.Rows.{Shows, inside};
+ghost use Rattle.qrcode_packed.specs.Rows.{IsSquare, Shows, inside};
 ghost use Rattle.qrcode_places.specs.Masks.{mask_count};
 ghost use Rattle.qrcode_symbol.specs.Penalties.{penalty_of};
-ghost use Rattle.qrcode_symbol.specs.Masking.{is_dark_module, is_free, ShowsModules, nth_cost, IsFirstLeastCost, IsBestShown};
+ghost use Rattle.qrcode_symbol.specs.Masking.{is_dark_module, is_free, ShowsModules, nth_cost, IsFirstLeastCost, IsBestShown, AreBestColors};
 ghost use Rattle.qrcode_symbol.specs.declared.canvas.Module.{Module};
 
 use super::masked_rows::mask_rows;
@@ -89,6 +89,36 @@ fn best_of<R: PackedRow, S: FromColor>(
     Ok(answer)
 }
 
+// The square under the first mask of least penalty, by the rows of what is dark and of what a mask may turn.
+fn best_from<R: PackedRow, S: FromColor>(
+    alloc: Global,
+    version: Version,
+    ec_level: EcLevel,
+    dark: &[R],
+    free: &[R],
+) -> QrResult<Vec<S>>
+    requires exists { IsTrue (has_level version ec_level) }
+    requires dark_square { IsSquare R.room
+        (record { width = side version; rows = map R.bits dark.now }) }
+    requires free_square { IsSquare R.room
+        (record { width = side version; rows = map R.bits free.now }) }
+    ensures best { (modules : List Module)
+        → ShowsModules is_dark_module (side version) modules (map R.bits dark.now)
+        → ShowsModules is_free (side version) modules (map R.bits free.now)
+        → IfOk result (λ new. IsBestShown version ec_level modules S.from_color new.items) }
+    ensures memory { IsOkUnless result OutOfMemory }
+{
+    let width = side(version);
+    let packed = PackedModules {
+        version,
+        ec_level,
+        width,
+        dark: PackedSquare::new(dark, width as u32),
+        free: PackedSquare::new(free, width as u32),
+    };
+    best_of(alloc, &packed)
+}
+
 // The square under the first mask of least penalty, chosen on rows of one kind.
 fn best_by<R: PackedRow, S: FromColor>(
     alloc: Global,
@@ -107,14 +137,28 @@ fn best_by<R: PackedRow, S: FromColor>(
     let mut dark = vec![in alloc; R::first(0); width]?;
     let mut free = vec![in alloc; R::first(0); width]?;
     pack_rows(width, modules, &mut dark, &mut free);
-    let packed = PackedModules {
-        version,
-        ec_level,
-        width,
-        dark: PackedSquare::new(&dark, width as u32),
-        free: PackedSquare::new(&free, width as u32),
-    };
-    best_of(alloc, &packed)
+    best_from(alloc, version, ec_level, &dark, &free)
+}
+
+// The same as colours, where the modules are freed before the colours are written.
+fn into_best_by<R: PackedRow>(
+    alloc: Global,
+    version: Version,
+    ec_level: EcLevel,
+    modules: Vec<Module>,
+) -> QrResult<Vec<Color>>
+    requires exists { IsTrue (has_level version ec_level) }
+    requires room { side version + 3 ≤ R.room }
+    requires square { length modules.items ≡ side version * side version }
+    ensures best { IfOk result (λ new. AreBestColors version ec_level modules.items new.items) }
+    ensures memory { IsOkUnless result OutOfMemory }
+{
+    let width = side(version);
+    let mut dark = vec![in alloc; R::first(0); width]?;
+    let mut free = vec![in alloc; R::first(0); width]?;
+    pack_rows(width, &modules, &mut dark, &mut free);
+    drop(modules);
+    best_from(alloc, version, ec_level, &dark, &free)
 }
 
 /// The square, in row order, under the first mask of least penalty, with its format word.
@@ -138,4 +182,27 @@ pub(super) fn best<S: FromColor>(
         return best_by::<u128, S>(alloc, version, ec_level, modules);
     }
     best_by::<Row192, S>(alloc, version, ec_level, modules)
+}
+
+/// The colours, in row order, under the first mask of least penalty, with its format word. The modules are freed before
+/// the colours are written.
+pub(super) fn into_best(
+    alloc: Global,
+    version: Version,
+    ec_level: EcLevel,
+    modules: Vec<Module>,
+) -> QrResult<Vec<Color>>
+    requires exists { IsTrue (has_level version ec_level) }
+    requires square { length modules.items ≡ side version * side version }
+    ensures best { IfOk result (λ new. AreBestColors version ec_level modules.items new.items) }
+    ensures memory { IsOkUnless result OutOfMemory }
+{
+    let width = side(version);
+    if width + 3 <= 64 {
+        return into_best_by::<u64>(alloc, version, ec_level, modules);
+    }
+    if width + 3 <= 128 {
+        return into_best_by::<u128>(alloc, version, ec_level, modules);
+    }
+    into_best_by::<Row192>(alloc, version, ec_level, modules)
 }
