@@ -1,0 +1,44 @@
+//! The calls of `libgoqlanis.a`, as `c/goqlanis.h` declares and explains them.
+#![no_std]
+#![allow(non_camel_case_types)]
+
+pub const GOQ_OK: u32 = 0;
+pub const GOQ_NO_SUCH_LEVEL: u32 = 1;
+pub const GOQ_NO_SUCH_VERSION: u32 = 2;
+pub const GOQ_LEVEL_NOT_IN_VERSION: u32 = 3;
+pub const GOQ_TOO_LONG: u32 = 4;
+pub const GOQ_NO_MODE: u32 = 5;
+pub const GOQ_NO_ROOM: u32 = 6;
+pub const GOQ_SMALL_BUFFER: u32 = 7;
+pub const GOQ_OUT_OF_MEMORY: u32 = 8;
+pub const GOQ_NO_SUCH_FORMAT: u32 = 9;
+pub const GOQ_NOT_SQUARE: u32 = 10;
+pub const GOQ_NO_SUCH_SIZE: u32 = 11;
+
+pub const GOQ_HALF_BLOCKS: u32 = 0;
+pub const GOQ_LIGHT_HALF_BLOCKS: u32 = 1;
+pub const GOQ_SVG: u32 = 2;
+pub const GOQ_PIC: u32 = 3;
+pub const GOQ_GREY: u32 = 4;
+
+/// This many bytes hold the modules of every symbol.
+pub const GOQ_MODULES_MAX: usize = 177 * 177;
+
+/// What a symbol is beside its modules.
+#[repr(C)]
+#[derive(Clone, Copy, Debug, Default, PartialEq, Eq)]
+pub struct goq_symbol {
+    pub version: u32,
+    pub level: u32,
+    pub width: u32,
+}
+
+extern "C" {
+    pub fn goq_encode(data: *const u8, data_length: usize, level: u32, modules: *mut u8, modules_length: usize, symbol: *mut goq_symbol) -> u32;
+    pub fn goq_encode_in(data: *const u8, data_length: usize, version: u32, level: u32, modules: *mut u8, modules_length: usize, symbol: *mut goq_symbol) -> u32;
+    pub fn goq_least_version(data: *const u8, data_length: usize, level: u32, version: *mut u32) -> u32;
+    pub fn goq_width(version: u32) -> u32;
+    pub fn goq_is_functional(version: u32, x: u32, y: u32) -> bool;
+    pub fn goq_draw(modules: *const u8, modules_length: usize, width: u32, zone: u32, scale: u32, format: u32, out: *mut u8, out_length: usize, count: *mut usize) -> u32;
+    pub fn goq_draw_length(modules: *const u8, modules_length: usize, width: u32, zone: u32, scale: u32, format: u32, count: *mut usize) -> u32;
+}

@@ -1,0 +1,186 @@
+//! QR and Micro QR symbols by a library that is proved correct, under the names of the crate `qrcode`.
+//!
+//! ```
+//! use goqlanis::{render::svg, EcLevel, QrCode, Version};
+//!
+//! let code = QrCode::new(b"01234567")?;
+//! assert_eq!((code.version(), code.width()), (Version::Normal(1), 21));
+//! let picture = code.render::<svg::Color>().module_size(8).build();
+//! assert!(picture.starts_with("<?xml"));
+//! let ticket = QrCode::with_version(b"01234567", Version::Micro(2), EcLevel::L)?;
+//! assert_eq!(ticket.width(), 13);
+//! # Ok::<(), goqlanis::QrError>(())
+//! ```
+use goqlanis_sys as sys;
+use std::fmt;
+use std::ops::Index;
+
+pub mod render;
+
+/// Why no symbol is made.
+#[derive(Clone, Copy, Debug, PartialEq, Eq)]
+pub enum QrError {
+    /// No symbol of the asked kind holds the data, or it is more than 1,048,576 bytes.
+    DataTooLong,
+    /// There is no such version, or it lacks the level.
+    InvalidVersion,
+    /// The data needs a mode that the version lacks.
+    UnsupportedCharacterSet,
+    /// Memory was refused.
+    OutOfMemory,
+}
+
+impl fmt::Display for QrError {
+    fn fmt(&self, out: &mut fmt::Formatter<'_>) -> fmt::Result {
+        out.write_str(match self {
+            QrError::DataTooLong => "data too long",
+            QrError::InvalidVersion => "invalid version",
+            QrError::UnsupportedCharacterSet => "unsupported character set",
+            QrError::OutOfMemory => "out of memory",
+        })
+    }
+}
+
+impl std::error::Error for QrError {}
+
+pub type QrResult<T> = Result<T, QrError>;
+
+/// A version: `Normal` 1 to 40, `Micro` 1 to 4.
+#[derive(Clone, Copy, Debug, PartialEq, Eq)]
+pub enum Version {
+    Normal(i16),
+    Micro(i16),
+}
+
+impl Version {
+    // The library's number; 0 for a version that is none.
+    fn number(self) -> u32 {
+        match self {
+            Version::Normal(number @ 1..=40) => number as u32,
+            Version::Micro(number @ 1..=4) => 40 + number as u32,
+            _ => 0,
+        }
+    }
+
+    fn named(number: u32) -> Version {
+        if number <= 40 {
+            Version::Normal(number as i16)
+        } else {
+            Version::Micro(number as i16 - 40)
+        }
+    }
+
+    pub fn is_micro(self) -> bool {
+        matches!(self, Version::Micro(_))
+    }
+
+    /// The modules along a side; 0 for a version that is none.
+    pub fn width(self) -> i16 {
+        unsafe { sys::goq_width(self.number()) as i16 }
+    }
+}
+
+/// An error correction level.
+#[derive(Clone, Copy, Debug, PartialEq, Eq, PartialOrd, Ord)]
+pub enum EcLevel {
+    L,
+    M,
+    Q,
+    H,
+}
+
+/// The colour of a module.
+#[derive(Clone, Copy, Debug, PartialEq, Eq)]
+pub enum Color {
+    Light,
+    Dark,
+}
+
+/// A symbol.
+#[derive(Clone, Debug)]
+pub struct QrCode {
+    modules: Vec<u8>,
+    version: Version,
+    ec_level: EcLevel,
+    width: usize,
+}
+
+impl QrCode {
+    /// The symbol of bytes at level `M`, of the least Normal version that holds them.
+    pub fn new<D: AsRef<[u8]>>(data: D) -> QrResult<Self> {
+        Self::with_error_correction_level(data, EcLevel::M)
+    }
+
+    /// The symbol of bytes at a level, of the least Normal version that holds them.
+    pub fn with_error_correction_level<D: AsRef<[u8]>>(data: D, ec_level: EcLevel) -> QrResult<Self> {
+        let data = data.as_ref();
+        Self::made(ec_level, |modules, known| unsafe {
+            sys::goq_encode(data.as_ptr(), data.len(), ec_level as u32, modules.as_mut_ptr(), modules.len(), known)
+        })
+    }
+
+    /// The symbol of bytes, of a version and level.
+    pub fn with_version<D: AsRef<[u8]>>(data: D, version: Version, ec_level: EcLevel) -> QrResult<Self> {
+        let data = data.as_ref();
+        Self::made(ec_level, |modules, known| unsafe {
+            sys::goq_encode_in(data.as_ptr(), data.len(), version.number(), ec_level as u32, modules.as_mut_ptr(), modules.len(), known)
+        })
+    }
+
+    fn made(ec_level: EcLevel, encode: impl FnOnce(&mut [u8], &mut sys::goq_symbol) -> u32) -> QrResult<Self> {
+        let mut modules = vec![0; sys::GOQ_MODULES_MAX];
+        let mut known = sys::goq_symbol::default();
+        match encode(&mut modules, &mut known) {
+            sys::GOQ_OK => {}
+            sys::GOQ_NO_SUCH_VERSION | sys::GOQ_LEVEL_NOT_IN_VERSION => return Err(QrError::InvalidVersion),
+            sys::GOQ_NO_MODE => return Err(QrError::UnsupportedCharacterSet),
+            sys::GOQ_OUT_OF_MEMORY => return Err(QrError::OutOfMemory),
+            _ => return Err(QrError::DataTooLong),
+        }
+        let width = known.width as usize;
+        modules.truncate(width * width);
+        Ok(QrCode { modules, version: Version::named(known.version), ec_level, width })
+    }
+
+    pub fn version(&self) -> Version {
+        self.version
+    }
+
+    pub fn error_correction_level(&self) -> EcLevel {
+        self.ec_level
+    }
+
+    /// The modules along a side, without a quiet zone.
+    pub fn width(&self) -> usize {
+        self.width
+    }
+
+    /// Whether a module belongs to a pattern or to the format word.
+    pub fn is_functional(&self, x: usize, y: usize) -> bool {
+        unsafe { sys::goq_is_functional(self.version.number(), x as u32, y as u32) }
+    }
+
+    /// Whether each module is dark, row by row.
+    pub fn to_vec(&self) -> Vec<bool> {
+        self.modules.iter().map(|module| *module != 0).collect()
+    }
+
+    /// The colour of each module, row by row.
+    pub fn to_colors(&self) -> Vec<Color> {
+        self.modules.iter().map(|module| if *module != 0 { Color::Dark } else { Color::Light }).collect()
+    }
+
+    /// A renderer, with a quiet zone of four modules, or of two for Micro.
+    pub fn render<P: render::Pixel>(&self) -> render::Renderer<'_, P> {
+        render::Renderer::new(&self.modules, self.width, if self.version.is_micro() { 2 } else { 4 })
+    }
+}
+
+impl Index<(usize, usize)> for QrCode {
+    type Output = Color;
+
+    fn index(&self, (x, y): (usize, usize)) -> &Color {
+        assert!(x < self.width);
+        if self.modules[y * self.width + x] != 0 { &Color::Dark } else { &Color::Light }
+    }
+}

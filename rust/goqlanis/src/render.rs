@@ -1,0 +1,128 @@
+//! Pictures of a symbol: half blocks, SVG, PIC and rows of grey pixels, drawn by the library.
+use goqlanis_sys as sys;
+use std::marker::PhantomData;
+
+mod sealed {
+    pub trait Sealed {}
+}
+
+/// What a picture is drawn in: one of the types of this module.
+pub trait Pixel: sealed::Sealed {
+    /// What a picture is.
+    type Image;
+
+    #[doc(hidden)]
+    const SCALE: u32;
+
+    #[doc(hidden)]
+    fn format(inverted: bool) -> u32;
+
+    #[doc(hidden)]
+    fn image(bytes: Vec<u8>) -> Self::Image;
+}
+
+macro_rules! pixel {
+    ($type:path, $image:ty, $scale:expr, |$inverted:ident| $format:expr, |$bytes:ident| $made:expr) => {
+        impl sealed::Sealed for $type {}
+        impl Pixel for $type {
+            type Image = $image;
+            const SCALE: u32 = $scale;
+            fn format($inverted: bool) -> u32 {
+                $format
+            }
+            fn image($bytes: Vec<u8>) -> $image {
+                $made
+            }
+        }
+    };
+}
+
+pub mod unicode {
+    /// Two modules a character, one above the other.
+    #[derive(Clone, Copy, Debug, PartialEq, Eq)]
+    pub enum Dense1x2 {
+        Dark,
+        Light,
+    }
+}
+
+pub mod svg {
+    /// An SVG text, black on white.
+    pub struct Color;
+}
+
+pub mod pic {
+    /// A PIC text.
+    pub struct Color;
+}
+
+/// Rows of pixels, a byte each.
+pub struct Luma;
+
+fn text(bytes: Vec<u8>) -> String {
+    String::from_utf8(bytes).expect("the library writes UTF-8")
+}
+
+pixel!(unicode::Dense1x2, String, 1, |inverted| if inverted { sys::GOQ_LIGHT_HALF_BLOCKS } else { sys::GOQ_HALF_BLOCKS }, |bytes| text(bytes));
+pixel!(svg::Color, String, 8, |_inverted| sys::GOQ_SVG, |bytes| text(bytes));
+pixel!(pic::Color, String, 8, |_inverted| sys::GOQ_PIC, |bytes| text(bytes));
+pixel!(Luma, Vec<u8>, 8, |_inverted| sys::GOQ_GREY, |bytes| bytes);
+
+/// Draws a symbol as it is set.
+pub struct Renderer<'a, P> {
+    modules: &'a [u8],
+    width: usize,
+    zone: u32,
+    whole_zone: u32,
+    scale: u32,
+    inverted: bool,
+    pixel: PhantomData<P>,
+}
+
+impl<'a, P: Pixel> Renderer<'a, P> {
+    pub(crate) fn new(modules: &'a [u8], width: usize, zone: u32) -> Self {
+        Renderer { modules, width, zone, whole_zone: zone, scale: P::SCALE, inverted: false, pixel: PhantomData }
+    }
+
+    /// Switches the quiet zone on or off.
+    pub fn quiet_zone(&mut self, has_quiet_zone: bool) -> &mut Self {
+        self.zone = if has_quiet_zone { self.whole_zone } else { 0 };
+        self
+    }
+
+    /// The pixels of a module across and down, 1 to 65,535.
+    pub fn module_size(&mut self, size: u32) -> &mut Self {
+        self.scale = size.clamp(1, 65_535);
+        self
+    }
+
+    /// The picture.
+    ///
+    /// Panics where memory is refused.
+    pub fn build(&self) -> P::Image {
+        let (format, width) = (P::format(self.inverted), self.width as u32);
+        let mut count = 0;
+        let asked = unsafe { sys::goq_draw_length(self.modules.as_ptr(), self.modules.len(), width, self.zone, self.scale, format, &mut count) };
+        assert_eq!(asked, sys::GOQ_OK, "memory was refused");
+        let mut bytes = vec![0; count];
+        let drawn = unsafe {
+            sys::goq_draw(self.modules.as_ptr(), self.modules.len(), width, self.zone, self.scale, format, bytes.as_mut_ptr(), bytes.len(), &mut count)
+        };
+        assert_eq!(drawn, sys::GOQ_OK, "memory was refused");
+        P::image(bytes)
+    }
+}
+
+impl Renderer<'_, unicode::Dense1x2> {
+    /// What stands for dark modules; light ones get the other.
+    pub fn dark_color(&mut self, color: unicode::Dense1x2) -> &mut Self {
+        self.inverted = color == unicode::Dense1x2::Light;
+        self
+    }
+
+    /// What stands for light modules; dark ones get the other.
+    pub fn light_color(&mut self, color: unicode::Dense1x2) -> &mut Self {
+        self.inverted = color == unicode::Dense1x2::Dark;
+        self
+    }
+}

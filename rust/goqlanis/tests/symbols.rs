@@ -1,0 +1,34 @@
+use goqlanis::render::{pic, svg, unicode, Luma};
+use goqlanis::{Color, EcLevel, QrCode, QrError, Version};
+
+#[test]
+fn symbols() {
+    let code = QrCode::new(b"01234567").unwrap();
+    assert_eq!(code.version(), Version::Normal(1));
+    assert_eq!(code.error_correction_level(), EcLevel::M);
+    assert_eq!(code.to_vec().len(), 21 * 21);
+    assert_eq!((code[(0, 0)], code[(7, 0)]), (Color::Dark, Color::Light));
+    assert!(code.is_functional(0, 0) && !code.is_functional(20, 20));
+    assert_eq!(QrCode::new(b"").unwrap().width(), 21);
+}
+
+#[test]
+fn refusals() {
+    let bytes = vec![b'a'; 3000];
+    assert_eq!(QrCode::new(&bytes).unwrap_err(), QrError::DataTooLong);
+    assert_eq!(QrCode::with_version(b"1", Version::Normal(41), EcLevel::L).unwrap_err(), QrError::InvalidVersion);
+    assert_eq!(QrCode::with_version(b"1", Version::Micro(1), EcLevel::M).unwrap_err(), QrError::InvalidVersion);
+    assert_eq!(QrCode::with_version(b"a", Version::Micro(1), EcLevel::L).unwrap_err(), QrError::UnsupportedCharacterSet);
+}
+
+#[test]
+fn pictures() {
+    let code = QrCode::with_version(b"01234567", Version::Micro(2), EcLevel::L).unwrap();
+    assert_eq!(code.render::<Luma>().module_size(2).build().len(), 34 * 34);
+    assert_eq!(code.render::<Luma>().module_size(1).quiet_zone(false).build().len(), 13 * 13);
+    assert_eq!(code.render::<unicode::Dense1x2>().build().lines().count(), 9);
+    let (dark, light) = (unicode::Dense1x2::Dark, unicode::Dense1x2::Light);
+    assert!(code.render::<unicode::Dense1x2>().dark_color(light).light_color(dark).build().starts_with('█'));
+    assert!(code.render::<svg::Color>().build().starts_with("<?xml"));
+    assert!(code.render::<pic::Color>().build().starts_with("maxpswid"));
+}
