@@ -1,5 +1,5 @@
 -- The text of an entry.
-use Rattle.std.proofs.Common.{◌≡◌, ℕ, List, [], ◌∷◌, ◌++◌, Bool, true, false, ◌||◌, map, encode_utf8, ap, ap₂, ◌∙◌, refl, append_assoc, lit<}
+use Rattle.std.proofs.Common.{◌≡◌, ℕ, List, [], ◌∷◌, ◌++◌, Bool, true, false, ◌||◌, map, encode_utf8, ap, ap₂, ◌∙◌, refl, append_assoc, append-nil, lit<}
 use Rattle.std.specs.Borrow.{Bor}
 use Rattle.std.specs.List.{list_any}
 use Rattle.std.proofs.lemmas.Str.{encode_ascii}
@@ -25,3 +25,8 @@ entry_pushed text key parts with_key with_colon with_parts all k c p a =
     a
     ∙ ap₂ (λ xs ys. xs ++ ys) (p ∙ ap (λ xs. xs ++ parts_text Marks 44 parts) (c ∙ ap₂ (λ xs ys. xs ++ ys) k (encode_ascii 58 (lit< tt)))) (encode_ascii 59 (lit< tt))
     ∙ simp append_assoc
+
+-- seven entries and an end behind a beginning
+pub seven_pushed : (start a b c d e f g t₀ t₁ t₂ t₃ t₄ t₅ t₆ t₇ t₈ : List ℕ) → t₀ ≡ start → t₁ ≡ t₀ ++ a → t₂ ≡ t₁ ++ b → t₃ ≡ t₂ ++ c → t₄ ≡ t₃ ++ d → t₅ ≡ t₄ ++ e → t₆ ≡ t₅ ++ f → t₇ ≡ t₆ ++ g → t₈ ≡ t₇ ++ 59 ∷ [] → t₈ ≡ start ++ ((a ++ (b ++ (c ++ (d ++ (e ++ (f ++ (g ++ []))))))) ++ 59 ∷ [])
+seven_pushed start a b c d e f g t₀ t₁ t₂ t₃ t₄ t₅ t₆ t₇ t₈ h₀ h₁ h₂ h₃ h₄ h₅ h₆ h₇ h₈ =
+    rw (h₈, h₇, h₆, h₅, h₄, h₃, h₂, h₁, h₀) (simp (append_assoc, append-nil))

@@ -1,6 +1,11 @@
+pub mod AmountReading
 pub mod Answering
+pub mod ContactReading
 pub mod EntryReading
 pub mod EntryTexts
 pub mod Escaping
+pub mod LineReading
+pub mod Passing
+pub mod PaymentReading
 pub mod Pieces
 pub mod WifiReading

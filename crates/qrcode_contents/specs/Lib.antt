@@ -1,6 +1,11 @@
+pub mod Amounts
+pub mod Characters
+pub mod Contact
 pub mod Entries
 pub mod EntryTests
 pub mod Escapes
+pub mod Lines
 pub mod Numbers
+pub mod Payment
 pub mod Refusals
 pub mod Wifi

@@ -15,6 +15,46 @@ pub enum Field {
     Ssid,
     /// The password of a network.
     Password,
+    /// The bank's identifier.
+    Bic,
+    /// The name of whom is paid, or of a contact.
+    Name,
+    /// The given names of a contact.
+    Given,
+    /// A telephone number.
+    Phone,
+    /// An address of mail.
+    Email,
+    /// An address of the web.
+    Url,
+    /// A birthday.
+    Birthday,
+    /// A note.
+    Note,
+    /// A street with the number of the house.
+    Street,
+    /// A town.
+    City,
+    /// A region of a country.
+    Region,
+    /// A postal code.
+    PostalCode,
+    /// A country.
+    Country,
+    /// The account.
+    Iban,
+    /// The amount of money.
+    Amount,
+    /// The code of a payment's purpose.
+    Purpose,
+    /// The reference of a payment.
+    Reference,
+    /// The message of a payment, of a mail or to a telephone.
+    Message,
+    /// What is told beside a payment.
+    Information,
+    /// The whole text.
+    Whole,
 }
 
 /// What a format cannot say of a field.

@@ -2,8 +2,13 @@
 //! named fields and the text of its format.
 #![tactic(auto)]
 
+pub mod amounts;
+pub mod characters;
+pub mod contact;
 pub mod entries;
 pub mod errors;
 pub mod escapes;
+pub mod lines;
 pub mod numbers;
+pub mod payment;
 pub mod wifi;

@@ -1,0 +1,93 @@
+-- Texts of contacts as MECARD: entries, of which a name and an address have parts.
+use Rattle.std.specs.Prelude.{ℕ, ◌==◌, ◌&&◌, not, List, [], ◌∷◌, ◌++◌, length, Option, flat_map, codes}
+use Rattle.std.specs.List.{list_all}
+use Rattle.std.specs.Option.{option_map}
+use Rattle.qrcode_contents.specs.declared.contact.Contact.{Contact}
+use Rattle.qrcode_contents.specs.declared.errors.ContentError.{ContentError}
+use Rattle.qrcode_contents.specs.declared.errors.Field.TheVariants.{Name, Given, Phone, Email, Url, Birthday, Note, Street, City, Region, PostalCode, Country}
+use Rattle.qrcode_contents.specs.declared.errors.Cause.TheVariants.{Empty, Character}
+use Rattle.qrcode_contents.specs.Characters.{is_digit, control_refusal}
+use Rattle.qrcode_contents.specs.Entries.{Entry, single, is_filled, marked_text, read_entries, value_of, part_of}
+use Rattle.qrcode_contents.specs.Refusals.{refused_if, first_refusal}
+
+-- a contact as its text says it
+pub record Person : Type 0 where
+  pub family : List ℕ
+  pub given : List ℕ
+  pub phone : List ℕ
+  pub email : List ℕ
+  pub url : List ℕ
+  pub birthday : List ℕ
+  pub note : List ℕ
+  pub street : List ℕ
+  pub city : List ℕ
+  pub region : List ℕ
+  pub code : List ℕ
+  pub country : List ℕ
+
+-- what is said of a contact
+abbrev pub person_of : Contact → Person
+person_of c = record {
+  family = c.family.now;
+  given = c.given.now;
+  phone = c.phone.now;
+  email = c.email.now;
+  url = c.url.now;
+  birthday = c.birthday.now;
+  note = c.note.now;
+  street = c.street.now;
+  city = c.city.now;
+  region = c.region.now;
+  code = c.code.now;
+  country = c.country.now;
+}
+
+-- line breaks and other control characters
+unfoldable pub person_controls : Person → Option ContentError
+person_controls p = control_refusal (
+    (Name, p.family) ∷ (Given, p.given) ∷ (Phone, p.phone) ∷ (Email, p.email) ∷ (Url, p.url) ∷ (Note, p.note)
+    ∷ (Street, p.street) ∷ (City, p.city) ∷ (Region, p.region) ∷ (PostalCode, p.code) ∷ (Country, p.country) ∷ [])
+
+-- a missing name, and what is no birthday
+unfoldable pub person_checks : Person → Option ContentError
+person_checks p = first_refusal (
+    refused_if (not (is_filled p.family)) Name Empty
+    ∷ refused_if (is_filled p.birthday && not (length p.birthday == 8)) Birthday Character
+    ∷ refused_if (not (list_all is_digit p.birthday)) Birthday Character
+    ∷ [])
+
+-- what the text cannot say
+abbrev pub contact_refusal : Person → Option ContentError
+contact_refusal p = first_refusal (person_controls p ∷ person_checks p ∷ [])
+
+-- the entries of the text; an address has a box and a room before the street
+abbrev pub mecard_entries : Person → List Entry
+mecard_entries p =
+    (codes "N", p.family ∷ p.given ∷ []) ∷ single (codes "TEL") p.phone ∷ single (codes "EMAIL") p.email
+    ∷ single (codes "URL") p.url ∷ single (codes "BDAY") p.birthday ∷ single (codes "NOTE") p.note
+    ∷ (codes "ADR", [] ∷ [] ∷ p.street ∷ p.city ∷ p.region ∷ p.code ∷ p.country ∷ []) ∷ []
+
+-- the text of a contact
+unfoldable pub mecard_text : Person → List ℕ
+mecard_text p = codes "MECARD:" ++ (flat_map marked_text (mecard_entries p) ++ 59 ∷ [])
+
+-- the contact that entries say
+abbrev pub contact_from : List Entry → Person
+contact_from entries = record {
+  family = part_of (codes "N") 0 entries;
+  given = part_of (codes "N") 1 entries;
+  phone = value_of (codes "TEL") entries;
+  email = value_of (codes "EMAIL") entries;
+  url = value_of (codes "URL") entries;
+  birthday = value_of (codes "BDAY") entries;
+  note = value_of (codes "NOTE") entries;
+  street = part_of (codes "ADR") 2 entries;
+  city = part_of (codes "ADR") 3 entries;
+  region = part_of (codes "ADR") 4 entries;
+  code = part_of (codes "ADR") 5 entries;
+  country = part_of (codes "ADR") 6 entries;
+}
+
+-- the contact that a text says
+unfoldable pub read_mecard : List ℕ → Option Person
+read_mecard text = option_map contact_from (read_entries (codes "MECARD:") text)

@@ -1,0 +1,160 @@
+-- Texts of SEPA credit transfers, line by line.
+use Rattle.std.specs.Prelude.{ℕ, nat_lt, nat_le, ◌==◌, ◌%◌, ◌&&◌, ◌||◌, not, Bool, true, false, List, [], ◌∷◌, ◌++◌, length, take, Option, Some, None, codes, if◌then◌else◌}
+use Rattle.std.specs.Str.{bytes_eq, chars}
+use Rattle.std.specs.List.{list_all, starts_with}
+use Rattle.std.specs.Option.{option_map, option_and_then}
+use Rattle.qrcode_contents.specs.declared.errors.ContentError.{ContentError}
+use Rattle.qrcode_contents.specs.declared.errors.Field.TheVariants.{Bic, Name, Iban, Amount, Purpose, Reference, Message, Information, Whole}
+use Rattle.qrcode_contents.specs.declared.errors.Cause.TheVariants.{Empty, TooLong, Character, CheckDigits, Range, Unused}
+use Rattle.qrcode_contents.specs.declared.payment.PaymentVersion.{PaymentVersion}
+use Rattle.qrcode_contents.specs.declared.payment.PaymentVersion.TheVariants.{One, Two}
+use Rattle.qrcode_contents.specs.declared.payment.Payment.{Payment}
+use Rattle.qrcode_contents.specs.Amounts.{amount_text, read_amount}
+use Rattle.qrcode_contents.specs.Characters.{is_capital, control_refusal}
+use Rattle.qrcode_contents.specs.Entries.{is_filled, behind}
+use Rattle.qrcode_contents.specs.Lines.{lines_text, read_lines, line_at}
+use Rattle.qrcode_contents.specs.Numbers.{checked_number}
+use Rattle.qrcode_contents.specs.Refusals.{refused_if, first_refusal}
+
+-- a transfer as its text says it
+pub record Transfer : Type 0 where
+  pub version : PaymentVersion
+  pub bic : List ℕ
+  pub name : List ℕ
+  pub iban : List ℕ
+  pub cents : ℕ
+  pub purpose : List ℕ
+  pub reference : List ℕ
+  pub message : List ℕ
+  pub information : List ℕ
+
+-- what is said of a payment
+abbrev pub payment_fields : Payment → Transfer
+payment_fields p = record {
+  version = p.version;
+  bic = p.bic.now;
+  name = p.name.now;
+  iban = p.iban.now;
+  cents = p.cents;
+  purpose = p.purpose.now;
+  reference = p.reference.now;
+  message = p.message.now;
+  information = p.information.now;
+}
+
+-- the line of a version
+abbrev pub version_name : PaymentVersion → List ℕ
+version_name One = codes "001"
+version_name Two = codes "002"
+
+abbrev pub needs_bic : PaymentVersion → Bool
+needs_bic One = true
+needs_bic Two = false
+
+-- a bank's identifier of ISO 9362
+abbrev pub is_bic : List ℕ → Bool
+is_bic text = (length text == 8 || length text == 11) && list_all is_capital text
+
+-- the characters of an account number of ISO 13616
+abbrev pub is_account : List ℕ → Bool
+is_account text = nat_le 5 (length text) && nat_le (length text) 34 && list_all is_capital text
+
+-- the characters of a creditor's reference of ISO 11649
+abbrev pub is_reference : List ℕ → Bool
+is_reference text =
+    nat_le 5 (length text) && nat_le (length text) 25 && starts_with (λ a b. a == b) text (codes "RF") && list_all is_capital text
+
+-- line breaks and other control characters
+unfoldable pub control_checks : Transfer → Option ContentError
+control_checks t = control_refusal (
+    (Bic, t.bic) ∷ (Name, t.name) ∷ (Iban, t.iban) ∷ (Purpose, t.purpose) ∷ (Reference, t.reference)
+    ∷ (Message, t.message) ∷ (Information, t.information) ∷ [])
+
+-- what is no BIC, and where it lacks
+unfoldable pub bank_checks : Transfer → Option ContentError
+bank_checks t = first_refusal (
+    refused_if (needs_bic t.version && not (is_filled t.bic)) Bic Empty
+    ∷ refused_if (is_filled t.bic && not (is_bic t.bic)) Bic Character
+    ∷ [])
+
+-- what is no account, and an amount out of range
+unfoldable pub account_checks : Transfer → Option ContentError
+account_checks t = first_refusal (
+    refused_if (not (is_account t.iban)) Iban Character
+    ∷ refused_if (not (checked_number t.iban % 97 == 1)) Iban CheckDigits
+    ∷ refused_if (nat_lt t.cents 1 || nat_lt 99999999999 t.cents) Amount Range
+    ∷ [])
+
+-- what is too long, and a wrong reference
+unfoldable pub message_checks : Transfer → Option ContentError
+message_checks t = first_refusal (
+    refused_if (not (is_filled t.name)) Name Empty
+    ∷ refused_if (nat_lt 70 (length (chars t.name))) Name TooLong
+    ∷ refused_if (nat_lt 4 (length t.purpose)) Purpose TooLong
+    ∷ refused_if (not (list_all is_capital t.purpose)) Purpose Character
+    ∷ refused_if (is_filled t.reference && not (is_reference t.reference)) Reference Character
+    ∷ refused_if (is_filled t.reference && not (checked_number t.reference % 97 == 1)) Reference CheckDigits
+    ∷ refused_if (is_filled t.reference && is_filled t.message) Message Unused
+    ∷ refused_if (nat_lt 140 (length (chars t.message))) Message TooLong
+    ∷ refused_if (nat_lt 70 (length (chars t.information))) Information TooLong
+    ∷ [])
+
+-- how many of the lines behind the amount the text has: those behind the last filled one are left out
+abbrev pub later_count : Transfer → ℕ
+later_count t =
+    if is_filled t.information then 4
+    else (if is_filled t.message then 3
+    else (if is_filled t.reference then 2
+    else (if is_filled t.purpose then 1 else 0)))
+
+-- the lines behind the amount
+abbrev pub later_lines : Transfer → List (List ℕ)
+later_lines t = take (later_count t) (t.purpose ∷ t.reference ∷ t.message ∷ t.information ∷ [])
+
+-- the lines: service, version, character set (UTF-8), kind of transfer, and the fields
+abbrev pub payment_lines : Transfer → List (List ℕ)
+payment_lines t =
+    codes "BCD" ∷ version_name t.version ∷ codes "1" ∷ codes "SCT" ∷ t.bic ∷ t.name ∷ t.iban
+    ∷ (codes "EUR" ++ amount_text t.cents) ∷ later_lines t
+
+-- the text of a transfer
+unfoldable pub payment_text : Transfer → List ℕ
+payment_text t = lines_text (payment_lines t)
+
+-- what the fields refuse
+unfoldable pub field_checks : Transfer → Option ContentError
+field_checks t = first_refusal (control_checks t ∷ bank_checks t ∷ account_checks t ∷ message_checks t ∷ [])
+
+-- what the text cannot say: what the fields refuse, and a text of more than 331 bytes
+abbrev pub payment_refusal : Transfer → Option ContentError
+payment_refusal t = first_refusal (field_checks t ∷ refused_if (nat_lt 331 (length (payment_text t))) Whole TooLong ∷ [])
+
+-- the version that this line says
+abbrev pub named_version : List ℕ → Option PaymentVersion
+named_version line =
+    if bytes_eq line (codes "001") then Some One else (if bytes_eq line (codes "002") then Some Two else None)
+
+-- the transfer that lines say, of a version and with an amount
+abbrev pub transfer_from : (ℕ → List ℕ) → PaymentVersion → List ℕ → Transfer
+transfer_from line version amount = record {
+  version = version;
+  bic = line 4;
+  name = line 5;
+  iban = line 6;
+  cents = read_amount amount;
+  purpose = line 8;
+  reference = line 9;
+  message = line 10;
+  information = line 11;
+}
+
+-- the transfer that lines say; a line behind the last is empty
+abbrev pub transfer_of : (ℕ → List ℕ) → Option Transfer
+transfer_of line =
+    if bytes_eq (line 0) (codes "BCD") && bytes_eq (line 2) (codes "1") && bytes_eq (line 3) (codes "SCT")
+    then option_and_then (λ version. option_map (transfer_from line version) (behind (codes "EUR") (line 7))) (named_version (line 1))
+    else None
+
+-- the transfer that a text says
+unfoldable pub read_payment : List ℕ → Option Transfer
+read_payment text = transfer_of (line_at (read_lines text))

@@ -1,0 +1,118 @@
+//! The text of a contact.
+
+ghost use Rattle.std.specs.Prelude.{◌≡◌, Some, IfOk, IsOkUnless, string_bytes};
+ghost use Rattle.qrcode_contents.specs.declared.errors.ContentError.TheVariants.{OutOfMemory};
+ghost use Rattle.qrcode_contents.specs.Contact.{person_of, person_controls, person_checks, contact_refusal, mecard_text, read_mecard};
+ghost use Rattle.qrcode_contents.specs.Refusals.{Answers, checked};
+
+use crate::characters::{are_digits, refuse_control};
+use crate::entries::push_entry;
+use crate::errors::{Cause, ContentResult, Field};
+use std::alloc::Global;
+
+/// A contact. What is empty is left out.
+#[derive(Copy, Clone, PartialEq, Eq, Debug)]
+pub struct Contact<'a> {
+    /// The family name, or the only one.
+    pub family: &'a str,
+    /// The given names.
+    pub given: &'a str,
+    /// A telephone number.
+    pub phone: &'a str,
+    /// An address of mail.
+    pub email: &'a str,
+    /// An address of the web.
+    pub url: &'a str,
+    /// The birthday, eight digits: year, month and day.
+    pub birthday: &'a str,
+    /// A note.
+    pub note: &'a str,
+    /// The street with the number of the house.
+    pub street: &'a str,
+    /// The town.
+    pub city: &'a str,
+    /// The region.
+    pub region: &'a str,
+    /// The postal code.
+    pub code: &'a str,
+    /// The country.
+    pub country: &'a str,
+}
+
+impl Contact<'_> {
+    // Refuses line breaks and other control characters.
+    #[tactic(auto, unfolding(crate::specs::Contact::person_controls))]
+    fn check_controls(&self) -> ContentResult<()>
+        ensures { result ≡ checked (person_controls (person_of self.now)) }
+    {
+        refuse_control(Field::Name, self.family)?;
+        refuse_control(Field::Given, self.given)?;
+        refuse_control(Field::Phone, self.phone)?;
+        refuse_control(Field::Email, self.email)?;
+        refuse_control(Field::Url, self.url)?;
+        refuse_control(Field::Note, self.note)?;
+        refuse_control(Field::Street, self.street)?;
+        refuse_control(Field::City, self.city)?;
+        refuse_control(Field::Region, self.region)?;
+        refuse_control(Field::PostalCode, self.code)?;
+        refuse_control(Field::Country, self.country)
+    }
+
+    // Refuses a contact with no name, and what is no birthday.
+    #[tactic(auto, unfolding(crate::specs::Contact::person_checks))]
+    fn check_forms(&self) -> ContentResult<()>
+        ensures { result ≡ checked (person_checks (person_of self.now)) }
+    {
+        let born = !self.birthday.is_empty();
+        Field::Name.refuse_if(self.family.is_empty(), Cause::Empty)?;
+        Field::Birthday.refuse_if(born && self.birthday.len() != 8, Cause::Character)?;
+        Field::Birthday.refuse_if(!are_digits(self.birthday), Cause::Character)
+    }
+
+    // Refuses fields that the text cannot say.
+    fn check(&self) -> ContentResult<()>
+        ensures { result ≡ checked (contact_refusal (person_of self.now)) }
+    {
+        self.check_controls()?;
+        self.check_forms()
+    }
+
+    // The text of a contact that is not refused.
+    #[tactic(auto, unfolding(crate::specs::Contact::mecard_text))]
+    fn written(&self, alloc: Global) -> ContentResult<String>
+        ensures value { IfOk result (λ text. string_bytes text ≡ mecard_text (person_of self.now)) }
+        ensures memory { IsOkUnless result OutOfMemory }
+    {
+        let mut text = String::from_str(alloc, "MECARD:")?;
+        push_entry(&mut text, "N", &[self.family, self.given])?;
+        push_entry(&mut text, "TEL", &[self.phone])?;
+        push_entry(&mut text, "EMAIL", &[self.email])?;
+        push_entry(&mut text, "URL", &[self.url])?;
+        push_entry(&mut text, "BDAY", &[self.birthday])?;
+        push_entry(&mut text, "NOTE", &[self.note])?;
+        let address = [
+            "",
+            "",
+            self.street,
+            self.city,
+            self.region,
+            self.code,
+            self.country,
+        ];
+        push_entry(&mut text, "ADR", &address)?;
+        text.push_str(";")?;
+        Ok(text)
+    }
+
+    /// The text of the contact as MECARD.
+    ///
+    /// An error names the field and why the text cannot say it, or is `OutOfMemory`.
+    pub fn mecard(&self, alloc: Global) -> ContentResult<String>
+        ensures reads { Answers (contact_refusal (person_of self.now)) result
+            (λ text. read_mecard text ≡ Some (person_of self.now)) }
+        ensures value { IfOk result (λ text. string_bytes text ≡ mecard_text (person_of self.now)) }
+    {
+        self.check()?;
+        self.written(alloc)
+    }
+}

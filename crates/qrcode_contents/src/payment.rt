@@ -1,0 +1,241 @@
+//! The text of a SEPA credit transfer.
+
+ghost use Rattle.std.specs.Prelude.{◌≡◌, ◌++◌, ◌≤◌, Some, IfOk, OnOk, IsOkUnless, string_bytes, length, nat_lt, Ok, Err, if◌then◌else◌};
+ghost use Rattle.qrcode_contents.specs.declared.errors.ContentError.TheVariants.{Refused, OutOfMemory};
+ghost use Rattle.qrcode_contents.specs.declared.errors.Field.TheVariants.{Whole};
+ghost use Rattle.qrcode_contents.specs.declared.errors.Cause.TheVariants.{TooLong};
+ghost use Rattle.qrcode_contents.specs.Lines.{later_text};
+ghost use Rattle.qrcode_contents.specs.Refusals.{Answers, checked};
+ghost use Rattle.qrcode_contents.specs.Payment.{payment_fields, control_checks, needs_bic, bank_checks, account_checks, message_checks, field_checks, payment_refusal, payment_text, later_count, later_lines, read_payment, version_name, is_bic, is_account, is_reference};
+
+use crate::amounts::push_amount;
+use crate::characters::{are_capitals, character_count, refuse_control};
+use crate::errors::{Cause, ContentError, ContentResult, Field};
+use crate::lines::push_lines;
+use crate::numbers::has_check_digits;
+use qrcode_types::types::{EcLevel, Version};
+use std::alloc::Global;
+
+/// The level of a payment's symbol.
+pub const LEVEL: EcLevel = EcLevel::M;
+
+/// The largest version of a payment's symbol.
+pub const LARGEST: Version = Version::Normal(13);
+
+/// The version of the text.
+#[derive(Copy, Clone, PartialEq, Eq, Debug)]
+pub enum PaymentVersion {
+    /// 001, with a BIC.
+    One,
+    /// 002, where the BIC may be left out.
+    Two,
+}
+
+impl PaymentVersion {
+    /// The line of the version.
+    pub fn name(self) -> &'static str
+        ensures { result.now ≡ version_name self }
+    {
+        match self {
+            PaymentVersion::One => "001",
+            PaymentVersion::Two => "002",
+        }
+    }
+
+    /// Whether the BIC must be there.
+    pub fn needs_bic(self) -> bool
+        ensures { result ≡ needs_bic self }
+    {
+        match self {
+            PaymentVersion::One => true,
+            PaymentVersion::Two => false,
+        }
+    }
+}
+
+/// A SEPA credit transfer. What is empty is left out; of `reference` and `message` one at most is
+/// filled.
+#[derive(Copy, Clone, PartialEq, Eq, Debug)]
+pub struct Payment<'a> {
+    /// The version of the text.
+    pub version: PaymentVersion,
+    /// The bank's identifier, 8 or 11 capitals and digits.
+    pub bic: &'a str,
+    /// Who is paid, 1 to 70 characters.
+    pub name: &'a str,
+    /// The account, without spaces.
+    pub iban: &'a str,
+    /// The amount in cents of a euro, 1 to 99,999,999,999.
+    pub cents: u64,
+    /// The code of the purpose, up to 4 capitals.
+    pub purpose: &'a str,
+    /// The creditor's reference of ISO 11649, without spaces.
+    pub reference: &'a str,
+    /// A message, up to 140 characters.
+    pub message: &'a str,
+    /// What the payer is told, up to 70 characters.
+    pub information: &'a str,
+}
+
+// Whether it is a BIC.
+fn is_a_bic(text: &str) -> bool
+    ensures { result ≡ is_bic text.now }
+{
+    (text.len() == 8 || text.len() == 11) && are_capitals(text)
+}
+
+// Whether it has the characters of an IBAN.
+fn is_an_account(text: &str) -> bool
+    ensures { result ≡ is_account text.now }
+{
+    text.len() >= 5 && text.len() <= 34 && are_capitals(text)
+}
+
+// Whether it has the characters of a reference of ISO 11649.
+fn is_a_reference(text: &str) -> bool
+    ensures { result ≡ is_reference text.now }
+{
+    text.len() >= 5 && text.len() <= 25 && text.as_bytes().starts_with(b"RF") && are_capitals(text)
+}
+
+// Refuses a text of more than 331 bytes.
+fn limited(text: String) -> ContentResult<String>
+    ensures { result ≡ (if nat_lt 331 (length (string_bytes text))
+        then Err (Refused Whole TooLong) else Ok text) }
+{
+    if text.len() > 331 {
+        return Err(ContentError::Refused(Field::Whole, Cause::TooLong));
+    }
+    Ok(text)
+}
+
+impl Payment<'_> {
+    // Refuses line breaks and other control characters.
+    #[tactic(auto, unfolding(crate::specs::Payment::control_checks))]
+    fn check_controls(&self) -> ContentResult<()>
+        ensures { result ≡ checked (control_checks (payment_fields self.now)) }
+    {
+        refuse_control(Field::Bic, self.bic)?;
+        refuse_control(Field::Name, self.name)?;
+        refuse_control(Field::Iban, self.iban)?;
+        refuse_control(Field::Purpose, self.purpose)?;
+        refuse_control(Field::Reference, self.reference)?;
+        refuse_control(Field::Message, self.message)?;
+        refuse_control(Field::Information, self.information)
+    }
+
+    // Refuses what is no BIC, and where it lacks.
+    #[tactic(auto, unfolding(crate::specs::Payment::bank_checks))]
+    fn check_bank(&self) -> ContentResult<()>
+        ensures { result ≡ checked (bank_checks (payment_fields self.now)) }
+    {
+        let needed = self.version.needs_bic();
+        Field::Bic.refuse_if(needed && self.bic.is_empty(), Cause::Empty)?;
+        Field::Bic.refuse_if(
+            !self.bic.is_empty() && !is_a_bic(self.bic),
+            Cause::Character,
+        )
+    }
+
+    // Refuses what is no account, and an amount that is out of range.
+    #[tactic(auto, unfolding(crate::specs::Payment::account_checks))]
+    fn check_account(&self) -> ContentResult<()>
+        ensures { result ≡ checked (account_checks (payment_fields self.now)) }
+    {
+        Field::Iban.refuse_if(!is_an_account(self.iban), Cause::Character)?;
+        Field::Iban.refuse_if(!has_check_digits(self.iban.as_bytes()), Cause::CheckDigits)?;
+        Field::Amount.refuse_if(self.cents < 1 || self.cents > 99_999_999_999, Cause::Range)
+    }
+
+    // Refuses names and messages that are too long, and a wrong reference.
+    #[tactic(auto, unfolding(crate::specs::Payment::message_checks))]
+    fn check_messages(&self) -> ContentResult<()>
+        ensures { result ≡ checked (message_checks (payment_fields self.now)) }
+    {
+        let referenced = !self.reference.is_empty();
+        Field::Name.refuse_if(self.name.is_empty(), Cause::Empty)?;
+        Field::Name.refuse_if(character_count(self.name) > 70, Cause::TooLong)?;
+        Field::Purpose.refuse_if(self.purpose.len() > 4, Cause::TooLong)?;
+        Field::Purpose.refuse_if(!are_capitals(self.purpose), Cause::Character)?;
+        Field::Reference.refuse_if(
+            referenced && !is_a_reference(self.reference),
+            Cause::Character,
+        )?;
+        let checked = has_check_digits(self.reference.as_bytes());
+        Field::Reference.refuse_if(referenced && !checked, Cause::CheckDigits)?;
+        Field::Message.refuse_if(referenced && !self.message.is_empty(), Cause::Unused)?;
+        Field::Message.refuse_if(character_count(self.message) > 140, Cause::TooLong)?;
+        Field::Information.refuse_if(character_count(self.information) > 70, Cause::TooLong)
+    }
+
+    // Refuses fields that the text cannot say.
+    #[tactic(auto, unfolding(crate::specs::Payment::field_checks))]
+    fn check(&self) -> ContentResult<()>
+        ensures { result ≡ checked (field_checks (payment_fields self.now)) }
+    {
+        self.check_controls()?;
+        self.check_bank()?;
+        self.check_account()?;
+        self.check_messages()
+    }
+
+    // How many of the last four lines there are: those behind the last filled one are left out.
+    fn later_count(&self) -> usize
+        ensures value { result ≡ later_count (payment_fields self.now) }
+        ensures at_most { result ≤ 4 }
+    {
+        if !self.information.is_empty() {
+            4
+        } else if !self.message.is_empty() {
+            3
+        } else if !self.reference.is_empty() {
+            2
+        } else if !self.purpose.is_empty() {
+            1
+        } else {
+            0
+        }
+    }
+
+    // The lines behind the amount.
+    fn push_later(&self, text: &mut String) -> ContentResult<()>
+        ensures appends { OnOk result (string_bytes text.new
+            ≡ string_bytes text.old ++ later_text (later_lines (payment_fields self.now))) }
+        ensures memory { IsOkUnless result OutOfMemory }
+    {
+        let lines = [self.purpose, self.reference, self.message, self.information];
+        push_lines(text, &lines[..self.later_count()])
+    }
+
+    // The text of a payment.
+    #[tactic(auto, unfolding(crate::specs::Payment::payment_text))]
+    fn written(&self, alloc: Global) -> ContentResult<String>
+        ensures value { IfOk result (λ text. string_bytes text ≡ payment_text (payment_fields self.now)) }
+        ensures memory { IsOkUnless result OutOfMemory }
+    {
+        let mut text = String::from_str(alloc, "BCD\n")?;
+        text.push_str(self.version.name())?;
+        text.push_str("\n1\nSCT")?;
+        push_lines(&mut text, &[self.bic, self.name, self.iban])?;
+        text.push_str("\nEUR")?;
+        push_amount(&mut text, self.cents)?;
+        self.push_later(&mut text)?;
+        Ok(text)
+    }
+
+    /// The text of the payment, 331 bytes at most. Its symbol has the level [`LEVEL`] and a version
+    /// up to [`LARGEST`].
+    ///
+    /// An error names the field and why the text cannot say it, or is `OutOfMemory`.
+    pub fn text(&self, alloc: Global) -> ContentResult<String>
+        ensures reads { Answers (payment_refusal (payment_fields self.now)) result
+            (λ text. read_payment text ≡ Some (payment_fields self.now)) }
+        ensures value { IfOk result (λ text. string_bytes text
+            ≡ payment_text (payment_fields self.now)) }
+        ensures at_most { IfOk result (λ text. length (string_bytes text) ≤ 331) }
+    {
+        self.check()?;
+        let text = self.written(alloc)?;
+        limited(text)
+    }
+}

@@ -1,0 +1,9 @@
+//! The tests of texts of contents: printed examples of the formats, and refusals by field and cause.
+#![tactic(auto)]
+
+#[cfg(test)]
+mod contacts;
+#[cfg(test)]
+mod networks;
+#[cfg(test)]
+mod payments;
