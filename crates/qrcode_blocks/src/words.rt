@@ -1,0 +1,69 @@
+//! Bytes in a list of bits.
+
+ghost use Rattle.std.specs.Prelude.{◌≡◌, ◌≤◌, ◌++◌, false, length, take, drop, slice_index_or, OnOk, if◌then◌else◌};
+ghost use Rattle.qrcode_types.specs.Bits.{byte_at, bytes_of};
+
+use std::alloc::AllocError;
+
+/// The first bits, so many, or all.
+pub(crate) fn front(bits: &[bool], count: usize) -> &[bool]
+    ensures value { result.now ≡ take count bits.now }
+    ensures at_most { length result.now ≤ count }
+{
+    if count < bits.len() {
+        bits.split_at(count).0
+    } else {
+        bits
+    }
+}
+
+/// The bits behind the first ones, so many.
+pub(crate) fn behind(bits: &[bool], count: usize) -> &[bool]
+    ensures { result.now ≡ drop count bits.now }
+{
+    if count < bits.len() {
+        bits.split_at(count).1
+    } else {
+        &[]
+    }
+}
+
+// The bit at a place as a number, or zero behind the end.
+fn bit(bits: &[bool], place: usize) -> u8
+    ensures value { result ≡ (if slice_index_or bits.now place false then 1 else 0) }
+    ensures at_most { result ≤ 1 }
+{
+    if place < bits.len() && bits[place] {
+        1
+    } else {
+        0
+    }
+}
+
+// The i-th byte, with zeros behind the end.
+fn byte_at(bits: &[bool], i: usize) -> u8
+    requires { i ≤ 30000 }
+    ensures { result ≡ byte_at bits.now i }
+{
+    let at = 8 * i;
+    let high = 8 * bit(bits, at)
+        + 4 * bit(bits, at + 1)
+        + 2 * bit(bits, at + 2)
+        + bit(bits, at + 3);
+    let low = 8 * bit(bits, at + 4)
+        + 4 * bit(bits, at + 5)
+        + 2 * bit(bits, at + 6)
+        + bit(bits, at + 7);
+    16 * high + low
+}
+
+/// Appends the bytes of bits, the last one filled with zeros.
+pub(crate) fn push_bytes(bytes: &mut Vec<u8>, bits: &[bool]) -> Result<(), AllocError>
+    requires { length bits.now ≤ 30000 }
+    ensures { OnOk result (bytes.new.items ≡ bytes.old.items ++ bytes_of bits.now) }
+{
+    for i in 0..(bits.len() + 7) / 8 {
+        bytes.push(byte_at(bits, i))?;
+    }
+    Ok(())
+}
