@@ -1,3 +1,4 @@
 pub mod Bytes
 pub mod Copies
+pub mod Gathered
 pub mod Walked
