@@ -7,5 +7,6 @@ pub mod Escaping
 pub mod LineReading
 pub mod Passing
 pub mod PaymentReading
+pub mod PercentReading
 pub mod Pieces
 pub mod WifiReading

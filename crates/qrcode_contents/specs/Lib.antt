@@ -7,5 +7,7 @@ pub mod Escapes
 pub mod Lines
 pub mod Numbers
 pub mod Payment
+pub mod Percents
+pub mod Phone
 pub mod Refusals
 pub mod Wifi

@@ -17,7 +17,8 @@ fn push_parts(
 ) -> ContentResult<()>
     requires { separator < 128 }
     ensures appends { OnOk result (string_bytes text.new
-        ≡ string_bytes text.old ++ parts_text escapes separator (map (λ part. part.now) parts.now)) }
+        ≡ string_bytes text.old
+        ++ parts_text escapes separator (map (λ part. part.now) parts.now)) }
     ensures memory { IsOkUnless result OutOfMemory }
 {
     let Some((first, later)) = parts.split_first() else {

@@ -11,4 +11,6 @@ pub mod escapes;
 pub mod lines;
 pub mod numbers;
 pub mod payment;
+pub mod percents;
+pub mod phone;
 pub mod wifi;

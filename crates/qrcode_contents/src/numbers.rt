@@ -42,8 +42,8 @@ fn split_four(bytes: &[u8]) -> (&[u8], &[u8])
     bytes.split_at(4)
 }
 
-/// Whether the characters, with the first four moved behind the others, are a number whose remainder
-/// by 97 is 1.
+/// Whether the characters, with the first four moved behind the others, are a number whose
+/// remainder by 97 is 1.
 pub fn has_check_digits(bytes: &[u8]) -> bool
     ensures { result ≡ (checked_number bytes.now % 97 == 1) }
 {

@@ -210,7 +210,8 @@ impl Payment<'_> {
     // The text of a payment.
     #[tactic(auto, unfolding(crate::specs::Payment::payment_text))]
     fn written(&self, alloc: Global) -> ContentResult<String>
-        ensures value { IfOk result (λ text. string_bytes text ≡ payment_text (payment_fields self.now)) }
+        ensures value { IfOk result (λ text. string_bytes text
+            ≡ payment_text (payment_fields self.now)) }
         ensures memory { IsOkUnless result OutOfMemory }
     {
         let mut text = String::from_str(alloc, "BCD\n")?;

@@ -1,0 +1,72 @@
+//! Links to a telephone.
+
+ghost use Rattle.std.specs.Prelude.{◌≡◌, ◌++◌, Some, IfOk, IsOkUnless, string_bytes, codes};
+ghost use Rattle.std.specs.List.{list_all};
+ghost use Rattle.qrcode_contents.specs.declared.errors.ContentError.TheVariants.{OutOfMemory};
+ghost use Rattle.qrcode_contents.specs.Entries.{behind};
+ghost use Rattle.qrcode_contents.specs.Phone.{phone_refusal, is_dialled};
+ghost use Rattle.qrcode_contents.specs.Refusals.{Answers, checked};
+
+use crate::errors::{Cause, ContentResult, Field};
+use std::alloc::Global;
+
+/// A telephone number: digits, `+`, and `-`, `.`, `(` and `)` between digits.
+#[derive(Copy, Clone, PartialEq, Eq, Debug)]
+pub struct Phone<'a> {
+    /// The number.
+    pub number: &'a str,
+}
+
+// Whether all bytes may stand in a number.
+fn are_dialled(text: &str) -> bool
+    ensures { result ≡ list_all is_dialled text.now }
+{
+    let bytes = text.as_bytes();
+    bytes.iter().all(|byte| matches!(*byte, b'0'..=b'9' | b'+' | b'-' | b'.' | b'(' | b')'))
+}
+
+// The number behind a scheme.
+fn written(alloc: Global, scheme: &str, number: &str) -> ContentResult<String>
+    ensures value { IfOk result (λ text. string_bytes text ≡ scheme.now ++ number.now) }
+    ensures memory { IsOkUnless result OutOfMemory }
+{
+    let mut text = String::from_str(alloc, scheme)?;
+    text.push_str(number)?;
+    Ok(text)
+}
+
+impl Phone<'_> {
+    // Refuses what is no number.
+    fn check(&self) -> ContentResult<()>
+        ensures { result ≡ checked (phone_refusal self.now.number.now) }
+    {
+        Field::Phone.refuse_if(self.number.is_empty(), Cause::Empty)?;
+        Field::Phone.refuse_if(!are_dialled(self.number), Cause::Character)
+    }
+
+    /// The link that calls the number.
+    ///
+    /// An error names the field and why the text cannot say it, or is `OutOfMemory`.
+    pub fn tel(&self, alloc: Global) -> ContentResult<String>
+        ensures reads { Answers (phone_refusal self.now.number.now) result
+            (λ text. behind (codes "tel:") text ≡ Some self.now.number.now) }
+        ensures value { IfOk result (λ text. string_bytes text
+            ≡ codes "tel:" ++ self.now.number.now) }
+    {
+        self.check()?;
+        written(alloc, "tel:", self.number)
+    }
+
+    /// The link that writes to the number.
+    ///
+    /// An error names the field and why the text cannot say it, or is `OutOfMemory`.
+    pub fn sms(&self, alloc: Global) -> ContentResult<String>
+        ensures reads { Answers (phone_refusal self.now.number.now) result
+            (λ text. behind (codes "sms:") text ≡ Some self.now.number.now) }
+        ensures value { IfOk result (λ text. string_bytes text
+            ≡ codes "sms:" ++ self.now.number.now) }
+    {
+        self.check()?;
+        written(alloc, "sms:", self.number)
+    }
+}
