@@ -7,12 +7,12 @@ use Rattle.qrcode_types.specs.declared.types.Version.{Version}
 use Rattle.qrcode_types.specs.declared.types.EcLevel.{EcLevel}
 use Rattle.qrcode_types.specs.declared.types.QrError.{QrError}
 use Rattle.qrcode_types.specs.declared.types.QrError.TheVariants.{InvalidVersion, DataTooLong, UnsupportedCharacterSet, OutOfMemory}
-use Rattle.qrcode_bits.specs.Choice.{Holds}
+use Rattle.qrcode_bits.specs.Choice.{Holds, IfCause}
 use Rattle.qrcode_bits.specs.Cuts.{IsCut}
 use Rattle.qrcode_bits.specs.Refusals.{data_limit}
 use Rattle.qrcode_bits.specs.declared.optimize.Segment.{Segment}
 use Rattle.qrcode_bits.proofs.Chosen.{cut_or_none}
-use Rattle.qrcode.specs.Acceptance.{IfCause, IsRefusedAt}
+use Rattle.qrcode.specs.Acceptance.{IsRefusedAt}
 
 module _ (v : Version) (l : EcLevel) (bytes : List ℕ) (valid : IsTrue (is_valid v)) (e : QrError) where
   -- more than the limit

@@ -8,7 +8,7 @@ use Rattle.qrcode_types.specs.declared.types.QrError.{QrError}
 use Rattle.qrcode_types.specs.declared.types.QrError.TheVariants.{InvalidVersion, DataTooLong, UnsupportedCharacterSet, OutOfMemory}
 use Rattle.qrcode_types.specs.declared.types.Color.{Color}
 use Rattle.qrcode_bits.specs.Cuts.{IsCut, IsLeastCut}
-use Rattle.qrcode_bits.specs.Choice.{Holds, IsLeastHolding, IsRefused}
+use Rattle.qrcode_bits.specs.Choice.{Holds, IsLeastHolding, IsRefused, IfCause}
 use Rattle.qrcode_bits.specs.Refusals.{data_limit}
 use Rattle.qrcode_bits.specs.Written.{written, terminated, pieces_of}
 use Rattle.qrcode_bits.specs.declared.optimize.Segment.{Segment}
@@ -37,10 +37,6 @@ pub record IsAutomatic (l : EcLevel) (bytes : List ℕ) (result : Result Code Qr
   pub accepts : (n : ℕ) → Holds (Normal (pos n)) l bytes → IsOkUnless result OutOfMemory
   pub causes : IfErr result (IsRefused l bytes)
   pub too_long : data_limit < length bytes → result ≡ Err DataTooLong
-
--- this where a cause applies, and that where it does not
-abbrev pub IfCause : Type 0 → Type 0 → Type 0 → Type 0
-IfCause Cause this that = (Cause × this) ⊎ ((¬ Cause) × that)
 
 -- why data is refused at a version and level: the first of these causes that applies; memory may be refused behind the third
 abbrev pub IsRefusedAt : Version → EcLevel → List ℕ → QrError → Type 0

@@ -64,6 +64,6 @@ pub on_ok : {P Q : Type 0} (r : Result (Unit {0}) QrError) → (P → Q) → OnO
 on_ok (Ok u) f h = f h
 on_ok (Err e) f h = tt
 
-pub if_err : {P Q : QrError → Type 0} (r : Result (Unit {0}) QrError) → ((e : QrError) → P e → Q e) → IfErr r P → IfErr r Q
-if_err (Ok u) f h = tt
+pub if_err : {T : Type 0} {P Q : QrError → Type 0} (r : Result T QrError) → ((e : QrError) → P e → Q e) → IfErr r P → IfErr r Q
+if_err (Ok x) f h = tt
 if_err (Err e) f h = f e h

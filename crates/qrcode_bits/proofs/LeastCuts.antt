@@ -79,7 +79,7 @@ module _ (set : Modes) (v : Version) (bytes : List ℕ) where
   pub counted_least : (ss : List Segment) → IsCutIn set v bytes ss → (costs_of (headers_of set v) bytes).start.bits ≤ total_cost v ss
   counted_least ss in_set = least_from 0 ss in_set.cut.tiles in_set.cut.modes in_set.among in_set.cut.writable
 
-  cost_most : (from : ℕ) (ss : List Segment) (to : ℕ) → IsTrue (is_valid v) → Tile from ss to → total_cost v ss + 32 * from ≤ 32 * to
+  pub cost_most : (from : ℕ) (ss : List Segment) (to : ℕ) → IsTrue (is_valid v) → Tile from ss to → total_cost v ss + 32 * from ≤ 32 * to
   cost_most from [] to valid t = omega (arith, t)
   cost_most from (s ∷ ss) to valid t =
       omega (arith, t.0, t.1.0, sum_by-cons (cost v) s ss, header_short v s.mode valid, data_small s.mode (s.end - s.begin), cost_most s.end ss to valid t.1.1) where

@@ -1,3 +1,4 @@
+pub mod Automatic
 pub mod Bands
 pub mod Changed
 pub mod Chosen
@@ -16,6 +17,7 @@ pub mod Headers
 pub mod LeastCuts
 pub mod LeastCosts
 pub mod LeastStarts
+pub mod Manners
 pub mod Lengths
 pub mod Numbers
 pub mod OnlyRuns

@@ -1,13 +1,16 @@
 -- Which data a symbol holds, and which version is the least that does.
-use Rattle.std.specs.Prelude.{◌≡◌, ◌⊎◌, ℕ, ◌≤◌, nat_le, pos, List, find, unwrap_or, IsTrue}
-use Rattle.std.specs.List.{range_with_len}
-use Rattle.qrcode_types.specs.Versions.{has_level, capacity}
+use Rattle.std.specs.Prelude.{◌≡◌, ◌⊎◌, ℕ, ◌<◌, ◌≤◌, pos, false, List, length, IsTrue}
+use Rattle.qrcode_types.specs.Versions.{is_valid, has_level, capacity}
 use Rattle.qrcode_types.specs.declared.types.Version.{Version}
 use Rattle.qrcode_types.specs.declared.types.Version.TheVariants.{Normal}
 use Rattle.qrcode_types.specs.declared.types.EcLevel.{EcLevel}
 use Rattle.qrcode_types.specs.declared.types.QrError.{QrError}
-use Rattle.qrcode_types.specs.declared.types.QrError.TheVariants.{DataTooLong, OutOfMemory}
-use Rattle.qrcode_bits.specs.Cuts.{FitsIn}
+use Rattle.qrcode_types.specs.declared.types.QrError.TheVariants.{InvalidVersion, DataTooLong, UnsupportedCharacterSet, OutOfMemory}
+use Rattle.qrcode_bits.specs.Cuts.{FitsIn, IsCutIn}
+use Rattle.qrcode_bits.specs.Manners.{modes_of, has_front, HoldsAs, rank}
+use Rattle.qrcode_bits.specs.Refusals.{data_limit}
+use Rattle.qrcode_bits.specs.declared.optimize.Segment.{Segment}
+use Rattle.qrcode_bits.specs.declared.bits.manner.Manner.{Manner}
 
 -- the version has the level, and its symbol has room for the bits of some cut of the data
 pub record Holds (v : Version) (l : EcLevel) (bytes : List ℕ) : Type 0 where
@@ -25,6 +28,21 @@ pub record IsLeastHolding (l : EcLevel) (bytes : List ℕ) (v : Version) : Type 
 abbrev pub IsRefused : EcLevel → List ℕ → QrError → Type 0
 IsRefused l bytes e = (e ≡ OutOfMemory) ⊎ ((e ≡ DataTooLong) × ((n : ℕ) → ¬ Holds (Normal (pos n)) l bytes))
 
--- the least Normal version that holds so many bits at a level
-unfoldable pub least_version : EcLevel → ℕ → Version
-least_version l used = Normal (pos (unwrap_or (find (λ n. nat_le used (capacity (Normal (pos n)) l)) (range_with_len 1 40)) 40))
+-- why no version from one on is chosen, which exists: more bytes than are taken or that any such version holds, or memory was refused
+abbrev pub IsRefusedFrom : Manner → Version → EcLevel → List ℕ → QrError → Type 0
+IsRefusedFrom m from l bytes e = (e ≡ OutOfMemory) ⊎ ((e ≡ DataTooLong) × ((v : Version) → rank from ≤ rank v → ¬ HoldsAs m v l bytes))
+
+-- this where a cause applies, and that where it does not
+abbrev pub IfCause : Type 0 → Type 0 → Type 0 → Type 0
+IfCause Cause this that = (Cause × this) ⊎ ((¬ Cause) × that)
+
+-- why data is refused in a manner at a version and level: the first of these causes that applies; memory may be refused behind the fourth
+abbrev pub IsRefusedIn : Manner → Version → EcLevel → List ℕ → QrError → Type 0
+IsRefusedIn m v l bytes e =
+    IfCause (is_valid v ≡ false) (e ≡ InvalidVersion) (
+    IfCause (data_limit < length bytes) (e ≡ DataTooLong) (
+    IfCause (has_front v m ≡ false) (e ≡ UnsupportedCharacterSet) (
+    IfCause ((segments : List Segment) → ¬ IsCutIn (modes_of m) v bytes segments) (e ≡ UnsupportedCharacterSet) (
+    (e ≡ OutOfMemory) ⊎
+    IfCause (has_level v l ≡ false) (e ≡ InvalidVersion) (
+    (¬ HoldsAs m v l bytes) × (e ≡ DataTooLong))))))

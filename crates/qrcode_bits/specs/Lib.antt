@@ -1,11 +1,13 @@
 pub mod BitList
 pub mod Choice
+pub mod Chosen
 pub mod Cuts
 pub mod Encoded
 pub mod GroupSteps
 pub mod Grouping
 pub mod Groups
 pub mod LeastBits
+pub mod Manners
 pub mod ModeHeaders
 pub mod ModeSets
 pub mod Optimal

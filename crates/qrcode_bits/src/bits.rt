@@ -26,13 +26,16 @@ use std::alloc::Global;
 use std::marker::Model;
 
 mod automatic;
+mod choice;
 mod ending;
+mod manner;
 mod optimal;
 mod stream;
 mod written;
 
-pub use automatic::encode_auto;
+pub use automatic::{encode_auto, encode_from};
 use ending::{push_ending, terminator_length};
+pub use manner::Manner;
 pub use optimal::DATA_LIMIT;
 use stream::Stream;
 use written::{may_write, push_written};

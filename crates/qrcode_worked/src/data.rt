@@ -2,13 +2,13 @@
 
 ghost use Rattle.std.specs.Prelude.{◌≡◌, pos, [], ◌∷◌, codes, map, replicate};
 ghost use Rattle.qrcode_types.specs.Bits.{bytes_of};
+ghost use Rattle.qrcode_types.specs.Versions.{capacity};
 ghost use Rattle.qrcode_types.specs.declared.types.Version.TheVariants.{Normal, Micro};
 ghost use Rattle.qrcode_types.specs.declared.types.EcLevel.TheVariants.{L, Q, H};
 ghost use Rattle.qrcode_types.specs.declared.types.Mode.TheVariants.{Numeric, Alphanumeric, Byte, Kanji};
 ghost use Rattle.qrcode_bits.specs.Segments.{cost, total_cost};
 ghost use Rattle.qrcode_bits.specs.Runs.{runs};
 ghost use Rattle.qrcode_bits.specs.Grouping.{grouping};
-ghost use Rattle.qrcode_bits.specs.Choice.{least_version};
 ghost use Rattle.qrcode_bits.specs.Written.{written, written_piece, terminated};
 ghost use Rattle.qrcode_bits.specs.Spelling.{Spells};
 ghost use Rattle.qrcode_worked.specs.Data.{segment, piece, digits, normal_bits, micro_bits, normal_data, hello_data};
@@ -72,9 +72,8 @@ pub fn written_text()
         ≡ 0x22 ∷ 0x44 ∷ 0x00 ∷ [] }
 {}
 
-/// Table 7: the least versions that hold so many bits at level L.
-pub fn least_versions()
-    ensures { map (least_version L) (152 ∷ 153 ∷ 640 ∷ 641 ∷ 22496 ∷ 22497 ∷ 23648 ∷ [])
-        ≡ Normal (pos 1) ∷ Normal (pos 2) ∷ Normal (pos 4) ∷ Normal (pos 5) ∷ Normal (pos 39)
-        ∷ Normal (pos 40) ∷ Normal (pos 40) ∷ [] }
+/// Table 7: the bits that some versions hold at level L.
+pub fn capacities()
+    ensures { map (λ n. capacity (Normal (pos n)) L) (1 ∷ 2 ∷ 4 ∷ 5 ∷ 39 ∷ 40 ∷ [])
+        ≡ 152 ∷ 272 ∷ 640 ∷ 864 ∷ 22496 ∷ 23648 ∷ [] }
 {}

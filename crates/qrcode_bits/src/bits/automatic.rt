@@ -1,23 +1,21 @@
-//! The least version for data.
+//! Data as a terminated list of bits, for a version that is chosen or given.
 
-ghost use Rattle.std.specs.Prelude.{◌≡◌, ℕ, ◌<◌, ◌≤◌, pos, length, List, Err, MatchOption, IsTrue, IfOk, IfErr, IsOkUnless};
-ghost use Rattle.std.specs.List.{count_by};
-ghost use Rattle.qrcode_types.specs.Characters as characters;
-ghost use Rattle.qrcode_types.specs.Versions as versions;
+ghost use Rattle.std.specs.Prelude.{◌≡◌, ℕ, false, ◌<◌, ◌≤◌, pos, length, Err, IsTrue, IfOk, OnOk, ◌+◌, IfErr, IsOkUnless, ◌↔◌};
+ghost use Rattle.qrcode_types.specs.Versions.{is_valid, has_level, level_number, capacity};
+ghost use Rattle.qrcode_types.specs.declared.types.EcLevel.{EcLevel};
 ghost use Rattle.qrcode_types.specs.declared.types.Version.{Version};
 ghost use Rattle.qrcode_types.specs.declared.types.Version.TheVariants.{Normal};
-ghost use Rattle.qrcode_types.specs.declared.types.QrError.TheVariants.{DataTooLong, OutOfMemory};
-ghost use Rattle.qrcode_bits.specs.Segments.{total_cost};
-ghost use Rattle.qrcode_bits.specs.Cuts.{IsCut, FitsIn};
-ghost use Rattle.qrcode_bits.specs.Choice as choice;
-ghost use Rattle.qrcode_bits.specs.Choice.{Holds, IsRefused};
-ghost use Rattle.qrcode_bits.specs.Encoded.{IsTerminated, IsHeld, IsChosenList};
-ghost use Rattle.qrcode_bits.specs.Refusals.{data_limit};
-ghost use Rattle.qrcode_bits.specs.declared.optimize.Segment.{Segment};
+ghost use Rattle.qrcode_types.specs.declared.types.QrError.TheVariants.{DataTooLong, InvalidVersion, OutOfMemory};
+ghost use Rattle.qrcode_bits.specs.Choice.{Holds, IsRefused, IsRefusedFrom, IsRefusedIn};
+ghost use Rattle.qrcode_bits.specs.Chosen.{IsHeldBy};
+ghost use Rattle.qrcode_bits.specs.Encoded.{IsChosenList, IsListAs, IsListFrom, IsBoostedList};
+ghost use Rattle.qrcode_bits.specs.Manners.{front, has_front, HoldsAs, rank};
+ghost use Rattle.qrcode_bits.specs.Pushes.{with_bits};
+ghost use Rattle.qrcode_bits.specs.Refusals.{data_limit, bit_limit};
 
-use super::{Bits, DATA_LIMIT};
-use crate::optimize::{Segment, least_segments, total_encoded_len};
-use qrcode_types::characters::is_digit;
+use super::choice::{Chosen, choose, measure};
+use super::manner::UTF8_NUMBER;
+use super::{Bits, DATA_LIMIT, Manner};
 use qrcode_types::tables;
 use qrcode_types::types::{EcLevel, QrError, QrResult, Version};
 use std::alloc::Global;
@@ -35,114 +33,162 @@ pub fn encode_auto(alloc: Global, bytes: &[u8], ec_level: EcLevel) -> QrResult<B
     ensures causes { IfErr result (IsRefused ec_level bytes.now) }
     ensures too_long { data_limit < length bytes.now → result ≡ Err DataTooLong }
 {
+    encode_from(alloc, bytes, Manner::Bytes, Version::Normal(1), ec_level)
+}
+
+/// Data as a terminated list of bits, in segments of the fewest bits in the modes of the manner, for
+/// the least version from one on that holds it, in the order Micro 1 to 4, Normal 1 to 40.
+///
+/// It is refused by the first of these causes that applies. `InvalidVersion`: there is no such
+/// version as the first. `DataTooLong`: no version from that one on holds the data, or it has more
+/// than 1,048,576 bytes. And `OutOfMemory` may come in place of the second, or where none applies.
+pub fn encode_from(
+    alloc: Global,
+    bytes: &[u8],
+    manner: Manner,
+    from: Version,
+    ec_level: EcLevel,
+) -> QrResult<Bits>
+    ensures bits { IfOk result (IsListFrom manner from ec_level bytes.now) }
+    ensures no_version { is_valid from ≡ false → result ≡ Err InvalidVersion }
+    ensures accepts { (v : Version) → IsTrue (is_valid from) → rank from ≤ rank v
+        → HoldsAs manner v ec_level bytes.now → IsOkUnless result OutOfMemory }
+    ensures causes { IsTrue (is_valid from)
+        → IfErr result (IsRefusedFrom manner from ec_level bytes.now) }
+    ensures too_long { IsTrue (is_valid from) → data_limit < length bytes.now
+        → result ≡ Err DataTooLong }
+{
+    let chosen = choose(alloc, bytes, manner, from, ec_level)?;
+    encode_chosen(alloc, bytes, manner, ec_level, chosen)
+}
+
+/// The same for the least version from one on, at the highest level, from one on, at which that
+/// version holds the data. The list comes with that level.
+pub fn encode_boosted(
+    alloc: Global,
+    bytes: &[u8],
+    manner: Manner,
+    from: Version,
+    ec_level: EcLevel,
+) -> QrResult<(Bits, EcLevel)>
+    ensures bits { IfOk result (λ p. IsBoostedList manner from ec_level bytes.now p.1 p.0) }
+    ensures no_version { is_valid from ≡ false → result ≡ Err InvalidVersion }
+    ensures accepts { (v : Version) → IsTrue (is_valid from) → rank from ≤ rank v
+        → HoldsAs manner v ec_level bytes.now → IsOkUnless result OutOfMemory }
+    ensures causes { IsTrue (is_valid from)
+        → IfErr result (IsRefusedFrom manner from ec_level bytes.now) }
+    ensures too_long { IsTrue (is_valid from) → data_limit < length bytes.now
+        → result ≡ Err DataTooLong }
+{
+    let chosen = choose(alloc, bytes, manner, from, ec_level)?;
+    let highest = highest_level(chosen.version, chosen.used, ec_level);
+    let bits = encode_chosen(alloc, bytes, manner, highest, chosen)?;
+    Ok((bits, highest))
+}
+
+/// Data as a terminated list of bits for a version and level, in segments of the fewest bits in the
+/// modes of the manner.
+///
+/// It is refused by the first of these causes that applies. `InvalidVersion`: there is no such
+/// version. `DataTooLong`: the data has more than 1,048,576 bytes. `UnsupportedCharacterSet`: the
+/// version cannot have the bits in front; or it lacks a mode that the data needs. `InvalidVersion`:
+/// the version lacks the level. `DataTooLong`: the symbol does not hold the data. And `OutOfMemory`
+/// may come in place of the last two, or where none applies.
+pub fn encode_in(
+    alloc: Global,
+    bytes: &[u8],
+    manner: Manner,
+    version: Version,
+    ec_level: EcLevel,
+) -> QrResult<Bits>
+    ensures bits { IfOk result (IsListAs manner ec_level bytes.now) }
+    ensures version { IfOk result (λ bits. bits.version ≡ version) }
+    ensures accepts { HoldsAs manner version ec_level bytes.now → IsOkUnless result OutOfMemory }
+    ensures causes { IfErr result (IsRefusedIn manner version ec_level bytes.now) }
+{
+    if !version.is_valid() {
+        return Err(QrError::InvalidVersion);
+    }
     if bytes.len() > DATA_LIMIT {
         return Err(QrError::DataTooLong);
     }
-    let least = least_bits(bytes);
-    if let Some(bits) = try_band(alloc, bytes, least, ec_level, 9)? {
-        return Ok(bits);
+    if !manner.has_front(version) {
+        return Err(QrError::UnsupportedCharacterSet);
     }
-    if let Some(bits) = try_band(alloc, bytes, least, ec_level, 26)? {
-        return Ok(bits);
+    let chosen = measure(alloc, bytes, manner, version)?;
+    let Some(room) = tables::capacity(version, ec_level) else {
+        return Err(QrError::InvalidVersion);
+    };
+    if chosen.used > room {
+        return Err(QrError::DataTooLong);
     }
-    if let Some(bits) = try_band(alloc, bytes, least, ec_level, 40)? {
-        return Ok(bits);
-    }
-    Err(QrError::DataTooLong)
+    encode_chosen(alloc, bytes, manner, ec_level, chosen)
 }
 
-// The data in a least cut of a version of Normal, where that version holds it. If even `least`, a
-// lower bound of the bits of any cut, is more than the version holds, the search is skipped.
-fn try_band(
+// The highest level, from one on, at which the version holds so many bits, where it does at that one.
+fn highest_level(version: Version, used: usize, ec_level: EcLevel) -> EcLevel
+    requires exists { IsTrue (has_level version ec_level) }
+    requires room { used ≤ capacity version ec_level }
+    ensures exists { IsTrue (has_level version result) }
+    ensures room { used ≤ capacity version result }
+    ensures at_least { level_number ec_level ≤ level_number result }
+    ensures highest { (level : EcLevel) → level_number result < level_number level
+        → IsTrue (has_level version level) → capacity version level < used }
+{
+    if holds_at(version, used, EcLevel::H) {
+        return EcLevel::H;
+    }
+    if ec_level.number() < 2 && holds_at(version, used, EcLevel::Q) {
+        return EcLevel::Q;
+    }
+    if ec_level.number() < 1 && holds_at(version, used, EcLevel::M) {
+        return EcLevel::M;
+    }
+    ec_level
+}
+
+// Whether the version has the level and holds so many bits at it.
+fn holds_at(version: Version, used: usize, ec_level: EcLevel) -> bool
+    ensures { IsTrue result
+        ↔ (IsTrue (has_level version ec_level) × (used ≤ capacity version ec_level)) }
+{
+    match tables::capacity(version, ec_level) {
+        Some(room) => used <= room,
+        None => false,
+    }
+}
+
+// The data in its segments behind the bits in front, terminated.
+fn encode_chosen(
     alloc: Global,
     bytes: &[u8],
-    least: usize,
+    manner: Manner,
     ec_level: EcLevel,
-    number: usize,
-) -> QrResult<Option<Bits>>
-    requires limit { length bytes.now ≤ data_limit }
-    requires least { (version : Version) (segments : List Segment)
-        → IsCut version bytes.now segments → least ≤ total_cost version segments }
-    requires at_least { 1 ≤ number }
-    requires at_most { number ≤ 40 }
-    ensures holds { IfOk result (λ found. MatchOption found
-        (¬ FitsIn (Normal (pos number)) bytes.now
-        (versions.capacity (Normal (pos number)) ec_level))
-        (IsHeld (Normal (pos number)) ec_level bytes.now)) }
-    ensures memory { IsOkUnless result OutOfMemory }
-{
-    let room = normal_capacity(number, ec_level);
-    if least > room {
-        return Ok(None);
-    }
-    let version = Version::Normal(number as i16);
-    let segments = least_segments(alloc, bytes, version)?;
-    let used = total_encoded_len(&segments, version);
-    if used > room {
-        return Ok(None);
-    }
-    let chosen = least_version(ec_level, used, number);
-    let bits = encode_segments(alloc, bytes, ec_level, chosen, segments)?;
-    Ok(Some(bits))
-}
-
-// Bits that each cut of the data takes at least: three digits take ten, and two other bytes eleven.
-fn least_bits(bytes: &[u8]) -> usize
-    requires { length bytes.now ≤ data_limit }
-    ensures { (version : Version) (segments : List Segment) → IsCut version bytes.now segments
-        → result ≤ total_cost version segments }
-{
-    let digits = count_digits(bytes);
-    (20 * digits + 33 * (bytes.len() - digits)) / 6
-}
-
-fn count_digits(bytes: &[u8]) -> usize
-    ensures { result ≡ count_by characters.is_digit bytes.now }
-{
-    bytes.iter().filter(|byte| is_digit(**byte)).count()
-}
-
-// The data in its segments, terminated.
-fn encode_segments(
-    alloc: Global,
-    bytes: &[u8],
-    ec_level: EcLevel,
-    version: Version,
-    segments: Vec<Segment>,
+    chosen: Chosen,
 ) -> QrResult<Bits>
-    requires level { IsTrue (versions.has_level version ec_level) }
-    requires cut { IsCut version bytes.now segments.items }
-    requires room { total_cost version segments.items ≤ versions.capacity version ec_level }
-    ensures terminated { IfOk result (IsTerminated version ec_level bytes.now segments.items) }
+    requires held { IsHeldBy manner ec_level bytes.now chosen }
+    ensures bits { IfOk result (IsListAs manner ec_level bytes.now) }
+    ensures version { IfOk result (λ bits. bits.version ≡ chosen.version) }
     ensures memory { IsOkUnless result OutOfMemory }
 {
-    let mut bits = Bits::new(alloc, version);
-    bits.push_all(bytes, segments)?;
+    let mut bits = Bits::new(alloc, chosen.version);
+    bits.push_front(manner)?;
+    bits.push_all(bytes, chosen.segments)?;
     bits.push_terminator(ec_level)?;
     Ok(bits)
 }
 
-// The least version of Normal that holds so many bits, where the version of a number holds them.
-fn least_version(ec_level: EcLevel, used: usize, number: usize) -> Version
-    requires at_least { 1 ≤ number }
-    requires at_most { number ≤ 40 }
-    requires room { used ≤ versions.capacity (Normal (pos number)) ec_level }
-    ensures { result ≡ choice.least_version ec_level used }
-{
-    for lesser in 1..number {
-        if used <= normal_capacity(lesser, ec_level) {
-            return Version::Normal(lesser as i16);
+impl Bits {
+    // Appends the bits in front.
+    fn push_front(&mut self, manner: Manner) -> QrResult<()>
+        requires exists { IsTrue (has_front self.old.version manner) }
+        requires room { length self.old.bits + length (front manner) ≤ bit_limit }
+        ensures appended { OnOk result (self.new ≡ with_bits self.old (front manner)) }
+        ensures memory { IsOkUnless result OutOfMemory }
+    {
+        match manner {
+            Manner::Bytes | Manner::Text => Ok(()),
+            Manner::MarkedText => self.push_eci_designator(UTF8_NUMBER),
         }
     }
-    Version::Normal(number as i16)
-}
-
-// The bits that a version of Normal holds.
-#[tactic(auto, using(crate::proofs::Bands::normal_level))]
-fn normal_capacity(number: usize, ec_level: EcLevel) -> usize
-    requires at_least { 1 ≤ number }
-    requires at_most { number ≤ 40 }
-    ensures { result ≡ versions.capacity (Normal (pos number)) ec_level }
-{
-    tables::capacity(Version::Normal(number as i16), ec_level).unwrap()
 }

@@ -2,7 +2,7 @@ use Rattle.std.proofs.Common.{arith}
 use Rattle.std.proofs.lemmas.List.Sums.{count_by-le-length}
 use Rattle.qrcode_types.specs.Characters.{is_digit}
 use Rattle.qrcode_bits.proofs.Shortness.{least_cut}
-use Rattle.qrcode_bits.proofs.bits.automatic.least_bits.Goals as goal
+use Rattle.qrcode_bits.proofs.bits.choice.least_bits.Goals as goal
 
 pub returns : goal.returns
 returns c = λ version segments cut.

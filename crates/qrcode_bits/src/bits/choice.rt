@@ -1,0 +1,289 @@
+//! The least version that holds data.
+
+ghost use Rattle.std.specs.Prelude.{◌≡◌, ◌⊎◌, ℕ, ◌+◌, ◌<◌, ◌≤◌, pos, false, length, List, MatchOption, IsTrue, IfOk, IfErr, IsOkUnless, Err};
+ghost use Rattle.std.specs.List.{count_by};
+ghost use Rattle.qrcode_types.specs.Characters as characters;
+ghost use Rattle.qrcode_types.specs.Modes.{by_band};
+ghost use Rattle.qrcode_types.specs.Versions as versions;
+ghost use Rattle.qrcode_types.specs.declared.types.Version.{Version};
+ghost use Rattle.qrcode_types.specs.declared.types.Version.TheVariants.{Normal, Micro};
+ghost use Rattle.qrcode_types.specs.declared.types.QrError.TheVariants.{InvalidVersion, DataTooLong, UnsupportedCharacterSet, OutOfMemory};
+ghost use Rattle.qrcode_bits.specs.Segments.{total_cost};
+ghost use Rattle.qrcode_bits.specs.Cuts.{IsCut, IsCutIn};
+ghost use Rattle.qrcode_bits.specs.Choice.{IsRefusedFrom};
+ghost use Rattle.qrcode_bits.specs.Chosen.{IsMeasured, IsHeldBy, IsFirstHeld};
+ghost use Rattle.qrcode_bits.specs.Manners.{modes_of, HoldsAs, NoneHolds, rank};
+ghost use Rattle.qrcode_bits.specs.Refusals.{data_limit};
+ghost use Rattle.qrcode_bits.specs.declared.optimize.Segment.{Segment};
+
+use super::{DATA_LIMIT, Manner};
+use crate::optimize::{Segment, least_segments_in, total_encoded_len};
+use qrcode_types::characters::is_digit;
+use qrcode_types::tables;
+use qrcode_types::types::{EcLevel, QrError, QrResult, Version};
+use std::alloc::Global;
+
+// A version that holds data, the data's segments in the fewest bits there, and how many bits these
+// take with those in front.
+#[derive(Drop)]
+pub(super) struct Chosen {
+    pub(super) version: Version,
+    pub(super) segments: Vec<Segment>,
+    pub(super) used: usize,
+}
+
+// How the data is written and at which level, and fewer bits than no cut of it takes.
+#[derive(Copy, Clone)]
+struct Wanted {
+    manner: Manner,
+    ec_level: EcLevel,
+    least: usize,
+}
+
+// The least version, from one on, that holds the data.
+//
+// `InvalidVersion`: there is no such version as the first. `DataTooLong`: none holds the data, or it
+// has too many bytes. `OutOfMemory`: memory was refused.
+pub(super) fn choose(
+    alloc: Global,
+    bytes: &[u8],
+    manner: Manner,
+    from: Version,
+    ec_level: EcLevel,
+) -> QrResult<Chosen>
+    ensures chosen { IfOk result (IsFirstHeld manner (rank from) ec_level bytes.now) }
+    ensures no_version { versions.is_valid from ≡ false → result ≡ Err InvalidVersion }
+    ensures accepts { (v : Version) → IsTrue (versions.is_valid from) → rank from ≤ rank v
+        → HoldsAs manner v ec_level bytes.now → IsOkUnless result OutOfMemory }
+    ensures causes { IsTrue (versions.is_valid from)
+        → IfErr result (IsRefusedFrom manner from ec_level bytes.now) }
+    ensures too_long { IsTrue (versions.is_valid from) → data_limit < length bytes.now
+        → result ≡ Err DataTooLong }
+{
+    if !from.is_valid() {
+        return Err(QrError::InvalidVersion);
+    }
+    if bytes.len() > DATA_LIMIT {
+        return Err(QrError::DataTooLong);
+    }
+    choose_within(alloc, bytes, manner, from, ec_level)
+}
+
+// The same of a version that exists and data within the limit.
+fn choose_within(
+    alloc: Global,
+    bytes: &[u8],
+    manner: Manner,
+    from: Version,
+    ec_level: EcLevel,
+) -> QrResult<Chosen>
+    requires valid { IsTrue (versions.is_valid from) }
+    requires limit { length bytes.now ≤ data_limit }
+    ensures chosen { IfOk result (IsFirstHeld manner (rank from) ec_level bytes.now) }
+    ensures causes { IfErr result (IsRefusedFrom manner from ec_level bytes.now) }
+{
+    let wanted = Wanted {
+        manner,
+        ec_level,
+        least: least_bits(bytes),
+    };
+    match from {
+        Version::Micro(number) => {
+            if let Some(chosen) = choose_micro(alloc, bytes, wanted, number as usize)? {
+                return Ok(chosen);
+            }
+            choose_normal(alloc, bytes, wanted, 1)
+        }
+        Version::Normal(number) => choose_normal(alloc, bytes, wanted, number as usize),
+    }
+}
+
+// The same from a version of Micro on, among those.
+fn choose_micro(
+    alloc: Global,
+    bytes: &[u8],
+    wanted: Wanted,
+    first: usize,
+) -> QrResult<Option<Chosen>>
+    requires limit { length bytes.now ≤ data_limit }
+    requires at_least { 1 ≤ first }
+    requires at_most { first ≤ 4 }
+    ensures chosen { IfOk result (λ found. MatchOption found
+        (NoneHolds wanted.manner wanted.ec_level bytes.now first 5)
+        (IsFirstHeld wanted.manner first wanted.ec_level bytes.now)) }
+    ensures memory { IsOkUnless result OutOfMemory }
+{
+    for number in first..5 {
+        if let Some(chosen) = choose_at(alloc, bytes, wanted, Version::Micro(number as i16))? {
+            return Ok(Some(chosen));
+        }
+    }
+    Ok(None)
+}
+
+// A version, where it holds the data.
+fn choose_at(
+    alloc: Global,
+    bytes: &[u8],
+    wanted: Wanted,
+    version: Version,
+) -> QrResult<Option<Chosen>>
+    requires valid { IsTrue (versions.is_valid version) }
+    requires limit { length bytes.now ≤ data_limit }
+    ensures chosen { IfOk result (λ found. MatchOption found
+        (¬ HoldsAs wanted.manner version wanted.ec_level bytes.now)
+        (λ chosen. (chosen.version ≡ version)
+        × IsHeldBy wanted.manner wanted.ec_level bytes.now chosen)) }
+    ensures memory { IsOkUnless result OutOfMemory }
+{
+    let Some(room) = tables::capacity(version, wanted.ec_level) else {
+        return Ok(None);
+    };
+    if !wanted.manner.has_front(version) {
+        return Ok(None);
+    }
+    match measure(alloc, bytes, wanted.manner, version) {
+        Ok(chosen) if chosen.used <= room => Ok(Some(chosen)),
+        Ok(_) | Err(QrError::UnsupportedCharacterSet) => Ok(None),
+        Err(error) => Err(error),
+    }
+}
+
+// The same from a version of Normal on: in each band, where length fields are of one size, by one
+// search for segments.
+fn choose_normal(alloc: Global, bytes: &[u8], wanted: Wanted, first: usize) -> QrResult<Chosen>
+    requires limit { length bytes.now ≤ data_limit }
+    requires least { (version : Version) (segments : List Segment)
+        → IsCut version bytes.now segments → wanted.least ≤ total_cost version segments }
+    requires at_least { 1 ≤ first }
+    requires at_most { first ≤ 40 }
+    ensures chosen { IfOk result (IsFirstHeld wanted.manner (4 + first) wanted.ec_level bytes.now) }
+    ensures causes { IfErr result
+        (IsRefusedFrom wanted.manner (Normal (pos first)) wanted.ec_level bytes.now) }
+{
+    let mut next = first;
+    while next <= 40 {
+        if let Some(chosen) = choose_in_band(alloc, bytes, wanted, next)? {
+            return Ok(chosen);
+        }
+        next = last_in_band(next) + 1;
+    }
+    Err(QrError::DataTooLong)
+}
+
+// The same from a version of Normal on, among those of its band. If even the lower bound of the bits
+// is more than the last of them holds, the search is skipped.
+fn choose_in_band(
+    alloc: Global,
+    bytes: &[u8],
+    wanted: Wanted,
+    first: usize,
+) -> QrResult<Option<Chosen>>
+    requires limit { length bytes.now ≤ data_limit }
+    requires least { (version : Version) (segments : List Segment)
+        → IsCut version bytes.now segments → wanted.least ≤ total_cost version segments }
+    requires at_least { 1 ≤ first }
+    requires at_most { first ≤ 40 }
+    ensures chosen { IfOk result (λ found. MatchOption found
+        (NoneHolds wanted.manner wanted.ec_level bytes.now (4 + first) (5 + by_band first 9 26 40))
+        (IsFirstHeld wanted.manner (4 + first) wanted.ec_level bytes.now)) }
+    ensures memory { IsOkUnless result OutOfMemory }
+{
+    let last = last_in_band(first);
+    let room = normal_capacity(last, wanted.ec_level);
+    if wanted.least > room {
+        return Ok(None);
+    }
+    let mut chosen = measure(alloc, bytes, wanted.manner, Version::Normal(last as i16))?;
+    if chosen.used > room {
+        return Ok(None);
+    }
+    let number = first_with_room(wanted.ec_level, chosen.used, first, last);
+    chosen.version = Version::Normal(number as i16);
+    Ok(Some(chosen))
+}
+
+// The data's segments in the fewest bits for a version, whether or not it has room for them.
+//
+// `UnsupportedCharacterSet`: the data has no cut there. `OutOfMemory`: memory was refused.
+pub(super) fn measure(
+    alloc: Global,
+    bytes: &[u8],
+    manner: Manner,
+    version: Version,
+) -> QrResult<Chosen>
+    requires valid { IsTrue (versions.is_valid version) }
+    requires limit { length bytes.now ≤ data_limit }
+    ensures measured { IfOk result (IsMeasured manner version bytes.now) }
+    ensures no_cut { ((segments : List Segment)
+        → ¬ IsCutIn (modes_of manner) version bytes.now segments)
+        → result ≡ Err UnsupportedCharacterSet }
+    ensures accepts { (segments : List Segment)
+        → IsCutIn (modes_of manner) version bytes.now segments → IsOkUnless result OutOfMemory }
+    ensures causes { IfErr result (λ e. (e ≡ UnsupportedCharacterSet) ⊎ (e ≡ OutOfMemory)) }
+{
+    let segments = least_segments_in(alloc, bytes, version, manner.modes())?;
+    let used = manner.front_length() + total_encoded_len(&segments, version);
+    Ok(Chosen {
+        version,
+        segments,
+        used,
+    })
+}
+
+// Bits that each cut of the data takes at least: three digits take ten, and two other bytes eleven.
+fn least_bits(bytes: &[u8]) -> usize
+    requires { length bytes.now ≤ data_limit }
+    ensures { (version : Version) (segments : List Segment) → IsCut version bytes.now segments
+        → result ≤ total_cost version segments }
+{
+    let digits = count_digits(bytes);
+    (20 * digits + 33 * (bytes.len() - digits)) / 6
+}
+
+fn count_digits(bytes: &[u8]) -> usize
+    ensures { result ≡ count_by characters.is_digit bytes.now }
+{
+    bytes.iter().filter(|byte| is_digit(**byte)).count()
+}
+
+// The last version of Normal with length fields of the same sizes.
+fn last_in_band(number: usize) -> usize
+    ensures { result ≡ by_band number 9 26 40 }
+{
+    match number {
+        0..=9 => 9,
+        10..=26 => 26,
+        _ => 40,
+    }
+}
+
+// The first version of Normal, from one to another, that holds so many bits, where the last does.
+fn first_with_room(ec_level: EcLevel, used: usize, first: usize, last: usize) -> usize
+    requires at_least { 1 ≤ first }
+    requires ordered { first ≤ last }
+    requires at_most { last ≤ 40 }
+    requires room { used ≤ versions.capacity (Normal (pos last)) ec_level }
+    ensures at_least { first ≤ result }
+    ensures at_most { result ≤ last }
+    ensures room { used ≤ versions.capacity (Normal (pos result)) ec_level }
+    ensures least { (number : ℕ) → first ≤ number → number < result
+        → versions.capacity (Normal (pos number)) ec_level < used }
+{
+    for number in first..last {
+        if used <= normal_capacity(number, ec_level) {
+            return number;
+        }
+    }
+    last
+}
+
+// The bits that a version of Normal holds.
+#[tactic(auto, using(crate::proofs::Bands::normal_level))]
+fn normal_capacity(number: usize, ec_level: EcLevel) -> usize
+    requires at_least { 1 ≤ number }
+    requires at_most { number ≤ 40 }
+    ensures { result ≡ versions.capacity (Normal (pos number)) ec_level }
+{
+    tables::capacity(Version::Normal(number as i16), ec_level).unwrap()
+}
