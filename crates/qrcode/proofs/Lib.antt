@@ -5,4 +5,5 @@ pub mod HalfBlocks
 pub mod Readings
 pub mod Sides
 pub mod Symbols
+pub mod TextSymbols
 pub mod Sealing

@@ -3,3 +3,4 @@ pub mod Code
 pub mod Drawing
 pub mod Pictures
 pub mod Reading
+pub mod Texts

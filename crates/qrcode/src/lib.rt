@@ -29,6 +29,7 @@ use types::QrError;
 pub use types::{Color, EcLevel, QrResult, Version};
 
 pub mod laws;
+mod texts;
 
 /// A symbol.
 #[derive(Drop)]
@@ -234,6 +235,13 @@ impl QrCode {
         ensures memory { IsOkUnless result OutOfMemory }
     {
         self.to_vec(alloc)
+    }
+
+    /// The colour of each module, row by row, lent.
+    pub fn colors(&self) -> &[Color]
+        ensures { result.now ≡ self.now.modules }
+    {
+        &self.content
     }
 
     /// The colour of each module, row by row.

@@ -77,7 +77,8 @@ zeros zero n x h = refl
 zeros (suc t) zero x h = elim h [ inl l ↦ absurd (omega arith) | inr e ↦ ap (λ y. list_all not (take (suc t) y)) e ]
 zeros (suc t) (suc n) x h = zeros t n x (elim h [ inl l ↦ inl (omega arith) | inr e ↦ inr e ])
 
-ending-is_end : (t used room : ℕ) → used ≤ room → list_all not (take t (ending t used room)) ≡ true
+-- an ending is an end
+pub ending-is_end : (t used room : ℕ) → used ≤ room → list_all not (take t (ending t used room)) ≡ true
 unfolding ending zeros_end
 ending-is_end t used room h =
     let z = min (8 * ((min (used + t) room + 7) / 8)) room in

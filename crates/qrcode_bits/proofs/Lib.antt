@@ -28,6 +28,8 @@ pub mod RunSteps
 pub mod SegmentRanges
 pub mod Several
 pub mod Shortness
+pub mod ShownOnce
+pub mod ShownTexts
 pub mod SpelledCuts
 pub mod Spellings
 pub mod TokenKinds

@@ -40,7 +40,7 @@ digit_kind b after digit =
     let most : b ≤ 57 = leb-true b 57 (and_parts (nat_le 48 b) (nat_le b 57) digit).1 in
     low_kind b after (omega (arith, most)) ∙ cond-true (is_digit b) Digit (cond (is_alphanumeric b) Letter Other) digit
 
-all_low : list_all (λ c. nat_lt c 129) alphabet ≡ true
+all_low : list_all (λ c. nat_lt c 128) alphabet ≡ true
 unfolding alphabet
 all_low = refl
 
@@ -48,18 +48,19 @@ some_place : (o : Option ℕ) → is_some o ≡ true → o ≡ Some (unwrap_or o
 some_place None h = cc
 some_place (Some i) h = refl
 
-alphanumeric_low : (b : ℕ) → is_alphanumeric b ≡ true → b < 129
+-- a character of the alphabet is one of ASCII
+pub alphanumeric_low : (b : ℕ) → is_alphanumeric b ≡ true → b < 128
 unfolding is_alphanumeric
 alphanumeric_low b h =
     let i = unwrap_or (position (λ c. c == b) alphabet) 0 in
     let found = position-Some (λ c. c == b) alphabet i 0 (some_place (position (λ c. c == b) alphabet) h) in
-    let low = AllPass-from_list_all (λ c. nat_lt c 129) alphabet all_low i 0 found.0 in
-    subst (λ c. c < 129) (eqb-true (get_or alphabet i 0) b found.1) (ltb-true (get_or alphabet i 0) 129 low)
+    let low = AllPass-from_list_all (λ c. nat_lt c 128) alphabet all_low i 0 found.0 in
+    subst (λ c. c < 128) (eqb-true (get_or alphabet i 0) b found.1) (ltb-true (get_or alphabet i 0) 128 low)
 
 -- a character of the alphabet is a digit or a letter
 pub alphanumeric_kind : (b after : ℕ) → is_alphanumeric b ≡ true → kind_at b after ≡ cond (is_digit b) Digit Letter
 alphanumeric_kind b after h =
-    low_kind b after (alphanumeric_low b h)
+    low_kind b after (omega (arith, alphanumeric_low b h))
     ∙ ap (λ (k : Kind). cond (is_digit b) Digit k) (cond-true (is_alphanumeric b) Letter Other h)
 
 pub pair_kind : (b after : ℕ) → is_kanji b after ≡ true → kind_at b after ≡ Pair

@@ -1,13 +1,14 @@
 -- What the automatic choice of a version gives.
-use Rattle.std.specs.Prelude.{◌≡◌, ℕ, ◌<◌, ◌≤◌, List, ◌++◌, length, IsTrue}
+use Rattle.std.specs.Prelude.{IsUtf8, chars, ◌≡◌, ℕ, ◌<◌, ◌≤◌, List, ◌++◌, length, IsTrue}
 use Rattle.qrcode_types.specs.Versions.{capacity, has_level, level_number}
 use Rattle.qrcode_types.specs.declared.types.Version.{Version}
 use Rattle.qrcode_types.specs.declared.types.EcLevel.{EcLevel}
 use Rattle.qrcode_bits.specs.BitList.{BitList}
 use Rattle.qrcode_bits.specs.Cuts.{IsCut, IsLeastCut, IsLeastCutIn}
 use Rattle.qrcode_bits.specs.Choice.{IsLeastHolding}
-use Rattle.qrcode_bits.specs.Manners.{modes_of, front, HoldsAs, IsLeastFrom}
+use Rattle.qrcode_bits.specs.Manners.{is_text, modes_of, front, HoldsAs, IsLeastFrom}
 use Rattle.qrcode_bits.specs.Written.{written, pieces_of, terminated}
+use Rattle.qrcode_bits.specs.Shown.{ShowsOnly}
 use Rattle.qrcode_bits.specs.Spelling.{SpellsOnly}
 use Rattle.qrcode_bits.specs.declared.optimize.Segment.{Segment}
 use Rattle.qrcode_bits.specs.declared.bits.manner.Manner.{Manner}
@@ -28,13 +29,14 @@ pub record IsChosenList (l : EcLevel) (bytes : List ℕ) (list : BitList) : Type
   pub least : IsLeastCut list.version bytes segments
   pub terminated : IsTerminated list.version l bytes segments list
 
--- the list holds the data, and its bits are those in front and a least cut, terminated
+-- The list holds the data, and its bits are those in front and a least cut, terminated. A text is shown as its characters.
 pub record IsListAs (m : Manner) (l : EcLevel) (bytes : List ℕ) (list : BitList) : Type 0 where
   pub holds : HoldsAs m list.version l bytes
   pub segments : List Segment
   pub least : IsLeastCutIn (modes_of m) list.version bytes segments
   pub bits : list.bits ≡ terminated list.version l (front m ++ written list.version (pieces_of bytes segments))
   pub full : length list.bits ≡ capacity list.version l
+  pub shown : IsTrue (is_text m) → IsUtf8 bytes → ShowsOnly list.version list.bits (chars bytes)
 
 -- such a list for the least version, from one on, that holds the data
 pub record IsListFrom (m : Manner) (from : Version) (l : EcLevel) (bytes : List ℕ) (list : BitList) : Type 0 where

@@ -16,6 +16,7 @@ pub mod Refusals
 pub mod Runs
 pub mod RunsLeft
 pub mod Segments
+pub mod Shown
 pub mod Spelling
 pub mod StreamView
 pub mod Tokens

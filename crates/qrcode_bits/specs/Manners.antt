@@ -1,5 +1,5 @@
 -- The manners of writing bytes, and which versions hold them so.
-use Rattle.std.specs.Prelude.{ℕ, ◌+◌, ◌<◌, ◌≤◌, not, nat_abs, Bool, true, List, [], ◌++◌, length, IsTrue}
+use Rattle.std.specs.Prelude.{ℕ, ◌+◌, ◌<◌, ◌≤◌, not, nat_abs, Bool, true, false, List, [], ◌++◌, length, IsTrue}
 use Rattle.qrcode_types.specs.Bits.{number_bits}
 use Rattle.qrcode_types.specs.Versions.{is_micro, has_level, capacity}
 use Rattle.qrcode_types.specs.declared.types.Version.{Version}
@@ -19,6 +19,12 @@ abbrev pub modes_of : Manner → Modes
 modes_of Bytes = all_modes
 modes_of Text = text_modes
 modes_of MarkedText = text_modes
+
+-- the manner is one of texts
+abbrev pub is_text : Manner → Bool
+is_text Bytes = false
+is_text Text = true
+is_text MarkedText = true
 
 -- the bits in front of the segments: of a marked text the number 26 of UTF-8 (ECI)
 abbrev pub front : Manner → List Bool

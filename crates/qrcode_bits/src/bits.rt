@@ -33,7 +33,7 @@ mod optimal;
 mod stream;
 mod written;
 
-pub use automatic::{encode_auto, encode_from};
+pub use automatic::{encode_auto, encode_boosted, encode_from, encode_in};
 use ending::{push_ending, terminator_length};
 pub use manner::Manner;
 pub use optimal::DATA_LIMIT;

@@ -1,4 +1,4 @@
-use Rattle.std.proofs.Common.{rules, ◌≡◌, ◌+◌, ◌≤◌, List, [], length, IfOk, IsTrue, true, false, true≢false, sym, ap, subst, ◌∙◌, arith, inl, inr}
+use Rattle.std.proofs.Common.{rules, ◌≡◌, ◌≤◌, List, [], length, IfOk, IsTrue, true, false, true≢false, sym, ap, subst, ◌∙◌, arith, inl, inr}
 use Rattle.qrcode_types.specs.Versions.{is_valid, has_level, capacity}
 use Rattle.qrcode_types.specs.declared.types.QrError.TheVariants.{DataTooLong}
 use Rattle.qrcode_bits.specs.BitList.{BitList}

@@ -1,0 +1,7 @@
+use Rattle.qrcode.proofs.TextSymbols.{boosted_as}
+use Rattle.qrcode.proofs.QrCode.at_least_boosted.Goals as goal
+
+pub returns-clause-symbol : goal.returns-clause-symbol
+returns-clause-symbol c =
+    boosted_as c.args.manner c.args.from c.args.ec_level c.in_ok-bits.highest c.args.bytes.now c.in_ok-bits.bits c.with_bits.result
+    c.in_ok-bits.ensures.bits c.with_bits.ensures.version c.with_bits.ensures.level c.with_bits.ensures.symbol

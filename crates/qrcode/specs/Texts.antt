@@ -1,0 +1,68 @@
+-- How a square is shown as characters, and symbols of data in a manner.
+use Rattle.std.specs.Prelude.{◌≡◌, ℕ, ◌<◌, ◌≤◌, ◌++◌, false, Bool, List, [], length, chars, IsUtf8, Result, Err, IfOk, IfErr, IsOkUnless, IsTrue}
+use Rattle.qrcode_types.specs.Versions.{is_valid, level_number}
+use Rattle.qrcode_types.specs.declared.types.Version.{Version}
+use Rattle.qrcode_types.specs.declared.types.EcLevel.{EcLevel}
+use Rattle.qrcode_types.specs.declared.types.QrError.{QrError}
+use Rattle.qrcode_types.specs.declared.types.QrError.TheVariants.{InvalidVersion, DataTooLong, OutOfMemory}
+use Rattle.qrcode_types.specs.declared.types.Color.{Color}
+use Rattle.qrcode_symbol.specs.Symbol.{IsDamaged}
+use Rattle.qrcode_symbol.specs.Reading.{ReadsBits}
+use Rattle.qrcode_bits.specs.Choice.{IsRefusedFrom, IsRefusedIn}
+use Rattle.qrcode_bits.specs.Cuts.{IsLeastCutIn}
+use Rattle.qrcode_bits.specs.Manners.{is_text, modes_of, front, rank, HoldsAs, IsLeastFrom}
+use Rattle.qrcode_bits.specs.Refusals.{data_limit}
+use Rattle.qrcode_bits.specs.Shown.{Shows}
+use Rattle.qrcode_bits.specs.Written.{written, terminated, pieces_of}
+use Rattle.qrcode_bits.specs.declared.bits.manner.Manner.{Manner}
+use Rattle.qrcode_bits.specs.declared.optimize.Segment.{Segment}
+use Rattle.qrcode.specs.Code.{Code}
+use Rattle.qrcode.specs.Reading.{ReadsOnly, EncodesBits}
+
+-- a reader shows these characters
+pub record ShowsText (s : List Color) (text : List ℕ) : Type 0 where
+  pub version : Version
+  pub level : EcLevel
+  pub bits : List Bool
+  pub read : ReadsBits s version level bits
+  pub shown : Shows version bits text
+
+-- these characters are shown, and no others
+pub record ShowsTextOnly (s : List Color) (text : List ℕ) : Type 0 where
+  pub found : ShowsText s text
+  pub only : (others : List ℕ) → ShowsText s others → others ≡ text
+
+-- The symbol of the bits in front and a least cut of the data in the modes of the manner. Of each damaged symbol a reader shows
+-- a text as exactly its characters; and where nothing stands in front, it finds exactly the data's bytes.
+pub record IsSymbolAs (m : Manner) (v : Version) (l : EcLevel) (bytes : List ℕ) (s : List Color) : Type 0 where
+  pub segments : List Segment
+  pub least : IsLeastCutIn (modes_of m) v bytes segments
+  pub encodes : EncodesBits v l (terminated v l (front m ++ written v (pieces_of bytes segments))) s
+  pub shown : IsTrue (is_text m) → IsUtf8 bytes → (other : List Color) → IsDamaged v l encodes.mask s other → ShowsTextOnly other (chars bytes)
+  pub read : front m ≡ [] → (other : List Color) → IsDamaged v l encodes.mask s other → ReadsOnly other bytes
+
+-- what a constructor gives that chooses the version: such a symbol of the least version, from one on, that holds the data
+pub record IsAutomaticAs (m : Manner) (from : Version) (l : EcLevel) (bytes : List ℕ) (result : Result Code QrError) : Type 0 where
+  pub no_version : is_valid from ≡ false → result ≡ Err InvalidVersion
+  pub level : IfOk result (λ code. code.level ≡ l)
+  pub least_version : IfOk result (λ code. IsLeastFrom m from l bytes code.version)
+  pub symbol : IfOk result (λ code. IsSymbolAs m code.version l bytes code.modules)
+  pub accepts : (v : Version) → IsTrue (is_valid from) → rank from ≤ rank v → HoldsAs m v l bytes → IsOkUnless result OutOfMemory
+  pub causes : IsTrue (is_valid from) → IfErr result (IsRefusedFrom m from l bytes)
+  pub too_long : IsTrue (is_valid from) → data_limit < length bytes → result ≡ Err DataTooLong
+
+-- such a symbol at a level from one on, above which the version does not hold the data
+pub record IsBoostedAs (m : Manner) (from : Version) (l : EcLevel) (bytes : List ℕ) (code : Code) : Type 0 where
+  pub least_version : IsLeastFrom m from l bytes code.version
+  pub symbol : IsSymbolAs m code.version code.level bytes code.modules
+  pub at_least : level_number l ≤ level_number code.level
+  pub highest_level : (other : EcLevel) → level_number code.level < level_number other → ¬ HoldsAs m code.version other bytes
+
+-- what a constructor gives for a version: such a symbol, where the version holds the data
+pub record IsGivenAs (m : Manner) (v : Version) (l : EcLevel) (bytes : List ℕ) (result : Result Code QrError) : Type 0 where
+  pub version : IfOk result (λ code. code.version ≡ v)
+  pub level : IfOk result (λ code. code.level ≡ l)
+  pub symbol : IfOk result (λ code. IsSymbolAs m v l bytes code.modules)
+  pub holds : IfOk result (λ code. HoldsAs m v l bytes)
+  pub accepts : HoldsAs m v l bytes → IsOkUnless result OutOfMemory
+  pub causes : IfErr result (IsRefusedIn m v l bytes)
