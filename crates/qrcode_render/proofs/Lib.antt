@@ -1,4 +1,5 @@
 pub mod Folds
+pub mod Grids
 pub mod LineTexts
 pub mod MarkedLines
 pub mod Palettes

@@ -1,5 +1,5 @@
 -- Texts of marks, and lines of a text.
-use Rattle.std.proofs.Common.{◌≡◌, ℕ, zero, suc, ◌+◌, ◌<◌, ◌≤◌, ◌-◌, List, [], ◌∷◌, ◌++◌, Bool, false, length, get_or, take, drop, map, refl, ap, ◌∙◌, sym, arith, append_assoc, add-zero, if◌then◌else◌, ◌==◌}
+use Rattle.std.proofs.Common.{◌≡◌, ℕ, zero, suc, ◌+◌, ◌*◌, ◌<◌, ◌≤◌, ◌-◌, List, [], ◌∷◌, ◌++◌, Bool, true, false, length, length-append, get_or, take, drop, map, refl, ap, ◌∙◌, sym, arith, append_assoc, add-zero, if◌then◌else◌, ◌==◌}
 use Rattle.std.specs.List.{flat_map, join_with_byte, range_with_len}
 use Rattle.std.proofs.lemmas.List.{take_more, take-append-drop, take_all, append-nil, length-drop}
 use Rattle.std.proofs.lemmas.Bool.Decides.{nat_tests}
@@ -9,14 +9,14 @@ use Rattle.qrcode_render.specs.Lines.{line_start}
 use Rattle.qrcode_render.specs.Texts.{marks_text, lines_text}
 
 -- one more element
-flat_map_one : {A B : Type 0} (f : A → List B) (xs : List A) (i j : ℕ) (d : A) → i + 1 ≡ j → i < length xs → flat_map f (take j xs) ≡ flat_map f (take i xs) ++ f (get_or xs i d)
+pub flat_map_one : {A B : Type 0} (f : A → List B) (xs : List A) (i j : ℕ) (d : A) → i + 1 ≡ j → i < length xs → flat_map f (take j xs) ≡ flat_map f (take i xs) ++ f (get_or xs i d)
 flat_map_one f xs i j d next inside =
     ap (λ n. flat_map f (take n xs)) (sym next)
     ∙ ap (flat_map f) (take_more xs i d inside)
     ∙ flat_map-append f (take i xs) (get_or xs i d ∷ [])
     ∙ ap (λ ys. flat_map f (take i xs) ++ ys) (append-nil (f (get_or xs i d)))
 
-flat_range_from : {B : Type 0} (f : ℕ → List B) (a n : ℕ) → flat_map f (range_with_len a (n + 1)) ≡ flat_map f (range_with_len a n) ++ f (a + n)
+pub flat_range_from : {B : Type 0} (f : ℕ → List B) (a n : ℕ) → flat_map f (range_with_len a (n + 1)) ≡ flat_map f (range_with_len a n) ++ f (a + n)
 flat_range_from f a zero = append-nil (f a) ∙ ap f (sym (add-zero a))
 flat_range_from f a (suc n) =
     let more : suc n + 1 ≡ suc (n + 1) = omega arith in
@@ -73,3 +73,29 @@ joined_more f y =
 pub some_lines : (across : ℕ) (lines : List (List ℕ)) → 0 < across → lines_text across lines ≡ join_with_byte 10 lines
 some_lines zero lines h = absurd (omega arith)
 some_lines (suc n) lines h = let some : (suc n == 0) ≡ false = grind (arith, nat_tests) in ap (λ b. if b then [] else join_with_byte 10 lines) some
+
+-- room for all texts is room for those of the first marks and for more of them
+pub text_room : (dark light : List ℕ) (marks : List Bool) (i j : ℕ) (old more : List ℕ) (n : ℕ) → marks_text dark light (take j marks) ≡ marks_text dark light (take i marks) ++ more → length (old ++ marks_text dark light marks) + 32 ≤ n
+    → length (old ++ marks_text dark light (take i marks)) + length more + 32 ≤ n
+text_room dark light marks i j old more n is room =
+    let all = ap length (marks_text_rest dark light marks j) in
+    omega (
+      arith,
+      all,
+      ap length is,
+      length-append (marks_text dark light (take j marks)) (marks_text dark light (take (length marks - j) (drop j marks))),
+      length-append (marks_text dark light (take i marks)) more,
+      length-append old (marks_text dark light marks),
+      length-append old (marks_text dark light (take i marks)),
+    )
+
+-- how long texts of marks are at most
+pub text_at_most : (dark light : List ℕ) (marks : List Bool) (n : ℕ) → length dark ≤ n → length light ≤ n → length (marks_text dark light marks) ≤ length marks * n
+text_at_most dark light [] n d l = omega arith
+text_at_most dark light (true ∷ marks) n d l = omega (arith, length-append dark (marks_text dark light marks), text_at_most dark light marks n d l)
+text_at_most dark light (false ∷ marks) n d l = omega (arith, length-append light (marks_text dark light marks), text_at_most dark light marks n d l)
+
+-- room for the texts of marks behind nothing
+pub cells_room : (dark light : List ℕ) (marks : List Bool) (old : List ℕ) (m n : ℕ) → old ≡ [] → length dark ≤ m → length light ≤ m → length marks * m + 32 ≤ n → length (old ++ marks_text dark light marks) + 32 ≤ n
+cells_room dark light marks old m n none d l room =
+    omega (arith, length-append old (marks_text dark light marks), ap length none, text_at_most dark light marks m d l)

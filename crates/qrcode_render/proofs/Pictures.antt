@@ -1,5 +1,5 @@
 -- The drawing of the dark modules is the picture.
-use Rattle.std.proofs.Common.{◌≡◌, ℕ, zero, suc, ◌+◌, ◌*◌, ◌/◌, ◌%◌, ◌-◌, ◌<◌, ◌≤◌, inl, inr, List, [], ◌∷◌, length, get_or, map, replicate, refl, ap, ap₂, ◌∙◌, sym, arith, if◌then◌else◌, subst, add-zero, Bool, true, false, ◌&&◌, nat_le, nat_lt}
+use Rattle.std.proofs.Common.{◌≡◌, ℕ, zero, suc, ◌+◌, ◌*◌, ◌/◌, ◌%◌, ◌-◌, ◌<◌, ◌≤◌, inl, inr, List, [], ◌∷◌, length, get_or, map, replicate, refl, ap, ap₂, ◌∙◌, sym, arith, subst, add-zero, Bool, true, false, ◌&&◌, nat_le, nat_lt}
 use Rattle.std.proofs.Math.Nat.{mul-le-mul_right}
 use Rattle.std.proofs.lemmas.Bool.{cases_lt, leb-true, ltb-true}
 use Rattle.std.proofs.lemmas.Nat.{div-mul-add, mod-mul-add, div-add-mod', mod_below, div_below, mul-add-lt}
@@ -77,7 +77,8 @@ some_count : (n i : ℕ) → i < n * n → 0 < n
 some_count zero i h = absurd (omega arith)
 some_count (suc n) i h = omega arith
 
-some_side : (w h k : ℕ) → k < w * h → 0 < w
+-- a picture with a pixel has a width
+pub some_side : (w h k : ℕ) → k < w * h → 0 < w
 some_side zero h k inside = omega arith
 some_side (suc w) h k inside = omega arith
 
@@ -162,11 +163,13 @@ drawn_to_end at content i (Dark ∷ rest) ps some_wide some_high end whole same 
     drawn_to_end at content (i + 1) rest ps' some_wide some_high (omega arith) (length-filled (pixels_across at) left top at.across at.down ps ∙ whole) (λ k. next_same content rest Dark i same k)
     (past_dark at content i ps some_wide some_high (omega arith) whole first drawn)
 
-both_from : (a b : Bool) → (a && b) ≡ true → (a ≡ true) × (b ≡ true)
+-- two tests hold
+pub both_from : (a b : Bool) → (a && b) ≡ true → (a ≡ true) × (b ≡ true)
 both_from true b h = (refl, h)
 both_from false b h = cc
 
-not_true : (b : Bool) → (b ≡ true → ⊥) → b ≡ false
+-- a test that does not hold
+pub not_true : (b : Bool) → (b ≡ true → ⊥) → b ≡ false
 not_true true h = absurd (h refl)
 not_true false h = refl
 

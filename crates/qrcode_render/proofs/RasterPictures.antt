@@ -17,14 +17,17 @@ drawn_row-raster left top width height [] r = refl
 drawn_row-raster left top width height (Light ∷ line) r = drawn_row-raster (left + width) top width height line r
 drawn_row-raster left top width height (Dark ∷ line) r = drawn_row-raster (left + width) top width height line (dark_rect_step left top width height r)
 
--- an image of the drawing of a setting is an image of its picture
-pub raster-is_picture : {P I : Type 0} (is_image : Bitmap → P → P → I → Type 0) (b : Bitmap) (dark light : P) (s : Setting P) (image : I) → IsWhole s
-    → record { bitmap = b; dark = dark; light = light } ≡ drawing_of light_raster dark_rect_step s → is_image b dark light image → is_image (picture_of s) s.dark s.light image
-raster-is_picture {P = P} is_image b dark light s image whole shown is =
+-- what a renderer draws is its picture
+pub raster_drawing : {P : Type 0} (s : Setting P) → IsWhole s → drawing_of light_raster dark_rect_step s ≡ record { bitmap = picture_of s; dark = s.dark; light = s.light }
+raster_drawing {P = P} s whole =
     let w = pixels_across (layout_of s) in
     let h = pixels_down (layout_of s) in
     let with_marks : List Bool → Raster P = λ ms. record { bitmap = record { across = w; down = h; marks = ms }; dark = s.dark; light = s.light } in
-    let drawn : drawing_of light_raster dark_rect_step s ≡ with_marks (picture_of s).marks =
     sym (drawn_from-through with_marks (filled (marked w)) dark_rect_step (λ left top width height ms. refl) (layout_of s) 0 s.content (replicate (w * h) false))
-    ∙ ap with_marks (drawn-marks (layout_of s) s.content whole.square whole.across whole.down) in
-    subst (λ (r : Raster P). is_image r.bitmap r.dark r.light image) (shown ∙ drawn) is
+    ∙ ap with_marks (drawn-marks (layout_of s) s.content whole.square whole.across whole.down)
+
+-- an image of the drawing of a setting is an image of its picture
+pub raster-is_picture : {P I : Type 0} (is_image : Bitmap → P → P → I → Type 0) (b : Bitmap) (dark light : P) (s : Setting P) (image : I) → IsWhole s
+    → record { bitmap = b; dark = dark; light = light } ≡ drawing_of light_raster dark_rect_step s → is_image b dark light image → is_image (picture_of s) s.dark s.light image
+raster-is_picture is_image b dark light s image whole shown is =
+    subst (λ (r : Raster _). is_image r.bitmap r.dark r.light image) (shown ∙ raster_drawing s whole) is

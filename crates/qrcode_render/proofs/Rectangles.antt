@@ -1,5 +1,5 @@
 -- Which pixels of a list the rectangle steps make dark.
-use Rattle.std.proofs.Common.{◌≡◌, ℕ, zero, suc, ◌+◌, ◌*◌, ◌/◌, ◌%◌, ◌-◌, ◌<◌, ◌≤◌, ◌≢◌, ◌⊎◌, inl, inr, List, [], ◌∷◌, length, get_or, refl, ap, ◌∙◌, sym, arith, length-set, Bool, true, false}
+use Rattle.std.proofs.Common.{◌≡◌, ℕ, zero, suc, ◌+◌, ◌*◌, ◌/◌, ◌%◌, ◌-◌, ◌<◌, ◌≤◌, ◌≢◌, ◌⊎◌, inl, inr, List, [], ◌∷◌, length, get_or, refl, ap, ◌∙◌, arith, length-set, Bool, true, false}
 use Rattle.std.proofs.Math.Nat.{mul-le-mul_right}
 use Rattle.std.proofs.lemmas.Bool.{cases_lt}
 use Rattle.std.proofs.lemmas.List.{get_or-set_same, get_or-set_other}
@@ -7,7 +7,7 @@ use Rattle.std.proofs.lemmas.Nat.{same_from_place}
 use Rattle.std.specs.List.{fold, range_with_len}
 use Rattle.qrcode_types.specs.declared.types.Color.{Color}
 use Rattle.qrcode_types.specs.declared.types.Color.TheVariants.{Light, Dark}
-use Rattle.qrcode_render.specs.Drawn.{filled, module_step, drawn_from, drawn}
+use Rattle.qrcode_render.specs.Drawn.{filled, module_step, drawn_from}
 use Rattle.qrcode_render.specs.Layout.{Layout}
 use Rattle.qrcode_render.specs.Bitmap.{marked}
 

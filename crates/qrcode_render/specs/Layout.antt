@@ -1,5 +1,5 @@
 -- Where modules stand in a picture.
-use Rattle.std.specs.Prelude.{ℕ, ◌+◌, ◌*◌, ◌^◌, ◌<◌}
+use Rattle.std.specs.Prelude.{ℕ, ◌+◌, ◌*◌}
 
 -- the modules along a side, the modules of the quiet zone at each side, and the pixels of a module across and down
 pub record Layout : Type 0 where

@@ -1,5 +1,7 @@
 pub mod Bitmap
 pub mod Drawn
+pub mod Grid
+pub mod GridOf
 pub mod Half
 pub mod Layout
 pub mod LineOf

@@ -17,6 +17,33 @@ pub record Setting (P : Type 0) : Type 0 where
   pub light : P
   pub whole_zone : ℕ
 
+-- modules in row order, the modules along a side, those of the quiet zone, and the pixels of a module across and down
+pub record Square : Type 0 where
+  pub content : List Color
+  pub count : ℕ
+  pub zone : ℕ
+  pub across : ℕ
+  pub down : ℕ
+
+-- the modules make a square, and each has a pixel or more across and down
+pub record IsSquare (m : Square) : Type 0 where
+  pub square : length m.content ≡ m.count * m.count
+  pub across : 1 ≤ m.across
+  pub down : 1 ≤ m.down
+
+-- a renderer's setting of a square, with the pixels that stand for dark and light, and the quiet zone where it is switched on
+abbrev pub setting_of : {P : Type 0} → Square → P → P → ℕ → Setting P
+setting_of m dark light whole = record {
+  content = m.content;
+  count = m.count;
+  zone = m.zone;
+  across = m.across;
+  down = m.down;
+  dark = dark;
+  light = light;
+  whole_zone = whole;
+}
+
 -- what holds of every renderer: its modules make a square, and each has a pixel or more across and down
 pub record IsWhole {P : Type 0} (s : Setting P) : Type 0 where
   pub square : length s.content ≡ s.count * s.count

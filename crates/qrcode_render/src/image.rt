@@ -8,8 +8,9 @@ ghost use Rattle.qrcode_types.specs.declared.types.Color.{Color};
 ghost use Rattle.qrcode_render.specs.Texts.{marks_text};
 
 use crate::Pixel;
-use crate::marks::Marks;
-use crate::sheet::{Ending, Sheet};
+use crate::grid::Grid;
+use crate::page::{Finish, Page};
+use crate::rows::push_rows;
 use qrcode_types::types::{Color, QrError, QrResult};
 use std::alloc::Global;
 use std::marker::PhantomData;
@@ -152,27 +153,27 @@ impl<P> ImageBuffer<P> {
 }
 
 /// Rows of pixels while they are drawn.
-pub type Canvas<P> = Sheet<P, Rows>;
+pub type Canvas<P> = Page<P, Rows>;
 
 /// Ends rows of pixels as their bytes.
 #[derive(Copy, Clone)]
 pub struct Rows;
 
-impl<P: Channels> Ending<P> for Rows {
+impl<P: Channels> Finish<P> for Rows {
     ghost use Rattle.qrcode_render.specs.Shown.{IsBufferOf};
 
     type Image = ImageBuffer<P>;
 
     ghost is_image = { λ b dark light. IsBufferOf (P.bytes dark) (P.bytes light) b };
 
-    fn image(marks: Marks, dark: P, light: P) -> QrResult<ImageBuffer<P>> {
-        let (width, height) = marks.sides();
-        let raw = bytes_of(
-            marks.alloc(),
-            marks.as_slice(),
-            dark.channels(),
-            light.channels(),
-        )?;
+    fn image(alloc: Global, grid: &Grid, dark: P, light: P) -> QrResult<ImageBuffer<P>> {
+        let (width, height) = grid.pixels();
+        let (dark, light) = (dark.channels(), light.channels());
+        let room = grid
+            .room(dark.len(), light.len(), 0)
+            .ok_or(QrError::OutOfMemory)?;
+        let mut raw = Vec::with_capacity(alloc, room)?;
+        push_rows(&mut raw, grid, dark, light, &[])?;
         Ok(ImageBuffer {
             width,
             height,
@@ -180,18 +181,4 @@ impl<P: Channels> Ending<P> for Rows {
             of: PhantomData,
         })
     }
-}
-
-// The bytes of the pixels that stand for marks.
-fn bytes_of(alloc: Global, marks: &[bool], dark: &[u8], light: &[u8]) -> QrResult<Vec<u8>>
-    ensures bytes { IfOk result (λ raw. raw.items ≡ marks_text dark.now light.now marks.now) }
-    ensures memory { IsOkUnless result OutOfMemory }
-{
-    let longer = dark.len().max(light.len());
-    let room = marks.len().checked_mul(longer).ok_or(QrError::OutOfMemory)?;
-    let mut raw = Vec::with_capacity(alloc, room)?;
-    for mark in marks {
-        raw.extend_from_slice(if *mark { dark } else { light })?;
-    }
-    Ok(raw)
 }

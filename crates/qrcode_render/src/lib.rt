@@ -6,19 +6,27 @@ ghost use Rattle.qrcode_types.specs.declared.types.QrError.TheVariants.{OutOfMem
 ghost use Rattle.qrcode_types.specs.declared.types.Color.{Color};
 ghost use Rattle.std.specs.List.{range_with_len};
 ghost use Rattle.qrcode_render.specs.Drawn.{drawn, drawn_row, filled};
+ghost use Rattle.qrcode_render.specs.GridOf.{grid_of};
 ghost use Rattle.qrcode_render.specs.Layout.{layout};
-ghost use Rattle.qrcode_render.specs.Setting.{Setting, IsWhole, HasPixels, side_of, fits, drawing_of, least_size, greatest_size, IsLeastSize, IsGreatestSize};
+ghost use Rattle.qrcode_render.specs.Setting.{Setting, IsWhole, IsSquare, setting_of, HasPixels, side_of, fits, drawing_of, least_size, greatest_size, IsLeastSize, IsGreatestSize};
 
+use crate::grid::Grid;
 use qrcode_types::types::{Color, QrResult};
 use std::alloc::Global;
 use std::marker::Model;
 
+mod cells;
+mod fours;
+mod grid;
 pub mod image;
 mod lines;
 mod marks;
+mod page;
 mod palette;
 pub mod pic;
+mod rows;
 mod sheet;
+mod stamps;
 pub mod string;
 pub mod svg;
 pub mod unicode;
@@ -156,6 +164,59 @@ pub trait Canvas: Drop {
         ensures picture { (s : Setting Self.Pixel) → IsWhole s
             → shown self ≡ drawing_of start rect_step s → IfOk result (is_picture s) };
 
+    /// Draws the dark modules of a square row by row, `count` along a side, behind a quiet zone of
+    /// `zone` modules, each `width` by `height` pixels. Refuses with `OutOfMemory` alone.
+    fn draw_square(
+        &mut self,
+        content: &[Color],
+        count: u32,
+        zone: u32,
+        width: u32,
+        height: u32,
+    ) -> QrResult<()>
+        requires square { length content.now ≡ count * count }
+        requires side_fits { count + 2 * zone < 2 ^ 32 }
+        requires across { across self.old ≡ (count + 2 * zone) * width }
+        requires down { down self.old ≡ (count + 2 * zone) * height }
+        ensures draws { OnOk result (shown self.new ≡ drawn rect_step
+            (layout count zone width height) content.now (shown self.old)) }
+        ensures memory { IsOkUnless result OutOfMemory }
+    {
+        let left = zone * width;
+        for row in 0..count {
+            let start = row as usize * count as usize;
+            let line = &content[start..start + count as usize];
+            self.draw_dark_modules(line, left, (row + zone) * height, width, height)?;
+        }
+        Ok(())
+    }
+
+    /// The picture of modules, as a renderer is set. A canvas that can make it at once has a body of
+    /// its own. Refuses with `OutOfMemory` alone.
+    fn picture(
+        alloc: Global,
+        modules: &Modules,
+        dark_pixel: Self::Pixel,
+        light_pixel: Self::Pixel,
+    ) -> QrResult<Self::Image>
+        ensures picture { (whole : ℕ) → IfOk result
+            (is_picture (setting_of modules.now dark_pixel light_pixel whole)) }
+        ensures ends { (whole : ℕ) → IfOk result (is_end (drawing_of start rect_step
+            (setting_of modules.now dark_pixel light_pixel whole))) }
+        ensures memory { IsOkUnless result OutOfMemory }
+    {
+        let (width, height) = modules.pixels();
+        let mut canvas = Self::new(alloc, width, height, dark_pixel, light_pixel)?;
+        canvas.draw_square(
+            modules.content,
+            modules.count,
+            modules.zone,
+            modules.width,
+            modules.height,
+        )?;
+        canvas.into_image()
+    }
+
     ghost sides_fit: { (canvas : Self) → (across canvas < 2 ^ 32) × (down canvas < 2 ^ 32) };
 }
 
@@ -200,30 +261,85 @@ fn fill_row<C: Canvas>(canvas: &mut C, left: u32, y: u32, width: u32) -> QrResul
     Ok(())
 }
 
-// Draws the dark modules of a square row by row, behind a quiet zone.
-fn draw_modules<C: Canvas>(
-    canvas: &mut C,
-    content: &[Color],
+/// A square of modules in row order, with a quiet zone at each side, and the pixels of a module. The
+/// sides of its picture fit.
+#[derive(Drop)]
+pub struct Modules<'a> {
+    content: &'a [Color],
     count: u32,
     zone: u32,
     width: u32,
     height: u32,
-) -> QrResult<()>
-    requires square { length content.now ≡ count * count }
-    requires side_fits { count + 2 * zone < 2 ^ 32 }
-    requires across { C.across canvas.old ≡ (count + 2 * zone) * width }
-    requires down { C.down canvas.old ≡ (count + 2 * zone) * height }
-    ensures draws { OnOk result (C.shown canvas.new ≡ drawn C.rect_step
-        (layout count zone width height) content.now (C.shown canvas.old)) }
-    ensures memory { IsOkUnless result OutOfMemory }
-{
-    let left = zone * width;
-    for row in 0..count {
-        let start = row as usize * count as usize;
-        let line = &content[start..start + count as usize];
-        canvas.draw_dark_modules(line, left, (row + zone) * height, width, height)?;
+}
+
+impl<'a> Model for Modules<'a> {
+    ghost use Rattle.std.specs.Prelude.{◌≡◌, ◌+◌, ◌*◌, ◌^◌, ◌<◌, ◌≤◌, length};
+    ghost use Rattle.qrcode_render.specs.Setting.{Square};
+
+    ghost Value = { Square };
+
+    ghost view = { λ m. record {
+      content = m.content.now;
+      count = m.count;
+      zone = m.zone;
+      across = m.width;
+      down = m.height;
+    } };
+
+    ghost invariant = { λ m. (length m.content.now ≡ m.count * m.count)
+        × (1 ≤ m.width) × (1 ≤ m.height) × (m.count + 2 * m.zone < 2 ^ 32)
+        × ((m.count + 2 * m.zone) * m.width < 2 ^ 32)
+        × ((m.count + 2 * m.zone) * m.height < 2 ^ 32) };
+}
+
+impl<'a> Modules<'a> {
+    /// The modules in row order.
+    pub fn content(&self) -> &[Color]
+        ensures { result.now ≡ self.now.content }
+    {
+        self.content
     }
-    Ok(())
+
+    /// The modules along a side, and those of the quiet zone at each side.
+    pub fn counts(&self) -> (u32, u32)
+        ensures count { result.0 ≡ self.now.count }
+        ensures zone { result.1 ≡ self.now.zone }
+    {
+        (self.count, self.zone)
+    }
+
+    /// The pixels of a module across and down.
+    pub fn module_dimensions(&self) -> (u32, u32)
+        ensures across { result.0 ≡ self.now.across }
+        ensures down { result.1 ≡ self.now.down }
+    {
+        (self.width, self.height)
+    }
+
+    /// The pixels of the picture across and down.
+    pub fn pixels(&self) -> (u32, u32)
+        ensures across { result.0 ≡ (self.now.count + 2 * self.now.zone) * self.now.across }
+        ensures down { result.1 ≡ (self.now.count + 2 * self.now.zone) * self.now.down }
+        ensures whole { IsSquare self.now }
+    {
+        let side = self.count + 2 * self.zone;
+        (side * self.width, side * self.height)
+    }
+
+    // The modules as cells.
+    fn grid(&self) -> Grid
+        ensures value { result ≡ grid_of self.now }
+        ensures whole { IsSquare self.now }
+    {
+        Grid::new(
+            self.content,
+            self.count,
+            self.count,
+            self.zone,
+            self.width,
+            self.height,
+        )
+    }
 }
 
 /// Draws pictures of a square of modules, as it is set.
@@ -450,24 +566,14 @@ impl<'a, P: Pixel> Renderer<'a, P> {
         ensures ends { IfOk result
             (P.Canvas.is_end (drawing_of P.Canvas.start P.Canvas.rect_step self.now)) }
     {
-        let side = self.side();
-        let (width, height) = (self.module_width, self.module_height);
-        let mut canvas = P::Canvas::new(
-            alloc,
-            side * width,
-            side * height,
-            self.dark_color,
-            self.light_color,
-        )?;
-        draw_modules(
-            &mut canvas,
-            self.content,
-            self.modules_count,
-            self.quiet_zone,
-            width,
-            height,
-        )?;
-        canvas.into_image()
+        let modules = Modules {
+            content: self.content,
+            count: self.modules_count,
+            zone: self.quiet_zone,
+            width: self.module_width,
+            height: self.module_height,
+        };
+        P::Canvas::picture(alloc, &modules, self.dark_color, self.light_color)
     }
 
     /// The picture, as `build` gives it.

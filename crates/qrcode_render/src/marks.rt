@@ -10,8 +10,8 @@ use qrcode_types::types::{Color, QrResult};
 use std::alloc::Global;
 use std::marker::Model;
 
-// Whether a module is dark.
-fn is_dark(color: Color) -> bool
+/// Whether a module is dark.
+pub fn is_dark(color: Color) -> bool
     ensures { result ≡ is_dark color }
 {
     match color {
@@ -34,8 +34,8 @@ fn count_of(marks: &[bool]) -> usize
     count
 }
 
-// Makes the marks of the dark modules of a row dark, from a place on.
-fn mark_line(marks: &mut [bool], start: usize, line: &[Color])
+/// Makes the marks of the dark modules of a row dark, from a place on.
+pub fn mark_line(marks: &mut [bool], start: usize, line: &[Color])
     requires { start + length line.now ≤ length marks.old }
     ensures { marks.new ≡ marked_line start line.now marks.old }
 {

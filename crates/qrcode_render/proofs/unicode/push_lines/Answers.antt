@@ -1,4 +1,4 @@
-use Rattle.std.proofs.Common.{◌≡◌, ◌+◌, ◌*◌, ◌/◌, ◌-◌, ◌<◌, ◌≤◌, ◌++◌, true, false, nat_lt, map, ap, ap₂, ◌∙◌, sym, arith, if◌then◌else◌}
+use Rattle.std.proofs.Common.{◌≡◌, ◌+◌, ◌*◌, ◌/◌, ◌-◌, ◌++◌, true, false, nat_lt, map, ap, ap₂, ◌∙◌, sym, arith, if◌then◌else◌}
 use Rattle.std.specs.List.{join_with_byte, range_with_len}
 use Rattle.std.proofs.lemmas.Bool.Decides.{nat_tests}
 use Rattle.qrcode_render.specs.Bitmap.{row_of}

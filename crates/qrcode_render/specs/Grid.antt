@@ -1,0 +1,54 @@
+-- Pictures of cells in rows and columns, of which a symbol's square is one and single pixels are another.
+use Rattle.std.specs.Prelude.{ℕ, ◌+◌, ◌-◌, ◌*◌, ◌/◌, ◌%◌, nat_le, nat_lt, ◌&&◌, Bool, List, ◌++◌, map, flat_map, slice_index_or}
+use Rattle.std.specs.List.{range_with_len}
+use Rattle.qrcode_types.specs.Colors.{is_dark}
+use Rattle.qrcode_types.specs.declared.types.Color.{Color}
+use Rattle.qrcode_types.specs.declared.types.Color.TheVariants.{Light}
+use Rattle.qrcode_render.specs.Bitmap.{Bitmap}
+use Rattle.qrcode_render.specs.Texts.{marks_text}
+
+-- cells in row order, how many stand in a row and in a column, how many light ones stand around them at each side, and the pixels of a cell across and down
+pub record Grid : Type 0 where
+  pub cells : List Color
+  pub columns : ℕ
+  pub rows : ℕ
+  pub zone : ℕ
+  pub across : ℕ
+  pub down : ℕ
+
+-- the columns, with the light cells around
+abbrev pub all_columns : Grid → ℕ
+all_columns g = g.columns + 2 * g.zone
+
+-- the rows, with the light cells around
+abbrev pub all_rows : Grid → ℕ
+all_rows g = g.rows + 2 * g.zone
+
+-- the cell in a column and a row, counted with the light ones around, is inside and dark
+abbrev pub is_dark_cell : Grid → ℕ → ℕ → Bool
+is_dark_cell g column row =
+    nat_le g.zone column && nat_lt column (g.zone + g.columns) && nat_le g.zone row && nat_lt row (g.zone + g.rows)
+    && is_dark (slice_index_or g.cells ((row - g.zone) * g.columns + (column - g.zone)) Light)
+
+-- which cells of a row are dark
+abbrev pub cell_row : Grid → ℕ → List Bool
+cell_row g row = map (λ column. is_dark_cell g column row) (range_with_len 0 (all_columns g))
+
+-- the pixels of the dark cells are dark, and all others light
+abbrev pub pixels_of : Grid → Bitmap
+pixels_of g =
+    let w = all_columns g * g.across in
+    let h = all_rows g * g.down in
+    record { across = w; down = h; marks = map (λ i. is_dark_cell g (i % w / g.across) (i / w / g.down)) (range_with_len 0 (w * h)) }
+
+-- a text so many times
+abbrev pub repeated : ℕ → List ℕ → List ℕ
+repeated n text = flat_map (λ _. text) (range_with_len 0 n)
+
+-- the text of a row of cells: what stands for a dark or a light pixel, as often as a cell has pixels across
+abbrev pub row_text : List ℕ → List ℕ → Grid → ℕ → List ℕ
+row_text dark light g row = marks_text (repeated g.across dark) (repeated g.across light) (cell_row g row)
+
+-- the text of each row of cells and what ends a line, as often as a cell has pixels down
+abbrev pub rows_text : List ℕ → List ℕ → List ℕ → Grid → List ℕ
+rows_text dark light end g = flat_map (λ row. repeated g.down (row_text dark light g row ++ end)) (range_with_len 0 (all_rows g))

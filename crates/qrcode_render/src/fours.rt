@@ -1,0 +1,120 @@
+//! Texts that stand for two marks, and for four.
+
+ghost use Rattle.std.specs.Prelude.{◌≡◌, ℕ, ◌+◌, ◌*◌, ◌<◌, ◌≤◌, Bool, All, [], ◌∷◌, List, ◌++◌, length, map, IfOk, OnOk, IsOkUnless};
+ghost use Rattle.qrcode_types.specs.declared.types.QrError.TheVariants.{OutOfMemory};
+ghost use Rattle.qrcode_render.specs.Lines.{paired, pair_number, two_text};
+ghost use Rattle.qrcode_render.specs.Texts.{marks_text, columns_text};
+
+use crate::stamps::{Line, Stamp};
+use qrcode_types::types::QrResult;
+use std::alloc::Global;
+use std::marker::Model;
+
+// Appends a text followed by each.
+fn push_pairs(pairs: &mut Vec<Stamp>, first: &Stamp, texts: &[Stamp]) -> QrResult<()>
+    requires first { length first.now ≤ 16 }
+    requires short { All (λ text. length text ≤ 16) texts.now }
+    ensures appends { OnOk result
+        (pairs.new.items ≡ pairs.old.items ++ map (λ b. first.now ++ b) texts.now) }
+    ensures memory { IsOkUnless result OutOfMemory }
+{
+    for second in texts {
+        pairs.push(first.and(second))?;
+    }
+    Ok(())
+}
+
+/// Each text followed by each, the second changing first.
+pub fn pairs(alloc: Global, texts: &[Stamp]) -> QrResult<Vec<Stamp>>
+    requires short { All (λ text. length text ≤ 16) texts.now }
+    ensures value { IfOk result (λ v. v.items ≡ paired texts.now) }
+    ensures memory { IsOkUnless result OutOfMemory }
+{
+    let mut pairs = Vec::with_capacity(alloc, 16)?;
+    for first in texts {
+        push_pairs(&mut pairs, first, texts)?;
+    }
+    Ok(pairs)
+}
+
+// The number of two marks among the four pairs of marks.
+fn pair_number(first: bool, second: bool) -> usize
+    ensures { result ≡ pair_number first second }
+{
+    2 * usize::from(first) + usize::from(second)
+}
+
+/// Texts that stand for four marks, by those that stand for two.
+#[derive(Drop)]
+pub struct Fours {
+    twos: Vec<Stamp>,
+    fours: Vec<Stamp>,
+}
+
+impl Model for Fours {
+    ghost Value = { List (List ℕ) };
+
+    ghost view = { λ p. p.twos.items };
+
+    ghost invariant = { λ p. (length p.twos.items ≡ 4) × (p.fours.items ≡ paired p.twos.items) };
+}
+
+impl Fours {
+    /// The palette of the texts that stand for two marks. Refuses with `OutOfMemory` alone.
+    pub fn new(alloc: Global, twos: Vec<Stamp>) -> QrResult<Fours>
+        requires four { length twos.items ≡ 4 }
+        requires short { All (λ text. length text ≤ 16) twos.items }
+        ensures twos { IfOk result (λ palette. palette ≡ twos.items) }
+        ensures memory { IsOkUnless result OutOfMemory }
+    {
+        let fours = pairs(alloc, &twos)?;
+        Ok(Fours { twos, fours })
+    }
+
+    /// The text that stands for two marks.
+    pub fn two(&self, first: bool, second: bool) -> &Stamp
+        ensures { result.now ≡ two_text self.now first second }
+    {
+        &self.twos[pair_number(first, second)]
+    }
+
+    /// The text that stands for four marks.
+    pub fn four(&self, a: bool, b: bool, c: bool, d: bool) -> &Stamp
+        ensures { result.now ≡ two_text self.now a b ++ two_text self.now c d }
+    {
+        &self.fours[4 * pair_number(a, b) + pair_number(c, d)]
+    }
+}
+
+/// Appends the text that stands for each mark.
+pub fn push_ones(line: &mut Line, dark: &[u8], light: &[u8], marks: &[bool])
+    requires room { length (line.old.text ++ marks_text dark.now light.now marks.now) + 32
+        ≤ line.old.room }
+    ensures { line.new ≡ record line.old {
+      text = line.old.text ++ marks_text dark.now light.now marks.now;
+    } }
+{
+    for mark in marks {
+        let text = if *mark { dark } else { light };
+        line.push(text);
+    }
+}
+
+/// Appends the text that stands for each mark, four at a time, by a palette of these texts.
+pub fn push_marks(line: &mut Line, palette: &Fours, dark: &[u8], light: &[u8], marks: &[bool])
+    requires room { length (line.old.text ++ marks_text dark.now light.now marks.now) + 32
+        ≤ line.old.room }
+    requires twos { (a b : Bool) →
+        two_text palette.now a b ≡ marks_text dark.now light.now (a ∷ b ∷ []) }
+    ensures { line.new ≡ record line.old {
+      text = line.old.text ++ marks_text dark.now light.now marks.now;
+    } }
+{
+    let fours = marks.len() / 4;
+    for i in 0..fours {
+        let at = 4 * i;
+        let four = palette.four(marks[at], marks[at + 1], marks[at + 2], marks[at + 3]);
+        line.put(four);
+    }
+    push_ones(line, dark, light, &marks[4 * fours..]);
+}

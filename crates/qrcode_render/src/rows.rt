@@ -1,0 +1,160 @@
+//! Rows of cells as bytes: one row of pixels, copied for the further rows.
+
+ghost use Rattle.std.specs.Prelude.{◌≡◌, ℕ, ◌+◌, ◌*◌, ◌<◌, ◌≤◌, Bool, [], ◌∷◌, ◌++◌, length, max, flat_map, vec_len, IfOk, OnOk, IsOkUnless};
+ghost use Rattle.std.specs.List.{range_with_len};
+ghost use Rattle.std.specs.Option.{ForSome};
+ghost use Rattle.qrcode_types.specs.declared.types.QrError.TheVariants.{OutOfMemory};
+ghost use Rattle.qrcode_render.specs.Grid.{all_columns, all_rows, cell_row, repeated, rows_text};
+ghost use Rattle.qrcode_render.specs.Lines.{two_text};
+ghost use Rattle.qrcode_render.specs.Texts.{marks_text};
+
+use crate::fours::{Fours, pairs, push_marks, push_ones};
+use crate::grid::Grid;
+use crate::stamps::{Line, Stamp};
+use qrcode_types::types::{QrError, QrResult};
+use std::alloc::Global;
+
+// The most bytes of a cell of which four make a stamp.
+const SHORT: usize = 8;
+
+/// Appends a text so many times.
+pub fn push_times(raw: &mut Vec<u8>, text: &[u8], times: u32) -> QrResult<()>
+    ensures appends { OnOk result (raw.new.items ≡ raw.old.items ++ repeated times text.now) }
+    ensures memory { IsOkUnless result OutOfMemory }
+{
+    for _ in 0..times {
+        raw.extend_from_slice(text)?;
+    }
+    Ok(())
+}
+
+// A text so many times.
+fn times(alloc: Global, text: &[u8], times: u32) -> QrResult<Vec<u8>>
+    ensures value { IfOk result (λ whole. whole.items ≡ repeated times text.now) }
+    ensures memory { IsOkUnless result OutOfMemory }
+{
+    let mut whole = Vec::new(alloc);
+    push_times(&mut whole, text, times)?;
+    Ok(whole)
+}
+
+// The palette of the texts that stand for a dark and a light cell, where they are short.
+fn palette_of(alloc: Global, dark: &[u8], light: &[u8]) -> QrResult<Option<Fours>>
+    ensures twos { IfOk result (λ palette. ForSome palette (λ p. (a b : Bool) →
+        two_text p a b ≡ marks_text dark.now light.now (a ∷ b ∷ []))) }
+    ensures memory { IsOkUnless result OutOfMemory }
+{
+    if dark.len() > SHORT || light.len() > SHORT {
+        return Ok(None);
+    }
+    let mut ones = Vec::with_capacity(alloc, 2)?;
+    ones.push(Stamp::new(light))?;
+    ones.push(Stamp::new(dark))?;
+    let twos = pairs(alloc, &ones)?;
+    Ok(Some(Fours::new(alloc, twos)?))
+}
+
+// The texts that stand for a dark and a light cell, and for four where they are short.
+#[derive(Drop)]
+struct CellTexts {
+    dark: Vec<u8>,
+    light: Vec<u8>,
+    palette: Option<Fours>,
+    ghost twos: { ForSome palette (λ p. (a b : Bool) →
+        two_text p a b ≡ marks_text dark.items light.items (a ∷ b ∷ [])) },
+}
+
+impl CellTexts {
+    // The texts of cells of so many pixels across, of those of a pixel.
+    fn new(alloc: Global, across: u32, dark: &[u8], light: &[u8]) -> QrResult<CellTexts>
+        ensures dark { IfOk result (λ texts. texts.dark.items ≡ repeated across dark.now) }
+        ensures light { IfOk result (λ texts. texts.light.items ≡ repeated across light.now) }
+        ensures memory { IsOkUnless result OutOfMemory }
+    {
+        let dark = times(alloc, dark, across)?;
+        let light = times(alloc, light, across)?;
+        let palette = palette_of(alloc, &dark, &light)?;
+        Ok(CellTexts {
+            dark,
+            light,
+            palette,
+        })
+    }
+
+    // A line with room for so many cells and a text at the end.
+    fn line(&self, alloc: Global, cells: usize, end: &[u8]) -> QrResult<Line>
+        ensures room { IfOk result (λ line. line.room
+            ≡ cells * max (vec_len self.now.dark) (vec_len self.now.light) + length end.now + 32) }
+        ensures memory { IsOkUnless result OutOfMemory }
+    {
+        let longest = self.dark.len().max(self.light.len());
+        let row = cells.checked_mul(longest).ok_or(QrError::OutOfMemory)?;
+        let room = row.checked_add(end.len()).ok_or(QrError::OutOfMemory)?;
+        Line::new(alloc, room)
+    }
+
+    // Writes the text of marks.
+    fn write(&self, line: &mut Line, marks: &[bool])
+        requires room { length marks.now * max (vec_len self.now.dark) (vec_len self.now.light) + 32
+            ≤ line.old.room }
+        ensures { line.new ≡ record line.old {
+          text = marks_text self.now.dark.items self.now.light.items marks.now;
+        } }
+    {
+        line.clear();
+        match &self.palette {
+            Some(palette) => push_marks(line, palette, &self.dark, &self.light, marks),
+            None => push_ones(line, &self.dark, &self.light, marks),
+        }
+    }
+}
+
+// Appends the rows of cells, each as often as a cell has pixels down.
+fn push_lines(
+    raw: &mut Vec<u8>,
+    grid: &Grid,
+    texts: &CellTexts,
+    end: &[u8],
+    marks: &mut [bool],
+    line: &mut Line,
+) -> QrResult<()>
+    requires columns { length marks.old ≡ all_columns grid.now }
+    requires room { all_columns grid.now * max (vec_len texts.now.dark) (vec_len texts.now.light)
+        + length end.now + 32 ≤ line.old.room }
+    ensures appends { OnOk result (raw.new.items ≡ raw.old.items ++ flat_map (λ row.
+        repeated grid.now.down (marks_text texts.now.dark.items texts.now.light.items
+        (cell_row grid.now row) ++ end.now)) (range_with_len 0 (all_rows grid.now))) }
+    ensures memory { IsOkUnless result OutOfMemory }
+{
+    let (_, rows) = grid.sides();
+    let (_, down) = grid.cell();
+    for row in 0..rows {
+        grid.mark_row(row, marks);
+        texts.write(line, marks);
+        line.push(end);
+        push_times(raw, line.as_slice(), down)?;
+    }
+    Ok(())
+}
+
+/// Appends the rows of cells, of which each pixel is the text that stands for dark or for light, and
+/// each row of pixels has a text at its end. Refuses with `OutOfMemory` alone.
+pub fn push_rows(
+    raw: &mut Vec<u8>,
+    grid: &Grid,
+    dark: &[u8],
+    light: &[u8],
+    end: &[u8],
+) -> QrResult<()>
+    ensures appends { OnOk result
+        (raw.new.items ≡ raw.old.items ++ rows_text dark.now light.now end.now grid.now) }
+    ensures memory { IsOkUnless result OutOfMemory }
+{
+    let alloc = *raw.allocator();
+    let (across, _) = grid.cell();
+    let (columns, _) = grid.sides();
+    let texts = CellTexts::new(alloc, across, dark, light)?;
+    let mut marks = vec![in alloc; false; columns]?;
+    let mut line = texts.line(alloc, columns, end)?;
+    push_lines(raw, grid, &texts, end, &mut marks, &mut line)
+}
