@@ -1,13 +1,17 @@
 //! Codewords in the stream of a symbol, and the blocks in them.
 #![tactic(auto)]
 
+mod bits;
 mod blocks;
 mod words;
 
-ghost use Rattle.std.specs.Prelude.{◌≡◌, ◌<◌, IsTrue, IfOk, length};
+ghost use Rattle.std.specs.Prelude.{◌≡◌, ◌<◌, IsTrue, IfOk, length, take};
+ghost use Rattle.qrcode_types.specs.Bits as numbers;
+ghost use Rattle.qrcode_types.specs.Versions as tables;
 ghost use Rattle.qrcode_types.specs.Versions.{has_level, block_lengths};
 ghost use Rattle.qrcode_ec.specs.Blocks as interleaved;
 
+use bits::bits_of;
 use blocks::{push_data, push_ec};
 use qrcode_types::tables::{Blocks, capacity};
 use qrcode_types::types::{EcLevel, Version};
@@ -57,4 +61,20 @@ pub fn block(
     push_data(&mut bytes, words, blocks, b)?;
     push_ec(&mut bytes, words, blocks, b)?;
     Ok(bytes)
+}
+
+/// The data bits of the data bytes of all blocks, block by block: their bits, without the last four
+/// where the last data codeword has four (ISO/IEC 18004:2006, 6.4.10).
+pub fn data_bits(
+    alloc: Global,
+    bytes: &[u8],
+    version: Version,
+    ec_level: EcLevel,
+) -> Result<Vec<bool>, AllocError>
+    requires { IsTrue (has_level version ec_level) }
+    ensures value { IfOk result (λ bits. bits.items
+        ≡ take (tables.capacity version ec_level) (numbers.bits_of bytes.now)) }
+{
+    let capacity = capacity(version, ec_level).unwrap();
+    bits_of(alloc, bytes, capacity)
 }
