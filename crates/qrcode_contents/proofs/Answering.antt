@@ -1,6 +1,6 @@
 -- Texts of values that are not refused.
 use Rattle.std.proofs.Common.{◌≡◌, ℕ, List, Option, Some, None, Result, Ok, Err, [], ◌∷◌, Bool, true, false, nat_lt, length, if◌then◌else◌, inl, inr, subst, sym, refl}
-use Rattle.std.specs.Prelude.{string_bytes, IfOk, IsOkUnless}
+use Rattle.std.specs.Prelude.{string_bytes, IfOk, OnOk, IsOkUnless}
 use Rattle.std.specs.declared.string.String.{String}
 use Rattle.std.specs.declared.alloc.Global.{Global}
 use Rattle.qrcode_contents.specs.declared.errors.Field.{Field}
@@ -29,3 +29,8 @@ limited checks r t text field cause P none is result says =
     by_test : (long : Bool) (t : String Global) (field : Field) (cause : Cause) (r : Result (String Global) ContentError) (P : List ℕ → Type 0) → r ≡ (if long then Err (Refused field cause) else Ok t) → P (string_bytes t) → Answers (first_refusal (refused_if long field cause ∷ [])) r P
     by_test true t field cause r P is says = subst (λ x. Answers (Some (Refused field cause)) x P) (sym is) (inl refl)
     by_test false t field cause r P is says = subst (λ x. Answers None x P) (sym is) (refl, says)
+
+-- the same, where the call says what the text's property needs
+pub answered_by : (refusal : Option ContentError) (r : Result (String Global) ContentError) (text : List ℕ) (P : List ℕ → Type 0) (Q : Type 0) → refusal ≡ None → IfOk r (λ t. string_bytes t ≡ text) → IsOkUnless r OutOfMemory → OnOk r Q → (Q → P text) → Answers refusal r P
+answered_by refusal (Ok t) text P Q none is memory says follows = (none, subst P (sym is) (follows says))
+answered_by refusal (Err e) text P Q none is memory says follows = inr memory

@@ -8,5 +8,6 @@ pub mod LineReading
 pub mod Passing
 pub mod PaymentReading
 pub mod PercentReading
+pub mod PhoneReading
 pub mod Pieces
 pub mod WifiReading

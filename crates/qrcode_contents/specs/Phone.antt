@@ -1,11 +1,13 @@
 -- Links to telephones: `tel:` (RFC 3966) or `sms:` (RFC 5724), and the number behind it.
-use Rattle.std.specs.Prelude.{ℕ, ◌==◌, ◌||◌, not, Bool, List, [], ◌∷◌, Option}
+use Rattle.std.specs.Prelude.{ℕ, ◌==◌, ◌||◌, not, Bool, List, [], ◌∷◌, ◌++◌, Option, codes, if◌then◌else◌}
 use Rattle.std.specs.List.{list_all}
+use Rattle.std.specs.Option.{option_map, option_and_then}
 use Rattle.qrcode_contents.specs.declared.errors.ContentError.{ContentError}
 use Rattle.qrcode_contents.specs.declared.errors.Field.TheVariants.{Phone}
 use Rattle.qrcode_contents.specs.declared.errors.Cause.TheVariants.{Empty, Character}
 use Rattle.qrcode_contents.specs.Characters.{is_digit}
-use Rattle.qrcode_contents.specs.Entries.{is_filled}
+use Rattle.qrcode_contents.specs.Entries.{is_filled, behind}
+use Rattle.qrcode_contents.specs.Percents.{encoded, decoded}
 use Rattle.qrcode_contents.specs.Refusals.{refused_if, first_refusal}
 
 -- a byte of a number: a digit, a plus sign, or one of -.()
@@ -16,3 +18,23 @@ is_dialled b = is_digit b || b == 43 || b == 45 || b == 46 || b == 40 || b == 41
 abbrev pub phone_refusal : List ℕ → Option ContentError
 phone_refusal number = first_refusal (
     refused_if (not (is_filled number)) Phone Empty ∷ refused_if (not (list_all is_dialled number)) Phone Character ∷ [])
+
+-- the text of a message to a number
+abbrev pub message_text : List ℕ → List ℕ → List ℕ
+message_text number body = codes "sms:" ++ (number ++ (codes "?body=" ++ encoded body))
+
+-- the bytes before the first question mark
+abbrev pub before_query : List ℕ → List ℕ
+before_query [] = []
+before_query (b ∷ rest) = if b == 63 then [] else b ∷ before_query rest
+
+-- the bytes from the first question mark on
+abbrev pub from_query : List ℕ → List ℕ
+from_query [] = []
+from_query (b ∷ rest) = if b == 63 then b ∷ rest else from_query rest
+
+-- the number and the body that a text says
+abbrev pub read_message : List ℕ → Option (List ℕ × List ℕ)
+read_message text =
+    option_and_then (λ rest. option_map (λ body. (before_query rest, decoded body)) (behind (codes "?body=") (from_query rest)))
+    (behind (codes "sms:") text)

@@ -1,13 +1,15 @@
 //! Links to a telephone.
 
-ghost use Rattle.std.specs.Prelude.{◌≡◌, ◌++◌, Some, IfOk, IsOkUnless, string_bytes, codes};
+ghost use Rattle.std.specs.Prelude.{◌≡◌, ◌++◌, Some, IfOk, OnOk, IsOkUnless, string_bytes, codes};
 ghost use Rattle.std.specs.List.{list_all};
 ghost use Rattle.qrcode_contents.specs.declared.errors.ContentError.TheVariants.{OutOfMemory};
 ghost use Rattle.qrcode_contents.specs.Entries.{behind};
-ghost use Rattle.qrcode_contents.specs.Phone.{phone_refusal, is_dialled};
+ghost use Rattle.qrcode_contents.specs.Percents.{encoded, decoded};
+ghost use Rattle.qrcode_contents.specs.Phone.{phone_refusal, is_dialled, message_text, read_message};
 ghost use Rattle.qrcode_contents.specs.Refusals.{Answers, checked};
 
 use crate::errors::{Cause, ContentResult, Field};
+use crate::percents::push_encoded;
 use std::alloc::Global;
 
 /// A telephone number: digits, `+`, and `-`, `.`, `(` and `)` between digits.
@@ -32,6 +34,19 @@ fn written(alloc: Global, scheme: &str, number: &str) -> ContentResult<String>
 {
     let mut text = String::from_str(alloc, scheme)?;
     text.push_str(number)?;
+    Ok(text)
+}
+
+// The number behind `sms:`, and the body behind it.
+fn written_message(alloc: Global, number: &str, body: &str) -> ContentResult<String>
+    ensures value { IfOk result (λ text. string_bytes text ≡ message_text number.now body.now) }
+    ensures reads { OnOk result (decoded (encoded body.now) ≡ body.now) }
+    ensures memory { IsOkUnless result OutOfMemory }
+{
+    let mut text = String::from_str(alloc, "sms:")?;
+    text.push_str(number)?;
+    text.push_str("?body=")?;
+    push_encoded(&mut text, body)?;
     Ok(text)
 }
 
@@ -68,5 +83,18 @@ impl Phone<'_> {
     {
         self.check()?;
         written(alloc, "sms:", self.number)
+    }
+
+    /// The link that writes this body to the number.
+    ///
+    /// An error names the field and why the text cannot say it, or is `OutOfMemory`.
+    pub fn message(&self, alloc: Global, body: &str) -> ContentResult<String>
+        ensures reads { Answers (phone_refusal self.now.number.now) result
+            (λ text. read_message text ≡ Some (self.now.number.now, body.now)) }
+        ensures value { IfOk result (λ text. string_bytes text
+            ≡ message_text self.now.number.now body.now) }
+    {
+        self.check()?;
+        written_message(alloc, self.number, body)
     }
 }
