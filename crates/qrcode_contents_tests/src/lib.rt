@@ -7,3 +7,5 @@ mod contacts;
 mod networks;
 #[cfg(test)]
 mod payments;
+#[cfg(test)]
+mod phones;
