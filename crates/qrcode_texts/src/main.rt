@@ -26,11 +26,7 @@ fn main(rt: HostRuntime) -> ExitCode {
 }
 
 // Writes the lines of each text.
-fn run(
-    rt: &(impl Input + Print),
-    alloc: Global,
-    wants_squares: bool,
-) -> Result<(), Fault> {
+fn run(rt: &(impl Input + Print), alloc: Global, wants_squares: bool) -> Result<(), Fault> {
     for line in rt.lines(alloc) {
         let line = line?;
         let lines = if wants_squares {
