@@ -109,7 +109,10 @@ fn filled(alloc: Global, version: Version, data: &[u8]) -> QrResult<QrCode>
     requires { IsTrue (is_valid version) }
 {
     let header = version.mode_bits_count() + Mode::Byte.length_bits_count(version);
-    let room = Bits::new(alloc, version).max_len(EcLevel::M)?.saturating_sub(header) / 8;
+    let room = Bits::new(alloc, version)
+        .max_len(EcLevel::M)?
+        .saturating_sub(header)
+        / 8;
     let bytes = data.get(..room).unwrap_or(data);
     QrCode::with_version(alloc, bytes, version, EcLevel::M)
 }
