@@ -32,5 +32,6 @@ pub mod ShownOnce
 pub mod ShownTexts
 pub mod SpelledCuts
 pub mod Spellings
+pub mod TextPushes
 pub mod TokenKinds
 pub mod VersionModes

@@ -170,22 +170,30 @@ module _ (v : Version) (bytes : List ℕ) where
       let rest = shown_from s.end ss u end t.1.1 a.1 w.1 (apart_rest s ss apart) in
       record { text = own.0 ++ rest.text; shown = (own.0, rest.text, (refl, (record { mode = a.0; characters = own.1.0; utf8 = own.1.1 }, rest.shown))) }
 
--- a text in a least cut is shown as its characters, and nothing else
-pub text_shown : (v : Version) (bytes : List ℕ) (ss : List Segment) → IsUtf8 bytes → IsLeastCutIn text_modes v bytes ss → ArePiecesShown (pieces_of bytes ss) (chars bytes)
+-- a text in a least cut is shown as its characters
+text_shown : (v : Version) (bytes : List ℕ) (ss : List Segment) → IsUtf8 bytes → IsLeastCutIn text_modes v bytes ss → ArePiecesShown (pieces_of bytes ss) (chars bytes)
 text_shown v bytes ss u least =
     let cut = least.reached in
     let s = shown_from v bytes 0 ss u (IsCharBoundary-start bytes u) cut.cut.tiles cut.among cut.cut.writable (least_apart v bytes ss least) in
     let same : s.text ≡ chars bytes = shown_chars (pieces_of bytes ss) s.text s.shown ∙ ap chars (cut_joined v bytes ss cut.cut) in
     subst (ArePiecesShown (pieces_of bytes ss)) same s.shown
 
--- and so is its list, with or without a mark in front
+text_manner : (m : Manner) → IsTrue (is_text m) → modes_of m ≡ text_modes
+text_manner Bytes e = cc
+text_manner Text e = refl
+text_manner MarkedText e = refl
+
+-- in each manner of texts
+pub segments_shown : (m : Manner) (v : Version) (bytes : List ℕ) (ss : List Segment) → IsTrue (is_text m) → IsUtf8 bytes → IsLeastCutIn (modes_of m) v bytes ss → ArePiecesShown (pieces_of bytes ss) (chars bytes)
+segments_shown m v bytes ss text u least = text_shown v bytes ss u (subst (λ set. IsLeastCutIn set v bytes ss) (text_manner m text) least)
+
+-- and so is its list, with or without a mark in front, and as nothing else
 pub list_shown : (m : Manner) (v : Version) (l : EcLevel) (bytes : List ℕ) (ss : List Segment) → IsTrue (is_valid v) → IsTrue (has_front v m) → IsTrue (is_text m) → IsUtf8 bytes
     → IsLeastCutIn (modes_of m) v bytes ss → length (front m) + total_cost v ss ≤ capacity v l → ShowsOnly v (terminated v l (front m ++ written v (pieces_of bytes ss))) (chars bytes)
 list_shown m v l bytes ss valid has text u least room =
     let ps = pieces_of bytes ss in
     let ready = front m ++ written v ps in
     let e = ending (terminator_length v) (length ready) (capacity v l) in
-    let modes : modes_of m ≡ text_modes = text_manner m text in
     let pieces = cut_pieces v l bytes ss valid least.reached.cut (omega (arith, room)) in
     let fits : length ready ≤ capacity v l =
     omega (arith, length-append (front m) (written v ps), length-written v bytes 0 ss (length bytes) least.reached.cut.tiles (omega arith), room) in
@@ -196,14 +204,9 @@ list_shown m v l bytes ss valid has text u least room =
       parted = terminated-ending v l ready ∙ append_assoc (front m) (written v ps) e;
       pieces = ps;
       read = read_as v ps e valid pieces.0 (ending-is_end (terminator_length v) (length ready) (capacity v l) fits);
-      shown = text_shown v bytes ss u (subst (λ set. IsLeastCutIn set v bytes ss) modes least);
+      shown = segments_shown m v bytes ss text u least;
     } in
     record { found = found; only = λ others shown. one_shown v (terminated v l ready) (chars bytes) others found shown } where
-      text_manner : (m : Manner) → IsTrue (is_text m) → modes_of m ≡ text_modes
-      text_manner Bytes e = cc
-      text_manner Text e = refl
-      text_manner MarkedText e = refl
-
       front_of : (m : Manner) (v : Version) → IsTrue (has_front v m) → IsFront v (front m)
       front_of Bytes v has = inl refl
       front_of Text v has = inl refl

@@ -19,5 +19,6 @@ pub mod Segments
 pub mod Shown
 pub mod Spelling
 pub mod StreamView
+pub mod TextPushes
 pub mod Tokens
 pub mod Written

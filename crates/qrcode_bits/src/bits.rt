@@ -31,6 +31,7 @@ mod ending;
 mod manner;
 mod optimal;
 mod stream;
+mod text;
 mod written;
 
 pub use automatic::{encode_auto, encode_boosted, encode_from, encode_in};

@@ -180,7 +180,7 @@ fn encode_chosen(
 
 impl Bits {
     // Appends the bits in front.
-    fn push_front(&mut self, manner: Manner) -> QrResult<()>
+    pub(super) fn push_front(&mut self, manner: Manner) -> QrResult<()>
         requires exists { IsTrue (has_front self.old.version manner) }
         requires room { length self.old.bits + length (front manner) ≤ bit_limit }
         ensures appended { OnOk result (self.new ≡ with_bits self.old (front manner)) }

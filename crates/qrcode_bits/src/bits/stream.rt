@@ -1,6 +1,6 @@
 //! Bits packed into bytes, as they are appended.
 
-ghost use Rattle.std.specs.Prelude.{◌≡◌, ℕ, false, ◌+◌, ◌-◌, ◌*◌, ◌<◌, ◌≤◌, ◌^◌, [], ◌++◌, length, replicate, vec_len, vec_capacity, OnOk};
+ghost use Rattle.std.specs.Prelude.{◌≡◌, ℕ, false, ◌+◌, ◌-◌, ◌*◌, ◌<◌, ◌≤◌, ◌^◌, [], ◌++◌, length, replicate, vec_len, vec_capacity, IfOk, OnOk};
 ghost use Rattle.qrcode_types.specs.Bits.{number_bits, bits_of};
 
 use std::alloc::{AllocError, Global};
@@ -43,6 +43,19 @@ impl Stream {
 
     pub(super) fn allocator(&self) -> Global {
         *self.bytes.allocator()
+    }
+
+    // The same bits in memory of their own.
+    pub(super) fn copied(&self) -> Result<Stream, AllocError>
+        ensures { IfOk result (λ copy. copy.bits ≡ self.now.bits) }
+    {
+        let mut bytes = Vec::with_capacity(self.allocator(), self.bytes.len() + 1)?;
+        bytes.extend_from_slice(&self.bytes)?;
+        Ok(Stream {
+            bytes,
+            rest: self.rest,
+            rest_len: self.rest_len,
+        })
     }
 
     // How many bits there are.

@@ -1,0 +1,57 @@
+use Rattle.std.proofs.Common.{rules, ◌≡◌, IsTrue, Ok, arith, sym, ap, subst, ◌∙◌}
+use Rattle.qrcode_types.specs.Versions.{is_valid}
+use Rattle.qrcode_bits.specs.BitList.{BitList}
+use Rattle.qrcode_bits.specs.Manners.{front, has_front, modes_of}
+use Rattle.qrcode_bits.specs.Cuts.{IsLeastCutIn}
+use Rattle.qrcode_bits.specs.Pushes.{with_bits, PushesAll}
+use Rattle.qrcode_bits.specs.Refusals.{StopsAt}
+use Rattle.qrcode_bits.specs.TextPushes.{PushesText}
+use Rattle.qrcode_bits.specs.Written.{pieces_of}
+use Rattle.qrcode_bits.proofs.CutPieces.{cut_inside}
+use Rattle.qrcode_bits.proofs.TextPushes.{long_text, refused_text, appended_text}
+use Rattle.qrcode_bits.proofs.bits.Bits.push_as.Goals as goal
+use Rattle.qrcode_bits.proofs.bits.Bits.push_as.Goals.{In_ok-push_front}
+
+pub returns-then-text-gt-DATA_LIMIT : goal.returns-then-text-gt-DATA_LIMIT
+returns-then-text-gt-DATA_LIMIT c = long_text c.args.manner c.args.text.now c.args.self.now (omega (arith, c.if-text-gt-DATA_LIMIT.true))
+
+-- the version and bits of the list, as its fields say
+version : (c : In_ok-push_front) → c.self.inside.version ≡ c.args.self.now.version
+version c = ap (λ (b : BitList). b.version) c.self.view_is
+
+valid : (c : In_ok-push_front) → IsTrue (is_valid c.args.self.now.version)
+valid c = subst (λ v. IsTrue (is_valid v)) (version c) c.self.invariant.0
+
+has : (c : In_ok-push_front) → IsTrue (has_front c.args.self.now.version c.args.manner)
+has c = subst (λ v. IsTrue (has_front v c.args.manner)) (version c) (search rules)
+
+least : (c : In_ok-push_front) → IsLeastCutIn (modes_of c.args.manner) c.args.self.now.version c.args.text.now c.in_ok-chosen.chosen.segments.items
+least c = subst (λ v. IsLeastCutIn (modes_of c.args.manner) v c.args.text.now c.in_ok-chosen.chosen.segments.items) (version c) c.in_ok-chosen.ensures.measured.least
+
+fronted : (c : In_ok-push_front) → c.push_front.new.self ≡ with_bits c.args.self.now (front c.args.manner)
+fronted c = c.in_ok-push_front.ensures.appended ∙ ap (λ (b : BitList). with_bits b (front c.args.manner)) c.in_ok-longer.ensures.value
+
+pub push_all-requires : goal.push_all-requires
+push_all-requires c =
+    let k = (goal.at.push_all-requires c).In_ok-push_front in
+    cut_inside c.args.self.now.version c.args.text.now c.in_ok-chosen.chosen.segments.items (least k).reached.cut
+
+pub returns-in_err-push_all : goal.returns-in_err-push_all
+returns-in_err-push_all c =
+    let k = (goal.at.returns-in_err-push_all c).In_ok-push_front in
+    let ss = c.in_ok-chosen.chosen.segments.items in
+    let e = c.in_err-push_all.field-0.0 in
+    let new = c.push_all.new.self.bits in
+    let stop = subst (λ (b : BitList). StopsAt b.version b.bits (pieces_of c.args.text.now ss) e new) (fronted k) c.in_err-push_all.ensures.stopped in
+    refused_text c.args.manner c.args.text.now c.args.self.now ss new e c.from_residual-in_err-push_all.result (valid k) (omega (arith, c.if-text-gt-DATA_LIMIT.false)) (has k) (least k)
+    (omega (arith, c.len.ensures.value, c.front_length.ensures.value, c.if-len-front_length-gt-BIT_LIMIT.false)) stop c.from_residual-in_err-push_all.ensures
+
+pub returns : goal.returns
+returns c =
+    let k = (goal.at.returns c).In_ok-push_front in
+    let ss = c.in_ok-chosen.chosen.segments.items in
+    let list = c.push_all.new.self in
+    let pushed = subst (λ (b : BitList). PushesAll b.version b.bits c.args.text.now ss list.bits) (fronted k) c.in_ok-push_all.ensures.pushed in
+    let is = c.push_all.ensures.version ∙ ap (λ (b : BitList). b.version) (fronted k) in
+    subst (λ new. PushesText c.args.manner c.args.text.now c.args.self.now new (Ok tt)) (sym c.longer-2.view_is)
+    (appended_text c.args.manner c.args.text.now c.args.self.now list ss (valid k) (has k) c.requires.text c.requires.utf8 (least k) pushed is)
