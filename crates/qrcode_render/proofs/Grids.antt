@@ -124,6 +124,13 @@ cell_rows R d (suc m) =
     ∙ ap₂ (λ a b. a ++ b) (cell_rows R d m) (ap (λ a. flat_map row (range_with_len a d)) (omega arith) ∙ some_rows R d m d (omega arith))
     ∙ sym (flat_range_more (λ r. repeated d (R r)) m (suc m) (omega arith))
 
+-- what comes of the rows of pixels, by rows of cells
+pub rows_by_cells : (f : List Bool → List ℕ) (g : Grid) → 0 < g.across → 0 < g.down
+    → flat_map (λ y. f (row_of (pixels_of g) y)) (range_with_len 0 (all_rows g * g.down)) ≡ flat_map (λ r. repeated g.down (f (each g.across (cell_row g r)))) (range_with_len 0 (all_rows g))
+rows_by_cells f g some_wide some_high =
+    flat_range_same (λ y. f (row_of (pixels_of g) y)) (λ y. f (each g.across (cell_row g (y / g.down)))) (all_rows g * g.down) (λ y inside. ap f (row_of-pixels g y some_wide some_high inside))
+    ∙ cell_rows (λ r. f (each g.across (cell_row g r))) g.down (all_rows g)
+
 -- where a range begins does not matter to a text that is repeated
 times_from : (text : List ℕ) (a b n : ℕ) → text ++ flat_map (λ (_ : ℕ). text) (range_with_len a n) ≡ text ++ flat_map (λ (_ : ℕ). text) (range_with_len b n)
 times_from text a b zero = refl

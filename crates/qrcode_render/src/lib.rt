@@ -17,14 +17,14 @@ use std::marker::Model;
 
 mod cells;
 mod fours;
-mod grid;
+pub mod grid;
 pub mod image;
 mod lines;
 mod marks;
-mod page;
+pub mod page;
 mod palette;
 pub mod pic;
-mod rows;
+pub mod rows;
 mod sheet;
 mod stamps;
 pub mod string;
