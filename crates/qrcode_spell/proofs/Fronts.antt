@@ -1,6 +1,5 @@
 -- What stands in front of bits, field by field.
-use Rattle.std.proofs.Common.{◌≡◌, ◌≢◌, ◌<◌, ℕ, ◌++◌, List, Bool, length, sym, ap, ap₂, subst, ◌∙◌, arith, IsTrue, append_assoc, length-append, Result, Ok, Err, inl, inr}
-use Rattle.std.specs.Borrow.{Bor}
+use Rattle.std.proofs.Common.{◌≡◌, ◌≢◌, ◌<◌, ℕ, ◌++◌, List, Bool, length, sym, ap, ap₂, subst, ◌∙◌, arith, IsTrue, append_assoc, length-append}
 use Rattle.qrcode_types.specs.Bits.{number_bits}
 use Rattle.qrcode_types.specs.Modes.{has_mode, indicator, mode_bits_count, length_bits_count, data_bits_count}
 use Rattle.qrcode_types.specs.Characters.{character_count}
@@ -10,8 +9,7 @@ use Rattle.qrcode_bits.specs.Written.{Piece, data_bits_in}
 use Rattle.qrcode_bits.proofs.Numbers.{same_number, length-number_bits}
 use Rattle.qrcode_bits.proofs.Lengths.{length-data}
 use Rattle.qrcode_bits.proofs.Spellings.{indicator-small, same_mode}
-use Rattle.qrcode_spell.specs.declared.refusals.Unspelled.{Unspelled}
-use Rattle.qrcode_spell.specs.Steps.{AreWrittenAs, BeginsWithNumber, BeginsWithData, BeginsWithPiece, AppendsData, AppendsPiece}
+use Rattle.qrcode_spell.specs.Steps.{AreWrittenAs, BeginsWithNumber, BeginsWithData, BeginsWithPiece}
 use Rattle.qrcode_spell.proofs.Groups.{same_front, same_count}
 use Rattle.qrcode_spell.proofs.Refused.{length_of_written}
 
@@ -94,21 +92,9 @@ pub no_mode : (v : Version) (bits : List Bool) (number : ℕ) (behind : List Boo
     → ((m : Mode) → IsTrue (has_mode v m) → indicator v m ≢ number) → (p : Piece) (rest : List Bool) → ¬ BeginsWithPiece v bits p rest
 no_mode v bits number behind b none p rest d = none p.mode d.readable.mode_exists (sym (same_piece_front v bits number behind p rest b d).0)
 
--- data behind the indicator of a mode are a piece
-pub hands_on : (v : Version) (bits : List Bool) (number : ℕ) (behind : List Bool) (m : Mode) (old new : List ℕ) (result : Result (Bor (List Bool)) Unspelled)
-    → BeginsWithNumber (mode_bits_count v) bits number behind → IsTrue (has_mode v m) → indicator v m ≡ number → AppendsData v m behind old new result → AppendsPiece v bits old new result
-hands_on v bits number behind m old new (Ok rest) b exists e a =
-    let t = a.taken in
-    record { taken = (record { mode = m; chunk = t.0 }, is_piece v bits m behind t.0 rest.now exists (subst (λ n. BeginsWithNumber (mode_bits_count v) bits n behind) (sym e) b) t.1, t.2); refused = tt }
-hands_on v bits number behind m old new (Err x) b exists e a = record {
-  taken = tt;
-  refused = elim a.refused [
-    | inl memory ↦ inl memory
-    | inr none ↦ inr (
-      none.0,
-      λ p rest d.
-          let s = same_piece_front v bits number behind p rest b d in
-          none.1 p.chunk rest (subst (λ k. BeginsWithData v k behind p.chunk rest) (same_mode v p.mode m (sym s.0 ∙ sym e)) s.1),
-    )
-  ];
-}
+-- where no data stand behind the indicator of a mode, there is no piece
+pub no_piece : (v : Version) (bits : List Bool) (number : ℕ) (behind : List Bool) (m : Mode) → BeginsWithNumber (mode_bits_count v) bits number behind → indicator v m ≡ number
+    → ((bytes : List ℕ) (rest : List Bool) → ¬ BeginsWithData v m behind bytes rest) → (p : Piece) (rest : List Bool) → ¬ BeginsWithPiece v bits p rest
+no_piece v bits number behind m b e none p rest d =
+    let s = same_piece_front v bits number behind p rest b d in
+    none p.chunk rest (subst (λ k. BeginsWithData v k behind p.chunk rest) (same_mode v p.mode m (sym s.0 ∙ sym e)) s.1)

@@ -4,3 +4,6 @@ pub mod Letters
 pub mod Pairs
 pub mod Refused
 pub mod Spelled
+mod Headings
+mod NoHeader
+mod Parted

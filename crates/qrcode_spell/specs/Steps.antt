@@ -51,7 +51,7 @@ pub record AppendsData (v : Version) (m : Mode) (bits : List Bool) (old new : Li
   pub taken : IfOk result (λ rest. (bytes : List ℕ) × BeginsWithData v m bits bytes rest.now × (new ≡ old ++ bytes))
   pub refused : IfErr result (λ e. (e ≡ OutOfMemory) ⊎ ((e ≡ NotSpelled) × ((bytes : List ℕ) (rest : List Bool) → ¬ BeginsWithData v m bits bytes rest)))
 
--- the bytes of a piece are appended and the rest is answered; or there is no piece, or memory is refused
-pub record AppendsPiece (v : Version) (bits : List Bool) (old new : List ℕ) (result : Result (Bor (List Bool)) Unspelled) : Type 0 where
-  pub taken : IfOk result (λ rest. (p : Piece) × BeginsWithPiece v bits p rest.now × (new ≡ old ++ p.chunk))
+-- the bytes of a piece are appended, and its mode and the rest are answered; or there is no piece, or memory is refused
+pub record AppendsPiece (v : Version) (bits : List Bool) (old new : List ℕ) (result : Result (Mode × Bor (List Bool)) Unspelled) : Type 0 where
+  pub taken : IfOk result (λ found. (bytes : List ℕ) × BeginsWithPiece v bits (record { mode = found.0; chunk = bytes }) found.1.now × (new ≡ old ++ bytes))
   pub refused : IfErr result (λ e. (e ≡ OutOfMemory) ⊎ ((e ≡ NotSpelled) × ((p : Piece) (rest : List Bool) → ¬ BeginsWithPiece v bits p rest)))

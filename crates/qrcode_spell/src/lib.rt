@@ -3,17 +3,21 @@
 
 mod characters;
 mod fields;
-mod pieces;
+mod headers;
+mod parts;
 mod refusals;
+mod segments;
 
 ghost use Rattle.std.specs.Prelude.{◌≡◌, ◌⊎◌, ℕ, List, IsTrue, IfOk, IfErr, IsOkUnless};
 ghost use Rattle.qrcode_types.specs.Versions.{is_valid};
 ghost use Rattle.qrcode_bits.specs.Spelling.{Spells, SpellsOnly};
 ghost use Rattle.qrcode_spell.specs.declared.refusals.Unspelled.TheVariants.{NotSpelled, OutOfMemory};
 
-use pieces::{is_end, push_piece};
+pub use headers::Header;
+pub use parts::{Part, Parts, pieces};
 use qrcode_types::types::Version;
 pub use refusals::Unspelled;
+use segments::{is_end, push_piece};
 use std::alloc::Global;
 
 /// The bytes that the data bits of a symbol spell (ISO/IEC 18004:2006, 6.4): those of all pieces up
@@ -33,7 +37,8 @@ pub fn spell(alloc: Global, bits: &[bool], version: Version) -> Result<Vec<u8>, 
     let mut bytes = Vec::new(alloc);
     let mut rest = bits;
     while !is_end(rest, version) {
-        rest = push_piece(&mut bytes, rest, version)?;
+        let (_, behind) = push_piece(&mut bytes, rest, version)?;
+        rest = behind;
     }
     Ok(bytes)
 }

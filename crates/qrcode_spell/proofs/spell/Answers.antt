@@ -12,33 +12,33 @@ goes c = sym c.is_end.ensures ∙ c.loop-rest-test.true
 pub loop-rest-init : goal.loop-rest-init
 loop-rest-init c = subst (λ (done : List ℕ). SpellsFront c.args.version c.args.bits.now done c.args.bits.now) (sym c.new-bytes.ensures.items) (nothing_done c.args.version c.args.bits.now)
 
-pub returns-in_err-rest-clause-accepts : goal.returns-in_err-rest-clause-accepts
-returns-in_err-rest-clause-accepts c =
-    let k = (goal.at.returns-in_err-rest-clause-accepts c).After-push_piece in
+pub returns-in_err-behind-clause-accepts : goal.returns-in_err-behind-clause-accepts
+returns-in_err-behind-clause-accepts c =
+    let k = (goal.at.returns-in_err-behind-clause-accepts c).After-push_piece in
     let p = err_from_is_err_and c.from_residual.result c.from_residual.ensures.1 in
-    λ bytes s. rw (p.1, p.2) (elim c.in_err-rest.ensures.refused [
+    λ bytes s. rw (p.1, p.2) (elim c.in_err-behind.ensures.refused [
       | inl memory ↦ memory
       | inr none ↦ absurd (refuses_piece c.args.version c.args.bits.now c.loop-rest.bytes.items c.loop-rest.rest.now (goes k) none.1 c.loop-rest.invariant bytes s)
     ])
 
-pub returns-in_err-rest-clause-causes : goal.returns-in_err-rest-clause-causes
-returns-in_err-rest-clause-causes c =
-    let k = (goal.at.returns-in_err-rest-clause-causes c).After-push_piece in
+pub returns-in_err-behind-clause-causes : goal.returns-in_err-behind-clause-causes
+returns-in_err-behind-clause-causes c =
+    let k = (goal.at.returns-in_err-behind-clause-causes c).After-push_piece in
     let p = err_from_is_err_and c.from_residual.result c.from_residual.ensures.1 in
-    rw (p.1, p.2) (elim c.in_err-rest.ensures.refused [
+    rw (p.1, p.2) (elim c.in_err-behind.ensures.refused [
       | inl memory ↦ inl memory
       | inr none ↦ inr (none.0, refuses_piece c.args.version c.args.bits.now c.loop-rest.bytes.items c.loop-rest.rest.now (goes k) none.1 c.loop-rest.invariant)
     ])
 
 pub loop-rest-smaller : goal.loop-rest-smaller
-loop-rest-smaller c = let t = c.in_ok-rest.ensures.taken in piece_shortens c.args.version c.loop-rest.rest.now t.0 c.in_ok-rest.rest.now t.1
+loop-rest-smaller c = let t = c.in_ok-behind.ensures.taken in piece_shortens c.args.version c.loop-rest.rest.now _ c.in_ok-behind.behind.now t.1
 
 pub loop-rest-preserved : goal.loop-rest-preserved
 loop-rest-preserved c =
     let k = (goal.at.loop-rest-preserved c).After-push_piece in
-    let t = c.in_ok-rest.ensures.taken in
-    subst (λ (done : List ℕ). SpellsFront c.args.version c.args.bits.now done c.in_ok-rest.rest.now) (sym t.2)
-    (spells_on c.args.version c.args.bits.now c.loop-rest.bytes.items c.loop-rest.rest.now t.0 c.in_ok-rest.rest.now (goes k) t.1 c.loop-rest.invariant)
+    let t = c.in_ok-behind.ensures.taken in
+    subst (λ (done : List ℕ). SpellsFront c.args.version c.args.bits.now done c.in_ok-behind.behind.now) (sym t.2)
+    (spells_on c.args.version c.args.bits.now c.loop-rest.bytes.items c.loop-rest.rest.now _ c.in_ok-behind.behind.now (goes k) t.1 c.loop-rest.invariant)
 
 pub returns-clause-value : goal.returns-clause-value
 returns-clause-value c =

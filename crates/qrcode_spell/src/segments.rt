@@ -77,12 +77,12 @@ pub(crate) fn push_data<'a>(
     Ok(rest)
 }
 
-// Appends the piece that stands in front of the bits, and answers the rest.
+// Appends the piece that stands in front of the bits, and answers its mode and the rest.
 pub(crate) fn push_piece<'a>(
     bytes: &mut Vec<u8>,
     bits: &'a [bool],
     version: Version,
-) -> Result<&'a [bool], Unspelled>
+) -> Result<(Mode, &'a [bool]), Unspelled>
     requires { IsTrue (is_valid version) }
     ensures { AppendsPiece version bits.now bytes.old.items bytes.new.items result }
 {
@@ -92,5 +92,6 @@ pub(crate) fn push_piece<'a>(
     let Some(mode) = mode_of(version, number) else {
         return Err(Unspelled::NotSpelled);
     };
-    push_data(bytes, behind, version, mode)
+    let rest = push_data(bytes, behind, version, mode)?;
+    Ok((mode, rest))
 }

@@ -3,8 +3,8 @@ use Rattle.std.proofs.lemmas.Result.{err_from_is_err_and}
 use Rattle.qrcode_types.specs.Modes.{length_bits_count}
 use Rattle.qrcode_spell.specs.Steps.{BeginsWithNumber}
 use Rattle.qrcode_spell.proofs.Fronts.{no_count, no_room, no_characters, no_data, is_data}
-use Rattle.qrcode_spell.proofs.pieces.push_data.Goals as goal
-use Rattle.qrcode_spell.proofs.pieces.push_data.Goals.{In-Some, In-Some-front}
+use Rattle.qrcode_spell.proofs.segments.push_data.Goals as goal
+use Rattle.qrcode_spell.proofs.segments.push_data.Goals.{In-Some, In-Some-front}
 
 begins : (c : In-Some) → BeginsWithNumber (length_bits_count c.args.mode c.args.version) c.args.bits.now c.in-Some.count c.in-Some.behind.now
 begins c = rw (sym c.length_bits_count.ensures.value) c.in-Some.ensures.value

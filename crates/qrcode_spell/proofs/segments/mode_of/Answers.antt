@@ -1,7 +1,7 @@
 use Rattle.std.proofs.Common.{◌≢◌, IsTrue, arith}
 use Rattle.qrcode_types.specs.Modes.{has_mode, indicator}
 use Rattle.qrcode_types.specs.declared.types.Mode.TheVariants.{Numeric, Alphanumeric, Byte, Kanji}
-use Rattle.qrcode_spell.proofs.pieces.mode_of.Goals as goal
+use Rattle.qrcode_spell.proofs.segments.mode_of.Goals as goal
 
 pub returns-clause-none : goal.returns-clause-none
 returns-clause-none c = λ mode. elim mode as (λ m. IsTrue (has_mode c.args.version m) → indicator c.args.version m ≢ c.args.number) [

@@ -1,7 +1,7 @@
 use Rattle.std.proofs.Common.{◌≢◌, ℕ, ◌<◌, IsTrue, get_or}
 use Rattle.qrcode_types.specs.Modes.{has_mode, indicator}
 use Rattle.qrcode_types.specs.declared.types.Mode.TheVariants.{Numeric}
-use Rattle.qrcode_spell.proofs.pieces.mode_of.Given as goal
+use Rattle.qrcode_spell.proofs.segments.mode_of.Given as goal
 
 abbrev pub invariant-loop-mode : goal.invariant-loop-mode
 invariant-loop-mode l = (k : ℕ) → k < l.mode-index → let mode = get_or l.mode-items k Numeric in
