@@ -1,6 +1,7 @@
 pub mod BlockLists
 pub mod Causes
 pub mod Distances
+pub mod FormatMasks
 pub mod HalfBlocks
 pub mod Readings
 pub mod Sides

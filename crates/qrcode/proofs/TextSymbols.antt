@@ -1,6 +1,6 @@
 -- The symbol of a list of bits in a manner.
 use Rattle.std.proofs.Common.{◌≡◌, ℕ, ◌≤◌, ◌<◌, ◌++◌, Bool, List, [], sym, subst, ◌∙◌, arith, true≢false, inl, inr, Result, Ok, Err, IfOk}
-use Rattle.std.specs.Prelude.{chars}
+use Rattle.std.specs.Prelude.{chars, IsUtf8, IsTrue}
 use Rattle.qrcode_types.specs.Versions.{capacity, level_number}
 use Rattle.qrcode_types.specs.declared.types.Version.{Version}
 use Rattle.qrcode_types.specs.declared.types.EcLevel.{EcLevel}
@@ -11,7 +11,7 @@ use Rattle.qrcode_symbol.specs.Reading.{ReadsBits}
 use Rattle.qrcode_bits.specs.BitList.{BitList}
 use Rattle.qrcode_bits.specs.Choice.{IsRefusedIn}
 use Rattle.qrcode_bits.specs.Encoded.{IsListAs, IsBoostedList}
-use Rattle.qrcode_bits.specs.Manners.{front, HoldsAs, IsLeastFrom}
+use Rattle.qrcode_bits.specs.Manners.{is_text, front, HoldsAs, IsLeastFrom}
 use Rattle.qrcode_bits.specs.Segments.{total_cost}
 use Rattle.qrcode_bits.specs.Shown.{Shows, ShowsOnly}
 use Rattle.qrcode_bits.specs.Spelling.{Spells}
@@ -23,7 +23,7 @@ use Rattle.qrcode_bits.proofs.Endings.{spells_terminated}
 use Rattle.qrcode_bits.proofs.Manners.{valid_of}
 use Rattle.qrcode.specs.Code.{Code}
 use Rattle.qrcode.specs.Reading.{EncodesBits}
-use Rattle.qrcode.specs.Texts.{ShowsTextOnly, IsSymbolAs, IsBoostedAs}
+use Rattle.qrcode.specs.Texts.{ShowsTextOnly, IsShownAs, TextsAreShown, IsSymbolAs, IsBoostedAs}
 use Rattle.qrcode.proofs.Readings.{bits_are_read_one_way, reads_only}
 
 shows_only : (s : List Color) (v : Version) (l : EcLevel) (bits : List Bool) (text : List ℕ) → ReadsBits s v l bits → ShowsOnly v bits text → ShowsTextOnly s text
@@ -32,6 +32,22 @@ shows_only s v l bits text read shown = record {
   only = λ others q.
       let same = bits_are_read_one_way s v q.version l q.level bits q.bits read q.read in
       shown.only others (subst (λ b. Shows v b others) same.2 (subst (λ u. Shows u q.bits others) same.0 q.shown));
+}
+
+-- the symbol of bits that are shown as a text is shown so, damaged too
+pub shown_bits : TextsAreShown
+shown_bits v l bits text s encodes only = record {
+  mask = encodes.mask;
+  is_mask = record { exists = encodes.mask_exists; patterns = encodes.symbol.patterns; first_least = encodes.first_least };
+  shown = λ other damage. shows_only other v l bits text (encodes.read other damage).found only;
+}
+
+-- and that of a text
+pub shown_symbol : (m : Manner) (v : Version) (l : EcLevel) (bytes : List ℕ) (s : List Color) → IsSymbolAs m v l bytes s → IsTrue (is_text m) → IsUtf8 bytes → IsShownAs v l (chars bytes) s
+shown_symbol m v l bytes s made text utf8 = record {
+  mask = made.encodes.mask;
+  is_mask = record { exists = made.encodes.mask_exists; patterns = made.encodes.symbol.patterns; first_least = made.encodes.first_least };
+  shown = made.shown text utf8;
 }
 
 -- a list with nothing in front spells its data
@@ -71,13 +87,16 @@ pub boosted_as : (m : Manner) (from : Version) (l highest : EcLevel) (bytes : Li
     → IfOk code (λ code. code.version ≡ list.version) → IfOk code (λ code. code.level ≡ highest) → IfOk code (λ code. EncodesBits list.version highest list.bits code.modules)
     → IfOk code (IsBoostedAs m from l bytes)
 boosted_as m from l highest bytes list (Err e) made version level encodes = tt
-boosted_as m from l highest bytes list (Ok code) made version level encodes = record {
-  least_version = subst (IsLeastFrom m from l bytes) (sym version) made.least_version;
-  symbol = subst (λ h. IsSymbolAs m code.version h bytes code.modules) (sym level)
-      (subst (λ u. IsSymbolAs m u highest bytes code.modules) (sym version) (symbol_as m highest bytes list code.modules made.written encodes));
-  at_least = subst (λ h. level_number l ≤ level_number h) (sym level) made.at_least;
-  highest_level = λ other above. subst (λ u. ¬ HoldsAs m u other bytes) (sym version) (made.highest_level other (subst (λ h. level_number h < level_number other) level above));
-}
+boosted_as m from l highest bytes list (Ok code) made version level encodes =
+    let symbol = subst (λ h. IsSymbolAs m code.version h bytes code.modules) (sym level)
+    (subst (λ u. IsSymbolAs m u highest bytes code.modules) (sym version) (symbol_as m highest bytes list code.modules made.written encodes)) in
+    record {
+      least_version = subst (IsLeastFrom m from l bytes) (sym version) made.least_version;
+      symbol = symbol;
+      shown = shown_symbol m code.version code.level bytes code.modules symbol;
+      at_least = subst (λ h. level_number l ≤ level_number h) (sym level) made.at_least;
+      highest_level = λ other above. subst (λ u. ¬ HoldsAs m u other bytes) (sym version) (made.highest_level other (subst (λ h. level_number h < level_number other) level above));
+    }
 
 -- data that is held is refused for want of memory alone
 pub refused_for_memory : (m : Manner) (v : Version) (l : EcLevel) (bytes : List ℕ) (e : QrError) → HoldsAs m v l bytes → e ≡ OutOfMemory → IsRefusedIn m v l bytes e

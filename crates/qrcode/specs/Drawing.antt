@@ -1,11 +1,11 @@
--- What is drawn for codewords.
+-- What is drawn for codewords, and under which mask.
 use Rattle.std.specs.Prelude.{ℕ, List, IsTrue}
 use Rattle.qrcode_types.specs.declared.types.Version.{Version}
 use Rattle.qrcode_types.specs.declared.types.EcLevel.{EcLevel}
 use Rattle.qrcode_types.specs.declared.types.Color.{Color}
 use Rattle.qrcode_places.specs.Masks.{exists_in}
 use Rattle.qrcode_places.specs.declared.masks.MaskPattern.{MaskPattern}
-use Rattle.qrcode_symbol.specs.Symbol.{Carries}
+use Rattle.qrcode_symbol.specs.Symbol.{HasPatterns, Carries}
 use Rattle.qrcode_symbol.specs.Penalties.{IsFirstLeast}
 
 -- a square that carries codewords under the first mask of least penalty
@@ -13,4 +13,10 @@ pub record IsBestDrawing (v : Version) (l : EcLevel) (words : List ℕ) (s : Lis
   pub mask : MaskPattern
   pub mask_exists : IsTrue (exists_in v mask)
   pub carries : Carries v l words mask s
+  pub first_least : IsFirstLeast v l mask s
+
+-- the mask of a square: the version has it, the format word names it, and it is the first of least penalty
+pub record IsMaskOf (v : Version) (l : EcLevel) (mask : MaskPattern) (s : List Color) : Type 0 where
+  pub exists : IsTrue (exists_in v mask)
+  pub patterns : HasPatterns v l mask s
   pub first_least : IsFirstLeast v l mask s

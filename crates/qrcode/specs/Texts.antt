@@ -6,17 +6,19 @@ use Rattle.qrcode_types.specs.declared.types.EcLevel.{EcLevel}
 use Rattle.qrcode_types.specs.declared.types.QrError.{QrError}
 use Rattle.qrcode_types.specs.declared.types.QrError.TheVariants.{InvalidVersion, DataTooLong, OutOfMemory}
 use Rattle.qrcode_types.specs.declared.types.Color.{Color}
+use Rattle.qrcode_places.specs.declared.masks.MaskPattern.{MaskPattern}
 use Rattle.qrcode_symbol.specs.Symbol.{IsDamaged}
 use Rattle.qrcode_symbol.specs.Reading.{ReadsBits}
 use Rattle.qrcode_bits.specs.Choice.{IsRefusedFrom, IsRefusedIn}
 use Rattle.qrcode_bits.specs.Cuts.{IsLeastCutIn}
 use Rattle.qrcode_bits.specs.Manners.{is_text, modes_of, front, rank, HoldsAs, IsLeastFrom}
 use Rattle.qrcode_bits.specs.Refusals.{data_limit}
-use Rattle.qrcode_bits.specs.Shown.{Shows}
+use Rattle.qrcode_bits.specs.Shown.{Shows, ShowsOnly}
 use Rattle.qrcode_bits.specs.Written.{written, terminated, pieces_of}
 use Rattle.qrcode_bits.specs.declared.bits.manner.Manner.{Manner}
 use Rattle.qrcode_bits.specs.declared.optimize.Segment.{Segment}
 use Rattle.qrcode.specs.Code.{Code}
+use Rattle.qrcode.specs.Drawing.{IsMaskOf}
 use Rattle.qrcode.specs.Reading.{ReadsOnly, EncodesBits}
 
 -- a reader shows these characters
@@ -31,6 +33,16 @@ pub record ShowsText (s : List Color) (text : List ℕ) : Type 0 where
 pub record ShowsTextOnly (s : List Color) (text : List ℕ) : Type 0 where
   pub found : ShowsText s text
   pub only : (others : List ℕ) → ShowsText s others → others ≡ text
+
+-- of each square within the promised damage a reader shows these characters, and no others
+pub record IsShownAs (v : Version) (l : EcLevel) (text : List ℕ) (s : List Color) : Type 0 where
+  pub mask : MaskPattern
+  pub is_mask : IsMaskOf v l mask s
+  pub shown : (other : List Color) → IsDamaged v l mask s other → ShowsTextOnly other text
+
+-- the symbol of bits that a reader shows as a text is shown so, damaged too
+abbrev pub TextsAreShown : Type 0
+TextsAreShown = (v : Version) (l : EcLevel) (bits : List Bool) (text : List ℕ) (s : List Color) → EncodesBits v l bits s → ShowsOnly v bits text → IsShownAs v l text s
 
 -- The symbol of the bits in front and a least cut of the data in the modes of the manner. Of each damaged symbol a reader shows
 -- a text as exactly its characters; and where nothing stands in front, it finds exactly the data's bytes.
@@ -47,6 +59,7 @@ pub record IsAutomaticAs (m : Manner) (from : Version) (l : EcLevel) (bytes : Li
   pub level : IfOk result (λ code. code.level ≡ l)
   pub least_version : IfOk result (λ code. IsLeastFrom m from l bytes code.version)
   pub symbol : IfOk result (λ code. IsSymbolAs m code.version l bytes code.modules)
+  pub shown : IsTrue (is_text m) → IsUtf8 bytes → IfOk result (λ code. IsShownAs code.version l (chars bytes) code.modules)
   pub accepts : (v : Version) → IsTrue (is_valid from) → rank from ≤ rank v → HoldsAs m v l bytes → IsOkUnless result OutOfMemory
   pub causes : IsTrue (is_valid from) → IfErr result (IsRefusedFrom m from l bytes)
   pub too_long : IsTrue (is_valid from) → data_limit < length bytes → result ≡ Err DataTooLong
@@ -55,6 +68,7 @@ pub record IsAutomaticAs (m : Manner) (from : Version) (l : EcLevel) (bytes : Li
 pub record IsBoostedAs (m : Manner) (from : Version) (l : EcLevel) (bytes : List ℕ) (code : Code) : Type 0 where
   pub least_version : IsLeastFrom m from l bytes code.version
   pub symbol : IsSymbolAs m code.version code.level bytes code.modules
+  pub shown : IsTrue (is_text m) → IsUtf8 bytes → IsShownAs code.version code.level (chars bytes) code.modules
   pub at_least : level_number l ≤ level_number code.level
   pub highest_level : (other : EcLevel) → level_number code.level < level_number other → ¬ HoldsAs m code.version other bytes
 
@@ -63,6 +77,7 @@ pub record IsGivenAs (m : Manner) (v : Version) (l : EcLevel) (bytes : List ℕ)
   pub version : IfOk result (λ code. code.version ≡ v)
   pub level : IfOk result (λ code. code.level ≡ l)
   pub symbol : IfOk result (λ code. IsSymbolAs m v l bytes code.modules)
+  pub shown : IsTrue (is_text m) → IsUtf8 bytes → IfOk result (λ code. IsShownAs v l (chars bytes) code.modules)
   pub holds : IfOk result (λ code. HoldsAs m v l bytes)
   pub accepts : HoldsAs m v l bytes → IsOkUnless result OutOfMemory
   pub causes : IfErr result (IsRefusedIn m v l bytes)

@@ -1,22 +1,25 @@
 //! QR and Micro QR symbols.
 #![tactic(auto)]
 
-ghost use Rattle.std.specs.Prelude.{◌≡◌, ◌↔◌, ◌+◌, ◌*◌, ◌-◌, ◌/◌, ◌%◌, ◌<◌, ◌≤◌, ◌++◌, true, false, Some, string_bytes, length, slice_index, slice_get, map, IsTrue, IfOk, IfErr, OnOk, IsOkUnless};
+ghost use Rattle.std.specs.Prelude.{◌≡◌, ◌↔◌, ◌+◌, ◌*◌, ◌-◌, ◌/◌, ◌%◌, ◌<◌, ◌≤◌, ◌++◌, Bool, List, true, false, Some, string_bytes, length, slice_index, slice_get, map, IsTrue, IfOk, IfErr, OnOk, IsOkUnless};
 ghost use Rattle.qrcode_types.specs.Versions.{side, has_level, capacity, data_length, total_ec_length, has_half_codeword};
 ghost use Rattle.qrcode_types.specs.declared.types.QrError.TheVariants.{OutOfMemory, InvalidVersion, DataTooLong};
 ghost use Rattle.qrcode_types.specs.Colors.{is_dark};
 ghost use Rattle.qrcode_types.specs.declared.types.EcLevel.TheVariants.{M};
 ghost use Rattle.qrcode_ec.specs.Allowed.{misdecode_protection};
+ghost use Rattle.qrcode_places.specs.Masks.{exists_in};
 ghost use Rattle.qrcode_places.specs.Patterns.{is_functional_place};
 ghost use Rattle.qrcode_symbol.specs.Patterned.{IsDrawn};
+ghost use Rattle.qrcode_symbol.specs.Symbol.{IsSymbol};
 ghost use Rattle.qrcode_bits.specs.Choice.{Holds};
 ghost use Rattle.qrcode.specs.Acceptance.{IsAutomatic, IsLeastSymbol, IsRefusedAt};
-ghost use Rattle.qrcode.specs.Drawing.{IsBestDrawing};
+ghost use Rattle.qrcode.specs.Drawing.{IsBestDrawing, IsMaskOf};
 ghost use Rattle.qrcode.specs.Pictures.{quiet_zone, debug_text};
 ghost use Rattle.qrcode.specs.Reading.{EncodesBits};
 
 use bits::{Bits, DATA_LIMIT};
-use canvas::Canvas;
+use canvas::{Canvas, MaskPattern};
+use masks::mask_of;
 pub use qrcode_bits::{bits, optimize};
 pub use qrcode_render as render;
 pub use qrcode_symbol::{canvas, ec, types};
@@ -29,6 +32,7 @@ use types::QrError;
 pub use types::{Color, EcLevel, QrResult, Version};
 
 pub mod laws;
+mod masks;
 mod texts;
 
 /// A symbol.
@@ -43,7 +47,9 @@ pub struct QrCode {
 impl Model for QrCode {
     ghost use Rattle.std.specs.Prelude.{◌≡◌, ◌*◌, length, IsTrue};
     ghost use Rattle.qrcode_types.specs.Versions.{side, has_level};
+    ghost use Rattle.qrcode_places.specs.declared.masks.MaskPattern.{MaskPattern};
     ghost use Rattle.qrcode.specs.Code.{Code};
+    ghost use Rattle.qrcode.specs.Drawing.{IsMaskOf};
 
     ghost Value = { Code };
 
@@ -55,7 +61,8 @@ impl Model for QrCode {
 
     ghost invariant = { λ code. IsTrue (has_level code.version code.ec_level)
         × ((code.width ≡ side code.version)
-        × (length code.content.items ≡ code.width * code.width)) };
+        × ((length code.content.items ≡ code.width * code.width)
+        × ((mask : MaskPattern) × IsMaskOf code.version code.ec_level mask code.content.items))) };
 }
 
 impl QrCode {
@@ -169,6 +176,18 @@ impl QrCode {
         ensures { result ≡ self.now.level }
     {
         self.ec_level
+    }
+
+    /// The mask of the symbol: the first of least penalty (ISO/IEC 18004:2006, 6.8.3).
+    pub fn mask(&self) -> MaskPattern
+        ensures value { IsMaskOf self.now.version self.now.level result self.now.modules }
+
+        // Of whatever bits the modules are the symbol, they are so under no other mask.
+        ensures only { (bits : List Bool) (mask : MaskPattern)
+            → IsTrue (exists_in self.now.version mask)
+            → IsSymbol self.now.version self.now.level bits mask self.now.modules → mask ≡ result }
+    {
+        mask_of(self.version, &self.content)
     }
 
     /// The modules along a side, without a quiet zone.

@@ -1,19 +1,23 @@
 //! Symbols of texts, and of data in a manner of one's choice.
 
-ghost use Rattle.std.specs.Prelude.{◌≡◌, ◌≤◌, pos, false, IsTrue, IfOk, IfErr, IsOkUnless, Err};
+ghost use Rattle.std.specs.Prelude.{◌≡◌, ◌<◌, ◌≤◌, pos, false, length, chars, IsTrue, IfOk, IfErr, IsOkUnless, Err};
 ghost use Rattle.qrcode_types.specs.Versions.{is_valid};
 ghost use Rattle.qrcode_types.specs.declared.types.Version.{Version};
 ghost use Rattle.qrcode_types.specs.declared.types.Version.TheVariants.{Normal};
-ghost use Rattle.qrcode_types.specs.declared.types.QrError.TheVariants.{InvalidVersion, OutOfMemory};
+ghost use Rattle.qrcode_types.specs.declared.types.QrError.TheVariants.{InvalidVersion, DataTooLong, OutOfMemory};
 ghost use Rattle.qrcode_bits.specs.Choice.{IsRefusedFrom};
 ghost use Rattle.qrcode_bits.specs.Manners.{rank, HoldsAs};
+ghost use Rattle.qrcode_bits.specs.Refusals.{data_limit};
 ghost use Rattle.qrcode_bits.specs.declared.bits.manner.Manner.TheVariants.{Text, MarkedText};
-ghost use Rattle.qrcode.specs.Texts.{IsAutomaticAs, IsBoostedAs, IsGivenAs};
+ghost use Rattle.qrcode.specs.Texts.{IsAutomaticAs, IsBoostedAs, IsGivenAs, IsShownAs};
 
 use crate::QrCode;
 use crate::bits::{self, Manner};
 use crate::types::{EcLevel, QrResult, Version};
 use std::alloc::Global;
+
+// The first version that texts are tried in.
+const FIRST: Version = Version::Normal(1);
 
 impl QrCode {
     /// The symbol of a text at a level, of the least Normal version that holds it. Readers show the
@@ -22,28 +26,20 @@ impl QrCode {
     /// `DataTooLong`: no Normal version holds the text, or it has more than 1,048,576 bytes.
     /// `OutOfMemory`: memory was refused.
     pub fn of_text(alloc: Global, text: &str, ec_level: EcLevel) -> QrResult<Self>
-        ensures { IsAutomaticAs Text (Normal (pos 1)) ec_level text.now result }
+        ensures symbol { IsAutomaticAs Text (Normal (pos 1)) ec_level text.now result }
+        ensures shown { IfOk result (λ code.
+            IsShownAs code.version ec_level (chars text.now) code.modules) }
     {
-        QrCode::at_least(
-            alloc,
-            text.as_bytes(),
-            Manner::Text,
-            Version::Normal(1),
-            ec_level,
-        )
+        QrCode::at_least(alloc, text.as_bytes(), Manner::Text, FIRST, ec_level)
     }
 
     /// The same with the number 26 of UTF-8 (ECI) in front, which takes 12 bits.
     pub fn of_marked_text(alloc: Global, text: &str, ec_level: EcLevel) -> QrResult<Self>
-        ensures { IsAutomaticAs MarkedText (Normal (pos 1)) ec_level text.now result }
+        ensures symbol { IsAutomaticAs MarkedText (Normal (pos 1)) ec_level text.now result }
+        ensures shown { IfOk result (λ code.
+            IsShownAs code.version ec_level (chars text.now) code.modules) }
     {
-        QrCode::at_least(
-            alloc,
-            text.as_bytes(),
-            Manner::MarkedText,
-            Version::Normal(1),
-            ec_level,
-        )
+        QrCode::at_least(alloc, text.as_bytes(), Manner::MarkedText, FIRST, ec_level)
     }
 
     /// The symbol of a text, of a version and level.
@@ -55,7 +51,9 @@ impl QrCode {
         version: Version,
         ec_level: EcLevel,
     ) -> QrResult<Self>
-        ensures { IsGivenAs Text version ec_level text.now result }
+        ensures symbol { IsGivenAs Text version ec_level text.now result }
+        ensures shown { IfOk result (λ code.
+            IsShownAs version ec_level (chars text.now) code.modules) }
     {
         QrCode::in_version(alloc, text.as_bytes(), Manner::Text, version, ec_level)
     }
@@ -68,15 +66,12 @@ impl QrCode {
         version: Version,
         ec_level: EcLevel,
     ) -> QrResult<Self>
-        ensures { IsGivenAs MarkedText version ec_level text.now result }
+        ensures symbol { IsGivenAs MarkedText version ec_level text.now result }
+        ensures shown { IfOk result (λ code.
+            IsShownAs version ec_level (chars text.now) code.modules) }
     {
-        QrCode::in_version(
-            alloc,
-            text.as_bytes(),
-            Manner::MarkedText,
-            version,
-            ec_level,
-        )
+        let bytes = text.as_bytes();
+        QrCode::in_version(alloc, bytes, Manner::MarkedText, version, ec_level)
     }
 
     /// The symbol of data in a manner, at a level, of the least version that holds it from one on,
@@ -113,6 +108,8 @@ impl QrCode {
             → HoldsAs manner v ec_level bytes.now → IsOkUnless result OutOfMemory }
         ensures causes { IsTrue (is_valid from)
             → IfErr result (IsRefusedFrom manner from ec_level bytes.now) }
+        ensures too_long { IsTrue (is_valid from) → data_limit < length bytes.now
+            → result ≡ Err DataTooLong }
     {
         let (bits, highest) = bits::encode_boosted(alloc, bytes, manner, from, ec_level)?;
         QrCode::with_bits(alloc, bits, highest)

@@ -1,0 +1,48 @@
+//! The mask of a symbol, from its format word.
+
+ghost use Rattle.std.specs.Prelude.{◌≡◌, ◌<◌, ◌≤◌, IsTrue, if◌then◌else◌};
+ghost use Rattle.qrcode_types.specs.Colors.{is_dark};
+ghost use Rattle.qrcode_types.specs.Versions.{is_valid, has_level};
+ghost use Rattle.qrcode_types.specs.declared.types.EcLevel.{EcLevel};
+ghost use Rattle.qrcode_places.specs.Masks.{exists_in};
+ghost use Rattle.qrcode_places.specs.Stream.{color_at};
+ghost use Rattle.qrcode_places.specs.declared.masks.MaskPattern.{MaskPattern};
+ghost use Rattle.qrcode_symbol.specs.Symbol.{HasPatterns};
+
+use crate::canvas::MaskPattern;
+use crate::types::{Color, Version};
+use qrcode_places::masks::nth_mask;
+
+// One where the module in column `x` of row 8 is dark, and else zero.
+fn bit_at(version: Version, modules: &[Color], x: usize) -> usize
+    requires valid { IsTrue (is_valid version) }
+    requires column { x < 8 }
+    ensures value { result ≡ (if is_dark (color_at version modules.now x 8) then 1 else 0) }
+    ensures at_most { result ≤ 1 }
+{
+    match modules.get(8 * (version.width() as usize) + x) {
+        Some(Color::Dark) => 1,
+        _ => 0,
+    }
+}
+
+/// The mask that the format word of a square names. Three bits of the word have its number, of which
+/// the first and the last are turned; in Micro two bits, of which the last is turned.
+pub(crate) fn mask_of(version: Version, modules: &[Color]) -> MaskPattern
+    requires { IsTrue (is_valid version) }
+    ensures { (ec_level : EcLevel) (mask : MaskPattern) → IsTrue (has_level version ec_level)
+        → IsTrue (exists_in version mask) → HasPatterns version ec_level mask modules.now
+        → result ≡ mask }
+{
+    match version {
+        Version::Normal(_) => {
+            let first = 1 - bit_at(version, modules, 2);
+            let last = 1 - bit_at(version, modules, 4);
+            nth_mask(version, 4 * first + 2 * bit_at(version, modules, 3) + last)
+        }
+        Version::Micro(_) => {
+            let last = 1 - bit_at(version, modules, 5);
+            nth_mask(version, 2 * bit_at(version, modules, 4) + last)
+        }
+    }
+}
