@@ -14,14 +14,10 @@ use Rattle.qrcode_types.specs.Colors.{is_dark}
 use Rattle.qrcode_types.specs.declared.types.Color.{Color}
 use Rattle.qrcode_types.specs.declared.types.Color.TheVariants.{Light}
 use Rattle.qrcode_render.specs.Bitmap.{row_of, marked_line}
-use Rattle.qrcode_render.specs.Grid.{Grid, all_columns, all_rows, is_dark_cell, cell_row, pixels_of, repeated, row_text, rows_text}
+use Rattle.qrcode_render.specs.Grid.{Grid, all_columns, all_rows, is_dark_cell, cell_row, pixels_of, each, repeated, row_text, rows_text}
 use Rattle.qrcode_render.specs.Texts.{marks_text, raw_bytes}
 use Rattle.qrcode_render.proofs.Pictures.{both_from, not_true, some_side}
 use Rattle.qrcode_render.proofs.LineTexts.{flat_range_from, flat_range_more, joined_more}
-
--- each element so many times
-abbrev pub each : {A : Type 0} → ℕ → List A → List A
-each a xs = flat_map (λ x. replicate a x) xs
 
 -- how many elements these are
 pub length-each : {A : Type 0} (a : ℕ) (xs : List A) → length (each a xs) ≡ length xs * a
@@ -32,7 +28,7 @@ div_small : (x a : ℕ) → x < a → x / a ≡ 0
 div_small x a h = let place : x ≡ 0 * a + x = omega arith in ap (λ k. k / a) place ∙ div-mul-add 0 a x h
 
 -- where an element stands among all of them
-get_or-each : {A : Type 0} (a : ℕ) (xs : List A) (x : ℕ) (d : A) → 0 < a → x < length xs * a → get_or (each a xs) x d ≡ get_or xs (x / a) d
+pub get_or-each : {A : Type 0} (a : ℕ) (xs : List A) (x : ℕ) (d : A) → 0 < a → x < length xs * a → get_or (each a xs) x d ≡ get_or xs (x / a) d
 get_or-each a [] x d some h = absurd (omega arith)
 get_or-each a (y ∷ xs) x d some h =
     elim (cases_lt x a) [
@@ -89,13 +85,13 @@ by_rows {A = A} xs w (suc n) =
     ∙ ap₂ (λ a b. a ++ b) (by_rows xs w n) (ap (λ k. take k (drop (n * w) xs)) here)
     ∙ sym (flat_range_more row n (suc n) (omega arith))
 
-range_append : (a p q : ℕ) → range_with_len a (p + q) ≡ range_with_len a p ++ range_with_len (a + p) q
+pub range_append : (a p q : ℕ) → range_with_len a (p + q) ≡ range_with_len a p ++ range_with_len (a + p) q
 range_append a zero q = ap₂ range_with_len (sym (add-zero a)) (omega arith)
 range_append a (suc p) q =
     let next : suc p + q ≡ suc (p + q) = omega arith in
     ap (range_with_len a) next ∙ ap (λ xs. a ∷ xs) (range_append (a + 1) p q ∙ ap (λ k. range_with_len (a + 1) p ++ range_with_len k q) (omega arith))
 
-flat_range_same : {A : Type 0} (f g : ℕ → List A) (n : ℕ) → ((y : ℕ) → y < n → f y ≡ g y) → flat_map f (range_with_len 0 n) ≡ flat_map g (range_with_len 0 n)
+pub flat_range_same : {A : Type 0} (f g : ℕ → List A) (n : ℕ) → ((y : ℕ) → y < n → f y ≡ g y) → flat_map f (range_with_len 0 n) ≡ flat_map g (range_with_len 0 n)
 flat_range_same f g zero same = refl
 flat_range_same f g (suc n) same =
     flat_range_more f n (suc n) (omega arith)
@@ -113,7 +109,7 @@ some_rows R d r (suc k) h =
     ∙ sym (flat_range_more (λ y. R r) k (suc k) (omega arith))
 
 -- what depends on the row of cells alone comes as often as a cell has pixels down
-cell_rows : (R : ℕ → List ℕ) (d m : ℕ) → flat_map (λ y. R (y / d)) (range_with_len 0 (m * d)) ≡ flat_map (λ r. repeated d (R r)) (range_with_len 0 m)
+pub cell_rows : (R : ℕ → List ℕ) (d m : ℕ) → flat_map (λ y. R (y / d)) (range_with_len 0 (m * d)) ≡ flat_map (λ r. repeated d (R r)) (range_with_len 0 m)
 cell_rows R d zero = let none : 0 * d ≡ 0 = omega arith in ap (λ n. flat_map (λ y. R (y / d)) (range_with_len 0 n)) none
 cell_rows R d (suc m) =
     let next : suc m * d ≡ m * d + d = omega arith in

@@ -2,6 +2,7 @@ pub mod Folds
 pub mod Grids
 pub mod LineTexts
 pub mod MarkedLines
+pub mod Packed
 pub mod Palettes
 pub mod Paths
 pub mod Pictures

@@ -1,5 +1,5 @@
 -- Pictures of cells in rows and columns, of which a symbol's square is one and single pixels are another.
-use Rattle.std.specs.Prelude.{ℕ, ◌+◌, ◌-◌, ◌*◌, ◌/◌, ◌%◌, nat_le, nat_lt, ◌&&◌, Bool, List, ◌++◌, map, flat_map, slice_index_or}
+use Rattle.std.specs.Prelude.{ℕ, ◌+◌, ◌-◌, ◌*◌, ◌/◌, ◌%◌, nat_le, nat_lt, ◌&&◌, Bool, List, ◌++◌, map, flat_map, replicate, slice_index_or}
 use Rattle.std.specs.List.{range_with_len}
 use Rattle.qrcode_types.specs.Colors.{is_dark}
 use Rattle.qrcode_types.specs.declared.types.Color.{Color}
@@ -40,6 +40,10 @@ pixels_of g =
     let w = all_columns g * g.across in
     let h = all_rows g * g.down in
     record { across = w; down = h; marks = map (λ i. is_dark_cell g (i % w / g.across) (i / w / g.down)) (range_with_len 0 (w * h)) }
+
+-- each element so many times
+abbrev pub each : {A : Type 0} → ℕ → List A → List A
+each n xs = flat_map (λ x. replicate n x) xs
 
 -- a text so many times
 abbrev pub repeated : ℕ → List ℕ → List ℕ

@@ -1,8 +1,11 @@
 pub mod Bitmap
 pub mod Drawn
+pub mod Eps
+pub mod Files
 pub mod Grid
 pub mod GridOf
 pub mod Half
+pub mod Ink
 pub mod Layout
 pub mod LineOf
 pub mod Lines

@@ -99,6 +99,7 @@ impl<'a> Grid<'a> {
         ensures across { result.0 ≡ self.now.across }
         ensures down { result.1 ≡ self.now.down }
         ensures positive { (1 ≤ result.0) × (1 ≤ result.1) }
+        ensures fits { all_columns self.now * result.0 < 2 ^ 32 }
     {
         (self.across, self.down)
     }

@@ -1,14 +1,14 @@
 //! Pictures of a symbol: text, half blocks, SVG, PIC and rows of pixels.
 #![tactic(auto)]
 
-ghost use Rattle.std.specs.Prelude.{◌≡◌, ℕ, ◌+◌, ◌-◌, ◌*◌, ◌^◌, ◌<◌, ◌≤◌, length, fold, IfOk, OnOk, IsOkUnless, IsTrue, max, if◌then◌else◌};
+ghost use Rattle.std.specs.Prelude.{◌≡◌, ℕ, ◌+◌, ◌-◌, ◌*◌, ◌^◌, ◌<◌, ◌≤◌, length, fold, IfOk, OnOk, IsOkUnless, IsTrue};
 ghost use Rattle.qrcode_types.specs.declared.types.QrError.TheVariants.{OutOfMemory};
 ghost use Rattle.qrcode_types.specs.declared.types.Color.{Color};
 ghost use Rattle.std.specs.List.{range_with_len};
 ghost use Rattle.qrcode_render.specs.Drawn.{drawn, drawn_row, filled};
 ghost use Rattle.qrcode_render.specs.GridOf.{grid_of};
 ghost use Rattle.qrcode_render.specs.Layout.{layout};
-ghost use Rattle.qrcode_render.specs.Setting.{Setting, IsWhole, IsSquare, setting_of, HasPixels, side_of, fits, drawing_of, least_size, greatest_size, IsLeastSize, IsGreatestSize};
+ghost use Rattle.qrcode_render.specs.Setting.{Setting, IsWhole, IsSquare, setting_of, HasPixels, fits, drawing_of};
 
 use crate::grid::Grid;
 use qrcode_types::types::{Color, QrResult};
@@ -16,6 +16,7 @@ use std::alloc::Global;
 use std::marker::Model;
 
 mod cells;
+pub mod eps;
 mod fours;
 pub mod grid;
 pub mod image;
@@ -23,8 +24,11 @@ mod lines;
 mod marks;
 pub mod page;
 mod palette;
+pub mod pbm;
+pub mod pgm;
 pub mod pic;
 pub mod rows;
+mod setters;
 mod sheet;
 mod stamps;
 pub mod string;
@@ -403,152 +407,6 @@ impl<'a, P: Pixel> Renderer<'a, P> {
             light_color: P::default_color(Color::Light),
             whole_quiet_zone: quiet_zone,
         }
-    }
-
-    /// Sets the pixel of dark modules.
-    pub fn dark_color(&mut self, color: P) -> &mut Self
-        ensures same { result.ghost_name ≡ self.entry.ghost_name }
-        ensures sets { result.now ≡ record self.old { dark = color } }
-    {
-        self.dark_color = color;
-        self
-    }
-
-    /// Sets the pixel of light modules.
-    pub fn light_color(&mut self, color: P) -> &mut Self
-        ensures same { result.ghost_name ≡ self.entry.ghost_name }
-        ensures sets { result.now ≡ record self.old { light = color } }
-    {
-        self.light_color = color;
-        self
-    }
-
-    /// Switches the quiet zone on or off. Sizes of modules that were set before stay.
-    pub fn quiet_zone(&mut self, has_quiet_zone: bool) -> &mut Self
-        ensures same { result.ghost_name ≡ self.entry.ghost_name }
-        ensures sets { result.now ≡ record self.old {
-          zone = if has_quiet_zone then self.old.whole_zone else 0;
-        } }
-    {
-        self.quiet_zone = if has_quiet_zone {
-            self.whole_quiet_zone
-        } else {
-            0
-        };
-        self
-    }
-
-    /// Sets the pixels of a module across and down, each raised to at least 1.
-    ///
-    /// A picture of up to 65,536 modules along a side fits with modules of up to 65,535 pixels.
-    pub fn module_dimensions(&mut self, width: u32, height: u32) -> &mut Self
-        ensures same { result.ghost_name ≡ self.entry.ghost_name }
-        ensures sets { result.now
-            ≡ record self.old { across = max width 1; down = max height 1 } }
-        ensures fits { side_of self.old ≤ 2 ^ 16 → width < 2 ^ 16 → height < 2 ^ 16
-            → IsTrue (fits result.now) }
-    {
-        self.module_width = width.max(1);
-        self.module_height = height.max(1);
-        self
-    }
-
-    /// Sets the pixels of a module across and down to the same number, raised to at least 1.
-    ///
-    /// A picture of up to 65,536 modules along a side fits with modules of up to 65,535 pixels.
-    pub fn module_size(&mut self, width: u32) -> &mut Self
-        ensures same { result.ghost_name ≡ self.entry.ghost_name }
-        ensures sets { result.now
-            ≡ record self.old { across = max width 1; down = max width 1 } }
-        ensures fits { side_of self.old ≤ 2 ^ 16 → width < 2 ^ 16 → IsTrue (fits result.now) }
-    {
-        self.module_dimensions(width, width)
-    }
-
-    // The modules along a side of the picture, with the quiet zone where it is on.
-    fn side(&self) -> u32
-        requires { side_of self.now < 2 ^ 32 }
-        ensures { result ≡ side_of self.now }
-    {
-        self.modules_count + 2 * self.quiet_zone
-    }
-
-    /// Sets the least size of a module with which the picture has at least so many pixels across
-    /// and down, with the quiet zone where it is on at this call. The picture fits then.
-    ///
-    /// The picture has a module, and its modules along a side and the pixels asked for are together
-    /// at most 4,294,967,296.
-    #[tactic(auto, using(crate::proofs::Sizes::is_least_size))]
-    pub fn min_dimensions(&mut self, width: u32, height: u32) -> &mut Self
-        requires some { 1 ≤ side_of self.old }
-        requires side_fits { side_of self.old < 2 ^ 32 }
-        requires across_fits { width + side_of self.old - 1 < 2 ^ 32 }
-        requires down_fits { height + side_of self.old - 1 < 2 ^ 32 }
-        ensures same { result.ghost_name ≡ self.entry.ghost_name }
-        ensures sets { result.now ≡ record self.old {
-          across = least_size (side_of self.old) width;
-          down = least_size (side_of self.old) height;
-        } }
-        ensures least_across { IsLeastSize (side_of self.old) width result.now.across }
-        ensures least_down { IsLeastSize (side_of self.old) height result.now.down }
-        ensures fits { IsTrue (fits result.now) }
-    {
-        let side = self.side();
-        let more = side - 1;
-        self.module_dimensions((width + more) / side, (height + more) / side)
-    }
-
-    /// Sets the least size of a module with which the picture has at least so many pixels across
-    /// and down alike. The picture fits then.
-    ///
-    /// The picture has a module, and its modules along a side and the pixels asked for are together
-    /// at most 4,294,967,296.
-    pub fn min_width(&mut self, width: u32) -> &mut Self
-        requires some { 1 ≤ side_of self.old }
-        requires side_fits { side_of self.old < 2 ^ 32 }
-        requires across_fits { width + side_of self.old - 1 < 2 ^ 32 }
-        ensures same { result.ghost_name ≡ self.entry.ghost_name }
-        ensures sets { result.now ≡ record self.old {
-          across = least_size (side_of self.old) width;
-          down = least_size (side_of self.old) width;
-        } }
-        ensures least { IsLeastSize (side_of self.old) width result.now.across }
-        ensures fits { IsTrue (fits result.now) }
-    {
-        self.min_dimensions(width, width)
-    }
-
-    /// Sets the greatest size of a module with which the picture has at most so many pixels across
-    /// and down, or 1 where no size has, with the quiet zone where it is on at this call. The picture
-    /// fits then.
-    ///
-    /// The picture has a module, and at most 4,294,967,295 along a side.
-    #[tactic(auto, using(crate::proofs::Sizes::is_greatest_size))]
-    pub fn max_dimensions(&mut self, width: u32, height: u32) -> &mut Self
-        requires some { 1 ≤ side_of self.old }
-        requires side_fits { side_of self.old < 2 ^ 32 }
-        ensures same { result.ghost_name ≡ self.entry.ghost_name }
-        ensures sets { result.now ≡ record self.old {
-          across = greatest_size (side_of self.old) width;
-          down = greatest_size (side_of self.old) height;
-        } }
-        ensures greatest_across { IsGreatestSize (side_of self.old) width result.now.across }
-        ensures greatest_down { IsGreatestSize (side_of self.old) height result.now.down }
-        ensures fits { IsTrue (fits result.now) }
-    {
-        let side = self.side();
-        self.module_dimensions(width / side, height / side)
-    }
-
-    /// Whether the modules and the pixels along each side of the picture are at most
-    /// 4,294,967,295.
-    pub fn fits(&self) -> bool
-        ensures { result ≡ fits self.now }
-    {
-        let side = self.modules_count as u64 + 2 * self.quiet_zone as u64;
-        side < 1 << 32
-            && side * (self.module_width as u64) < 1 << 32
-            && side * (self.module_height as u64) < 1 << 32
     }
 
     /// The picture. Its sides are the modules along a side, with the quiet zone where it is on,

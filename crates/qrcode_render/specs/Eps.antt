@@ -1,0 +1,41 @@
+-- The text of Encapsulated PostScript.
+use Rattle.std.specs.Prelude.{ℕ, List, ◌++◌, codes, decimal}
+use Rattle.qrcode_types.specs.declared.types.Color.{Color}
+use Rattle.qrcode_render.specs.declared.eps.Color as eps
+use Rattle.qrcode_render.specs.Drawn.{drawn}
+use Rattle.qrcode_render.specs.Layout.{Layout, pixels_across, pixels_down}
+
+-- what follows is drawn in this colour
+abbrev pub eps_paint : eps.Color → List ℕ
+eps_paint p =
+    decimal p.red ++ (codes " 255 div " ++ (decimal p.green ++ (codes " 255 div " ++ (decimal p.blue ++ codes " 255 div setrgbcolor\n"))))
+
+-- the head, whose box has its lower left corner at 0 0, and a point for a pixel
+abbrev pub eps_head : ℕ → ℕ → List ℕ
+eps_head w h =
+    codes "%!PS-Adobe-3.0 EPSF-3.0\n%%BoundingBox: 0 0 " ++ (decimal w ++ (codes " " ++ (decimal h ++ codes "\n%%LanguageLevel: 2\n%%EndComments\n")))
+
+-- a rectangle, given by its corner next to the origin and its sides
+abbrev pub eps_box : ℕ → ℕ → ℕ → ℕ → List ℕ
+eps_box left top width height =
+    decimal left ++ (codes " " ++ (decimal top ++ (codes " " ++ (decimal width ++ (codes " " ++ (decimal height ++ codes " rectfill\n"))))))
+
+-- the origin goes to the upper left corner, and rows are counted from above
+abbrev pub eps_turn : ℕ → List ℕ
+eps_turn h = codes "0 " ++ (decimal h ++ codes " translate 1 -1 scale\n")
+
+-- what stands before the first dark rectangle: the head, and a light ground
+abbrev pub eps_start : ℕ → ℕ → eps.Color → eps.Color → List ℕ
+eps_start w h dark light = eps_head w h ++ (eps_paint light ++ (eps_box 0 0 w h ++ (eps_turn h ++ eps_paint dark)))
+
+-- a dark rectangle
+abbrev pub eps_rect : ℕ → ℕ → ℕ → ℕ → List ℕ → List ℕ
+eps_rect left top width height text = text ++ eps_box left top width height
+
+-- what stands behind the last dark rectangle
+abbrev pub eps_end : List ℕ
+eps_end = codes "showpage\n%%EOF\n"
+
+-- the picture of modules, of a dark and a light colour
+unfoldable pub eps_text : Layout → List Color → eps.Color → eps.Color → List ℕ
+eps_text at content dark light = drawn eps_rect at content (eps_start (pixels_across at) (pixels_down at) dark light) ++ eps_end

@@ -1,0 +1,34 @@
+-- The bytes of picture files of pixels.
+use Rattle.std.specs.Prelude.{ℕ, zero, suc, ◌+◌, ◌*◌, ◌/◌, Bool, false, List, [], ◌∷◌, ◌++◌, codes, decimal, length, map, flat_map, slice_index_or, if◌then◌else◌}
+use Rattle.std.specs.List.{range_with_len}
+use Rattle.qrcode_render.specs.Bitmap.{Bitmap, row_of}
+use Rattle.qrcode_render.specs.Texts.{raw_bytes}
+
+-- a PGM file: its kind, its sides, the greatest grey, and the grey of each pixel, row by row
+unfoldable pub pgm_file : ℕ → ℕ → Bitmap → List ℕ
+pgm_file dark light b =
+    codes "P5\n" ++ (decimal b.across ++ (codes " " ++ (decimal b.down ++ codes "\n255\n")))
+    ++ raw_bytes (dark ∷ []) (light ∷ []) b
+
+-- which pixels of a row are black, where dark ones are or are not, and light ones are or are not
+abbrev pub inked : Bool → Bool → List Bool → List Bool
+inked marked other marks = map (λ m. if m then marked else other) marks
+
+-- the bit of a pixel: 1 for black, and 0 for white and behind the end of the row
+abbrev pub black_bit : List Bool → ℕ → ℕ
+black_bit blacks x = if slice_index_or blacks x false then 1 else 0
+
+-- the number that the bits of so many pixels from a place on make, the first highest
+unfoldable pub bits_from : List Bool → ℕ → ℕ → ℕ
+bits_from blacks start zero = 0
+bits_from blacks start (suc count) = 2 * bits_from blacks start count + black_bit blacks (start + count)
+
+-- a row of pixels, eight in a byte
+unfoldable pub packed : List Bool → List ℕ
+packed blacks = map (λ i. bits_from blacks (8 * i) 8) (range_with_len 0 ((length blacks + 7) / 8))
+
+-- a PBM file: its kind, its sides, and the rows of pixels, each in bytes of its own
+unfoldable pub pbm_file : Bool → Bool → Bitmap → List ℕ
+pbm_file marked other b =
+    codes "P4\n" ++ (decimal b.across ++ (codes " " ++ (decimal b.down ++ codes "\n")))
+    ++ flat_map (λ y. packed (inked marked other (row_of b y))) (range_with_len 0 b.down)

@@ -1,0 +1,143 @@
+//! Pictures as Encapsulated PostScript, in which a pixel is a point: 1/72 of an inch.
+
+ghost use Rattle.std.proofs.Common.{rules};
+ghost use Rattle.std.specs.Prelude.{◌≡◌, ℕ, ◌^◌, ◌<◌, ◌++◌, List, string_bytes, OnOk, IsOkUnless};
+ghost use Rattle.qrcode_types.specs.declared.types.QrError.TheVariants.{OutOfMemory};
+ghost use Rattle.qrcode_types.specs.Colors.{select_of};
+ghost use Rattle.qrcode_render.specs.Eps.{eps_head, eps_paint, eps_box, eps_turn, eps_start, eps_rect, eps_end, eps_text};
+ghost use Rattle.qrcode_render.specs.Setting.{layout_of};
+
+use crate::Pixel;
+use qrcode_types::types::{Color as ModuleColor, QrResult};
+use std::alloc::Global;
+use std::fmt::Write;
+
+/// A colour of PostScript, as red, green and blue from 0 to 255.
+#[derive(Copy, Clone, PartialEq, Eq)]
+pub struct Color {
+    pub red: u8,
+    pub green: u8,
+    pub blue: u8,
+}
+
+impl Pixel for Color {
+    type Image = String;
+
+    type Canvas = Canvas;
+
+    ghost unit = { (8, 8) };
+
+    ghost unit_positive = { Prim.search rules };
+
+    ghost is_default_color = { λ c pixel. (pixel.red ≡ select_of c 0 255)
+        × (pixel.green ≡ select_of c 0 255) × (pixel.blue ≡ select_of c 0 255) };
+
+    fn default_unit_size() -> (u32, u32) {
+        (8, 8)
+    }
+
+    fn default_color(color: ModuleColor) -> Color {
+        let grey = color.select(0, 255);
+        Color {
+            red: grey,
+            green: grey,
+            blue: grey,
+        }
+    }
+}
+
+/// A PostScript text while it is drawn: a box for each dark rectangle.
+#[derive(Drop)]
+pub struct Canvas {
+    width: u32,
+    height: u32,
+    text: String,
+    ghost width_fits: { width < 2 ^ 32 },
+    ghost height_fits: { height < 2 ^ 32 },
+}
+
+// Appends what sets the colour of what follows.
+fn push_paint(text: &mut String, color: Color) -> QrResult<()>
+    ensures appends { OnOk result
+        (string_bytes text.new ≡ string_bytes text.old ++ eps_paint color) }
+    ensures memory { IsOkUnless result OutOfMemory }
+{
+    let Color { red, green, blue } = color;
+    write!(
+        text,
+        "{red} 255 div {green} 255 div {blue} 255 div setrgbcolor\n"
+    )?;
+    Ok(())
+}
+
+// Appends a rectangle.
+fn push_box(text: &mut String, left: u32, top: u32, width: u32, height: u32) -> QrResult<()>
+    ensures appends { OnOk result
+        (string_bytes text.new ≡ string_bytes text.old ++ eps_box left top width height) }
+    ensures memory { IsOkUnless result OutOfMemory }
+{
+    write!(text, "{left} {top} {width} {height} rectfill\n")?;
+    Ok(())
+}
+
+impl crate::Canvas for Canvas {
+    type Pixel = Color;
+
+    type Image = String;
+
+    ghost Drawing = { List ℕ };
+
+    ghost shown = { λ canvas. string_bytes canvas.text };
+
+    ghost across = { λ canvas. canvas.width };
+
+    ghost down = { λ canvas. canvas.height };
+
+    ghost start = { eps_start };
+
+    ghost pixel_step = { λ x y. eps_rect x y 1 1 };
+
+    ghost rect_step = { eps_rect };
+
+    ghost is_end = { λ text image. string_bytes image ≡ text ++ eps_end };
+
+    ghost is_picture = { λ s image. string_bytes image ≡ eps_text (layout_of s) s.content s.dark s.light };
+
+    ghost sides_fit = { λ canvas. (canvas.width_fits, canvas.height_fits) };
+
+    fn new(
+        alloc: Global,
+        width: u32,
+        height: u32,
+        dark_pixel: Color,
+        light_pixel: Color,
+    ) -> QrResult<Canvas> {
+        let mut text = format!(in alloc;
+            "%!PS-Adobe-3.0 EPSF-3.0\n%%BoundingBox: 0 0 {width} {height}\n%%LanguageLevel: 2\n%%EndComments\n"
+        )?;
+        push_paint(&mut text, light_pixel)?;
+        push_box(&mut text, 0, 0, width, height)?;
+        write!(text, "0 {height} translate 1 -1 scale\n")?;
+        push_paint(&mut text, dark_pixel)?;
+        Ok(Canvas {
+            width,
+            height,
+            text,
+        })
+    }
+
+    fn draw_dark_pixel(&mut self, x: u32, y: u32) -> QrResult<()> {
+        push_box(&mut self.text, x, y, 1, 1)
+    }
+
+    fn draw_dark_rect(&mut self, left: u32, top: u32, width: u32, height: u32) -> QrResult<()> {
+        push_box(&mut self.text, left, top, width, height)
+    }
+
+    #[tactic(auto, unfolding(crate::specs::Eps::eps_text))]
+    fn into_image(self) -> QrResult<String> {
+        let mut text = self.text;
+        text.push_str("showpage\n%%EOF\n")?;
+        Ok(text)
+    }
+}
