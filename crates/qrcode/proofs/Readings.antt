@@ -84,13 +84,19 @@ unfolding format_copies
 near_words (Normal v) s a b f g p q = near_through (Normal v) s (map first_format_place (range_with_len 0 15)) a b (length-map-range_with_len first_format_place 0 15) f g p.0 q.0
 near_words (Micro v) s a b f g p q = near_through (Micro v) s (map micro_format_place (range_with_len 0 15)) a b (length-map-range_with_len micro_format_place 0 15) f g p.0 q.0
 
-same_words : (s : List Color) (v : Version) (l m : EcLevel) (bits others : List Bool) → (p : ReadsBits s v l bits) (q : ReadsBits s v m others) → (m ≡ l) × (q.mask ≡ p.mask)
-same_words s v l m bits others p q =
-    let a = number_bits 15 (format_word v m q.mask) in
-    let b = number_bits 15 (format_word v l p.mask) in
-    let near = near_words v s a b (length-number_bits 15 (format_word v m q.mask)) (length-number_bits 15 (format_word v l p.mask)) q.format p.format in
-    let same = format_words_are_apart v v m l q.mask p.mask refl q.exists p.exists q.mask_exists p.mask_exists (omega (arith, near)) in
+-- format words near the same copies are of one level and mask
+pub same_format : (v : Version) (s : List Color) (l m : EcLevel) (k j : MaskPattern) → IsTrue (has_level v l) → IsTrue (has_level v m) → IsTrue (exists_in v k) → IsTrue (exists_in v j)
+    → AllByRecursion (λ places. bit_distance (bits_at v s places) (number_bits 15 (format_word v l k)) ≤ 3) (format_copies v)
+    → AllByRecursion (λ places. bit_distance (bits_at v s places) (number_bits 15 (format_word v m j)) ≤ 3) (format_copies v) → (m ≡ l) × (j ≡ k)
+same_format v s l m k j has other exists another near_l near_m =
+    let a = number_bits 15 (format_word v m j) in
+    let b = number_bits 15 (format_word v l k) in
+    let near = near_words v s a b (length-number_bits 15 (format_word v m j)) (length-number_bits 15 (format_word v l k)) near_m near_l in
+    let same = format_words_are_apart v v m l j k refl other has another exists (omega (arith, near)) in
     (same.level, same.mask)
+
+same_words : (s : List Color) (v : Version) (l m : EcLevel) (bits others : List Bool) → (p : ReadsBits s v l bits) (q : ReadsBits s v m others) → (m ≡ l) × (q.mask ≡ p.mask)
+same_words s v l m bits others p q = same_format v s l m p.mask q.mask p.exists q.exists p.mask_exists q.mask_exists p.format q.format
 
 -- of a short block there is one correction
 same_block : (n : ℕ) (r c d : List ℕ) → length r ≤ 255 → Corrects r n c → Corrects r n d → d ≡ c

@@ -1,4 +1,5 @@
-pub mod Bytes
 pub mod Copies
-pub mod Gathered
+pub mod Corrections
+pub mod Interleaved
+pub mod Refused
 pub mod Walked

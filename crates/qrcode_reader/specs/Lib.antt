@@ -1,2 +1,6 @@
+pub mod Corrected
 pub mod Formats
+pub mod Parts
+pub mod Readings
+pub mod Refusals
 pub mod Streams

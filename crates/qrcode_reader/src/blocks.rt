@@ -1,80 +1,69 @@
-//! The blocks that are interleaved in codewords.
+//! Blocks among codewords in which they stand interleaved.
 
-ghost use Rattle.std.specs.Prelude.{◌≡◌, ◌+◌, ◌*◌, ◌<◌, ◌≤◌, length, vec_len, slice_index, IfOk};
-ghost use Rattle.qrcode_types.specs.Blocks.{AreBlocks, count_of};
-ghost use Rattle.qrcode_types.specs.Versions.{block_lengths};
-ghost use Rattle.qrcode_types.specs.declared.types.Version.{Version};
-ghost use Rattle.qrcode_types.specs.declared.types.EcLevel.{EcLevel};
-ghost use Rattle.qrcode_ec.specs.Blocks.{interleaved_place, block};
+ghost use Rattle.std.specs.Prelude.{◌≡◌, ◌<◌, ◌≤◌, ◌++◌, length, slice_index, vec_len, IsTrue, OnOk, IfOk};
+ghost use Rattle.qrcode_types.specs.Blocks.{count_of};
+ghost use Rattle.qrcode_types.specs.Versions.{has_level, block_lengths};
+ghost use Rattle.qrcode_ec.specs.Blocks.{block};
+ghost use Rattle.qrcode_reader.specs.Parts.{data_part, ec_part};
 
 use qrcode_types::tables::Blocks;
+use qrcode_types::types::{EcLevel, Version};
 use std::alloc::{AllocError, Global};
 
-// The codeword at a place, and zero behind the last one.
-fn word_at(words: &[u8], place: usize) -> u8
+// The codeword at a place, or zero behind the last one.
+fn word(words: &[u8], place: usize) -> u8
     ensures { result ≡ slice_index words.now place }
 {
-    match words.get(place) {
-        Some(word) => *word,
-        None => 0,
-    }
+    if place < words.len() { words[place] } else { 0 }
 }
 
-// The data bytes of a block.
-fn data_length(blocks: Blocks, index: usize) -> usize
-    requires { index < count_of blocks }
-    ensures value { (version : Version) (ec_level : EcLevel) → AreBlocks version ec_level blocks
-        → result ≡ slice_index (block_lengths version ec_level) index }
-    ensures last { blocks.short_length < result → blocks.short_blocks ≤ index }
-    ensures at_most { result ≤ blocks.short_length + 1 }
+// Appends the data bytes of block b: the first bytes of all blocks stand in front, then the second
+// ones, and behind all rows the last bytes of the long blocks.
+fn push_data(bytes: &mut Vec<u8>, words: &[u8], blocks: Blocks, b: usize) -> Result<(), AllocError>
+    requires { b < count_of blocks }
+    ensures { OnOk result (bytes.new.items ≡ bytes.old.items ++ data_part blocks words.now b) }
 {
-    if blocks.short_blocks <= index {
-        blocks.short_length + 1
-    } else {
-        blocks.short_length
+    let count = blocks.count();
+    for i in 0..blocks.short_length {
+        bytes.push(word(words, i * count + b))?;
     }
+    if blocks.short_blocks <= b {
+        let place = blocks.short_length * count + (b - blocks.short_blocks);
+        bytes.push(word(words, place))?;
+    }
+    Ok(())
 }
 
-// The place of a data byte of a block.
-fn data_place(blocks: Blocks, index: usize, i: usize) -> usize
-    requires exists { index < count_of blocks }
-    requires at_most { i ≤ blocks.short_length }
-    requires last { blocks.short_length ≤ i → blocks.short_blocks ≤ index }
-    ensures { (version : Version) (ec_level : EcLevel) → AreBlocks version ec_level blocks
-        → result ≡ interleaved_place (block_lengths version ec_level) i index }
+// Appends the error correction bytes of block b, which stand behind all data bytes.
+fn push_ec(bytes: &mut Vec<u8>, words: &[u8], blocks: Blocks, b: usize) -> Result<(), AllocError>
+    requires { b < count_of blocks }
+    ensures { OnOk result (bytes.new.items ≡ bytes.old.items ++ ec_part blocks words.now b) }
 {
-    let row = i * blocks.count();
-    if i < blocks.short_length {
-        row + index
-    } else {
-        row + (index - blocks.short_blocks)
+    let count = blocks.count();
+    let begin = blocks.data_length();
+    for i in 0..blocks.ec_length {
+        bytes.push(word(words, begin + i * count + b))?;
     }
+    Ok(())
 }
 
-/// A block of a list of codewords (ISO/IEC 18004:2006, 6.6): its data bytes, then its error
-/// correction bytes.
-///
-/// It fails for want of memory alone.
-pub fn read_block(
+/// Block b of the codewords, of which there are as many as the version has at the level: its data
+/// bytes, and then its error correction bytes (ISO/IEC 18004:2006, 6.6).
+pub(crate) fn block(
     alloc: Global,
     words: &[u8],
-    blocks: Blocks,
-    index: usize,
+    version: Version,
+    ec_level: EcLevel,
+    b: usize,
 ) -> Result<Vec<u8>, AllocError>
-    requires { index < count_of blocks }
-    ensures value { (version : Version) (ec_level : EcLevel) → AreBlocks version ec_level blocks
-        → IfOk result (λ bytes. bytes.items ≡ block version ec_level words.now index) }
+    requires exists { IsTrue (has_level version ec_level) }
+    requires inside { b < length (block_lengths version ec_level) }
+    ensures value { IfOk result (λ bytes. bytes.items ≡ block version ec_level words.now b) }
     ensures at_most { IfOk result (λ bytes. vec_len bytes ≤ 255) }
-    ensures at_least { IfOk result (λ bytes. blocks.ec_length ≤ vec_len bytes) }
 {
-    let length = data_length(blocks, index);
-    let mut bytes = Vec::with_capacity(alloc, length + blocks.ec_length)?;
-    for i in 0..length {
-        bytes.push(word_at(words, data_place(blocks, index, i)))?;
-    }
-    let behind = blocks.data_length() + index;
-    for i in 0..blocks.ec_length {
-        bytes.push(word_at(words, behind + i * blocks.count()))?;
-    }
+    let blocks = Blocks::of(version, ec_level).unwrap();
+    let mut bytes = Vec::with_capacity(alloc, blocks.short_length + 1 + blocks.ec_length)?;
+    push_data(&mut bytes, words, blocks, b)?;
+    push_ec(&mut bytes, words, blocks, b)?;
     Ok(bytes)
 }

@@ -1,14 +1,19 @@
-//! Squares of modules read: version, level and mask, the bits of the free places, codewords.
+//! Squares of modules read: version, level and mask, data bits and bytes, and which codewords were
+//! wrong.
 #![tactic(auto)]
 
+mod bits;
 mod blocks;
+mod correction;
 mod formats;
+mod reading;
+mod refusals;
 mod sizes;
 mod walk;
 mod words;
 
-pub use blocks::read_block;
+pub use correction::WrongCodeword;
 pub use formats::read_format;
+pub use reading::{BitReading, Reading, read, read_bits};
+pub use refusals::Unread;
 pub use sizes::version_of;
-pub use walk::stream;
-pub use words::codewords;

@@ -1,9 +1,8 @@
 //! The bits at the free places, along the walk, with the mask taken off.
 
-ghost use Rattle.std.specs.Prelude.{◌≡◌, ◌+◌, ◌*◌, ◌%◌, ◌<◌, ◌≤◌, ◌++◌, length, IsTrue, OnOk, IfOk, IsOkUnless, pos};
+ghost use Rattle.std.specs.Prelude.{◌≡◌, ◌+◌, ◌*◌, ◌%◌, ◌<◌, ◌≤◌, ◌++◌, length, IsTrue, OnOk, IfOk, pos};
 ghost use Rattle.qrcode_types.specs.Colors.{is_dark};
 ghost use Rattle.qrcode_types.specs.Versions.{is_valid, side};
-ghost use Rattle.qrcode_types.specs.declared.types.QrError.TheVariants.{OutOfMemory};
 ghost use Rattle.qrcode_places.specs.Masks.{turned_if};
 ghost use Rattle.qrcode_places.specs.Stream.{stream};
 ghost use Rattle.qrcode_symbol.specs.Filling.{row_of_step};
@@ -12,7 +11,7 @@ ghost use Rattle.qrcode_reader.specs.Streams.{patterned_canvas, bits_of_place, b
 use qrcode_places::masks::MaskPattern;
 use qrcode_places::walk::right_column;
 use qrcode_symbol::canvas::{Canvas, Module};
-use qrcode_types::types::{Color, EcLevel, QrError, Version};
+use qrcode_types::types::{Color, EcLevel, Version};
 use std::alloc::{AllocError, Global};
 
 // The modules along a side.
@@ -27,14 +26,17 @@ pub(crate) fn side(version: Version) -> usize
 }
 
 // A new canvas with the functional patterns: the places that it leaves empty are the free ones.
-fn patterned(alloc: Global, version: Version) -> Result<Canvas, QrError>
+fn patterned(alloc: Global, version: Version) -> Result<Canvas, AllocError>
     requires { IsTrue (is_valid version) }
-    ensures value { IfOk result (λ canvas. canvas ≡ patterned_canvas version) }
-    ensures memory { IsOkUnless result OutOfMemory }
+    ensures { IfOk result (λ canvas. canvas ≡ patterned_canvas version) }
 {
-    let mut canvas = Canvas::new(alloc, version, EcLevel::L)?;
-    canvas.draw_all_functional_patterns();
-    Ok(canvas)
+    match Canvas::new(alloc, version, EcLevel::L) {
+        Ok(mut canvas) => {
+            canvas.draw_all_functional_patterns();
+            Ok(canvas)
+        }
+        Err(_) => Err(AllocError),
+    }
 }
 
 // A column or a row as a signed number.
@@ -129,17 +131,16 @@ fn push_pair(
 /// The bits at the free places, in the order of the walk, with the mask taken off (ISO/IEC
 /// 18004:2006, 6.7.3 and 6.8).
 ///
-/// The version is one that exists, and the square has its side. `OutOfMemory` is the only error.
-pub fn stream(
+/// The version is one that exists, and the square has its side.
+pub(crate) fn stream(
     alloc: Global,
     version: Version,
     mask: MaskPattern,
     modules: &[Color],
-) -> Result<Vec<bool>, QrError>
+) -> Result<Vec<bool>, AllocError>
     requires valid { IsTrue (is_valid version) }
     requires square { length modules.now ≡ side version * side version }
-    ensures value { IfOk result (λ bits. bits.items ≡ stream version mask modules.now) }
-    ensures memory { IsOkUnless result OutOfMemory }
+    ensures { IfOk result (λ bits. bits.items ≡ stream version mask modules.now) }
 {
     let canvas = patterned(alloc, version)?;
     let mut bits = Vec::with_capacity(alloc, modules.len())?;

@@ -1,68 +1,96 @@
 //! The codewords in the bits of the free places.
 
-ghost use Rattle.std.specs.Prelude.{◌≡◌, ◌+◌, ◌*◌, ◌<◌, ◌≤◌, ◌++◌, length, IsTrue, OnOk, IfOk, slice_index_or, false};
+ghost use Rattle.std.specs.Prelude.{◌≡◌, ◌≤◌, ◌++◌, false, length, take, drop, slice_index_or, IsTrue, OnOk, IfOk, if◌then◌else◌};
 ghost use Rattle.qrcode_types.specs.Bits.{byte_at, bytes_of};
-ghost use Rattle.qrcode_types.specs.Versions.{capacity, total_ec_length};
-ghost use Rattle.qrcode_types.specs.declared.types.Version.{Version};
-ghost use Rattle.qrcode_types.specs.declared.types.EcLevel.{EcLevel};
+ghost use Rattle.qrcode_types.specs.Versions.{has_level};
 ghost use Rattle.qrcode_ec.specs.Blocks.{codewords};
 
+use qrcode_types::tables::{Blocks, capacity};
+use qrcode_types::types::{EcLevel, Version};
 use std::alloc::{AllocError, Global};
 
-// The bit at a place, and zero behind the last one.
-fn bit_at(bits: &[bool], place: usize) -> bool
-    ensures { result ≡ slice_index_or bits.now place false }
+// The first bits, so many, or all.
+fn front(bits: &[bool], count: usize) -> &[bool]
+    ensures value { result.now ≡ take count bits.now }
+    ensures at_most { length result.now ≤ count }
 {
-    match bits.get(place) {
-        Some(bit) => *bit,
-        None => false,
+    if count < bits.len() {
+        bits.split_at(count).0
+    } else {
+        bits
     }
 }
 
-// A byte of a list of bits, with zeros behind its end.
-fn byte_at(bits: &[bool], index: usize) -> u8
-    requires { index < 10000 }
-    ensures { result ≡ byte_at bits.now index }
+// The bits behind the first ones, so many.
+fn behind(bits: &[bool], count: usize) -> &[bool]
+    ensures { result.now ≡ drop count bits.now }
 {
-    let mut byte: u32 = 0;
-    for j in 0..8_usize {
-        byte = 2 * byte + u32::from(bit_at(bits, 8 * index + j));
+    if count < bits.len() {
+        bits.split_at(count).1
+    } else {
+        &[]
     }
-    byte as u8
 }
 
-// Appends the bytes of a list of bits.
-fn push_bytes(words: &mut Vec<u8>, bits: &[bool]) -> Result<(), AllocError>
-    requires { length bits.now < 60000 }
-    ensures { OnOk result (words.new.items ≡ words.old.items ++ bytes_of bits.now) }
+// The bit at a place as a number, or zero behind the end.
+fn bit(bits: &[bool], place: usize) -> u8
+    ensures value { result ≡ (if slice_index_or bits.now place false then 1 else 0) }
+    ensures at_most { result ≤ 1 }
 {
-    for index in 0..(bits.len() + 7) / 8 {
-        words.push(byte_at(bits, index))?;
+    if place < bits.len() && bits[place] {
+        1
+    } else {
+        0
+    }
+}
+
+// The i-th byte, with zeros behind the end.
+fn byte_at(bits: &[bool], i: usize) -> u8
+    requires { i ≤ 30000 }
+    ensures { result ≡ byte_at bits.now i }
+{
+    let at = 8 * i;
+    let high = 8 * bit(bits, at)
+        + 4 * bit(bits, at + 1)
+        + 2 * bit(bits, at + 2)
+        + bit(bits, at + 3);
+    let low = 8 * bit(bits, at + 4)
+        + 4 * bit(bits, at + 5)
+        + 2 * bit(bits, at + 6)
+        + bit(bits, at + 7);
+    16 * high + low
+}
+
+// Appends the bytes of bits, the last one filled with zeros.
+fn push_bytes(bytes: &mut Vec<u8>, bits: &[bool]) -> Result<(), AllocError>
+    requires { length bits.now ≤ 30000 }
+    ensures { OnOk result (bytes.new.items ≡ bytes.old.items ++ bytes_of bits.now) }
+{
+    for i in 0..(bits.len() + 7) / 8 {
+        bytes.push(byte_at(bits, i))?;
     }
     Ok(())
 }
 
-/// The codewords in the bits of the free places, of which so many hold data and so many error
-/// correction (ISO/IEC 18004:2006, 6.7.3): the data codewords, the last of four bits and four zeros
-/// where there is a half one, and then those of error correction.
-///
-/// It fails for want of memory alone.
-pub fn codewords(
+/// The codewords of a stream, which is the bits of the free places with the mask taken off: the data
+/// codewords, the last one filled with zeros where it has four bits, and then the error correction
+/// codewords (ISO/IEC 18004:2006, 6.7.3).
+pub(crate) fn codewords(
     alloc: Global,
     bits: &[bool],
-    data_bits: usize,
-    ec_bits: usize,
+    version: Version,
+    ec_level: EcLevel,
 ) -> Result<Vec<u8>, AllocError>
-    requires inside { data_bits + ec_bits ≤ length bits.now }
-    requires at_most { length bits.now < 60000 }
-    ensures { (version : Version) (ec_level : EcLevel) → data_bits ≡ capacity version ec_level
-        → ec_bits ≡ 8 * total_ec_length version ec_level
-        → IfOk result (λ words. words.items ≡ codewords version ec_level bits.now) }
+    requires { IsTrue (has_level version ec_level) }
+    ensures value { IfOk result (λ words. words.items ≡ codewords version ec_level bits.now) }
 {
-    let (data, behind) = bits.split_at(data_bits);
-    let (ec, _) = behind.split_at(ec_bits);
-    let mut words = Vec::with_capacity(alloc, (data_bits + ec_bits + 14) / 8)?;
-    push_bytes(&mut words, data)?;
-    push_bytes(&mut words, ec)?;
+    let blocks = Blocks::of(version, ec_level).unwrap();
+    let capacity = capacity(version, ec_level).unwrap();
+    let mut words = Vec::new(alloc);
+    push_bytes(&mut words, front(bits, capacity))?;
+    push_bytes(
+        &mut words,
+        front(behind(bits, capacity), 8 * blocks.total_ec_length()),
+    )?;
     Ok(words)
 }

@@ -6,8 +6,8 @@ use Rattle.qrcode_reader.proofs.walk.stream.Goals as goal
 pub loop-pair-init : goal.loop-pair-init
 loop-pair-init c = c.in_ok-bits.ensures.items ∙ none_walked c.args.version c.args.mask c.args.modules.now
 
-pub returns-clause-value : goal.returns-clause-value
-returns-clause-value c =
+pub returns : goal.returns
+returns c =
     let w = c.side-pair-end.ensures in
     let n : c.loop-pair.pair ≡ side c.args.version / 2 = omega (arith, w.value) in
     let odd : side c.args.version % 2 ≡ 1 = omega (arith, w.odd, w.value) in

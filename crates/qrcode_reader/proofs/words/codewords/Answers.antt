@@ -1,16 +1,24 @@
-use Rattle.std.proofs.Common.{◌≡◌, ◌*◌, ◌++◌, List, Bool, ℕ, take, drop, ap, ap₂, ◌∙◌}
+use Rattle.std.proofs.Common.{◌≡◌, ◌*◌, ◌++◌, take, drop, IfSome, subst, ap, ap₂, ◌∙◌}
 use Rattle.qrcode_types.specs.Bits.{bytes_of}
+use Rattle.qrcode_types.specs.Blocks.{AreBlocks}
 use Rattle.qrcode_types.specs.Versions.{capacity, total_ec_length}
 use Rattle.qrcode_ec.specs.Blocks.{codewords}
 use Rattle.qrcode_reader.proofs.words.codewords.Goals as goal
 
 pub returns : goal.returns
 unfolding codewords
-returns c = λ version ec_level e f.
-    let bits : List Bool = c.args.bits.now in
-    let front : c.split_at.result.0.now ≡ take (capacity version ec_level) bits = c.split_at.ensures.front ∙ ap (λ n. take n bits) e in
-    let behind : c.split_at.result.1.now ≡ drop (capacity version ec_level) bits = c.split_at.ensures.back ∙ ap (λ n. drop n bits) e in
-    let ec : c.split_at-2.result.0.now ≡ take (8 * total_ec_length version ec_level) (drop (capacity version ec_level) bits) =
-    c.split_at-2.ensures.front ∙ ap₂ (λ (n : ℕ) (r : List Bool). take n r) f behind in
-    c.in_ok-push_bytes-2.ensures
-    ∙ ap₂ (λ (x y : List ℕ). x ++ y) (c.in_ok-push_bytes.ensures ∙ ap₂ (λ (x y : List ℕ). x ++ y) c.in_ok-words.ensures.items (ap bytes_of front)) (ap bytes_of ec)
+returns c =
+    let v = c.args.version in
+    let l = c.args.ec_level in
+    let bits = c.args.bits.now in
+    let is : AreBlocks v l c.unwrap-blocks.result = subst (λ o. IfSome o (AreBlocks v l)) c.unwrap-blocks.ensures c.of.ensures.value in
+    let most : c.unwrap-capacity.result ≡ capacity v l = subst (λ o. IfSome o (λ n. n ≡ capacity v l)) c.unwrap-capacity.ensures c.capacity.ensures.value in
+    let first : bytes_of c.front.result.now ≡ bytes_of (take (capacity v l) bits) = ap bytes_of (c.front.ensures.value ∙ ap (λ n. take n bits) most) in
+    let second : bytes_of c.front-2.result.now ≡ bytes_of (take (8 * total_ec_length v l) (drop (capacity v l) bits)) =
+    ap bytes_of (c.front-2.ensures.value
+    ∙ ap₂ (λ n xs. take n xs) (ap (λ n. 8 * n) (c.total_ec_length.ensures.of_version v l is)) (c.behind.ensures ∙ ap (λ n. drop n bits) most)) in
+    record {
+      value =
+          c.in_ok-push_bytes-2.ensures
+          ∙ ap₂ (λ xs ys. xs ++ ys) (c.in_ok-push_bytes.ensures ∙ ap₂ (λ xs ys. xs ++ ys) c.new-words.ensures.items first) second;
+    }

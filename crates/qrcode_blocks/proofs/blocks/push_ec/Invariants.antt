@@ -1,8 +1,0 @@
-use Rattle.std.proofs.Common.{◌≡◌, ◌+◌, ◌*◌, ◌++◌, map, slice_index}
-use Rattle.std.specs.List.{range_with_len}
-use Rattle.qrcode_types.specs.Blocks.{count_of, data_length_of}
-use Rattle.qrcode_blocks.proofs.blocks.push_ec.Given as goal
-
-abbrev pub invariant-loop-i : goal.invariant-loop-i
-invariant-loop-i l =
-    l.bytes.items ≡ l.initial.bytes.items ++ map (λ i. slice_index l.words (data_length_of l.fn.blocks + i * count_of l.fn.blocks + l.b)) (range_with_len 0 l.i)

@@ -1,0 +1,75 @@
+-- What a reading of a square is, and why there is none.
+use Rattle.std.specs.Prelude.{◌≡◌, ◌≢◌, ◌*◌, ℕ, Bool, List, length, IsTrue}
+use Rattle.qrcode_types.specs.Versions.{is_valid, side}
+use Rattle.qrcode_types.specs.declared.types.Version.{Version}
+use Rattle.qrcode_types.specs.declared.types.EcLevel.{EcLevel}
+use Rattle.qrcode_types.specs.declared.types.Color.{Color}
+use Rattle.qrcode_ec.specs.Blocks.{codewords}
+use Rattle.qrcode_places.specs.Stream.{stream}
+use Rattle.qrcode_places.specs.declared.masks.MaskPattern.{MaskPattern}
+use Rattle.qrcode_symbol.specs.Symbol.{blocks_in}
+use Rattle.qrcode_symbol.specs.Reading.{ReadsBitsOnly}
+use Rattle.qrcode_bits.specs.Spelling.{Spells}
+use Rattle.qrcode.specs.Reading.{ReadsOnly}
+use Rattle.qrcode_reader.specs.Formats.{HasFormat}
+use Rattle.qrcode_reader.specs.Corrected.{wrong_from, IsFirstDamaged}
+use Rattle.qrcode_reader.specs.declared.correction.WrongCodeword.{WrongCodeword}
+use Rattle.qrcode_reader.specs.declared.refusals.Unread.{Unread}
+use Rattle.qrcode_reader.specs.declared.refusals.Unread.TheVariants.{NoSuchSide, NoFormat, Damaged, NotSpelled, OutOfMemory}
+
+-- the square is read as these bits and as no others; this is its mask, and these codewords were wrong
+pub record IsBitReading (s : List Color) (v : Version) (l : EcLevel) (k : MaskPattern) (bits : List Bool) (wrong : List WrongCodeword) : Type 0 where
+  pub only : ReadsBitsOnly s v l bits
+  pub mask : only.found.mask ≡ k
+  pub places : wrong ≡ wrong_from 0 (blocks_in v l k s) only.found.corrected
+
+-- the square is read as these bytes and as no others, by bits of which the same is true
+pub record IsReading (s : List Color) (v : Version) (l : EcLevel) (k : MaskPattern) (bytes : List ℕ) (wrong : List WrongCodeword) : Type 0 where
+  pub only : ReadsOnly s bytes
+  pub bits : List Bool
+  pub read : IsBitReading s v l k bits wrong
+  pub spelled : Spells v bits bytes
+
+-- no version has a square of so many modules
+abbrev pub HasNoVersion : List Color → Type 0
+HasNoVersion s = (v : Version) → IsTrue (is_valid v) → length s ≢ side v * side v
+
+-- a version has, and there are no level and mask whose format word is near each of its copies
+pub record HasNoFormat (s : List Color) : Type 0 where
+  pub version : Version
+  pub valid : IsTrue (is_valid version)
+  pub square : length s ≡ side version * side version
+  pub none : (l : EcLevel) (k : MaskPattern) → ¬ HasFormat version s l k
+
+-- there are, and block b is the first that cannot be corrected
+pub record HasDamagedBlock (s : List Color) (b : ℕ) : Type 0 where
+  pub version : Version
+  pub level : EcLevel
+  pub mask : MaskPattern
+  pub square : length s ≡ side version * side version
+  pub format : HasFormat version s level mask
+  pub first : IsFirstDamaged version level (codewords version level (stream version mask s)) b
+
+-- all blocks can be corrected, and the bits spell no bytes
+pub record SpellsNothing (s : List Color) : Type 0 where
+  pub version : Version
+  pub level : EcLevel
+  pub bits : List Bool
+  pub only : ReadsBitsOnly s version level bits
+  pub none : (bytes : List ℕ) → ¬ Spells version bits bytes
+
+-- why a square is not read as bits
+abbrev pub IsBitCause : List Color → Unread → Type 0
+IsBitCause s NoSuchSide = HasNoVersion s
+IsBitCause s NoFormat = HasNoFormat s
+IsBitCause s (Damaged b) = HasDamagedBlock s b
+IsBitCause s NotSpelled = ⊥
+IsBitCause s OutOfMemory = Unit
+
+-- why a square is not read as bytes
+abbrev pub IsCause : List Color → Unread → Type 0
+IsCause s NoSuchSide = HasNoVersion s
+IsCause s NoFormat = HasNoFormat s
+IsCause s (Damaged b) = HasDamagedBlock s b
+IsCause s NotSpelled = SpellsNothing s
+IsCause s OutOfMemory = Unit

@@ -1,0 +1,17 @@
+-- The texts of refusals.
+use Rattle.std.specs.Prelude.{ℕ, List, ◌++◌, codes, decimal}
+use Rattle.qrcode_spell.specs.declared.refusals.Unspelled as spelling
+use Rattle.qrcode_reader.specs.declared.refusals.Unread.{Unread}
+use Rattle.qrcode_reader.specs.declared.refusals.Unread.TheVariants.{NoSuchSide, NoFormat, Damaged, NotSpelled, OutOfMemory}
+
+abbrev pub refusal_text : Unread → List ℕ
+refusal_text NoSuchSide = codes "no version has so many modules"
+refusal_text NoFormat = codes "no format word is near both of its copies"
+refusal_text (Damaged block) = codes "too many errors in block " ++ decimal block
+refusal_text NotSpelled = codes "the bits spell no bytes"
+refusal_text OutOfMemory = codes "out of memory"
+
+-- the refusal of a square whose bits are refused
+abbrev pub unread_of : spelling.Unspelled → Unread
+unread_of spelling.TheVariants.NotSpelled = NotSpelled
+unread_of spelling.TheVariants.OutOfMemory = OutOfMemory

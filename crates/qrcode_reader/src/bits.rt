@@ -1,0 +1,55 @@
+//! The data bits of data bytes.
+
+ghost use Rattle.std.specs.Prelude.{◌≡◌, ◌++◌, length, take, IsTrue, OnOk, IfOk};
+ghost use Rattle.qrcode_types.specs.Bits as numbers;
+ghost use Rattle.qrcode_types.specs.Versions as tables;
+ghost use Rattle.qrcode_types.specs.Versions.{has_level};
+
+use qrcode_types::tables::capacity;
+use qrcode_types::types::{EcLevel, Version};
+use std::alloc::{AllocError, Global};
+
+// Appends the bits of a byte, the highest first.
+fn push_byte(bits: &mut Vec<bool>, byte: u8) -> Result<(), AllocError>
+    ensures { OnOk result (bits.new.items ≡ bits.old.items ++ numbers.number_bits 8 byte) }
+{
+    bits.extend_from_slice(&[
+        byte / 128 % 2 == 1,
+        byte / 64 % 2 == 1,
+        byte / 32 % 2 == 1,
+        byte / 16 % 2 == 1,
+        byte / 8 % 2 == 1,
+        byte / 4 % 2 == 1,
+        byte / 2 % 2 == 1,
+        byte % 2 == 1,
+    ])?;
+    Ok(())
+}
+
+// The first bits of bytes, so many.
+fn bits_of(alloc: Global, bytes: &[u8], count: usize) -> Result<Vec<bool>, AllocError>
+    ensures { IfOk result (λ bits. bits.items ≡ take count (numbers.bits_of bytes.now)) }
+{
+    let mut bits = Vec::new(alloc);
+    for byte in bytes {
+        push_byte(&mut bits, *byte)?;
+    }
+    bits.truncate(count);
+    Ok(bits)
+}
+
+/// The data bits of the data bytes of all blocks, block by block: their bits, without the last four
+/// where the last data codeword has four (ISO/IEC 18004:2006, 6.4.10).
+pub(crate) fn data_bits(
+    alloc: Global,
+    bytes: &[u8],
+    version: Version,
+    ec_level: EcLevel,
+) -> Result<Vec<bool>, AllocError>
+    requires { IsTrue (has_level version ec_level) }
+    ensures value { IfOk result (λ bits. bits.items
+        ≡ take (tables.capacity version ec_level) (numbers.bits_of bytes.now)) }
+{
+    let capacity = capacity(version, ec_level).unwrap();
+    bits_of(alloc, bytes, capacity)
+}

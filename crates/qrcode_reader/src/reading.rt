@@ -1,0 +1,135 @@
+//! Squares read as bits, and as bytes.
+
+ghost use Rattle.std.specs.Prelude.{◌≡◌, ℕ, ◌*◌, Bool, List, length, IsTrue, IfOk, IfErr, IsOkUnless};
+ghost use Rattle.qrcode_types.specs.Versions.{has_level, side};
+ghost use Rattle.qrcode_types.specs.declared.types.Version.{Version};
+ghost use Rattle.qrcode_types.specs.declared.types.EcLevel.{EcLevel};
+ghost use Rattle.qrcode_types.specs.declared.types.Color.{Color};
+ghost use Rattle.qrcode_ec.specs.Blocks as interleaved;
+ghost use Rattle.qrcode_places.specs.Stream as walked;
+ghost use Rattle.qrcode_symbol.specs.Symbol.{IsDamaged};
+ghost use Rattle.qrcode_symbol.specs.Reading.{ReadsBits};
+ghost use Rattle.qrcode.specs.Reading.{Reads, EncodesBytes};
+ghost use Rattle.qrcode_reader.specs.Readings.{IsBitReading, IsReading, IsBitCause, IsCause};
+ghost use Rattle.qrcode_reader.specs.declared.refusals.Unread.TheVariants.{OutOfMemory};
+
+use crate::bits::data_bits;
+use crate::correction::{WrongCodeword, correct_blocks};
+use crate::formats::read_format;
+use crate::refusals::Unread;
+use crate::sizes::version_of;
+use crate::walk::stream;
+use crate::words::codewords;
+use qrcode_places::masks::MaskPattern;
+use qrcode_spell::spell;
+use qrcode_types::types::{Color, EcLevel, Version};
+use std::alloc::{AllocError, Global};
+
+/// A square read as bits.
+#[derive(Drop)]
+pub struct BitReading {
+    /// Its version, by its side.
+    pub version: Version,
+    /// The level that its format word names.
+    pub ec_level: EcLevel,
+    /// The mask that it names.
+    pub mask: MaskPattern,
+    /// The data bits: segments, terminator and padding.
+    pub bits: Vec<bool>,
+    /// The codewords that were wrong, block by block.
+    pub wrong: Vec<WrongCodeword>,
+}
+
+/// A square read as bytes.
+#[derive(Drop)]
+pub struct Reading {
+    /// Its version, by its side.
+    pub version: Version,
+    /// The level that its format word names.
+    pub ec_level: EcLevel,
+    /// The mask that it names.
+    pub mask: MaskPattern,
+    /// The bytes of its segments.
+    pub data: Vec<u8>,
+    /// The codewords that were wrong, block by block.
+    pub wrong: Vec<WrongCodeword>,
+}
+
+// The codewords of a square.
+fn words_of(
+    alloc: Global,
+    version: Version,
+    ec_level: EcLevel,
+    mask: MaskPattern,
+    modules: &[Color],
+) -> Result<Vec<u8>, AllocError>
+    requires exists { IsTrue (has_level version ec_level) }
+    requires square { length modules.now ≡ side version * side version }
+    ensures value { IfOk result (λ words. words.items ≡ interleaved.codewords version ec_level
+        (walked.stream version mask modules.now)) }
+{
+    let bits = stream(alloc, version, mask, modules)?;
+    codewords(alloc, &bits, version, ec_level)
+}
+
+/// The data bits of a square of modules, row by row from the top left corner, dark ones dark
+/// (ISO/IEC 18004:2006, 6.9 and Annex B). Each copy of the format word may have three wrong bits,
+/// and each block half as many wrong codewords as it has error correction codewords. What the
+/// bits mean is not looked at.
+///
+/// `NoSuchSide`, `NoFormat` and `Damaged` come where nothing else can be read, the first that
+/// applies. `OutOfMemory` is the only other error.
+pub fn read_bits(alloc: Global, modules: &[Color]) -> Result<BitReading, Unread>
+    ensures value { IfOk result (λ read. IsBitReading modules.now
+        read.version read.ec_level read.mask read.bits.items read.wrong.items) }
+    ensures accepts { (version : Version) (level : EcLevel) (bits : List Bool)
+        → ReadsBits modules.now version level bits → IsOkUnless result OutOfMemory }
+    ensures causes { IfErr result (IsBitCause modules.now) }
+{
+    let Some(version) = version_of(modules.len()) else {
+        return Err(Unread::NoSuchSide);
+    };
+    let Some((ec_level, mask)) = read_format(version, modules) else {
+        return Err(Unread::NoFormat);
+    };
+    let words = words_of(alloc, version, ec_level, mask, modules)?;
+    let blocks = correct_blocks(alloc, &words, version, ec_level)?;
+    let bits = data_bits(alloc, &blocks.data, version, ec_level)?;
+    Ok(BitReading {
+        version,
+        ec_level,
+        mask,
+        bits,
+        wrong: blocks.wrong,
+    })
+}
+
+/// The bytes of a square of modules, row by row from the top left corner, dark ones dark (ISO/IEC
+/// 18004:2006, 6.4, 6.9 and Annex B). Each copy of the format word may have three wrong bits, and
+/// each block half as many wrong codewords as it has error correction codewords.
+///
+/// `NoSuchSide`, `NoFormat`, `Damaged` and `NotSpelled` come where nothing else can be read, the
+/// first that applies. `OutOfMemory` is the only other error.
+pub fn read(alloc: Global, modules: &[Color]) -> Result<Reading, Unread>
+    ensures value { IfOk result (λ read. IsReading modules.now
+        read.version read.ec_level read.mask read.data.items read.wrong.items) }
+    ensures accepts { (bytes : List ℕ)
+        → Reads modules.now bytes → IsOkUnless result OutOfMemory }
+    ensures causes { IfErr result (IsCause modules.now) }
+    // What a constructor made is read as what it was made of, with the promised damage too.
+    ensures gives_back { (version : Version) (level : EcLevel) (bits : List Bool)
+        (bytes : List ℕ) (symbol : List Color)
+        → (encodes : EncodesBytes version level bits bytes symbol)
+        → IsDamaged version level encodes.encodes.mask symbol modules.now
+        → IsOkUnless result OutOfMemory × IfOk result (λ read. read.data.items ≡ bytes) }
+{
+    let read = read_bits(alloc, modules)?;
+    let data = spell(alloc, &read.bits, read.version)?;
+    Ok(Reading {
+        version: read.version,
+        ec_level: read.ec_level,
+        mask: read.mask,
+        data,
+        wrong: read.wrong,
+    })
+}
