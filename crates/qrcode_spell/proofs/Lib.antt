@@ -7,3 +7,4 @@ pub mod Spelled
 mod Headings
 mod NoHeader
 mod Parted
+mod Shown

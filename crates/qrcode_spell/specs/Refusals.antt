@@ -2,7 +2,18 @@
 use Rattle.std.specs.Prelude.{ℕ, List, codes}
 use Rattle.qrcode_spell.specs.declared.refusals.Unspelled.{Unspelled}
 use Rattle.qrcode_spell.specs.declared.refusals.Unspelled.TheVariants.{NotSpelled, OutOfMemory}
+use Rattle.qrcode_spell.specs.declared.refusals.Unshown.{Unshown}
+use Rattle.qrcode_spell.specs.declared.refusals.Unshown.TheVariants.{NotShown, OutOfMemory as NoMemory}
 
 abbrev pub refusal_text : Unspelled → List ℕ
 refusal_text NotSpelled = codes "the bits spell no bytes"
 refusal_text OutOfMemory = codes "out of memory"
+
+-- bits that spell nothing show nothing
+abbrev pub unshown_of : Unspelled → Unshown
+unshown_of NotSpelled = NotShown
+unshown_of OutOfMemory = NoMemory
+
+abbrev pub unshown_text : Unshown → List ℕ
+unshown_text NotShown = codes "the bits are no text in UTF-8"
+unshown_text NoMemory = codes "out of memory"

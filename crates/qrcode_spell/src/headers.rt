@@ -25,7 +25,12 @@ pub enum Header {
 }
 
 // A number in so many bits behind a prefix, and the rest.
-fn prefixed(bits: &[bool], width: usize, prefix: u32, count: usize) -> Option<(u32, &[bool])>
+pub(crate) fn prefixed(
+    bits: &[bool],
+    width: usize,
+    prefix: u32,
+    count: usize,
+) -> Option<(u32, &[bool])>
     requires width { width ≤ 32 }
     requires count { count ≤ 32 }
     requires prefix { prefix < 2 ^ width }

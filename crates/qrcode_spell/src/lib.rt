@@ -7,6 +7,7 @@ mod headers;
 mod parts;
 mod refusals;
 mod segments;
+mod texts;
 
 ghost use Rattle.std.specs.Prelude.{◌≡◌, ◌⊎◌, ℕ, List, IsTrue, IfOk, IfErr, IsOkUnless};
 ghost use Rattle.qrcode_types.specs.Versions.{is_valid};
@@ -16,9 +17,10 @@ ghost use Rattle.qrcode_spell.specs.declared.refusals.Unspelled.TheVariants.{Not
 pub use headers::Header;
 pub use parts::{Part, Parts, pieces};
 use qrcode_types::types::Version;
-pub use refusals::Unspelled;
+pub use refusals::{Unshown, Unspelled};
 use segments::{is_end, push_piece};
 use std::alloc::Global;
+pub use texts::text_of;
 
 /// The bytes that the data bits of a symbol spell (ISO/IEC 18004:2006, 6.4): those of all pieces up
 /// to the terminator, or to the end where that is cut off. What stands behind the terminator is not

@@ -1,8 +1,9 @@
 //! Why bits are not read.
 
 ghost use Rattle.std.specs.Prelude.{◌≡◌, Some};
-ghost use Rattle.qrcode_spell.specs.Refusals.{refusal_text};
+ghost use Rattle.qrcode_spell.specs.Refusals.{refusal_text, unshown_text, unshown_of};
 ghost use Rattle.qrcode_spell.specs.declared.refusals.Unspelled.TheVariants.{OutOfMemory};
+ghost use Rattle.qrcode_spell.specs.declared.refusals.Unshown.TheVariants as unshown;
 
 use std::alloc::{AllocError, AllocFailed};
 use std::error::Error;
@@ -46,5 +47,50 @@ impl<T: Drop> From<AllocFailed<T>> for Unspelled {
 
     fn from(_error: AllocFailed<T>) -> Unspelled {
         Unspelled::OutOfMemory
+    }
+}
+
+/// Why bits are shown as no text.
+#[derive(Debug, PartialEq, Eq, Copy, Clone)]
+pub enum Unshown {
+    /// A segment is Kanji or no UTF-8, or there is another header than the number 26 of UTF-8, or the
+    /// bits are not segments and an end.
+    NotShown,
+    /// Memory was refused.
+    OutOfMemory,
+}
+
+impl fmt::Display for Unshown {
+    ghost output = { λ e. Some (unshown_text e) };
+
+    // A width, a fill and a precision change nothing.
+    ghost styled_output = { λ e _. Some (unshown_text e) };
+
+    fn fmt<W: fmt::Write>(&self, f: &mut fmt::Formatter<W>) -> fmt::Result {
+        match self {
+            Unshown::NotShown => f.write_str("the bits are no text in UTF-8"),
+            Unshown::OutOfMemory => f.write_str("out of memory"),
+        }
+    }
+}
+
+impl Error for Unshown {}
+
+impl From<AllocError> for Unshown {
+    ghost from_gives = { λ _ e. e ≡ unshown.OutOfMemory };
+
+    fn from(_error: AllocError) -> Unshown {
+        Unshown::OutOfMemory
+    }
+}
+
+impl From<Unspelled> for Unshown {
+    ghost from_gives = { λ error e. e ≡ unshown_of error };
+
+    fn from(error: Unspelled) -> Unshown {
+        match error {
+            Unspelled::NotSpelled => Unshown::NotShown,
+            Unspelled::OutOfMemory => Unshown::OutOfMemory,
+        }
     }
 }
