@@ -24,6 +24,7 @@ mod lines;
 mod marks;
 pub mod page;
 mod palette;
+mod parts;
 pub mod pbm;
 pub mod pgm;
 pub mod pic;
