@@ -1,5 +1,6 @@
 pub mod Copies
 pub mod Corrections
 pub mod Interleaved
+pub mod Positioned
 pub mod Refused
 pub mod Walked

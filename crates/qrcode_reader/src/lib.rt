@@ -6,6 +6,7 @@ mod bits;
 mod blocks;
 mod correction;
 mod formats;
+mod positions;
 mod reading;
 mod refusals;
 mod sizes;
@@ -14,6 +15,7 @@ mod words;
 
 pub use correction::WrongCodeword;
 pub use formats::read_format;
+pub use positions::{AnyReading, Position, read_any};
 pub use reading::{BitReading, Reading, read, read_bits};
 pub use refusals::Unread;
 pub use sizes::version_of;

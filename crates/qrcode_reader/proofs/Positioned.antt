@@ -1,0 +1,47 @@
+-- Squares in other positions.
+use Rattle.std.proofs.Common.{◌≡◌, ◌≢◌, ◌*◌, ◌+◌, ◌<◌, ◌≤◌, ◌/◌, ℕ, Bool, true, false, List, length, refl, sym, ap, subst, ◌∙◌, arith, IsTrue, inl, inr}
+use Rattle.std.specs.List.{range_with_len}
+use Rattle.std.proofs.lemmas.Bool.{cases_order}
+use Rattle.std.proofs.lemmas.List.FromFn.{length-map-range_with_len}
+use Rattle.qrcode_types.specs.Versions.{is_valid, side}
+use Rattle.qrcode_types.specs.declared.types.Version.{Version}
+use Rattle.qrcode_types.specs.declared.types.Color.{Color}
+use Rattle.qrcode.specs.Reading.{Reads}
+use Rattle.qrcode.proofs.Sides.{valid_of}
+use Rattle.qrcode_reader.specs.Positions.{seen, seen_at, tried, IsUnreadIn}
+use Rattle.qrcode_reader.specs.declared.positions.Position.{Position}
+use Rattle.qrcode_reader.specs.declared.positions.Position.TheVariants.{Upright, TurnedLeft, UpsideDown, TurnedRight, Mirrored, Flipped, Transposed, Antitransposed}
+
+length-seen : (w : ℕ) (p : Position) (is_inverted : Bool) (s : List Color) → length (seen w p is_inverted s) ≡ w * w
+unfolding seen
+length-seen w p is_inverted s = length-map-range_with_len (seen_at w p is_inverted s) 0 (w * w)
+
+-- modules of no version are read in no position
+pub unread_of_no_version : (s : List Color) → ((v : Version) → IsTrue (is_valid v) → length s ≢ side v * side v) → (w : ℕ) → w * w ≡ length s → (p : Position) (is_inverted : Bool) (bytes : List ℕ)
+    → ¬ Reads (seen w p is_inverted s) bytes
+unread_of_no_version s none w square p is_inverted bytes reads =
+    none reads.version (valid_of reads.version reads.level reads.read.exists) (sym square ∙ sym (length-seen w p is_inverted s) ∙ reads.read.square)
+
+-- each position is tried
+place_of : (p : Position) (is_inverted : Bool) → (n : ℕ) × (n < 16) × (tried n ≡ (p, is_inverted))
+place_of Upright false = (0, omega arith, refl)
+place_of TurnedLeft false = (1, omega arith, refl)
+place_of UpsideDown false = (2, omega arith, refl)
+place_of TurnedRight false = (3, omega arith, refl)
+place_of Mirrored false = (4, omega arith, refl)
+place_of Flipped false = (5, omega arith, refl)
+place_of Transposed false = (6, omega arith, refl)
+place_of Antitransposed false = (7, omega arith, refl)
+place_of Upright true = (8, omega arith, refl)
+place_of TurnedLeft true = (9, omega arith, refl)
+place_of UpsideDown true = (10, omega arith, refl)
+place_of TurnedRight true = (11, omega arith, refl)
+place_of Mirrored true = (12, omega arith, refl)
+place_of Flipped true = (13, omega arith, refl)
+place_of Transposed true = (14, omega arith, refl)
+place_of Antitransposed true = (15, omega arith, refl)
+
+pub unread_in_all : (w : ℕ) (s : List Color) → ((n : ℕ) → n < 16 → IsUnreadIn w s n) → (p : Position) (is_inverted : Bool) (bytes : List ℕ) → ¬ Reads (seen w p is_inverted s) bytes
+unread_in_all w s none p is_inverted bytes =
+    let at = place_of p is_inverted in
+    subst (λ (t : Position × Bool). ¬ Reads (seen w t.0 t.1 s) bytes) at.2 (none at.0 at.1 bytes)
