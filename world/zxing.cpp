@@ -1,24 +1,31 @@
-// zxing FILE LEVEL: the rows of the symbol of the bytes of FILE by the writer of zxing-cpp, dark modules as `#`.
+// zxing FILE LEVEL bytes|UTF-8: the rows of the symbol of the bytes of FILE by the writer of zxing-cpp, dark modules as `#`. With `UTF-8` they are
+// taken for UTF-8, which the writer announces by the number 26 of that character set; with `bytes` they are written as they are, with no number.
 #include <ZXing/BarcodeFormat.h>
 #include <ZXing/BitMatrix.h>
 #include <ZXing/CharacterSet.h>
 #include <ZXing/MultiFormatWriter.h>
+#include <ZXing/TextUtfEncoding.h>
 #include <fstream>
 #include <iostream>
 #include <iterator>
 
 int main(int argc, char **argv)
 {
-    if (argc != 3)
+    if (argc != 4)
         return 2;
     std::ifstream file(argv[1], std::ios::binary);
     std::string bytes((std::istreambuf_iterator<char>(file)), {});
+    auto writer = ZXing::MultiFormatWriter(ZXing::BarcodeFormat::QRCode).setMargin(0);
     std::wstring text;
-    for (unsigned char byte : bytes)
-        text.push_back(byte);
+    if (std::string(argv[3]) == "UTF-8") {
+        text = ZXing::TextUtfEncoding::FromUtf8(bytes);
+        writer.setEncoding(ZXing::CharacterSet::UTF8);
+    } else {
+        for (unsigned char byte : bytes)
+            text.push_back(byte);
+    }
     // the levels as zxing numbers them: 2 for L, 4, 6, and 8 for H
-    int level = 2 * (int)std::string("LMQH").find(argv[2][0]) + 2;
-    auto writer = ZXing::MultiFormatWriter(ZXing::BarcodeFormat::QRCode).setEncoding(ZXing::CharacterSet::ISO8859_1).setEccLevel(level).setMargin(0);
+    writer.setEccLevel(2 * (int)std::string("LMQH").find(argv[2][0]) + 2);
     ZXing::BitMatrix symbol = writer.encode(text, 0, 0);
     for (int y = 0; y < symbol.height(); y++) {
         for (int x = 0; x < symbol.width(); x++)
