@@ -17,3 +17,5 @@ mod read_back;
 mod rows;
 #[cfg(test)]
 mod symbols;
+#[cfg(test)]
+mod texts;

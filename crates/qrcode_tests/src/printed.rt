@@ -1,6 +1,8 @@
 //! Printed symbols of the digits `01234567`: they are read, and drawn.
 
 use crate::symbols;
+use qrcode::bits::Manner;
+use qrcode::types::QrResult;
 use qrcode::{EcLevel, QrCode, Version};
 use qrcode_judge::reading;
 use qrcode_judge::square::Square;
@@ -62,31 +64,32 @@ fn reads_drawn_symbols(rt: HostRuntime) {
     check_reading(&rt, rt.alloc(), &DIGITS_MICRO);
 }
 
-// The symbol of a version and level has these lines, and a mask.
+// A symbol has these lines, and a mask.
 fn check_drawing(
     rt: &impl Abort,
     alloc: Global,
-    version: Version,
-    ec_level: EcLevel,
+    code: QrResult<QrCode>,
     lines: &[&str],
     mask: usize,
 ) {
-    let code = QrCode::with_version(alloc, b"01234567", version, ec_level).expect(rt, "a symbol");
+    let code = code.expect(rt, "a symbol");
     let text = code.to_debug_str(alloc, '#', '.').expect(rt, "a text");
     symbols::check_lines(rt, text.as_str(), lines);
     assert_eq!(rt; symbols::read(rt, alloc, &code).mask, mask);
+    assert_eq!(rt; code.mask().number(), mask);
 }
 
 #[test]
 fn printed_symbols_are_drawn(rt: HostRuntime) {
     let alloc = rt.alloc();
-    check_drawing(
-        &rt,
-        alloc,
-        Version::Normal(1),
-        EcLevel::M,
-        &DIGITS_NORMAL,
-        2,
-    );
-    check_drawing(&rt, alloc, Version::Micro(2), EcLevel::L, &DIGITS_MICRO, 4);
+    let (normal, micro) = (Version::Normal(1), Version::Micro(2));
+    let code = QrCode::with_version(alloc, b"01234567", normal, EcLevel::M);
+    check_drawing(&rt, alloc, code, &DIGITS_NORMAL, 2);
+    let code = QrCode::with_version(alloc, b"01234567", micro, EcLevel::L);
+    check_drawing(&rt, alloc, code, &DIGITS_MICRO, 4);
+    let code = QrCode::of_text(alloc, "01234567", EcLevel::M);
+    check_drawing(&rt, alloc, code, &DIGITS_NORMAL, 2);
+    let from = Version::Micro(1);
+    let code = QrCode::at_least(alloc, b"01234567", Manner::Text, from, EcLevel::L);
+    check_drawing(&rt, alloc, code, &DIGITS_MICRO, 4);
 }

@@ -8,4 +8,5 @@ pub mod payment;
 pub mod plain;
 #[cfg(test)]
 mod tests;
+pub mod texts;
 pub mod ticket;

@@ -31,7 +31,8 @@ pub struct Payment<'a> {
 /// The picture of a payment, at least 200 pixels wide. A text of up to 331 bytes, which is what banks
 /// agreed on, is refused for want of memory at most, and stays within Normal 13.
 pub fn payment_picture(alloc: Global, payment: &Payment<'_>) -> QrResult<String>
-    ensures picture { IfOk result (λ svg. IsPicture (payment_text payment.now) (string_bytes svg)) }
+    ensures picture { IfOk result (λ svg.
+        IsPicture (payment_text payment.now) (string_bytes svg)) }
     ensures accepts { length (payment_text payment.now) ≤ 331 → IsOkUnless result OutOfMemory }
     ensures causes { IfErr result (IsRefused M (payment_text payment.now)) }
 {

@@ -8,9 +8,20 @@ use qrcode::types::QrResult;
 use qrcode::{EcLevel, QrCode, Version};
 use std::alloc::Global;
 
+/// A text, as SVG and in half blocks.
+pub fn text(alloc: Global) -> QrResult<(String, String)> {
+    let code = QrCode::of_text(alloc, "01234567", EcLevel::M)?;
+    let svg = code
+        .render::<svg::Color>()
+        .min_dimensions(200, 200)
+        .build(alloc)?;
+    let text = code.render::<unicode::Dense1x2>().build(alloc)?;
+    Ok((svg, text))
+}
+
 /// A payment text to SVG.
 pub fn payment(alloc: Global) -> QrResult<String> {
-    let code = QrCode::new(alloc, b"BCD\n002\n1\nSCT\n..")?;
+    let code = QrCode::of_text(alloc, "BCD\n002\n1\nSCT\n..", EcLevel::M)?;
     let picture = code
         .render::<svg::Color>()
         .min_dimensions(200, 200)

@@ -4,10 +4,10 @@ use crate::charset::{greek_bits, greek_symbol};
 use crate::drawings::{as_chars, as_grey_map, as_half_blocks, as_pairs, as_pic, as_svg};
 use crate::label::{Bar, label_bars};
 use crate::payment::{Payment, payment_picture};
-use crate::plain;
 use crate::ticket::ticket_blocks;
-use qrcode::QrCode;
+use crate::{plain, texts};
 use qrcode::types::{QrError, QrResult};
+use qrcode::{EcLevel, QrCode, Version};
 use std::alloc::Global;
 use std::process::Abort;
 use std::test::Fail;
@@ -141,6 +141,9 @@ fn each_way_draws(rt: HostRuntime) -> Result<(), Fail> {
 #[test]
 fn plain_calls_draw(rt: HostRuntime) -> Result<(), Fail> {
     let alloc = rt.alloc();
+    let (svg, text) = plain::text(alloc)?;
+    assert!(rt; svg.contains("viewBox=\"0 0 203 203\""));
+    assert_eq!(rt; text.split('\n').count(), 15);
     assert!(rt; plain::payment(alloc)?.contains("viewBox=\"0 0 231 231\""));
     assert_eq!(rt; plain::ticket(alloc)?.split('\n').count(), 9);
     assert_eq!(rt; plain::greek(alloc)?.width(), 21);
@@ -151,5 +154,26 @@ fn plain_calls_draw(rt: HostRuntime) -> Result<(), Fail> {
     assert_eq!(rt; plain::greys(alloc)?.len(), 53_839);
     assert_eq!(rt; plain::colors(alloc)?.dimensions(), (203, 203));
     assert!(rt; plain::within(alloc)?.contains("viewBox=\"0 0 290 290\""));
+    Ok(())
+}
+
+#[test]
+fn texts_make_symbols(rt: HostRuntime) -> Result<(), Fail> {
+    let alloc = rt.alloc();
+    let (city, greeting) = (
+        "Z\u{fc}rich",
+        "\u{3053}\u{3093}\u{306b}\u{3061}\u{306f}\u{4e16}\u{754c}",
+    );
+    assert_eq!(rt; texts::sign(alloc, greeting)?.width(), 25);
+    assert_eq!(rt; texts::marked_sign(alloc, city)?.width(), 21);
+    assert_eq!(rt; texts::small_label(alloc, city)?.width(), 25);
+    assert_eq!(rt; texts::small_marked_label(alloc, city)?.width(), 25);
+    assert_eq!(rt; texts::smallest(alloc, city)?.version(), Version::Micro(3));
+    let safest = texts::smallest_and_safest(alloc, city)?;
+    assert_eq!(rt; safest.error_correction_level(), EcLevel::M);
+    assert_eq!(rt; texts::mask_of(&safest).micro_number(), 3);
+    assert!(rt; texts::count_of_dark(&safest) < 225);
+    assert_eq!(rt; texts::bytes_in_normal_5(alloc, b"\xca\xfe")?.width(), 37);
+    assert_eq!(rt; texts::in_two_parts(alloc, city, greeting)?.width(), 33);
     Ok(())
 }
