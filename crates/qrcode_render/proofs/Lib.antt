@@ -6,6 +6,8 @@ pub mod Packed
 pub mod Palettes
 pub mod Paths
 pub mod Pictures
+pub mod PixelRows
 pub mod RasterPictures
 pub mod Rectangles
 pub mod Sizes
+pub mod TextLines

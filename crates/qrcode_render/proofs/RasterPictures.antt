@@ -1,21 +1,12 @@
 -- What is drawn on rows of pixels.
-use Rattle.std.proofs.Common.{◌≡◌, ℕ, ◌+◌, ◌*◌, false, replicate, Bool, List, [], ◌∷◌, refl, ap, ◌∙◌, sym, subst}
-use Rattle.qrcode_types.specs.declared.types.Color.{Color}
-use Rattle.qrcode_types.specs.declared.types.Color.TheVariants.{Light, Dark}
-use Rattle.qrcode_render.specs.Bitmap.{Bitmap, marked, with_dark_modules}
-use Rattle.qrcode_render.specs.Drawn.{filled, drawn_row}
+use Rattle.std.proofs.Common.{◌≡◌, ◌*◌, false, replicate, Bool, List, refl, ap, ◌∙◌, sym, subst}
+use Rattle.qrcode_render.specs.Bitmap.{Bitmap, marked}
+use Rattle.qrcode_render.specs.Drawn.{filled}
 use Rattle.qrcode_render.specs.Layout.{pixels_across, pixels_down}
 use Rattle.qrcode_render.specs.Raster.{Raster, light_raster, dark_rect_step}
 use Rattle.qrcode_render.specs.Setting.{Setting, IsWhole, layout_of, picture_of, drawing_of}
 use Rattle.qrcode_render.proofs.Pictures.{drawn-marks}
 use Rattle.qrcode_render.proofs.Rectangles.{drawn_from-through}
-
--- the rectangles of a row change the bitmap alone
-pub drawn_row-raster : {P : Type 0} (left top width height : ℕ) (line : List Color) (r : Raster P)
-    → drawn_row dark_rect_step left top width height line r ≡ record r { bitmap = with_dark_modules left top width height line r.bitmap }
-drawn_row-raster left top width height [] r = refl
-drawn_row-raster left top width height (Light ∷ line) r = drawn_row-raster (left + width) top width height line r
-drawn_row-raster left top width height (Dark ∷ line) r = drawn_row-raster (left + width) top width height line (dark_rect_step left top width height r)
 
 -- what a renderer draws is its picture
 pub raster_drawing : {P : Type 0} (s : Setting P) → IsWhole s → drawing_of light_raster dark_rect_step s ≡ record { bitmap = picture_of s; dark = s.dark; light = s.light }

@@ -1,9 +1,9 @@
 -- Pixels that are dark or light, whatever stands for them.
-use Rattle.std.specs.Prelude.{ℕ, ◌+◌, ◌*◌, Bool, true, false, ◌||◌, List, [], ◌∷◌, length, filter, slice_set, slice_index_or, replicate}
+use Rattle.std.specs.Prelude.{ℕ, ◌+◌, ◌*◌, Bool, true, false, ◌||◌, List, [], ◌∷◌, slice_set, slice_index_or, replicate}
 use Rattle.std.specs.List.{slice_range}
 use Rattle.qrcode_types.specs.Colors.{is_dark}
 use Rattle.qrcode_types.specs.declared.types.Color.{Color}
-use Rattle.qrcode_render.specs.Drawn.{filled, drawn_row}
+use Rattle.qrcode_render.specs.Drawn.{filled}
 
 -- which pixels are dark, in row order
 pub record Bitmap : Type 0 where
@@ -26,14 +26,6 @@ with_dark x y b = record b { marks = marked b.across x y b.marks }
 -- the pixels of a rectangle dark
 abbrev pub with_dark_rect : ℕ → ℕ → ℕ → ℕ → Bitmap → Bitmap
 with_dark_rect left top width height b = record b { marks = filled (marked b.across) left top width height b.marks }
-
--- the pixels of the dark modules of a row dark
-abbrev pub with_dark_modules : ℕ → ℕ → ℕ → ℕ → List Color → Bitmap → Bitmap
-with_dark_modules left top width height line b = record b { marks = drawn_row (filled (marked b.across)) left top width height line b.marks }
-
--- how many pixels are dark
-abbrev pub dark_count : Bitmap → ℕ
-dark_count b = length (filter (λ m. m) b.marks)
 
 -- the marks of a row
 abbrev pub row_of : Bitmap → ℕ → List Bool

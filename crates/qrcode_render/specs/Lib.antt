@@ -13,5 +13,6 @@ pub mod Picture
 pub mod Raster
 pub mod Setting
 pub mod Shown
+pub mod Strips
 pub mod Texts
 pub mod Vectors

@@ -118,3 +118,24 @@ pub fn push_marks(line: &mut Line, palette: &Fours, dark: &[u8], light: &[u8], m
     }
     push_ones(line, dark, light, &marks[4 * fours..]);
 }
+
+/// Appends the texts that stand for the columns of two rows of marks, two columns at a time.
+pub fn push_columns(line: &mut Line, palette: &Fours, upper: &[bool], lower: &[bool])
+    requires length { length lower.now ≡ length upper.now }
+    requires room { length (line.old.text ++ columns_text (two_text palette.now) upper.now lower.now)
+        + 32 ≤ line.old.room }
+    ensures { line.new ≡ record line.old {
+      text = line.old.text ++ columns_text (two_text palette.now) upper.now lower.now;
+    } }
+{
+    let pairs = upper.len() / 2;
+    for i in 0..pairs {
+        let x = 2 * i;
+        let four = palette.four(upper[x], lower[x], upper[x + 1], lower[x + 1]);
+        line.put(four);
+    }
+    if upper.len() % 2 == 1 {
+        let x = upper.len() - 1;
+        line.put(palette.two(upper[x], lower[x]));
+    }
+}

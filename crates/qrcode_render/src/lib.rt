@@ -23,16 +23,15 @@ pub mod image;
 mod lines;
 mod marks;
 pub mod page;
-mod palette;
 mod parts;
 pub mod pbm;
 pub mod pgm;
 pub mod pic;
 pub mod rows;
 mod setters;
-mod sheet;
 mod stamps;
 pub mod string;
+mod strips;
 pub mod svg;
 pub mod unicode;
 

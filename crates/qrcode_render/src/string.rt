@@ -1,19 +1,17 @@
 //! Pictures as texts, with a text for each pixel.
 
 ghost use Rattle.std.proofs.Common.{rules};
-ghost use Rattle.std.specs.Prelude.{◌≡◌, ℕ, ◌+◌, ◌-◌, ◌*◌, ◌<◌, Bool, List, [], ◌∷◌, ◌++◌, length, encode_utf8, string_bytes, IfOk, IfSome, OnOk, IsOkUnless};
+ghost use Rattle.std.specs.Prelude.{◌≡◌, ℕ, ◌<◌, List, [], ◌∷◌, ◌++◌, length, encode_utf8, string_bytes, IfOk, OnOk, IsOkUnless};
 ghost use Rattle.qrcode_types.specs.declared.types.Color.{Color};
 ghost use Rattle.qrcode_types.specs.declared.types.QrError.TheVariants.{OutOfMemory};
 ghost use Rattle.qrcode_types.specs.Colors.{select_of};
-ghost use Rattle.qrcode_render.specs.Bitmap.{dark_count};
-ghost use Rattle.qrcode_render.specs.Lines.{two_text};
-ghost use Rattle.qrcode_render.specs.Texts.{marks_text, text_of};
+ghost use Rattle.qrcode_render.specs.Grid.{pixels_of};
+ghost use Rattle.qrcode_render.specs.Texts.{text_of};
 
 use crate::Pixel;
-use crate::lines::{begin_line, push_marks};
-use crate::marks::Marks;
-use crate::palette::{Palette, pairs};
-use crate::sheet::{Ending, Sheet};
+use crate::grid::Grid;
+use crate::page::{Finish, Page};
+use crate::rows::push_rows;
 use qrcode_types::types::{Color, QrError, QrResult};
 use std::alloc::Global;
 
@@ -129,31 +127,26 @@ impl<'a> Pixel for Str<'a> {
 
 /// Rows of pixels while they are drawn. The picture is a line of text for each row, with a newline
 /// between two lines and none at the end; without a column it is empty.
-pub type Canvas<P> = Sheet<P, Lines>;
+pub type Canvas<P> = Page<P, Lines>;
 
 /// Ends rows of pixels as lines of text.
 #[derive(Copy, Clone)]
 pub struct Lines;
 
-impl<P: Element> Ending<P> for Lines {
+impl<P: Element> Finish<P> for Lines {
     type Image = String;
 
     ghost is_image = { λ b dark light image. string_bytes image ≡ text_of (P.text dark) (P.text light) b };
 
     #[tactic(auto, unfolding(crate::specs::Texts::text_of))]
-    fn image(marks: Marks, dark: P, light: P) -> QrResult<String> {
-        let alloc = marks.alloc();
-        let (width, _) = marks.sides();
-        if width == 0 {
+    fn image(alloc: Global, grid: &Grid, dark: P, light: P) -> QrResult<String> {
+        let (width, height) = grid.pixels();
+        if width == 0 || height == 0 {
             return Ok(String::new(alloc));
         }
         let dark_text = element_text(alloc, dark)?;
         let light_text = element_text(alloc, light)?;
-        let palette = palette_of(alloc, &dark_text, &light_text)?;
-        let room = room_of(&marks, dark_text.len(), light_text.len()).ok_or(QrError::OutOfMemory)?;
-        let mut text = String::with_capacity(alloc, room)?;
-        push_lines(&mut text, &marks, &palette, &dark_text, &light_text)?;
-        Ok(text)
+        lines_of(alloc, grid, &dark_text, &light_text)
     }
 }
 
@@ -167,53 +160,21 @@ fn element_text<P: Element>(alloc: Global, element: P) -> QrResult<String>
     Ok(text)
 }
 
-// The palette of the texts that stand for a dark and a light mark.
-fn palette_of(alloc: Global, dark: &str, light: &str) -> QrResult<Palette>
-    ensures twos { IfOk result (λ palette. (a b : Bool) →
-        two_text palette a b ≡ marks_text dark.now light.now (a ∷ b ∷ [])) }
+// The lines of cells, with a text that stands for dark and one that stands for light.
+fn lines_of(alloc: Global, grid: &Grid, dark: &str, light: &str) -> QrResult<String>
+    requires across { 0 < (pixels_of grid.now).across }
+    requires down { 0 < (pixels_of grid.now).down }
+    ensures value { IfOk result (λ text.
+        string_bytes text ≡ text_of dark.now light.now (pixels_of grid.now)) }
     ensures memory { IsOkUnless result OutOfMemory }
 {
-    let mut ones = Vec::with_capacity(alloc, 2)?;
-    ones.push(String::from_str(alloc, light)?)?;
-    ones.push(String::from_str(alloc, dark)?)?;
-    Palette::new(alloc, pairs(alloc, &ones)?)
-}
+    let room = grid
+        .room(dark.len(), light.len(), 1)
+        .ok_or(QrError::OutOfMemory)?;
+    let mut raw = Vec::with_capacity(alloc, room)?;
+    push_rows(&mut raw, grid, dark.as_bytes(), light.as_bytes(), b"\n")?;
+    raw.pop();
 
-// Room for the lines of marks, each with a newline: so many bytes for a dark mark, and so many for
-// another. None where it cannot be counted.
-fn room_of(marks: &Marks, dark: usize, light: usize) -> Option<usize>
-    ensures { IfSome result (λ room. room
-        ≡ dark_count marks.now * dark + (length marks.now.marks - dark_count marks.now) * light
-        + marks.now.down) }
-{
-    let (_, height) = marks.sides();
-    let count = marks.count();
-    let dark_bytes = count.checked_mul(dark)?;
-    let light_bytes = (marks.as_slice().len() - count).checked_mul(light)?;
-    dark_bytes
-        .checked_add(light_bytes)?
-        .checked_add(height as usize)
-}
-
-// The lines of marks, with a text that stands for dark and one that stands for light.
-fn push_lines(
-    text: &mut String,
-    marks: &Marks,
-    palette: &Palette,
-    dark: &str,
-    light: &str,
-) -> QrResult<()>
-    requires empty { string_bytes text.old ≡ [] }
-    requires some { 0 < marks.now.across }
-    requires twos { (a b : Bool) →
-        two_text palette.now a b ≡ marks_text dark.now light.now (a ∷ b ∷ []) }
-    ensures value { OnOk result (string_bytes text.new ≡ text_of dark.now light.now marks.now) }
-    ensures memory { IsOkUnless result OutOfMemory }
-{
-    let (_, height) = marks.sides();
-    for y in 0..height {
-        begin_line(text, y)?;
-        push_marks(text, palette, dark, light, marks.row(y))?;
-    }
-    Ok(())
+    // Lines of texts are a text.
+    Ok(unsafe { String::from_utf8_unchecked(raw) })
 }

@@ -1,18 +1,22 @@
 //! Pictures as texts of half blocks: two rows of pixels in a line.
 
 ghost use Rattle.std.proofs.Common.{rules};
-ghost use Rattle.std.specs.Prelude.{◌≡◌, ◌+◌, ◌*◌, ◌/◌, ◌<◌, Bool, true, false, [], ◌++◌, length, string_bytes, IfOk, OnOk, IsOkUnless};
+ghost use Rattle.std.specs.Prelude.{◌≡◌, ℕ, ◌+◌, ◌*◌, ◌/◌, ◌^◌, ◌<◌, ◌≤◌, Bool, [], ◌∷◌, ◌++◌, length, flat_map, string_bytes, IfOk, OnOk, IsOkUnless};
+ghost use Rattle.std.specs.List.{range_with_len};
 ghost use Rattle.qrcode_types.specs.declared.types.QrError.TheVariants.{OutOfMemory};
 ghost use Rattle.qrcode_types.specs.Colors.{is_dark};
+ghost use Rattle.qrcode_render.specs.Grid.{pixels_of};
 ghost use Rattle.qrcode_render.specs.Half.{is_dark_half};
 ghost use Rattle.qrcode_render.specs.Lines.{two_text};
-ghost use Rattle.qrcode_render.specs.Texts.{half_blocks, column_text, columns_text, dense_text};
+ghost use Rattle.qrcode_render.specs.Strips.{IsStripOf};
+ghost use Rattle.qrcode_render.specs.Texts.{half_blocks, column_text, columns_text, dense_line, dense_text};
 
 use crate::Pixel;
-use crate::lines::{begin_line, push_ones};
-use crate::marks::Marks;
-use crate::palette::Palette;
-use crate::sheet::{Ending, Sheet};
+use crate::fours::{Fours, push_columns, push_ones};
+use crate::grid::Grid;
+use crate::page::{Finish, Page};
+use crate::stamps::{Line, Stamp};
+use crate::strips::mark_pixels;
 use qrcode_types::types::{Color, QrError, QrResult};
 use std::alloc::Global;
 
@@ -59,13 +63,13 @@ impl Pixel for Dense1x2 {
 
 /// Rows of pixels while they are drawn. The picture is a line of text for every two rows, with a
 /// newline between two lines and none at the end; a last row alone stands over light pixels.
-pub type Canvas1x2 = Sheet<Dense1x2, HalfBlocks>;
+pub type Canvas1x2 = Page<Dense1x2, HalfBlocks>;
 
 /// Ends rows of pixels as half blocks.
 #[derive(Copy, Clone)]
 pub struct HalfBlocks;
 
-impl Ending<Dense1x2> for HalfBlocks {
+impl Finish<Dense1x2> for HalfBlocks {
     ghost use Rattle.qrcode_render.specs.Half.{is_dark_half};
 
     type Image = String;
@@ -73,22 +77,14 @@ impl Ending<Dense1x2> for HalfBlocks {
     ghost is_image = { λ b dark light image. string_bytes image ≡ dense_text (is_dark_half dark) (is_dark_half light) b };
 
     #[tactic(auto, unfolding(crate::specs::Texts::dense_text))]
-    fn image(marks: Marks, dark: Dense1x2, light: Dense1x2) -> QrResult<String> {
-        let alloc = marks.alloc();
-        let (width, height) = marks.sides();
-        if width == 0 {
+    fn image(alloc: Global, grid: &Grid, dark: Dense1x2, light: Dense1x2) -> QrResult<String> {
+        let (width, height) = grid.pixels();
+        if width == 0 || height == 0 {
             return Ok(String::new(alloc));
         }
         let marked = dark.is_dark();
         let other = light.is_dark();
-        let palette = palette_of(alloc, marked, other)?;
-        let line = LONGEST_HALF * width as usize + 1;
-        let room = line
-            .checked_mul(height.div_ceil(2) as usize)
-            .ok_or(QrError::OutOfMemory)?;
-        let mut text = String::with_capacity(alloc, room)?;
-        push_lines(&mut text, &marks, &palette, marked, other)?;
-        Ok(text)
+        lines_of(alloc, grid, marked, other)
     }
 }
 
@@ -97,7 +93,8 @@ const LONGEST_HALF: usize = 3;
 
 // The character of a column of two pixels, of which each is dark or not.
 fn half(upper: bool, lower: bool) -> &'static str
-    ensures { result.now ≡ half_blocks upper lower }
+    ensures value { result.now ≡ half_blocks upper lower }
+    ensures at_most { length result.now ≤ 3 }
 {
     match (upper, lower) {
         (false, false) => " ",
@@ -107,73 +104,137 @@ fn half(upper: bool, lower: bool) -> &'static str
     }
 }
 
-// The palette of columns, where marked pixels are dark or not and others are dark or not.
-fn palette_of(alloc: Global, marked: bool, other: bool) -> QrResult<Palette>
-    ensures twos { IfOk result (λ palette. (upper lower : Bool) →
-        two_text palette upper lower ≡ column_text marked other upper lower) }
-    ensures memory { IsOkUnless result OutOfMemory }
-{
-    let mut columns = Vec::with_capacity(alloc, 4)?;
-    columns.push(String::from_str(alloc, half(other, other))?)?;
-    columns.push(String::from_str(alloc, half(other, marked))?)?;
-    columns.push(String::from_str(alloc, half(marked, other))?)?;
-    columns.push(String::from_str(alloc, half(marked, marked))?)?;
-    Palette::new(alloc, columns)
-}
-
-// Appends the characters of two rows of marks, two columns at a time.
-fn push_columns(
-    text: &mut String,
-    palette: &Palette,
-    upper: &[bool],
-    lower: &[bool],
-) -> QrResult<()>
-    requires { length lower.now ≡ length upper.now }
-    ensures appends { OnOk result (string_bytes text.new
-        ≡ string_bytes text.old ++ columns_text (two_text palette.now) upper.now lower.now) }
-    ensures memory { IsOkUnless result OutOfMemory }
-{
-    let pairs = upper.len() / 2;
-    for i in 0..pairs {
-        let x = 2 * i;
-        text.push_str(palette.four(upper[x], lower[x], upper[x + 1], lower[x + 1]))?;
-    }
-    if upper.len() % 2 == 1 {
-        let x = upper.len() - 1;
-        text.push_str(palette.two(upper[x], lower[x]))?;
-    }
-    Ok(())
-}
-
-// Appends the lines of marks.
-fn push_lines(
-    text: &mut String,
-    marks: &Marks,
-    palette: &Palette,
+// The characters of columns, where marked pixels are drawn dark or not and others dark or not.
+#[derive(Drop)]
+struct Halves {
     marked: bool,
     other: bool,
-) -> QrResult<()>
-    requires empty { string_bytes text.old ≡ [] }
-    requires some { 0 < marks.now.across }
-    requires twos { (upper lower : Bool) →
-        two_text palette.now upper lower ≡ column_text marked other upper lower }
-    ensures value { OnOk result (string_bytes text.new ≡ dense_text marked other marks.now) }
+    palette: Fours,
+    ghost twos: { (upper lower : Bool) → two_text palette upper lower ≡ column_text marked other upper lower },
+}
+
+impl Halves {
+    fn new(alloc: Global, marked: bool, other: bool) -> QrResult<Halves>
+        ensures marked { IfOk result (λ halves. halves.marked ≡ marked) }
+        ensures other { IfOk result (λ halves. halves.other ≡ other) }
+        ensures memory { IsOkUnless result OutOfMemory }
+    {
+        let mut columns = Vec::with_capacity(alloc, 4)?;
+        columns.push(Stamp::new(half(other, other).as_bytes()))?;
+        columns.push(Stamp::new(half(other, marked).as_bytes()))?;
+        columns.push(Stamp::new(half(marked, other).as_bytes()))?;
+        columns.push(Stamp::new(half(marked, marked).as_bytes()))?;
+        Ok(Halves {
+            marked,
+            other,
+            palette: Fours::new(alloc, columns)?,
+        })
+    }
+}
+
+// Room for the marks of a row of cells and of two rows of pixels, and for the line of these.
+#[derive(Drop)]
+struct Strip {
+    cells: Vec<bool>,
+    upper: Vec<bool>,
+    lower: Vec<bool>,
+    line: Line,
+}
+
+impl Strip {
+    fn new(alloc: Global, grid: &Grid) -> QrResult<Strip>
+        ensures fits { IfOk result (IsStripOf grid.now) }
+        ensures memory { IsOkUnless result OutOfMemory }
+    {
+        let (columns, _) = grid.sides();
+        let (width, _) = grid.pixels();
+        Ok(Strip {
+            cells: vec![in alloc; false; columns]?,
+            upper: vec![in alloc; false; width as usize]?,
+            lower: vec![in alloc; false; width as usize]?,
+            line: Line::new(alloc, LONGEST_HALF * width as usize + 1)?,
+        })
+    }
+
+    // Writes the line of two rows.
+    fn write_two(&mut self, grid: &Grid, halves: &Halves, i: u32)
+        requires fits { IsStripOf grid.now self.old }
+        requires inside { 2 * i + 1 < (pixels_of grid.now).down }
+        requires at_most { 2 * i + 1 < 2 ^ 32 }
+        ensures fits { IsStripOf grid.now self.new }
+        ensures value { self.new.line.text
+            ≡ dense_line halves.now.marked halves.now.other (pixels_of grid.now) i ++ 10 ∷ [] }
+    {
+        mark_pixels(grid, 2 * i, &mut self.cells, &mut self.upper);
+        mark_pixels(grid, 2 * i + 1, &mut self.cells, &mut self.lower);
+        self.line.clear();
+        push_columns(&mut self.line, &halves.palette, &self.upper, &self.lower);
+        self.line.push(b"\n");
+    }
+
+    // Writes the line of a last row alone, in front of which so many lines stand.
+    fn write_last(&mut self, grid: &Grid, halves: &Halves, i: u32)
+        requires fits { IsStripOf grid.now self.old }
+        requires last { 2 * i + 1 ≡ (pixels_of grid.now).down }
+        requires at_most { 2 * i + 1 < 2 ^ 32 }
+        ensures fits { IsStripOf grid.now self.new }
+        ensures value { self.new.line.text
+            ≡ dense_line halves.now.marked halves.now.other (pixels_of grid.now) i ++ 10 ∷ [] }
+    {
+        mark_pixels(grid, 2 * i, &mut self.cells, &mut self.upper);
+        let dark = half(halves.marked, false);
+        let light = half(halves.other, false);
+        self.line.clear();
+        push_ones(
+            &mut self.line,
+            dark.as_bytes(),
+            light.as_bytes(),
+            &self.upper,
+        );
+        self.line.push(b"\n");
+    }
+}
+
+// Appends the lines of cells, each with a newline.
+fn push_lines(raw: &mut Vec<u8>, grid: &Grid, halves: &Halves, strip: &mut Strip) -> QrResult<()>
+    requires fits { IsStripOf grid.now strip.old }
+    ensures appends { OnOk result (raw.new.items ≡ raw.old.items ++ flat_map (λ i.
+        dense_line halves.now.marked halves.now.other (pixels_of grid.now) i ++ 10 ∷ [])
+        (range_with_len 0 (((pixels_of grid.now).down + 1) / 2))) }
     ensures memory { IsOkUnless result OutOfMemory }
 {
-    let (_, height) = marks.sides();
+    let (_, height) = grid.pixels();
     let pairs = height / 2;
     for i in 0..pairs {
-        begin_line(text, i)?;
-        push_columns(text, palette, marks.row(2 * i), marks.row(2 * i + 1))?;
+        strip.write_two(grid, halves, i);
+        raw.extend_from_slice(strip.line.as_slice())?;
     }
     if height % 2 == 1 {
-        begin_line(text, pairs)?;
-        push_ones(
-            text,
-            half(marked, false),
-            half(other, false),
-            marks.row(height - 1),
-        )?;
+        strip.write_last(grid, halves, pairs);
+        raw.extend_from_slice(strip.line.as_slice())?;
     }
     Ok(())
+}
+
+// The lines of cells, where marked pixels are drawn dark or not and others dark or not.
+fn lines_of(alloc: Global, grid: &Grid, marked: bool, other: bool) -> QrResult<String>
+    requires across { 0 < (pixels_of grid.now).across }
+    requires down { 0 < (pixels_of grid.now).down }
+    ensures value { IfOk result (λ text.
+        string_bytes text ≡ dense_text marked other (pixels_of grid.now)) }
+    ensures memory { IsOkUnless result OutOfMemory }
+{
+    let (width, height) = grid.pixels();
+    let halves = Halves::new(alloc, marked, other)?;
+    let mut strip = Strip::new(alloc, grid)?;
+    let line = LONGEST_HALF * width as usize + 1;
+    let room = line
+        .checked_mul(height.div_ceil(2) as usize)
+        .ok_or(QrError::OutOfMemory)?;
+    let mut raw = Vec::with_capacity(alloc, room)?;
+    push_lines(&mut raw, grid, &halves, &mut strip)?;
+    raw.pop();
+
+    // Lines of half blocks are a text.
+    Ok(unsafe { String::from_utf8_unchecked(raw) })
 }

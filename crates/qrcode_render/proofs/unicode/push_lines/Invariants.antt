@@ -1,8 +1,11 @@
-use Rattle.std.proofs.Common.{◌≡◌, map}
-use Rattle.std.specs.Prelude.{string_bytes}
-use Rattle.std.specs.List.{join_with_byte, range_with_len}
+use Rattle.std.proofs.Common.{◌≡◌, [], ◌∷◌, ◌++◌}
+use Rattle.std.specs.List.{flat_map, range_with_len}
+use Rattle.qrcode_render.specs.Grid.{pixels_of}
+use Rattle.qrcode_render.specs.Strips.{IsStripOf}
 use Rattle.qrcode_render.specs.Texts.{dense_line}
 use Rattle.qrcode_render.proofs.unicode.push_lines.Given as goal
 
 abbrev pub invariant-loop-i : goal.invariant-loop-i
-invariant-loop-i l = string_bytes l.text ≡ join_with_byte 10 (map (dense_line l.marked l.other l.marks) (range_with_len 0 l.i))
+invariant-loop-i l =
+    (l.raw.items ≡ l.fn.raw.items ++ flat_map (λ i. dense_line l.halves.marked l.halves.other (pixels_of l.grid) i ++ 10 ∷ []) (range_with_len 0 l.i))
+    × IsStripOf l.grid l.strip
