@@ -11,6 +11,7 @@ mod rows;
 mod scenario;
 mod segments;
 mod symbols;
+mod texts;
 mod word;
 
 use qrcode::types::QrResult;
@@ -79,6 +80,7 @@ fn digest(alloc: Global, call: Single) -> QrResult<Digest> {
         Single::Functional => Ok(canvas::functional()),
         Single::Code(constructor) => symbols::construct(alloc, constructor),
         Single::Symbol(version, call) => symbols::run(alloc, version, call),
+        Single::Text(call) => texts::run(alloc, call),
         Single::Picture(kind, frame) => pictures::run(alloc, kind, frame),
         Single::Image => pictures::image(alloc),
     }

@@ -7,17 +7,19 @@ mod pictures;
 mod pushes;
 mod segments;
 mod symbols;
+mod texts;
 
 // No more memory than the start of the program takes.
 const NOTHING: Memory = Memory::NoMoreThan("nothing");
 
 /// All scenarios, in groups.
-pub fn groups() -> [&'static [Scenario]; 5] {
+pub fn groups() -> [&'static [Scenario]; 6] {
     [
         pushes::SCENARIOS.as_slice(),
         segments::SCENARIOS.as_slice(),
         canvases::SCENARIOS.as_slice(),
         symbols::SCENARIOS.as_slice(),
+        texts::SCENARIOS.as_slice(),
         pictures::SCENARIOS.as_slice(),
     ]
 }

@@ -4,6 +4,7 @@ use crate::canvas::CanvasCall;
 use crate::data::Data;
 use crate::pictures::{Frame, Kind};
 use crate::symbols::{Constructor, SymbolCall};
+use crate::texts::TextCall;
 use qrcode::types::{EcLevel, QrError, QrResult, Version};
 use qrcode_digest::Digest;
 use qrcode_pushes::{Fault, Push};
@@ -69,6 +70,8 @@ pub enum Single {
     Code(Constructor),
     /// A call of the symbol of a version at level L.
     Symbol(Version, SymbolCall),
+    /// A symbol of a text, or its bits, in a manner.
+    Text(TextCall),
     /// A picture of a kind in a frame.
     Picture(Kind, Frame),
     /// `to_image` of a small symbol in grey pixels.

@@ -120,6 +120,7 @@ fn asked(code: &QrCode, version: Version) -> QrResult<Digest> {
         is_of_version,
         last == 12,
         code.max_allowed_errors() == 1,
+        code.mask().micro_number() == 1,
         code.is_functional(0, last),
         code[(last, last)] == Color::Dark,
     ]))

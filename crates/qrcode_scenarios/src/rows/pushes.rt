@@ -16,7 +16,7 @@ use qrcode::types::Version::{Micro, Normal};
 use qrcode_pushes::Push;
 
 #[rattlefmt::skip]
-pub static SCENARIOS: [Scenario; 37] = [
+pub static SCENARIOS: [Scenario; 41] = [
     Scenario("nothing", NOTHING, None, Once(Data(Bytes(b"")))),
     Scenario("Bits::push_mode_indicator", Repeats, None, Call::Pushes(Normal(1), &[
         Push::Indicator(ExtendedMode::StructuredAppend),
@@ -46,6 +46,15 @@ pub static SCENARIOS: [Scenario; 37] = [
     Scenario("Bits::push_kanji_data", Repeats, None, Call::Pushes(Normal(1), &[
         Push::Kanji(b"\x93\x5f"),
         Push::Kanji(b"\x93\x5f\xe4\xaa\x81\x40\x9f\xfc\xe0\x40\xeb\xbf"),
+    ])),
+    Scenario("Bits::push_text", Repeats, None, Call::Pushes(Normal(1), &[
+        Push::Text("some text, 0123456789"),
+        Push::Byte(b"21 bytes of some text"),
+        Push::Text("k\u{f8}benhavn, AND SOME MORE"),
+    ])),
+    Scenario("Bits::push_marked_text", Repeats, None, Call::Pushes(Normal(10), &[
+        Push::MarkedText("Z\u{fc}rich, 0123456789"),
+        Push::Text(""),
     ])),
     Scenario("Bits::push_fnc1_first_position", Repeats, None, Call::Pushes(Normal(1), &[
         Push::FirstPosition,
@@ -127,6 +136,12 @@ pub static SCENARIOS: [Scenario; 37] = [
     ])),
     Scenario("Bits::push_kanji_data: eight pairs", NOTHING, Some(DataTooLong), Call::Pushes(Micro(3), &[
         Push::Kanji(b"\x93\x5f\x93\x5f\x93\x5f\x93\x5f\x93\x5f\x93\x5f\x93\x5f\x93\x5f"),
+    ])),
+    Scenario("Bits::push_text: no such mode", NOTHING, Some(UnsupportedCharacterSet), Call::Pushes(Micro(2), &[
+        Push::Text("a"),
+    ])),
+    Scenario("Bits::push_marked_text: not in Micro", NOTHING, Some(UnsupportedCharacterSet), Call::Pushes(Micro(4), &[
+        Push::MarkedText("1"),
     ])),
     Scenario("Bits::push_fnc1_first_position: not in Micro", NOTHING, Some(UnsupportedCharacterSet), Call::Pushes(Micro(4), &[
         Push::FirstPosition,

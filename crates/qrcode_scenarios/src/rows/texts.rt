@@ -1,0 +1,33 @@
+//! The scenarios of texts.
+
+use super::NOTHING;
+use crate::data::Data::{Bytes, Times};
+use crate::scenario::Call::Once;
+use crate::scenario::Memory::{NoMoreThan, Takes};
+use crate::scenario::Scenario;
+use crate::scenario::Single::Text;
+use crate::texts::TextCall::{AtLeast, Boosted, In, InVersion, Least, MarkedIn, Of, OfMarked};
+use qrcode::bits::Manner;
+use qrcode::types::EcLevel::{L, M, Q};
+use qrcode::types::QrError::{DataTooLong, InvalidVersion, UnsupportedCharacterSet};
+use qrcode::types::Version::{Micro, Normal};
+
+const TEXT: &str = "Z\u{fc}rich, 0123456789, \u{3053}\u{3093}";
+
+#[rattlefmt::skip]
+pub static SCENARIOS: [Scenario; 14] = [
+    Scenario("QrCode::of_text", Takes, None, Once(Text(Of(TEXT, M)))),
+    Scenario("QrCode::of_marked_text", Takes, None, Once(Text(OfMarked(TEXT, M)))),
+    Scenario("QrCode::of_text_in", Takes, None, Once(Text(In(TEXT, Normal(4), Q)))),
+    Scenario("QrCode::of_text_in: no room", Takes, Some(DataTooLong), Once(Text(In(TEXT, Normal(1), M)))),
+    Scenario("QrCode::of_marked_text_in", Takes, None, Once(Text(MarkedIn(TEXT, Normal(4), Q)))),
+    Scenario("QrCode::of_marked_text_in: not in Micro", NOTHING, Some(UnsupportedCharacterSet), Once(Text(MarkedIn("1", Micro(4), L)))),
+    Scenario("QrCode::at_least", Takes, None, Once(Text(AtLeast(Bytes(b"some text"), Manner::Text, Micro(1), L)))),
+    Scenario("QrCode::at_least: no such version", NOTHING, Some(InvalidVersion), Once(Text(AtLeast(Bytes(b"1"), Manner::Text, Micro(5), L)))),
+    Scenario("QrCode::at_least_boosted", Takes, None, Once(Text(Boosted(Bytes(b"some text"), Manner::MarkedText, Normal(1), L)))),
+    Scenario("QrCode::at_least_boosted: long data", NoMoreThan("long data"), Some(DataTooLong), Once(Text(Boosted(Times(b'7', 1_048_577), Manner::Bytes, Normal(1), L)))),
+    Scenario("QrCode::in_version", Takes, None, Once(Text(InVersion(Bytes(b"some text"), Manner::Text, Normal(5), M)))),
+    Scenario("QrCode::in_version: no such mode", NOTHING, Some(UnsupportedCharacterSet), Once(Text(InVersion(Bytes(b"a"), Manner::Text, Micro(2), L)))),
+    Scenario("optimize::least_segments_in", Takes, None, Once(Text(Least(Bytes(b"some text, 0123456789"), Normal(1))))),
+    Scenario("optimize::least_segments_in: no such mode", NOTHING, Some(UnsupportedCharacterSet), Once(Text(Least(Bytes(b"a"), Micro(2))))),
+];
