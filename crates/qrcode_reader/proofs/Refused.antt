@@ -121,5 +121,8 @@ unspelled s v l bits given e only same why = elim why [
 
 -- the reading of a damaged symbol is what the symbol encodes
 pub given_back : (s : List Color) (v : Version) (l : EcLevel) (k : MaskPattern) (bytes : List ℕ) (wrong : List WrongCodeword) → IsReading s v l k bytes wrong
-    → (u : Version) (m : EcLevel) (bits : List Bool) (others : List ℕ) (symbol : List Color) → (encodes : EncodesBytes u m bits others symbol) → IsDamaged u m encodes.encodes.mask symbol s → bytes ≡ others
-given_back s v l k bytes wrong is u m bits others symbol encodes damaged = (encodes.read s damaged).only bytes is.only.found
+    → (u : Version) (m : EcLevel) (bits : List Bool) (others : List ℕ) (symbol : List Color) → (encodes : EncodesBytes u m bits others symbol) → IsDamaged u m encodes.encodes.mask symbol s
+    → (v ≡ u) × (l ≡ m) × (bytes ≡ others)
+given_back s v l k bytes wrong is u m bits others symbol encodes damaged =
+    let same = (encodes.encodes.read s damaged).only v l is.bits is.read.only.found in
+    (same.0, same.1, (encodes.read s damaged).only bytes is.only.found)

@@ -121,7 +121,8 @@ pub fn read(alloc: Global, modules: &[Color]) -> Result<Reading, Unread>
         (bytes : List ℕ) (symbol : List Color)
         → (encodes : EncodesBytes version level bits bytes symbol)
         → IsDamaged version level encodes.encodes.mask symbol modules.now
-        → IsOkUnless result OutOfMemory × IfOk result (λ read. read.data.items ≡ bytes) }
+        → IsOkUnless result OutOfMemory × IfOk result (λ read. (read.version ≡ version)
+        × (read.ec_level ≡ level) × (read.data.items ≡ bytes)) }
 {
     let read = read_bits(alloc, modules)?;
     let data = spell(alloc, &read.bits, read.version)?;
