@@ -29,7 +29,8 @@ enum {
     GOQ_OUT_OF_MEMORY = 8, /* memory was refused */
     GOQ_NO_SUCH_FORMAT = 9, /* no format has the number */
     GOQ_NOT_SQUARE = 10, /* the modules are not as many as the square of their width */
-    GOQ_NO_SUCH_SIZE = 11 /* a scale of 0 or above 65,535, or more than 65,535 modules along a side with the quiet zone */
+    GOQ_NO_SUCH_SIZE = 11, /* a scale of 0 or above 65,535, or more than 65,535 modules along a side with the quiet zone; or a PNG with a side of 0 or above 65,535 pixels */
+    GOQ_NOT_TEXT = 12 /* the text is not UTF-8 */
 };
 
 /* Error correction levels. */
@@ -44,7 +45,8 @@ enum {
     GOQ_LIGHT_HALF_BLOCKS = 1, /* the same with blocks where modules are light, for dark grounds */
     GOQ_SVG = 2, /* SVG text, black on white */
     GOQ_PIC = 3, /* PIC text */
-    GOQ_GREY = 4 /* rows of pixels, a byte each: 0 for a dark one, 255 for a light one */
+    GOQ_GREY = 4, /* rows of pixels, a byte each: 0 for a dark one, 255 for a light one */
+    GOQ_PNG = 5 /* a PNG file, black on white, of at most 65,535 pixels a side */
 };
 
 /* This many bytes hold the modules of every symbol. */
@@ -60,6 +62,12 @@ typedef struct {
 /* The symbol of data at a level, of the least Normal version that holds it: its modules, row by row, 1 for a dark one, at the beginning of `modules`.
    GOQ_NO_SUCH_LEVEL, GOQ_NO_ROOM, GOQ_SMALL_BUFFER, GOQ_OUT_OF_MEMORY. */
 uint32_t goq_encode(const uint8_t *data, size_t data_length, uint32_t level, uint8_t *modules, size_t modules_length, goq_symbol *symbol);
+
+/* The symbol of a text in UTF-8 at a level, of the least Normal version that holds it. Readers show it as the text, where they take bytes for UTF-8; for readers
+   that guess, goq_encode_marked_text writes in front that they are (12 bits). Of several causes the first is told, in this order:
+   GOQ_NO_SUCH_LEVEL, GOQ_NOT_TEXT, GOQ_NO_ROOM, GOQ_SMALL_BUFFER; GOQ_OUT_OF_MEMORY. */
+uint32_t goq_encode_text(const uint8_t *text, size_t text_length, uint32_t level, uint8_t *modules, size_t modules_length, goq_symbol *symbol);
+uint32_t goq_encode_marked_text(const uint8_t *text, size_t text_length, uint32_t level, uint8_t *modules, size_t modules_length, goq_symbol *symbol);
 
 /* The symbol of data, of a version and level. Of several causes the first is told, in this order:
    GOQ_NO_SUCH_LEVEL, GOQ_NO_SUCH_VERSION, GOQ_TOO_LONG, GOQ_NO_MODE, GOQ_LEVEL_NOT_IN_VERSION, GOQ_NO_ROOM, GOQ_SMALL_BUFFER; GOQ_OUT_OF_MEMORY. */

@@ -60,6 +60,31 @@ static void encodings(void)
     refuses(goq_encode_in(bytes, 8, 2, GOQ_L, modules, 624, &symbol), GOQ_SMALL_BUFFER, "a module too few of Normal 2");
 }
 
+/* Texts: 72 bytes that pair up as Kanji take version 5 as a text, and 12 bits in front of 14 bytes pass version 1. */
+static void texts(void)
+{
+    static uint8_t kana[72];
+    const uint8_t *letters = (const uint8_t *)"abcdefghijklmn";
+    for (size_t i = 0; i < sizeof kana; i += 3)
+        memcpy(kana + i, "\xe3\x81\x82", 3);
+    mark();
+    expect(goq_encode(kana, sizeof kana, GOQ_M, modules, sizeof modules, &symbol) == GOQ_OK && symbol.version == 4, "bytes as Kanji");
+    mark();
+    expect(goq_encode_text(kana, sizeof kana, GOQ_M, modules, sizeof modules, &symbol) == GOQ_OK && symbol.version == 5, "a text without Kanji");
+    expect(symbol.level == GOQ_M && symbol.width == 37 && modules[0] == 1 && modules[37 * 37] == 7, "its symbol, and the rest as it was");
+    expect(goq_encode_text(letters, 14, GOQ_M, modules, sizeof modules, &symbol) == GOQ_OK && symbol.version == 1, "a text");
+    expect(goq_encode_marked_text(letters, 14, GOQ_M, modules, sizeof modules, &symbol) == GOQ_OK && symbol.version == 2, "a marked text");
+    mark();
+    refuses(goq_encode_text(kana, 71, GOQ_M, modules, sizeof modules, &symbol), GOQ_NOT_TEXT, "a text that is cut");
+    refuses(goq_encode_text(kana, 71, 4, modules, sizeof modules, &symbol), GOQ_NO_SUCH_LEVEL, "level 4 of a text");
+    refuses(goq_encode_text(letters, 14, GOQ_M, modules, 440, &symbol), GOQ_SMALL_BUFFER, "a module too few for a text");
+    refuses(goq_encode_marked_text(kana, 71, GOQ_M, modules, sizeof modules, &symbol), GOQ_NOT_TEXT, "a marked text that is cut");
+    refuses(goq_encode_marked_text(letters, 14, GOQ_M, modules, 624, &symbol), GOQ_SMALL_BUFFER, "a module too few for a marked text");
+    memset(out, 'a', 3000);
+    refuses(goq_encode_text(out, 2954, GOQ_L, modules, sizeof modules, &symbol), GOQ_NO_ROOM, "a text of 2,954 bytes");
+    refuses(goq_encode_marked_text(out, 2953, GOQ_L, modules, sizeof modules, &symbol), GOQ_NO_ROOM, "a marked text of 2,953 bytes");
+}
+
 static void shapes(void)
 {
     uint32_t version = 77;
@@ -85,7 +110,15 @@ static void drawings(void)
         count = 5;
     }
     expect(length == 58 * 58 && out[0] == 255 && out[58 * 8 + 8] == 0, "grey pixels");
-    expect(goq_draw(modules, 441, 21, 4, 2, 5, out, sizeof out, &count) == GOQ_NO_SUCH_FORMAT, "format 5");
+    expect(goq_draw_length(modules, 441, 21, 4, 8, GOQ_PNG, &length) == GOQ_OK && length < 700, "the length of a PNG file");
+    out[length] = 9;
+    expect(goq_draw(modules, 441, 21, 4, 8, GOQ_PNG, out, length - 1, &count) == GOQ_SMALL_BUFFER && count == 5, "a byte too few for PNG");
+    expect(goq_draw(modules, 441, 21, 4, 8, GOQ_PNG, out, length, &count) == GOQ_OK && count == length && out[length] == 9, "a PNG file");
+    expect(!memcmp(out, "\x89PNG\r\n\x1a\n\0\0\0\rIHDR\0\0\0\xe8\0\0\0\xe8", 24) && !memcmp(out + length - 8, "IEND\xae\x42\x60\x82", 8), "its head and its end");
+    count = 5;
+    expect(goq_draw(modules, 441, 21, 4, 2260, GOQ_PNG, out, sizeof out, &count) == GOQ_NO_SUCH_SIZE && count == 5, "a PNG side of 65,540");
+    expect(goq_draw(modules, 0, 0, 0, 1, GOQ_PNG, out, sizeof out, &count) == GOQ_NO_SUCH_SIZE && count == 5, "a PNG side of 0");
+    expect(goq_draw(modules, 441, 21, 4, 2, 6, out, sizeof out, &count) == GOQ_NO_SUCH_FORMAT, "format 6");
     expect(goq_draw(modules, 440, 21, 4, 2, 0, out, sizeof out, &count) == GOQ_NOT_SQUARE, "440 modules");
     expect(goq_draw(modules, 441, 21, 4, 0, 0, out, sizeof out, &count) == GOQ_NO_SUCH_SIZE, "scale 0");
     expect(goq_draw(modules, 441, 21, 32758, 1, 0, out, sizeof out, &count) == GOQ_NO_SUCH_SIZE, "too wide a zone");
@@ -109,6 +142,7 @@ static void pairs(void)
 int main(void)
 {
     encodings();
+    texts();
     shapes();
     drawings();
     pairs();

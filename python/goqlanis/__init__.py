@@ -22,11 +22,11 @@ import ctypes.util
 import os
 from typing import Optional, Tuple
 
-__all__ = ["Symbol", "encode", "least_version", "is_functional", "Error", "NoSuchLevel", "NoSuchVersion", "LevelNotInVersion", "TooLong", "NoMode", "NoRoom",
+__all__ = ["Symbol", "encode", "encode_text", "least_version", "is_functional", "Error", "NoSuchLevel", "NoSuchVersion", "LevelNotInVersion", "TooLong", "NoMode", "NoRoom",
            "OutOfMemory", "NoSuchSize"]
 
 LEVELS = "LMQH"
-HALF_BLOCKS, LIGHT_HALF_BLOCKS, SVG, PIC, GREY = range(5)
+HALF_BLOCKS, LIGHT_HALF_BLOCKS, SVG, PIC, GREY, PNG = range(6)
 MOST_MODULES = 177 * 177
 
 
@@ -79,6 +79,7 @@ def _load() -> ctypes.CDLL:
     library = ctypes.CDLL(found)
     number, size, text = ctypes.c_uint32, ctypes.c_size_t, ctypes.c_char_p
     library.goq_encode.argtypes = [text, size, number, ctypes.c_void_p, size, ctypes.POINTER(_Known)]
+    library.goq_encode_text.argtypes = library.goq_encode_marked_text.argtypes = library.goq_encode.argtypes
     library.goq_encode_in.argtypes = [text, size, number, number, ctypes.c_void_p, size, ctypes.POINTER(_Known)]
     library.goq_least_version.argtypes = [text, size, number, ctypes.POINTER(number)]
     library.goq_is_functional.argtypes = [number, number, number]
@@ -113,7 +114,7 @@ def _level_number(level: str) -> int:
 
 def _bytes(data) -> bytes:
     if isinstance(data, str):
-        raise TypeError("bytes are wanted: take text.encode()")
+        raise TypeError("bytes are wanted: take encode_text for a text")
     return bytes(data)
 
 
@@ -133,6 +134,8 @@ def _raise(answer: int, data: bytes, version: Optional[str], level: str) -> None
         raise NoRoom(f"no symbol of the asked kind holds the {len(data)} bytes")
     if answer == 8:
         raise OutOfMemory("memory was refused")
+    if answer == 11:
+        raise NoSuchSize("the picture would have more than 65,535 pixels along a side")
     raise Error(f"answer {answer}")
 
 
@@ -172,6 +175,14 @@ class Symbol:
         """Rows of pixels, a byte each: 0 for a dark one and 255 for a light one."""
         return self._draw(GREY, scale, quiet_zone)
 
+    def png(self, scale: int = 8, quiet_zone: Optional[int] = None) -> bytes:
+        """A PNG file, black on white, of at most 65,535 pixels a side.
+
+        >>> encode(b"01234567").png()[:8]
+        b'\\x89PNG\\r\\n\\x1a\\n'
+        """
+        return self._draw(PNG, scale, quiet_zone)
+
     def _draw(self, form: int, scale: int, quiet_zone: Optional[int]) -> bytes:
         zone = self.quiet_zone if quiet_zone is None else quiet_zone
         if not (1 <= scale <= 65535 and 0 <= zone <= 32000):
@@ -210,6 +221,24 @@ def encode(data: bytes, level: str = "M", version: Optional[str] = None) -> Symb
     else:
         answer = _library.goq_encode_in(data, len(data), _version_number(str(version)), number, modules, MOST_MODULES, ctypes.byref(known))
     _raise(answer, data, version, level)
+    return Symbol(modules.raw[:known.width * known.width], known)
+
+
+def encode_text(text: str, level: str = "M", marked: bool = False) -> Symbol:
+    """The symbol of a text at a level, of the least Normal version that holds it. Readers show it as the text, where they take bytes for UTF-8;
+    `marked` writes in front that they are, for readers that guess.
+
+    >>> encode_text("Größe: 5 m²").version
+    '1'
+    >>> encode_text("Größe: 5 m²", marked=True).version
+    '2'
+    """
+    if not isinstance(text, str):
+        raise TypeError("a text is wanted: take encode for bytes")
+    data, number = text.encode(), _level_number(level)
+    modules, known = ctypes.create_string_buffer(MOST_MODULES), _Known()
+    call = _library.goq_encode_marked_text if marked else _library.goq_encode_text
+    _raise(call(data, len(data), number, modules, MOST_MODULES, ctypes.byref(known)), data, None, level)
     return Symbol(modules.raw[:known.width * known.width], known)
 
 

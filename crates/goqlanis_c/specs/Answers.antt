@@ -1,5 +1,5 @@
 -- What the calls for C answer: 0, or the number of a refusal; and the cause of each refusal.
-use Rattle.std.specs.Prelude.{◌≡◌, ◌≢◌, ◌⊎◌, ◌+◌, ◌*◌, ◌^◌, ◌<◌, ◌≤◌, ◌-◌, ◌==◌, ⊤, ℕ, pos, List, [], ◌∷◌, length, false, Option, Some, None, slice_get, if◌then◌else◌}
+use Rattle.std.specs.Prelude.{◌≡◌, ◌≢◌, ◌⊎◌, ◌+◌, ◌*◌, ◌^◌, ◌<◌, ◌≤◌, ◌-◌, ◌==◌, ⊤, ℕ, pos, List, [], ◌∷◌, length, false, IsUtf8, Option, Some, None, slice_get, if◌then◌else◌}
 use Rattle.qrcode_types.specs.Versions.{has_level}
 use Rattle.qrcode_types.specs.declared.types.EcLevel.{EcLevel}
 use Rattle.qrcode_types.specs.declared.types.Version.{Version}
@@ -10,25 +10,32 @@ use Rattle.qrcode_types.specs.declared.types.QrError.TheVariants.{DataTooLong, I
 use Rattle.qrcode_types.specs.declared.types.QrError.TheVariants as error
 use Rattle.qrcode_bits.specs.Cuts.{IsCut}
 use Rattle.qrcode_bits.specs.Choice.{Holds}
+use Rattle.qrcode_bits.specs.Manners.{rank, HoldsAs, IsLeastFrom}
 use Rattle.qrcode_bits.specs.Refusals.{data_limit}
+use Rattle.qrcode_bits.specs.declared.bits.manner.Manner.{Manner}
 use Rattle.qrcode_bits.specs.declared.optimize.Segment.{Segment}
 use Rattle.qrcode.specs.Acceptance.{IsChosenSymbol, IsLeastSymbol}
-use Rattle.qrcode_render.specs.Layout.{layout}
-use Rattle.goqlanis_c.specs.Drawings.{format_named, colors_of, drawing}
+use Rattle.qrcode.specs.Texts.{IsSymbolAs}
+use Rattle.goqlanis_c.specs.Drawings.{format_named, IsDrawn}
 use Rattle.goqlanis_c.specs.declared.drawing.Format.{Format}
+use Rattle.goqlanis_c.specs.declared.drawing.Format.TheVariants.{Png}
 use Rattle.goqlanis_c.specs.Names.{level_named, version_named}
 use Rattle.goqlanis_c.specs.declared.answers.Refusal.{Refusal}
-use Rattle.goqlanis_c.specs.declared.answers.Refusal.TheVariants.{NoSuchLevel, NoSuchVersion, LevelNotInVersion, TooLong, NoMode, NoRoom, SmallBuffer, OutOfMemory, NoSuchFormat, NotSquare, NoSuchSize}
+use Rattle.goqlanis_c.specs.declared.answers.Refusal.TheVariants.{NoSuchLevel, NoSuchVersion, LevelNotInVersion, TooLong, NoMode, NoRoom, SmallBuffer, OutOfMemory, NoSuchFormat, NotSquare, NoSuchSize, NotText}
 
 -- the refusals in the order of their numbers, from 1 on
 abbrev pub refusals : List Refusal
 refusals =
     NoSuchLevel ∷ NoSuchVersion ∷ LevelNotInVersion ∷ TooLong ∷ NoMode ∷ NoRoom ∷ SmallBuffer ∷ OutOfMemory ∷
-    NoSuchFormat ∷ NotSquare ∷ NoSuchSize ∷ []
+    NoSuchFormat ∷ NotSquare ∷ NoSuchSize ∷ NotText ∷ []
 
 -- the refusal of an answer, where it is one
 abbrev pub refusal_of : ℕ → Option Refusal
 refusal_of n = if n == 0 then None else slice_get refusals (n - 1)
+
+-- the symbol of data in a manner, of the least Normal version that holds it
+abbrev pub IsChosenAs : Manner → Version → EcLevel → List ℕ → List Color → Type 0
+IsChosenAs m v l bytes s = IsLeastFrom m (Normal (pos 1)) l bytes v × IsSymbolAs m v l bytes s
 
 -- why bytes are refused at a level, where the least Normal version is chosen and the buffer has so much room
 abbrev pub IsAutomaticCause : ℕ → List ℕ → ℕ → Refusal → Type 0
@@ -44,6 +51,7 @@ IsAutomaticCause level bytes room OutOfMemory = ⊤
 IsAutomaticCause level bytes room NoSuchFormat = ⊥
 IsAutomaticCause level bytes room NotSquare = ⊥
 IsAutomaticCause level bytes room NoSuchSize = ⊥
+IsAutomaticCause level bytes room NotText = ⊥
 
 -- what an error of the constructor of a version and level is told as, where level, version and limit were looked at before
 abbrev pub refusal_in : QrError → Refusal
@@ -72,14 +80,37 @@ IsCauseIn version level bytes room OutOfMemory = ⊤
 IsCauseIn version level bytes room NoSuchFormat = ⊥
 IsCauseIn version level bytes room NotSquare = ⊥
 IsCauseIn version level bytes room NoSuchSize = ⊥
+IsCauseIn version level bytes room NotText = ⊥
+
+-- why a text is refused at a level, where the least Normal version is chosen and the buffer has so much room
+abbrev pub IsTextCause : Manner → ℕ → List ℕ → ℕ → Refusal → Type 0
+IsTextCause m level bytes room NoSuchLevel = level_named level ≡ None
+IsTextCause m level bytes room NotText = ¬ IsUtf8 bytes
+IsTextCause m level bytes room NoRoom =
+    (l : EcLevel) × ((level_named level ≡ Some l) × ((v : Version) → rank (Normal (pos 1)) ≤ rank v → ¬ HoldsAs m v l bytes))
+IsTextCause m level bytes room SmallBuffer =
+    (l : EcLevel) × ((v : Version) × ((s : List Color) × ((level_named level ≡ Some l) × (IsChosenAs m v l bytes s × (room < length s)))))
+IsTextCause m level bytes room OutOfMemory = ⊤
+IsTextCause m level bytes room NoSuchVersion = ⊥
+IsTextCause m level bytes room LevelNotInVersion = ⊥
+IsTextCause m level bytes room TooLong = ⊥
+IsTextCause m level bytes room NoMode = ⊥
+IsTextCause m level bytes room NoSuchFormat = ⊥
+IsTextCause m level bytes room NotSquare = ⊥
+IsTextCause m level bytes room NoSuchSize = ⊥
+
+-- a PNG file has no side of so many pixels
+abbrev pub IsNoPngSide : ℕ → Type 0
+IsNoPngSide side = (side ≡ 0) ⊎ (2 ^ 16 ≤ side)
 
 -- why modules of a width are not drawn in a format, with a quiet zone and a scale, where the buffer has so much room
 abbrev pub IsDrawingCause : List ℕ → ℕ → ℕ → ℕ → ℕ → ℕ → Refusal → Type 0
 IsDrawingCause modules width zone scale format room NoSuchFormat = format_named format ≡ None
 IsDrawingCause modules width zone scale format room NotSquare = length modules ≢ width * width
-IsDrawingCause modules width zone scale format room NoSuchSize = (scale ≡ 0) ⊎ ((2 ^ 16 ≤ scale) ⊎ (2 ^ 16 ≤ width + 2 * zone))
+IsDrawingCause modules width zone scale format room NoSuchSize =
+    (scale ≡ 0) ⊎ ((2 ^ 16 ≤ scale) ⊎ ((2 ^ 16 ≤ width + 2 * zone) ⊎ ((format_named format ≡ Some Png) × IsNoPngSide ((width + 2 * zone) * scale))))
 IsDrawingCause modules width zone scale format room SmallBuffer =
-    (f : Format) × ((format_named format ≡ Some f) × (room < length (drawing f (layout width zone scale scale) (colors_of modules))))
+    (f : Format) × ((bytes : List ℕ) × ((format_named format ≡ Some f) × (IsDrawn f modules width zone scale bytes × (room < length bytes))))
 IsDrawingCause modules width zone scale format room OutOfMemory = ⊤
 IsDrawingCause modules width zone scale format room NoSuchLevel = ⊥
 IsDrawingCause modules width zone scale format room NoSuchVersion = ⊥
@@ -87,3 +118,4 @@ IsDrawingCause modules width zone scale format room LevelNotInVersion = ⊥
 IsDrawingCause modules width zone scale format room TooLong = ⊥
 IsDrawingCause modules width zone scale format room NoMode = ⊥
 IsDrawingCause modules width zone scale format room NoRoom = ⊥
+IsDrawingCause modules width zone scale format room NotText = ⊥

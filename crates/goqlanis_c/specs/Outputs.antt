@@ -3,10 +3,11 @@ use Rattle.std.specs.Prelude.{◌≡◌, ◌++◌, ℕ, List, length, map, drop,
 use Rattle.qrcode_types.specs.Colors.{select_of}
 use Rattle.qrcode_types.specs.Versions.{side}
 use Rattle.qrcode_types.specs.declared.types.Color.{Color}
+use Rattle.qrcode_bits.specs.declared.bits.manner.Manner.{Manner}
 use Rattle.qrcode.specs.Acceptance.{IsChosenSymbol, IsLeastSymbol}
 use Rattle.qrcode.specs.Code.{Code}
-use Rattle.qrcode_render.specs.Layout.{layout}
-use Rattle.goqlanis_c.specs.Drawings.{format_named, colors_of, drawing}
+use Rattle.goqlanis_c.specs.Answers.{IsChosenAs}
+use Rattle.goqlanis_c.specs.Drawings.{format_named, IsDrawn}
 use Rattle.goqlanis_c.specs.declared.drawing.Format.{Format}
 use Rattle.goqlanis_c.specs.Names.{level_named, version_named}
 use Rattle.goqlanis_c.specs.declared.symbols.Symbol.{Symbol}
@@ -33,6 +34,13 @@ pub record IsAutomaticSymbol (level : ℕ) (bytes old new : List ℕ) (symbol : 
   pub chosen : IsChosenSymbol code.version code.level bytes code.modules
   pub written : IsWritten code old new symbol
 
+-- the symbol that is chosen for a text at a level of a number, in buffers
+pub record IsTextSymbol (m : Manner) (level : ℕ) (bytes old new : List ℕ) (symbol : Symbol) : Type 0 where
+  pub code : Code
+  pub asked : level_named level ≡ Some code.level
+  pub chosen : IsChosenAs m code.version code.level bytes code.modules
+  pub written : IsWritten code old new symbol
+
 -- the symbol of bytes, of a version and level of these numbers, in buffers
 pub record IsSymbolIn (version level : ℕ) (bytes old new : List ℕ) (symbol : Symbol) : Type 0 where
   pub code : Code
@@ -44,6 +52,8 @@ pub record IsSymbolIn (version level : ℕ) (bytes old new : List ℕ) (symbol :
 -- a picture of modules, in a format of a number, at the beginning of a buffer, and its length
 pub record IsPictureOf (modules : List ℕ) (width zone scale format : ℕ) (old new : List ℕ) (count : ℕ) : Type 0 where
   pub named : Format
+  pub bytes : List ℕ
   pub asked : format_named format ≡ Some named
-  pub drawn : IsFilled old new (drawing named (layout width zone scale scale) (colors_of modules))
-  pub counted : count ≡ length (drawing named (layout width zone scale scale) (colors_of modules))
+  pub drawn : IsDrawn named modules width zone scale bytes
+  pub filled : IsFilled old new bytes
+  pub counted : count ≡ length bytes

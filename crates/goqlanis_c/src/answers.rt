@@ -29,6 +29,8 @@ pub enum Refusal {
     /// A module would have no pixel, or the picture more than 65,535 modules along a side, or a module
     /// more pixels.
     NoSuchSize,
+    /// The bytes are not UTF-8.
+    NotText,
 }
 
 impl Refusal {
@@ -49,6 +51,7 @@ impl Refusal {
             Refusal::NoSuchFormat => 9,
             Refusal::NotSquare => 10,
             Refusal::NoSuchSize => 11,
+            Refusal::NotText => 12,
         }
     }
 }

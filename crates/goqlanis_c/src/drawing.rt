@@ -2,8 +2,7 @@
 
 ghost use Rattle.std.specs.Prelude.{◌≡◌, ℕ, ◌+◌, ◌*◌, ◌^◌, ◌<◌, ◌≤◌, length, string_bytes, IfOk, IsOkUnless, IsTrue};
 ghost use Rattle.qrcode_types.specs.declared.types.QrError.TheVariants.{OutOfMemory};
-ghost use Rattle.qrcode_render.specs.Layout.{layout};
-ghost use Rattle.goqlanis_c.specs.Drawings.{format_named, colors_of, drawing};
+ghost use Rattle.goqlanis_c.specs.Drawings.{format_named, colors_of, IsDrawn};
 
 use qrcode::render::image::Luma;
 use qrcode::render::unicode::Dense1x2;
@@ -24,6 +23,8 @@ pub enum Format {
     Pic,
     /// Rows of pixels, a byte each: 0 for a dark one, 255 for a light one.
     Grey,
+    /// A PNG file, black on white.
+    Png,
 }
 
 /// The format of a number, in the order above from 0 on.
@@ -36,6 +37,7 @@ pub(crate) fn format_named(number: u32) -> Option<Format>
         2 => Some(Format::Svg),
         3 => Some(Format::Pic),
         4 => Some(Format::Grey),
+        5 => Some(Format::Png),
         _ => None,
     }
 }
@@ -70,8 +72,8 @@ pub(crate) fn draw(
     requires side { width + 2 * zone < 2 ^ 16 }
     requires scale { scale < 2 ^ 16 }
     requires positive { 1 ≤ scale }
-    ensures drawing { IfOk result (λ bytes. bytes.items
-        ≡ drawing format (layout width zone scale scale) (colors_of modules.now)) }
+    ensures drawing { IfOk result (λ bytes.
+        IsDrawn format modules.now width zone scale bytes.items) }
     ensures memory { IsOkUnless result OutOfMemory }
 {
     let colors = colors_of(alloc, modules)?;
@@ -109,5 +111,8 @@ pub(crate) fn draw(
                 .build(alloc)?;
             Ok(image.into_raw())
         }
+        Format::Png => Renderer::<qrcode_png::Color>::new(&colors, width, zone)
+            .module_size(scale)
+            .build(alloc),
     }
 }

@@ -9,3 +9,4 @@ mod names;
 mod pictures;
 mod shape;
 mod symbols;
+mod texts;

@@ -1,14 +1,13 @@
 //! Pictures in buffers.
 
-ghost use Rattle.std.specs.Prelude.{◌≡◌, ◌≢◌, ◌<◌, ◌*◌, ℕ, length, Some, IfOk, IfErr, IfSome};
-ghost use Rattle.qrcode_render.specs.Layout.{layout};
+ghost use Rattle.std.specs.Prelude.{◌≡◌, ◌≢◌, ◌<◌, ℕ, List, length, Some, IfOk, IfErr, IfSome};
 ghost use Rattle.goqlanis_c.specs.Answers.{refusal_of, IsDrawingCause};
-ghost use Rattle.goqlanis_c.specs.Drawings.{format_named, colors_of, drawing};
+ghost use Rattle.goqlanis_c.specs.Drawings.{format_named, IsDrawn};
 ghost use Rattle.goqlanis_c.specs.Outputs.{IsPictureOf};
 ghost use Rattle.goqlanis_c.specs.declared.drawing.Format.{Format};
 
 use crate::answers::Refusal;
-use crate::drawing::{draw, format_named};
+use crate::drawing::{Format, draw, format_named};
 use crate::symbols::fill;
 use std::alloc::Global;
 
@@ -48,7 +47,8 @@ pub extern "C" fn goq_draw(
     0
 }
 
-/// The length of the picture that `goq_draw` would write, to `count`.
+/// The length of the picture that `goq_draw` would write, to `count`; of PNG that of a file that shows
+/// the picture.
 ///
 /// 0, or the number of a `Refusal`: `NoSuchFormat`, `NotSquare`, `NoSuchSize` or `OutOfMemory`. Then
 /// `count` is as it was.
@@ -62,8 +62,9 @@ pub extern "C" fn goq_draw_length(
     format: u32,
     count: &mut usize,
 ) -> u32
-    ensures made { result ≡ 0 → (f : Format) × ((format_named format ≡ Some f) × (count.new
-        ≡ length (drawing f (layout width zone scale scale) (colors_of modules.now)))) }
+    ensures made { result ≡ 0 → (f : Format) × ((bytes : List ℕ)
+        × ((format_named format ≡ Some f) × (IsDrawn f modules.now width zone scale bytes
+        × (count.new ≡ length bytes)))) }
     ensures count_unchanged { result ≢ 0 → count.new ≡ count.old }
     ensures causes { (room : ℕ) → IfSome (refusal_of result)
         (IsDrawingCause modules.now width zone scale format room) }
@@ -87,7 +88,7 @@ fn drawn(
     format: u32,
 ) -> Result<Vec<u8>, Refusal>
     ensures picture { IfOk result (λ bytes. (f : Format) × ((format_named format ≡ Some f)
-        × (bytes.items ≡ drawing f (layout width zone scale scale) (colors_of modules.now)))) }
+        × IsDrawn f modules.now width zone scale bytes.items)) }
     ensures causes { (room : ℕ) → IfErr result
         (IsDrawingCause modules.now width zone scale format room) }
 {
@@ -99,6 +100,10 @@ fn drawn(
     }
     let side = u64::from(width) + 2 * u64::from(zone);
     if scale == 0 || scale > 65_535 || side > 65_535 {
+        return Err(Refusal::NoSuchSize);
+    }
+    let pixels = side * u64::from(scale);
+    if matches!(format, Format::Png) && (pixels == 0 || pixels > 65_535) {
         return Err(Refusal::NoSuchSize);
     }
     match draw(alloc, modules, width, zone, scale, format) {

@@ -14,12 +14,14 @@ pub const GOQ_OUT_OF_MEMORY: u32 = 8;
 pub const GOQ_NO_SUCH_FORMAT: u32 = 9;
 pub const GOQ_NOT_SQUARE: u32 = 10;
 pub const GOQ_NO_SUCH_SIZE: u32 = 11;
+pub const GOQ_NOT_TEXT: u32 = 12;
 
 pub const GOQ_HALF_BLOCKS: u32 = 0;
 pub const GOQ_LIGHT_HALF_BLOCKS: u32 = 1;
 pub const GOQ_SVG: u32 = 2;
 pub const GOQ_PIC: u32 = 3;
 pub const GOQ_GREY: u32 = 4;
+pub const GOQ_PNG: u32 = 5;
 
 /// This many bytes hold the modules of every symbol.
 pub const GOQ_MODULES_MAX: usize = 177 * 177;
@@ -35,6 +37,8 @@ pub struct goq_symbol {
 
 extern "C" {
     pub fn goq_encode(data: *const u8, data_length: usize, level: u32, modules: *mut u8, modules_length: usize, symbol: *mut goq_symbol) -> u32;
+    pub fn goq_encode_text(text: *const u8, text_length: usize, level: u32, modules: *mut u8, modules_length: usize, symbol: *mut goq_symbol) -> u32;
+    pub fn goq_encode_marked_text(text: *const u8, text_length: usize, level: u32, modules: *mut u8, modules_length: usize, symbol: *mut goq_symbol) -> u32;
     pub fn goq_encode_in(data: *const u8, data_length: usize, version: u32, level: u32, modules: *mut u8, modules_length: usize, symbol: *mut goq_symbol) -> u32;
     pub fn goq_least_version(data: *const u8, data_length: usize, level: u32, version: *mut u32) -> u32;
     pub fn goq_width(version: u32) -> u32;

@@ -127,6 +127,20 @@ impl QrCode {
         })
     }
 
+    /// The symbol of a text at a level, of the least Normal version that holds it. Readers show the text, where they take bytes for UTF-8.
+    pub fn of_text(text: &str, ec_level: EcLevel) -> QrResult<Self> {
+        Self::made(ec_level, |modules, known| unsafe {
+            sys::goq_encode_text(text.as_ptr(), text.len(), ec_level as u32, modules.as_mut_ptr(), modules.len(), known)
+        })
+    }
+
+    /// The same with the number 26 of UTF-8 (ECI) in front, for readers that guess.
+    pub fn of_marked_text(text: &str, ec_level: EcLevel) -> QrResult<Self> {
+        Self::made(ec_level, |modules, known| unsafe {
+            sys::goq_encode_marked_text(text.as_ptr(), text.len(), ec_level as u32, modules.as_mut_ptr(), modules.len(), known)
+        })
+    }
+
     fn made(ec_level: EcLevel, encode: impl FnOnce(&mut [u8], &mut sys::goq_symbol) -> u32) -> QrResult<Self> {
         let mut modules = vec![0; sys::GOQ_MODULES_MAX];
         let mut known = sys::goq_symbol::default();

@@ -1,4 +1,4 @@
-//! Pictures of a symbol: half blocks, SVG, PIC and rows of grey pixels, drawn by the library.
+//! Pictures of a symbol: half blocks, SVG, PIC, PNG and rows of grey pixels, drawn by the library.
 use goqlanis_sys as sys;
 use std::marker::PhantomData;
 
@@ -56,6 +56,11 @@ pub mod pic {
     pub struct Color;
 }
 
+pub mod png {
+    /// The bytes of a PNG file, black on white.
+    pub struct Color;
+}
+
 /// Rows of pixels, a byte each.
 pub struct Luma;
 
@@ -66,6 +71,7 @@ fn text(bytes: Vec<u8>) -> String {
 pixel!(unicode::Dense1x2, String, 1, |inverted| if inverted { sys::GOQ_LIGHT_HALF_BLOCKS } else { sys::GOQ_HALF_BLOCKS }, |bytes| text(bytes));
 pixel!(svg::Color, String, 8, |_inverted| sys::GOQ_SVG, |bytes| text(bytes));
 pixel!(pic::Color, String, 8, |_inverted| sys::GOQ_PIC, |bytes| text(bytes));
+pixel!(png::Color, Vec<u8>, 8, |_inverted| sys::GOQ_PNG, |bytes| bytes);
 pixel!(Luma, Vec<u8>, 8, |_inverted| sys::GOQ_GREY, |bytes| bytes);
 
 /// Draws a symbol as it is set.
@@ -98,12 +104,12 @@ impl<'a, P: Pixel> Renderer<'a, P> {
 
     /// The picture.
     ///
-    /// Panics where memory is refused.
+    /// Panics where memory is refused, or a PNG file would have more than 65,535 pixels a side.
     pub fn build(&self) -> P::Image {
         let (format, width) = (P::format(self.inverted), self.width as u32);
         let mut count = 0;
         let asked = unsafe { sys::goq_draw_length(self.modules.as_ptr(), self.modules.len(), width, self.zone, self.scale, format, &mut count) };
-        assert_eq!(asked, sys::GOQ_OK, "memory was refused");
+        assert_eq!(asked, sys::GOQ_OK, "memory was refused, or the picture is too large");
         let mut bytes = vec![0; count];
         let drawn = unsafe {
             sys::goq_draw(self.modules.as_ptr(), self.modules.len(), width, self.zone, self.scale, format, bytes.as_mut_ptr(), bytes.len(), &mut count)

@@ -1,4 +1,4 @@
-use goqlanis::render::{pic, svg, unicode, Luma};
+use goqlanis::render::{pic, png, svg, unicode, Luma};
 use goqlanis::{Color, EcLevel, QrCode, QrError, Version};
 
 #[test]
@@ -22,6 +22,14 @@ fn refusals() {
 }
 
 #[test]
+fn texts() {
+    let text = "Größe: 5 m²";
+    assert_eq!(QrCode::of_text(text, EcLevel::M).unwrap().version(), Version::Normal(1));
+    assert_eq!(QrCode::of_marked_text(text, EcLevel::M).unwrap().version(), Version::Normal(2));
+    assert_eq!(QrCode::of_text(&"a".repeat(2954), EcLevel::L).unwrap_err(), QrError::DataTooLong);
+}
+
+#[test]
 fn pictures() {
     let code = QrCode::with_version(b"01234567", Version::Micro(2), EcLevel::L).unwrap();
     assert_eq!(code.render::<Luma>().module_size(2).build().len(), 34 * 34);
@@ -30,5 +38,6 @@ fn pictures() {
     let (dark, light) = (unicode::Dense1x2::Dark, unicode::Dense1x2::Light);
     assert!(code.render::<unicode::Dense1x2>().dark_color(light).light_color(dark).build().starts_with('█'));
     assert!(code.render::<svg::Color>().build().starts_with("<?xml"));
+    assert!(code.render::<png::Color>().build().starts_with(b"\x89PNG\r\n\x1a\n"));
     assert!(code.render::<pic::Color>().build().starts_with("maxpswid"));
 }
