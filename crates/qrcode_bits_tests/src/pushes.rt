@@ -3,8 +3,17 @@
 use crate::versions::version_of;
 use qrcode_bits::bits::{Bits, ExtendedMode};
 use qrcode_bits::optimize::Segment;
-use qrcode_pushes::{Push, make_push, push_ranges};
-use qrcode_types::types::{EcLevel, Mode, QrError, QrResult, Version};
+use qrcode_pushes::Push::{
+    self, Alphanumeric, Byte, Designator, FirstPosition, Indicator, Kanji, MarkedText, Numeric,
+    SecondPosition, Terminator, Text,
+};
+use qrcode_pushes::{make_push, push_ranges};
+use qrcode_types::types::QrError::{
+    self, DataTooLong, InvalidCharacter, InvalidEciDesignator, InvalidVersion,
+    UnsupportedCharacterSet,
+};
+use qrcode_types::types::Version::{self, Micro};
+use qrcode_types::types::{EcLevel, Mode, QrResult};
 use std::alloc::Global;
 use std::process::Abort;
 use std::test::Fail;
@@ -12,7 +21,7 @@ use std::test::Fail;
 // A list of bits for a version, with these pushes.
 fn list(alloc: Global, version: Version, pushes: &[Push<'_>]) -> QrResult<Bits> {
     if !version.is_valid() {
-        return Err(QrError::InvalidVersion);
+        return Err(InvalidVersion);
     }
     let mut bits = Bits::new(alloc, version);
     for next in pushes {
@@ -74,39 +83,29 @@ fn give_all(rt: &impl Abort, alloc: Global, rows: &[Given]) -> QrResult<()> {
 }
 
 static INDICATORS: [Given; 11] = [
-    (ONE, &[Push::Designator(9)], &[0x70, 0x90], 12),
-    (ONE, &[Push::Designator(899)], &[0x78, 0x38, 0x30], 20),
+    (ONE, &[Designator(9)], &[0x70, 0x90], 12),
+    (ONE, &[Designator(899)], &[0x78, 0x38, 0x30], 20),
+    (ONE, &[Designator(999_999)], &[0x7c, 0xf4, 0x23, 0xf0], 28),
+    (ONE, &[FirstPosition], &[0x50], 4),
+    (ONE, &[SecondPosition(37)], &[0x92, 0x50], 12),
+    (ONE, &[Indicator(ExtendedMode::Eci)], &[0x70], 4),
     (
         ONE,
-        &[Push::Designator(999_999)],
-        &[0x7c, 0xf4, 0x23, 0xf0],
-        28,
-    ),
-    (ONE, &[Push::FirstPosition], &[0x50], 4),
-    (ONE, &[Push::SecondPosition(37)], &[0x92, 0x50], 12),
-    (ONE, &[Push::Indicator(ExtendedMode::Eci)], &[0x70], 4),
-    (
-        ONE,
-        &[Push::Indicator(ExtendedMode::Data(Mode::Kanji))],
+        &[Indicator(ExtendedMode::Data(Mode::Kanji))],
         &[0x80],
         4,
     ),
-    (ONE, &[Push::Indicator(ExtendedMode::Fnc1First)], &[0x50], 4),
+    (ONE, &[Indicator(ExtendedMode::Fnc1First)], &[0x50], 4),
+    (ONE, &[Indicator(ExtendedMode::Fnc1Second)], &[0x90], 4),
     (
         ONE,
-        &[Push::Indicator(ExtendedMode::Fnc1Second)],
-        &[0x90],
-        4,
-    ),
-    (
-        ONE,
-        &[Push::Indicator(ExtendedMode::StructuredAppend)],
+        &[Indicator(ExtendedMode::StructuredAppend)],
         &[0x30],
         4,
     ),
     (
-        Version::Micro(1),
-        &[Push::Indicator(ExtendedMode::Data(Mode::Numeric))],
+        Micro(1),
+        &[Indicator(ExtendedMode::Data(Mode::Numeric))],
         &[],
         0,
     ),
@@ -118,41 +117,42 @@ fn indicators_and_designators(rt: HostRuntime) -> Result<(), Fail> {
     Ok(())
 }
 
-static PIECES: [Given; 7] = [
+static PIECES: [Given; 8] = [
+    (ONE, &[MarkedText("\u{e9}")], b"\x71\xa4\x02\xc3\xa9", 40),
     (
         ONE,
-        &[Push::Numeric(b"01234567")],
+        &[Numeric(b"01234567")],
         b"\x10\x20\x0c\x56\x61\x80",
         41,
     ),
     (
         ONE,
-        &[Push::Numeric(b"0123456789012345")],
+        &[Numeric(b"0123456789012345")],
         b"\x10\x40\x0c\x56\x6a\x6e\x14\xea\x50",
         68,
     ),
     (
-        Version::Micro(3),
-        &[Push::Numeric(b"0123456789012345")],
+        Micro(3),
+        &[Numeric(b"0123456789012345")],
         b"\x20\x06\x2b\x35\x37\x0a\x75\x28",
         61,
     ),
     (
         ONE,
-        &[Push::Alphanumeric(b"AC-42")],
+        &[Alphanumeric(b"AC-42")],
         b"\x20\x29\xce\xe7\x21\x00",
         41,
     ),
-    (ONE, &[Push::Alphanumeric(b"a")], b"\x20\x08\x00", 19),
+    (ONE, &[Alphanumeric(b"a")], b"\x20\x08\x00", 19),
     (
         ONE,
-        &[Push::Byte(b"\x12\x34\x56\x78\x9a\xbc\xde\xf0")],
+        &[Byte(b"\x12\x34\x56\x78\x9a\xbc\xde\xf0")],
         b"\x40\x81\x23\x45\x67\x89\xab\xcd\xef\x00",
         76,
     ),
     (
         ONE,
-        &[Push::Kanji(b"\x93\x5f\xe4\xaa")],
+        &[Kanji(b"\x93\x5f\xe4\xaa")],
         b"\x80\x26\xcf\xea\xa8",
         38,
     ),
@@ -175,72 +175,37 @@ fn refuse_all(rt: &impl Abort, alloc: Global, rows: &[Refused]) -> QrResult<()> 
     Ok(())
 }
 
-static REFUSED: [Refused; 17] = [
+// More letters than a length field of Normal 1 counts.
+const LONG: &str =
+    "aaaaaaaaaaaaaaaaaaaaaaaaaaaaaaaaaaaaaaaaaaaaaaaaaaaaaaaaaaaaaaaaaaaaaaaaaaaaaaaaaaaaaaaaaa\
+    aaaaaaaaaaaaaaaaaaaaaaaaaaaaaaaaaaaaaaaaaaaaaaaaaaaaaaaaaaaaaaaaaaaaaaaaaaaaaaaaaaaaaaaaaa\
+    aaaaaaaaaaaaaaaaaaaaaaaaaaaaaaaaaaaaaaaaaaaaaaaaaaaaaaaaaaaaaaaaaaaaaaaaaaaa";
+
+static REFUSED: [Refused; 20] = [
+    (ONE, Designator(1_000_000), InvalidEciDesignator),
+    (Micro(4), Designator(9), UnsupportedCharacterSet),
+    (Micro(4), FirstPosition, UnsupportedCharacterSet),
+    (Micro(4), SecondPosition(1), UnsupportedCharacterSet),
+    (Micro(1), Alphanumeric(b"A"), UnsupportedCharacterSet),
+    (Micro(2), Byte(b"?"), UnsupportedCharacterSet),
+    (Micro(2), Kanji(b"?"), UnsupportedCharacterSet),
+    (Micro(1), Numeric(b"12345678"), DataTooLong),
+    (Micro(2), Alphanumeric(b"ABCDEFGH"), DataTooLong),
+    (Micro(3), Byte(b"0123456701234567"), DataTooLong),
     (
-        ONE,
-        Push::Designator(1_000_000),
-        QrError::InvalidEciDesignator,
+        Micro(3),
+        Kanji(b"\x93_\x93_\x93_\x93_\x93_\x93_\x93_\x93_"),
+        DataTooLong,
     ),
-    (
-        Version::Micro(4),
-        Push::Designator(9),
-        QrError::UnsupportedCharacterSet,
-    ),
-    (
-        Version::Micro(4),
-        Push::FirstPosition,
-        QrError::UnsupportedCharacterSet,
-    ),
-    (
-        Version::Micro(4),
-        Push::SecondPosition(1),
-        QrError::UnsupportedCharacterSet,
-    ),
-    (
-        Version::Micro(1),
-        Push::Alphanumeric(b"A"),
-        QrError::UnsupportedCharacterSet,
-    ),
-    (
-        Version::Micro(2),
-        Push::Byte(b"?"),
-        QrError::UnsupportedCharacterSet,
-    ),
-    (
-        Version::Micro(2),
-        Push::Kanji(b"?"),
-        QrError::UnsupportedCharacterSet,
-    ),
-    (
-        Version::Micro(1),
-        Push::Numeric(b"12345678"),
-        QrError::DataTooLong,
-    ),
-    (
-        Version::Micro(2),
-        Push::Alphanumeric(b"ABCDEFGH"),
-        QrError::DataTooLong,
-    ),
-    (
-        Version::Micro(3),
-        Push::Byte(b"0123456701234567"),
-        QrError::DataTooLong,
-    ),
-    (
-        Version::Micro(3),
-        Push::Kanji(b"\x93_\x93_\x93_\x93_\x93_\x93_\x93_\x93_"),
-        QrError::DataTooLong,
-    ),
-    (ONE, Push::Numeric(&[b'7'; 1024]), QrError::DataTooLong),
-    (ONE, Push::Numeric(b"12a"), QrError::InvalidCharacter),
-    (ONE, Push::Kanji(b"\x93"), QrError::InvalidCharacter),
-    (ONE, Push::Kanji(b"\x81\x7f"), QrError::InvalidCharacter),
-    (ONE, Push::Kanji(b"\xeb\xc0"), QrError::InvalidCharacter),
-    (
-        Version::Micro(1),
-        Push::Terminator(EcLevel::M),
-        QrError::InvalidVersion,
-    ),
+    (ONE, Numeric(&[b'7'; 1024]), DataTooLong),
+    (ONE, Numeric(b"12a"), InvalidCharacter),
+    (ONE, Kanji(b"\x93"), InvalidCharacter),
+    (ONE, Kanji(b"\x81\x7f"), InvalidCharacter),
+    (ONE, Kanji(b"\xeb\xc0"), InvalidCharacter),
+    (Micro(1), Terminator(EcLevel::M), InvalidVersion),
+    (ONE, Text(LONG), DataTooLong),
+    (Micro(2), Text("a"), UnsupportedCharacterSet),
+    (Micro(4), MarkedText("1"), UnsupportedCharacterSet),
 ];
 
 #[test]
@@ -252,14 +217,14 @@ fn refusals(rt: HostRuntime) -> Result<(), Fail> {
 // A version, a push, the level for which a terminator is then refused, and the bytes.
 static NOT_ENDED: [(Version, Push<'static>, EcLevel, &[u8]); 2] = [
     (
-        Version::Micro(1),
-        Push::Numeric(b"9999999"),
+        Micro(1),
+        Numeric(b"9999999"),
         EcLevel::L,
         &[0xff, 0x3f, 0xcf, 0x20],
     ),
     (
         ONE,
-        Push::Byte(b">>>>>>>>"),
+        Byte(b">>>>>>>>"),
         EcLevel::H,
         &[0x40, 0x83, 0xe3, 0xe3, 0xe3, 0xe3, 0xe3, 0xe3, 0xe3, 0xe0],
     ),
@@ -267,15 +232,15 @@ static NOT_ENDED: [(Version, Push<'static>, EcLevel, &[u8]); 2] = [
 
 #[test]
 fn refused_terminators(rt: HostRuntime) -> Result<(), Fail> {
-    let error = QrError::DataTooLong;
+    let error = DataTooLong;
     for (version, push, level, bytes) in NOT_ENDED {
-        let end = Push::Terminator(level);
+        let end = Terminator(level);
         refuses(&rt, rt.alloc(), version, &[push], end, error, bytes)?;
     }
     Ok(())
 }
 
-const END: Push<'static> = Push::Terminator(EcLevel::L);
+const END: Push<'static> = Terminator(EcLevel::L);
 
 // The bytes of `HELLO WORLD` with a terminator for level Q.
 const HELLO: &[u8] = b"\x20\x5b\x0b\x78\xd1\x72\xdc\x4d\x43\x40\xec\x11\xec";
@@ -283,62 +248,35 @@ const HELLO: &[u8] = b"\x20\x5b\x0b\x78\xd1\x72\xdc\x4d\x43\x40\xec\x11\xec";
 static TERMINATED: [Given; 9] = [
     (
         ONE,
-        &[
-            Push::Alphanumeric(b"HELLO WORLD"),
-            Push::Terminator(EcLevel::Q),
-        ],
+        &[Alphanumeric(b"HELLO WORLD"), Terminator(EcLevel::Q)],
         HELLO,
         104,
     ),
     (
         ONE,
-        &[
-            Push::Designator(9),
-            Push::Byte(b"\xca\xfe\xe4\xe9\xea\xe1\xf2 QR"),
-            END,
-        ],
+        &[Designator(9), Byte(b"\xca\xfe\xe4\xe9\xea\xe1\xf2 QR"), END],
         b"\x70\x94\x0a\xca\xfe\xe4\xe9\xea\xe1\xf2\x20\x51\x52\x00\xec\x11\xec\x11\xec",
         152,
     ),
+    (Micro(1), &[Numeric(b"99999"), END], &[0xbf, 0x3e, 0x30], 20),
+    (Micro(1), &[Numeric(b"9999"), END], &[0x9f, 0x3c, 0x80], 20),
+    (Micro(1), &[Numeric(b"999"), END], &[0x7f, 0x38, 0x00], 20),
+    (Micro(1), &[Numeric(b""), END], &[0x00, 0xec, 0x00], 20),
     (
-        Version::Micro(1),
-        &[Push::Numeric(b"99999"), END],
-        &[0xbf, 0x3e, 0x30],
-        20,
-    ),
-    (
-        Version::Micro(1),
-        &[Push::Numeric(b"9999"), END],
-        &[0x9f, 0x3c, 0x80],
-        20,
-    ),
-    (
-        Version::Micro(1),
-        &[Push::Numeric(b"999"), END],
-        &[0x7f, 0x38, 0x00],
-        20,
-    ),
-    (
-        Version::Micro(1),
-        &[Push::Numeric(b""), END],
-        &[0x00, 0xec, 0x00],
-        20,
-    ),
-    (
-        Version::Micro(1),
-        &[Push::Numeric(b"1"), Push::Numeric(b"1"), END],
+        Micro(1),
+        &[Numeric(b"1"), Numeric(b"1"), END],
         &[0x22, 0x44, 0x00],
         20,
     ),
     (
-        Version::Micro(1),
-        &[Push::Numeric(b"1"), Push::Numeric(b"1"), END, END],
+        Micro(1),
+        &[Numeric(b"1"), Numeric(b"1"), END, END],
         &[0x22, 0x44, 0x00],
         20,
     ),
     (
-        Version::Micro(3),
-        &[Push::Numeric(b"00000000000000000000"), END],
+        Micro(3),
+        &[Numeric(b"00000000000000000000"), END],
         &[0x28, 0, 0, 0, 0, 0, 0, 0, 0, 0, 0],
         84,
     ),
@@ -355,7 +293,7 @@ fn terminated_lists(rt: HostRuntime) -> Result<(), Fail> {
 static OPTIMAL: [(Version, &[u8], EcLevel, &[u8], usize); 2] = [
     (ONE, b"HELLO WORLD", EcLevel::Q, HELLO, 104),
     (
-        Version::Micro(2),
+        Micro(2),
         b"123A",
         EcLevel::L,
         &[0x18, 0xf7, 0x25, 0x00, 0xec],
@@ -366,7 +304,7 @@ static OPTIMAL: [(Version, &[u8], EcLevel, &[u8], usize); 2] = [
 // A list with data in the segments of fewest bits.
 fn optimal(alloc: Global, version: Version, data: &[u8]) -> QrResult<Bits> {
     if !version.is_valid() {
-        return Err(QrError::InvalidVersion);
+        return Err(InvalidVersion);
     }
     let mut bits = Bits::new(alloc, version);
     bits.push_optimal_data(data)?;
@@ -381,11 +319,11 @@ fn optimal_data(rt: HostRuntime) -> Result<(), Fail> {
         holds(&rt, bits, bytes, length);
     }
     let mut bits = optimal(rt.alloc(), ONE, b">>>>>>>>")?;
-    let error = QrError::DataTooLong;
+    let error = DataTooLong;
     assert!(rt; bits.push_terminator(EcLevel::H) == Err(error));
     holds(&rt, bits, b"\x40\x83\xe3\xe3\xe3\xe3\xe3\xe3\xe3\xe0", 76);
-    let mut bits = Bits::new(rt.alloc(), Version::Micro(2));
-    let error = QrError::UnsupportedCharacterSet;
+    let mut bits = Bits::new(rt.alloc(), Micro(2));
+    let error = UnsupportedCharacterSet;
     assert!(rt; bits.push_optimal_data(b"1a") == Err(error));
     holds(&rt, bits, &[], 0);
     Ok(())
@@ -408,7 +346,7 @@ fn segments(rt: HostRuntime) -> Result<(), Fail> {
     push_ranges(&mut bits, b"", vec![in alloc; digits(0, 0)]?)?;
     holds(&rt, bits, &[0x10, 0x00], 14);
 
-    let mut bits = Bits::new(alloc, Version::Micro(2));
+    let mut bits = Bits::new(alloc, Micro(2));
     let byte = Segment {
         mode: Mode::Byte,
         begin: 1,
@@ -416,7 +354,7 @@ fn segments(rt: HostRuntime) -> Result<(), Fail> {
     };
     let ranges = vec![in alloc; digits(0, 1), byte]?;
     let result = push_ranges(&mut bits, b"1a", ranges);
-    assert_eq!(rt; result, Err(QrError::UnsupportedCharacterSet));
+    assert_eq!(rt; result, Err(UnsupportedCharacterSet));
     holds(&rt, bits, &[0x08, 0x80], 9);
     Ok(())
 }
@@ -424,14 +362,14 @@ fn segments(rt: HostRuntime) -> Result<(), Fail> {
 // A list of so many bits refuses the push as too long, and keeps its bits.
 fn is_full(rt: &impl Abort, bits: &mut Bits, length: usize, next: Push<'_>) {
     assert_eq!(rt; bits.len(), length);
-    assert!(rt; make_push(bits, next) == Err(QrError::DataTooLong));
+    assert!(rt; make_push(bits, next) == Err(DataTooLong));
     assert_eq!(rt; bits.len(), length);
 }
 
 // Pushes the bytes so many times.
 fn push_times(bits: &mut Bits, bytes: &[u8], count: usize) -> QrResult<()> {
     for _ in 0..count {
-        make_push(bits, Push::Byte(bytes))?;
+        make_push(bits, Byte(bytes))?;
     }
     Ok(())
 }
@@ -441,10 +379,10 @@ fn limits(rt: HostRuntime) -> Result<(), Fail> {
     let data = Vec::from_elem(rt.alloc(), b'a', 65_535)?;
     let mut bits = Bits::new(rt.alloc(), Version::Normal(40));
     push_times(&mut bits, &data, 31)?;
-    is_full(&rt, &mut bits, 16_253_300, Push::Byte(&data));
+    is_full(&rt, &mut bits, 16_253_300, Byte(&data));
     let data = Vec::from_elem(rt.alloc(), b'a', 65_487)?;
     push_times(&mut bits, &data, 1)?;
-    is_full(&rt, &mut bits, 16_777_216, Push::FirstPosition);
+    is_full(&rt, &mut bits, 16_777_216, FirstPosition);
     Ok(())
 }
 
@@ -452,9 +390,9 @@ fn limits(rt: HostRuntime) -> Result<(), Fail> {
 fn longest_data(rt: HostRuntime) -> Result<(), Fail> {
     let long = Vec::from_elem(rt.alloc(), b'1', 1_048_577)?;
     let mut bits = Bits::new(rt.alloc(), ONE);
-    assert!(rt; bits.push_optimal_data(&long) == Err(QrError::DataTooLong));
+    assert!(rt; bits.push_optimal_data(&long) == Err(DataTooLong));
     assert_eq!(rt; bits.len(), 0);
     let refusal = version_of(rt.alloc(), &long, EcLevel::L);
-    assert!(rt; refusal == Err(QrError::DataTooLong));
+    assert!(rt; refusal == Err(DataTooLong));
     Ok(())
 }
