@@ -18,7 +18,7 @@ ghost use Rattle.qrcode.specs.Pictures.{quiet_zone, debug_text};
 ghost use Rattle.qrcode.specs.Reading.{EncodesBits};
 
 use bits::{Bits, DATA_LIMIT};
-use canvas::{Canvas, MaskPattern};
+use canvas::MaskPattern;
 use masks::mask_of;
 pub use qrcode_bits::{bits, optimize};
 pub use qrcode_render as render;
@@ -154,6 +154,7 @@ impl QrCode {
         }
         let bytes = bits.into_bytes();
         let (data, ec) = ec::construct_codewords(alloc, &bytes, version, ec_level)?;
+        drop(bytes);
         let content = drawn_symbol(alloc, version, ec_level, &data, &ec)?;
         Ok(QrCode {
             content,
@@ -342,8 +343,5 @@ fn drawn_symbol(
         (data_codewords.now ++ ec_codewords.now) colors.items) }
     ensures memory { IsOkUnless result OutOfMemory }
 {
-    let mut canvas = Canvas::new(alloc, version, ec_level)?;
-    canvas.draw_all_functional_patterns();
-    canvas.draw_data(data_codewords, ec_codewords);
-    canvas.into_best_colors(alloc)
+    canvas::drawn_colors(alloc, version, ec_level, data_codewords, ec_codewords)
 }

@@ -6,7 +6,6 @@ pub mod Centres
 pub mod Choices
 pub mod Codewords
 pub mod Covered
-pub mod EightBits
 pub mod Filled
 pub mod FixedPlaces
 pub mod Functional
@@ -19,5 +18,6 @@ pub mod PackedLists
 pub mod Patterned
 pub mod Remasking
 pub mod RowLists
+pub mod Shown
 pub mod Walk
 pub mod WrittenModules

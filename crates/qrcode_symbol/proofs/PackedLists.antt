@@ -1,10 +1,17 @@
 -- Packed lists, place by place.
-use Rattle.std.proofs.Common.{◌≡◌, ℕ, zero, suc, ◌+◌, ◌-◌, ◌*◌, ◌/◌, ◌%◌, ◌^◌, ◌<◌, ◌≤◌, Bool, true, false, ◌==◌, List, [], ◌∷◌, length, take, drop, get_or, refl, ap, sym, ◌∙◌, arith, min, mul_assoc, mul_comm, length-drop, drop-drop}
+use Rattle.std.proofs.Common.{◌≡◌, ℕ, zero, suc, ◌+◌, ◌-◌, ◌*◌, ◌/◌, ◌%◌, ◌^◌, ◌<◌, ◌≤◌, Bool, true, false, ◌==◌, List, [], ◌∷◌, length, ◌++◌, take, drop, get_or, set, nat_lt, map, cond, replicate, below_more, refl, ap, ap₂, sym, inl, inr, ◌∙◌, arith, min, mul_assoc, mul_comm, length-drop, drop-drop}
 use Rattle.std.proofs.lemmas.Nat.{pow_pos, mod_low}
 use Rattle.std.specs.Int.{bit_at}
 use Rattle.std.proofs.lemmas.Nat.Bits.{bit_at_lowest, bit_at-suc}
+use Rattle.std.proofs.lemmas.List.{get_or-set_same, get_or-set_other, length-replicate, get_or-replicate, drop-replicate}
+use Rattle.std.proofs.lemmas.Bool.{ne_eqb}
+use Rattle.std.proofs.lemmas.Bool.Decides.{leb_tells}
+use Rattle.std.proofs.Math.ListN.{length-set}
+use lib.Lanes.{mask_l}
+use borrow.Rule.Slice.PartMut.{put_mid, post_of}
 use Rattle.qrcode_packed.specs.Rows.{is_set}
-use Rattle.qrcode_symbol.specs.Masking.{digit, packed}
+use Rattle.qrcode_symbol.specs.Cells.{module_of_byte}
+use Rattle.qrcode_symbol.specs.Masking.{is_dark_module, is_free, digit, packed}
 
 pub digit_le : (b : Bool) → digit b ≤ 1
 digit_le true = omega arith
@@ -30,13 +37,6 @@ packed_cut f (suc n) [] = omega arith
 packed_cut f (suc n) (x ∷ xs) =
     let twice : 2 ^ suc n ≡ 2 * 2 ^ n = grind arith in
     cut_step (packed f xs) (packed f (drop n xs)) (packed f (take n xs)) (2 ^ n) (2 ^ suc n) (digit (f x)) (packed_cut f n xs) twice
-
--- the eight items from a place on, before those behind them
-pub next_eight : {A : Type 0} (f : A → Bool) (xs : List A) (first past count : ℕ) → past ≡ first + 8 → count ≡ 8 →
-    256 * packed f (drop past xs) + packed f (take count (drop first xs)) ≡ packed f (drop first xs)
-next_eight f xs first past count e h =
-    let behind : drop past xs ≡ drop 8 (drop first xs) = ap (λ n. drop n xs) e ∙ sym (drop-drop 8 first xs) in
-    omega (arith, ap (packed f) behind, ap (λ n. packed f (take n (drop first xs))) h, packed_cut f 8 (drop first xs))
 
 has_digit : (n : ℕ) (b : Bool) → is_set (2 * n + digit b) 0 ≡ b
 unfolding is_set
@@ -99,3 +99,105 @@ pub packed_in_room : {A : Type 0} (f : A → Bool) (xs : List A) (room : ℕ) �
 packed_in_room f xs room h =
     let e : packed f xs ≡ 0 * 2 ^ room + packed f xs = omega arith in
     ap (λ n. n % 2 ^ room) (packed_words f xs ∙ e) ∙ mod_low 0 room (packed f xs) (packed_lt f xs room h)
+
+-- a list of few answers in the lowest word
+pub packed_low : {A : Type 0} (f : A → Bool) (xs : List A) (room : ℕ) → length xs ≤ room → ((0 * 2 ^ 64 + 0) * 2 ^ 64 + packed f xs) % 2 ^ room ≡ packed f xs
+packed_low f xs room h =
+    let e : (0 * 2 ^ 64 + 0) * 2 ^ 64 + packed f xs ≡ 0 * 2 ^ room + packed f xs = omega arith in
+    ap (λ n. n % 2 ^ room) e ∙ mod_low 0 room (packed f xs) (packed_lt f xs room h)
+
+one_digit : (b : Bool) → (digit b == 1) ≡ b
+one_digit true = refl
+one_digit false = refl
+
+none_packed : (bytes : List ℕ) → ((k : ℕ) → k < length bytes → get_or bytes k 0 ≡ 0) → packed (λ n. n == 1) bytes ≡ 0
+none_packed [] zeros = refl
+none_packed (b ∷ bytes) zeros =
+    let here : digit (b == 1) ≡ 0 = ap (λ n. digit (n == 1)) (zeros 0 (omega arith)) in
+    omega (arith, here, none_packed bytes (λ k h. zeros (suc k) (omega arith)))
+
+-- so many bytes are the answers of a test of items, and zero stands behind them
+pub record AreAnswers {A : Type 0} (f : A → Bool) (d : A) (xs : List A) (bytes : List ℕ) (n : ℕ) : Type 0 where
+  pub length : length bytes ≡ 64
+  pub answers : (k : ℕ) → k < n → get_or bytes k 0 ≡ digit (f (get_or xs k d))
+  pub zeros : (k : ℕ) → n ≤ k → k < 64 → get_or bytes k 0 ≡ 0
+
+pub answers_none : {A : Type 0} (f : A → Bool) (d : A) (xs : List A) → AreAnswers f d xs (replicate 64 0) 0
+answers_none f d xs = record { length = length-replicate 64 zero; answers = λ k h. absurd (omega arith); zeros = λ k h l. get_or-replicate 64 k zero zero l }
+
+-- one answer more
+pub answers_more : {A : Type 0} (f : A → Bool) (d : A) (xs : List A) (bytes : List ℕ) (n b : ℕ) → n < 64 → b ≡ digit (f (get_or xs n d)) → AreAnswers f d xs bytes n → AreAnswers f d xs (set bytes n b) (n + 1)
+answers_more f d xs bytes n b h e so_far = record {
+  length = length-set bytes n b ∙ so_far.length;
+  answers = below_more (λ k. get_or (set bytes n b) k 0 ≡ digit (f (get_or xs k d))) n
+      (λ k l. get_or-set_other bytes n k b 0 (λ e. absurd (omega arith)) ∙ so_far.answers k l)
+      (get_or-set_same bytes n b 0 (omega (arith, so_far.length)) ∙ e);
+  zeros = λ k l m. get_or-set_other bytes n k b 0 (λ e. absurd (omega arith)) ∙ so_far.zeros k (omega arith) m;
+}
+
+packed_bytes : {A : Type 0} (f : A → Bool) (d : A) (xs : List A) (bytes : List ℕ) → length xs ≤ length bytes →
+    ((k : ℕ) → k < length xs → get_or bytes k 0 ≡ digit (f (get_or xs k d))) → ((k : ℕ) → length xs ≤ k → k < length bytes → get_or bytes k 0 ≡ 0) →
+    packed (λ n. n == 1) bytes ≡ packed f xs
+packed_bytes f d [] bytes fits answers zeros = none_packed bytes (λ k h. zeros k (omega arith) h)
+packed_bytes f d (x ∷ xs) [] fits answers zeros = absurd (omega arith)
+packed_bytes f d (x ∷ xs) (b ∷ bytes) fits answers zeros =
+    let here : digit (b == 1) ≡ digit (f x) = ap (λ n. digit (n == 1)) (answers 0 (omega arith)) ∙ ap digit (one_digit (f x)) in
+    let rest = packed_bytes f d xs bytes (omega arith) (λ k h. answers (suc k) (omega arith)) (λ k h l. zeros (suc k) (omega arith) (omega arith)) in
+    omega (arith, here, rest)
+
+-- the answers for all items, packed
+pub packed_answers : {A : Type 0} (f : A → Bool) (d : A) (xs : List A) (bytes : List ℕ) (n : ℕ) → length xs ≤ 64 → n ≡ length xs → AreAnswers f d xs bytes n → packed (λ n. n == 1) bytes ≡ packed f xs
+packed_answers f d xs bytes n h e are =
+    packed_bytes f d xs bytes (omega (arith, are.length)) (λ k l. are.answers k (omega arith)) (λ k l m. are.zeros k (omega arith) (omega (arith, are.length)))
+
+-- the number of a mask's lanes
+pub packed_lanes : {A : Type 0} (f : A → Bool) (xs : List A) → mask_l (map f xs) ≡ packed f xs
+packed_lanes f [] = refl
+packed_lanes f (x ∷ xs) = one_more (f x) (packed_lanes f xs) where
+  one_more : (b : Bool) → mask_l (map f xs) ≡ packed f xs → cond b 1 0 + 2 * mask_l (map f xs) ≡ 2 * packed f xs + digit b
+  one_more true e = omega (arith, e)
+  one_more false e = omega (arith, e)
+
+-- bytes behind others that fail a test are not counted
+padded : (f : ℕ → Bool) (bytes : List ℕ) (d k : ℕ) → f d ≡ false → packed f (bytes ++ replicate k d) ≡ packed f bytes
+padded f [] d zero e = refl
+padded f [] d (suc k) e =
+    let here : digit (f d) ≡ 0 = ap digit e in
+    let rest : packed f (replicate k d) ≡ 0 = padded f [] d k e in
+    omega (arith, here, rest)
+padded f (b ∷ bytes) d k e = omega (arith, padded f bytes d k e)
+
+-- 64 bytes that begin with some
+pub packed_word : (f : ℕ → Bool) (bytes : List ℕ) (d : ℕ) → length bytes ≤ 64 → f d ≡ false → packed f (put_mid 0 (length bytes) (replicate 64 d) bytes) ≡ packed f bytes
+packed_word f bytes d h e =
+    let behind : post_of 0 (length bytes) (replicate 64 d) ≡ replicate (64 - length bytes) d = drop-replicate (length bytes) 64 d in
+    ap (λ (l : List ℕ). packed f (bytes ++ l)) behind ∙ padded f bytes d (64 - length bytes) e
+
+-- items that pass one of two tests
+pub packed_sum : {A : Type 0} (f g h : A → Bool) (xs : List A) → ((x : A) → digit (f x) + digit (g x) ≡ digit (h x)) → packed f xs + packed g xs ≡ packed h xs
+packed_sum f g h [] each = refl
+packed_sum f g h (x ∷ xs) each = omega (arith, each x, packed_sum f g h xs each)
+
+dark_byte : (n : ℕ) → digit (n == 1) + digit (n == 4) ≡ digit (is_dark_module (module_of_byte n))
+dark_byte zero = refl
+dark_byte (suc zero) = refl
+dark_byte (suc (suc zero)) = refl
+dark_byte (suc (suc (suc zero))) = refl
+dark_byte (suc (suc (suc (suc zero)))) = refl
+dark_byte (suc (suc (suc (suc (suc n))))) =
+    ap₂ (λ (a b : Bool). digit a + digit b) (ne_eqb (suc (suc (suc (suc (suc n))))) 1 (λ e. absurd (omega (arith, e)))) (ne_eqb (suc (suc (suc (suc (suc n))))) 4 (λ e. absurd (omega (arith, e))))
+
+pub dark_bytes : (bytes : List ℕ) → packed (λ n. n == 1) bytes + packed (λ n. n == 4) bytes ≡ packed (λ n. is_dark_module (module_of_byte n)) bytes
+dark_bytes bytes = packed_sum (λ n. n == 1) (λ n. n == 4) (λ n. is_dark_module (module_of_byte n)) bytes dark_byte
+
+free_byte : (n : ℕ) → nat_lt n 3 ≡ is_free (module_of_byte n)
+free_byte zero = refl
+free_byte (suc zero) = refl
+free_byte (suc (suc zero)) = refl
+free_byte (suc (suc (suc zero))) = refl
+free_byte (suc (suc (suc (suc zero)))) = refl
+free_byte (suc (suc (suc (suc (suc n))))) = elim (leb_tells (suc (suc (suc (suc (suc (suc n)))))) 3) [ inl p ↦ absurd (omega (arith, p.1)) | inr p ↦ p.0 ]
+
+pub free_bytes : (bytes : List ℕ) → packed (λ n. nat_lt n 3) bytes ≡ packed (λ n. is_free (module_of_byte n)) bytes
+free_bytes [] = refl
+free_bytes (b ∷ bytes) = omega (arith, ap digit (free_byte b), free_bytes bytes)

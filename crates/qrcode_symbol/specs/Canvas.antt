@@ -2,7 +2,7 @@
 use Rattle.std.specs.Prelude.{ℕ, ◌+◌, ◌-◌, ◌*◌, ◌/◌, ◌%◌, ◌<◌, ◌≤◌, ℤ, pos, negsuc, neg_ℤ, ◌≤ℤ◌, ◌<ℤ◌, Bool, true, false, List, [], ◌∷◌, ◌++◌, map, filter, length, take, replicate, IsTrue, Some, None, slice_index_or, slice_set, if◌then◌else◌}
 use Rattle.std.specs.List.{range_with_len}
 use Rattle.std.specs.Option.{option_map_or}
-use Rattle.qrcode_types.specs.Bits.{bits_of, has_bit}
+use Rattle.qrcode_types.specs.Bits.{bits_of}
 use Rattle.qrcode_types.specs.Colors.{is_dark, color_of}
 use Rattle.qrcode_types.specs.Versions.{side, has_half_codeword}
 use Rattle.qrcode_types.specs.declared.types.Version.{Version}

@@ -5,7 +5,8 @@ use Rattle.qrcode_types.specs.declared.types.Version.{Version}
 use Rattle.qrcode_types.specs.declared.types.EcLevel.{EcLevel}
 use Rattle.qrcode_places.specs.Masks.{exists_in}
 use Rattle.qrcode_places.specs.declared.masks.MaskPattern.{MaskPattern}
-use Rattle.qrcode_symbol.specs.Canvas.{Drawing, blank, colors_of, with_patterns, with_mask}
+use Rattle.qrcode_symbol.specs.Canvas.{Drawing, blank, colors_of, drawn_bits, with_bits_drawn, with_patterns, with_mask}
+use Rattle.qrcode_symbol.specs.declared.canvas.Module.{Module}
 use Rattle.qrcode_symbol.specs.Symbol.{Carries}
 
 -- the low half of a half codeword is zero
@@ -19,3 +20,13 @@ CarriesAll old bytes ec new =
     let v = old.version in let l = old.level in
     IsTrue (has_level v l) → old.modules ≡ with_patterns v (blank v) → length bytes ≡ data_length v l → length ec ≡ total_ec_length v l → HasZeroHalf v l bytes
     → (k : MaskPattern) → IsTrue (exists_in v k) → Carries v l (bytes ++ ec) k (colors_of (with_mask v l k new.modules))
+
+-- the modules of a new canvas when its patterns and codewords are drawn
+abbrev pub drawn_modules : Version → EcLevel → List ℕ → List ℕ → List Module
+drawn_modules v l bytes ec = with_bits_drawn v (drawn_bits v l bytes ec) (with_patterns v (blank v))
+
+-- codewords of the right lengths, drawn on a new canvas, make under each mask a square that carries them
+abbrev pub AreCarried : Version → EcLevel → List ℕ → List ℕ → Type 0
+AreCarried v l bytes ec =
+    length bytes ≡ data_length v l → length ec ≡ total_ec_length v l → HasZeroHalf v l bytes
+    → (k : MaskPattern) → IsTrue (exists_in v k) → Carries v l (bytes ++ ec) k (colors_of (with_mask v l k (drawn_modules v l bytes ec)))

@@ -1,5 +1,6 @@
 pub mod Canvas
 pub mod Carried
+pub mod Cells
 pub mod Filling
 pub mod Lending
 pub mod Masking

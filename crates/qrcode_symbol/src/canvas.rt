@@ -10,7 +10,7 @@ ghost use Rattle.qrcode_places.specs.Words.{VersionWordsAreApart, FormatWordsAre
 ghost use Rattle.qrcode_types.specs.Colors.{is_dark};
 ghost use Rattle.qrcode_types.specs.declared.types.QrError.TheVariants.{OutOfMemory};
 ghost use Rattle.qrcode_symbol.specs.Canvas.{IsCoordinate, IsOnCanvas, wrapped, module_index, blank, color_of_module, colors_of, masked_module, drawn_bits, with_bits_drawn, with_patterns, with_mask};
-ghost use Rattle.qrcode_symbol.specs.Carried.{CarriesAll};
+ghost use Rattle.qrcode_symbol.specs.Carried.{CarriesAll, AreCarried, drawn_modules};
 ghost use Rattle.qrcode_symbol.specs.Lending.{LendsModule};
 ghost use Rattle.qrcode_symbol.specs.Masking.{IsBestMasked, AreBestColors};
 ghost use Rattle.qrcode_symbol.specs.Patterned.{IsDrawn};
@@ -20,6 +20,7 @@ pub use qrcode_places::mask_functions;
 pub use qrcode_places::masks::MaskPattern;
 
 mod applying;
+mod cells;
 mod codewords;
 mod drawing;
 mod filling;
@@ -31,6 +32,7 @@ mod pattern_places;
 mod unpacking;
 
 use applying::mask_modules;
+use cells::Cell;
 use codewords::Codewords;
 use drawing::{draw_patterns, is_functional_place};
 use filling::draw_codewords;
@@ -313,6 +315,33 @@ impl Canvas {
     {
         Ok(self.modules.iter().map(|m| Color::from(*m)).collect(alloc)?)
     }
+}
+
+/// The colours of the symbol of codewords under the first mask of least penalty, row by row: what a new canvas gives when
+/// its patterns and the codewords are drawn, in half the room.
+///
+/// `OutOfMemory`: memory was refused.
+pub fn drawn_colors(
+    alloc: Global,
+    version: Version,
+    ec_level: EcLevel,
+    bytes: &[u8],
+    ec: &[u8],
+) -> QrResult<Vec<Color>>
+    requires { IsTrue (has_level version ec_level) }
+    ensures best { IfOk result (λ colors. AreBestColors version ec_level
+        (drawn_modules version ec_level bytes.now ec.now) colors.items) }
+    ensures memory { IsOkUnless result OutOfMemory }
+
+    // They carry the codewords, under each mask.
+    ensures carries { AreCarried version ec_level bytes.now ec.now }
+{
+    let width = side(version);
+    let mut cells = vec![in alloc; u8::of(Module::Empty); width * width]?;
+    draw_patterns(version, &mut cells);
+    let codewords = Codewords::new(version, ec_level, bytes, ec);
+    draw_codewords(version, codewords, &mut cells);
+    masking::into_best(alloc, version, ec_level, cells)
 }
 
 /// Whether a functional pattern or the format word has the module in column `x` and row `y` of a

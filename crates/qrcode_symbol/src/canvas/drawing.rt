@@ -1,7 +1,7 @@
 //! Drawing the functional patterns: blocks of modules where they are the same in all versions, and place
 //! by place elsewhere.
 
-ghost use Rattle.std.specs.Prelude.{◌≡◌, ℕ, ◌+◌, ◌-◌, ◌*◌, ◌<◌, ◌≤◌, length, slice_index, true, false, ◌↔◌, IsTrue};
+ghost use Rattle.std.specs.Prelude.{◌≡◌, ℕ, ◌+◌, ◌-◌, ◌*◌, ◌<◌, ◌≤◌, length, map, slice_index, true, false, ◌↔◌, IsTrue};
 ghost use Rattle.qrcode_types.specs.Versions.{is_valid, is_micro, side};
 ghost use Rattle.qrcode_places.specs.Patterns.{centres, is_functional_place, is_corner_centre};
 ghost use Rattle.qrcode_symbol.specs.Canvas.{pattern_module, with_patterns};
@@ -10,6 +10,7 @@ ghost use Rattle.qrcode_symbol.specs.Patterned.{DrawsTowards, IsRectanglePattern
 mod blocks;
 
 use super::Module;
+use super::cells::Cell;
 use super::pattern_places::PatternPlaces;
 use blocks::{ALIGNMENT, MICRO_TOP_LEFT, NORMAL_BOTTOM_LEFT, NORMAL_TOP_LEFT, NORMAL_TOP_RIGHT};
 use qrcode_places::patterns::{format_index, is_corner_centre, near_centre, pattern, timing};
@@ -61,71 +62,87 @@ fn pattern_module(places: PatternPlaces, x: usize, y: usize, old: Module) -> Mod
 }
 
 // Draws the patterns at so many places of a row, from column `left` on.
-fn draw_row(places: PatternPlaces, left: usize, across: usize, y: usize, modules: &mut [Module])
+fn draw_row<C: Cell>(places: PatternPlaces, left: usize, across: usize, y: usize, modules: &mut [C])
     requires columns { left + across ≤ side places.version }
     requires row { y < side places.version }
     requires square { length modules.old ≡ side places.version * side places.version }
-    ensures towards { DrawsTowards places.version modules.old modules.new }
-    ensures drawn { IsRectanglePatterned places.version modules.new left y across 1 }
+    ensures towards { DrawsTowards places.version
+        (map C.shows modules.old) (map C.shows modules.new) }
+    ensures drawn { IsRectanglePatterned places.version (map C.shows modules.new) left y across 1 }
 {
     for column in 0..across {
         let x = left + column;
         let index = y * places.width + x;
-        modules[index] = pattern_module(places, x, y, modules[index]);
+        modules[index] = C::of(pattern_module(places, x, y, modules[index].module()));
     }
 }
 
 // Draws the patterns in a rectangle.
-fn draw_rectangle(
+fn draw_rectangle<C: Cell>(
     places: PatternPlaces,
     left: usize,
     top: usize,
     across: usize,
     down: usize,
-    modules: &mut [Module],
+    modules: &mut [C],
 )
     requires columns { left + across ≤ side places.version }
     requires rows { top + down ≤ side places.version }
     requires square { length modules.old ≡ side places.version * side places.version }
-    ensures towards { DrawsTowards places.version modules.old modules.new }
-    ensures drawn { IsRectanglePatterned places.version modules.new left top across down }
+    ensures towards { DrawsTowards places.version
+        (map C.shows modules.old) (map C.shows modules.new) }
+    ensures drawn { IsRectanglePatterned places.version (map C.shows modules.new)
+        left top across down }
 {
     for row in 0..down {
         draw_row(places, left, across, top + row, modules);
     }
 }
 
+// Writes modules over as many others.
+#[inline(always)]
+fn put_row<C: Cell>(row: &[Module], modules: &mut [C])
+    requires { length modules.old ≡ length row.now }
+    ensures { map C.shows modules.new ≡ row.now }
+{
+    for i in 0..row.len() {
+        modules[i] = C::of(row[i]);
+    }
+}
+
 // Draws a block of modules, which a table holds row by row.
-fn draw_block<const ACROSS: usize>(
+fn draw_block<C: Cell, const ACROSS: usize>(
     places: PatternPlaces,
     left: usize,
     top: usize,
     block: &[[Module; ACROSS]],
-    modules: &mut [Module],
+    modules: &mut [C],
 )
     requires columns { left + ACROSS ≤ side places.version }
     requires rows { top + length block.now ≤ side places.version }
     requires shown { IsBlockAt places.version block.now ACROSS left top }
     requires square { length modules.old ≡ side places.version * side places.version }
-    ensures towards { DrawsTowards places.version modules.old modules.new }
-    ensures drawn { IsRectanglePatterned places.version modules.new
+    ensures towards { DrawsTowards places.version
+        (map C.shows modules.old) (map C.shows modules.new) }
+    ensures drawn { IsRectanglePatterned places.version (map C.shows modules.new)
         left top ACROSS (length block.now) }
 {
     for row in 0..block.len() {
         let start = (top + row) * places.width + left;
-        modules[start..start + ACROSS].copy_from_slice(&block[row]);
+        put_row(&block[row], &mut modules[start..start + ACROSS]);
     }
 }
 
 // Draws the alignment patterns round the centres in a row, but for the corners where finder patterns
 // are.
-fn draw_alignment_row(places: PatternPlaces, b: usize, modules: &mut [Module])
+fn draw_alignment_row<C: Cell>(places: PatternPlaces, b: usize, modules: &mut [C])
     requires centre { IsCentre places.version b }
     requires square { length modules.old ≡ side places.version * side places.version }
-    ensures towards { DrawsTowards places.version modules.old modules.new }
+    ensures towards { DrawsTowards places.version
+        (map C.shows modules.old) (map C.shows modules.new) }
     ensures drawn { (i : ℕ) → i < length (centres places.version)
         → is_corner_centre (side places.version) (slice_index (centres places.version) i) b ≡ false
-        → IsRectanglePatterned places.version modules.new
+        → IsRectanglePatterned places.version (map C.shows modules.new)
         (slice_index (centres places.version) i - 2) (b - 2) 5 5 }
 {
     for a in places.coordinates {
@@ -137,10 +154,11 @@ fn draw_alignment_row(places: PatternPlaces, b: usize, modules: &mut [Module])
 }
 
 // Draws the alignment patterns.
-fn draw_alignments(places: PatternPlaces, modules: &mut [Module])
+fn draw_alignments<C: Cell>(places: PatternPlaces, modules: &mut [C])
     requires square { length modules.old ≡ side places.version * side places.version }
-    ensures towards { DrawsTowards places.version modules.old modules.new }
-    ensures drawn { AreAlignmentsPatterned places.version modules.new
+    ensures towards { DrawsTowards places.version
+        (map C.shows modules.old) (map C.shows modules.new) }
+    ensures drawn { AreAlignmentsPatterned places.version (map C.shows modules.new)
         (length (centres places.version)) }
 {
     for b in places.coordinates {
@@ -149,14 +167,17 @@ fn draw_alignments(places: PatternPlaces, modules: &mut [Module])
 }
 
 // Draws the copies of the version word, which Normal 7 and wider symbols have.
-fn draw_version_words(places: PatternPlaces, modules: &mut [Module])
+fn draw_version_words<C: Cell>(places: PatternPlaces, modules: &mut [C])
     requires at_least { 21 ≤ side places.version }
     requires square { length modules.old ≡ side places.version * side places.version }
-    ensures towards { DrawsTowards places.version modules.old modules.new }
+    ensures towards { DrawsTowards places.version
+        (map C.shows modules.old) (map C.shows modules.new) }
     ensures top_right { 45 ≤ side places.version
-        → IsRectanglePatterned places.version modules.new (side places.version - 11) 0 3 6 }
+        → IsRectanglePatterned places.version (map C.shows modules.new)
+        (side places.version - 11) 0 3 6 }
     ensures bottom_left { 45 ≤ side places.version
-        → IsRectanglePatterned places.version modules.new 0 (side places.version - 11) 6 3 }
+        → IsRectanglePatterned places.version (map C.shows modules.new)
+        0 (side places.version - 11) 6 3 }
 {
     let width = places.width;
     if width >= 45 {
@@ -167,10 +188,11 @@ fn draw_version_words(places: PatternPlaces, modules: &mut [Module])
 
 // The patterns of Normal: three corners, the row and the column of timing modules between them, the
 // alignment patterns and the version words.
-fn draw_normal(places: PatternPlaces, modules: &mut [Module])
+fn draw_normal<C: Cell>(places: PatternPlaces, modules: &mut [C])
     requires normal { is_micro places.version ≡ false }
     requires square { length modules.old ≡ side places.version * side places.version }
-    ensures { modules.new ≡ with_patterns places.version modules.old }
+    ensures { map C.shows modules.new
+        ≡ with_patterns places.version (map C.shows modules.old) }
 {
     let width = places.width;
     draw_block(places, 0, 0, &NORMAL_TOP_LEFT, modules);
@@ -183,10 +205,11 @@ fn draw_normal(places: PatternPlaces, modules: &mut [Module])
 }
 
 // The patterns of Micro: one corner, and the row and the column of timing modules from there on.
-fn draw_micro(places: PatternPlaces, modules: &mut [Module])
+fn draw_micro<C: Cell>(places: PatternPlaces, modules: &mut [C])
     requires micro { is_micro places.version ≡ true }
     requires square { length modules.old ≡ side places.version * side places.version }
-    ensures { modules.new ≡ with_patterns places.version modules.old }
+    ensures { map C.shows modules.new
+        ≡ with_patterns places.version (map C.shows modules.old) }
 {
     let width = places.width;
     draw_block(places, 0, 0, &MICRO_TOP_LEFT, modules);
@@ -195,10 +218,10 @@ fn draw_micro(places: PatternPlaces, modules: &mut [Module])
 }
 
 /// Draws the functional patterns over what is there, the format places light.
-pub(super) fn draw_patterns(version: Version, modules: &mut [Module])
+pub(super) fn draw_patterns<C: Cell>(version: Version, modules: &mut [C])
     requires valid { IsTrue (is_valid version) }
     requires square { length modules.old ≡ side version * side version }
-    ensures { modules.new ≡ with_patterns version modules.old }
+    ensures { map C.shows modules.new ≡ with_patterns version (map C.shows modules.old) }
 {
     let places = PatternPlaces::new(version);
     if version.is_micro() {

@@ -10,6 +10,7 @@ ghost use Rattle.qrcode_symbol.specs.Penalties.{penalty_of};
 ghost use Rattle.qrcode_symbol.specs.Masking.{is_dark_module, is_free, ShowsModules, nth_cost, IsFirstLeastCost, IsBestShown, AreBestColors};
 ghost use Rattle.qrcode_symbol.specs.declared.canvas.Module.{Module};
 
+use super::cells::Cell;
 use super::masked_rows::mask_rows;
 use super::packing::{PackedModules, pack_rows};
 use super::unpacking::{FromColor, unpack_rows};
@@ -141,16 +142,17 @@ fn best_by<R: PackedRow, S: FromColor>(
 }
 
 // The same as colours, where the modules are freed before the colours are written.
-fn into_best_by<R: PackedRow>(
+fn into_best_by<R: PackedRow, C: Cell>(
     alloc: Global,
     version: Version,
     ec_level: EcLevel,
-    modules: Vec<Module>,
+    modules: Vec<C>,
 ) -> QrResult<Vec<Color>>
     requires exists { IsTrue (has_level version ec_level) }
     requires room { side version + 3 ≤ R.room }
     requires square { length modules.items ≡ side version * side version }
-    ensures best { IfOk result (λ new. AreBestColors version ec_level modules.items new.items) }
+    ensures best { IfOk result (λ new.
+        AreBestColors version ec_level (map C.shows modules.items) new.items) }
     ensures memory { IsOkUnless result OutOfMemory }
 {
     let width = side(version);
@@ -186,23 +188,24 @@ pub(super) fn best<S: FromColor>(
 
 /// The colours, in row order, under the first mask of least penalty, with its format word. The modules are freed before
 /// the colours are written.
-pub(super) fn into_best(
+pub(super) fn into_best<C: Cell>(
     alloc: Global,
     version: Version,
     ec_level: EcLevel,
-    modules: Vec<Module>,
+    modules: Vec<C>,
 ) -> QrResult<Vec<Color>>
     requires exists { IsTrue (has_level version ec_level) }
     requires square { length modules.items ≡ side version * side version }
-    ensures best { IfOk result (λ new. AreBestColors version ec_level modules.items new.items) }
+    ensures best { IfOk result (λ new.
+        AreBestColors version ec_level (map C.shows modules.items) new.items) }
     ensures memory { IsOkUnless result OutOfMemory }
 {
     let width = side(version);
     if width + 3 <= 64 {
-        return into_best_by::<u64>(alloc, version, ec_level, modules);
+        return into_best_by::<u64, C>(alloc, version, ec_level, modules);
     }
     if width + 3 <= 128 {
-        return into_best_by::<u128>(alloc, version, ec_level, modules);
+        return into_best_by::<u128, C>(alloc, version, ec_level, modules);
     }
-    into_best_by::<Row192>(alloc, version, ec_level, modules)
+    into_best_by::<Row192, C>(alloc, version, ec_level, modules)
 }

@@ -1,15 +1,17 @@
 //! Modules packed into rows of places: which are dark, and which a mask may turn.
 
-ghost use Rattle.std.specs.Prelude.{◌≡◌, ◌+◌, ◌*◌, ◌<◌, ◌≤◌, length, map, Bool, List, IsTrue};
+ghost use Rattle.std.specs.Prelude.{◌≡◌, ◌==◌, ◌+◌, ◌*◌, ◌<◌, ◌≤◌, nat_lt, length, map, IsTrue};
 ghost use Rattle.qrcode_types.specs.Versions.{is_valid, has_level, side};
 ghost use Rattle.qrcode_packed.specs.Rows.{IsSquare};
+ghost use Rattle.qrcode_symbol.specs.Cells.{module_of_byte};
 ghost use Rattle.qrcode_symbol.specs.Masking.{is_dark_module, is_free, digit, packed, ShowsModules};
-ghost use Rattle.qrcode_symbol.specs.declared.canvas.Module.{Module};
 
 use super::Module;
+use super::cells::Cell;
 use qrcode_packed::row::PackedRow;
 use qrcode_packed::square::PackedSquare;
 use qrcode_types::types::{EcLevel, Version};
+use std::simd::prelude::*;
 
 /// The modules of a symbol in rows: bit x of row y of `dark` is set where the module in column x and
 /// row y is dark, and of `free` where a mask may turn it.
@@ -52,90 +54,69 @@ fn free_bit(m: Module) -> u8
     }
 }
 
-// Eight bits, each in a byte, as a number whose lowest bit is the first.
+// Which of 64 bytes are a number, the first in the lowest bit.
 #[inline(always)]
-fn gather(bits: [u8; 8]) -> u64
-    ensures { (test : Module → Bool) (modules : List Module) → length modules ≡ 8
-        → bits ≡ map (λ m. digit (test m)) modules → result ≡ packed test modules }
+fn equal_to(bytes: [u8; 64], number: u8) -> u64
+    ensures { result ≡ packed (λ n. n == number) bytes }
 {
-    u64::from_le_bytes(bits).wrapping_mul(0x0102_0408_1020_4080) >> 56
+    u8x64::from_array(bytes)
+        .simd_eq(u8x64::splat(number))
+        .to_bitmask()
 }
 
-// Which of eight modules are dark, and which a mask may turn.
+// Which of 64 bytes are below a number, the first in the lowest bit.
 #[inline(always)]
-fn pack_eight(eight: &[Module]) -> (u64, u64)
-    requires { length eight.now ≡ 8 }
-    ensures dark { result.0 ≡ packed is_dark_module eight.now }
-    ensures free { result.1 ≡ packed is_free eight.now }
+fn below(bytes: [u8; 64], number: u8) -> u64
+    ensures { result ≡ packed (λ n. nat_lt n number) bytes }
 {
-    let dark = [
-        dark_bit(eight[0]),
-        dark_bit(eight[1]),
-        dark_bit(eight[2]),
-        dark_bit(eight[3]),
-        dark_bit(eight[4]),
-        dark_bit(eight[5]),
-        dark_bit(eight[6]),
-        dark_bit(eight[7]),
-    ];
-    let free = [
-        free_bit(eight[0]),
-        free_bit(eight[1]),
-        free_bit(eight[2]),
-        free_bit(eight[3]),
-        free_bit(eight[4]),
-        free_bit(eight[5]),
-        free_bit(eight[6]),
-        free_bit(eight[7]),
-    ];
-    (gather(dark), gather(free))
+    u8x64::from_array(bytes)
+        .simd_lt(u8x64::splat(number))
+        .to_bitmask()
 }
 
-// Which of fewer than eight modules are dark, and which a mask may turn.
-fn pack_few(modules: &[Module]) -> (u64, u64)
-    requires { length modules.now < 8 }
-    ensures dark { result.0 ≡ packed is_dark_module modules.now }
-    ensures free { result.1 ≡ packed is_free modules.now }
-{
-    let mut dark = 0u64;
-    let mut free = 0u64;
-    let mut i = modules.len();
-    while i > 0 {
-        i -= 1;
-        dark = 2 * dark + dark_bit(modules[i]) as u64;
-        free = 2 * free + free_bit(modules[i]) as u64;
-    }
-    (dark, free)
-}
-
-// Which of up to 64 modules are dark, and which a mask may turn.
-fn pack_word(modules: &[Module]) -> (u64, u64)
+/// Which of up to 64 modules are dark, and which a mask may turn. A byte for each answer first, so that LLVM makes
+/// sixteen at a time.
+pub(super) fn pack_modules(modules: &[Module]) -> (u64, u64)
     requires { length modules.now ≤ 64 }
     ensures dark { result.0 ≡ packed is_dark_module modules.now }
     ensures free { result.1 ≡ packed is_free modules.now }
 {
-    let mut i = modules.len() / 8;
-    let (mut dark, mut free) = pack_few(&modules[8 * i..]);
-    while i > 0 {
-        i -= 1;
-        let eight = pack_eight(&modules[8 * i..8 * i + 8]);
-        dark = 256 * dark + eight.0;
-        free = 256 * free + eight.1;
+    let mut dark = [0u8; 64];
+    let mut free = [0u8; 64];
+    for i in 0..modules.len() {
+        dark[i] = dark_bit(modules[i]);
+        free[i] = free_bit(modules[i]);
     }
-    (dark, free)
+    (equal_to(dark, 1), equal_to(free, 1))
+}
+
+/// Which of up to 64 modules are dark, and which a mask may turn, by the bytes that show them.
+pub(super) fn pack_bytes(bytes: &[u8]) -> (u64, u64)
+    requires { length bytes.now ≤ 64 }
+    ensures dark { result.0 ≡ packed (λ n. is_dark_module (module_of_byte n)) bytes.now }
+    ensures free { result.1 ≡ packed (λ n. is_free (module_of_byte n)) bytes.now }
+{
+    // A byte of 3 is a light module that no mask turns.
+    let mut word = [3u8; 64];
+    word[..bytes.len()].copy_from_slice(bytes);
+    (equal_to(word, 1) + equal_to(word, 4), below(word, 3))
 }
 
 // Which modules of a row are dark, and which a mask may turn.
-fn pack_row<R: PackedRow>(row: &[Module]) -> (R, R)
+fn pack_row<R: PackedRow, C: Cell>(row: &[C]) -> (R, R)
     requires { length row.now ≤ R.room }
-    ensures dark { R.bits result.0 ≡ packed is_dark_module row.now }
-    ensures free { R.bits result.1 ≡ packed is_free row.now }
+    ensures dark { R.bits result.0 ≡ packed is_dark_module (map C.shows row.now) }
+    ensures free { R.bits result.1 ≡ packed is_free (map C.shows row.now) }
 {
+    if row.len() <= 64 {
+        let word = C::pack(row);
+        return (R::of_words(word.0, 0, 0), R::of_words(word.1, 0, 0));
+    }
     let first = row.len().min(64);
     let second = row.len().min(128);
-    let low = pack_word(&row[..first]);
-    let middle = pack_word(&row[first..second]);
-    let high = pack_word(&row[second..]);
+    let low = C::pack(&row[..first]);
+    let middle = C::pack(&row[first..second]);
+    let high = C::pack(&row[second..]);
     (
         R::of_words(low.0, middle.0, high.0),
         R::of_words(low.1, middle.1, high.1),
@@ -144,9 +125,9 @@ fn pack_row<R: PackedRow>(row: &[Module]) -> (R, R)
 
 /// Packs each row of a square.
 #[tactic(auto, using(std::proofs::lemmas::Nat::rows))]
-pub(super) fn pack_rows<R: PackedRow>(
+pub(super) fn pack_rows<R: PackedRow, C: Cell>(
     width: usize,
-    modules: &[Module],
+    modules: &[C],
     dark: &mut [R],
     free: &mut [R],
 )
@@ -155,8 +136,10 @@ pub(super) fn pack_rows<R: PackedRow>(
     requires square { length modules.now ≡ width * width }
     requires dark_length { length dark.old ≡ width }
     requires free_length { length free.old ≡ width }
-    ensures dark { ShowsModules is_dark_module width modules.now (map R.bits dark.new) }
-    ensures free { ShowsModules is_free width modules.now (map R.bits free.new) }
+    ensures dark { ShowsModules is_dark_module width (map C.shows modules.now)
+        (map R.bits dark.new) }
+    ensures free { ShowsModules is_free width (map C.shows modules.now)
+        (map R.bits free.new) }
     ensures dark_square { IsSquare R.room (record { width = width; rows = map R.bits dark.new }) }
     ensures free_square { IsSquare R.room (record { width = width; rows = map R.bits free.new }) }
 {

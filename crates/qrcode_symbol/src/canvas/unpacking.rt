@@ -87,8 +87,8 @@ fn unpack_fours<R: PackedRow, S: FromColor>(line: R, row: &mut [S]) -> R
     rest
 }
 
-// Writes a row by its places, of which the dark ones are set.
-fn unpack_row<R: PackedRow, S: FromColor>(line: R, row: &mut [S])
+// Writes a part of a row by its places, of which the dark ones are set.
+fn unpack_part<R: PackedRow, S: FromColor>(line: R, row: &mut [S])
     ensures { (x : ℕ) → x < length row.old
         → slice_index_or row.new x (S.from_color Light)
         ≡ S.from_color (color_of (is_set (R.bits line) x)) }
@@ -97,6 +97,21 @@ fn unpack_row<R: PackedRow, S: FromColor>(line: R, row: &mut [S])
     for x in 4 * (row.len() / 4)..row.len() {
         row[x] = S::from_color(color_of(rest.first_word() % 2 == 1));
         rest = rest.down(1);
+    }
+}
+
+// Writes a row by its places, of which the dark ones are set: word by word, since shifts of a word are cheap.
+fn unpack_row<R: PackedRow, S: FromColor>(line: R, row: &mut [S])
+    requires { length row.old ≤ 192 }
+    ensures { (x : ℕ) → x < length row.old
+        → slice_index_or row.new x (S.from_color Light)
+        ≡ S.from_color (color_of (is_set (R.bits line) x)) }
+{
+    let mut rest = line;
+    for k in 0..(row.len() + 63) / 64 {
+        let end = row.len().min(64 * k + 64);
+        unpack_part(rest.first_word(), &mut row[64 * k..end]);
+        rest = rest.down(63).down(1);
     }
 }
 

@@ -1,4 +1,4 @@
-use Rattle.std.proofs.Common.{◌≡◌, ℕ, ◌-◌, true, false, List, get_or, sym, subst, ◌∙◌, arith, below_more, true≢false}
+use Rattle.std.proofs.Common.{◌≡◌, ℕ, ◌-◌, true, false, map, List, get_or, sym, subst, ◌∙◌, arith, below_more, true≢false}
 use Rattle.qrcode_types.specs.Versions.{side}
 use Rattle.qrcode_places.specs.Patterns.{centres, is_corner_centre}
 use Rattle.qrcode_symbol.specs.Patterned.{IsRectanglePatterned, IsCentre}
@@ -9,15 +9,15 @@ use Rattle.qrcode_symbol.proofs.canvas.drawing.draw_alignment_row.Goals as goal
 use Rattle.qrcode_symbol.proofs.canvas.drawing.draw_alignment_row.Goals.{then-not-is_corner_centre, else-not-is_corner_centre}
 
 pub overflow_sub-a : goal.overflow_sub-a
-overflow_sub-a c =
+overflow_sub-a g c =
     let v = c.args.places.version in
     omega (arith, centre_inside v _ (centre_at v c.args.places.coordinates.now c.loop-a.a-index c.args.places.centred (omega arith)))
 
 pub overflow_sub-b : goal.overflow_sub-b
-overflow_sub-b c = omega (arith, centre_inside c.args.places.version c.args.b c.requires.centre)
+overflow_sub-b g c = omega (arith, centre_inside c.args.places.version c.args.b c.requires.centre)
 
 pub draw_block-requires : goal.draw_block-requires
-draw_block-requires c =
+draw_block-requires g c =
     let v = c.args.places.version in
     let b = c.args.b in
     let a = get_or c.args.places.coordinates.now c.loop-a.a-index 0 in
@@ -27,14 +27,15 @@ draw_block-requires c =
     (omega arith, (omega (arith, centre_inside v a is), (omega (arith, centre_inside v b c.requires.centre), (alignment_shown v a b c.args.places.valid is c.requires.centre apart, omega arith))))
 
 pub loop-a-preserved : goal.loop-a-preserved
-loop-a-preserved c =
+loop-a-preserved g c =
     let v = c.args.places.version in
     let b = c.args.b in
-    let old = c.loop-a.modules in
+    let shows = g.C.Cell.shows in
+    let old = map shows c.loop-a.modules in
     let index = c.loop-a.a-index in
     elim c.if-not-is_corner_centre.branch [
       | then-not-is_corner_centre w ↦
-          let new = w.draw_block.new.modules in
+          let new = map shows w.draw_block.new.modules in
           rw w.modules-is
           (record {
             towards = towards_more _ _ _ _ c.loop-a.invariant.towards w.draw_block.ensures.towards;

@@ -1,4 +1,4 @@
-use Rattle.std.proofs.Common.{◌≡◌, ℕ, ◌-◌, ◌<◌, false, List, length, get_or, subst, arith, below_more}
+use Rattle.std.proofs.Common.{◌≡◌, ℕ, ◌-◌, ◌<◌, false, map, List, length, get_or, subst, arith, below_more}
 use Rattle.qrcode_types.specs.Versions.{side}
 use Rattle.qrcode_places.specs.Patterns.{centres, is_corner_centre}
 use Rattle.qrcode_symbol.specs.Patterned.{IsRectanglePatterned}
@@ -7,13 +7,14 @@ use Rattle.qrcode_symbol.proofs.Patterned.{towards_more, rectangle_kept}
 use Rattle.qrcode_symbol.proofs.canvas.drawing.draw_alignments.Goals as goal
 
 pub draw_alignment_row-requires-clause-centre : goal.draw_alignment_row-requires-clause-centre
-draw_alignment_row-requires-clause-centre c = centre_at c.args.places.version c.args.places.coordinates.now c.loop-b.b-index c.args.places.centred (omega arith)
+draw_alignment_row-requires-clause-centre g c = centre_at c.args.places.version c.args.places.coordinates.now c.loop-b.b-index c.args.places.centred (omega arith)
 
 pub loop-b-preserved : goal.loop-b-preserved
-loop-b-preserved c =
+loop-b-preserved g c =
     let v = c.args.places.version in
-    let old = c.loop-b.modules in
-    let new = c.draw_alignment_row.new.modules in
+    let shows = g.C.Cell.shows in
+    let old = map shows c.loop-b.modules in
+    let new = map shows c.draw_alignment_row.new.modules in
     record {
       towards = towards_more _ _ _ _ c.loop-b.invariant.towards c.draw_alignment_row.ensures.towards;
       drawn = below_more _ _

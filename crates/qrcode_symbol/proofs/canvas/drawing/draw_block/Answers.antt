@@ -1,5 +1,8 @@
-use Rattle.std.proofs.Common.{◌≡◌, ◌+◌, ◌-◌, ◌*◌, [], length, take, drop, length-take, length-drop, get_or, ap, sym, ◌∙◌, arith}
-use Rattle.std.proofs.lemmas.List.{get_or_read}
+use Rattle.std.proofs.Common.{◌≡◌, ◌+◌, ◌-◌, ◌*◌, ◌≤◌, rules, [], length, take, drop, length-take, length-drop, get_or, map, List, subst, ap, sym, ◌∙◌, arith}
+use Rattle.std.proofs.lemmas.List.{get_or_read, length-map}
+use Rattle.qrcode_symbol.specs.declared.canvas.Module.{Module}
+use Rattle.qrcode_symbol.specs.Patterned.{DrawsTowards, IsRectanglePatterned}
+use Rattle.qrcode_symbol.proofs.Shown.{map-put_mid}
 use Rattle.qrcode_types.specs.Versions.{side}
 use Rattle.qrcode_symbol.specs.declared.canvas.Module.TheVariants.{Empty}
 use Rattle.qrcode_symbol.proofs.Patterned.{block_row, row_inside}
@@ -8,8 +11,9 @@ use Rattle.qrcode_symbol.proofs.canvas.drawing.draw_block.Goals as goal
 pub loop-row-preserved : goal.loop-row-preserved
 loop-row-preserved g c =
     let v = c.args.places.version in
-    let old = c.loop-row.modules in
-    let row = c.copy_from_slice.new.self in
+    let shows = g.C.Cell.shows in
+    let old = map shows c.loop-row.modules in
+    let row = map shows c.put_row.new.modules in
     let n = c.loop-row.row in
     let across = g.row.ACROSS in
     let left = c.args.left in
@@ -19,8 +23,20 @@ loop-row-preserved g c =
     let count : start + across - start ≡ across = omega arith in
     let at : start ≡ (top + n) * side v + left = ap (λ w. (top + n) * w + left) c.args.places.side in
     let inside = row_inside (side v) left across (top + n) c.requires.columns (omega arith) in
-    let room : length (take (start + across - start) (drop start old)) ≡ across = simp (length-take, length-drop) (omega arith) in
-    let long : length row ≡ across = c.copy_from_slice.ensures.len ∙ room in
-    let step = block_row v c.args.modules.now old row left top across n start at c.requires.columns (omega arith) (omega arith) long
-    (λ i h x. c.requires.shown i n h (omega arith) x ∙ sym (ap (λ l. get_or l i Empty) (c.copy_from_slice.ensures.after ∙ read))) c.loop-row.invariant.towards c.loop-row.invariant.drawn in
-    rw count (record { towards = step.0; drawn = step.1 })
+    let room : length (take (start + across - start) (drop start c.loop-row.modules)) ≡ across = simp (length-take, length-drop) (omega arith) in
+    let long : length row ≡ across = length-map c.put_row.new.modules shows ∙ c.put_row.auto.modules ∙ room in
+    let square : length old ≡ side v * side v = length-map c.loop-row.modules shows ∙ omega arith in
+    let step = block_row v (map shows c.args.modules.now) old row left top across n start at c.requires.columns (omega arith) square long
+    (λ i h x. c.requires.shown i n h (omega arith) x ∙ sym (ap (λ l. get_or l i Empty) (c.put_row.ensures ∙ read))) c.loop-row.invariant.towards c.loop-row.invariant.drawn in
+    let after = map-put_mid shows start across c.loop-row.modules c.put_row.new.modules in
+    let P : List Module → Type 0 = λ ms. DrawsTowards v (map shows c.args.modules.now) ms × IsRectanglePatterned v ms left top across (n + 1) in
+    let both = subst P (sym after) step in
+    rw count (record { towards = both.0; drawn = both.1 })
+
+pub offset_bounds-modules-start : goal.offset_bounds-modules-start
+offset_bounds-modules-start g c =
+    let v = c.args.places.version in
+    let start = (c.args.top + c.loop-row.row) * c.args.places.width + c.args.left in
+    let at : start ≡ (c.args.top + c.loop-row.row) * side v + c.args.left = ap (λ w. (c.args.top + c.loop-row.row) * w + c.args.left) c.args.places.side in
+    let inside : start ≤ length c.loop-row.modules = omega (arith, at, row_inside (side v) c.args.left g.row.ACROSS (c.args.top + c.loop-row.row) c.requires.columns (omega arith)) in
+    search rules

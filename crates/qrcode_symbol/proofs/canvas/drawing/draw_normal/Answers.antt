@@ -1,4 +1,5 @@
-use Rattle.std.proofs.Common.{arith, ◌+◌, ◌≤◌, ◌-◌, ◌∙◌, subst}
+use Rattle.std.proofs.lemmas.List.{length-map}
+use Rattle.std.proofs.Common.{map, arith, ◌+◌, ◌≤◌, ◌-◌, ◌∙◌, subst}
 use Rattle.qrcode_types.specs.Versions.{side}
 use Rattle.qrcode_symbol.specs.Patterned.{IsRectanglePatterned}
 use Rattle.qrcode_symbol.proofs.Blocks.{normal_side, top_left_shown, top_right_shown, bottom_left_shown}
@@ -7,14 +8,14 @@ use Rattle.qrcode_symbol.proofs.Patterned.{towards_more, rectangle_kept, drawn_a
 use Rattle.qrcode_symbol.proofs.canvas.drawing.draw_normal.Goals as goal
 
 pub draw_block-requires : goal.draw_block-requires
-draw_block-requires c =
+draw_block-requires g c =
     let v = c.args.places.version in
     let wide = normal_side v c.args.places.valid c.requires.normal in
     let fits : 0 + 9 ≤ side v = omega (arith, wide) in
     (omega arith, (fits, (fits, (top_left_shown v c.args.places.valid c.requires.normal, c.requires.square))))
 
 pub draw_block-requires-2 : goal.draw_block-requires-2
-draw_block-requires-2 c =
+draw_block-requires-2 g c =
     let v = c.args.places.version in
     let wide = normal_side v c.args.places.valid c.requires.normal in
     let columns : c.args.places.width - 8 + 8 ≤ side v = omega (arith, wide) in
@@ -22,7 +23,7 @@ draw_block-requires-2 c =
     (omega arith, (columns, (rows, (rw c.args.places.side (top_right_shown v c.args.places.valid c.requires.normal), c.draw_block.auto.modules ∙ c.requires.square))))
 
 pub draw_block-requires-3 : goal.draw_block-requires-3
-draw_block-requires-3 c =
+draw_block-requires-3 g c =
     let v = c.args.places.version in
     let wide = normal_side v c.args.places.valid c.requires.normal in
     let columns : 0 + 9 ≤ side v = omega (arith, wide) in
@@ -30,17 +31,18 @@ draw_block-requires-3 c =
     (omega arith, (columns, (rows, (rw c.args.places.side (bottom_left_shown v c.args.places.valid c.requires.normal), c.draw_block-2.auto.modules ∙ c.draw_block.auto.modules ∙ c.requires.square))))
 
 pub returns : goal.returns
-returns c =
+returns g c =
+    let shows = g.C.Cell.shows in
     let v = c.args.places.version in
     let w = c.args.places.width in
-    let m = c.args.modules.now in
-    let m1 = c.draw_block.new.modules in
-    let m2 = c.draw_block-2.new.modules in
-    let m3 = c.draw_block-3.new.modules in
-    let m4 = c.draw_rectangle.new.modules in
-    let m5 = c.draw_rectangle-2.new.modules in
-    let m6 = c.draw_alignments.new.modules in
-    let m7 = c.draw_version_words.new.modules in
+    let m = map shows c.args.modules.now in
+    let m1 = map shows c.draw_block.new.modules in
+    let m2 = map shows c.draw_block-2.new.modules in
+    let m3 = map shows c.draw_block-3.new.modules in
+    let m4 = map shows c.draw_rectangle.new.modules in
+    let m5 = map shows c.draw_rectangle-2.new.modules in
+    let m6 = map shows c.draw_alignments.new.modules in
+    let m7 = map shows c.draw_version_words.new.modules in
     let from_6 = c.draw_version_words.ensures.towards in
     let from_5 = towards_more v m5 m6 m7 c.draw_alignments.ensures.towards from_6 in
     let from_4 = towards_more v m4 m5 m7 c.draw_rectangle-2.ensures.towards from_5 in
@@ -58,6 +60,6 @@ returns c =
       right_word = c.draw_version_words.ensures.top_right;
       left_word = c.draw_version_words.ensures.bottom_left;
     } in
-    let square = c.draw_version_words.auto.modules ∙ c.draw_alignments.auto.modules ∙ c.draw_rectangle-2.auto.modules ∙ c.draw_rectangle.auto.modules ∙ c.draw_block-3.auto.modules
+    let square = length-map c.draw_version_words.new.modules shows ∙ c.draw_version_words.auto.modules ∙ c.draw_alignments.auto.modules ∙ c.draw_rectangle-2.auto.modules ∙ c.draw_rectangle.auto.modules ∙ c.draw_block-3.auto.modules
     ∙ c.draw_block-2.auto.modules ∙ c.draw_block.auto.modules ∙ c.requires.square in
     drawn_all v m m7 towards square (normal_covered v m7 c.args.places.valid c.requires.normal patterned)

@@ -1,15 +1,15 @@
-use Rattle.std.proofs.Common.{◌≡◌, ◌*◌, ◌∙◌, sym, arith}
+use Rattle.std.proofs.Common.{◌≡◌, ◌*◌, ◌∙◌, sym, map, arith}
 use Rattle.qrcode_types.specs.Versions.{side}
 use Rattle.qrcode_symbol.proofs.Walk.{at_start, at_end, last_pair}
 use Rattle.qrcode_symbol.proofs.canvas.filling.draw_codewords.Goals as goal
 
 pub loop-pair-init : goal.loop-pair-init
-loop-pair-init c =
+loop-pair-init g c =
     let e : 2 * side c.args.version * 0 ≡ 0 = omega arith in
-    rw e (at_start c.args.version c.args.codewords c.args.modules.now)
+    rw e (at_start c.args.version c.args.codewords (map g.C.Cell.shows c.args.modules.now))
 
 pub returns : goal.returns
-returns c =
+returns g c =
     let v = c.args.version in
-    sym (at_end v c.loop-pair.codewords c.loop-pair.modules (2 * side v * c.loop-pair.pair)
+    sym (at_end v c.loop-pair.codewords (map g.C.Cell.shows c.loop-pair.modules) (2 * side v * c.loop-pair.pair)
     (last_pair (side v) c.loop-pair.pair (omega arith) (rw (← c.side-pair-end.ensures.value) c.loop-pair-test.false))) ∙ c.loop-pair.invariant

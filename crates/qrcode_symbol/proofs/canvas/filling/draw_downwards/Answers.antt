@@ -1,4 +1,4 @@
-use Rattle.std.proofs.Common.{◌≡◌, ℕ, ◌+◌, ◌-◌, ◌*◌, ◌==◌, ◌∙◌, ap, refl, arith, if◌then◌else◌}
+use Rattle.std.proofs.Common.{◌≡◌, ℕ, ◌+◌, ◌-◌, ◌*◌, ◌==◌, ◌∙◌, ap, refl, arith, map, if◌then◌else◌}
 use Rattle.qrcode_types.specs.Versions.{side}
 use Rattle.qrcode_places.specs.Stream.{right_column}
 use Rattle.qrcode_symbol.proofs.Walk.{row_step, apart}
@@ -6,7 +6,7 @@ use Rattle.qrcode_symbol.specs.Filling.{row_of_step}
 use Rattle.qrcode_symbol.proofs.canvas.filling.draw_downwards.Goals as goal
 
 pub loop-step-preserved : goal.loop-step-preserved
-loop-step-preserved c =
+loop-step-preserved g c =
     let v = c.args.version in
     let step = c.loop-step.step in
     let row : row_of_step (side v) c.args.pair step ≡ c.loop-step.step = ap (λ (n : ℕ). if n == 0 then side v - 1 - step else step) c.requires.downwards in
@@ -14,7 +14,7 @@ loop-step-preserved c =
     let at : index ≡ row_of_step (side v) c.args.pair step * side v + right_column v c.args.pair =
     rw (c.right_column-right.ensures.value, c.side-width.ensures.value, row) refl in
     row_step v c.args.pair step index
-    c.loop-step.codewords _ c.draw_row.new.codewords c.loop-step.modules _ c.draw_row.new.modules
+    c.loop-step.codewords _ c.draw_row.new.codewords (map g.C.Cell.shows c.loop-step.modules) _ (map g.C.Cell.shows c.draw_row.new.modules)
     (apart v c.requires.valid) c.requires.pair (omega arith) at (rw (← c.right_column-right.ensures.value) c.right_column-right.ensures.at_least)
     refl refl c.draw_row.ensures.0 c.draw_row.ensures.1
     ∙ c.loop-step.invariant

@@ -9,8 +9,9 @@ pub returns-clause-best : goal.returns-clause-best
 returns-clause-best g c =
     let bits = g.R.PackedRow.bits in
     let v = c.args.version in
-    let modules = c.args.modules.items in
-    let whole : c.deref.result.now ≡ modules = c.deref.ensures.value in
+    let cells = c.args.modules.items in
+    let modules = map g.C.Cell.shows cells in
+    let whole : map g.C.Cell.shows c.deref.result.now ≡ modules = ap (map g.C.Cell.shows) c.deref.ensures.value in
     let dark : c.deref-2.result.now ≡ c.pack_rows.new.dark = c.deref-2.ensures.value ∙ take_at c.pack_rows.new.dark _ _ (omega arith) in
     let free : c.deref-3.result.now ≡ c.pack_rows.new.free = c.deref-3.ensures.value ∙ take_at c.pack_rows.new.free _ _ (omega arith) in
     let darks = subst (λ (ms : List Module). ShowsModules is_dark_module c.side-width.result ms (map bits c.pack_rows.new.dark)) whole c.pack_rows.ensures.dark in

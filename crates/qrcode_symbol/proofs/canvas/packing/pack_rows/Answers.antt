@@ -2,6 +2,7 @@ use Rattle.std.proofs.Common.{◌≡◌, ℕ, length, ◌+◌, ◌-◌, ◌*◌,
 use Rattle.std.proofs.lemmas.List.{length-map}
 use Rattle.qrcode_symbol.specs.Masking.{is_dark_module, is_free, packed}
 use Rattle.qrcode_packed.proofs.RowLists.{rows_more}
+use Rattle.qrcode_symbol.proofs.Shown.{map-part}
 use Rattle.qrcode_symbol.proofs.RowLists.{shows_packed, fits_packed, modules_of_row}
 use Rattle.qrcode_symbol.proofs.canvas.packing.pack_rows.Goals as goal
 
@@ -11,17 +12,20 @@ loop-y-preserved g c =
     let w = c.args.width in
     let y = c.loop-y.y in
     let step : (y + 1) * w - y * w ≡ w = grind arith in
-    let part = λ (n : ℕ). take n (drop (y * w) c.args.modules.now) in
+    let shows = g.C.Cell.shows in
+    let modules = map shows c.args.modules.now in
+    let part = λ (n : ℕ). take n (drop (y * w) modules) in
+    let commutes = map-part shows ((y + 1) * w - y * w) (y * w) c.args.modules.now in
     record {
-      dark = rows_more bits (λ k n. n ≡ packed is_dark_module (modules_of_row w c.args.modules.now k)) c.loop-y.dark y c.pack_row-packed.result.0 (omega arith) c.loop-y.invariant.dark (c.pack_row-packed.ensures.dark ∙ ap (λ n. packed is_dark_module (part n)) step);
-      free = rows_more bits (λ k n. n ≡ packed is_free (modules_of_row w c.args.modules.now k)) c.loop-y.free y c.pack_row-packed.result.1 (omega arith) c.loop-y.invariant.free (c.pack_row-packed.ensures.free ∙ ap (λ n. packed is_free (part n)) step);
+      dark = rows_more bits (λ k n. n ≡ packed is_dark_module (modules_of_row w modules k)) c.loop-y.dark y c.pack_row-packed.result.0 (omega arith) c.loop-y.invariant.dark (c.pack_row-packed.ensures.dark ∙ ap (packed is_dark_module) commutes ∙ ap (λ n. packed is_dark_module (part n)) step);
+      free = rows_more bits (λ k n. n ≡ packed is_free (modules_of_row w modules k)) c.loop-y.free y c.pack_row-packed.result.1 (omega arith) c.loop-y.invariant.free (c.pack_row-packed.ensures.free ∙ ap (packed is_free) commutes ∙ ap (λ n. packed is_free (part n)) step);
     }
 
 pub returns-clause-dark : goal.returns-clause-dark
-returns-clause-dark g c = shows_packed is_dark_module c.args.modules.now c.args.width c.requires.square (map g.R.PackedRow.bits c.loop-y.dark) (λ y h. c.loop-y.invariant.dark y (omega arith))
+returns-clause-dark g c = shows_packed is_dark_module (map g.C.Cell.shows c.args.modules.now) c.args.width (length-map c.args.modules.now g.C.Cell.shows ∙ c.requires.square) (map g.R.PackedRow.bits c.loop-y.dark) (λ y h. c.loop-y.invariant.dark y (omega arith))
 
 pub returns-clause-free : goal.returns-clause-free
-returns-clause-free g c = shows_packed is_free c.args.modules.now c.args.width c.requires.square (map g.R.PackedRow.bits c.loop-y.free) (λ y h. c.loop-y.invariant.free y (omega arith))
+returns-clause-free g c = shows_packed is_free (map g.C.Cell.shows c.args.modules.now) c.args.width (length-map c.args.modules.now g.C.Cell.shows ∙ c.requires.square) (map g.R.PackedRow.bits c.loop-y.free) (λ y h. c.loop-y.invariant.free y (omega arith))
 
 pub returns-clause-dark_square : goal.returns-clause-dark_square
 returns-clause-dark_square g c =
@@ -31,7 +35,7 @@ returns-clause-dark_square g c =
       at_least = c.requires.at_least;
       spare = c.requires.room;
       length = size;
-      fits = fits_packed is_dark_module c.args.modules.now c.args.width c.requires.square rows (λ y h. c.loop-y.invariant.dark y (omega arith)) size;
+      fits = fits_packed is_dark_module (map g.C.Cell.shows c.args.modules.now) c.args.width (length-map c.args.modules.now g.C.Cell.shows ∙ c.requires.square) rows (λ y h. c.loop-y.invariant.dark y (omega arith)) size;
     }
 
 pub returns-clause-free_square : goal.returns-clause-free_square
@@ -42,5 +46,5 @@ returns-clause-free_square g c =
       at_least = c.requires.at_least;
       spare = c.requires.room;
       length = size;
-      fits = fits_packed is_free c.args.modules.now c.args.width c.requires.square rows (λ y h. c.loop-y.invariant.free y (omega arith)) size;
+      fits = fits_packed is_free (map g.C.Cell.shows c.args.modules.now) c.args.width (length-map c.args.modules.now g.C.Cell.shows ∙ c.requires.square) rows (λ y h. c.loop-y.invariant.free y (omega arith)) size;
     }

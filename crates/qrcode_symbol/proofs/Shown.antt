@@ -1,0 +1,44 @@
+-- Lists of what shows modules.
+use Rattle.std.proofs.Common.{◌≡◌, ℕ, zero, suc, ◌<◌, Bool, List, [], ◌∷◌, ◌++◌, map, length, take, drop, replicate, get_or, slice_get, Option, Some, true, set, refl, ap, ap₂, sym, ◌∙◌, arith}
+use Rattle.std.proofs.lemmas.List.{get_or-map, map-set, map-append, take-map, drop-map}
+use borrow.Rule.Slice.PartMut.{put_mid, post_of}
+use Rattle.qrcode_symbol.specs.declared.canvas.Module.{Module}
+use Rattle.qrcode_symbol.specs.declared.canvas.Module.TheVariants.{Empty}
+use Rattle.qrcode_symbol.specs.declared.canvas.Module.TheVariants.{Unmasked}
+use Rattle.qrcode_types.specs.Colors.{color_of}
+use Rattle.qrcode_symbol.specs.Canvas.{is_empty}
+use Rattle.qrcode_symbol.specs.Filling.{drawn_if, is_empty_at}
+use Rattle.qrcode_symbol.specs.Masking.{packed}
+
+-- what is read at an index shows the module there
+pub shown_at : {A : Type 0} (shows : A → Module) (xs : List A) (i : ℕ) (x : A) → i < length xs → x ≡ get_or xs i x → shows x ≡ get_or (map shows xs) i Empty
+shown_at shows xs i x h is = ap shows is ∙ sym (get_or-map shows xs i x Empty h)
+
+-- a part that is written
+pub map-put_mid : {A : Type 0} (shows : A → Module) (a k : ℕ) (xs ys : List A) → map shows (put_mid a k xs ys) ≡ put_mid a k (map shows xs) (map shows ys)
+map-put_mid shows a k xs ys =
+    map-append shows (take a xs) (ys ++ post_of a k xs)
+    ∙ ap₂ (λ (l r : List Module). l ++ r) (sym (take-map shows a xs)) (map-append shows ys (post_of a k xs) ∙ ap (λ (l : List Module). map shows ys ++ l) (sym (ap (drop k) (drop-map shows a xs) ∙ drop-map shows k (drop a xs))))
+
+-- a test of the modules that are shown
+pub packed_map : {A : Type 0} (test : Module → Bool) (shows : A → Module) (xs : List A) → packed (λ x. test (shows x)) xs ≡ packed test (map shows xs)
+packed_map test shows [] = refl
+packed_map test shows (x ∷ xs) = omega (arith, packed_map test shows xs)
+
+pub map-part : {A : Type 0} (shows : A → Module) (n m : ℕ) (xs : List A) → map shows (take n (drop m xs)) ≡ take n (drop m (map shows xs))
+map-part shows n m xs = sym (take-map shows n (drop m xs)) ∙ ap (take n) (sym (drop-map shows m xs))
+
+pub map-replicate : {A : Type 0} (shows : A → Module) (n : ℕ) (x : A) → map shows (replicate n x) ≡ replicate n (shows x)
+map-replicate shows zero x = refl
+map-replicate shows (suc n) x = ap (λ (l : List Module). shows x ∷ l) (map-replicate shows n x)
+
+empty_at : (m : Module) → m ≡ Empty → is_empty m ≡ true
+empty_at m e = ap is_empty e
+
+-- a bit that is drawn
+pub drawn_bit : {A : Type 0} (shows : A → Module) (xs : List A) (i : ℕ) (x new : A) (bits : List Bool) (b : Bool) → i < length xs → x ≡ get_or xs i x → shows x ≡ Empty
+    → slice_get bits 0 ≡ Some b → shows new ≡ Unmasked (color_of b) → map shows (set xs i new) ≡ drawn_if (is_empty_at (map shows xs) i) (slice_get bits 0) (map shows xs) i
+drawn_bit shows xs i x new bits b h is none next drawn =
+    let at : is_empty_at (map shows xs) i ≡ true = empty_at (get_or (map shows xs) i Empty) (sym (shown_at shows xs i x h is) ∙ none) in
+    map-set shows xs i new ∙ ap (set (map shows xs) i) drawn
+    ∙ sym (ap₂ (λ (t : Bool) (o : Option Bool). drawn_if t o (map shows xs) i) at next)

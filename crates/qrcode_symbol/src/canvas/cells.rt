@@ -1,0 +1,76 @@
+//! How a module stands in memory: as it is, or as a byte, which takes half the room and is packed 64 at a time.
+
+ghost use Rattle.std.specs.Prelude.{◌≡◌, ◌≤◌, length};
+ghost use Rattle.qrcode_symbol.specs.Masking.{is_dark_module, is_free, packed};
+ghost use Rattle.qrcode_symbol.specs.Cells.{module_of_byte};
+ghost use Rattle.qrcode_symbol.specs.declared.canvas.Module.{Module};
+
+use super::Module;
+use super::packing::{pack_bytes, pack_modules};
+use qrcode_types::types::Color;
+
+/// What shows a module.
+pub(super) trait Cell: Copy {
+    // The module that it shows.
+    ghost shows: { Self → Module };
+
+    /// What shows a module.
+    fn of(m: Module) -> Self
+        ensures { shows result ≡ m };
+
+    /// The module that it shows.
+    fn module(self) -> Module
+        ensures { result ≡ shows self };
+
+    /// Which of up to 64 modules are dark, and which a mask may turn.
+    fn pack(cells: &[Self]) -> (u64, u64)
+        requires { length cells.now ≤ 64 }
+        ensures dark { result.0 ≡ packed (λ c. is_dark_module (shows c)) cells.now }
+        ensures free { result.1 ≡ packed (λ c. is_free (shows c)) cells.now };
+}
+
+impl Cell for Module {
+    ghost shows = { λ m. m };
+
+    #[inline(always)]
+    fn of(m: Module) -> Module {
+        m
+    }
+
+    #[inline(always)]
+    fn module(self) -> Module {
+        self
+    }
+
+    fn pack(cells: &[Module]) -> (u64, u64) {
+        pack_modules(cells)
+    }
+}
+
+impl Cell for u8 {
+    ghost shows = { module_of_byte };
+
+    #[inline(always)]
+    fn of(m: Module) -> u8 {
+        match m {
+            Module::Unmasked(color) => color as u8,
+            Module::Empty => 2,
+            Module::Masked(color) => 3 + color as u8,
+        }
+    }
+
+    #[inline(always)]
+    fn module(self) -> Module {
+        match self {
+            0 => Module::Unmasked(Color::Light),
+            1 => Module::Unmasked(Color::Dark),
+            2 => Module::Empty,
+            4 => Module::Masked(Color::Dark),
+            _ => Module::Masked(Color::Light),
+        }
+    }
+
+    fn pack(cells: &[u8]) -> (u64, u64) {
+        pack_bytes(cells)
+    }
+}
