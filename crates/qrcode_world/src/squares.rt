@@ -58,18 +58,16 @@ impl From<io::Error> for Fault {
     }
 }
 
-/// What is read of a square of so many modules a side, whose modules are hexadecimal digits: version,
-/// level and mask, headers, and the bytes as hexadecimal digits, as in
-/// `Normal 5 M, mask 3, ECI 26: 48656c6c6f`.
-pub fn reading(alloc: Global, side: &str, digits: &str) -> Result<String, Fault> {
-    let modules = modules(alloc, side, digits)?;
-    match read(alloc, &modules) {
+/// What is read of a square: version, level and mask, headers, and the bytes as hexadecimal digits, as
+/// in `Normal 5 M, mask 3, ECI 26: 48656c6c6f`.
+pub fn reading(alloc: Global, modules: &[Color]) -> Result<String, Fault> {
+    match read(alloc, modules) {
         Ok(reading) => {
             let mut text = names(alloc, reading.version, reading.ec_level, reading.mask)?;
             push_bytes(&mut text, &reading.data)?;
             Ok(text)
         }
-        Err(Unread::NotSpelled) => with_headers(alloc, &modules),
+        Err(Unread::NotSpelled) => with_headers(alloc, modules),
         Err(error) => Err(Fault::Unread(error)),
     }
 }
@@ -130,9 +128,9 @@ fn push_bytes(text: &mut String, bytes: &[u8]) -> Result<(), Fault> {
     Ok(())
 }
 
-// The modules in row order, a dark one being a one, the highest bit of a digit first. What fills the
-// last digit falls away.
-fn modules(alloc: Global, side: &str, digits: &str) -> Result<Vec<Color>, Fault> {
+/// The modules of a square of so many a side, in row order, a dark one being a one of the hexadecimal
+/// digits, the highest bit of a digit first. What fills the last digit falls away.
+pub fn modules(alloc: Global, side: &str, digits: &str) -> Result<Vec<Color>, Fault> {
     let side = side.parse::<usize>().ok().ok_or(Fault::Line)?;
     let mut modules = Vec::new(alloc);
     for digit in digits.chars() {
