@@ -228,7 +228,7 @@ cell_inside g column row l r t b =
     four_hold _ _ _ _ _ left right top bottom
 
 -- a cell outside
-cell_outside : (g : Grid) (column row : ℕ) → ((g.zone ≤ column) → (column < g.zone + g.columns) → (g.zone ≤ row) → (row < g.zone + g.rows) → ⊥) → is_dark_cell g column row ≡ false
+pub cell_outside : (g : Grid) (column row : ℕ) → ((g.zone ≤ column) → (column < g.zone + g.columns) → (g.zone ≤ row) → (row < g.zone + g.rows) → ⊥) → is_dark_cell g column row ≡ false
 cell_outside g column row out =
     not_true (is_dark_cell g column row) (λ h.
     let all = both_from _ _ h in

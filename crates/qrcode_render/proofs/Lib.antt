@@ -1,3 +1,5 @@
+pub mod Attributes
+pub mod FilledRuns
 pub mod Folds
 pub mod Grids
 pub mod LineTexts

@@ -9,6 +9,7 @@ pub mod Ink
 pub mod Layout
 pub mod LineOf
 pub mod Lines
+pub mod Paths
 pub mod Picture
 pub mod Raster
 pub mod Setting

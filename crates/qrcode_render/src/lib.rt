@@ -28,11 +28,13 @@ pub mod pbm;
 pub mod pgm;
 pub mod pic;
 pub mod rows;
+mod runs;
 mod setters;
 mod stamps;
 pub mod string;
 mod strips;
 pub mod svg;
+mod svg_path;
 pub mod unicode;
 
 /// A pixel: what stands for dark or light in a picture.

@@ -12,6 +12,7 @@ ghost use Rattle.qrcode_render.specs.Vectors.{svg_frame, svg_ground, svg_start, 
 
 use crate::Pixel;
 use crate::lines::Line;
+pub use crate::svg_path::{Path, PathElement};
 use qrcode_types::types::{Color as ModuleColor, QrError, QrResult};
 use std::alloc::Global;
 use std::fmt::Write;

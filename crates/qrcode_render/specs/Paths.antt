@@ -1,0 +1,86 @@
+-- SVG of one path, whose subpaths are the runs of dark modules of the rows.
+use Rattle.std.specs.Prelude.{◌≡◌, ℕ, zero, suc, ◌+◌, ◌-◌, ◌*◌, ◌/◌, ◌%◌, ◌==◌, nat_le, nat_lt, ◌&&◌, ◌||◌, Bool, true, false, List, [], ◌∷◌, ◌++◌, codes, decimal, map, flat_map, if◌then◌else◌}
+use Rattle.std.specs.List.{range_with_len}
+use Rattle.qrcode_render.specs.Bitmap.{Bitmap}
+use Rattle.qrcode_render.specs.Grid.{Grid, all_rows, cell_row}
+
+-- cells of a row beside each other: the first column, the row, and how many
+pub record Run : Type 0 where
+  pub left : ℕ
+  pub top : ℕ
+  pub width : ℕ
+
+-- the subpath of a run: to its upper left corner, right, down by one, left, and closed
+abbrev pub run_text : Run → List ℕ
+run_text r =
+    codes "M" ++ (decimal r.left ++ (codes " " ++ (decimal r.top ++ (codes "h" ++ (decimal r.width ++ (codes "v1h-" ++ (decimal r.width ++ codes "z")))))))
+
+-- the path of runs
+unfoldable pub path_text : List Run → List ℕ
+path_text runs = flat_map run_text runs
+
+-- a subpath fills the cell in a column and a row
+abbrev pub covers : Run → ℕ → ℕ → Bool
+covers r column row = nat_le r.left column && nat_lt column (r.left + r.width) && (r.top == row)
+
+-- a path fills the cell in a column and a row: one of its subpaths does
+abbrev pub is_filled : List Run → ℕ → ℕ → Bool
+is_filled [] column row = false
+is_filled (r ∷ runs) column row = covers r column row || is_filled runs column row
+
+-- a byte of an attribute: a quotation mark, a less-than sign and an ampersand stand as entities
+abbrev pub attribute_byte : ℕ → List ℕ
+attribute_byte b = if b == 34 then codes "&quot;" else (if b == 60 then codes "&lt;" else (if b == 38 then codes "&amp;" else b ∷ []))
+
+-- a text as the value of an attribute
+unfoldable pub attribute : List ℕ → List ℕ
+attribute text = flat_map attribute_byte text
+
+-- the head of the element: its sides in pixels, and its box in cells, which fills these sides
+abbrev pub path_frame : ℕ → ℕ → ℕ → ℕ → List ℕ
+path_frame w h columns rows =
+    codes "<svg xmlns=\"http://www.w3.org/2000/svg\" version=\"1.1\" width=\"" ++ (decimal w ++ (codes "\" height=\"" ++ (decimal h
+    ++ (codes "\" viewBox=\"0 0 " ++ (decimal columns ++ (codes " " ++ (decimal rows
+    ++ codes "\" preserveAspectRatio=\"none\" shape-rendering=\"crispEdges\">")))))))
+
+-- the ground, up to its colour
+abbrev pub path_ground : ℕ → ℕ → List ℕ
+path_ground columns rows =
+    codes "<rect width=\"" ++ (decimal columns ++ (codes "\" height=\"" ++ (decimal rows ++ codes "\" fill=\"")))
+
+-- the element: its head, the light ground, and the dark path
+abbrev pub path_element : ℕ → ℕ → ℕ → ℕ → List ℕ → List ℕ → List Run → List ℕ
+path_element w h columns rows dark light runs =
+    path_frame w h columns rows
+    ++ (path_ground columns rows ++ (light ++ (codes "\"/><path fill=\"" ++ (dark ++ (codes "\" d=\"" ++ (path_text runs ++ codes "\"/></svg>"))))))
+
+-- what stands before the element in a file of its own
+abbrev pub xml_head : List ℕ
+xml_head = codes "<?xml version=\"1.0\" standalone=\"yes\"?>"
+
+-- a text whose path, read so, shows the picture: each cell of its box is so many pixels across and down, and the pixels of the filled ones are dark
+pub record IsPathOf (head dark light : List ℕ) (b : Bitmap) (svg : List ℕ) : Type 0 where
+  pub columns : ℕ
+  pub rows : ℕ
+  pub across : ℕ
+  pub down : ℕ
+  pub runs : List Run
+  pub wide : b.across ≡ columns * across
+  pub high : b.down ≡ rows * down
+  pub written : svg ≡ head ++ path_element b.across b.down columns rows (attribute dark) (attribute light) runs
+  pub shown : b.marks ≡ map (λ i. is_filled runs (i % b.across / across) (i / b.across / down)) (range_with_len 0 (b.across * b.down))
+
+-- the run of so many cells that ends before a column
+abbrev pub ended : ℕ → ℕ → ℕ → List Run
+ended top end zero = []
+ended top end (suc n) = (record { left = end - suc n; top = top; width = suc n }) ∷ []
+
+-- the runs of the marks of a row from a column on, in front of which so many are dark
+abbrev pub runs_from : ℕ → ℕ → ℕ → List Bool → List Run
+runs_from top column width [] = ended top column width
+runs_from top column width (true ∷ marks) = runs_from top (column + 1) (width + 1) marks
+runs_from top column width (false ∷ marks) = ended top column width ++ runs_from top (column + 1) 0 marks
+
+-- the runs of all rows
+abbrev pub runs_of : Grid → List Run
+runs_of g = flat_map (λ row. runs_from row 0 0 (cell_row g row)) (range_with_len 0 (all_rows g))
