@@ -1,8 +1,12 @@
-//! The tests of pictures: worked pictures, and an element of a user.
+//! The tests of pictures: worked pictures, an element of a user, and plain code of callers.
 #![tactic(auto)]
 
 #[cfg(test)]
+mod callers;
+#[cfg(test)]
 mod drawings;
+#[cfg(test)]
+mod files;
 #[cfg(test)]
 mod images;
 #[cfg(test)]

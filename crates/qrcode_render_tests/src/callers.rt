@@ -1,0 +1,67 @@
+//! Plain code of callers, which the check takes with no proof.
+
+ghost use Rattle.std.specs.Prelude.{◌≡◌, ◌*◌, ◌≤◌, length};
+
+use crate::drawings::{MICRO_2, modules};
+use qrcode_render::image::Luma;
+use qrcode_render::{Renderer, pbm, svg};
+use qrcode_types::types::{Color, QrResult};
+use std::alloc::Global;
+use std::test::Fail;
+
+// A picture of at least so many pixels across and down, in a quiet zone of any width.
+fn framed(alloc: Global, symbol: &[Color], side: usize, zone: u32, pixels: u32) -> QrResult<String>
+    requires square { length symbol.now ≡ side * side }
+    requires some { 1 ≤ side }
+    requires at_most { side ≤ 177 }
+    requires zone { zone ≤ 4096 }
+    requires pixels { pixels ≤ 4096 }
+{
+    Renderer::<svg::Color>::new(symbol, side, 4)
+        .quiet_zone_modules(zone)
+        .min_dimensions(pixels, pixels)
+        .build(alloc)
+}
+
+// A picture in modules of so many pixels, in a quiet zone of any width.
+fn enlarged(
+    alloc: Global,
+    symbol: &[Color],
+    side: usize,
+    zone: u32,
+    pixels: u32,
+) -> QrResult<Vec<u8>>
+    requires square { length symbol.now ≡ side * side }
+    requires at_most { side ≤ 177 }
+    requires zone { zone ≤ 4096 }
+    requires pixels { pixels ≤ 4096 }
+{
+    Renderer::<pbm::Bit>::new(symbol, side, 4)
+        .module_size(pixels)
+        .quiet_zone_modules(zone)
+        .build(alloc)
+}
+
+// The middle of a picture, which has a column and a row of pixels.
+fn middle(alloc: Global, symbol: &[Color], side: usize) -> QrResult<(u32, u32)>
+    requires square { length symbol.now ≡ side * side }
+    requires some { 1 ≤ side }
+    requires at_most { side ≤ 177 }
+{
+    let image = Renderer::<Luma>::new(symbol, side, 4).build(alloc)?;
+    let (width, height) = image.dimensions();
+    Ok(((width - 1) / 2, (height - 1) / 2))
+}
+
+#[test]
+fn needs_no_proof(rt: HostRuntime) -> Result<(), Fail> {
+    let alloc = rt.alloc();
+    let symbol = modules(alloc, MICRO_2)?;
+    assert!(rt; symbol.len() == 169);
+    let text = framed(alloc, &symbol, 13, 10, 200)?;
+    assert!(rt; text.contains("viewBox=\"0 0 231 231\""));
+    let file = enlarged(alloc, &symbol, 13, 1, 4)?;
+    assert!(rt; file.as_slice().starts_with(b"P4\n60 60\n"));
+    assert_eq!(rt; middle(alloc, &symbol, 13)?, (83, 83));
+    Ok(())
+}
