@@ -2,8 +2,10 @@
 
 use crate::failure::Failure;
 use clap::ArgMatches;
-use goqlanis_draw::{Choice, Format, Request};
+use goqlanis_draw::{Choice, Format, Ink, Request};
+use qrcode::bits::Manner;
 use qrcode::types::{EcLevel, Version};
+use qrcode_png::GREATEST_SIDE;
 use std::alloc::Global;
 
 /// Where the data comes from.
@@ -24,10 +26,23 @@ pub enum Target<'a> {
     File(&'a str),
 }
 
+/// How data is written.
+#[derive(Clone, Copy, PartialEq, Eq)]
+pub enum Writing {
+    /// What is UTF-8 as a text, and other bytes as bytes.
+    ByItself,
+    /// As bytes.
+    Bytes,
+    /// As a text, with the number of UTF-8 in front.
+    Marked,
+}
+
 /// What is asked for.
 #[derive(Clone, Copy)]
 pub struct Asked<'a> {
+    /// Its manner is that of data that is written as a text; `writing` decides.
     pub request: Request<'a>,
+    pub writing: Writing,
     pub source: Source<'a>,
     pub target: Target<'a>,
     /// Whether a newline at the end of the data is left out.
@@ -51,6 +66,7 @@ pub fn read_command_line<'a>(
     let request = request_of(alloc, matches, target, has_colours)?;
     Ok(Asked {
         request,
+        writing: writing_of(alloc, matches)?,
         source,
         target,
         trims: matches.get_flag("trim"),
@@ -68,21 +84,88 @@ fn source_of<'a>(alloc: Global, matches: &ArgMatches<'a>) -> Result<Source<'a>, 
     }
 }
 
+fn writing_of(alloc: Global, matches: &ArgMatches<'_>) -> Result<Writing, Failure> {
+    match (matches.get_flag("bytes"), matches.get_flag("eci")) {
+        (true, true) => usage(alloc, "--bytes and --eci: one of them is enough"),
+        (true, false) => Ok(Writing::Bytes),
+        (false, true) => Ok(Writing::Marked),
+        (false, false) => Ok(Writing::ByItself),
+    }
+}
+
+// Which version is taken: the one that is asked for, or the least from one on.
+fn choice_of(alloc: Global, matches: &ArgMatches<'_>) -> Result<Choice, Failure> {
+    let (given, least) = (matches.get_str("version"), matches.get_str("least-version"));
+    let (is_micro, is_boosted) = (matches.get_flag("micro"), matches.get_flag("boost"));
+    let from = match (given, least) {
+        (Some(_), Some(_)) => {
+            return usage(
+                alloc,
+                "--version and --least-version: one of them is enough",
+            );
+        }
+        (Some(_), None) if is_micro => {
+            return usage(
+                alloc,
+                "--version and --micro: --version M1 to M4 is Micro QR",
+            );
+        }
+        (Some(_), None) if is_boosted => {
+            return usage(
+                alloc,
+                "--version and --boost: take --least-version in place of --version",
+            );
+        }
+        (Some(name), None) => return Ok(Choice::At(version(alloc, "version", name)?)),
+        (None, Some(_)) if is_micro => {
+            return usage(
+                alloc,
+                "--least-version and --micro: --micro is --least-version M1",
+            );
+        }
+        (None, Some(name)) => version(alloc, "least-version", name)?,
+        (None, None) if is_micro => Version::Micro(1),
+        (None, None) => Version::Normal(1),
+    };
+    if is_boosted {
+        Ok(Choice::Boosted(from))
+    } else {
+        Ok(Choice::From(from))
+    }
+}
+
 fn request_of<'a>(
     alloc: Global,
     matches: &ArgMatches<'a>,
     target: Target<'a>,
     has_colours: bool,
 ) -> Result<Request<'a>, Failure> {
-    let choice = match matches.get_str("version") {
-        None => Choice::Least,
-        Some(name) => Choice::At(version(alloc, name)?),
-    };
+    let choice = choice_of(alloc, matches)?;
     let format = format(alloc, matches.get_str("format"), target, has_colours)?;
-    if format != Format::Svg {
+    check_format(alloc, matches, format)?;
+    let (scale, size) = sizes(alloc, matches, format)?;
+    Ok(Request {
+        manner: Manner::Text,
+        choice,
+        level: level(matches.get_str("level")),
+        format,
+        zone: matches.get_one::<u8>("quiet-zone"),
+        scale,
+        size,
+        dark: ink(alloc, matches.get_str("colour"), "#000", format)?,
+        light: ink(alloc, matches.get_str("background"), "#fff", format)?,
+        is_inverted: matches.get_flag("invert"),
+    })
+}
+
+// Refuses options that a format does not have.
+fn check_format(alloc: Global, matches: &ArgMatches<'_>, format: Format) -> Result<(), Failure> {
+    if !matches!(format, Format::Svg | Format::Eps | Format::Png) {
         for name in ["colour", "background"] {
             if matches.contains_id(name) {
-                let text = format!(in alloc; "--{name}: SVG alone has colours; add --format svg")?;
+                let text = format!(in alloc;
+                    "--{name}: PNG, SVG and EPS alone have colours; add --format png, svg or eps"
+                )?;
                 return Err(Failure::Usage(text));
             }
         }
@@ -93,23 +176,35 @@ fn request_of<'a>(
             "--invert: PIC draws no light modules; take another --format",
         );
     }
-    let scale = match matches.get_one::<u16>("scale") {
-        Some(scale) => scale,
-        None => match format {
-            Format::Svg | Format::Pgm => 8,
-            _ => 1,
-        },
-    };
-    Ok(Request {
-        choice,
-        level: level(matches.get_str("level")),
-        format,
-        zone: matches.get_one::<u8>("quiet-zone"),
-        scale,
-        dark: colour(alloc, matches.get_str("colour"), "#000")?,
-        light: colour(alloc, matches.get_str("background"), "#fff")?,
-        is_inverted: matches.get_flag("invert"),
-    })
+    Ok(())
+}
+
+// The pixels of a module, and those of a side where they are asked for.
+fn sizes(
+    alloc: Global,
+    matches: &ArgMatches<'_>,
+    format: Format,
+) -> Result<(u16, Option<u16>), Failure> {
+    let (scale, size) = (
+        matches.get_one::<u16>("scale"),
+        matches.get_one::<u16>("size"),
+    );
+    if scale.is_some() && size.is_some() {
+        return usage(alloc, "--scale and --size: one of them is enough");
+    }
+    let scale = scale.unwrap_or(match format {
+        Format::HalfBlocks | Format::Terminal | Format::Chars | Format::Pic => 1,
+        _ => 8,
+    });
+    let zone = matches.get_one::<u8>("quiet-zone").unwrap_or(4);
+    let most = GREATEST_SIDE / (177 + 2 * zone as u32);
+    if format == Format::Png && scale as u32 > most {
+        let text = format!(in alloc;
+            "--scale {scale}: a PNG file has at most 65,535 pixels a side; take --scale {most} or less"
+        )?;
+        return Err(Failure::Usage(text));
+    }
+    Ok((scale, size))
 }
 
 fn level(name: Option<&str>) -> EcLevel {
@@ -122,7 +217,7 @@ fn level(name: Option<&str>) -> EcLevel {
 }
 
 // The version of a name: 1 to 40, or M1 to M4.
-fn version(alloc: Global, name: &str) -> Result<Version, Failure> {
+fn version(alloc: Global, option: &str, name: &str) -> Result<Version, Failure> {
     let number = name.strip_prefix('M').or(name.strip_prefix('m'));
     let version = match number {
         Some(number) => number.parse::<i16>().map(Version::Micro),
@@ -131,7 +226,7 @@ fn version(alloc: Global, name: &str) -> Result<Version, Failure> {
     match version {
         Ok(version) if version.is_valid() => Ok(version),
         _ => {
-            let text = format!(in alloc; "--version {name}: there are 1 to 40, and M1 to M4")?;
+            let text = format!(in alloc; "--{option} {name}: there are 1 to 40, and M1 to M4")?;
             Err(Failure::Usage(text))
         }
     }
@@ -153,7 +248,7 @@ fn format(
         Target::File(path) => {
             let ending = path.rsplit_once('.').map_or("", |parts| parts.1);
             named_format(ending).ok_or(Failure::Usage(format!(in alloc;
-                "--output {path}: its ending is none of .txt .svg .pic .pgm; add --format"
+                "--output {path}: its ending is none of .txt .png .svg .eps .pic .pbm .pgm; add --format"
             )?))
         }
     }
@@ -166,8 +261,11 @@ fn named_format(name: &str) -> Option<Format> {
         ("txt", Format::HalfBlocks),
         ("terminal", Format::Terminal),
         ("text", Format::Chars),
+        ("png", Format::Png),
         ("svg", Format::Svg),
+        ("eps", Format::Eps),
         ("pic", Format::Pic),
+        ("pbm", Format::Pbm),
         ("pgm", Format::Pgm),
     ];
     names
@@ -176,29 +274,63 @@ fn named_format(name: &str) -> Option<Format> {
         .map(|entry| entry.1)
 }
 
-// A colour: # and three or six digits to the base 16, or a name of letters.
-fn colour<'a>(
+// A colour: # and three or six digits to the base 16, or in SVG a name of letters.
+fn ink<'a>(
     alloc: Global,
-    colour: Option<&'a str>,
+    given: Option<&'a str>,
     default: &'a str,
-) -> Result<&'a str, Failure> {
-    let Some(colour) = colour else {
-        return Ok(default);
-    };
-    let is_colour = match colour.as_bytes() {
-        [b'#', digits @ ..] => {
-            (digits.len() == 3 || digits.len() == 6) && digits.iter().all(|b| b.is_ascii_hexdigit())
-        }
-        [] => false,
-        letters => letters.iter().all(|b| b.is_ascii_alphabetic()),
-    };
-    if is_colour {
-        return Ok(colour);
+    format: Format,
+) -> Result<Ink<'a>, Failure> {
+    let name = given.unwrap_or(default);
+    if let Some(ink) = ink_of(name) {
+        return Ok(ink);
     }
-    let text = format!(in alloc;
-        "{colour} is no colour: # and three or six digits 0 to f, or a name"
-    )?;
+    let is_name = !name.is_empty() && name.as_bytes().iter().all(|b| b.is_ascii_alphabetic());
+    if is_name && format == Format::Svg {
+        return Ok(Ink {
+            name,
+            red: 0,
+            green: 0,
+            blue: 0,
+        });
+    }
+    let names = if format == Format::Svg {
+        ", or a name"
+    } else {
+        "; names are for SVG"
+    };
+    let text = format!(in alloc; "{name} is no colour: # and three or six digits 0 to f{names}")?;
     Err(Failure::Usage(text))
+}
+
+// The colour of # and three or six digits to the base 16.
+fn ink_of(name: &str) -> Option<Ink<'_>> {
+    let digits = name.strip_prefix('#')?.as_bytes();
+    let (red, green, blue) = match digits {
+        [r, g, b] => (
+            two_digits(*r, *r)?,
+            two_digits(*g, *g)?,
+            two_digits(*b, *b)?,
+        ),
+        [r, s, g, h, b, c] => (
+            two_digits(*r, *s)?,
+            two_digits(*g, *h)?,
+            two_digits(*b, *c)?,
+        ),
+        _ => return None,
+    };
+    Some(Ink {
+        name,
+        red,
+        green,
+        blue,
+    })
+}
+
+// The number of two digits to the base 16.
+fn two_digits(high: u8, low: u8) -> Option<u8> {
+    let (high, low) = ((high as char).to_digit(16)?, (low as char).to_digit(16)?);
+    Some((16 * high + low) as u8)
 }
 
 // A wrong command line, by a text.

@@ -34,12 +34,22 @@ pub const ABOUT: &str = "Draws QR and Micro QR symbols";
 
 static LEVELS: [&str; 4] = ["L", "M", "Q", "H"];
 
-static FORMATS: [&str; 6] = ["half-blocks", "terminal", "text", "svg", "pic", "pgm"];
+static FORMATS: [&str; 9] = [
+    "half-blocks",
+    "terminal",
+    "text",
+    "png",
+    "svg",
+    "eps",
+    "pic",
+    "pbm",
+    "pgm",
+];
 
 static SHELLS: [&str; 3] = ["bash", "zsh", "fish"];
 
 /// The options, in the order of the help.
-pub fn entries() -> [Entry; 15] {
+pub fn entries() -> [Entry; 21] {
     [
         Entry {
             long: "input",
@@ -69,7 +79,7 @@ pub fn entries() -> [Entry; 15] {
             long: "format",
             short: Some('f'),
             takes: Takes::Word(FORMATS.as_slice()),
-            help: "What to write; otherwise by the ending of the file: .txt .svg .pic .pgm",
+            help: "What to write; otherwise by the ending of the file: .txt .png .svg .eps .pic .pbm .pgm",
         },
         Entry {
             long: "level",
@@ -84,6 +94,36 @@ pub fn entries() -> [Entry; 15] {
             help: "Version of the symbol, 1 to 40 or M1 to M4; otherwise the least of 1 to 40",
         },
         Entry {
+            long: "least-version",
+            short: None,
+            takes: Takes::Text("VERSION"),
+            help: "Take the least version from this one on, in the order M1 to M4, 1 to 40",
+        },
+        Entry {
+            long: "micro",
+            short: None,
+            takes: Takes::Nothing,
+            help: "Take Micro QR where it holds the data: as --least-version M1",
+        },
+        Entry {
+            long: "boost",
+            short: None,
+            takes: Takes::Nothing,
+            help: "Raise the level as far as the version allows",
+        },
+        Entry {
+            long: "bytes",
+            short: None,
+            takes: Takes::Nothing,
+            help: "Write the least bits, also where data that is UTF-8 may then be shown otherwise",
+        },
+        Entry {
+            long: "eci",
+            short: None,
+            takes: Takes::Nothing,
+            help: "Write in front that the data is UTF-8, for readers that guess",
+        },
+        Entry {
             long: "quiet-zone",
             short: Some('q'),
             takes: Takes::Number(0, 255),
@@ -93,19 +133,25 @@ pub fn entries() -> [Entry; 15] {
             long: "scale",
             short: Some('s'),
             takes: Takes::Number(1, 1000),
-            help: "Pixels of a module; otherwise 8 for svg and pgm, and 1 for texts and pic",
+            help: "Pixels of a module; otherwise 8, and 1 for texts and pic",
+        },
+        Entry {
+            long: "size",
+            short: None,
+            takes: Takes::Number(1, 65535),
+            help: "Pixels that a side may have: modules are as large as there is room for",
         },
         Entry {
             long: "colour",
             short: None,
             takes: Takes::Text("COLOUR"),
-            help: "Colour of dark modules in SVG, as #000 or black",
+            help: "Colour of dark modules in PNG, SVG and EPS, as #000; in SVG also a name",
         },
         Entry {
             long: "background",
             short: None,
             takes: Takes::Text("COLOUR"),
-            help: "Colour of light modules in SVG, as #fff or white",
+            help: "Colour of light modules in PNG, SVG and EPS, as #fff; in SVG also a name",
         },
         Entry {
             long: "invert",
@@ -141,8 +187,8 @@ pub static EXAMPLES: [(&str, &str); 4] = [
         "draws a symbol in the terminal",
     ),
     (
-        "goqlanis -o ticket.svg --scale 8 -i ticket.txt",
-        "draws the bytes of a file, as SVG",
+        "goqlanis -o ticket.png --scale 8 -i ticket.txt",
+        "draws the bytes of a file, as PNG",
     ),
     (
         "goqlanis --level H --version M4 --format svg 1234567",

@@ -1,12 +1,15 @@
 //! What the program does with what it is asked.
 
-use crate::asked::{Asked, Source, Target, read_command_line};
+use crate::asked::{Asked, Source, Target, Writing, read_command_line};
 use crate::failure::Failure;
 use crate::{command, completions, files, manual};
 use clap::ArgMatches;
-use goqlanis_draw::{Format, draw, refusal_text};
+use clap::error::ErrorKind;
+use goqlanis_draw::{Request, draw, manner_of, refusal_text};
+use qrcode::bits::Manner;
 use qrcode::types::QrError;
 use qrcode_programs::{Fault, words};
+use std::alloc::Global;
 use std::io::{IsTerminal, Read, Write};
 use std::process::ExitCode;
 use std::{env, fs, io};
@@ -26,6 +29,7 @@ pub fn run(rt: &HostRuntime) -> Result<ExitCode, Failure> {
     let command = command::command(alloc, examples.as_str())?;
     match command.try_get_matches_from(words.as_slice()) {
         Ok(matches) => obey(rt, &matches),
+        Err(error) if error.kind() == ErrorKind::OutOfMemory => Err(Failure::OutOfMemory),
         Err(error) => {
             // (what is written fails where nobody reads it)
             let is_written = error.print(rt).is_ok();
@@ -135,11 +139,15 @@ fn draw_one(
     number: Option<u64>,
 ) -> Result<(), Failure> {
     let alloc = rt.alloc();
-    let drawing = match draw(alloc, &asked.request, bytes) {
+    let request = Request {
+        manner: manner(alloc, asked.writing, bytes)?,
+        ..asked.request
+    };
+    let drawing = match draw(alloc, &request, bytes) {
         Ok(drawing) => drawing,
         Err(QrError::OutOfMemory) => return Err(Failure::OutOfMemory),
         Err(error) => {
-            let text = refusal_text(alloc, &asked.request, bytes.len(), error)?;
+            let text = refusal_text(alloc, &request, bytes.len(), error)?;
             return Err(Failure::Refused(text));
         }
     };
@@ -151,7 +159,7 @@ fn draw_one(
                 Err(Failure::Refused(text))
             })
         }
-        Target::Terminal if asked.request.format == Format::Pgm && rt.stdout().is_terminal() => {
+        Target::Terminal if !asked.request.format.is_text() && rt.stdout().is_terminal() => {
             let text =
                 "a picture of bytes is not for a terminal: add --output FILE, or --output - to see it";
             Err(Failure::Refused(String::from_str(alloc, text)?))
@@ -160,6 +168,19 @@ fn draw_one(
             print(rt, &drawing)?;
             Ok(())
         }
+    }
+}
+
+// How data is written.
+fn manner(alloc: Global, writing: Writing, bytes: &[u8]) -> Result<Manner, Failure> {
+    match (writing, manner_of(bytes)) {
+        (Writing::ByItself, manner) => Ok(manner),
+        (Writing::Bytes, _) => Ok(Manner::Bytes),
+        (Writing::Marked, Manner::Bytes) => {
+            let text = "the data is not UTF-8: leave out --eci";
+            Err(Failure::Refused(String::from_str(alloc, text)?))
+        }
+        (Writing::Marked, _) => Ok(Manner::MarkedText),
     }
 }
 

@@ -4,14 +4,15 @@ ghost use Rattle.std.specs.Prelude.{◌≡◌, ◌++◌, ◌*◌, ◌≤◌, len
 ghost use Rattle.qrcode_types.specs.Versions.{side};
 ghost use Rattle.qrcode_types.specs.declared.types.QrError.TheVariants.{OutOfMemory};
 ghost use Rattle.qrcode.specs.Pictures.{quiet_zone};
-ghost use Rattle.goqlanis_draw.specs.Drawings.{IsDrawing, coloured_byte, coloured_text, grey_map, half_block_text, layout_for, setting_for, shown_by};
+ghost use Rattle.goqlanis_draw.specs.Drawings.{IsDrawing, IsShownBy, coloured_byte, coloured_text, eps_ink, half_block_text, layout_for, png_ink, scale_for, setting_for};
 ghost use Rattle.goqlanis_draw.specs.Symbols.{IsSymbolOf, IsRefusalOf};
 
-use crate::request::{Choice, Format, Request};
+use crate::request::{Choice, Format, Ink, Request};
 use qrcode::QrCode;
-use qrcode::render::image::Luma;
+use qrcode::render::pbm::Bit;
+use qrcode::render::pgm::Grey;
 use qrcode::render::unicode::Dense1x2;
-use qrcode::render::{Pixel, Renderer, pic, svg};
+use qrcode::render::{Pixel, Renderer, eps, pic, svg};
 use qrcode::types::{Color, QrResult};
 use std::alloc::Global;
 
@@ -25,11 +26,11 @@ static BETWEEN_LINES: &[u8] = b"\x1b[0m\n\x1b[38;5;16;48;5;231m";
 
 /// The drawing of data that a request asks for.
 ///
-/// It is refused where no version holds the data, or the version that is asked for does not, by the
-/// causes of `QrCode::with_error_correction_level` or `QrCode::with_version`; and for want of memory.
+/// It is refused where no version that may be taken holds the data, by the causes of `QrCode::at_least`,
+/// `QrCode::at_least_boosted` or `QrCode::in_version`; and for want of memory.
 pub fn draw(alloc: Global, request: &Request<'_>, bytes: &[u8]) -> QrResult<Vec<u8>>
     ensures drawing { IfOk result (λ drawing. IsDrawing request.now bytes.now drawing.items) }
-    ensures causes { IfErr result (IsRefusalOf request.now.choice request.now.level bytes.now) }
+    ensures causes { IfErr result (IsRefusalOf request.now bytes.now) }
 {
     let code = symbol(alloc, request, bytes)?;
     let drawing = drawing_of(alloc, request, &code)?;
@@ -38,20 +39,21 @@ pub fn draw(alloc: Global, request: &Request<'_>, bytes: &[u8]) -> QrResult<Vec<
 
 // The symbol that a request asks for.
 fn symbol(alloc: Global, request: &Request<'_>, bytes: &[u8]) -> QrResult<QrCode>
-    ensures symbol { IfOk result (λ code. IsSymbolOf request.now.choice request.now.level
-        bytes.now code.version code.modules) }
-    ensures causes { IfErr result (IsRefusalOf request.now.choice request.now.level bytes.now) }
+    ensures symbol { IfOk result (IsSymbolOf request.now bytes.now) }
+    ensures causes { IfErr result (IsRefusalOf request.now bytes.now) }
 {
+    let (manner, level) = (request.manner, request.level);
     match request.choice {
-        Choice::Least => QrCode::with_error_correction_level(alloc, bytes, request.level),
-        Choice::At(version) => QrCode::with_version(alloc, bytes, version, request.level),
+        Choice::From(version) => QrCode::at_least(alloc, bytes, manner, version, level),
+        Choice::Boosted(version) => QrCode::at_least_boosted(alloc, bytes, manner, version, level),
+        Choice::At(version) => QrCode::in_version(alloc, bytes, manner, version, level),
     }
 }
 
 // A symbol, drawn as a request asks for.
 fn drawing_of(alloc: Global, request: &Request<'_>, code: &QrCode) -> QrResult<Vec<u8>>
     ensures drawing { IfOk result (λ drawing.
-        drawing.items ≡ shown_by request.now code.now.version code.now.modules) }
+        IsShownBy request.now code.now.version code.now.modules drawing.items) }
     ensures memory { IsOkUnless result OutOfMemory }
 {
     let modules = code.to_colors(alloc)?;
@@ -63,11 +65,23 @@ fn drawing_of(alloc: Global, request: &Request<'_>, code: &QrCode) -> QrResult<V
         }
         Format::Chars => with_newline(picture(alloc, request, code, &modules, '\u{2588}', ' ')?)?,
         Format::Svg => {
-            let (dark, light) = (svg::Color(request.dark), svg::Color(request.light));
+            let (dark, light) = (
+                svg::Color(request.dark.name),
+                svg::Color(request.light.name),
+            );
             picture(alloc, request, code, &modules, dark, light)?
         }
         Format::Pic => picture(alloc, request, code, &modules, pic::Color, pic::Color)?,
-        Format::Pgm => return grey_map(alloc, request, code, &modules),
+        Format::Eps => {
+            let (dark, light) = (eps_ink(request.dark), eps_ink(request.light));
+            picture(alloc, request, code, &modules, dark, light)?
+        }
+        Format::Png => {
+            let (dark, light) = (png_ink(request.dark), png_ink(request.light));
+            return picture(alloc, request, code, &modules, dark, light);
+        }
+        Format::Pgm => return picture(alloc, request, code, &modules, Grey(0), Grey(255)),
+        Format::Pbm => return picture(alloc, request, code, &modules, Bit::Black, Bit::White),
     };
     Ok(text.into_bytes())
 }
@@ -110,7 +124,7 @@ fn picture<P: Pixel>(
     let mut renderer = Renderer::new(modules, code.width(), quiet_zone(request, code));
     renderer.dark_color(dark);
     renderer.light_color(light);
-    renderer.module_size(request.scale as u32);
+    renderer.module_size(scale(request, code));
     renderer.build(alloc)
 }
 
@@ -123,6 +137,20 @@ fn quiet_zone(request: &Request<'_>, code: &QrCode) -> u32
         Some(zone) => zone as u32,
         None if code.version().is_micro() => 2,
         None => 4,
+    }
+}
+
+// The pixels of a module, as many as there is room for where the pixels of a side are told.
+fn scale(request: &Request<'_>, code: &QrCode) -> u32
+    ensures value { result ≡ scale_for request.now code.now.version }
+    ensures at_most { result ≤ 65535 }
+{
+    match request.size {
+        None => request.scale as u32,
+        Some(size) => {
+            let side = code.width() as u32 + 2 * quiet_zone(request, code);
+            size as u32 / side
+        }
     }
 }
 
@@ -161,21 +189,20 @@ fn push_coloured(lines: &mut Vec<u8>, byte: u8) -> QrResult<()>
     Ok(())
 }
 
-// A symbol as a PGM file.
-fn grey_map(
-    alloc: Global,
-    request: &Request<'_>,
-    code: &QrCode,
-    modules: &[Color],
-) -> QrResult<Vec<u8>>
-    requires modules { modules.now ≡ code.now.modules }
-    ensures file { IfOk result (λ file. file.items
-        ≡ grey_map request.now (layout_for request.now code.now.version) code.now.modules) }
-    ensures memory { IsOkUnless result OutOfMemory }
+// A colour of EPS.
+fn eps_ink(ink: Ink<'_>) -> eps::Color
+    ensures value { result ≡ eps_ink ink.entry }
 {
-    let image = picture(alloc, request, code, modules, Luma([0]), Luma([255]))?;
-    let (width, height) = image.dimensions();
-    let mut file = format!(in alloc; "P5\n{width} {height}\n255\n")?.into_bytes();
-    file.extend_from_slice(&image.into_raw())?;
-    Ok(file)
+    eps::Color {
+        red: ink.red,
+        green: ink.green,
+        blue: ink.blue,
+    }
+}
+
+// An opaque colour of PNG.
+fn png_ink(ink: Ink<'_>) -> qrcode_png::Color
+    ensures value { result ≡ png_ink ink.entry }
+{
+    qrcode_png::Color([ink.red, ink.green, ink.blue, 255])
 }

@@ -7,4 +7,4 @@ mod request;
 
 pub use drawing::draw;
 pub use refusal::refusal_text;
-pub use request::{Choice, Format, Request};
+pub use request::{Choice, Format, Ink, Request, manner_of};

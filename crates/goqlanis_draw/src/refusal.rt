@@ -1,6 +1,7 @@
 //! What a refusal says: what, why, and what would help.
 
 use crate::request::{Choice, Request};
+use qrcode::bits::Manner;
 use qrcode::types::{EcLevel, Mode, QrError, Version};
 use qrcode_types::tables;
 use std::alloc::{AllocError, Global};
@@ -13,38 +14,18 @@ pub fn refusal_text(
     count: usize,
     error: QrError,
 ) -> Result<String, AllocError> {
-    let level = request.level;
     match (error, request.choice) {
-        (QrError::DataTooLong, Choice::Least) => {
-            let most = Grouped(byte_room(Version::Normal(40), level));
-            let count = Grouped(count);
-            let mut text = format!(in alloc; "{count} bytes at level {level:?}: at most {most}")?;
-            push_levels(&mut text, count.0)?;
-            Ok(text)
+        (QrError::DataTooLong, Choice::From(_) | Choice::Boosted(_)) => {
+            no_version_text(alloc, request, count)
         }
         (QrError::DataTooLong, Choice::At(version)) => {
-            let (name, bytes) = (Name(version), Grouped(count));
-            let mut text = format!(in alloc;
-                "{bytes} bytes at version {name} and level {level:?}: too many"
-            )?;
-            let most = byte_room(version, level);
-            if most > 0 {
-                let most = Grouped(most);
-                write!(text, ", at most {most} unless they are digits or capitals")?;
-            }
-            push_version(&mut text, count, level)?;
-            Ok(text)
+            no_room_text(alloc, request, version, count)
         }
         (QrError::UnsupportedCharacterSet, Choice::At(version)) => {
-            let name = Name(version);
-            let modes = match version {
-                Version::Micro(1) => "digits alone",
-                _ => "digits, capitals and $%*+-./: alone",
-            };
-            format!(in alloc; "version {name} writes {modes}; M3, M4 and 1 to 40 write any bytes")
+            no_mode_text(alloc, request.manner, version)
         }
         (QrError::InvalidVersion, Choice::At(version)) => {
-            let name = Name(version);
+            let (name, level) = (Name(version), request.level);
             let levels = match version {
                 Version::Micro(1) => "L alone",
                 Version::Micro(4) => "L, M and Q",
@@ -56,15 +37,64 @@ pub fn refusal_text(
     }
 }
 
+// No version that may be taken holds so many bytes.
+fn no_version_text(
+    alloc: Global,
+    request: &Request<'_>,
+    count: usize,
+) -> Result<String, AllocError> {
+    let (level, manner) = (request.level, request.manner);
+    let most = Grouped(byte_room(manner, Version::Normal(40), level));
+    let bytes = Grouped(count);
+    let mut text = format!(in alloc; "{bytes} bytes at level {level:?}: at most {most}")?;
+    push_levels(&mut text, manner, count)?;
+    Ok(text)
+}
+
+// The version that is asked for does not hold so many bytes.
+fn no_room_text(
+    alloc: Global,
+    request: &Request<'_>,
+    version: Version,
+    count: usize,
+) -> Result<String, AllocError> {
+    let (level, manner) = (request.level, request.manner);
+    let (name, bytes) = (Name(version), Grouped(count));
+    let mut text = format!(in alloc;
+        "{bytes} bytes at version {name} and level {level:?}: too many"
+    )?;
+    let most = byte_room(manner, version, level);
+    if most > 0 {
+        let most = Grouped(most);
+        write!(text, ", at most {most} unless they are digits or capitals")?;
+    }
+    push_version(&mut text, manner, count, level)?;
+    Ok(text)
+}
+
+// The version that is asked for cannot write the data.
+fn no_mode_text(alloc: Global, manner: Manner, version: Version) -> Result<String, AllocError> {
+    let name = Name(version);
+    if manner == Manner::MarkedText {
+        return format!(in alloc;
+            "version {name} cannot say which character set it holds; leave out --eci, or take 1 to 40"
+        );
+    }
+    let modes = match version {
+        Version::Micro(1) => "digits alone",
+        _ => "digits, capitals and $%*+-./: alone",
+    };
+    format!(in alloc; "version {name} writes {modes}; M3, M4 and 1 to 40 write any bytes")
+}
+
 // The most bytes that a symbol holds in one segment of bytes, or 0 where it has no such segment.
-fn byte_room(version: Version, level: EcLevel) -> usize {
-    if !version.is_valid() {
+fn byte_room(manner: Manner, version: Version, level: EcLevel) -> usize {
+    if !version.is_valid() || matches!(version, Version::Micro(1 | 2)) {
         return 0;
     }
     let head = version.mode_bits_count() + Mode::Byte.length_bits_count(version);
     match tables::capacity(version, level) {
-        _ if matches!(version, Version::Micro(1 | 2)) => 0,
-        Some(bits) => bits.saturating_sub(head) / 8,
+        Some(bits) => bits.saturating_sub(manner.front_length() + head) / 8,
         None => 0,
     }
 }
@@ -72,10 +102,10 @@ fn byte_room(version: Version, level: EcLevel) -> usize {
 static LEVELS: [EcLevel; 4] = [EcLevel::H, EcLevel::Q, EcLevel::M, EcLevel::L];
 
 // Which levels hold so many bytes, at Normal 40.
-fn push_levels(text: &mut String, count: usize) -> Result<(), AllocError> {
+fn push_levels(text: &mut String, manner: Manner, count: usize) -> Result<(), AllocError> {
     let mut start = "; level ";
     for level in LEVELS {
-        let room = byte_room(Version::Normal(40), level);
+        let room = byte_room(manner, Version::Normal(40), level);
         if room >= count {
             let room = Grouped(room);
             if start == ", " {
@@ -87,16 +117,21 @@ fn push_levels(text: &mut String, count: usize) -> Result<(), AllocError> {
         }
     }
     if start != ", " {
-        let most = Grouped(byte_room(Version::Normal(40), EcLevel::L));
+        let most = Grouped(byte_room(manner, Version::Normal(40), EcLevel::L));
         write!(text, "; no level holds more than {most}")?;
     }
     Ok(())
 }
 
 // The least Normal version that holds so many bytes at a level.
-fn push_version(text: &mut String, count: usize, level: EcLevel) -> Result<(), AllocError> {
+fn push_version(
+    text: &mut String,
+    manner: Manner,
+    count: usize,
+    level: EcLevel,
+) -> Result<(), AllocError> {
     for number in 1..41i16 {
-        let room = byte_room(Version::Normal(number), level);
+        let room = byte_room(manner, Version::Normal(number), level);
         if room >= count {
             let room = Grouped(room);
             return write!(text, "; version {number} holds {room}");

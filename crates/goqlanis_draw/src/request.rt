@@ -1,12 +1,19 @@
 //! What is asked for.
 
+ghost use Rattle.std.specs.Prelude.{◌≡◌, IsUtf8};
+ghost use Rattle.qrcode_bits.specs.declared.bits.manner.Manner.TheVariants.{Bytes, Text};
+
+use qrcode::bits::Manner;
 use qrcode::types::{EcLevel, Version};
 
-/// Which symbol is asked for.
+/// Which symbol is asked for. Versions are in the order M1 to M4, 1 to 40.
 #[derive(Clone, Copy, Debug, PartialEq, Eq)]
 pub enum Choice {
-    /// That of the least Normal version that holds the data.
-    Least,
+    /// That of the least version, from one on, that holds the data.
+    From(Version),
+    /// The same at the highest level, from the one that is asked for on, at which that version holds
+    /// the data.
+    Boosted(Version),
     /// That of a version.
     At(Version),
 }
@@ -22,13 +29,37 @@ pub enum Format {
     Chars,
     Svg,
     Pic,
+    /// PostScript, in which a pixel is a point.
+    Eps,
+    /// A PNG file of two colours.
+    Png,
     /// A grey map, of a byte a pixel.
     Pgm,
+    /// A map of black and white pixels, eight in a byte.
+    Pbm,
+}
+
+impl Format {
+    /// Whether it is a text; others are for files.
+    pub fn is_text(self) -> bool {
+        !matches!(self, Format::Png | Format::Pgm | Format::Pbm)
+    }
+}
+
+/// A colour: what SVG writes as it is, and red, green and blue from 0 to 255 for EPS and PNG.
+#[derive(Clone, Copy, Debug)]
+pub struct Ink<'a> {
+    pub name: &'a str,
+    pub red: u8,
+    pub green: u8,
+    pub blue: u8,
 }
 
 /// What is asked for.
 #[derive(Clone, Copy, Debug)]
 pub struct Request<'a> {
+    /// How the data is written.
+    pub manner: Manner,
     pub choice: Choice,
     pub level: EcLevel,
     pub format: Format,
@@ -36,9 +67,23 @@ pub struct Request<'a> {
     pub zone: Option<u8>,
     /// The pixels of a module, across and down, raised to at least 1.
     pub scale: u16,
-    /// The colours of SVG, written as they are.
-    pub dark: &'a str,
-    pub light: &'a str,
+    /// The pixels that a side may have; where it is given, a module has as many as there is room for.
+    pub size: Option<u16>,
+    /// The colours of SVG, EPS and PNG.
+    pub dark: Ink<'a>,
+    pub light: Ink<'a>,
     /// Whether dark and light are exchanged. PIC, which draws no light, is as it is.
     pub is_inverted: bool,
+}
+
+/// How data is written where nothing else is asked for: what is UTF-8 as a text, and other bytes as
+/// bytes.
+pub fn manner_of(bytes: &[u8]) -> Manner
+    ensures text { IsUtf8 bytes.now → result ≡ Text }
+    ensures other { ¬ IsUtf8 bytes.now → result ≡ Bytes }
+{
+    match str::from_utf8(bytes) {
+        Ok(_) => Manner::Text,
+        Err(_) => Manner::Bytes,
+    }
 }
