@@ -2,7 +2,7 @@ use Rattle.std.proofs.Common.{◌≡◌, ℕ, List, ◌++◌, ◌*◌, ◌/◌, 
 use Rattle.std.specs.Prelude.{codes, string_bytes}
 use Rattle.std.specs.List.{range_with_len}
 use Rattle.qrcode_render.specs.Grid.{all_columns, all_rows}
-use Rattle.qrcode_render.specs.Paths.{path_frame, path_ground, path_text, attribute, runs_of, IsPathOf}
+use Rattle.qrcode_render.specs.Paths.{path_frame, path_ground, path_text, attribute, runs_of}
 use Rattle.qrcode_render.proofs.FilledRuns.{runs_fill}
 use Rattle.qrcode_render.proofs.svg_path.with_element.Goals as goal
 
