@@ -3,7 +3,7 @@
 ghost use Rattle.std.specs.Prelude.{IsTrue};
 ghost use Rattle.qrcode_types.specs.Versions.{is_valid};
 
-use qrcode_bits::optimize::{Segment, least_segments};
+use qrcode_bits::optimize::{Modes, Segment, least_segments_in};
 use qrcode_types::types::{QrError, QrResult, Version};
 use std::alloc::Global;
 use std::test::Fail;
@@ -13,6 +13,9 @@ use std::test::Fail;
 pub type Headers = [Option<usize>; 4];
 
 pub const NORMAL_1: Headers = [Some(14), Some(13), Some(12), Some(12)];
+
+// The modes of texts.
+const NORMAL_1_TEXT: Headers = [Some(14), Some(13), Some(12), None];
 
 const NORMAL_40: Headers = [Some(18), Some(17), Some(20), Some(16)];
 
@@ -126,8 +129,8 @@ fn string(mut number: u32) -> [u8; 7] {
     data
 }
 
-// How many strings are cut into more or fewer bits than the best of all cuts takes.
-fn wrong_cuts(alloc: Global, version: Version, headers: &Headers) -> QrResult<usize>
+// How many strings are cut into more or fewer bits than the best of all cuts in these modes takes.
+fn wrong_cuts(alloc: Global, version: Version, modes: Modes, headers: &Headers) -> QrResult<usize>
     requires { IsTrue (is_valid version) }
 {
     let mut wrong: usize = 0;
@@ -139,7 +142,7 @@ fn wrong_cuts(alloc: Global, version: Version, headers: &Headers) -> QrResult<us
             for ends in (1_u32 << length) / 2..1 << length {
                 least = least.min(cut_cost(headers, data, ends));
             }
-            let found = match least_segments(alloc, data, version) {
+            let found = match least_segments_in(alloc, data, version, modes) {
                 Ok(segments) => total(headers, &segments),
                 Err(QrError::OutOfMemory) => return Err(QrError::OutOfMemory),
                 Err(_) => NONE,
@@ -154,15 +157,16 @@ fn wrong_cuts(alloc: Global, version: Version, headers: &Headers) -> QrResult<us
 
 #[test]
 fn no_cut_of_short_data_takes_fewer_bits(rt: HostRuntime) -> Result<(), Fail> {
-    for (version, headers) in [
-        (Version::Normal(1), NORMAL_1),
-        (Version::Normal(40), NORMAL_40),
-        (Version::Micro(3), MICRO_3),
-        (Version::Micro(2), MICRO_2),
-        (Version::Micro(1), MICRO_1),
+    for (version, modes, headers) in [
+        (Version::Normal(1), Modes::ALL, NORMAL_1),
+        (Version::Normal(1), Modes::TEXT, NORMAL_1_TEXT),
+        (Version::Normal(40), Modes::ALL, NORMAL_40),
+        (Version::Micro(3), Modes::ALL, MICRO_3),
+        (Version::Micro(2), Modes::ALL, MICRO_2),
+        (Version::Micro(1), Modes::ALL, MICRO_1),
     ] {
         assert!(rt; version.is_valid());
-        assert_eq!(rt; wrong_cuts(rt.alloc(), version, &headers)?, 0);
+        assert_eq!(rt; wrong_cuts(rt.alloc(), version, modes, &headers)?, 0);
     }
     Ok(())
 }
