@@ -59,7 +59,9 @@ fn bit_of(color: Color, is_turned: bool) -> bool
     }
 }
 
-// Appends the bit at column `x` and row `y`, where the canvas of the patterns is empty there.
+// Appends the bit at column `x` and row `y`, where the canvas of the patterns is empty there. Inlined,
+// so that what the version and the mask decide is decided once for all modules.
+#[inline(always)]
 fn push_module(
     bits: &mut Vec<bool>,
     canvas: &Canvas,

@@ -1,8 +1,8 @@
-use Rattle.std.proofs.Common.{◌≡◌, ◌*◌, ℕ, length, sym, ap, subst, ◌∙◌, arith, below_more, true≢false}
+use Rattle.std.proofs.Common.{◌≡◌, sym, ap, subst, ◌∙◌, arith, below_more, true≢false}
 use Rattle.qrcode_types.specs.Versions.{side}
 use Rattle.qrcode.specs.Reading.{Reads}
 use Rattle.qrcode.proofs.Sides.{same_root}
-use Rattle.qrcode_reader.specs.Positions.{seen, tried, IsUnreadIn, IsFirstReading}
+use Rattle.qrcode_reader.specs.Positions.{seen, IsUnreadIn, IsFirstReading}
 use Rattle.qrcode_reader.specs.Readings.{IsReading}
 use Rattle.qrcode_reader.proofs.Positioned.{unread_of_no_version, unread_in_all}
 use Rattle.qrcode_reader.proofs.positions.read_any.Goals as goal
