@@ -6,6 +6,7 @@ pub mod Grid
 pub mod GridOf
 pub mod Half
 pub mod Ink
+pub mod Inked
 pub mod Layout
 pub mod LineOf
 pub mod Lines
@@ -15,5 +16,6 @@ pub mod Raster
 pub mod Setting
 pub mod Shown
 pub mod Strips
+pub mod Strokes
 pub mod Texts
 pub mod Vectors

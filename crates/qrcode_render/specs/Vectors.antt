@@ -1,5 +1,5 @@
 -- The texts of SVG and PIC.
-use Rattle.std.specs.Prelude.{ℕ, List, ◌++◌, codes, decimal}
+use Rattle.std.specs.Prelude.{ℕ, List, [], ◌++◌, codes, decimal}
 use Rattle.qrcode_types.specs.declared.types.Color.{Color}
 use Rattle.qrcode_render.specs.Drawn.{drawn}
 use Rattle.qrcode_render.specs.Layout.{Layout, pixels_across, pixels_down}
@@ -24,6 +24,13 @@ abbrev pub svg_rect : ℕ → ℕ → ℕ → ℕ → List ℕ → List ℕ
 svg_rect left top width height text =
     text ++ (codes "M" ++ (decimal left ++ (codes " " ++ (decimal top ++ (codes "h" ++ (decimal width ++ (codes "v" ++ (decimal height ++ (codes "H" ++ (decimal left ++ (codes "V" ++ decimal top)))))))))))
 
+-- what the column of a rectangle determines of its path, and what its row and its sides
+abbrev pub svg_column : ℕ → List ℕ × List ℕ
+svg_column left = (codes "M" ++ (decimal left ++ codes " "), codes "H" ++ (decimal left ++ codes "V"))
+
+abbrev pub svg_row : ℕ → ℕ → ℕ → List ℕ × List ℕ
+svg_row top width height = (decimal top ++ (codes "h" ++ (decimal width ++ (codes "v" ++ decimal height))), decimal top)
+
 -- what stands behind the last dark rectangle
 abbrev pub svg_end : List ℕ
 svg_end = codes "\"/></svg>"
@@ -41,6 +48,13 @@ pic_start w h =
 abbrev pub pic_rect : ℕ → ℕ → ℕ → ℕ → List ℕ → List ℕ
 pic_rect left top width height text =
     text ++ (codes "p(" ++ (decimal left ++ (codes "," ++ (decimal top ++ (codes "," ++ (decimal width ++ (codes "," ++ (decimal height ++ codes ")\n"))))))))
+
+-- what the column of a rectangle determines of its box, and what its row and its sides
+abbrev pub pic_column : ℕ → List ℕ × List ℕ
+pic_column left = (codes "p(" ++ (decimal left ++ codes ","), [])
+
+abbrev pub pic_row : ℕ → ℕ → ℕ → List ℕ × List ℕ
+pic_row top width height = (decimal top ++ (codes "," ++ (decimal width ++ (codes "," ++ decimal height))), codes ")\n")
 
 -- the picture of modules
 abbrev pub pic_text : Layout → List Color → List ℕ

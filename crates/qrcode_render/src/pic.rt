@@ -4,9 +4,11 @@ ghost use Rattle.std.proofs.Common.{rules};
 ghost use Rattle.std.specs.Prelude.{◌≡◌, ℕ, ◌^◌, ◌<◌, List, string_bytes, OnOk, IsOkUnless};
 ghost use Rattle.qrcode_types.specs.declared.types.QrError.TheVariants.{OutOfMemory};
 ghost use Rattle.qrcode_render.specs.Setting.{layout_of};
-ghost use Rattle.qrcode_render.specs.Vectors.{pic_start, pic_rect, pic_text};
+ghost use Rattle.qrcode_render.specs.Vectors.{pic_start, pic_rect, pic_column, pic_row, pic_text};
 
-use crate::Pixel;
+use crate::ink::Piece;
+use crate::strokes::{Strokes, push_modules};
+use crate::{Modules, Pixel};
 use qrcode_types::types::QrResult;
 use std::alloc::Global;
 use std::fmt::Write;
@@ -53,6 +55,33 @@ fn push_rect(text: &mut String, left: u32, top: u32, width: u32, height: u32) ->
 {
     write!(text, "p({left},{top},{width},{height})\n")?;
     Ok(())
+}
+
+/// Boxes, put together of the texts of columns and rows.
+struct Boxes;
+
+impl Strokes for Boxes {
+    ghost column_texts = { pic_column };
+
+    ghost row_texts = { pic_row };
+
+    fn column(front: &mut String, _back: &mut String, left: u32) -> QrResult<Piece> {
+        front.clear();
+        write!(front, "p({left},")?;
+        Ok(Piece::new(front.as_str(), ""))
+    }
+
+    fn row(
+        front: &mut String,
+        _back: &mut String,
+        top: u32,
+        width: u32,
+        height: u32,
+    ) -> QrResult<Piece> {
+        front.clear();
+        write!(front, "{top},{width},{height}")?;
+        Ok(Piece::new(front.as_str(), ")\n"))
+    }
 }
 
 impl crate::Canvas for Canvas {
@@ -103,6 +132,17 @@ impl crate::Canvas for Canvas {
 
     fn draw_dark_rect(&mut self, left: u32, top: u32, width: u32, height: u32) -> QrResult<()> {
         push_rect(&mut self.text, left, top, width, height)
+    }
+
+    fn picture(
+        alloc: Global,
+        modules: &Modules,
+        dark_pixel: Color,
+        light_pixel: Color,
+    ) -> QrResult<String> {
+        let (width, height) = modules.pixels();
+        let canvas = Self::new(alloc, width, height, dark_pixel, light_pixel)?;
+        push_modules::<Boxes>(canvas.text, modules)
     }
 
     fn into_image(self) -> QrResult<String> {

@@ -147,6 +147,13 @@ impl Line {
         self.end = put_text(&mut self.bytes, self.end, text);
     }
 
+    /// How many bytes the text has.
+    pub fn len(&self) -> usize
+        ensures { result ≡ length self.now.text }
+    {
+        self.end
+    }
+
     /// The text.
     pub fn as_slice(&self) -> &[u8]
         ensures { result.now ≡ self.now.text }

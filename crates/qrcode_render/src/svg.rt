@@ -1,19 +1,17 @@
 //! Pictures as SVG.
 
 ghost use Rattle.std.proofs.Common.{rules};
-ghost use Rattle.std.specs.Prelude.{◌≡◌, ℕ, ◌+◌, ◌*◌, ◌^◌, ◌<◌, ◌≤◌, ◌++◌, List, length, string_bytes, IfOk, OnOk, IsOkUnless, codes, decimal, vec_len};
-ghost use Rattle.qrcode_render.specs.Drawn.{drawn_row};
-ghost use Rattle.qrcode_render.specs.LineOf.{written};
+ghost use Rattle.std.specs.Prelude.{◌≡◌, ℕ, ◌^◌, ◌<◌, ◌++◌, List, string_bytes, OnOk, IsOkUnless, codes};
 ghost use Rattle.qrcode_types.specs.declared.types.QrError.TheVariants.{OutOfMemory};
 ghost use Rattle.qrcode_types.specs.Colors.{select_of};
-ghost use Rattle.qrcode_render.specs.declared.svg.TheConstants.{LONGEST_PATH};
 ghost use Rattle.qrcode_render.specs.Setting.{layout_of};
-ghost use Rattle.qrcode_render.specs.Vectors.{svg_frame, svg_ground, svg_start, svg_rect, svg_end, svg_text};
+ghost use Rattle.qrcode_render.specs.Vectors.{svg_frame, svg_ground, svg_start, svg_rect, svg_column, svg_row, svg_end, svg_text};
 
-use crate::Pixel;
-use crate::lines::Line;
+use crate::ink::Piece;
+use crate::strokes::{Strokes, push_modules};
 pub use crate::svg_path::{Path, PathElement};
-use qrcode_types::types::{Color as ModuleColor, QrError, QrResult};
+use crate::{Modules, Pixel};
+use qrcode_types::types::{Color as ModuleColor, QrResult};
 use std::alloc::Global;
 use std::fmt::Write;
 use std::marker::PhantomData;
@@ -53,68 +51,9 @@ pub struct Canvas<'a> {
     width: u32,
     height: u32,
     text: String,
-    columns: Vec<Column>,
-    paths: Line,
     of: PhantomData<&'a str>,
     ghost width_fits: { width < 2 ^ 32 },
     ghost height_fits: { height < 2 ^ 32 },
-}
-
-// The texts of rectangles that begin in a column.
-#[derive(Drop)]
-struct Column {
-    left: u32,
-    start: String,
-    back: String,
-    ghost left_fits: { left < 2 ^ 32 },
-    ghost start_is: { string_bytes start ≡ codes "M" ++ decimal left },
-    ghost back_is: { string_bytes back ≡ codes "H" ++ decimal left },
-}
-
-impl Column {
-    fn new(alloc: Global, left: u32) -> QrResult<Column>
-        ensures left { IfOk result (λ column. column.left ≡ left) }
-        ensures memory { IsOkUnless result OutOfMemory }
-    {
-        let start = format!(in alloc; "M{left}")?;
-        let back = format!(in alloc; "H{left}")?;
-        Ok(Column { left, start, back })
-    }
-}
-
-// The texts of rectangles of a size that begin in a row.
-#[derive(Drop)]
-struct Row {
-    top: u32,
-    width: u32,
-    height: u32,
-    sides: String,
-    back: String,
-    ghost top_fits: { top < 2 ^ 32 },
-    ghost width_fits: { width < 2 ^ 32 },
-    ghost height_fits: { height < 2 ^ 32 },
-    ghost sides_are: { string_bytes sides
-        ≡ codes " " ++ (decimal top ++ (codes "h" ++ (decimal width ++ (codes "v" ++ decimal height)))) },
-    ghost back_is: { string_bytes back ≡ codes "V" ++ decimal top },
-}
-
-impl Row {
-    fn new(alloc: Global, top: u32, width: u32, height: u32) -> QrResult<Row>
-        ensures top { IfOk result (λ row. row.top ≡ top) }
-        ensures width { IfOk result (λ row. row.width ≡ width) }
-        ensures height { IfOk result (λ row. row.height ≡ height) }
-        ensures memory { IsOkUnless result OutOfMemory }
-    {
-        let sides = format!(in alloc; " {top}h{width}v{height}")?;
-        let back = format!(in alloc; "V{top}")?;
-        Ok(Row {
-            top,
-            width,
-            height,
-            sides,
-            back,
-        })
-    }
 }
 
 // Appends the path of a rectangle.
@@ -127,74 +66,35 @@ fn push_rect(text: &mut String, left: u32, top: u32, width: u32, height: u32) ->
     Ok(())
 }
 
-// The most bytes of the path of a rectangle.
-const LONGEST_PATH: usize = 66;
+/// Paths of rectangles, put together of the texts of columns and rows.
+struct Paths;
 
-// Writes the path of a rectangle that begins in a column and a row.
-fn write_path(paths: &mut Line, column: &Column, row: &Row)
-    requires { paths.old.end + LONGEST_PATH ≤ vec_len paths.old.bytes }
-    ensures appends { written paths.new ≡ svg_rect
-        column.now.left row.now.top row.now.width row.now.height (written paths.old) }
-    ensures at_most { paths.new.end ≤ paths.old.end + LONGEST_PATH }
-    ensures room { vec_len paths.new.bytes ≡ vec_len paths.old.bytes }
-{
-    paths.push(&column.start);
-    paths.push(&row.sides);
-    paths.push(&column.back);
-    paths.push(&row.back);
-}
+impl Strokes for Paths {
+    ghost column_texts = { svg_column };
 
-// Writes the path of a module that is dark, by the texts of a column where they are of its place.
-fn write_module(
-    paths: &mut Line,
-    color: ModuleColor,
-    column: &Column,
-    left: u32,
-    row: &Row,
-) -> QrResult<()>
-    requires { paths.old.end + LONGEST_PATH ≤ vec_len paths.old.bytes }
-    ensures appends { OnOk result (written paths.new ≡ select_of color
-        (svg_rect left row.now.top row.now.width row.now.height (written paths.old))
-        (written paths.old)) }
-    ensures at_most { OnOk result (paths.new.end ≤ paths.old.end + LONGEST_PATH) }
-    ensures room { OnOk result (vec_len paths.new.bytes ≡ vec_len paths.old.bytes) }
-    ensures memory { IsOkUnless result OutOfMemory }
-{
-    match color {
-        ModuleColor::Light => {}
-        ModuleColor::Dark if column.left == left => write_path(paths, column, row),
-        ModuleColor::Dark => {
-            let column = Column::new(*column.start.allocator(), left)?;
-            write_path(paths, &column, row);
-        }
+    ghost row_texts = { svg_row };
+
+    fn column(front: &mut String, back: &mut String, left: u32) -> QrResult<Piece> {
+        front.clear();
+        write!(front, "M{left} ")?;
+        back.clear();
+        write!(back, "H{left}V")?;
+        Ok(Piece::new(front.as_str(), back.as_str()))
     }
-    Ok(())
-}
 
-// Writes the paths of the dark modules of a row. The texts of columns are kept for the next rows.
-fn write_modules(
-    paths: &mut Line,
-    columns: &mut Vec<Column>,
-    line: &[ModuleColor],
-    left: u32,
-    row: &Row,
-) -> QrResult<()>
-    requires inside { left + length line.now * row.now.width < 2 ^ 32 }
-    requires room { paths.old.end + LONGEST_PATH * length line.now ≤ vec_len paths.old.bytes }
-    ensures appends { OnOk result (written paths.new ≡ drawn_row svg_rect
-        left row.now.top row.now.width row.now.height line.now (written paths.old)) }
-    ensures memory { IsOkUnless result OutOfMemory }
-{
-    let alloc = *columns.allocator();
-    let mut x = left;
-    for (i, color) in line.iter().enumerate() {
-        if columns.len() <= i {
-            columns.push(Column::new(alloc, x)?)?;
-        }
-        write_module(paths, *color, &columns[i], x, row)?;
-        x += row.width;
+    fn row(
+        front: &mut String,
+        back: &mut String,
+        top: u32,
+        width: u32,
+        height: u32,
+    ) -> QrResult<Piece> {
+        front.clear();
+        write!(front, "{top}h{width}v{height}")?;
+        back.clear();
+        write!(back, "{top}")?;
+        Ok(Piece::new(front.as_str(), back.as_str()))
     }
-    Ok(())
 }
 
 // Appends the sides and the view of the picture.
@@ -267,8 +167,6 @@ impl<'a> crate::Canvas for Canvas<'a> {
             width,
             height,
             text,
-            columns: Vec::new(alloc),
-            paths: Line::new(alloc),
             of: PhantomData,
         })
     }
@@ -281,23 +179,18 @@ impl<'a> crate::Canvas for Canvas<'a> {
         push_rect(&mut self.text, left, top, width, height)
     }
 
-    fn draw_dark_modules(
-        &mut self,
-        line: &[ModuleColor],
-        left: u32,
-        top: u32,
-        width: u32,
-        height: u32,
-    ) -> QrResult<()> {
-        let row = Row::new(*self.text.allocator(), top, width, height)?;
-        let room = line
-            .len()
-            .checked_mul(LONGEST_PATH)
-            .ok_or(QrError::OutOfMemory)?;
-        self.paths.restart(room)?;
-        write_modules(&mut self.paths, &mut self.columns, line, left, &row)?;
-        self.text.push_str(self.paths.as_str())?;
-        Ok(())
+    #[tactic(auto, unfolding(crate::specs::Vectors::svg_text))]
+    fn picture(
+        alloc: Global,
+        modules: &Modules,
+        dark_pixel: Color<'a>,
+        light_pixel: Color<'a>,
+    ) -> QrResult<String> {
+        let (width, height) = modules.pixels();
+        let canvas = Self::new(alloc, width, height, dark_pixel, light_pixel)?;
+        let mut text = push_modules::<Paths>(canvas.text, modules)?;
+        text.push_str("\"/></svg>")?;
+        Ok(text)
     }
 
     #[tactic(auto, unfolding(crate::specs::Vectors::svg_text))]
