@@ -1,0 +1,37 @@
+//! PNG files of symbols, a line for each: its name, how many bytes it has, and their CRC-32. With the
+//! word `files` the bytes themselves as hexadecimal digits behind the name, for other programs to
+//! open (`pictures/look`).
+#![tactic(auto)]
+
+mod files;
+
+use files::{Fault, looks, pairs};
+use std::alloc::Global;
+use std::env;
+use std::io::Print;
+use std::process::ExitCode;
+
+fn main(rt: HostRuntime) -> ExitCode {
+    let wants_files = match env::args(&rt) {
+        Ok(mut args) => args.nth(1).is_some(),
+        Err(_) => false,
+    };
+    match run(&rt, rt.alloc(), wants_files) {
+        Ok(()) => ExitCode::SUCCESS,
+        Err(fault) => {
+            let _ = eprintln!(rt; "{fault}");
+            ExitCode::FAILURE
+        }
+    }
+}
+
+// Writes the lines of all files.
+fn run(rt: &impl Print, alloc: Global, wants_files: bool) -> Result<(), Fault> {
+    for file in pairs(alloc)? {
+        println!(rt; "{}", file.line(alloc, wants_files)?.as_str())?;
+    }
+    for file in looks(alloc)? {
+        println!(rt; "{}", file.line(alloc, wants_files)?.as_str())?;
+    }
+    Ok(())
+}
