@@ -7,6 +7,7 @@ mod correction;
 mod data;
 mod pictures;
 mod pushes;
+mod readings;
 mod rows;
 mod scenario;
 mod segments;
@@ -83,6 +84,7 @@ fn digest(alloc: Global, call: Single) -> QrResult<Digest> {
         Single::Text(call) => texts::run(alloc, call),
         Single::Picture(kind, frame) => pictures::run(alloc, kind, frame),
         Single::Image => pictures::image(alloc),
+        Single::Reading(version, call) => readings::run(alloc, version, call),
     }
 }
 

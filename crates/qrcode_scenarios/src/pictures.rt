@@ -6,7 +6,7 @@ use qrcode::QrCode;
 use qrcode::render::image::{ImageBuffer, Luma, LumaA, Rgb, Rgba};
 use qrcode::render::string::Str;
 use qrcode::render::unicode::Dense1x2;
-use qrcode::render::{Canvas, Pixel, Renderer, fill_rect, pic, svg};
+use qrcode::render::{Canvas, Pixel, Renderer, eps, fill_rect, pbm, pgm, pic, svg};
 use qrcode::types::{Color, QrError, QrResult, Version};
 use qrcode_digest::Digest;
 use qrcode_uses::label::Dot;
@@ -37,6 +37,18 @@ pub enum Kind {
     Rgba,
     /// The bars of a user.
     Bars,
+    /// SVG of one path.
+    Path,
+    /// The same with no XML head.
+    PathElement,
+    /// EPS.
+    Eps,
+    /// PBM.
+    Pbm,
+    /// PGM.
+    Pgm,
+    /// PNG.
+    Png,
 }
 
 /// What is drawn.
@@ -68,12 +80,23 @@ pub fn run(alloc: Global, kind: Kind, frame: Frame) -> QrResult<Digest> {
         Kind::Rgb => pixels::<Rgb>(alloc, frame),
         Kind::Rgba => pixels::<Rgba>(alloc, frame),
         Kind::Bars => bars(alloc, frame),
+        Kind::Path => text::<svg::Path<'_>>(alloc, frame),
+        Kind::PathElement => text::<svg::PathElement<'_>>(alloc, frame),
+        Kind::Eps => text::<eps::Color>(alloc, frame),
+        Kind::Pbm => file::<pbm::Bit>(alloc, frame),
+        Kind::Pgm => file::<pgm::Grey>(alloc, frame),
+        Kind::Png => file::<qrcode_png::Color>(alloc, frame),
     }
 }
 
 // A picture that is a text.
 fn text<P: Pixel<Image = String>>(alloc: Global, frame: Frame) -> QrResult<Digest> {
     Ok(Digest::of(picture::<P>(alloc, frame)?.as_bytes()))
+}
+
+// A picture that is a file.
+fn file<P: Pixel<Image = Vec<u8>>>(alloc: Global, frame: Frame) -> QrResult<Digest> {
+    Ok(Digest::of(&picture::<P>(alloc, frame)?))
 }
 
 // A picture that is bytes of pixels.

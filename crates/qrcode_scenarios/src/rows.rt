@@ -5,6 +5,7 @@ use crate::scenario::{Memory, Scenario};
 mod canvases;
 mod pictures;
 mod pushes;
+mod readings;
 mod segments;
 mod symbols;
 mod texts;
@@ -13,7 +14,7 @@ mod texts;
 const NOTHING: Memory = Memory::NoMoreThan("nothing");
 
 /// All scenarios, in groups.
-pub fn groups() -> [&'static [Scenario]; 6] {
+pub fn groups() -> [&'static [Scenario]; 7] {
     [
         pushes::SCENARIOS.as_slice(),
         segments::SCENARIOS.as_slice(),
@@ -21,5 +22,6 @@ pub fn groups() -> [&'static [Scenario]; 6] {
         symbols::SCENARIOS.as_slice(),
         texts::SCENARIOS.as_slice(),
         pictures::SCENARIOS.as_slice(),
+        readings::SCENARIOS.as_slice(),
     ]
 }

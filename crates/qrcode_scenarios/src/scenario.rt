@@ -3,6 +3,7 @@
 use crate::canvas::CanvasCall;
 use crate::data::Data;
 use crate::pictures::{Frame, Kind};
+use crate::readings::ReadCall;
 use crate::symbols::{Constructor, SymbolCall};
 use crate::texts::TextCall;
 use qrcode::types::{EcLevel, QrError, QrResult, Version};
@@ -76,6 +77,8 @@ pub enum Single {
     Picture(Kind, Frame),
     /// `to_image` of a small symbol in grey pixels.
     Image,
+    /// A reading of the symbol of a version at level L.
+    Reading(Version, ReadCall),
 }
 
 /// What became of a list of bits after a refusal.

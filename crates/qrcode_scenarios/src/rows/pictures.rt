@@ -2,7 +2,8 @@
 
 use crate::pictures::Frame::{Calls, Micro2, NoModules, Normal40, Wide};
 use crate::pictures::Kind::{
-    Bars, Chars, HalfBlocks, Luma, LumaA, Pic, Rgb, Rgba, Strings, Svg, Words,
+    Bars, Chars, Eps, HalfBlocks, Luma, LumaA, Path, PathElement, Pbm, Pgm, Pic, Png, Rgb, Rgba,
+    Strings, Svg, Words,
 };
 use crate::scenario::Call::Once;
 use crate::scenario::Memory::Takes;
@@ -10,7 +11,7 @@ use crate::scenario::Scenario;
 use crate::scenario::Single::{Image, Picture};
 
 #[rattlefmt::skip]
-pub static SCENARIOS: [Scenario; 51] = [
+pub static SCENARIOS: [Scenario; 74] = [
     Scenario("Renderer::to_image", Takes, None, Once(Image)),
     Scenario("Renderer::build: char", Takes, None, Once(Picture(Chars, Micro2))),
     Scenario("Renderer::build: Str", Takes, None, Once(Picture(Strings, Micro2))),
@@ -62,4 +63,27 @@ pub static SCENARIOS: [Scenario; 51] = [
     Scenario("render::Canvas: Rgb", Takes, None, Once(Picture(Rgb, Calls))),
     Scenario("render::Canvas: Rgba", Takes, None, Once(Picture(Rgba, Calls))),
     Scenario("render::Canvas: a user's canvas", Takes, None, Once(Picture(Bars, Calls))),
+    Scenario("Renderer::build: svg path", Takes, None, Once(Picture(Path, Micro2))),
+    Scenario("Renderer::build: svg path element", Takes, None, Once(Picture(PathElement, Micro2))),
+    Scenario("Renderer::build: eps", Takes, None, Once(Picture(Eps, Micro2))),
+    Scenario("Renderer::build: pbm", Takes, None, Once(Picture(Pbm, Micro2))),
+    Scenario("Renderer::build: pgm", Takes, None, Once(Picture(Pgm, Micro2))),
+    Scenario("Renderer::build: png", Takes, None, Once(Picture(Png, Micro2))),
+    Scenario("Renderer::build: svg path, no modules", Takes, None, Once(Picture(Path, NoModules))),
+    Scenario("Renderer::build: svg path element, no modules", Takes, None, Once(Picture(PathElement, NoModules))),
+    Scenario("Renderer::build: eps, no modules", Takes, None, Once(Picture(Eps, NoModules))),
+    Scenario("Renderer::build: pbm, no modules", Takes, None, Once(Picture(Pbm, NoModules))),
+    Scenario("Renderer::build: pgm, no modules", Takes, None, Once(Picture(Pgm, NoModules))),
+    Scenario("Renderer::build: svg path, wide", Takes, None, Once(Picture(Path, Wide(9)))),
+    Scenario("Renderer::build: svg path element, wide", Takes, None, Once(Picture(PathElement, Wide(9)))),
+    Scenario("Renderer::build: eps, wide", Takes, None, Once(Picture(Eps, Wide(9)))),
+    Scenario("Renderer::build: pbm, wide", Takes, None, Once(Picture(Pbm, Wide(9)))),
+    Scenario("Renderer::build: pgm, wide", Takes, None, Once(Picture(Pgm, Wide(9)))),
+    Scenario("Renderer::build: png, wide", Takes, None, Once(Picture(Png, Wide(9)))),
+    Scenario("render::Canvas: svg path", Takes, None, Once(Picture(Path, Calls))),
+    Scenario("render::Canvas: svg path element", Takes, None, Once(Picture(PathElement, Calls))),
+    Scenario("render::Canvas: eps", Takes, None, Once(Picture(Eps, Calls))),
+    Scenario("render::Canvas: pbm", Takes, None, Once(Picture(Pbm, Calls))),
+    Scenario("render::Canvas: pgm", Takes, None, Once(Picture(Pgm, Calls))),
+    Scenario("render::Canvas: png", Takes, None, Once(Picture(Png, Calls))),
 ];

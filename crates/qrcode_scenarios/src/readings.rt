@@ -1,0 +1,58 @@
+//! Readings of squares.
+
+use crate::symbols::of_digits;
+use qrcode::types::{Color, QrError, QrResult, Version};
+use qrcode_digest::Digest;
+use qrcode_reader::{Reading, Unread, WrongCodeword, read, read_any, read_bits};
+use std::alloc::Global;
+
+/// A call that reads a square.
+#[derive(Clone, Copy)]
+pub enum ReadCall {
+    /// `read`.
+    Bytes,
+    /// `read_bits`.
+    Bits,
+    /// `read_any`.
+    Any,
+}
+
+/// Reads the symbol of digits of a version, its last module turned over.
+pub fn run(alloc: Global, version: Version, call: ReadCall) -> QrResult<Digest> {
+    let mut colors = of_digits(alloc, version)?.into_colors();
+    if let Some(last) = colors.last_mut() {
+        *last = !*last;
+    }
+    match call {
+        ReadCall::Bytes => read(alloc, &colors).map_err(refusal).map(of_reading),
+        ReadCall::Bits => of_bits(alloc, &colors),
+        ReadCall::Any => match read_any(alloc, &colors)? {
+            Some(found) => Ok(of_reading(found.reading)),
+            None => Err(QrError::InvalidCharacter),
+        },
+    }
+}
+
+// What was read as bits.
+fn of_bits(alloc: Global, colors: &[Color]) -> QrResult<Digest> {
+    let read = read_bits(alloc, colors).map_err(refusal)?;
+    Ok(Digest::of(&read.bits).and(of_wrong(&read.wrong)))
+}
+
+// What was read as bytes.
+fn of_reading(reading: Reading) -> Digest {
+    Digest::of(&reading.data).and(of_wrong(&reading.wrong))
+}
+
+// How many codewords were wrong.
+fn of_wrong(wrong: &[WrongCodeword]) -> Digest {
+    Digest::of_one(wrong.len(), true)
+}
+
+// The refusal in the words of scenarios.
+fn refusal(unread: Unread) -> QrError {
+    match unread {
+        Unread::OutOfMemory => QrError::OutOfMemory,
+        _ => QrError::InvalidCharacter,
+    }
+}
