@@ -59,8 +59,8 @@ fn correct_blocks(
     Ok((bits, wrong))
 }
 
-// The data bits of a square under a mask, and how many codewords were wrong.
-fn read_bits(
+/// The data bits of a square under a mask, and how many codewords were wrong.
+pub fn read_bits(
     alloc: Global,
     square: &Square,
     places: &[Place],
