@@ -30,7 +30,14 @@ enum {
     GOQ_NO_SUCH_FORMAT = 9, /* no format has the number */
     GOQ_NOT_SQUARE = 10, /* the modules are not as many as the square of their width */
     GOQ_NO_SUCH_SIZE = 11, /* a scale of 0 or above 65,535, or more than 65,535 modules along a side with the quiet zone; or a PNG with a side of 0 or above 65,535 pixels */
-    GOQ_NOT_TEXT = 12 /* the text is not UTF-8 */
+    GOQ_NOT_TEXT = 12, /* the text is not UTF-8 */
+    GOQ_NO_SUCH_KIND = 13, /* no kind of segment has the number */
+    GOQ_NOT_IN_MODE = 14, /* the mode of a segment lacks one of its bytes */
+    GOQ_NO_SUCH_NUMBER = 15, /* a character set above 999,999, or an application above 255 */
+    GOQ_NO_SUCH_SIDE = 16, /* no version has so many modules */
+    GOQ_NO_FORMAT = 17, /* no level and mask are within three bits of each copy of the format word */
+    GOQ_DAMAGED = 18, /* a block has too many wrong codewords */
+    GOQ_NOT_SPELLED = 19 /* the data bits are not segments and an end, as where a header stands in front */
 };
 
 /* Error correction levels. */
@@ -46,11 +53,27 @@ enum {
     GOQ_SVG = 2, /* SVG text, black on white */
     GOQ_PIC = 3, /* PIC text */
     GOQ_GREY = 4, /* rows of pixels, a byte each: 0 for a dark one, 255 for a light one */
-    GOQ_PNG = 5 /* a PNG file, black on white, of at most 65,535 pixels a side */
+    GOQ_PNG = 5, /* a PNG file, black on white, of at most 65,535 pixels a side */
+    GOQ_EPS = 6, /* Encapsulated PostScript text, black on white, a point a pixel */
+    GOQ_PBM = 7 /* a PBM file */
+};
+
+/* What a segment is. */
+enum {
+    GOQ_NUMERIC = 0, /* digits */
+    GOQ_ALPHANUMERIC = 1, /* digits, capitals, the space and $%*+-./: */
+    GOQ_BYTES = 2, /* any bytes */
+    GOQ_KANJI = 3, /* pairs of bytes of Shift JIS */
+    GOQ_ECI = 4, /* a header: `number` is that of the character set of what follows, below 1,000,000 */
+    GOQ_FNC1_FIRST = 5, /* a header: FNC1 in the first position, as GS1 wants it */
+    GOQ_FNC1_SECOND = 6 /* a header: FNC1 in the second position, `number` being the indicator of the application, below 256 */
 };
 
 /* This many bytes hold the modules of every symbol. */
 enum { GOQ_MODULES_MAX = 177 * 177 };
+
+/* This many bytes hold what is read of every symbol. */
+enum { GOQ_BYTES_MAX = 7089 };
 
 /* What a symbol is beside its modules. */
 typedef struct {
@@ -58,6 +81,23 @@ typedef struct {
     uint32_t level;
     uint32_t width; /* the modules along a side */
 } goq_symbol;
+
+/* A segment: bytes in a mode, or a header for what stands behind it. */
+typedef struct {
+    uint32_t kind;
+    uint32_t number; /* of GOQ_ECI and GOQ_FNC1_SECOND; not looked at in others */
+    const uint8_t *bytes; /* of the modes; not looked at in headers; may be NULL where the length is 0 */
+    size_t length;
+} goq_segment;
+
+/* What is read of a square beside its bytes. */
+typedef struct {
+    uint32_t version;
+    uint32_t level;
+    uint32_t mask; /* its number: 0 to 7, in Micro 0 to 3 */
+    size_t wrong; /* how many codewords were wrong */
+    size_t length; /* how many bytes there are */
+} goq_reading;
 
 /* The symbol of data at a level, of the least Normal version that holds it: its modules, row by row, 1 for a dark one, at the beginning of `modules`.
    GOQ_NO_SUCH_LEVEL, GOQ_NO_ROOM, GOQ_SMALL_BUFFER, GOQ_OUT_OF_MEMORY. */
@@ -73,6 +113,12 @@ uint32_t goq_encode_marked_text(const uint8_t *text, size_t text_length, uint32_
    GOQ_NO_SUCH_LEVEL, GOQ_NO_SUCH_VERSION, GOQ_TOO_LONG, GOQ_NO_MODE, GOQ_LEVEL_NOT_IN_VERSION, GOQ_NO_ROOM, GOQ_SMALL_BUFFER; GOQ_OUT_OF_MEMORY. */
 uint32_t goq_encode_in(
     const uint8_t *data, size_t data_length, uint32_t version, uint32_t level, uint8_t *modules, size_t modules_length, goq_symbol *symbol);
+
+/* The symbol of segments, one behind the other, of a version and level. Of several causes the first is told, in this order: GOQ_NO_SUCH_LEVEL,
+   GOQ_NO_SUCH_VERSION, GOQ_LEVEL_NOT_IN_VERSION; of each segment GOQ_NO_SUCH_KIND, GOQ_NOT_IN_MODE, GOQ_NO_MODE, GOQ_NO_SUCH_NUMBER, GOQ_NO_ROOM; then GOQ_NO_ROOM,
+   GOQ_SMALL_BUFFER; GOQ_OUT_OF_MEMORY. */
+uint32_t goq_encode_segments(const goq_segment *segments, size_t segments_length, uint32_t version, uint32_t level, uint8_t *modules, size_t modules_length,
+    goq_symbol *symbol);
 
 /* The least Normal version that holds data at a level. GOQ_NO_SUCH_LEVEL, GOQ_NO_ROOM, GOQ_OUT_OF_MEMORY. */
 uint32_t goq_least_version(const uint8_t *data, size_t data_length, uint32_t level, uint32_t *version);
@@ -91,6 +137,14 @@ uint32_t goq_draw(const uint8_t *modules, size_t modules_length, uint32_t width,
 
 /* The length that goq_draw would write, to `count`. GOQ_NO_SUCH_FORMAT, GOQ_NOT_SQUARE, GOQ_NO_SUCH_SIZE, GOQ_OUT_OF_MEMORY. */
 uint32_t goq_draw_length(const uint8_t *modules, size_t modules_length, uint32_t width, uint32_t zone, uint32_t scale, uint32_t format, size_t *count);
+
+/* The bytes of a square of modules, row by row from the top left corner, dark where a byte is not zero, without a quiet zone: at the beginning of `bytes`, and
+   what it is beside them. Each copy of the format word may have three wrong bits, and each block half as many wrong codewords as it has for error correction.
+   Of several causes the first is told, in this order: GOQ_NO_SUCH_SIDE, GOQ_NO_FORMAT, GOQ_DAMAGED, GOQ_NOT_SPELLED, GOQ_SMALL_BUFFER; GOQ_OUT_OF_MEMORY. */
+uint32_t goq_read(const uint8_t *modules, size_t modules_length, uint8_t *bytes, size_t bytes_length, goq_reading *reading);
+
+/* How many bytes goq_read would write, to `count`. GOQ_NO_SUCH_SIDE, GOQ_NO_FORMAT, GOQ_DAMAGED, GOQ_NOT_SPELLED, GOQ_OUT_OF_MEMORY. */
+uint32_t goq_read_length(const uint8_t *modules, size_t modules_length, size_t *count);
 
 #ifdef __cplusplus
 }

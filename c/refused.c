@@ -1,5 +1,5 @@
-/* Memory from a static pool: a symbol of 2,000 bytes is made with all requests served, and then each request in turn is refused, which the call has to
-   answer with its outputs untouched and nothing kept. */
+/* Memory from a static pool: each call is made with all requests served, and then with each request in turn refused, which it has to answer with all outputs
+   untouched and nothing kept. */
 #include "goqlanis.h"
 #include <stdio.h>
 #include <string.h>
@@ -7,28 +7,62 @@
 extern size_t pool_requests, pool_refused, pool_most;
 size_t pool_live(void);
 
+static uint8_t data[500], text[500], square[GOQ_MODULES_MAX];
+static goq_symbol known;
+static struct outputs {
+    uint8_t buffer[200000];
+    goq_symbol symbol;
+    goq_reading reading;
+    size_t count;
+    uint32_t version;
+} outputs, before;
+
+static uint32_t call(int number)
+{
+    uint8_t *out = outputs.buffer;
+    size_t room = sizeof outputs.buffer, modules = (size_t)known.width * known.width;
+    goq_segment segments[] = {{GOQ_ECI, 26, NULL, 0}, {GOQ_BYTES, 0, data, sizeof data}};
+    switch (number) {
+    case 0: return goq_encode(data, sizeof data, GOQ_M, out, room, &outputs.symbol);
+    case 1: return goq_encode_in(data, sizeof data, 40, GOQ_M, out, room, &outputs.symbol);
+    case 2: return goq_encode_text(text, sizeof text, GOQ_M, out, room, &outputs.symbol);
+    case 3: return goq_encode_marked_text(text, sizeof text, GOQ_M, out, room, &outputs.symbol);
+    case 4: return goq_encode_segments(segments, 2, 40, GOQ_M, out, room, &outputs.symbol);
+    case 5: return goq_least_version(data, sizeof data, GOQ_M, &outputs.version);
+    case 6: return goq_read(square, modules, out, room, &outputs.reading);
+    case 7: return goq_read_length(square, modules, &outputs.count);
+    case 8: return goq_draw_length(square, modules, known.width, 4, 1, GOQ_PNG, &outputs.count);
+    default: return goq_draw(square, modules, known.width, 4, 1, (uint32_t)number - 9, out, room, &outputs.count);
+    }
+}
+
 int main(void)
 {
-    static uint8_t modules[GOQ_MODULES_MAX], before[GOQ_MODULES_MAX], bytes[2000];
-    goq_symbol symbol;
-    for (size_t i = 0; i < sizeof bytes; i++)
-        bytes[i] = (uint8_t)(i * 37);
-    pool_requests = 0;
-    if (goq_encode(bytes, sizeof bytes, GOQ_M, modules, sizeof modules, &symbol) != GOQ_OK || pool_live())
+    size_t calls = 0, refused = 0, wrong = 0;
+    memset(&before, 7, sizeof before);
+    memset(text, 'a', sizeof text);
+    for (size_t i = 0; i < sizeof data; i++)
+        data[i] = (uint8_t)(i * 37);
+    if (goq_encode(data, sizeof data, GOQ_M, square, sizeof square, &known) != GOQ_OK)
         return 1;
-    size_t all = pool_requests, wrong = 0, refused = 0;
-    for (size_t i = 0; i < all; i++) {
-        pool_requests = 0;
-        pool_refused = i;
-        memset(modules, 7, sizeof modules);
-        memcpy(before, modules, sizeof modules);
-        symbol.width = 99;
-        uint32_t answer = goq_encode(bytes, sizeof bytes, GOQ_M, modules, sizeof modules, &symbol);
-        if (answer == GOQ_OUT_OF_MEMORY && !pool_live() && symbol.width == 99 && !memcmp(modules, before, sizeof modules))
-            refused++;
-        else if (answer != GOQ_OK || pool_live())
-            wrong++;
+    for (int number = 0; number <= 9 + GOQ_PBM; number++, calls++) {
+        size_t all = 1, answered = 0;
+        for (size_t i = 0; i <= all; i++) { /* at first none is refused */
+            pool_requests = 0;
+            pool_refused = i - 1;
+            memcpy(&outputs, &before, sizeof outputs);
+            uint32_t answer = call(number);
+            if (i == 0)
+                all = pool_requests;
+            if (i > 0 && answer == GOQ_OUT_OF_MEMORY && !memcmp(&outputs, &before, sizeof outputs))
+                answered++;
+            else if (answer != GOQ_OK) /* a list that could not be made shorter serves as it is */
+                wrong++;
+            wrong += pool_live() != 0;
+        }
+        wrong += answered == 0;
+        refused += answered;
     }
-    printf("%zu requests, at most %zu bytes of the pool; %zu refused and answered, %zu wrong\n", all, pool_most, refused, wrong);
-    return wrong != 0 || refused == 0;
+    printf("%zu calls, at most %zu bytes of the pool; %zu requests refused and answered, %zu wrong\n", calls, pool_most, refused, wrong);
+    return wrong != 0;
 }

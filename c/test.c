@@ -97,19 +97,21 @@ static void shapes(void)
 
 static void drawings(void)
 {
-    static const char *starts[] = {"", "", "<?xml", "maxpswid"};
+    static const char *starts[] = {"", "", "<?xml", "maxpswid", "", "\x89PNG", "%!PS-Adobe-3.0 EPSF-3.0\n", "P4\n58 58\n"};
     size_t count = 5, length = 0;
     goq_encode((const uint8_t *)"01234567", 8, GOQ_M, modules, sizeof modules, &symbol);
-    for (uint32_t format = GOQ_HALF_BLOCKS; format <= GOQ_GREY; format++) {
+    for (uint32_t format = GOQ_HALF_BLOCKS; format <= GOQ_PBM; format++) {
         expect(goq_draw_length(modules, 441, 21, 4, 2, format, &length) == GOQ_OK, "a length");
         out[length] = 9;
         expect(goq_draw(modules, 441, 21, 4, 2, format, out, length - 1, &count) == GOQ_SMALL_BUFFER && count == 5, "a byte too few");
         expect(goq_draw(modules, 441, 21, 4, 2, format, out, length, &count) == GOQ_OK && count == length && out[length] == 9, "a picture");
-        if (format < GOQ_GREY)
-            expect(!memcmp(out, starts[format], strlen(starts[format])), "how it starts");
+        expect(!memcmp(out, starts[format], strlen(starts[format])), "how it starts");
         count = 5;
+        if (format == GOQ_GREY)
+            expect(length == 58 * 58 && out[0] == 255 && out[58 * 8 + 8] == 0, "grey pixels");
+        if (format == GOQ_PBM)
+            expect(length == 9 + 58 * 8 && out[9] == 0 && out[9 + 8 * 8 + 1] == 255, "eight pixels in a byte");
     }
-    expect(length == 58 * 58 && out[0] == 255 && out[58 * 8 + 8] == 0, "grey pixels");
     expect(goq_draw_length(modules, 441, 21, 4, 8, GOQ_PNG, &length) == GOQ_OK && length < 700, "the length of a PNG file");
     out[length] = 9;
     expect(goq_draw(modules, 441, 21, 4, 8, GOQ_PNG, out, length - 1, &count) == GOQ_SMALL_BUFFER && count == 5, "a byte too few for PNG");
@@ -118,11 +120,83 @@ static void drawings(void)
     count = 5;
     expect(goq_draw(modules, 441, 21, 4, 2260, GOQ_PNG, out, sizeof out, &count) == GOQ_NO_SUCH_SIZE && count == 5, "a PNG side of 65,540");
     expect(goq_draw(modules, 0, 0, 0, 1, GOQ_PNG, out, sizeof out, &count) == GOQ_NO_SUCH_SIZE && count == 5, "a PNG side of 0");
-    expect(goq_draw(modules, 441, 21, 4, 2, 6, out, sizeof out, &count) == GOQ_NO_SUCH_FORMAT, "format 6");
+    expect(goq_draw(modules, 441, 21, 4, 2, 8, out, sizeof out, &count) == GOQ_NO_SUCH_FORMAT, "format 8");
     expect(goq_draw(modules, 440, 21, 4, 2, 0, out, sizeof out, &count) == GOQ_NOT_SQUARE, "440 modules");
     expect(goq_draw(modules, 441, 21, 4, 0, 0, out, sizeof out, &count) == GOQ_NO_SUCH_SIZE, "scale 0");
     expect(goq_draw(modules, 441, 21, 32758, 1, 0, out, sizeof out, &count) == GOQ_NO_SUCH_SIZE, "too wide a zone");
     expect(goq_draw_length(modules, 441, 21, 4, 65536, 0, &count) == GOQ_NO_SUCH_SIZE && count == 5, "too great a scale");
+}
+
+static uint32_t encode_one(uint32_t kind, uint32_t number, const char *bytes, size_t length, uint32_t version, uint32_t level)
+{
+    goq_segment segment = {kind, number, (const uint8_t *)bytes, length};
+    return goq_encode_segments(&segment, 1, version, level, modules, sizeof modules, &symbol);
+}
+
+/* Segments by hand. That their symbols are those of other encoders c/facts says. */
+static void by_hand(void)
+{
+    goq_segment segments[] = {{GOQ_FNC1_SECOND, 37, NULL, 0}, {GOQ_ECI, 26, NULL, 0}, {GOQ_BYTES, 0, (const uint8_t *)"\xc3\xa9", 2}, {GOQ_NUMERIC, 0, NULL, 0}};
+    mark();
+    expect(goq_encode_segments(segments, 4, 1, GOQ_M, modules, sizeof modules, &symbol) == GOQ_OK && symbol.width == 21 && modules[441] == 7, "segments and headers");
+    mark();
+    expect(goq_encode_segments(NULL, 0, 1, GOQ_M, modules, sizeof modules, &symbol) == GOQ_OK, "no segments, from NULL");
+    mark();
+    refuses(encode_one(GOQ_BYTES, 0, "a", 1, 1, 4), GOQ_NO_SUCH_LEVEL, "level 4 of segments");
+    refuses(encode_one(GOQ_BYTES, 0, "a", 1, 0, GOQ_L), GOQ_NO_SUCH_VERSION, "version 0 of segments");
+    refuses(encode_one(GOQ_NUMERIC, 0, "1", 1, GOQ_MICRO(1), GOQ_M), GOQ_LEVEL_NOT_IN_VERSION, "Micro 1 at M of segments");
+    refuses(encode_one(7, 0, "a", 1, 1, GOQ_L), GOQ_NO_SUCH_KIND, "kind 7");
+    refuses(encode_one(GOQ_NUMERIC, 0, "1a", 2, 1, GOQ_L), GOQ_NOT_IN_MODE, "a letter among digits");
+    refuses(encode_one(GOQ_ALPHANUMERIC, 0, "a", 1, 1, GOQ_L), GOQ_NOT_IN_MODE, "a small letter");
+    refuses(encode_one(GOQ_KANJI, 0, "\x88\x9f\x88", 3, 1, GOQ_L), GOQ_NOT_IN_MODE, "half a pair");
+    refuses(encode_one(GOQ_BYTES, 0, "a", 1, GOQ_MICRO(2), GOQ_L), GOQ_NO_MODE, "bytes in Micro 2");
+    refuses(encode_one(GOQ_FNC1_FIRST, 0, NULL, 0, GOQ_MICRO(4), GOQ_L), GOQ_NO_MODE, "FNC1 in Micro 4");
+    refuses(encode_one(GOQ_ECI, 1000000, NULL, 0, 1, GOQ_L), GOQ_NO_SUCH_NUMBER, "character set 1,000,000");
+    refuses(encode_one(GOQ_FNC1_SECOND, 256, NULL, 0, 1, GOQ_L), GOQ_NO_SUCH_NUMBER, "application 256");
+    refuses(encode_one(GOQ_BYTES, 0, (const char *)before, 256, 1, GOQ_L), GOQ_NO_ROOM, "more bytes than their count says");
+    refuses(encode_one(GOQ_BYTES, 0, (const char *)before, 18, 1, GOQ_L), GOQ_NO_ROOM, "18 bytes in Normal 1");
+    refuses(goq_encode_segments(segments, 4, 1, GOQ_M, modules, 440, &symbol), GOQ_SMALL_BUFFER, "a module too few of segments");
+}
+
+static uint8_t found[GOQ_BYTES_MAX];
+static goq_reading reading;
+
+static void refuses_to_read(uint32_t answer, uint32_t wanted, const char *what)
+{
+    expect(answer == wanted, what);
+    expect(found[0] == 7 && reading.version == 99 && reading.length == 98, what);
+}
+
+/* Squares read back, whole and damaged. */
+static void readings(void)
+{
+    size_t count = 5;
+    goq_encode((const uint8_t *)"01234567", 8, GOQ_M, modules, sizeof modules, &symbol);
+    expect(goq_read_length(modules, 441, &count) == GOQ_OK && count == 8, "the length of a reading");
+    found[8] = 7;
+    expect(goq_read(modules, 441, found, 8, &reading) == GOQ_OK && !memcmp(found, "01234567", 8) && found[8] == 7, "a reading, and the rest as it was");
+    expect(reading.version == 1 && reading.level == GOQ_M && reading.mask < 8 && reading.wrong == 0 && reading.length == 8, "what it is");
+    for (int row = 12; row <= 20; row += 4) /* a module of each of the first three codewords, which stand upwards from the lower right corner */
+        modules[row * 21 + 20] ^= 1;
+    expect(goq_read(modules, 441, found, sizeof found, &reading) == GOQ_OK && reading.wrong == 3 && !memcmp(found, "01234567", 8), "a damaged one");
+    found[0] = 7;
+    reading = (goq_reading){99, 0, 0, 0, 98};
+    refuses_to_read(goq_read(modules, 441, found, 7, &reading), GOQ_SMALL_BUFFER, "a byte too few for a reading");
+    refuses_to_read(goq_read(modules, 440, found, sizeof found, &reading), GOQ_NO_SUCH_SIDE, "440 modules to read");
+    refuses_to_read(goq_read(NULL, 0, found, sizeof found, &reading), GOQ_NO_SUCH_SIDE, "no modules to read");
+    memset(modules, 1, 441);
+    refuses_to_read(goq_read(modules, 441, found, sizeof found, &reading), GOQ_NO_FORMAT, "a dark square");
+    goq_encode((const uint8_t *)"01234567", 8, GOQ_M, modules, sizeof modules, &symbol);
+    for (int i = 9 * 21 + 9; i < 13 * 21; i++)
+        modules[i] = 1;
+    refuses_to_read(goq_read(modules, 441, found, sizeof found, &reading), GOQ_DAMAGED, "too much damage");
+    encode_one(GOQ_ECI, 26, NULL, 0, 1, GOQ_L);
+    refuses_to_read(goq_read(modules, 441, found, sizeof found, &reading), GOQ_NOT_SPELLED, "a header");
+    count = 5;
+    expect(goq_read_length(modules, 441, &count) == GOQ_NOT_SPELLED && count == 5, "the length of none");
+    memset(out, '7', GOQ_BYTES_MAX);
+    expect(goq_encode(out, GOQ_BYTES_MAX, GOQ_L, modules, sizeof modules, &symbol) == GOQ_OK && symbol.version == 40, "the most digits");
+    expect(goq_read(modules, GOQ_MODULES_MAX, found, sizeof found, &reading) == GOQ_OK && reading.length == GOQ_BYTES_MAX && !memcmp(found, out, GOQ_BYTES_MAX), "all of them");
 }
 
 /* A symbol of each pair of version and level of `digits` digits, as lines: version, level, width and a sum over its modules. */
@@ -133,6 +207,8 @@ static void pairs(void)
             uint32_t answer = goq_encode_in((const uint8_t *)"20061", 5, version, level, modules, sizeof modules, &symbol), sum = 0;
             if (answer == GOQ_LEVEL_NOT_IN_VERSION)
                 continue;
+            expect(goq_read(modules, symbol.width * symbol.width, found, sizeof found, &reading) == GOQ_OK, "a symbol of each pair is read");
+            expect(reading.version == version && reading.level == level && reading.length == 5 && !memcmp(found, "20061", 5), "as what it was made of");
             for (uint32_t i = 0; answer == GOQ_OK && i < symbol.width * symbol.width; i++)
                 sum = sum * 31 + modules[i] + 1;
             printf("%u %u %u %08x\n", version, level, answer == GOQ_OK ? symbol.width : 0, answer == GOQ_OK ? sum : answer);
@@ -145,6 +221,8 @@ int main(void)
     texts();
     shapes();
     drawings();
+    by_hand();
+    readings();
     pairs();
     return wrong != 0;
 }

@@ -10,6 +10,11 @@ True
 >>> encode(b"01234567", level="L", version="M2").width
 13
 
+A square of modules is read back:
+
+>>> read(symbol.matrix).data
+b'01234567'
+
 What the library refuses is an exception of its own name:
 
 >>> encode(bytes(3000))
@@ -20,14 +25,17 @@ goqlanis.NoRoom: no symbol of the asked kind holds the 3000 bytes
 import ctypes
 import ctypes.util
 import os
-from typing import Optional, Tuple
+from typing import Iterable, NamedTuple, Optional, Sequence, Tuple, Union
 
-__all__ = ["Symbol", "encode", "encode_text", "least_version", "is_functional", "Error", "NoSuchLevel", "NoSuchVersion", "LevelNotInVersion", "TooLong", "NoMode", "NoRoom",
-           "OutOfMemory", "NoSuchSize"]
+__all__ = ["Symbol", "Reading", "encode", "encode_text", "encode_segments", "read", "least_version", "is_functional", "Error", "NoSuchLevel", "NoSuchVersion",
+           "LevelNotInVersion", "TooLong", "NoMode", "NoRoom", "OutOfMemory", "NoSuchSize", "NotInMode", "NoSuchNumber", "Unread", "NoSuchSide", "NoFormat", "Damaged",
+           "NotSpelled"]
 
 LEVELS = "LMQH"
-HALF_BLOCKS, LIGHT_HALF_BLOCKS, SVG, PIC, GREY, PNG = range(6)
+HALF_BLOCKS, LIGHT_HALF_BLOCKS, SVG, PIC, GREY, PNG, EPS, PBM = range(8)
+KINDS = ("numeric", "alphanumeric", "byte", "kanji", "eci", "fnc1_first", "fnc1_second")
 MOST_MODULES = 177 * 177
+MOST_BYTES = 7089
 
 
 class Error(Exception):
@@ -66,8 +74,44 @@ class NoSuchSize(Error, ValueError):
     """The scale is none of 1 to 65,535, or the picture would be too wide."""
 
 
+class NotInMode(Error, ValueError):
+    """The mode of a segment lacks one of its bytes."""
+
+
+class NoSuchNumber(Error, ValueError):
+    """The number of a character set is above 999,999, or that of an application above 255."""
+
+
+class Unread(Error, ValueError):
+    """A square of modules is not read."""
+
+
+class NoSuchSide(Unread):
+    """No version has so many modules."""
+
+
+class NoFormat(Unread):
+    """No level and mask are within three bits of each copy of the format word."""
+
+
+class Damaged(Unread):
+    """A block has too many wrong codewords."""
+
+
+class NotSpelled(Unread):
+    """The data bits are not segments and an end, as where a header stands in front."""
+
+
 class _Known(ctypes.Structure):
     _fields_ = [("version", ctypes.c_uint32), ("level", ctypes.c_uint32), ("width", ctypes.c_uint32)]
+
+
+class _Segment(ctypes.Structure):
+    _fields_ = [("kind", ctypes.c_uint32), ("number", ctypes.c_uint32), ("bytes", ctypes.c_char_p), ("length", ctypes.c_size_t)]
+
+
+class _Read(ctypes.Structure):
+    _fields_ = [("version", ctypes.c_uint32), ("level", ctypes.c_uint32), ("mask", ctypes.c_uint32), ("wrong", ctypes.c_size_t), ("length", ctypes.c_size_t)]
 
 
 def _load() -> ctypes.CDLL:
@@ -81,6 +125,8 @@ def _load() -> ctypes.CDLL:
     library.goq_encode.argtypes = [text, size, number, ctypes.c_void_p, size, ctypes.POINTER(_Known)]
     library.goq_encode_text.argtypes = library.goq_encode_marked_text.argtypes = library.goq_encode.argtypes
     library.goq_encode_in.argtypes = [text, size, number, number, ctypes.c_void_p, size, ctypes.POINTER(_Known)]
+    library.goq_encode_segments.argtypes = [ctypes.POINTER(_Segment), size, number, number, ctypes.c_void_p, size, ctypes.POINTER(_Known)]
+    library.goq_read.argtypes = [text, size, ctypes.c_void_p, size, ctypes.POINTER(_Read)]
     library.goq_least_version.argtypes = [text, size, number, ctypes.POINTER(number)]
     library.goq_is_functional.argtypes = [number, number, number]
     library.goq_is_functional.restype = ctypes.c_bool
@@ -118,25 +164,28 @@ def _bytes(data) -> bytes:
     return bytes(data)
 
 
-def _raise(answer: int, data: bytes, version: Optional[str], level: str) -> None:
+_REFUSALS = {
+    2: (NoSuchVersion, "no version {version!r}: take 1 to 40 or M1 to M4"),
+    3: (LevelNotInVersion, "version {version} has no level {level}"),
+    4: (TooLong, "{count} bytes are more than 1,048,576"),
+    5: (NoMode, "version {version} has no mode for such bytes"),
+    6: (NoRoom, "no symbol of the asked kind holds the {count} bytes"),
+    8: (OutOfMemory, "memory was refused"),
+    11: (NoSuchSize, "the picture would have more than 65,535 pixels along a side"),
+    14: (NotInMode, "the mode of a segment lacks one of its bytes"),
+    15: (NoSuchNumber, "no character set has a number above 999,999, and no application one above 255"),
+    16: (NoSuchSide, "no version has {count} modules"),
+    17: (NoFormat, "no format word is near each of its copies"),
+    18: (Damaged, "a block has too many wrong codewords"),
+    19: (NotSpelled, "the bits are not segments and an end"),
+}
+
+
+def _raise(answer: int, count: int = 0, version: Optional[str] = None, level: str = "") -> None:
     """Raises what an answer of the library stands for."""
-    if answer == 0:
-        return
-    if answer == 2:
-        raise NoSuchVersion(f"no version {version!r}: take 1 to 40 or M1 to M4")
-    if answer == 3:
-        raise LevelNotInVersion(f"version {version} has no level {level}")
-    if answer == 4:
-        raise TooLong(f"{len(data)} bytes are more than 1,048,576")
-    if answer == 5:
-        raise NoMode(f"version {version} has no mode for such bytes")
-    if answer == 6:
-        raise NoRoom(f"no symbol of the asked kind holds the {len(data)} bytes")
-    if answer == 8:
-        raise OutOfMemory("memory was refused")
-    if answer == 11:
-        raise NoSuchSize("the picture would have more than 65,535 pixels along a side")
-    raise Error(f"answer {answer}")
+    if answer:
+        kind, text = _REFUSALS.get(answer, (Error, f"answer {answer}"))
+        raise kind(text.format(count=count, version=version, level=level))
 
 
 class Symbol:
@@ -183,15 +232,31 @@ class Symbol:
         """
         return self._draw(PNG, scale, quiet_zone)
 
+    def eps(self, scale: int = 8, quiet_zone: Optional[int] = None) -> str:
+        """Encapsulated PostScript, black on white, a point a pixel.
+
+        >>> encode(b"01234567").eps(scale=2).splitlines()[1]
+        '%%BoundingBox: 0 0 58 58'
+        """
+        return self._draw(EPS, scale, quiet_zone).decode()
+
+    def pbm(self, scale: int = 8, quiet_zone: Optional[int] = None) -> bytes:
+        """A PBM file: black and white pixels, eight in a byte.
+
+        >>> encode(b"01234567").pbm(scale=1, quiet_zone=0)[:10]
+        b'P4\\n21 21\\n\\xfe'
+        """
+        return self._draw(PBM, scale, quiet_zone)
+
     def _draw(self, form: int, scale: int, quiet_zone: Optional[int]) -> bytes:
         zone = self.quiet_zone if quiet_zone is None else quiet_zone
         if not (1 <= scale <= 65535 and 0 <= zone <= 32000):
             raise NoSuchSize(f"a scale of {scale} with a quiet zone of {zone}: take a scale from 1 to 65,535 and a zone from 0 to 32,000")
         count = ctypes.c_size_t()
         asked = (self._modules, len(self._modules), self.width, zone, scale, form)
-        _raise(_library.goq_draw_length(*asked, ctypes.byref(count)), b"", None, "")
+        _raise(_library.goq_draw_length(*asked, ctypes.byref(count)))
         out = ctypes.create_string_buffer(count.value)
-        _raise(_library.goq_draw(*asked, out, count.value, ctypes.byref(count)), b"", None, "")
+        _raise(_library.goq_draw(*asked, out, count.value, ctypes.byref(count)))
         return out.raw
 
     def _repr_svg_(self) -> str:
@@ -220,7 +285,7 @@ def encode(data: bytes, level: str = "M", version: Optional[str] = None) -> Symb
         answer = _library.goq_encode(data, len(data), number, modules, MOST_MODULES, ctypes.byref(known))
     else:
         answer = _library.goq_encode_in(data, len(data), _version_number(str(version)), number, modules, MOST_MODULES, ctypes.byref(known))
-    _raise(answer, data, version, level)
+    _raise(answer, len(data), version, level)
     return Symbol(modules.raw[:known.width * known.width], known)
 
 
@@ -238,8 +303,75 @@ def encode_text(text: str, level: str = "M", marked: bool = False) -> Symbol:
     data, number = text.encode(), _level_number(level)
     modules, known = ctypes.create_string_buffer(MOST_MODULES), _Known()
     call = _library.goq_encode_marked_text if marked else _library.goq_encode_text
-    _raise(call(data, len(data), number, modules, MOST_MODULES, ctypes.byref(known)), data, None, level)
+    _raise(call(data, len(data), number, modules, MOST_MODULES, ctypes.byref(known)), len(data), None, level)
     return Symbol(modules.raw[:known.width * known.width], known)
+
+
+def encode_segments(segments: Iterable[Tuple[str, Union[bytes, int, None]]], level: str = "M", version: Optional[str] = None) -> Symbol:
+    """The symbol of segments, one behind the other: of a version, or of the least Normal version that holds them. A segment is a mode with its bytes, `("numeric", b"..")`,
+    `"alphanumeric"`, `"byte"` or `"kanji"` (pairs of bytes of Shift JIS); or a header: `("eci", 26)`, `("fnc1_first", None)`, `("fnc1_second", 37)`.
+
+    >>> encode_segments([("eci", 7), ("byte", "Živjo".encode("iso8859_2"))]).version
+    '1'
+    >>> encode_segments([("fnc1_first", None), ("numeric", b"0109501101530003")], "Q").version
+    '1'
+    >>> encode_segments([("numeric", b"12a")])
+    Traceback (most recent call last):
+        ...
+    goqlanis.NotInMode: the mode of a segment lacks one of its bytes
+    """
+    rows, count = [], 0
+    for kind, value in segments:
+        if kind not in KINDS:
+            raise ValueError(f"no kind of segment {kind!r}: take one of {', '.join(KINDS)}")
+        data = _bytes(value) if KINDS.index(kind) < 4 else b""
+        given = value if isinstance(value, int) else 0
+        if not 0 <= given < 2 ** 32:
+            raise NoSuchNumber(_REFUSALS[15][1])
+        rows.append(_Segment(KINDS.index(kind), given, data, len(data)))
+        count += len(data)
+    listed, number = (_Segment * len(rows))(*rows), _level_number(level)
+    modules, known = ctypes.create_string_buffer(MOST_MODULES), _Known()
+    for each in range(1, 41) if version is None else (_version_number(str(version)),):
+        answer = _library.goq_encode_segments(listed, len(rows), each, number, modules, MOST_MODULES, ctypes.byref(known))
+        if answer != 6:
+            break
+    _raise(answer, count, version, level)
+    return Symbol(modules.raw[:known.width * known.width], known)
+
+
+class Reading(NamedTuple):
+    """What is read of a square: its bytes, version and level, the number of its mask, and how many codewords were wrong."""
+    data: bytes
+    version: str
+    level: str
+    mask: int
+    wrong: int
+
+
+def read(square: Union[Symbol, Sequence[Sequence[bool]]]) -> Reading:
+    """What a square of modules says: of a symbol, or of rows of modules, true where one is dark, without a quiet zone.
+
+    >>> rows = [list(row) for row in encode(b"01234567", "H").matrix]
+    >>> rows[20][20] = not rows[20][20]
+    >>> found = read(rows)
+    >>> found.data, found.version, found.level, found.wrong
+    (b'01234567', '1', 'H', 1)
+    >>> read([[True] * 21] * 21)
+    Traceback (most recent call last):
+        ...
+    goqlanis.NoFormat: no format word is near each of its copies
+    """
+    if isinstance(square, Symbol):
+        modules = square._modules
+    else:
+        rows = [bytes(map(bool, row)) for row in square]
+        if any(len(row) != len(rows) for row in rows):
+            raise NoSuchSide("the rows are not as long as they are many")
+        modules = b"".join(rows)
+    out, found = ctypes.create_string_buffer(MOST_BYTES), _Read()
+    _raise(_library.goq_read(modules, len(modules), out, MOST_BYTES, ctypes.byref(found)), len(modules))
+    return Reading(out.raw[:found.length], _version_name(found.version), LEVELS[found.level], found.mask, found.wrong)
 
 
 def least_version(data: bytes, level: str = "M") -> str:
@@ -249,7 +381,7 @@ def least_version(data: bytes, level: str = "M") -> str:
     '40'
     """
     data, found = _bytes(data), ctypes.c_uint32()
-    _raise(_library.goq_least_version(data, len(data), _level_number(level), ctypes.byref(found)), data, None, level)
+    _raise(_library.goq_least_version(data, len(data), _level_number(level), ctypes.byref(found)), len(data), None, level)
     return _version_name(found.value)
 
 

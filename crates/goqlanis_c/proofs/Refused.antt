@@ -1,12 +1,14 @@
 -- Refusals of the constructor, as C reads them.
 use Rattle.std.proofs.Common.{◌≡◌, ℕ, ◌≤◌, List, length, Some, IfSome, true, sym, subst, ◌∙◌, inl, inr, true≢false, arith}
+use Rattle.std.specs.Prelude.{Result, Ok, Err, IsErr, IsErrAnd, IfErr}
 use Rattle.qrcode_types.specs.Versions.{is_valid}
 use Rattle.qrcode_types.specs.declared.types.EcLevel.{EcLevel}
 use Rattle.qrcode_types.specs.declared.types.Version.{Version}
 use Rattle.qrcode_types.specs.declared.types.QrError.{QrError}
 use Rattle.qrcode_bits.specs.Refusals.{data_limit}
 use Rattle.qrcode.specs.Acceptance.{IsRefusedAt}
-use Rattle.goqlanis_c.specs.Answers.{refusal_of, refusal_in, IsCauseIn}
+use Rattle.goqlanis_c.specs.Answers.{refusal_of, IsCauseIn}
+use Rattle.goqlanis_c.specs.Segments.{refusal_in}
 use Rattle.goqlanis_c.specs.declared.answers.Refusal.{Refusal}
 use Rattle.goqlanis_c.specs.Names.{level_named, version_named}
 
@@ -32,6 +34,11 @@ refused version level v l bytes e room named levelled valid short cause =
         ]
       ]
     ]
+
+-- an error that a `?` hands on
+pub handed_on : {T R : Type 0} (result : Result T R) (r : R) (P : R → Type 0) → IsErr result × IsErrAnd result (λ x. x ≡ r) → P r → IfErr result P
+handed_on (Ok u) r P h p = tt
+handed_on (Err x) r P h p = subst P (sym h.1) p
 
 -- what holds of a refusal holds of the one that C reads in its number
 pub told : (P : Refusal → Type 0) (n : ℕ) (r : Refusal) → refusal_of n ≡ Some r → P r → IfSome (refusal_of n) P

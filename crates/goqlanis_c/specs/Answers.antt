@@ -1,13 +1,10 @@
 -- What the calls for C answer: 0, or the number of a refusal; and the cause of each refusal.
 use Rattle.std.specs.Prelude.{◌≡◌, ◌≢◌, ◌⊎◌, ◌+◌, ◌*◌, ◌^◌, ◌<◌, ◌≤◌, ◌-◌, ◌==◌, ⊤, ℕ, pos, List, [], ◌∷◌, length, false, IsUtf8, Option, Some, None, slice_get, if◌then◌else◌}
-use Rattle.qrcode_types.specs.Versions.{has_level}
+use Rattle.qrcode_types.specs.Versions.{has_level, capacity}
 use Rattle.qrcode_types.specs.declared.types.EcLevel.{EcLevel}
 use Rattle.qrcode_types.specs.declared.types.Version.{Version}
 use Rattle.qrcode_types.specs.declared.types.Version.TheVariants.{Normal}
 use Rattle.qrcode_types.specs.declared.types.Color.{Color}
-use Rattle.qrcode_types.specs.declared.types.QrError.{QrError}
-use Rattle.qrcode_types.specs.declared.types.QrError.TheVariants.{DataTooLong, InvalidVersion, UnsupportedCharacterSet, InvalidEciDesignator, InvalidCharacter}
-use Rattle.qrcode_types.specs.declared.types.QrError.TheVariants as error
 use Rattle.qrcode_bits.specs.Cuts.{IsCut}
 use Rattle.qrcode_bits.specs.Choice.{Holds}
 use Rattle.qrcode_bits.specs.Manners.{rank, HoldsAs, IsLeastFrom}
@@ -15,19 +12,24 @@ use Rattle.qrcode_bits.specs.Refusals.{data_limit}
 use Rattle.qrcode_bits.specs.declared.bits.manner.Manner.{Manner}
 use Rattle.qrcode_bits.specs.declared.optimize.Segment.{Segment}
 use Rattle.qrcode.specs.Acceptance.{IsChosenSymbol, IsLeastSymbol}
+use Rattle.qrcode.specs.Reading.{ReadsOnly}
 use Rattle.qrcode.specs.Texts.{IsSymbolAs}
-use Rattle.goqlanis_c.specs.Drawings.{format_named, IsDrawn}
+use Rattle.qrcode_reader.specs.Readings.{HasNoVersion, HasNoFormat, HasDamagedBlock, SpellsNothing}
+use Rattle.goqlanis_c.specs.Drawings.{format_named, colors_of, IsDrawn}
 use Rattle.goqlanis_c.specs.declared.drawing.Format.{Format}
 use Rattle.goqlanis_c.specs.declared.drawing.Format.TheVariants.{Png}
 use Rattle.goqlanis_c.specs.Names.{level_named, version_named}
+use Rattle.goqlanis_c.specs.Segments.{written_segments, IsFirstRefused, IsSymbolOfSegments}
+use Rattle.goqlanis_c.specs.declared.segments.Segment as by_hand
 use Rattle.goqlanis_c.specs.declared.answers.Refusal.{Refusal}
-use Rattle.goqlanis_c.specs.declared.answers.Refusal.TheVariants.{NoSuchLevel, NoSuchVersion, LevelNotInVersion, TooLong, NoMode, NoRoom, SmallBuffer, OutOfMemory, NoSuchFormat, NotSquare, NoSuchSize, NotText}
+use Rattle.goqlanis_c.specs.declared.answers.Refusal.TheVariants.{NoSuchLevel, NoSuchVersion, LevelNotInVersion, TooLong, NoMode, NoRoom, SmallBuffer, OutOfMemory, NoSuchFormat, NotSquare, NoSuchSize, NotText, NoSuchKind, NotInMode, NoSuchNumber, NoSuchSide, NoFormat, Damaged, NotSpelled}
 
 -- the refusals in the order of their numbers, from 1 on
 abbrev pub refusals : List Refusal
 refusals =
     NoSuchLevel ∷ NoSuchVersion ∷ LevelNotInVersion ∷ TooLong ∷ NoMode ∷ NoRoom ∷ SmallBuffer ∷ OutOfMemory ∷
-    NoSuchFormat ∷ NotSquare ∷ NoSuchSize ∷ NotText ∷ []
+    NoSuchFormat ∷ NotSquare ∷ NoSuchSize ∷ NotText ∷ NoSuchKind ∷ NotInMode ∷ NoSuchNumber ∷
+    NoSuchSide ∷ NoFormat ∷ Damaged ∷ NotSpelled ∷ []
 
 -- the refusal of an answer, where it is one
 abbrev pub refusal_of : ℕ → Option Refusal
@@ -40,27 +42,11 @@ IsChosenAs m v l bytes s = IsLeastFrom m (Normal (pos 1)) l bytes v × IsSymbolA
 -- why bytes are refused at a level, where the least Normal version is chosen and the buffer has so much room
 abbrev pub IsAutomaticCause : ℕ → List ℕ → ℕ → Refusal → Type 0
 IsAutomaticCause level bytes room NoSuchLevel = level_named level ≡ None
-IsAutomaticCause level bytes room NoSuchVersion = ⊥
-IsAutomaticCause level bytes room LevelNotInVersion = ⊥
-IsAutomaticCause level bytes room TooLong = ⊥
-IsAutomaticCause level bytes room NoMode = ⊥
 IsAutomaticCause level bytes room NoRoom = (l : EcLevel) × ((level_named level ≡ Some l) × ((n : ℕ) → ¬ Holds (Normal (pos n)) l bytes))
 IsAutomaticCause level bytes room SmallBuffer =
     (l : EcLevel) × ((v : Version) × ((s : List Color) × ((level_named level ≡ Some l) × (IsChosenSymbol v l bytes s × (room < length s)))))
 IsAutomaticCause level bytes room OutOfMemory = ⊤
-IsAutomaticCause level bytes room NoSuchFormat = ⊥
-IsAutomaticCause level bytes room NotSquare = ⊥
-IsAutomaticCause level bytes room NoSuchSize = ⊥
-IsAutomaticCause level bytes room NotText = ⊥
-
--- what an error of the constructor of a version and level is told as, where level, version and limit were looked at before
-abbrev pub refusal_in : QrError → Refusal
-refusal_in UnsupportedCharacterSet = NoMode
-refusal_in InvalidVersion = LevelNotInVersion
-refusal_in error.OutOfMemory = OutOfMemory
-refusal_in DataTooLong = NoRoom
-refusal_in InvalidEciDesignator = NoRoom
-refusal_in InvalidCharacter = NoRoom
+IsAutomaticCause level bytes room refusal = ⊥
 
 -- why bytes are refused at a version and level, where the buffer has so much room.
 abbrev pub IsCauseIn : ℕ → ℕ → List ℕ → ℕ → Refusal → Type 0
@@ -77,10 +63,29 @@ IsCauseIn version level bytes room SmallBuffer =
     (l : EcLevel) × ((v : Version) × ((s : List Color)
     × ((level_named level ≡ Some l) × ((version_named version ≡ Some v) × (IsLeastSymbol v l bytes s × (room < length s))))))
 IsCauseIn version level bytes room OutOfMemory = ⊤
-IsCauseIn version level bytes room NoSuchFormat = ⊥
-IsCauseIn version level bytes room NotSquare = ⊥
-IsCauseIn version level bytes room NoSuchSize = ⊥
-IsCauseIn version level bytes room NotText = ⊥
+IsCauseIn version level bytes room refusal = ⊥
+
+-- one of the segments is refused in a version, the first that can be, and this is why
+abbrev pub IsSegmentCause : ℕ → List by_hand.Segment → Refusal → Type 0
+IsSegmentCause version segments refusal = (v : Version) × ((version_named version ≡ Some v) × IsFirstRefused v segments refusal)
+
+-- why all together are refused at a version and level, where the buffer has so much room
+abbrev pub IsJointCause : ℕ → ℕ → List by_hand.Segment → ℕ → Refusal → Type 0
+IsJointCause version level segments room NoSuchLevel = level_named level ≡ None
+IsJointCause version level segments room NoSuchVersion = version_named version ≡ None
+IsJointCause version level segments room LevelNotInVersion =
+    (l : EcLevel) × ((v : Version) × ((level_named level ≡ Some l) × ((version_named version ≡ Some v) × (has_level v l ≡ false))))
+IsJointCause version level segments room NoRoom =
+    (l : EcLevel) × ((v : Version) × ((level_named level ≡ Some l) × ((version_named version ≡ Some v) × (capacity v l < length (written_segments v segments)))))
+IsJointCause version level segments room SmallBuffer =
+    (l : EcLevel) × ((v : Version) × ((s : List Color)
+    × ((level_named level ≡ Some l) × ((version_named version ≡ Some v) × (IsSymbolOfSegments v l segments s × (room < length s))))))
+IsJointCause version level segments room OutOfMemory = ⊤
+IsJointCause version level segments room refusal = ⊥
+
+-- why segments are refused at a version and level, where the buffer has so much room
+abbrev pub IsSegmentsCause : ℕ → ℕ → List by_hand.Segment → ℕ → Refusal → Type 0
+IsSegmentsCause version level segments room refusal = IsSegmentCause version segments refusal ⊎ IsJointCause version level segments room refusal
 
 -- why a text is refused at a level, where the least Normal version is chosen and the buffer has so much room
 abbrev pub IsTextCause : Manner → ℕ → List ℕ → ℕ → Refusal → Type 0
@@ -91,13 +96,7 @@ IsTextCause m level bytes room NoRoom =
 IsTextCause m level bytes room SmallBuffer =
     (l : EcLevel) × ((v : Version) × ((s : List Color) × ((level_named level ≡ Some l) × (IsChosenAs m v l bytes s × (room < length s)))))
 IsTextCause m level bytes room OutOfMemory = ⊤
-IsTextCause m level bytes room NoSuchVersion = ⊥
-IsTextCause m level bytes room LevelNotInVersion = ⊥
-IsTextCause m level bytes room TooLong = ⊥
-IsTextCause m level bytes room NoMode = ⊥
-IsTextCause m level bytes room NoSuchFormat = ⊥
-IsTextCause m level bytes room NotSquare = ⊥
-IsTextCause m level bytes room NoSuchSize = ⊥
+IsTextCause m level bytes room refusal = ⊥
 
 -- a PNG file has no side of so many pixels
 abbrev pub IsNoPngSide : ℕ → Type 0
@@ -112,10 +111,14 @@ IsDrawingCause modules width zone scale format room NoSuchSize =
 IsDrawingCause modules width zone scale format room SmallBuffer =
     (f : Format) × ((bytes : List ℕ) × ((format_named format ≡ Some f) × (IsDrawn f modules width zone scale bytes × (room < length bytes))))
 IsDrawingCause modules width zone scale format room OutOfMemory = ⊤
-IsDrawingCause modules width zone scale format room NoSuchLevel = ⊥
-IsDrawingCause modules width zone scale format room NoSuchVersion = ⊥
-IsDrawingCause modules width zone scale format room LevelNotInVersion = ⊥
-IsDrawingCause modules width zone scale format room TooLong = ⊥
-IsDrawingCause modules width zone scale format room NoMode = ⊥
-IsDrawingCause modules width zone scale format room NoRoom = ⊥
-IsDrawingCause modules width zone scale format room NotText = ⊥
+IsDrawingCause modules width zone scale format room refusal = ⊥
+
+-- why modules are not read into a buffer of so much room
+abbrev pub IsReadingCause : List ℕ → ℕ → Refusal → Type 0
+IsReadingCause modules room NoSuchSide = HasNoVersion (colors_of modules)
+IsReadingCause modules room NoFormat = HasNoFormat (colors_of modules)
+IsReadingCause modules room Damaged = (block : ℕ) × HasDamagedBlock (colors_of modules) block
+IsReadingCause modules room NotSpelled = SpellsNothing (colors_of modules)
+IsReadingCause modules room SmallBuffer = (bytes : List ℕ) × (ReadsOnly (colors_of modules) bytes × (room < length bytes))
+IsReadingCause modules room OutOfMemory = ⊤
+IsReadingCause modules room refusal = ⊥

@@ -4,16 +4,19 @@ use Rattle.qrcode_types.specs.Colors.{color_of}
 use Rattle.qrcode_types.specs.declared.types.Color.{Color}
 use Rattle.qrcode_png.specs.Shown.{IsFileOf}
 use Rattle.qrcode_png.specs.declared.picture.Color as png
+use Rattle.qrcode_render.specs.Eps.{eps_text}
+use Rattle.qrcode_render.specs.Files.{pbm_file}
+use Rattle.qrcode_render.specs.declared.eps.Color as eps
 use Rattle.qrcode_render.specs.Layout.{Layout, layout}
 use Rattle.qrcode_render.specs.Picture.{picture}
 use Rattle.qrcode_render.specs.Texts.{dense_text, raw_bytes}
 use Rattle.qrcode_render.specs.Vectors.{svg_text, pic_text}
 use Rattle.goqlanis_c.specs.declared.drawing.Format.{Format}
-use Rattle.goqlanis_c.specs.declared.drawing.Format.TheVariants.{HalfBlocks, LightHalfBlocks, Svg, Pic, Grey, Png}
+use Rattle.goqlanis_c.specs.declared.drawing.Format.TheVariants.{HalfBlocks, LightHalfBlocks, Svg, Pic, Grey, Png, Eps, Pbm}
 
 -- the format of a number, in this order from 0 on
 abbrev pub format_named : ℕ → Option Format
-format_named n = slice_get (HalfBlocks ∷ LightHalfBlocks ∷ Svg ∷ Pic ∷ Grey ∷ Png ∷ []) n
+format_named n = slice_get (HalfBlocks ∷ LightHalfBlocks ∷ Svg ∷ Pic ∷ Grey ∷ Png ∷ Eps ∷ Pbm ∷ []) n
 
 -- bytes as modules: those that are not zero are dark
 abbrev pub colors_of : List ℕ → List Color
@@ -26,6 +29,10 @@ black = record { 0 = 0 ∷ 0 ∷ 0 ∷ 255 ∷ [] }
 abbrev pub white : png.Color
 white = record { 0 = 255 ∷ 255 ∷ 255 ∷ 255 ∷ [] }
 
+-- a grey of EPS
+abbrev pub eps_grey : ℕ → eps.Color
+eps_grey n = record { red = n; green = n; blue = n }
+
 -- bytes are the text of modules in a format, or their pixels, or a file that shows these
 abbrev pub IsDrawnIn : Format → Layout → List Color → List ℕ → Type 0
 IsDrawnIn HalfBlocks at modules bytes = bytes ≡ dense_text true false (picture at modules)
@@ -34,6 +41,8 @@ IsDrawnIn Svg at modules bytes = bytes ≡ svg_text at modules (codes "#000") (c
 IsDrawnIn Pic at modules bytes = bytes ≡ pic_text at modules
 IsDrawnIn Grey at modules bytes = bytes ≡ raw_bytes (0 ∷ []) (255 ∷ []) (picture at modules)
 IsDrawnIn Png at modules bytes = IsFileOf (picture at modules) black white None bytes
+IsDrawnIn Eps at modules bytes = bytes ≡ eps_text at modules (eps_grey 0) (eps_grey 255)
+IsDrawnIn Pbm at modules bytes = bytes ≡ pbm_file true false (picture at modules)
 
 -- the picture of modules of a width as bytes, with a quiet zone and a scale
 abbrev pub IsDrawn : Format → List ℕ → ℕ → ℕ → ℕ → List ℕ → Type 0

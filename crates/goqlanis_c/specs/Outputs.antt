@@ -10,6 +10,8 @@ use Rattle.goqlanis_c.specs.Answers.{IsChosenAs}
 use Rattle.goqlanis_c.specs.Drawings.{format_named, IsDrawn}
 use Rattle.goqlanis_c.specs.declared.drawing.Format.{Format}
 use Rattle.goqlanis_c.specs.Names.{level_named, version_named}
+use Rattle.goqlanis_c.specs.Segments.{IsSymbolOfSegments}
+use Rattle.goqlanis_c.specs.declared.segments.Segment.{Segment}
 use Rattle.goqlanis_c.specs.declared.symbols.Symbol.{Symbol}
 
 -- modules as bytes, a one for a dark one
@@ -47,6 +49,14 @@ pub record IsSymbolIn (version level : ℕ) (bytes old new : List ℕ) (symbol :
   pub asked_version : version_named version ≡ Some code.version
   pub asked_level : level_named level ≡ Some code.level
   pub least : IsLeastSymbol code.version code.level bytes code.modules
+  pub written : IsWritten code old new symbol
+
+-- the symbol of segments, of a version and level of these numbers, in buffers
+pub record IsSegmentsSymbol (version level : ℕ) (segments : List Segment) (old new : List ℕ) (symbol : Symbol) : Type 0 where
+  pub code : Code
+  pub asked_version : version_named version ≡ Some code.version
+  pub asked_level : level_named level ≡ Some code.level
+  pub made : IsSymbolOfSegments code.version code.level segments code.modules
   pub written : IsWritten code old new symbol
 
 -- a picture of modules, in a format of a number, at the beginning of a buffer, and its length

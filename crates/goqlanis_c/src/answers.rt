@@ -2,6 +2,9 @@
 
 ghost use Rattle.std.specs.Prelude.{◌≡◌, ◌≤◌, Some};
 ghost use Rattle.goqlanis_c.specs.Answers.{refusal_of};
+ghost use Rattle.goqlanis_c.specs.Segments.{refusal_in};
+
+use qrcode::types::QrError;
 
 /// Why a call refuses. Each refusal has one cause.
 #[derive(Clone, Copy, Debug, Drop, PartialEq, Eq)]
@@ -31,6 +34,20 @@ pub enum Refusal {
     NoSuchSize,
     /// The bytes are not UTF-8.
     NotText,
+    /// No kind of segment has the number.
+    NoSuchKind,
+    /// A segment's mode lacks one of its bytes.
+    NotInMode,
+    /// A character set has no number above 999,999, and an application none above 255.
+    NoSuchNumber,
+    /// No version has so many modules.
+    NoSuchSide,
+    /// No level and mask are within three bits of each copy of the format word.
+    NoFormat,
+    /// A block has too many wrong codewords.
+    Damaged,
+    /// The data bits are not segments and an end.
+    NotSpelled,
 }
 
 impl Refusal {
@@ -52,6 +69,30 @@ impl Refusal {
             Refusal::NotSquare => 10,
             Refusal::NoSuchSize => 11,
             Refusal::NotText => 12,
+            Refusal::NoSuchKind => 13,
+            Refusal::NotInMode => 14,
+            Refusal::NoSuchNumber => 15,
+            Refusal::NoSuchSide => 16,
+            Refusal::NoFormat => 17,
+            Refusal::Damaged => 18,
+            Refusal::NotSpelled => 19,
+        }
+    }
+}
+
+/// What an error is told as: of a push, or of a constructor whose version is valid and whose bytes are
+/// within the limit.
+impl From<QrError> for Refusal {
+    ghost from_gives = { λ e refusal. refusal ≡ refusal_in e };
+
+    fn from(error: QrError) -> Refusal {
+        match error {
+            QrError::UnsupportedCharacterSet => Refusal::NoMode,
+            QrError::InvalidVersion => Refusal::LevelNotInVersion,
+            QrError::OutOfMemory => Refusal::OutOfMemory,
+            QrError::DataTooLong => Refusal::NoRoom,
+            QrError::InvalidEciDesignator => Refusal::NoSuchNumber,
+            QrError::InvalidCharacter => Refusal::NotInMode,
         }
     }
 }

@@ -5,8 +5,9 @@ ghost use Rattle.qrcode_types.specs.declared.types.QrError.TheVariants.{OutOfMem
 ghost use Rattle.goqlanis_c.specs.Drawings.{format_named, colors_of, IsDrawn};
 
 use qrcode::render::image::Luma;
+use qrcode::render::pbm::Bit;
 use qrcode::render::unicode::Dense1x2;
-use qrcode::render::{Pixel, Renderer, pic, svg};
+use qrcode::render::{Pixel, Renderer, eps, pic, svg};
 use qrcode::types::{Color, QrResult};
 use std::alloc::Global;
 
@@ -25,6 +26,10 @@ pub enum Format {
     Grey,
     /// A PNG file, black on white.
     Png,
+    /// Encapsulated PostScript, a text, black on white, in which a pixel is a point.
+    Eps,
+    /// A PBM file.
+    Pbm,
 }
 
 /// The format of a number, in the order above from 0 on.
@@ -38,12 +43,14 @@ pub(crate) fn format_named(number: u32) -> Option<Format>
         3 => Some(Format::Pic),
         4 => Some(Format::Grey),
         5 => Some(Format::Png),
+        6 => Some(Format::Eps),
+        7 => Some(Format::Pbm),
         _ => None,
     }
 }
 
 // Bytes as modules.
-fn colors_of(alloc: Global, modules: &[u8]) -> QrResult<Vec<Color>>
+pub(crate) fn colors_of(alloc: Global, modules: &[u8]) -> QrResult<Vec<Color>>
     ensures value { IfOk result (λ colors. colors.items ≡ colors_of modules.now) }
     ensures memory { IsOkUnless result OutOfMemory }
 {
@@ -112,6 +119,15 @@ pub(crate) fn draw(
             Ok(image.into_raw())
         }
         Format::Png => Renderer::<qrcode_png::Color>::new(&colors, width, zone)
+            .module_size(scale)
+            .build(alloc),
+        Format::Eps => {
+            let text = Renderer::<eps::Color>::new(&colors, width, zone)
+                .module_size(scale)
+                .build(alloc)?;
+            Ok(text.into_bytes())
+        }
+        Format::Pbm => Renderer::<Bit>::new(&colors, width, zone)
             .module_size(scale)
             .build(alloc),
     }

@@ -2,7 +2,7 @@
 
 ghost use Rattle.std.specs.Prelude.{◌≡◌, ◌≢◌, ℕ, length, Some, IfOk, IfErr, IfSome, OnErr};
 ghost use Rattle.qrcode.specs.Acceptance.{IsChosenSymbol, IsLeastSymbol};
-ghost use Rattle.goqlanis_c.specs.Answers.{refusal_of, refusal_in, IsAutomaticCause, IsCauseIn};
+ghost use Rattle.goqlanis_c.specs.Answers.{refusal_of, IsAutomaticCause, IsCauseIn};
 ghost use Rattle.goqlanis_c.specs.Names.{level_named, version_named};
 ghost use Rattle.goqlanis_c.specs.Outputs.{IsAutomaticSymbol, IsSymbolIn};
 
@@ -110,20 +110,5 @@ fn in_version(alloc: Global, bytes: &[u8], version: u32, level: u32) -> Result<Q
     if bytes.len() > DATA_LIMIT {
         return Err(Refusal::TooLong);
     }
-    match QrCode::with_version(alloc, bytes, version, ec_level) {
-        Ok(code) => Ok(code),
-        Err(error) => Err(refusal_in(error)),
-    }
-}
-
-// Why a version and level that exist, each by itself, refuse bytes within the limit.
-fn refusal_in(error: QrError) -> Refusal
-    ensures value { result ≡ refusal_in error }
-{
-    match error {
-        QrError::UnsupportedCharacterSet => Refusal::NoMode,
-        QrError::InvalidVersion => Refusal::LevelNotInVersion,
-        QrError::OutOfMemory => Refusal::OutOfMemory,
-        _ => Refusal::NoRoom,
-    }
+    Ok(QrCode::with_version(alloc, bytes, version, ec_level)?)
 }

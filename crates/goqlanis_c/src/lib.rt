@@ -7,6 +7,8 @@ mod drawing;
 mod encoding;
 mod names;
 mod pictures;
+mod reading;
+mod segments;
 mod shape;
 mod symbols;
 mod texts;

@@ -15,7 +15,10 @@ use goqlanis_sys as sys;
 use std::fmt;
 use std::ops::Index;
 
+pub mod reading;
 pub mod render;
+
+pub use reading::{read, Reading, Unread};
 
 /// Why no symbol is made.
 #[derive(Clone, Copy, Debug, PartialEq, Eq)]
@@ -26,6 +29,10 @@ pub enum QrError {
     InvalidVersion,
     /// The data needs a mode that the version lacks.
     UnsupportedCharacterSet,
+    /// A character set has no number above 999,999.
+    InvalidEciDesignator,
+    /// The mode of a segment lacks one of its bytes.
+    InvalidCharacter,
     /// Memory was refused.
     OutOfMemory,
 }
@@ -36,6 +43,8 @@ impl fmt::Display for QrError {
             QrError::DataTooLong => "data too long",
             QrError::InvalidVersion => "invalid version",
             QrError::UnsupportedCharacterSet => "unsupported character set",
+            QrError::InvalidEciDesignator => "invalid ECI designator",
+            QrError::InvalidCharacter => "invalid character",
             QrError::OutOfMemory => "out of memory",
         })
     }
@@ -87,6 +96,46 @@ pub enum EcLevel {
     M,
     Q,
     H,
+}
+
+impl EcLevel {
+    fn named(number: u32) -> EcLevel {
+        [EcLevel::L, EcLevel::M, EcLevel::Q, EcLevel::H][number as usize]
+    }
+}
+
+/// A segment: bytes in a mode, or a header for what stands behind it.
+#[derive(Clone, Copy, Debug, PartialEq, Eq)]
+pub enum Segment<'a> {
+    /// Digits.
+    Numeric(&'a [u8]),
+    /// Digits, capitals, the space and `$%*+-./:`.
+    Alphanumeric(&'a [u8]),
+    /// Any bytes.
+    Byte(&'a [u8]),
+    /// Pairs of bytes of Shift JIS.
+    Kanji(&'a [u8]),
+    /// The number of the character set of what follows, below 1,000,000.
+    Eci(u32),
+    /// FNC1 in the first position, as GS1 wants it.
+    Fnc1First,
+    /// FNC1 in the second position, with the indicator of the application.
+    Fnc1Second(u8),
+}
+
+impl Segment<'_> {
+    fn given(&self) -> sys::goq_segment {
+        let (kind, number, bytes): (u32, u32, &[u8]) = match *self {
+            Segment::Numeric(bytes) => (sys::GOQ_NUMERIC, 0, bytes),
+            Segment::Alphanumeric(bytes) => (sys::GOQ_ALPHANUMERIC, 0, bytes),
+            Segment::Byte(bytes) => (sys::GOQ_BYTES, 0, bytes),
+            Segment::Kanji(bytes) => (sys::GOQ_KANJI, 0, bytes),
+            Segment::Eci(number) => (sys::GOQ_ECI, number, &[]),
+            Segment::Fnc1First => (sys::GOQ_FNC1_FIRST, 0, &[]),
+            Segment::Fnc1Second(application) => (sys::GOQ_FNC1_SECOND, u32::from(application), &[]),
+        };
+        sys::goq_segment { kind, number, bytes: bytes.as_ptr(), length: bytes.len() }
+    }
 }
 
 /// The colour of a module.
@@ -141,12 +190,31 @@ impl QrCode {
         })
     }
 
+    /// The symbol of segments, one behind the other, of a version and level.
+    ///
+    /// ```
+    /// use goqlanis::{EcLevel, QrCode, Segment, Version};
+    ///
+    /// let segments = [Segment::Eci(9), Segment::Byte(b"\xca\xfe\xe4\xe9\xea\xe1\xf2 QR")];
+    /// let code = QrCode::with_segments(&segments, Version::Normal(1), EcLevel::L)?;
+    /// assert_eq!(code.width(), 21);
+    /// # Ok::<(), goqlanis::QrError>(())
+    /// ```
+    pub fn with_segments(segments: &[Segment<'_>], version: Version, ec_level: EcLevel) -> QrResult<Self> {
+        let given: Vec<_> = segments.iter().map(Segment::given).collect();
+        Self::made(ec_level, |modules, known| unsafe {
+            sys::goq_encode_segments(given.as_ptr(), given.len(), version.number(), ec_level as u32, modules.as_mut_ptr(), modules.len(), known)
+        })
+    }
+
     fn made(ec_level: EcLevel, encode: impl FnOnce(&mut [u8], &mut sys::goq_symbol) -> u32) -> QrResult<Self> {
         let mut modules = vec![0; sys::GOQ_MODULES_MAX];
         let mut known = sys::goq_symbol::default();
         match encode(&mut modules, &mut known) {
             sys::GOQ_OK => {}
             sys::GOQ_NO_SUCH_VERSION | sys::GOQ_LEVEL_NOT_IN_VERSION => return Err(QrError::InvalidVersion),
+            sys::GOQ_NOT_IN_MODE => return Err(QrError::InvalidCharacter),
+            sys::GOQ_NO_SUCH_NUMBER => return Err(QrError::InvalidEciDesignator),
             sys::GOQ_NO_MODE => return Err(QrError::UnsupportedCharacterSet),
             sys::GOQ_OUT_OF_MEMORY => return Err(QrError::OutOfMemory),
             _ => return Err(QrError::DataTooLong),
@@ -198,3 +266,7 @@ impl Index<(usize, usize)> for QrCode {
         if self.modules[y * self.width + x] != 0 { &Color::Dark } else { &Color::Light }
     }
 }
+
+#[cfg(doctest)]
+#[doc = include_str!("../../../docs/RUST.md")]
+pub struct Page;

@@ -1,4 +1,4 @@
-//! Pictures of a symbol: half blocks, SVG, PIC, PNG and rows of grey pixels, drawn by the library.
+//! Pictures of a symbol: half blocks, SVG, PIC, EPS, PNG, PBM and rows of grey pixels, drawn by the library.
 use goqlanis_sys as sys;
 use std::marker::PhantomData;
 
@@ -61,6 +61,16 @@ pub mod png {
     pub struct Color;
 }
 
+pub mod eps {
+    /// An Encapsulated PostScript text, black on white.
+    pub struct Color;
+}
+
+pub mod pbm {
+    /// The bytes of a PBM file.
+    pub struct Bit;
+}
+
 /// Rows of pixels, a byte each.
 pub struct Luma;
 
@@ -72,6 +82,8 @@ pixel!(unicode::Dense1x2, String, 1, |inverted| if inverted { sys::GOQ_LIGHT_HAL
 pixel!(svg::Color, String, 8, |_inverted| sys::GOQ_SVG, |bytes| text(bytes));
 pixel!(pic::Color, String, 8, |_inverted| sys::GOQ_PIC, |bytes| text(bytes));
 pixel!(png::Color, Vec<u8>, 8, |_inverted| sys::GOQ_PNG, |bytes| bytes);
+pixel!(eps::Color, String, 8, |_inverted| sys::GOQ_EPS, |bytes| text(bytes));
+pixel!(pbm::Bit, Vec<u8>, 8, |_inverted| sys::GOQ_PBM, |bytes| bytes);
 pixel!(Luma, Vec<u8>, 8, |_inverted| sys::GOQ_GREY, |bytes| bytes);
 
 /// Draws a symbol as it is set.

@@ -1,5 +1,5 @@
-use goqlanis::render::{pic, png, svg, unicode, Luma};
-use goqlanis::{Color, EcLevel, QrCode, QrError, Version};
+use goqlanis::render::{eps, pbm, pic, png, svg, unicode, Luma};
+use goqlanis::{read, Color, EcLevel, QrCode, QrError, Segment, Unread, Version};
 
 #[test]
 fn symbols() {
@@ -39,5 +39,29 @@ fn pictures() {
     assert!(code.render::<unicode::Dense1x2>().dark_color(light).light_color(dark).build().starts_with('█'));
     assert!(code.render::<svg::Color>().build().starts_with("<?xml"));
     assert!(code.render::<png::Color>().build().starts_with(b"\x89PNG\r\n\x1a\n"));
+    assert!(code.render::<eps::Color>().build().starts_with("%!PS-Adobe-3.0 EPSF-3.0\n"));
+    assert!(code.render::<pbm::Bit>().module_size(1).build().starts_with(b"P4\n17 17\n"));
     assert!(code.render::<pic::Color>().build().starts_with("maxpswid"));
+}
+
+#[test]
+fn segments() {
+    let segments = [Segment::Eci(26), Segment::Byte("é".as_bytes()), Segment::Numeric(b"123")];
+    assert_eq!(QrCode::with_segments(&segments, Version::Normal(1), EcLevel::M).unwrap().width(), 21);
+    let refused = |segment: Segment<'_>| QrCode::with_segments(&[segment], Version::Normal(1), EcLevel::M).unwrap_err();
+    assert_eq!(refused(Segment::Numeric(b"12a")), QrError::InvalidCharacter);
+    assert_eq!(refused(Segment::Eci(1_000_000)), QrError::InvalidEciDesignator);
+    assert_eq!(refused(Segment::Byte(&[0; 15])), QrError::DataTooLong);
+    assert_eq!(QrCode::with_segments(&[Segment::Fnc1First], Version::Micro(4), EcLevel::M).unwrap_err(), QrError::UnsupportedCharacterSet);
+}
+
+#[test]
+fn readings() {
+    let code = QrCode::with_version(b"01234567", Version::Micro(2), EcLevel::L).unwrap();
+    let found = read(&code.to_colors()).unwrap();
+    assert_eq!((found.data, found.version, found.ec_level, found.wrong), (b"01234567".to_vec(), Version::Micro(2), EcLevel::L, 0));
+    assert_eq!(read(&[Color::Dark; 440]).unwrap_err(), Unread::NoSuchSide);
+    assert_eq!(read(&[Color::Dark; 441]).unwrap_err(), Unread::NoFormat);
+    let header = QrCode::with_segments(&[Segment::Fnc1First, Segment::Numeric(b"0109501101530003")], Version::Normal(1), EcLevel::M).unwrap();
+    assert_eq!(read(&header.to_colors()).unwrap_err(), Unread::NotSpelled);
 }
