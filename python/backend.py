@@ -11,7 +11,7 @@ import zipfile
 from pathlib import Path
 
 HERE = Path(__file__).resolve().parent
-NAME, VERSION = "goqlanis", "0.1.0"
+NAME, VERSION = "goqlanis", "1.0.0"
 TAG = "py3-none-linux_x86_64"
 INFO = f"{NAME}-{VERSION}.dist-info"
 METADATA = f"""Metadata-Version: 2.1

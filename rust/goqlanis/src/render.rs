@@ -1,4 +1,4 @@
-//! Pictures of a symbol: half blocks, SVG, PIC, EPS, PNG, PBM and rows of grey pixels, drawn by the library.
+//! Pictures of a symbol: characters, half blocks, SVG, PIC, EPS, PNG, PBM and rows of grey pixels, drawn by the library.
 use goqlanis_sys as sys;
 use std::marker::PhantomData;
 
@@ -18,7 +18,7 @@ pub trait Pixel: sealed::Sealed {
     fn format(inverted: bool) -> u32;
 
     #[doc(hidden)]
-    fn image(bytes: Vec<u8>) -> Self::Image;
+    fn image(bytes: Vec<u8>, across: usize, chars: (char, char)) -> Self::Image;
 }
 
 macro_rules! pixel {
@@ -30,7 +30,7 @@ macro_rules! pixel {
             fn format($inverted: bool) -> u32 {
                 $format
             }
-            fn image($bytes: Vec<u8>) -> $image {
+            fn image($bytes: Vec<u8>, _across: usize, _chars: (char, char)) -> $image {
                 $made
             }
         }
@@ -86,6 +86,23 @@ pixel!(eps::Color, String, 8, |_inverted| sys::GOQ_EPS, |bytes| text(bytes));
 pixel!(pbm::Bit, Vec<u8>, 8, |_inverted| sys::GOQ_PBM, |bytes| bytes);
 pixel!(Luma, Vec<u8>, 8, |_inverted| sys::GOQ_GREY, |bytes| bytes);
 
+impl sealed::Sealed for char {}
+
+/// A character a pixel, and a newline between two rows.
+impl Pixel for char {
+    type Image = String;
+    const SCALE: u32 = 1;
+
+    fn format(_inverted: bool) -> u32 {
+        sys::GOQ_GREY
+    }
+
+    fn image(bytes: Vec<u8>, across: usize, (dark, light): (char, char)) -> String {
+        let line = |row: &[u8]| row.iter().map(|grey| if *grey == 0 { dark } else { light }).collect::<String>();
+        bytes.chunks(across).map(line).collect::<Vec<_>>().join("\n")
+    }
+}
+
 /// Draws a symbol as it is set.
 pub struct Renderer<'a, P> {
     modules: &'a [u8],
@@ -94,12 +111,13 @@ pub struct Renderer<'a, P> {
     whole_zone: u32,
     scale: u32,
     inverted: bool,
+    chars: (char, char),
     pixel: PhantomData<P>,
 }
 
 impl<'a, P: Pixel> Renderer<'a, P> {
     pub(crate) fn new(modules: &'a [u8], width: usize, zone: u32) -> Self {
-        Renderer { modules, width, zone, whole_zone: zone, scale: P::SCALE, inverted: false, pixel: PhantomData }
+        Renderer { modules, width, zone, whole_zone: zone, scale: P::SCALE, inverted: false, chars: ('\u{2588}', ' '), pixel: PhantomData }
     }
 
     /// Switches the quiet zone on or off.
@@ -127,7 +145,7 @@ impl<'a, P: Pixel> Renderer<'a, P> {
             sys::goq_draw(self.modules.as_ptr(), self.modules.len(), width, self.zone, self.scale, format, bytes.as_mut_ptr(), bytes.len(), &mut count)
         };
         assert_eq!(drawn, sys::GOQ_OK, "memory was refused");
-        P::image(bytes)
+        P::image(bytes, ((width + 2 * self.zone) * self.scale) as usize, self.chars)
     }
 }
 
@@ -141,6 +159,20 @@ impl Renderer<'_, unicode::Dense1x2> {
     /// What stands for light modules; dark ones get the other.
     pub fn light_color(&mut self, color: unicode::Dense1x2) -> &mut Self {
         self.inverted = color == unicode::Dense1x2::Dark;
+        self
+    }
+}
+
+impl Renderer<'_, char> {
+    /// The character of dark pixels.
+    pub fn dark_color(&mut self, color: char) -> &mut Self {
+        self.chars.0 = color;
+        self
+    }
+
+    /// The character of light pixels.
+    pub fn light_color(&mut self, color: char) -> &mut Self {
+        self.chars.1 = color;
         self
     }
 }

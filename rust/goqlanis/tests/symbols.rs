@@ -37,6 +37,10 @@ fn pictures() {
     assert_eq!(code.render::<unicode::Dense1x2>().build().lines().count(), 9);
     let (dark, light) = (unicode::Dense1x2::Dark, unicode::Dense1x2::Light);
     assert!(code.render::<unicode::Dense1x2>().dark_color(light).light_color(dark).build().starts_with('█'));
+    let chars = code.render::<char>().quiet_zone(false).dark_color('#').light_color('.').build();
+    assert_eq!(chars.lines().map(|line| line.len()).collect::<Vec<_>>(), [13; 13]);
+    assert!(chars.starts_with("#######.#.#.#\n#.....#."));
+    assert!(code.render::<char>().module_size(2).build().starts_with(&format!("{}\n", " ".repeat(34))));
     assert!(code.render::<svg::Color>().build().starts_with("<?xml"));
     assert!(code.render::<png::Color>().build().starts_with(b"\x89PNG\r\n\x1a\n"));
     assert!(code.render::<eps::Color>().build().starts_with("%!PS-Adobe-3.0 EPSF-3.0\n"));
