@@ -19,3 +19,5 @@ mod rows;
 mod symbols;
 #[cfg(test)]
 mod texts;
+#[cfg(test)]
+mod uses;

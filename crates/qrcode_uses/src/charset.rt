@@ -26,8 +26,11 @@ pub fn greek_symbol(alloc: Global, text: &[u8]) -> QrResult<String>
     code.to_debug_str(alloc, '#', '.')
 }
 
-// The bits of a Greek text, with their terminator.
-pub(crate) fn greek_bits(alloc: Global, text: &[u8]) -> QrResult<Bits>
+/// The bits of a Greek text, with their terminator, in Normal 1 at level L.
+///
+/// `DataTooLong`: they do not hold the text, which they do to 16 bytes. `OutOfMemory`: memory was
+/// refused.
+pub fn greek_bits(alloc: Global, text: &[u8]) -> QrResult<Bits>
     ensures version { IfOk result (λ bits. bits.version ≡ Normal (pos 1)) }
     ensures bits { IfOk result (λ bits. bits.bits ≡ greek_bits text.now) }
     ensures accepts { length text.now ≤ 16 → IsOkUnless result OutOfMemory }

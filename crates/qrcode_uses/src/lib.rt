@@ -6,7 +6,5 @@ pub mod drawings;
 pub mod label;
 pub mod payment;
 pub mod plain;
-#[cfg(test)]
-mod tests;
 pub mod texts;
 pub mod ticket;

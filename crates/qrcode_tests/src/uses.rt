@@ -1,13 +1,13 @@
 //! Each use once, its answers taken from outside.
 
-use crate::charset::{greek_bits, greek_symbol};
-use crate::drawings::{as_chars, as_grey_map, as_half_blocks, as_pairs, as_pic, as_svg};
-use crate::label::{Bar, label_bars};
-use crate::payment::{Payment, payment_picture};
-use crate::ticket::ticket_blocks;
-use crate::{plain, texts};
 use qrcode::types::{QrError, QrResult};
 use qrcode::{EcLevel, QrCode, Version};
+use qrcode_uses::charset::{greek_bits, greek_symbol};
+use qrcode_uses::drawings::{as_chars, as_grey_map, as_half_blocks, as_pairs, as_pic, as_svg};
+use qrcode_uses::label::{Bar, label_bars};
+use qrcode_uses::payment::{Payment, payment_picture};
+use qrcode_uses::ticket::ticket_blocks;
+use qrcode_uses::{plain, texts};
 use std::alloc::Global;
 use std::process::Abort;
 use std::test::Fail;
@@ -144,36 +144,71 @@ fn plain_calls_draw(rt: HostRuntime) -> Result<(), Fail> {
     let (svg, text) = plain::text(alloc)?;
     assert!(rt; svg.contains("viewBox=\"0 0 203 203\""));
     assert_eq!(rt; text.split('\n').count(), 15);
+    assert_eq!(rt; plain::greek(alloc)?.width(), 21);
+    Ok(())
+}
+
+#[test]
+fn plain_calls_draw_within_sides(rt: HostRuntime) -> Result<(), Fail> {
+    let alloc = rt.alloc();
     assert!(rt; plain::payment(alloc)?.contains("viewBox=\"0 0 231 231\""));
     assert_eq!(rt; plain::ticket(alloc)?.split('\n').count(), 9);
-    assert_eq!(rt; plain::greek(alloc)?.width(), 21);
-    assert_eq!(rt; plain::chars(alloc)?.split('\n').count(), 29);
-    assert_eq!(rt; plain::texts(alloc)?.len(), 29 * 59 - 1);
-    assert!(rt; plain::svg_text(alloc)?.contains("viewBox=\"0 0 232 232\""));
-    assert!(rt; plain::pic_text(alloc)?.contains("p(4,4,1,1)\n"));
-    assert_eq!(rt; plain::greys(alloc)?.len(), 53_839);
-    assert_eq!(rt; plain::colors(alloc)?.dimensions(), (203, 203));
     assert!(rt; plain::within(alloc)?.contains("viewBox=\"0 0 290 290\""));
     Ok(())
 }
 
 #[test]
+fn plain_calls_draw_texts(rt: HostRuntime) -> Result<(), Fail> {
+    let alloc = rt.alloc();
+    assert_eq!(rt; plain::chars(alloc)?.split('\n').count(), 29);
+    assert_eq!(rt; plain::texts(alloc)?.len(), 29 * 59 - 1);
+    assert!(rt; plain::svg_text(alloc)?.contains("viewBox=\"0 0 232 232\""));
+    assert!(rt; plain::pic_text(alloc)?.contains("p(4,4,1,1)\n"));
+    Ok(())
+}
+
+#[test]
+fn plain_calls_draw_pixels(rt: HostRuntime) -> Result<(), Fail> {
+    let alloc = rt.alloc();
+    assert_eq!(rt; plain::greys(alloc)?.len(), 53_839);
+    assert_eq!(rt; plain::colors(alloc)?.dimensions(), (203, 203));
+    Ok(())
+}
+
+static CITY: &str = "Z\u{fc}rich";
+
+static GREETING: &str = "\u{3053}\u{3093}\u{306b}\u{3061}\u{306f}\u{4e16}\u{754c}";
+
+#[test]
 fn texts_make_symbols(rt: HostRuntime) -> Result<(), Fail> {
     let alloc = rt.alloc();
-    let (city, greeting) = (
-        "Z\u{fc}rich",
-        "\u{3053}\u{3093}\u{306b}\u{3061}\u{306f}\u{4e16}\u{754c}",
-    );
-    assert_eq!(rt; texts::sign(alloc, greeting)?.width(), 25);
-    assert_eq!(rt; texts::marked_sign(alloc, city)?.width(), 21);
-    assert_eq!(rt; texts::small_label(alloc, city)?.width(), 25);
-    assert_eq!(rt; texts::small_marked_label(alloc, city)?.width(), 25);
-    assert_eq!(rt; texts::smallest(alloc, city)?.version(), Version::Micro(3));
-    let safest = texts::smallest_and_safest(alloc, city)?;
+    assert_eq!(rt; texts::sign(alloc, GREETING)?.width(), 25);
+    assert_eq!(rt; texts::marked_sign(alloc, CITY)?.width(), 21);
+    assert_eq!(rt; texts::small_label(alloc, CITY)?.width(), 25);
+    assert_eq!(rt; texts::small_marked_label(alloc, CITY)?.width(), 25);
+    Ok(())
+}
+
+#[test]
+fn smallest_symbols_of_texts_are_made(rt: HostRuntime) -> Result<(), Fail> {
+    let alloc = rt.alloc();
+    assert_eq!(rt; texts::smallest(alloc, CITY)?.version(), Version::Micro(3));
+    let safest = texts::smallest_and_safest(alloc, CITY)?;
     assert_eq!(rt; safest.error_correction_level(), EcLevel::M);
-    assert_eq!(rt; texts::mask_of(&safest).micro_number(), 3);
+    Ok(())
+}
+
+#[test]
+fn dark_modules_are_counted(rt: HostRuntime) -> Result<(), Fail> {
+    let safest = texts::smallest_and_safest(rt.alloc(), CITY)?;
     assert!(rt; texts::count_of_dark(&safest) < 225);
+    Ok(())
+}
+
+#[test]
+fn lists_make_symbols(rt: HostRuntime) -> Result<(), Fail> {
+    let alloc = rt.alloc();
     assert_eq!(rt; texts::bytes_in_normal_5(alloc, b"\xca\xfe")?.width(), 37);
-    assert_eq!(rt; texts::in_two_parts(alloc, city, greeting)?.width(), 33);
+    assert_eq!(rt; texts::in_two_parts(alloc, CITY, GREETING)?.width(), 33);
     Ok(())
 }
