@@ -1,38 +1,72 @@
 -- The words of the code for columns, place by place.
-use Rattle.std.proofs.Common.{◌≡◌, ℕ, zero, suc, ◌+◌, ◌-◌, ◌*◌, ◌^◌, ◌<◌, ◌≤◌, Bool, true, false, not, ◌&&◌, ◌||◌, List, refl, ap, ap₂, ◌∙◌, arith, count_ones, if◌then◌else◌, bit_and, bit_or, bit_xor, add_assoc, slice_index_or, length, le-leb}
+use Rattle.std.proofs.Common.{◌≡◌, ℕ, zero, suc, ◌+◌, ◌-◌, ◌*◌, ◌^◌, ◌<◌, ◌≤◌, Bool, true, false, not, ◌&&◌, ◌||◌, List, refl, ap, ap₂, sym, ◌∙◌, arith, count_ones, if◌then◌else◌, bit_and, bit_or, bit_xor, add_assoc, slice_index_or, length, le-leb}
 use Rattle.std.proofs.lemmas.List.{get_or_past}
+use Rattle.std.proofs.lemmas.Nat.{or_lt}
 use Rattle.qrcode_packed.specs.Rows.{is_set}
 use Rattle.qrcode_packed.proofs.Places.{differ, has_and, has_or, has_xor, has_without, has_zero, has_above}
-use Rattle.qrcode_penalty.specs.Penalty.{sum_below, is_run, run_penalty_at, same, begins_run, finder_penalty_at, is_finder_like, is_light_from}
+use Rattle.qrcode_penalty.specs.Penalty.{sum_below, count_if, is_run, run_penalty_at, same, begins_run, finder_penalty_at, is_finder_like, is_light_from}
 use Rattle.qrcode_penalty.proofs.Finders.{pad, four, finder_at}
 use Rattle.qrcode_packed.specs.Rows.{dark_in, FitsWidth}
-use Rattle.qrcode_penalty.specs.Padding.{padded_row}
-use Rattle.qrcode_penalty.proofs.Sums.{run_places, weigh_places}
+use Rattle.qrcode_penalty.specs.Padding.{padded_row, is_lone_form}
+use Rattle.qrcode_penalty.proofs.Sums.{sum_same, sum_plus, weigh_places}
 use Rattle.qrcode_penalty.proofs.Lines.{without, without_at, without_above, not_same}
 
-column_test : (a b c d e : Bool) → not ((differ a b || differ a c) || (differ a d || differ a e)) ≡ (same a a && (same a b && (same a c && (same a d && (same a e && true)))))
-column_test true true true true true = refl
-column_test true true true true false = refl
-column_test true true true false e = refl
-column_test true true false d e = refl
-column_test true false c d e = refl
-column_test false false false false false = refl
-column_test false false false false true = refl
-column_test false false false true e = refl
-column_test false false true d e = refl
-column_test false true c d e = refl
+upper_test : (a b c d e : Bool) → not (((differ b c || differ c d) || differ d e) || differ a b) ≡ (same a a && (same a b && (same a c && (same a d && (same a e && true)))))
+upper_test true true true true true = refl
+upper_test true true true true false = refl
+upper_test true true true false true = refl
+upper_test true true true false false = refl
+upper_test true true false true e = refl
+upper_test true true false false true = refl
+upper_test true true false false false = refl
+upper_test true false true d e = refl
+upper_test true false false true e = refl
+upper_test true false false false true = refl
+upper_test true false false false false = refl
+upper_test false true true true true = refl
+upper_test false true true true false = refl
+upper_test false true true false e = refl
+upper_test false true false d e = refl
+upper_test false false true true true = refl
+upper_test false false true true false = refl
+upper_test false false true false e = refl
+upper_test false false false true e = refl
+upper_test false false false false true = refl
+upper_test false false false false false = refl
+
+lower_test : (a b c d e : Bool) → not (((differ a b || differ b c) || differ c d) || differ d e) ≡ (same a a && (same a b && (same a c && (same a d && (same a e && true)))))
+lower_test true true true true true = refl
+lower_test true true true true false = refl
+lower_test true true true false e = refl
+lower_test true true false d e = refl
+lower_test true false c d e = refl
+lower_test false false false false false = refl
+lower_test false false false false true = refl
+lower_test false false false true e = refl
+lower_test false false true d e = refl
+lower_test false true c d e = refl
 
 -- the row of a place
 abbrev pub row : List ℕ → ℕ → ℕ
 row rows y = slice_index_or rows y 0
 
--- the words of column_runs
-abbrev pub unlike : List ℕ → ℕ → ℕ
-unlike rows y = bit_or (bit_or (bit_xor (row rows y) (row rows (y + 1))) (bit_xor (row rows y) (row rows (y + 2)))) (bit_or (bit_xor (row rows y) (row rows (y + 3))) (bit_xor (row rows y) (row rows (y + 4))))
+pub or_fits : (n a b w : ℕ) → w ≡ bit_or a b → FitsWidth n a → FitsWidth n b → FitsWidth n w
+or_fits n a b w e h k = rw e (or_lt n a b h k)
 
-unlike_at : (rows : List ℕ) (y x : ℕ) → not (is_set (unlike rows y) x) ≡ is_run (dark_in rows x) y 5
+-- the words of two_column_runs
+abbrev pub change : List ℕ → ℕ → ℕ
+change rows y = bit_xor (row rows y) (row rows (y + 1))
+
+abbrev pub inner : List ℕ → ℕ → ℕ
+inner rows y = bit_or (bit_or (change rows (y + 1)) (change rows (y + 2))) (change rows (y + 3))
+
+pub upper_at : (rows : List ℕ) (y x : ℕ) → not (is_set (bit_or (inner rows y) (change rows y)) x) ≡ is_run (dark_in rows x) y 5
 unfolding dark_in
-unlike_at rows y x = simp (has_or, has_xor, add_assoc) (column_test (is_set (row rows y) x) (is_set (row rows (y + 1)) x) (is_set (row rows (y + 2)) x) (is_set (row rows (y + 3)) x) (is_set (row rows (y + 4)) x))
+upper_at rows y x = simp (has_or, has_xor, add_assoc) (upper_test (is_set (row rows y) x) (is_set (row rows (y + 1)) x) (is_set (row rows (y + 2)) x) (is_set (row rows (y + 3)) x) (is_set (row rows (y + 4)) x))
+
+pub lower_at : (rows : List ℕ) (y x : ℕ) → not (is_set (bit_or (inner rows y) (change rows (y + 4))) x) ≡ is_run (dark_in rows x) (y + 1) 5
+unfolding dark_in
+lower_at rows y x = simp (has_or, has_xor, add_assoc) (lower_test (is_set (row rows (y + 1)) x) (is_set (row rows (y + 2)) x) (is_set (row rows (y + 3)) x) (is_set (row rows (y + 4)) x) (is_set (row rows (y + 5)) x))
 
 pub changes_in : (rows : List ℕ) (y x : ℕ) → 0 < y → is_set (bit_xor (row rows (y - 1)) (row rows y)) x ≡ begins_run (dark_in rows x) y
 unfolding dark_in
@@ -41,19 +75,17 @@ changes_in rows (suc y) x h =
     let e : suc y - 1 ≡ y = omega arith in
     ap (λ i. is_set (bit_xor (row rows i) (row rows (suc y))) x) e ∙ has_xor (row rows y) (row rows (suc y)) x ∙ not_same (is_set (row rows y) x) (is_set (row rows (suc y)) x)
 
-abbrev pub column_windows : List ℕ → ℕ → ℕ → ℕ
-column_windows rows y n = without (2 ^ n - 1) (unlike rows y)
+pub changes_next : (rows : List ℕ) (y x : ℕ) → is_set (change rows y) x ≡ begins_run (dark_in rows x) (y + 1)
+changes_next rows y x =
+    let e : y + 1 - 1 ≡ y = omega arith in
+    ap (λ i. is_set (bit_xor (row rows i) (row rows (y + 1))) x) (sym e) ∙ changes_in rows (y + 1) x (omega arith)
 
-pub column_runs_of : (rows : List ℕ) (y n changes : ℕ) → ((x : ℕ) → x < n → is_set changes x ≡ begins_run (dark_in rows x) y) →
-    count_ones (column_windows rows y n) + 2 * count_ones (bit_and (column_windows rows y n) changes) ≡ sum_below n (λ x. run_penalty_at (dark_in rows x) y)
+-- what windows cost by the words that tell which are of two colours and which begin their run
+pub column_runs_of : (rows : List ℕ) (y n mixed begun : ℕ) → ((x : ℕ) → not (is_set mixed x) ≡ is_run (dark_in rows x) y 5) → ((x : ℕ) → x < n → is_set begun x ≡ begins_run (dark_in rows x) y) →
+    sum_below n (λ x. count_if (not (is_set mixed x)) (if is_set begun x then 3 else 1)) ≡ sum_below n (λ x. run_penalty_at (dark_in rows x) y)
 unfolding run_penalty_at
-column_runs_of rows y n changes starts =
-    run_places (column_windows rows y n) (bit_and (column_windows rows y n) changes) n (λ x. run_penalty_at (dark_in rows x) y) (λ x. is_run (dark_in rows x) y 5) (λ x. begins_run (dark_in rows x) y)
-    (λ x h. without_at n (unlike rows y) x h ∙ unlike_at rows y x)
-    (λ x h. without_above n (unlike rows y) x h)
-    (λ x h. has_and (column_windows rows y n) changes x ∙ ap₂ (λ (a b : Bool). a && b) (without_at n (unlike rows y) x h ∙ unlike_at rows y x) (starts x h))
-    (λ x h. has_and (column_windows rows y n) changes x ∙ ap (λ a. a && is_set changes x) (without_above n (unlike rows y) x h))
-    (λ x h. refl)
+column_runs_of rows y n mixed begun windows starts =
+    sum_same _ _ n (λ x h. ap₂ (λ (a b : Bool). count_if a (if b then 3 else 1)) (windows x) (starts x h))
 
 -- the words of column_finders
 padded_at : (rows : List ℕ) (x k : ℕ) → is_set (padded_row rows k) x ≡ pad (dark_in rows x) k
@@ -111,9 +143,48 @@ outside_light : (rows : List ℕ) (x n : ℕ) → length rows ≡ n → (j : ℕ
 unfolding dark_in
 outside_light rows x n e j h = ap (λ a. is_set a x) (get_or_past rows j 0 (omega arith)) ∙ has_zero x
 
+pub lone_form_at : (rows : List ℕ) (x y n : ℕ) → length rows ≡ n → is_set (column_forms rows y) x ≡ is_lone_form n (dark_in rows x) y
+lone_form_at rows x y n e = column_form_at rows x y ∙ finder_at (dark_in rows x) n (outside_light rows x n e) y
+
+pub lone_form_beside : (rows : List ℕ) (x y n : ℕ) → FitsWidth n (row rows y) → n ≤ x → is_set (column_forms rows y) x ≡ false
+lone_form_beside rows x y n within h =
+    column_form_at rows x y ∙ ap (λ t. (((((t && dark_in rows x (y + 2)) && (dark_in rows x (y + 4) && dark_in rows x (y + 6))) && dark_in rows x (y + 3)) && not (dark_in rows x (y + 1) || dark_in rows x (y + 5))) && not (four (pad (dark_in rows x)) y && four (pad (dark_in rows x)) (y + 11)))) (beside rows y x n within h)
+
 pub column_finders_of : (rows : List ℕ) (y n : ℕ) → length rows ≡ n → FitsWidth n (row rows y) → 40 * count_ones (column_forms rows y) ≡ sum_below n (λ x. finder_penalty_at n (dark_in rows x) y)
 unfolding finder_penalty_at
 column_finders_of rows y n e within =
-    weigh_places 40 (column_forms rows y) (λ x. is_finder_like (dark_in rows x) y && (is_light_from n (dark_in rows x) (y - 4) (y - (y - 4)) || is_light_from n (dark_in rows x) (y + 7) 4)) n
-    (λ x h. column_form_at rows x y ∙ finder_at (dark_in rows x) n (outside_light rows x n e) y)
-    (λ x h. column_form_at rows x y ∙ ap (λ t. (((((t && dark_in rows x (y + 2)) && (dark_in rows x (y + 4) && dark_in rows x (y + 6))) && dark_in rows x (y + 3)) && not (dark_in rows x (y + 1) || dark_in rows x (y + 5))) && not (four (pad (dark_in rows x)) y && four (pad (dark_in rows x)) (y + 11)))) (beside rows y x n within h))
+    weigh_places 40 (column_forms rows y) (λ x. is_lone_form n (dark_in rows x) y) n
+    (λ x h. lone_form_at rows x y n e)
+    (λ x h. lone_form_beside rows x y n within h)
+
+-- two forms do not begin in places next to each other
+or_none : (b : Bool) → count_if (b || false) 40 ≡ count_if b 40 + 0
+or_none true = refl
+or_none false = refl
+
+none_or : (b : Bool) → count_if b 40 ≡ 0 + count_if b 40
+none_or true = refl
+none_or false = refl
+
+apart_test : (a b c d e f g p h i j k l m q : Bool) → count_if ((a && not b && c && d && e && f && g && p) || (b && h && i && j && k && l && m && q)) 40 ≡ count_if (a && not b && c && d && e && f && g && p) 40 + count_if (b && h && i && j && k && l && m && q) 40
+apart_test true true c d e f g p h i j k l m q = none_or (h && i && j && k && l && m && q)
+apart_test false true c d e f g p h i j k l m q = none_or (h && i && j && k && l && m && q)
+apart_test a false c d e f g p h i j k l m q = or_none (a && true && c && d && e && f && g && p)
+
+pub two_apart : (n : ℕ) (line : ℕ → Bool) (i : ℕ) → count_if (is_lone_form n line i || is_lone_form n line (i + 1)) 40 ≡ finder_penalty_at n line i + finder_penalty_at n line (i + 1)
+unfolding is_finder_like finder_penalty_at
+two_apart n line i =
+    apart_test (line i) (line (i + 1)) (line (i + 2)) (line (i + 3)) (line (i + 4)) (not (line (i + 5))) (line (i + 6)) (is_light_from n line (i - 4) (i - (i - 4)) || is_light_from n line (i + 7) 4)
+    (not (line (i + 1 + 1))) (line (i + 1 + 2)) (line (i + 1 + 3)) (line (i + 1 + 4)) (not (line (i + 1 + 5))) (line (i + 1 + 6)) (is_light_from n line (i + 1 - 4) (i + 1 - (i + 1 - 4)) || is_light_from n line (i + 1 + 7) 4)
+
+-- the forms of two rows, counted as one
+pub two_forms_of : (rows : List ℕ) (y n a b : ℕ) →
+    ((x : ℕ) → is_set a x ≡ is_lone_form n (dark_in rows x) y) → ((x : ℕ) → n ≤ x → is_set a x ≡ false) →
+    ((x : ℕ) → is_set b x ≡ is_lone_form n (dark_in rows x) (y + 1)) → ((x : ℕ) → n ≤ x → is_set b x ≡ false) →
+    40 * count_ones (bit_or a b) ≡ sum_below n (λ x. finder_penalty_at n (dark_in rows x) y) + sum_below n (λ x. finder_penalty_at n (dark_in rows x) (y + 1))
+two_forms_of rows y n a b at_a beside_a at_b beside_b =
+    weigh_places 40 (bit_or a b) (λ x. is_lone_form n (dark_in rows x) y || is_lone_form n (dark_in rows x) (y + 1)) n
+    (λ x h. has_or a b x ∙ ap₂ (λ (p q : Bool). p || q) (at_a x) (at_b x))
+    (λ x h. has_or a b x ∙ ap₂ (λ (p q : Bool). p || q) (beside_a x h) (beside_b x h))
+    ∙ sum_same _ (λ x. finder_penalty_at n (dark_in rows x) y + finder_penalty_at n (dark_in rows x) (y + 1)) n (λ x h. two_apart n (dark_in rows x) y)
+    ∙ sum_plus (λ x. finder_penalty_at n (dark_in rows x) y) (λ x. finder_penalty_at n (dark_in rows x) (y + 1)) n

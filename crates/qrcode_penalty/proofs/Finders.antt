@@ -3,10 +3,10 @@ use Rattle.std.proofs.Common.{◌≡◌, ℕ, zero, suc, ◌+◌, ◌-◌, ◌*�
 use Rattle.std.proofs.lemmas.Nat.{or_lt, and_le_r, pow_below}
 use Rattle.std.proofs.Math.Pow.{pow_mono}
 use Rattle.qrcode_packed.specs.Rows.{is_set}
-use Rattle.qrcode_packed.proofs.Places.{has_and, has_or, has_without, has_shr, has_shl, has_shl_below, has_above}
+use Rattle.qrcode_packed.proofs.Places.{differ, has_and, has_or, has_xor, has_without, has_shr, has_shl, has_shl_below, has_above}
 use Rattle.qrcode_penalty.specs.Penalty.{is_finder_like, finder_penalty_at, finder_penalty, is_light_from}
 use Rattle.qrcode_penalty.proofs.Sums.{weigh_places}
-use Rattle.qrcode_penalty.proofs.Lines.{without, finder_test, fits_up}
+use Rattle.qrcode_penalty.proofs.Lines.{without, edges, and_false, finder_test, fits_up}
 
 -- a line with four light places put before it
 abbrev pub pad : (ℕ → Bool) → ℕ → Bool
@@ -100,17 +100,19 @@ fours a = bit_or (twos a) (twos a * 2 ^ 2)
 abbrev pub crowded : ℕ → ℕ
 crowded a = bit_and (fours a) (fours a / 2 ^ 11) * 2 ^ 1
 
-abbrev pub ends : ℕ → ℕ
-ends a = bit_and a (a / 2 ^ 2)
+-- where the next place is of the other colour, and the one behind it of the same again
+abbrev pub turns : ℕ → ℕ
+turns a = bit_and (edges a) (edges a / 2 ^ 1)
 
-abbrev pub darks : ℕ → ℕ
-darks a = bit_and (bit_and (ends a) (ends a / 2 ^ 4)) (a / 2 ^ 3)
+-- the dark places from whose second next on three are alike
+abbrev pub middles : ℕ → ℕ
+middles a = without a (bit_or (edges a) (edges a / 2 ^ 1) / 2 ^ 2)
 
-abbrev pub lights : ℕ → ℕ
-lights a = bit_or (a / 2 ^ 1) (a / 2 ^ 5)
+abbrev pub shapes : ℕ → ℕ
+shapes a = bit_and (bit_and (turns a) (turns a / 2 ^ 4)) (middles a)
 
 abbrev pub forms : ℕ → ℕ
-forms a = without (without (darks a) (lights a)) (crowded a)
+forms a = without (shapes a) (crowded a)
 
 or_turn : (a b c d : Bool) → ((a || b) || (c || d)) ≡ ((d || c) || (b || a))
 or_turn true b c true = refl
@@ -159,15 +161,32 @@ crowded_at a (suc k) =
     (fours_at a k ∙ ap (four (pad (is_set a))) (sym e))
     (has_shr (fours a) 11 k ∙ fours_at a (k + 11) ∙ ap (four (pad (is_set a))) f)
 
-darks_at : (a k : ℕ) → is_set (darks a) k ≡ (((is_set a k && is_set a (k + 2)) && (is_set a (k + 4) && is_set a (k + 6))) && is_set a (k + 3))
-darks_at a k = simp (has_and, has_shr, add_assoc)
+shape_test : (a b c d e f g : Bool) → ((differ a b && differ b c) && (differ e f && differ f g)) && (a && not (differ c d || differ d e)) ≡ (((a && c) && (e && g)) && d) && not (b || f)
+shape_test false b c d e f g = and_false ((differ false b && differ b c) && (differ e f && differ f g))
+shape_test true true c d e f g = sym (and_false (((true && c) && (e && g)) && d))
+shape_test true false false d e f g = refl
+shape_test true false true true true true true = refl
+shape_test true false true true true true false = refl
+shape_test true false true true true false true = refl
+shape_test true false true true true false false = refl
+shape_test true false true true false true true = refl
+shape_test true false true true false true false = refl
+shape_test true false true true false false true = refl
+shape_test true false true true false false false = refl
+shape_test true false true false true true true = refl
+shape_test true false true false true true false = refl
+shape_test true false true false true false true = refl
+shape_test true false true false true false false = refl
+shape_test true false true false false true true = refl
+shape_test true false true false false true false = refl
+shape_test true false true false false false true = refl
+shape_test true false true false false false false = refl
+
+shapes_at : (a k : ℕ) → is_set (shapes a) k ≡ ((((is_set a k && is_set a (k + 2)) && (is_set a (k + 4) && is_set a (k + 6))) && is_set a (k + 3)) && not (is_set a (k + 1) || is_set a (k + 5)))
+shapes_at a k = simp (has_and, has_without, has_or, has_xor, has_shr, add_assoc) (shape_test (is_set a k) (is_set a (k + 1)) (is_set a (k + 2)) (is_set a (k + 3)) (is_set a (k + 4)) (is_set a (k + 5)) (is_set a (k + 6)))
 
 forms_at : (a k : ℕ) → is_set (forms a) k ≡ ((((((is_set a k && is_set a (k + 2)) && (is_set a (k + 4) && is_set a (k + 6))) && is_set a (k + 3)) && not (is_set a (k + 1) || is_set a (k + 5))) && not (four (pad (is_set a)) k && four (pad (is_set a)) (k + 11))))
-forms_at a k =
-    has_without (without (darks a) (lights a)) (crowded a) k
-    ∙ ap₂ (λ (x y : Bool). x && not y)
-    (has_without (darks a) (lights a) k ∙ ap₂ (λ (x y : Bool). x && not y) (darks_at a k) (has_or (a / 2 ^ 1) (a / 2 ^ 5) k ∙ ap₂ (λ (x y : Bool). x || y) (has_shr a 1 k) (has_shr a 5 k)))
-    (crowded_at a k)
+forms_at a k = has_without (shapes a) (crowded a) k ∙ ap₂ (λ (x y : Bool). x && not y) (shapes_at a k) (crowded_at a k)
 
 forms_above : (a n k : ℕ) → a < 2 ^ n → n - 6 ≤ k → is_set (forms a) k ≡ false
 forms_above a n k w h =

@@ -1,9 +1,9 @@
 //! What the columns of a square and its two by two modules cost: the columns lie side by side in the words of its rows.
 
-ghost use Rattle.std.specs.Prelude.{◌≡◌, ℕ, ◌+◌, ◌-◌, ◌*◌, ◌<◌, ◌≤◌, ◌^◌, bit_or};
-ghost use Rattle.qrcode_packed.specs.Rows.{is_set, dark_in};
-ghost use Rattle.qrcode_penalty.specs.Penalty.{run_penalty_at, finder_penalty_at, block_penalty, block_penalty_at, sum_below, begins_run};
-ghost use Rattle.qrcode_penalty.specs.Padding.{padded_row};
+ghost use Rattle.std.specs.Prelude.{◌≡◌, ℕ, ◌+◌, ◌-◌, ◌*◌, ◌<◌, ◌≤◌, ◌^◌, bit_or, bit_xor, false, not, slice_index_or, if◌then◌else◌};
+ghost use Rattle.qrcode_packed.specs.Rows.{FitsWidth, is_set, dark_in};
+ghost use Rattle.qrcode_penalty.specs.Penalty.{count_if, run_penalty_at, finder_penalty_at, block_penalty, block_penalty_at, sum_below, begins_run};
+ghost use Rattle.qrcode_penalty.specs.Padding.{padded_row, is_lone_form};
 
 use qrcode_packed::row::PackedRow;
 use qrcode_packed::square::PackedSquare;
@@ -12,13 +12,40 @@ use qrcode_packed::square::PackedSquare;
 #[inline(always)]
 fn begun_at<R: PackedRow>(square: &PackedSquare<'_, R>, y: usize) -> R
     requires { y < square.now.width }
-    ensures { (x : ℕ) → x < square.now.width
+    ensures shown { (x : ℕ) → x < square.now.width
         → is_set (R.bits result) x ≡ begins_run (dark_in square.now.rows x) y }
+    ensures fits { FitsWidth square.now.width (R.bits result) }
 {
     if y == 0 {
         return R::first(square.width());
     }
-    square.row(y - 1).xor(square.row(y))
+    changes(square, y - 1)
+}
+
+// Where row y and the next are of two colours.
+#[inline(always)]
+fn changes<R: PackedRow>(square: &PackedSquare<'_, R>, y: usize) -> R
+    requires { y + 1 < square.now.width }
+    ensures value { R.bits result
+        ≡ bit_xor (slice_index_or square.now.rows y 0) (slice_index_or square.now.rows (y + 1) 0) }
+    ensures fits { FitsWidth square.now.width (R.bits result) }
+{
+    let _width = square.width();
+    square.row(y).xor(square.row(y + 1))
+}
+
+// What the windows of five cost in the columns where they are not of two colours: 1, or 3 where a run begins.
+#[inline(always)]
+fn window_costs<R: PackedRow>(width: u32, mixed: R, begun: R) -> u32
+    requires room { width ≤ 189 }
+    requires mixed_fits { FitsWidth width (R.bits mixed) }
+    requires begun_fits { FitsWidth width (R.bits begun) }
+    ensures value { result ≡ sum_below width (λ x. count_if (not (is_set (R.bits mixed) x))
+        (if is_set (R.bits begun) x then 3 else 1)) }
+    ensures at_most { result ≤ 600 }
+{
+    // Each column counts 1; one that is mixed 2 - 3 more, and one whose run begins 2 more.
+    width + 2 * mixed.or(begun).count_ones() - 3 * mixed.count_ones()
 }
 
 // What the windows of five that begin in row y cost, over all columns.
@@ -30,12 +57,29 @@ fn column_runs<R: PackedRow>(square: &PackedSquare<'_, R>, y: usize) -> u32
     ensures at_most { result ≤ 600 }
 {
     let width = square.width();
-    let top = square.row(y);
-    let near = top.xor(square.row(y + 1)).or(top.xor(square.row(y + 2)));
-    let far = top.xor(square.row(y + 3)).or(top.xor(square.row(y + 4)));
-    let windows = R::first(width).without(near.or(far));
-    let begins = windows.and(begun_at(square, y));
-    windows.count_ones() + 2 * begins.count_ones()
+    let inner = changes(square, y + 1)
+        .or(changes(square, y + 2))
+        .or(changes(square, y + 3));
+    window_costs(width, inner.or(changes(square, y)), begun_at(square, y))
+}
+
+// The same of row y, which is not the first, and the next together: three changes are common to both.
+#[inline(always)]
+fn two_column_runs<R: PackedRow>(square: &PackedSquare<'_, R>, y: usize) -> u32
+    requires later { 0 < y }
+    requires inside { y + 5 < square.now.width }
+    ensures value { result ≡ sum_below square.now.width
+        (λ x. run_penalty_at (dark_in square.now.rows x) y) + sum_below square.now.width
+        (λ x. run_penalty_at (dark_in square.now.rows x) (y + 1)) }
+    ensures at_most { result ≤ 1200 }
+{
+    let width = square.width();
+    let first = changes(square, y);
+    let inner = changes(square, y + 1)
+        .or(changes(square, y + 2))
+        .or(changes(square, y + 3));
+    let upper = window_costs(width, inner.or(first), changes(square, y - 1));
+    upper + window_costs(width, inner.or(changes(square, y + 4)), first)
 }
 
 // The k-th row of a square with four light rows before it and light rows behind it.
@@ -50,6 +94,19 @@ fn padded_row<R: PackedRow>(square: &PackedSquare<'_, R>, k: usize) -> R
     R::first(0)
 }
 
+// Where one of the four rows from the k-th on is dark, all of which stand in the square: counted from four light rows
+// before the first, they end before row k.
+#[inline(always)]
+fn four_inside<R: PackedRow>(square: &PackedSquare<'_, R>, k: usize) -> R
+    requires at_least { 4 ≤ k }
+    requires at_most { k ≤ square.now.width }
+    ensures { let row = padded_row square.now.rows in R.bits result
+        ≡ bit_or (bit_or (row k) (row (k + 1))) (bit_or (row (k + 2)) (row (k + 3))) }
+{
+    let first = square.row(k - 4).or(square.row(k - 3));
+    first.or(square.row(k - 2).or(square.row(k - 1)))
+}
+
 // Where one of the four rows from the k-th on is dark, light rows being put around the square.
 #[inline(always)]
 fn four_rows<R: PackedRow>(square: &PackedSquare<'_, R>, k: usize) -> R
@@ -57,18 +114,13 @@ fn four_rows<R: PackedRow>(square: &PackedSquare<'_, R>, k: usize) -> R
     ensures { let row = padded_row square.now.rows in R.bits result
         ≡ bit_or (bit_or (row k) (row (k + 1))) (bit_or (row (k + 2)) (row (k + 3))) }
 {
-    let width = square.width();
-    if k >= 4 && k < width as usize {
-        let first = square.row(k - 4).or(square.row(k - 3));
-        return first.or(square.row(k - 2).or(square.row(k - 1)));
-    }
     let first = padded_row(square, k).or(padded_row(square, k + 1));
     let second = padded_row(square, k + 2).or(padded_row(square, k + 3));
     first.or(second)
 }
 
-// What the finder forms that begin in row y cost, over all columns.
-#[inline(always)]
+// What the finder forms that begin in row y cost, over all columns. Not inlined: most rows are counted two at a time.
+#[inline(never)]
 fn column_finders<R: PackedRow>(square: &PackedSquare<'_, R>, y: usize) -> u32
     requires { y + 6 < square.now.width }
     ensures value { result ≡ sum_below square.now.width
@@ -88,6 +140,44 @@ fn column_finders<R: PackedRow>(square: &PackedSquare<'_, R>, y: usize) -> u32
     40 * forms.without(crowded).count_ones()
 }
 
+// Where finder forms begin in row y that have four light rows before them or after them, when all these rows stand in
+// the square.
+#[inline(always)]
+fn lone_forms<R: PackedRow>(square: &PackedSquare<'_, R>, y: usize) -> R
+    requires at_least { 4 ≤ y }
+    requires inside { y + 10 < square.now.width }
+    ensures shown { (x : ℕ) → is_set (R.bits result) x
+        ≡ is_lone_form square.now.width (dark_in square.now.rows x) y }
+    ensures beside { (x : ℕ) → square.now.width ≤ x → is_set (R.bits result) x ≡ false }
+{
+    let _width = square.width();
+    let upper = square.row(y).and(square.row(y + 2));
+    let ends = upper.and(square.row(y + 4).and(square.row(y + 6)));
+    let dark = ends.and(square.row(y + 3));
+    let light = square.row(y + 1).or(square.row(y + 5));
+    let crowded_rows = four_inside(square, y).and(four_inside(square, y + 11));
+    dark.without(light).without(crowded_rows)
+}
+
+// What the finder forms that begin in row y and the next cost: of two in one column, one at most begins there, so that
+// one count is enough.
+#[inline(always)]
+fn two_column_finders<R: PackedRow>(square: &PackedSquare<'_, R>, y: usize) -> u32
+    requires { y + 7 < square.now.width }
+    ensures value { result ≡ sum_below square.now.width
+        (λ x. finder_penalty_at square.now.width (dark_in square.now.rows x) y)
+        + sum_below square.now.width
+        (λ x. finder_penalty_at square.now.width (dark_in square.now.rows x) (y + 1)) }
+    ensures at_most { result ≤ 16000 }
+{
+    let width = square.width();
+    if 4 <= y && y + 11 < width as usize {
+        let forms = lone_forms(square, y).or(lone_forms(square, y + 1));
+        return 40 * forms.count_ones();
+    }
+    column_finders(square, y) + column_finders(square, y + 1)
+}
+
 // 3 for each two by two modules of one colour between row y and the next.
 #[inline(always)]
 fn blocks_below<R: PackedRow>(square: &PackedSquare<'_, R>, y: usize) -> u32
@@ -104,30 +194,38 @@ fn blocks_below<R: PackedRow>(square: &PackedSquare<'_, R>, y: usize) -> u32
     3 * R::first(width - 1).without(mixed).count_ones()
 }
 
-/// What the runs of all columns cost, by the rows in which their windows begin.
-#[tactic(auto, using(crate::proofs::Sums::sum_step), unfolding(crate::specs::Penalty::sum_below))]
+/// What the runs of all columns cost, by the rows in which their windows begin, two rows at a time behind the first.
+#[tactic(auto, using(crate::proofs::Sums::sum_step, crate::proofs::Sums::sum_two), unfolding(crate::specs::Penalty::sum_below))]
 pub(crate) fn column_run_penalties<R: PackedRow>(square: &PackedSquare<'_, R>) -> u32
     ensures value { result ≡ sum_below (square.now.width - 4)
         (λ y. sum_below square.now.width (λ x. run_penalty_at (dark_in square.now.rows x) y)) }
     ensures at_most { result ≤ 10000 * square.now.width }
 {
-    let mut total = 0;
-    for y in 0..square.width() as usize - 4 {
-        total += column_runs(square, y);
+    let count = square.width() as usize - 4;
+    let mut total = column_runs(square, 0);
+    for k in 0..(count - 1) / 2 {
+        total += two_column_runs(square, 2 * k + 1);
+    }
+    if count % 2 == 0 {
+        total += column_runs(square, count - 1);
     }
     total
 }
 
-/// What the finder forms of all columns cost, by the rows in which they begin.
-#[tactic(auto, using(crate::proofs::Sums::sum_step), unfolding(crate::specs::Penalty::sum_below))]
+/// What the finder forms of all columns cost, by the rows in which they begin, two rows at a time.
+#[tactic(auto, using(crate::proofs::Sums::sum_step, crate::proofs::Sums::sum_two), unfolding(crate::specs::Penalty::sum_below))]
 pub(crate) fn column_finder_penalties<R: PackedRow>(square: &PackedSquare<'_, R>) -> u32
     ensures value { let width = square.now.width in result ≡ sum_below (width - 6)
         (λ y. sum_below width (λ x. finder_penalty_at width (dark_in square.now.rows x) y)) }
     ensures at_most { result ≤ 10000 * square.now.width }
 {
+    let count = square.width() as usize - 6;
     let mut total = 0;
-    for y in 0..square.width() as usize - 6 {
-        total += column_finders(square, y);
+    for k in 0..count / 2 {
+        total += two_column_finders(square, 2 * k);
+    }
+    if count % 2 == 1 {
+        total += column_finders(square, count - 1);
     }
     total
 }

@@ -32,18 +32,18 @@ pub(crate) fn finder_penalty<R: PackedRow>(row: R, width: u32) -> u32
     ensures value { result ≡ finder_penalty width (is_set (R.bits row)) }
     ensures at_most { result ≤ 8000 }
 {
-    let ends = row.and(row.down(2));
-    let dark = ends.and(ends.down(4)).and(row.down(3));
-    let light = row.down(1).or(row.down(5));
-    let forms = dark.without(light);
-    if forms.count_ones() == 0 {
-        return 0;
-    }
+    let edges = row.xor(row.down(1));
+    let next = edges.down(1);
+    // Where the colour changes from this column to the next, and back behind it.
+    let turns = edges.and(next);
+    // The dark columns from whose second next on three are alike.
+    let middles = row.without(edges.or(next).down(2));
+    let shapes = turns.and(turns.down(4)).and(middles);
     // The columns with a dark module among themselves and the three before.
     let twos = row.or(row.up(1));
     let fours = twos.or(twos.up(2));
     let crowded = fours.and(fours.down(11)).up(1);
-    40 * forms.without(crowded).count_ones()
+    40 * shapes.without(crowded).count_ones()
 }
 
 // What row y costs as a line.

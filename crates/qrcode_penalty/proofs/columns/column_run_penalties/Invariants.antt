@@ -1,7 +1,7 @@
-use Rattle.std.proofs.Common.{◌≡◌, ◌≤◌, ◌*◌}
+use Rattle.std.proofs.Common.{◌≡◌, ◌≤◌, ◌+◌, ◌*◌}
 use Rattle.qrcode_packed.specs.Rows.{dark_in}
 use Rattle.qrcode_penalty.specs.Penalty.{sum_below, run_penalty_at}
 use Rattle.qrcode_penalty.proofs.columns.column_run_penalties.Given as goal
 
-abbrev pub invariant-loop-y : goal.invariant-loop-y
-invariant-loop-y g l = record { value : l.total ≡ sum_below l.y (λ y. sum_below l.square.width (λ x. run_penalty_at (dark_in l.square.rows x) y)); at_most : l.total ≤ 10000 * l.y }
+abbrev pub invariant-loop-k : goal.invariant-loop-k
+invariant-loop-k g l = record { value : l.total ≡ sum_below (2 * l.k + 1) (λ y. sum_below l.square.width (λ x. run_penalty_at (dark_in l.square.rows x) y)); at_most : l.total ≤ 10000 * (2 * l.k + 1) }

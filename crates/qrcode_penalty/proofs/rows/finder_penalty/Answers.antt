@@ -1,6 +1,6 @@
-use Rattle.std.proofs.Common.{◌≡◌, ◌*◌, ◌/◌, ◌^◌, count_ones, ap, sym, ◌∙◌, arith, bit_and}
-use Rattle.qrcode_penalty.proofs.Lines.{fits_up, without, none_left}
-use Rattle.qrcode_penalty.proofs.Finders.{finders_of, forms, darks, lights, crowded, twos, fours, twos_room, crowded_room}
+use Rattle.std.proofs.Common.{◌≡◌, ◌*◌, ◌/◌, ◌^◌, count_ones, ap, ◌∙◌, arith, bit_and}
+use Rattle.qrcode_penalty.proofs.Lines.{fits_up}
+use Rattle.qrcode_penalty.proofs.Finders.{finders_of, forms, twos, fours, twos_room, crowded_room}
 use Rattle.qrcode_penalty.proofs.rows.finder_penalty.Goals as goal
 
 pub up-requires-clause-fits : goal.up-requires-clause-fits
@@ -16,20 +16,12 @@ pub up-crowded-requires-clause-fits : goal.up-crowded-requires-clause-fits
 up-crowded-requires-clause-fits g c =
     let row = g.R.PackedRow.bits c.args.row in
     let word : g.R.PackedRow.bits c.and-2.result ≡ bit_and (fours row) (fours row / 2 ^ 11) =
-    simp (c.and-2.ensures, c.down-6.ensures, c.or-fours.ensures, c.up-2.ensures, c.or-twos.ensures, c.up.ensures) in
+    simp (c.and-2.ensures, c.down-4.ensures, c.or-fours.ensures, c.up-2.ensures, c.or-twos.ensures, c.up.ensures) in
     rw word (crowded_room row c.args.width g.R.PackedRow.room c.requires.room c.requires.fits)
-
-pub returns-then-count_ones-eq0-clause-value : goal.returns-then-count_ones-eq0-clause-value
-returns-then-count_ones-eq0-clause-value g c =
-    let row = g.R.PackedRow.bits c.args.row in
-    let word : g.R.PackedRow.bits c.without-forms.result ≡ without (darks row) (lights row) =
-    simp (c.without-forms.ensures, c.or-light.ensures, c.down-5.ensures, c.down-4.ensures, c.and-dark.ensures, c.down-3.ensures, c.and.ensures, c.down-2.ensures, c.and-ends.ensures, c.down.ensures) in
-    let none : count_ones (forms row) ≡ 0 = none_left (without (darks row) (lights row)) (crowded row) (ap count_ones (sym word) ∙ sym c.count_ones.ensures.value ∙ c.if-count_ones-eq0.true) in
-    sym (ap (λ x. 40 * x) none) ∙ finders_of row c.args.width c.requires.fits
 
 pub returns-clause-value : goal.returns-clause-value
 returns-clause-value g c =
     let row = g.R.PackedRow.bits c.args.row in
     let word : g.R.PackedRow.bits c.without.result ≡ forms row =
-    simp (c.without.ensures, c.up-crowded.ensures, c.and-2.ensures, c.down-6.ensures, c.or-fours.ensures, c.up-2.ensures, c.or-twos.ensures, c.up.ensures, c.without-forms.ensures, c.or-light.ensures, c.down-5.ensures, c.down-4.ensures, c.and-dark.ensures, c.down-3.ensures, c.and.ensures, c.down-2.ensures, c.and-ends.ensures, c.down.ensures) in
-    ap (λ x. 40 * x) (c.count_ones-2.ensures.value ∙ ap count_ones word) ∙ finders_of row c.args.width c.requires.fits
+    simp (c.without.ensures, c.up-crowded.ensures, c.and-2.ensures, c.down-4.ensures, c.or-fours.ensures, c.up-2.ensures, c.or-twos.ensures, c.up.ensures, c.and-shapes.ensures, c.and.ensures, c.down-3.ensures, c.without-middles.ensures, c.down-2.ensures, c.or.ensures, c.and-turns.ensures, c.down-next.ensures, c.xor-edges.ensures, c.down.ensures) in
+    ap (λ x. 40 * x) (c.count_ones.ensures.value ∙ ap count_ones word) ∙ finders_of row c.args.width c.requires.fits
