@@ -4,7 +4,12 @@ pub mod ContactReading
 pub mod EntryReading
 pub mod EntryTexts
 pub mod Escaping
+pub mod GeoReading
 pub mod LineReading
+pub mod LinkReading
+pub mod LinkTexts
+pub mod MailReading
+pub mod OneTimeReading
 pub mod Passing
 pub mod PaymentReading
 pub mod PercentReading

@@ -1,5 +1,5 @@
 -- Checks that refuse nothing.
-use Rattle.std.proofs.Common.{◌≡◌, Bool, true, false, List, ◌∷◌, Option, Some, None, refl}
+use Rattle.std.proofs.Common.{◌≡◌, Bool, true, false, List, [], ◌∷◌, Option, Some, None, refl}
 use Rattle.qrcode_contents.specs.declared.errors.ContentError.{ContentError}
 use Rattle.qrcode_contents.specs.declared.errors.Field.{Field}
 use Rattle.qrcode_contents.specs.declared.errors.Cause.{Cause}
@@ -9,6 +9,16 @@ use Rattle.qrcode_contents.specs.Refusals.{refused_if, first_refusal}
 pub passes : (first : Option ContentError) (later : List (Option ContentError)) → first_refusal (first ∷ later) ≡ None → (first ≡ None) × (first_refusal later ≡ None)
 passes None later is = (refl, is)
 passes (Some e) later is = cc
+
+-- none of some checks refuses
+abbrev pub AllPass : List (Option ContentError) → Type 0
+AllPass [] = Unit {0}
+AllPass (check ∷ checks) = (check ≡ None) × AllPass checks
+
+-- where no check refuses, none of them does
+pub all_pass : (checks : List (Option ContentError)) → first_refusal checks ≡ None → AllPass checks
+all_pass [] is = tt
+all_pass (check ∷ checks) is = let first = passes check checks is in (first.0, all_pass checks first.1)
 
 -- a test that refuses nothing does not hold
 pub test_passes : (test : Bool) (field : Field) (cause : Cause) → refused_if test field cause ≡ None → test ≡ false

@@ -12,7 +12,8 @@ use Rattle.qrcode_contents.specs.Refusals.{refused_if}
 use Rattle.qrcode_contents.proofs.EntryReading.{both}
 use Rattle.qrcode_contents.proofs.Passing.{passes, test_passes}
 
-holds : (b : Bool) → not b ≡ false → b ≡ true
+-- a test whose denial does not hold
+pub holds : (b : Bool) → not b ≡ false → b ≡ true
 holds true is = refl
 holds false is = cc
 

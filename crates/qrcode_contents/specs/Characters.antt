@@ -1,5 +1,5 @@
 -- What characters fields have.
-use Rattle.std.specs.Prelude.{ℕ, nat_lt, ◌==◌, ◌&&◌, ◌||◌, Bool, List, map, Option}
+use Rattle.std.specs.Prelude.{ℕ, nat_lt, ◌==◌, ◌&&◌, ◌||◌, not, Bool, List, map, Option}
 use Rattle.std.specs.List.{list_any}
 use Rattle.qrcode_contents.specs.declared.errors.ContentError.{ContentError}
 use Rattle.qrcode_contents.specs.declared.errors.Field.{Field}
@@ -17,6 +17,10 @@ is_capital b = (nat_lt 47 b && nat_lt b 58) || (nat_lt 64 b && nat_lt b 91)
 -- a control character of ASCII
 abbrev pub is_control : ℕ → Bool
 is_control b = nat_lt b 32 || b == 127
+
+-- a control character that is neither a tab nor a line feed
+abbrev pub is_stray : ℕ → Bool
+is_stray b = is_control b && not (b == 9) && not (b == 10)
 
 -- the first field with a control character
 abbrev pub control_refusal : List (Field × List ℕ) → Option ContentError

@@ -4,8 +4,12 @@ pub mod Contact
 pub mod Entries
 pub mod EntryTests
 pub mod Escapes
+pub mod Geo
 pub mod Lines
+pub mod Links
+pub mod Mail
 pub mod Numbers
+pub mod OneTime
 pub mod Payment
 pub mod Percents
 pub mod Phone

@@ -4,7 +4,7 @@ ghost use Rattle.std.specs.Prelude.{◌≡◌, length};
 ghost use Rattle.std.specs.List.{list_all, list_any};
 ghost use Rattle.std.specs.Str.{chars};
 ghost use Rattle.qrcode_contents.specs.declared.errors.Cause.TheVariants.{ControlCharacter};
-ghost use Rattle.qrcode_contents.specs.Characters.{is_capital, is_control, is_digit};
+ghost use Rattle.qrcode_contents.specs.Characters.{is_capital, is_control, is_digit, is_stray};
 ghost use Rattle.qrcode_contents.specs.Refusals.{checked, refused_if};
 
 use crate::errors::{Cause, ContentResult, Field};
@@ -33,6 +33,14 @@ pub fn has_control(text: &str) -> bool
 {
     let bytes = text.as_bytes();
     bytes.iter().any(|byte| *byte < 32 || *byte == 127)
+}
+
+/// Whether a byte is a control character that is neither a tab nor a line feed.
+pub fn has_stray(text: &str) -> bool
+    ensures { result ≡ list_any is_stray text.now }
+{
+    let bytes = text.as_bytes();
+    bytes.iter().any(|byte| (*byte < 32 || *byte == 127) && *byte != b'\t' && *byte != b'\n')
 }
 
 /// How many characters the text has.

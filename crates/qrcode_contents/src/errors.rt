@@ -53,6 +53,20 @@ pub enum Field {
     Message,
     /// What is told beside a payment.
     Information,
+    /// The subject of a mail.
+    Subject,
+    /// Degrees north of the equator.
+    Latitude,
+    /// Degrees east of Greenwich.
+    Longitude,
+    /// The secret of one-time passwords.
+    Secret,
+    /// Who issues one-time passwords.
+    Issuer,
+    /// For which account they are.
+    Account,
+    /// How long one holds.
+    Period,
     /// The whole text.
     Whole,
 }

@@ -26,8 +26,9 @@ fn hex_digit(number: u8) -> u8
     }
 }
 
-// Appends a byte as it is, or as a percent sign and two digits.
-fn push_byte(text: &mut String, byte: u8) -> ContentResult<()>
+/// Appends a byte as it is, or as a percent sign and two digits. After `OutOfMemory` a part of it
+/// is appended.
+pub fn push_byte(text: &mut String, byte: u8) -> ContentResult<()>
     ensures appends { OnOk result (string_bytes text.new
         ≡ string_bytes text.old ++ encoded_byte byte) }
     ensures memory { IsOkUnless result OutOfMemory }

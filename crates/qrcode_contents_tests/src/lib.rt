@@ -4,6 +4,8 @@
 #[cfg(test)]
 mod contacts;
 #[cfg(test)]
+mod links;
+#[cfg(test)]
 mod networks;
 #[cfg(test)]
 mod payments;

@@ -1,6 +1,5 @@
-use Rattle.std.proofs.Common.{arith}
 use Rattle.qrcode_contents.proofs.PercentReading.{decoded-encoded}
 use Rattle.qrcode_contents.proofs.percents.push_encoded.Goals as goal
 
 pub returns-clause-reads : goal.returns-clause-reads
-returns-clause-reads c = decoded-encoded c.args.value.now (λ i. omega (arith, c.type_inv.value i))
+returns-clause-reads c = decoded-encoded c.args.value.now

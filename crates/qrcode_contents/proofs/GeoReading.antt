@@ -1,0 +1,202 @@
+-- The text of a place is read back.
+use Rattle.std.proofs.Common.{◌≡◌, ℕ, zero, suc, nat_lt, ◌+◌, ◌-◌, ◌*◌, ◌/◌, ◌%◌, ◌<◌, ◌^◌, ◌==◌, ◌||◌, List, [], ◌∷◌, ◌++◌, Bool, true, false, Some, None, decimal, ℤ, pos, negsuc, unsigned_abs, refl, ap, ap₂, ◌∙◌, sym, arith, append_assoc, append-nil, lit<, ⊎_elim, subst}
+use Rattle.std.specs.Int.{is_negative}
+use Rattle.std.specs.List.{list_any}
+use Rattle.std.specs.Str.Parse.{digits_value}
+use Rattle.std.proofs.Math.Nat.{pow-suc, div-mul-le_self, mul-le-mul_right}
+use Rattle.std.proofs.lemmas.Bool.{cases_lt}
+use Rattle.std.proofs.lemmas.Bool.Decides.{nat_tests}
+use Rattle.std.proofs.lemmas.List.Folds.{list_any-append}
+use Rattle.std.proofs.lemmas.Fmt.{decimal_by_steps, decimal_is_IsNumeral}
+use Rattle.qrcode_contents.specs.declared.errors.Field.TheVariants.{Latitude, Longitude}
+use Rattle.qrcode_contents.specs.declared.errors.Cause.TheVariants.{Range}
+use Rattle.qrcode_contents.specs.declared.geo.Place.{Place}
+use Rattle.qrcode_contents.specs.Geo.{place_checks, place_refusal, first_digit, fraction_digits, fraction_text, degrees_text, sign_text, coordinate_text, place_text, fraction_value, read_degrees, negative, read_coordinate, read_place}
+use Rattle.qrcode_contents.proofs.EntryReading.{neither}
+use Rattle.qrcode_contents.proofs.LinkReading.{HasNo, HasNo-append, before-at, after-at, before-none, after-none, none_of}
+use Rattle.qrcode_contents.proofs.Passing.{all_pass, test_passes}
+
+-- powers of ten below the sixth
+pub power_bounds : (k : ℕ) → k < 6 → (0 < 10 ^ k) × (10 ^ k < 2 ^ 32)
+power_bounds zero is = (lit< tt, lit< tt)
+power_bounds (suc zero) is = (lit< tt, lit< tt)
+power_bounds (suc (suc zero)) is = (lit< tt, lit< tt)
+power_bounds (suc (suc (suc zero))) is = (lit< tt, lit< tt)
+power_bounds (suc (suc (suc (suc zero)))) is = (lit< tt, lit< tt)
+power_bounds (suc (suc (suc (suc (suc zero))))) is = (lit< tt, lit< tt)
+power_bounds (suc (suc (suc (suc (suc (suc k)))))) is = absurd (omega arith)
+
+power_positive : (k : ℕ) → 0 < 10 ^ k
+power_positive zero = lit< tt
+power_positive (suc k) = let later = power_positive k in rw (pow-suc 10 k) (omega arith)
+
+-- a digit before a place
+pub digit_below : (n place : ℕ) → 0 < place → n < place * 10 → n / place < 10
+digit_below n place some small =
+    ⊎_elim
+    (λ low. low)
+    (λ high. let most = div-mul-le_self n place in let more = mul-le-mul_right place high in absurd (omega arith))
+    (cases_lt (n / place) 10)
+
+-- the digit of a number that is not zero
+pub some_first : (n place : ℕ) → (n ≡ 0 → ⊥) → first_digit n place ≡ (48 + n / place) ∷ []
+some_first n place other = let is : (n == 0) ≡ false = grind (arith, nat_tests) in rw is refl
+
+-- one more digit of a fraction
+pub fraction_step : (i rest place later : ℕ) (text more : List ℕ) → i < 6 → place ≡ 10 ^ (5 - i) → later ≡ rest % place → more ≡ text ++ first_digit rest place → more ++ fraction_digits (6 - (i + 1)) later ≡ text ++ fraction_digits (6 - i) rest
+fraction_step i rest place later text more inside is left pushed =
+    let now : 6 - i ≡ suc (5 - i) = omega arith in
+    let next : 6 - (i + 1) ≡ 5 - i = omega arith in
+    rw (now, next, pushed, left, is) (append_assoc text (first_digit rest (10 ^ (5 - i))) (fraction_digits (5 - i) (rest % 10 ^ (5 - i))))
+
+-- what is left behind a digit
+pub below_step : (i rest place later : ℕ) → i < 6 → place ≡ 10 ^ (5 - i) → later ≡ rest % place → later < 10 ^ (6 - (i + 1))
+below_step i rest place later inside is left =
+    let next : 6 - (i + 1) ≡ 5 - i = omega arith in
+    let some = (power_bounds (5 - i) (omega arith)).0 in
+    rw (next, left, is) (omega arith)
+
+-- zero has no digits
+digits_zero : (k : ℕ) → fraction_digits k 0 ≡ []
+digits_zero zero = refl
+digits_zero (suc k) = let p = power_positive k in let none : 0 % 10 ^ k ≡ 0 = omega arith in rw none (digits_zero k)
+
+zero_from : (n : ℕ) → (n == 0) ≡ true → n ≡ 0
+zero_from n is = grind (arith, nat_tests)
+
+-- a number that is not zero has a first digit
+some_digit : (k n : ℕ) → (n == 0) ≡ false → fraction_digits (suc k) n ≡ (48 + n / 10 ^ k) ∷ fraction_digits k (n % 10 ^ k)
+some_digit k n is = rw is refl
+
+value_by : (k n : ℕ) (none : Bool) → (n == 0) ≡ none → fraction_value k (fraction_digits k (n % 10 ^ k)) ≡ n % 10 ^ k → fraction_value (suc k) (fraction_digits (suc k) n) ≡ n
+value_by k n true is later =
+    let same = zero_from n is in
+    rw same (ap (fraction_value (suc k)) (digits_zero (suc k)))
+value_by k n false is later =
+    let p = power_positive k in
+    let back : 48 + n / 10 ^ k - 48 ≡ n / 10 ^ k = omega arith in
+    ap (fraction_value (suc k)) (some_digit k n is)
+    ∙ ap₂ (λ x y. x * 10 ^ k + y) back later
+    ∙ omega arith
+
+-- the digits of a fraction are read back
+fraction_read : (k n : ℕ) → n < 10 ^ k → fraction_value k (fraction_digits k n) ≡ n
+fraction_read zero n small = omega arith
+fraction_read (suc k) n small =
+    let p = power_positive k in
+    value_by k n (n == 0) refl (fraction_read k (n % 10 ^ k) (omega arith))
+
+-- no byte below the digits
+abbrev is_low : ℕ → Bool
+is_low b = nat_lt b 48
+
+abbrev IsHigh : List ℕ → Type 0
+IsHigh bytes = list_any is_low bytes ≡ false
+
+IsHigh-append : (xs ys : List ℕ) → IsHigh xs → IsHigh ys → IsHigh (xs ++ ys)
+IsHigh-append xs ys x y = list_any-append is_low xs ys ∙ ap₂ (λ a b. a || b) x y
+
+digit_high : (n : ℕ) → IsHigh ((48 + n) ∷ [])
+digit_high n = let no : is_low (48 + n) ≡ false = grind (arith, nat_tests) in ap (λ x. x || false) no
+
+IsHigh-decimal : (n : ℕ) → n < 2 ^ 64 → IsHigh (decimal n)
+IsHigh-decimal n fits = decimal_by_steps (λ m ds. IsHigh ds) (λ m small. digit_high m)
+    (λ m ds low is. IsHigh-append ds ((48 + m % 10) ∷ []) is (digit_high (m % 10))) n fits
+
+first_high : (n place : ℕ) (none : Bool) → (n == 0) ≡ none → IsHigh (first_digit n place)
+first_high n place true is = rw is refl
+first_high n place false is = rw is (digit_high (n / place))
+
+IsHigh-fraction : (k n : ℕ) → IsHigh (fraction_digits k n)
+IsHigh-fraction zero n = refl
+IsHigh-fraction (suc k) n =
+    IsHigh-append (first_digit n (10 ^ k)) (fraction_digits k (n % 10 ^ k)) (first_high n (10 ^ k) (n == 0) refl) (IsHigh-fraction k (n % 10 ^ k))
+
+low_no : (c b : ℕ) → c < 48 → is_low b ≡ false → (b == c) ≡ false
+low_no c b low is = grind (arith, nat_tests)
+
+-- digits are no marks
+HasNo-high : (c : ℕ) (bytes : List ℕ) → c < 48 → IsHigh bytes → HasNo c bytes
+HasNo-high c bytes low is = none_of is_low (λ b. b == c) (λ b above. low_no c b low above) bytes is
+
+point_is_not : (c : ℕ) → c < 46 → (46 == c) ≡ false
+point_is_not c low = grind (arith, nat_tests)
+
+some_fraction : (m : ℕ) → (m == 0) ≡ false → fraction_text m ≡ 46 ∷ fraction_digits 6 m
+some_fraction m other = rw other refl
+
+HasNo-fraction : (c n : ℕ) (none : Bool) → c < 46 → (n == 0) ≡ none → HasNo c (fraction_text n)
+HasNo-fraction c n true low is = rw is refl
+HasNo-fraction c n false low is =
+    subst (HasNo c) (sym (some_fraction n is)) (ap₂ (λ x y. x || y) (point_is_not c low) (HasNo-high c (fraction_digits 6 n) (omega arith) (IsHigh-fraction 6 n)))
+
+-- degrees have neither a comma nor a sign
+HasNo-degrees : (c n : ℕ) → c < 46 → n < 2 ^ 64 → HasNo c (degrees_text n)
+HasNo-degrees c n low fits =
+    HasNo-append c (decimal (n / 1000000)) (fraction_text (n % 1000000))
+    (HasNo-high c (decimal (n / 1000000)) (omega arith) (IsHigh-decimal (n / 1000000) (omega arith)))
+    (HasNo-fraction c (n % 1000000) (n % 1000000 == 0) low refl)
+
+degrees_by : (n : ℕ) (none : Bool) → (n % 1000000 == 0) ≡ none → n < 2 ^ 64 → read_degrees (degrees_text n) ≡ n
+unfolding read_degrees
+degrees_by n true is fits =
+    let whole : n / 1000000 < 2 ^ 64 = omega arith in
+    let exact = zero_from (n % 1000000) is in
+    let no_point = HasNo-high 46 (decimal (n / 1000000)) (lit< tt) (IsHigh-decimal (n / 1000000) whole) in
+    rw (is, append-nil (decimal (n / 1000000)), before-none 46 (decimal (n / 1000000)) no_point, after-none 46 (decimal (n / 1000000)) no_point, (decimal_is_IsNumeral (n / 1000000) whole).1) (omega arith)
+degrees_by n false is fits =
+    let whole : n / 1000000 < 2 ^ 64 = omega arith in
+    let digits = fraction_digits 6 (n % 1000000) in
+    let no_point = HasNo-high 46 (decimal (n / 1000000)) (lit< tt) (IsHigh-decimal (n / 1000000) whole) in
+    let said : fraction_value 6 digits ≡ n % 1000000 = fraction_read 6 (n % 1000000) (omega arith) in
+    ap (λ t. read_degrees (decimal (n / 1000000) ++ t)) (some_fraction (n % 1000000) is)
+    ∙ ap₂ (λ xs ys. digits_value 10 xs * 1000000 + fraction_value 6 ys) (before-at 46 (decimal (n / 1000000)) digits no_point) (after-at 46 (decimal (n / 1000000)) digits no_point)
+    ∙ ap₂ (λ x y. x * 1000000 + y) (decimal_is_IsNumeral (n / 1000000) whole).1 said
+    ∙ omega arith
+
+no_sign_by : (b : ℕ) (text : List ℕ) (minus : Bool) → (b == 45) ≡ minus → minus ≡ false → read_coordinate (b ∷ text) ≡ pos (read_degrees (b ∷ text))
+unfolding read_coordinate
+no_sign_by b text true is other = cc
+no_sign_by b text false is other = rw is refl
+
+no_sign : (text : List ℕ) → HasNo 45 text → read_coordinate text ≡ pos (read_degrees text)
+unfolding read_coordinate read_degrees
+no_sign [] is = refl
+no_sign (b ∷ text) is =
+    let parts = neither (b == 45) (list_any (λ x. x == 45) text) is in no_sign_by b text (b == 45) refl parts.0
+
+sign_none : (n : ℕ) → sign_text (pos n) ≡ []
+sign_none n = let not_below : is_negative (pos n) ≡ false = grind (arith, nat_tests) in rw not_below refl
+
+-- degrees with their sign are read back
+coordinate_read : (z : ℤ) → unsigned_abs z < 2 ^ 64 → read_coordinate (coordinate_text z) ≡ z
+unfolding coordinate_text read_coordinate
+coordinate_read (pos n) fits =
+    ap (λ xs. read_coordinate (xs ++ degrees_text n)) (sign_none n)
+    ∙ no_sign (degrees_text n) (HasNo-degrees 45 n (lit< tt) fits)
+    ∙ ap pos (degrees_by n (n % 1000000 == 0) refl fits)
+coordinate_read (negsuc n) fits = ap negative (degrees_by (suc n) (suc n % 1000000 == 0) refl fits)
+
+HasNo-coordinate : (z : ℤ) → unsigned_abs z < 2 ^ 64 → HasNo 44 (coordinate_text z)
+unfolding coordinate_text
+HasNo-coordinate (pos n) fits =
+    HasNo-append 44 (sign_text (pos n)) (degrees_text n) (ap (list_any (λ b. b == 44)) (sign_none n)) (HasNo-degrees 44 n (lit< tt) fits)
+HasNo-coordinate (negsuc n) fits = HasNo-degrees 44 (suc n) (lit< tt) fits
+
+below_word : (most n : ℕ) → most < 2 ^ 63 → nat_lt most n ≡ false → n < 2 ^ 64
+below_word most n small is = grind (arith, nat_tests)
+
+same_place : (p : Place) (latitude longitude : ℤ) → latitude ≡ p.latitude → longitude ≡ p.longitude → (let q : Place = record { latitude = latitude; longitude = longitude } in q) ≡ p
+same_place p latitude longitude a b = rw (a, b) refl
+
+-- what is read is what was said
+pub place_read : (p : Place) → place_refusal p ≡ None → read_place (place_text p) ≡ Some p
+unfolding place_text read_place
+place_read p is =
+    let none = all_pass (place_checks p) is in
+    let north = below_word 90000000 (unsigned_abs p.latitude) (lit< tt) (test_passes (nat_lt 90000000 (unsigned_abs p.latitude)) Latitude Range none.0) in
+    let east = below_word 180000000 (unsigned_abs p.longitude) (lit< tt) (test_passes (nat_lt 180000000 (unsigned_abs p.longitude)) Longitude Range none.1.0) in
+    let comma = HasNo-coordinate p.latitude north in
+    ap Some (same_place p _ _
+    (ap read_coordinate (before-at 44 (coordinate_text p.latitude) (coordinate_text p.longitude) comma) ∙ coordinate_read p.latitude north)
+    (ap read_coordinate (after-at 44 (coordinate_text p.latitude) (coordinate_text p.longitude) comma) ∙ coordinate_read p.longitude east))

@@ -1,0 +1,31 @@
+-- The text of a mail is read back.
+use Rattle.std.proofs.Common.{◌≡◌, ℕ, List, None, Some, codes, refl, ap, ◌∙◌}
+use Rattle.std.specs.List.{list_any}
+use Rattle.qrcode_contents.specs.declared.errors.Field.TheVariants.{Subject, Message}
+use Rattle.qrcode_contents.specs.declared.errors.Cause.TheVariants.{ControlCharacter}
+use Rattle.qrcode_contents.specs.declared.links.Part.TheVariants.{Path}
+use Rattle.qrcode_contents.specs.Characters.{is_control, is_stray}
+use Rattle.qrcode_contents.specs.Links.{part_text}
+use Rattle.qrcode_contents.specs.Mail.{Letter, mail_checks, mail_refusal, mail_parameters, mail_text, read_mail}
+use Rattle.qrcode_contents.specs.Percents.{decoded}
+use Rattle.qrcode_contents.proofs.LinkReading.{HasNo-part, AreParameters, value_read, path_read, path_decoded, no_return, no_stray_return}
+use Rattle.qrcode_contents.proofs.Passing.{all_pass, test_passes}
+
+same_letter : (m : Letter) (address subject body : List ℕ) → address ≡ m.address → subject ≡ m.subject → body ≡ m.body → (let l : Letter = record { address = address; subject = subject; body = body } in l) ≡ m
+same_letter m address subject body a s b = rw (a, s, b) refl
+
+-- what is read is what was said
+pub mail_read : (m : Letter) → mail_refusal m ≡ None → read_mail (mail_text m) ≡ Some m
+unfolding mail_refusal
+mail_read m is =
+    let none = all_pass (mail_checks m) is in
+    let subject = no_return m.subject (test_passes (list_any is_control m.subject) Subject ControlCharacter none.1.1.0) in
+    let body = no_stray_return m.body (test_passes (list_any is_stray m.body) Message ControlCharacter none.1.1.1.0) in
+    let ps = mail_parameters m in
+    let are : AreParameters ps = (refl, refl, subject, (refl, refl, body, tt)) in
+    let path = part_text Path m.address in
+    let no_mark = HasNo-part 63 Path m.address refl in
+    ap Some (same_letter m _ _ _
+    (ap decoded (path_read path ps no_mark) ∙ path_decoded m.address)
+    (value_read (codes "subject") path ps no_mark are refl refl)
+    (value_read (codes "body") path ps no_mark are refl refl))

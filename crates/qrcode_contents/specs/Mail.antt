@@ -1,0 +1,62 @@
+-- Links that write a mail: `mailto:` (RFC 6068), the address, and the parameters `subject` and `body`.
+use Rattle.std.specs.Prelude.{◌≡◌, ℕ, ◌==◌, not, List, [], ◌∷◌, ◌++◌, Option, Some, codes, count_by, refl}
+use Rattle.std.specs.List.{list_any}
+use Rattle.std.specs.Option.{option_map}
+use Rattle.qrcode_contents.specs.declared.errors.ContentError.{ContentError}
+use Rattle.qrcode_contents.specs.declared.errors.Field.TheVariants.{Email, Subject, Message}
+use Rattle.qrcode_contents.specs.declared.errors.Cause.TheVariants.{ControlCharacter, Character}
+use Rattle.qrcode_contents.specs.declared.links.Part.TheVariants.{Path}
+use Rattle.qrcode_contents.specs.declared.mail.Mail.{Mail}
+use Rattle.qrcode_contents.specs.Characters.{is_control, is_stray}
+use Rattle.qrcode_contents.specs.Entries.{behind}
+use Rattle.qrcode_contents.specs.Links.{Parameter, before, part_text, query_text, read_parameter, value_in}
+use Rattle.qrcode_contents.specs.Percents.{decoded}
+use Rattle.qrcode_contents.specs.Refusals.{refused_if, first_refusal}
+
+-- a mail as its text says it
+pub record Letter : Type 0 where
+  pub address : List ℕ
+  pub subject : List ℕ
+  pub body : List ℕ
+
+-- what is said of a mail
+abbrev pub letter_of : Mail → Letter
+letter_of m = record { address = m.address.now; subject = m.subject.now; body = m.body.now }
+
+-- what the link cannot say: an address has one `@`, and a body no control character but tabs and line feeds
+abbrev pub mail_checks : Letter → List (Option ContentError)
+mail_checks m =
+    refused_if (list_any is_control m.address) Email ControlCharacter
+    ∷ refused_if (not (count_by (λ b. b == 64) m.address == 1)) Email Character
+    ∷ refused_if (list_any is_control m.subject) Subject ControlCharacter
+    ∷ refused_if (list_any is_stray m.body) Message ControlCharacter
+    ∷ []
+
+-- the first of these refusals
+unfoldable pub mail_refusal : Letter → Option ContentError
+mail_refusal m = first_refusal (mail_checks m)
+
+-- the parameters of the link
+abbrev pub mail_parameters : Letter → List Parameter
+mail_parameters m = (codes "subject", m.subject) ∷ (codes "body", m.body) ∷ []
+
+-- the text of a mail
+abbrev pub mail_text : Letter → List ℕ
+mail_text m = codes "mailto:" ++ (part_text Path m.address ++ query_text (codes "?") (mail_parameters m))
+
+-- the mail that a link says behind its scheme
+abbrev pub letter_in : List ℕ → Letter
+letter_in link = record {
+  address = decoded (before 63 link);
+  subject = value_in (codes "subject") link;
+  body = value_in (codes "body") link;
+}
+
+-- the mail that a text says
+abbrev pub read_mail : List ℕ → Option Letter
+read_mail text = option_map letter_in (behind (codes "mailto:") text)
+
+-- a printed example of RFC 6068, section 6.1
+printed_row : read_mail (codes "mailto:infobot@example.com?subject=current-issue") ≡ Some (let m : Letter = record { address = codes "infobot@example.com"; subject = codes "current-issue"; body = [] } in m)
+unfolding read_parameter decoded
+printed_row = refl

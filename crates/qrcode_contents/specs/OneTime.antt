@@ -1,0 +1,166 @@
+-- Links of one-time passwords, by the page "Key URI Format" of the Google Authenticator project: `otpauth://`, `totp` or `hotp`, a label and parameters.
+use Rattle.std.specs.Prelude.{◌≡◌, ℕ, nat_lt, ◌==◌, ◌<◌, ◌^◌, ◌&&◌, ◌||◌, not, Bool, false, List, [], ◌∷◌, ◌++◌, Option, Some, None, codes, decimal, if◌then◌else◌, refl}
+use Rattle.std.specs.Str.{bytes_eq}
+use Rattle.std.specs.Str.Parse.{digits_value}
+use Rattle.std.specs.List.{list_all, list_any, starts_with}
+use Rattle.std.specs.Option.{option_map, option_and_then}
+use Rattle.qrcode_contents.specs.declared.errors.ContentError.{ContentError}
+use Rattle.qrcode_contents.specs.declared.errors.Field.TheVariants.{Secret, Issuer, Account, Period}
+use Rattle.qrcode_contents.specs.declared.errors.Cause.TheVariants.{Empty, Character, ControlCharacter, Range}
+use Rattle.qrcode_contents.specs.declared.links.Part.TheVariants.{Path}
+use Rattle.qrcode_contents.specs.declared.one_time.Factor.{Factor}
+use Rattle.qrcode_contents.specs.declared.one_time.Factor.TheVariants.{Time, Counter}
+use Rattle.qrcode_contents.specs.declared.one_time.Algorithm.{Algorithm}
+use Rattle.qrcode_contents.specs.declared.one_time.Algorithm.TheVariants.{Sha1, Sha256, Sha512}
+use Rattle.qrcode_contents.specs.declared.one_time.Digits.{Digits}
+use Rattle.qrcode_contents.specs.declared.one_time.Digits.TheVariants.{Six, Eight}
+use Rattle.qrcode_contents.specs.declared.one_time.OneTime.{OneTime}
+use Rattle.qrcode_contents.specs.Characters.{is_control}
+use Rattle.qrcode_contents.specs.Entries.{is_filled, behind}
+use Rattle.qrcode_contents.specs.Links.{Parameter, before, after, part_text, query_text, read_parameter, value_in}
+use Rattle.qrcode_contents.specs.Percents.{decoded}
+use Rattle.qrcode_contents.specs.Refusals.{refused_if, first_refusal}
+
+-- one-time passwords as their text says them
+pub record Key : Type 0 where
+  pub factor : Factor
+  pub issuer : List ℕ
+  pub account : List ℕ
+  pub secret : List ℕ
+  pub algorithm : Algorithm
+  pub digits : Digits
+
+-- what is said of one-time passwords
+abbrev pub key_of : OneTime → Key
+key_of o = record {
+  factor = o.factor;
+  issuer = o.issuer.now;
+  account = o.account.now;
+  secret = o.secret.now;
+  algorithm = o.algorithm;
+  digits = o.digits;
+}
+
+-- a character of base 32 (RFC 4648, section 6)
+abbrev pub is_base32 : ℕ → Bool
+is_base32 b = (nat_lt 64 b && nat_lt b 91) || (nat_lt 49 b && nat_lt b 56)
+
+-- a colon ends the issuer
+abbrev pub is_colon : ℕ → Bool
+is_colon b = b == 58
+
+-- the text begins with a space, which readers leave out
+abbrev pub begins_with_space : List ℕ → Bool
+begins_with_space text = starts_with (λ a b. a == b) text (32 ∷ [])
+
+-- a time that no password holds
+abbrev pub has_no_period : Factor → Bool
+has_no_period (Time period) = period == 0
+has_no_period (Counter count) = false
+
+-- what the link cannot say
+abbrev pub key_checks : Key → List (Option ContentError)
+key_checks k =
+    refused_if (list_any is_control k.issuer) Issuer ControlCharacter
+    ∷ refused_if (list_any is_colon k.issuer) Issuer Character
+    ∷ refused_if (not (is_filled k.account)) Account Empty
+    ∷ refused_if (list_any is_control k.account) Account ControlCharacter
+    ∷ refused_if (list_any is_colon k.account || begins_with_space k.account) Account Character
+    ∷ refused_if (not (is_filled k.secret)) Secret Empty
+    ∷ refused_if (not (list_all is_base32 k.secret)) Secret Character
+    ∷ refused_if (has_no_period k.factor) Period Range
+    ∷ []
+
+-- the first of these refusals
+unfoldable pub key_refusal : Key → Option ContentError
+key_refusal k = first_refusal (key_checks k)
+
+-- what the passwords change with
+abbrev pub factor_name : Factor → List ℕ
+factor_name (Time period) = codes "totp"
+factor_name (Counter count) = codes "hotp"
+
+-- the period, left out where it is 30 seconds, or the counter
+abbrev pub factor_parameter : Factor → Parameter
+factor_parameter (Time period) = (codes "period", if period == 30 then [] else decimal period)
+factor_parameter (Counter count) = (codes "counter", decimal count)
+
+-- the period or counter fits its type
+abbrev pub is_a_word : Factor → Type 0
+is_a_word (Time period) = period < 2 ^ 64
+is_a_word (Counter count) = count < 2 ^ 64
+
+-- the algorithm, left out where it is SHA1
+abbrev pub algorithm_value : Algorithm → List ℕ
+algorithm_value Sha1 = []
+algorithm_value Sha256 = codes "SHA256"
+algorithm_value Sha512 = codes "SHA512"
+
+-- the number of digits, left out where it is 6
+abbrev pub digits_text : Digits → List ℕ
+digits_text Six = []
+digits_text Eight = codes "8"
+
+-- the issuer, if any, with a colon behind it, and the account
+abbrev pub label_text : Key → List ℕ
+label_text k = (if is_filled k.issuer then part_text Path k.issuer ++ codes ":" else []) ++ part_text Path k.account
+
+-- the parameters of the link
+abbrev pub key_parameters : Key → List Parameter
+key_parameters k =
+    (codes "secret", k.secret) ∷ (codes "issuer", k.issuer) ∷ (codes "algorithm", algorithm_value k.algorithm)
+    ∷ (codes "digits", digits_text k.digits) ∷ factor_parameter k.factor ∷ []
+
+-- the text of one-time passwords
+abbrev pub key_text : Key → List ℕ
+key_text k = codes "otpauth://" ++ (factor_name k.factor ++ 47 ∷ (label_text k ++ query_text (codes "?") (key_parameters k)))
+
+-- the algorithm of a link
+abbrev pub read_algorithm : List ℕ → Option Algorithm
+read_algorithm value =
+    if not (is_filled value) || bytes_eq value (codes "SHA1") then Some Sha1
+    else (if bytes_eq value (codes "SHA256") then Some Sha256
+    else (if bytes_eq value (codes "SHA512") then Some Sha512 else None))
+
+-- the number of digits of a link
+abbrev pub read_digits : List ℕ → Option Digits
+read_digits value =
+    if not (is_filled value) || bytes_eq value (codes "6") then Some Six
+    else (if bytes_eq value (codes "8") then Some Eight else None)
+
+-- what the passwords of a link change with
+abbrev pub read_factor : List ℕ → List ℕ → Option Factor
+read_factor name link =
+    if bytes_eq name (codes "totp") then Some (Time (if is_filled (value_in (codes "period") link) then digits_value 10 (value_in (codes "period") link) else 30))
+    else (if bytes_eq name (codes "hotp") then Some (Counter (digits_value 10 (value_in (codes "counter") link))) else None)
+
+-- without spaces at the beginning
+abbrev pub without_spaces : List ℕ → List ℕ
+without_spaces [] = []
+without_spaces (b ∷ rest) = if b == 32 then without_spaces rest else b ∷ rest
+
+-- the account of a label
+abbrev pub read_account : List ℕ → List ℕ
+read_account label = without_spaces (if list_any is_colon label then after 58 label else label)
+
+-- the one-time passwords that a link says behind its name
+abbrev pub key_in : List ℕ → List ℕ → Option Key
+key_in name link =
+    option_and_then (λ factor. option_and_then (λ algorithm. option_map (λ digits. record {
+      factor = factor;
+      issuer = value_in (codes "issuer") link;
+      account = read_account (decoded (before 63 link));
+      secret = value_in (codes "secret") link;
+      algorithm = algorithm;
+      digits = digits;
+    }) (read_digits (value_in (codes "digits") link))) (read_algorithm (value_in (codes "algorithm") link))) (read_factor name link)
+
+-- the one-time passwords that a text says
+abbrev pub read_key : List ℕ → Option Key
+read_key text = option_and_then (λ rest. key_in (before 47 rest) (after 47 rest)) (behind (codes "otpauth://") text)
+
+-- the printed example
+printed_row : read_key (codes "otpauth://totp/ACME%20Co:john.doe@email.com?secret=HXDMVJECJJWSRB3HWIZR4IFUGFTMXBOZ&issuer=ACME%20Co&algorithm=SHA1&digits=6&period=30")
+    ≡ Some (let k : Key = record { factor = Time 30; issuer = codes "ACME Co"; account = codes "john.doe@email.com"; secret = codes "HXDMVJECJJWSRB3HWIZR4IFUGFTMXBOZ"; algorithm = Sha1; digits = Six } in k)
+unfolding read_parameter decoded
+printed_row = refl

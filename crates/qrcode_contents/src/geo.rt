@@ -1,0 +1,112 @@
+//! Links to places.
+
+ghost use Rattle.std.specs.Prelude.{◌≡◌, ◌<◌, ◌*◌, ◌%◌, ◌++◌, Some, IfOk, OnOk, IsOkUnless, string_bytes};
+ghost use Rattle.qrcode_contents.specs.declared.errors.ContentError.TheVariants.{OutOfMemory};
+ghost use Rattle.qrcode_contents.specs.Geo.{place_refusal, first_digit, fraction_text, sign_text, coordinate_text, place_text, read_place};
+ghost use Rattle.qrcode_contents.specs.Refusals.{Answers, checked};
+
+use crate::errors::{Cause, ContentResult, Field};
+use std::alloc::Global;
+use std::fmt::Write;
+
+/// A place on the earth, in the coordinates of WGS 84.
+#[derive(Copy, Clone, PartialEq, Eq, Debug)]
+pub struct Place {
+    /// Millionths of a degree north of the equator, from -90,000,000 to 90,000,000.
+    pub latitude: i32,
+    /// Millionths of a degree east of Greenwich, from -180,000,000 to 180,000,000.
+    pub longitude: i32,
+}
+
+// Appends the digit before a place, and nothing where the number is zero. The rest of the number.
+fn push_digit(text: &mut String, number: u32, place: u32) -> ContentResult<u32>
+    requires place { 0 < place }
+    requires digit { number < place * 10 }
+    ensures appends { OnOk result (string_bytes text.new
+        ≡ string_bytes text.old ++ first_digit number place) }
+    ensures rest { IfOk result (λ rest. rest ≡ number % place) }
+    ensures memory { IsOkUnless result OutOfMemory }
+{
+    if number == 0 {
+        return Ok(0);
+    }
+    let digit = number / place;
+    write!(text, "{digit}")?;
+    Ok(number % place)
+}
+
+// Appends millionths with a point before them, and without zeros at the end.
+fn push_fraction(text: &mut String, millionths: u32) -> ContentResult<()>
+    requires { millionths < 1000000 }
+    ensures appends { OnOk result (string_bytes text.new
+        ≡ string_bytes text.old ++ fraction_text millionths) }
+    ensures memory { IsOkUnless result OutOfMemory }
+{
+    if millionths == 0 {
+        return Ok(());
+    }
+    text.push_str(".")?;
+    let mut rest = millionths;
+    for index in 0..6_u32 {
+        rest = push_digit(text, rest, 10_u32.pow(5 - index))?;
+    }
+    Ok(())
+}
+
+// The sign of a number below zero.
+fn sign(number: i32) -> &'static str
+    ensures { result.now ≡ sign_text number }
+{
+    if number.is_negative() { "-" } else { "" }
+}
+
+// Appends degrees that are given in millionths.
+#[tactic(auto, unfolding(crate::specs::Geo::coordinate_text))]
+fn push_coordinate(text: &mut String, millionths: i32) -> ContentResult<()>
+    ensures appends { OnOk result (string_bytes text.new
+        ≡ string_bytes text.old ++ coordinate_text millionths) }
+    ensures memory { IsOkUnless result OutOfMemory }
+{
+    let magnitude = millionths.unsigned_abs();
+    let degrees = magnitude / 1_000_000;
+    text.push_str(sign(millionths))?;
+    write!(text, "{degrees}")?;
+    push_fraction(text, magnitude % 1_000_000)
+}
+
+impl Place {
+    // Refuses what is no place.
+    fn check(&self) -> ContentResult<()>
+        ensures { result ≡ checked (place_refusal self.now) }
+    {
+        let north = self.latitude.unsigned_abs();
+        let east = self.longitude.unsigned_abs();
+        Field::Latitude.refuse_if(north > 90_000_000, Cause::Range)?;
+        Field::Longitude.refuse_if(east > 180_000_000, Cause::Range)
+    }
+
+    // The link to a place that is not refused.
+    #[tactic(auto, unfolding(crate::specs::Geo::place_text))]
+    fn written(&self, alloc: Global) -> ContentResult<String>
+        ensures value { IfOk result (λ text. string_bytes text ≡ place_text self.now) }
+        ensures memory { IsOkUnless result OutOfMemory }
+    {
+        let mut text = String::from_str(alloc, "geo:")?;
+        push_coordinate(&mut text, self.latitude)?;
+        text.push_str(",")?;
+        push_coordinate(&mut text, self.longitude)?;
+        Ok(text)
+    }
+
+    /// The link to the place.
+    ///
+    /// An error names the field and why the text cannot say it, or is `OutOfMemory`.
+    pub fn text(&self, alloc: Global) -> ContentResult<String>
+        ensures reads { Answers (place_refusal self.now) result
+            (λ text. read_place text ≡ Some self.now) }
+        ensures value { IfOk result (λ text. string_bytes text ≡ place_text self.now) }
+    {
+        self.check()?;
+        self.written(alloc)
+    }
+}

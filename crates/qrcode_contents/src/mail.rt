@@ -1,0 +1,66 @@
+//! Links that write a mail.
+
+ghost use Rattle.std.specs.Prelude.{◌≡◌, ◌==◌, Some, IfOk, IsOkUnless, string_bytes, count_by};
+ghost use Rattle.qrcode_contents.specs.declared.errors.ContentError.TheVariants.{OutOfMemory};
+ghost use Rattle.qrcode_contents.specs.Mail.{letter_of, mail_refusal, mail_text, read_mail};
+ghost use Rattle.qrcode_contents.specs.Refusals.{Answers, checked};
+
+use crate::characters::{has_control, has_stray};
+use crate::errors::{Cause, ContentResult, Field};
+use crate::links::{Part, push_part, push_query};
+use std::alloc::Global;
+
+/// A mail that is not yet written. What is empty is left out.
+#[derive(Copy, Clone, PartialEq, Eq, Debug)]
+pub struct Mail<'a> {
+    /// To whom, with one `@`.
+    pub address: &'a str,
+    /// The subject.
+    pub subject: &'a str,
+    /// The text, of lines with a line feed between each two.
+    pub body: &'a str,
+}
+
+// Whether a text has one `@`.
+fn has_one_at(text: &str) -> bool
+    ensures { result ≡ (count_by (λ b. b == 64) text.now == 1) }
+{
+    let bytes = text.as_bytes();
+    bytes.iter().filter(|byte| **byte == b'@').count() == 1
+}
+
+impl Mail<'_> {
+    // Refuses what the link cannot say.
+    #[tactic(auto, unfolding(crate::specs::Mail::mail_refusal))]
+    fn check(&self) -> ContentResult<()>
+        ensures { result ≡ checked (mail_refusal (letter_of self.now)) }
+    {
+        Field::Email.refuse_if(has_control(self.address), Cause::ControlCharacter)?;
+        Field::Email.refuse_if(!has_one_at(self.address), Cause::Character)?;
+        Field::Subject.refuse_if(has_control(self.subject), Cause::ControlCharacter)?;
+        Field::Message.refuse_if(has_stray(self.body), Cause::ControlCharacter)
+    }
+
+    // The link of a mail that is not refused.
+    fn written(&self, alloc: Global) -> ContentResult<String>
+        ensures value { IfOk result (λ text. string_bytes text ≡ mail_text (letter_of self.now)) }
+        ensures memory { IsOkUnless result OutOfMemory }
+    {
+        let mut text = String::from_str(alloc, "mailto:")?;
+        push_part(&mut text, Part::Path, self.address)?;
+        push_query(&mut text, &[("subject", self.subject), ("body", self.body)])?;
+        Ok(text)
+    }
+
+    /// The link that writes the mail.
+    ///
+    /// An error names the field and why the text cannot say it, or is `OutOfMemory`.
+    pub fn text(&self, alloc: Global) -> ContentResult<String>
+        ensures reads { Answers (mail_refusal (letter_of self.now)) result
+            (λ text. read_mail text ≡ Some (letter_of self.now)) }
+        ensures value { IfOk result (λ text. string_bytes text ≡ mail_text (letter_of self.now)) }
+    {
+        self.check()?;
+        self.written(alloc)
+    }
+}

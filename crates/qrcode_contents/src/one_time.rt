@@ -1,0 +1,236 @@
+//! Links of one-time passwords.
+
+ghost use Rattle.std.specs.Prelude.{◌≡◌, ◌++◌, ◌∷◌, [], codes, Some, IfOk, OnOk, IsOkUnless, string_bytes};
+ghost use Rattle.std.specs.List.{list_all, list_any};
+ghost use Rattle.qrcode_contents.specs.declared.errors.ContentError.TheVariants.{OutOfMemory};
+ghost use Rattle.qrcode_contents.specs.OneTime.{key_of, is_base32, is_colon, has_no_period, key_refusal, factor_name, factor_parameter, algorithm_value, digits_text, label_text, key_text, read_key, is_a_word};
+ghost use Rattle.qrcode_contents.specs.Links.{query_text};
+ghost use Rattle.qrcode_contents.specs.Refusals.{Answers, checked};
+
+use crate::characters::has_control;
+use crate::errors::{Cause, ContentResult, Field};
+use crate::links::{Part, push_part, push_query};
+use std::alloc::Global;
+
+/// What the passwords change with.
+#[derive(Copy, Clone, PartialEq, Eq, Debug)]
+pub enum Factor {
+    /// The time (RFC 6238); each holds for so many seconds, at least one.
+    Time(u32),
+    /// A counter (RFC 4226), which begins here.
+    Counter(u64),
+}
+
+impl Factor {
+    // The name in the link.
+    fn name(self) -> &'static str
+        ensures { result.now ≡ factor_name self }
+    {
+        match self {
+            Factor::Time(_) => "totp",
+            Factor::Counter(_) => "hotp",
+        }
+    }
+
+    // Whether a password holds no time.
+    fn has_no_period(self) -> bool
+        ensures { result ≡ has_no_period self }
+    {
+        matches!(self, Factor::Time(0))
+    }
+
+    // The key of its parameter.
+    fn key(self) -> &'static str
+        ensures { result.now ≡ (factor_parameter self).0 }
+    {
+        match self {
+            Factor::Time(_) => "period",
+            Factor::Counter(_) => "counter",
+        }
+    }
+
+    // The value of its parameter; empty for 30 seconds.
+    fn value(self, alloc: Global) -> ContentResult<String>
+        ensures value { IfOk result (λ text. string_bytes text ≡ (factor_parameter self).1) }
+        ensures fits { OnOk result (is_a_word self) }
+        ensures memory { IsOkUnless result OutOfMemory }
+    {
+        match self {
+            Factor::Time(30) => Ok(String::new(alloc)),
+            Factor::Time(period) => Ok(format!(in alloc; "{period}")?),
+            Factor::Counter(count) => Ok(format!(in alloc; "{count}")?),
+        }
+    }
+}
+
+/// The hash of the passwords.
+#[derive(Copy, Clone, PartialEq, Eq, Debug)]
+pub enum Algorithm {
+    /// SHA1, as most programs take for granted.
+    Sha1,
+    /// SHA256.
+    Sha256,
+    /// SHA512.
+    Sha512,
+}
+
+impl Algorithm {
+    // The value in the link; empty for SHA1.
+    fn value(self) -> &'static str
+        ensures { result.now ≡ algorithm_value self }
+    {
+        match self {
+            Algorithm::Sha1 => "",
+            Algorithm::Sha256 => "SHA256",
+            Algorithm::Sha512 => "SHA512",
+        }
+    }
+}
+
+/// How many digits a password has.
+#[derive(Copy, Clone, PartialEq, Eq, Debug)]
+pub enum Digits {
+    /// Six.
+    Six,
+    /// Eight.
+    Eight,
+}
+
+impl Digits {
+    // The value in the link; empty for six.
+    fn value(self) -> &'static str
+        ensures { result.now ≡ digits_text self }
+    {
+        match self {
+            Digits::Six => "",
+            Digits::Eight => "8",
+        }
+    }
+}
+
+/// One-time passwords of an account.
+#[derive(Copy, Clone, PartialEq, Eq, Debug)]
+pub struct OneTime<'a> {
+    /// What they change with.
+    pub factor: Factor,
+    /// Who issues them, without a colon; may be empty.
+    pub issuer: &'a str,
+    /// The account, without a colon.
+    pub account: &'a str,
+    /// The secret in base 32, without `=` at its end.
+    pub secret: &'a str,
+    /// The hash.
+    pub algorithm: Algorithm,
+    /// How many digits a password has.
+    pub digits: Digits,
+}
+
+// Whether all bytes are characters of base 32.
+fn is_in_base32(text: &str) -> bool
+    ensures { result ≡ list_all is_base32 text.now }
+{
+    let bytes = text.as_bytes();
+    bytes
+        .iter()
+        .all(|byte| matches!(*byte, b'A'..=b'Z' | b'2'..=b'7'))
+}
+
+// Whether a byte is a colon.
+fn has_colon(text: &str) -> bool
+    ensures { result ≡ list_any is_colon text.now }
+{
+    let bytes = text.as_bytes();
+    bytes.iter().any(|byte| *byte == b':')
+}
+
+// Appends the parameters.
+fn push_parameters<'a>(
+    text: &mut String,
+    secret: &'a str,
+    issuer: &'a str,
+    algorithm: Algorithm,
+    digits: Digits,
+    factor: Factor,
+    number: &'a str,
+) -> ContentResult<()>
+    ensures appends { OnOk result (string_bytes text.new ≡ string_bytes text.old
+        ++ query_text (codes "?") ((codes "secret", secret.now) ∷ (codes "issuer", issuer.now)
+        ∷ (codes "algorithm", algorithm_value algorithm) ∷ (codes "digits", digits_text digits)
+        ∷ ((factor_parameter factor).0, number.now) ∷ [])) }
+    ensures memory { IsOkUnless result OutOfMemory }
+{
+    let parameters = [
+        ("secret", secret),
+        ("issuer", issuer),
+        ("algorithm", algorithm.value()),
+        ("digits", digits.value()),
+        (factor.key(), number),
+    ];
+    push_query(text, &parameters)
+}
+
+impl OneTime<'_> {
+    // Refuses what the link cannot say.
+    #[tactic(auto, unfolding(crate::specs::OneTime::key_refusal))]
+    fn check(&self) -> ContentResult<()>
+        ensures { result ≡ checked (key_refusal (key_of self.now)) }
+    {
+        let wrong = has_colon(self.account) || self.account.as_bytes().starts_with(b" ");
+        Field::Issuer.refuse_if(has_control(self.issuer), Cause::ControlCharacter)?;
+        Field::Issuer.refuse_if(has_colon(self.issuer), Cause::Character)?;
+        Field::Account.refuse_if(self.account.is_empty(), Cause::Empty)?;
+        Field::Account.refuse_if(has_control(self.account), Cause::ControlCharacter)?;
+        Field::Account.refuse_if(wrong, Cause::Character)?;
+        Field::Secret.refuse_if(self.secret.is_empty(), Cause::Empty)?;
+        Field::Secret.refuse_if(!is_in_base32(self.secret), Cause::Character)?;
+        Field::Period.refuse_if(self.factor.has_no_period(), Cause::Range)
+    }
+
+    // Appends the label: the issuer, if any, and the account.
+    fn push_label(&self, text: &mut String) -> ContentResult<()>
+        ensures appends { OnOk result (string_bytes text.new
+            ≡ string_bytes text.old ++ label_text (key_of self.now)) }
+        ensures memory { IsOkUnless result OutOfMemory }
+    {
+        if !self.issuer.is_empty() {
+            push_part(text, Part::Path, self.issuer)?;
+            text.push_str(":")?;
+        }
+        push_part(text, Part::Path, self.account)
+    }
+
+    // The link of passwords that are not refused.
+    fn written(&self, alloc: Global) -> ContentResult<String>
+        ensures value { IfOk result (λ text. string_bytes text ≡ key_text (key_of self.now)) }
+        ensures fits { OnOk result (is_a_word self.now.factor) }
+        ensures memory { IsOkUnless result OutOfMemory }
+    {
+        let number = self.factor.value(alloc)?;
+        let mut text = String::from_str(alloc, "otpauth://")?;
+        text.push_str(self.factor.name())?;
+        text.push_str("/")?;
+        self.push_label(&mut text)?;
+        push_parameters(
+            &mut text,
+            self.secret,
+            self.issuer,
+            self.algorithm,
+            self.digits,
+            self.factor,
+            number.as_str(),
+        )?;
+        Ok(text)
+    }
+
+    /// The link of the passwords.
+    ///
+    /// An error names the field and why the text cannot say it, or is `OutOfMemory`.
+    pub fn text(&self, alloc: Global) -> ContentResult<String>
+        ensures reads { Answers (key_refusal (key_of self.now)) result
+            (λ text. read_key text ≡ Some (key_of self.now)) }
+        ensures value { IfOk result (λ text. string_bytes text ≡ key_text (key_of self.now)) }
+    {
+        self.check()?;
+        self.written(alloc)
+    }
+}
