@@ -1,15 +1,15 @@
 -- The words of the code for columns, place by place.
-use Rattle.std.proofs.Common.{◌≡◌, ℕ, zero, suc, ◌+◌, ◌-◌, ◌*◌, ◌^◌, ◌<◌, ◌≤◌, Bool, true, false, not, ◌&&◌, ◌||◌, List, refl, ap, ap₂, sym, ◌∙◌, arith, count_ones, if◌then◌else◌, bit_and, bit_or, bit_xor, add_assoc, slice_index_or, length, le-leb}
+use Rattle.std.proofs.Common.{◌≡◌, ℕ, zero, suc, ◌+◌, ◌-◌, ◌*◌, ◌<◌, ◌≤◌, Bool, true, false, not, ◌&&◌, ◌||◌, List, refl, ap, ap₂, sym, ◌∙◌, arith, count_ones, if◌then◌else◌, bit_and, bit_or, bit_xor, add_assoc, slice_index_or, length, le-leb}
 use Rattle.std.proofs.lemmas.List.{get_or_past}
 use Rattle.std.proofs.lemmas.Nat.{or_lt}
 use Rattle.qrcode_packed.specs.Rows.{is_set}
 use Rattle.qrcode_packed.proofs.Places.{differ, has_and, has_or, has_xor, has_without, has_zero, has_above}
-use Rattle.qrcode_penalty.specs.Penalty.{sum_below, count_if, is_run, run_penalty_at, same, begins_run, finder_penalty_at, is_finder_like, is_light_from}
+use Rattle.qrcode_penalty.specs.Penalty.{sum_below, count_if, is_run, run_penalty_at, same, begins_run, block_penalty_at, finder_penalty_at, is_finder_like, is_light_from}
 use Rattle.qrcode_penalty.proofs.Finders.{pad, four, finder_at}
 use Rattle.qrcode_packed.specs.Rows.{dark_in, FitsWidth}
-use Rattle.qrcode_penalty.specs.Padding.{padded_row, is_lone_form}
+use Rattle.qrcode_penalty.specs.Padding.{padded_row, is_lone_form, block_penalty_in}
 use Rattle.qrcode_penalty.proofs.Sums.{sum_same, sum_plus, weigh_places}
-use Rattle.qrcode_penalty.proofs.Lines.{without, without_at, without_above, not_same}
+use Rattle.qrcode_penalty.proofs.Lines.{without, not_same}
 
 upper_test : (a b c d e : Bool) → not (((differ b c || differ c d) || differ d e) || differ a b) ≡ (same a a && (same a b && (same a c && (same a d && (same a e && true)))))
 upper_test true true true true true = refl
@@ -188,3 +188,10 @@ two_forms_of rows y n a b at_a beside_a at_b beside_b =
     (λ x h. has_or a b x ∙ ap₂ (λ (p q : Bool). p || q) (beside_a x h) (beside_b x h))
     ∙ sum_same _ (λ x. finder_penalty_at n (dark_in rows x) y + finder_penalty_at n (dark_in rows x) (y + 1)) n (λ x h. two_apart n (dark_in rows x) y)
     ∙ sum_plus (λ x. finder_penalty_at n (dark_in rows x) y) (λ x. finder_penalty_at n (dark_in rows x) (y + 1)) n
+
+-- the blocks of two rows, by what the rows are
+pub blocks_shown : (rows : List ℕ) (y n m a b v : ℕ) → m ≡ n → a ≡ row rows y → b ≡ row rows (y + 1) →
+    v ≡ sum_below (m - 1) (block_penalty_in (is_set a) (is_set b)) → v ≡ sum_below (n - 1) (block_penalty_at (dark_in rows) y)
+unfolding block_penalty_at dark_in
+blocks_shown rows y n m a b v e p q h =
+    h ∙ ap (λ k. sum_below (k - 1) (block_penalty_in (is_set a) (is_set b))) e ∙ ap₂ (λ (c d : ℕ). sum_below (n - 1) (block_penalty_in (is_set c) (is_set d))) p q

@@ -6,7 +6,8 @@ use Rattle.std.proofs.Math.Pow.{pow_mono}
 use Rattle.std.specs.Int.Count.{ones}
 use Rattle.qrcode_packed.specs.Rows.{is_set}
 use Rattle.qrcode_packed.proofs.Places.{differ, has_and, has_or, has_xor, has_without, has_shr, has_shl, has_shl_below, has_first, has_first_above}
-use Rattle.qrcode_penalty.specs.Penalty.{sum_below, count_if, is_run, run_penalty_at, same, run_penalty, begins_run}
+use Rattle.qrcode_penalty.specs.Penalty.{sum_below, is_run, run_penalty_at, same, run_penalty, begins_run}
+use Rattle.qrcode_penalty.specs.Padding.{block_penalty_in}
 use Rattle.qrcode_penalty.proofs.Runs.{run_penalty-windows}
 use Rattle.qrcode_penalty.proofs.Sums.{run_places, weigh_places}
 
@@ -37,17 +38,21 @@ finder_test true false true true true true false q = refl
 finder_test true false true true true false true q = refl
 finder_test true false true true true false false q = refl
 
-block_test : (a b c d : Bool) → not ((differ a c || differ b d) || differ a b) ≡ (same a b && same a c && same a d)
+block_test : (a b c d : Bool) → not (differ a c || (differ a b || differ c d)) ≡ (same a b && same a c && same a d)
 block_test true true true true = refl
 block_test true true true false = refl
-block_test true true false d = refl
+block_test true true false true = refl
+block_test true true false false = refl
 block_test true false true true = refl
 block_test true false true false = refl
-block_test true false false d = refl
-block_test false true true d = refl
+block_test true false false true = refl
+block_test true false false false = refl
+block_test false true true true = refl
+block_test false true true false = refl
 block_test false true false true = refl
 block_test false true false false = refl
-block_test false false true d = refl
+block_test false false true true = refl
+block_test false false true false = refl
 block_test false false false true = refl
 block_test false false false false = refl
 
@@ -112,14 +117,14 @@ runs_of a n =
     (λ k h. refl)
     ∙ sym (run_penalty-windows n (is_set a))
 
--- the words of block_penalty
+-- the words of blocks_between
 abbrev pub mixed : ℕ → ℕ → ℕ
-mixed a b = bit_or (bit_or (bit_xor a b) (bit_xor a b / 2 ^ 1)) (bit_xor a (a / 2 ^ 1))
+mixed a b = bit_or (bit_xor a b) (bit_or (edges a) (edges b))
 
 mixed_at : (a b k : ℕ) → not (is_set (mixed a b) k) ≡ (same (is_set a k) (is_set a (k + 1)) && same (is_set a k) (is_set b k) && same (is_set a k) (is_set b (k + 1)))
 mixed_at a b k = simp (has_or, has_xor, has_shr) (block_test (is_set a k) (is_set a (k + 1)) (is_set b k) (is_set b (k + 1)))
 
-pub blocks_of : (a b n : ℕ) → 3 * count_ones (without (2 ^ (n - 1) - 1) (mixed a b)) ≡ sum_below (n - 1) (λ x. count_if (same (is_set a x) (is_set a (x + 1)) && same (is_set a x) (is_set b x) && same (is_set a x) (is_set b (x + 1))) 3)
+pub blocks_of : (a b n : ℕ) → 3 * count_ones (without (2 ^ (n - 1) - 1) (mixed a b)) ≡ sum_below (n - 1) (block_penalty_in (is_set a) (is_set b))
 blocks_of a b n =
     weigh_places 3 (without (2 ^ (n - 1) - 1) (mixed a b)) (λ x. same (is_set a x) (is_set a (x + 1)) && same (is_set a x) (is_set b x) && same (is_set a x) (is_set b (x + 1))) (n - 1)
     (λ k h. without_at (n - 1) (mixed a b) k h ∙ mixed_at a b k)

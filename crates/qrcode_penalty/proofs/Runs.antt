@@ -1,8 +1,8 @@
 -- The runs of a line by windows of five.
-use Rattle.std.proofs.Common.{◌≡◌, ℕ, zero, suc, ◌+◌, ◌-◌, ◌<◌, ◌≤◌, nat_le, Bool, true, false, not, ◌==◌, ◌&&◌, ◌||◌, refl, ap, ap₂, sym, ◌∙◌, arith, add-one, eq-eqb, if◌then◌else◌}
+use Rattle.std.proofs.Common.{◌≡◌, ℕ, zero, suc, ◌+◌, ◌-◌, ◌<◌, ◌≤◌, Bool, true, false, not, ◌==◌, ◌&&◌, ◌||◌, refl, ap, ap₂, sym, ◌∙◌, arith, add-one, eq-eqb, if◌then◌else◌}
 use Rattle.std.proofs.lemmas.Bool.{ne_eqb}
 use Rattle.std.proofs.lemmas.Bool.Decides.{nat_tests}
-use Rattle.qrcode_penalty.specs.Penalty.{sum_below, count_if, same, is_run, begins_run, ends_run, run_length, run_cost, run_penalty, run_penalty_at}
+use Rattle.qrcode_penalty.specs.Penalty.{sum_below, count_if, same, is_run, begins_run, run_length, run_cost, run_penalty, run_penalty_at}
 use Rattle.qrcode_penalty.proofs.Sums.{sum_same, sum_zero}
 
 -- the run with the next place, of the same colour or not

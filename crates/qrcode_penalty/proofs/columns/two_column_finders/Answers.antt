@@ -1,4 +1,4 @@
-use Rattle.std.proofs.Common.{◌≡◌, ◌*◌, count_ones, ap, ◌∙◌}
+use Rattle.std.proofs.Common.{◌*◌, count_ones, ap, ◌∙◌}
 use Rattle.qrcode_penalty.proofs.ColumnWords.{two_forms_of}
 use Rattle.qrcode_penalty.proofs.columns.two_column_finders.Goals as goal
 
