@@ -1,4 +1,4 @@
-/* Eight threads make symbols at once, each of its own bytes again and again, and each finds the same symbol every time. */
+/* Eight threads make symbols at once and read them back, each of its own bytes again and again, and each finds the same symbol and its bytes every time. */
 #include "goqlanis.h"
 #include <pthread.h>
 #include <stdio.h>
@@ -7,9 +7,10 @@
 static void *work(void *argument)
 {
     long number = (long)argument, wrong = 0;
-    static _Thread_local uint8_t modules[GOQ_MODULES_MAX], first[GOQ_MODULES_MAX];
+    static _Thread_local uint8_t modules[GOQ_MODULES_MAX], first[GOQ_MODULES_MAX], bytes[GOQ_BYTES_MAX];
     char text[40];
     goq_symbol symbol;
+    goq_reading reading;
     int length = snprintf(text, sizeof text, "thread %ld of eight", number);
     for (int i = 0; i < 200; i++) {
         if (goq_encode((const uint8_t *)text, (size_t)length, (uint32_t)(number % 4), modules, sizeof modules, &symbol) != GOQ_OK)
@@ -17,6 +18,8 @@ static void *work(void *argument)
         if (i == 0)
             memcpy(first, modules, sizeof modules);
         else if (memcmp(first, modules, (size_t)symbol.width * symbol.width))
+            wrong++;
+        if (goq_read(modules, (size_t)symbol.width * symbol.width, bytes, sizeof bytes, &reading) != GOQ_OK || memcmp(bytes, text, (size_t)length))
             wrong++;
     }
     return (void *)wrong;

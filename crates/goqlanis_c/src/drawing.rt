@@ -54,16 +54,23 @@ pub(crate) fn colors_of(alloc: Global, modules: &[u8]) -> QrResult<Vec<Color>>
     ensures value { IfOk result (λ colors. colors.items ≡ colors_of modules.now) }
     ensures memory { IsOkUnless result OutOfMemory }
 {
-    Ok(
-        modules
-            .iter()
-            .map(|module| if *module == 0 {
-                Color::Light
-            } else {
-                Color::Dark
-            })
-            .collect(alloc)?,
-    )
+    let mut colors = vec![in alloc; Color::Light; modules.len()]?;
+    color_all(&mut colors, modules);
+    Ok(colors)
+}
+
+// Writes modules that bytes stand for. A loop over places, since the compiler then takes sixteen at once.
+fn color_all(colors: &mut [Color], modules: &[u8])
+    requires room { length colors.old ≡ length modules.now }
+    ensures value { colors.new ≡ colors_of modules.now }
+{
+    for i in 0..modules.len() {
+        colors[i] = if modules[i] == 0 {
+            Color::Light
+        } else {
+            Color::Dark
+        };
+    }
 }
 
 // The text or the bytes of modules, so many along a side, in a format.

@@ -132,6 +132,23 @@ impl<'a, P: Pixel> Renderer<'a, P> {
         self
     }
 
+    /// The least module size at which the picture has so many pixels across and down. A module is as wide as it is high.
+    pub fn min_dimensions(&mut self, width: u32, height: u32) -> &mut Self {
+        let side = self.side();
+        self.module_size(width.max(height).div_ceil(side))
+    }
+
+    /// The greatest module size at which the picture has no more pixels across and down, but at least 1.
+    pub fn max_dimensions(&mut self, width: u32, height: u32) -> &mut Self {
+        let side = self.side();
+        self.module_size(width.min(height) / side)
+    }
+
+    // The modules along a side, with the quiet zone.
+    fn side(&self) -> u32 {
+        self.width as u32 + 2 * self.zone
+    }
+
     /// The picture.
     ///
     /// Panics where memory is refused, or a PNG file would have more than 65,535 pixels a side.
@@ -145,7 +162,7 @@ impl<'a, P: Pixel> Renderer<'a, P> {
             sys::goq_draw(self.modules.as_ptr(), self.modules.len(), width, self.zone, self.scale, format, bytes.as_mut_ptr(), bytes.len(), &mut count)
         };
         assert_eq!(drawn, sys::GOQ_OK, "memory was refused");
-        P::image(bytes, ((width + 2 * self.zone) * self.scale) as usize, self.chars)
+        P::image(bytes, (self.side() * self.scale) as usize, self.chars)
     }
 }
 

@@ -37,6 +37,9 @@ fn pictures() {
     assert_eq!(code.render::<unicode::Dense1x2>().build().lines().count(), 9);
     let (dark, light) = (unicode::Dense1x2::Dark, unicode::Dense1x2::Light);
     assert!(code.render::<unicode::Dense1x2>().dark_color(light).light_color(dark).build().starts_with('█'));
+    assert_eq!(code.render::<Luma>().min_dimensions(200, 100).build().len(), 204 * 204);
+    assert_eq!(code.render::<Luma>().max_dimensions(200, 300).build().len(), 187 * 187);
+    assert_eq!(code.render::<Luma>().max_dimensions(3, 3).build().len(), 17 * 17);
     let chars = code.render::<char>().quiet_zone(false).dark_color('#').light_color('.').build();
     assert_eq!(chars.lines().map(|line| line.len()).collect::<Vec<_>>(), [13; 13]);
     assert!(chars.starts_with("#######.#.#.#\n#.....#."));
