@@ -44,6 +44,15 @@ fn pair_number(first: bool, second: bool) -> usize
     2 * usize::from(first) + usize::from(second)
 }
 
+// The number of four marks among the sixteen. Their bytes are one word, which is read at once, and
+// the highest byte of its product by 8, 4, 2 and 1 in one number is the sum of these for the marks.
+fn four_number(a: bool, b: bool, c: bool, d: bool) -> usize
+    ensures { result ≡ 4 * pair_number a b + pair_number c d }
+{
+    let word = u32::from_le_bytes([u8::from(a), u8::from(b), u8::from(c), u8::from(d)]);
+    (word.wrapping_mul(0x0804_0201) >> 24) as usize
+}
+
 /// Texts that stand for four marks, by those that stand for two.
 #[derive(Drop)]
 pub struct Fours {
@@ -82,7 +91,7 @@ impl Fours {
     pub fn four(&self, a: bool, b: bool, c: bool, d: bool) -> &Stamp
         ensures { result.now ≡ two_text self.now a b ++ two_text self.now c d }
     {
-        &self.fours[4 * pair_number(a, b) + pair_number(c, d)]
+        &self.fours[four_number(a, b, c, d)]
     }
 }
 
@@ -122,8 +131,8 @@ pub fn push_marks(line: &mut Line, palette: &Fours, dark: &[u8], light: &[u8], m
 /// Appends the texts that stand for the columns of two rows of marks, two columns at a time.
 pub fn push_columns(line: &mut Line, palette: &Fours, upper: &[bool], lower: &[bool])
     requires length { length lower.now ≡ length upper.now }
-    requires room { length (line.old.text ++ columns_text (two_text palette.now) upper.now lower.now)
-        + 32 ≤ line.old.room }
+    requires room { length (line.old.text ++ columns_text (two_text palette.now) upper.now lower.now) + 32
+        ≤ line.old.room }
     ensures { line.new ≡ record line.old {
       text = line.old.text ++ columns_text (two_text palette.now) upper.now lower.now;
     } }

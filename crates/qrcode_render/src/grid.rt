@@ -14,6 +14,21 @@ fn clear(marks: &mut [bool])
     marks.fill(false);
 }
 
+// The most cells whose dark ones a byte counts, which takes many cells at once.
+const COUNTED: usize = 255;
+
+// How many of a few cells are dark.
+fn dark_in(cells: &[Color]) -> u8
+    requires { length cells.now ≤ 255 }
+    ensures { result ≤ length cells.now }
+{
+    let mut count = 0u8;
+    for color in cells {
+        count += u8::from(is_dark(*color));
+    }
+    count
+}
+
 /// Cells in row order with light ones around them at each side, each of so many pixels across and
 /// down.
 #[derive(Drop)]
@@ -132,11 +147,13 @@ impl<'a> Grid<'a> {
 
     // How many cells are dark.
     fn dark_count(&self) -> usize {
+        let parts = self.cells.len() / COUNTED;
         let mut count = 0;
-        for color in self.cells {
-            count += usize::from(is_dark(*color));
+        for i in 0..parts {
+            let start = COUNTED * i;
+            count += usize::from(dark_in(&self.cells[start..start + COUNTED]));
         }
-        count
+        count + usize::from(dark_in(&self.cells[COUNTED * parts..]))
     }
 
     /// The bytes of all pixels, of which dark and light ones have so many and each row so many more,

@@ -1,4 +1,4 @@
-//! Short texts that are written by whole blocks, into a line with room behind them.
+//! Short texts that are written with the bytes behind them, into a line with room for these.
 
 ghost use Rattle.std.specs.Prelude.{◌≡◌, ℕ, ◌+◌, ◌≤◌, ◌<◌, List, [], ◌++◌, length, take, drop, vec_len, IfOk, OnOk, IsOkUnless};
 ghost use Rattle.qrcode_types.specs.declared.types.QrError.TheVariants.{OutOfMemory};
@@ -6,25 +6,10 @@ ghost use Rattle.qrcode_types.specs.declared.types.QrError.TheVariants.{OutOfMem
 use qrcode_types::types::{QrError, QrResult};
 use std::alloc::Global;
 use std::marker::Model;
-use std::simd::prelude::*;
-
-// The bytes that are written at once.
-const BLOCK: usize = 16;
 
 /// The most bytes of a stamp, and the room behind a line: what is written past the end of a text is
 /// overwritten by the next one.
 pub const LONGEST: usize = 32;
-
-// Writes the block that begins at a place of others.
-fn put_block(bytes: &mut [u8], at: usize, others: &[u8], from: usize)
-    requires inside { from + 16 ≤ length others.now }
-    requires room { at + 16 ≤ length bytes.old }
-    ensures writes { take (at + 16) bytes.new
-        ≡ take at bytes.old ++ take 16 (drop from others.now) }
-    ensures room { length bytes.new ≡ length bytes.old }
-{
-    u8x16::from_slice(&others[from..]).copy_to_slice(&mut bytes[at..]);
-}
 
 // Writes a text, and answers where it ends.
 fn put_text(bytes: &mut [u8], at: usize, text: &[u8]) -> usize
@@ -38,7 +23,7 @@ fn put_text(bytes: &mut [u8], at: usize, text: &[u8]) -> usize
     end
 }
 
-/// A short text, with bytes behind it that make it whole blocks.
+/// A short text, with bytes behind it that are written too, so that all are copied at once.
 #[derive(Drop)]
 pub struct Stamp {
     start: [u8; LONGEST],
@@ -79,17 +64,14 @@ impl Stamp {
         Stamp { start, len: end }
     }
 
-    // Writes the text by blocks, and answers where it ends.
+    // Writes the text and the bytes behind it, and answers where the text ends.
     fn write(&self, bytes: &mut [u8], at: usize) -> usize
         requires { at + 32 ≤ length bytes.old }
         ensures writes { take result bytes.new ≡ take at bytes.old ++ self.now }
         ensures end { result ≡ at + length self.now }
         ensures room { length bytes.new ≡ length bytes.old }
     {
-        put_block(bytes, at, &self.start, 0);
-        if self.len > BLOCK {
-            put_block(bytes, at + BLOCK, &self.start, BLOCK);
-        }
+        bytes[at..at + LONGEST].copy_from_slice(&self.start);
         at + self.len
     }
 }

@@ -32,7 +32,8 @@ pub trait Element: Copy {
 
     /// Appends the text. After `OutOfMemory` nothing is known of the string.
     fn append_to_string(self, string: &mut String) -> QrResult<()>
-        ensures appends { OnOk result (string_bytes string.new ≡ string_bytes string.old ++ text self) }
+        ensures appends { OnOk result
+            (string_bytes string.new ≡ string_bytes string.old ++ text self) }
         ensures memory { IsOkUnless result OutOfMemory };
 }
 

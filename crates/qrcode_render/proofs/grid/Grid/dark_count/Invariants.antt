@@ -1,5 +1,5 @@
-use Rattle.std.proofs.Common.{◌≤◌}
+use Rattle.std.proofs.Common.{◌≤◌, ◌*◌}
 use Rattle.qrcode_render.proofs.grid.Grid.dark_count.Given as goal
 
-abbrev pub invariant-loop-color : goal.invariant-loop-color
-invariant-loop-color l = l.count ≤ l.color-index
+abbrev pub invariant-loop-i : goal.invariant-loop-i
+invariant-loop-i l = l.count ≤ 255 * l.i
