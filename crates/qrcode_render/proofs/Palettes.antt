@@ -1,10 +1,11 @@
 -- Texts of pairs of texts.
-use Rattle.std.proofs.Common.{◌≡◌, ℕ, zero, suc, ◌+◌, ◌*◌, ◌<◌, take, List, [], ◌∷◌, ◌++◌, Bool, true, false, length, map, get_or, ap, ◌∙◌, sym, arith, length-append}
+use Rattle.std.proofs.Common.{◌≡◌, ℕ, zero, suc, ◌+◌, ◌*◌, ◌<◌, inl, inr, take, List, [], ◌∷◌, ◌++◌, Bool, true, false, length, map, get_or, set, ap, ap₂, ◌∙◌, sym, subst, arith, length-append}
 use Rattle.std.specs.List.{flat_map}
-use Rattle.std.proofs.lemmas.List.{get_or-map, get_or-append-add, length-map, take_more, map-append, append-nil}
+use Rattle.std.proofs.lemmas.Bool.{cases_lt}
+use Rattle.std.proofs.lemmas.List.{get_or-map, get_or-append-add, length-map, take_more, map-append, append-nil, get_or-set_same, get_or-set_other}
 use Rattle.std.proofs.lemmas.List.Concat.{flat_map-append}
-use Rattle.std.proofs.Math.ListN.{get_or-append}
-use Rattle.qrcode_render.specs.Lines.{paired, pair_number}
+use Rattle.std.proofs.Math.ListN.{get_or-append, length-set}
+use Rattle.qrcode_render.specs.Lines.{paired, pair_number, two_text, AreMarksAt}
 
 pub pair_number-lt : (a b : Bool) → pair_number a b < 4
 pair_number-lt false false = omega arith
@@ -51,3 +52,36 @@ pub get_or-paired : (ts : List (List ℕ)) (i j : ℕ) → length ts ≡ 4 → i
 get_or-paired ts i j four h k =
     let place : 4 * i + j ≡ i * length ts + j = omega (arith, ap (λ n. i * n) four) in
     ap (λ n. get_or (paired ts) n []) place ∙ get_or-pairs ts ts i j (omega arith) (omega arith)
+
+-- the texts of two columns, whose marks stand one behind the other
+pub four_columns : (texts : List (List ℕ)) (upper lower columns : List Bool) (i : ℕ) → AreMarksAt upper lower columns (2 * i) → AreMarksAt upper lower columns (2 * i + 1) → two_text texts (get_or columns (4 * i) false) (get_or columns (4 * i + 1) false) ++ two_text texts (get_or columns (4 * i + 2) false) (get_or columns (4 * i + 3) false) ≡ two_text texts (get_or upper (2 * i) false) (get_or lower (2 * i) false) ++ two_text texts (get_or upper (2 * i + 1) false) (get_or lower (2 * i + 1) false)
+four_columns texts upper lower columns i one two =
+    let mark : ℕ → Bool = λ k. get_or columns k false in
+    let a : 4 * i ≡ 2 * (2 * i) = omega arith in
+    let b : 4 * i + 1 ≡ 2 * (2 * i) + 1 = omega arith in
+    let c : 4 * i + 2 ≡ 2 * (2 * i + 1) = omega arith in
+    let d : 4 * i + 3 ≡ 2 * (2 * i + 1) + 1 = omega arith in
+    ap₂ (λ s t. s ++ t) (ap₂ (two_text texts) (ap mark a ∙ one.first) (ap mark b ∙ one.second)) (ap₂ (two_text texts) (ap mark c ∙ two.first) (ap mark d ∙ two.second))
+
+-- the marks of one more column
+pub interleaved_more : (upper lower columns : List Bool) (x : ℕ) → 2 * x + 1 < length columns → ((k : ℕ) → k < x → AreMarksAt upper lower columns k) → (k : ℕ) → k < x + 1 → AreMarksAt upper lower (set (set columns (2 * x) (get_or upper x false)) (2 * x + 1) (get_or lower x false)) k
+interleaved_more upper lower columns x inside before k below =
+    let u = get_or upper x false in
+    let l = get_or lower x false in
+    let one = set columns (2 * x) u in
+    let long = length-set columns (2 * x) u in
+    elim (cases_lt k x) [
+      | inl earlier ↦
+          let old = before k earlier in
+          record {
+            first = get_or-set_other one (2 * x + 1) (2 * k) l false (λ e. omega (arith, e)) ∙ get_or-set_other columns (2 * x) (2 * k) u false (λ e. omega (arith, e)) ∙ old.first;
+            second = get_or-set_other one (2 * x + 1) (2 * k + 1) l false (λ e. omega (arith, e)) ∙ get_or-set_other columns (2 * x) (2 * k + 1) u false (λ e. omega (arith, e)) ∙ old.second;
+          }
+      | inr from ↦
+          let same : k ≡ x = omega arith in
+          let here : AreMarksAt upper lower (set one (2 * x + 1) l) x = record {
+            first = get_or-set_other one (2 * x + 1) (2 * x) l false (λ e. omega (arith, e)) ∙ get_or-set_same columns (2 * x) u false (omega arith);
+            second = get_or-set_same one (2 * x + 1) l false (omega (arith, long));
+          } in
+          subst (AreMarksAt upper lower (set one (2 * x + 1) l)) (sym same) here
+    ]

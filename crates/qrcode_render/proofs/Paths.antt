@@ -1,7 +1,9 @@
 -- Texts of rectangles, put together of those of columns and rows.
-use Rattle.std.proofs.Common.{◌≡◌, ℕ, ◌<◌, ◌≤◌, ◌^◌, List, [], ◌∷◌, ◌++◌, length, ap, arith, append_assoc, length-append}
+use Rattle.std.proofs.Common.{◌≡◌, ℕ, ◌+◌, ◌<◌, ◌≤◌, ◌^◌, List, [], ◌∷◌, ◌++◌, length, ap, arith, append_assoc, length-append}
 use Rattle.std.specs.Prelude.{decimal}
-use Rattle.std.proofs.lemmas.Fmt.{length-decimal-le}
+use Rattle.std.specs.Str.{IsAscii, IsUtf8}
+use Rattle.std.proofs.lemmas.Fmt.{length-decimal-le, IsAscii-decimal}
+use Rattle.std.proofs.lemmas.Str.{IsAscii-append, IsUtf8-from_ascii}
 use Rattle.qrcode_render.specs.Strokes.{rect_text, stroke}
 use Rattle.qrcode_render.specs.Vectors.{svg_rect, svg_column, svg_row, pic_rect, pic_column, pic_row}
 
@@ -19,25 +21,31 @@ pic_regroup text p a s b c d e = simp append_assoc
 pub pic_rect-is : (left top width height : ℕ) (text : List ℕ) → pic_rect left top width height text ≡ text ++ rect_text (pic_column left) (pic_row top width height)
 pic_rect-is left top width height text = pic_regroup text (112 ∷ 40 ∷ []) (decimal left) (44 ∷ []) (decimal top) (decimal width) (decimal height) (41 ∷ 10 ∷ [])
 
--- a number between two short texts
-pub number_short : (text before after : List ℕ) (n : ℕ) → n < 2 ^ 32 → length before ≤ 2 → length after ≤ 1 → text ≡ before ++ (decimal n ++ after) → length text ≤ 32
-number_short text before after n h a b is =
-    omega (arith, ap length is, length-append before (decimal n ++ after), length-append (decimal n) after, length-decimal-le 10 n (omega arith) (omega arith) (omega arith))
+-- a number below 2^32 has at most ten digits
+pub number_short : (n : ℕ) → n < 2 ^ 32 → length (decimal n) ≤ 10
+number_short n fits = length-decimal-le 10 n (omega arith) (omega arith) (omega arith)
 
--- the first row and the sides
-pub sides_short : (text s t : List ℕ) (top width height : ℕ) → top < 2 ^ 32 → width < 2 ^ 32 → height < 2 ^ 32 → length s ≤ 1 → length t ≤ 1 → text ≡ decimal top ++ (s ++ (decimal width ++ (t ++ decimal height))) → length text ≤ 32
-sides_short text s t top width height a b c p q is =
-    omega (
-      arith,
-      ap length is,
-      length-append (decimal top) (s ++ (decimal width ++ (t ++ decimal height))),
-      length-append s (decimal width ++ (t ++ decimal height)),
-      length-append (decimal width) (t ++ decimal height),
-      length-append t (decimal height),
-      length-decimal-le 10 top (omega arith) (omega arith) (omega arith),
-      length-decimal-le 10 width (omega arith) (omega arith) (omega arith),
-      length-decimal-le 10 height (omega arith) (omega arith) (omega arith),
-    )
+-- a number between two texts of ASCII is UTF-8
+pub number-IsUtf8 : (before after : List ℕ) (n : ℕ) → n < 2 ^ 32 → IsAscii before → IsAscii after → IsUtf8 (before ++ decimal n ++ after)
+number-IsUtf8 before after n fits a b = IsUtf8-from_ascii _ (IsAscii-append (before ++ decimal n) after (IsAscii-append before (decimal n) a (IsAscii-decimal n (omega arith))) b)
+
+-- how long two texts are at most, of which one stands behind the other
+pub joined_short : (text first second : List ℕ) (m n : ℕ) → text ≡ first ++ second → length first ≤ m → length second ≤ n → length text ≤ m + n
+joined_short text first second m n is a b = omega (arith, ap length is, length-append first second)
+
+pub decimal-IsUtf8 : (n : ℕ) → n < 2 ^ 32 → IsUtf8 (decimal n)
+decimal-IsUtf8 n fits = IsUtf8-from_ascii _ (IsAscii-decimal n (omega arith))
+
+pub sides_regroup : (a s b t c : List ℕ) → a ++ s ++ b ++ t ++ c ≡ a ++ (s ++ (b ++ (t ++ c)))
+sides_regroup a s b t c = simp append_assoc
+
+-- three numbers with texts of ASCII between them are UTF-8
+pub sides-IsUtf8 : (s t : List ℕ) (top width height : ℕ) → top < 2 ^ 32 → width < 2 ^ 32 → height < 2 ^ 32 → IsAscii s → IsAscii t → IsUtf8 (decimal top ++ s ++ decimal width ++ t ++ decimal height)
+sides-IsUtf8 s t top width height a b c p q =
+    let one = IsAscii-append (decimal top) s (IsAscii-decimal top (omega arith)) p in
+    let two = IsAscii-append (decimal top ++ s) (decimal width) one (IsAscii-decimal width (omega arith)) in
+    let three = IsAscii-append (decimal top ++ s ++ decimal width) t two q in
+    IsUtf8-from_ascii _ (IsAscii-append (decimal top ++ s ++ decimal width ++ t) (decimal height) three (IsAscii-decimal height (omega arith)))
 
 -- the rectangles of SVG and of PIC are such
 pub svg_strokes : svg_rect ≡ stroke svg_column svg_row

@@ -1,5 +1,5 @@
 -- How texts of pictures are put together.
-use Rattle.std.specs.Prelude.{ℕ, zero, suc, Bool, true, false, List, [], ◌∷◌, ◌++◌, map, flat_map, slice_index_or}
+use Rattle.std.specs.Prelude.{◌≡◌, ℕ, zero, suc, ◌+◌, ◌*◌, Bool, true, false, List, [], ◌∷◌, ◌++◌, map, flat_map, slice_index_or}
 
 -- what a line begins with: a newline, but for the first line
 abbrev pub line_start : ℕ → List ℕ
@@ -20,3 +20,8 @@ pair_number true true = 3
 -- the text that stands for two marks, of the four that stand for pairs
 abbrev pub two_text : List (List ℕ) → Bool → Bool → List ℕ
 two_text twos a b = slice_index_or twos (pair_number a b) []
+
+-- the marks of a column of two rows stand one behind the other in a list of columns
+pub record AreMarksAt (upper lower columns : List Bool) (x : ℕ) : Type 0 where
+  pub first : slice_index_or columns (2 * x) false ≡ slice_index_or upper x false
+  pub second : slice_index_or columns (2 * x + 1) false ≡ slice_index_or lower x false

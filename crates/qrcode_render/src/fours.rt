@@ -2,16 +2,20 @@
 
 ghost use Rattle.std.specs.Prelude.{◌≡◌, ℕ, ◌+◌, ◌*◌, ◌<◌, ◌≤◌, Bool, All, [], ◌∷◌, List, ◌++◌, length, map, IfOk, OnOk, IsOkUnless};
 ghost use Rattle.qrcode_types.specs.declared.types.QrError.TheVariants.{OutOfMemory};
-ghost use Rattle.qrcode_render.specs.Lines.{paired, pair_number, two_text};
+ghost use Rattle.qrcode_render.specs.Lines.{paired, pair_number, two_text, AreMarksAt};
 ghost use Rattle.qrcode_render.specs.Texts.{marks_text, columns_text};
 
-use crate::stamps::{Line, Stamp};
+use crate::stamps::{LONGEST, Line, Stamp};
 use qrcode_types::types::QrResult;
 use std::alloc::Global;
 use std::marker::Model;
 
 // Appends a text followed by each.
-fn push_pairs(pairs: &mut Vec<Stamp>, first: &Stamp, texts: &[Stamp]) -> QrResult<()>
+fn push_pairs(
+    pairs: &mut Vec<Stamp<LONGEST>>,
+    first: &Stamp<LONGEST>,
+    texts: &[Stamp<LONGEST>],
+) -> QrResult<()>
     requires first { length first.now ≤ 16 }
     requires short { All (λ text. length text ≤ 16) texts.now }
     ensures appends { OnOk result
@@ -25,7 +29,7 @@ fn push_pairs(pairs: &mut Vec<Stamp>, first: &Stamp, texts: &[Stamp]) -> QrResul
 }
 
 /// Each text followed by each, the second changing first.
-pub fn pairs(alloc: Global, texts: &[Stamp]) -> QrResult<Vec<Stamp>>
+pub fn pairs(alloc: Global, texts: &[Stamp<LONGEST>]) -> QrResult<Vec<Stamp<LONGEST>>>
     requires short { All (λ text. length text ≤ 16) texts.now }
     ensures value { IfOk result (λ v. v.items ≡ paired texts.now) }
     ensures memory { IsOkUnless result OutOfMemory }
@@ -56,8 +60,8 @@ fn four_number(a: bool, b: bool, c: bool, d: bool) -> usize
 /// Texts that stand for four marks, by those that stand for two.
 #[derive(Drop)]
 pub struct Fours {
-    twos: Vec<Stamp>,
-    fours: Vec<Stamp>,
+    twos: Vec<Stamp<LONGEST>>,
+    fours: Vec<Stamp<LONGEST>>,
 }
 
 impl Model for Fours {
@@ -70,7 +74,7 @@ impl Model for Fours {
 
 impl Fours {
     /// The palette of the texts that stand for two marks. Refuses with `OutOfMemory` alone.
-    pub fn new(alloc: Global, twos: Vec<Stamp>) -> QrResult<Fours>
+    pub fn new(alloc: Global, twos: Vec<Stamp<LONGEST>>) -> QrResult<Fours>
         requires four { length twos.items ≡ 4 }
         requires short { All (λ text. length text ≤ 16) twos.items }
         ensures twos { IfOk result (λ palette. palette ≡ twos.items) }
@@ -81,14 +85,14 @@ impl Fours {
     }
 
     /// The text that stands for two marks.
-    pub fn two(&self, first: bool, second: bool) -> &Stamp
+    pub fn two(&self, first: bool, second: bool) -> &Stamp<LONGEST>
         ensures { result.now ≡ two_text self.now first second }
     {
         &self.twos[pair_number(first, second)]
     }
 
     /// The text that stands for four marks.
-    pub fn four(&self, a: bool, b: bool, c: bool, d: bool) -> &Stamp
+    pub fn four(&self, a: bool, b: bool, c: bool, d: bool) -> &Stamp<LONGEST>
         ensures { result.now ≡ two_text self.now a b ++ two_text self.now c d }
     {
         &self.fours[four_number(a, b, c, d)]
@@ -128,19 +132,45 @@ pub fn push_marks(line: &mut Line, palette: &Fours, dark: &[u8], light: &[u8], m
     push_ones(line, dark, light, &marks[4 * fours..]);
 }
 
+// Puts the marks of the columns of two rows one behind the other.
+fn interleave(upper: &[bool], lower: &[bool], columns: &mut [bool])
+    requires lower { length lower.now ≡ length upper.now }
+    requires columns { length columns.old ≡ 2 * length upper.now }
+    ensures { (x : ℕ) → x < length upper.now → AreMarksAt upper.now lower.now columns.new x }
+{
+    for x in 0..upper.len() {
+        columns[2 * x] = upper[x];
+        columns[2 * x + 1] = lower[x];
+    }
+}
+
 /// Appends the texts that stand for the columns of two rows of marks, two columns at a time.
-pub fn push_columns(line: &mut Line, palette: &Fours, upper: &[bool], lower: &[bool])
-    requires length { length lower.now ≡ length upper.now }
+/// `columns` is room for all marks.
+pub fn push_columns(
+    line: &mut Line,
+    palette: &Fours,
+    upper: &[bool],
+    lower: &[bool],
+    columns: &mut [bool],
+)
+    requires lower { length lower.now ≡ length upper.now }
+    requires columns { length columns.old ≡ 2 * length upper.now }
     requires room { length (line.old.text ++ columns_text (two_text palette.now) upper.now lower.now) + 32
         ≤ line.old.room }
     ensures { line.new ≡ record line.old {
       text = line.old.text ++ columns_text (two_text palette.now) upper.now lower.now;
     } }
 {
+    interleave(upper, lower, columns);
     let pairs = upper.len() / 2;
     for i in 0..pairs {
-        let x = 2 * i;
-        let four = palette.four(upper[x], lower[x], upper[x + 1], lower[x + 1]);
+        let at = 4 * i;
+        let four = palette.four(
+            columns[at],
+            columns[at + 1],
+            columns[at + 2],
+            columns[at + 3],
+        );
         line.put(four);
     }
     if upper.len() % 2 == 1 {

@@ -1,22 +1,25 @@
-//! A text while rectangles are written: short texts go by whole blocks into a line behind it.
+//! A text while rectangles are written: short texts go into a line behind it.
 
 ghost use Rattle.std.specs.Prelude.{◌≡◌, ℕ, ◌≤◌, List, ◌++◌, length, string_bytes, IfOk, OnOk, IsOkUnless};
 ghost use Rattle.std.specs.Str.{IsUtf8};
 ghost use Rattle.qrcode_types.specs.declared.types.QrError.TheVariants.{OutOfMemory};
 
-use crate::stamps::{Line, Stamp};
+use crate::stamps::{LONGEST, Line, Stamp};
 use qrcode_types::types::QrResult;
 use std::marker::Model;
 use std::str::from_utf8_unchecked;
 
+/// The most bytes of the text in front of a column and of that behind a column or a row.
+pub const SHORT: usize = 16;
+
 /// Two short texts: what stands in front of the text of a row, or of a column, and behind it.
 #[derive(Drop)]
-pub struct Piece {
-    front: Stamp,
-    back: Stamp,
+pub struct Piece<const N: usize> {
+    front: Stamp<N>,
+    back: Stamp<SHORT>,
 }
 
-impl Model for Piece {
+impl<const N: usize> Model for Piece<N> {
     ghost use Rattle.std.specs.Prelude.{ℕ, ◌≤◌, List, length};
     ghost use Rattle.std.specs.Str.{IsUtf8};
 
@@ -24,30 +27,38 @@ impl Model for Piece {
 
     ghost view = { λ p. (p.front, p.back) };
 
-    ghost invariant = { λ p. (length p.front ≤ 32) × (length p.back ≤ 32)
+    ghost invariant = { λ p. (length p.front ≤ N) × (length p.back ≤ 16)
         × (∥ IsUtf8 p.front ∥₁) × (∥ IsUtf8 p.back ∥₁) };
 }
 
-impl Piece {
+impl<const N: usize> Piece<N> {
     /// Two short texts.
-    pub fn new(front: &str, back: &str) -> Piece
-        requires front { length front.now ≤ 32 }
-        requires back { length back.now ≤ 32 }
-        ensures front { result.0 ≡ front.now }
-        ensures back { result.1 ≡ back.now }
+    pub fn new(front: Stamp<N>, back: Stamp<SHORT>) -> Piece<N>
+        requires front_text { ∥ IsUtf8 front ∥₁ }
+        requires back_text { ∥ IsUtf8 back ∥₁ }
+        ensures front { result.0 ≡ front.entry }
+        ensures back { result.1 ≡ back }
     {
-        Piece {
-            front: Stamp::new(front.as_bytes()),
-            back: Stamp::new(back.as_bytes()),
-        }
+        Piece { front, back }
+    }
+
+    /// How many bytes the two texts have.
+    pub fn len(&self) -> usize {
+        self.front.len().saturating_add(self.back.len())
     }
 }
+
+/// The texts of a column.
+pub type Column = Piece<SHORT>;
+
+/// The texts of a row.
+pub type Row = Piece<LONGEST>;
 
 // The bytes of a line that is appended to the text.
 const FULL: usize = 1024;
 
 // The most bytes of a rectangle.
-const LONGEST: usize = 128;
+const MOST: usize = 128;
 
 /// A text while rectangles are written: its last bytes stand in a line with room behind them.
 #[derive(Drop)]
@@ -67,7 +78,7 @@ impl Ink {
         ensures value { IfOk result (λ ink. whole_text ink ≡ string_bytes text) }
         ensures memory { IsOkUnless result OutOfMemory }
     {
-        let line = Line::new(*text.allocator(), FULL + LONGEST)?;
+        let line = Line::new(*text.allocator(), FULL + MOST)?;
         Ok(Ink { text, line })
     }
 
@@ -84,7 +95,7 @@ impl Ink {
     }
 
     /// Appends the text of a rectangle.
-    pub fn push_rect(&mut self, column: &Piece, row: &Piece) -> QrResult<()>
+    pub fn push_rect(&mut self, column: &Column, row: &Row) -> QrResult<()>
         ensures appends { OnOk result
             (whole_text self.new ≡ whole_text self.old ++ rect_text column.now row.now) }
         ensures memory { IsOkUnless result OutOfMemory }

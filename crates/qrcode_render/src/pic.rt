@@ -6,7 +6,8 @@ ghost use Rattle.qrcode_types.specs.declared.types.QrError.TheVariants.{OutOfMem
 ghost use Rattle.qrcode_render.specs.Setting.{layout_of};
 ghost use Rattle.qrcode_render.specs.Vectors.{pic_start, pic_rect, pic_column, pic_row, pic_text};
 
-use crate::ink::Piece;
+use crate::ink::{Column, Piece, Row};
+use crate::stamps::Stamp;
 use crate::strokes::{Strokes, push_modules};
 use crate::{Modules, Pixel};
 use qrcode_types::types::QrResult;
@@ -65,22 +66,25 @@ impl Strokes for Boxes {
 
     ghost row_texts = { pic_row };
 
-    fn column(front: &mut String, _back: &mut String, left: u32) -> QrResult<Piece> {
-        front.clear();
-        write!(front, "p({left},")?;
-        Ok(Piece::new(front.as_str(), ""))
+    #[tactic(auto, using(crate::proofs::Paths::number_short))]
+    fn column(left: u32) -> Column {
+        let mut front = Stamp::new(b"p(");
+        front.push_number(left);
+        front.push(b",");
+        let back = Stamp::new(b"");
+        Piece::new(front, back)
     }
 
-    fn row(
-        front: &mut String,
-        _back: &mut String,
-        top: u32,
-        width: u32,
-        height: u32,
-    ) -> QrResult<Piece> {
-        front.clear();
-        write!(front, "{top},{width},{height}")?;
-        Ok(Piece::new(front.as_str(), ")\n"))
+    #[tactic(auto, using(crate::proofs::Paths::number_short))]
+    fn row(top: u32, width: u32, height: u32) -> Row {
+        let mut front = Stamp::new(b"");
+        front.push_number(top);
+        front.push(b",");
+        front.push_number(width);
+        front.push(b",");
+        front.push_number(height);
+        let back = Stamp::new(b")\n");
+        Piece::new(front, back)
     }
 }
 

@@ -1,11 +1,12 @@
 //! Short texts that are written with the bytes behind them, into a line with room for these.
 
-ghost use Rattle.std.specs.Prelude.{◌≡◌, ℕ, ◌+◌, ◌≤◌, ◌<◌, List, [], ◌++◌, length, take, drop, vec_len, IfOk, OnOk, IsOkUnless};
+ghost use Rattle.std.specs.Prelude.{◌≡◌, ℕ, ◌+◌, ◌≤◌, ◌<◌, List, [], ◌++◌, length, take, vec_len, IfOk, OnOk, IsOkUnless, decimal};
 ghost use Rattle.qrcode_types.specs.declared.types.QrError.TheVariants.{OutOfMemory};
 
 use qrcode_types::types::{QrError, QrResult};
 use std::alloc::Global;
 use std::marker::Model;
+use std::simd::Simd;
 
 /// The most bytes of a stamp, and the room behind a line: what is written past the end of a text is
 /// overwritten by the next one.
@@ -23,30 +24,47 @@ fn put_text(bytes: &mut [u8], at: usize, text: &[u8]) -> usize
     end
 }
 
-/// A short text, with bytes behind it that are written too, so that all are copied at once.
+// Writes a number in decimal digits, and answers where it ends.
+fn put_number(bytes: &mut [u8], at: usize, n: u32) -> usize
+    requires { at + length (decimal n) ≤ length bytes.old }
+    ensures writes { take result bytes.new ≡ take at bytes.old ++ decimal n }
+    ensures end { result ≡ at + length (decimal n) }
+    ensures room { length bytes.new ≡ length bytes.old }
+{
+    let place = if n < 10 {
+        at
+    } else {
+        put_number(bytes, at, n / 10)
+    };
+    bytes[place] = b'0' + (n % 10) as u8;
+    place + 1
+}
+
+/// A text of at most `N` bytes, with bytes behind it that are written too, so that all are copied at
+/// once.
 #[derive(Drop)]
-pub struct Stamp {
-    start: [u8; LONGEST],
+pub struct Stamp<const N: usize> {
+    start: [u8; N],
     len: usize,
 }
 
-impl Model for Stamp {
+impl<const N: usize> Model for Stamp<N> {
     ghost use Rattle.std.specs.Prelude.{ℕ, ◌≤◌, List, take};
 
     ghost Value = { List ℕ };
 
     ghost view = { λ s. take s.len s.start };
 
-    ghost invariant = { λ s. s.len ≤ 32 };
+    ghost invariant = { λ s. s.len ≤ N };
 }
 
-impl Stamp {
+impl<const N: usize> Stamp<N> {
     /// The stamp of a text.
-    pub fn new(text: &[u8]) -> Stamp
-        requires { length text.now ≤ 32 }
+    pub fn new(text: &[u8]) -> Stamp<N>
+        requires { length text.now ≤ N }
         ensures { result ≡ text.now }
     {
-        let mut start = [0; LONGEST];
+        let mut start = [0; N];
         start[..text.len()].copy_from_slice(text);
         Stamp {
             start,
@@ -55,8 +73,8 @@ impl Stamp {
     }
 
     /// The stamp of a text and another behind it.
-    pub fn and(&self, other: &Stamp) -> Stamp
-        requires { length self.now + length other.now ≤ 32 }
+    pub fn and(&self, other: &Stamp<N>) -> Stamp<N>
+        requires { length self.now + length other.now ≤ N }
         ensures { result ≡ self.now ++ other.now }
     {
         let mut start = self.start;
@@ -64,14 +82,38 @@ impl Stamp {
         Stamp { start, len: end }
     }
 
+    /// Appends a text.
+    pub fn push(&mut self, text: &[u8])
+        requires { length self.old + length text.now ≤ N }
+        ensures { self.new ≡ self.old ++ text.now }
+    {
+        self.len = put_text(&mut self.start, self.len, text);
+    }
+
+    /// Appends a number in decimal digits.
+    pub fn push_number(&mut self, n: u32)
+        requires { length self.old + length (decimal n) ≤ N }
+        ensures { self.new ≡ self.old ++ decimal n }
+    {
+        self.len = put_number(&mut self.start, self.len, n);
+    }
+
+    /// How many bytes the text has.
+    pub fn len(&self) -> usize
+        ensures value { result ≡ length self.now }
+        ensures at_most { result ≤ N }
+    {
+        self.len
+    }
+
     // Writes the text and the bytes behind it, and answers where the text ends.
     fn write(&self, bytes: &mut [u8], at: usize) -> usize
-        requires { at + 32 ≤ length bytes.old }
+        requires { at + N ≤ length bytes.old }
         ensures writes { take result bytes.new ≡ take at bytes.old ++ self.now }
         ensures end { result ≡ at + length self.now }
         ensures room { length bytes.new ≡ length bytes.old }
     {
-        bytes[at..at + LONGEST].copy_from_slice(&self.start);
+        Simd::<u8, N>::from_slice(&self.start).copy_to_slice(&mut bytes[at..]);
         at + self.len
     }
 }
@@ -114,8 +156,8 @@ impl Line {
     }
 
     /// Appends a stamp.
-    pub fn put(&mut self, stamp: &Stamp)
-        requires { length self.old.text + length stamp.now + 32 ≤ self.old.room }
+    pub fn put<const N: usize>(&mut self, stamp: &Stamp<N>)
+        requires { length self.old.text + N ≤ self.old.room }
         ensures { self.new ≡ record self.old { text = self.old.text ++ stamp.now } }
     {
         self.end = stamp.write(&mut self.bytes, self.end);

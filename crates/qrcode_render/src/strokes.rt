@@ -9,8 +9,9 @@ ghost use Rattle.qrcode_render.specs.Layout.{layout};
 ghost use Rattle.qrcode_render.specs.Strokes.{stroke, columns_from};
 
 use crate::Modules;
-use crate::ink::{Ink, Piece};
+use crate::ink::{Column, Ink, Row};
 use qrcode_types::types::{Color, QrResult};
+use std::alloc::Global;
 
 /// How a vector format writes rectangles.
 pub trait Strokes {
@@ -19,38 +20,24 @@ pub trait Strokes {
 
     ghost row_texts: { ℕ → ℕ → ℕ → List ℕ × List ℕ };
 
-    /// The texts of a column. The two strings are room for them.
-    fn column(front: &mut String, back: &mut String, left: u32) -> QrResult<Piece>
-        ensures value { IfOk result (λ piece. piece ≡ column_texts left) }
-        ensures memory { IsOkUnless result OutOfMemory };
+    /// The texts of a column.
+    fn column(left: u32) -> Column
+        ensures { result ≡ column_texts left };
 
-    /// The texts of a row and sides. The two strings are room for them.
-    fn row(
-        front: &mut String,
-        back: &mut String,
-        top: u32,
-        width: u32,
-        height: u32,
-    ) -> QrResult<Piece>
-        ensures value { IfOk result (λ piece. piece ≡ row_texts top width height) }
-        ensures memory { IsOkUnless result OutOfMemory };
+    /// The texts of a row and sides.
+    fn row(top: u32, width: u32, height: u32) -> Row
+        ensures { result ≡ row_texts top width height };
 }
 
 // The texts of columns of modules of so many pixels, from a first pixel on.
-fn columns<S: Strokes>(
-    front: &mut String,
-    back: &mut String,
-    left: u32,
-    width: u32,
-    count: u32,
-) -> QrResult<Vec<Piece>>
+fn columns<S: Strokes>(alloc: Global, left: u32, width: u32, count: u32) -> QrResult<Vec<Column>>
     requires { left + count * width < 2 ^ 32 }
     ensures value { IfOk result (λ v. v.items ≡ columns_from S.column_texts left width count) }
     ensures memory { IsOkUnless result OutOfMemory }
 {
-    let mut columns = Vec::with_capacity(*front.allocator(), count as usize)?;
+    let mut columns = Vec::with_capacity(alloc, count as usize)?;
     for i in 0..count {
-        columns.push(S::column(front, back, left + i * width)?)?;
+        columns.push(S::column(left + i * width))?;
     }
     Ok(columns)
 }
@@ -58,8 +45,8 @@ fn columns<S: Strokes>(
 // Appends the rectangles of the dark modules of a row.
 fn push_line<S: Strokes>(
     ink: &mut Ink,
-    columns: &[Piece],
-    row: &Piece,
+    columns: &[Column],
+    row: &Row,
     line: &[Color],
     left: u32,
     top: u32,
@@ -88,14 +75,12 @@ fn push_line<S: Strokes>(
 // Appends the rectangles of the dark modules of a square, row by row.
 fn push_rows<S: Strokes>(
     ink: &mut Ink,
-    columns: &[Piece],
+    columns: &[Column],
     content: &[Color],
     count: u32,
     zone: u32,
     width: u32,
     height: u32,
-    front: &mut String,
-    back: &mut String,
 ) -> QrResult<()>
     requires square { length content.now ≡ count * count }
     requires side_fits { count + 2 * zone < 2 ^ 32 }
@@ -112,10 +97,25 @@ fn push_rows<S: Strokes>(
         let start = row as usize * count as usize;
         let line = &content[start..start + count as usize];
         let top = (row + zone) * height;
-        let piece = S::row(front, back, top, width, height)?;
+        let piece = S::row(top, width, height);
         push_line::<S>(ink, columns, &piece, line, left, top, width, height)?;
     }
     Ok(())
+}
+
+// Room for the rectangles of the dark modules, of which none has longer texts than those of the last
+// column and of the last row.
+fn room_of<S: Strokes>(columns: &[Column], modules: &Modules) -> usize {
+    let last = (modules.count + modules.zone) * modules.height;
+    let row = S::row(last, modules.width, modules.height).len();
+    let column = match columns.last() {
+        Some(column) => column.len(),
+        None => 0,
+    };
+    modules
+        .grid()
+        .dark_count()
+        .saturating_mul(row.saturating_add(column))
 }
 
 /// Appends the rectangles of the dark modules to a text. Refuses with `OutOfMemory` alone.
@@ -125,10 +125,10 @@ pub fn push_modules<S: Strokes>(text: String, modules: &Modules) -> QrResult<Str
         modules.now.content (string_bytes text)) }
     ensures memory { IsOkUnless result OutOfMemory }
 {
-    let alloc = *text.allocator();
-    let (mut front, mut back) = (String::new(alloc), String::new(alloc));
     let left = modules.zone * modules.width;
-    let columns = columns::<S>(&mut front, &mut back, left, modules.width, modules.count)?;
+    let columns = columns::<S>(*text.allocator(), left, modules.width, modules.count)?;
+    let mut text = text;
+    text.reserve(room_of::<S>(&columns, modules))?;
     let mut ink = Ink::new(text)?;
     push_rows::<S>(
         &mut ink,
@@ -138,8 +138,6 @@ pub fn push_modules<S: Strokes>(text: String, modules: &Modules) -> QrResult<Str
         modules.zone,
         modules.width,
         modules.height,
-        &mut front,
-        &mut back,
     )?;
     ink.into_text()
 }

@@ -7,7 +7,8 @@ ghost use Rattle.qrcode_types.specs.Colors.{select_of};
 ghost use Rattle.qrcode_render.specs.Setting.{layout_of};
 ghost use Rattle.qrcode_render.specs.Vectors.{svg_frame, svg_ground, svg_start, svg_rect, svg_column, svg_row, svg_end, svg_text};
 
-use crate::ink::Piece;
+use crate::ink::{Column, Piece, Row};
+use crate::stamps::Stamp;
 use crate::strokes::{Strokes, push_modules};
 pub use crate::svg_path::{Path, PathElement};
 use crate::{Modules, Pixel};
@@ -74,26 +75,28 @@ impl Strokes for Paths {
 
     ghost row_texts = { svg_row };
 
-    fn column(front: &mut String, back: &mut String, left: u32) -> QrResult<Piece> {
-        front.clear();
-        write!(front, "M{left} ")?;
-        back.clear();
-        write!(back, "H{left}V")?;
-        Ok(Piece::new(front.as_str(), back.as_str()))
+    #[tactic(auto, using(crate::proofs::Paths::number_short))]
+    fn column(left: u32) -> Column {
+        let mut front = Stamp::new(b"M");
+        front.push_number(left);
+        front.push(b" ");
+        let mut back = Stamp::new(b"H");
+        back.push_number(left);
+        back.push(b"V");
+        Piece::new(front, back)
     }
 
-    fn row(
-        front: &mut String,
-        back: &mut String,
-        top: u32,
-        width: u32,
-        height: u32,
-    ) -> QrResult<Piece> {
-        front.clear();
-        write!(front, "{top}h{width}v{height}")?;
-        back.clear();
-        write!(back, "{top}")?;
-        Ok(Piece::new(front.as_str(), back.as_str()))
+    #[tactic(auto, using(crate::proofs::Paths::number_short))]
+    fn row(top: u32, width: u32, height: u32) -> Row {
+        let mut back = Stamp::new(b"");
+        back.push_number(top);
+        let mut front = Stamp::new(b"");
+        front.push_number(top);
+        front.push(b"h");
+        front.push_number(width);
+        front.push(b"v");
+        front.push_number(height);
+        Piece::new(front, back)
     }
 }
 

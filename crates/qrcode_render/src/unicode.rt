@@ -132,12 +132,13 @@ impl Halves {
     }
 }
 
-// Room for the marks of a row of cells and of two rows of pixels, and for the line of these.
+// Room for the marks of a row of cells, of two rows of pixels and of both, and for the line of these.
 #[derive(Drop)]
 struct Strip {
     cells: Vec<bool>,
     upper: Vec<bool>,
     lower: Vec<bool>,
+    columns: Vec<bool>,
     line: Line,
 }
 
@@ -152,6 +153,7 @@ impl Strip {
             cells: vec![in alloc; false; columns]?,
             upper: vec![in alloc; false; width as usize]?,
             lower: vec![in alloc; false; width as usize]?,
+            columns: vec![in alloc; false; 2 * width as usize]?,
             line: Line::new(alloc, LONGEST_HALF * width as usize + 1)?,
         })
     }
@@ -168,7 +170,13 @@ impl Strip {
         mark_pixels(grid, 2 * i, &mut self.cells, &mut self.upper);
         mark_pixels(grid, 2 * i + 1, &mut self.cells, &mut self.lower);
         self.line.clear();
-        push_columns(&mut self.line, &halves.palette, &self.upper, &self.lower);
+        push_columns(
+            &mut self.line,
+            &halves.palette,
+            &self.upper,
+            &self.lower,
+            &mut self.columns,
+        );
         self.line.push(b"\n");
     }
 

@@ -3,6 +3,7 @@ use Rattle.std.specs.List.{flat_map, range_with_len}
 use Rattle.qrcode_render.specs.LineOf.{Written}
 use Rattle.qrcode_render.specs.Lines.{two_text}
 use Rattle.qrcode_render.proofs.LineTexts.{flat_range_more}
+use Rattle.qrcode_render.proofs.Palettes.{four_columns}
 use Rattle.qrcode_render.proofs.PixelRows.{flat_range_le}
 use Rattle.qrcode_render.proofs.fours.push_columns.Goals as goal
 
@@ -28,7 +29,7 @@ put-requires c =
       length-append old here,
       length-append old (here ++ (column x ++ column (x + 1))),
       length-append here (column x ++ column (x + 1)),
-      ap length c.four-four.ensures,
+      ap length (c.four-four.ensures ∙ four_columns c.args.palette.now c.args.upper.now c.args.lower.now c.interleave.new.columns c.loop-i.i (c.interleave.ensures (2 * c.loop-i.i) (omega arith)) (c.interleave.ensures (2 * c.loop-i.i + 1) (omega arith))),
       ap (λ (l : Written). length l.text) c.loop-i.invariant,
       ap (λ (l : Written). l.room) c.loop-i.invariant,
     )
@@ -43,7 +44,7 @@ loop-i-preserved c =
     ∙ ap (λ y. y ++ column (x + 1)) (flat_range_more column x (x + 1) refl)
     ∙ append_assoc (flat_map column (range_with_len 0 x)) (column x) (column (x + 1)) in
     let joined = append_assoc old.text (flat_map column (range_with_len 0 x)) c.four-four.result.now
-    ∙ ap (λ t. old.text ++ (flat_map column (range_with_len 0 x) ++ t)) c.four-four.ensures
+    ∙ ap (λ t. old.text ++ (flat_map column (range_with_len 0 x) ++ t)) (c.four-four.ensures ∙ four_columns c.args.palette.now c.args.upper.now c.args.lower.now c.interleave.new.columns c.loop-i.i (c.interleave.ensures (2 * c.loop-i.i) (omega arith)) (c.interleave.ensures (2 * c.loop-i.i + 1) (omega arith)))
     ∙ ap (λ t. old.text ++ t) (sym more) in
     c.put.ensures
     ∙ ap (λ (l : Written). record l { text = l.text ++ c.four-four.result.now }) c.loop-i.invariant

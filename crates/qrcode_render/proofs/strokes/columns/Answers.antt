@@ -7,5 +7,5 @@ loop-i-preserved g c =
     let i = c.loop-i.i in
     let column : ℕ → List ℕ × List ℕ = λ k. g.S.Strokes.column_texts (c.args.left + k * c.args.width) in
     c.in_ok-push.ensures.items
-    ∙ ap₂ (λ xs x. xs ++ x ∷ []) c.loop-i.invariant c.in_ok-column.ensures.value
+    ∙ ap₂ (λ xs x. xs ++ x ∷ []) c.loop-i.invariant c.column.ensures
     ∙ sym (map-range_with_len_more column 0 i i (omega arith))

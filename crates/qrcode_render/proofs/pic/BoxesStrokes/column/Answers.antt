@@ -1,8 +1,26 @@
-use Rattle.std.proofs.Common.{[], ◌∷◌, ◌++◌, ap, ◌∙◌, arith}
-use Rattle.std.specs.Prelude.{codes, decimal}
-use Rattle.qrcode_render.proofs.Paths.{number_short}
+use Rattle.std.proofs.Common.{rules, List, ℕ, [], ◌∷◌, ◌++◌, decimal, ap, ap₂, ◌∙◌, sym, subst, append_assoc}
+use Rattle.std.specs.Str.{IsUtf8}
+use Rattle.std.proofs.lemmas.Str.{IsUtf8-nil}
+use Rattle.qrcode_render.proofs.Paths.{number-IsUtf8}
 use Rattle.qrcode_render.proofs.pic.BoxesStrokes.column.Goals as goal
 
-pub new-requires-clause-front : goal.new-requires-clause-front
-new-requires-clause-front c =
-    number_short _ (112 ∷ 40 ∷ []) (44 ∷ []) c.args.left c.ranges.left.fits (omega arith) (omega arith) (c.as_str.ensures.value ∙ c.in_ok-write.ensures.bytes ∙ ap (λ t. t ++ (codes "p(" ++ (decimal c.args.left ++ codes ","))) c.clear.ensures.bytes)
+pub new-requires : goal.new-requires
+new-requires c =
+    let left = decimal c.args.left in
+    let front = c.push.ensures ∙ ap (λ t. t ++ (44 ∷ [])) (c.push_number.ensures ∙ ap (λ t. t ++ left) c.new-front.ensures) in (
+      search rules,
+      (
+        search rules,
+        (
+          ∣ subst IsUtf8 (sym front) (number-IsUtf8 (112 ∷ 40 ∷ []) (44 ∷ []) c.args.left c.ranges.left.fits (search rules) (search rules)) ∣₁,
+          ∣ subst IsUtf8 (sym c.new-back.ensures) IsUtf8-nil ∣₁,
+        ),
+      ),
+    )
+
+pub returns : goal.returns
+returns c =
+    let left = decimal c.args.left in
+    let front = c.push.ensures ∙ ap (λ t. t ++ (44 ∷ [])) (c.push_number.ensures ∙ ap (λ t. t ++ left) c.new-front.ensures) ∙ append_assoc (112 ∷ 40 ∷ []) left (44 ∷ []) in
+    let pair : List ℕ → List ℕ → List ℕ × List ℕ = λ a b. (a, b) in
+    ap₂ pair (c.new.ensures.front ∙ front) (c.new.ensures.back ∙ c.new-back.ensures)

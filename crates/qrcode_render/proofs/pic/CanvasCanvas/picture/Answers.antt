@@ -19,11 +19,4 @@ returns-clause-picture c = λ whole.
     ∙ ap draw start) c.push_modules.ensures.value
 
 pub returns-clause-ends : goal.returns-clause-ends
-returns-clause-ends c = λ whole.
-    let m = c.args.modules.now in
-    let draw = drawn pic_rect (layout m.count m.zone m.across m.down) m.content in
-    let start = c.in_ok-canvas.ensures.starts ∙ ap₂ pic_start c.pixels-width.ensures.across c.pixels-width.ensures.down in
-    IfOk-weaker c.push_modules.result _ _ (λ text is.
-    is
-    ∙ ap (λ rect. drawn rect (layout m.count m.zone m.across m.down) m.content (string_bytes c.in_ok-canvas.canvas.text)) (sym pic_strokes)
-    ∙ ap draw start) c.push_modules.ensures.value
+returns-clause-ends c = returns-clause-picture c

@@ -21,13 +21,5 @@ returns-clause-picture c = λ whole.
     ∙ ap draw start)
 
 pub returns-clause-ends : goal.returns-clause-ends
-returns-clause-ends c = λ whole.
-    let m = c.args.modules.now in
-    let draw = drawn svg_rect (layout m.count m.zone m.across m.down) m.content in
-    let start = c.in_ok-canvas.ensures.starts
-    ∙ ap₂ (λ w h. svg_start w h c.args.dark_pixel.0.now c.args.light_pixel.0.now) c.pixels-width.ensures.across c.pixels-width.ensures.down in
-    c.in_ok-push_str.ensures.bytes
-    ∙ ap (λ t. t ++ svg_end)
-    (c.in_ok-text.ensures.value
-    ∙ ap (λ rect. drawn rect (layout m.count m.zone m.across m.down) m.content (string_bytes c.in_ok-canvas.canvas.text)) (sym svg_strokes)
-    ∙ ap draw start)
+unfolding svg_text
+returns-clause-ends c = returns-clause-picture c

@@ -1,16 +1,62 @@
-use Rattle.std.proofs.Common.{[], ◌∷◌, ◌++◌, length, ap, ◌∙◌, arith}
-use Rattle.std.specs.Prelude.{codes, decimal}
-use Rattle.std.proofs.lemmas.Fmt.{length-decimal-le}
-use Rattle.qrcode_render.proofs.Paths.{sides_short}
+use Rattle.std.proofs.Common.{rules, ◌≡◌, ◌≤◌, List, ℕ, [], ◌∷◌, ◌++◌, length, arith, decimal, ap, ap₂, ◌∙◌, sym, subst}
+use Rattle.std.specs.Str.{IsUtf8}
+use Rattle.qrcode_render.proofs.Paths.{decimal-IsUtf8, joined_short, number_short, sides-IsUtf8, sides_regroup}
 use Rattle.qrcode_render.proofs.svg.PathsStrokes.row.Goals as goal
 
-pub new-requires-clause-front : goal.new-requires-clause-front
-new-requires-clause-front c =
-    sides_short _ (104 ∷ []) (118 ∷ []) c.args.top c.args.width c.args.height c.ranges.top.fits c.ranges.width.fits c.ranges.height.fits (omega arith) (omega arith)
-    (c.as_str.ensures.value ∙ c.in_ok-write.ensures.bytes ∙ ap (λ t. t ++ (decimal c.args.top ++ (codes "h" ++ (decimal c.args.width ++ (codes "v" ++ decimal c.args.height))))) c.clear.ensures.bytes)
+-- how long the text is at most after each step
+top_short : (new one text top : List ℕ) → new ≡ [] → one ≡ new ++ top → length top ≤ 10 → text ≡ one ++ (104 ∷ []) → length text ≤ 11
+top_short new one text top none a short b = joined_short text one (104 ∷ []) 10 1 b (joined_short one new top 0 10 a (omega (arith, ap length none)) short) (omega arith)
 
-pub new-requires-clause-back : goal.new-requires-clause-back
-new-requires-clause-back c =
-    let fits = c.ranges.top.fits in
-    let is = c.as_str-2.ensures.value ∙ c.in_ok-write-2.ensures.bytes ∙ ap (λ t. t ++ decimal c.args.top) c.clear-2.ensures.bytes in
-    omega (arith, ap length is, length-decimal-le 10 c.args.top (omega arith) (omega arith) (omega arith))
+pub push_number-requires-3 : goal.push_number-requires-3
+push_number-requires-3 c =
+    let top = number_short c.args.top c.ranges.top.fits in
+    omega (arith, top_short _ _ _ _ c.new-front.ensures c.push_number-2.ensures top c.push.ensures, number_short c.args.width c.ranges.width.fits)
+
+pub push-requires-2 : goal.push-requires-2
+push-requires-2 c =
+    let top = number_short c.args.top c.ranges.top.fits in
+    let width = number_short c.args.width c.ranges.width.fits in
+    omega (arith, joined_short _ _ _ 11 10 c.push_number-3.ensures (top_short _ _ _ _ c.new-front.ensures c.push_number-2.ensures top c.push.ensures) width)
+
+pub push_number-requires-4 : goal.push_number-requires-4
+push_number-requires-4 c =
+    let top = number_short c.args.top c.ranges.top.fits in
+    let width = number_short c.args.width c.ranges.width.fits in
+    let two = joined_short _ _ _ 11 10 c.push_number-3.ensures (top_short _ _ _ _ c.new-front.ensures c.push_number-2.ensures top c.push.ensures) width in
+    omega (arith, joined_short _ _ (118 ∷ []) 21 1 c.push-2.ensures two (omega arith), number_short c.args.height c.ranges.height.fits)
+
+pub new-requires : goal.new-requires
+new-requires c =
+    let top = decimal c.args.top in
+    let width = decimal c.args.width in
+    let height = decimal c.args.height in
+    let front = c.push_number-4.ensures
+    ∙ ap (λ t. t ++ height) (c.push-2.ensures
+    ∙ ap (λ t. t ++ (118 ∷ [])) (c.push_number-3.ensures
+    ∙ ap (λ t. t ++ width) (c.push.ensures
+    ∙ ap (λ t. t ++ (104 ∷ [])) (c.push_number-2.ensures ∙ ap (λ t. t ++ top) c.new-front.ensures)))) in
+    let back = c.push_number.ensures ∙ ap (λ t. t ++ top) c.new-back.ensures in (
+      search rules,
+      (
+        search rules,
+        (
+          ∣ subst IsUtf8 (sym front) (sides-IsUtf8 (104 ∷ []) (118 ∷ []) c.args.top c.args.width c.args.height c.ranges.top.fits c.ranges.width.fits c.ranges.height.fits (search rules) (search rules)) ∣₁,
+          ∣ subst IsUtf8 (sym back) (decimal-IsUtf8 c.args.top c.ranges.top.fits) ∣₁,
+        ),
+      ),
+    )
+
+pub returns : goal.returns
+returns c =
+    let top = decimal c.args.top in
+    let width = decimal c.args.width in
+    let height = decimal c.args.height in
+    let front = c.push_number-4.ensures
+    ∙ ap (λ t. t ++ height) (c.push-2.ensures
+    ∙ ap (λ t. t ++ (118 ∷ [])) (c.push_number-3.ensures
+    ∙ ap (λ t. t ++ width) (c.push.ensures
+    ∙ ap (λ t. t ++ (104 ∷ [])) (c.push_number-2.ensures ∙ ap (λ t. t ++ top) c.new-front.ensures))))
+    ∙ sides_regroup top (104 ∷ []) width (118 ∷ []) height in
+    let back = c.push_number.ensures ∙ ap (λ t. t ++ top) c.new-back.ensures in
+    let pair : List ℕ → List ℕ → List ℕ × List ℕ = λ a b. (a, b) in
+    ap₂ pair (c.new.ensures.front ∙ front) (c.new.ensures.back ∙ back)
