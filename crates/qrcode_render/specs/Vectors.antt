@@ -51,10 +51,10 @@ pic_rect left top width height text =
 
 -- what the column of a rectangle determines of its box, and what its row and its sides
 abbrev pub pic_column : ℕ → List ℕ × List ℕ
-pic_column left = (codes "p(" ++ (decimal left ++ codes ","), [])
+pic_column left = (codes "p(" ++ (decimal left ++ codes ","), codes ")\n")
 
 abbrev pub pic_row : ℕ → ℕ → ℕ → List ℕ × List ℕ
-pic_row top width height = (decimal top ++ (codes "," ++ (decimal width ++ (codes "," ++ decimal height))), codes ")\n")
+pic_row top width height = (decimal top ++ (codes "," ++ (decimal width ++ (codes "," ++ decimal height))), [])
 
 -- the picture of modules
 abbrev pub pic_text : Layout → List Color → List ℕ

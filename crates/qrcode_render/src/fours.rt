@@ -155,8 +155,8 @@ pub fn push_columns(
 )
     requires lower { length lower.now ≡ length upper.now }
     requires columns { length columns.old ≡ 2 * length upper.now }
-    requires room { length (line.old.text ++ columns_text (two_text palette.now) upper.now lower.now) + 32
-        ≤ line.old.room }
+    requires room { let text = columns_text (two_text palette.now) upper.now lower.now in
+        length (line.old.text ++ text) + 32 ≤ line.old.room }
     ensures { line.new ≡ record line.old {
       text = line.old.text ++ columns_text (two_text palette.now) upper.now lower.now;
     } }

@@ -71,7 +71,7 @@ impl Strokes for Boxes {
         let mut front = Stamp::new(b"p(");
         front.push_number(left);
         front.push(b",");
-        let back = Stamp::new(b"");
+        let back = Stamp::new(b")\n");
         Piece::new(front, back)
     }
 
@@ -83,7 +83,7 @@ impl Strokes for Boxes {
         front.push_number(width);
         front.push(b",");
         front.push_number(height);
-        let back = Stamp::new(b")\n");
+        let back = Stamp::new(b"");
         Piece::new(front, back)
     }
 }

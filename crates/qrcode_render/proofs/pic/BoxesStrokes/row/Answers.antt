@@ -1,6 +1,6 @@
 use Rattle.std.proofs.Common.{rules, ◌≡◌, ◌≤◌, List, ℕ, [], ◌∷◌, ◌++◌, length, arith, decimal, ap, ap₂, ◌∙◌, sym, subst}
 use Rattle.std.specs.Str.{IsUtf8}
-use Rattle.std.proofs.lemmas.Str.{IsUtf8-from_ascii}
+use Rattle.std.proofs.lemmas.Str.{IsUtf8-nil}
 use Rattle.qrcode_render.proofs.Paths.{joined_short, number_short, sides-IsUtf8, sides_regroup}
 use Rattle.qrcode_render.proofs.pic.BoxesStrokes.row.Goals as goal
 
@@ -41,7 +41,7 @@ new-requires c =
         search rules,
         (
           ∣ subst IsUtf8 (sym front) (sides-IsUtf8 (44 ∷ []) (44 ∷ []) c.args.top c.args.width c.args.height c.ranges.top.fits c.ranges.width.fits c.ranges.height.fits (search rules) (search rules)) ∣₁,
-          ∣ subst IsUtf8 (sym c.new-back.ensures) (IsUtf8-from_ascii (41 ∷ 10 ∷ []) (search rules)) ∣₁,
+          ∣ subst IsUtf8 (sym c.new-back.ensures) IsUtf8-nil ∣₁,
         ),
       ),
     )
