@@ -1,5 +1,7 @@
 pub mod AmountReading
 pub mod Answering
+pub mod BillReading
+pub mod Carries
 pub mod ContactReading
 pub mod EntryReading
 pub mod EntryTexts

@@ -1,4 +1,5 @@
 pub mod Amounts
+pub mod Bill
 pub mod Characters
 pub mod Contact
 pub mod Entries

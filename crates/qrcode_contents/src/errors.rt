@@ -33,6 +33,8 @@ pub enum Field {
     Note,
     /// A street with the number of the house.
     Street,
+    /// A number of a house.
+    Number,
     /// A town.
     City,
     /// A region of a country.
@@ -41,6 +43,8 @@ pub enum Field {
     PostalCode,
     /// A country.
     Country,
+    /// Who pays.
+    Debtor,
     /// The account.
     Iban,
     /// The amount of money.

@@ -3,6 +3,7 @@
 #![tactic(auto)]
 
 pub mod amounts;
+pub mod bill;
 pub mod characters;
 pub mod contact;
 pub mod entries;

@@ -2,6 +2,8 @@
 #![tactic(auto)]
 
 #[cfg(test)]
+mod bills;
+#[cfg(test)]
 mod contacts;
 #[cfg(test)]
 mod links;

@@ -1,0 +1,248 @@
+-- The text of a bill is read back.
+use Rattle.std.proofs.Common.{◌≡◌, ℕ, ◌/◌, ◌<◌, ◌^◌, ◌==◌, ◌||◌, ◌&&◌, ◌%◌, not, nat_lt, List, [], ◌∷◌, ◌++◌, Bool, true, false, Option, Some, None, Result, Ok, length, decimal, codes, if◌then◌else◌, refl, ap, ap₂, ◌∙◌, sym, arith, append_assoc, append-nil, lit<}
+use Rattle.std.specs.List.{list_any}
+use Rattle.std.specs.Str.{bytes_eq}
+use Rattle.std.specs.Option.{option_map}
+use Rattle.std.proofs.lemmas.Bool.Decides.{nat_tests}
+use Rattle.std.proofs.lemmas.Fmt.{decimal_nonempty}
+use Rattle.qrcode_contents.specs.declared.errors.ContentError.{ContentError}
+use Rattle.qrcode_contents.specs.declared.errors.Field.TheVariants.{Iban, Name, Street, Number, PostalCode, City, Country, Amount, Reference, Message}
+use Rattle.qrcode_contents.specs.declared.errors.Cause.TheVariants.{Character, Range}
+use Rattle.qrcode_contents.specs.declared.bill.Currency.{Currency}
+use Rattle.qrcode_contents.specs.declared.bill.Currency.TheVariants.{Franc, Euro}
+use Rattle.qrcode_contents.specs.Amounts.{amount_text, read_amount}
+use Rattle.qrcode_contents.specs.Bill.{Addressee, Invoice, is_unsaid, is_account, is_creditor_reference, reference_kind, text_checks, text_refusal, of_debtor, form_refusal, is_nobody, debtor_refusal, is_out_of_range, account_checks, account_refusal, reference_checks, reference_refusal, bill_checks, bill_refusal, currency_name, address_kind, address_lines, unused_lines, amount_line, end_lines, bill_lines, bill_text, read_cents, read_currency, invoice_in, read_bill}
+use Rattle.qrcode_contents.specs.Characters.{is_control}
+use Rattle.qrcode_contents.specs.Entries.{is_filled}
+use Rattle.qrcode_contents.specs.Lines.{later_text, line_at}
+use Rattle.qrcode_contents.specs.Refusals.{checked, first_refusal}
+use Rattle.qrcode_contents.proofs.AmountReading.{amount_read, HasNoFeed-amount}
+use Rattle.qrcode_contents.proofs.Answering.{checked_none}
+use Rattle.qrcode_contents.proofs.EntryReading.{neither}
+use Rattle.qrcode_contents.proofs.LineReading.{HasNoFeed, HaveNoFeeds, HasNoFeed-from_control, lines_read}
+use Rattle.qrcode_contents.proofs.Passing.{all_pass, test_passes}
+
+-- a line that is said has no line feed
+said : (text : List ℕ) → is_unsaid text ≡ false → HasNoFeed text
+said text is = HasNoFeed-from_control text (neither (list_any is_control text) _ is).0
+
+-- an address whose lines have no line feeds
+record AreLines (p : Addressee) : Type 0 where
+  name : HasNoFeed p.name
+  street : HasNoFeed p.street
+  number : HasNoFeed p.number
+  code : HasNoFeed p.code
+  city : HasNoFeed p.city
+  country : HasNoFeed p.country
+
+address_said : (p : Addressee) → text_refusal p ≡ None → AreLines p
+unfolding text_refusal
+address_said p is =
+    let none = all_pass (text_checks p) is in
+    record {
+      name = said p.name (test_passes (is_unsaid p.name) Name Character none.0);
+      street = said p.street (test_passes (is_unsaid p.street) Street Character none.1.0);
+      number = said p.number (test_passes (is_unsaid p.number) Number Character none.1.1.0);
+      code = said p.code (test_passes (is_unsaid p.code) PostalCode Character none.1.1.1.0);
+      city = said p.city (test_passes (is_unsaid p.city) City Character none.1.1.1.1.0);
+      country = said p.country (test_passes (is_unsaid p.country) Country Character none.1.1.1.1.1.0);
+    }
+
+not_of_debtor : (o : Option ContentError) → option_map of_debtor o ≡ None → o ≡ None
+not_of_debtor None is = refl
+not_of_debtor (Some e) is = cc
+
+kind_plain : (p : Addressee) (nobody : Bool) → is_nobody p ≡ nobody → HasNoFeed (address_kind p)
+kind_plain p true is = rw is refl
+kind_plain p false is = rw is refl
+
+reference_plain : (r : List ℕ) (a b : Bool) → is_filled r ≡ a → is_creditor_reference r ≡ b → HasNoFeed (reference_kind r)
+reference_plain r false b is kind = rw is refl
+reference_plain r true true is kind = rw (is, kind) refl
+reference_plain r true false is kind = rw (is, kind) refl
+
+reference_named : (r : List ℕ) (a b : Bool) → is_filled r ≡ a → is_creditor_reference r ≡ b → bytes_eq (reference_kind r) (reference_kind r) ≡ true
+reference_named r false b is kind = rw is refl
+reference_named r true true is kind = rw (is, kind) refl
+reference_named r true false is kind = rw (is, kind) refl
+
+currency_plain : (c : Currency) → HasNoFeed (currency_name c)
+currency_plain Franc = refl
+currency_plain Euro = refl
+
+currency_read : (c : Currency) → read_currency (currency_name c) ≡ Some c
+currency_read Franc = refl
+currency_read Euro = refl
+
+amount_below : (n : ℕ) → (nat_lt n 1 || nat_lt 99999999999 n) ≡ false → n < 2 ^ 64
+amount_below n is =
+    let inside = neither (nat_lt n 1) (nat_lt 99999999999 n) is in
+    let most : nat_lt 99999999999 n ≡ false = inside.1 in
+    grind (arith, nat_tests)
+
+amount_plain : (cents : Option ℕ) → is_out_of_range cents ≡ false → HasNoFeed (amount_line cents)
+amount_plain None is = refl
+amount_plain (Some n) is = HasNoFeed-amount n (amount_below n is)
+
+some_first : (xs ys : List ℕ) → 0 < length xs → is_filled (xs ++ ys) ≡ true
+some_first [] ys some = absurd (omega arith)
+some_first (x ∷ xs) ys some = grind (arith, nat_tests)
+
+amount_filled : (n : ℕ) → n < 2 ^ 64 → is_filled (amount_text n) ≡ true
+unfolding amount_text
+amount_filled n fits = some_first (decimal (n / 100)) _ (decimal_nonempty (n / 100) (omega arith))
+
+cents_read : (cents : Option ℕ) → is_out_of_range cents ≡ false → read_cents (amount_line cents) ≡ cents
+cents_read None is = refl
+cents_read (Some n) is =
+    let fits = amount_below n is in
+    rw (amount_filled n fits) (ap Some (amount_read n fits))
+
+-- what the refusals say of a bill that has none
+record AreBillLines (b : Invoice) : Type 0 where
+  iban : HasNoFeed b.iban
+  cents : is_out_of_range b.cents ≡ false
+  creditor : AreLines b.creditor
+  debtor : AreLines b.debtor
+  reference : HasNoFeed b.reference
+  message : HasNoFeed b.message
+
+bill_said : (b : Invoice) → bill_refusal b ≡ None → AreBillLines b
+unfolding bill_refusal account_refusal reference_refusal debtor_refusal
+bill_said b is =
+    let none = all_pass (bill_checks b) is in
+    let account = all_pass (account_checks b) none.0 in
+    let reference = all_pass (reference_checks b) none.1.1.1.1.0 in
+    let debtor = all_pass (option_map of_debtor (text_refusal b.debtor) ∷ (if is_nobody b.debtor then None else option_map of_debtor (form_refusal b.debtor)) ∷ []) none.1.1.1.0 in
+    record {
+      iban = said b.iban (neither (is_unsaid b.iban) (not (is_account b.iban)) (test_passes (is_unsaid b.iban || not (is_account b.iban)) Iban Character account.0)).0;
+      cents = test_passes (is_out_of_range b.cents) Amount Range account.1.1.0;
+      creditor = address_said b.creditor none.1.0;
+      debtor = address_said b.debtor (not_of_debtor (text_refusal b.debtor) debtor.0);
+      reference = said b.reference (test_passes (is_unsaid b.reference) Reference Character reference.0);
+      message = said b.message (test_passes (is_unsaid b.message) Message Character reference.1.0);
+    }
+
+-- the lines behind the first
+abbrev tail_of : Invoice → List (List ℕ)
+tail_of b =
+    codes "0200" ∷ codes "1" ∷ b.iban
+    ∷ (address_lines b.creditor ++ (unused_lines ++ amount_line b.cents ∷ currency_name b.currency ∷ (address_lines b.debtor ++ end_lines b)))
+
+-- no line of the text has a line feed
+lines_plain : (b : Invoice) → AreBillLines b → HaveNoFeeds (bill_lines b)
+lines_plain b are =
+    let c = are.creditor in
+    let d = are.debtor in
+    let kind = kind_plain b.creditor (is_nobody b.creditor) refl in
+    let debtor_kind = kind_plain b.debtor (is_nobody b.debtor) refl in
+    let reference = reference_plain b.reference (is_filled b.reference) (is_creditor_reference b.reference) refl refl in (
+      refl,
+      (
+        refl,
+        (
+          refl,
+          (
+            are.iban,
+            (
+              kind,
+              (
+                c.name,
+                (
+                  c.street,
+                  (
+                    c.number,
+                    (
+                      c.code,
+                      (
+                        c.city,
+                        (
+                          c.country,
+                          (
+                            refl,
+                            (
+                              refl,
+                              (
+                                refl,
+                                (
+                                  refl,
+                                  (
+                                    refl,
+                                    (
+                                      refl,
+                                      (
+                                        refl,
+                                        (
+                                          amount_plain b.cents are.cents,
+                                          (
+                                            currency_plain b.currency,
+                                            (
+                                              debtor_kind,
+                                              (
+                                                d.name,
+                                                (
+                                                  d.street,
+                                                  (
+                                                    d.number,
+                                                    (
+                                                      d.code,
+                                                      (
+                                                        d.city,
+                                                        (
+                                                          d.country,
+                                                          (reference, (are.reference, (are.message, (refl, tt)))),
+                                                        ),
+                                                      ),
+                                                    ),
+                                                  ),
+                                                ),
+                                              ),
+                                            ),
+                                          ),
+                                        ),
+                                      ),
+                                    ),
+                                  ),
+                                ),
+                              ),
+                            ),
+                          ),
+                        ),
+                      ),
+                    ),
+                  ),
+                ),
+              ),
+            ),
+          ),
+        ),
+      ),
+    )
+
+same_bill : (b : Invoice) (cents : Option ℕ) → cents ≡ b.cents → (let s : Invoice = record b { cents = cents } in s) ≡ b
+same_bill b cents is = rw is refl
+
+-- the lines say the bill
+lines_say : (b : Invoice) → AreBillLines b → invoice_in (line_at (bill_lines b)) ≡ Some b
+lines_say b are =
+    rw (reference_named b.reference (is_filled b.reference) (is_creditor_reference b.reference) refl refl, currency_read b.currency)
+    (ap Some (same_bill b (read_cents (amount_line b.cents)) (cents_read b.cents are.cents)))
+
+-- what is read is what was said
+pub bill_read : (b : Invoice) → bill_refusal b ≡ None → read_bill (bill_text b) ≡ Some b
+unfolding bill_text read_bill
+bill_read b is =
+    let are = bill_said b is in
+    let plain = lines_plain b are in
+    ap (λ lines. invoice_in (line_at lines)) (lines_read (codes "SPC") (tail_of b) plain.0 plain.1) ∙ lines_say b are
+
+last_refusal : (o : Option ContentError) → first_refusal (o ∷ []) ≡ o
+last_refusal None = refl
+last_refusal (Some e) = refl
+
+-- a debtor who is named, and whose texts are said
+pub debtor_checked : (p : Addressee) (texts : Result (Unit {0}) ContentError) (x : Unit {0}) → texts ≡ checked (option_map of_debtor (text_refusal p)) → texts ≡ Ok x → is_nobody p ≡ false → checked (option_map of_debtor (form_refusal p)) ≡ checked (debtor_refusal p)
+unfolding debtor_refusal
+debtor_checked p texts x is ok somebody =
+    let none = checked_none (option_map of_debtor (text_refusal p)) texts x is ok in
+    rw (none, somebody) (ap checked (sym (last_refusal (option_map of_debtor (form_refusal p)))))

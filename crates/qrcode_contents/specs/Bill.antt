@@ -1,0 +1,286 @@
+-- Texts of Swiss QR bills, line by line, by the Swiss Implementation Guidelines QR-bill of SIX, version 2.
+use Rattle.std.specs.Prelude.{◌≡◌, ℕ, nat_lt, nat_le, ◌+◌, ◌-◌, ◌%◌, ◌==◌, ◌&&◌, ◌||◌, not, Bool, true, false, List, [], ◌∷◌, ◌++◌, length, count_by, fold, slice_index_or, Option, Some, None, codes, if◌then◌else◌, refl}
+use Rattle.std.specs.Str.{bytes_eq, chars}
+use Rattle.std.specs.List.{list_all, list_any, starts_with}
+use Rattle.std.specs.Option.{option_map}
+use Rattle.qrcode_contents.specs.declared.errors.ContentError.{ContentError}
+use Rattle.qrcode_contents.specs.declared.errors.ContentError.TheVariants.{Refused, OutOfMemory}
+use Rattle.qrcode_contents.specs.declared.errors.Field.TheVariants.{Iban, Name, Street, Number, PostalCode, City, Country, Amount, Debtor, Reference, Message}
+use Rattle.qrcode_contents.specs.declared.errors.Cause.TheVariants.{Empty, TooLong, Character, CheckDigits, Range, Unused}
+use Rattle.qrcode_contents.specs.declared.bill.Currency.{Currency}
+use Rattle.qrcode_contents.specs.declared.bill.Currency.TheVariants.{Franc, Euro}
+use Rattle.qrcode_contents.specs.declared.bill.Party.{Party}
+use Rattle.qrcode_contents.specs.declared.bill.Bill.{Bill}
+use Rattle.qrcode_contents.specs.Amounts.{amount_text, read_amount}
+use Rattle.qrcode_contents.specs.Characters.{is_capital, is_control, is_digit}
+use Rattle.qrcode_contents.specs.Entries.{is_filled}
+use Rattle.qrcode_contents.specs.Lines.{lines_text, read_lines, line_at}
+use Rattle.qrcode_contents.specs.Numbers.{checked_number}
+use Rattle.qrcode_contents.specs.Refusals.{refused_if, first_refusal}
+
+-- a name with its address
+pub record Addressee : Type 0 where
+  pub name : List ℕ
+  pub street : List ℕ
+  pub number : List ℕ
+  pub code : List ℕ
+  pub city : List ℕ
+  pub country : List ℕ
+
+-- a bill as its text says it
+pub record Invoice : Type 0 where
+  pub iban : List ℕ
+  pub creditor : Addressee
+  pub cents : Option ℕ
+  pub currency : Currency
+  pub debtor : Addressee
+  pub reference : List ℕ
+  pub message : List ℕ
+
+abbrev pub addressee_of : Party → Addressee
+addressee_of p = record {
+  name = p.name.now;
+  street = p.street.now;
+  number = p.number.now;
+  code = p.code.now;
+  city = p.city.now;
+  country = p.country.now;
+}
+
+-- what is said of a bill
+abbrev pub invoice_of : Bill → Invoice
+invoice_of b = record {
+  iban = b.iban.now;
+  creditor = addressee_of b.creditor;
+  cents = b.cents;
+  currency = b.currency;
+  debtor = addressee_of b.debtor;
+  reference = b.reference.now;
+  message = b.message.now;
+}
+
+-- a character of Basic Latin, the Latin-1 Supplement or Latin Extended-A, one of ȘșȚț, or the euro sign
+abbrev pub is_latin : ℕ → Bool
+is_latin c = (nat_lt 31 c && nat_lt c 127) || (nat_lt 159 c && nat_lt c 384) || (nat_lt 535 c && nat_lt c 540) || c == 8364
+
+-- how many characters are others
+abbrev pub foreign_count : List ℕ → ℕ
+foreign_count text = count_by (λ c. not (is_latin c)) (chars text)
+
+-- what no line says: a line break, or a character that the guidelines do not have
+abbrev pub is_unsaid : List ℕ → Bool
+is_unsaid text = list_any is_control text || not (foreign_count text == 0)
+
+-- a letter A to Z
+abbrev pub is_letter : ℕ → Bool
+is_letter b = nat_lt 64 b && nat_lt b 91
+
+-- a code of ISO 3166-1
+abbrev pub is_country : List ℕ → Bool
+is_country text = length text == 2 && list_all is_letter text
+
+-- a text with this beginning
+abbrev pub begins_with : List ℕ → List ℕ → Bool
+begins_with start text = starts_with (λ a b. a == b) text start
+
+-- an account of Switzerland or Liechtenstein
+abbrev pub is_account : List ℕ → Bool
+is_account text =
+    length text == 21 && list_all is_capital text && (begins_with (codes "CH") text || begins_with (codes "LI") text)
+
+-- an account whose institution has a number from 30000 to 31999, to which QR references belong
+abbrev pub is_qr_account : List ℕ → Bool
+is_qr_account text = nat_lt 5 (length text) && slice_index_or text 4 0 == 51 && (slice_index_or text 5 0 == 48 || slice_index_or text 5 0 == 49)
+
+-- the kinds of references: none, one of ISO 11649, and a QR reference
+abbrev pub is_creditor_reference : List ℕ → Bool
+is_creditor_reference text = begins_with (codes "RF") text
+
+abbrev pub is_qr_reference : List ℕ → Bool
+is_qr_reference text = is_filled text && not (is_creditor_reference text)
+
+abbrev pub reference_kind : List ℕ → List ℕ
+reference_kind text =
+    if not (is_filled text) then codes "NON" else (if is_creditor_reference text then codes "SCOR" else codes "QRR")
+
+-- the carry behind a digit (modulo 10, recursive)
+abbrev pub carry_table : List ℕ
+carry_table = 0 ∷ 9 ∷ 4 ∷ 6 ∷ 8 ∷ 2 ∷ 7 ∷ 1 ∷ 3 ∷ 5 ∷ []
+
+abbrev pub next_carry : ℕ → ℕ → ℕ
+next_carry carry digit = slice_index_or carry_table ((carry + (digit - 48)) % 10) 0
+
+-- what the check digit at the end leaves: zero where it is right
+abbrev pub carry_of : List ℕ → ℕ
+carry_of digits = fold next_carry 0 digits
+
+-- the guidelines' reference, and one with another last digit
+check_row : carry_of (codes "210000000003139471430009017") ≡ 0
+check_row = refl
+
+wrong_row : carry_of (codes "210000000003139471430009018") ≡ 9
+wrong_row = refl
+
+-- texts with what no line says
+abbrev pub text_checks : Addressee → List (Option ContentError)
+text_checks p =
+    refused_if (is_unsaid p.name) Name Character
+    ∷ refused_if (is_unsaid p.street) Street Character
+    ∷ refused_if (is_unsaid p.number) Number Character
+    ∷ refused_if (is_unsaid p.code) PostalCode Character
+    ∷ refused_if (is_unsaid p.city) City Character
+    ∷ refused_if (is_unsaid p.country) Country Character
+    ∷ []
+
+-- what is missing or too long
+abbrev pub form_checks : Addressee → List (Option ContentError)
+form_checks p =
+    refused_if (not (is_filled p.name)) Name Empty
+    ∷ refused_if (not (is_filled p.code)) PostalCode Empty
+    ∷ refused_if (not (is_filled p.city)) City Empty
+    ∷ refused_if (nat_lt 70 (length (chars p.name))) Name TooLong
+    ∷ refused_if (nat_lt 70 (length (chars p.street))) Street TooLong
+    ∷ refused_if (nat_lt 16 (length (chars p.number))) Number TooLong
+    ∷ refused_if (nat_lt 16 (length (chars p.code))) PostalCode TooLong
+    ∷ refused_if (nat_lt 35 (length (chars p.city))) City TooLong
+    ∷ refused_if (not (is_country p.country)) Country Character
+    ∷ []
+
+unfoldable pub text_refusal : Addressee → Option ContentError
+text_refusal p = first_refusal (text_checks p)
+
+unfoldable pub form_refusal : Addressee → Option ContentError
+form_refusal p = first_refusal (form_checks p)
+
+-- nobody is named
+abbrev pub is_nobody : Addressee → Bool
+is_nobody p =
+    not (is_filled p.name) && not (is_filled p.street) && not (is_filled p.number) && not (is_filled p.code)
+    && not (is_filled p.city) && not (is_filled p.country)
+
+-- the same cause, of the debtor
+abbrev pub of_debtor : ContentError → ContentError
+of_debtor (Refused field cause) = Refused Debtor cause
+of_debtor OutOfMemory = OutOfMemory
+
+-- what is refused of a debtor, who may be nobody
+unfoldable pub debtor_refusal : Addressee → Option ContentError
+debtor_refusal p = first_refusal (
+    option_map of_debtor (text_refusal p) ∷ (if is_nobody p then None else option_map of_debtor (form_refusal p)) ∷ [])
+
+-- an amount that is no amount of a bill
+abbrev pub is_out_of_range : Option ℕ → Bool
+is_out_of_range None = false
+is_out_of_range (Some cents) = nat_lt cents 1 || nat_lt 99999999999 cents
+
+-- what is no account, and an amount out of range
+abbrev pub account_checks : Invoice → List (Option ContentError)
+account_checks b =
+    refused_if (is_unsaid b.iban || not (is_account b.iban)) Iban Character
+    ∷ refused_if (not (checked_number b.iban % 97 == 1)) Iban CheckDigits
+    ∷ refused_if (is_out_of_range b.cents) Amount Range
+    ∷ []
+
+unfoldable pub account_refusal : Invoice → Option ContentError
+account_refusal b = first_refusal (account_checks b)
+
+-- a wrong reference, one that does not belong to the account, and a long message
+abbrev pub reference_checks : Invoice → List (Option ContentError)
+reference_checks b =
+    refused_if (is_unsaid b.reference) Reference Character
+    ∷ refused_if (is_unsaid b.message) Message Character
+    ∷ refused_if (is_qr_reference b.reference && not (length b.reference == 27 && list_all is_digit b.reference)) Reference Character
+    ∷ refused_if (is_qr_reference b.reference && not (carry_of b.reference == 0)) Reference CheckDigits
+    ∷ refused_if (is_creditor_reference b.reference && not (nat_le 5 (length b.reference) && nat_le (length b.reference) 25 && list_all is_capital b.reference)) Reference Character
+    ∷ refused_if (is_creditor_reference b.reference && not (checked_number b.reference % 97 == 1)) Reference CheckDigits
+    ∷ refused_if (is_qr_account b.iban && not (is_qr_reference b.reference)) Reference Unused
+    ∷ refused_if (not (is_qr_account b.iban) && is_qr_reference b.reference) Reference Unused
+    ∷ refused_if (nat_lt 140 (length (chars b.message))) Message TooLong
+    ∷ []
+
+unfoldable pub reference_refusal : Invoice → Option ContentError
+reference_refusal b = first_refusal (reference_checks b)
+
+-- what the text cannot say
+abbrev pub bill_checks : Invoice → List (Option ContentError)
+bill_checks b =
+    account_refusal b ∷ text_refusal b.creditor ∷ form_refusal b.creditor ∷ debtor_refusal b.debtor ∷ reference_refusal b ∷ []
+
+unfoldable pub bill_refusal : Invoice → Option ContentError
+bill_refusal b = first_refusal (bill_checks b)
+
+-- the line of a currency
+abbrev pub currency_name : Currency → List ℕ
+currency_name Franc = codes "CHF"
+currency_name Euro = codes "EUR"
+
+-- the kind of an address: structured, or none
+abbrev pub address_kind : Addressee → List ℕ
+address_kind p = if is_nobody p then [] else codes "S"
+
+-- the lines of an address
+abbrev pub address_lines : Addressee → List (List ℕ)
+address_lines p = address_kind p ∷ p.name ∷ p.street ∷ p.number ∷ p.code ∷ p.city ∷ p.country ∷ []
+
+-- the lines of somebody who is never named: the ultimate creditor
+abbrev pub unused_lines : List (List ℕ)
+unused_lines = [] ∷ [] ∷ [] ∷ [] ∷ [] ∷ [] ∷ [] ∷ []
+
+-- the line of an amount, which may be left open
+abbrev pub amount_line : Option ℕ → List ℕ
+amount_line None = []
+amount_line (Some cents) = amount_text cents
+
+-- the lines of the reference, the message, and the end
+abbrev pub end_lines : Invoice → List (List ℕ)
+end_lines b = reference_kind b.reference ∷ b.reference ∷ b.message ∷ codes "EPD" ∷ []
+
+-- the lines: kind of text, version, character set (UTF-8), and the fields
+abbrev pub bill_lines : Invoice → List (List ℕ)
+bill_lines b =
+    codes "SPC" ∷ codes "0200" ∷ codes "1" ∷ b.iban
+    ∷ (address_lines b.creditor ++ (unused_lines ++ amount_line b.cents ∷ currency_name b.currency
+    ∷ (address_lines b.debtor ++ end_lines b)))
+
+-- the text of a bill
+unfoldable pub bill_text : Invoice → List ℕ
+bill_text b = lines_text (bill_lines b)
+
+-- the amount that a line says
+abbrev pub read_cents : List ℕ → Option ℕ
+read_cents line = if is_filled line then Some (read_amount line) else None
+
+-- the currency that a line says
+abbrev pub read_currency : List ℕ → Option Currency
+read_currency line =
+    if bytes_eq line (codes "CHF") then Some Franc else (if bytes_eq line (codes "EUR") then Some Euro else None)
+
+-- the address that lines say
+abbrev pub addressee_at : (ℕ → List ℕ) → ℕ → Addressee
+addressee_at line first = record {
+  name = line first;
+  street = line (first + 1);
+  number = line (first + 2);
+  code = line (first + 3);
+  city = line (first + 4);
+  country = line (first + 5);
+}
+
+-- the bill that lines say
+abbrev pub invoice_in : (ℕ → List ℕ) → Option Invoice
+invoice_in line =
+    if bytes_eq (line 0) (codes "SPC") && bytes_eq (line 1) (codes "0200") && bytes_eq (line 2) (codes "1") && bytes_eq (line 27) (reference_kind (line 28)) && bytes_eq (line 30) (codes "EPD")
+    then option_map (λ currency. record {
+      iban = line 3;
+      creditor = addressee_at line 5;
+      cents = read_cents (line 18);
+      currency = currency;
+      debtor = addressee_at line 21;
+      reference = line 28;
+      message = line 29;
+    }) (read_currency (line 19))
+    else None
+
+-- the bill that a text says
+unfoldable pub read_bill : List ℕ → Option Invoice
+read_bill text = invoice_in (line_at (read_lines text))

@@ -1,0 +1,370 @@
+//! The text of a Swiss QR bill.
+
+ghost use Rattle.std.specs.Prelude.{◌≡◌, ◌++◌, ◌∷◌, ◌==◌, Option, Some, [], IfOk, OnOk, IsOkUnless, string_bytes};
+ghost use Rattle.std.specs.List.{list_all};
+ghost use Rattle.std.specs.Option.{option_map};
+ghost use Rattle.qrcode_contents.specs.declared.errors.ContentError.{ContentError};
+ghost use Rattle.qrcode_contents.specs.declared.errors.ContentError.TheVariants.{OutOfMemory};
+ghost use Rattle.qrcode_contents.specs.Bill.{addressee_of, invoice_of, is_latin, foreign_count, is_unsaid, is_letter, is_country, is_account, is_qr_account, is_creditor_reference, is_qr_reference, reference_kind, carry_of, text_refusal, form_refusal, is_nobody, of_debtor, debtor_refusal, is_out_of_range, account_refusal, reference_refusal, bill_refusal, currency_name, address_kind, address_lines, amount_line, end_lines, bill_text, read_bill};
+ghost use Rattle.qrcode_contents.specs.Lines.{later_text};
+ghost use Rattle.qrcode_contents.specs.Refusals.{Answers, checked};
+
+use crate::amounts::push_amount;
+use crate::characters::{are_capitals, are_digits, character_count, has_control};
+use crate::errors::{Cause, ContentError, ContentResult, Field};
+use crate::lines::push_lines;
+use crate::numbers::has_check_digits;
+use qrcode_types::types::{EcLevel, Version};
+use std::alloc::Global;
+
+/// The level of a bill's symbol.
+pub const LEVEL: EcLevel = EcLevel::M;
+
+/// The largest version of a bill's symbol.
+pub const LARGEST: Version = Version::Normal(25);
+
+/// The currency of a bill.
+#[derive(Copy, Clone, PartialEq, Eq, Debug)]
+pub enum Currency {
+    /// Swiss francs.
+    Franc,
+    /// Euros.
+    Euro,
+}
+
+impl Currency {
+    // The line of the currency.
+    fn name(self) -> &'static str
+        ensures { result.now ≡ currency_name self }
+    {
+        match self {
+            Currency::Franc => "CHF",
+            Currency::Euro => "EUR",
+        }
+    }
+}
+
+/// A name with its structured address. Street and number may be empty.
+#[derive(Copy, Clone, PartialEq, Eq, Debug)]
+pub struct Party<'a> {
+    /// The name, up to 70 characters.
+    pub name: &'a str,
+    /// The street, up to 70 characters.
+    pub street: &'a str,
+    /// The number of the house, up to 16 characters.
+    pub number: &'a str,
+    /// The postal code, up to 16 characters.
+    pub code: &'a str,
+    /// The town, up to 35 characters.
+    pub city: &'a str,
+    /// The country, two capitals of ISO 3166-1.
+    pub country: &'a str,
+}
+
+/// A Swiss QR bill. Its reference is empty, one of ISO 11649 (`RF..`), or 27 digits, to which an
+/// account with a number of an institution from 30000 to 31999 belongs.
+#[derive(Copy, Clone, PartialEq, Eq, Debug)]
+pub struct Bill<'a> {
+    /// The account in Switzerland or Liechtenstein, without spaces.
+    pub iban: &'a str,
+    /// Who is paid.
+    pub creditor: Party<'a>,
+    /// The amount in hundredths, 1 to 99,999,999,999, or left open.
+    pub cents: Option<u64>,
+    /// The currency.
+    pub currency: Currency,
+    /// Who pays; all fields empty where nobody is named.
+    pub debtor: Party<'a>,
+    /// The reference, without spaces.
+    pub reference: &'a str,
+    /// A message, up to 140 characters.
+    pub message: &'a str,
+}
+
+// Whether a character may stand in a bill.
+fn is_latin(character: char) -> bool
+    ensures { result ≡ is_latin character }
+{
+    matches!(character, ' '..='~' | '\u{a0}'..='\u{17f}' | '\u{218}'..='\u{21b}' | '\u{20ac}')
+}
+
+// How many characters may not stand in a bill.
+fn foreign_count(text: &str) -> usize
+    ensures { result ≡ foreign_count text.now }
+{
+    text.chars()
+        .filter(|character| !is_latin(*character))
+        .count()
+}
+
+// Whether a text has what no line says.
+fn is_unsaid(text: &str) -> bool
+    ensures { result ≡ is_unsaid text.now }
+{
+    has_control(text) || foreign_count(text) != 0
+}
+
+// Whether all bytes are letters A to Z.
+fn are_letters(text: &str) -> bool
+    ensures { result ≡ list_all is_letter text.now }
+{
+    let bytes = text.as_bytes();
+    bytes.iter().all(|byte| byte.is_ascii_uppercase())
+}
+
+// Whether it has the characters of an account of Switzerland or Liechtenstein.
+fn is_an_account(text: &str) -> bool
+    ensures { result ≡ is_account text.now }
+{
+    let bytes = text.as_bytes();
+    text.len() == 21 && are_capitals(text) && (bytes.starts_with(b"CH") || bytes.starts_with(b"LI"))
+}
+
+// Whether QR references belong to the account.
+fn is_qr_account(text: &str) -> bool
+    ensures { result ≡ is_qr_account text.now }
+{
+    let bytes = text.as_bytes();
+    bytes.len() > 5 && bytes[4] == b'3' && (bytes[5] == b'0' || bytes[5] == b'1')
+}
+
+// Whether it begins as a reference of ISO 11649.
+fn is_creditor_reference(text: &str) -> bool
+    ensures { result ≡ is_creditor_reference text.now }
+{
+    text.as_bytes().starts_with(b"RF")
+}
+
+// Whether it is to be a QR reference.
+fn is_qr_reference(text: &str) -> bool
+    ensures { result ≡ is_qr_reference text.now }
+{
+    !text.is_empty() && !is_creditor_reference(text)
+}
+
+// The line of the reference's kind.
+fn kind_of(reference: &str) -> &'static str
+    ensures { result.now ≡ reference_kind reference.now }
+{
+    if reference.is_empty() {
+        "NON"
+    } else if is_creditor_reference(reference) {
+        "SCOR"
+    } else {
+        "QRR"
+    }
+}
+
+// Whether an amount is no amount of a bill.
+fn is_out_of_range(cents: Option<u64>) -> bool
+    ensures { result ≡ is_out_of_range cents }
+{
+    cents.is_some_and(|cents| cents < 1 || cents > 99_999_999_999)
+}
+
+// The carry behind a digit, by the carry before it and the digit.
+static CARRIES: [usize; 10] = [0, 9, 4, 6, 8, 2, 7, 1, 3, 5];
+
+// The carry behind all digits, modulo 10, recursive.
+#[tactic(auto, using(crate::proofs::Carries::carry_below))]
+fn carry_of(digits: &[u8]) -> usize
+    ensures { result ≡ carry_of digits.now }
+{
+    let mut carry: usize = 0;
+    for digit in digits {
+        let sum = carry + usize::from(digit.saturating_sub(b'0'));
+        carry = CARRIES[sum % 10];
+    }
+    carry
+}
+
+// Refuses fields of somebody else for the debtor.
+fn of_debtor(answer: ContentResult<()>) -> ContentResult<()>
+    ensures { (refusal : Option ContentError) → answer ≡ checked refusal
+        → result ≡ checked (option_map of_debtor refusal) }
+{
+    match answer {
+        Err(ContentError::Refused(_, cause)) => Err(ContentError::Refused(Field::Debtor, cause)),
+        other => other,
+    }
+}
+
+impl Party<'_> {
+    // Refuses a text with what no line says.
+    #[tactic(auto, unfolding(crate::specs::Bill::text_refusal))]
+    fn check_texts(&self) -> ContentResult<()>
+        ensures { result ≡ checked (text_refusal (addressee_of self.now)) }
+    {
+        Field::Name.refuse_if(is_unsaid(self.name), Cause::Character)?;
+        Field::Street.refuse_if(is_unsaid(self.street), Cause::Character)?;
+        Field::Number.refuse_if(is_unsaid(self.number), Cause::Character)?;
+        Field::PostalCode.refuse_if(is_unsaid(self.code), Cause::Character)?;
+        Field::City.refuse_if(is_unsaid(self.city), Cause::Character)?;
+        Field::Country.refuse_if(is_unsaid(self.country), Cause::Character)
+    }
+
+    // Refuses what is missing or too long.
+    #[tactic(auto, unfolding(crate::specs::Bill::form_refusal))]
+    fn check_form(&self) -> ContentResult<()>
+        ensures { result ≡ checked (form_refusal (addressee_of self.now)) }
+    {
+        let is_country = self.country.len() == 2 && are_letters(self.country);
+        Field::Name.refuse_if(self.name.is_empty(), Cause::Empty)?;
+        Field::PostalCode.refuse_if(self.code.is_empty(), Cause::Empty)?;
+        Field::City.refuse_if(self.city.is_empty(), Cause::Empty)?;
+        Field::Name.refuse_if(character_count(self.name) > 70, Cause::TooLong)?;
+        Field::Street.refuse_if(character_count(self.street) > 70, Cause::TooLong)?;
+        Field::Number.refuse_if(character_count(self.number) > 16, Cause::TooLong)?;
+        Field::PostalCode.refuse_if(character_count(self.code) > 16, Cause::TooLong)?;
+        Field::City.refuse_if(character_count(self.city) > 35, Cause::TooLong)?;
+        Field::Country.refuse_if(!is_country, Cause::Character)
+    }
+
+    // Whether nobody is named.
+    fn is_nobody(&self) -> bool
+        ensures { result ≡ is_nobody (addressee_of self.now) }
+    {
+        self.name.is_empty()
+            && self.street.is_empty()
+            && self.number.is_empty()
+            && self.code.is_empty()
+            && self.city.is_empty()
+            && self.country.is_empty()
+    }
+
+    // Refuses what cannot be said of a debtor.
+    #[tactic(auto, unfolding(crate::specs::Bill::debtor_refusal))]
+    fn check_debtor(&self) -> ContentResult<()>
+        ensures { result ≡ checked (debtor_refusal (addressee_of self.now)) }
+    {
+        of_debtor(self.check_texts())?;
+        if self.is_nobody() {
+            return Ok(());
+        }
+        of_debtor(self.check_form())
+    }
+
+    // The line of the address's kind.
+    fn kind(&self) -> &'static str
+        ensures { result.now ≡ address_kind (addressee_of self.now) }
+    {
+        if self.is_nobody() { "" } else { "S" }
+    }
+
+    // Appends the lines of the address.
+    fn push(&self, text: &mut String) -> ContentResult<()>
+        ensures appends { OnOk result (string_bytes text.new
+            ≡ string_bytes text.old ++ later_text (address_lines (addressee_of self.now))) }
+        ensures memory { IsOkUnless result OutOfMemory }
+    {
+        push_lines(text, &[self.kind()])?;
+        let street = [self.name, self.street, self.number];
+        let town = [self.code, self.city, self.country];
+        push_lines(text, &street)?;
+        push_lines(text, &town)
+    }
+}
+
+impl Bill<'_> {
+    // Refuses what is no account, and an amount out of range.
+    #[tactic(auto, unfolding(crate::specs::Bill::account_refusal))]
+    fn check_account(&self) -> ContentResult<()>
+        ensures { result ≡ checked (account_refusal (invoice_of self.now)) }
+    {
+        let wrong = is_unsaid(self.iban) || !is_an_account(self.iban);
+        Field::Iban.refuse_if(wrong, Cause::Character)?;
+        Field::Iban.refuse_if(!has_check_digits(self.iban.as_bytes()), Cause::CheckDigits)?;
+        Field::Amount.refuse_if(is_out_of_range(self.cents), Cause::Range)
+    }
+
+    // Refuses a wrong reference, one that does not belong to the account, and a long message.
+    #[tactic(auto, unfolding(crate::specs::Bill::reference_refusal))]
+    fn check_reference(&self) -> ContentResult<()>
+        ensures { result ≡ checked (reference_refusal (invoice_of self.now)) }
+    {
+        let bytes = self.reference.as_bytes();
+        let qr = is_qr_reference(self.reference);
+        let creditor = is_creditor_reference(self.reference);
+        let digits = self.reference.len() == 27 && are_digits(self.reference);
+        let form = self.reference.len() >= 5
+            && self.reference.len() <= 25
+            && are_capitals(self.reference);
+        let of_qr = is_qr_account(self.iban);
+        Field::Reference.refuse_if(is_unsaid(self.reference), Cause::Character)?;
+        Field::Message.refuse_if(is_unsaid(self.message), Cause::Character)?;
+        Field::Reference.refuse_if(qr && !digits, Cause::Character)?;
+        Field::Reference.refuse_if(qr && carry_of(bytes) != 0, Cause::CheckDigits)?;
+        Field::Reference.refuse_if(creditor && !form, Cause::Character)?;
+        Field::Reference.refuse_if(creditor && !has_check_digits(bytes), Cause::CheckDigits)?;
+        Field::Reference.refuse_if(of_qr && !qr, Cause::Unused)?;
+        Field::Reference.refuse_if(!of_qr && qr, Cause::Unused)?;
+        Field::Message.refuse_if(character_count(self.message) > 140, Cause::TooLong)
+    }
+
+    // Refuses what the text cannot say.
+    #[tactic(auto, unfolding(crate::specs::Bill::bill_refusal))]
+    fn check(&self) -> ContentResult<()>
+        ensures { result ≡ checked (bill_refusal (invoice_of self.now)) }
+    {
+        self.check_account()?;
+        self.creditor.check_texts()?;
+        self.creditor.check_form()?;
+        self.debtor.check_debtor()?;
+        self.check_reference()
+    }
+
+    // Appends the line of the amount.
+    fn push_amount_line(&self, text: &mut String) -> ContentResult<()>
+        ensures appends { OnOk result (string_bytes text.new
+            ≡ string_bytes text.old ++ later_text (amount_line self.now.cents ∷ [])) }
+        ensures memory { IsOkUnless result OutOfMemory }
+    {
+        text.push_str("\n")?;
+        if let Some(cents) = self.cents {
+            push_amount(text, cents)?;
+        }
+        Ok(())
+    }
+
+    // Appends the last lines.
+    fn push_end(&self, text: &mut String) -> ContentResult<()>
+        ensures appends { OnOk result (string_bytes text.new ≡ string_bytes text.old
+            ++ later_text (end_lines (invoice_of self.now))) }
+        ensures memory { IsOkUnless result OutOfMemory }
+    {
+        push_lines(text, &[kind_of(self.reference)])?;
+        push_lines(text, &[self.reference, self.message])?;
+        text.push_str("\nEPD")?;
+        Ok(())
+    }
+
+    // The text of a bill that is not refused.
+    #[tactic(auto, unfolding(crate::specs::Bill::bill_text))]
+    fn written(&self, alloc: Global) -> ContentResult<String>
+        ensures value { IfOk result (λ text. string_bytes text ≡ bill_text (invoice_of self.now)) }
+        ensures memory { IsOkUnless result OutOfMemory }
+    {
+        let mut text = String::from_str(alloc, "SPC\n0200\n1")?;
+        push_lines(&mut text, &[self.iban])?;
+        self.creditor.push(&mut text)?;
+        text.push_str("\n\n\n\n\n\n\n")?;
+        self.push_amount_line(&mut text)?;
+        push_lines(&mut text, &[self.currency.name()])?;
+        self.debtor.push(&mut text)?;
+        self.push_end(&mut text)?;
+        Ok(text)
+    }
+
+    /// The text of the bill. Its symbol has the level [`LEVEL`] and a version up to [`LARGEST`].
+    ///
+    /// An error names the field and why the text cannot say it, or is `OutOfMemory`. Of the debtor
+    /// it names only that it is the debtor.
+    pub fn text(&self, alloc: Global) -> ContentResult<String>
+        ensures reads { Answers (bill_refusal (invoice_of self.now)) result
+            (λ text. read_bill text ≡ Some (invoice_of self.now)) }
+        ensures value { IfOk result (λ text. string_bytes text ≡ bill_text (invoice_of self.now)) }
+    {
+        self.check()?;
+        self.written(alloc)
+    }
+}
