@@ -14,11 +14,11 @@ use Rattle.qrcode_symbol.specs.Symbol.{blocks_in, IsDamaged}
 use Rattle.qrcode_symbol.specs.Reading.{ReadsBits, ReadsBitsOnly}
 use Rattle.qrcode_bits.specs.Spelling.{Spells, SpellsOnly}
 use Rattle.qrcode_spell.specs.declared.refusals.Unspelled as spelling
-use Rattle.qrcode.specs.Reading.{Reads, EncodesBytes}
+use Rattle.qrcode.specs.Reading.{Reads, EncodesBits, EncodesBytes}
 use Rattle.qrcode.proofs.Readings.{same_format, bits_are_read_one_way, reads_only}
 use Rattle.qrcode.proofs.Sides.{valid_of, same_version, same_root}
 use Rattle.qrcode_reader.specs.Formats.{HasFormat}
-use Rattle.qrcode_reader.specs.Corrected.{AreCorrected}
+use Rattle.qrcode_reader.specs.Corrected.{AreCorrected, IsFirstDamaged}
 use Rattle.qrcode_reader.specs.Refusals.{unread_of}
 use Rattle.qrcode_reader.specs.Readings.{IsBitReading, IsReading, IsBitCause, IsCause}
 use Rattle.qrcode_reader.specs.declared.correction.WrongCodeword.{WrongCodeword}
@@ -80,6 +80,16 @@ only_memory s (Damaged b) cause v l bits q =
 only_memory s NotSpelled cause v l bits q = absurd cause
 only_memory s OutOfMemory cause v l bits q = refl
 
+-- blocks that are refused are the cause
+pub blocked : (s : List Color) (v : Version) (l : EcLevel) (k : MaskPattern) (words : List ℕ) (e : Unread) → length s ≡ side v * side v → HasFormat v s l k → words ≡ codewords v l (stream v k s)
+    → (e ≡ OutOfMemory) ⊎ ((b : ℕ) × (e ≡ Damaged b) × IsFirstDamaged v l words b) → IsBitCause s e
+blocked s v l k words e square format same refused = elim refused [
+  | inl memory ↦ subst (λ e. IsBitCause s e) (sym memory) tt
+  | inr found ↦
+      let is : IsBitCause s (Damaged found.0) = record { version = v; level = l; mask = k; square = square; format = format; first = subst (λ w. IsFirstDamaged v l w found.0) same found.2 } in
+      subst (λ e. IsBitCause s e) (sym found.1) is
+]
+
 -- why there are no bits is why there are no bytes
 pub bytes_too : (s : List Color) (e : Unread) → IsBitCause s e → IsCause s e
 bytes_too s NoSuchSide cause = cause
@@ -126,3 +136,14 @@ pub given_back : (s : List Color) (v : Version) (l : EcLevel) (k : MaskPattern) 
 given_back s v l k bytes wrong is u m bits others symbol encodes damaged =
     let same = (encodes.encodes.read s damaged).only v l is.bits is.read.only.found in
     (same.0, same.1, (encodes.read s damaged).only bytes is.only.found)
+
+-- the reading of a damaged symbol of bits is what the symbol encodes
+pub bits_given_back : (s : List Color) (v : Version) (l : EcLevel) (k : MaskPattern) (bits : List Bool) (wrong : List WrongCodeword) → IsBitReading s v l k bits wrong
+    → (u : Version) (m : EcLevel) (others : List Bool) (symbol : List Color) → (encodes : EncodesBits u m others symbol) → IsDamaged u m encodes.mask symbol s
+    → (v ≡ u) × (l ≡ m) × (bits ≡ others)
+bits_given_back s v l k bits wrong is u m others symbol encodes damaged = (encodes.read s damaged).only v l bits is.only.found
+
+-- a damaged symbol of bits has no cause of refusal
+pub bits_only_memory : (s : List Color) (e : Unread) → IsBitCause s e → (u : Version) (m : EcLevel) (others : List Bool) (symbol : List Color) → (encodes : EncodesBits u m others symbol)
+    → IsDamaged u m encodes.mask symbol s → e ≡ OutOfMemory
+bits_only_memory s e cause u m others symbol encodes damaged = only_memory s e cause u m others (encodes.read s damaged).found

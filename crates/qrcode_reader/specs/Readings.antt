@@ -10,11 +10,15 @@ use Rattle.qrcode_places.specs.declared.masks.MaskPattern.{MaskPattern}
 use Rattle.qrcode_symbol.specs.Symbol.{blocks_in}
 use Rattle.qrcode_symbol.specs.Reading.{ReadsBitsOnly}
 use Rattle.qrcode_bits.specs.Spelling.{Spells}
+use Rattle.qrcode_bits.specs.Shown.{Shows}
 use Rattle.qrcode.specs.Reading.{ReadsOnly}
+use Rattle.qrcode.specs.Texts.{ShowsTextOnly}
 use Rattle.qrcode_reader.specs.Formats.{HasFormat}
 use Rattle.qrcode_reader.specs.Corrected.{wrong_from, IsFirstDamaged}
 use Rattle.qrcode_reader.specs.declared.correction.WrongCodeword.{WrongCodeword}
 use Rattle.qrcode_reader.specs.declared.refusals.Unread.{Unread}
+use Rattle.qrcode_reader.specs.declared.refusals.UnreadText.{UnreadText}
+use Rattle.qrcode_reader.specs.declared.refusals.UnreadText.TheVariants.{NoBits, NotShown}
 use Rattle.qrcode_reader.specs.declared.refusals.Unread.TheVariants.{NoSuchSide, NoFormat, Damaged, NotSpelled, OutOfMemory}
 
 -- the square is read as these bits and as no others; this is its mask, and these codewords were wrong
@@ -29,6 +33,13 @@ pub record IsReading (s : List Color) (v : Version) (l : EcLevel) (k : MaskPatte
   pub bits : List Bool
   pub read : IsBitReading s v l k bits wrong
   pub spelled : Spells v bits bytes
+
+-- the square is shown as these characters and as no others, by bits of which the same is true
+pub record IsTextReading (s : List Color) (v : Version) (l : EcLevel) (k : MaskPattern) (text : List ℕ) (wrong : List WrongCodeword) : Type 0 where
+  pub only : ShowsTextOnly s text
+  pub bits : List Bool
+  pub read : IsBitReading s v l k bits wrong
+  pub shown : Shows v bits text
 
 -- no version has a square of so many modules
 abbrev pub HasNoVersion : List Color → Type 0
@@ -58,6 +69,14 @@ pub record SpellsNothing (s : List Color) : Type 0 where
   pub only : ReadsBitsOnly s version level bits
   pub none : (bytes : List ℕ) → ¬ Spells version bits bytes
 
+-- all blocks can be corrected, and the bits are shown as no text
+pub record ShowsNothing (s : List Color) : Type 0 where
+  pub version : Version
+  pub level : EcLevel
+  pub bits : List Bool
+  pub only : ReadsBitsOnly s version level bits
+  pub none : (text : List ℕ) → ¬ Shows version bits text
+
 -- why a square is not read as bits
 abbrev pub IsBitCause : List Color → Unread → Type 0
 IsBitCause s NoSuchSide = HasNoVersion s
@@ -73,3 +92,8 @@ IsCause s NoFormat = HasNoFormat s
 IsCause s (Damaged b) = HasDamagedBlock s b
 IsCause s NotSpelled = SpellsNothing s
 IsCause s OutOfMemory = Unit
+
+-- why a square is shown as no text
+abbrev pub IsTextCause : List Color → UnreadText → Type 0
+IsTextCause s (NoBits e) = IsBitCause s e
+IsTextCause s NotShown = ShowsNothing s

@@ -1,7 +1,10 @@
 -- The texts of refusals.
 use Rattle.std.specs.Prelude.{ℕ, List, ◌++◌, codes, decimal}
 use Rattle.qrcode_spell.specs.declared.refusals.Unspelled as spelling
+use Rattle.qrcode_spell.specs.declared.refusals.Unshown as showing
 use Rattle.qrcode_reader.specs.declared.refusals.Unread.{Unread}
+use Rattle.qrcode_reader.specs.declared.refusals.UnreadText.{UnreadText}
+use Rattle.qrcode_reader.specs.declared.refusals.UnreadText.TheVariants.{NoBits, NotShown}
 use Rattle.qrcode_reader.specs.declared.refusals.Unread.TheVariants.{NoSuchSide, NoFormat, Damaged, NotSpelled, OutOfMemory}
 
 abbrev pub refusal_text : Unread → List ℕ
@@ -15,3 +18,12 @@ refusal_text OutOfMemory = codes "out of memory"
 abbrev pub unread_of : spelling.Unspelled → Unread
 unread_of spelling.TheVariants.NotSpelled = NotSpelled
 unread_of spelling.TheVariants.OutOfMemory = OutOfMemory
+
+abbrev pub text_refusal : UnreadText → List ℕ
+text_refusal (NoBits e) = refusal_text e
+text_refusal NotShown = codes "the bits are no text in UTF-8"
+
+-- the refusal of a square whose bits are shown as no text
+abbrev pub unread_text_of : showing.Unshown → UnreadText
+unread_text_of showing.TheVariants.NotShown = NotShown
+unread_text_of showing.TheVariants.OutOfMemory = NoBits OutOfMemory

@@ -1,5 +1,5 @@
-//! Squares of modules read: version, level and mask, data bits and bytes, and which codewords were
-//! wrong.
+//! Squares of modules read: version, level and mask, data bits, bytes or a text, and which codewords
+//! were wrong.
 #![tactic(auto)]
 
 mod bits;
@@ -10,6 +10,7 @@ mod positions;
 mod reading;
 mod refusals;
 mod sizes;
+mod texts;
 mod walk;
 mod words;
 
@@ -17,5 +18,6 @@ pub use correction::WrongCodeword;
 pub use formats::read_format;
 pub use positions::{AnyReading, Position, read_any};
 pub use reading::{BitReading, Reading, read, read_bits};
-pub use refusals::Unread;
+pub use refusals::{Unread, UnreadText};
 pub use sizes::version_of;
+pub use texts::{TextReading, read_text};

@@ -9,7 +9,7 @@ ghost use Rattle.qrcode_ec.specs.Blocks as interleaved;
 ghost use Rattle.qrcode_places.specs.Stream as walked;
 ghost use Rattle.qrcode_symbol.specs.Symbol.{IsDamaged};
 ghost use Rattle.qrcode_symbol.specs.Reading.{ReadsBits};
-ghost use Rattle.qrcode.specs.Reading.{Reads, EncodesBytes};
+ghost use Rattle.qrcode.specs.Reading.{Reads, EncodesBits, EncodesBytes};
 ghost use Rattle.qrcode_reader.specs.Readings.{IsBitReading, IsReading, IsBitCause, IsCause};
 ghost use Rattle.qrcode_reader.specs.declared.refusals.Unread.TheVariants.{OutOfMemory};
 
@@ -85,6 +85,12 @@ pub fn read_bits(alloc: Global, modules: &[Color]) -> Result<BitReading, Unread>
     ensures accepts { (version : Version) (level : EcLevel) (bits : List Bool)
         → ReadsBits modules.now version level bits → IsOkUnless result OutOfMemory }
     ensures causes { IfErr result (IsBitCause modules.now) }
+    // The symbol of bits is read as these bits, with the promised damage too.
+    ensures gives_back { (version : Version) (level : EcLevel) (bits : List Bool)
+        (symbol : List Color) → (encodes : EncodesBits version level bits symbol)
+        → IsDamaged version level encodes.mask symbol modules.now
+        → IsOkUnless result OutOfMemory × IfOk result (λ read. (read.version ≡ version)
+        × (read.ec_level ≡ level) × (read.bits.items ≡ bits)) }
 {
     let Some(version) = version_of(modules.len()) else {
         return Err(Unread::NoSuchSide);

@@ -1,10 +1,11 @@
-//! Why a square is not read.
+//! Why a square is not read, or shown as no text.
 
 ghost use Rattle.std.specs.Prelude.{◌≡◌, Some};
-ghost use Rattle.qrcode_reader.specs.Refusals.{refusal_text, unread_of};
+ghost use Rattle.qrcode_reader.specs.Refusals.{refusal_text, text_refusal, unread_of, unread_text_of};
 ghost use Rattle.qrcode_reader.specs.declared.refusals.Unread.TheVariants.{OutOfMemory};
+ghost use Rattle.qrcode_reader.specs.declared.refusals.UnreadText.TheVariants.{NoBits};
 
-use qrcode_spell::Unspelled;
+use qrcode_spell::{Unshown, Unspelled};
 use std::alloc::{AllocError, AllocFailed};
 use std::error::Error;
 use std::fmt;
@@ -63,6 +64,48 @@ impl From<Unspelled> for Unread {
         match error {
             Unspelled::NotSpelled => Unread::NotSpelled,
             Unspelled::OutOfMemory => Unread::OutOfMemory,
+        }
+    }
+}
+
+/// Why a square is shown as no text.
+#[derive(Debug, PartialEq, Eq, Copy, Clone)]
+pub enum UnreadText {
+    /// No bits are read, for this reason.
+    NoBits(Unread),
+    /// The data bits are shown as no text: a segment is Kanji or no UTF-8, or there is another header
+    /// than the number 26 of UTF-8, or they are not segments and an end.
+    NotShown,
+}
+
+impl fmt::Display for UnreadText {
+    ghost output = { λ e. Some (text_refusal e) };
+
+    fn fmt<W: fmt::Write>(&self, f: &mut fmt::Formatter<W>) -> fmt::Result {
+        match self {
+            UnreadText::NoBits(error) => write!(f, "{error}"),
+            UnreadText::NotShown => f.write_str("the bits are no text in UTF-8"),
+        }
+    }
+}
+
+impl Error for UnreadText {}
+
+impl From<Unread> for UnreadText {
+    ghost from_gives = { λ error e. e ≡ NoBits error };
+
+    fn from(error: Unread) -> UnreadText {
+        UnreadText::NoBits(error)
+    }
+}
+
+impl From<Unshown> for UnreadText {
+    ghost from_gives = { λ error e. e ≡ unread_text_of error };
+
+    fn from(error: Unshown) -> UnreadText {
+        match error {
+            Unshown::NotShown => UnreadText::NotShown,
+            Unshown::OutOfMemory => UnreadText::NoBits(Unread::OutOfMemory),
         }
     }
 }

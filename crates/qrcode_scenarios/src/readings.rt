@@ -3,7 +3,9 @@
 use crate::symbols::of_digits;
 use qrcode::types::{Color, QrError, QrResult, Version};
 use qrcode_digest::Digest;
-use qrcode_reader::{Reading, Unread, WrongCodeword, read, read_any, read_bits};
+use qrcode_reader::{
+    Reading, Unread, UnreadText, WrongCodeword, read, read_any, read_bits, read_text,
+};
 use std::alloc::Global;
 
 /// A call that reads a square.
@@ -13,6 +15,8 @@ pub enum ReadCall {
     Bytes,
     /// `read_bits`.
     Bits,
+    /// `read_text`.
+    Text,
     /// `read_any`.
     Any,
 }
@@ -26,6 +30,7 @@ pub fn run(alloc: Global, version: Version, call: ReadCall) -> QrResult<Digest> 
     match call {
         ReadCall::Bytes => read(alloc, &colors).map_err(refusal).map(of_reading),
         ReadCall::Bits => of_bits(alloc, &colors),
+        ReadCall::Text => of_text(alloc, &colors),
         ReadCall::Any => match read_any(alloc, &colors)? {
             Some(found) => Ok(of_reading(found.reading)),
             None => Err(QrError::InvalidCharacter),
@@ -37,6 +42,12 @@ pub fn run(alloc: Global, version: Version, call: ReadCall) -> QrResult<Digest> 
 fn of_bits(alloc: Global, colors: &[Color]) -> QrResult<Digest> {
     let read = read_bits(alloc, colors).map_err(refusal)?;
     Ok(Digest::of(&read.bits).and(of_wrong(&read.wrong)))
+}
+
+// What was read as a text.
+fn of_text(alloc: Global, colors: &[Color]) -> QrResult<Digest> {
+    let read = read_text(alloc, colors).map_err(text_refusal)?;
+    Ok(Digest::of(read.text.as_bytes()).and(of_wrong(&read.wrong)))
 }
 
 // What was read as bytes.
@@ -54,5 +65,13 @@ fn refusal(unread: Unread) -> QrError {
     match unread {
         Unread::OutOfMemory => QrError::OutOfMemory,
         _ => QrError::InvalidCharacter,
+    }
+}
+
+// The same of texts.
+fn text_refusal(unread: UnreadText) -> QrError {
+    match unread {
+        UnreadText::NoBits(cause) => refusal(cause),
+        UnreadText::NotShown => QrError::InvalidCharacter,
     }
 }

@@ -1,6 +1,6 @@
 //! The scenarios of readings.
 
-use crate::readings::ReadCall::{Any, Bits, Bytes};
+use crate::readings::ReadCall::{Any, Bits, Bytes, Text};
 use crate::scenario::Call::Once;
 use crate::scenario::Memory::Takes;
 use crate::scenario::Scenario;
@@ -8,11 +8,12 @@ use crate::scenario::Single::Reading;
 use qrcode::types::Version::{Micro, Normal};
 
 #[rattlefmt::skip]
-pub static SCENARIOS: [Scenario; 6] = [
+pub static SCENARIOS: [Scenario; 7] = [
     Scenario("read", Takes, None, Once(Reading(Micro(2), Bytes))),
     Scenario("read: Normal 7", Takes, None, Once(Reading(Normal(7), Bytes))),
     Scenario("read_bits", Takes, None, Once(Reading(Micro(2), Bits))),
     Scenario("read_bits: Normal 7", Takes, None, Once(Reading(Normal(7), Bits))),
+    Scenario("read_text: Normal 7", Takes, None, Once(Reading(Normal(7), Text))),
     Scenario("read_any", Takes, None, Once(Reading(Micro(2), Any))),
     Scenario("read_any: Normal 7", Takes, None, Once(Reading(Normal(7), Any))),
 ];

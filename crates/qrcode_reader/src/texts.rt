@@ -1,0 +1,64 @@
+//! Squares read as texts.
+
+ghost use Rattle.std.specs.Prelude.{◌≡◌, ℕ, List, chars, string_bytes, IfOk, IfErr, IsOkUnless};
+ghost use Rattle.qrcode_types.specs.declared.types.Version.{Version};
+ghost use Rattle.qrcode_types.specs.declared.types.EcLevel.{EcLevel};
+ghost use Rattle.qrcode_types.specs.declared.types.Color.{Color};
+ghost use Rattle.qrcode_symbol.specs.Symbol.{IsDamaged};
+ghost use Rattle.qrcode.specs.Texts.{ShowsText, IsShownAs};
+ghost use Rattle.qrcode_reader.specs.Readings.{IsTextReading, IsTextCause};
+ghost use Rattle.qrcode_reader.specs.declared.refusals.Unread.TheVariants.{OutOfMemory};
+ghost use Rattle.qrcode_reader.specs.declared.refusals.UnreadText.TheVariants.{NoBits};
+
+use crate::correction::WrongCodeword;
+use crate::reading::read_bits;
+use crate::refusals::UnreadText;
+use qrcode_places::masks::MaskPattern;
+use qrcode_spell::text_of;
+use qrcode_types::types::{Color, EcLevel, Version};
+use std::alloc::Global;
+
+/// A square read as a text.
+#[derive(Drop)]
+pub struct TextReading {
+    /// Its version, by its side.
+    pub version: Version,
+    /// The level that its format word names.
+    pub ec_level: EcLevel,
+    /// The mask that it names.
+    pub mask: MaskPattern,
+    /// The text of its segments.
+    pub text: String,
+    /// The codewords that were wrong, block by block.
+    pub wrong: Vec<WrongCodeword>,
+}
+
+/// The text of a square of modules, as a reader shows it that takes the bytes of each segment by
+/// themselves as UTF-8, behind nothing or the number 26 of UTF-8 (ISO/IEC 18004:2006, 6.4.2 to 6.4.5):
+/// modules row by row from the top left corner, dark ones dark. As much may be wrong as for `read`.
+///
+/// `NoBits` has the cause for which `read_bits` reads no bits, and `OutOfMemory` where memory was
+/// refused later too. `NotShown`: the bits that are read are shown as no text.
+pub fn read_text(alloc: Global, modules: &[Color]) -> Result<TextReading, UnreadText>
+    ensures value { IfOk result (λ read. IsTextReading modules.now
+        read.version read.ec_level read.mask (chars (string_bytes read.text)) read.wrong.items) }
+    ensures accepts { (text : List ℕ)
+        → ShowsText modules.now text → IsOkUnless result (NoBits OutOfMemory) }
+    ensures causes { IfErr result (IsTextCause modules.now) }
+    // What a constructor made of a text is read as this text, with the promised damage too.
+    ensures gives_back { (version : Version) (level : EcLevel) (text : List ℕ)
+        (symbol : List Color) → (shown : IsShownAs version level text symbol)
+        → IsDamaged version level shown.mask symbol modules.now
+        → IsOkUnless result (NoBits OutOfMemory)
+        × IfOk result (λ read. chars (string_bytes read.text) ≡ text) }
+{
+    let read = read_bits(alloc, modules)?;
+    let text = text_of(alloc, &read.bits, read.version)?;
+    Ok(TextReading {
+        version: read.version,
+        ec_level: read.ec_level,
+        mask: read.mask,
+        text,
+        wrong: read.wrong,
+    })
+}
