@@ -1,9 +1,11 @@
 -- The bits of the walk, place by place.
-use Rattle.std.proofs.Common.{◌≡◌, ◌<◌, ◌+◌, ◌-◌, ◌*◌, ◌/◌, ◌%◌, ℕ, Bool, true, false, not, List, [], ◌∷◌, ◌++◌, map, get_or, refl, sym, ap, ap₂, ◌∙◌, arith, append-nil, cond}
+use Rattle.std.proofs.Common.{ℤ, pos, to_z, of_z, w16, subst, append_assoc, ◌≡◌, ◌<◌, ◌+◌, ◌-◌, ◌*◌, ◌/◌, ◌%◌, ℕ, Bool, true, false, not, List, [], ◌∷◌, ◌++◌, map, get_or, refl, sym, ap, ap₂, ◌∙◌, arith, append-nil, cond}
 use Rattle.std.specs.List.{range_with_len, flat_map, filter}
 use Rattle.std.proofs.lemmas.List.FromFn.{map-range_with_len_more}
 use Rattle.std.proofs.lemmas.List.Concat.{flat_map-append}
 use Rattle.std.proofs.lemmas.Nat.{div-mul-add, mod-mul-add}
+use Rattle.std.proofs.lemmas.Int.{to_z-of_z}
+use lib.Signed.{mag}
 use Rattle.qrcode_types.specs.Colors.{is_dark}
 use Rattle.qrcode_types.specs.Versions.{side}
 use Rattle.qrcode_types.specs.declared.types.Version.{Version}
@@ -17,7 +19,7 @@ use Rattle.qrcode_symbol.specs.Canvas.{is_empty, with_patterns, blank}
 use Rattle.qrcode_symbol.specs.declared.canvas.Module.{Module}
 use Rattle.qrcode_symbol.specs.declared.canvas.Module.TheVariants.{Empty, Masked, Unmasked}
 use Rattle.qrcode_symbol.proofs.Functional.{patterned_place, empty_module}
-use Rattle.qrcode_reader.specs.Streams.{bits_of_place, bits_walked}
+use Rattle.qrcode_reader.specs.Streams.{bits_turned, bits_of_place, bits_walked}
 
 pair_of : (w pair r : ℕ) → r < 2 * w → (2 * w * pair + r) / (2 * w) ≡ pair
 pair_of w pair r lt = let e : 2 * w * pair + r ≡ pair * (2 * w) + r = omega arith in rw e (div-mul-add pair (2 * w) r lt)
@@ -97,16 +99,26 @@ not_empty (Masked c) h = refl
 not_empty (Unmasked c) h = refl
 
 -- a place that is not free has no bit
-pub no_bit : (v : Version) (mask : MaskPattern) (s : List Color) (x y : ℕ) (m : Module) → x < side v → y < side v → m ≡ get_or (with_patterns v (blank v)) (y * side v + x) Empty
-    → (m ≡ Empty → ⊥) → bits_of_place v mask s (x, y) ≡ []
-no_bit v mask s x y m xl yl e other =
-    ap (λ b. cond b (turned_if (turns mask x y) (is_dark (color_at v s x y)) ∷ []) []) (sym (free_test v x y m xl yl e) ∙ not_empty m other)
+pub no_bit : (v : Version) (is_turned : Bool) (s : List Color) (x y : ℕ) (m : Module) → x < side v → y < side v → m ≡ get_or (with_patterns v (blank v)) (y * side v + x) Empty
+    → (m ≡ Empty → ⊥) → bits_turned v is_turned s (x, y) ≡ []
+no_bit v is_turned s x y m xl yl e other = ap (λ b. cond b (turned_if is_turned (is_dark (color_at v s x y)) ∷ []) []) (sym (free_test v x y m xl yl e) ∙ not_empty m other)
 
 -- a free place has one
-pub one_bit : (v : Version) (mask : MaskPattern) (s : List Color) (x y : ℕ) (m : Module) → x < side v → y < side v → m ≡ get_or (with_patterns v (blank v)) (y * side v + x) Empty
-    → m ≡ Empty → bits_of_place v mask s (x, y) ≡ turned_if (turns mask x y) (is_dark (color_at v s x y)) ∷ []
-one_bit v mask s x y m xl yl e empty =
-    ap (λ b. cond b (turned_if (turns mask x y) (is_dark (color_at v s x y)) ∷ []) []) (sym (free_test v x y m xl yl e) ∙ ap is_empty empty)
+pub one_bit : (v : Version) (is_turned : Bool) (s : List Color) (x y : ℕ) (m : Module) → x < side v → y < side v → m ≡ get_or (with_patterns v (blank v)) (y * side v + x) Empty
+    → m ≡ Empty → bits_turned v is_turned s (x, y) ≡ turned_if is_turned (is_dark (color_at v s x y)) ∷ []
+one_bit v is_turned s x y m xl yl e empty = ap (λ b. cond b (turned_if is_turned (is_dark (color_at v s x y)) ∷ []) []) (sym (free_test v x y m xl yl e) ∙ ap is_empty empty)
+
+-- the bit at a place that was written behind the others, which stand behind those of earlier pairs
+pub written_behind : (v : Version) (mask : MaskPattern) (s : List Color) (x y : ℕ) (turned : Bool) (before old new : List Bool) → turned ≡ turns mask x y
+    → new ≡ old ++ bits_turned v turned s (x, y) → before ++ new ≡ (before ++ old) ++ bits_of_place v mask s (x, y)
+written_behind v mask s x y turned before old new t e =
+    ap (λ r. before ++ r) (e ∙ ap (λ b. old ++ bits_turned v b s (x, y)) t) ∙ sym (append_assoc before old (bits_of_place v mask s (x, y)))
+
+-- a signed number that is no negative one
+pub signed : (z : ℤ) (x : ℕ) → z ≡ pos x → mag z < 32768 → to_z w16 (of_z w16 z) ≡ pos x
+signed z x e h =
+    let small : x < 32768 = subst (λ (u : ℤ). mag u < 32768) e h in
+    ap (λ (u : ℤ). to_z w16 (of_z w16 u)) e ∙ to_z-of_z w16 (pos x) (omega (arith, small))
 
 -- half of the columns but one are the pairs
 pub whole_walk : (w pair : ℕ) → w % 2 ≡ 1 → pair ≡ w / 2 → 2 * w * pair ≡ w * (w - 1)

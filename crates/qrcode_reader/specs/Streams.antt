@@ -15,9 +15,13 @@ use Rattle.qrcode_symbol.specs.Canvas.{Drawing, blank, with_patterns}
 abbrev pub patterned_canvas : Version → Drawing
 patterned_canvas v = record { version = v; level = L; modules = with_patterns v (blank v) }
 
--- the bit at a place, where it is free
+-- the bit at a place that a mask turns or not, where it is free
+abbrev pub bits_turned : Version → Bool → List Color → ℕ × ℕ → List Bool
+bits_turned v is_turned s p = if not (is_functional_place v p.0 p.1) then turned_if is_turned (is_dark (color_at v s p.0 p.1)) ∷ [] else []
+
+-- the same under a mask
 abbrev pub bits_of_place : Version → MaskPattern → List Color → ℕ × ℕ → List Bool
-bits_of_place v mask s p = if not (is_functional_place v p.0 p.1) then turned_if (turns mask p.0 p.1) (is_dark (color_at v s p.0 p.1)) ∷ [] else []
+bits_of_place v mask s p = bits_turned v (turns mask p.0 p.1) s p
 
 -- the bits of the first places of the walk
 unfoldable pub bits_walked : Version → MaskPattern → List Color → ℕ → List Bool

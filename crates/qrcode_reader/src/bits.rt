@@ -9,20 +9,27 @@ use qrcode_types::tables::capacity;
 use qrcode_types::types::{EcLevel, Version};
 use std::alloc::{AllocError, Global};
 
-// Appends the bits of a byte, the highest first.
+// A one and a zero, their names short so that four bits can be seen.
+const I: bool = true;
+
+const O: bool = false;
+
+// The bits of the numbers below 16, the highest first.
+#[rattlefmt::skip]
+static HALVES: [[bool; 4]; 16] = [
+    [O, O, O, O], [O, O, O, I], [O, O, I, O], [O, O, I, I],
+    [O, I, O, O], [O, I, O, I], [O, I, I, O], [O, I, I, I],
+    [I, O, O, O], [I, O, O, I], [I, O, I, O], [I, O, I, I],
+    [I, I, O, O], [I, I, O, I], [I, I, I, O], [I, I, I, I],
+];
+
+// Appends the bits of a byte, the highest first, four at a time.
+#[inline(always)]
 fn push_byte(bits: &mut Vec<bool>, byte: u8) -> Result<(), AllocError>
     ensures { OnOk result (bits.new.items ≡ bits.old.items ++ numbers.number_bits 8 byte) }
 {
-    bits.extend_from_slice(&[
-        byte / 128 % 2 == 1,
-        byte / 64 % 2 == 1,
-        byte / 32 % 2 == 1,
-        byte / 16 % 2 == 1,
-        byte / 8 % 2 == 1,
-        byte / 4 % 2 == 1,
-        byte / 2 % 2 == 1,
-        byte % 2 == 1,
-    ])?;
+    bits.extend_from_slice(&HALVES[usize::from(byte / 16)])?;
+    bits.extend_from_slice(&HALVES[usize::from(byte % 16)])?;
     Ok(())
 }
 
@@ -30,7 +37,7 @@ fn push_byte(bits: &mut Vec<bool>, byte: u8) -> Result<(), AllocError>
 fn bits_of(alloc: Global, bytes: &[u8], count: usize) -> Result<Vec<bool>, AllocError>
     ensures { IfOk result (λ bits. bits.items ≡ take count (numbers.bits_of bytes.now)) }
 {
-    let mut bits = Vec::new(alloc);
+    let mut bits = Vec::with_capacity(alloc, bytes.len().saturating_mul(8))?;
     for byte in bytes {
         push_byte(&mut bits, *byte)?;
     }

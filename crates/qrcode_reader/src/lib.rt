@@ -11,6 +11,7 @@ mod reading;
 mod refusals;
 mod sizes;
 mod texts;
+mod turned;
 mod walk;
 mod words;
 

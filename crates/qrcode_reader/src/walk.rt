@@ -1,13 +1,14 @@
 //! The bits at the free places, along the walk, with the mask taken off.
 
-ghost use Rattle.std.specs.Prelude.{◌≡◌, ◌+◌, ◌*◌, ◌%◌, ◌<◌, ◌≤◌, ◌++◌, length, IsTrue, OnOk, IfOk, pos};
+ghost use Rattle.std.specs.Prelude.{◌≡◌, ℕ, ◌+◌, ◌*◌, ◌%◌, ◌<◌, ◌≤◌, ◌++◌, false, length, take, slice_index_or, IsTrue, OnOk, IfOk, pos};
 ghost use Rattle.qrcode_types.specs.Colors.{is_dark};
 ghost use Rattle.qrcode_types.specs.Versions.{is_valid, side};
-ghost use Rattle.qrcode_places.specs.Masks.{turned_if};
+ghost use Rattle.qrcode_places.specs.Masks.{turns, turned_if};
 ghost use Rattle.qrcode_places.specs.Stream.{stream};
 ghost use Rattle.qrcode_symbol.specs.Filling.{row_of_step};
-ghost use Rattle.qrcode_reader.specs.Streams.{patterned_canvas, bits_of_place, bits_walked};
+ghost use Rattle.qrcode_reader.specs.Streams.{patterned_canvas, bits_turned, bits_walked};
 
+use crate::turned::{Turned, coordinate};
 use qrcode_places::masks::MaskPattern;
 use qrcode_places::walk::right_column;
 use qrcode_symbol::canvas::{Canvas, Module};
@@ -39,15 +40,6 @@ fn patterned(alloc: Global, version: Version) -> Result<Canvas, AllocError>
     }
 }
 
-// A column or a row as a signed number.
-#[inline(always)]
-fn coordinate(x: usize) -> i16
-    requires { x < 1000 }
-    ensures { result ≡ pos x }
-{
-    x as i16
-}
-
 // The bit of a module that a mask turned, or did not turn.
 #[inline(always)]
 fn bit_of(color: Color, is_turned: bool) -> bool
@@ -59,34 +51,40 @@ fn bit_of(color: Color, is_turned: bool) -> bool
     }
 }
 
-// Appends the bit at column `x` and row `y`, where the canvas of the patterns is empty there. Inlined,
-// so that what the version and the mask decide is decided once for all modules.
+// Room for the bits of a pair of columns, so that a bit is written without a look at the room that is left.
+const ROOM: usize = 354;
+
+// Writes the bit at column `x` and row `y` behind the first bits, where the canvas of the patterns is empty there, and
+// answers how many bits there are then.
 #[inline(always)]
-fn push_module(
-    bits: &mut Vec<bool>,
+fn put_module(
+    bits: &mut [bool; ROOM],
+    count: usize,
     canvas: &Canvas,
     version: Version,
-    mask: MaskPattern,
     modules: &[Color],
+    is_turned: bool,
     x: usize,
     y: usize,
-) -> Result<(), AllocError>
+) -> usize
+    requires room { count < 354 }
     requires valid { IsTrue (is_valid version) }
     requires patterns { canvas.now ≡ patterned_canvas version }
     requires square { length modules.now ≡ side version * side version }
     requires column { x < side version }
     requires row { y < side version }
-    ensures { OnOk result (bits.new.items
-        ≡ bits.old.items ++ bits_of_place version mask modules.now (x, y)) }
+    ensures at_most { result ≤ count + 1 }
+    ensures value { take result bits.new
+        ≡ take count bits.old ++ bits_turned version is_turned modules.now (x, y) }
 {
     let column = coordinate(x);
     let row = coordinate(y);
     let Module::Empty = canvas.get(column, row) else {
-        return Ok(());
+        return count;
     };
     let color = modules[y * side(version) + x];
-    bits.push(bit_of(color, mask.turns(column, row)))?;
-    Ok(())
+    bits[count] = bit_of(color, is_turned);
+    count + 1
 }
 
 // The row at a step through a pair of columns: the walk goes upwards and downwards by turns.
@@ -108,25 +106,39 @@ fn push_pair(
     bits: &mut Vec<bool>,
     canvas: &Canvas,
     version: Version,
-    mask: MaskPattern,
+    turned: &Turned,
     modules: &[Color],
     pair: usize,
 ) -> Result<(), AllocError>
     requires valid { IsTrue (is_valid version) }
     requires patterns { canvas.now ≡ patterned_canvas version }
     requires square { length modules.now ≡ side version * side version }
+    requires turned { turned.now.height ≡ side version }
     requires pair { 2 * pair + 3 ≤ side version }
-    requires walked { bits.old.items ≡ bits_walked version mask modules.now (2 * side version * pair) }
+    requires walked { bits.old.items ≡ bits_walked version turned.now.mask modules.now
+        (2 * side version * pair) }
     ensures { OnOk result (bits.new.items
-        ≡ bits_walked version mask modules.now (2 * side version * (pair + 1))) }
+        ≡ bits_walked version turned.now.mask modules.now (2 * side version * (pair + 1))) }
 {
     let width = side(version);
     let right = right_column(version, width, pair);
+    let left = right - 1;
+    let right_turned = turned.column(right);
+    let left_turned = turned.column(left);
+    let mut found = [false; ROOM];
+    let mut count = 0;
     for step in 0..width {
         let row = row_of_step(width, pair, step);
-        push_module(bits, canvas, version, mask, modules, right, row)?;
-        push_module(bits, canvas, version, mask, modules, right - 1, row)?;
+        let is_turned = right_turned[row];
+        count = put_module(
+            &mut found, count, canvas, version, modules, is_turned, right, row,
+        );
+        let is_turned = left_turned[row];
+        count = put_module(
+            &mut found, count, canvas, version, modules, is_turned, left, row,
+        );
     }
+    bits.extend_from_slice(&found[..count])?;
     Ok(())
 }
 
@@ -145,9 +157,11 @@ pub(crate) fn stream(
     ensures { IfOk result (λ bits. bits.items ≡ stream version mask modules.now) }
 {
     let canvas = patterned(alloc, version)?;
+    let width = side(version);
+    let turned = Turned::new(mask, width);
     let mut bits = Vec::with_capacity(alloc, modules.len())?;
-    for pair in 0..side(version) / 2 {
-        push_pair(&mut bits, &canvas, version, mask, modules, pair)?;
+    for pair in 0..width / 2 {
+        push_pair(&mut bits, &canvas, version, &turned, modules, pair)?;
     }
     Ok(bits)
 }

@@ -1,6 +1,6 @@
 //! The codewords in the bits of the free places.
 
-ghost use Rattle.std.specs.Prelude.{◌≡◌, ◌≤◌, ◌++◌, false, length, take, drop, slice_index_or, IsTrue, OnOk, IfOk, if◌then◌else◌};
+ghost use Rattle.std.specs.Prelude.{◌≡◌, ◌+◌, ◌*◌, ◌<◌, ◌≤◌, ◌++◌, false, length, take, drop, slice_index_or, IsTrue, OnOk, IfOk, if◌then◌else◌};
 ghost use Rattle.qrcode_types.specs.Bits.{byte_at, bytes_of};
 ghost use Rattle.qrcode_types.specs.Versions.{has_level};
 ghost use Rattle.qrcode_ec.specs.Blocks.{codewords};
@@ -32,6 +32,34 @@ fn behind(bits: &[bool], count: usize) -> &[bool]
     }
 }
 
+// The bit at a place as a number.
+#[inline(always)]
+fn digit(bits: &[bool], place: usize) -> u8
+    requires { place < length bits.now }
+    ensures value { result ≡ (if slice_index_or bits.now place false then 1 else 0) }
+    ensures at_most { result ≤ 1 }
+{
+    if bits[place] { 1 } else { 0 }
+}
+
+// The i-th byte, where all its bits are there: no look at the end for each of them.
+#[inline(always)]
+fn whole_byte(bits: &[bool], i: usize) -> u8
+    requires { 8 * i + 8 ≤ length bits.now }
+    ensures { result ≡ byte_at bits.now i }
+{
+    let at = 8 * i;
+    let high = 8 * digit(bits, at)
+        + 4 * digit(bits, at + 1)
+        + 2 * digit(bits, at + 2)
+        + digit(bits, at + 3);
+    let low = 8 * digit(bits, at + 4)
+        + 4 * digit(bits, at + 5)
+        + 2 * digit(bits, at + 6)
+        + digit(bits, at + 7);
+    16 * high + low
+}
+
 // The bit at a place as a number, or zero behind the end.
 fn bit(bits: &[bool], place: usize) -> u8
     ensures value { result ≡ (if slice_index_or bits.now place false then 1 else 0) }
@@ -45,7 +73,7 @@ fn bit(bits: &[bool], place: usize) -> u8
 }
 
 // The i-th byte, with zeros behind the end.
-fn byte_at(bits: &[bool], i: usize) -> u8
+fn filled_byte(bits: &[bool], i: usize) -> u8
     requires { i ≤ 30000 }
     ensures { result ≡ byte_at bits.now i }
 {
@@ -59,6 +87,19 @@ fn byte_at(bits: &[bool], i: usize) -> u8
         + 2 * bit(bits, at + 6)
         + bit(bits, at + 7);
     16 * high + low
+}
+
+// The i-th byte, with zeros behind the end.
+#[inline(always)]
+fn byte_at(bits: &[bool], i: usize) -> u8
+    requires { i ≤ 30000 }
+    ensures { result ≡ byte_at bits.now i }
+{
+    if 8 * i + 8 <= bits.len() {
+        whole_byte(bits, i)
+    } else {
+        filled_byte(bits, i)
+    }
 }
 
 // Appends the bytes of bits, the last one filled with zeros.
@@ -86,11 +127,9 @@ pub(crate) fn codewords(
 {
     let blocks = Blocks::of(version, ec_level).unwrap();
     let capacity = capacity(version, ec_level).unwrap();
-    let mut words = Vec::new(alloc);
+    let ec_length = blocks.total_ec_length();
+    let mut words = Vec::with_capacity(alloc, blocks.data_length() + ec_length)?;
     push_bytes(&mut words, front(bits, capacity))?;
-    push_bytes(
-        &mut words,
-        front(behind(bits, capacity), 8 * blocks.total_ec_length()),
-    )?;
+    push_bytes(&mut words, front(behind(bits, capacity), 8 * ec_length))?;
     Ok(words)
 }

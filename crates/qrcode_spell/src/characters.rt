@@ -85,6 +85,7 @@ fn push_letters(bytes: &mut Vec<u8>, group: &[bool]) -> Result<(), Unspelled>
 }
 
 // Appends a byte.
+#[inline(always)]
 fn push_byte(bytes: &mut Vec<u8>, group: &[bool]) -> Result<(), Unspelled>
     requires at_least { 0 < length group.now }
     requires at_most { length group.now ≤ 8 }
@@ -120,6 +121,7 @@ fn push_pair(bytes: &mut Vec<u8>, group: &[bool]) -> Result<(), Unspelled>
 
 // The most bits in which characters are written together: three digits, two characters of the
 // alphabet, a byte or a pair.
+#[inline(always)]
 fn group_bits(mode: Mode) -> usize
     ensures { result ≡ group_bits mode }
 {
@@ -132,6 +134,7 @@ fn group_bits(mode: Mode) -> usize
 }
 
 // Appends the characters that are written together.
+#[inline(always)]
 fn push_group(bytes: &mut Vec<u8>, mode: Mode, group: &[bool]) -> Result<(), Unspelled>
     requires at_least { 0 < length group.now }
     requires at_most { length group.now ≤ group_bits mode }
@@ -145,12 +148,10 @@ fn push_group(bytes: &mut Vec<u8>, mode: Mode, group: &[bool]) -> Result<(), Uns
     }
 }
 
-// Appends the characters that the mode writes as these bits.
-pub(crate) fn push_characters(
-    bytes: &mut Vec<u8>,
-    mode: Mode,
-    bits: &[bool],
-) -> Result<(), Unspelled>
+// Appends the characters that the mode writes as these bits, group by group. Inlined, it is made anew
+// for a mode that is known where it is called.
+#[inline(always)]
+fn push_groups(bytes: &mut Vec<u8>, mode: Mode, bits: &[bool]) -> Result<(), Unspelled>
     ensures { AppendsCharacters mode bits.now bytes.old.items bytes.new.items result }
 {
     let mut rest = bits;
@@ -160,4 +161,19 @@ pub(crate) fn push_characters(
         rest = behind;
     }
     Ok(())
+}
+
+// Appends the characters that the mode writes as these bits: bytes, of which there are most, by a loop
+// of their own.
+pub(crate) fn push_characters(
+    bytes: &mut Vec<u8>,
+    mode: Mode,
+    bits: &[bool],
+) -> Result<(), Unspelled>
+    ensures { AppendsCharacters mode bits.now bytes.old.items bytes.new.items result }
+{
+    match mode {
+        Mode::Byte => push_groups(bytes, Mode::Byte, bits),
+        other => push_groups(bytes, other, bits),
+    }
 }

@@ -16,9 +16,9 @@ returns c =
     let first : bytes_of c.front.result.now ≡ bytes_of (take (capacity v l) bits) = ap bytes_of (c.front.ensures.value ∙ ap (λ n. take n bits) most) in
     let second : bytes_of c.front-2.result.now ≡ bytes_of (take (8 * total_ec_length v l) (drop (capacity v l) bits)) =
     ap bytes_of (c.front-2.ensures.value
-    ∙ ap₂ (λ n xs. take n xs) (ap (λ n. 8 * n) (c.total_ec_length.ensures.of_version v l is)) (c.behind.ensures ∙ ap (λ n. drop n bits) most)) in
+    ∙ ap₂ (λ n xs. take n xs) (ap (λ n. 8 * n) (c.total_ec_length-ec_length.ensures.of_version v l is)) (c.behind.ensures ∙ ap (λ n. drop n bits) most)) in
     record {
       value =
           c.in_ok-push_bytes-2.ensures
-          ∙ ap₂ (λ xs ys. xs ++ ys) (c.in_ok-push_bytes.ensures ∙ ap₂ (λ xs ys. xs ++ ys) c.new-words.ensures.items first) second;
+          ∙ ap₂ (λ xs ys. xs ++ ys) (c.in_ok-push_bytes.ensures ∙ ap₂ (λ xs ys. xs ++ ys) c.in_ok-words.ensures.items first) second;
     }

@@ -3,8 +3,8 @@ use Rattle.std.proofs.lemmas.Result.{err_from_is_err_and}
 use Rattle.std.proofs.Common.{take-append-drop}
 use Rattle.qrcode_spell.specs.Steps.{group_bits, AreWrittenAs}
 use Rattle.qrcode_spell.proofs.Groups.{takes_more, none_written, refuses_group, no_items}
-use Rattle.qrcode_spell.proofs.characters.push_characters.Goals as goal
-use Rattle.qrcode_spell.proofs.characters.push_characters.Goals.{After-split_at}
+use Rattle.qrcode_spell.proofs.characters.push_groups.Goals as goal
+use Rattle.qrcode_spell.proofs.characters.push_groups.Goals.{After-split_at}
 
 parts : (c : After-split_at) → c.loop-rest.rest.now ≡ c.split_at.result.0.now ++ c.split_at.result.1.now
 parts c = sym (ap₂ (λ (x y : _). x ++ y) c.split_at.ensures.front c.split_at.ensures.back ∙ take-append-drop c.min.result c.loop-rest.rest.now)
