@@ -203,7 +203,9 @@ impl Strip {
     }
 }
 
-// Appends the lines of cells, each with a newline.
+// Appends the lines of cells, each with a newline. Within its caller, so that places of the room stay in
+// registers.
+#[inline(always)]
 fn push_lines(raw: &mut Vec<u8>, grid: &Grid, halves: &Halves, strip: &mut Strip) -> QrResult<()>
     requires fits { IsStripOf grid.now strip.old }
     ensures appends { OnOk result (raw.new.items ≡ raw.old.items ++ flat_map (λ i.
