@@ -13,3 +13,5 @@ mod networks;
 mod payments;
 #[cfg(test)]
 mod phones;
+#[cfg(test)]
+mod symbols;

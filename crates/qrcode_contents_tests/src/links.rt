@@ -20,7 +20,10 @@ fn the_printed_mails(rt: HostRuntime) -> Result<(), Fail> {
     };
     let subject = subject.text(rt.alloc())?;
     let body = body.text(rt.alloc())?;
-    assert_eq!(rt; subject.as_str(), "mailto:infobot@example.com?subject=current-issue");
+    assert_eq!(rt;
+        subject.as_str(),
+        "mailto:infobot@example.com?subject=current-issue"
+    );
     assert_eq!(rt;
         body.as_str(),
         "mailto:infobot@example.com?body=send%20current-issue%0D%0Asend%20index"

@@ -1,0 +1,94 @@
+//! Symbols of contents, as the page on contents shows them: a value, its text, and the symbol in
+//! which readers show that text.
+#![tactic(auto)]
+
+ghost use Rattle.std.specs.Prelude.{◌≤◌, chars, IfOk};
+ghost use Rattle.qrcode_types.specs.Versions.{side};
+ghost use Rattle.qrcode_types.specs.declared.types.EcLevel.TheVariants.{M};
+ghost use Rattle.qrcode_contents.specs.Bill.{invoice_of, bill_text};
+ghost use Rattle.qrcode_contents.specs.Mail.{letter_of, mail_text};
+ghost use Rattle.qrcode_contents.specs.Payment.{payment_fields, payment_text};
+ghost use Rattle.qrcode_contents.specs.Wifi.{wifi_fields, wifi_text};
+ghost use Rattle.qrcode.specs.Texts.{IsShownAs};
+
+use qrcode::types::QrError;
+use qrcode::{EcLevel, QrCode};
+use qrcode_contents::bill::Bill;
+use qrcode_contents::errors::ContentError;
+use qrcode_contents::mail::Mail;
+use qrcode_contents::payment::Payment;
+use qrcode_contents::wifi::Wifi;
+use std::alloc::Global;
+
+/// Why there is no symbol.
+#[derive(Debug, PartialEq, Eq, Copy, Clone)]
+pub enum Unmade {
+    /// The format cannot say the value, or memory was refused.
+    Content(ContentError),
+    /// No symbol holds the text, or memory was refused.
+    Code(QrError),
+    /// The symbol is larger than the format allows.
+    Large,
+}
+
+impl From<ContentError> for Unmade {
+    fn from(error: ContentError) -> Unmade {
+        Unmade::Content(error)
+    }
+}
+
+impl From<QrError> for Unmade {
+    fn from(error: QrError) -> Unmade {
+        Unmade::Code(error)
+    }
+}
+
+// The symbol of a text at level M, with at most so many modules along a side.
+fn bounded(alloc: Global, text: &str, most: usize) -> Result<QrCode, Unmade>
+    ensures shown { IfOk result (λ code. IsShownAs code.version M (chars text.now) code.modules) }
+    ensures at_most { IfOk result (λ code. side code.version ≤ most) }
+{
+    let code = QrCode::of_text(alloc, text, EcLevel::M)?;
+    if code.width() > most {
+        return Err(Unmade::Large);
+    }
+    Ok(code)
+}
+
+/// The symbol that joins a network.
+pub fn network(alloc: Global, network: &Wifi) -> Result<QrCode, Unmade>
+    ensures shown { IfOk result (λ code. IsShownAs code.version M
+        (chars (wifi_text (wifi_fields network.now))) code.modules) }
+{
+    let text = network.text(alloc)?;
+    bounded(alloc, text.as_str(), 177)
+}
+
+/// The symbol of a payment, at most Normal 13: 69 modules along a side.
+pub fn payment(alloc: Global, payment: &Payment) -> Result<QrCode, Unmade>
+    ensures shown { IfOk result (λ code. IsShownAs code.version M
+        (chars (payment_text (payment_fields payment.now))) code.modules) }
+    ensures at_most { IfOk result (λ code. side code.version ≤ 69) }
+{
+    let text = payment.text(alloc)?;
+    bounded(alloc, text.as_str(), 69)
+}
+
+/// The symbol of a Swiss QR bill, at most Normal 25: 117 modules along a side.
+pub fn bill(alloc: Global, bill: &Bill) -> Result<QrCode, Unmade>
+    ensures shown { IfOk result (λ code. IsShownAs code.version M
+        (chars (bill_text (invoice_of bill.now))) code.modules) }
+    ensures at_most { IfOk result (λ code. side code.version ≤ 117) }
+{
+    let text = bill.text(alloc)?;
+    bounded(alloc, text.as_str(), 117)
+}
+
+/// The symbol that writes a mail.
+pub fn mail(alloc: Global, mail: &Mail) -> Result<QrCode, Unmade>
+    ensures shown { IfOk result (λ code. IsShownAs code.version M
+        (chars (mail_text (letter_of mail.now))) code.modules) }
+{
+    let text = mail.text(alloc)?;
+    bounded(alloc, text.as_str(), 177)
+}
