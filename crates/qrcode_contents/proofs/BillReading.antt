@@ -1,5 +1,5 @@
 -- The text of a bill is read back.
-use Rattle.std.proofs.Common.{◌≡◌, ℕ, ◌/◌, ◌<◌, ◌^◌, ◌==◌, ◌||◌, ◌&&◌, ◌%◌, not, nat_lt, List, [], ◌∷◌, ◌++◌, Bool, true, false, Option, Some, None, Result, Ok, length, decimal, codes, if◌then◌else◌, refl, ap, ap₂, ◌∙◌, sym, arith, append_assoc, append-nil, lit<}
+use Rattle.std.proofs.Common.{◌≡◌, ℕ, ◌/◌, ◌<◌, ◌^◌, ◌||◌, not, nat_lt, List, [], ◌∷◌, ◌++◌, Bool, true, false, Option, Some, None, Result, Ok, length, decimal, codes, if◌then◌else◌, refl, ap, ◌∙◌, sym, arith}
 use Rattle.std.specs.List.{list_any}
 use Rattle.std.specs.Str.{bytes_eq}
 use Rattle.std.specs.Option.{option_map}
@@ -10,11 +10,11 @@ use Rattle.qrcode_contents.specs.declared.errors.Field.TheVariants.{Iban, Name, 
 use Rattle.qrcode_contents.specs.declared.errors.Cause.TheVariants.{Character, Range}
 use Rattle.qrcode_contents.specs.declared.bill.Currency.{Currency}
 use Rattle.qrcode_contents.specs.declared.bill.Currency.TheVariants.{Franc, Euro}
-use Rattle.qrcode_contents.specs.Amounts.{amount_text, read_amount}
+use Rattle.qrcode_contents.specs.Amounts.{amount_text}
 use Rattle.qrcode_contents.specs.Bill.{Addressee, Invoice, is_unsaid, is_account, is_creditor_reference, reference_kind, text_checks, text_refusal, of_debtor, form_refusal, is_nobody, debtor_refusal, is_out_of_range, account_checks, account_refusal, reference_checks, reference_refusal, bill_checks, bill_refusal, currency_name, address_kind, address_lines, unused_lines, amount_line, end_lines, bill_lines, bill_text, read_cents, read_currency, invoice_in, read_bill}
 use Rattle.qrcode_contents.specs.Characters.{is_control}
 use Rattle.qrcode_contents.specs.Entries.{is_filled}
-use Rattle.qrcode_contents.specs.Lines.{later_text, line_at}
+use Rattle.qrcode_contents.specs.Lines.{line_at}
 use Rattle.qrcode_contents.specs.Refusals.{checked, first_refusal}
 use Rattle.qrcode_contents.proofs.AmountReading.{amount_read, HasNoFeed-amount}
 use Rattle.qrcode_contents.proofs.Answering.{checked_none}

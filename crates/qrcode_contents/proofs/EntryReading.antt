@@ -136,7 +136,8 @@ read_entries-text start entries are =
 
 -- ---- parts of entries
 
-no_part : (parts : List (List ℕ)) (i : ℕ) → list_any is_filled parts ≡ false → get_or parts i [] ≡ []
+-- where no part has bytes each is empty
+pub no_part : (parts : List (List ℕ)) (i : ℕ) → list_any is_filled parts ≡ false → get_or parts i [] ≡ []
 no_part [] i is = refl
 no_part ([] ∷ parts) zero is = refl
 no_part ([] ∷ parts) (suc i) is = no_part parts i is

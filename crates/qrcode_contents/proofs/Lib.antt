@@ -2,10 +2,14 @@ pub mod AmountReading
 pub mod Answering
 pub mod BillReading
 pub mod Carries
+pub mod CardReading
 pub mod ContactReading
+pub mod ContentReading
+pub mod ContentTexts
 pub mod EntryReading
 pub mod EntryTexts
 pub mod Escaping
+pub mod Folding
 pub mod GeoReading
 pub mod LineReading
 pub mod LinkReading

@@ -1,7 +1,9 @@
 pub mod Amounts
 pub mod Bill
+pub mod Card
 pub mod Characters
 pub mod Contact
+pub mod ContentLines
 pub mod Entries
 pub mod EntryTests
 pub mod Escapes

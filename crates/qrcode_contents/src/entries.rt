@@ -8,8 +8,9 @@ ghost use Rattle.qrcode_contents.specs.Entries.{is_filled, parts_text, marked_te
 use crate::errors::ContentResult;
 use crate::escapes::{Escapes, push_escaped};
 
-// Appends parts, escaped, with a separator between each two.
-fn push_parts(
+/// Appends parts, escaped, with a separator between each two. After `OutOfMemory` a part of it is
+/// appended.
+pub fn push_parts(
     text: &mut String,
     escapes: Escapes,
     separator: char,
@@ -32,8 +33,8 @@ fn push_parts(
     Ok(())
 }
 
-// Whether a part has bytes.
-fn any_filled(parts: &[&str]) -> bool
+/// Whether a part has bytes.
+pub fn any_filled(parts: &[&str]) -> bool
     ensures { result ≡ list_any (λ part. is_filled part.now) parts.now }
 {
     parts.iter().any(|part| !part.is_empty())

@@ -19,8 +19,12 @@ pub enum Field {
     Bic,
     /// The name of whom is paid, or of a contact.
     Name,
+    /// The family name of a contact.
+    Family,
     /// The given names of a contact.
     Given,
+    /// An organisation.
+    Organisation,
     /// A telephone number.
     Phone,
     /// An address of mail.

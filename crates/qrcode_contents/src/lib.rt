@@ -4,8 +4,10 @@
 
 pub mod amounts;
 pub mod bill;
+pub mod card;
 pub mod characters;
 pub mod contact;
+pub mod content_lines;
 pub mod entries;
 pub mod errors;
 pub mod escapes;

@@ -4,6 +4,8 @@
 #[cfg(test)]
 mod bills;
 #[cfg(test)]
+mod cards;
+#[cfg(test)]
 mod contacts;
 #[cfg(test)]
 mod links;

@@ -1,0 +1,138 @@
+//! The text of a contact as a vCard.
+
+ghost use Rattle.std.specs.Prelude.{◌≡◌, Some, IfOk, IsOkUnless, string_bytes};
+ghost use Rattle.std.specs.List.{list_any};
+ghost use Rattle.qrcode_contents.specs.declared.errors.Cause.TheVariants.{ControlCharacter};
+ghost use Rattle.qrcode_contents.specs.declared.errors.ContentError.TheVariants.{OutOfMemory};
+ghost use Rattle.qrcode_contents.specs.Card.{contact_of, text_refusal, place_refusal, card_refusal, card_text, read_card};
+ghost use Rattle.qrcode_contents.specs.Characters.{is_stray};
+ghost use Rattle.qrcode_contents.specs.Refusals.{Answers, checked, refused_if};
+
+use crate::characters::{has_stray, refuse_control};
+use crate::content_lines::{push_content, push_value};
+use crate::errors::{Cause, ContentResult, Field};
+use std::alloc::Global;
+
+/// A contact. What is empty is left out; texts may have line feeds.
+#[derive(Copy, Clone, PartialEq, Eq, Debug)]
+pub struct Card<'a> {
+    /// The name as it is shown.
+    pub name: &'a str,
+    /// The family name, or the only one.
+    pub family: &'a str,
+    /// The given name.
+    pub given: &'a str,
+    /// The organisation.
+    pub organisation: &'a str,
+    /// A telephone number.
+    pub phone: &'a str,
+    /// An address of mail.
+    pub email: &'a str,
+    /// An address of the web.
+    pub url: &'a str,
+    /// The street with the number of the house.
+    pub street: &'a str,
+    /// The town.
+    pub city: &'a str,
+    /// The region.
+    pub region: &'a str,
+    /// The postal code.
+    pub code: &'a str,
+    /// The country.
+    pub country: &'a str,
+    /// A note.
+    pub note: &'a str,
+}
+
+// Refuses a text with control characters other than tabs and line feeds.
+fn refuse_stray(field: Field, text: &str) -> ContentResult<()>
+    ensures { result ≡ checked (refused_if (list_any is_stray text.now) field ControlCharacter) }
+{
+    field.refuse_if(has_stray(text), Cause::ControlCharacter)
+}
+
+impl Card<'_> {
+    // Refuses what is missing, and control characters.
+    #[tactic(auto, unfolding(crate::specs::Card::text_refusal))]
+    fn check_texts(&self) -> ContentResult<()>
+        ensures { result ≡ checked (text_refusal (contact_of self.now)) }
+    {
+        Field::Name.refuse_if(self.name.is_empty(), Cause::Empty)?;
+        Field::Family.refuse_if(self.family.is_empty(), Cause::Empty)?;
+        refuse_stray(Field::Name, self.name)?;
+        refuse_stray(Field::Family, self.family)?;
+        refuse_stray(Field::Given, self.given)?;
+        refuse_stray(Field::Organisation, self.organisation)?;
+        refuse_stray(Field::Phone, self.phone)?;
+        refuse_stray(Field::Email, self.email)?;
+        refuse_control(Field::Url, self.url)?;
+        refuse_stray(Field::Note, self.note)
+    }
+
+    // Refuses control characters in the address.
+    #[tactic(auto, unfolding(crate::specs::Card::place_refusal))]
+    fn check_place(&self) -> ContentResult<()>
+        ensures { result ≡ checked (place_refusal (contact_of self.now)) }
+    {
+        refuse_stray(Field::Street, self.street)?;
+        refuse_stray(Field::City, self.city)?;
+        refuse_stray(Field::Region, self.region)?;
+        refuse_stray(Field::PostalCode, self.code)?;
+        refuse_stray(Field::Country, self.country)
+    }
+
+    // Refuses what the card cannot say.
+    fn check(&self) -> ContentResult<()>
+        ensures { result ≡ checked (card_refusal (contact_of self.now)) }
+    {
+        self.check_texts()?;
+        self.check_place()
+    }
+
+    // The text of a card that is not refused.
+    #[tactic(auto, unfolding(crate::specs::Card::card_text))]
+    fn written(&self, alloc: Global) -> ContentResult<String>
+        ensures value { IfOk result (λ text. string_bytes text ≡ card_text (contact_of self.now)) }
+        ensures memory { IsOkUnless result OutOfMemory }
+    {
+        let mut text = String::new(alloc);
+        let address = [
+            "",
+            "",
+            self.street,
+            self.city,
+            self.region,
+            self.code,
+            self.country,
+        ];
+        push_value(alloc, &mut text, "BEGIN", "VCARD")?;
+        push_value(alloc, &mut text, "VERSION", "3.0")?;
+        push_content(
+            alloc,
+            &mut text,
+            "N",
+            &[self.family, self.given, "", "", ""],
+        )?;
+        push_content(alloc, &mut text, "FN", &[self.name])?;
+        push_content(alloc, &mut text, "ORG", &[self.organisation])?;
+        push_content(alloc, &mut text, "TEL", &[self.phone])?;
+        push_content(alloc, &mut text, "EMAIL", &[self.email])?;
+        push_value(alloc, &mut text, "URL", self.url)?;
+        push_content(alloc, &mut text, "ADR", &address)?;
+        push_content(alloc, &mut text, "NOTE", &[self.note])?;
+        push_value(alloc, &mut text, "END", "VCARD")?;
+        Ok(text)
+    }
+
+    /// The text of the contact as a vCard of version 3.0.
+    ///
+    /// An error names the field and why the text cannot say it, or is `OutOfMemory`.
+    pub fn text(&self, alloc: Global) -> ContentResult<String>
+        ensures reads { Answers (card_refusal (contact_of self.now)) result
+            (λ text. read_card text ≡ Some (contact_of self.now)) }
+        ensures value { IfOk result (λ text. string_bytes text ≡ card_text (contact_of self.now)) }
+    {
+        self.check()?;
+        self.written(alloc)
+    }
+}
