@@ -19,5 +19,6 @@ pub mod Patterned
 pub mod Remasking
 pub mod RowLists
 pub mod Shown
+pub mod TwoRows
 pub mod Walk
 pub mod WrittenModules

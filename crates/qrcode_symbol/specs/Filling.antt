@@ -1,10 +1,11 @@
 -- Bits drawn along the walk, one place after the other.
-use Rattle.std.specs.Prelude.{◌≡◌, ℕ, ◌+◌, ◌-◌, ◌*◌, ◌%◌, ◌==◌, if◌then◌else◌, Bool, true, false, List, map, filter, drop, Option, Some, None, slice_get, slice_index_or, slice_set}
+use Rattle.std.specs.Prelude.{◌≡◌, ℕ, ◌+◌, ◌-◌, ◌*◌, ◌%◌, ◌==◌, if◌then◌else◌, Bool, true, false, List, [], ◌∷◌, map, filter, drop, Option, Some, None, slice_get, slice_index_or, slice_set}
 use Rattle.std.specs.List.{range_with_len}
+use Rattle.qrcode_types.specs.Bits.{number_bits}
 use Rattle.qrcode_types.specs.Colors.{color_of}
 use Rattle.qrcode_types.specs.Versions.{side}
 use Rattle.qrcode_types.specs.declared.types.Version.{Version}
-use Rattle.qrcode_places.specs.Stream.{zigzag_place}
+use Rattle.qrcode_places.specs.Stream.{zigzag_place, right_column}
 use Rattle.qrcode_symbol.specs.Canvas.{is_empty, put_bits}
 use Rattle.qrcode_symbol.specs.declared.canvas.Module.{Module}
 use Rattle.qrcode_symbol.specs.declared.canvas.Module.TheVariants.{Empty, Unmasked}
@@ -40,10 +41,16 @@ left_if true bits = drop 1 bits
 abbrev pub is_empty_at : List Module → ℕ → Bool
 is_empty_at modules index = is_empty (slice_index_or modules index Empty)
 
--- the next bits drawn in a row of a pair of columns, where the modules are empty: at an index, and at the one before it
-abbrev pub DrawsRow : ℕ → List Bool → List Module → List Bool → List Module → Type 0
-DrawsRow index bits modules rest new =
-    let right = is_empty_at modules index in
-    let left = is_empty_at (drawn_if right (slice_get bits 0) modules index) (index - 1) in
-    (rest ≡ left_if left (left_if right bits))
-    × (new ≡ drawn_if left (slice_get (left_if right bits) 0) (drawn_if right (slice_get bits 0) modules index) (index - 1))
+-- the index of the right module of a pair of columns in the row of a step
+abbrev pub row_index : Version → ℕ → ℕ → ℕ
+row_index v pair step = row_of_step (side v) pair step * side v + right_column v pair
+
+-- both modules of rows of a pair of columns, by the indices of the right ones
+abbrev pub row_places : List ℕ → List ℕ
+row_places [] = []
+row_places (i ∷ rows) = i ∷ (i - 1) ∷ row_places rows
+
+-- the lowest eight bits of a number, if there is one
+abbrev pub eight_of : Option ℕ → List Bool
+eight_of (Some n) = number_bits 8 n
+eight_of None = []

@@ -1,6 +1,7 @@
 //! How a module stands in memory: as it is, or as a byte, which takes half the room and is packed 64 at a time.
 
-ghost use Rattle.std.specs.Prelude.{◌≡◌, ◌≤◌, length};
+ghost use Rattle.std.specs.Prelude.{◌≡◌, ◌≤◌, ◌&&◌, length};
+ghost use Rattle.qrcode_symbol.specs.Canvas.{is_empty};
 ghost use Rattle.qrcode_symbol.specs.Masking.{is_dark_module, is_free, packed};
 ghost use Rattle.qrcode_symbol.specs.Cells.{module_of_byte};
 ghost use Rattle.qrcode_symbol.specs.declared.canvas.Module.{Module};
@@ -22,6 +23,10 @@ pub(super) trait Cell: Copy {
     fn module(self) -> Module
         ensures { result ≡ shows self };
 
+    /// Whether two modules are empty.
+    fn are_empty(first: Self, second: Self) -> bool
+        ensures { result ≡ (is_empty (shows first) && is_empty (shows second)) };
+
     /// Which of up to 64 modules are dark, and which a mask may turn.
     fn pack(cells: &[Self]) -> (u64, u64)
         requires { length cells.now ≤ 64 }
@@ -40,6 +45,14 @@ impl Cell for Module {
     #[inline(always)]
     fn module(self) -> Module {
         self
+    }
+
+    #[inline(always)]
+    fn are_empty(first: Module, second: Module) -> bool {
+        match (first, second) {
+            (Module::Empty, Module::Empty) => true,
+            _ => false,
+        }
     }
 
     fn pack(cells: &[Module]) -> (u64, u64) {
@@ -68,6 +81,12 @@ impl Cell for u8 {
             4 => Module::Masked(Color::Dark),
             _ => Module::Masked(Color::Light),
         }
+    }
+
+    #[inline(always)]
+    fn are_empty(first: u8, second: u8) -> bool {
+        // One comparison, where the bytes lie beside one another.
+        u16::from_le_bytes([first, second]) == 0x0202
     }
 
     fn pack(cells: &[u8]) -> (u64, u64) {

@@ -1,16 +1,88 @@
-//! Drawing codewords at the empty places of a canvas.
+//! Drawing codewords at the empty places of a canvas: eight bits at once where four rows of a pair of
+//! columns are empty, and bit by bit elsewhere.
 
-ghost use Rattle.std.specs.Prelude.{◌≡◌, ◌+◌, ◌*◌, ◌%◌, ◌<◌, ◌≤◌, length, map, slice_get, IsTrue};
+ghost use Rattle.std.specs.Prelude.{◌≡◌, ◌&&◌, [], ◌∷◌, ◌+◌, ◌-◌, ◌*◌, ◌%◌, ◌<◌, ◌≤◌, length, map, slice_get, IsTrue};
+ghost use Rattle.std.specs.List.{range_with_len};
+ghost use Rattle.qrcode_types.specs.Bits.{number_bits};
 ghost use Rattle.qrcode_types.specs.Versions.{is_valid, side};
-ghost use Rattle.qrcode_symbol.specs.Canvas.{with_bits_drawn};
-ghost use Rattle.qrcode_symbol.specs.Filling.{DrawsRow, filled_from, drawn_if, left_if, is_empty_at};
+ghost use Rattle.qrcode_places.specs.Stream.{right_column};
+ghost use Rattle.qrcode_symbol.specs.Canvas.{put_bits, with_bits_drawn};
+ghost use Rattle.qrcode_symbol.specs.Filling.{filled_from, drawn_if, left_if, is_empty_at, row_of_step, row_places, row_index};
 
 use super::cells::Cell;
 use super::codewords::Codewords;
 use super::{Module, side};
 use qrcode_places::patterns::color_of;
 use qrcode_places::walk::right_column;
-use qrcode_types::types::Version;
+use qrcode_types::types::{Color, Version};
+
+// Light, its name short so that two rows can be seen.
+const L: Color = Color::Light;
+
+// Dark.
+const D: Color = Color::Dark;
+
+// Two rows of a pair of columns, by the four bits that are drawn there: the highest at the right of the first row.
+#[rattlefmt::skip]
+static TWO_ROWS: [[[Color; 2]; 2]; 16] = [
+    [[L, L], [L, L]], [[L, L], [D, L]], [[L, L], [L, D]], [[L, L], [D, D]],
+    [[D, L], [L, L]], [[D, L], [D, L]], [[D, L], [L, D]], [[D, L], [D, D]],
+    [[L, D], [L, L]], [[L, D], [D, L]], [[L, D], [L, D]], [[L, D], [D, D]],
+    [[D, D], [L, L]], [[D, D], [D, L]], [[D, D], [L, D]], [[D, D], [D, D]],
+];
+
+// A pair of columns of the walk, which goes upwards where the number of the pair is even, and else downwards. The type has
+// the parity, so that each way has loops of its own.
+#[derive(Copy, Clone)]
+struct Pair<const PARITY: usize> {
+    version: Version,
+    width: usize,
+    number: usize,
+    right: usize,
+    ghost valid: { IsTrue (is_valid version) },
+    ghost wide: { width ≡ side version },
+    ghost small: { width ≤ 177 },
+    ghost inside: { 2 * number + 3 ≤ width },
+    ghost parity: { number % 2 ≡ PARITY },
+    ghost column: { right ≡ right_column version number },
+    ghost at_least: { 1 ≤ right },
+    ghost at_most: { right < width },
+}
+
+impl<const PARITY: usize> Pair<PARITY> {
+    // The index of the right module in the row of a step.
+    #[inline(always)]
+    fn index(self, step: usize) -> usize
+        requires { step < self.width }
+        ensures value { result ≡ row_index self.entry.version self.entry.number step }
+        ensures some { 1 ≤ result }
+        ensures inside { result < side self.entry.version * side self.entry.version }
+        ensures small { result < 40000 }
+    {
+        let row = if PARITY == 0 {
+            self.width - 1 - step
+        } else {
+            step
+        };
+        row * self.width + self.right
+    }
+
+    // The same of four steps, from one row to the next.
+    #[inline(always)]
+    fn four(self, step: usize) -> [usize; 4]
+        requires { step + 4 ≤ self.width }
+        ensures { result
+            ≡ map (row_index self.entry.version self.entry.number) (range_with_len step 4) }
+    {
+        let width = self.width;
+        if PARITY == 0 {
+            let last = self.index(step + 3);
+            return [last + 3 * width, last + 2 * width, last + width, last];
+        }
+        let first = self.index(step);
+        [first, first + width, first + 2 * width, first + 3 * width]
+    }
+}
 
 // Draws the next bit at an index, if there is one and the module is empty.
 fn draw_bit<C: Cell>(codewords: &mut Codewords<'_>, modules: &mut [C], index: usize)
@@ -28,63 +100,104 @@ fn draw_bit<C: Cell>(codewords: &mut Codewords<'_>, modules: &mut [C], index: us
     }
 }
 
-// Draws the next bits in a row of a pair of columns, the right module first.
+// Draws the next bits one by one, from a step on and up to another.
+#[inline(never)]
+fn draw_steps<C: Cell, const PARITY: usize>(
+    pair: Pair<PARITY>,
+    from: usize,
+    to: usize,
+    codewords: &mut Codewords<'_>,
+    modules: &mut [C],
+)
+    requires order { from ≤ to }
+    requires inside { to ≤ pair.width }
+    requires square { length modules.old ≡ side pair.version * side pair.version }
+    ensures { filled_from pair.entry.version codewords.new (map C.shows modules.new)
+        (2 * side pair.entry.version * pair.entry.number + 2 * to)
+        ≡ filled_from pair.entry.version codewords.old (map C.shows modules.old)
+        (2 * side pair.entry.version * pair.entry.number + 2 * from) }
+{
+    for step in from..to {
+        let index = pair.index(step);
+        draw_bit(codewords, modules, index);
+        draw_bit(codewords, modules, index - 1);
+    }
+}
+
+// Whether both modules of a row of a pair of columns are empty.
 #[inline(always)]
-fn draw_row<C: Cell>(codewords: &mut Codewords<'_>, modules: &mut [C], index: usize)
+fn is_row_empty<C: Cell>(modules: &[C], index: usize) -> bool
     requires some { 1 ≤ index }
-    requires inside { index < length modules.old }
-    ensures { DrawsRow index
-        codewords.old (map C.shows modules.old) codewords.new (map C.shows modules.new) }
+    requires inside { index < length modules.now }
+    ensures { let old = map C.shows modules.now in
+        result ≡ (is_empty_at old index && is_empty_at old (index - 1)) }
 {
-    draw_bit(codewords, modules, index);
-    draw_bit(codewords, modules, index - 1);
+    C::are_empty(modules[index - 1], modules[index])
 }
 
-// Draws the next bits in a pair of columns, upwards. Two loops, one for each direction, go from index
-// to index by an addition.
-fn draw_upwards<C: Cell>(
-    version: Version,
-    pair: usize,
+// Draws four bits in two rows.
+fn draw_two_rows<C: Cell>(modules: &mut [C], first: usize, second: usize, bits: u32)
+    requires some { 1 ≤ first }
+    requires inside { first < length modules.old }
+    requires second_some { 1 ≤ second }
+    requires second_inside { second < length modules.old }
+    ensures { map C.shows modules.new ≡ put_bits (row_places (first ∷ second ∷ []))
+        (number_bits 4 bits) (map C.shows modules.old) }
+{
+    let [[left, right], [second_left, second_right]] = TWO_ROWS[(bits % 16) as usize];
+    modules[first] = C::of(Module::Unmasked(right));
+    modules[first - 1] = C::of(Module::Unmasked(left));
+    modules[second] = C::of(Module::Unmasked(second_right));
+    modules[second - 1] = C::of(Module::Unmasked(second_left));
+}
+
+// Draws the next bits in the rows of four steps.
+#[inline(always)]
+fn draw_four<C: Cell, const PARITY: usize>(
+    pair: Pair<PARITY>,
+    step: usize,
     codewords: &mut Codewords<'_>,
     modules: &mut [C],
 )
-    requires valid { IsTrue (is_valid version) }
-    requires pair { 2 * pair + 3 ≤ side version }
-    requires upwards { pair % 2 ≡ 0 }
-    requires square { length modules.old ≡ side version * side version }
-    ensures { filled_from version
-        codewords.new (map C.shows modules.new) (2 * side version * (pair + 1))
-        ≡ filled_from version
-        codewords.old (map C.shows modules.old) (2 * side version * pair) }
+    requires inside { step + 4 ≤ pair.width }
+    requires square { length modules.old ≡ side pair.version * side pair.version }
+    ensures { filled_from pair.entry.version codewords.new (map C.shows modules.new)
+        (2 * side pair.entry.version * pair.entry.number + 2 * (step + 4))
+        ≡ filled_from pair.entry.version codewords.old (map C.shows modules.old)
+        (2 * side pair.entry.version * pair.entry.number + 2 * step) }
 {
-    let width = side(version);
-    let right = right_column(version, width, pair);
-    for step in 0..width {
-        draw_row(codewords, modules, (width - 1 - step) * width + right);
+    let [a, b, c, d] = pair.four(step);
+    if is_row_empty(modules, a)
+        && is_row_empty(modules, b)
+        && is_row_empty(modules, c)
+        && is_row_empty(modules, d)
+    {
+        if let Some(byte) = codewords.next_eight() {
+            draw_two_rows(modules, a, b, byte / 16);
+            draw_two_rows(modules, c, d, byte);
+            return;
+        }
     }
+    draw_steps(pair, step, step + 4, codewords, modules);
 }
 
-// The same, downwards.
-fn draw_downwards<C: Cell>(
-    version: Version,
-    pair: usize,
+// Draws the next bits in a pair of columns.
+fn draw_pair<C: Cell, const PARITY: usize>(
+    pair: Pair<PARITY>,
     codewords: &mut Codewords<'_>,
     modules: &mut [C],
 )
-    requires valid { IsTrue (is_valid version) }
-    requires pair { 2 * pair + 3 ≤ side version }
-    requires downwards { pair % 2 ≡ 1 }
-    requires square { length modules.old ≡ side version * side version }
-    ensures { filled_from version
-        codewords.new (map C.shows modules.new) (2 * side version * (pair + 1))
-        ≡ filled_from version
-        codewords.old (map C.shows modules.old) (2 * side version * pair) }
+    requires { length modules.old ≡ side pair.version * side pair.version }
+    ensures { filled_from pair.entry.version codewords.new (map C.shows modules.new)
+        (2 * side pair.entry.version * (pair.entry.number + 1))
+        ≡ filled_from pair.entry.version codewords.old (map C.shows modules.old)
+        (2 * side pair.entry.version * pair.entry.number) }
 {
-    let width = side(version);
-    let right = right_column(version, width, pair);
-    for step in 0..width {
-        draw_row(codewords, modules, step * width + right);
+    let fours = pair.width / 4;
+    for four in 0..fours {
+        draw_four(pair, 4 * four, codewords, modules);
     }
+    draw_steps(pair, 4 * fours, pair.width, codewords, modules);
 }
 
 /// Draws codewords at the empty places, in the order of the walk through pairs of columns, which
@@ -97,11 +210,25 @@ pub(super) fn draw_codewords<C: Cell>(version: Version, codewords: Codewords<'_>
         ≡ with_bits_drawn version codewords.entry (map C.shows modules.old) }
 {
     let mut codewords = codewords;
-    for pair in 0..side(version) / 2 {
-        if pair % 2 == 0 {
-            draw_upwards(version, pair, &mut codewords, modules);
+    let width = side(version);
+    for number in 0..width / 2 {
+        let right = right_column(version, width, number);
+        if number % 2 == 0 {
+            let pair = Pair::<0> {
+                version,
+                width,
+                number,
+                right,
+            };
+            draw_pair(pair, &mut codewords, modules);
         } else {
-            draw_downwards(version, pair, &mut codewords, modules);
+            let pair = Pair::<1> {
+                version,
+                width,
+                number,
+                right,
+            };
+            draw_pair(pair, &mut codewords, modules);
         }
     }
 }

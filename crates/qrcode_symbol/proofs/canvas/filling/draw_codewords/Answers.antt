@@ -3,13 +3,13 @@ use Rattle.qrcode_types.specs.Versions.{side}
 use Rattle.qrcode_symbol.proofs.Walk.{at_start, at_end, last_pair}
 use Rattle.qrcode_symbol.proofs.canvas.filling.draw_codewords.Goals as goal
 
-pub loop-pair-init : goal.loop-pair-init
-loop-pair-init g c =
+pub loop-number-init : goal.loop-number-init
+loop-number-init g c =
     let e : 2 * side c.args.version * 0 ≡ 0 = omega arith in
     rw e (at_start c.args.version c.args.codewords (map g.C.Cell.shows c.args.modules.now))
 
 pub returns : goal.returns
 returns g c =
     let v = c.args.version in
-    sym (at_end v c.loop-pair.codewords (map g.C.Cell.shows c.loop-pair.modules) (2 * side v * c.loop-pair.pair)
-    (last_pair (side v) c.loop-pair.pair (omega arith) (rw (← c.side-pair-end.ensures.value) c.loop-pair-test.false))) ∙ c.loop-pair.invariant
+    sym (at_end v c.loop-number.codewords (map g.C.Cell.shows c.loop-number.modules) (2 * side v * c.loop-number.number)
+    (last_pair (side v) c.loop-number.number (omega arith) (rw (← c.side-width.ensures.value) c.loop-number-test.false))) ∙ c.loop-number.invariant

@@ -4,5 +4,5 @@ use Rattle.qrcode_symbol.specs.Filling.{filled_from}
 use Rattle.qrcode_symbol.specs.Canvas.{with_bits_drawn}
 use Rattle.qrcode_symbol.proofs.canvas.filling.draw_codewords.Given as goal
 
-abbrev pub invariant-loop-pair : goal.invariant-loop-pair
-invariant-loop-pair g l = filled_from l.version l.codewords (map g.C.Cell.shows l.modules) (2 * side l.version * l.pair) ≡ with_bits_drawn l.version l.initial.codewords (map g.C.Cell.shows l.initial.modules)
+abbrev pub invariant-loop-number : goal.invariant-loop-number
+invariant-loop-number g l = filled_from l.version l.codewords (map g.C.Cell.shows l.modules) (2 * side l.version * l.number) ≡ with_bits_drawn l.version l.initial.codewords (map g.C.Cell.shows l.initial.modules)
