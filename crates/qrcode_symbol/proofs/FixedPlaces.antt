@@ -1,5 +1,5 @@
 -- The places of a row that no mask decides.
-use Rattle.std.proofs.Common.{◌≡◌, ◌≢◌, ℕ, suc, ◌+◌, ◌-◌, ◌^◌, ◌<◌, ◌≤◌, Bool, true, false, not, ◌&&◌, ◌||◌, refl, ap, ap₂, sym, ◌∙◌, arith, bit_or, bit_and, bit_xor, below_more, inl, inr, unwrap_or}
+use Rattle.std.proofs.Common.{◌≡◌, ◌≢◌, ℕ, suc, ◌+◌, ◌-◌, ◌^◌, ◌<◌, ◌≤◌, Bool, true, false, not, ◌&&◌, ◌||◌, refl, ap, ap₂, sym, ◌∙◌, arith, bit_or, bit_and, bit_xor, below_more, inl, inr, max, unwrap_or}
 use Rattle.std.proofs.lemmas.Bool.Decides.{eqb_tells, leb_tells, nat_tests}
 use Rattle.std.specs.declared.option.Option.TheVariants.{Some, None}
 use Rattle.qrcode_types.specs.declared.types.Version.{Version}
@@ -71,10 +71,18 @@ unfolding decided_bit dark_module
 row_between (Normal v) word x h k = rw (normal_index (Normal v) x 8 refl, decided_bit) (grind (arith, nat_tests))
 row_between (Micro v) word x h k = rw (micro_index (Micro v) x 8 refl, decided_bit) (grind (arith, nat_tests))
 
-pub column_between : (v : Version) (word y : ℕ) → 8 < y → y + 8 < side v → decided_bit v word 8 y ≡ None
+column_between : (v : Version) (word y : ℕ) → 8 < y → y + 8 < side v → decided_bit v word 8 y ≡ None
 unfolding decided_bit dark_module
 column_between (Normal v) word y h k = rw (normal_index (Normal v) 8 y refl, decided_bit) (grind (arith, nat_tests))
 column_between (Micro v) word y h k = rw (micro_index (Micro v) 8 y refl, decided_bit) (grind (arith, nat_tests))
+
+-- between the first and the last rows a mask decides every place
+rows_between : (v : Version) (word x y : ℕ) → 8 < y → y + 8 < side v → decided_bit v word x y ≡ None
+rows_between v word x y low high =
+    elim (eqb_tells x 8) [
+      | inl p ↦ ap (λ i. decided_bit v word i y) p.1 ∙ column_between v word y low high
+      | inr p ↦ elsewhere v word x y p.1 (λ e. absurd (omega (arith, e, low)))
+    ]
 
 pub place_some : (v : Version) (word y new row : ℕ) (b : Bool) → y ≢ 8 → decided_bit v word 8 y ≡ Some b → is_set new 8 ≡ b → ((k : ℕ) → k ≢ 8 → is_set new k ≡ is_set row k) →
     (x : ℕ) → is_set new x ≡ unwrap_or (decided_bit v word x y) (is_set row x)
@@ -123,4 +131,18 @@ both_corners v word row left new low high last same others x h =
         | inr q ↦ last x p.1 (omega (arith, q.1)) h ∙ ap (λ b. unwrap_or (decided_bit v word x 8) b) (high x p.1)
       ]
       | inr p ↦ same x p.1 ∙ low x p.1
+    ]
+
+-- what the bits of the first rows, and then of the last, make of a place
+pub both_ends : (v : Version) (word x y : ℕ) (turned first last : Bool) (w from : ℕ) → w ≡ side v → from ≡ max (w - 8) 9 → y < w
+    → (y < 9 → first ≡ unwrap_or (decided_bit v word x y) turned) → (9 ≤ y → first ≡ turned)
+    → (from ≤ y → last ≡ unwrap_or (decided_bit v word x y) first) → (y < from → last ≡ first)
+    → last ≡ unwrap_or (decided_bit v word x y) turned
+both_ends v word x y turned first last w from side from_is inside low high end same =
+    elim (leb_tells 9 y) [
+      | inl p ↦ elim (leb_tells from y) [
+        | inl q ↦ end q.1 ∙ ap (λ b. unwrap_or (decided_bit v word x y) b) (high p.1)
+        | inr q ↦ same q.1 ∙ high p.1 ∙ sym (ap (λ o. unwrap_or o turned) (rows_between v word x y (omega (arith, p.1)) (omega (arith, p.1, q.1, from_is, side))))
+      ]
+      | inr p ↦ same (omega (arith, p.1, from_is)) ∙ low p.1
     ]

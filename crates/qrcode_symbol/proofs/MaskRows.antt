@@ -1,5 +1,5 @@
 -- Rows of a mask: six places, again and again, and twelve rows, again and again.
-use Rattle.std.proofs.Common.{◌≡◌, ℕ, zero, suc, ◌+◌, ◌*◌, ◌/◌, ◌%◌, ◌^◌, ◌<◌, Bool, true, false, ◌&&◌, ◌==◌, refl, ap, ap₂, sym, ◌∙◌, arith, bit_and, bit_or, below_more, add-mul, mul_assoc, mul_comm, [], slice_index_or, nat_lt}
+use Rattle.std.proofs.Common.{◌≡◌, ℕ, zero, suc, ◌+◌, ◌*◌, ◌/◌, ◌%◌, ◌^◌, ◌<◌, Bool, true, false, ◌&&◌, ◌==◌, refl, ap, ap₂, sym, ◌∙◌, arith, below_more, add-mul, mul_assoc, mul_comm, [], slice_index_or, nat_lt}
 use Rattle.std.proofs.Math.Nat.{mul-add}
 use Rattle.std.proofs.lemmas.Nat.{shr_split}
 use Rattle.std.proofs.lemmas.Nat.Bits.{bit_at_cat_low}
@@ -7,6 +7,7 @@ use Rattle.std.specs.Int.{bit_at}
 use Rattle.qrcode_packed.specs.Rows.{is_set}
 use Rattle.qrcode_penalty.specs.Penalty.{same}
 use Rattle.qrcode_places.specs.Masks.{turns, mask_number}
+use Rattle.qrcode_symbol.specs.Masking.{three_words}
 use borrow.Author.Tests.{ltb-true}
 use Rattle.qrcode_symbol.specs.declared.canvas.masked_rows.TheConstants.{TURNED}
 use Rattle.qrcode_places.specs.declared.masks.MaskPattern.{MaskPattern}
@@ -40,27 +41,17 @@ unfolding all_below
 all_holds zero f e k h = absurd (omega arith)
 all_holds (suc n) f e k h = below_more (λ k. f k ≡ true) n (λ k l. all_holds n f (and_l (all_below n f) (f n) e) k l) (and_r (all_below n f) (f n) e) k (omega arith)
 
--- the words of `repeat`
-abbrev pub copies_of : ℕ → ℕ
-copies_of six = six * 0x1041041041041041 % 2 ^ 64
-
-abbrev pub turned_by_four : ℕ → ℕ
-turned_by_four six = bit_and (bit_or (six / 2 ^ 4) (six * 2 ^ 2 % 2 ^ 64)) 63
-
-abbrev pub turned_by_two : ℕ → ℕ
-turned_by_two six = bit_and (bit_or (six / 2 ^ 2) (six * 2 ^ 4 % 2 ^ 64)) 63
-
+-- what `repeat` makes of six places, in 192 columns
 abbrev pub repeated_words : ℕ → ℕ
-repeated_words six = (copies_of (turned_by_two six) * 2 ^ 64 + copies_of (turned_by_four six)) * 2 ^ 64 + copies_of six
+repeated_words six = three_words (six * 0x1041041041041041 % 2 ^ 64)
 
 table : all_below 64 (λ six. all_below 192 (λ k. same (is_set (repeated_words six) k) (is_set six (k % 6)))) ≡ true
 unfolding is_set all_below
 table = refl
 
-pub has_repeated : (six room k : ℕ) → six < 64 → k < 192 → k < room → is_set (repeated_words six % 2 ^ room) k ≡ is_set six (k % 6)
-has_repeated six room k h l r =
-    has_mod (repeated_words six) room k r
-    ∙ same_true (is_set (repeated_words six) k) (is_set six (k % 6))
+pub has_repeated : (six k : ℕ) → six < 64 → k < 192 → is_set (repeated_words six) k ≡ is_set six (k % 6)
+has_repeated six k h l =
+    same_true (is_set (repeated_words six) k) (is_set six (k % 6))
     (all_holds 192 (λ k. same (is_set (repeated_words six) k) (is_set six (k % 6))) (all_holds 64 (λ six. all_below 192 (λ k. same (is_set (repeated_words six) k) (is_set six (k % 6)))) table six h) k l)
 
 fields_step : (x y : ℕ) → x * y ≡ 6 * (x / 6 * y) + x % 6 * y
@@ -123,12 +114,11 @@ small_table : all_below 8 (λ n. all_below 12 (λ y. nat_lt (slice_index_or (sli
 unfolding all_below
 small_table = refl
 
-pub six_at : (p : MaskPattern) (x y : ℕ) → x < 6 → is_set (slice_index_or (slice_index_or TURNED (mask_number p) []) (y % 12) 0) x ≡ turns p x y
-six_at p x y h =
+pub six_at : (p : MaskPattern) (x y : ℕ) → x < 6 → y < 12 → is_set (slice_index_or (slice_index_or TURNED (mask_number p) []) y 0) x ≡ turns p x y
+six_at p x y h l =
     let test = λ (y x : ℕ). same (is_set (slice_index_or (slice_index_or TURNED (mask_number p) []) y 0) x) (turns p x y) in
-    same_true (is_set (slice_index_or (slice_index_or TURNED (mask_number p) []) (y % 12) 0) x) (turns p x (y % 12))
-    (all_holds 6 (test (y % 12)) (all_holds 12 (λ y. all_below 6 (test y)) (turned_table p) (y % 12) (omega arith)) x h)
-    ∙ rows_periodic p x y
+    same_true (is_set (slice_index_or (slice_index_or TURNED (mask_number p) []) y 0) x) (turns p x y)
+    (all_holds 6 (test y) (all_holds 12 (λ y. all_below 6 (test y)) (turned_table p) y l) x h)
 
 mask_number_small : (p : MaskPattern) → mask_number p < 8
 mask_number_small Checkerboard = omega arith
@@ -140,7 +130,7 @@ mask_number_small Fields = omega arith
 mask_number_small Diamonds = omega arith
 mask_number_small Meadow = omega arith
 
-pub six_small : (p : MaskPattern) (y : ℕ) → slice_index_or (slice_index_or TURNED (mask_number p) []) (y % 12) 0 < 64
-six_small p y =
+pub six_small : (p : MaskPattern) (y : ℕ) → y < 12 → slice_index_or (slice_index_or TURNED (mask_number p) []) y 0 < 64
+six_small p y l =
     let test = λ (n y : ℕ). nat_lt (slice_index_or (slice_index_or TURNED n []) y 0) 64 in
-    ltb-true _ _ (all_holds 12 (test (mask_number p)) (all_holds 8 (λ n. all_below 12 (test n)) small_table (mask_number p) (mask_number_small p)) (y % 12) (omega arith))
+    ltb-true _ _ (all_holds 12 (test (mask_number p)) (all_holds 8 (λ n. all_below 12 (test n)) small_table (mask_number p) (mask_number_small p)) y l)

@@ -1,7 +1,8 @@
 -- Lists of rows, as their numbers.
-use Rattle.std.proofs.Common.{◌≡◌, ◌==◌, ◌&&◌, ◌++◌, ℕ, true, false, refl, ap₂, ◌/◌, ◌%◌, bit_and, bit_xor, ◌+◌, ◌*◌, ◌^◌, ◌<◌, ◌≤◌, Bool, List, length, take, drop, slice_index_or, ap, sym, ◌∙◌, arith, subst, length-take, length-drop, unwrap_or}
-use Rattle.std.proofs.lemmas.Nat.{mul-add-lt}
-use Rattle.std.proofs.lemmas.List.{get_or-take, get_or-drop, get_or_append_left, get_or-append-add}
+use Rattle.std.proofs.Common.{◌≡◌, ◌==◌, ◌&&◌, ◌++◌, ℕ, true, false, refl, ap₂, ◌/◌, ◌%◌, bit_and, bit_xor, ◌+◌, ◌*◌, ◌^◌, ◌<◌, ◌≤◌, Bool, List, length, take, drop, slice_index_or, slice_set, map, inl, inr, ap, sym, ◌∙◌, arith, subst, length-take, length-drop, unwrap_or}
+use Rattle.std.proofs.lemmas.Nat.{mul-add-lt, xor_lt, and_le_l}
+use Rattle.std.proofs.lemmas.Bool.Decides.{leb_tells}
+use Rattle.std.proofs.lemmas.List.{map-set, get_or-set_other, get_or-take, get_or-drop, get_or_append_left, get_or-append-add}
 use borrow.Rule.Slice.PartMut.{put_mid, post_of}
 use Rattle.qrcode_packed.specs.Rows.{is_set, dark_in, FitsWidth}
 use Rattle.qrcode_packed.proofs.Places.{differ, has_and, has_xor}
@@ -12,7 +13,7 @@ use Rattle.qrcode_places.specs.declared.masks.MaskPattern.{MaskPattern}
 use Rattle.qrcode_symbol.specs.declared.canvas.Module.{Module}
 use Rattle.qrcode_symbol.specs.declared.canvas.Module.TheVariants.{Empty}
 use Rattle.qrcode_places.specs.Patterns.{decided_bit}
-use Rattle.qrcode_symbol.specs.Masking.{packed, ShowsModules, masked_dark}
+use Rattle.qrcode_symbol.specs.Masking.{packed, ShowsModules}
 use Rattle.qrcode_symbol.proofs.PackedLists.{packed_lt, has_packed}
 
 -- the modules of row y
@@ -36,19 +37,6 @@ module _ (test : Module → Bool) (modules : List Module) (w : ℕ) (square : le
   pub fits_packed : length rows ≡ w → ((y : ℕ) → FitsWidth w (slice_index_or rows y 0))
   fits_packed e = rows_fit rows w e (λ y h. subst (λ (n : ℕ). n < 2 ^ w) (sym (are y h)) (packed_lt test (modules_of_row w modules y) w (omega (arith, length-take w (drop (y * w) modules)))))
 
--- row k under a mask
-pub record IsMaskedRow (v : Version) (w word : ℕ) (mask : MaskPattern) (dark free : List ℕ) (k row : ℕ) : Type 0 where
-  pub shows : (x : ℕ) → x < w → is_set row x ≡ masked_dark v word mask dark free x k
-  pub ends : row < 2 ^ w
-
-pub masked_row_is : (v : Version) (w word : ℕ) (mask : MaskPattern) (dark free : List ℕ) (k row d f : ℕ) → d ≡ slice_index_or dark k 0 → f ≡ slice_index_or free k 0 →
-    ((x : ℕ) → x < w → is_set row x ≡ unwrap_or (decided_bit v word x k) (turned_if (is_set f x && turns mask x k) (is_set d x))) → row < 2 ^ w → IsMaskedRow v w word mask dark free k row
-unfolding masked_dark dark_in
-masked_row_is v w word mask dark free k row d f p q shows ends = record {
-  shows = λ x h. shows x h ∙ ap₂ (λ (m n : ℕ). unwrap_or (decided_bit v word x k) (turned_if (is_set n x && turns mask x k) (is_set m x))) p q;
-  ends = ends;
-}
-
 differ_turned : (t d : Bool) → differ d t ≡ turned_if t d
 differ_turned true true = refl
 differ_turned true false = refl
@@ -61,6 +49,43 @@ turned_at d f m x t e =
     has_xor d (bit_and f m) x
     ∙ ap (differ (is_set d x)) (has_and f m x ∙ ap (λ b. is_set f x && b) e)
     ∙ differ_turned (is_set f x && t) (is_set d x)
+
+-- row k with the places turned that the mask turns
+pub record IsTurnedRow (w : ℕ) (mask : MaskPattern) (dark free : List ℕ) (k row : ℕ) : Type 0 where
+  pub shows : (x : ℕ) → x < w → is_set row x ≡ turned_if (dark_in free x k && turns mask x k) (dark_in dark x k)
+  pub ends : row < 2 ^ w
+
+pub turned_row_is : (w : ℕ) (mask : MaskPattern) (dark free : List ℕ) (k row d f m : ℕ) → d ≡ slice_index_or dark k 0 → f ≡ slice_index_or free k 0 → row ≡ bit_xor d (bit_and f m)
+    → d < 2 ^ w → f < 2 ^ w → ((x : ℕ) → x < w → is_set m x ≡ turns mask x k) → IsTurnedRow w mask dark free k row
+unfolding dark_in
+turned_row_is w mask dark free k row d f m p q e dark_ends free_ends turned = record {
+  shows = λ x h.
+      ap (λ n. is_set n x) e ∙ turned_at d f m x (turns mask x k) (turned x h)
+      ∙ ap₂ (λ (a b : ℕ). turned_if (is_set b x && turns mask x k) (is_set a x)) p q;
+  ends = subst (λ (n : ℕ). n < 2 ^ w) (sym e) (xor_lt w d (bit_and f m) dark_ends (omega (arith, and_le_l f m, free_ends)));
+}
+
+-- row k with the bits that no mask decides, from a row on
+pub record IsDecidedRow (v : Version) (word w old from k new : ℕ) : Type 0 where
+  pub decided : from ≤ k → (x : ℕ) → x < w → is_set new x ≡ unwrap_or (decided_bit v word x k) (is_set old x)
+  pub before : k < from → new ≡ old
+  pub ends : new < 2 ^ w
+
+-- the rows from one on and before y have such bits, and the others are as they were
+pub record AreDecidedFrom (v : Version) (word w : ℕ) (old new : List ℕ) (from y : ℕ) : Type 0 where
+  pub done : (k : ℕ) → k < y → IsDecidedRow v word w (slice_index_or old k 0) from k (slice_index_or new k 0)
+  pub behind : (k : ℕ) → y ≤ k → slice_index_or new k 0 ≡ slice_index_or old k 0
+
+pub decided_fit : {v : Version} {word w : ℕ} {old new : List ℕ} {from y : ℕ} → AreDecidedFrom v word w old new from y → ((k : ℕ) → slice_index_or old k 0 < 2 ^ w) → (k : ℕ) → slice_index_or new k 0 < 2 ^ w
+decided_fit {v} {word} {w} {old} {new} {from} {y} are fits k =
+    elim (leb_tells y k) [
+      | inl p ↦ subst (λ (n : ℕ). n < 2 ^ w) (sym (are.behind k p.1)) (fits k)
+      | inr p ↦ (are.done k p.1).ends
+    ]
+
+-- a row behind one that is written
+pub other_row : {A : Type 0} (f : A → ℕ) (rows : List A) (y k : ℕ) (r : A) → y < k → slice_index_or (map f (slice_set rows y r)) k 0 ≡ slice_index_or (map f rows) k 0
+other_row f rows y k r h = ap (λ l. slice_index_or l k 0) (map-set f rows y r) ∙ get_or-set_other (map f rows) y k (f r) 0 (λ e. absurd (omega arith))
 
 -- the lowest bit of what is left of a row
 pub first_bit : (rest word line i : ℕ) → word ≡ rest % 2 ^ 64 → rest ≡ line / 2 ^ i → (word % 2 == 1) ≡ is_set line i

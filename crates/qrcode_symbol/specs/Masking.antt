@@ -1,5 +1,5 @@
 -- How a mask is chosen on rows packed into numbers.
-use Rattle.std.specs.Prelude.{◌≡◌, ℕ, ◌+◌, ◌*◌, ◌<◌, ◌≤◌, Bool, true, false, ◌&&◌, List, [], ◌∷◌, map, slice_index_or, if◌then◌else◌, unwrap_or}
+use Rattle.std.specs.Prelude.{◌≡◌, ℕ, ◌+◌, ◌*◌, ◌/◌, ◌%◌, ◌<◌, ◌≤◌, ◌^◌, bit_or, Bool, true, false, ◌&&◌, List, [], ◌∷◌, map, slice_index_or, if◌then◌else◌, unwrap_or}
 use Rattle.qrcode_types.specs.Colors.{is_dark}
 use Rattle.qrcode_types.specs.declared.types.Color.{Color}
 use Rattle.qrcode_types.specs.declared.types.Version.{Version}
@@ -40,6 +40,14 @@ ShowsModules test w modules rows = Shows w rows (λ x y. test (slice_index_or mo
 -- the place is dark under a mask, by rows of what is dark and of what a mask may turn
 unfoldable pub masked_dark : Version → ℕ → MaskPattern → List ℕ → List ℕ → ℕ → ℕ → Bool
 masked_dark v word k dark free x y = unwrap_or (decided_bit v word x y) (turned_if (dark_in free x y && turns k x y) (dark_in dark x y))
+
+-- the 64 places behind those of a word in which six places stand again and again
+abbrev pub next_places : ℕ → ℕ
+next_places word = bit_or (word / 2 ^ 4) (word * 2 ^ 56 % 2 ^ 64)
+
+-- 192 such places, by the first 64
+abbrev pub three_words : ℕ → ℕ
+three_words word = (next_places (next_places word) * 2 ^ 64 + next_places word) * 2 ^ 64 + word
 
 -- what such rows cost under the k-th mask
 unfoldable pub nth_cost : Version → EcLevel → ℕ → List ℕ → List ℕ → ℕ → ℕ

@@ -1,11 +1,11 @@
 //! The rows of a square under a mask, with the format word.
 
-ghost use Rattle.std.specs.Prelude.{◌≡◌, ◌≢◌, ℕ, ◌+◌, ◌%◌, ◌<◌, ◌≤◌, ◌&&◌, length, map, IsTrue, unwrap_or};
-ghost use Rattle.qrcode_packed.specs.Rows.{FitsWidth, IsSquare, is_set, Shows};
+ghost use Rattle.std.specs.Prelude.{◌≡◌, ◌≢◌, ℕ, ◌+◌, ◌%◌, ◌<◌, ◌≤◌, ◌^◌, ◌&&◌, length, map, slice_index_or, IsTrue, unwrap_or};
+ghost use Rattle.qrcode_packed.specs.Rows.{FitsWidth, IsSquare, is_set, dark_in, Shows};
 ghost use Rattle.qrcode_places.specs.Masks.{turns, turned_if, exists_in};
 ghost use Rattle.qrcode_places.specs.Words.{format_word};
 ghost use Rattle.qrcode_places.specs.Patterns.{decided_bit};
-ghost use Rattle.qrcode_symbol.specs.Masking.{masked_dark};
+ghost use Rattle.qrcode_symbol.specs.Masking.{masked_dark, next_places, three_words};
 
 use super::layer::{Layer, fixed_bit};
 use super::packing::PackedModules;
@@ -27,36 +27,44 @@ static TURNED: [[u8; 12]; 8] = [
     [0o25, 0o70, 0o61, 0o52, 0o07, 0o16, 0o25, 0o70, 0o61, 0o52, 0o07, 0o16],
 ];
 
-// The places that the mask turns in the first six columns of a row.
-fn six_places(mask: MaskPattern, y: usize) -> u64
-    ensures value { (x : ℕ) → x < 6 → is_set result x ≡ turns mask x y }
-    ensures at_most { result < 64 }
-{
-    TURNED[mask.number()][y % 12] as u64
-}
-
-// Six places, again and again.
+// Six places, again and again, in the first 64 columns.
 #[inline(always)]
-fn repeat<R: PackedRow>(six: u64) -> R
+fn repeat(six: u64) -> u64
     requires { six < 64 }
-    ensures { (k : ℕ) → k < 192 → k < R.room → is_set (R.bits result) k ≡ is_set six (k % 6) }
+    ensures { (k : ℕ) → k < 192 → is_set (three_words result) k ≡ is_set six (k % 6) }
 {
-    let copies = 0x1041_0410_4104_1041u64;
-    let next = (six >> 4 | six << 2) & 63;
-    let last = (six >> 2 | six << 4) & 63;
-    R::of_words(
-        six.wrapping_mul(copies),
-        next.wrapping_mul(copies),
-        last.wrapping_mul(copies),
-    )
+    six.wrapping_mul(0x1041_0410_4104_1041)
 }
 
-// The places of a row that the mask turns.
+// The next 64 columns, where six places stand again and again: 64 is 4 more than a multiple of 6, and 60 is one.
 #[inline(always)]
-fn turned_places<R: PackedRow>(mask: MaskPattern, y: usize) -> R
-    ensures { (x : ℕ) → x < 192 → x < R.room → is_set (R.bits result) x ≡ turns mask x y }
+fn next_places(word: u64) -> u64
+    ensures { result ≡ next_places word }
 {
-    repeat(six_places(mask, y))
+    word >> 4 | word << 56
+}
+
+// A row in which six places stand again and again, by its first 64 columns.
+#[inline(always)]
+fn long_row<R: PackedRow>(word: u64) -> R
+    ensures { R.bits result ≡ three_words word % 2 ^ R.room }
+{
+    let middle = next_places(word);
+    R::of_words(word, middle, next_places(middle))
+}
+
+// The places that the mask turns in the first 64 columns of twelve rows, which stand for all, since each mask goes on so
+// every twelve rows.
+fn turned_rows(mask: MaskPattern) -> [u64; 12]
+    ensures length { length result ≡ 12 }
+    ensures value { (x y : ℕ) → x < 192
+        → is_set (slice_index_or (map three_words result) (y % 12) 0) x ≡ turns mask x y }
+{
+    let mut rows = [0u64; 12];
+    for y in 0..12 {
+        rows[y] = repeat(TURNED[mask.number()][y] as u64);
+    }
+    rows
 }
 
 // The row with one place as given.
@@ -109,7 +117,7 @@ fn fixed_row<R: PackedRow>(layer: Layer, row: R) -> R
     fixed_places(layer, (layer.width - 8).max(9), layer.width, left)
 }
 
-// Another row with the bit that no mask decides, if it has one: only column 8 has such bits there, in the corners.
+// Another row with the bit that no mask decides, if it has one: only column 8 has such bits there.
 #[inline(always)]
 fn fixed_place<R: PackedRow>(layer: Layer, y: usize, row: R) -> R
     requires room { layer.width + 3 ≤ R.room }
@@ -119,36 +127,66 @@ fn fixed_place<R: PackedRow>(layer: Layer, y: usize, row: R) -> R
         ≡ unwrap_or (decided_bit layer.version layer.word x y) (is_set (R.bits row) x) }
     ensures fits { FitsWidth layer.width (R.bits result) }
 {
-    if 8 < y && y < layer.width - 8 {
-        return row;
-    }
     match fixed_bit(layer, 8, y) {
         Some(bit) => put(row, 8, bit),
         None => row,
     }
 }
 
-// A row under a mask, by its dark places and those that a mask may turn. The layer is lent, so that it is copied for
-// row 8 alone.
+// A row with the bits that no mask decides.
 #[inline(always)]
-fn masked_row<R: PackedRow>(layer: &Layer, y: usize, dark: R, free: R) -> R
-    requires room { layer.now.width + 3 ≤ R.room }
-    requires dark_fits { FitsWidth layer.now.width (R.bits dark) }
-    requires free_fits { FitsWidth layer.now.width (R.bits free) }
-    ensures shown { (x : ℕ) → x < layer.now.width → is_set (R.bits result) x
-        ≡ unwrap_or (decided_bit layer.now.version layer.now.word x y)
-        (turned_if (is_set (R.bits free) x && turns layer.now.mask x y)
-        (is_set (R.bits dark) x)) }
-    ensures fits { FitsWidth layer.now.width (R.bits result) }
+fn decided_row<R: PackedRow>(layer: Layer, y: usize, row: R) -> R
+    requires room { layer.width + 3 ≤ R.room }
+    requires fits { FitsWidth layer.width (R.bits row) }
+    ensures shown { (x : ℕ) → x < layer.width → is_set (R.bits result) x
+        ≡ unwrap_or (decided_bit layer.version layer.word x y) (is_set (R.bits row) x) }
+    ensures fits { FitsWidth layer.width (R.bits result) }
 {
-    let turned = dark.xor(free.and(turned_places(layer.mask, y)));
     if y == 8 {
-        return fixed_row(*layer, turned);
+        return fixed_row(layer, row);
     }
-    fixed_place(*layer, y, turned)
+    fixed_place(layer, y, row)
 }
 
-/// Writes the rows under a mask, with its format word.
+// Writes the bits that no mask decides into rows, from one on and up to another.
+fn decide_rows<R: PackedRow>(layer: Layer, from: usize, to: usize, rows: &mut [R])
+    requires room { layer.width + 3 ≤ R.room }
+    requires order { from ≤ to }
+    requires inside { to ≤ layer.width }
+    requires length { length rows.old ≡ layer.width }
+    requires fits { (y : ℕ) → FitsWidth layer.width (slice_index_or (map R.bits rows.old) y 0) }
+    ensures between { (x y : ℕ) → x < layer.width → from ≤ y → y < to
+        → dark_in (map R.bits rows.new) x y ≡ unwrap_or (decided_bit layer.version layer.word x y)
+        (dark_in (map R.bits rows.old) x y) }
+    ensures before { (x y : ℕ) → y < from
+        → dark_in (map R.bits rows.new) x y ≡ dark_in (map R.bits rows.old) x y }
+    ensures behind { (x y : ℕ) → to ≤ y
+        → dark_in (map R.bits rows.new) x y ≡ dark_in (map R.bits rows.old) x y }
+    ensures fits { (y : ℕ) → FitsWidth layer.width (slice_index_or (map R.bits rows.new) y 0) }
+{
+    for y in from..to {
+        rows[y] = decided_row(layer, y, rows[y]);
+    }
+}
+
+// Writes the rows with the places turned that the mask turns.
+fn turn_rows<R: PackedRow>(modules: &PackedModules<'_, R>, mask: MaskPattern, rows: &mut [R])
+    requires length { length rows.old ≡ modules.now.width }
+    ensures shown { (x y : ℕ) → x < modules.now.width → y < modules.now.width
+        → dark_in (map R.bits rows.new) x y
+        ≡ turned_if (dark_in modules.now.free.rows x y && turns mask x y)
+        (dark_in modules.now.dark.rows x y) }
+    ensures fits { (y : ℕ)
+        → FitsWidth modules.now.width (slice_index_or (map R.bits rows.new) y 0) }
+{
+    let turned = turned_rows(mask);
+    for y in 0..modules.width {
+        let places = modules.free.row(y).and(long_row(turned[y % 12]));
+        rows[y] = modules.dark.row(y).xor(places);
+    }
+}
+
+/// Writes the rows under a mask, with its format word, which stands in the first and the last rows alone.
 pub(super) fn mask_rows<R: PackedRow>(
     modules: &PackedModules<'_, R>,
     mask: MaskPattern,
@@ -163,13 +201,14 @@ pub(super) fn mask_rows<R: PackedRow>(
     ensures square { IsSquare R.room
         (record { width = modules.now.width; rows = map R.bits masked.new }) }
 {
+    let width = modules.width;
     let layer = Layer {
         version: modules.version,
-        width: modules.width,
+        width,
         word: format_word(modules.version, modules.ec_level, mask),
         mask,
     };
-    for y in 0..modules.width {
-        masked[y] = masked_row(&layer, y, modules.dark.row(y), modules.free.row(y));
-    }
+    turn_rows(modules, mask, masked);
+    decide_rows(layer, 0, 9, masked);
+    decide_rows(layer, (width - 8).max(9), width, masked);
 }

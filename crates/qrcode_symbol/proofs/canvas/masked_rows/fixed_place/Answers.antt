@@ -1,5 +1,5 @@
 use Rattle.std.proofs.Common.{sym, ◌∙◌, arith}
-use Rattle.qrcode_symbol.proofs.FixedPlaces.{column_between, place_some, place_none, ends_after_put}
+use Rattle.qrcode_symbol.proofs.FixedPlaces.{place_some, place_none, ends_after_put}
 use Rattle.qrcode_symbol.proofs.canvas.masked_rows.fixed_place.Goals as goal
 
 pub returns-in-Some-clause-shown : goal.returns-in-Some-clause-shown
@@ -11,6 +11,3 @@ returns-in-Some-clause-fits g c = ends_after_put (g.R.PackedRow.bits c.put.resul
 
 pub returns-in-None-clause-shown : goal.returns-in-None-clause-shown
 returns-in-None-clause-shown g c = λ x h. place_none c.args.layer.version c.args.layer.word c.args.y (g.R.PackedRow.bits c.args.row) c.requires.other (sym c.fixed_bit.ensures ∙ c.in-None.is) x
-
-pub returns-then-y-layer-clause-shown : goal.returns-then-y-layer-clause-shown
-returns-then-y-layer-clause-shown g c = λ x h. place_none c.args.layer.version c.args.layer.word c.args.y (g.R.PackedRow.bits c.args.row) c.requires.other (column_between c.args.layer.version c.args.layer.word c.args.y (omega arith) (omega arith)) x

@@ -1,34 +1,35 @@
-use Rattle.std.proofs.Common.{arith, ap, sym, map, ◌∙◌}
+use Rattle.std.proofs.Common.{◌≡◌, ◌-◌, max, arith, ap, sym, map, ◌&&◌, ◌∙◌, unwrap_or}
 use Rattle.std.proofs.lemmas.List.{length-map}
 use Rattle.qrcode_packed.specs.Rows.{dark_in}
-use Rattle.qrcode_packed.proofs.RowLists.{rows_more, rows_fit}
+use Rattle.qrcode_places.specs.Masks.{turns, turned_if}
+use Rattle.qrcode_places.specs.Patterns.{decided_bit}
 use Rattle.qrcode_symbol.specs.Masking.{masked_dark}
-use Rattle.qrcode_symbol.proofs.RowLists.{IsMaskedRow, masked_row_is}
+use Rattle.qrcode_symbol.proofs.FixedPlaces.{both_ends}
 use Rattle.qrcode_symbol.proofs.canvas.masked_rows.mask_rows.Goals as goal
 
-pub loop-y-preserved : goal.loop-y-preserved
-loop-y-preserved g c =
-    let bits = g.R.PackedRow.bits in
-    let modules = c.args.modules.now in
-    let word = c.format_word.result in
-    rows_more bits (IsMaskedRow modules.version modules.width word c.args.mask modules.dark.rows modules.free.rows) c.loop-y.masked c.loop-y.y c.masked_row.result (omega arith) c.loop-y.invariant
-    (masked_row_is modules.version modules.width word c.args.mask modules.dark.rows modules.free.rows c.loop-y.y (bits c.masked_row.result) (bits c.row.result) (bits c.row-in-loop-y.result)
-    c.row.ensures.value c.row-in-loop-y.ensures.value c.masked_row.ensures.shown c.masked_row.ensures.fits)
+pub decide_rows-requires-2-clause-order : goal.decide_rows-requires-2-clause-order
+decide_rows-requires-2-clause-order g c = let from : c.max.result ≡ max (c.args.modules.now.width - 8) 9 = c.max.ensures in omega (arith, from)
 
 pub returns-clause-shows : goal.returns-clause-shows
-unfolding dark_in
+unfolding masked_dark
 returns-clause-shows g c = λ x y h l.
-    let modules = c.args.modules.now in
-    sym ((c.loop-y.invariant y (omega arith)).shows x h
-    ∙ ap (λ n. masked_dark modules.version n c.args.mask modules.dark.rows modules.free.rows x y) c.format_word.ensures)
+    let bits = g.R.PackedRow.bits in
+    let m = c.args.modules.now in
+    let mask = c.args.mask in
+    let word = c.format_word.result in
+    let turned = turned_if (dark_in m.free.rows x y && turns mask x y) (dark_in m.dark.rows x y) in
+    let from : c.max.result ≡ max (m.width - 8) 9 = c.max.ensures in
+    sym (both_ends m.version word x y turned (dark_in (map bits c.decide_rows.new.rows) x y) (dark_in (map bits c.decide_rows-2.new.rows) x y) m.width c.max.result m.side from l
+    (λ k. c.decide_rows.ensures.between x y h (omega arith) k ∙ ap (λ b. unwrap_or (decided_bit m.version word x y) b) (c.turn_rows.ensures.shown x y h l))
+    (λ k. c.decide_rows.ensures.behind x y k ∙ c.turn_rows.ensures.shown x y h l)
+    (λ k. c.decide_rows-2.ensures.between x y h k l)
+    (λ k. c.decide_rows-2.ensures.before x y k)
+    ∙ ap (λ n. unwrap_or (decided_bit m.version n x y) turned) c.format_word.ensures)
 
 pub returns-clause-square : goal.returns-clause-square
-returns-clause-square g c =
-    let modules = c.args.modules.now in
-    let size = length-map c.loop-y.masked g.R.PackedRow.bits in
-    record {
-      at_least = omega arith;
-      spare = modules.room;
-      length = size ∙ omega arith;
-      fits = rows_fit (map g.R.PackedRow.bits c.loop-y.masked) modules.width (size ∙ omega arith) (λ y h. (c.loop-y.invariant y (omega arith)).ends);
-    }
+returns-clause-square g c = record {
+  at_least = omega arith;
+  spare = c.args.modules.now.room;
+  length = length-map c.decide_rows-2.new.rows g.R.PackedRow.bits ∙ omega arith;
+  fits = c.decide_rows-2.ensures.fits;
+}
