@@ -145,8 +145,8 @@ impl<'a> Grid<'a> {
         }
     }
 
-    /// How many cells are dark.
-    pub fn dark_count(&self) -> usize {
+    // How many cells are dark.
+    pub(crate) fn dark_count(&self) -> usize {
         let parts = self.cells.len() / COUNTED;
         let mut count = 0;
         for i in 0..parts {
