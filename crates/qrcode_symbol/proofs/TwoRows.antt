@@ -1,5 +1,5 @@
 -- Four bits that are drawn in two rows of a pair of columns.
-use Rattle.std.proofs.Common.{◌≡◌, ℕ, zero, suc, ◌-◌, ◌%◌, ◌^◌, ◌<◌, Bool, List, [], ◌∷◌, map, set, slice_index_or, refl, ap, ap₂, sym, ◌∙◌, arith}
+use Rattle.std.proofs.Common.{◌≡◌, ℕ, zero, suc, ◌-◌, ◌%◌, ◌<◌, List, [], ◌∷◌, map, set, slice_index_or, refl, ◌∙◌, arith}
 use Rattle.std.proofs.lemmas.List.{map-set}
 use Rattle.qrcode_types.specs.Bits.{has_bit, number_bits}
 use Rattle.qrcode_types.specs.Colors.{color_of}
@@ -9,7 +9,6 @@ use Rattle.qrcode_symbol.specs.Filling.{row_places}
 use Rattle.qrcode_symbol.specs.declared.canvas.Module.{Module}
 use Rattle.qrcode_symbol.specs.declared.canvas.Module.TheVariants.{Unmasked}
 use Rattle.qrcode_symbol.specs.declared.canvas.filling.TheConstants.{TWO_ROWS}
-use Rattle.qrcode_types.specs.declared.types.Color.{Color}
 use Rattle.qrcode_symbol.proofs.MaskRows.{has_mod}
 
 -- the table of the code

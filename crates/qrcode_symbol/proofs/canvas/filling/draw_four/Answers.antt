@@ -1,4 +1,4 @@
-use Rattle.std.proofs.Common.{◌≡◌, ◌++◌, length, map, slice_index_or, sym, ap, ◌∙◌, arith}
+use Rattle.std.proofs.Common.{◌++◌, length, map, slice_index_or, sym, ap, ◌∙◌, arith}
 use Rattle.qrcode_symbol.specs.Filling.{eight_of}
 use Rattle.qrcode_symbol.proofs.Walk.{apart, four_within, four_again, four_rows_drawn}
 use Rattle.qrcode_symbol.proofs.canvas.filling.draw_four.Goals as goal

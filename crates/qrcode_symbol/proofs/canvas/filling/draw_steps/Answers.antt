@@ -1,4 +1,4 @@
-use Rattle.std.proofs.Common.{◌≡◌, ◌≤◌, ◌+◌, ◌*◌, ◌∙◌, arith, map}
+use Rattle.std.proofs.Common.{◌∙◌, arith, map}
 use Rattle.qrcode_symbol.proofs.Walk.{row_step, apart}
 use Rattle.qrcode_symbol.proofs.canvas.filling.draw_steps.Goals as goal
 

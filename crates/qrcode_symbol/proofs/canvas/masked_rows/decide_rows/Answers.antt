@@ -1,4 +1,4 @@
-use Rattle.std.proofs.Common.{◌≡◌, ◌<◌, ◌∙◌, ℕ, map, refl, ap, arith, slice_index_or, unwrap_or}
+use Rattle.std.proofs.Common.{◌≡◌, ◌∙◌, map, refl, ap, arith, slice_index_or, unwrap_or}
 use Rattle.qrcode_packed.specs.Rows.{is_set, dark_in}
 use Rattle.qrcode_packed.proofs.RowLists.{read, rows_more}
 use Rattle.qrcode_places.specs.Patterns.{decided_bit}
