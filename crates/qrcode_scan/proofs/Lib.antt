@@ -1,0 +1,2 @@
+mod Pieces
+mod Shown

@@ -1,0 +1,28 @@
+-- Heads of picture files: numbers behind white space and comments.
+use Rattle.std.specs.Prelude.{ℕ, ◌+◌, ◌-◌, ◌*◌, ◌==◌, nat_le, Bool, true, false, not, ◌||◌, ◌&&◌, List, [], ◌∷◌, drop, if◌then◌else◌}
+
+-- white space
+abbrev pub is_white : ℕ → Bool
+is_white c = c == 32 || (nat_le 9 c && nat_le c 13)
+
+-- a decimal digit
+abbrev pub is_digit : ℕ → Bool
+is_digit c = nat_le 48 c && nat_le c 57
+
+-- what follows white space and comments, of which each goes from # to the end of its line; whether the bytes begin within one is told
+unfoldable pub after_space : Bool → List ℕ → List ℕ
+after_space within [] = []
+after_space true (c ∷ rest) = after_space (not (c == 10)) rest
+after_space false (c ∷ rest) = if c == 35 then after_space true rest else if is_white c then after_space false rest else c ∷ rest
+
+-- the number that digits write behind those of another number, and what follows them
+unfoldable pub digits_from : ℕ → List ℕ → ℕ × List ℕ
+digits_from n [] = (n, [])
+digits_from n (c ∷ rest) = if is_digit c then digits_from (10 * n + (c - 48)) rest else (n, c ∷ rest)
+
+-- the pixels across and down that a head names behind the two bytes of its kind, and what follows them
+abbrev pub sides_of : List ℕ → ℕ × ℕ × List ℕ
+sides_of file =
+    let across = digits_from 0 (after_space false (drop 2 file)) in
+    let down = digits_from 0 (after_space false across.1) in
+    (across.0, down.0, down.1)

@@ -1,0 +1,22 @@
+-- Squares of modules in pictures.
+use Rattle.std.specs.Prelude.{◌≡◌, ℕ, ◌+◌, ◌*◌, ◌≤◌, ◌<◌, Bool, true, false, List, length, map, not, slice_index_or}
+use Rattle.qrcode_types.specs.Colors.{is_dark}
+use Rattle.qrcode_types.specs.declared.types.Color.{Color}
+use Rattle.qrcode_types.specs.declared.types.Color.TheVariants.{Light}
+use Rattle.qrcode_render.specs.Bitmap.{Bitmap}
+use Rattle.qrcode_render.specs.Layout.{layout}
+use Rattle.qrcode_render.specs.Picture.{picture}
+
+-- the pixels with dark and light exchanged
+abbrev pub inverted : Bitmap → Bitmap
+inverted b = record b { marks = map not b.marks }
+
+-- whether the pixel in a column and row is dark
+abbrev pub mark_at : Bitmap → ℕ → ℕ → Bool
+mark_at b x y = slice_index_or b.marks (y * b.across + x) false
+
+-- the pixels are the picture of a square of so many modules a side inside a margin of so many light ones, each module of so many pixels a side
+pub record IsSquareIn (b : Bitmap) (count zone scale : ℕ) (modules : List Color) : Type 0 where
+  pub at_least : 1 ≤ scale
+  pub square : length modules ≡ count * count
+  pub shown : b ≡ picture (layout count zone scale scale) modules
