@@ -1,6 +1,7 @@
 //! From the command line to what is asked for.
 
 use crate::failure::Failure;
+use crate::segments::two_digits;
 use clap::ArgMatches;
 use goqlanis_draw::{Choice, Format, Ink, Request};
 use qrcode::bits::Manner;
@@ -75,6 +76,9 @@ pub fn read_command_line<'a>(
 }
 
 fn source_of<'a>(alloc: Global, matches: &ArgMatches<'a>) -> Result<Source<'a>, Failure> {
+    if matches.contains_id("segment") {
+        check_segments(alloc, matches)?;
+    }
     match (matches.get_str("TEXT"), matches.get_str("input")) {
         (Some(_), Some(_)) => usage(alloc, "TEXT and --input: one of them is enough"),
         (Some(text), None) => Ok(Source::Text(text)),
@@ -82,6 +86,20 @@ fn source_of<'a>(alloc: Global, matches: &ArgMatches<'a>) -> Result<Source<'a>, 
         (None, Some(path)) => Ok(Source::File(path)),
         (None, None) => Ok(Source::StandardInput),
     }
+}
+
+// Refuses what does not go with segments by hand.
+fn check_segments(alloc: Global, matches: &ArgMatches<'_>) -> Result<(), Failure> {
+    if matches.contains_id("TEXT") || matches.contains_id("input") {
+        return usage(alloc, "--segment is the data: leave out TEXT and --input");
+    }
+    for name in ["trim", "lines", "bytes", "eci", "boost"] {
+        if matches.get_flag(name) {
+            let text = format!(in alloc; "--segment and --{name}: one of them is enough")?;
+            return Err(Failure::Usage(text));
+        }
+    }
+    Ok(())
 }
 
 fn writing_of(alloc: Global, matches: &ArgMatches<'_>) -> Result<Writing, Failure> {
@@ -152,6 +170,7 @@ fn request_of<'a>(
         zone: matches.get_one::<u8>("quiet-zone"),
         scale,
         size,
+        dpi: matches.get_one::<u16>("dpi"),
         dark: ink(alloc, matches.get_str("colour"), "#000", format)?,
         light: ink(alloc, matches.get_str("background"), "#fff", format)?,
         is_inverted: matches.get_flag("invert"),
@@ -169,6 +188,12 @@ fn check_format(alloc: Global, matches: &ArgMatches<'_>, format: Format) -> Resu
                 return Err(Failure::Usage(text));
             }
         }
+    }
+    if format != Format::Png && matches.contains_id("dpi") {
+        return usage(
+            alloc,
+            "--dpi: PNG alone names its dots per inch; EPS has a point for a pixel, 72 to an inch",
+        );
     }
     if format == Format::Pic && matches.get_flag("invert") {
         return usage(
@@ -327,13 +352,7 @@ fn ink_of(name: &str) -> Option<Ink<'_>> {
     })
 }
 
-// The number of two digits to the base 16.
-fn two_digits(high: u8, low: u8) -> Option<u8> {
-    let (high, low) = ((high as char).to_digit(16)?, (low as char).to_digit(16)?);
-    Some((16 * high + low) as u8)
-}
-
-// A wrong command line, by a text.
-fn usage<T>(alloc: Global, text: &str) -> Result<T, Failure> {
+/// A wrong command line, by a text.
+pub fn usage<T>(alloc: Global, text: &str) -> Result<T, Failure> {
     Err(Failure::Usage(String::from_str(alloc, text)?))
 }

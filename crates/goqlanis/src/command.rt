@@ -1,21 +1,37 @@
 //! The command line.
 
-use crate::failure::Failure;
-use crate::options::{ABOUT, EXAMPLES, Entry, NAME, Takes, entries};
+use crate::options::{
+    ABOUT, EXAMPLES, Entry, NAME, PICTURE_HELP, READING_ABOUT, READING_NAME, Takes, entries,
+    reading_entries,
+};
 use clap::builder::ValueParser;
 use clap::{Arg, ArgAction, Command};
 use std::alloc::{AllocError, Global};
 
-/// The command line, as `clap` reads it. `examples` stand at the end of its help.
-pub fn command<'a>(alloc: Global, examples: &'a str) -> Result<Command<'a>, AllocError> {
+/// The command line that draws, as `clap` reads it.
+pub fn drawing<'a>(alloc: Global) -> Result<Command<'a>, AllocError> {
     let text = Arg::new(alloc, "TEXT").value_name("TEXT").help(
         "The text; standard input where there is neither it nor --input",
     );
     let mut command = Command::new(alloc, NAME)
         .about(ABOUT)
-        .after_help(examples)
+        .after_help(EXAMPLES)
         .arg(text)?;
     for entry in &entries() {
+        command = command.arg(argument(alloc, entry))?;
+    }
+    Ok(command)
+}
+
+/// The command line behind the word that asks for reading, as `clap` reads it.
+pub fn reading<'a>(alloc: Global) -> Result<Command<'a>, AllocError> {
+    let picture = Arg::new(alloc, "PICTURE")
+        .value_name("PICTURE")
+        .help(PICTURE_HELP);
+    let mut command = Command::new(alloc, READING_NAME)
+        .about(READING_ABOUT)
+        .arg(picture)?;
+    for entry in &reading_entries() {
         command = command.arg(argument(alloc, entry))?;
     }
     Ok(command)
@@ -33,24 +49,11 @@ fn argument<'a>(alloc: Global, entry: &Entry) -> Arg<'a> {
     match entry.takes {
         Takes::Nothing => arg.action(ArgAction::SetTrue),
         Takes::Text(name) => arg.value_name(name),
+        Takes::Texts(name) => arg.value_name(name).action(ArgAction::Append),
         Takes::Path => arg.value_name("FILE"),
         Takes::Word(words) => arg.value_parser(words).ignore_case(true),
         Takes::Number(least, most) => arg
             .value_name("NUMBER")
             .value_parser(ValueParser::unsigned(least, most)),
     }
-}
-
-/// The examples, as the help shows them.
-pub fn examples(alloc: Global) -> Result<String, Failure> {
-    let mut text = String::new(alloc);
-    text.push_str("Examples:\n")?;
-    for (line, what) in &EXAMPLES {
-        text.push_str("  ")?;
-        text.push_str(line)?;
-        text.push_str("\n      ")?;
-        text.push_str(what)?;
-        text.push_str("\n")?;
-    }
-    Ok(text)
 }

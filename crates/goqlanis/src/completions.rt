@@ -51,7 +51,9 @@ fn push_bash_case(text: &mut String, entry: &Entry) -> Result<(), AllocError> {
             push_words(text, words, " ")?;
             text.push_str("' -- \"$word\"))")?;
         }
-        Takes::Nothing | Takes::Text(_) | Takes::Number(_, _) => text.push_str("COMPREPLY=()")?,
+        Takes::Nothing | Takes::Text(_) | Takes::Texts(_) | Takes::Number(_, _) => text.push_str(
+            "COMPREPLY=()",
+        )?,
     }
     text.push_str("; return ;;\n")?;
     Ok(())
@@ -81,7 +83,7 @@ fn push_zsh_option(text: &mut String, entry: &Entry) -> Result<(), AllocError> {
             push_words(text, words, " ")?;
             text.push_str(")")?;
         }
-        Takes::Text(name) => write!(text, ":{name}:")?,
+        Takes::Text(name) | Takes::Texts(name) => write!(text, ":{name}:")?,
         Takes::Number(_, _) => text.push_str(":number:")?,
     }
     text.push_str("' \\\n")?;
@@ -111,7 +113,7 @@ fn push_fish_option(text: &mut String, entry: &Entry) -> Result<(), AllocError> 
             push_words(text, words, " ")?;
             text.push_str("'")?;
         }
-        Takes::Text(_) | Takes::Number(_, _) => text.push_str(" -x")?,
+        Takes::Text(_) | Takes::Texts(_) | Takes::Number(_, _) => text.push_str(" -x")?,
     }
     write!(text, " -d '{help}'\n")
 }

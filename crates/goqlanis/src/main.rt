@@ -9,6 +9,8 @@ mod files;
 mod manual;
 mod options;
 mod program;
+mod reading;
+mod segments;
 
 use failure::Failure;
 use std::process::ExitCode;

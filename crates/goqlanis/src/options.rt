@@ -7,6 +7,8 @@ pub enum Takes {
     Nothing,
     /// A text, by the name that stands for it.
     Text(&'static str),
+    /// Such a text, more than once.
+    Texts(&'static str),
     /// The path of a file.
     Path,
     /// One of some words.
@@ -49,7 +51,7 @@ static FORMATS: [&str; 9] = [
 static SHELLS: [&str; 3] = ["bash", "zsh", "fish"];
 
 /// The options, in the order of the help.
-pub fn entries() -> [Entry; 21] {
+pub fn entries() -> [Entry; 23] {
     [
         Entry {
             long: "input",
@@ -124,6 +126,12 @@ pub fn entries() -> [Entry; 21] {
             help: "Write in front that the data is UTF-8, for readers that guess",
         },
         Entry {
+            long: "segment",
+            short: None,
+            takes: Takes::Texts("MODE:TEXT"),
+            help: "Write a segment by hand, once for each: numeric, alphanumeric, byte, or kanji with Shift JIS as 935f",
+        },
+        Entry {
             long: "quiet-zone",
             short: Some('q'),
             takes: Takes::Number(0, 255),
@@ -140,6 +148,12 @@ pub fn entries() -> [Entry; 21] {
             short: None,
             takes: Takes::Number(1, 65535),
             help: "Pixels that a side may have: modules are as large as there is room for",
+        },
+        Entry {
+            long: "dpi",
+            short: None,
+            takes: Takes::Number(1, 65535),
+            help: "Dots per inch that a PNG file names: pixels along an inch when it is printed",
         },
         Entry {
             long: "colour",
@@ -180,22 +194,44 @@ pub fn entries() -> [Entry; 21] {
     ]
 }
 
-/// Examples, of which each is a command line and what it does.
-pub static EXAMPLES: [(&str, &str); 4] = [
-    (
-        "goqlanis \"https://example.org\"",
-        "draws a symbol in the terminal",
-    ),
-    (
-        "goqlanis -o ticket.png --scale 8 -i ticket.txt",
-        "draws the bytes of a file, as PNG",
-    ),
-    (
-        "goqlanis --level H --version M4 --format svg 1234567",
-        "draws a Micro symbol",
-    ),
-    (
-        "goqlanis --lines -o seat.svg < seats.txt",
-        "draws seat-0001.svg, seat-0002.svg and so on",
-    ),
-];
+/// The program and the word that asks it to read.
+pub const READING_NAME: &str = "goqlanis read";
+
+/// What `goqlanis read` does.
+pub const READING_ABOUT: &str = "Reads a clean picture of a symbol, and writes its data";
+
+/// What `goqlanis read` reads.
+pub const PICTURE_HELP: &str =
+    "A PBM file, a PGM file of bytes, or half blocks; standard input where there is none";
+
+/// The options of `goqlanis read`, in the order of its help.
+pub fn reading_entries() -> [Entry; 2] {
+    [
+        Entry {
+            long: "output",
+            short: Some('o'),
+            takes: Takes::Path,
+            help: "Write the data to a file, whole or not at all; - is standard output",
+        },
+        Entry {
+            long: "verbose",
+            short: Some('v'),
+            takes: Takes::Nothing,
+            help: "Say version, level, mask, position and wrong codewords on standard error",
+        },
+    ]
+}
+
+/// Examples, as the help shows them.
+pub const EXAMPLES: &str = "Examples:
+  goqlanis \"https://example.org\"
+      draws a symbol in the terminal
+  goqlanis -o ticket.png --scale 8 -i ticket.txt
+      draws the bytes of a file, as PNG
+  goqlanis --level H --version M4 --format svg 1234567
+      draws a Micro symbol
+  goqlanis --lines -o seat.svg < seats.txt
+      draws seat-0001.svg, seat-0002.svg and so on
+  goqlanis read ticket.pbm
+      reads a picture back; goqlanis read --help says more
+";

@@ -2,10 +2,14 @@
 
 use crate::asked::{Asked, Source, Target, Writing, read_command_line};
 use crate::failure::Failure;
-use crate::{command, completions, files, manual};
+use crate::options::READING_NAME;
+use crate::segments::{Pieces, characters_of};
+use crate::{command, completions, files, manual, reading};
 use clap::ArgMatches;
 use clap::error::ErrorKind;
-use goqlanis_draw::{Request, draw, manner_of, refusal_text};
+use goqlanis_draw::{
+    Request, draw, draw_segments, manner_of, refusal_text, segments_refusal_text, unwritable,
+};
 use qrcode::bits::Manner;
 use qrcode::types::QrError;
 use qrcode_programs::{Fault, words};
@@ -17,7 +21,7 @@ use std::{env, fs, io};
 /// Does what the command line asks for, and returns the exit status.
 pub fn run(rt: &HostRuntime) -> Result<ExitCode, Failure> {
     let alloc = rt.alloc();
-    let words: Vec<String> = match words(rt) {
+    let mut words: Vec<String> = match words(rt) {
         Ok(words) => words.collect(alloc)?,
         Err(Fault::NotText) => {
             let text = "an argument is not UTF-8: put the data into a file, and name it by --input";
@@ -25,9 +29,15 @@ pub fn run(rt: &HostRuntime) -> Result<ExitCode, Failure> {
         }
         Err(_) => return Err(Failure::OutOfMemory),
     };
-    let examples = command::examples(alloc)?;
-    let command = command::command(alloc, examples.as_str())?;
-    match command.try_get_matches_from(words.as_slice()) {
+    let reads = words.len() > 1 && words[1].as_str() == "read";
+    let (command, words) = if reads {
+        words[1] = String::from_str(alloc, READING_NAME)?;
+        (command::reading(alloc)?, &words[1..])
+    } else {
+        (command::drawing(alloc)?, &words[..])
+    };
+    match command.try_get_matches_from(words) {
+        Ok(matches) if reads => reading::read(rt, &matches),
         Ok(matches) => obey(rt, &matches),
         Err(error) if error.kind() == ErrorKind::OutOfMemory => Err(Failure::OutOfMemory),
         Err(error) => {
@@ -57,6 +67,11 @@ fn obey(rt: &HostRuntime, matches: &ArgMatches<'_>) -> Result<ExitCode, Failure>
     }
     let has_colours = rt.stdout().is_terminal() && env::var(rt, "NO_COLOR").is_err();
     let asked = read_command_line(alloc, matches, has_colours)?;
+    if let Some(words) = matches.get_strs("segment") {
+        let drawing = segments_drawing(alloc, &asked.request, words)?;
+        write(rt, &asked, &drawing, None)?;
+        return Ok(ExitCode::SUCCESS);
+    }
     let bytes = data(rt, &asked)?;
     if asked.is_by_line {
         draw_lines(rt, &asked, &bytes)
@@ -66,8 +81,8 @@ fn obey(rt: &HostRuntime, matches: &ArgMatches<'_>) -> Result<ExitCode, Failure>
     }
 }
 
-// Writes to standard output.
-fn print(rt: &HostRuntime, bytes: &[u8]) -> Result<ExitCode, Failure> {
+/// Writes to standard output.
+pub fn print(rt: &HostRuntime, bytes: &[u8]) -> Result<ExitCode, Failure> {
     match io::writer(rt).write_all(bytes) {
         Ok(()) => Ok(ExitCode::SUCCESS),
         Err(error) => {
@@ -82,14 +97,8 @@ fn data(rt: &HostRuntime, asked: &Asked<'_>) -> Result<Vec<u8>, Failure> {
     let alloc = rt.alloc();
     let mut bytes = match asked.source {
         Source::Text(text) => Vec::from_slice(alloc, text.as_bytes())?,
-        Source::File(path) => match fs::read(rt, path) {
-            Ok(bytes) => bytes,
-            Err(error) => {
-                let text = format!(in alloc; "cannot read {path}: {error}")?;
-                return Err(Failure::Refused(text));
-            }
-        },
-        Source::StandardInput => read_standard_input(rt)?,
+        Source::File(path) => read_file(rt, path)?,
+        Source::StandardInput => read_standard_input(rt, "the text")?,
     };
     if asked.trims && bytes.last() == Some(&b'\n') {
         bytes.pop();
@@ -97,10 +106,32 @@ fn data(rt: &HostRuntime, asked: &Asked<'_>) -> Result<Vec<u8>, Failure> {
     Ok(bytes)
 }
 
-// All of standard input.
-fn read_standard_input(rt: &HostRuntime) -> Result<Vec<u8>, Failure> {
+/// Writes a file, whole or not at all.
+pub fn write_file(rt: &HostRuntime, path: &str, bytes: &[u8]) -> Result<(), Failure> {
+    match files::write_whole(rt, path, bytes) {
+        Ok(()) => Ok(()),
+        Err(error) => {
+            let text = format!(in rt.alloc(); "cannot write {path}: {error}")?;
+            Err(Failure::Refused(text))
+        }
+    }
+}
+
+/// All of a file.
+pub fn read_file(rt: &HostRuntime, path: &str) -> Result<Vec<u8>, Failure> {
+    match fs::read(rt, path) {
+        Ok(bytes) => Ok(bytes),
+        Err(error) => {
+            let text = format!(in rt.alloc(); "cannot read {path}: {error}")?;
+            Err(Failure::Refused(text))
+        }
+    }
+}
+
+/// All of standard input, where `what` is asked for.
+pub fn read_standard_input(rt: &HostRuntime, what: &str) -> Result<Vec<u8>, Failure> {
     if rt.stdin().is_terminal() {
-        let _ = eprintln!(rt; "goqlanis: the text, and Ctrl-D at its end:");
+        let _ = eprintln!(rt; "goqlanis: {what}, and Ctrl-D at its end:");
     }
     let mut bytes = Vec::new(rt.alloc());
     match rt.stdin().read_to_end(&mut bytes) {
@@ -151,13 +182,47 @@ fn draw_one(
             return Err(Failure::Refused(text));
         }
     };
+    write(rt, asked, &drawing, number)
+}
+
+// The drawing of segments by hand.
+fn segments_drawing(
+    alloc: Global,
+    request: &Request<'_>,
+    words: &[&str],
+) -> Result<Vec<u8>, Failure> {
+    let pieces = Pieces::read(alloc, words)?;
+    let segments = pieces.segments(alloc)?;
+    if let Some(place) = unwritable(&segments) {
+        let why = match segments.get(place) {
+            Some(segment) => characters_of(segment.mode),
+            None => "",
+        };
+        let number = place.saturating_add(1);
+        return Err(Failure::Refused(format!(in alloc; "segment {number}: {why}")?));
+    }
+    match draw_segments(alloc, request, &segments) {
+        Ok(drawing) => Ok(drawing),
+        Err(QrError::OutOfMemory) => Err(Failure::OutOfMemory),
+        Err(error) => {
+            let text = segments_refusal_text(alloc, request, error)?;
+            Err(Failure::Refused(text))
+        }
+    }
+}
+
+// Writes a drawing: of a line, to the file of its number.
+fn write(
+    rt: &HostRuntime,
+    asked: &Asked<'_>,
+    drawing: &[u8],
+    number: Option<u64>,
+) -> Result<(), Failure> {
+    let alloc = rt.alloc();
     match asked.target {
         Target::File(path) => {
             let path = numbered(rt, path, number)?;
-            files::write_whole(rt, path.as_str(), &drawing).or_else(|error| {
-                let text = format!(in alloc; "cannot write {path}: {error}")?;
-                Err(Failure::Refused(text))
-            })
+            write_file(rt, path.as_str(), drawing)
         }
         Target::Terminal if !asked.request.format.is_text() && rt.stdout().is_terminal() => {
             let text =
@@ -165,7 +230,7 @@ fn draw_one(
             Err(Failure::Refused(String::from_str(alloc, text)?))
         }
         Target::Terminal | Target::StandardOutput => {
-            print(rt, &drawing)?;
+            print(rt, drawing)?;
             Ok(())
         }
     }

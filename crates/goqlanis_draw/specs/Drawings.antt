@@ -1,5 +1,5 @@
 -- What a request shows of a symbol.
-use Rattle.std.specs.Prelude.{◌≡◌, ℕ, ◌+◌, ◌*◌, ◌/◌, List, [], ◌∷◌, ◌++◌, true, false, max, codes, None, encode_utf8, unwrap_or, flat_map, ◌==◌, if◌then◌else◌}
+use Rattle.std.specs.Prelude.{◌≡◌, ℕ, ◌+◌, ◌*◌, ◌/◌, List, [], ◌∷◌, ◌++◌, true, false, max, codes, encode_utf8, unwrap_or, flat_map, ◌==◌, if◌then◌else◌}
 use Rattle.std.specs.Option.{option_map}
 use Rattle.qrcode_types.specs.Versions.{side}
 use Rattle.qrcode_types.specs.declared.types.Color.{Color}
@@ -83,6 +83,15 @@ coloured_byte byte = if byte == 10 then colours_back ++ black_on_white else byte
 abbrev pub coloured_text : List ℕ → List ℕ
 coloured_text text = black_on_white ++ flat_map coloured_byte text ++ colours_back
 
+-- dots per inch as dots per metre, to the nearest: an inch is 0.0254 metres
+abbrev pub per_metre : ℕ → ℕ
+per_metre dpi = (10000 * dpi + 127) / 254
+
+-- a PNG file of two colours, which names the dots per metre where dots per inch are asked for
+abbrev pub IsPngOf : Request → Layout → List Color → List ℕ → Type 0
+IsPngOf r at s bytes =
+    IsFileOf (picture at s) (dark_of r (png_ink r.dark) (png_ink r.light)) (light_of r (png_ink r.dark) (png_ink r.light)) (option_map per_metre r.dpi) bytes
+
 -- what shows a symbol in a format; a text of lines ends with a newline
 abbrev pub IsShownIn : Format → Request → Layout → List Color → List ℕ → Type 0
 IsShownIn HalfBlocks r at s bytes = bytes ≡ half_block_text r at s ++ codes "\n"
@@ -92,7 +101,7 @@ IsShownIn Chars r at s bytes =
 IsShownIn Svg r at s bytes = bytes ≡ svg_text at s (dark_of r r.dark.name.now r.light.name.now) (light_of r r.dark.name.now r.light.name.now)
 IsShownIn Pic r at s bytes = bytes ≡ pic_text at s
 IsShownIn Eps r at s bytes = bytes ≡ eps_text at s (dark_of r (eps_ink r.dark) (eps_ink r.light)) (light_of r (eps_ink r.dark) (eps_ink r.light))
-IsShownIn Png r at s bytes = IsFileOf (picture at s) (dark_of r (png_ink r.dark) (png_ink r.light)) (light_of r (png_ink r.dark) (png_ink r.light)) None bytes
+IsShownIn Png r at s bytes = IsPngOf r at s bytes
 IsShownIn Pgm r at s bytes = bytes ≡ pgm_file (dark_of r 0 255) (light_of r 0 255) (picture at s)
 IsShownIn Pbm r at s bytes = bytes ≡ pbm_file (dark_of r true false) (light_of r true false) (picture at s)
 

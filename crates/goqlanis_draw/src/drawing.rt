@@ -1,19 +1,23 @@
 //! Drawings for requests.
 
-ghost use Rattle.std.specs.Prelude.{◌≡◌, ◌++◌, ◌*◌, ◌≤◌, length, max, codes, string_bytes, unwrap_or, IfOk, IfErr, OnOk, IsOkUnless};
+ghost use Rattle.std.specs.Prelude.{◌≡◌, ◌++◌, ◌*◌, ◌≤◌, length, max, codes, string_bytes, unwrap_or, ◌<◌, ◌^◌, IsTrue, IfOk, IfErr, OnOk, IsOkUnless};
 ghost use Rattle.qrcode_types.specs.Versions.{side};
 ghost use Rattle.qrcode_types.specs.declared.types.QrError.TheVariants.{OutOfMemory};
 ghost use Rattle.qrcode.specs.Pictures.{quiet_zone};
-ghost use Rattle.goqlanis_draw.specs.Drawings.{IsDrawing, IsShownBy, coloured_byte, coloured_text, eps_ink, half_block_text, layout_for, png_ink, scale_for, setting_for};
+ghost use Rattle.qrcode_render.specs.Setting.{fits};
+ghost use Rattle.goqlanis_draw.specs.Drawings.{IsDrawing, IsShownBy, IsPngOf, per_metre, coloured_byte, coloured_text, eps_ink, half_block_text, layout_for, png_ink, scale_for, setting_for};
+ghost use Rattle.goqlanis_draw.specs.Segments.{IsDrawingOfPieces, pieces_of};
 ghost use Rattle.goqlanis_draw.specs.Symbols.{IsSymbolOf, IsRefusalOf};
 
 use crate::request::{Choice, Format, Ink, Request};
+use crate::segments::{Segment, symbol_of};
 use qrcode::QrCode;
 use qrcode::render::pbm::Bit;
 use qrcode::render::pgm::Grey;
 use qrcode::render::unicode::Dense1x2;
 use qrcode::render::{Pixel, Renderer, eps, pic, svg};
 use qrcode::types::{Color, QrResult};
+use qrcode_png::with_density;
 use std::alloc::Global;
 
 // The control sequences of a terminal that set black on white, that take the colours back, and these
@@ -33,6 +37,25 @@ pub fn draw(alloc: Global, request: &Request<'_>, bytes: &[u8]) -> QrResult<Vec<
     ensures causes { IfErr result (IsRefusalOf request.now bytes.now) }
 {
     let code = symbol(alloc, request, bytes)?;
+    let drawing = drawing_of(alloc, request, &code)?;
+    Ok(drawing)
+}
+
+/// The drawing of segments by hand that a request asks for; its manner is not looked at. Versions
+/// are tried in their order, and a choice with levels to be raised keeps the level.
+///
+/// `DataTooLong`: no version that may be taken holds them. `UnsupportedCharacterSet`,
+/// `InvalidVersion`: the version that is asked for lacks a mode, or the level. `InvalidCharacter`:
+/// the mode of a segment of digits or Kanji cannot write it. `OutOfMemory`: memory was refused.
+pub fn draw_segments(
+    alloc: Global,
+    request: &Request<'_>,
+    segments: &[Segment<'_>],
+) -> QrResult<Vec<u8>>
+    ensures drawing { IfOk result (λ drawing.
+        IsDrawingOfPieces request.now (pieces_of segments.now) drawing.items) }
+{
+    let code = symbol_of(alloc, request.choice, request.level, segments)?;
     let drawing = drawing_of(alloc, request, &code)?;
     Ok(drawing)
 }
@@ -76,10 +99,7 @@ fn drawing_of(alloc: Global, request: &Request<'_>, code: &QrCode) -> QrResult<V
             let (dark, light) = (eps_ink(request.dark), eps_ink(request.light));
             picture(alloc, request, code, &modules, dark, light)?
         }
-        Format::Png => {
-            let (dark, light) = (png_ink(request.dark), png_ink(request.light));
-            return picture(alloc, request, code, &modules, dark, light);
-        }
+        Format::Png => return png(alloc, request, code, &modules),
         Format::Pgm => return picture(alloc, request, code, &modules, Grey(0), Grey(255)),
         Format::Pbm => return picture(alloc, request, code, &modules, Bit::Black, Bit::White),
     };
@@ -102,7 +122,30 @@ fn half_blocks(
     picture(alloc, request, code, modules, dark, light)
 }
 
-// The picture of a symbol, of pixels that stand for dark and light unless these are exchanged.
+// A symbol as a PNG file.
+fn png(alloc: Global, request: &Request<'_>, code: &QrCode, modules: &[Color]) -> QrResult<Vec<u8>>
+    requires modules { modules.now ≡ code.now.modules }
+    ensures shows { IfOk result (λ file.
+        IsPngOf request.now (layout_for request.now code.now.version) code.now.modules file.items) }
+    ensures memory { IsOkUnless result OutOfMemory }
+{
+    let (dark, light) = (png_ink(request.dark), png_ink(request.light));
+    let renderer = renderer(request, code, modules, dark, light);
+    match request.dpi {
+        None => renderer.build(alloc),
+        Some(dpi) => with_density(alloc, &renderer, per_metre(dpi)),
+    }
+}
+
+// Dots per inch as dots per metre, to the nearest; an inch is 0.0254 metres.
+fn per_metre(dpi: u16) -> u32
+    ensures value { result ≡ per_metre dpi }
+    ensures at_most { result < 2 ^ 31 }
+{
+    (10000 * dpi as u32 + 127) / 254
+}
+
+// The picture of a symbol.
 fn picture<P: Pixel>(
     alloc: Global,
     request: &Request<'_>,
@@ -116,6 +159,22 @@ fn picture<P: Pixel>(
         (setting_for request.now code.now.version code.now.modules dark light)) }
     ensures memory { IsOkUnless result OutOfMemory }
 {
+    renderer(request, code, modules, dark, light).build(alloc)
+}
+
+// A symbol's renderer, of pixels that stand for dark and light unless these are exchanged.
+fn renderer<'a, P: Pixel>(
+    request: &Request<'_>,
+    code: &QrCode,
+    modules: &'a [Color],
+    dark: P,
+    light: P,
+) -> Renderer<'a, P>
+    requires modules { modules.now ≡ code.now.modules }
+    ensures value { result
+        ≡ setting_for request.now code.now.version code.now.modules dark light }
+    ensures fits { IsTrue (fits result) }
+{
     let (dark, light) = if request.is_inverted {
         (light, dark)
     } else {
@@ -125,7 +184,7 @@ fn picture<P: Pixel>(
     renderer.dark_color(dark);
     renderer.light_color(light);
     renderer.module_size(scale(request, code));
-    renderer.build(alloc)
+    renderer
 }
 
 // The modules of the quiet zone at each side.

@@ -1,10 +1,15 @@
-//! What the program `goqlanis` draws for a request, and why it refuses one.
+//! What the program `goqlanis` draws for a request, what it reads of a picture, and why it refuses
+//! either.
 #![tactic(auto)]
 
 mod drawing;
 mod refusal;
 mod request;
+mod scanning;
+mod segments;
 
-pub use drawing::draw;
-pub use refusal::refusal_text;
+pub use drawing::{draw, draw_segments};
+pub use refusal::{refusal_text, segments_refusal_text};
 pub use request::{Choice, Format, Ink, Request, manner_of};
+pub use scanning::{Scan, Unread, read_picture};
+pub use segments::{Segment, unwritable};

@@ -37,6 +37,31 @@ pub fn refusal_text(
     }
 }
 
+/// The text of a refusal of segments by hand.
+pub fn segments_refusal_text(
+    alloc: Global,
+    request: &Request<'_>,
+    error: QrError,
+) -> Result<String, AllocError> {
+    let level = request.level;
+    match (error, request.choice) {
+        (QrError::DataTooLong, Choice::At(version)) => {
+            let name = Name(version);
+            format!(in alloc; "version {name} at level {level:?} does not hold the segments")
+        }
+        (QrError::DataTooLong, _) => {
+            format!(in alloc; "no version holds the segments at level {level:?}")
+        }
+        (QrError::UnsupportedCharacterSet, Choice::At(version)) => {
+            let name = Name(version);
+            format!(in alloc;
+                "version {name} has not all modes of the segments; M3, M4 and 1 to 40 have"
+            )
+        }
+        (error, _) => refusal_text(alloc, request, 0, error),
+    }
+}
+
 // No version that may be taken holds so many bytes.
 fn no_version_text(
     alloc: Global,

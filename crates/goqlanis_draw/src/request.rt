@@ -69,6 +69,8 @@ pub struct Request<'a> {
     pub scale: u16,
     /// The pixels that a side may have; where it is given, a module has as many as there is room for.
     pub size: Option<u16>,
+    /// The dots per inch that a PNG file names, where they are given: pixels along a printed inch.
+    pub dpi: Option<u16>,
     /// The colours of SVG, EPS and PNG.
     pub dark: Ink<'a>,
     pub light: Ink<'a>,

@@ -1,0 +1,117 @@
+//! Pictures, read.
+
+use qrcode_reader::{AnyReading, Position, Reading, read_any, read_bits};
+use qrcode_scan::{Pixels, Square, Unscanned, pixels_of, square_of};
+use qrcode_spell::pieces;
+use std::alloc::{AllocError, Global};
+use std::fmt;
+
+/// A picture, read.
+#[derive(Drop)]
+pub struct Scan {
+    /// The square of modules that it shows.
+    pub square: Square,
+    /// Whether the picture has dark and light exchanged.
+    pub is_inverted: bool,
+    /// What the square is read as, and in which position.
+    pub any: AnyReading,
+    /// Whether headers, as the number of a character set, stand between the segments.
+    pub has_headers: bool,
+}
+
+/// Why a picture is not read.
+#[derive(Debug, Clone, Copy, PartialEq, Eq)]
+pub enum Unread {
+    /// There are no pixels.
+    Unscanned(Unscanned),
+    /// The pixels show no square of modules.
+    NoSquare,
+    /// The square of so many modules a side, as it stands, is not read, and in no other position.
+    NoSymbol(usize, qrcode_reader::Unread),
+    /// Memory was refused.
+    OutOfMemory,
+}
+
+impl From<AllocError> for Unread {
+    fn from(_error: AllocError) -> Unread {
+        Unread::OutOfMemory
+    }
+}
+
+impl fmt::Display for Unread {
+    fn fmt<W: fmt::Write>(&self, f: &mut fmt::Formatter<W>) -> fmt::Result {
+        match self {
+            Unread::Unscanned(Unscanned::NotPicture) => {
+                f.write_str("it is neither a PBM or PGM file nor half blocks; convert it to PBM")
+            }
+            Unread::Unscanned(Unscanned::NoSide) => {
+                f.write_str("it has no pixels, or more than 65,535 along a side")
+            }
+            Unread::Unscanned(Unscanned::TooShort) => f.write_str("it ends before its last pixel"),
+            Unread::NoSquare => f.write_str(
+                "its pixels are no square of modules of one size in a margin that is as wide at each side",
+            ),
+            Unread::NoSymbol(count, error) => {
+                write!(f, "{count} by {count} modules are no symbol: {error}")
+            }
+            Unread::OutOfMemory | Unread::Unscanned(Unscanned::OutOfMemory) => {
+                f.write_str("out of memory")
+            }
+        }
+    }
+}
+
+/// Reads a picture: its pixels, the square of modules that these show, and the symbol that the
+/// square is in one of the positions.
+pub fn read_picture(alloc: Global, bytes: &[u8]) -> Result<Scan, Unread> {
+    let pixels = pixels_of(alloc, bytes).map_err(Unread::Unscanned)?;
+    if pixels.has_dark_edge() {
+        let pixels = pixels.inverted(alloc)?;
+        read_pixels(alloc, &pixels, true)
+    } else {
+        read_pixels(alloc, &pixels, false)
+    }
+}
+
+// Reads pixels, which may have dark and light exchanged.
+fn read_pixels(alloc: Global, pixels: &Pixels, is_inverted: bool) -> Result<Scan, Unread> {
+    let Some(square) = square_of(alloc, pixels)? else {
+        return Err(Unread::NoSquare);
+    };
+    if let Some(any) = read_any(alloc, &square.modules)? {
+        return Ok(Scan {
+            square,
+            is_inverted,
+            any,
+            has_headers: false,
+        });
+    }
+    let reading = read_with_headers(alloc, &square)?;
+    Ok(Scan {
+        square,
+        is_inverted,
+        any: AnyReading {
+            position: Position::Upright,
+            is_inverted: false,
+            reading,
+        },
+        has_headers: true,
+    })
+}
+
+// The bytes of an upright square in which headers stand between segments.
+fn read_with_headers(alloc: Global, square: &Square) -> Result<Reading, Unread> {
+    let unread = |error| match error {
+        qrcode_reader::Unread::OutOfMemory => Unread::OutOfMemory,
+        error => Unread::NoSymbol(square.count, error),
+    };
+    let bits = read_bits(alloc, &square.modules).map_err(unread)?;
+    let found = pieces(alloc, &bits.bits, bits.version).map_err(|error| unread(error.into()))?;
+    Ok(Reading {
+        version: bits.version,
+        ec_level: bits.ec_level,
+        mask: bits.mask,
+        data: found.bytes,
+        wrong: bits.wrong,
+    })
+}
