@@ -18,9 +18,9 @@ returns c =
     let ends = c.in_ok-push_terminator.ensures in
     let same : old.version ≡ v = c.loop-segment.invariant.0 in
     let bits : old.bits ≡ written v (pieces_of s) =
-        c.loop-segment.invariant.1 ∙ ap (flat_map (λ x. written_piece v (piece_of x))) (take_all c.loop-segment.segment-index s (omega arith)) ∙ sym (flat_map-map (written_piece v) piece_of s) in
+    c.loop-segment.invariant.1 ∙ ap (flat_map (λ x. written_piece v (piece_of x))) (take_all c.loop-segment.segment-index s (omega arith)) ∙ sym (flat_map-map (written_piece v) piece_of s) in
     let is : c.push_terminator.new.self ≡ record { version = v; bits = terminated v l (written v (pieces_of s)) } =
-        ends.ends.changed ∙ ap₂ (λ u b. record { version = u; bits = terminated u l b }) same bits in
+    ends.ends.changed ∙ ap₂ (λ u b. record { version = u; bits = terminated u l b }) same bits in
     record {
       symbol = symbol_of_pieces l (pieces_of s) v c.push_terminator.new.self c.with_bits.result is c.with_bits.ensures.version c.with_bits.ensures.level c.with_bits.ensures.symbol
           (λ readable. ends.spelled (pieces_of s) (subst (λ u. AllByRecursion (IsReadable u) (pieces_of s)) (sym same) readable)
