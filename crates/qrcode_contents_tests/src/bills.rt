@@ -87,8 +87,10 @@ fn a_bill_without_its_reference_is_refused(rt: HostRuntime) -> Result<(), Fail> 
 
 #[test]
 fn a_debtor_without_a_town_is_refused(rt: HostRuntime) -> Result<(), Fail> {
+    let mut debtor = schneider().debtor;
+    debtor.city = "";
     let mut bill = schneider();
-    bill.debtor.city = "";
+    bill.debtor = debtor;
     let refusal = bill.text(rt.alloc()).err();
     assert!(rt; refusal == Some(ContentError::Refused(Field::Debtor, Cause::Empty)));
     Ok(())
