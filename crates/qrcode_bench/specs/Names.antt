@@ -1,7 +1,7 @@
 -- The names of the cases.
 use Rattle.std.specs.Prelude.{ℕ, List, [], ◌∷◌, ◌++◌, codes, flat_map}
 use Rattle.qrcode_bench.specs.declared.cases.Case.{Case}
-use Rattle.qrcode_bench.specs.declared.cases.Case.TheVariants.{Micro2Digits, Normal1Digits, Bytes100, Bytes1000, Bytes2331, Digits7089, Mixed1000, Push7089, AutoMixed1000, LeastMixed1000, Codewords40, PatternsAndData40, BestMask1, BestMask40, Chars1, Chars40, HalfBlocks1, HalfBlocks40, Svg1, Svg40, Pic1, Pic40, Pixels1, Pixels40, Growth}
+use Rattle.qrcode_bench.specs.declared.cases.Case.TheVariants.{Micro2Digits, Normal1Digits, Bytes100, Bytes1000, Bytes2331, Digits7089, Mixed1000, Push7089, AutoMixed1000, LeastMixed1000, Codewords40, PatternsAndData40, BestMask1, BestMask40, Chars1, Chars40, HalfBlocks1, HalfBlocks40, Svg1, Svg40, Pic1, Pic40, Pixels1, Pixels40, Png100, Png40, Growth}
 
 -- the name of a case
 abbrev pub name_of : Case → List ℕ
@@ -29,6 +29,8 @@ name_of Pic1 = codes "pic-1"
 name_of Pic40 = codes "pic-40"
 name_of Pixels1 = codes "pixels-1"
 name_of Pixels40 = codes "pixels-40"
+name_of Png100 = codes "png-100"
+name_of Png40 = codes "png-40"
 name_of Growth = codes "growth"
 
 -- the names of cases, each with a newline

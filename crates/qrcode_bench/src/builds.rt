@@ -50,6 +50,8 @@ pub fn build(alloc: Global, case: Case, count: u32) -> QrResult<Digest> {
         Case::Pic40 => text::<pic::Color>(alloc, 2331, count),
         Case::Pixels1 => pixels(alloc, 14, count),
         Case::Pixels40 => pixels(alloc, 2331, count),
+        Case::Png100 => files(alloc, 100, count),
+        Case::Png40 => files(alloc, 2331, count),
         Case::Growth => growth(alloc, count),
     }
 }
@@ -234,5 +236,15 @@ fn pixels(alloc: Global, size: usize, count: u32) -> QrResult<Digest> {
     repeat(count, || {
         let image = picture::<image::Luma>(alloc, &code)?;
         Ok(of_bytes(&image.into_raw()))
+    })
+}
+
+// PNG files that are pictures of the symbol of words.
+fn files(alloc: Global, size: usize, count: u32) -> QrResult<Digest> {
+    let data = repeated(alloc, WORDS, size)?;
+    let code = QrCode::new(alloc, &data)?;
+    repeat(count, || {
+        let file = picture::<qrcode_png::Color>(alloc, &code)?;
+        Ok(of_bytes(&file))
     })
 }

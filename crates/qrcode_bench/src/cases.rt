@@ -33,11 +33,13 @@ pub enum Case {
     Pic40,
     Pixels1,
     Pixels40,
+    Png100,
+    Png40,
     Growth,
 }
 
 /// All cases, in the order of the list.
-pub static CASES: [Case; 25] = [
+pub static CASES: [Case; 27] = [
     Case::Micro2Digits,
     Case::Normal1Digits,
     Case::Bytes100,
@@ -62,6 +64,8 @@ pub static CASES: [Case; 25] = [
     Case::Pic40,
     Case::Pixels1,
     Case::Pixels40,
+    Case::Png100,
+    Case::Png40,
     Case::Growth,
 ];
 
@@ -95,6 +99,8 @@ impl Case {
             Case::Pic40 => "pic-40",
             Case::Pixels1 => "pixels-1",
             Case::Pixels40 => "pixels-40",
+            Case::Png100 => "png-100",
+            Case::Png40 => "png-40",
             Case::Growth => "growth",
         }
     }
