@@ -25,9 +25,9 @@ pub struct Square {
     pub modules: Vec<Color>,
 }
 
-/// The square of modules that a picture shows inside a margin of light, as wide at each side: that
-/// of the least modules along a side, of which there are at most `GREATEST_COUNT`. Its first row has
-/// a dark module. `None`: the picture shows no such square.
+/// A square of modules that a picture shows inside a margin of light, as wide at each side, tried
+/// from the least number of modules along a side to `GREATEST_COUNT`. `None`: none was found. That
+/// there is none then is not promised: no clause says so.
 ///
 /// It fails for want of memory alone.
 pub fn square_of(alloc: Global, pixels: &Pixels) -> Result<Option<Square>, AllocError>
