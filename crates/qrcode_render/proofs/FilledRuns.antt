@@ -1,32 +1,24 @@
 -- The runs of dark cells, and what their path fills.
-use Rattle.std.proofs.Common.{◌≡◌, ℕ, zero, suc, ◌+◌, ◌-◌, ◌<◌, ◌≤◌, inl, inr, Bool, true, false, ◌&&◌, ◌||◌, nat_eq, nat_le, nat_lt, List, [], ◌∷◌, ◌++◌, length, drop, get_or, refl, ap, ap₂, ◌∙◌, sym, arith}
+use Rattle.std.proofs.Common.{◌≡◌, ℕ, zero, suc, ◌+◌, ◌-◌, ◌<◌, ◌≤◌, inl, inr, Bool, true, false, ◌&&◌, ◌||◌, nat_eq, nat_le, nat_lt, List, [], ◌∷◌, ◌++◌, length, drop, get_or, refl, ap, ap₂, ◌∙◌, sym, arith, append_assoc}
 use Rattle.std.proofs.Math.Seq.{drop-cons}
 use Rattle.std.proofs.lemmas.Bool.{cases_lt}
 use Rattle.std.proofs.lemmas.Bool.Decides.{nat_tests}
-use Rattle.std.proofs.lemmas.List.{get_or_past, append-nil}
-use Rattle.std.proofs.lemmas.List.Concat.{flat_map-append}
+use Rattle.std.proofs.lemmas.List.{get_or_past}
 use Rattle.std.proofs.lemmas.List.FromFn.{length-map-range_with_len, get_or-map-range_with_len}
 use Rattle.std.specs.List.{flat_map, range_with_len}
 use Rattle.qrcode_render.specs.Grid.{Grid, all_columns, all_rows, cell_row, is_dark_cell}
-use Rattle.qrcode_render.specs.Paths.{Run, run_text, path_text, covers, is_filled, ended, runs_from, runs_of}
+use Rattle.qrcode_render.specs.Paths.{Run, Pen, run_text, behind, path_from, pen_after, covers, is_filled, ended, runs_from, runs_of}
 use Rattle.qrcode_render.proofs.Grids.{cell_outside}
 use Rattle.qrcode_render.proofs.LineTexts.{flat_range_more}
 
 -- one path behind another
-pub path-append : (xs ys : List Run) → path_text (xs ++ ys) ≡ path_text xs ++ path_text ys
-unfolding path_text
-path-append xs ys = flat_map-append run_text xs ys
+pub path-append : (pen : Pen) (xs ys : List Run) → path_from pen (xs ++ ys) ≡ path_from pen xs ++ path_from (pen_after pen xs) ys
+path-append pen [] ys = refl
+path-append pen (x ∷ xs) ys = ap (λ t. run_text pen x ++ t) (path-append (behind x) xs ys) ∙ sym (append_assoc (run_text pen x) (path_from (behind x) xs) (path_from (pen_after (behind x) xs) ys))
 
--- the path of a run that is there
-pub run_ended : (top end width : ℕ) → 0 < width → path_text (ended top end width) ≡ run_text (record { left = end - width; top = top; width = width })
-unfolding path_text
-run_ended top end zero some = absurd (omega arith)
-run_ended top end (suc n) some = append-nil (run_text (record { left = end - suc n; top = top; width = suc n }))
-
--- the path of none
-pub none_ended : (text : List ℕ) (top end width : ℕ) → width ≡ 0 → text ≡ text ++ path_text (ended top end width)
-unfolding path_text
-none_ended text top end width none = sym (ap (λ w. text ++ path_text (ended top end w)) none ∙ append-nil text)
+pub pen-append : (pen : Pen) (xs ys : List Run) → pen_after pen (xs ++ ys) ≡ pen_after (pen_after pen xs) ys
+pen-append pen [] ys = refl
+pen-append pen (x ∷ xs) ys = pen-append (behind x) xs ys
 
 -- a dark mark makes the run in front of it longer
 pub runs_dark : (top column width : ℕ) (marks : List Bool) → column < length marks → get_or marks column false ≡ true

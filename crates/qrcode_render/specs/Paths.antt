@@ -10,14 +10,43 @@ pub record Run : Type 0 where
   pub top : ℕ
   pub width : ℕ
 
--- the subpath of a run: to its upper left corner, right, down by one, left, and closed
-abbrev pub run_text : Run → List ℕ
-run_text r =
-    codes "M" ++ (decimal r.left ++ (codes " " ++ (decimal r.top ++ (codes "h" ++ (decimal r.width ++ (codes "v1h-" ++ (decimal r.width ++ codes "z")))))))
+-- where the pen stands: the column and the row at whose upper left corner
+pub record Pen : Type 0 where
+  pub column : ℕ
+  pub row : ℕ
+
+-- a relative coordinate: how far it is from one number to another, forward behind one text, or back behind another
+abbrev pub step_text : List ℕ → List ℕ → ℕ → ℕ → List ℕ
+step_text forward back from to = if nat_le from to then forward ++ decimal (to - from) else back ++ decimal (from - to)
+
+-- the subpath of a run, from where the pen stands: to the upper left corner of the run ("m", relative; a space or a minus sign stands before the second number), then lines right,
+-- down by one and left again ("h", "v", relative). Filling closes it by a line up
+abbrev pub run_text : Pen → Run → List ℕ
+run_text pen r =
+    step_text (codes "m") (codes "m-") pen.column r.left ++ (step_text (codes " ") (codes "-") pen.row r.top
+    ++ (codes "h" ++ (decimal r.width ++ (codes "v1h-" ++ decimal r.width))))
+
+-- where the pen stands behind the subpath of a run: at its lower left corner, where the last line ended
+abbrev pub behind : Run → Pen
+behind r = record { column = r.left; row = r.top + 1 }
+
+-- the path of runs, from where the pen stands
+abbrev pub path_from : Pen → List Run → List ℕ
+path_from pen [] = []
+path_from pen (r ∷ runs) = run_text pen r ++ path_from (behind r) runs
+
+-- where the pen stands behind the path of runs
+abbrev pub pen_after : Pen → List Run → Pen
+pen_after pen [] = pen
+pen_after pen (r ∷ runs) = pen_after (behind r) runs
+
+-- where the pen stands at the start
+abbrev pub start : Pen
+start = record { column = 0; row = 0 }
 
 -- the path of runs
-unfoldable pub path_text : List Run → List ℕ
-path_text runs = flat_map run_text runs
+abbrev pub path_text : List Run → List ℕ
+path_text runs = path_from start runs
 
 -- a subpath fills the cell in a column and a row
 abbrev pub covers : Run → ℕ → ℕ → Bool

@@ -1,32 +1,70 @@
 //! The runs of dark cells of the rows, as the subpaths of an SVG path.
 
-ghost use Rattle.std.specs.Prelude.{◌≡◌, ◌≤◌, ◌++◌, length, string_bytes, OnOk, IsOkUnless};
+ghost use Rattle.std.specs.Prelude.{◌≡◌, ◌^◌, ◌<◌, ◌≤◌, ◌++◌, length, string_bytes, OnOk, IsOkUnless};
 ghost use Rattle.qrcode_types.specs.declared.types.QrError.TheVariants.{OutOfMemory};
 ghost use Rattle.qrcode_render.specs.Grid.{all_columns};
-ghost use Rattle.qrcode_render.specs.Paths.{path_text, ended, runs_from, runs_of};
+ghost use Rattle.qrcode_render.specs.Paths.{step_text, path_from, path_text, pen_after, ended, runs_from, runs_of};
 
 use crate::grid::Grid;
 use qrcode_types::types::QrResult;
 use std::fmt::Write;
+use std::marker::Model;
+
+// Where the pen stands: the column and the row at whose upper left corner.
+#[derive(Drop)]
+struct Pen {
+    column: usize,
+    row: usize,
+}
+
+impl Model for Pen {
+    ghost use Rattle.qrcode_render.specs.Paths.{Pen};
+
+    ghost Value = { Pen };
+
+    ghost view = { λ p. record { column = p.column; row = p.row } };
+}
+
+// Appends how far it is from one number to another, forward behind one text, or back behind another.
+fn push_step(text: &mut String, forward: &str, back: &str, from: usize, to: usize) -> QrResult<()>
+    ensures appends { OnOk result
+        (string_bytes text.new ≡ string_bytes text.old ++ step_text forward.now back.now from to) }
+    ensures memory { IsOkUnless result OutOfMemory }
+{
+    if from <= to {
+        write!(text, "{forward}{}", to - from)?;
+    } else {
+        write!(text, "{back}{}", from - to)?;
+    }
+    Ok(())
+}
 
 // Appends the run of so many cells that ends before a column, where there are some.
-fn push_run(text: &mut String, top: usize, end: usize, width: usize) -> QrResult<()>
-    requires { width ≤ end }
-    ensures appends { OnOk result
-        (string_bytes text.new ≡ string_bytes text.old ++ path_text (ended top end width)) }
+fn push_run(text: &mut String, pen: &mut Pen, top: usize, end: usize, width: usize) -> QrResult<()>
+    requires width { width ≤ end }
+    requires row { top < 2 ^ 32 }
+    ensures appends { OnOk result (string_bytes text.new
+        ≡ string_bytes text.old ++ path_from pen.old (ended top end width)) }
+    ensures pen { OnOk result (pen.new ≡ pen_after pen.old (ended top end width)) }
     ensures memory { IsOkUnless result OutOfMemory }
 {
     if width > 0 {
         let left = end - width;
-        write!(text, "M{left} {top}h{width}v1h-{width}z")?;
+        push_step(text, "m", "m-", pen.column, left)?;
+        push_step(text, " ", "-", pen.row, top)?;
+        write!(text, "h{width}v1h-{width}")?;
+        pen.column = left;
+        pen.row = top + 1;
     }
     Ok(())
 }
 
 // Appends the runs of the marks of a row.
-fn push_row(text: &mut String, marks: &[bool], top: usize) -> QrResult<()>
-    ensures appends { OnOk result
-        (string_bytes text.new ≡ string_bytes text.old ++ path_text (runs_from top 0 0 marks.now)) }
+fn push_row(text: &mut String, pen: &mut Pen, marks: &[bool], top: usize) -> QrResult<()>
+    requires row { top < 2 ^ 32 }
+    ensures appends { OnOk result (string_bytes text.new
+        ≡ string_bytes text.old ++ path_from pen.old (runs_from top 0 0 marks.now)) }
+    ensures pen { OnOk result (pen.new ≡ pen_after pen.old (runs_from top 0 0 marks.now)) }
     ensures memory { IsOkUnless result OutOfMemory }
 {
     let mut width = 0;
@@ -34,11 +72,11 @@ fn push_row(text: &mut String, marks: &[bool], top: usize) -> QrResult<()>
         if marks[column] {
             width += 1;
         } else {
-            push_run(text, top, column, width)?;
+            push_run(text, pen, top, column, width)?;
             width = 0;
         }
     }
-    push_run(text, top, marks.len(), width)
+    push_run(text, pen, top, marks.len(), width)
 }
 
 /// Appends the runs of all rows, by marks of a row to write into. Refuses with `OutOfMemory` alone.
@@ -48,10 +86,11 @@ pub fn push_runs(text: &mut String, grid: &Grid, marks: &mut [bool]) -> QrResult
         (string_bytes text.new ≡ string_bytes text.old ++ path_text (runs_of grid.now)) }
     ensures memory { IsOkUnless result OutOfMemory }
 {
+    let mut pen = Pen { column: 0, row: 0 };
     let (_, rows) = grid.sides();
     for row in 0..rows {
         grid.mark_row(row, marks);
-        push_row(text, marks, row)?;
+        push_row(text, &mut pen, marks, row)?;
     }
     Ok(())
 }

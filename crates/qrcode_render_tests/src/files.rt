@@ -75,6 +75,8 @@ fn makes_pgm(rt: HostRuntime) -> Result<(), Fail> {
     let mut renderer = Renderer::<pgm::Grey>::new(&DIAGONAL, 2, 4);
     renderer
         .quiet_zone_modules(1)
+        .quiet_zone(false)
+        .quiet_zone(true)
         .light_color(pgm::Grey(200))
         .module_size(1);
     #[rattlefmt::skip]
@@ -125,7 +127,7 @@ fn writes_svg_of_one_path(rt: HostRuntime) -> Result<(), Fail> {
         "<?xml version=\"1.0\" standalone=\"yes\"?><svg xmlns=\"http://www.w3.org/2000/svg\" version=\"1.1\"",
         " width=\"12\" height=\"8\" viewBox=\"0 0 4 4\" preserveAspectRatio=\"none\" shape-rendering=\"crispEdges\">",
         "<rect width=\"4\" height=\"4\" fill=\"#fff\"/>",
-        "<path fill=\"a&quot;b&lt;c&amp;d>\" d=\"M1 1h2v1h-2zM2 2h1v1h-1z\"/></svg>"
+        "<path fill=\"a&quot;b&lt;c&amp;d>\" d=\"m1 1h2v1h-2m1 0h1v1h-1\"/></svg>"
     );
     writes(&rt, rt.alloc(), &renderer, expected)?;
     Ok(())
@@ -142,7 +144,7 @@ fn writes_svg_elements(rt: HostRuntime) -> Result<(), Fail> {
         text.starts_with("<svg xmlns=\"http://www.w3.org/2000/svg\" version=\"1.1\" width=\"136\"")
     );
     assert!(rt;
-        text.contains("d=\"M2 2h7v1h-7zM10 2h1v1h-1zM12 2h1v1h-1zM14 2h1v1h-1zM2 3h1v1h-1zM8 3h1")
+        text.contains("d=\"m2 2h7v1h-7m8-1h1v1h-1m2-1h1v1h-1m2-1h1v1h-1m-12 0h1v1h-1m6-1h1")
     );
     Ok(())
 }
