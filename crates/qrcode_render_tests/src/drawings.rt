@@ -1,16 +1,26 @@
-//! Drawings of modules, and what tests do with renderers.
+//! Drawings of modules.
 
-use qrcode_render::{Pixel, Renderer};
-use qrcode_types::types::{Color, QrError, QrResult};
+use qrcode_types::types::{Color, QrResult};
 use std::alloc::Global;
-use std::process::Abort;
+
+/// The modules along a side, and the letters of a drawing, `#` for dark and `.` for light.
+#[derive(Clone, Copy)]
+pub struct Drawing(pub usize, pub &'static str);
+
+/// No module.
+pub const NONE: Drawing = Drawing(0, "");
+
+/// One dark module.
+pub const DARK: Drawing = Drawing(1, "#");
 
 /// Two modules along a side, of which the first and the last are dark.
-pub const DIAGONAL: [Color; 4] = [Color::Dark, Color::Light, Color::Light, Color::Dark];
+pub const DIAGONAL: Drawing = Drawing(2, "#.\n.#");
 
 /// The symbol of `01234567` in Normal 1 at level M (ISO/IEC 18004:2006, Annex I).
-pub const NORMAL_1: &str = "
-#######..#.##.#######
+pub const NORMAL_1: Drawing = Drawing(21, NORMAL_1_LETTERS);
+
+/// Its letters, a line for each row.
+pub const NORMAL_1_LETTERS: &str = "#######..#.##.#######
 #.....#..####.#.....#
 #.###.#.#.....#.###.#
 #.###.#.##....#.###.#
@@ -28,13 +38,14 @@ pub const NORMAL_1: &str = "
 #.....#.#.#####...#.#
 #.###.#.#...#..#.##..
 #.###.#.##..#..#.....
-#.###.#.#.##.#..#.#..
+#.###.#.##.#.#..#.#..
 #.....#........##.##.
 #######.####.#..#.#..";
 
 /// The symbol of `01234567` in Micro 2 at level L (ISO/IEC 18004:2006, Annex I).
-pub const MICRO_2: &str = "
-#######.#.#.#
+pub const MICRO_2: Drawing = Drawing(
+    13,
+    "#######.#.#.#
 #.....#.###.#
 #.###.#..##.#
 #.###.#..####
@@ -46,7 +57,8 @@ pub const MICRO_2: &str = "
 .##.#.#.#.#.#
 ###..#######.
 ...#.#....##.
-###.#..##.###";
+###.#..##.###",
+);
 
 // The colour of a letter of a drawing.
 fn color(letter: u8) -> Color {
@@ -57,28 +69,8 @@ fn color(letter: u8) -> Color {
     }
 }
 
-/// The modules of a drawing, `#` being dark and `.` light.
-pub fn modules(alloc: Global, drawing: &str) -> QrResult<Vec<Color>> {
-    let letters = drawing.bytes().filter(|letter| *letter != b'\n');
+/// The modules of a drawing.
+pub fn modules(alloc: Global, letters: &str) -> QrResult<Vec<Color>> {
+    let letters = letters.bytes().filter(|letter| *letter != b'\n');
     Ok(letters.map(color).collect(alloc)?)
-}
-
-/// The picture of a renderer, or a refusal where it does not fit.
-pub fn picture<P: Pixel>(alloc: Global, renderer: &Renderer<P>) -> QrResult<P::Image> {
-    if !renderer.fits() {
-        return Err(QrError::DataTooLong);
-    }
-    renderer.build(alloc)
-}
-
-/// The renderer writes this text.
-pub fn writes<P: Pixel<Image = String>>(
-    rt: &impl Abort,
-    alloc: Global,
-    renderer: &Renderer<P>,
-    expected: &str,
-) -> QrResult<()> {
-    let text = picture(alloc, renderer)?;
-    assert_eq!(rt; text.as_str(), expected);
-    Ok(())
 }

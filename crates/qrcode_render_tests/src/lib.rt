@@ -1,4 +1,4 @@
-//! The tests of pictures: worked pictures, an element of a user, and plain code of callers.
+//! The tests of pictures: tables of worked pictures, an element of a user, and plain code of callers.
 #![tactic(auto)]
 
 #[cfg(test)]
@@ -9,6 +9,8 @@ mod drawings;
 mod files;
 #[cfg(test)]
 mod images;
+#[cfg(test)]
+mod pictures;
 #[cfg(test)]
 mod texts;
 #[cfg(test)]

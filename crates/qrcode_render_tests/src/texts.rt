@@ -1,131 +1,44 @@
 //! Pictures of characters, texts and half blocks.
 
-use crate::drawings::{DIAGONAL, MICRO_2, NORMAL_1, modules, writes};
+use crate::drawings::{DARK, DIAGONAL, MICRO_2, NONE, NORMAL_1, NORMAL_1_LETTERS};
+use crate::pictures::Colors::{Both, Usual};
+use crate::pictures::Size::{AtLeast, AtLeastSame, Default, Of, Same};
+use crate::pictures::Text::Is;
+use crate::pictures::Zone::{Off, OffAfter, On};
+use crate::pictures::{Row, Text, writes};
+use qrcode_render::Pixel;
 use qrcode_render::string::{Canvas, Element, Str};
 use qrcode_render::unicode::Dense1x2;
-use qrcode_render::{Pixel, Renderer};
 use qrcode_types::types::{Color, QrResult};
-use std::alloc::Global;
-use std::process::Abort;
-use std::test::Fail;
 
-#[test]
-fn writes_characters(rt: HostRuntime) -> Result<(), Fail> {
-    let renderer = Renderer::<char>::new(&DIAGONAL, 2, 1);
-    writes(&rt, rt.alloc(), &renderer, "    \n █  \n  █ \n    ")?;
-    Ok(())
-}
+#[rattlefmt::skip]
+static CHARACTERS: [Row<char, Text>; 7] = [
+    Row(DIAGONAL, On(1), Usual, Default, Is("    \n █  \n  █ \n    ")),
+    Row(DIAGONAL, On(0), Usual, Of(2, 1), Is("██  \n  ██")),
+    Row(NONE, On(0), Usual, Default, Is("")),
+    Row(NONE, On(1), Usual, Default, Is("  \n  ")),
+    Row(NORMAL_1, Off(4), Both('#', '.'), Of(1, 1), Is(NORMAL_1_LETTERS)),
+    // The order of setters: the quiet zone is on when the size is set, and off.
+    Row(DARK, OffAfter(1), Usual, AtLeast(10, 10), Is("████\n████\n████\n████")),
+    Row(DARK, Off(1), Usual, AtLeastSame(10), Is("██████████\n██████████\n██████████\n██████████\n██████████\n██████████\n██████████\n██████████\n██████████\n██████████")),
+];
 
-#[test]
-fn writes_no_modules(rt: HostRuntime) -> Result<(), Fail> {
-    writes(&rt, rt.alloc(), &Renderer::<char>::new(&[], 0, 0), "")?;
-    writes(&rt, rt.alloc(), &Renderer::<Dense1x2>::new(&[], 0, 0), "")?;
-    Ok(())
-}
+#[rattlefmt::skip]
+static TEXTS: [Row<Str<'static>, Text>; 1] = [
+    Row(DIAGONAL, On(1), Both(Str("!B!"), Str("A")), Of(2, 2), Is(
+        "AAAAAAAA\nAAAAAAAA\nAA!B!!B!AAAA\nAA!B!!B!AAAA\nAAAA!B!!B!AA\nAAAA!B!!B!AA\nAAAAAAAA\nAAAAAAAA"
+    )),
+];
 
-#[test]
-fn writes_a_quiet_zone(rt: HostRuntime) -> Result<(), Fail> {
-    let text = Renderer::<char>::new(&[], 0, 1).to_image(rt.alloc())?;
-    assert_eq!(rt; text.as_str(), "  \n  ");
-    Ok(())
-}
-
-#[test]
-fn writes_texts(rt: HostRuntime) -> Result<(), Fail> {
-    let mut renderer = Renderer::<Str>::new(&DIAGONAL, 2, 1);
-    renderer
-        .light_color(Str("A"))
-        .dark_color(Str("!B!"))
-        .module_dimensions(2, 2);
-    let expected =
-        "AAAAAAAA\nAAAAAAAA\nAA!B!!B!AAAA\nAA!B!!B!AAAA\nAAAA!B!!B!AA\nAAAA!B!!B!AA\nAAAAAAAA\nAAAAAAAA";
-    writes(&rt, rt.alloc(), &renderer, expected)?;
-    Ok(())
-}
-
-// So many lines of so many blocks.
-fn blocks(alloc: Global, side: usize) -> QrResult<String> {
-    let mut line = "█".repeat(alloc, side)?;
-    line.push('\n')?;
-    let mut lines = line.repeat(alloc, side)?;
-    lines.pop();
-    Ok(lines)
-}
-
-// The renderer writes so many lines of so many blocks.
-fn writes_blocks(
-    rt: &impl Abort,
-    alloc: Global,
-    renderer: &Renderer<char>,
-    side: usize,
-) -> QrResult<()> {
-    let expected = blocks(alloc, side)?;
-    writes(rt, alloc, renderer, expected.as_str())
-}
-
-#[test]
-fn minds_the_order_of_setters(rt: HostRuntime) -> Result<(), Fail> {
-    let dark = [Color::Dark];
-    let mut renderer = Renderer::<char>::new(&dark, 1, 1);
-    renderer.min_dimensions(10, 10).quiet_zone(false);
-    writes_blocks(&rt, rt.alloc(), &renderer, 4)?;
-    let mut turned = Renderer::<char>::new(&dark, 1, 1);
-    turned.quiet_zone(false).min_width(10);
-    writes_blocks(&rt, rt.alloc(), &turned, 10)?;
-    Ok(())
-}
-
-// A drawing, each of whose modules is two characters.
-fn doubled(alloc: Global, drawing: &str) -> QrResult<String> {
-    let mut text = String::new(alloc);
-    for byte in drawing.bytes().skip(1) {
-        text.push_str(match byte {
-            b'#' => "██",
-            b'.' => "  ",
-            _ => "\n",
-        })?;
-    }
-    Ok(text)
-}
-
-#[test]
-fn writes_a_symbol(rt: HostRuntime) -> Result<(), Fail> {
-    let symbol = modules(rt.alloc(), NORMAL_1)?;
-    assert!(rt; symbol.len() == 441);
-    let mut renderer = Renderer::<char>::new(&symbol, 21, 4);
-    renderer.quiet_zone(false).module_dimensions(2, 1);
-    let expected = doubled(rt.alloc(), NORMAL_1)?;
-    writes(&rt, rt.alloc(), &renderer, expected.as_str())?;
-    Ok(())
-}
-
-#[test]
-fn writes_half_blocks(rt: HostRuntime) -> Result<(), Fail> {
-    let mut renderer = Renderer::<Dense1x2>::new(&DIAGONAL, 2, 1);
-    writes(&rt, rt.alloc(), &renderer, " ▄  \n  ▀ ")?;
-    renderer.module_size(2);
-    writes(
-        &rt,
-        rt.alloc(),
-        &renderer,
-        "        \n  ██    \n    ██  \n        ",
-    )?;
-    Ok(())
-}
-
-#[test]
-fn writes_a_symbol_in_half_blocks(rt: HostRuntime) -> Result<(), Fail> {
-    let symbol = modules(rt.alloc(), MICRO_2)?;
-    assert!(rt; symbol.len() == 169);
-    let mut renderer = Renderer::<Dense1x2>::new(&symbol, 13, 2);
-    renderer
-        .dark_color(Dense1x2::Light)
-        .light_color(Dense1x2::Dark);
-    let expected =
-        "█████████████████\n██ ▄▄▄▄▄ █ ▀ █ ██\n██ █   █ ██  ▀ ██\n██ █▄▄▄█ █ ▄▄█▀██\n██▄▄▄▄▄▄▄██  ▄▄██\n██▄ ▀▄▀█▀█ █▀█ ██\n██▄▄▄▀█ ▄▄▄▄  ███\n██▄▄▄█▄██▄▄█▄▄▄██\n▀▀▀▀▀▀▀▀▀▀▀▀▀▀▀▀▀";
-    writes(&rt, rt.alloc(), &renderer, expected)?;
-    Ok(())
-}
+#[rattlefmt::skip]
+static HALF_BLOCKS: [Row<Dense1x2, Text>; 4] = [
+    Row(NONE, On(0), Usual, Default, Is("")),
+    Row(DIAGONAL, On(1), Usual, Default, Is(" ▄  \n  ▀ ")),
+    Row(DIAGONAL, On(1), Usual, Same(2), Is("        \n  ██    \n    ██  \n        ")),
+    Row(MICRO_2, On(2), Both(Dense1x2::Light, Dense1x2::Dark), Default, Is(
+        "█████████████████\n██ ▄▄▄▄▄ █ ▀ █ ██\n██ █   █ ██  ▀ ██\n██ █▄▄▄█ █ ▄▄█▀██\n██▄▄▄▄▄▄▄██  ▄▄██\n██▄ ▀▄▀█▀█ █▀█ ██\n██▄▄▄▀█ ▄▄▄▄  ███\n██▄▄▄█▄██▄▄█▄▄▄██\n▀▀▀▀▀▀▀▀▀▀▀▀▀▀▀▀▀"
+    )),
+];
 
 // A user's element: a digit of its own.
 #[derive(Clone, Copy)]
@@ -184,17 +97,22 @@ impl Pixel for Digit {
     }
 }
 
+#[rattlefmt::skip]
+static DIGITS: [Row<Digit, Text>; 2] = [
+    Row(DIAGONAL, On(0), Usual, Default, Is("110000\n000011")),
+    Row(DIAGONAL, On(0), Both(Digit(false), Digit(true)), Default, Is("000011\n110000")),
+];
+
 #[test]
-fn writes_elements_of_a_user(rt: HostRuntime) -> Result<(), Fail> {
-    let mut renderer = Renderer::<Digit>::new(&DIAGONAL, 2, 0);
-    writes(&rt, rt.alloc(), &renderer, "110000\n000011")?;
-    renderer.dark_color(Digit(false)).light_color(Digit(true));
-    writes(&rt, rt.alloc(), &renderer, "000011\n110000")?;
-    Ok(())
+fn texts_are_written(rt: HostRuntime) {
+    writes(&rt, rt.alloc(), &CHARACTERS);
+    writes(&rt, rt.alloc(), &TEXTS);
+    writes(&rt, rt.alloc(), &HALF_BLOCKS);
+    writes(&rt, rt.alloc(), &DIGITS);
 }
 
 #[test]
 fn counts_bytes_of_elements(rt: HostRuntime) {
-    assert_eq!(rt; '█'.strlen(), 3);
-    assert_eq!(rt; Str("!B!").strlen(), 3);
+    assert!(rt; '█'.strlen() == 3);
+    assert!(rt; Str("!B!").strlen() == 3);
 }

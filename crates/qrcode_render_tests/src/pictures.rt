@@ -1,0 +1,194 @@
+//! What a table of pictures has in a row: how a renderer is set, and what it draws.
+
+ghost use Rattle.std.specs.Prelude.{◌≡◌, ◌*◌, ◌≤◌, length};
+ghost use Rattle.qrcode_render.specs.Setting.{side_of};
+
+use crate::drawings::{Drawing, modules};
+use qrcode_render::image::{Channels, ImageBuffer};
+use qrcode_render::{Pixel, Renderer};
+use qrcode_types::types::Color;
+use std::alloc::Global;
+use std::process::Abort;
+
+/// The modules of a quiet zone.
+#[derive(Clone, Copy)]
+pub enum Zone {
+    /// So many.
+    On(u8),
+    /// So many, switched off.
+    Off(u8),
+    /// So many, switched off after the size of a module is set.
+    OffAfter(u8),
+    /// So many, and then so many others, which are switched off and on.
+    Changed(u8, u8),
+}
+
+/// The pixels of a module.
+#[derive(Clone, Copy)]
+pub enum Size {
+    /// Those that the pixel has by default.
+    Default,
+    /// So many, across and down alike.
+    Same(u16),
+    /// So many across and down.
+    Of(u16, u16),
+    /// The least with which the picture has so many across and down.
+    AtLeast(u16, u16),
+    /// The least with which the picture has so many, across and down alike.
+    AtLeastSame(u16),
+    /// The greatest with which the picture has at most so many across and down.
+    AtMost(u16, u16),
+}
+
+/// The pixels of dark and light.
+pub enum Colors<P> {
+    /// Those by default.
+    Usual,
+    /// This for dark modules.
+    Dark(P),
+    /// These for dark and for light modules.
+    Both(P, P),
+}
+
+/// What is drawn, behind which quiet zone, by which pixels, how large, and what the picture is.
+pub struct Row<P, E>(pub Drawing, pub Zone, pub Colors<P>, pub Size, pub E);
+
+/// What a text is.
+#[derive(Clone, Copy)]
+pub enum Text {
+    /// This.
+    Is(&'static str),
+    /// This, and more after it.
+    Starts(&'static str),
+}
+
+/// What a file is: a head, and the bytes after it.
+#[derive(Clone, Copy)]
+pub struct File(pub &'static [u8], pub &'static [u8]);
+
+/// What a picture of pixels is: its sides, the number of its bytes, and those at its start.
+#[derive(Clone, Copy)]
+pub struct Pixels(pub (u32, u32), pub usize, pub &'static [u8]);
+
+// A renderer of modules behind a quiet zone.
+fn renderer<'a, P: Pixel>(symbol: &'a [Color], side: usize, zone: Zone) -> Renderer<'a, P>
+    requires square { length symbol.now ≡ side * side }
+    requires at_most { side ≤ 177 }
+    ensures count { result.count ≡ side }
+    ensures at_most { side_of result ≤ 687 }
+{
+    let (Zone::On(first) | Zone::Off(first) | Zone::OffAfter(first) | Zone::Changed(first, _)) =
+        zone;
+    let mut renderer = Renderer::<P>::new(symbol, side, u32::from(first));
+    match zone {
+        Zone::Off(_) => {
+            renderer.quiet_zone(false);
+        }
+        Zone::Changed(_, zone) => {
+            renderer
+                .quiet_zone_modules(u32::from(zone))
+                .quiet_zone(false)
+                .quiet_zone(true);
+        }
+        Zone::On(_) | Zone::OffAfter(_) => {}
+    }
+    renderer
+}
+
+// Sets the pixels of a module.
+fn resize<P: Pixel>(renderer: &mut Renderer<P>, size: Size)
+    requires some { 1 ≤ side_of renderer.old }
+    requires at_most { side_of renderer.old ≤ 687 }
+{
+    match size {
+        Size::Default => {}
+        Size::Same(width) => {
+            renderer.module_size(u32::from(width));
+        }
+        Size::Of(width, height) => {
+            renderer.module_dimensions(u32::from(width), u32::from(height));
+        }
+        Size::AtLeast(width, height) => {
+            renderer.min_dimensions(u32::from(width), u32::from(height));
+        }
+        Size::AtLeastSame(width) => {
+            renderer.min_width(u32::from(width));
+        }
+        Size::AtMost(width, height) => {
+            renderer.max_dimensions(u32::from(width), u32::from(height));
+        }
+    }
+}
+
+// Sets the pixels of dark and light.
+fn color<P: Pixel>(renderer: &mut Renderer<P>, colors: &Colors<P>) {
+    match colors {
+        Colors::Usual => {}
+        Colors::Dark(dark) => {
+            renderer.dark_color(*dark);
+        }
+        Colors::Both(dark, light) => {
+            renderer.dark_color(*dark).light_color(*light);
+        }
+    }
+}
+
+// The picture of a row.
+fn picture<P: Pixel, E>(rt: &impl Abort, alloc: Global, row: &Row<P, E>) -> P::Image {
+    let Drawing(side, letters) = row.0;
+    let symbol = modules(alloc, letters).expect(rt, "modules");
+    assert!(rt; side <= 177 && symbol.len() == side * side);
+    let mut renderer = renderer::<P>(&symbol, side, row.1);
+    if side > 0 {
+        resize(&mut renderer, row.3);
+    }
+    if let Zone::OffAfter(_) = row.1 {
+        renderer.quiet_zone(false);
+    }
+    color(&mut renderer, &row.2);
+    assert!(rt; renderer.fits());
+    renderer.build(alloc).expect(rt, "a picture")
+}
+
+// The text is this.
+fn is_text(rt: &impl Abort, text: &str, expected: Text) {
+    let is_expected = match expected {
+        Text::Is(whole) => text == whole,
+        Text::Starts(start) => text.starts_with(start),
+    };
+    assert!(rt; is_expected, "{text}");
+}
+
+// The image has these pixels.
+fn are_pixels<P: Channels>(rt: &impl Abort, image: ImageBuffer<P>, expected: Pixels) {
+    let Pixels(sides, count, start) = expected;
+    assert!(rt; image.dimensions() == sides);
+    let bytes = image.into_raw();
+    assert!(rt;
+        bytes.len() == count && bytes.starts_with(start),
+        "at {count}"
+    );
+}
+
+/// The texts of the rows.
+pub fn writes<P: Pixel<Image = String>>(rt: &impl Abort, alloc: Global, rows: &[Row<P, Text>]) {
+    for row in rows {
+        is_text(rt, picture(rt, alloc, row).as_str(), row.4);
+    }
+}
+
+/// The files of the rows.
+pub fn makes<P: Pixel<Image = Vec<u8>>>(rt: &impl Abort, alloc: Global, rows: &[Row<P, File>]) {
+    for row in rows {
+        let File(head, bytes) = row.4;
+        let file = picture(rt, alloc, row);
+        assert!(rt; file.strip_prefix(head) == Some(bytes), "at {}", file.len());
+    }
+}
+
+/// The pixels of the rows.
+pub fn paints<P: Channels>(rt: &impl Abort, alloc: Global, rows: &[Row<P, Pixels>]) {
+    for row in rows {
+        are_pixels(rt, picture(rt, alloc, row), row.4);
+    }
+}
