@@ -6,8 +6,6 @@ use qrcode_ec::{
 use qrcode_types::tables::Blocks;
 use qrcode_types::types::{EcLevel, QrError, QrResult, Version};
 use std::alloc::Global;
-use std::process::Abort;
-use std::test::Fail;
 
 // The product by shifts, by one bit of the second factor at a time.
 fn product_by_shifts(a: u8, b: u8) -> u8 {
@@ -26,32 +24,30 @@ fn product_by_shifts(a: u8, b: u8) -> u8 {
     product
 }
 
-// The product of two bytes is this one.
-fn is_product(rt: &impl Abort, a: u8, b: u8, expected: u8) {
-    assert_eq!(rt; product(a, b), expected, "at {a}, {b}");
-}
+// Two factors and their product.
+static PRODUCTS: [(u8, u8, u8); 4] = [
+    (0x80, 0x80, 0x13),
+    (0x8e, 0x8e, 0x47),
+    (0x8e, 0x02, 0x01),
+    (0x00, 0x8e, 0x00),
+];
 
 #[test]
 fn tables_give_the_products_by_shifts(rt: HostRuntime) {
     for a in 0..=255_u8 {
         for b in 0..=255_u8 {
-            is_product(&rt, a, b, product_by_shifts(a, b));
+            assert!(rt; product(a, b) == product_by_shifts(a, b), "at {a}, {b}");
         }
-    }
-    for (a, b, expected) in [
-        (0x80, 0x80, 0x13),
-        (0x8e, 0x8e, 0x47),
-        (0x8e, 0x02, 0x01),
-        (0x00, 0x8e, 0x00),
-    ] {
-        is_product(&rt, a, b, expected);
     }
 }
 
 #[test]
-fn powers_are_those_of_the_field(rt: HostRuntime) {
-    assert_eq!(rt; power(8), 0x1d);
-    assert_eq!(rt; power(255), 1);
+fn products_and_powers_are_those_of_the_field(rt: HostRuntime) {
+    for (a, b, expected) in &PRODUCTS {
+        let products = (product(*a, *b), product_by_shifts(*a, *b));
+        assert!(rt; products == (*expected, *expected), "at {a}, {b}");
+    }
+    assert!(rt; power(8) == 0x1d && power(255) == 1);
 }
 
 // Data bytes, and their correction bytes.
@@ -67,20 +63,14 @@ static CORRECTED: [(&[u8], &[u8]); 8] = [
     (&[0x00], &[0x00, 0x00]),
 ];
 
-// The data bytes have these correction bytes.
-fn is_corrected(rt: &impl Abort, alloc: Global, data: &[u8], expected: &[u8]) -> QrResult<()> {
-    assert!(rt; expected.len() <= 69);
-    let ec = create_error_correction_code(alloc, data, expected.len())?;
-    assert_eq!(rt; ec.as_slice(), expected);
-    Ok(())
-}
-
 #[test]
-fn data_is_corrected(rt: HostRuntime) -> Result<(), Fail> {
-    for (data, expected) in CORRECTED {
-        is_corrected(&rt, rt.alloc(), data, expected)?;
+fn data_is_corrected(rt: HostRuntime) {
+    for (data, expected) in &CORRECTED {
+        assert!(rt; expected.len() <= 69);
+        let ec = create_error_correction_code(rt.alloc(), data, expected.len());
+        let ec = ec.expect(&rt, "correction bytes");
+        assert!(rt; ec.as_slice() == *expected, "of {} bytes", data.len());
     }
-    Ok(())
 }
 
 // The codewords of a version that has the level and is filled by the data.
@@ -106,16 +96,8 @@ const DATA_OF_1_M: [u8; 16] = [
 // Their correction bytes.
 const CORRECTION_OF_1_M: [u8; 10] = [0xc4, 0x23, 0x27, 0x77, 0xeb, 0xd7, 0xe7, 0xe2, 0x5d, 0x17];
 
-#[test]
-fn one_block_is_not_interleaved(rt: HostRuntime) -> Result<(), Fail> {
-    let (words, ec) = codewords(rt.alloc(), &DATA_OF_1_M, Version::Normal(1), EcLevel::M)?;
-    assert_eq!(rt; words.as_slice(), DATA_OF_1_M.as_slice());
-    assert_eq!(rt; ec.as_slice(), CORRECTION_OF_1_M.as_slice());
-    Ok(())
-}
-
 // A text's data bytes for Normal 5 at level Q.
-static DATA_OF_5_Q: [u8; 62] = [
+const DATA_OF_5_Q: [u8; 62] = [
     0x43, 0x55, 0x46, 0x86, 0x57, 0x26, 0x55, 0xc2, 0x77, 0x32, 0x06, 0x12, 0x06, 0x67, 0x26, 0xf6,
     0xf6, 0x42, 0x07, 0x76, 0x86, 0xf2, 0x07, 0x26, 0x56, 0x16, 0xc6, 0xc7, 0x92, 0x06, 0xb6, 0xe6,
     0xf7, 0x77, 0x32, 0x07, 0x76, 0x86, 0x57, 0x26, 0x52, 0x06, 0x86, 0x97, 0x32, 0x07, 0x46, 0xf7,
@@ -123,7 +105,7 @@ static DATA_OF_5_Q: [u8; 62] = [
 ];
 
 // The same by turns from each block.
-static INTERLEAVED_DATA_OF_5_Q: [u8; 62] = [
+const INTERLEAVED_DATA_OF_5_Q: [u8; 62] = [
     0x43, 0xf6, 0xb6, 0x46, 0x55, 0xf6, 0xe6, 0xf7, 0x46, 0x42, 0xf7, 0x76, 0x86, 0x07, 0x77, 0x56,
     0x57, 0x76, 0x32, 0xc2, 0x26, 0x86, 0x07, 0x06, 0x55, 0xf2, 0x76, 0x97, 0xc2, 0x07, 0x86, 0x32,
     0x77, 0x26, 0x57, 0x10, 0x32, 0x56, 0x26, 0xec, 0x06, 0x16, 0x52, 0x11, 0x12, 0xc6, 0x06, 0xec,
@@ -131,7 +113,7 @@ static INTERLEAVED_DATA_OF_5_Q: [u8; 62] = [
 ];
 
 // Their correction bytes, by turns from each block.
-static INTERLEAVED_CORRECTION_OF_5_Q: [u8; 72] = [
+const INTERLEAVED_CORRECTION_OF_5_Q: [u8; 72] = [
     0xd5, 0x57, 0x94, 0xeb, 0xc7, 0xcc, 0x74, 0x9f, 0x0b, 0x60, 0xb1, 0x05, 0x2d, 0x3c, 0xd4, 0xad,
     0x73, 0xca, 0x4c, 0x18, 0xf7, 0xb6, 0x85, 0x93, 0xf1, 0x7c, 0x4b, 0x3b, 0xdf, 0x9d, 0xf2, 0x21,
     0xe5, 0xc8, 0xee, 0x6a, 0xf8, 0x86, 0x4c, 0x28, 0x9a, 0x1b, 0xc3, 0xff, 0x75, 0x81, 0xe6, 0xac,
@@ -139,79 +121,107 @@ static INTERLEAVED_CORRECTION_OF_5_Q: [u8; 72] = [
     0x6f, 0x78, 0xc0, 0xb2, 0x27, 0x85, 0x8d, 0xec,
 ];
 
-#[test]
-fn short_and_long_blocks_are_interleaved(rt: HostRuntime) -> Result<(), Fail> {
-    let (words, ec) = codewords(rt.alloc(), &DATA_OF_5_Q, Version::Normal(5), EcLevel::Q)?;
-    assert_eq!(rt; words.as_slice(), INTERLEAVED_DATA_OF_5_Q.as_slice());
-    assert_eq!(rt; ec.as_slice(), INTERLEAVED_CORRECTION_OF_5_Q.as_slice());
-    Ok(())
-}
+// Bytes that count themselves.
+const COUNTED_34: [u8; 34] = [
+    0, 1, 2, 3, 4, 5, 6, 7, 8, 9, 10, 11, 12, 13, 14, 15, 16, 17, 18, 19, 20, 21, 22, 23, 24, 25,
+    26, 27, 28, 29, 30, 31, 32, 33,
+];
+
+// The same by turns from two blocks of 17.
+const INTERLEAVED_34: [u8; 34] = [
+    0, 17, 1, 18, 2, 19, 3, 20, 4, 21, 5, 22, 6, 23, 7, 24, 8, 25, 9, 26, 10, 27, 11, 28, 12, 29,
+    13, 30, 14, 31, 15, 32, 16, 33,
+];
+
+// Bytes that count themselves.
+const COUNTED_62: [u8; 62] = [
+    0, 1, 2, 3, 4, 5, 6, 7, 8, 9, 10, 11, 12, 13, 14, 15, 16, 17, 18, 19, 20, 21, 22, 23, 24, 25,
+    26, 27, 28, 29, 30, 31, 32, 33, 34, 35, 36, 37, 38, 39, 40, 41, 42, 43, 44, 45, 46, 47, 48, 49,
+    50, 51, 52, 53, 54, 55, 56, 57, 58, 59, 60, 61,
+];
+
+// The same by turns from two blocks of 15 and two of 16.
+const INTERLEAVED_62: [u8; 62] = [
+    0, 15, 30, 46, 1, 16, 31, 47, 2, 17, 32, 48, 3, 18, 33, 49, 4, 19, 34, 50, 5, 20, 35, 51, 6,
+    21, 36, 52, 7, 22, 37, 53, 8, 23, 38, 54, 9, 24, 39, 55, 10, 25, 40, 56, 11, 26, 41, 57, 12,
+    27, 42, 58, 13, 28, 43, 59, 14, 29, 44, 60, 45, 61,
+];
+
+// Data bytes of a version and level, the same by turns from each block, and their correction bytes by
+// turns, where they are known.
+#[rattlefmt::skip]
+static INTERLEAVED: [(Version, EcLevel, &[u8], &[u8], Option<&[u8]>); 4] = [
+    (Version::Normal(1), EcLevel::M, &DATA_OF_1_M, &DATA_OF_1_M, Some(&CORRECTION_OF_1_M)),
+    (Version::Normal(5), EcLevel::Q, &DATA_OF_5_Q, &INTERLEAVED_DATA_OF_5_Q, Some(&INTERLEAVED_CORRECTION_OF_5_Q)),
+    (Version::Normal(3), EcLevel::Q, &COUNTED_34, &INTERLEAVED_34, None),
+    (Version::Normal(5), EcLevel::Q, &COUNTED_62, &INTERLEAVED_62, None),
+];
 
 #[test]
-fn bytes_stand_in_the_order_of_blocks(rt: HostRuntime) -> Result<(), Fail> {
-    let data = [
-        0, 1, 2, 3, 4, 5, 6, 7, 8, 9, 10, 11, 12, 13, 14, 15, 16, 17, 18, 19, 20, 21, 22, 23, 24,
-        25, 26, 27, 28, 29, 30, 31, 32, 33,
-    ];
-    let (words, _) = codewords(rt.alloc(), &data, Version::Normal(3), EcLevel::Q)?;
-    assert_eq!(rt; words.len(), 34);
-    for (i, byte) in words.iter().enumerate() {
-        let expected = if i % 2 == 0 { i / 2 } else { 17 + i / 2 };
-        assert_eq!(rt; usize::from(*byte), expected, "at {i}");
-    }
-    let data = [
-        0, 1, 2, 3, 4, 5, 6, 7, 8, 9, 10, 11, 12, 13, 14, 15, 16, 17, 18, 19, 20, 21, 22, 23, 24,
-        25, 26, 27, 28, 29, 30, 31, 32, 33, 34, 35, 36, 37, 38, 39, 40, 41, 42, 43, 44, 45, 46, 47,
-        48, 49, 50, 51, 52, 53, 54, 55, 56, 57, 58, 59, 60, 61,
-    ];
-    let (words, _) = codewords(rt.alloc(), &data, Version::Normal(5), EcLevel::Q)?;
-    let words = words.as_slice();
-    assert_eq!(rt; words.len(), 62);
-    assert_eq!(rt; &words[..8], [0, 15, 30, 46, 1, 16, 31, 47].as_slice());
-    assert_eq!(rt; &words[56..], [14, 29, 44, 60, 45, 61].as_slice());
-    Ok(())
-}
-
-#[test]
-fn versions_without_the_level_are_refused(rt: HostRuntime) {
-    for (version, level) in [
-        (Version::Micro(1), EcLevel::M),
-        (Version::Micro(4), EcLevel::H),
-        (Version::Normal(41), EcLevel::L),
-    ] {
-        assert_eq!(rt;
-            max_allowed_errors(version, level),
-            Err(QrError::InvalidVersion)
+fn blocks_are_interleaved(rt: HostRuntime) {
+    for (version, level, data, words, correction) in &INTERLEAVED {
+        let found = codewords(rt.alloc(), data, *version, *level);
+        let (found, ec) = found.expect(&rt, "codewords");
+        let is_known = ec.as_slice() == correction.unwrap_or(&ec);
+        assert!(rt;
+            is_known && found.as_slice() == *words,
+            "of {} bytes",
+            data.len()
         );
     }
 }
 
-// A version, and how many errors its levels allow, from L to H.
-static ALLOWED: [(Version, [Option<usize>; 4]); 9] = [
-    (Version::Micro(1), [Some(0), None, None, None]),
-    (Version::Micro(2), [Some(1), Some(2), None, None]),
-    (Version::Micro(3), [Some(2), Some(4), None, None]),
-    (Version::Micro(4), [Some(3), Some(5), Some(7), None]),
-    (Version::Normal(1), [Some(2), Some(4), Some(6), Some(8)]),
-    (Version::Normal(2), [Some(4), Some(8), Some(11), Some(14)]),
-    (Version::Normal(3), [Some(7), Some(13), Some(18), Some(22)]),
-    (Version::Normal(4), [Some(10), Some(18), Some(26), Some(32)]),
-    (
-        Version::Normal(40),
-        [Some(375), Some(686), Some(1020), Some(1215)],
-    ),
+// A version, a level, and how many errors it allows, where the version has it.
+static ALLOWED: [(Version, EcLevel, Option<usize>); 40] = [
+    (Version::Micro(1), EcLevel::L, Some(0)),
+    (Version::Micro(1), EcLevel::M, None),
+    (Version::Micro(1), EcLevel::Q, None),
+    (Version::Micro(1), EcLevel::H, None),
+    (Version::Micro(2), EcLevel::L, Some(1)),
+    (Version::Micro(2), EcLevel::M, Some(2)),
+    (Version::Micro(2), EcLevel::Q, None),
+    (Version::Micro(2), EcLevel::H, None),
+    (Version::Micro(3), EcLevel::L, Some(2)),
+    (Version::Micro(3), EcLevel::M, Some(4)),
+    (Version::Micro(3), EcLevel::Q, None),
+    (Version::Micro(3), EcLevel::H, None),
+    (Version::Micro(4), EcLevel::L, Some(3)),
+    (Version::Micro(4), EcLevel::M, Some(5)),
+    (Version::Micro(4), EcLevel::Q, Some(7)),
+    (Version::Micro(4), EcLevel::H, None),
+    (Version::Normal(1), EcLevel::L, Some(2)),
+    (Version::Normal(1), EcLevel::M, Some(4)),
+    (Version::Normal(1), EcLevel::Q, Some(6)),
+    (Version::Normal(1), EcLevel::H, Some(8)),
+    (Version::Normal(2), EcLevel::L, Some(4)),
+    (Version::Normal(2), EcLevel::M, Some(8)),
+    (Version::Normal(2), EcLevel::Q, Some(11)),
+    (Version::Normal(2), EcLevel::H, Some(14)),
+    (Version::Normal(3), EcLevel::L, Some(7)),
+    (Version::Normal(3), EcLevel::M, Some(13)),
+    (Version::Normal(3), EcLevel::Q, Some(18)),
+    (Version::Normal(3), EcLevel::H, Some(22)),
+    (Version::Normal(4), EcLevel::L, Some(10)),
+    (Version::Normal(4), EcLevel::M, Some(18)),
+    (Version::Normal(4), EcLevel::Q, Some(26)),
+    (Version::Normal(4), EcLevel::H, Some(32)),
+    (Version::Normal(40), EcLevel::L, Some(375)),
+    (Version::Normal(40), EcLevel::M, Some(686)),
+    (Version::Normal(40), EcLevel::Q, Some(1020)),
+    (Version::Normal(40), EcLevel::H, Some(1215)),
+    (Version::Normal(41), EcLevel::L, None),
+    (Version::Normal(41), EcLevel::M, None),
+    (Version::Normal(41), EcLevel::Q, None),
+    (Version::Normal(41), EcLevel::H, None),
 ];
-
-// The errors that the levels of a version allow, from L to H.
-fn allowed(version: Version) -> [Option<usize>; 4] {
-    [EcLevel::L, EcLevel::M, EcLevel::Q, EcLevel::H].map(|level| max_allowed_errors(
-        version, level,
-    ).ok())
-}
 
 #[test]
 fn errors_are_allowed(rt: HostRuntime) {
-    for (version, expected) in ALLOWED {
-        assert!(rt; allowed(version) == expected, "at {version:?}");
+    for (row, (version, level, count)) in ALLOWED.iter().enumerate() {
+        let expected = count.ok_or(QrError::InvalidVersion);
+        assert!(rt;
+            max_allowed_errors(*version, *level) == expected,
+            "in row {row}"
+        );
     }
 }
