@@ -13,7 +13,7 @@ use std::alloc::Global;
 use std::process::Abort;
 
 // Kinds of squares, each given by which of its places are dark.
-#[derive(Copy, Clone, Debug)]
+#[derive(Copy, Clone)]
 enum Kind {
     Light,
     Dark,
@@ -47,14 +47,14 @@ impl Kind {
     }
 
     // The square of this kind with so many places along a side.
-    fn square(self, alloc: Global, width: usize) -> Read<Square> {
+    fn square(self, rt: &impl Abort, alloc: Global, width: usize) -> Square {
         let mut modules = Vec::new(alloc);
         for y in 0..width {
             for x in 0..width {
-                modules.push(self.is_dark(x, y))?;
+                modules.push(self.is_dark(x, y)).expect(rt, "a module");
             }
         }
-        Ok(Square { width, modules })
+        Square { width, modules }
     }
 }
 
@@ -146,7 +146,7 @@ fn packed_in<R: PackedRow>(alloc: Global, square: &Square, width: u32) -> Read<(
 }
 
 // The types of rows.
-#[derive(Copy, Clone, Debug)]
+#[derive(Copy, Clone)]
 enum Rows {
     OneWord,
     TwoWords,
@@ -179,29 +179,42 @@ fn penalties_in(rt: &impl Abort, alloc: Global, square: &Square, rows: Rows) -> 
     let found = packed(alloc, square, rows).expect(rt, "rows");
     let normal = Penalty::of_normal(square).sum(None);
     let micro = Penalty::of_micro(square).sum(None);
-    assert_eq!(rt; found, (normal, micro), "{} in {rows:?}", square.width);
+    assert!(rt; found == (normal, micro), "at {}", square.width);
     found
 }
 
+// Kinds of squares that are drawn with many sides.
+static KINDS: [Kind; 5] = [
+    Kind::Light,
+    Kind::Dark,
+    Kind::Mixed,
+    Kind::Finders,
+    Kind::Runs,
+];
+
+// Types of rows, and sides that they have room for.
+static SIDES: [(Rows, usize); 13] = [
+    (Rows::OneWord, 11),
+    (Rows::OneWord, 13),
+    (Rows::OneWord, 15),
+    (Rows::OneWord, 17),
+    (Rows::OneWord, 21),
+    (Rows::OneWord, 45),
+    (Rows::OneWord, 61),
+    (Rows::TwoWords, 21),
+    (Rows::TwoWords, 65),
+    (Rows::TwoWords, 125),
+    (Rows::ThreeWords, 21),
+    (Rows::ThreeWords, 129),
+    (Rows::ThreeWords, 177),
+];
+
 #[test]
 fn packed_as_by_the_judge(rt: HostRuntime) {
-    let alloc = rt.alloc();
-    for kind in [
-        Kind::Light,
-        Kind::Dark,
-        Kind::Mixed,
-        Kind::Finders,
-        Kind::Runs,
-    ] {
-        for (rows, widths) in [
-            (Rows::OneWord, [11, 13, 15, 17, 21, 45, 61].as_slice()),
-            (Rows::TwoWords, [21, 65, 125].as_slice()),
-            (Rows::ThreeWords, [21, 129, 177].as_slice()),
-        ] {
-            for width in widths {
-                let square = kind.square(alloc, *width).expect(&rt, "a square");
-                penalties_in(&rt, alloc, &square, rows);
-            }
+    for kind in &KINDS {
+        for (rows, width) in &SIDES {
+            let square = kind.square(&rt, rt.alloc(), *width);
+            penalties_in(&rt, rt.alloc(), &square, *rows);
         }
     }
 }
@@ -220,11 +233,11 @@ static KNOWN: [(Kind, usize, Option<u32>, Option<u32>); 6] = [
 
 #[test]
 fn known_penalties(rt: HostRuntime) {
-    for (kind, width, normal, micro) in KNOWN {
-        let square = kind.square(rt.alloc(), width).expect(&rt, "a square");
+    for (kind, width, normal, micro) in &KNOWN {
+        let square = kind.square(&rt, rt.alloc(), *width);
         let found = penalties(&rt, rt.alloc(), &square);
-        assert_eq!(rt; found.0, normal.unwrap_or(found.0), "{kind:?}");
-        assert_eq!(rt; found.1, micro.unwrap_or(found.1), "{kind:?}");
+        let expected = (normal.unwrap_or(found.0), micro.unwrap_or(found.1));
+        assert!(rt; found == expected, "{} and {}", found.0, found.1);
     }
 }
 
@@ -242,9 +255,10 @@ static ACROSS_WORDS: [(Kind, Term, u32); 7] = [
 
 #[test]
 fn lines_across_words(rt: HostRuntime) {
-    for (kind, term, cost) in ACROSS_WORDS {
-        let square = kind.square(rt.alloc(), 177).expect(&rt, "a square");
-        assert_eq!(rt; Penalty::of_normal(&square).term(term), cost, "{kind:?}");
+    for (kind, term, cost) in &ACROSS_WORDS {
+        let square = kind.square(&rt, rt.alloc(), 177);
+        let found = Penalty::of_normal(&square).term(*term);
+        assert!(rt; found == *cost, "{found}");
         penalties(&rt, rt.alloc(), &square);
     }
 }

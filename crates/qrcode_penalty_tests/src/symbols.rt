@@ -6,7 +6,6 @@ use qrcode_symbol::canvas::{Canvas, MaskPattern};
 use qrcode_types::types::{Color, EcLevel, QrError, QrResult, Version};
 use std::alloc::Global;
 use std::process::Abort;
-use std::test::Fail;
 
 // The masks in the order of their numbers, in Normal and in Micro.
 static NORMAL_MASKS: [MaskPattern; 8] = [
@@ -37,14 +36,22 @@ fn masks(version: Version) -> &'static [MaskPattern] {
 // Codewords of data and of error correction.
 type Codewords<'a> = (&'a [u8], &'a [u8]);
 
-// Which places of a symbol are dark under a mask, or under its best mask.
-fn places(
+// A square of a version.
+fn square(version: Version, modules: Vec<bool>) -> Square {
+    Square {
+        width: width_of(version),
+        modules,
+    }
+}
+
+// The square of a symbol under a mask, or under its best mask.
+fn drawn(
     alloc: Global,
     version: Version,
     ec_level: EcLevel,
     (data, ec): Codewords<'_>,
     mask: Option<MaskPattern>,
-) -> QrResult<Vec<bool>> {
+) -> QrResult<Square> {
     if !version.is_valid() || !version.has_level(ec_level) {
         return Err(QrError::InvalidVersion);
     }
@@ -56,43 +63,32 @@ fn places(
         Some(_) => return Err(QrError::InvalidVersion),
         None => canvas = canvas.apply_best_mask(alloc)?,
     }
-    canvas.to_bools(alloc)
+    Ok(square(version, canvas.to_bools(alloc)?))
 }
 
-// What a symbol of these places costs.
-fn cost(rt: &impl Abort, alloc: Global, version: Version, places: Vec<bool>) -> u32 {
-    let square = Square {
-        width: width_of(version),
-        modules: places,
-    };
-    let (normal, micro) = penalties(rt, alloc, &square);
+// What a symbol's square costs.
+fn cost(rt: &impl Abort, alloc: Global, version: Version, square: &Square) -> u32 {
+    let (normal, micro) = penalties(rt, alloc, square);
     match version {
         Version::Normal(_) => normal,
         Version::Micro(_) => micro,
     }
 }
 
-// What a symbol costs under each mask.
-fn costs(
-    rt: &impl Abort,
-    alloc: Global,
-    version: Version,
-    ec_level: EcLevel,
-    codewords: Codewords<'_>,
-) -> QrResult<Vec<u32>> {
-    let mut costs = Vec::new(alloc);
+// The modules of a symbol under the first of the masks under which it costs least.
+fn least(rt: &impl Abort, alloc: Global, version: Version, data: &[u8]) -> Vec<bool> {
+    let mut least = u32::MAX;
+    let mut modules = Vec::new(alloc);
     for mask in masks(version) {
-        let places = places(alloc, version, ec_level, codewords, Some(*mask))?;
-        costs.push(cost(rt, alloc, version, places))?;
+        let square = drawn(alloc, version, EcLevel::L, (data, &[]), Some(*mask));
+        let square = square.expect(rt, "a symbol");
+        let cost = cost(rt, alloc, version, &square);
+        if cost < least {
+            least = cost;
+            modules = square.modules;
+        }
     }
-    Ok(costs)
-}
-
-// The first mask of least cost.
-fn first_least(version: Version, costs: &[u32]) -> Option<MaskPattern> {
-    let least = costs.iter().min()?;
-    let first = costs.iter().position(|cost| cost == least)?;
-    masks(version).get(first).copied()
+    modules
 }
 
 static VERSIONS: [Version; 8] = [
@@ -107,31 +103,32 @@ static VERSIONS: [Version; 8] = [
 ];
 
 #[test]
-fn packed_costs_are_plain(rt: HostRuntime) -> Result<(), Fail> {
-    let data = [0x5a, 0x93, 0x6c, 0x11, 0xf0, 0x3d, 0x80].repeat(rt.alloc(), 530)?;
-    for version in VERSIONS {
-        let codewords: Codewords<'_> = (&data, &[]);
-        let costs = costs(&rt, rt.alloc(), version, EcLevel::L, codewords)?;
-        let first = first_least(version, &costs);
-        assert!(rt; first.is_some());
-        let under_first = places(rt.alloc(), version, EcLevel::L, codewords, first)?;
-        let best = places(rt.alloc(), version, EcLevel::L, codewords, None)?;
-        assert!(rt; best == under_first, "{version:?}");
+fn packed_costs_are_plain(rt: HostRuntime) {
+    let data = [0x5a, 0x93, 0x6c, 0x11, 0xf0, 0x3d, 0x80].repeat(rt.alloc(), 530);
+    let data = data.expect(&rt, "data");
+    for version in &VERSIONS {
+        let best = drawn(rt.alloc(), *version, EcLevel::L, (&data, &[]), None);
+        let best = best.expect(&rt, "a symbol");
+        assert!(rt;
+            best.modules == least(&rt, rt.alloc(), *version, &data),
+            "{}",
+            best.width
+        );
     }
-    Ok(())
 }
 
 // A symbol whose penalty is published, in parts: runs 88 and 92, blocks 90, finder forms 360 and 400,
 // balance 2.
+static KNOWN: Codewords<'static> = (
+    b"\x20\x5b\x0b\x78\xd1\x72\xdc\x4d\x43\x40\xec\x11\x00",
+    b"\xa8\x48\x16\x52\xd9\x36\x9c\x00\x2e\x0f\xb4\x7a\x10",
+);
+
 #[test]
-fn a_known_symbol_has_its_penalty(rt: HostRuntime) -> Result<(), Fail> {
-    let codewords: Codewords<'_> = (
-        b"\x20\x5b\x0b\x78\xd1\x72\xdc\x4d\x43\x40\xec\x11\x00",
-        b"\xa8\x48\x16\x52\xd9\x36\x9c\x00\x2e\x0f\xb4\x7a\x10",
-    );
-    let costs = costs(&rt, rt.alloc(), Version::Normal(1), EcLevel::Q, codewords)?;
-    assert_eq!(rt; costs.first(), Some(&1032));
-    Ok(())
+fn a_known_symbol_has_its_penalty(rt: HostRuntime) {
+    let (version, mask) = (Version::Normal(1), Some(MaskPattern::Checkerboard));
+    let square = drawn(rt.alloc(), version, EcLevel::Q, KNOWN, mask).expect(&rt, "a symbol");
+    assert!(rt; cost(&rt, rt.alloc(), version, &square) == 1032);
 }
 
 // The last row and the last column of a square, of which the corner is the last of both.
@@ -147,8 +144,8 @@ fn color(letter: u8) -> Color {
     }
 }
 
-// Which places of Micro 4 are dark under a mask, where only the last row and column are drawn.
-fn places_of_lines(alloc: Global, mask: MaskPattern) -> QrResult<Vec<bool>> {
+// The square of Micro 4 under a mask, where only the last row and column are drawn.
+fn lines(alloc: Global, mask: MaskPattern) -> QrResult<Square> {
     let version = Version::Micro(4);
     let mut canvas = Canvas::new(alloc, version, EcLevel::Q)?;
     for i in 0..17i16 {
@@ -159,16 +156,15 @@ fn places_of_lines(alloc: Global, mask: MaskPattern) -> QrResult<Vec<bool>> {
         return Err(QrError::InvalidVersion);
     }
     canvas.apply_mask(mask);
-    canvas.to_bools(alloc)
+    Ok(square(version, canvas.to_bools(alloc)?))
 }
 
 // They are fixed, and so cost the same under each mask.
 #[test]
-fn a_known_row_and_column_have_their_penalty(rt: HostRuntime) -> Result<(), Fail> {
-    for mask in MICRO_MASKS {
-        let places = places_of_lines(rt.alloc(), mask)?;
-        let cost = cost(&rt, rt.alloc(), Version::Micro(4), places);
-        assert_eq!(rt; cost, 168, "{mask:?}");
+fn a_known_row_and_column_have_their_penalty(rt: HostRuntime) {
+    for mask in &MICRO_MASKS {
+        let square = lines(rt.alloc(), *mask).expect(&rt, "a symbol");
+        let cost = cost(&rt, rt.alloc(), Version::Micro(4), &square);
+        assert!(rt; cost == 168, "{cost}");
     }
-    Ok(())
 }
