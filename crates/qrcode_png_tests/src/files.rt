@@ -1,13 +1,12 @@
-//! The files, and the line of each.
-
-ghost use Rattle.std.specs.Prelude.{◌<◌, ◌^◌};
+//! The files, and the line of each: its name, and its bytes or how many there are and their check.
 
 use qrcode::types::{EcLevel, QrError, Version};
 use qrcode::{QrCode, QrResult};
 use qrcode_deflate::sums::crc;
 use qrcode_png::Color;
-use std::alloc::{AllocError, AllocFailed, Global};
+use std::alloc::{AllocError, Global};
 use std::io;
+use std::io::Print;
 use thiserror::Error;
 
 /// Why there is no line.
@@ -33,19 +32,13 @@ impl From<AllocError> for Fault {
     }
 }
 
-impl From<AllocFailed<Named>> for Fault {
-    fn from(_failed: AllocFailed<Named>) -> Fault {
-        Fault::Qr(QrError::OutOfMemory)
-    }
-}
-
 impl From<io::Error> for Fault {
     fn from(_error: io::Error) -> Fault {
         Fault::Stream
     }
 }
 
-const LEVELS: [(EcLevel, char); 4] = [
+static LEVELS: [(EcLevel, char); 4] = [
     (EcLevel::L, 'L'),
     (EcLevel::M, 'M'),
     (EcLevel::Q, 'Q'),
@@ -56,53 +49,70 @@ const BLACK: Color = Color([0, 0, 0, 255]);
 
 const WHITE: Color = Color([255, 255, 255, 255]);
 
-/// A file and its name.
-#[derive(Drop)]
-pub struct Named {
-    name: String,
-    bytes: Vec<u8>,
-}
-
-impl Named {
-    /// The name and the bytes, or how many there are and their check.
-    pub fn line(&self, alloc: Global, wants_bytes: bool) -> Result<String, Fault> {
-        let (name, bytes) = (self.name.as_str(), &self.bytes);
-        if !wants_bytes {
-            return Ok(format!(in alloc; "{name} {} {:08x}", bytes.len(), crc(bytes))?);
-        }
-        let mut line = format!(in alloc; "{name} ")?;
-        for byte in bytes {
-            line.push_str(format!(in alloc; "{byte:02x}")?.as_str())?;
-        }
-        Ok(line)
-    }
-}
-
-/// A file of each pair of a version and a level that there is, with three pixels a module.
-pub fn pairs(alloc: Global) -> Result<Vec<Named>, Fault> {
-    let mut files = Vec::new(alloc);
+/// Writes the lines of files: one of each pair of a version and a level that there is, with three pixels
+/// a module, and those of one symbol in other sizes and in other colours, and of bytes by chance.
+pub fn write_all(rt: &impl Print, alloc: Global, wants_bytes: bool) -> Result<(), Fault> {
     for number in 1..=40 {
-        for (level, letter) in LEVELS {
-            let name = format!(in alloc; "normal-{number}-{letter}")?;
-            let bytes = file(alloc, Version::Normal(number), level, 3, BLACK, WHITE)?;
-            files.push(Named { name, bytes })?;
+        write_version(
+            rt,
+            alloc,
+            "normal",
+            Version::Normal(number),
+            number,
+            wants_bytes,
+        )?;
+    }
+    for number in 1..=4 {
+        write_version(
+            rt,
+            alloc,
+            "micro",
+            Version::Micro(number),
+            number,
+            wants_bytes,
+        )?;
+    }
+    write_sizes(rt, alloc, wants_bytes)?;
+    write_colors(rt, alloc, wants_bytes)?;
+    write_chance(rt, alloc, wants_bytes)
+}
+
+// Writes the end of a line: the bytes, or how many there are and their check.
+fn write_bytes(rt: &impl Print, bytes: &[u8], wants_bytes: bool) -> io::Result<()> {
+    if !wants_bytes {
+        return println!(rt; " {} {:08x}", bytes.len(), crc(bytes));
+    }
+    print!(rt; " ")?;
+    for byte in bytes {
+        print!(rt; "{byte:02x}")?;
+    }
+    println!(rt; "")
+}
+
+// Writes the lines of a version's levels.
+fn write_version(
+    rt: &impl Print,
+    alloc: Global,
+    kind: &str,
+    version: Version,
+    number: i16,
+    wants_bytes: bool,
+) -> Result<(), Fault> {
+    for (level, letter) in &LEVELS {
+        if version.has_level(*level) {
+            let file = file(alloc, version, *level, 3, BLACK, WHITE)?;
+            print!(rt; "{kind}-{number}-{letter}")?;
+            write_bytes(rt, &file, wants_bytes)?;
         }
     }
-    for (number, levels) in [(1, 1), (2, 2), (3, 2), (4, 3)] {
-        for (level, letter) in &LEVELS[..levels] {
-            let name = format!(in alloc; "micro-{number}-{letter}")?;
-            let bytes = file(alloc, Version::Micro(number), *level, 3, BLACK, WHITE)?;
-            files.push(Named { name, bytes })?;
-        }
-    }
-    Ok(files)
+    Ok(())
 }
 
 // What is drawn by size: the pixels of a module.
-const SIZES: [u32; 10] = [1, 2, 4, 5, 7, 8, 9, 10, 16, 33];
+static SIZES: [u16; 10] = [1, 2, 4, 5, 7, 8, 9, 10, 16, 33];
 
 // What is drawn by colours: of dark modules and of light ones.
-const COLORS: [(Color, Color); 5] = [
+static COLORS: [(Color, Color); 5] = [
     (Color([0, 0, 128, 255]), Color([255, 240, 200, 255])),
     (BLACK, Color([255, 255, 255, 0])),
     (Color([120, 0, 0, 200]), Color([1, 2, 3, 4])),
@@ -111,7 +121,7 @@ const COLORS: [(Color, Color); 5] = [
 ];
 
 // What is drawn of bytes by chance: how many they are, and the pixels of a module.
-const BYTES: [(usize, u32); 4] = [(100, 8), (2331, 3), (2331, 8), (2331, 10)];
+static BYTES: [(usize, u16); 4] = [(100, 8), (2331, 3), (2331, 8), (2331, 10)];
 
 // Bytes by chance: the powers of 75 modulo 65,537, each modulo 256.
 fn chance(alloc: Global, count: usize) -> Result<Vec<u8>, AllocError> {
@@ -124,26 +134,42 @@ fn chance(alloc: Global, count: usize) -> Result<Vec<u8>, AllocError> {
     Ok(bytes)
 }
 
-/// Files of one symbol in other sizes and in other colours, and of bytes by chance.
-pub fn looks(alloc: Global) -> Result<Vec<Named>, Fault> {
-    let mut files = Vec::new(alloc);
-    for size in SIZES {
-        let name = format!(in alloc; "size-{size}")?;
-        let bytes = file(alloc, Version::Normal(2), EcLevel::M, size, BLACK, WHITE)?;
-        files.push(Named { name, bytes })?;
+// Writes the lines of one symbol in other sizes.
+fn write_sizes(rt: &impl Print, alloc: Global, wants_bytes: bool) -> Result<(), Fault> {
+    for size in &SIZES {
+        let file = file(alloc, Version::Normal(2), EcLevel::M, *size, BLACK, WHITE)?;
+        print!(rt; "size-{size}")?;
+        write_bytes(rt, &file, wants_bytes)?;
     }
-    for (number, (dark, light)) in COLORS.into_iter().enumerate() {
-        let name = format!(in alloc; "colors-{number}")?;
-        let bytes = file(alloc, Version::Normal(2), EcLevel::M, 3, dark, light)?;
-        files.push(Named { name, bytes })?;
+    Ok(())
+}
+
+// Writes the lines of one symbol in other colours.
+fn write_colors(rt: &impl Print, alloc: Global, wants_bytes: bool) -> Result<(), Fault> {
+    for (number, (dark, light)) in COLORS.iter().enumerate() {
+        let file = file(alloc, Version::Normal(2), EcLevel::M, 3, *dark, *light)?;
+        print!(rt; "colors-{number}")?;
+        write_bytes(rt, &file, wants_bytes)?;
     }
-    for (count, size) in BYTES {
-        let name = format!(in alloc; "bytes-{count}-{size}")?;
-        let code = QrCode::with_error_correction_level(alloc, &chance(alloc, count)?, EcLevel::M)?;
-        let bytes = code.render::<Color>().module_size(size).build(alloc)?;
-        files.push(Named { name, bytes })?;
+    Ok(())
+}
+
+// Writes the lines of bytes by chance.
+fn write_chance(rt: &impl Print, alloc: Global, wants_bytes: bool) -> Result<(), Fault> {
+    for (count, size) in &BYTES {
+        let file = file_of(alloc, &chance(alloc, *count)?, *size)?;
+        print!(rt; "bytes-{count}-{size}")?;
+        write_bytes(rt, &file, wants_bytes)?;
     }
-    Ok(files)
+    Ok(())
+}
+
+// The file of bytes, at level M.
+fn file_of(alloc: Global, bytes: &[u8], size: u16) -> QrResult<Vec<u8>> {
+    let code = QrCode::with_error_correction_level(alloc, bytes, EcLevel::M)?;
+    code.render::<Color>()
+        .module_size(u32::from(size))
+        .build(alloc)
 }
 
 // The file of five digits.
@@ -151,16 +177,14 @@ fn file(
     alloc: Global,
     version: Version,
     level: EcLevel,
-    size: u32,
+    size: u16,
     dark: Color,
     light: Color,
-) -> QrResult<Vec<u8>>
-    requires { size < 2 ^ 16 }
-{
+) -> QrResult<Vec<u8>> {
     let code = QrCode::with_version(alloc, b"12345", version, level)?;
     code.render::<Color>()
         .dark_color(dark)
         .light_color(light)
-        .module_size(size)
+        .module_size(u32::from(size))
         .build(alloc)
 }

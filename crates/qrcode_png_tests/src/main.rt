@@ -5,10 +5,8 @@
 
 mod files;
 
-use files::{Fault, looks, pairs};
-use std::alloc::Global;
+use files::write_all;
 use std::env;
-use std::io::Print;
 use std::process::ExitCode;
 
 fn main(rt: HostRuntime) -> ExitCode {
@@ -16,22 +14,11 @@ fn main(rt: HostRuntime) -> ExitCode {
         Ok(mut args) => args.nth(1).is_some(),
         Err(_) => false,
     };
-    match run(&rt, rt.alloc(), wants_files) {
+    match write_all(&rt, rt.alloc(), wants_files) {
         Ok(()) => ExitCode::SUCCESS,
         Err(fault) => {
             let _ = eprintln!(rt; "{fault}");
             ExitCode::FAILURE
         }
     }
-}
-
-// Writes the lines of all files.
-fn run(rt: &impl Print, alloc: Global, wants_files: bool) -> Result<(), Fault> {
-    for file in pairs(alloc)? {
-        println!(rt; "{}", file.line(alloc, wants_files)?.as_str())?;
-    }
-    for file in looks(alloc)? {
-        println!(rt; "{}", file.line(alloc, wants_files)?.as_str())?;
-    }
-    Ok(())
 }
