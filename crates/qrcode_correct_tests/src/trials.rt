@@ -1,6 +1,6 @@
 //! Blocks that are damaged by chance, corrected here and by the judge.
 
-ghost use Rattle.std.specs.Prelude.{ℕ, ◌+◌, ◌<◌, ◌≤◌, IfOk, vec_len};
+ghost use Rattle.std.specs.Prelude.{◌<◌, ◌≤◌};
 
 use qrcode_correct::correct;
 use qrcode_ec::create_error_correction_code;
@@ -8,7 +8,6 @@ use qrcode_judge::field;
 use qrcode_types::types::QrResult;
 use std::alloc::Global;
 use std::process::Abort;
-use std::test::Fail;
 
 // Numbers by chance, the same in each run.
 #[derive(Drop)]
@@ -42,9 +41,9 @@ static COUNTS: [usize; 24] = [
 fn block(alloc: Global, chance: &mut Chance, length: usize, n: usize) -> QrResult<Vec<u8>>
     requires { n ≤ 69 }
 {
-    let mut bytes = Vec::new(alloc);
-    for _ in n..length {
-        bytes.push(chance.byte())?;
+    let mut bytes = vec![in alloc; 0; length.saturating_sub(n)]?;
+    for byte in &mut bytes {
+        *byte = chance.byte();
     }
     let ec = create_error_correction_code(alloc, &bytes, n)?;
     bytes.extend_from_slice(&ec)?;
@@ -63,28 +62,23 @@ fn damage(chance: &mut Chance, bytes: &mut [u8], count: usize) {
 }
 
 // The judge and the corrector say the same of a block. Whether it can be corrected.
-fn agree(rt: &impl Abort, alloc: Global, bytes: &[u8], n: usize) -> Result<bool, Fail> {
+fn agree(rt: &impl Abort, alloc: Global, bytes: &[u8], n: usize) -> bool {
     assert!(rt; n <= 69 && bytes.len() <= 255);
-    let mut own = Vec::from_slice(alloc, bytes)?;
+    let mut own = Vec::from_slice(alloc, bytes).expect(rt, "a copy");
     let answer = correct(&mut own, n);
-    match field::correct(alloc, bytes, n) {
-        Ok((judged, wrong)) => {
-            assert_eq!(rt; answer, Ok(wrong));
-            assert_eq!(rt; own, judged);
-        }
-        Err(_) => {
-            assert!(rt; answer.is_err());
-            assert_eq!(rt; own.as_slice(), bytes);
-        }
-    }
-    Ok(answer.is_ok())
+    let is_same = match field::correct(alloc, bytes, n) {
+        Ok((judged, wrong)) => answer == Ok(wrong) && own == judged,
+        Err(_) => answer.is_err() && own.as_slice() == bytes,
+    };
+    assert!(rt; is_same, "with {n}");
+    answer.is_ok()
 }
 
 // One trial with n error correction bytes: damage from none to beyond the bound.
-fn trial(rt: &impl Abort, alloc: Global, chance: &mut Chance, n: usize) -> Result<bool, Fail> {
+fn trial(rt: &impl Abort, alloc: Global, chance: &mut Chance, n: usize) -> bool {
     assert!(rt; n <= 69);
     let length = chance.below(256);
-    let mut bytes = block(alloc, chance, length, n)?;
+    let mut bytes = block(alloc, chance, length, n).expect(rt, "a block");
     bytes.truncate(255);
     let count = chance.below(n / 2 + 4);
     damage(chance, &mut bytes, count);
@@ -92,30 +86,28 @@ fn trial(rt: &impl Abort, alloc: Global, chance: &mut Chance, n: usize) -> Resul
 }
 
 #[test]
-fn the_judge_and_the_corrector_agree(rt: HostRuntime) -> Result<(), Fail> {
+fn the_judge_and_the_corrector_agree(rt: HostRuntime) {
     let mut chance = Chance { state: 18004 };
     let mut corrected = 0_usize;
     for _ in 0..100_u32 {
         for n in &COUNTS {
-            if trial(&rt, rt.alloc(), &mut chance, *n)? {
+            if trial(&rt, rt.alloc(), &mut chance, *n) {
                 corrected = corrected.wrapping_add(1);
             }
         }
     }
     assert!(rt; 1000 < corrected && corrected < 2300, "{corrected}");
-    Ok(())
 }
 
 // Noise: no block at all, and short ones, which may lie near a list that vanishes.
 #[test]
-fn they_agree_on_noise(rt: HostRuntime) -> Result<(), Fail> {
+fn they_agree_on_noise(rt: HostRuntime) {
     let mut chance = Chance { state: 2006 };
     for n in &COUNTS {
         for length in 0..40_usize {
-            let mut bytes = vec![in rt.alloc(); 0; length]?;
+            let mut bytes = vec![in rt.alloc(); 0; length].expect(&rt, "bytes");
             damage(&mut chance, &mut bytes, length);
-            agree(&rt, rt.alloc(), &bytes, *n)?;
+            agree(&rt, rt.alloc(), &bytes, *n);
         }
     }
-    Ok(())
 }
