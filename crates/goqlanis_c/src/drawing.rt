@@ -1,8 +1,16 @@
 //! Pictures of modules.
 
-ghost use Rattle.std.specs.Prelude.{◌≡◌, ℕ, ◌+◌, ◌*◌, ◌^◌, ◌<◌, ◌≤◌, length, string_bytes, IfOk, IsOkUnless, IsTrue};
+ghost use Rattle.std.specs.Prelude.{◌≡◌, ◌+◌, ◌*◌, ◌^◌, ◌<◌, ◌≤◌, true, false, [], ◌∷◌, length, codes, None, IfOk, IsOkUnless};
 ghost use Rattle.qrcode_types.specs.declared.types.QrError.TheVariants.{OutOfMemory};
-ghost use Rattle.goqlanis_c.specs.Drawings.{format_named, colors_of, IsDrawn};
+ghost use Rattle.qrcode_png.specs.Shown.{IsFileOf};
+ghost use Rattle.qrcode_render.specs.Eps.{eps_text};
+ghost use Rattle.qrcode_render.specs.Files.{pbm_file};
+ghost use Rattle.qrcode_render.specs.Half.{is_dark_half};
+ghost use Rattle.qrcode_render.specs.Layout.{layout};
+ghost use Rattle.qrcode_render.specs.Picture.{picture};
+ghost use Rattle.qrcode_render.specs.Texts.{dense_text, raw_bytes};
+ghost use Rattle.qrcode_render.specs.Vectors.{svg_text, pic_text};
+ghost use Rattle.goqlanis_c.specs.Drawings.{format_named, colors_of, black, white, eps_grey, IsDrawn};
 
 use qrcode::render::image::Luma;
 use qrcode::render::pbm::Bit;
@@ -73,6 +81,137 @@ fn color_all(colors: &mut [Color], modules: &[u8])
     }
 }
 
+// The text of half blocks, where dark pixels are drawn so and light ones so.
+fn half_blocks(
+    alloc: Global,
+    colors: &[Color],
+    width: usize,
+    zone: u32,
+    scale: u32,
+    dark: Dense1x2,
+    light: Dense1x2,
+) -> QrResult<Vec<u8>>
+    requires square { length colors.now ≡ width * width }
+    requires side { width + 2 * zone < 2 ^ 16 }
+    requires scale { scale < 2 ^ 16 }
+    requires positive { 1 ≤ scale }
+    ensures drawing { IfOk result (λ bytes. bytes.items
+        ≡ dense_text (is_dark_half dark) (is_dark_half light)
+        (picture (layout width zone scale scale) colors.now)) }
+    ensures memory { IsOkUnless result OutOfMemory }
+{
+    let text = Renderer::<Dense1x2>::new(colors, width, zone)
+        .dark_color(dark)
+        .light_color(light)
+        .module_size(scale)
+        .build(alloc)?;
+    Ok(text.into_bytes())
+}
+
+// The text of SVG.
+fn as_svg(alloc: Global, colors: &[Color], width: usize, zone: u32, scale: u32) -> QrResult<Vec<u8>>
+    requires square { length colors.now ≡ width * width }
+    requires side { width + 2 * zone < 2 ^ 16 }
+    requires scale { scale < 2 ^ 16 }
+    requires positive { 1 ≤ scale }
+    ensures drawing { IfOk result (λ bytes. bytes.items
+        ≡ svg_text (layout width zone scale scale) colors.now
+        (codes "#000") (codes "#fff")) }
+    ensures memory { IsOkUnless result OutOfMemory }
+{
+    let text = Renderer::<svg::Color>::new(colors, width, zone)
+        .module_size(scale)
+        .build(alloc)?;
+    Ok(text.into_bytes())
+}
+
+// The text of PIC.
+fn as_pic(alloc: Global, colors: &[Color], width: usize, zone: u32, scale: u32) -> QrResult<Vec<u8>>
+    requires square { length colors.now ≡ width * width }
+    requires side { width + 2 * zone < 2 ^ 16 }
+    requires scale { scale < 2 ^ 16 }
+    requires positive { 1 ≤ scale }
+    ensures drawing { IfOk result (λ bytes. bytes.items
+        ≡ pic_text (layout width zone scale scale) colors.now) }
+    ensures memory { IsOkUnless result OutOfMemory }
+{
+    let text = Renderer::<pic::Color>::new(colors, width, zone)
+        .module_size(scale)
+        .build(alloc)?;
+    Ok(text.into_bytes())
+}
+
+// The greys of the pixels.
+fn as_greys(
+    alloc: Global,
+    colors: &[Color],
+    width: usize,
+    zone: u32,
+    scale: u32,
+) -> QrResult<Vec<u8>>
+    requires square { length colors.now ≡ width * width }
+    requires side { width + 2 * zone < 2 ^ 16 }
+    requires scale { scale < 2 ^ 16 }
+    requires positive { 1 ≤ scale }
+    ensures drawing { IfOk result (λ bytes. bytes.items
+        ≡ raw_bytes (0 ∷ []) (255 ∷ [])
+        (picture (layout width zone scale scale) colors.now)) }
+    ensures memory { IsOkUnless result OutOfMemory }
+{
+    let image = Renderer::<Luma>::new(colors, width, zone)
+        .module_size(scale)
+        .build(alloc)?;
+    Ok(image.into_raw())
+}
+
+// The text of EPS.
+fn as_eps(alloc: Global, colors: &[Color], width: usize, zone: u32, scale: u32) -> QrResult<Vec<u8>>
+    requires square { length colors.now ≡ width * width }
+    requires side { width + 2 * zone < 2 ^ 16 }
+    requires scale { scale < 2 ^ 16 }
+    requires positive { 1 ≤ scale }
+    ensures drawing { IfOk result (λ bytes. bytes.items
+        ≡ eps_text (layout width zone scale scale) colors.now
+        (eps_grey 0) (eps_grey 255)) }
+    ensures memory { IsOkUnless result OutOfMemory }
+{
+    let text = Renderer::<eps::Color>::new(colors, width, zone)
+        .module_size(scale)
+        .build(alloc)?;
+    Ok(text.into_bytes())
+}
+
+// A PNG file.
+fn as_png(alloc: Global, colors: &[Color], width: usize, zone: u32, scale: u32) -> QrResult<Vec<u8>>
+    requires square { length colors.now ≡ width * width }
+    requires side { width + 2 * zone < 2 ^ 16 }
+    requires scale { scale < 2 ^ 16 }
+    requires positive { 1 ≤ scale }
+    ensures drawing { IfOk result (λ bytes. IsFileOf
+        (picture (layout width zone scale scale) colors.now) black white None bytes.items) }
+    ensures memory { IsOkUnless result OutOfMemory }
+{
+    Renderer::<qrcode_png::Color>::new(colors, width, zone)
+        .module_size(scale)
+        .build(alloc)
+}
+
+// A PBM file.
+fn as_pbm(alloc: Global, colors: &[Color], width: usize, zone: u32, scale: u32) -> QrResult<Vec<u8>>
+    requires square { length colors.now ≡ width * width }
+    requires side { width + 2 * zone < 2 ^ 16 }
+    requires scale { scale < 2 ^ 16 }
+    requires positive { 1 ≤ scale }
+    ensures drawing { IfOk result (λ bytes. bytes.items
+        ≡ pbm_file true false
+        (picture (layout width zone scale scale) colors.now)) }
+    ensures memory { IsOkUnless result OutOfMemory }
+{
+    Renderer::<Bit>::new(colors, width, zone)
+        .module_size(scale)
+        .build(alloc)
+}
+
 // The text or the bytes of modules, so many along a side, in a format.
 pub(crate) fn draw(
     alloc: Global,
@@ -94,48 +233,32 @@ pub(crate) fn draw(
     let width = width as usize;
     match format {
         Format::HalfBlocks => {
-            let text = Renderer::<Dense1x2>::new(&colors, width, zone)
-                .module_size(scale)
-                .build(alloc)?;
-            Ok(text.into_bytes())
+            half_blocks(
+                alloc,
+                &colors,
+                width,
+                zone,
+                scale,
+                Dense1x2::Dark,
+                Dense1x2::Light,
+            )
         }
         Format::LightHalfBlocks => {
-            let text = Renderer::<Dense1x2>::new(&colors, width, zone)
-                .dark_color(Dense1x2::Light)
-                .light_color(Dense1x2::Dark)
-                .module_size(scale)
-                .build(alloc)?;
-            Ok(text.into_bytes())
+            half_blocks(
+                alloc,
+                &colors,
+                width,
+                zone,
+                scale,
+                Dense1x2::Light,
+                Dense1x2::Dark,
+            )
         }
-        Format::Svg => {
-            let text = Renderer::<svg::Color>::new(&colors, width, zone)
-                .module_size(scale)
-                .build(alloc)?;
-            Ok(text.into_bytes())
-        }
-        Format::Pic => {
-            let text = Renderer::<pic::Color>::new(&colors, width, zone)
-                .module_size(scale)
-                .build(alloc)?;
-            Ok(text.into_bytes())
-        }
-        Format::Grey => {
-            let image = Renderer::<Luma>::new(&colors, width, zone)
-                .module_size(scale)
-                .build(alloc)?;
-            Ok(image.into_raw())
-        }
-        Format::Png => Renderer::<qrcode_png::Color>::new(&colors, width, zone)
-            .module_size(scale)
-            .build(alloc),
-        Format::Eps => {
-            let text = Renderer::<eps::Color>::new(&colors, width, zone)
-                .module_size(scale)
-                .build(alloc)?;
-            Ok(text.into_bytes())
-        }
-        Format::Pbm => Renderer::<Bit>::new(&colors, width, zone)
-            .module_size(scale)
-            .build(alloc),
+        Format::Svg => as_svg(alloc, &colors, width, zone, scale),
+        Format::Pic => as_pic(alloc, &colors, width, zone, scale),
+        Format::Grey => as_greys(alloc, &colors, width, zone, scale),
+        Format::Png => as_png(alloc, &colors, width, zone, scale),
+        Format::Eps => as_eps(alloc, &colors, width, zone, scale),
+        Format::Pbm => as_pbm(alloc, &colors, width, zone, scale),
     }
 }

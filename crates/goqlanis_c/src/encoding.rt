@@ -55,10 +55,11 @@ fn automatic(alloc: Global, bytes: &[u8], level: u32) -> Result<QrCode, Refusal>
     let Some(ec_level) = level_named(level) else {
         return Err(Refusal::NoSuchLevel);
     };
-    QrCode::with_error_correction_level(alloc, bytes, ec_level).map_err(|error| match error {
-        QrError::OutOfMemory => Refusal::OutOfMemory,
-        _ => Refusal::NoRoom,
-    })
+    match QrCode::with_error_correction_level(alloc, bytes, ec_level) {
+        Ok(code) => Ok(code),
+        Err(QrError::OutOfMemory) => Err(Refusal::OutOfMemory),
+        Err(_) => Err(Refusal::NoRoom),
+    }
 }
 
 /// The symbol of bytes, of a version and level of these numbers: its modules row by row, 1 for a dark
