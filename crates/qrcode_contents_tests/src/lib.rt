@@ -2,18 +2,6 @@
 #![tactic(auto)]
 
 #[cfg(test)]
-mod bills;
+mod contents;
 #[cfg(test)]
-mod cards;
-#[cfg(test)]
-mod contacts;
-#[cfg(test)]
-mod links;
-#[cfg(test)]
-mod networks;
-#[cfg(test)]
-mod payments;
-#[cfg(test)]
-mod phones;
-#[cfg(test)]
-mod symbols;
+mod values;

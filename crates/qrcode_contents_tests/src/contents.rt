@@ -1,0 +1,176 @@
+//! Texts of contents, and what they are refused for: printed examples of the formats.
+
+use crate::values::{self, DEBTOR, NOWHERE};
+use qrcode_contents::bill::Party;
+use qrcode_contents::errors::Cause::{
+    self, Character, CheckDigits, ControlCharacter, Empty, Range, Unused,
+};
+use qrcode_contents::errors::{ContentError, ContentResult, Field};
+use qrcode_contents::geo::Place;
+use qrcode_contents::mail::Mail;
+use qrcode_contents::one_time::{Algorithm, Digits, Factor};
+use qrcode_contents::phone::Phone;
+use qrcode_contents::wifi::{Security, Wifi};
+use qrcode_contents_uses as uses;
+use std::alloc::Global;
+
+/// A content, by what changes from row to row.
+#[derive(Clone, Copy)]
+enum Content {
+    /// Debtor and reference.
+    Bill(Party<'static>, &'static str),
+    /// A bill in euros with a creditor reference, without an amount, a debtor and a message.
+    OpenBill,
+    /// The address on the web.
+    Card(&'static str),
+    /// A card with a note alone.
+    Note(&'static str),
+    /// The given name.
+    Contact(&'static str),
+    Network(Wifi<'static>),
+    /// Account and reference.
+    Payment(&'static str, &'static str),
+    Call(&'static str),
+    /// A number, to which something is sent.
+    Message(&'static str, Option<&'static str>),
+    Mail(Mail<'static>),
+    Place(Place),
+    OneTime(Factor, &'static str, Algorithm, Digits),
+}
+
+/// A content, and its text or the field and the cause that it is refused by.
+type Row = (Content, Result<&'static str, (Field, Cause)>);
+
+#[rattlefmt::skip]
+static ROWS: [Row; 29] = [
+    // The Swiss Implementation Guidelines QR-bill, without what is told beside the message.
+    (
+        Content::Bill(DEBTOR, "210000000003139471430009017"),
+        Ok("SPC\n0200\n1\nCH4431999123000889012\nS\nRobert Schneider AG\nRue du Lac\n1268\n2501\nBiel\nCH\n\n\n\n\n\n\n\n1949.75\nCHF\nS\nPia-Maria Rutschmann-Schnyder\nGrosse Marktgasse\n28\n9400\nRorschach\nCH\nQRR\n210000000003139471430009017\nOrder of 15 June 2020\nEPD"),
+    ),
+    (
+        Content::OpenBill,
+        Ok("SPC\n0200\n1\nCH5800791123000889012\nS\nRobert Schneider AG\nRue du Lac\n1268\n2501\nBiel\nCH\n\n\n\n\n\n\n\n\nEUR\n\n\n\n\n\n\n\nSCOR\nRF18539007547034\n\nEPD"),
+    ),
+    (Content::Bill(DEBTOR, "210000000003139471430009018"), Err((Field::Reference, CheckDigits))),
+    (Content::Bill(DEBTOR, ""), Err((Field::Reference, Unused))),
+    (Content::Bill(NOWHERE, "210000000003139471430009017"), Err((Field::Debtor, Empty))),
+    // An author's address in RFC 2426, in the lines that these fields have; a long line folded by hand.
+    (
+        Content::Card("http://home.earthlink.net/~fdawson"),
+        Ok("BEGIN:VCARD\r\nVERSION:3.0\r\nN:Dawson;Frank;;;\r\nFN:Frank Dawson\r\nORG:Lotus Development Corporation\r\nTEL:+1-919-676-9515\r\nEMAIL:fdawson@earthlink.net\r\nURL:http://home.earthlink.net/~fdawson\r\nADR:;;6544 Battleford Drive;Raleigh;NC;27613-3502;U.S.A.\r\nEND:VCARD\r\n"),
+    ),
+    (
+        Content::Note("0123456789012345678901234567890123456789012345678901234567890123456789, é\nb"),
+        Ok("BEGIN:VCARD\r\nVERSION:3.0\r\nN:A;;;;\r\nFN:A\r\nNOTE:0123456789012345678901234567890123456789012345678901234567890123456789\r\n \\, é\\nb\r\nEND:VCARD\r\n"),
+    ),
+    (Content::Card("http://home\n"), Err((Field::Url, ControlCharacter))),
+    // The form of a name with a comma that the page "Barcode Contents" of the ZXing project prints.
+    (Content::Contact("Sean"), Ok("MECARD:N:Owen,Sean;EMAIL:srowen@example.com;;")),
+    (Content::Contact("Sean\n"), Err((Field::Given, ControlCharacter))),
+    // The networks of that page.
+    (Content::Network(values::NETWORK), Ok("WIFI:T:WPA;S:mynetwork;P:mypass;;")),
+    (
+        Content::Network(Wifi { security: Security::Open, ssid: "\"foo;bar\\baz\"", password: "", hidden: true }),
+        Ok("WIFI:T:nopass;S:\\\"foo\\;bar\\\\baz\\\";H:true;;"),
+    ),
+    (
+        Content::Network(Wifi { security: Security::Wpa3, ssid: "", password: "secret", hidden: false }),
+        Err((Field::Ssid, Empty)),
+    ),
+    // The example of the guidelines EPC069-12, its amount with two digits behind the point.
+    (
+        Content::Payment("BE72000000001616", ""),
+        Ok("BCD\n001\n1\nSCT\nBPOTBEB1\nRed Cross of Belgium\nBE72000000001616\nEUR1.00\nCHAR\n\nUrgency fund\nSample EPC QR code"),
+    ),
+    (Content::Payment("BE72000000001617", ""), Err((Field::Iban, CheckDigits))),
+    (Content::Payment("BE72000000001616", "RF18539007547034"), Err((Field::Message, Unused))),
+    // The example of RFC 3966 with a global number, and of RFC 5724.
+    (Content::Call("+1-201-555-0123"), Ok("tel:+1-201-555-0123")),
+    (Content::Message("+15105550101", None), Ok("sms:+15105550101")),
+    (Content::Message("+15105550101", Some("hello there")), Ok("sms:+15105550101?body=hello%20there")),
+    (Content::Call("0800-CALL"), Err((Field::Phone, Character))),
+    // The examples of RFC 6068, and two addresses.
+    (Content::Mail(values::MAIL), Ok("mailto:infobot@example.com?subject=current-issue")),
+    (
+        Content::Mail(Mail { address: "infobot@example.com", subject: "", body: "send current-issue\nsend index" }),
+        Ok("mailto:infobot@example.com?body=send%20current-issue%0D%0Asend%20index"),
+    ),
+    (
+        Content::Mail(Mail { address: "joe@example.com,ann@example.com", subject: "", body: "" }),
+        Err((Field::Email, Character)),
+    ),
+    // The examples of RFC 5870.
+    (Content::Place(Place { latitude: 13_412_500, longitude: 103_866_700 }), Ok("geo:13.4125,103.8667")),
+    (Content::Place(Place { latitude: 90_000_000, longitude: -22_430_000 }), Ok("geo:90,-22.43")),
+    (Content::Place(Place { latitude: -90_000_001, longitude: 0 }), Err((Field::Latitude, Range))),
+    // The page "Key URI Format", and a counter with all that is unusual.
+    (
+        Content::OneTime(Factor::Time(30), "Example", Algorithm::Sha1, Digits::Six),
+        Ok("otpauth://totp/Example:alice@google.com?secret=JBSWY3DPEHPK3PXP&issuer=Example"),
+    ),
+    (
+        Content::OneTime(Factor::Counter(0), "", Algorithm::Sha256, Digits::Eight),
+        Ok("otpauth://hotp/alice@google.com?secret=JBSWY3DPEHPK3PXP&algorithm=SHA256&digits=8&counter=0"),
+    ),
+    (Content::OneTime(Factor::Time(30), "A:B", Algorithm::Sha1, Digits::Six), Err((Field::Issuer, Character))),
+];
+
+// The text of a message to a number, with a body or without.
+fn message_text(alloc: Global, number: &str, body: Option<&str>) -> ContentResult<String> {
+    match body {
+        Some(body) => Phone { number }.message(alloc, body),
+        None => Phone { number }.sms(alloc),
+    }
+}
+
+// The text of a content.
+fn text_of(alloc: Global, content: Content) -> ContentResult<String> {
+    match content {
+        Content::Bill(debtor, reference) => values::bill(debtor, reference).text(alloc),
+        Content::OpenBill => values::open_bill().text(alloc),
+        Content::Card(url) => values::card(url).text(alloc),
+        Content::Note(note) => values::note(note).text(alloc),
+        Content::Contact(given) => values::contact(given).mecard(alloc),
+        Content::Network(network) => network.text(alloc),
+        Content::Payment(iban, reference) => values::payment(iban, reference).text(alloc),
+        Content::Call(number) => Phone { number }.tel(alloc),
+        Content::Message(number, body) => message_text(alloc, number, body),
+        Content::Mail(mail) => mail.text(alloc),
+        Content::Place(place) => place.text(alloc),
+        Content::OneTime(factor, issuer, algorithm, digits) => {
+            values::one_time(factor, issuer, algorithm, digits).text(alloc)
+        }
+    }
+}
+
+// Whether a content has the text, or is refused by the field and the cause.
+fn holds(alloc: Global, (content, answer): &Row) -> bool {
+    match (text_of(alloc, *content), answer) {
+        (Ok(text), Ok(expected)) => text.as_str() == *expected,
+        (Err(error), Err((field, cause))) => error == ContentError::Refused(*field, *cause),
+        _ => false,
+    }
+}
+
+#[test]
+fn contents_have_texts(rt: HostRuntime) {
+    for (i, row) in ROWS.iter().enumerate() {
+        assert!(rt; holds(rt.alloc(), row), "row {i}");
+    }
+}
+
+// The symbols of printed examples have the sides of those that segno makes of the same texts; the bill
+// may have less, since segno writes it in one segment.
+#[test]
+fn contents_have_symbols(rt: HostRuntime) {
+    let alloc = rt.alloc();
+    let network = uses::network(alloc, &values::NETWORK).expect(&rt, "a symbol");
+    let mail = uses::mail(alloc, &values::MAIL).expect(&rt, "a symbol");
+    let payment = values::payment("BE72000000001616", "");
+    let payment = uses::payment(alloc, &payment).expect(&rt, "a symbol");
+    let bill = values::bill(DEBTOR, "210000000003139471430009017");
+    let bill = uses::bill(alloc, &bill).expect(&rt, "a symbol");
+    assert!(rt; network.width() == 29 && mail.width() == 33 && payment.width() == 41);
+    assert!(rt; bill.width() <= 61);
+}
