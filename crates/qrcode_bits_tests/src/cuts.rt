@@ -6,7 +6,6 @@ ghost use Rattle.qrcode_types.specs.Versions.{is_valid};
 use qrcode_bits::optimize::{Modes, Segment, least_segments_in};
 use qrcode_types::types::{QrError, QrResult, Version};
 use std::alloc::Global;
-use std::test::Fail;
 
 /// The bits of mode indicator and length field for digits, letters, bytes and pairs, as the standard
 /// has them, where the version has the mode.
@@ -156,7 +155,7 @@ fn wrong_cuts(alloc: Global, version: Version, modes: Modes, headers: &Headers) 
 }
 
 #[test]
-fn no_cut_of_short_data_takes_fewer_bits(rt: HostRuntime) -> Result<(), Fail> {
+fn no_cut_of_short_data_takes_fewer_bits(rt: HostRuntime) {
     for (version, modes, headers) in [
         (Version::Normal(1), Modes::ALL, NORMAL_1),
         (Version::Normal(1), Modes::TEXT, NORMAL_1_TEXT),
@@ -166,7 +165,6 @@ fn no_cut_of_short_data_takes_fewer_bits(rt: HostRuntime) -> Result<(), Fail> {
         (Version::Micro(1), Modes::ALL, MICRO_1),
     ] {
         assert!(rt; version.is_valid());
-        assert_eq!(rt; wrong_cuts(rt.alloc(), version, modes, &headers)?, 0);
+        assert!(rt; wrong_cuts(rt.alloc(), version, modes, &headers) == Ok(0));
     }
-    Ok(())
 }

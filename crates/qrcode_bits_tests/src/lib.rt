@@ -7,5 +7,3 @@ mod cuts;
 mod optimizer;
 #[cfg(test)]
 mod pushes;
-#[cfg(test)]
-mod versions;

@@ -1,7 +1,10 @@
 //! Pushes to a list of bits, and what they are refused for.
 
-use crate::versions::version_of;
-use qrcode_bits::bits::{Bits, ExtendedMode};
+ghost use Rattle.std.specs.Prelude.{◌≡◌, length, IsTrue};
+ghost use Rattle.qrcode_types.specs.Versions.{is_valid};
+ghost use Rattle.qrcode_bits.specs.Segments.{AreInside};
+
+use qrcode_bits::bits::{Bits, ExtendedMode, encode_auto};
 use qrcode_bits::optimize::Segment;
 use qrcode_pushes::Push::{
     self, Alphanumeric, Byte, Designator, FirstPosition, Indicator, Kanji, MarkedText, Numeric,
@@ -12,11 +15,97 @@ use qrcode_types::types::QrError::{
     self, DataTooLong, InvalidCharacter, InvalidEciDesignator, InvalidVersion,
     UnsupportedCharacterSet,
 };
-use qrcode_types::types::Version::{self, Micro};
+use qrcode_types::types::Version::{self, Micro, Normal};
 use qrcode_types::types::{EcLevel, Mode, QrResult};
 use std::alloc::Global;
 use std::process::Abort;
 use std::test::Fail;
+
+// More letters than a length field of Normal 1 counts.
+const LONG: &str =
+    "aaaaaaaaaaaaaaaaaaaaaaaaaaaaaaaaaaaaaaaaaaaaaaaaaaaaaaaaaaaaaaaaaaaaaaaaaaaaaaaaaaaaaaaaaa\
+    aaaaaaaaaaaaaaaaaaaaaaaaaaaaaaaaaaaaaaaaaaaaaaaaaaaaaaaaaaaaaaaaaaaaaaaaaaaaaaaaaaaaaaaaaa\
+    aaaaaaaaaaaaaaaaaaaaaaaaaaaaaaaaaaaaaaaaaaaaaaaaaaaaaaaaaaaaaaaaaaaaaaaaaaaa";
+
+const END: Push<'static> = Terminator(EcLevel::L);
+
+// The bytes of `HELLO WORLD` with a terminator for level Q.
+const HELLO: &[u8] = b"\x20\x5b\x0b\x78\xd1\x72\xdc\x4d\x43\x40\xec\x11\xec";
+
+// A version, the pushes to a new list of it, another push that is refused and its error, the bytes
+// of the list and how many bits.
+type Row = (
+    Version,
+    &'static [Push<'static>],
+    Option<(Push<'static>, QrError)>,
+    &'static [u8],
+    usize,
+);
+
+#[rattlefmt::skip]
+static GIVEN: [Row; 28] = [
+    // Indicators and designators.
+    (Normal(1), &[Designator(9)], None, &[0x70, 0x90], 12),
+    (Normal(1), &[Designator(899)], None, &[0x78, 0x38, 0x30], 20),
+    (Normal(1), &[Designator(999_999)], None, &[0x7c, 0xf4, 0x23, 0xf0], 28),
+    (Normal(1), &[FirstPosition], None, &[0x50], 4),
+    (Normal(1), &[SecondPosition(37)], None, &[0x92, 0x50], 12),
+    (Normal(1), &[Indicator(ExtendedMode::Eci)], None, &[0x70], 4),
+    (Normal(1), &[Indicator(ExtendedMode::Data(Mode::Kanji))], None, &[0x80], 4),
+    (Normal(1), &[Indicator(ExtendedMode::Fnc1First)], None, &[0x50], 4),
+    (Normal(1), &[Indicator(ExtendedMode::Fnc1Second)], None, &[0x90], 4),
+    (Normal(1), &[Indicator(ExtendedMode::StructuredAppend)], None, &[0x30], 4),
+    (Micro(1), &[Indicator(ExtendedMode::Data(Mode::Numeric))], None, &[], 0),
+    // Data.
+    (Normal(1), &[MarkedText("\u{e9}")], None, b"\x71\xa4\x02\xc3\xa9", 40),
+    (Normal(1), &[Numeric(b"01234567")], None, b"\x10\x20\x0c\x56\x61\x80", 41),
+    (Normal(1), &[Numeric(b"0123456789012345")], None, b"\x10\x40\x0c\x56\x6a\x6e\x14\xea\x50", 68),
+    (Micro(3), &[Numeric(b"0123456789012345")], None, b"\x20\x06\x2b\x35\x37\x0a\x75\x28", 61),
+    (Normal(1), &[Alphanumeric(b"AC-42")], None, b"\x20\x29\xce\xe7\x21\x00", 41),
+    (Normal(1), &[Alphanumeric(b"a")], None, b"\x20\x08\x00", 19),
+    (Normal(1), &[Byte(b"\x12\x34\x56\x78\x9a\xbc\xde\xf0")], None, b"\x40\x81\x23\x45\x67\x89\xab\xcd\xef\x00", 76),
+    (Normal(1), &[Kanji(b"\x93\x5f\xe4\xaa")], None, b"\x80\x26\xcf\xea\xa8", 38),
+    // Ended lists.
+    (Normal(1), &[Alphanumeric(b"HELLO WORLD"), Terminator(EcLevel::Q)], None, HELLO, 104),
+    (Normal(1), &[Designator(9), Byte(b"\xca\xfe\xe4\xe9\xea\xe1\xf2 QR"), END], None, b"\x70\x94\x0a\xca\xfe\xe4\xe9\xea\xe1\xf2\x20\x51\x52\x00\xec\x11\xec\x11\xec", 152),
+    (Micro(1), &[Numeric(b"99999"), END], None, &[0xbf, 0x3e, 0x30], 20),
+    (Micro(1), &[Numeric(b"9999"), END], None, &[0x9f, 0x3c, 0x80], 20),
+    (Micro(1), &[Numeric(b"999"), END], None, &[0x7f, 0x38, 0x00], 20),
+    (Micro(1), &[Numeric(b""), END], None, &[0x00, 0xec, 0x00], 20),
+    (Micro(1), &[Numeric(b"1"), Numeric(b"1"), END], None, &[0x22, 0x44, 0x00], 20),
+    (Micro(1), &[Numeric(b"1"), Numeric(b"1"), END, END], None, &[0x22, 0x44, 0x00], 20),
+    (Micro(3), &[Numeric(b"00000000000000000000"), END], None, &[0x28, 0, 0, 0, 0, 0, 0, 0, 0, 0, 0], 84),
+];
+
+#[rattlefmt::skip]
+static REFUSED: [Row; 24] = [
+    // Refusals by a new list.
+    (Normal(1), &[], Some((Designator(1_000_000), InvalidEciDesignator)), &[], 0),
+    (Micro(4), &[], Some((Designator(9), UnsupportedCharacterSet)), &[], 0),
+    (Micro(4), &[], Some((FirstPosition, UnsupportedCharacterSet)), &[], 0),
+    (Micro(4), &[], Some((SecondPosition(1), UnsupportedCharacterSet)), &[], 0),
+    (Micro(1), &[], Some((Alphanumeric(b"A"), UnsupportedCharacterSet)), &[], 0),
+    (Micro(2), &[], Some((Byte(b"?"), UnsupportedCharacterSet)), &[], 0),
+    (Micro(2), &[], Some((Kanji(b"?"), UnsupportedCharacterSet)), &[], 0),
+    (Micro(1), &[], Some((Numeric(b"12345678"), DataTooLong)), &[], 0),
+    (Micro(2), &[], Some((Alphanumeric(b"ABCDEFGH"), DataTooLong)), &[], 0),
+    (Micro(3), &[], Some((Byte(b"0123456701234567"), DataTooLong)), &[], 0),
+    (Micro(3), &[], Some((Kanji(b"\x93_\x93_\x93_\x93_\x93_\x93_\x93_\x93_"), DataTooLong)), &[], 0),
+    (Normal(1), &[], Some((Numeric(&[b'7'; 1024]), DataTooLong)), &[], 0),
+    (Normal(1), &[], Some((Numeric(b"12a"), InvalidCharacter)), &[], 0),
+    (Normal(1), &[], Some((Kanji(b"\x93"), InvalidCharacter)), &[], 0),
+    (Normal(1), &[], Some((Kanji(b"\x81\x7f"), InvalidCharacter)), &[], 0),
+    (Normal(1), &[], Some((Kanji(b"\xeb\xc0"), InvalidCharacter)), &[], 0),
+    (Micro(1), &[], Some((Terminator(EcLevel::M), InvalidVersion)), &[], 0),
+    (Normal(1), &[], Some((Text(LONG), DataTooLong)), &[], 0),
+    (Micro(2), &[], Some((Text("a"), UnsupportedCharacterSet)), &[], 0),
+    (Micro(4), &[], Some((MarkedText("1"), UnsupportedCharacterSet)), &[], 0),
+    (Micro(2), &[], Some((MarkedText("1"), UnsupportedCharacterSet)), &[], 0),
+    (Micro(2), &[], Some((Text("0123456789012345"), DataTooLong)), &[], 0),
+    // Refused terminators.
+    (Micro(1), &[Numeric(b"9999999")], Some((END, DataTooLong)), &[0xff, 0x3f, 0xcf, 0x20], 27),
+    (Normal(1), &[Byte(b">>>>>>>>")], Some((Terminator(EcLevel::H), DataTooLong)), b"\x40\x83\xe3\xe3\xe3\xe3\xe3\xe3\xe3\xe0", 76),
+];
 
 // A list of bits for a version, with these pushes.
 fn list(alloc: Global, version: Version, pushes: &[Push<'_>]) -> QrResult<Bits> {
@@ -30,369 +119,191 @@ fn list(alloc: Global, version: Version, pushes: &[Push<'_>]) -> QrResult<Bits> 
     Ok(bits)
 }
 
-// The list has these bytes.
-fn holds(rt: &impl Abort, bits: Bits, bytes: &[u8], length: usize) {
-    assert_eq!(rt; bits.len(), length);
-    assert_eq!(rt; bits.is_empty(), length == 0);
-    assert_eq!(rt; bits.into_bytes().as_slice(), bytes);
+// Whether a list has so many bits, and these bytes.
+fn is_list(bits: Bits, bytes: &[u8], length: usize) -> bool {
+    bits.len() == length
+        && bits.is_empty() == (length == 0)
+        && bits.into_bytes().as_slice() == bytes
 }
 
-// The pushes give these bytes.
-fn gives(
-    rt: &impl Abort,
-    alloc: Global,
-    version: Version,
-    pushes: &[Push<'_>],
-    bytes: &[u8],
-    length: usize,
-) -> QrResult<()> {
-    let bits = list(alloc, version, pushes)?;
-    assert!(rt; bits.version() == version);
-    holds(rt, bits, bytes, length);
-    Ok(())
-}
-
-// The last push is refused, and leaves these bytes.
-fn refuses(
-    rt: &impl Abort,
-    alloc: Global,
-    version: Version,
-    pushes: &[Push<'_>],
-    last: Push<'_>,
-    error: QrError,
-    bytes: &[u8],
-) -> QrResult<()> {
-    let mut bits = list(alloc, version, pushes)?;
-    let length = bits.len();
-    assert!(rt; make_push(&mut bits, last).err() == Some(error));
-    holds(rt, bits, bytes, length);
-    Ok(())
-}
-
-const ONE: Version = Version::Normal(1);
-
-// A version, the pushes to a new list of it, the bytes that they give and how many bits.
-type Given = (Version, &'static [Push<'static>], &'static [u8], usize);
-
-// Each row is what its pushes give.
-fn give_all(rt: &impl Abort, alloc: Global, rows: &[Given]) -> QrResult<()> {
-    for (version, pushes, bytes, length) in rows {
-        gives(rt, alloc, *version, pushes, bytes, *length)?;
+// Whether a row's pushes give its list.
+fn holds(alloc: Global, (version, pushes, refused, bytes, length): &Row) -> QrResult<bool> {
+    let mut bits = list(alloc, *version, pushes)?;
+    if let Some((push, error)) = refused
+        && make_push(&mut bits, *push) != Err(*error)
+    {
+        return Ok(false);
     }
-    Ok(())
+    Ok(bits.version() == *version && is_list(bits, bytes, *length))
 }
 
-static INDICATORS: [Given; 11] = [
-    (ONE, &[Designator(9)], &[0x70, 0x90], 12),
-    (ONE, &[Designator(899)], &[0x78, 0x38, 0x30], 20),
-    (ONE, &[Designator(999_999)], &[0x7c, 0xf4, 0x23, 0xf0], 28),
-    (ONE, &[FirstPosition], &[0x50], 4),
-    (ONE, &[SecondPosition(37)], &[0x92, 0x50], 12),
-    (ONE, &[Indicator(ExtendedMode::Eci)], &[0x70], 4),
-    (
-        ONE,
-        &[Indicator(ExtendedMode::Data(Mode::Kanji))],
-        &[0x80],
-        4,
-    ),
-    (ONE, &[Indicator(ExtendedMode::Fnc1First)], &[0x50], 4),
-    (ONE, &[Indicator(ExtendedMode::Fnc1Second)], &[0x90], 4),
-    (
-        ONE,
-        &[Indicator(ExtendedMode::StructuredAppend)],
-        &[0x30],
-        4,
-    ),
-    (
-        Micro(1),
-        &[Indicator(ExtendedMode::Data(Mode::Numeric))],
-        &[],
-        0,
-    ),
-];
-
-#[test]
-fn indicators_and_designators(rt: HostRuntime) -> Result<(), Fail> {
-    give_all(&rt, rt.alloc(), &INDICATORS)?;
-    Ok(())
-}
-
-static PIECES: [Given; 8] = [
-    (ONE, &[MarkedText("\u{e9}")], b"\x71\xa4\x02\xc3\xa9", 40),
-    (
-        ONE,
-        &[Numeric(b"01234567")],
-        b"\x10\x20\x0c\x56\x61\x80",
-        41,
-    ),
-    (
-        ONE,
-        &[Numeric(b"0123456789012345")],
-        b"\x10\x40\x0c\x56\x6a\x6e\x14\xea\x50",
-        68,
-    ),
-    (
-        Micro(3),
-        &[Numeric(b"0123456789012345")],
-        b"\x20\x06\x2b\x35\x37\x0a\x75\x28",
-        61,
-    ),
-    (
-        ONE,
-        &[Alphanumeric(b"AC-42")],
-        b"\x20\x29\xce\xe7\x21\x00",
-        41,
-    ),
-    (ONE, &[Alphanumeric(b"a")], b"\x20\x08\x00", 19),
-    (
-        ONE,
-        &[Byte(b"\x12\x34\x56\x78\x9a\xbc\xde\xf0")],
-        b"\x40\x81\x23\x45\x67\x89\xab\xcd\xef\x00",
-        76,
-    ),
-    (
-        ONE,
-        &[Kanji(b"\x93\x5f\xe4\xaa")],
-        b"\x80\x26\xcf\xea\xa8",
-        38,
-    ),
-];
-
-#[test]
-fn pieces(rt: HostRuntime) -> Result<(), Fail> {
-    give_all(&rt, rt.alloc(), &PIECES)?;
-    Ok(())
-}
-
-// A version, a push that a new list of it refuses, and the error.
-type Refused = (Version, Push<'static>, QrError);
-
-// Each row is what a new list refuses.
-fn refuse_all(rt: &impl Abort, alloc: Global, rows: &[Refused]) -> QrResult<()> {
-    for (version, push, error) in rows {
-        refuses(rt, alloc, *version, &[], *push, *error, &[])?;
+// Each row's pushes give its list.
+fn check(rt: &impl Abort, alloc: Global, rows: &[Row]) {
+    for (i, row) in rows.iter().enumerate() {
+        assert!(rt; holds(alloc, row) == Ok(true), "row {i}");
     }
-    Ok(())
 }
 
-// More letters than a length field of Normal 1 counts.
-const LONG: &str =
-    "aaaaaaaaaaaaaaaaaaaaaaaaaaaaaaaaaaaaaaaaaaaaaaaaaaaaaaaaaaaaaaaaaaaaaaaaaaaaaaaaaaaaaaaaaa\
-    aaaaaaaaaaaaaaaaaaaaaaaaaaaaaaaaaaaaaaaaaaaaaaaaaaaaaaaaaaaaaaaaaaaaaaaaaaaaaaaaaaaaaaaaaa\
-    aaaaaaaaaaaaaaaaaaaaaaaaaaaaaaaaaaaaaaaaaaaaaaaaaaaaaaaaaaaaaaaaaaaaaaaaaaaa";
-
-static REFUSED: [Refused; 20] = [
-    (ONE, Designator(1_000_000), InvalidEciDesignator),
-    (Micro(4), Designator(9), UnsupportedCharacterSet),
-    (Micro(4), FirstPosition, UnsupportedCharacterSet),
-    (Micro(4), SecondPosition(1), UnsupportedCharacterSet),
-    (Micro(1), Alphanumeric(b"A"), UnsupportedCharacterSet),
-    (Micro(2), Byte(b"?"), UnsupportedCharacterSet),
-    (Micro(2), Kanji(b"?"), UnsupportedCharacterSet),
-    (Micro(1), Numeric(b"12345678"), DataTooLong),
-    (Micro(2), Alphanumeric(b"ABCDEFGH"), DataTooLong),
-    (Micro(3), Byte(b"0123456701234567"), DataTooLong),
-    (
-        Micro(3),
-        Kanji(b"\x93_\x93_\x93_\x93_\x93_\x93_\x93_\x93_"),
-        DataTooLong,
-    ),
-    (ONE, Numeric(&[b'7'; 1024]), DataTooLong),
-    (ONE, Numeric(b"12a"), InvalidCharacter),
-    (ONE, Kanji(b"\x93"), InvalidCharacter),
-    (ONE, Kanji(b"\x81\x7f"), InvalidCharacter),
-    (ONE, Kanji(b"\xeb\xc0"), InvalidCharacter),
-    (Micro(1), Terminator(EcLevel::M), InvalidVersion),
-    (ONE, Text(LONG), DataTooLong),
-    (Micro(2), Text("a"), UnsupportedCharacterSet),
-    (Micro(4), MarkedText("1"), UnsupportedCharacterSet),
-];
-
 #[test]
-fn refusals(rt: HostRuntime) -> Result<(), Fail> {
-    refuse_all(&rt, rt.alloc(), &REFUSED)?;
-    Ok(())
+fn pushes_give_lists(rt: HostRuntime) {
+    check(&rt, rt.alloc(), &GIVEN);
 }
 
-// A version, a push, the level for which a terminator is then refused, and the bytes.
-static NOT_ENDED: [(Version, Push<'static>, EcLevel, &[u8]); 2] = [
-    (
-        Micro(1),
-        Numeric(b"9999999"),
-        EcLevel::L,
-        &[0xff, 0x3f, 0xcf, 0x20],
-    ),
-    (
-        ONE,
-        Byte(b">>>>>>>>"),
-        EcLevel::H,
-        &[0x40, 0x83, 0xe3, 0xe3, 0xe3, 0xe3, 0xe3, 0xe3, 0xe3, 0xe0],
-    ),
-];
-
 #[test]
-fn refused_terminators(rt: HostRuntime) -> Result<(), Fail> {
-    let error = DataTooLong;
-    for (version, push, level, bytes) in NOT_ENDED {
-        let end = Terminator(level);
-        refuses(&rt, rt.alloc(), version, &[push], end, error, bytes)?;
-    }
-    Ok(())
-}
-
-const END: Push<'static> = Terminator(EcLevel::L);
-
-// The bytes of `HELLO WORLD` with a terminator for level Q.
-const HELLO: &[u8] = b"\x20\x5b\x0b\x78\xd1\x72\xdc\x4d\x43\x40\xec\x11\xec";
-
-static TERMINATED: [Given; 9] = [
-    (
-        ONE,
-        &[Alphanumeric(b"HELLO WORLD"), Terminator(EcLevel::Q)],
-        HELLO,
-        104,
-    ),
-    (
-        ONE,
-        &[Designator(9), Byte(b"\xca\xfe\xe4\xe9\xea\xe1\xf2 QR"), END],
-        b"\x70\x94\x0a\xca\xfe\xe4\xe9\xea\xe1\xf2\x20\x51\x52\x00\xec\x11\xec\x11\xec",
-        152,
-    ),
-    (Micro(1), &[Numeric(b"99999"), END], &[0xbf, 0x3e, 0x30], 20),
-    (Micro(1), &[Numeric(b"9999"), END], &[0x9f, 0x3c, 0x80], 20),
-    (Micro(1), &[Numeric(b"999"), END], &[0x7f, 0x38, 0x00], 20),
-    (Micro(1), &[Numeric(b""), END], &[0x00, 0xec, 0x00], 20),
-    (
-        Micro(1),
-        &[Numeric(b"1"), Numeric(b"1"), END],
-        &[0x22, 0x44, 0x00],
-        20,
-    ),
-    (
-        Micro(1),
-        &[Numeric(b"1"), Numeric(b"1"), END, END],
-        &[0x22, 0x44, 0x00],
-        20,
-    ),
-    (
-        Micro(3),
-        &[Numeric(b"00000000000000000000"), END],
-        &[0x28, 0, 0, 0, 0, 0, 0, 0, 0, 0, 0],
-        84,
-    ),
-];
-
-#[test]
-fn terminated_lists(rt: HostRuntime) -> Result<(), Fail> {
-    give_all(&rt, rt.alloc(), &TERMINATED)?;
-    Ok(())
+fn pushes_are_refused(rt: HostRuntime) {
+    check(&rt, rt.alloc(), &REFUSED);
 }
 
 // A version, data that is pushed in the segments of fewest bits, the level that the list is ended for,
-// the bytes, and how many bits.
-static OPTIMAL: [(Version, &[u8], EcLevel, &[u8], usize); 2] = [
-    (ONE, b"HELLO WORLD", EcLevel::Q, HELLO, 104),
-    (
-        Micro(2),
-        b"123A",
-        EcLevel::L,
-        &[0x18, 0xf7, 0x25, 0x00, 0xec],
-        40,
-    ),
+// what the push or the terminator answers, the bytes, and how many bits.
+type Optimal = (
+    Version,
+    &'static [u8],
+    EcLevel,
+    QrResult<()>,
+    &'static [u8],
+    usize,
+);
+
+#[rattlefmt::skip]
+static OPTIMAL: [Optimal; 5] = [
+    (Normal(1), b"HELLO WORLD", EcLevel::Q, Ok(()), HELLO, 104),
+    (Micro(2), b"123A", EcLevel::L, Ok(()), b"\x18\xf7\x25\x00\xec", 40),
+    (Normal(1), b"", EcLevel::M, Ok(()), b"\x00\xec\x11\xec\x11\xec\x11\xec\x11\xec\x11\xec\x11\xec\x11\xec", 128),
+    (Normal(1), b">>>>>>>>", EcLevel::H, Err(DataTooLong), b"\x40\x83\xe3\xe3\xe3\xe3\xe3\xe3\xe3\xe0", 76),
+    (Micro(2), b"1a", EcLevel::L, Err(UnsupportedCharacterSet), &[], 0),
 ];
 
-// A list with data in the segments of fewest bits.
-fn optimal(alloc: Global, version: Version, data: &[u8]) -> QrResult<Bits> {
-    if !version.is_valid() {
-        return Err(InvalidVersion);
+// Whether a row's data gives its list.
+fn holds_data(
+    alloc: Global,
+    (version, data, ec_level, answer, bytes, length): &Optimal,
+) -> QrResult<bool> {
+    let mut bits = list(alloc, *version, &[])?;
+    let answered = match bits.push_optimal_data(data) {
+        Ok(()) => bits.push_terminator(*ec_level),
+        refused => refused,
+    };
+    Ok(answered == *answer && is_list(bits, bytes, *length))
+}
+
+#[test]
+fn data_gives_lists(rt: HostRuntime) {
+    for (i, row) in OPTIMAL.iter().enumerate() {
+        assert!(rt; holds_data(rt.alloc(), row) == Ok(true), "row {i}");
     }
+}
+
+fn range(mode: Mode, begin: usize, end: usize) -> Segment
+    ensures { result ≡ record { mode = mode; begin = begin; end = end } }
+{
+    Segment { mode, begin, end }
+}
+
+// Whether ranges of bytes are pushed with this answer, and give a list.
+fn give(
+    alloc: Global,
+    version: Version,
+    bytes: &[u8],
+    ranges: Vec<Segment>,
+    answer: QrResult<()>,
+    held: (&[u8], usize),
+) -> bool
+    requires valid { IsTrue (is_valid version) }
+    requires inside { AreInside (length bytes.now) ranges.items }
+{
     let mut bits = Bits::new(alloc, version);
-    bits.push_optimal_data(data)?;
-    Ok(bits)
+    push_ranges(&mut bits, bytes, ranges) == answer && is_list(bits, held.0, held.1)
 }
 
 #[test]
-fn optimal_data(rt: HostRuntime) -> Result<(), Fail> {
-    for (version, data, level, bytes, length) in OPTIMAL {
-        let mut bits = optimal(rt.alloc(), version, data)?;
-        bits.push_terminator(level)?;
-        holds(&rt, bits, bytes, length);
-    }
-    let mut bits = optimal(rt.alloc(), ONE, b">>>>>>>>")?;
-    let error = DataTooLong;
-    assert!(rt; bits.push_terminator(EcLevel::H) == Err(error));
-    holds(&rt, bits, b"\x40\x83\xe3\xe3\xe3\xe3\xe3\xe3\xe3\xe0", 76);
-    let mut bits = Bits::new(rt.alloc(), Micro(2));
-    let error = UnsupportedCharacterSet;
-    assert!(rt; bits.push_optimal_data(b"1a") == Err(error));
-    holds(&rt, bits, &[], 0);
+fn ranges_give_lists(rt: HostRuntime) -> Result<(), Fail> {
+    let digits = [range(Mode::Numeric, 0, 2), range(Mode::Numeric, 0, 2)];
+    let ranges = Vec::from_slice(rt.alloc(), &digits)?;
+    let held = (b"\x10\x08\x60\x80\x43\x00".as_slice(), 42);
+    assert!(rt; give(rt.alloc(), Normal(1), b"12", ranges, Ok(()), held));
+    let ranges = Vec::from_slice(rt.alloc(), &[range(Mode::Numeric, 0, 0)])?;
+    let held = (b"\x10\x00".as_slice(), 14);
+    assert!(rt; give(rt.alloc(), Normal(1), b"", ranges, Ok(()), held));
     Ok(())
 }
 
 #[test]
-fn segments(rt: HostRuntime) -> Result<(), Fail> {
-    let alloc = rt.alloc();
-    let digits = |begin, end| Segment {
-        mode: Mode::Numeric,
-        begin,
-        end,
-    };
-    let mut bits = Bits::new(alloc, ONE);
-    let ranges = vec![in alloc; digits(0, 2), digits(0, 2)]?;
-    push_ranges(&mut bits, b"12", ranges)?;
-    holds(&rt, bits, &[0x10, 0x08, 0x60, 0x80, 0x43, 0x00], 42);
-
-    let mut bits = Bits::new(alloc, ONE);
-    push_ranges(&mut bits, b"", vec![in alloc; digits(0, 0)]?)?;
-    holds(&rt, bits, &[0x10, 0x00], 14);
-
-    let mut bits = Bits::new(alloc, Micro(2));
-    let byte = Segment {
-        mode: Mode::Byte,
-        begin: 1,
-        end: 2,
-    };
-    let ranges = vec![in alloc; digits(0, 1), byte]?;
-    let result = push_ranges(&mut bits, b"1a", ranges);
-    assert_eq!(rt; result, Err(UnsupportedCharacterSet));
-    holds(&rt, bits, &[0x08, 0x80], 9);
+fn ranges_before_a_refused_one_stay(rt: HostRuntime) -> Result<(), Fail> {
+    let ranges = [range(Mode::Numeric, 0, 1), range(Mode::Byte, 1, 2)];
+    let ranges = Vec::from_slice(rt.alloc(), &ranges)?;
+    let held = (b"\x08\x80".as_slice(), 9);
+    let answer = Err(UnsupportedCharacterSet);
+    assert!(rt; give(rt.alloc(), Micro(2), b"1a", ranges, answer, held));
     Ok(())
 }
 
-// A list of so many bits refuses the push as too long, and keeps its bits.
-fn is_full(rt: &impl Abort, bits: &mut Bits, length: usize, next: Push<'_>) {
-    assert_eq!(rt; bits.len(), length);
-    assert!(rt; make_push(bits, next) == Err(DataTooLong));
-    assert_eq!(rt; bits.len(), length);
+// Whether a list of so many bits refuses the push as too long, and keeps its bits.
+fn is_full(bits: &mut Bits, length: usize, next: Push<'_>) -> bool {
+    bits.len() == length && make_push(bits, next) == Err(DataTooLong) && bits.len() == length
 }
 
 // Pushes the bytes so many times.
-fn push_times(bits: &mut Bits, bytes: &[u8], count: usize) -> QrResult<()> {
+fn push_times(bits: &mut Bits, bytes: &[u8], count: u32) -> QrResult<()> {
     for _ in 0..count {
         make_push(bits, Byte(bytes))?;
     }
     Ok(())
 }
 
+// A list has at most 16,777,216 bits.
 #[test]
-fn limits(rt: HostRuntime) -> Result<(), Fail> {
-    let data = Vec::from_elem(rt.alloc(), b'a', 65_535)?;
-    let mut bits = Bits::new(rt.alloc(), Version::Normal(40));
-    push_times(&mut bits, &data, 31)?;
-    is_full(&rt, &mut bits, 16_253_300, Byte(&data));
-    let data = Vec::from_elem(rt.alloc(), b'a', 65_487)?;
-    push_times(&mut bits, &data, 1)?;
-    is_full(&rt, &mut bits, 16_777_216, FirstPosition);
-    Ok(())
+fn lists_are_limited(rt: HostRuntime) {
+    let data = Vec::from_elem(rt.alloc(), b'a', 65_535).expect(&rt, "memory");
+    let rest = data.get(..65_487).expect(&rt, "bytes");
+    let mut bits = Bits::new(rt.alloc(), Normal(40));
+    push_times(&mut bits, &data, 31).expect(&rt, "room");
+    assert!(rt; is_full(&mut bits, 16_253_300, Byte(&data)));
+    push_times(&mut bits, rest, 1).expect(&rt, "room");
+    assert!(rt; is_full(&mut bits, 16_777_216, FirstPosition));
+}
+
+// Bytes, how often they stand in the data, the level, and the least version of Normal.
+#[rattlefmt::skip]
+static LEAST_VERSIONS: [(&[u8], usize, EcLevel, QrResult<Version>); 15] = [
+    (b"", 1, EcLevel::M, Ok(Normal(1))),
+    (b"HELLO WORLD", 1, EcLevel::Q, Ok(Normal(1))),
+    (b"HELLO WORLD", 1, EcLevel::H, Ok(Normal(2))),
+    (b"This is a mixed data test. 1234567890", 1, EcLevel::H, Ok(Normal(4))),
+    (b"a1234bc", 1, EcLevel::H, Ok(Normal(1))),
+    (b"aABCDEF", 30, EcLevel::L, Ok(Normal(9))),
+    (b"7", 432, EcLevel::M, Ok(Normal(9))),
+    (b"7", 433, EcLevel::M, Ok(Normal(10))),
+    (b"7", 7089, EcLevel::L, Ok(Normal(40))),
+    (b"7", 7090, EcLevel::L, Err(DataTooLong)),
+    (b"a", 2331, EcLevel::M, Ok(Normal(40))),
+    (b"a", 2332, EcLevel::M, Err(DataTooLong)),
+    (b"\x93\x5f", 1817, EcLevel::L, Ok(Normal(40))),
+    (b"\x93\x5f", 1818, EcLevel::L, Err(DataTooLong)),
+    // More than any symbol or list of bits holds.
+    (b"1", 1_048_577, EcLevel::L, Err(DataTooLong)),
+];
+
+// The version that is chosen for bytes, so many times.
+fn chosen(alloc: Global, bytes: &[u8], count: usize, ec_level: EcLevel) -> QrResult<Version> {
+    let data = bytes.repeat(alloc, count)?;
+    Ok(encode_auto(alloc, &data, ec_level)?.version())
 }
 
 #[test]
-fn longest_data(rt: HostRuntime) -> Result<(), Fail> {
+fn least_versions_are_chosen(rt: HostRuntime) {
+    for (i, (bytes, count, ec_level, version)) in LEAST_VERSIONS.iter().enumerate() {
+        assert!(rt;
+            chosen(rt.alloc(), bytes, *count, *ec_level) == *version,
+            "row {i}"
+        );
+    }
+}
+
+#[test]
+fn the_longest_data_is_refused(rt: HostRuntime) -> Result<(), Fail> {
     let long = Vec::from_elem(rt.alloc(), b'1', 1_048_577)?;
-    let mut bits = Bits::new(rt.alloc(), ONE);
-    assert!(rt; bits.push_optimal_data(&long) == Err(DataTooLong));
-    assert_eq!(rt; bits.len(), 0);
-    let refusal = version_of(rt.alloc(), &long, EcLevel::L);
-    assert!(rt; refusal == Err(DataTooLong));
+    let mut bits = Bits::new(rt.alloc(), Normal(1));
+    assert!(rt; bits.push_optimal_data(&long) == Err(DataTooLong) && bits.len() == 0);
     Ok(())
 }
