@@ -60,6 +60,3 @@ fn cells(alloc: Global, code: &QrCode) -> QrResult<String>
     renderer.light_color(Str(LIGHT));
     renderer.build(alloc)
 }
-
-#[cfg(test)]
-mod tests;
