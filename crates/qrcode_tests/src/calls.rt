@@ -1,254 +1,315 @@
-//! Calls that take memory, made with ample memory on whole symbols.
+//! Calls that make a symbol, each row with what it makes or why it refuses.
 
-use crate::symbols;
-use qrcode::bits::encode_auto;
-use qrcode::canvas::Canvas;
-use qrcode::render::image::{Channels, ImageBuffer, Luma, LumaA, Rgb, Rgba};
-use qrcode::render::string::Str;
-use qrcode::render::unicode::Dense1x2;
-use qrcode::render::{
-    self, Canvas as _, Pixel, Renderer, fill_rect, image, pic, string, svg, unicode,
+use crate::squares::{
+    BOOSTED, DIGITS_MICRO, DIGITS_NORMAL, IN_5, MARKED, MARKED_IN_2, MICRO, PARTS, TEXT, TEXT_IN_2,
 };
-use qrcode::types::{QrError, QrResult};
-use qrcode::{Color, EcLevel, QrCode, Version};
-use qrcode_judge::codewords;
-use qrcode_judge::reading::Read;
-use qrcode_judge::square::{self, Square};
-use qrcode_uses::label::{Bar, Dot, Label};
+use crate::symbols;
+use qrcode::EcLevel::{self, H, L, M, Q};
+use qrcode::QrCode;
+use qrcode::Version::{self, Micro, Normal};
+use qrcode::bits::{Bits, Manner};
+use qrcode::types::QrError::{self, DataTooLong, InvalidVersion, UnsupportedCharacterSet};
+use qrcode::types::QrResult;
+use qrcode_judge::reading::{self, Read};
+use qrcode_judge::spelling;
+use qrcode_judge::square::Square;
+use qrcode_pushes::{Push, make_push};
 use std::alloc::Global;
 use std::process::Abort;
 
-// The data bits of each version of Normal at M.
-fn rooms_of_normal(alloc: Global) -> Read<Vec<usize>> {
-    let mut rooms = Vec::new(alloc);
-    for v in 1..41i16 {
-        rooms.push(codewords::capacity(alloc, Version::Normal(v), EcLevel::M)?)?;
-    }
-    Ok(rooms)
+/// A call that makes a symbol of data, or of pushes.
+#[derive(Clone, Copy)]
+enum Call {
+    New,
+    At(EcLevel),
+    In(Version, EcLevel),
+    Text(EcLevel),
+    MarkedText(EcLevel),
+    TextIn(Version, EcLevel),
+    MarkedTextIn(Version, EcLevel),
+    Given(Manner, Version, EcLevel),
+    AtLeast(Manner, Version, EcLevel),
+    Boosted(Manner, Version, EcLevel),
+    Pushed(&'static [Push<'static>], Version, EcLevel),
 }
 
-// The least version of Normal that holds so many bytes in one segment.
-fn least_version(rooms: &[usize], count: usize) -> i16 {
-    for (v, room) in (1i16..41).zip(rooms) {
-        let header = if v <= 9 { 12 } else { 20 };
-        if count == 0 || count.wrapping_mul(8).wrapping_add(header) <= *room {
-            return v;
+/// What a call answers.
+#[derive(Clone, Copy)]
+enum Answer {
+    /// It refuses.
+    Refused(QrError),
+    /// A symbol of this version and level.
+    Chosen(Version, EcLevel),
+    /// One that is read as the data.
+    Read,
+    /// One that is read as the data, and as these bytes of data bits.
+    Held(&'static [u8]),
+    /// One under a mask, with these lines.
+    Printed(usize, &'static [&'static str]),
+    /// One under a mask, with these modules as hexadecimal digits.
+    Modules(usize, &'static str),
+}
+
+use Answer::{Chosen, Held, Modules, Printed, Refused};
+use Call::{At, AtLeast, Boosted, Given, In, MarkedText, MarkedTextIn, New, Pushed, Text, TextIn};
+
+// Bytes, how often they stand in the data, the call, and what it answers.
+type Row = (&'static [u8], usize, Call, Answer);
+
+const GREEK: &[Push<'static>] = &[
+    Push::Designator(9),
+    Push::Byte(b"\xca\xfe\xe4\xe9\xea\xe1\xf2 QR"),
+    Push::Terminator(L),
+];
+
+// A text of two parts, with the number of UTF-8 in front.
+const TWO_PARTS: &[Push<'static>] = &[
+    Push::MarkedText("Gr\u{fc}\u{df}e, "),
+    Push::Text("Z\u{fc}rich"),
+    Push::Terminator(Q),
+];
+
+#[rattlefmt::skip]
+static REFUSALS_AND_CHOICES: [Row; 15] = [
+    // Refusals come in order: no such version, no such mode, no such level, too long.
+    (b"1", 1, In(Normal(41), L), Refused(InvalidVersion)),
+    (b"A", 1, In(Micro(1), H), Refused(UnsupportedCharacterSet)),
+    (b"1", 1, In(Micro(1), H), Refused(InvalidVersion)),
+    (b"12345678", 1, In(Micro(1), H), Refused(InvalidVersion)),
+    (b"12345678", 1, In(Micro(1), L), Refused(DataTooLong)),
+    (b"123456", 1, In(Micro(1), L), Refused(DataTooLong)),
+    (b"a1234bcd", 1, In(Normal(1), H), Refused(DataTooLong)),
+    (b"1", 1, In(Micro(4), H), Refused(InvalidVersion)),
+    // Versions are chosen.
+    (b"", 1, At(M), Chosen(Normal(1), M)),
+    (b"HELLO WORLD", 1, At(Q), Chosen(Normal(1), Q)),
+    (b"HELLO WORLD", 1, At(H), Chosen(Normal(2), H)),
+    (b"a1234bc", 1, At(H), Chosen(Normal(1), H)),
+    (b"aABCDEF", 30, At(L), Chosen(Normal(9), L)),
+    (b"7", 432, New, Chosen(Normal(9), M)),
+    (b"7", 433, New, Chosen(Normal(10), M)),
+];
+
+#[rattlefmt::skip]
+static CAPACITIES: [Row; 10] = [
+    // As many as the standard's tables say, and no more.
+    (b"7", 34, In(Normal(1), M), Answer::Read),
+    (b"7", 35, In(Normal(1), M), Refused(DataTooLong)),
+    (b"a", 14, In(Normal(1), M), Answer::Read),
+    (b"a", 15, In(Normal(1), M), Refused(DataTooLong)),
+    (b"0", 23, In(Micro(3), L), Answer::Read),
+    (b"0", 24, In(Micro(3), L), Refused(DataTooLong)),
+    (b"a", 2331, In(Normal(40), M), Answer::Read),
+    (b"a", 2332, In(Normal(40), M), Refused(DataTooLong)),
+    (b"7", 7089, In(Normal(40), L), Answer::Read),
+    (b"7", 7090, In(Normal(40), L), Refused(DataTooLong)),
+];
+
+#[rattlefmt::skip]
+static DATA_BITS: [Row; 7] = [
+    // Data bits.
+    (b"123A", 1, In(Micro(2), L), Held(b"\x18\xf7\x25\x00\xec")),
+    (b"99999", 1, In(Micro(1), L), Held(b"\xbf\x3e\x30")),
+    (b"0", 20, In(Micro(3), L), Held(b"\x28\0\0\0\0\0\0\0\0\0\0")),
+    (b"HELLO WORLD", 1, In(Normal(1), Q), Held(b"\x20\x5b\x0b\x78\xd1\x72\xdc\x4d\x43\x40\xec\x11\xec")),
+    (b"01234567", 1, In(Normal(1), H), Held(b"\x10\x20\x0c\x56\x61\x80\xec\x11\xec")),
+    (b"\x93\x5f\xe4\xaa", 1, In(Normal(1), H), Held(b"\x80\x26\xcf\xea\xa8\x00\xec\x11\xec")),
+    (b"\x93\x5f\xe4\xaa", 1, In(Micro(4), Q), Held(b"\x64\xd9\xfd\x55\x00\x00\xec\x11\xec\x11")),
+];
+
+#[rattlefmt::skip]
+static PRINTED: [Row; 4] = [
+    // Printed symbols.
+    (b"01234567", 1, In(Normal(1), M), Printed(2, DIGITS_NORMAL)),
+    (b"01234567", 1, In(Micro(2), L), Printed(4, DIGITS_MICRO)),
+    (b"01234567", 1, Text(M), Printed(2, DIGITS_NORMAL)),
+    (b"01234567", 1, AtLeast(Manner::Text, Micro(1), L), Printed(4, DIGITS_MICRO)),
+];
+
+#[rattlefmt::skip]
+static TEXTS: [Row; 10] = [
+    // Symbols of texts.
+    (b"Jos\xc3\xa9", 1, Text(M), Modules(0, TEXT)),
+    (b"10 \xe2\x82\xac", 1, MarkedText(M), Modules(7, MARKED)),
+    (b"Z\xc3\xbcrich", 1, TextIn(Normal(2), Q), Modules(7, TEXT_IN_2)),
+    (b"Jos\xc3\xa9", 1, MarkedTextIn(Normal(2), Q), Modules(3, MARKED_IN_2)),
+    (b"Jos\xc3\xa9", 1, Boosted(Manner::MarkedText, Normal(1), L), Modules(7, BOOSTED)),
+    (b"Jos\xc3\xa9", 1, Given(Manner::Bytes, Normal(5), H), Modules(4, IN_5)),
+    (b"Z\xc3\xbcrich", 1, Boosted(Manner::Text, Micro(1), L), Modules(7, MICRO)),
+    (b"", 1, Pushed(TWO_PARTS, Normal(4), Q), Modules(2, PARTS)),
+    (b"1", 1, MarkedTextIn(Micro(4), L), Refused(UnsupportedCharacterSet)),
+    (b"eighteen letters..", 1, TextIn(Normal(1), L), Refused(DataTooLong)),
+];
+
+#[rattlefmt::skip]
+static ENDED_FOR_L: [Row; 2] = [
+    // Bits that are ended for L, drawn at L and at H.
+    (b"", 1, Pushed(GREEK, Normal(1), L), Chosen(Normal(1), L)),
+    (b"", 1, Pushed(GREEK, Normal(1), H), Refused(DataTooLong)),
+];
+
+// The symbol of pushes, in which the last is a terminator.
+fn of_pushes(
+    alloc: Global,
+    pushes: &[Push<'_>],
+    version: Version,
+    ec_level: EcLevel,
+) -> QrResult<QrCode> {
+    if !version.is_valid() {
+        return Err(InvalidVersion);
+    }
+    let mut bits = Bits::new(alloc, version);
+    for push in pushes {
+        make_push(&mut bits, *push)?;
+    }
+    if bits.len() < bits.max_len(ec_level)? {
+        return Err(InvalidVersion);
+    }
+    QrCode::with_bits(alloc, bits, ec_level)
+}
+
+// The symbol of a text.
+fn of_text(alloc: Global, call: Call, text: &str) -> QrResult<QrCode> {
+    match call {
+        Text(level) => QrCode::of_text(alloc, text, level),
+        MarkedText(level) => QrCode::of_marked_text(alloc, text, level),
+        TextIn(version, level) => QrCode::of_text_in(alloc, text, version, level),
+        MarkedTextIn(version, level) => QrCode::of_marked_text_in(alloc, text, version, level),
+        _ => Err(QrError::InvalidCharacter),
+    }
+}
+
+// What a call makes of data.
+fn made(alloc: Global, call: Call, data: &[u8]) -> QrResult<QrCode> {
+    match call {
+        New => QrCode::new(alloc, data),
+        At(level) => QrCode::with_error_correction_level(alloc, data, level),
+        In(version, level) => QrCode::with_version(alloc, data, version, level),
+        Given(manner, version, level) => QrCode::in_version(alloc, data, manner, version, level),
+        AtLeast(manner, from, level) => QrCode::at_least(alloc, data, manner, from, level),
+        Boosted(manner, from, level) => QrCode::at_least_boosted(alloc, data, manner, from, level),
+        Pushed(pushes, version, level) => of_pushes(alloc, pushes, version, level),
+        _ => of_text(alloc, call, str::from_utf8(data).unwrap_or("")),
+    }
+}
+
+// The modules of a symbol, as they stand in the table.
+fn digits_of(alloc: Global, code: &QrCode) -> QrResult<String> {
+    let mut digits = String::new(alloc);
+    for four in code.colors().chunks(4) {
+        let mut digit = 0u32;
+        for (color, bit) in four.iter().zip([8u32, 4, 2, 1]) {
+            digit |= color.select(bit, 0);
+        }
+        digits.push(char::from_digit(digit % 16, 16).unwrap_or('0'))?;
+    }
+    Ok(digits)
+}
+
+// The bytes of bits, the last one filled with zeros.
+fn bytes_of(alloc: Global, bits: &[bool]) -> Read<Vec<u8>> {
+    let mut bytes = Vec::new(alloc);
+    for bits in bits.chunks(8) {
+        bytes.push(spelling::byte_of(bits))?;
+    }
+    Ok(bytes)
+}
+
+// Whether a symbol has this mask and these lines, and is read with this mask.
+fn is_printed(rt: &impl Abort, alloc: Global, code: &QrCode, mask: usize, lines: &[&str]) -> bool {
+    let text = code.to_debug_str(alloc, '#', '.').expect(rt, "a text");
+    symbols::has_lines(text.as_str(), lines)
+        && symbols::read(rt, alloc, code).mask == mask
+        && code.mask().number() == mask
+}
+
+// Whether a symbol of data is read as the data, and as these bytes of data bits, if they are told.
+fn is_read(
+    rt: &impl Abort,
+    alloc: Global,
+    code: &QrCode,
+    data: &[u8],
+    held: Option<&[u8]>,
+) -> bool {
+    let reading = symbols::read(rt, alloc, code);
+    let bytes = bytes_of(alloc, &reading.bits).expect(rt, "memory");
+    reading.bytes.as_slice() == data && (held.is_none() || held == Some(bytes.as_slice()))
+}
+
+// Whether a symbol of data is the expected one.
+fn is_answer(rt: &impl Abort, alloc: Global, code: &QrCode, data: &[u8], answer: Answer) -> bool {
+    match answer {
+        Refused(_) => false,
+        Chosen(version, ec_level) => {
+            code.version() == version && code.error_correction_level() == ec_level
+        }
+        Answer::Read => is_read(rt, alloc, code, data, None),
+        Held(held) => is_read(rt, alloc, code, data, Some(held)),
+        Printed(mask, lines) => is_printed(rt, alloc, code, mask, lines),
+        Modules(mask, digits) => {
+            code.mask().number() == mask
+                && digits_of(alloc, code).expect(rt, "memory").as_str() == digits
         }
     }
-    41
 }
 
-// The version and the length of the bits that data is encoded as at M.
-fn encoded(alloc: Global, data: &[u8]) -> QrResult<(Version, usize)> {
-    let bits = encode_auto(alloc, data, EcLevel::M)?;
-    Ok((bits.version(), bits.len()))
-}
-
-#[test]
-fn letters_are_encoded_up_to_the_most(rt: HostRuntime) {
-    let alloc = rt.alloc();
-    let rooms = rooms_of_normal(alloc).expect(&rt, "rooms");
-    let mut letters = Vec::new(alloc);
-    for count in 0..2332usize {
-        let (version, length) = encoded(alloc, &letters).expect(&rt, "bits");
-        let v = least_version(&rooms, count);
-        assert!(rt; version == Version::Normal(v));
-        assert_eq!(rt;
-            Some(length),
-            rooms.get(square::count_of(v).wrapping_sub(1)).copied()
-        );
-        letters.push(b'a').expect(&rt, "memory");
-    }
-    assert!(rt; matches!(encoded(alloc, &letters), Err(QrError::DataTooLong)));
-}
-
-// A picture of four by four pixels with a dot, a rectangle and a filled rectangle.
-fn dotted<C: render::Canvas>(alloc: Global, dark: C::Pixel, light: C::Pixel) -> QrResult<C::Image> {
-    let mut canvas = C::new(alloc, 4, 4, dark, light)?;
-    canvas.draw_dark_pixel(1, 0)?;
-    canvas.draw_dark_rect(2, 1, 2, 2)?;
-    fill_rect(&mut canvas, 0, 3, 2, 1)?;
-    canvas.into_image()
-}
-
-// The text of that picture is the expected one.
-fn check_dotted<C: render::Canvas<Image = String>>(
-    rt: &impl Abort,
-    alloc: Global,
-    dark: C::Pixel,
-    light: C::Pixel,
-    expected: &str,
-) {
-    let text = dotted::<C>(alloc, dark, light).expect(rt, "a text");
-    symbols::check_text(rt, text.as_str(), expected);
-}
-
-// The text of that picture has the expected end.
-fn check_dotted_end<C: render::Canvas<Image = String>>(
-    rt: &impl Abort,
-    alloc: Global,
-    dark: C::Pixel,
-    light: C::Pixel,
-    end: &str,
-) {
-    let text = dotted::<C>(alloc, dark, light).expect(rt, "a text");
-    assert!(rt; text.as_str().ends_with(end));
-}
-
-#[test]
-fn each_canvas_is_drawn_on(rt: HostRuntime) {
-    let alloc = rt.alloc();
-    let text = ".#..\n..##\n..##\n##..";
-    check_dotted::<string::Canvas<char>>(&rt, alloc, '#', '.', text);
-    let text = "ab\nabab\nabab\nabab";
-    check_dotted::<string::Canvas<Str<'static>>>(&rt, alloc, Str("ab"), Str(""), text);
-    let (dark, light) = (Dense1x2::Dark, Dense1x2::Light);
-    check_dotted::<unicode::Canvas1x2>(&rt, alloc, dark, light, " ▀▄▄\n▄▄▀▀");
-    let (dark, light) = (svg::Color("a"), svg::Color("b"));
-    let path = "d=\"M1 0h1v1H1V0M2 1h2v2H2V1M0 3h1v1H0V3M1 3h1v1H1V3\"/></svg>";
-    check_dotted_end::<svg::Canvas<'static>>(&rt, alloc, dark, light, path);
-    let lines = "p(1,0,1,1)\np(2,1,2,2)\np(0,3,1,1)\np(1,3,1,1)\n";
-    check_dotted_end::<pic::Canvas>(&rt, alloc, pic::Color, pic::Color, lines);
-    let greys = dotted::<image::Canvas<Luma>>(alloc, Luma([7]), Luma([9])).expect(&rt, "greys");
-    let pixels = [9, 7, 9, 9, 9, 9, 7, 7, 9, 9, 7, 7, 7, 7, 9, 9];
-    symbols::check_bytes(&rt, &greys.into_raw(), &pixels);
-}
-
-// The bar of these numbers.
-fn bar(left: u32, top: u32, width: u32, height: u32) -> Bar {
-    Bar {
-        left,
-        top,
-        width,
-        height,
+// Whether a row is what its call answers.
+fn holds(rt: &impl Abort, alloc: Global, (bytes, count, call, answer): &Row) -> bool {
+    let data = bytes.repeat(alloc, *count).expect(rt, "memory");
+    match made(alloc, *call, &data) {
+        Err(error) => matches!(answer, Refused(expected) if *expected == error),
+        Ok(code) => is_answer(rt, alloc, &code, &data, *answer),
     }
 }
 
-// Two modules along a side, of which the first and the last are dark.
-static DIAGONAL: [Color; 4] = [Color::Dark, Color::Light, Color::Light, Color::Dark];
-
-// The bars of the diagonal with a quiet zone of one module, each module of two pixels by one.
-fn diagonal_bars(alloc: Global) -> QrResult<Vec<Bar>> {
-    let mut renderer = Renderer::<Dot>::new(&DIAGONAL, 2, 1);
-    renderer.module_dimensions(2, 0).quiet_zone(true);
-    if !renderer.fits() {
-        return Err(QrError::DataTooLong);
+// Each row is what its call answers.
+fn check(rt: &impl Abort, alloc: Global, rows: &[Row]) {
+    for (i, row) in rows.iter().enumerate() {
+        assert!(rt; holds(rt, alloc, row), "row {i}");
     }
-    renderer.build(alloc)
-}
-
-// The bars of two by two pixels, which are filled row by row.
-fn filled_bars(alloc: Global) -> QrResult<Vec<Bar>> {
-    let mut label = Label::new(alloc, 9, 9, Dot, Dot)?;
-    fill_rect(&mut label, 2, 3, 2, 2)?;
-    label.into_image()
 }
 
 #[test]
-fn a_users_canvas_is_drawn_on(rt: HostRuntime) {
-    let alloc = rt.alloc();
-    let bars = diagonal_bars(alloc).expect(&rt, "bars");
-    let expected = [bar(2, 1, 2, 1), bar(4, 2, 2, 1)];
-    assert_eq!(rt; bars.as_slice(), expected.as_slice());
-    let bars = filled_bars(alloc).expect(&rt, "bars");
-    let expected = [bar(2, 3, 2, 1), bar(2, 4, 2, 1)];
-    assert_eq!(rt; bars.as_slice(), expected.as_slice());
-    let bars = dotted::<Label>(alloc, Dot, Dot).expect(&rt, "bars");
-    let expected = [bar(1, 0, 1, 1), bar(2, 1, 2, 2), bar(0, 3, 2, 1)];
-    assert_eq!(rt; bars.as_slice(), expected.as_slice());
-}
-
-// A picture has these sides, and so many pixels whose first channel is dark.
-fn check_pixels<P: Channels>(rt: &impl Abort, buffer: ImageBuffer<P>, side: u32, dark: usize) {
-    symbols::check_sides(rt, &buffer, side);
-    let bytes = buffer.into_raw();
-    assert_eq!(rt;
-        symbols::count_of_dark_pixels(&bytes, P::of_color(Color::Dark).channels().len()),
-        dark
-    );
-}
-
-// A symbol of so many dark modules is drawn in each type of pixel that has bytes.
-fn check_images(rt: &impl Abort, alloc: Global, code: &QrCode, dark: usize) {
-    let pixels = dark.wrapping_mul(64);
-    check_pixels(rt, symbols::picture::<Luma>(rt, alloc, code), 136, pixels);
-    check_pixels(rt, symbols::picture::<LumaA>(rt, alloc, code), 136, pixels);
-    check_pixels(rt, symbols::picture::<Rgb>(rt, alloc, code), 136, pixels);
-    let image = code.render::<Rgba>().to_image(alloc);
-    check_pixels(rt, image.expect(rt, "a picture"), 136, pixels);
-}
-
-// The text of a symbol has a letter so many times.
-fn check_letters<P: Pixel<Image = String>>(
-    rt: &impl Abort,
-    alloc: Global,
-    code: &QrCode,
-    letter: char,
-    count: usize,
-) {
-    let text = symbols::picture::<P>(rt, alloc, code);
-    assert_eq!(rt; symbols::count_of_letter(text.as_str(), letter), count);
-}
-
-// The text of a symbol has so many lines.
-fn check_lines<P: Pixel<Image = String>>(
-    rt: &impl Abort,
-    alloc: Global,
-    code: &QrCode,
-    count: usize,
-) {
-    let text = symbols::picture::<P>(rt, alloc, code);
-    assert_eq!(rt; symbols::count_of_lines(text.as_str()), count);
-}
-
-// A symbol of so many dark modules is drawn in each type of pixel that makes a text.
-fn check_texts(rt: &impl Abort, alloc: Global, code: &QrCode, dark: usize) {
-    check_letters::<char>(rt, alloc, code, '█', dark);
-    check_letters::<Str<'static>>(rt, alloc, code, '█', dark);
-    check_lines::<Dense1x2>(rt, alloc, code, 9);
-    check_letters::<svg::Color<'static>>(rt, alloc, code, 'M', dark);
-    check_lines::<pic::Color>(rt, alloc, code, dark.wrapping_add(4));
+fn data_is_refused_and_versions_are_chosen(rt: HostRuntime) {
+    check(&rt, rt.alloc(), &REFUSALS_AND_CHOICES);
 }
 
 #[test]
-fn each_pixel_type_is_built(rt: HostRuntime) {
-    let alloc = rt.alloc();
-    let code = QrCode::with_version(alloc, b"01234567", Version::Micro(2), EcLevel::L)
-        .expect(&rt, "a symbol")
-        .clone()
-        .expect(&rt, "memory");
-    let dark = symbols::square_of(alloc, &code)
-        .expect(&rt, "memory")
-        .count_of_dark();
-    check_images(&rt, alloc, &code, dark);
-    check_texts(&rt, alloc, &code, dark);
+fn symbols_hold_so_much_and_no_more(rt: HostRuntime) {
+    check(&rt, rt.alloc(), &CAPACITIES);
 }
 
-// The format word that a canvas of Micro 1 carries.
-fn word_on(alloc: Global, canvas: &Canvas) -> QrResult<u32> {
-    let square = Square {
-        width: 11,
-        modules: canvas.to_bools(alloc)?,
-    };
-    let mut word = 0u32;
-    for i in 0..15usize {
-        let is_dark = square.is_dark(square.format_place(0, i));
-        word = word.wrapping_mul(2).wrapping_add(is_dark as u32);
+#[test]
+fn data_is_held(rt: HostRuntime) {
+    check(&rt, rt.alloc(), &DATA_BITS);
+}
+
+#[test]
+fn printed_symbols_are_drawn(rt: HostRuntime) {
+    check(&rt, rt.alloc(), &PRINTED);
+}
+
+#[test]
+fn texts_are_encoded(rt: HostRuntime) {
+    check(&rt, rt.alloc(), &TEXTS);
+}
+
+#[test]
+fn bits_are_drawn(rt: HostRuntime) {
+    check(&rt, rt.alloc(), &ENDED_FOR_L);
+}
+
+// Whether a drawn symbol is read as the digits, with no wrong codeword.
+fn is_drawn_well(alloc: Global, rows: &[&str]) -> Read<bool> {
+    let square = Square::drawn(alloc, rows)?;
+    let places = square.places(alloc)?;
+    let reading = reading::read(alloc, &square, &places)?;
+    Ok(reading.bytes.as_slice() == b"01234567".as_slice() && reading.wrong == 0)
+}
+
+#[test]
+fn printed_symbols_are_read(rt: HostRuntime) {
+    for rows in [DIGITS_NORMAL, DIGITS_MICRO] {
+        assert!(rt; is_drawn_well(rt.alloc(), rows).expect(&rt, "a symbol"));
     }
-    Ok(word)
-}
-
-// A canvas of Micro 1, on which nothing is drawn, under its best mask.
-fn masked_canvas(rt: &impl Abort, alloc: Global) -> Canvas {
-    let (version, ec_level) = (Version::Micro(1), EcLevel::L);
-    assert!(rt; version.has_level(ec_level));
-    let canvas = Canvas::new(alloc, version, ec_level).expect(rt, "a canvas");
-    canvas.apply_best_mask(alloc).expect(rt, "a canvas")
-}
-
-// The masks of the canvas have the penalties 80, 85, 68 and 85.
-#[test]
-fn an_empty_canvas_is_masked(rt: HostRuntime) {
-    let word = word_on(rt.alloc(), &masked_canvas(&rt, rt.alloc())).expect(&rt, "memory");
-    assert_eq!(rt; word, 0x4e2b);
 }

@@ -4,20 +4,22 @@
 #[cfg(test)]
 mod calls;
 #[cfg(test)]
+mod canvases;
+#[cfg(test)]
 mod damage;
+#[cfg(test)]
+mod letters;
 #[cfg(test)]
 mod lists;
 #[cfg(test)]
 mod masks;
 #[cfg(test)]
-mod printed;
+mod pictures;
 #[cfg(test)]
 mod read_back;
 #[cfg(test)]
-mod rows;
+mod squares;
 #[cfg(test)]
 mod symbols;
-#[cfg(test)]
-mod texts;
 #[cfg(test)]
 mod uses;

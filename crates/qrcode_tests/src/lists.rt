@@ -19,8 +19,8 @@ fn range(mode: Mode, begin: usize, end: usize) -> Segment
     Segment { mode, begin, end }
 }
 
-// The bits of odd ranges of `12AB`, which are read as `AB122A12`.
-fn bits_of_ranges(alloc: Global) -> QrResult<Bits> {
+// The symbol of odd ranges of `12AB`, which are read as `AB122A12`.
+fn symbol_of_ranges(alloc: Global) -> QrResult<QrCode> {
     let segments = [
         range(Mode::Alphanumeric, 2, 4),
         range(Mode::Numeric, 0, 2),
@@ -31,70 +31,44 @@ fn bits_of_ranges(alloc: Global) -> QrResult<Bits> {
     ];
     let mut bits = Bits::new(alloc, Version::Normal(2));
     push_ranges(&mut bits, b"12AB", Vec::from_slice(alloc, &segments)?)?;
-    Ok(bits)
+    bits.push_terminator(EcLevel::L)?;
+    QrCode::with_bits(alloc, bits, EcLevel::L)
 }
 
 #[test]
 fn ranges_come_in_any_order(rt: HostRuntime) {
-    let alloc = rt.alloc();
-    let bits = bits_of_ranges(alloc).expect(&rt, "bits");
-    let code = symbols::of_ended_bits(alloc, bits, EcLevel::L).expect(&rt, "a symbol");
-    symbols::check_bytes(&rt, &symbols::read(&rt, alloc, &code).bytes, b"AB122A12");
+    let code = symbol_of_ranges(rt.alloc()).expect(&rt, "a symbol");
+    assert!(rt; symbols::read(&rt, rt.alloc(), &code).bytes.as_slice() == b"AB122A12".as_slice());
 }
 
-// The bits of a push of so many digits in a version of Micro.
-fn push_length(v: i16, digits: usize) -> usize {
-    let header = square::count_of(v).wrapping_mul(2).wrapping_add(1);
-    let rest = match digits % 3 {
-        0 => 0,
-        1 => 4,
-        _ => 7,
-    };
-    (digits / 3)
-        .wrapping_mul(10)
-        .wrapping_add(rest)
-        .wrapping_add(header)
-}
+// How many digits each push of a list has: a list for each length that pushes of digits can give, the
+// shortest first, up to the room of Micro 1 and of Micro 3 at L.
+#[rattlefmt::skip]
+static MICRO_1: [&[u8]; 15] = [
+    &[], &[0], &[0, 0], &[1], &[0, 0, 0], &[2], &[0, 0, 0, 0], &[3], &[1, 1], &[0, 0, 0, 0, 0],
+    &[3, 0], &[4], &[0, 0, 0, 0, 0, 0], &[3, 0, 0], &[5],
+];
 
-// The digits of pushes that give a length, by those that give lesser ones; each push has at most so
-// many digits.
-fn pushes_for(
-    alloc: Global,
-    v: i16,
-    length: usize,
-    most: usize,
-    lists: &[Option<Vec<usize>>],
-) -> Read<Option<Vec<usize>>> {
-    let mut found = None;
-    for digits in 0..=most {
-        let before = length.wrapping_sub(push_length(v, digits));
-        if let Some(Some(list)) = lists.get(before) {
-            let mut list = Vec::from_slice(alloc, list)?;
-            list.push(digits)?;
-            found = Some(list);
-        }
-    }
-    Ok(found)
-}
+#[rattlefmt::skip]
+static MICRO_3: [&[u8]; 67] = [
+    &[], &[0], &[1], &[2], &[3], &[1, 0], &[4], &[1, 1], &[5], &[2, 1], &[6], &[4, 0], &[1, 1, 0],
+    &[7], &[4, 1], &[1, 1, 1], &[8], &[5, 1], &[2, 1, 1], &[9], &[7, 0], &[4, 1, 0], &[1, 1, 1, 0],
+    &[10], &[7, 1], &[4, 1, 1], &[11], &[8, 1], &[5, 1, 1], &[12], &[10, 0], &[7, 1, 0],
+    &[4, 1, 1, 0], &[13], &[10, 1], &[7, 1, 1], &[14], &[11, 1], &[8, 1, 1], &[15], &[13, 0],
+    &[10, 1, 0], &[7, 1, 1, 0], &[16], &[13, 1], &[10, 1, 1], &[17], &[14, 1], &[11, 1, 1], &[18],
+    &[16, 0], &[13, 1, 0], &[10, 1, 1, 0], &[19], &[16, 1], &[13, 1, 1], &[20], &[17, 1],
+    &[14, 1, 1], &[21], &[19, 0], &[16, 1, 0], &[13, 1, 1, 0], &[22], &[19, 1], &[16, 1, 1], &[23],
+];
 
-// For each length up to the greatest, how many digits each of some pushes have that give it.
-fn pushes_by_length(alloc: Global, v: i16, greatest: usize) -> Read<Vec<Option<Vec<usize>>>> {
-    let most = (1usize << (v.clamp(1, 4) as u32 + 2)) - 1;
-    let mut lists: Vec<Option<Vec<usize>>> = Vec::new(alloc);
-    lists.push(Some(Vec::new(alloc)))?;
-    for length in 1..=greatest {
-        let found = pushes_for(alloc, v, length, most, &lists)?;
-        lists.push(found)?;
-    }
-    Ok(lists)
-}
+static SEVENS: &[u8; 31] = b"7777777777777777777777777777777";
 
 // Pushes of so many digits each.
-fn pushed(rt: &impl Abort, alloc: Global, version: Version, pushes: &[usize]) -> Bits {
-    let mut bits = symbols::no_bits(rt, alloc, version);
+fn pushed(rt: &impl Abort, alloc: Global, version: Version, pushes: &[u8]) -> Bits {
+    assert!(rt; version.is_valid());
+    let mut bits = Bits::new(alloc, version);
     for count in pushes {
-        let digits = Vec::from_elem(alloc, b'7', *count).expect(rt, "memory");
-        bits.push_numeric_data(&digits).expect(rt, "room");
+        let digits = SEVENS.get(..usize::from(*count)).expect(rt, "at most 31");
+        bits.push_numeric_data(digits).expect(rt, "room");
     }
     bits
 }
@@ -136,77 +110,87 @@ fn ended(alloc: Global, v: i16, bits: &[bool], full: usize) -> Read<Vec<bool>> {
     Ok(list)
 }
 
-// Bits, ended at a level, are the expected ones.
-fn check_ended_once(
+// Whether pushes, ended once at a level, are the expected bits.
+fn is_ended_once(
     rt: &impl Abort,
     alloc: Global,
     mut bits: Bits,
     ec_level: EcLevel,
     expected: &[bool],
-) {
+) -> bool {
     bits.push_terminator(ec_level).expect(rt, "a terminator");
-    assert_eq!(rt; bits.len(), expected.len());
+    let length = bits.len();
     let held = bits_of(alloc, &bits.into_bytes(), expected.len()).expect(rt, "memory");
-    assert!(rt; held.as_slice() == expected);
+    length == expected.len() && held.as_slice() == expected
 }
 
-// Bits, ended twice at a level, are the expected data of a symbol.
-fn check_ended_twice(
+// Whether pushes, ended twice at a level, are the expected data of a symbol.
+fn is_ended_twice(
     rt: &impl Abort,
     alloc: Global,
     mut bits: Bits,
     ec_level: EcLevel,
     expected: &[bool],
-) {
+) -> bool {
     bits.push_terminator(ec_level).expect(rt, "a terminator");
     bits.push_terminator(ec_level).expect(rt, "a terminator");
-    assert_eq!(rt; bits.len(), expected.len());
+    let length = bits.len();
     let code = QrCode::with_bits(alloc, bits, ec_level).expect(rt, "a symbol");
     let reading = symbols::read(rt, alloc, &code);
-    assert!(rt; reading.bits.as_slice() == expected);
+    length == expected.len() && reading.bits.as_slice() == expected
 }
 
-// A list of pushes, ended once and twice, is that list ended by the rule, and the data of a symbol.
-fn check_ended(
+// Whether a list of pushes, ended once and twice, is that list ended by the rule, and the data of a
+// symbol with room for so many bits.
+fn is_ended(
     rt: &impl Abort,
     alloc: Global,
     v: i16,
     ec_level: EcLevel,
-    pushes: &[usize],
-    length: usize,
-) {
+    pushes: &[u8],
+    full: usize,
+) -> bool {
     let version = Version::Micro(v);
-    let full = codewords::capacity(alloc, version, ec_level).expect(rt, "a level");
     let bits = pushed(rt, alloc, version, pushes);
-    assert_eq!(rt; bits.len(), length);
+    let length = bits.len();
     let bits = bits_of(alloc, &bits.into_bytes(), length).expect(rt, "memory");
     let expected = ended(alloc, v, &bits, full).expect(rt, "memory");
-    assert_eq!(rt; expected.len(), full);
-    let once = pushed(rt, alloc, version, pushes);
-    check_ended_once(rt, alloc, once, ec_level, &expected);
-    let twice = pushed(rt, alloc, version, pushes);
-    check_ended_twice(rt, alloc, twice, ec_level, &expected);
+    let (once, twice) = (
+        pushed(rt, alloc, version, pushes),
+        pushed(rt, alloc, version, pushes),
+    );
+    expected.len() == full
+        && is_ended_once(rt, alloc, once, ec_level, &expected)
+        && is_ended_twice(rt, alloc, twice, ec_level, &expected)
 }
 
-// Each length up to the greatest that pushes of digits can give is ended; how many lengths.
-fn check_lengths(rt: &impl Abort, alloc: Global, v: i16, ec_level: EcLevel) -> u32 {
+// How many lengths, each greater than the one before, the lists of pushes have at a level; each that
+// fits is ended.
+fn count_of_ended(
+    rt: &impl Abort,
+    alloc: Global,
+    v: i16,
+    ec_level: EcLevel,
+    lists: &[&[u8]],
+) -> usize {
     let full = codewords::capacity(alloc, Version::Micro(v), ec_level).expect(rt, "a level");
-    let lists = pushes_by_length(alloc, v, full).expect(rt, "memory");
-    let mut reached = 0u32;
-    for (length, pushes) in lists.iter().enumerate() {
-        if let Some(pushes) = pushes {
-            check_ended(rt, alloc, v, ec_level, pushes, length);
-            reached = reached.wrapping_add(1);
+    let (mut count, mut least) = (0usize, 0usize);
+    for pushes in lists {
+        let length = pushed(rt, alloc, Version::Micro(v), pushes).len();
+        if length <= full {
+            assert!(rt; least <= length && is_ended(rt, alloc, v, ec_level, pushes, full));
+            count = count.wrapping_add(1);
         }
+        least = length.wrapping_add(1);
     }
-    reached
+    count
 }
 
 // Pairs whose last data codeword has four bits, and how many lengths pushes of digits can give.
 #[test]
 fn lists_of_each_length_are_ended_where_a_codeword_has_four_bits(rt: HostRuntime) {
     let alloc = rt.alloc();
-    assert_eq!(rt; check_lengths(&rt, alloc, 1, EcLevel::L), 15);
-    assert_eq!(rt; check_lengths(&rt, alloc, 3, EcLevel::L), 67);
-    assert_eq!(rt; check_lengths(&rt, alloc, 3, EcLevel::M), 51);
+    assert!(rt; count_of_ended(&rt, alloc, 1, EcLevel::L, &MICRO_1) == 15);
+    assert!(rt; count_of_ended(&rt, alloc, 3, EcLevel::L, &MICRO_3) == 67);
+    assert!(rt; count_of_ended(&rt, alloc, 3, EcLevel::M, &MICRO_3) == 51);
 }

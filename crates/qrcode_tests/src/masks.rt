@@ -1,6 +1,7 @@
 //! The mask of a symbol is the first one of least penalty, by a count of the modules.
 
 use crate::symbols;
+use qrcode::bits::Manner;
 use qrcode::{EcLevel, QrCode, Version};
 use qrcode_judge::penalty::{self, Penalty, TERMS, Term};
 use qrcode_judge::reading::{self, Read, Reading, Unreadable};
@@ -16,7 +17,7 @@ fn check_mask(rt: &impl Abort, alloc: Global, code: &QrCode) -> (Reading, Vec<Pe
     let reading = reading::read(alloc, &square, &places).expect(rt, "a reading");
     let penalties = penalty::penalties(alloc, &square, &places, &reading).expect(rt, "memory");
     let first = penalty::first_least(&penalties, None);
-    assert_eq!(rt; format::mask_of(reading.version, first), reading.mask);
+    assert!(rt; format::mask_of(reading.version, first) == reading.mask);
     (reading, penalties)
 }
 
@@ -24,59 +25,57 @@ fn check_mask(rt: &impl Abort, alloc: Global, code: &QrCode) -> (Reading, Vec<Pe
 // have the least penalty.
 type Choice = (&'static [u8], Version, EcLevel, Term);
 
-fn check_choices(rt: &impl Abort, alloc: Global, choices: &[Choice]) {
-    for (data, version, ec_level, decisive) in choices {
-        let code = QrCode::with_version(alloc, *data, *version, *ec_level).expect(rt, "a symbol");
-        let (reading, penalties) = check_mask(rt, alloc, &code);
-        symbols::check_bytes(rt, &reading.bytes, data);
-        let first = penalty::first_least(&penalties, None);
-        for term in TERMS.iter() {
-            let is_decisive = penalty::first_least(&penalties, Some(*term)) != first;
-            assert_eq!(rt; is_decisive, *term == *decisive, "{term:?}, {version:?}");
+#[rattlefmt::skip]
+static CHOICES: [Choice; 28] = [
+    (b"GOQLANIS 0", Version::Normal(1), EcLevel::L, Term::Runs),
+    (b"GOQLANIS 9", Version::Normal(2), EcLevel::L, Term::Runs),
+    (b"GOQLANIS 75", Version::Normal(12), EcLevel::H, Term::Runs),
+    (b"GOQLANIS 10", Version::Normal(28), EcLevel::M, Term::Runs),
+    (b"GOQLANIS 6", Version::Normal(1), EcLevel::L, Term::Blocks),
+    (b"GOQLANIS 2", Version::Normal(7), EcLevel::L, Term::Blocks),
+    (b"GOQLANIS 1", Version::Normal(12), EcLevel::H, Term::Blocks),
+    (b"GOQLANIS 2", Version::Normal(1), EcLevel::L, Term::FinderLike),
+    (b"GOQLANIS 0", Version::Normal(2), EcLevel::Q, Term::FinderLike),
+    (b"GOQLANIS 0", Version::Normal(12), EcLevel::H, Term::FinderLike),
+    (b"GOQLANIS 55", Version::Normal(1), EcLevel::L, Term::Balance),
+    (b"GOQLANIS 52", Version::Normal(1), EcLevel::M, Term::Balance),
+    (b"4", Version::Micro(1), EcLevel::L, Term::BothSides),
+    (b"11", Version::Micro(2), EcLevel::L, Term::BothSides),
+    (b"27", Version::Micro(2), EcLevel::M, Term::BothSides),
+    (b"10", Version::Micro(3), EcLevel::L, Term::BothSides),
+    (b"5", Version::Micro(3), EcLevel::M, Term::BothSides),
+    (b"10", Version::Micro(4), EcLevel::L, Term::BothSides),
+    (b"13", Version::Micro(4), EcLevel::M, Term::BothSides),
+    (b"0", Version::Micro(4), EcLevel::Q, Term::BothSides),
+    (b"3", Version::Micro(1), EcLevel::L, Term::GreaterSide),
+    (b"10", Version::Micro(2), EcLevel::L, Term::GreaterSide),
+    (b"10", Version::Micro(2), EcLevel::M, Term::GreaterSide),
+    (b"18", Version::Micro(3), EcLevel::L, Term::GreaterSide),
+    (b"2", Version::Micro(3), EcLevel::M, Term::GreaterSide),
+    (b"1", Version::Micro(4), EcLevel::L, Term::GreaterSide),
+    (b"2", Version::Micro(4), EcLevel::M, Term::GreaterSide),
+    (b"7", Version::Micro(4), EcLevel::Q, Term::GreaterSide),
+];
+
+// Whether another mask has the least penalty without this term, and without no other.
+fn decides_alone(penalties: &[Penalty], decisive: Term) -> bool {
+    let first = penalty::first_least(penalties, None);
+    for term in TERMS.iter() {
+        if (penalty::first_least(penalties, Some(*term)) != first) != (*term == decisive) {
+            return false;
         }
     }
+    true
 }
 
 #[test]
-#[rattlefmt::skip]
-fn each_term_decides_some_masks_of_normal(rt: HostRuntime) {
-    check_choices(&rt, rt.alloc(), &[
-        (b"GOQLANIS 0", Version::Normal(1), EcLevel::L, Term::Runs),
-        (b"GOQLANIS 9", Version::Normal(2), EcLevel::L, Term::Runs),
-        (b"GOQLANIS 75", Version::Normal(12), EcLevel::H, Term::Runs),
-        (b"GOQLANIS 10", Version::Normal(28), EcLevel::M, Term::Runs),
-        (b"GOQLANIS 6", Version::Normal(1), EcLevel::L, Term::Blocks),
-        (b"GOQLANIS 2", Version::Normal(7), EcLevel::L, Term::Blocks),
-        (b"GOQLANIS 1", Version::Normal(12), EcLevel::H, Term::Blocks),
-        (b"GOQLANIS 2", Version::Normal(1), EcLevel::L, Term::FinderLike),
-        (b"GOQLANIS 0", Version::Normal(2), EcLevel::Q, Term::FinderLike),
-        (b"GOQLANIS 0", Version::Normal(12), EcLevel::H, Term::FinderLike),
-        (b"GOQLANIS 55", Version::Normal(1), EcLevel::L, Term::Balance),
-        (b"GOQLANIS 52", Version::Normal(1), EcLevel::M, Term::Balance),
-    ]);
-}
-
-#[test]
-#[rattlefmt::skip]
-fn each_term_decides_some_masks_of_micro(rt: HostRuntime) {
-    check_choices(&rt, rt.alloc(), &[
-        (b"4", Version::Micro(1), EcLevel::L, Term::BothSides),
-        (b"11", Version::Micro(2), EcLevel::L, Term::BothSides),
-        (b"27", Version::Micro(2), EcLevel::M, Term::BothSides),
-        (b"10", Version::Micro(3), EcLevel::L, Term::BothSides),
-        (b"5", Version::Micro(3), EcLevel::M, Term::BothSides),
-        (b"10", Version::Micro(4), EcLevel::L, Term::BothSides),
-        (b"13", Version::Micro(4), EcLevel::M, Term::BothSides),
-        (b"0", Version::Micro(4), EcLevel::Q, Term::BothSides),
-        (b"3", Version::Micro(1), EcLevel::L, Term::GreaterSide),
-        (b"10", Version::Micro(2), EcLevel::L, Term::GreaterSide),
-        (b"10", Version::Micro(2), EcLevel::M, Term::GreaterSide),
-        (b"18", Version::Micro(3), EcLevel::L, Term::GreaterSide),
-        (b"2", Version::Micro(3), EcLevel::M, Term::GreaterSide),
-        (b"1", Version::Micro(4), EcLevel::L, Term::GreaterSide),
-        (b"2", Version::Micro(4), EcLevel::M, Term::GreaterSide),
-        (b"7", Version::Micro(4), EcLevel::Q, Term::GreaterSide),
-    ]);
+fn each_term_decides_some_masks(rt: HostRuntime) {
+    for (i, (data, version, ec_level, decisive)) in CHOICES.iter().enumerate() {
+        let code = symbols::symbol_in(&rt, rt.alloc(), data, *version, *ec_level);
+        let (reading, penalties) = check_mask(&rt, rt.alloc(), &code);
+        let is_read = reading.bytes.as_slice() == *data;
+        assert!(rt; is_read && decides_alone(&penalties, *decisive), "row {i}");
+    }
 }
 
 // Whether a place is dark in a square without any order.
@@ -101,11 +100,12 @@ fn light_bits(alloc: Global, version: Version, mask: usize, noisy: usize) -> Rea
         for number in block.iter().take(*length) {
             for place in words.get(*number).ok_or(Unreadable)? {
                 let is_noisy = *number < noisy;
-                bits.push(if is_noisy {
+                let is_dark = if is_noisy {
                     noise(*place)
                 } else {
                     format::turns(mask, *place)
-                })?;
+                };
+                bits.push(is_dark)?;
             }
         }
     }
@@ -124,43 +124,36 @@ fn bytes_behind_header(alloc: Global, bits: &[bool]) -> Read<Vec<u8>> {
 }
 
 // The symbol of a version that is light at L under a mask for the most part.
-fn light_symbol(
-    rt: &impl Abort,
-    alloc: Global,
-    version: Version,
-    mask: usize,
-    noisy: usize,
-) -> QrCode {
-    let chosen = light_bits(alloc, version, mask, noisy).expect(rt, "memory");
-    let bytes = bytes_behind_header(alloc, &chosen).expect(rt, "memory");
-    let mut bits = symbols::no_bits(rt, alloc, version);
-    bits.push_byte_data(&bytes).expect(rt, "room");
-    symbols::of_ended_bits(alloc, bits, EcLevel::L).expect(rt, "a symbol")
+fn light_symbol(alloc: Global, version: Version, mask: usize, noisy: usize) -> Read<QrCode> {
+    let chosen = light_bits(alloc, version, mask, noisy)?;
+    let bytes = bytes_behind_header(alloc, &chosen)?;
+    Ok(QrCode::in_version(alloc, &bytes, Manner::Bytes, version, EcLevel::L)?)
 }
 
-// The penalty of a symbol that is light under a mask for the most part stands out.
-fn check_light_symbol(rt: &impl Abort, alloc: Global, version: Version, mask: usize, noisy: usize) {
-    let code = light_symbol(rt, alloc, version, mask, noisy);
-    let (_, penalties) = check_mask(rt, alloc, &code);
-    check_light(rt, &penalties, mask);
-}
-
-// A penalty is more than 16 bits hold, and less than the others if it is cut to 16 bits.
-fn check_light(rt: &impl Abort, penalties: &[Penalty], mask: usize) {
-    let light = penalties.get(mask).expect(rt, "a penalty").sum(None);
-    assert!(rt; light > 65_535);
+// Whether a penalty is more than 16 bits hold, and less than the others if it is cut to 16 bits.
+fn stands_out(penalties: &[Penalty], mask: usize) -> bool {
+    let light = penalties.get(mask).map_or(0, |penalty| penalty.sum(None));
     for penalty in penalties {
         let sum = penalty.sum(None);
-        assert!(rt; sum == light || sum > light % 65_536);
+        if sum != light && sum <= light % 65_536 {
+            return false;
+        }
     }
+    light > 65_535
 }
 
 // Symbols that are light under a mask for the most part, so that the penalty under it is a little
-// more than 16 bits hold, and less than those under the others if it is cut to 16 bits.
+// more than 16 bits hold, and less than those under the others if it is cut to 16 bits: version,
+// mask, and how many codewords are noise.
+static LIGHT: [(i16, usize, usize); 3] = [(36, 3, 950), (38, 7, 1300), (40, 5, 1650)];
+
 #[test]
 fn penalties_past_16_bits_are_compared(rt: HostRuntime) {
-    let alloc = rt.alloc();
-    check_light_symbol(&rt, alloc, Version::Normal(36), 3, 950);
-    check_light_symbol(&rt, alloc, Version::Normal(38), 7, 1300);
-    check_light_symbol(&rt, alloc, Version::Normal(40), 5, 1650);
+    for (v, mask, noisy) in LIGHT {
+        let code = light_symbol(rt.alloc(), Version::Normal(v), mask, noisy).expect(
+            &rt, "a symbol",
+        );
+        let (_, penalties) = check_mask(&rt, rt.alloc(), &code);
+        assert!(rt; stands_out(&penalties, mask));
+    }
 }

@@ -1,25 +1,21 @@
-//! What tests do with symbols: they end bits, read and draw, and compare what they find.
+//! What tests do with symbols: they end bits, read and draw, and compare lines.
 
-use qrcode::bits::Bits;
 use qrcode::render::Pixel;
-use qrcode::render::image::ImageBuffer;
-use qrcode::types::QrResult;
 use qrcode::{EcLevel, QrCode, Version};
 use qrcode_judge::reading::{self, Read, Reading};
 use qrcode_judge::square::Square;
 use std::alloc::Global;
 use std::process::Abort;
 
-/// A list of no bits for a version, which has to exist.
-pub fn no_bits(rt: &impl Abort, alloc: Global, version: Version) -> Bits {
-    assert!(rt; version.is_valid());
-    Bits::new(alloc, version)
-}
-
-/// The symbol of bits, which are ended first.
-pub fn of_ended_bits(alloc: Global, mut bits: Bits, ec_level: EcLevel) -> QrResult<QrCode> {
-    bits.push_terminator(ec_level)?;
-    QrCode::with_bits(alloc, bits, ec_level)
+/// A symbol of data in a version at a level.
+pub fn symbol_in(
+    rt: &impl Abort,
+    alloc: Global,
+    data: &[u8],
+    version: Version,
+    ec_level: EcLevel,
+) -> QrCode {
+    QrCode::with_version(alloc, data, version, ec_level).expect(rt, "a symbol")
 }
 
 /// The square that a symbol shows.
@@ -43,43 +39,17 @@ pub fn picture<P: Pixel>(rt: &impl Abort, alloc: Global, code: &QrCode) -> P::Im
 
 /// How often a letter stands in a text.
 pub fn count_of_letter(text: &str, letter: char) -> usize {
-    let mut count = 0usize;
-    for c in text.chars() {
-        if c == letter {
-            count = count.wrapping_add(1);
+    text.chars().filter(|c| *c == letter).count()
+}
+
+/// Whether a text has these lines.
+pub fn has_lines(text: &str, lines: &[&str]) -> bool {
+    for (i, line) in text.split('\n').enumerate() {
+        if lines.get(i).copied() != Some(line) {
+            return false;
         }
     }
-    count
-}
-
-/// How many lines a text has.
-pub fn count_of_lines(text: &str) -> usize {
-    text.split('\n').count()
-}
-
-/// A text has these lines.
-pub fn check_lines(rt: &impl Abort, text: &str, lines: &[&str]) {
-    assert_eq!(rt; count_of_lines(text), lines.len());
-    for (i, line) in text.split('\n').enumerate() {
-        check_text(rt, line, lines.get(i).expect(rt, "a line"));
-    }
-}
-
-/// A text is the expected one.
-pub fn check_text(rt: &impl Abort, text: &str, expected: &str) {
-    assert_eq!(rt; text, expected);
-}
-
-/// Bytes are the expected ones.
-pub fn check_bytes(rt: &impl Abort, bytes: &[u8], expected: &[u8]) {
-    assert_eq!(rt; bytes, expected);
-}
-
-/// A picture has so many pixels across and down.
-pub fn check_sides<P>(rt: &impl Abort, picture: &ImageBuffer<P>, side: u32) {
-    let (width, height) = picture.dimensions();
-    assert_eq!(rt; width, side);
-    assert_eq!(rt; height, side);
+    count_of_letter(text, '\n').wrapping_add(1) == lines.len()
 }
 
 /// How many pixels of so many bytes are dark in their first byte.

@@ -9,206 +9,257 @@ use qrcode_uses::payment::{Payment, payment_picture};
 use qrcode_uses::ticket::ticket_blocks;
 use qrcode_uses::{plain, texts};
 use std::alloc::Global;
-use std::process::Abort;
 use std::test::Fail;
 
-#[test]
-fn a_payment_is_drawn(rt: HostRuntime) -> Result<(), Fail> {
-    let payment = Payment {
-        bic: "BPOTBEB1",
-        name: "Red Cross of Belgium",
-        iban: "BE72000000001616",
-        cents: 105,
-        purpose: "Urgency fund",
-    };
+static PAYMENT: Payment<'static> = Payment {
+    bic: "BPOTBEB1",
+    name: "Red Cross of Belgium",
+    iban: "BE72000000001616",
+    cents: 105,
+    purpose: "Urgency fund",
+};
+
+/// A use that draws a text.
+#[derive(Clone, Copy)]
+enum Drawing {
+    Chars,
+    Pairs,
+    HalfBlocks,
+    Svg,
+    Pic,
+    Payment,
+    Ticket(u32),
+    Greek(&'static [u8]),
+    PlainSvg,
+    PlainBlocks,
+    PlainPayment,
+    PlainTicket,
+    PlainWithin,
+    PlainChars,
+    PlainTexts,
+    PlainSvgText,
+    PlainPicText,
+}
+
+/// What is looked at in a text.
+#[derive(Clone, Copy)]
+enum Look {
+    /// A line, counted from 0.
+    Line(usize, &'static str),
+    /// How many lines there are.
+    Lines(usize),
+    /// How many bytes.
+    Length(usize),
+    Begins(&'static str),
+    Contains(&'static str),
+    /// There is none.
+    Refused(QrError),
+}
+
+use Look::{Begins, Contains, Length, Line, Lines};
+
+#[rattlefmt::skip]
+static DRAWINGS: [(Drawing, Look); 28] = [
+    (Drawing::Chars, Line(4, "    ███████  █ ██ ███████    ")),
+    (Drawing::Pairs, Line(4, "        ##############    ##  ####  ##############        ")),
+    (Drawing::HalfBlocks, Line(2, "    █▀▀▀▀▀█  █▄██ █▀▀▀▀▀█    ")),
+    (Drawing::Svg, Contains("viewBox=\"0 0 232 232\"")),
+    (Drawing::Pic, Begins("maxpswid=29;maxpsht=29;")),
     // The text has 83 bytes, which Normal 5 holds at level M: 45 modules with the quiet zone.
-    let picture = payment_picture(rt.alloc(), &payment)?;
-    assert!(rt;
-        picture.starts_with(
-            "<?xml version=\"1.0\" standalone=\"yes\"?><svg xmlns=\"http://www.w3.org/2000/svg\" version=\"1.1\" width=\"225\" height=\"225\" viewBox=\"0 0 225 225\""
-        )
-    );
-    Ok(())
+    (Drawing::Payment, Begins("<?xml version=\"1.0\" standalone=\"yes\"?><svg xmlns=\"http://www.w3.org/2000/svg\" version=\"1.1\" width=\"225\" height=\"225\" viewBox=\"0 0 225 225\"")),
+    (Drawing::Ticket(12_345_678), Lines(9)),
+    (Drawing::Ticket(12_345_678), Line(0, "█████████████████")),
+    (Drawing::Ticket(12_345_678), Line(1, "██ ▄▄▄▄▄ █▄▀▄█▄██")),
+    (Drawing::Ticket(12_345_678), Line(2, "██ █   █ █   █ ██")),
+    (Drawing::Ticket(12_345_678), Line(3, "██ █▄▄▄█ █▄▄██▀██")),
+    (Drawing::Ticket(12_345_678), Line(4, "██▄▄▄▄▄▄▄█▄▄▄▀ ██")),
+    (Drawing::Ticket(12_345_678), Line(5, "██▄ ▀ ▀ ▀▄▄  ████")),
+    (Drawing::Ticket(12_345_678), Line(6, "██▄▄▀▄█ ▀▀▀ ▀▄▄██")),
+    (Drawing::Ticket(12_345_678), Line(7, "██▄▄▄█▄▄█▄██▄█▄██")),
+    (Drawing::Ticket(12_345_678), Line(8, "▀▀▀▀▀▀▀▀▀▀▀▀▀▀▀▀▀")),
+    (Drawing::Ticket(u32::MAX), Lines(9)),
+    (Drawing::Greek(GREEK_TEXT), Length(461)),
+    (Drawing::Greek(b"seventeen letters"), Look::Refused(QrError::DataTooLong)),
+    (Drawing::PlainSvg, Contains("viewBox=\"0 0 203 203\"")),
+    (Drawing::PlainBlocks, Lines(15)),
+    (Drawing::PlainPayment, Contains("viewBox=\"0 0 231 231\"")),
+    (Drawing::PlainTicket, Lines(9)),
+    (Drawing::PlainWithin, Contains("viewBox=\"0 0 290 290\"")),
+    (Drawing::PlainChars, Lines(29)),
+    (Drawing::PlainTexts, Length(29 * 59 - 1)),
+    (Drawing::PlainSvgText, Contains("viewBox=\"0 0 232 232\"")),
+    (Drawing::PlainPicText, Contains("p(4,4,1,1)\n")),
+];
+
+const GREEK_TEXT: &[u8] = b"\xca\xfe\xe4\xe9\xea\xe1\xf2 QR";
+
+// The drawing of the digits in one of five ways.
+fn digits_drawn(alloc: Global, drawing: Drawing) -> QrResult<String> {
+    let code = QrCode::new(alloc, b"01234567")?;
+    match drawing {
+        Drawing::Chars => as_chars(alloc, &code),
+        Drawing::Pairs => as_pairs(alloc, &code),
+        Drawing::HalfBlocks => as_half_blocks(alloc, &code),
+        Drawing::Svg => as_svg(alloc, &code),
+        _ => as_pic(alloc, &code),
+    }
+}
+
+// The drawing of a plain call.
+fn plain_drawn(alloc: Global, drawing: Drawing) -> QrResult<String> {
+    match drawing {
+        Drawing::PlainBlocks => Ok(plain::text(alloc)?.1),
+        Drawing::PlainPayment => plain::payment(alloc),
+        Drawing::PlainTicket => plain::ticket(alloc),
+        Drawing::PlainWithin => plain::within(alloc),
+        Drawing::PlainChars => plain::chars(alloc),
+        Drawing::PlainTexts => plain::texts(alloc),
+        Drawing::PlainSvgText => plain::svg_text(alloc),
+        Drawing::PlainPicText => plain::pic_text(alloc),
+        _ => Ok(plain::text(alloc)?.0),
+    }
+}
+
+// The text that a use draws.
+fn drawn(alloc: Global, drawing: Drawing) -> QrResult<String> {
+    match drawing {
+        Drawing::Payment => payment_picture(alloc, &PAYMENT),
+        Drawing::Ticket(number) => ticket_blocks(alloc, number),
+        Drawing::Greek(text) => greek_symbol(alloc, text),
+        Drawing::Chars | Drawing::Pairs | Drawing::HalfBlocks | Drawing::Svg | Drawing::Pic =>
+            digits_drawn(alloc, drawing),
+        _ => plain_drawn(alloc, drawing),
+    }
+}
+
+// Whether a text is as expected.
+fn looks(text: &str, look: Look) -> bool {
+    match look {
+        Line(number, line) => text.split('\n').nth(number) == Some(line),
+        Lines(count) => text.split('\n').count() == count,
+        Length(length) => text.len() == length,
+        Begins(begin) => text.starts_with(begin),
+        Contains(part) => text.contains(part),
+        Look::Refused(_) => false,
+    }
 }
 
 #[test]
-fn a_ticket_is_drawn(rt: HostRuntime) -> Result<(), Fail> {
-    let text = ticket_blocks(rt.alloc(), 12_345_678)?;
-    assert_eq!(rt;
-        text.as_str(),
-        "█████████████████
-██ ▄▄▄▄▄ █▄▀▄█▄██
-██ █   █ █   █ ██
-██ █▄▄▄█ █▄▄██▀██
-██▄▄▄▄▄▄▄█▄▄▄▀ ██
-██▄ ▀ ▀ ▀▄▄  ████
-██▄▄▀▄█ ▀▀▀ ▀▄▄██
-██▄▄▄█▄▄█▄██▄█▄██
-▀▀▀▀▀▀▀▀▀▀▀▀▀▀▀▀▀"
-    );
-    ticket_blocks(rt.alloc(), u32::MAX)?;
-    Ok(())
+fn texts_are_drawn(rt: HostRuntime) {
+    for (i, (drawing, look)) in DRAWINGS.iter().enumerate() {
+        let as_expected = match drawn(rt.alloc(), *drawing) {
+            Ok(text) => looks(text.as_str(), *look),
+            Err(error) => matches!(look, Look::Refused(expected) if *expected == error),
+        };
+        assert!(rt; as_expected, "row {i}");
+    }
 }
 
-static GREEK_TEXT: &[u8] = b"\xca\xfe\xe4\xe9\xea\xe1\xf2 QR";
-
-// The bytes of a Greek text's bits.
-fn greek_bytes(alloc: Global, text: &[u8]) -> QrResult<Vec<u8>> {
-    Ok(greek_bits(alloc, text)?.into_bytes())
-}
-
-// How many letters the drawing of a Greek text's symbol has.
-fn greek_length(alloc: Global, text: &[u8]) -> QrResult<usize> {
-    Ok(greek_symbol(alloc, text)?.len())
+// Whether a file is a PGM file of 232 by 232 pixels.
+fn is_grey_map(file: &[u8]) -> bool {
+    file.starts_with(b"P5\n232 232\n255\n") && file.len() == 53_839
 }
 
 #[test]
-fn a_greek_text_is_drawn(rt: HostRuntime) -> Result<(), Fail> {
-    let bytes = greek_bytes(rt.alloc(), GREEK_TEXT)?;
-    assert_eq!(rt;
-        bytes.as_slice(),
-        b"\x70\x94\x0a\xca\xfe\xe4\xe9\xea\xe1\xf2\x20\x51\x52\x00\xec\x11\xec\x11\xec".as_slice()
-    );
-    assert_eq!(rt; greek_length(rt.alloc(), GREEK_TEXT)?, 461);
-    assert_eq!(rt;
-        greek_length(rt.alloc(), b"seventeen letters"),
-        Err(QrError::DataTooLong)
-    );
+fn pixels_are_drawn(rt: HostRuntime) -> Result<(), Fail> {
+    let code = QrCode::new(rt.alloc(), b"01234567")?;
+    let file = as_grey_map(rt.alloc(), &code)?;
+    let greys = plain::greys(rt.alloc())?;
+    assert!(rt; is_grey_map(&file) && is_grey_map(&greys));
+    let (width, height) = plain::colors(rt.alloc())?.dimensions();
+    assert!(rt; width == 203 && height == 203);
+    Ok(())
+}
+
+static GREEK_BYTES: &[u8] =
+    b"\x70\x94\x0a\xca\xfe\xe4\xe9\xea\xe1\xf2\x20\x51\x52\x00\xec\x11\xec\x11\xec";
+
+#[test]
+fn greek_bits_are_made(rt: HostRuntime) -> Result<(), Fail> {
+    let bytes = greek_bits(rt.alloc(), GREEK_TEXT)?.into_bytes();
+    assert!(rt; bytes.as_slice() == GREEK_BYTES);
     Ok(())
 }
 
 // Where the first bars begin and how wide they are: the first two rows of the printed symbol are
 // `#######..#.##.#######` and `#.....#..####.#.....#`.
+#[rattlefmt::skip]
 static FIRST_BARS: [(u32, u32, u32); 9] = [
-    (16, 16, 28),
-    (52, 16, 4),
-    (60, 16, 8),
-    (72, 16, 28),
-    (16, 20, 4),
-    (40, 20, 4),
-    (52, 20, 16),
-    (72, 20, 4),
-    (96, 20, 4),
+    (16, 16, 28), (52, 16, 4), (60, 16, 8), (72, 16, 28),
+    (16, 20, 4), (40, 20, 4), (52, 20, 16), (72, 20, 4), (96, 20, 4),
 ];
 
-// The bar begins there, has this width, and is a module high.
-fn is_bar(rt: &impl Abort, bar: Bar, (left, top, width): (u32, u32, u32)) {
-    let height = 4;
-    assert_eq!(rt;
-        bar,
-        Bar {
-            left,
-            top,
-            width,
-            height
+// Whether the first bars begin there and have these widths, and each is a module high.
+fn has_first_bars(bars: &[Bar]) -> bool {
+    for (bar, (left, top, width)) in bars.iter().zip(FIRST_BARS.iter()) {
+        if (bar.left, bar.top, bar.width, bar.height) != (*left, *top, *width, 4) {
+            return false;
         }
-    );
+    }
+    bars.len() == 112
 }
 
 #[test]
 fn a_label_is_drawn(rt: HostRuntime) -> Result<(), Fail> {
-    let bars = label_bars(rt.alloc(), b"01234567")?;
-    for (bar, sides) in bars.iter().zip(FIRST_BARS) {
-        is_bar(&rt, *bar, sides);
-    }
-    assert_eq!(rt; bars.len(), 112);
+    assert!(rt; has_first_bars(&label_bars(rt.alloc(), b"01234567")?));
     Ok(())
 }
 
-// The text has this line, counted from 0.
-fn has_line(rt: &impl Abort, text: &str, number: usize, line: &str) {
-    assert_eq!(rt; text.split('\n').nth(number), Some(line));
+/// A use that makes a symbol.
+#[derive(Clone, Copy)]
+enum Sign {
+    Plain,
+    Marked,
+    Small,
+    SmallMarked,
+    Smallest,
+    Safest,
+    Bytes,
+    TwoParts,
+    Greek,
 }
 
-#[test]
-fn each_way_draws(rt: HostRuntime) -> Result<(), Fail> {
-    let alloc = rt.alloc();
-    let code = QrCode::new(alloc, b"01234567")?;
-    let line = "    ███████  █ ██ ███████    ";
-    has_line(&rt, as_chars(alloc, &code)?.as_str(), 4, line);
-    let line = "        ##############    ##  ####  ##############        ";
-    has_line(&rt, as_pairs(alloc, &code)?.as_str(), 4, line);
-    let line = "    █▀▀▀▀▀█  █▄██ █▀▀▀▀▀█    ";
-    has_line(&rt, as_half_blocks(alloc, &code)?.as_str(), 2, line);
-    assert!(rt; as_svg(alloc, &code)?.contains("viewBox=\"0 0 232 232\""));
-    assert!(rt; as_pic(alloc, &code)?.starts_with("maxpswid=29;maxpsht=29;"));
-    let file = as_grey_map(alloc, &code)?;
-    assert!(rt; file.starts_with(b"P5\n232 232\n255\n"));
-    assert_eq!(rt; file.len(), 53_839);
-    Ok(())
-}
-
-#[test]
-fn plain_calls_draw(rt: HostRuntime) -> Result<(), Fail> {
-    let alloc = rt.alloc();
-    let (svg, text) = plain::text(alloc)?;
-    assert!(rt; svg.contains("viewBox=\"0 0 203 203\""));
-    assert_eq!(rt; text.split('\n').count(), 15);
-    assert_eq!(rt; plain::greek(alloc)?.width(), 21);
-    Ok(())
-}
-
-#[test]
-fn plain_calls_draw_within_sides(rt: HostRuntime) -> Result<(), Fail> {
-    let alloc = rt.alloc();
-    assert!(rt; plain::payment(alloc)?.contains("viewBox=\"0 0 231 231\""));
-    assert_eq!(rt; plain::ticket(alloc)?.split('\n').count(), 9);
-    assert!(rt; plain::within(alloc)?.contains("viewBox=\"0 0 290 290\""));
-    Ok(())
-}
-
-#[test]
-fn plain_calls_draw_texts(rt: HostRuntime) -> Result<(), Fail> {
-    let alloc = rt.alloc();
-    assert_eq!(rt; plain::chars(alloc)?.split('\n').count(), 29);
-    assert_eq!(rt; plain::texts(alloc)?.len(), 29 * 59 - 1);
-    assert!(rt; plain::svg_text(alloc)?.contains("viewBox=\"0 0 232 232\""));
-    assert!(rt; plain::pic_text(alloc)?.contains("p(4,4,1,1)\n"));
-    Ok(())
-}
-
-#[test]
-fn plain_calls_draw_pixels(rt: HostRuntime) -> Result<(), Fail> {
-    let alloc = rt.alloc();
-    assert_eq!(rt; plain::greys(alloc)?.len(), 53_839);
-    assert_eq!(rt; plain::colors(alloc)?.dimensions(), (203, 203));
-    Ok(())
-}
+static SIGNS: [(Sign, Version, EcLevel); 9] = [
+    (Sign::Plain, Version::Normal(2), EcLevel::M),
+    (Sign::Marked, Version::Normal(1), EcLevel::M),
+    (Sign::Small, Version::Normal(2), EcLevel::M),
+    (Sign::SmallMarked, Version::Normal(2), EcLevel::M),
+    (Sign::Smallest, Version::Micro(3), EcLevel::L),
+    (Sign::Safest, Version::Micro(3), EcLevel::M),
+    (Sign::Bytes, Version::Normal(5), EcLevel::H),
+    (Sign::TwoParts, Version::Normal(4), EcLevel::Q),
+    (Sign::Greek, Version::Normal(1), EcLevel::L),
+];
 
 static CITY: &str = "Z\u{fc}rich";
 
 static GREETING: &str = "\u{3053}\u{3093}\u{306b}\u{3061}\u{306f}\u{4e16}\u{754c}";
 
-#[test]
-fn texts_make_symbols(rt: HostRuntime) -> Result<(), Fail> {
-    let alloc = rt.alloc();
-    assert_eq!(rt; texts::sign(alloc, GREETING)?.width(), 25);
-    assert_eq!(rt; texts::marked_sign(alloc, CITY)?.width(), 21);
-    assert_eq!(rt; texts::small_label(alloc, CITY)?.width(), 25);
-    assert_eq!(rt; texts::small_marked_label(alloc, CITY)?.width(), 25);
-    Ok(())
+// The symbol that a use makes.
+fn signed(alloc: Global, sign: Sign) -> QrResult<QrCode> {
+    match sign {
+        Sign::Plain => texts::sign(alloc, GREETING),
+        Sign::Marked => texts::marked_sign(alloc, CITY),
+        Sign::Small => texts::small_label(alloc, CITY),
+        Sign::SmallMarked => texts::small_marked_label(alloc, CITY),
+        Sign::Smallest => texts::smallest(alloc, CITY),
+        Sign::Safest => texts::smallest_and_safest(alloc, CITY),
+        Sign::Bytes => texts::bytes_in_normal_5(alloc, b"\xca\xfe"),
+        Sign::TwoParts => texts::in_two_parts(alloc, CITY, GREETING),
+        Sign::Greek => plain::greek(alloc),
+    }
 }
 
+// Each symbol has some dark modules, and not all are.
 #[test]
-fn smallest_symbols_of_texts_are_made(rt: HostRuntime) -> Result<(), Fail> {
-    let alloc = rt.alloc();
-    assert_eq!(rt; texts::smallest(alloc, CITY)?.version(), Version::Micro(3));
-    let safest = texts::smallest_and_safest(alloc, CITY)?;
-    assert_eq!(rt; safest.error_correction_level(), EcLevel::M);
-    Ok(())
-}
-
-#[test]
-fn dark_modules_are_counted(rt: HostRuntime) -> Result<(), Fail> {
-    let safest = texts::smallest_and_safest(rt.alloc(), CITY)?;
-    assert!(rt; texts::count_of_dark(&safest) < 225);
-    Ok(())
-}
-
-#[test]
-fn lists_make_symbols(rt: HostRuntime) -> Result<(), Fail> {
-    let alloc = rt.alloc();
-    assert_eq!(rt; texts::bytes_in_normal_5(alloc, b"\xca\xfe")?.width(), 37);
-    assert_eq!(rt; texts::in_two_parts(alloc, CITY, GREETING)?.width(), 33);
-    Ok(())
+fn symbols_are_made(rt: HostRuntime) {
+    for (i, (sign, version, ec_level)) in SIGNS.iter().enumerate() {
+        let code = signed(rt.alloc(), *sign).expect(&rt, "a symbol");
+        let of_kind = code.version() == *version && code.error_correction_level() == *ec_level;
+        let dark = texts::count_of_dark(&code);
+        assert!(rt;
+            of_kind && 0 < dark && dark < code.colors().len(),
+            "row {i}"
+        );
+    }
 }

@@ -1,0 +1,127 @@
+//! Canvases: each kind of picture is drawn on, a user's own too, and a canvas of modules is masked.
+
+use qrcode::canvas::Canvas;
+use qrcode::render::image::Luma;
+use qrcode::render::string::Str;
+use qrcode::render::unicode::Dense1x2;
+use qrcode::render::{self, Canvas as _, Renderer, fill_rect, image, pic, string, svg, unicode};
+use qrcode::types::{QrError, QrResult};
+use qrcode::{Color, EcLevel, Version};
+use qrcode_judge::square::Square;
+use qrcode_uses::label::{Bar, Dot, Label};
+use std::alloc::Global;
+use std::process::Abort;
+
+// A picture of four by four pixels with a dot, a rectangle and a filled rectangle.
+fn dotted<C: render::Canvas>(alloc: Global, dark: C::Pixel, light: C::Pixel) -> QrResult<C::Image> {
+    let mut canvas = C::new(alloc, 4, 4, dark, light)?;
+    canvas.draw_dark_pixel(1, 0)?;
+    canvas.draw_dark_rect(2, 1, 2, 2)?;
+    fill_rect(&mut canvas, 0, 3, 2, 1)?;
+    canvas.into_image()
+}
+
+// The text of that picture ends so; how many bytes stand before the end.
+fn check_end<C: render::Canvas<Image = String>>(
+    rt: &impl Abort,
+    alloc: Global,
+    dark: C::Pixel,
+    light: C::Pixel,
+    end: &str,
+) -> usize {
+    let text = dotted::<C>(alloc, dark, light).expect(rt, "a text");
+    assert!(rt; text.as_str().ends_with(end));
+    text.len().wrapping_sub(end.len())
+}
+
+#[test]
+fn each_canvas_of_cells_is_drawn_on(rt: HostRuntime) {
+    let alloc = rt.alloc();
+    let text = ".#..\n..##\n..##\n##..";
+    let before = check_end::<string::Canvas<char>>(&rt, alloc, '#', '.', text);
+    let text = "ab\nabab\nabab\nabab";
+    let pairs = check_end::<string::Canvas<Str<'static>>>(&rt, alloc, Str("ab"), Str(""), text);
+    let (dark, light) = (Dense1x2::Dark, Dense1x2::Light);
+    let halves = check_end::<unicode::Canvas1x2>(&rt, alloc, dark, light, " ▀▄▄\n▄▄▀▀");
+    assert!(rt; before == 0 && pairs == 0 && halves == 0);
+}
+
+#[test]
+fn each_canvas_of_shapes_is_drawn_on(rt: HostRuntime) {
+    let alloc = rt.alloc();
+    let (dark, light) = (svg::Color("a"), svg::Color("b"));
+    let path = "d=\"M1 0h1v1H1V0M2 1h2v2H2V1M0 3h1v1H0V3M1 3h1v1H1V3\"/></svg>";
+    let _ = check_end::<svg::Canvas<'static>>(&rt, alloc, dark, light, path);
+    let lines = "p(1,0,1,1)\np(2,1,2,2)\np(0,3,1,1)\np(1,3,1,1)\n";
+    let _ = check_end::<pic::Canvas>(&rt, alloc, pic::Color, pic::Color, lines);
+    let greys = dotted::<image::Canvas<Luma>>(alloc, Luma([7]), Luma([9])).expect(&rt, "greys");
+    let pixels = [9, 7, 9, 9, 9, 9, 7, 7, 9, 9, 7, 7, 7, 7, 9, 9];
+    assert!(rt; greys.into_raw().as_slice() == pixels.as_slice());
+}
+
+// Two modules along a side, of which the first and the last are dark.
+static DIAGONAL: [Color; 4] = [Color::Dark, Color::Light, Color::Light, Color::Dark];
+
+// The bars of the diagonal with a quiet zone of one module, each module of two pixels by one.
+fn diagonal_bars(alloc: Global) -> QrResult<Vec<Bar>> {
+    let mut renderer = Renderer::<Dot>::new(&DIAGONAL, 2, 1);
+    renderer.module_dimensions(2, 0).quiet_zone(true);
+    if !renderer.fits() {
+        return Err(QrError::DataTooLong);
+    }
+    renderer.build(alloc)
+}
+
+// The bars of two by two pixels, which are filled row by row.
+fn filled_bars(alloc: Global) -> QrResult<Vec<Bar>> {
+    let mut label = Label::new(alloc, 9, 9, Dot, Dot)?;
+    fill_rect(&mut label, 2, 3, 2, 2)?;
+    label.into_image()
+}
+
+// Bars are those that begin there and have these sides: left, top, width, height.
+fn are_bars(rt: &impl Abort, bars: QrResult<Vec<Bar>>, sides: &[(u32, u32, u32, u32)]) -> bool {
+    let bars = bars.expect(rt, "bars");
+    for (bar, side) in bars.iter().zip(sides) {
+        if (bar.left, bar.top, bar.width, bar.height) != *side {
+            return false;
+        }
+    }
+    bars.len() == sides.len()
+}
+
+#[test]
+fn a_users_canvas_is_drawn_on(rt: HostRuntime) {
+    let bars = diagonal_bars(rt.alloc());
+    assert!(rt; are_bars(&rt, bars, &[(2, 1, 2, 1), (4, 2, 2, 1)]));
+    let bars = filled_bars(rt.alloc());
+    assert!(rt; are_bars(&rt, bars, &[(2, 3, 2, 1), (2, 4, 2, 1)]));
+    let bars = dotted::<Label>(rt.alloc(), Dot, Dot);
+    assert!(rt; are_bars(&rt, bars, &[(1, 0, 1, 1), (2, 1, 2, 2), (0, 3, 2, 1)]));
+}
+
+// The format word that a square of Micro 1 carries.
+fn word_on(square: &Square) -> u32 {
+    let mut word = 0u32;
+    for i in 0..15usize {
+        let is_dark = square.is_dark(square.format_place(0, i));
+        word = word.wrapping_mul(2).wrapping_add(is_dark as u32);
+    }
+    word
+}
+
+// The modules of Micro 1 under its best mask, of which nothing else is drawn.
+fn masked_modules(rt: &impl Abort, alloc: Global) -> Vec<bool> {
+    let (version, ec_level) = (Version::Micro(1), EcLevel::L);
+    assert!(rt; version.has_level(ec_level));
+    let canvas = Canvas::new(alloc, version, ec_level).expect(rt, "a canvas");
+    let masked = canvas.apply_best_mask(alloc).expect(rt, "a canvas");
+    masked.to_bools(alloc).expect(rt, "memory")
+}
+
+// The masks of the canvas have the penalties 80, 85, 68 and 85.
+#[test]
+fn an_empty_canvas_is_masked(rt: HostRuntime) {
+    let modules = masked_modules(&rt, rt.alloc());
+    assert!(rt; word_on(&Square { width: 11, modules }) == 0x4e2b);
+}
