@@ -1,3 +1,4 @@
+pub mod Greys
 pub mod Known
 pub mod Refused
 pub mod Taken

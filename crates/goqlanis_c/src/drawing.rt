@@ -1,6 +1,6 @@
 //! Pictures of modules.
 
-ghost use Rattle.std.specs.Prelude.{◌≡◌, ◌+◌, ◌*◌, ◌^◌, ◌<◌, ◌≤◌, true, false, [], ◌∷◌, length, codes, None, IfOk, IsOkUnless};
+ghost use Rattle.std.specs.Prelude.{◌≡◌, ◌+◌, ◌*◌, ◌^◌, ◌<◌, ◌≤◌, true, false, [], ◌∷◌, length, codes, None, IfOk, OnOk, OnErr, IsOkUnless};
 ghost use Rattle.qrcode_types.specs.declared.types.QrError.TheVariants.{OutOfMemory};
 ghost use Rattle.qrcode_png.specs.Shown.{IsFileOf};
 ghost use Rattle.qrcode_render.specs.Eps.{eps_text};
@@ -10,6 +10,7 @@ ghost use Rattle.qrcode_render.specs.Layout.{layout};
 ghost use Rattle.qrcode_render.specs.Picture.{picture};
 ghost use Rattle.qrcode_render.specs.Texts.{dense_text, raw_bytes};
 ghost use Rattle.qrcode_render.specs.Vectors.{svg_text, pic_text};
+ghost use Rattle.goqlanis_c.specs.declared.drawing.Format.TheVariants.{Grey};
 ghost use Rattle.goqlanis_c.specs.Drawings.{format_named, colors_of, black, white, eps_grey, IsDrawn};
 
 use qrcode::render::image::Luma;
@@ -210,6 +211,32 @@ fn as_pbm(alloc: Global, colors: &[Color], width: usize, zone: u32, scale: u32) 
     Renderer::<Bit>::new(colors, width, zone)
         .module_size(scale)
         .build(alloc)
+}
+
+/// Writes the greys of the pixels of modules, so many along a side, into a buffer that has as many
+/// bytes. Refuses with `OutOfMemory` alone.
+pub(crate) fn greys_into(
+    alloc: Global,
+    modules: &[u8],
+    width: u32,
+    zone: u32,
+    scale: u32,
+    out: &mut [u8],
+) -> QrResult<()>
+    requires square { length modules.now ≡ width * width }
+    requires side { width + 2 * zone < 2 ^ 16 }
+    requires scale { scale < 2 ^ 16 }
+    requires positive { 1 ≤ scale }
+    requires exact { length out.old
+        ≡ (width + 2 * zone) * scale * ((width + 2 * zone) * scale) }
+    ensures drawing { OnOk result (IsDrawn Grey modules.now width zone scale out.new) }
+    ensures unchanged { OnErr result (out.new ≡ out.old) }
+    ensures memory { IsOkUnless result OutOfMemory }
+{
+    let colors = colors_of(alloc, modules)?;
+    Renderer::<Luma>::new(&colors, width as usize, zone)
+        .module_size(scale)
+        .build_into(alloc, out)
 }
 
 // The text or the bytes of modules, so many along a side, in a format.

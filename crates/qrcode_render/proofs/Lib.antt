@@ -10,6 +10,7 @@ pub mod Paths
 pub mod Pictures
 pub mod PixelRows
 pub mod RasterPictures
+pub mod PutRows
 pub mod Rectangles
 pub mod Sizes
 pub mod TextLines

@@ -56,9 +56,9 @@ fn palette_of(alloc: Global, dark: &[u8], light: &[u8]) -> QrResult<Option<Fours
 
 // The texts that stand for a dark and a light cell, and for four where they are short.
 #[derive(Drop)]
-struct CellTexts {
-    dark: Vec<u8>,
-    light: Vec<u8>,
+pub(crate) struct CellTexts {
+    pub(crate) dark: Vec<u8>,
+    pub(crate) light: Vec<u8>,
     palette: Option<Fours>,
     ghost twos: { ForSome palette (λ p. (a b : Bool) →
         two_text p a b ≡ marks_text dark.items light.items (a ∷ b ∷ [])) },
@@ -66,7 +66,7 @@ struct CellTexts {
 
 impl CellTexts {
     // The texts of cells of so many pixels across, of those of a pixel.
-    fn new(alloc: Global, across: u32, dark: &[u8], light: &[u8]) -> QrResult<CellTexts>
+    pub(crate) fn new(alloc: Global, across: u32, dark: &[u8], light: &[u8]) -> QrResult<CellTexts>
         ensures dark { IfOk result (λ texts. texts.dark.items ≡ repeated across dark.now) }
         ensures light { IfOk result (λ texts. texts.light.items ≡ repeated across light.now) }
         ensures memory { IsOkUnless result OutOfMemory }
@@ -82,7 +82,7 @@ impl CellTexts {
     }
 
     // A line with room for so many cells and a text at the end.
-    fn line(&self, alloc: Global, cells: usize, end: &[u8]) -> QrResult<Line>
+    pub(crate) fn line(&self, alloc: Global, cells: usize, end: &[u8]) -> QrResult<Line>
         ensures room { IfOk result (λ line. line.room
             ≡ cells * max (vec_len self.now.dark) (vec_len self.now.light) + length end.now + 32) }
         ensures memory { IsOkUnless result OutOfMemory }
@@ -94,7 +94,7 @@ impl CellTexts {
     }
 
     // Writes the text of marks.
-    fn write(&self, line: &mut Line, marks: &[bool])
+    pub(crate) fn write(&self, line: &mut Line, marks: &[bool])
         requires room { length marks.now * max (vec_len self.now.dark) (vec_len self.now.light) + 32
             ≤ line.old.room }
         ensures { line.new ≡ record line.old {

@@ -13,7 +13,7 @@ use std::simd::Simd;
 pub const LONGEST: usize = 32;
 
 // Writes a text, and answers where it ends.
-fn put_text(bytes: &mut [u8], at: usize, text: &[u8]) -> usize
+pub(crate) fn put_text(bytes: &mut [u8], at: usize, text: &[u8]) -> usize
     requires { at + length text.now ≤ length bytes.old }
     ensures writes { take result bytes.new ≡ take at bytes.old ++ text.now }
     ensures end { result ≡ at + length text.now }
