@@ -1,3 +1,4 @@
+pub mod AppendHeaders
 pub mod Automatic
 pub mod Bands
 pub mod Changed

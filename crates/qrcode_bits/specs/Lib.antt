@@ -22,3 +22,4 @@ pub mod StreamView
 pub mod TextPushes
 pub mod Tokens
 pub mod Written
+pub mod StructuredAppend

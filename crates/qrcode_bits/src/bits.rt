@@ -30,6 +30,7 @@ mod choice;
 mod ending;
 mod manner;
 mod optimal;
+mod several;
 mod stream;
 mod text;
 mod written;

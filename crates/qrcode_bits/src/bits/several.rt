@@ -1,0 +1,32 @@
+//! The header of a symbol that is one of several.
+
+ghost use Rattle.std.specs.Prelude.{◌≤◌, length, Some, None, if◌then◌else◌};
+ghost use Rattle.qrcode_types.specs.Versions.{is_micro};
+ghost use Rattle.qrcode_bits.specs.Pushes.{Appends};
+ghost use Rattle.qrcode_bits.specs.Refusals.{append_refusal};
+ghost use Rattle.qrcode_bits.specs.StructuredAppend.{append_header};
+
+use super::Bits;
+use qrcode_types::types::{QrError, QrResult};
+
+impl Bits {
+    /// Appends the header of a symbol that is one of several (structured append, ISO/IEC 18004:2006,
+    /// 8): the mode indicator, the place of the symbol and that of the last one, both from 0 on, and
+    /// the exclusive or of all bytes of the whole data. It stands in front of everything else.
+    ///
+    /// `UnsupportedCharacterSet`: the version is one of Micro QR. `DataTooLong`: the list would pass
+    /// 16,777,216 bits.
+    pub fn push_structured_append(&mut self, place: u8, last: u8, parity: u8) -> QrResult<()>
+        requires place { place ≤ last }
+        requires last { last ≤ 15 }
+        ensures { Appends (append_refusal (length self.old.bits)
+            (if is_micro self.old.version then None else Some (append_header place last parity)))
+            (append_header place last parity) self.old self.new result }
+    {
+        if self.version.is_micro() {
+            return Err(QrError::UnsupportedCharacterSet);
+        }
+        let places = 16 * u32::from(place) + u32::from(last);
+        self.push_number(20, (0b0011 << 16) + 256 * places + u32::from(parity))
+    }
+}
