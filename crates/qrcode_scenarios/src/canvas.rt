@@ -48,16 +48,34 @@ pub fn run(
     match call {
         CanvasCall::New => Ok(corners(&canvas)),
         CanvasCall::Draws => draws(canvas, version),
-        CanvasCall::BestMask => Ok(Digest::of(&canvas.apply_best_mask(alloc)?.into_colors(alloc)?)),
-        CanvasCall::BestColors => Ok(Digest::of(&canvas.best_colors(alloc)?)),
-        CanvasCall::IntoBestColors => Ok(Digest::of(&canvas.into_best_colors(alloc)?)),
-        CanvasCall::Bools => Ok(Digest::of(&canvas.to_bools(alloc)?)),
-        CanvasCall::Colors => Ok(Digest::of(&canvas.into_colors(alloc)?)),
-        CanvasCall::Clone => {
-            let other = canvas.clone()?;
-            Ok(corners(&canvas).and(Digest::of(&other.into_colors(alloc)?)))
-        }
+        CanvasCall::BestMask => of_canvas(alloc, canvas.apply_best_mask(alloc)),
+        CanvasCall::BestColors => of_colors(canvas.best_colors(alloc)),
+        CanvasCall::IntoBestColors => of_colors(canvas.into_best_colors(alloc)),
+        CanvasCall::Bools => of_bools(canvas.to_bools(alloc)),
+        CanvasCall::Colors => of_colors(canvas.into_colors(alloc)),
+        CanvasCall::Clone => cloned(alloc, &canvas),
     }
+}
+
+// The digest of colours.
+fn of_colors(colors: QrResult<Vec<Color>>) -> QrResult<Digest> {
+    Ok(Digest::of(&colors?))
+}
+
+// The digest of bools.
+fn of_bools(bools: QrResult<Vec<bool>>) -> QrResult<Digest> {
+    Ok(Digest::of(&bools?))
+}
+
+// The digest of a canvas's colours.
+fn of_canvas(alloc: Global, canvas: QrResult<Canvas>) -> QrResult<Digest> {
+    of_colors(canvas?.into_colors(alloc))
+}
+
+// The digest of a canvas and of a copy.
+fn cloned(alloc: Global, canvas: &Canvas) -> QrResult<Digest> {
+    let copy = of_colors(canvas.clone()?.into_colors(alloc))?;
+    Ok(corners(canvas).and(copy))
 }
 
 // The data and error correction codewords that are drawn.

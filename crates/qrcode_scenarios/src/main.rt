@@ -18,7 +18,7 @@ mod word;
 use qrcode::types::QrResult;
 use qrcode_digest::Digest;
 use qrcode_pushes::Fault;
-use rows::groups;
+use rows::{GROUPS, group};
 use scenario::{Answer, Call, Memory, Note, Outcome, Scenario, Single, outcome_of};
 use std::alloc::Global;
 use std::io::Print;
@@ -44,12 +44,17 @@ fn main(rt: HostRuntime) -> ExitCode {
 
 // The scenario of a name, if there is one.
 fn named(name: &str) -> Option<Scenario> {
-    for group in groups() {
-        if let Some(scenario) = group.iter().copied().find(|it| it.0 == name) {
+    for number in 0..GROUPS {
+        if let Some(scenario) = named_in(group(number), name) {
             return Some(scenario);
         }
     }
     None
+}
+
+// The scenario of a name in a group, if there is one.
+fn named_in(group: &[Scenario], name: &str) -> Option<Scenario> {
+    group.iter().copied().find(|it| it.0 == name)
 }
 
 // The answer of a scenario's call.
@@ -111,8 +116,8 @@ fn print_note<R: Print>(rt: &R, note: Note) -> io::Result<()> {
 
 // Prints all scenarios, each with what it asks of memory and the cause that refuses it.
 fn list_all<R: Print>(rt: &R) -> io::Result<()> {
-    for group in groups() {
-        list_each(rt, group)?;
+    for number in 0..GROUPS {
+        list_each(rt, group(number))?;
     }
     Ok(())
 }

@@ -40,14 +40,18 @@ pub fn run(alloc: Global, version: Version, call: ReadCall) -> QrResult<Digest> 
 
 // What was read as bits.
 fn of_bits(alloc: Global, colors: &[Color]) -> QrResult<Digest> {
-    let read = read_bits(alloc, colors).map_err(refusal)?;
-    Ok(Digest::of(&read.bits).and(of_wrong(&read.wrong)))
+    match read_bits(alloc, colors) {
+        Ok(read) => Ok(Digest::of(&read.bits).and(of_wrong(&read.wrong))),
+        Err(unread) => Err(refusal(unread)),
+    }
 }
 
 // What was read as a text.
 fn of_text(alloc: Global, colors: &[Color]) -> QrResult<Digest> {
-    let read = read_text(alloc, colors).map_err(text_refusal)?;
-    Ok(Digest::of(read.text.as_bytes()).and(of_wrong(&read.wrong)))
+    match read_text(alloc, colors) {
+        Ok(read) => Ok(Digest::of(read.text.as_bytes()).and(of_wrong(&read.wrong))),
+        Err(unread) => Err(text_refusal(unread)),
+    }
 }
 
 // What was read as bytes.

@@ -4,7 +4,7 @@ use crate::data::Data;
 use crate::pushes::digest_of;
 use qrcode::QrCode;
 use qrcode::bits::{DATA_LIMIT, Manner, encode_boosted, encode_from, encode_in};
-use qrcode::optimize::{Modes, least_segments_in};
+use qrcode::optimize::{Modes, Segment, least_segments_in};
 use qrcode::types::{EcLevel, QrError, QrResult, Version};
 use qrcode_digest::Digest;
 use std::alloc::Global;
@@ -42,30 +42,70 @@ pub fn run(alloc: Global, call: TextCall) -> QrResult<Digest> {
             of_code(QrCode::of_marked_text_in(alloc, text, version, level))
         }
         TextCall::AtLeast(data, manner, from, level) => {
-            let held = data.hold(alloc)?;
-            let bits = encode_from(alloc, held.bytes(), manner, from, level)?;
-            let code = QrCode::at_least(alloc, held.bytes(), manner, from, level);
-            Ok(digest_of(bits).and(of_code(code)?))
+            at_least(alloc, data.hold(alloc)?.bytes(), manner, from, level)
         }
         TextCall::Boosted(data, manner, from, level) => {
-            let held = data.hold(alloc)?;
-            let (bits, _) = encode_boosted(alloc, held.bytes(), manner, from, level)?;
-            let code = QrCode::at_least_boosted(alloc, held.bytes(), manner, from, level);
-            Ok(digest_of(bits).and(of_code(code)?))
+            boosted(alloc, data.hold(alloc)?.bytes(), manner, from, level)
         }
         TextCall::InVersion(data, manner, version, level) => {
-            let held = data.hold(alloc)?;
-            let bits = encode_in(alloc, held.bytes(), manner, version, level)?;
-            let code = QrCode::in_version(alloc, held.bytes(), manner, version, level);
-            Ok(digest_of(bits).and(of_code(code)?))
+            in_version(alloc, data.hold(alloc)?.bytes(), manner, version, level)
         }
         TextCall::Least(data, version) => least(alloc, data, version),
     }
 }
 
+// The bits and the symbol of data, of the least version from one on.
+fn at_least(
+    alloc: Global,
+    data: &[u8],
+    manner: Manner,
+    from: Version,
+    level: EcLevel,
+) -> QrResult<Digest> {
+    let bits = digest_of(encode_from(alloc, data, manner, from, level)?);
+    let code = of_code(QrCode::at_least(alloc, data, manner, from, level))?;
+    Ok(bits.and(code))
+}
+
+// The same at the highest level with which that version has room.
+fn boosted(
+    alloc: Global,
+    data: &[u8],
+    manner: Manner,
+    from: Version,
+    level: EcLevel,
+) -> QrResult<Digest> {
+    let (bits, _) = encode_boosted(alloc, data, manner, from, level)?;
+    let bits = digest_of(bits);
+    let code = of_code(QrCode::at_least_boosted(alloc, data, manner, from, level))?;
+    Ok(bits.and(code))
+}
+
+// The bits and the symbol of data, of a version.
+fn in_version(
+    alloc: Global,
+    data: &[u8],
+    manner: Manner,
+    version: Version,
+    level: EcLevel,
+) -> QrResult<Digest> {
+    let bits = digest_of(encode_in(alloc, data, manner, version, level)?);
+    let code = of_code(QrCode::in_version(alloc, data, manner, version, level))?;
+    Ok(bits.and(code))
+}
+
 // The digest of a symbol.
 fn of_code(code: QrResult<QrCode>) -> QrResult<Digest> {
     Ok(Digest::of(&code?.into_colors()))
+}
+
+// The digest of where segments end.
+fn of_ends(segments: &[Segment]) -> Digest {
+    let mut digest = Digest::of::<u8>(&[]);
+    for segment in segments {
+        digest = digest.and(Digest::of(&[(segment.end % 4_294_967_296) as u32]));
+    }
+    digest
 }
 
 // The ends of the least segments of data in the modes of texts.
@@ -78,9 +118,5 @@ fn least(alloc: Global, data: Data, version: Version) -> QrResult<Digest> {
     if bytes.len() > DATA_LIMIT {
         return Err(QrError::DataTooLong);
     }
-    let mut digest = Digest::of::<u8>(&[]);
-    for segment in least_segments_in(alloc, bytes, version, Modes::TEXT)? {
-        digest = digest.and(Digest::of(&[(segment.end % 4_294_967_296) as u32]));
-    }
-    Ok(digest)
+    Ok(of_ends(&least_segments_in(alloc, bytes, version, Modes::TEXT)?))
 }

@@ -15,8 +15,9 @@ use qrcode::types::QrError::{
 use qrcode::types::Version::{Micro, Normal};
 use qrcode_pushes::Push;
 
+/// Indicators, designators and data in each mode.
 #[rattlefmt::skip]
-pub static SCENARIOS: [Scenario; 41] = [
+pub static OF_DATA: [Scenario; 7] = [
     Scenario("nothing", NOTHING, None, Once(Data(Bytes(b"")))),
     Scenario("Bits::push_mode_indicator", Repeats, None, Call::Pushes(Normal(1), &[
         Push::Indicator(ExtendedMode::StructuredAppend),
@@ -47,6 +48,11 @@ pub static SCENARIOS: [Scenario; 41] = [
         Push::Kanji(b"\x93\x5f"),
         Push::Kanji(b"\x93\x5f\xe4\xaa\x81\x40\x9f\xfc\xe0\x40\xeb\xbf"),
     ])),
+];
+
+/// Texts, marks of FNC1, and terminators.
+#[rattlefmt::skip]
+pub static OF_TEXTS: [Scenario; 10] = [
     Scenario("Bits::push_text", Repeats, None, Call::Pushes(Normal(1), &[
         Push::Text("some text, 0123456789"),
         Push::Byte(b"21 bytes of some text"),
@@ -92,6 +98,11 @@ pub static SCENARIOS: [Scenario; 41] = [
         Push::Numeric(b"1234567"),
         Push::Terminator(L),
     ])),
+];
+
+/// Pushes that are refused, however much memory there is.
+#[rattlefmt::skip]
+pub static REFUSED: [Scenario; 19] = [
     Scenario("Bits::push_terminator: no such level", NOTHING, Some(InvalidVersion), Call::Pushes(Micro(1), &[
         Push::Terminator(M),
     ])),
@@ -149,7 +160,11 @@ pub static SCENARIOS: [Scenario; 41] = [
     Scenario("Bits::push_fnc1_second_position: not in Micro", NOTHING, Some(UnsupportedCharacterSet), Call::Pushes(Micro(4), &[
         Push::SecondPosition(37),
     ])),
-    // Pushes of nothing, and of as many bytes as a length field counts.
+];
+
+/// Pushes of nothing, and of as many bytes as a length field counts.
+#[rattlefmt::skip]
+pub static OF_LENGTHS: [Scenario; 5] = [
     Scenario("Bits::push_numeric_data: nothing", Repeats, None, Call::Pushes(Micro(1), &[Push::Numeric(b"")])),
     Scenario("Bits::push_alphanumeric_data: nothing", Repeats, None, Call::Pushes(Micro(2), &[Push::Alphanumeric(b"")])),
     Scenario("Bits::push_byte_data: nothing", Repeats, None, Call::Pushes(Micro(3), &[Push::Byte(b"")])),
