@@ -6,6 +6,7 @@ pub mod Chosen
 pub mod Chunks
 pub mod CutPieces
 pub mod Designators
+pub mod DigitCuts
 pub mod Endings
 pub mod FirstSegments
 pub mod Fitting

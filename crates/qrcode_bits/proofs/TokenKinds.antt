@@ -1,8 +1,8 @@
 -- Which kind of token begins at a byte.
-use Rattle.std.proofs.Common.{◌≡◌, ℕ, ◌<◌, ◌≤◌, ◌==◌, nat_le, nat_lt, Bool, true, false, cond, ◌&&◌, ◌||◌, [], ◌∷◌, get_or, Option, Some, None, refl, sym, ap, ◌∙◌, arith, subst, true≢false, inl, inr}
+use Rattle.std.proofs.Common.{◌≡◌, ℕ, ◌+◌, ◌-◌, ◌^◌, ◌<◌, ◌≤◌, ◌==◌, nat_le, nat_lt, Bool, true, false, cond, ◌&&◌, ◌||◌, [], ◌∷◌, get_or, Option, Some, None, refl, sym, ap, ◌∙◌, arith, subst, true≢false, inl, inr}
 use Rattle.std.specs.Prelude.{is_some, unwrap_or, position}
 use Rattle.std.specs.List.{list_all}
-use Rattle.std.proofs.lemmas.Bool.{agree_below_at, and_parts, or_cases, leb-true, ltb-true, eqb-true, cond-true, cond-false, cond_both, and_from, cases_Bool}
+use Rattle.std.proofs.lemmas.Bool.{agree_below, agree_below_at, and_parts, or_cases, leb-true, ltb-true, eqb-true, cond-true, cond-false, cond_both, and_from, cases_Bool}
 use Rattle.std.proofs.lemmas.List.Quantifiers.{position-Some}
 use Rattle.std.proofs.lemmas.List.Sums.{AllPass-from_list_all}
 use Rattle.qrcode_types.proofs.Writing.{writes}
@@ -12,6 +12,16 @@ use Rattle.qrcode_bits.specs.Runs.{single_kind}
 use Rattle.qrcode_bits.specs.Tokens.{kind_at}
 use Rattle.qrcode_bits.specs.declared.optimize.Kind.{Kind}
 use Rattle.qrcode_bits.specs.declared.optimize.Kind.TheVariants.{Pair, LoneLead, Digit, Letter, Other}
+
+no_more : agree_below (λ n. is_alphanumeric (91 + n)) (λ n. false) 165 ≡ true
+unfolding is_alphanumeric alphabet
+no_more = refl
+
+-- the last letter is the greatest byte of the alphabet
+pub above_letters : (b : ℕ) → b < 2 ^ 8 → 90 < b → is_alphanumeric b ≡ false
+above_letters b small above =
+    let e : b ≡ 91 + (b - 91) = omega (arith, above) in
+    ap is_alphanumeric e ∙ agree_below_at (λ n. is_alphanumeric (91 + n)) (λ n. false) 165 (b - 91) no_more (omega (arith, small, above))
 
 -- the letters and digits stand below the bytes that can begin a pair
 low_not_lead : (b : ℕ) → b < 129 → is_lead b ≡ false

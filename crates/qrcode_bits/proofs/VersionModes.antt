@@ -17,20 +17,32 @@ use Rattle.qrcode_bits.specs.declared.optimize.mode_sets.Modes.{Modes}
 abbrev is_short : Version → Mode → Bool
 is_short v m = nat_le (mode_bits_count v + length_bits_count m v) 24
 
-in_normal : agree_below (λ n. for_all (is_short (Normal (pos n)))) (λ n. true) 41 ≡ true
-in_normal = refl
-
-in_micro : agree_below (λ n. for_all (is_short (Micro (pos n)))) (λ n. true) 5 ≡ true
-in_micro = refl
+-- what each of the 44 versions passes
+by_tables : (p : Version → Bool) → agree_below (λ n. p (Normal (pos n))) (λ n. true) 41 ≡ true → agree_below (λ n. p (Micro (pos n))) (λ n. true) 5 ≡ true → (v : Version) → IsTrue (is_valid v) → p v ≡ true
+by_tables p normal micro (Normal (pos n)) e = agree_below_at (λ n. p (Normal (pos n))) (λ n. true) 41 n normal (omega (arith, leb-true n 40 (and_parts (nat_le 1 n) (nat_le n 40) e).1))
+by_tables p normal micro (Micro (pos n)) e = agree_below_at (λ n. p (Micro (pos n))) (λ n. true) 5 n micro (omega (arith, leb-true n 4 (and_parts (nat_le 1 n) (nat_le n 4) e).1))
+by_tables p normal micro (Normal (negsuc n)) e = cc
+by_tables p normal micro (Micro (negsuc n)) e = cc
 
 all_short : (v : Version) → IsTrue (is_valid v) → for_all (is_short v) ≡ true
-all_short (Normal (pos n)) e = agree_below_at (λ n. for_all (is_short (Normal (pos n)))) (λ n. true) 41 n in_normal (omega (arith, leb-true n 40 (and_parts (nat_le 1 n) (nat_le n 40) e).1))
-all_short (Micro (pos n)) e = agree_below_at (λ n. for_all (is_short (Micro (pos n)))) (λ n. true) 5 n in_micro (omega (arith, leb-true n 4 (and_parts (nat_le 1 n) (nat_le n 4) e).1))
-all_short (Normal (negsuc n)) e = cc
-all_short (Micro (negsuc n)) e = cc
+all_short = by_tables (λ v. for_all (is_short v)) refl refl
 
 pub header_short : (v : Version) (m : Mode) → IsTrue (is_valid v) → mode_bits_count v + length_bits_count m v ≤ 24
 header_short v m valid = leb-true (mode_bits_count v + length_bits_count m v) 24 (at_each (is_short v) (all_short v valid) m)
+
+-- the length field of digits is two bits longer than that of each mode, at most
+abbrev is_near : Version → Mode → Bool
+is_near v m = nat_le (length_bits_count Numeric v) (length_bits_count m v + 2)
+
+all_near : (v : Version) → IsTrue (is_valid v) → for_all (is_near v) ≡ true
+all_near = by_tables (λ v. for_all (is_near v)) refl refl
+
+pub digits_length : (v : Version) (m : Mode) → IsTrue (is_valid v) → length_bits_count Numeric v ≤ length_bits_count m v + 2
+digits_length v m valid = leb-true (length_bits_count Numeric v) (length_bits_count m v + 2) (at_each (is_near v) (all_near v valid) m)
+
+-- each version has digits
+pub has_digits : (v : Version) → IsTrue (is_valid v) → has_mode v Numeric ≡ true
+has_digits = by_tables (λ v. has_mode v Numeric) refl refl
 
 -- the version has the mode, and it is in the set
 abbrev pub allows : Modes → Version → Mode → Bool

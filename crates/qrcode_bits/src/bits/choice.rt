@@ -244,7 +244,13 @@ fn least_bits(bytes: &[u8]) -> usize
 fn count_digits(bytes: &[u8]) -> usize
     ensures { result ≡ count_by characters.is_digit bytes.now }
 {
-    bytes.iter().filter(|byte| is_digit(**byte)).count()
+    let mut count = 0;
+    for byte in bytes {
+        if is_digit(*byte) {
+            count += 1;
+        }
+    }
+    count
 }
 
 // The last version of Normal with length fields of the same sizes.

@@ -1,9 +1,9 @@
 //! Segments of the fewest bits.
 
-ghost use Rattle.std.specs.Prelude.{◌≡◌, ℕ, ◌<◌, ◌≤◌, ◌⊎◌, ◌↔◌, nat_lt, List, length, flat_map, IsTrue, IfOk, IfErr, IsOkUnless, Err};
+ghost use Rattle.std.specs.Prelude.{◌≡◌, ◌<◌, ◌≤◌, ◌⊎◌, ◌↔◌, nat_lt, List, length, flat_map, IsTrue, IfOk, IfErr, IsOkUnless, Err};
 ghost use Rattle.qrcode_types.specs.Versions.{is_valid, capacity};
 ghost use Rattle.std.specs.List.{AllByRecursion};
-ghost use Rattle.qrcode_types.specs.Characters.{can_write};
+ghost use Rattle.qrcode_types.specs.Characters as characters;
 ghost use Rattle.qrcode_types.specs.declared.types.EcLevel.{EcLevel};
 ghost use Rattle.qrcode_types.specs.declared.types.QrError.TheVariants.{UnsupportedCharacterSet, OutOfMemory};
 ghost use Rattle.qrcode_bits.specs.LeastBits.{AreSmall, headers_of, costs_of, AreStarts, IsFirst};
@@ -18,7 +18,7 @@ ghost use Rattle.qrcode_bits.specs.declared.optimize.Segment.{Segment};
 use super::costs::{BestStart, Costs, HeaderBits, SingleCosts};
 use super::headers::MORE_THAN_ANY;
 use super::{Kind, Modes, Segment};
-use qrcode_types::characters::bytes_each;
+use qrcode_types::characters::{bytes_each, can_write};
 use qrcode_types::types::{Mode, QrError, QrResult, Version};
 use std::alloc::{AllocError, Global};
 
@@ -44,7 +44,7 @@ pub fn least_segments(alloc: Global, bytes: &[u8], version: Version) -> QrResult
     ensures joined { IfOk result (λ segments.
         flat_map (λ p. p.chunk) (pieces_of bytes.now segments.items) ≡ bytes.now) }
     ensures writable { IfOk result (λ segments. AllByRecursion
-        (λ p. IsTrue (can_write p.mode p.chunk)) (pieces_of bytes.now segments.items)) }
+        (λ p. IsTrue (characters.can_write p.mode p.chunk)) (pieces_of bytes.now segments.items)) }
 
     // A cut fits a symbol exactly when some bits that fill the symbol spell the data.
     ensures spelled { (level : EcLevel) → FitsIn version bytes.now (capacity version level)
@@ -80,7 +80,36 @@ pub fn least_segments_in(
     ensures joined { IfOk result (λ segments.
         flat_map (λ p. p.chunk) (pieces_of bytes.now segments.items) ≡ bytes.now) }
     ensures writable { IfOk result (λ segments. AllByRecursion
-        (λ p. IsTrue (can_write p.mode p.chunk)) (pieces_of bytes.now segments.items)) }
+        (λ p. IsTrue (characters.can_write p.mode p.chunk)) (pieces_of bytes.now segments.items)) }
+{
+    // Digits alone need no search: no cut takes fewer bits than one segment of them.
+    if modes.numeric && !bytes.is_empty() && can_write(Mode::Numeric, bytes) {
+        let digits = Segment {
+            mode: Mode::Numeric,
+            begin: 0,
+            end: bytes.len(),
+        };
+        return Ok(vec![in alloc; digits; 1]?);
+    }
+    searched_segments(alloc, bytes, version, modes)
+}
+
+// The same by a search from the end of the data.
+fn searched_segments(
+    alloc: Global,
+    bytes: &[u8],
+    version: Version,
+    modes: Modes,
+) -> QrResult<Vec<Segment>>
+    requires valid { IsTrue (is_valid version) }
+    requires limit { length bytes.now ≤ data_limit }
+    ensures least { IfOk result (λ segments.
+        IsLeastCutIn modes version bytes.now segments.items) }
+    ensures no_cut { ((segments : List Segment) → ¬ IsCutIn modes version bytes.now segments)
+        → result ≡ Err UnsupportedCharacterSet }
+    ensures accepts { (segments : List Segment)
+        → IsCutIn modes version bytes.now segments → IsOkUnless result OutOfMemory }
+    ensures causes { IfErr result (λ e. (e ≡ UnsupportedCharacterSet) ⊎ (e ≡ OutOfMemory)) }
 {
     if !can_be_cut(bytes, version, modes) {
         return Err(QrError::UnsupportedCharacterSet);

@@ -46,14 +46,16 @@ impl Kind {
         }
     }
 
-    // The kind of a byte below those that can begin a pair.
+    // The kind of a byte below those that can begin a pair. Small letters, above all of the alphabet,
+    // are told by one comparison.
+    #[tactic(auto, using(crate::proofs::TokenKinds::above_letters))]
     fn of_low(byte: u8) -> Kind
         ensures { result ≡ (if characters.is_digit byte then Digit
             else (if characters.is_alphanumeric byte then Letter else Other)) }
     {
         if is_digit(byte) {
             Kind::Digit
-        } else if is_alphanumeric(byte) {
+        } else if byte <= b'Z' && is_alphanumeric(byte) {
             Kind::Letter
         } else {
             Kind::Other

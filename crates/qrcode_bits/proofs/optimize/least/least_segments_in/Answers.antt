@@ -1,93 +1,33 @@
-use Rattle.std.proofs.Common.{◌≡◌, true, List, [], ◌∷◌, ◌++◌, sym, ap, ◌∙◌, arith, subst, true≢false}
-use Rattle.std.proofs.lemmas.Bool.{and_parts, lt-ltb, ltb-true}
-use Rattle.std.proofs.lemmas.Grind.{common_steps}
-use Rattle.std.proofs.lemmas.List.Sums.{sum_by-append, sum_by-cons}
-use Rattle.std.specs.Prelude.{IsTrue, slice_range}
-use Rattle.qrcode_types.specs.Modes.{has_mode}
-use Rattle.qrcode_types.specs.Characters.{can_write}
-use Rattle.qrcode_bits.specs.Segments.{Tile, cost, total_cost}
-use Rattle.qrcode_bits.specs.Cuts.{IsCutIn}
-use Rattle.qrcode_bits.specs.ModeHeaders.{more_than_any}
-use Rattle.qrcode_bits.specs.ModeSets.{is_among}
-use Rattle.qrcode_bits.specs.LeastBits.{costs_of, headers_of, IsFirst}
-use Rattle.qrcode_bits.specs.declared.optimize.Segment.{Segment}
-use Rattle.qrcode_bits.proofs.SegmentRanges.{tile-push, all-append}
-use Rattle.qrcode_types.proofs.Writing.{are_bytes}
-use Rattle.qrcode_bits.proofs.VersionModes.{allows, header_at, header_is, header_tells}
-use Rattle.qrcode_bits.proofs.LeastCuts.{HaveModes, AreAmong, AreWritable, bits_at_end, counted_least, cut_is_short, short_is_cut, cut_at_end}
+use Rattle.std.proofs.Common.{[], ◌∷◌, length, sym, ◌∙◌, subst}
+use Rattle.qrcode_bits.specs.Cuts.{IsLeastCutIn}
+use Rattle.qrcode_bits.proofs.Given.{if_ok}
 use Rattle.qrcode_bits.proofs.CutPieces.{cut_inside, cut_joined, cut_writable}
+use Rattle.qrcode_bits.proofs.DigitCuts.{digits_segment, digits_least, some_bytes}
 use Rattle.qrcode_bits.proofs.optimize.least.least_segments_in.Goals as goal
-use Rattle.qrcode_bits.proofs.optimize.least.least_segments_in.Goals.{Else-not-can_be_cut, After-loop-begin}
+use Rattle.qrcode_bits.proofs.optimize.least.least_segments_in.Goals.{Then-can_write}
 
-pub returns-then-not-can_be_cut-clause-accepts : goal.returns-then-not-can_be_cut-clause-accepts
-returns-then-not-can_be_cut-clause-accepts c = λ ss cut.
-    let few = cut_is_short c.args.modes c.args.version c.args.bytes.now c.requires.valid c.requires.limit ss cut in
-    absurd (true≢false (sym (lt-ltb _ _ few) ∙ sym c.can_be_cut.ensures ∙ c.if-not-can_be_cut.true))
-
-some_cut : (c : Else-not-can_be_cut) → (ss : List Segment) × IsCutIn c.args.modes c.args.version c.args.bytes.now ss
-some_cut c =
-    let are = are_bytes c.args.bytes.now (λ k. omega (arith, c.type_inv.bytes k)) in
-    short_is_cut c.args.modes c.args.version c.args.bytes.now are (ltb-true _ _ (sym c.can_be_cut.ensures ∙ c.if-not-can_be_cut.false))
-
-pub returns-in_err-starts-clause-no_cut : goal.returns-in_err-starts-clause-no_cut
-returns-in_err-starts-clause-no_cut c = λ none.
-    let some = some_cut (goal.at.returns-in_err-starts-clause-no_cut c).Else-not-can_be_cut in
-    absurd (none some.0 some.1)
-
-pub returns-in_err-push-clause-no_cut : goal.returns-in_err-push-clause-no_cut
-returns-in_err-push-clause-no_cut c = λ none.
-    let some = some_cut (goal.at.returns-in_err-push-clause-no_cut c).Else-not-can_be_cut in
-    absurd (none some.0 some.1)
-
-pub loop-begin-preserved : goal.loop-begin-preserved
-loop-begin-preserved c =
-    let set = c.args.modes in
-    let v = c.args.version in
+alone : (c : Then-can_write) → IsLeastCutIn c.args.modes c.args.version c.args.bytes.now (digits_segment (length c.args.bytes.now) ∷ [])
+alone c =
     let bytes = c.args.bytes.now in
-    let old = c.loop-begin.segments.items in
-    let s = c.first_segment-segment.result in
-    let k = subst (λ h. IsFirst h bytes c.loop-begin.begin s) c.of-headers.ensures.value c.first_segment-segment.ensures in
-    let pushed : c.push.new.self.items ≡ old ++ s ∷ [] = grind (arith, common_steps) in
-    let few = ltb-true (costs_of (headers_of set v) bytes).start.bits more_than_any (sym c.can_be_cut.ensures ∙ c.if-not-can_be_cut.false) in
-    let has : allows set v s.mode ≡ true = header_tells set v s.mode (omega (arith, k.adds, header_at set v s.mode, few, c.loop-begin.invariant.bits)) in
-    let parts = and_parts (has_mode v s.mode) (is_among set s.mode) has in
-    record {
-      inside = k.inside;
-      tiles = subst (λ ss. Tile 0 ss s.end) (sym pushed) (tile-push 0 old s (subst (Tile 0 old) (sym k.begins) c.loop-begin.invariant.tiles) k.nonempty);
-      modes = subst (HaveModes v) (sym pushed) (all-append (λ s. IsTrue (has_mode v s.mode)) old (s ∷ []) c.loop-begin.invariant.modes (parts.0, tt));
-      among = subst (AreAmong set) (sym pushed) (all-append (λ s. IsTrue (is_among set s.mode)) old (s ∷ []) c.loop-begin.invariant.among (parts.1, tt));
-      writable = subst (AreWritable bytes) (sym pushed) (all-append (λ s. IsTrue (can_write s.mode (slice_range bytes s.begin s.end))) old (s ∷ []) c.loop-begin.invariant.writable (k.writable, tt));
-      bits = omega (
-        arith,
-        ap (total_cost v) pushed,
-        sum_by-append (cost v) old (s ∷ []),
-        sum_by-cons (cost v) s [],
-        header_at set v s.mode ∙ header_is set v s.mode has,
-        k.adds,
-        c.loop-begin.invariant.bits,
-      );
-    }
+    let some = some_bytes bytes (sym c.is_empty.ensures ∙ c.if-not-is_empty.true) in
+    digits_least c.args.modes c.args.version bytes c.requires.valid c.if-modes.true some (sym c.can_write.ensures ∙ c.if-can_write.true)
 
-reached : (c : After-loop-begin) → IsCutIn c.args.modes c.args.version c.args.bytes.now c.loop-begin.segments.items
-reached c =
-    let known = c.loop-begin.invariant in
-    cut_at_end c.args.modes c.args.version c.args.bytes.now c.loop-begin.begin c.loop-begin.segments.items (omega arith) known.tiles known.modes known.among known.writable
+pub returns-in_err-vec-clause-no_cut : goal.returns-in_err-vec-clause-no_cut
+returns-in_err-vec-clause-no_cut c = λ none. absurd (none _ (alone (goal.at.returns-in_err-vec-clause-no_cut c).Then-can_write).reached)
 
-pub returns-clause-least : goal.returns-clause-least
-returns-clause-least c =
-    let set = c.args.modes in
-    let v = c.args.version in
-    let bytes = c.args.bytes.now in
-    record {
-      reached = reached (goal.at.returns-clause-least c).After-loop-begin;
-      least = λ others cut. omega (arith, counted_least set v bytes others cut, bits_at_end set v bytes c.loop-begin.begin (omega arith), c.loop-begin.invariant.bits);
-    }
+pub returns-then-can_write-clause-least : goal.returns-then-can_write-clause-least
+returns-then-can_write-clause-least c =
+    let items = c.in_ok-vec.ensures.items_if_clones_equal (λ y e. e) in
+    subst (IsLeastCutIn c.args.modes c.args.version c.args.bytes.now) (sym items) (alone (goal.at.returns-then-can_write-clause-least c).Then-can_write)
+
+pub returns-then-can_write-clause-no_cut : goal.returns-then-can_write-clause-no_cut
+returns-then-can_write-clause-no_cut c = λ none. absurd (none _ (alone (goal.at.returns-then-can_write-clause-no_cut c).Then-can_write).reached)
 
 pub returns-clause-inside : goal.returns-clause-inside
-returns-clause-inside c = cut_inside c.args.version c.args.bytes.now c.loop-begin.segments.items (reached (goal.at.returns-clause-inside c).After-loop-begin).cut
+returns-clause-inside c = if_ok c.searched_segments.result (λ segments least. cut_inside c.args.version c.args.bytes.now segments.items least.reached.cut) c.searched_segments.ensures.least
 
 pub returns-clause-joined : goal.returns-clause-joined
-returns-clause-joined c = cut_joined c.args.version c.args.bytes.now c.loop-begin.segments.items (reached (goal.at.returns-clause-joined c).After-loop-begin).cut
+returns-clause-joined c = if_ok c.searched_segments.result (λ segments least. cut_joined c.args.version c.args.bytes.now segments.items least.reached.cut) c.searched_segments.ensures.least
 
 pub returns-clause-writable : goal.returns-clause-writable
-returns-clause-writable c = cut_writable c.args.version c.args.bytes.now c.loop-begin.segments.items (reached (goal.at.returns-clause-writable c).After-loop-begin).cut
+returns-clause-writable c = if_ok c.searched_segments.result (λ segments least. cut_writable c.args.version c.args.bytes.now segments.items least.reached.cut) c.searched_segments.ensures.least

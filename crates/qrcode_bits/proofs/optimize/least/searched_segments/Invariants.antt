@@ -1,7 +1,7 @@
 use Rattle.std.proofs.Common.{◌≡◌, ◌+◌, ◌-◌, ◌≤◌, length}
 use Rattle.qrcode_bits.specs.Segments.{Tile, total_cost}
 use Rattle.qrcode_bits.proofs.LeastCuts.{HaveModes, AreAmong, AreWritable, bits_from}
-use Rattle.qrcode_bits.proofs.optimize.least.least_segments_in.Given as goal
+use Rattle.qrcode_bits.proofs.optimize.least.searched_segments.Given as goal
 
 abbrev pub invariant-loop-begin : goal.invariant-loop-begin
 invariant-loop-begin l = record {
