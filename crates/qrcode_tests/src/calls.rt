@@ -148,13 +148,8 @@ static ENDED_FOR_L: [Row; 2] = [
     (b"", 1, Pushed(GREEK, Normal(1), H), Refused(DataTooLong)),
 ];
 
-// The symbol of pushes, in which the last is a terminator.
-fn of_pushes(
-    alloc: Global,
-    pushes: &[Push<'_>],
-    version: Version,
-    ec_level: EcLevel,
-) -> QrResult<QrCode> {
+// A list of bits for a version, with these pushes.
+fn list(alloc: Global, pushes: &[Push<'_>], version: Version) -> QrResult<Bits> {
     if !version.is_valid() {
         return Err(InvalidVersion);
     }
@@ -162,6 +157,17 @@ fn of_pushes(
     for push in pushes {
         make_push(&mut bits, *push)?;
     }
+    Ok(bits)
+}
+
+// The symbol of pushes, in which the last is a terminator.
+fn of_pushes(
+    alloc: Global,
+    pushes: &[Push<'_>],
+    version: Version,
+    ec_level: EcLevel,
+) -> QrResult<QrCode> {
+    let bits = list(alloc, pushes, version)?;
     if bits.len() < bits.max_len(ec_level)? {
         return Err(InvalidVersion);
     }

@@ -86,6 +86,18 @@ fn noise(place: Place) -> bool {
     mixed.wrapping_mul(0xc2b2_ae35) >> 17 & 1 == 1
 }
 
+// Appends the bits of a codeword that are light under a mask, or without any order.
+fn push_word(bits: &mut Vec<bool>, word: &[Place], mask: usize, is_noisy: bool) -> Read<()> {
+    for place in word {
+        bits.push(if is_noisy {
+            noise(*place)
+        } else {
+            format::turns(mask, *place)
+        })?;
+    }
+    Ok(())
+}
+
 // The data bits at L with which all codewords of data but the first are light under a mask, as far
 // as bits can be chosen.
 fn light_bits(alloc: Global, version: Version, mask: usize, noisy: usize) -> Read<Vec<bool>> {
@@ -98,15 +110,8 @@ fn light_bits(alloc: Global, version: Version, mask: usize, noisy: usize) -> Rea
     let mut bits = Vec::new(alloc);
     for (block, length) in numbers.iter().zip(&blocks.lengths) {
         for number in block.iter().take(*length) {
-            for place in words.get(*number).ok_or(Unreadable)? {
-                let is_noisy = *number < noisy;
-                let is_dark = if is_noisy {
-                    noise(*place)
-                } else {
-                    format::turns(mask, *place)
-                };
-                bits.push(is_dark)?;
-            }
+            let word = words.get(*number).ok_or(Unreadable)?;
+            push_word(&mut bits, word, mask, *number < noisy)?;
         }
     }
     Ok(bits)

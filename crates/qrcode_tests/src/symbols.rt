@@ -44,8 +44,8 @@ pub fn count_of_letter(text: &str, letter: char) -> usize {
 
 /// Whether a text has these lines.
 pub fn has_lines(text: &str, lines: &[&str]) -> bool {
-    for (i, line) in text.split('\n').enumerate() {
-        if lines.get(i).copied() != Some(line) {
+    for (line, expected) in text.split('\n').zip(lines) {
+        if line != *expected {
             return false;
         }
     }
