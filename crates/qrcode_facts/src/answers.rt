@@ -2,25 +2,22 @@
 
 use crate::{contents, drawings, parts};
 use qrcode::bits::{self, Bits};
+use qrcode::render::unicode::Dense1x2;
 use qrcode::render::{Pixel, pic, svg};
 use qrcode::types::{Mode, QrError, QrResult};
 use qrcode::{EcLevel, Version};
 use std::alloc::{AllocError, AllocFailed, Global};
 use std::io;
 use std::str::SplitWhitespace;
-use thiserror::Error;
 
 /// Why there is no answer.
-#[derive(Debug, Drop, Error)]
+#[derive(Clone, Copy)]
 pub enum Fault {
     /// The line is no question.
-    #[error("qrcode_facts: no question")]
     Question,
     /// A call refuses, which some questions ask for.
-    #[error("qrcode_facts: {0}")]
     Qr(QrError),
     /// The questions cannot be read, or an answer cannot be written.
-    #[error("qrcode_facts: cannot read or write")]
     Stream,
 }
 
@@ -77,17 +74,11 @@ pub fn answer(alloc: Global, question: &str) -> Result<String, Fault> {
 // The answer to a question on a version.
 fn of_version(alloc: Global, kind: &str, rest: &str) -> Result<String, Fault> {
     let mut words = rest.split_whitespace();
-    let version = version(words.next(), words.next())?;
+    let version = version(&mut words)?;
     match kind {
         "functional" => shown(alloc, drawings::functional_places(alloc, version)?),
-        "bits" => {
-            let bits = content(alloc, version, words)?;
-            Ok(format!(in alloc; "{}", bits.len())?)
-        }
-        _ => {
-            let ec_level = level(words.next())?;
-            of_level(alloc, kind, version, ec_level, words)
-        }
+        "bits" => length(alloc, version, words),
+        _ => of_level(alloc, kind, version, words),
     }
 }
 
@@ -96,57 +87,95 @@ fn of_level(
     alloc: Global,
     kind: &str,
     version: Version,
-    ec_level: EcLevel,
     mut words: SplitWhitespace<'_>,
 ) -> Result<String, Fault> {
+    let ec_level = level(word(&mut words)?)?;
     match kind {
-        "symbol" => {
-            let mut bits = content(alloc, version, words)?;
-            bits.push_terminator(ec_level)?;
-            shown(alloc, drawings::symbol(alloc, bits, ec_level)?)
-        }
-        "halfblocks" => {
-            let mut bits = content(alloc, version, words)?;
-            bits.push_terminator(ec_level)?;
-            shown(alloc, drawings::half_blocks(alloc, bits, ec_level)?)
-        }
+        "symbol" => symbol(alloc, version, ec_level, words),
+        "halfblocks" => text::<Dense1x2>(alloc, version, ec_level, (1, 1), words),
         "svg" => vectors::<svg::Color<'_>>(alloc, version, ec_level, words),
         "pic" => vectors::<pic::Color>(alloc, version, ec_level, words),
-        "masked" => {
-            let number = parts::parsed(words.next().ok_or(Fault::Question)?)? as usize;
-            shown(
-                alloc,
-                drawings::masked_patterns(alloc, version, ec_level, number)?,
-            )
-        }
-        "codewords" => {
-            let data = parts::from_hex(alloc, words.next().ok_or(Fault::Question)?)?;
-            let ec = parts::from_hex(alloc, words.next().ok_or(Fault::Question)?)?;
-            shown(
-                alloc,
-                drawings::codewords(alloc, version, ec_level, &data, &ec)?,
-            )
-        }
+        "masked" => masked(alloc, version, ec_level, words),
+        "codewords" => codewords(alloc, version, ec_level, words),
         "most" => most(alloc, version, ec_level),
         _ => Err(Fault::Question),
     }
 }
 
-// The answer to a question on a text of rectangles.
+// How many bits a content takes.
+fn length(alloc: Global, version: Version, words: SplitWhitespace<'_>) -> Result<String, Fault> {
+    let bits = content(alloc, version, words)?;
+    Ok(format!(in alloc; "{}", bits.len())?)
+}
+
+// The checksum of the symbol of a content.
+fn symbol(
+    alloc: Global,
+    version: Version,
+    ec_level: EcLevel,
+    words: SplitWhitespace<'_>,
+) -> Result<String, Fault> {
+    let mut bits = content(alloc, version, words)?;
+    bits.push_terminator(ec_level)?;
+    shown(alloc, drawings::symbol(alloc, bits, ec_level)?)
+}
+
+// The checksum of the text of its symbol, in modules of so many pixels across and down.
+fn text<P: Pixel<Image = String>>(
+    alloc: Global,
+    version: Version,
+    ec_level: EcLevel,
+    (across, down): (u32, u32),
+    words: SplitWhitespace<'_>,
+) -> Result<String, Fault> {
+    let mut bits = content(alloc, version, words)?;
+    bits.push_terminator(ec_level)?;
+    shown(
+        alloc,
+        drawings::text::<P>(alloc, bits, ec_level, across, down)?,
+    )
+}
+
+// The same, the pixels of a module being told before the content.
 fn vectors<P: Pixel<Image = String>>(
     alloc: Global,
     version: Version,
     ec_level: EcLevel,
     mut words: SplitWhitespace<'_>,
 ) -> Result<String, Fault> {
-    let across = parts::parsed(words.next().ok_or(Fault::Question)?)?;
-    let down = parts::parsed(words.next().ok_or(Fault::Question)?)?;
-    let mut bits = content(alloc, version, words)?;
-    bits.push_terminator(ec_level)?;
-    shown(
-        alloc,
-        drawings::vectors::<P>(alloc, bits, ec_level, across, down)?,
-    )
+    let across = parts::parsed(word(&mut words)?)?;
+    let down = parts::parsed(word(&mut words)?)?;
+    text::<P>(alloc, version, ec_level, (across, down), words)
+}
+
+// The checksum of patterns under a mask.
+fn masked(
+    alloc: Global,
+    version: Version,
+    ec_level: EcLevel,
+    mut words: SplitWhitespace<'_>,
+) -> Result<String, Fault> {
+    let number = parts::parsed(word(&mut words)?)? as usize;
+    let checksum = drawings::masked_patterns(alloc, version, ec_level, number)?;
+    shown(alloc, checksum)
+}
+
+// The checksum of patterns and codewords.
+fn codewords(
+    alloc: Global,
+    version: Version,
+    ec_level: EcLevel,
+    mut words: SplitWhitespace<'_>,
+) -> Result<String, Fault> {
+    let data = parts::from_hex(alloc, word(&mut words)?)?;
+    let ec = parts::from_hex(alloc, word(&mut words)?)?;
+    let checksum = drawings::codewords(alloc, version, ec_level, &data, &ec)?;
+    shown(alloc, checksum)
+}
+
+// The next word.
+fn word<'a>(words: &mut SplitWhitespace<'a>) -> Result<&'a str, Fault> {
+    words.next().ok_or(Fault::Question)
 }
 
 // A checksum as eight digits.
@@ -213,31 +242,31 @@ fn no_bits(alloc: Global, version: Version) -> QrResult<Bits> {
 
 fn chosen(alloc: Global, question: &str) -> Result<String, Fault> {
     let (level_name, word) = question.split_once(' ').ok_or(Fault::Question)?;
-    let ec_level = level(Some(level_name))?;
+    let ec_level = level(level_name)?;
     let (_, bytes) = parts::segment(alloc, word)?;
-    let bits = bits::encode_auto(alloc, &bytes, ec_level)?;
-    match bits.version() {
-        Version::Normal(number) => Ok(format!(in alloc; "{number}")?),
-        Version::Micro(_) => Err(Fault::Question),
-    }
+    let number = match bits::encode_auto(alloc, &bytes, ec_level)?.version() {
+        Version::Normal(number) => number,
+        Version::Micro(_) => return Err(Fault::Question),
+    };
+    Ok(format!(in alloc; "{number}")?)
 }
 
-fn version(kind: Option<&str>, number: Option<&str>) -> Result<Version, Fault> {
-    let number = parts::parsed(number.ok_or(Fault::Question)?)?;
-    let number = i16::try_from(number).ok().ok_or(Fault::Question)?;
-    match kind {
-        Some("normal") => Ok(Version::Normal(number)),
-        Some("micro") => Ok(Version::Micro(number)),
+fn version(words: &mut SplitWhitespace<'_>) -> Result<Version, Fault> {
+    let kind = word(words)?;
+    let number = i16::try_from(parts::parsed(word(words)?)?);
+    match (kind, number) {
+        ("normal", Ok(number)) => Ok(Version::Normal(number)),
+        ("micro", Ok(number)) => Ok(Version::Micro(number)),
         _ => Err(Fault::Question),
     }
 }
 
-fn level(name: Option<&str>) -> Result<EcLevel, Fault> {
+fn level(name: &str) -> Result<EcLevel, Fault> {
     match name {
-        Some("L") => Ok(EcLevel::L),
-        Some("M") => Ok(EcLevel::M),
-        Some("Q") => Ok(EcLevel::Q),
-        Some("H") => Ok(EcLevel::H),
+        "L" => Ok(EcLevel::L),
+        "M" => Ok(EcLevel::M),
+        "Q" => Ok(EcLevel::Q),
+        "H" => Ok(EcLevel::H),
         _ => Err(Fault::Question),
     }
 }

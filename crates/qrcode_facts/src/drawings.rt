@@ -8,7 +8,6 @@ use crate::checksum;
 use qrcode::bits::Bits;
 use qrcode::canvas::{Canvas, MaskPattern};
 use qrcode::render::Pixel;
-use qrcode::render::unicode::Dense1x2;
 use qrcode::types::{QrError, QrResult};
 use qrcode::{EcLevel, QrCode, Version};
 use std::alloc::Global;
@@ -34,21 +33,8 @@ pub fn symbol(alloc: Global, bits: Bits, ec_level: EcLevel) -> QrResult<u32>
     Ok(checksum::crc32(text.as_bytes()))
 }
 
-/// The checksum of its text in half blocks.
-pub fn half_blocks(alloc: Global, bits: Bits, ec_level: EcLevel) -> Result<u32, Fault>
-    requires { IsTrue (has_level bits.version ec_level)
-        → capacity bits.version ec_level ≤ length bits.bits }
-{
-    let code = QrCode::with_bits(alloc, bits, ec_level)?;
-    let renderer = code.render::<Dense1x2>();
-    if !renderer.fits() {
-        return Err(Fault::Question);
-    }
-    Ok(checksum::crc32(renderer.build(alloc)?.as_bytes()))
-}
-
-/// The checksum of its text in SVG or in PIC, in modules of so many pixels across and down.
-pub fn vectors<P: Pixel<Image = String>>(
+/// The checksum of its text in pixels of a type, in modules of so many pixels across and down.
+pub fn text<P: Pixel<Image = String>>(
     alloc: Global,
     bits: Bits,
     ec_level: EcLevel,
@@ -77,7 +63,7 @@ pub fn functional_places(alloc: Global, version: Version) -> QrResult<u32> {
             places.push(code.is_functional(x, y))?;
         }
     }
-    checksum_of(alloc, width, &places)
+    Ok(checksum::of_square(width, &places))
 }
 
 /// The checksum of the patterns of a version under a mask, all other modules being light before it.
@@ -94,7 +80,8 @@ pub fn masked_patterns(
     let mut canvas = Canvas::new(alloc, version, ec_level)?;
     canvas.draw_all_functional_patterns();
     canvas.apply_mask(mask);
-    Ok(checksum_of(alloc, version.width() as usize, &canvas.to_bools(alloc)?)?)
+    let modules = canvas.to_bools(alloc)?;
+    Ok(checksum::of_square(version.width() as usize, &modules))
 }
 
 /// The checksum of the patterns of a version and of codewords, without a mask.
@@ -111,17 +98,6 @@ pub fn codewords(
     let mut canvas = Canvas::new(alloc, version, ec_level)?;
     canvas.draw_all_functional_patterns();
     canvas.draw_data(data, ec);
-    checksum_of(alloc, version.width() as usize, &canvas.to_bools(alloc)?)
-}
-
-// The checksum of modules as lines of `#` and `.`.
-fn checksum_of(alloc: Global, width: usize, modules: &[bool]) -> QrResult<u32> {
-    let mut text = String::new(alloc);
-    for (i, dark) in modules.iter().enumerate() {
-        if i > 0 && i % width.max(1) == 0 {
-            text.push('\n')?;
-        }
-        text.push(if *dark { '#' } else { '.' })?;
-    }
-    Ok(checksum::crc32(text.as_bytes()))
+    let modules = canvas.to_bools(alloc)?;
+    Ok(checksum::of_square(version.width() as usize, &modules))
 }

@@ -17,10 +17,19 @@ fn main(rt: HostRuntime) -> ExitCode {
     match run(&rt, rt.alloc()) {
         Ok(()) => ExitCode::SUCCESS,
         Err(fault) => {
-            let _ = eprintln!(rt; "{fault}");
+            tell(&rt, fault);
             ExitCode::FAILURE
         }
     }
+}
+
+// Says on standard error why there is no answer.
+fn tell(rt: &impl Eprint, fault: Fault) {
+    let _ = match fault {
+        Fault::Question => eprintln!(rt; "qrcode_facts: no question"),
+        Fault::Qr(error) => eprintln!(rt; "qrcode_facts: {error}"),
+        Fault::Stream => eprintln!(rt; "qrcode_facts: cannot read or write"),
+    };
 }
 
 // Prints each line, and its answer behind it.
