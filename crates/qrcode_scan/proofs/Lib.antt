@@ -1,2 +1,3 @@
+mod Framed
 mod Pieces
 mod Shown

@@ -1,7 +1,7 @@
 -- Pictures that are seen pixel by pixel.
 use Rattle.std.proofs.Common.{◌≡◌, ℕ, ◌*◌, ◌/◌, ◌%◌, ◌<◌, Bool, false, List, length, get_or, map, ap, ap₂, ◌∙◌, arith}
 use Rattle.std.specs.List.{range_with_len}
-use Rattle.std.proofs.lemmas.List.FromFn.{fill_by_all, length-map-range_with_len}
+use Rattle.std.proofs.lemmas.List.FromFn.{fill_by_all, get_or-map-range_with_len, length-map-range_with_len}
 use Rattle.qrcode_types.specs.declared.types.Color.{Color}
 use Rattle.qrcode_render.specs.Bitmap.{Bitmap}
 use Rattle.qrcode_render.specs.Layout.{Layout, pixels_across, pixels_down}
@@ -19,6 +19,14 @@ shown_by_all b at s across down count each =
     let marks : b.marks ≡ map pixel (range_with_len 0 (w * h)) = fill_by_all pixel b.marks (w * h) false all (λ k inside. each k (omega (arith, all, inside))) in
     ap (λ (m : List Bool). record b { marks = m }) marks
     ∙ ap₂ (λ (x y : ℕ). record { across = x; down = y; marks = map pixel (range_with_len 0 (w * h)) }) across down
+
+-- a pixel of pixels that are a picture
+pub shown_at : (b : Bitmap) (at : Layout) (s : List Color) (k : ℕ) → b ≡ picture at s → k < length b.marks → get_or b.marks k false ≡ is_dark_pixel at s (k % pixels_across at) (k / pixels_across at)
+shown_at b at s k is inside =
+    let w = pixels_across at in
+    let pixel : ℕ → Bool = λ i. is_dark_pixel at s (i % w) (i / w) in
+    let all : length b.marks ≡ w * pixels_down at = ap (λ (p : Bitmap). length p.marks) is ∙ length-map-range_with_len pixel 0 (w * pixels_down at) in
+    ap (λ (p : Bitmap). get_or p.marks k false) is ∙ get_or-map-range_with_len pixel 0 (w * pixels_down at) k k false (omega (arith, inside, all)) (omega arith)
 
 -- the marks of packed rows are as many as their pixels
 pub bits_length : (marks : List Bool) (bytes : List ℕ) (across down : ℕ) → marks ≡ packed_marks bytes across down → length marks ≡ across * down

@@ -1,6 +1,7 @@
 -- Squares of modules in pictures.
-use Rattle.std.specs.Prelude.{◌≡◌, ℕ, ◌+◌, ◌*◌, ◌≤◌, ◌<◌, Bool, true, false, List, length, map, not, slice_index_or}
-use Rattle.qrcode_types.specs.Colors.{is_dark}
+use Rattle.std.specs.Prelude.{◌≡◌, ℕ, ◌+◌, ◌*◌, ◌/◌, ◌%◌, ◌≤◌, ◌<◌, Bool, true, false, List, length, map, not, slice_index_or}
+use Rattle.std.specs.List.{range_with_len}
+use Rattle.qrcode_types.specs.Colors.{is_dark, color_of}
 use Rattle.qrcode_types.specs.declared.types.Color.{Color}
 use Rattle.qrcode_types.specs.declared.types.Color.TheVariants.{Light}
 use Rattle.qrcode_render.specs.Bitmap.{Bitmap}
@@ -15,8 +16,19 @@ inverted b = record b { marks = map not b.marks }
 abbrev pub mark_at : Bitmap → ℕ → ℕ → Bool
 mark_at b x y = slice_index_or b.marks (y * b.across + x) false
 
+-- the modules of a square of so many a side whose first pixels stand behind a margin, one every so many pixels
+abbrev pub sampled : Bitmap → ℕ → ℕ → ℕ → List Color
+sampled b count margin scale =
+    map (λ i. color_of (mark_at b (margin + i % count * scale) (margin + i / count * scale))) (range_with_len 0 (count * count))
+
 -- the pixels are the picture of a square of so many modules a side inside a margin of so many light ones, each module of so many pixels a side
 pub record IsSquareIn (b : Bitmap) (count zone scale : ℕ) (modules : List Color) : Type 0 where
   pub at_least : 1 ≤ scale
   pub square : length modules ≡ count * count
   pub shown : b ≡ picture (layout count zone scale scale) modules
+
+-- a square of modules in the first row of which the module in a column is dark
+pub record IsFramedIn (b : Bitmap) (count zone scale column : ℕ) (modules : List Color) : Type 0 where
+  pub square : IsSquareIn b count zone scale modules
+  pub inside : column < count
+  pub dark : is_dark (slice_index_or modules column Light) ≡ true

@@ -1,9 +1,11 @@
 //! Squares of modules in pixels.
 
-ghost use Rattle.std.specs.Prelude.{◌≡◌, ◌*◌, ◌<◌, ◌≤◌, length, IsTrue, IfOk, IfSome};
+ghost use Rattle.std.specs.Prelude.{◌≡◌, ◌*◌, ◌<◌, ◌≤◌, ℕ, List, false, true, length, slice_index_or, IsTrue, IsFalse, IfOk, IfSome, IfNone};
 ghost use Rattle.qrcode_render.specs.Layout.{layout};
 ghost use Rattle.qrcode_render.specs.Picture.{picture, is_dark_pixel};
-ghost use Rattle.qrcode_scan.specs.Squares.{IsSquareIn, mark_at};
+ghost use Rattle.qrcode_types.specs.Colors.{color_of};
+ghost use Rattle.qrcode_types.specs.declared.types.Color.{Color};
+ghost use Rattle.qrcode_scan.specs.Squares.{IsFramedIn, IsSquareIn, mark_at, sampled};
 
 use crate::pixels::Pixels;
 use qrcode_types::types::Color;
@@ -25,48 +27,103 @@ pub struct Square {
     pub modules: Vec<Color>,
 }
 
-/// A square of modules that a picture shows inside a margin of light, as wide at each side, tried
-/// from the least number of modules along a side to `GREATEST_COUNT`. `None`: none was found. That
-/// there is none then is not promised: no clause says so.
+/// The square of modules that a picture shows inside a margin of light, as wide at each side: of the
+/// least number of modules along a side, where it shows several. `None`: it shows no square of at
+/// most `GREATEST_COUNT` modules a side whose first row has a dark one.
 ///
 /// It fails for want of memory alone.
 pub fn square_of(alloc: Global, pixels: &Pixels) -> Result<Option<Square>, AllocError>
     ensures value { IfOk result (λ found. IfSome found (λ square.
         IsSquareIn pixels.now square.count square.zone square.scale square.modules.items)) }
+    ensures least { IfOk result (λ found. IfSome found (λ square.
+        (count zone scale column : ℕ) (modules : List Color)
+        → IsFramedIn pixels.now count zone scale column modules → square.count ≤ count)) }
+    ensures none { IfOk result (λ found. IfNone found (
+        (count zone scale column : ℕ) (modules : List Color)
+        → IsFramedIn pixels.now count zone scale column modules → 177 < count)) }
 {
-    let (across, down) = pixels.sides();
-    if across == 0 || across != down {
-        return Ok(None);
-    }
-    let Some(first) = first_dark(pixels) else {
+    let Some(margin) = margin_of(pixels) else {
         return Ok(None);
     };
-    let margin = first / across;
-    if across / 2 <= margin {
-        return Ok(None);
-    }
-    let extent = across - 2 * margin;
     for count in 1..GREATEST_COUNT + 1 {
-        let scale = extent / count;
-        if scale * count == extent && margin % scale == 0 {
-            let modules = sampled(alloc, pixels, count, margin, scale)?;
-            let square = Square {
-                count,
-                zone: margin / scale,
-                scale,
-                modules,
-            };
-            if is_shown(pixels, &square) {
-                return Ok(Some(square));
-            }
+        match tried(alloc, pixels, margin, count)? {
+            Some(square) => return Ok(Some(square)),
+            None => {}
         }
     }
     Ok(None)
 }
 
+// The pixels of the margin at each side: the rows above the first dark pixel. `None`: there is no
+// dark pixel, or it leaves no room for a square.
+fn margin_of(pixels: &Pixels) -> Option<usize>
+    ensures room { IfSome result (λ margin. 2 * margin < pixels.now.across) }
+    ensures value { IfSome result (λ margin. (count zone scale column : ℕ) (modules : List Color)
+        → IsFramedIn pixels.now count zone scale column modules → zone * scale ≡ margin) }
+    ensures none { IfNone result ((count zone scale column : ℕ) (modules : List Color)
+        → ¬ IsFramedIn pixels.now count zone scale column modules) }
+{
+    let across = pixels.sides().0;
+    let first = match first_dark(pixels.marks()) {
+        Some(first) => first,
+        None => return None,
+    };
+    let margin = first / across;
+    if 2 * margin < across {
+        Some(margin)
+    } else {
+        None
+    }
+}
+
 // The place of the first dark pixel.
-fn first_dark(pixels: &Pixels) -> Option<usize> {
-    pixels.marks().iter().position(|mark| *mark)
+fn first_dark(marks: &[bool]) -> Option<usize>
+    ensures inside { IfSome result (λ first. first < length marks.now) }
+    ensures dark { IfSome result (λ first. slice_index_or marks.now first false ≡ true) }
+    ensures first { IfSome result (λ first.
+        (k : ℕ) → k < first → slice_index_or marks.now k false ≡ false) }
+    ensures none { IfNone result (
+        (k : ℕ) → k < length marks.now → slice_index_or marks.now k false ≡ false) }
+{
+    for i in 0..marks.len() {
+        if marks[i] {
+            return Some(i);
+        }
+    }
+    None
+}
+
+// The square of so many modules a side behind a margin of so many pixels, where it is shown.
+fn tried(
+    alloc: Global,
+    pixels: &Pixels,
+    margin: usize,
+    count: usize,
+) -> Result<Option<Square>, AllocError>
+    requires count { (1 ≤ count) × (count ≤ 177) }
+    requires margin { 2 * margin < pixels.now.across }
+    ensures value { IfOk result (λ found. IfSome found (λ square.
+        IsSquareIn pixels.now square.count square.zone square.scale square.modules.items)) }
+    ensures count { IfOk result (λ found. IfSome found (λ square. square.count ≡ count)) }
+    ensures none { IfOk result (λ found. IfNone found ((zone scale : ℕ) (modules : List Color)
+        → IsSquareIn pixels.now count zone scale modules → ¬ (zone * scale ≡ margin))) }
+{
+    let extent = pixels.sides().0 - 2 * margin;
+    let scale = extent / count;
+    if scale * count != extent || margin % scale != 0 {
+        return Ok(None);
+    }
+    let square = Square {
+        count,
+        zone: margin / scale,
+        scale,
+        modules: sampled(alloc, pixels, count, margin, scale)?,
+    };
+    if is_shown(pixels, &square) {
+        Ok(Some(square))
+    } else {
+        Ok(None)
+    }
 }
 
 // Whether the pixel in a column and row is dark; there is none outside.
@@ -92,32 +149,39 @@ fn sampled(
     requires count { (1 ≤ count) × (count ≤ 177) }
     requires margin { margin ≤ 65535 }
     requires scale { scale ≤ 65535 }
-    ensures { IfOk result (λ modules. length modules.items ≡ count * count) }
+    ensures value { IfOk result (λ modules.
+        modules.items ≡ sampled pixels.now count margin scale) }
+    ensures square { IfOk result (λ modules. length modules.items ≡ count * count) }
 {
     let mut modules = Vec::with_capacity(alloc, count * count)?;
     for i in 0..count * count {
         let x = margin + i % count * scale;
         let y = margin + i / count * scale;
-        let color = if mark_at(pixels, x, y) {
-            Color::Dark
-        } else {
-            Color::Light
-        };
-        modules.push(color)?;
+        modules.push(color_of(mark_at(pixels, x, y)))?;
     }
     Ok(modules)
+}
+
+// Dark where the test holds.
+fn color_of(is_dark: bool) -> Color
+    ensures { result ≡ color_of is_dark }
+{
+    if is_dark { Color::Dark } else { Color::Light }
 }
 
 // Whether the pixels are the picture of a square.
 fn is_shown(pixels: &Pixels, square: &Square) -> bool
     requires scale { (1 ≤ square.now.scale) × (square.now.scale ≤ 65535) }
     requires at_most { (square.now.count ≤ 177) × (square.now.zone ≤ 65535) }
-    ensures { IsTrue result → pixels.now ≡ picture (layout square.now.count square.now.zone
+    requires at_least { 1 ≤ square.now.count }
+    ensures value { IsTrue result → pixels.now ≡ picture (layout square.now.count square.now.zone
         square.now.scale square.now.scale) square.now.modules.items }
+    ensures other { IsFalse result → ¬ (pixels.now ≡ picture (layout square.now.count
+        square.now.zone square.now.scale square.now.scale) square.now.modules.items) }
 {
     let (across, down) = pixels.sides();
     let side = (square.count + 2 * square.zone) * square.scale;
-    if side == 0 || across != side || down != side {
+    if across != side || down != side {
         return false;
     }
     let marks = pixels.marks();
