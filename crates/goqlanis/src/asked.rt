@@ -162,6 +162,7 @@ fn request_of<'a>(
     let format = format(alloc, matches.get_str("format"), target, has_colours)?;
     check_format(alloc, matches, format)?;
     let (scale, size) = sizes(alloc, matches, format)?;
+    let (dark, light) = inks(alloc, matches, format)?;
     Ok(Request {
         manner: Manner::Text,
         choice,
@@ -171,10 +172,21 @@ fn request_of<'a>(
         scale,
         size,
         dpi: matches.get_one::<u16>("dpi"),
-        dark: ink(alloc, matches.get_str("colour"), "#000", format)?,
-        light: ink(alloc, matches.get_str("background"), "#fff", format)?,
+        dark,
+        light,
         is_inverted: matches.get_flag("invert"),
     })
+}
+
+// The colours of dark and of light modules.
+fn inks<'a>(
+    alloc: Global,
+    matches: &ArgMatches<'a>,
+    format: Format,
+) -> Result<(Ink<'a>, Ink<'a>), Failure> {
+    let dark = ink(alloc, matches.get_str("colour"), "#000", format)?;
+    let light = ink(alloc, matches.get_str("background"), "#fff", format)?;
+    Ok((dark, light))
 }
 
 // Refuses options that a format does not have.
@@ -331,24 +343,16 @@ fn ink<'a>(
 // The colour of # and three or six digits to the base 16.
 fn ink_of(name: &str) -> Option<Ink<'_>> {
     let digits = name.strip_prefix('#')?.as_bytes();
-    let (red, green, blue) = match digits {
-        [r, g, b] => (
-            two_digits(*r, *r)?,
-            two_digits(*g, *g)?,
-            two_digits(*b, *b)?,
-        ),
-        [r, s, g, h, b, c] => (
-            two_digits(*r, *s)?,
-            two_digits(*g, *h)?,
-            two_digits(*b, *c)?,
-        ),
+    let [high, low] = match digits {
+        [r, g, b] => [[*r, *g, *b], [*r, *g, *b]],
+        [r, s, g, h, b, c] => [[*r, *g, *b], [*s, *h, *c]],
         _ => return None,
     };
     Some(Ink {
         name,
-        red,
-        green,
-        blue,
+        red: two_digits(high[0], low[0])?,
+        green: two_digits(high[1], low[1])?,
+        blue: two_digits(high[2], low[2])?,
     })
 }
 

@@ -1,8 +1,8 @@
 //! The command line.
 
 use crate::options::{
-    ABOUT, EXAMPLES, Entry, NAME, PICTURE_HELP, READING_ABOUT, READING_NAME, Takes, entries,
-    reading_entries,
+    ABOUT, ENTRIES, EXAMPLES, Entry, NAME, PICTURE_HELP, READING_ABOUT, READING_ENTRIES,
+    READING_NAME, Takes,
 };
 use clap::builder::ValueParser;
 use clap::{Arg, ArgAction, Command};
@@ -17,7 +17,7 @@ pub fn drawing<'a>(alloc: Global) -> Result<Command<'a>, AllocError> {
         .about(ABOUT)
         .after_help(EXAMPLES)
         .arg(text)?;
-    for entry in &entries() {
+    for entry in &ENTRIES {
         command = command.arg(argument(alloc, entry))?;
     }
     Ok(command)
@@ -31,7 +31,7 @@ pub fn reading<'a>(alloc: Global) -> Result<Command<'a>, AllocError> {
     let mut command = Command::new(alloc, READING_NAME)
         .about(READING_ABOUT)
         .arg(picture)?;
-    for entry in &reading_entries() {
+    for entry in &READING_ENTRIES {
         command = command.arg(argument(alloc, entry))?;
     }
     Ok(command)
@@ -42,11 +42,15 @@ fn argument<'a>(alloc: Global, entry: &Entry) -> Arg<'a> {
     let arg = Arg::new(alloc, entry.long)
         .long(entry.long)
         .help(entry.help);
-    let arg = match entry.short {
-        Some(letter) => arg.short(letter),
-        None => arg,
-    };
-    match entry.takes {
+    match entry.short {
+        Some(letter) => taking(arg.short(letter), entry.takes),
+        None => taking(arg, entry.takes),
+    }
+}
+
+// An option that takes so much.
+fn taking<'a>(arg: Arg<'a>, takes: Takes) -> Arg<'a> {
+    match takes {
         Takes::Nothing => arg.action(ArgAction::SetTrue),
         Takes::Text(name) => arg.value_name(name),
         Takes::Texts(name) => arg.value_name(name).action(ArgAction::Append),

@@ -1,6 +1,6 @@
 //! The completions of shells.
 
-use crate::options::{Entry, NAME, Takes, entries};
+use crate::options::{ENTRIES, Entry, NAME, Takes};
 use std::alloc::{AllocError, Global};
 
 /// The completions of `bash`, `zsh` or `fish`.
@@ -14,24 +14,33 @@ pub fn completions(alloc: Global, shell: &str) -> Result<String, AllocError> {
     Ok(text)
 }
 
+static BASH_START: &str = "_goqlanis() {
+  local word=${COMP_WORDS[COMP_CWORD]}
+  case ${COMP_WORDS[COMP_CWORD-1]} in
+";
+
+static BASH_END: &str = "' -- \"$word\"))
+}
+complete -o default -F _goqlanis goqlanis
+";
+
 fn push_bash(text: &mut String) -> Result<(), AllocError> {
-    write!(
-        text,
-        "_{NAME}() {{\n  local word=${{COMP_WORDS[COMP_CWORD]}}\n"
-    )?;
-    text.push_str("  case ${COMP_WORDS[COMP_CWORD-1]} in\n")?;
-    for entry in &entries() {
+    text.push_str(BASH_START)?;
+    for entry in &ENTRIES {
         push_bash_case(text, entry)?;
     }
     text.push_str("  esac\n  COMPREPLY=($(compgen -W '--help")?;
-    for entry in &entries() {
+    push_bash_names(text)?;
+    text.push_str(BASH_END)
+}
+
+// The names of all options.
+fn push_bash_names(text: &mut String) -> Result<(), AllocError> {
+    for entry in &ENTRIES {
         let long = entry.long;
         write!(text, " --{long}")?;
     }
-    write!(
-        text,
-        "' -- \"$word\"))\n}}\ncomplete -o default -F _{NAME} {NAME}\n"
-    )
+    Ok(())
 }
 
 // What bash completes behind an option.
@@ -61,7 +70,7 @@ fn push_bash_case(text: &mut String, entry: &Entry) -> Result<(), AllocError> {
 
 fn push_zsh(text: &mut String) -> Result<(), AllocError> {
     write!(text, "#compdef {NAME}\n_arguments \\\n")?;
-    for entry in &entries() {
+    for entry in &ENTRIES {
         push_zsh_option(text, entry)?;
     }
     text.push_str("  '--help[Print help]' \\\n  '1:text:'\n")?;
@@ -92,7 +101,7 @@ fn push_zsh_option(text: &mut String, entry: &Entry) -> Result<(), AllocError> {
 
 fn push_fish(text: &mut String) -> Result<(), AllocError> {
     write!(text, "complete -c {NAME} -f\n")?;
-    for entry in &entries() {
+    for entry in &ENTRIES {
         push_fish_option(text, entry)?;
     }
     Ok(())

@@ -12,6 +12,9 @@ pub enum Failure {
     /// The data, a file or the terminal does not serve: status 1.
     #[error("{0}")]
     Refused(String),
+    /// Standard output takes no more: status 1.
+    #[error("{0}")]
+    Closed(String),
     /// Memory was refused: status 1.
     #[error("out of memory")]
     OutOfMemory,

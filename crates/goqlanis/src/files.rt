@@ -13,20 +13,29 @@ pub fn write_whole<R: Files + AllocGlobal>(rt: &R, path: &str, bytes: &[u8]) -> 
         return write_straight(rt, path, bytes);
     }
     match fs::metadata(rt, path) {
-        Ok(old) if old.is_file() => {
-            let place = fs::canonicalize(rt, path)?;
-            replace(rt, place.as_path().as_str(), Some(old.permissions()), bytes)
-        }
+        Ok(old) if old.is_file() => replace_old(rt, path, old.permissions(), bytes),
         Ok(_) => write_straight(rt, path, bytes),
+        // (a link to nothing is written straight, which makes what it names)
         Err(error) if error.kind() == ErrorKind::NotFound => {
-            // (a link to nothing is written straight, which makes what it names)
-            match fs::symlink_metadata(rt, path) {
-                Ok(_) => write_straight(rt, path, bytes),
-                Err(_) => replace(rt, path, None, bytes),
+            if fs::symlink_metadata(rt, path).is_ok() {
+                write_straight(rt, path, bytes)
+            } else {
+                replace(rt, path, None, bytes)
             }
         }
         Err(error) => Err(error),
     }
+}
+
+// Puts a new file into the place of an old one, or of what a link names.
+fn replace_old<R: Files + AllocGlobal>(
+    rt: &R,
+    path: &str,
+    permissions: Permissions,
+    bytes: &[u8],
+) -> io::Result<()> {
+    let place = fs::canonicalize(rt, path)?;
+    replace(rt, place.as_path().as_str(), Some(permissions), bytes)
 }
 
 // Writes what is no regular file.

@@ -9,6 +9,7 @@ mod files;
 mod manual;
 mod options;
 mod program;
+mod progress;
 mod reading;
 mod segments;
 
@@ -22,7 +23,8 @@ fn main(rt: HostRuntime) -> ExitCode {
             let _ = eprintln!(rt; "goqlanis: {failure}");
             match failure {
                 Failure::Usage(_) => ExitCode::from(2),
-                Failure::Refused(_) | Failure::OutOfMemory => ExitCode::FAILURE,
+                Failure::Refused(_) | Failure::Closed(_) | Failure::OutOfMemory =>
+                    ExitCode::FAILURE,
             }
         }
     }

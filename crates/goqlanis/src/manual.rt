@@ -2,63 +2,85 @@
 
 use crate::completions::push_words;
 use crate::options::{
-    ABOUT, EXAMPLES, Entry, NAME, PICTURE_HELP, READING_ABOUT, Takes, entries, reading_entries,
+    ABOUT, ENTRIES, EXAMPLES, Entry, NAME, PICTURE_HELP, READING_ABOUT, READING_ENTRIES, Takes,
 };
 use std::alloc::{AllocError, Global};
 
 /// The manual page, in the language of `man`.
 pub fn manual(alloc: Global) -> Result<String, AllocError> {
     let mut text = String::new(alloc);
-    write!(text, ".TH GOQLANIS 1\n.SH NAME\n{NAME} \\- {ABOUT}\n")?;
-    write!(text, ".SH SYNOPSIS\n.B {NAME}\n[OPTIONS] [TEXT]\n.br\n")?;
-    write!(text, ".B {NAME} read\n[OPTIONS] [PICTURE]\n")?;
-    text.push_str(DESCRIPTION)?;
-    text.push_str(".SH OPTIONS\n")?;
-    for entry in &entries() {
-        push_option(&mut text, entry)?;
-    }
+    write!(
+        text,
+        ".TH GOQLANIS 1\n.SH NAME\n{NAME} \\- {ABOUT}\n.SH SYNOPSIS\n.B {NAME}\n[OPTIONS] [TEXT]\n.br\n{DESCRIPTION}"
+    )?;
+    push_options(&mut text, &ENTRIES)?;
     write!(
         text,
         ".SH READING\n{READING_ABOUT}.\nPICTURE: {PICTURE_HELP}.\n"
     )?;
-    for entry in &reading_entries() {
-        push_option(&mut text, entry)?;
-    }
-    text.push_str(".SH EXIT STATUS\n")?;
-    text.push_str("0: all was drawn. 1: something was refused. 2: the command line is wrong.\n")?;
-    text.push_str(".SH EXAMPLES\n.nf\n")?;
+    push_options(&mut text, &READING_ENTRIES)?;
+    text.push_str(EXIT_STATUS)?;
     push_plain(&mut text, EXAMPLES.trim_start_matches("Examples:\n"))?;
     text.push_str(".fi\n")?;
     Ok(text)
 }
 
-static DESCRIPTION: &str = ".SH DESCRIPTION
+static DESCRIPTION: &str = ".B goqlanis read
+[OPTIONS] [PICTURE]
+.SH DESCRIPTION
 Draws the symbol of TEXT, or of a file, or of standard input, in the terminal or to a file.
 Input is taken byte by byte as it is.
+.SH OPTIONS
 ";
+
+static EXIT_STATUS: &str = ".SH EXIT STATUS
+0: all was drawn. 1: something was refused. 2: the command line is wrong.
+.SH EXAMPLES
+.nf
+";
+
+// Options and what they do.
+fn push_options(text: &mut String, entries: &[Entry]) -> Result<(), AllocError> {
+    for entry in entries {
+        push_option(text, entry)?;
+    }
+    Ok(())
+}
 
 // An option and what it does.
 fn push_option(text: &mut String, entry: &Entry) -> Result<(), AllocError> {
+    let alloc = *text.allocator();
+    let (long, help) = (entry.long, entry.help);
+    let (letter, value) = (letter_text(alloc, entry)?, value_text(alloc, entry.takes)?);
+    let plain = format!(in alloc; "{letter}--{long}{value}\n{help}\n")?;
     text.push_str(".TP\n.B ")?;
-    if let Some(letter) = entry.short {
-        write!(text, "\\-{letter}, ")?;
+    push_plain(text, plain.as_str())
+}
+
+// The letter of an option, before its name.
+fn letter_text(alloc: Global, entry: &Entry) -> Result<String, AllocError> {
+    match entry.short {
+        Some(letter) => format!(in alloc; "-{letter}, "),
+        None => Ok(String::new(alloc)),
     }
-    text.push_str("\\-\\-")?;
-    push_plain(text, entry.long)?;
-    match entry.takes {
-        Takes::Nothing => {}
-        Takes::Text(name) | Takes::Texts(name) => write!(text, " {name}")?,
-        Takes::Path => text.push_str(" FILE")?,
-        Takes::Word(words) => {
-            text.push_str(" ")?;
-            push_words(text, words, "|")?;
-        }
-        Takes::Number(least, most) => write!(text, " {least}..{most}")?,
+}
+
+// What an option takes, behind its name.
+fn value_text(alloc: Global, takes: Takes) -> Result<String, AllocError> {
+    match takes {
+        Takes::Nothing => Ok(String::new(alloc)),
+        Takes::Text(name) | Takes::Texts(name) => format!(in alloc; " {name}"),
+        Takes::Path => String::from_str(alloc, " FILE"),
+        Takes::Word(words) => words_text(alloc, words),
+        Takes::Number(least, most) => format!(in alloc; " {least}..{most}"),
     }
-    text.push_str("\n")?;
-    push_plain(text, entry.help)?;
-    text.push_str("\n")?;
-    Ok(())
+}
+
+// Words of which one is taken.
+fn words_text(alloc: Global, words: &[&str]) -> Result<String, AllocError> {
+    let mut text = String::from_str(alloc, " ")?;
+    push_words(&mut text, words, "|")?;
+    Ok(text)
 }
 
 // Text whose hyphens are hyphens, and no line of which is a request.

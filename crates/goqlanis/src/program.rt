@@ -3,17 +3,18 @@
 use crate::asked::{Asked, Source, Target, Writing, read_command_line};
 use crate::failure::Failure;
 use crate::options::READING_NAME;
+use crate::progress::Progress;
 use crate::segments::{Pieces, characters_of};
 use crate::{command, completions, files, manual, reading};
-use clap::ArgMatches;
 use clap::error::ErrorKind;
+use clap::{ArgMatches, Error};
 use goqlanis_draw::{
     Request, draw, draw_segments, manner_of, refusal_text, segments_refusal_text, unwritable,
 };
 use qrcode::bits::Manner;
 use qrcode::types::QrError;
 use qrcode_programs::{Fault, words};
-use std::alloc::Global;
+use std::alloc::{AllocError, Global};
 use std::io::{IsTerminal, Read, Write};
 use std::process::ExitCode;
 use std::{env, fs, io};
@@ -21,14 +22,7 @@ use std::{env, fs, io};
 /// Does what the command line asks for, and returns the exit status.
 pub fn run(rt: &HostRuntime) -> Result<ExitCode, Failure> {
     let alloc = rt.alloc();
-    let mut words: Vec<String> = match words(rt) {
-        Ok(words) => words.collect(alloc)?,
-        Err(Fault::NotText) => {
-            let text = "an argument is not UTF-8: put the data into a file, and name it by --input";
-            return Err(Failure::Refused(String::from_str(alloc, text)?));
-        }
-        Err(_) => return Err(Failure::OutOfMemory),
-    };
+    let mut words = command_words(rt)?;
     let reads = words.len() > 1 && words[1].as_str() == "read";
     let (command, words) = if reads {
         words[1] = String::from_str(alloc, READING_NAME)?;
@@ -40,16 +34,30 @@ pub fn run(rt: &HostRuntime) -> Result<ExitCode, Failure> {
         Ok(matches) if reads => reading::read(rt, &matches),
         Ok(matches) => obey(rt, &matches),
         Err(error) if error.kind() == ErrorKind::OutOfMemory => Err(Failure::OutOfMemory),
-        Err(error) => {
-            // (what is written fails where nobody reads it)
-            let is_written = error.print(rt).is_ok();
-            let status = if is_written {
-                error.exit_code() as u8
-            } else {
-                1
-            };
-            Ok(ExitCode::from(status))
-        }
+        Err(error) => Ok(told(rt, &error)),
+    }
+}
+
+// The words of the command line, the program's name first.
+fn command_words(rt: &HostRuntime) -> Result<Vec<String>, Failure> {
+    let alloc = rt.alloc();
+    match words(rt) {
+        Ok(words) => Ok(words.collect(alloc)?),
+        Err(Fault::NotText) => refused(
+            alloc,
+            "an argument is not UTF-8: put the data into a file, and name it by --input",
+        ),
+        Err(_) => Err(Failure::OutOfMemory),
+    }
+}
+
+// Tells what is wrong with the command line, or the help that is asked for; returns the exit status.
+fn told(rt: &HostRuntime, error: &Error) -> ExitCode {
+    // (what is written fails where nobody reads it)
+    if error.print(rt).is_ok() {
+        ExitCode::from(error.exit_code() as u8)
+    } else {
+        ExitCode::FAILURE
     }
 }
 
@@ -87,7 +95,7 @@ pub fn print(rt: &HostRuntime, bytes: &[u8]) -> Result<ExitCode, Failure> {
         Ok(()) => Ok(ExitCode::SUCCESS),
         Err(error) => {
             let text = format!(in rt.alloc(); "cannot write to standard output: {error}")?;
-            Err(Failure::Refused(text))
+            Err(Failure::Closed(text))
         }
     }
 }
@@ -146,20 +154,36 @@ pub fn read_standard_input(rt: &HostRuntime, what: &str) -> Result<Vec<u8>, Fail
 // Draws each line; a line that is refused is told by its number, and the others are drawn.
 fn draw_lines(rt: &HostRuntime, asked: &Asked<'_>, bytes: &[u8]) -> Result<ExitCode, Failure> {
     let bytes = bytes.strip_suffix(b"\n").unwrap_or(bytes);
-    let mut number = 0u64;
+    let total = bytes.split(|byte| *byte == b'\n').count();
+    let mut progress = Progress::new(rt, total, is_drawn_to_terminal(rt, asked));
+    let mut number = 0usize;
     let mut code = ExitCode::SUCCESS;
     for line in bytes.split(|byte| *byte == b'\n') {
+        progress.show(rt, number);
         number = number.saturating_add(1);
         match draw_one(rt, asked, line, Some(number)) {
             Ok(()) => {}
-            Err(Failure::OutOfMemory) => return Err(Failure::OutOfMemory),
-            Err(failure) => {
-                let _ = eprintln!(rt; "goqlanis: line {number}: {failure}");
+            Err(Failure::Refused(why)) => {
+                progress.clear(rt);
+                let _ = eprintln!(rt; "goqlanis: line {number}: {why}");
                 code = ExitCode::FAILURE;
+            }
+            Err(failure) => {
+                progress.clear(rt);
+                return Err(failure);
             }
         }
     }
+    progress.clear(rt);
     Ok(code)
+}
+
+// Whether drawings go to a terminal.
+fn is_drawn_to_terminal(rt: &HostRuntime, asked: &Asked<'_>) -> bool {
+    match asked.target {
+        Target::File(_) => false,
+        Target::Terminal | Target::StandardOutput => rt.stdout().is_terminal(),
+    }
 }
 
 // Draws one symbol, and writes it.
@@ -167,7 +191,7 @@ fn draw_one(
     rt: &HostRuntime,
     asked: &Asked<'_>,
     bytes: &[u8],
-    number: Option<u64>,
+    number: Option<usize>,
 ) -> Result<(), Failure> {
     let alloc = rt.alloc();
     let request = Request {
@@ -216,18 +240,15 @@ fn write(
     rt: &HostRuntime,
     asked: &Asked<'_>,
     drawing: &[u8],
-    number: Option<u64>,
+    number: Option<usize>,
 ) -> Result<(), Failure> {
-    let alloc = rt.alloc();
     match asked.target {
-        Target::File(path) => {
-            let path = numbered(rt, path, number)?;
-            write_file(rt, path.as_str(), drawing)
-        }
+        Target::File(path) => write_numbered(rt, path, drawing, number),
         Target::Terminal if !asked.request.format.is_text() && rt.stdout().is_terminal() => {
-            let text =
-                "a picture of bytes is not for a terminal: add --output FILE, or --output - to see it";
-            Err(Failure::Refused(String::from_str(alloc, text)?))
+            refused(
+                rt.alloc(),
+                "a picture of bytes is not for a terminal: add --output FILE, or --output - to see it",
+            )
         }
         Target::Terminal | Target::StandardOutput => {
             print(rt, drawing)?;
@@ -236,30 +257,45 @@ fn write(
     }
 }
 
+// Writes a drawing to a file, with the number of its line in the name.
+fn write_numbered(
+    rt: &HostRuntime,
+    path: &str,
+    drawing: &[u8],
+    number: Option<usize>,
+) -> Result<(), Failure> {
+    match number {
+        None => write_file(rt, path, drawing),
+        Some(number) => {
+            let path = numbered(rt.alloc(), path, number)?;
+            write_file(rt, path.as_str(), drawing)
+        }
+    }
+}
+
+// Refuses, for a reason.
+fn refused<T>(alloc: Global, why: &str) -> Result<T, Failure> {
+    Err(Failure::Refused(String::from_str(alloc, why)?))
+}
+
 // How data is written.
 fn manner(alloc: Global, writing: Writing, bytes: &[u8]) -> Result<Manner, Failure> {
     match (writing, manner_of(bytes)) {
         (Writing::ByItself, manner) => Ok(manner),
         (Writing::Bytes, _) => Ok(Manner::Bytes),
         (Writing::Marked, Manner::Bytes) => {
-            let text = "the data is not UTF-8: leave out --eci";
-            Err(Failure::Refused(String::from_str(alloc, text)?))
+            refused(alloc, "the data is not UTF-8: leave out --eci")
         }
         (Writing::Marked, _) => Ok(Manner::MarkedText),
     }
 }
 
-// The path of a drawing: the one that is named, with the number of its line before the ending.
-fn numbered(rt: &HostRuntime, path: &str, number: Option<u64>) -> Result<String, Failure> {
-    let alloc = rt.alloc();
-    let Some(number) = number else {
-        return Ok(String::from_str(alloc, path)?);
-    };
-    let text = match path.rsplit_once('.') {
+// A path with the number of a line before its ending.
+fn numbered(alloc: Global, path: &str, number: usize) -> Result<String, AllocError> {
+    match path.rsplit_once('.') {
         Some((stem, ending)) if !ending.contains('/') => {
-            format!(in alloc; "{stem}-{number:04}.{ending}")?
+            format!(in alloc; "{stem}-{number:04}.{ending}")
         }
-        _ => format!(in alloc; "{path}-{number:04}")?,
-    };
-    Ok(text)
+        _ => format!(in alloc; "{path}-{number:04}"),
+    }
 }

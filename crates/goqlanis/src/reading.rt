@@ -40,35 +40,40 @@ pub fn read(rt: &HostRuntime, matches: &ArgMatches<'_>) -> Result<ExitCode, Fail
 
 // What was read, in lines.
 fn description(alloc: Global, scan: &Scan) -> Result<String, AllocError> {
-    let (square, any) = (&scan.square, &scan.any);
-    let reading = &any.reading;
+    let (square, reading) = (&scan.square, &scan.any.reading);
     let level = reading.ec_level;
-    let mut text = match reading.version {
-        Version::Normal(number) => {
-            let mask = reading.mask.number();
-            format!(in alloc; "version {number}, level {level:?}, mask {mask}\n")?
-        }
-        Version::Micro(number) => {
-            let mask = reading.mask.micro_number();
-            format!(in alloc; "version M{number}, level {level:?}, mask {mask}\n")?
-        }
+    let (kind, number, mask) = match reading.version {
+        Version::Normal(number) => ("", number, reading.mask.number()),
+        Version::Micro(number) => ("M", number, reading.mask.micro_number()),
     };
     let (count, zone, scale) = (square.count, square.zone, square.scale);
-    let place = position_text(any.position);
-    write!(
-        text,
-        "modules: {count} by {count}; pixels of a module: {scale}; quiet zone: {zone}\n"
+    let place = position_text(scan.any.position);
+    let (exchanged, headers) = (exchanged_text(scan), headers_text(scan));
+    let mut text = format!(in alloc;
+        "version {kind}{number}, level {level:?}, mask {mask}
+modules: {count} by {count}; pixels of a module: {scale}; quiet zone: {zone}
+position: {place}{exchanged}{headers}\n"
     )?;
-    write!(text, "position: {place}")?;
-    if scan.is_inverted != any.is_inverted {
-        text.push_str(", dark and light exchanged")?;
-    }
-    if scan.has_headers {
-        text.push_str(", with headers between the segments")?;
-    }
-    text.push_str("\n")?;
     push_wrong(&mut text, &reading.wrong)?;
     Ok(text)
+}
+
+// Whether dark and light are exchanged.
+fn exchanged_text(scan: &Scan) -> &'static str {
+    if scan.is_inverted != scan.any.is_inverted {
+        ", dark and light exchanged"
+    } else {
+        ""
+    }
+}
+
+// Whether there are headers.
+fn headers_text(scan: &Scan) -> &'static str {
+    if scan.has_headers {
+        ", with headers between the segments"
+    } else {
+        ""
+    }
 }
 
 // How a symbol stands in its picture.

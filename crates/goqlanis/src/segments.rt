@@ -1,5 +1,7 @@
 //! `--segment`: data in segments by hand.
 
+ghost use Rattle.std.specs.Prelude.{◌≤◌, IfSome};
+
 use crate::failure::Failure;
 use goqlanis_draw::Segment;
 use qrcode::types::Mode;
@@ -81,8 +83,22 @@ fn push_digits(bytes: &mut Vec<u8>, digits: &[u8]) -> Result<bool, AllocError> {
 
 /// The number of two digits to the base 16.
 pub fn two_digits(high: u8, low: u8) -> Option<u8> {
-    let (high, low) = ((high as char).to_digit(16)?, (low as char).to_digit(16)?);
-    Some((16 * high + low) as u8)
+    match (digit(high), digit(low)) {
+        (Some(high), Some(low)) => Some(16 * high + low),
+        _ => None,
+    }
+}
+
+// The number of a digit to the base 16.
+fn digit(byte: u8) -> Option<u8>
+    ensures { IfSome result (λ digit. digit ≤ 15) }
+{
+    match byte {
+        b'0'..=b'9' => Some(byte - b'0'),
+        b'a'..=b'f' => Some(byte - b'a' + 10),
+        b'A'..=b'F' => Some(byte - b'A' + 10),
+        _ => None,
+    }
 }
 
 /// Why a mode does not write a text.
