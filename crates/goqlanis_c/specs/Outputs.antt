@@ -67,3 +67,8 @@ pub record IsPictureOf (modules : List ℕ) (width zone scale format : ℕ) (old
   pub drawn : IsDrawn named modules width zone scale bytes
   pub filled : IsFilled old new bytes
   pub counted : count ≡ length bytes
+
+-- the length of a picture of modules, in a format of a number
+abbrev pub IsLengthOf : List ℕ → ℕ → ℕ → ℕ → ℕ → ℕ → Type 0
+IsLengthOf modules width zone scale format count =
+    (f : Format) × ((bytes : List ℕ) × ((format_named format ≡ Some f) × (IsDrawn f modules width zone scale bytes × (count ≡ length bytes))))

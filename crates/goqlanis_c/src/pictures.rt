@@ -3,7 +3,7 @@
 ghost use Rattle.std.specs.Prelude.{◌≡◌, ◌≢◌, ◌+◌, ◌*◌, ◌^◌, ◌<◌, ◌≤◌, ℕ, List, length, Some, IfOk, IfErr, IfSome, OnOk, OnErr};
 ghost use Rattle.goqlanis_c.specs.Answers.{refusal_of, IsDrawingCause};
 ghost use Rattle.goqlanis_c.specs.Drawings.{format_named, IsDrawn};
-ghost use Rattle.goqlanis_c.specs.Outputs.{IsPictureOf};
+ghost use Rattle.goqlanis_c.specs.Outputs.{IsLengthOf, IsPictureOf};
 ghost use Rattle.goqlanis_c.specs.declared.drawing.Format.{Format};
 
 use crate::answers::Refusal;
@@ -148,12 +148,63 @@ pub extern "C" fn goq_draw_length(
     ensures causes { (room : ℕ) → IfSome (refusal_of result)
         (IsDrawingCause modules.now width zone scale format room) }
 {
-    match drawn(alloc, modules, width, zone, scale, format) {
-        Ok(bytes) => {
-            *count = bytes.len();
+    match length_of(alloc, modules, width, zone, scale, format) {
+        Ok(length) => {
+            *count = length;
             0
         }
         Err(refusal) => refusal.number(),
+    }
+}
+
+// The length of the picture of modules in the format of a number.
+fn length_of(
+    alloc: Global,
+    modules: &[u8],
+    width: u32,
+    zone: u32,
+    scale: u32,
+    format: u32,
+) -> Result<usize, Refusal>
+    ensures made { IfOk result (IsLengthOf modules.now width zone scale format) }
+    ensures causes { (room : ℕ) → IfErr result
+        (IsDrawingCause modules.now width zone scale format room) }
+{
+    if format == GREY {
+        length_of_greys(modules, width, zone, scale)
+    } else {
+        length_drawn(alloc, modules, width, zone, scale, format)
+    }
+}
+
+// The length of rows of grey pixels, which are not drawn for it.
+fn length_of_greys(modules: &[u8], width: u32, zone: u32, scale: u32) -> Result<usize, Refusal>
+    ensures made { IfOk result (IsLengthOf modules.now width zone scale 4) }
+    ensures causes { (room : ℕ) → IfErr result
+        (IsDrawingCause modules.now width zone scale 4 room) }
+{
+    match pixels_along(modules, width, zone, scale) {
+        Ok(pixels) => Ok(pixels as usize * pixels as usize),
+        Err(refusal) => Err(refusal),
+    }
+}
+
+// The length of a picture, which is drawn for it.
+fn length_drawn(
+    alloc: Global,
+    modules: &[u8],
+    width: u32,
+    zone: u32,
+    scale: u32,
+    format: u32,
+) -> Result<usize, Refusal>
+    ensures made { IfOk result (IsLengthOf modules.now width zone scale format) }
+    ensures causes { (room : ℕ) → IfErr result
+        (IsDrawingCause modules.now width zone scale format room) }
+{
+    match drawn(alloc, modules, width, zone, scale, format) {
+        Ok(bytes) => Ok(bytes.len()),
+        Err(refusal) => Err(refusal),
     }
 }
 
