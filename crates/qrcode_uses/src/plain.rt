@@ -22,18 +22,15 @@ pub fn text(alloc: Global) -> QrResult<(String, String)> {
 /// A payment text to SVG.
 pub fn payment(alloc: Global) -> QrResult<String> {
     let code = QrCode::of_text(alloc, "BCD\n002\n1\nSCT\n..", EcLevel::M)?;
-    let picture = code
-        .render::<svg::Color>()
+    code.render::<svg::Color>()
         .min_dimensions(200, 200)
-        .build(alloc)?;
-    Ok(picture)
+        .build(alloc)
 }
 
 /// A ticket number as a Micro symbol in half blocks.
 pub fn ticket(alloc: Global) -> QrResult<String> {
     let code = QrCode::with_version(alloc, b"01234567", Version::Micro(2), EcLevel::L)?;
-    let text = code.render::<unicode::Dense1x2>().build(alloc)?;
-    Ok(text)
+    code.render::<unicode::Dense1x2>().build(alloc)
 }
 
 /// Bits made by hand, with the number of a character set before the bytes.
@@ -42,40 +39,34 @@ pub fn greek(alloc: Global) -> QrResult<QrCode> {
     bits.push_eci_designator(9)?;
     bits.push_byte_data(b"\xca\xfe\xe4\xe9\xea\xe1\xf2 QR")?;
     bits.push_terminator(EcLevel::L)?;
-    let code = QrCode::with_bits(alloc, bits, EcLevel::L)?;
-    Ok(code)
+    QrCode::with_bits(alloc, bits, EcLevel::L)
 }
 
 /// A character for each module.
 pub fn chars(alloc: Global) -> QrResult<String> {
     let code = QrCode::new(alloc, b"01234567")?;
-    let text = code.render::<char>().build(alloc)?;
-    Ok(text)
+    code.render::<char>().build(alloc)
 }
 
 /// A text for each module.
 pub fn texts(alloc: Global) -> QrResult<String> {
     let code = QrCode::new(alloc, b"01234567")?;
-    let text = code
-        .render()
+    code.render()
         .dark_color(Str("##"))
         .light_color(Str("  "))
-        .build(alloc)?;
-    Ok(text)
+        .build(alloc)
 }
 
 /// SVG, in modules of 8 pixels.
 pub fn svg_text(alloc: Global) -> QrResult<String> {
     let code = QrCode::new(alloc, b"01234567")?;
-    let text = code.render::<svg::Color>().build(alloc)?;
-    Ok(text)
+    code.render::<svg::Color>().build(alloc)
 }
 
 /// PIC, whose unit is a module.
 pub fn pic_text(alloc: Global) -> QrResult<String> {
     let code = QrCode::new(alloc, b"01234567")?;
-    let text = code.render::<pic::Color>().module_size(1).build(alloc)?;
-    Ok(text)
+    code.render::<pic::Color>().module_size(1).build(alloc)
 }
 
 /// Grey pixels, as a PGM file.
@@ -91,34 +82,28 @@ pub fn greys(alloc: Global) -> QrResult<Vec<u8>> {
 /// Pixels in colours, at least 200 across.
 pub fn colors(alloc: Global) -> QrResult<ImageBuffer<Rgb>> {
     let code = QrCode::new(alloc, b"01234567")?;
-    let image = code
-        .render()
+    code.render()
         .dark_color(Rgb([128, 0, 0]))
         .light_color(Rgb([255, 255, 128]))
         .min_dimensions(200, 200)
-        .build(alloc)?;
-    Ok(image)
+        .build(alloc)
 }
 
 /// Modules of up to 4,096 pixels, without a quiet zone.
 pub fn wide(alloc: Global) -> QrResult<ImageBuffer<Luma>> {
     let code = QrCode::new(alloc, b"01234567")?;
-    let image = code
-        .render::<Luma>()
+    code.render::<Luma>()
         .quiet_zone(false)
         .module_dimensions(4096, 4096)
-        .build(alloc)?;
-    Ok(image)
+        .build(alloc)
 }
 
 /// Within 300 pixels, and the colours set after that.
 pub fn within(alloc: Global) -> QrResult<String> {
     let code = QrCode::new(alloc, b"01234567")?;
-    let text = code
-        .render()
+    code.render()
         .max_dimensions(300, 300)
         .dark_color(svg::Color("#008"))
         .light_color(svg::Color("none"))
-        .build(alloc)?;
-    Ok(text)
+        .build(alloc)
 }
