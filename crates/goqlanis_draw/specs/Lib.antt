@@ -1,3 +1,4 @@
 pub mod Drawings
 pub mod Symbols
 pub mod Segments
+pub mod Scans

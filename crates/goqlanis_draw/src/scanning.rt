@@ -1,5 +1,9 @@
 //! Pictures, read.
 
+ghost use Rattle.std.specs.Prelude.{◌≡◌, true, IfOk};
+ghost use Rattle.qrcode_scan.specs.Squares.{inverted};
+ghost use Rattle.goqlanis_draw.specs.Scans.{IsReadAs, IsScanOf, IsSquareOf};
+
 use qrcode_reader::{AnyReading, Position, Reading, read_any, read_bits};
 use qrcode_scan::{Pixels, Square, Unscanned, pixels_of, square_of};
 use qrcode_spell::pieces;
@@ -63,18 +67,33 @@ impl fmt::Display for Unread {
 
 /// Reads a picture: its pixels, the square of modules that these show, and the symbol that the
 /// square is in one of the positions.
-pub fn read_picture(alloc: Global, bytes: &[u8]) -> Result<Scan, Unread> {
+pub fn read_picture(alloc: Global, bytes: &[u8]) -> Result<Scan, Unread>
+    ensures value { IfOk result (IsScanOf bytes.now) }
+{
     let pixels = pixels_of(alloc, bytes).map_err(Unread::Unscanned)?;
     if pixels.has_dark_edge() {
-        let pixels = pixels.inverted(alloc)?;
-        read_pixels(alloc, &pixels, true)
+        read_inverted(alloc, &pixels)
     } else {
         read_pixels(alloc, &pixels, false)
     }
 }
 
+// Reads pixels with dark and light exchanged.
+fn read_inverted(alloc: Global, pixels: &Pixels) -> Result<Scan, Unread>
+    ensures square { IfOk result (λ scan. IsSquareOf scan (inverted pixels.now)) }
+    ensures inverted { IfOk result (λ scan. scan.is_inverted ≡ true) }
+    ensures read { IfOk result IsReadAs }
+{
+    let pixels = pixels.inverted(alloc)?;
+    read_pixels(alloc, &pixels, true)
+}
+
 // Reads pixels, which may have dark and light exchanged.
-fn read_pixels(alloc: Global, pixels: &Pixels, is_inverted: bool) -> Result<Scan, Unread> {
+fn read_pixels(alloc: Global, pixels: &Pixels, is_inverted: bool) -> Result<Scan, Unread>
+    ensures square { IfOk result (λ scan. IsSquareOf scan pixels.now) }
+    ensures inverted { IfOk result (λ scan. scan.is_inverted ≡ is_inverted) }
+    ensures read { IfOk result IsReadAs }
+{
     let Some(square) = square_of(alloc, pixels)? else {
         return Err(Unread::NoSquare);
     };
