@@ -5,22 +5,22 @@ use Rattle.std.specs.Str.{bytes_eq}
 use Rattle.std.specs.Option.{option_map}
 use Rattle.std.proofs.lemmas.Bool.Decides.{nat_tests}
 use Rattle.std.proofs.lemmas.Fmt.{decimal_nonempty}
-use Rattle.qrcode_contents.specs.declared.errors.ContentError.{ContentError}
-use Rattle.qrcode_contents.specs.declared.errors.Field.TheVariants.{Iban, Name, Street, Number, PostalCode, City, Country, Amount, Reference, Message}
-use Rattle.qrcode_contents.specs.declared.errors.Cause.TheVariants.{Character, Range}
+use Rattle.qrcode_fields.specs.declared.errors.ContentError.{ContentError}
+use Rattle.qrcode_fields.specs.declared.errors.Field.TheVariants.{Iban, Name, Street, Number, PostalCode, City, Country, Amount, Reference, Message}
+use Rattle.qrcode_fields.specs.declared.errors.Cause.TheVariants.{Character, Range}
 use Rattle.qrcode_contents.specs.declared.bill.Currency.{Currency}
 use Rattle.qrcode_contents.specs.declared.bill.Currency.TheVariants.{Franc, Euro}
-use Rattle.qrcode_contents.specs.Amounts.{amount_text}
+use Rattle.qrcode_fields.specs.Amounts.{amount_text}
 use Rattle.qrcode_contents.specs.Bill.{Addressee, Invoice, is_unsaid, is_account, is_creditor_reference, reference_kind, text_checks, text_refusal, of_debtor, form_refusal, is_nobody, debtor_refusal, is_out_of_range, account_checks, account_refusal, reference_checks, reference_refusal, bill_checks, bill_refusal, currency_name, address_kind, address_lines, unused_lines, amount_line, end_lines, bill_lines, bill_text, read_cents, read_currency, invoice_in, read_bill}
-use Rattle.qrcode_contents.specs.Characters.{is_control}
-use Rattle.qrcode_contents.specs.Entries.{is_filled}
-use Rattle.qrcode_contents.specs.Lines.{line_at}
-use Rattle.qrcode_contents.specs.Refusals.{checked, first_refusal}
-use Rattle.qrcode_contents.proofs.AmountReading.{amount_read, HasNoFeed-amount}
-use Rattle.qrcode_contents.proofs.Answering.{checked_none}
-use Rattle.qrcode_contents.proofs.EntryReading.{neither}
-use Rattle.qrcode_contents.proofs.LineReading.{HasNoFeed, HaveNoFeeds, HasNoFeed-from_control, lines_read}
-use Rattle.qrcode_contents.proofs.Passing.{all_pass, test_passes}
+use Rattle.qrcode_fields.specs.Characters.{is_control}
+use Rattle.qrcode_fields.specs.Entries.{is_filled}
+use Rattle.qrcode_fields.specs.Lines.{line_at}
+use Rattle.qrcode_fields.specs.Refusals.{checked, first_refusal}
+use Rattle.qrcode_fields.proofs.AmountReading.{amount_read, HasNoFeed-amount}
+use Rattle.qrcode_fields.proofs.Answering.{checked_none}
+use Rattle.qrcode_fields.proofs.EntryReading.{neither}
+use Rattle.qrcode_fields.proofs.LineReading.{HasNoFeed, HaveNoFeeds, HasNoFeed-from_control, lines_read}
+use Rattle.qrcode_fields.proofs.Passing.{all_pass, test_passes}
 
 -- a line that is said has no line feed
 said : (text : List ℕ) → is_unsaid text ≡ false → HasNoFeed text
@@ -55,6 +55,10 @@ not_of_debtor (Some e) is = cc
 kind_plain : (p : Addressee) (nobody : Bool) → is_nobody p ≡ nobody → HasNoFeed (address_kind p)
 kind_plain p true is = rw is refl
 kind_plain p false is = rw is refl
+
+kind_named : (p : Addressee) (nobody : Bool) → is_nobody p ≡ nobody → bytes_eq (address_kind p) (address_kind p) ≡ true
+kind_named p true is = rw is refl
+kind_named p false is = rw is refl
 
 reference_plain : (r : List ℕ) (a b : Bool) → is_filled r ≡ a → is_creditor_reference r ≡ b → HasNoFeed (reference_kind r)
 reference_plain r false b is kind = rw is refl
@@ -225,7 +229,7 @@ same_bill b cents is = rw is refl
 -- the lines say the bill
 lines_say : (b : Invoice) → AreBillLines b → invoice_in (line_at (bill_lines b)) ≡ Some b
 lines_say b are =
-    rw (reference_named b.reference (is_filled b.reference) (is_creditor_reference b.reference) refl refl, currency_read b.currency)
+    rw (kind_named b.creditor (is_nobody b.creditor) refl, kind_named b.debtor (is_nobody b.debtor) refl, reference_named b.reference (is_filled b.reference) (is_creditor_reference b.reference) refl refl, currency_read b.currency)
     (ap Some (same_bill b (read_cents (amount_line b.cents)) (cents_read b.cents are.cents)))
 
 -- what is read is what was said

@@ -2,19 +2,19 @@
 use Rattle.std.proofs.Common.{◌≡◌, ℕ, zero, suc, ◌==◌, ◌||◌, List, [], ◌∷◌, ◌++◌, Bool, true, false, None, Some, flat_map, get_or, codes, refl, ap, sym, arith}
 use Rattle.std.specs.List.{list_any}
 use Rattle.std.proofs.lemmas.Bool.Decides.{nat_tests}
-use Rattle.qrcode_contents.specs.declared.errors.Field.TheVariants.{Name, Family, Given, Organisation, Phone, Email, Url, Street, City, Region, PostalCode, Country, Note}
-use Rattle.qrcode_contents.specs.declared.errors.Cause.TheVariants.{ControlCharacter}
-use Rattle.qrcode_contents.specs.declared.escapes.Escapes.TheVariants.{Lines}
+use Rattle.qrcode_fields.specs.declared.errors.Field.TheVariants.{Name, Family, Given, Organisation, Phone, Email, Url, Street, City, Region, PostalCode, Country, Note}
+use Rattle.qrcode_fields.specs.declared.errors.Cause.TheVariants.{ControlCharacter}
+use Rattle.qrcode_fields.specs.declared.escapes.Escapes.TheVariants.{Lines}
 use Rattle.qrcode_contents.specs.Card.{Contact, card_checks, place_checks, text_refusal, place_refusal, card_refusal, card_lines, card_text, contact_in, read_card}
-use Rattle.qrcode_contents.specs.Characters.{is_control, is_stray}
-use Rattle.qrcode_contents.specs.ContentLines.{content_text, structured, read_content, part_in}
-use Rattle.qrcode_contents.specs.Entries.{Entry, is_filled, value_of}
-use Rattle.qrcode_contents.specs.Escapes.{letter_of, with_letter, escaped, unescaped_from, pieces_from}
-use Rattle.qrcode_contents.proofs.ContentReading.{begins_blank, IsContent, AreContent, content_read}
-use Rattle.qrcode_contents.proofs.EntryReading.{neither, parts_read, no_part}
-use Rattle.qrcode_contents.proofs.LinkReading.{HasNo, HasNo-append, none_of, no_return, no_stray_return}
-use Rattle.qrcode_contents.proofs.Passing.{all_pass, test_passes}
-use Rattle.qrcode_contents.proofs.Pieces.{semicolon_escaped}
+use Rattle.qrcode_fields.specs.Characters.{is_control, is_stray}
+use Rattle.qrcode_fields.specs.ContentLines.{content_text, structured, read_content, part_in}
+use Rattle.qrcode_fields.specs.Entries.{Entry, is_filled, value_of}
+use Rattle.qrcode_fields.specs.Escapes.{letter_of, with_letter, escaped, unescaped_from, pieces_from}
+use Rattle.qrcode_fields.proofs.ContentReading.{begins_blank, IsContent, AreContent, content_read}
+use Rattle.qrcode_fields.proofs.EntryReading.{neither, parts_read, no_part}
+use Rattle.qrcode_fields.proofs.LinkReading.{HasNo, HasNo-append, none_of, no_return, no_stray_return}
+use Rattle.qrcode_fields.proofs.Passing.{all_pass, test_passes}
+use Rattle.qrcode_fields.proofs.Pieces.{semicolon_escaped}
 
 -- what a value of lines may have: no carriage return, and no line feed
 record IsPlain (bytes : List ℕ) : Type 0 where

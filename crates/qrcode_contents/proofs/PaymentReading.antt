@@ -3,22 +3,22 @@ use Rattle.std.proofs.Common.{◌≡◌, ℕ, ◌<◌, ◌^◌, ◌%◌, ◌==�
 use Rattle.std.specs.List.{list_any}
 use Rattle.std.specs.Option.{option_map, option_and_then}
 use Rattle.std.proofs.lemmas.Bool.Decides.{nat_tests}
-use Rattle.qrcode_contents.specs.declared.errors.Field.{Field}
-use Rattle.qrcode_contents.specs.declared.errors.Field.TheVariants.{Bic, Name, Iban, Amount, Purpose, Reference, Message, Information}
-use Rattle.qrcode_contents.specs.declared.errors.Cause.TheVariants.{ControlCharacter, Character, CheckDigits, Range}
+use Rattle.qrcode_fields.specs.declared.errors.Field.{Field}
+use Rattle.qrcode_fields.specs.declared.errors.Field.TheVariants.{Bic, Name, Iban, Amount, Purpose, Reference, Message, Information}
+use Rattle.qrcode_fields.specs.declared.errors.Cause.TheVariants.{ControlCharacter, Character, CheckDigits, Range}
 use Rattle.qrcode_contents.specs.declared.payment.PaymentVersion.{PaymentVersion}
 use Rattle.qrcode_contents.specs.declared.payment.PaymentVersion.TheVariants.{One, Two}
-use Rattle.qrcode_contents.specs.Amounts.{amount_text, read_amount}
-use Rattle.qrcode_contents.specs.Characters.{is_control, control_refusal}
-use Rattle.qrcode_contents.specs.Entries.{is_filled, behind}
-use Rattle.qrcode_contents.specs.Lines.{line_at}
+use Rattle.qrcode_fields.specs.Amounts.{amount_text, read_amount}
+use Rattle.qrcode_fields.specs.Characters.{is_control, control_refusal}
+use Rattle.qrcode_fields.specs.Entries.{is_filled, behind}
+use Rattle.qrcode_fields.specs.Lines.{line_at}
 use Rattle.qrcode_contents.specs.Payment.{Transfer, version_name, payment_lines, payment_text, later_count, later_lines, read_payment, transfer_of, transfer_from, named_version, is_account, field_checks, control_checks, bank_checks, account_checks, message_checks}
-use Rattle.qrcode_contents.specs.Refusals.{refused_if}
-use Rattle.qrcode_contents.specs.Numbers.{checked_number}
-use Rattle.qrcode_contents.proofs.EntryReading.{neither}
-use Rattle.qrcode_contents.proofs.AmountReading.{amount_read, HasNoFeed-amount}
-use Rattle.qrcode_contents.proofs.LineReading.{HasNoFeed, HaveNoFeeds, HaveNoFeeds-take, HasNoFeed-from_control, lines_read}
-use Rattle.qrcode_contents.proofs.Passing.{passes, test_passes}
+use Rattle.qrcode_fields.specs.Refusals.{refused_if}
+use Rattle.qrcode_fields.specs.Numbers.{checked_number}
+use Rattle.qrcode_fields.proofs.EntryReading.{neither}
+use Rattle.qrcode_fields.proofs.AmountReading.{amount_read, HasNoFeed-amount}
+use Rattle.qrcode_fields.proofs.LineReading.{HasNoFeed, HaveNoFeeds, HaveNoFeeds-take, HasNoFeed-from_control, lines_read}
+use Rattle.qrcode_fields.proofs.Passing.{passes, test_passes}
 
 -- a field that is not filled is empty
 empty_from : (bytes : List ℕ) → is_filled bytes ≡ false → bytes ≡ []

@@ -3,14 +3,14 @@ use Rattle.std.proofs.Common.{◌≡◌, ℕ, ◌==◌, not, List, [], ◌∷◌
 use Rattle.std.specs.List.{list_all}
 use Rattle.std.specs.Option.{option_map}
 use Rattle.std.proofs.lemmas.Bool.Decides.{nat_tests}
-use Rattle.qrcode_contents.specs.declared.errors.Field.TheVariants.{Phone}
-use Rattle.qrcode_contents.specs.declared.errors.Cause.TheVariants.{Empty, Character}
-use Rattle.qrcode_contents.specs.Entries.{is_filled, behind}
-use Rattle.qrcode_contents.specs.Percents.{encoded, decoded}
+use Rattle.qrcode_fields.specs.declared.errors.Field.TheVariants.{Phone}
+use Rattle.qrcode_fields.specs.declared.errors.Cause.TheVariants.{Empty, Character}
+use Rattle.qrcode_fields.specs.Entries.{is_empty, behind}
+use Rattle.qrcode_fields.specs.Percents.{encoded, decoded}
 use Rattle.qrcode_contents.specs.Phone.{is_dialled, phone_refusal, message_text, before_query, from_query, read_message}
-use Rattle.qrcode_contents.specs.Refusals.{refused_if}
-use Rattle.qrcode_contents.proofs.EntryReading.{both}
-use Rattle.qrcode_contents.proofs.Passing.{passes, test_passes}
+use Rattle.qrcode_fields.specs.Refusals.{refused_if}
+use Rattle.qrcode_fields.proofs.EntryReading.{both}
+use Rattle.qrcode_fields.proofs.Passing.{passes, test_passes}
 
 -- a test whose denial does not hold
 pub holds : (b : Bool) → not b ≡ false → b ≡ true
@@ -34,7 +34,7 @@ from_query-at (b ∷ number) rest is =
 
 dialled : (number : List ℕ) → phone_refusal number ≡ None → list_all is_dialled number ≡ true
 dialled number is =
-    let empty = refused_if (not (is_filled number)) Phone Empty in
+    let empty = refused_if (is_empty number) Phone Empty in
     let wrong = refused_if (not (list_all is_dialled number)) Phone Character in
     let last = passes wrong [] (passes empty (wrong ∷ []) is).1 in
     holds (list_all is_dialled number) (test_passes (not (list_all is_dialled number)) Phone Character last.0)

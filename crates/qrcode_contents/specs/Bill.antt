@@ -3,20 +3,20 @@ use Rattle.std.specs.Prelude.{◌≡◌, ℕ, nat_lt, nat_le, ◌+◌, ◌-◌, 
 use Rattle.std.specs.Str.{bytes_eq, chars}
 use Rattle.std.specs.List.{list_all, list_any, starts_with}
 use Rattle.std.specs.Option.{option_map}
-use Rattle.qrcode_contents.specs.declared.errors.ContentError.{ContentError}
-use Rattle.qrcode_contents.specs.declared.errors.ContentError.TheVariants.{Refused, OutOfMemory}
-use Rattle.qrcode_contents.specs.declared.errors.Field.TheVariants.{Iban, Name, Street, Number, PostalCode, City, Country, Amount, Debtor, Reference, Message}
-use Rattle.qrcode_contents.specs.declared.errors.Cause.TheVariants.{Empty, TooLong, Character, CheckDigits, Range, Unused}
+use Rattle.qrcode_fields.specs.declared.errors.ContentError.{ContentError}
+use Rattle.qrcode_fields.specs.declared.errors.ContentError.TheVariants.{Refused, OutOfMemory}
+use Rattle.qrcode_fields.specs.declared.errors.Field.TheVariants.{Iban, Name, Street, Number, PostalCode, City, Country, Amount, Debtor, Reference, Message}
+use Rattle.qrcode_fields.specs.declared.errors.Cause.TheVariants.{Empty, TooLong, Character, CheckDigits, Range, Unused}
 use Rattle.qrcode_contents.specs.declared.bill.Currency.{Currency}
 use Rattle.qrcode_contents.specs.declared.bill.Currency.TheVariants.{Franc, Euro}
 use Rattle.qrcode_contents.specs.declared.bill.Party.{Party}
 use Rattle.qrcode_contents.specs.declared.bill.Bill.{Bill}
-use Rattle.qrcode_contents.specs.Amounts.{amount_text, read_amount}
-use Rattle.qrcode_contents.specs.Characters.{is_capital, is_control, is_digit}
-use Rattle.qrcode_contents.specs.Entries.{is_filled}
-use Rattle.qrcode_contents.specs.Lines.{lines_text, read_lines, line_at}
-use Rattle.qrcode_contents.specs.Numbers.{checked_number}
-use Rattle.qrcode_contents.specs.Refusals.{refused_if, first_refusal}
+use Rattle.qrcode_fields.specs.Amounts.{amount_text, read_amount}
+use Rattle.qrcode_fields.specs.Characters.{is_capital, is_control, is_digit}
+use Rattle.qrcode_fields.specs.Entries.{is_empty, is_filled}
+use Rattle.qrcode_fields.specs.Lines.{lines_text, read_lines, line_at}
+use Rattle.qrcode_fields.specs.Numbers.{carry_of, checked_number}
+use Rattle.qrcode_fields.specs.Refusals.{refused_if, first_refusal}
 
 -- a name with its address
 pub record Addressee : Type 0 where
@@ -103,24 +103,6 @@ abbrev pub reference_kind : List ℕ → List ℕ
 reference_kind text =
     if not (is_filled text) then codes "NON" else (if is_creditor_reference text then codes "SCOR" else codes "QRR")
 
--- the carry behind a digit (modulo 10, recursive)
-abbrev pub carry_table : List ℕ
-carry_table = 0 ∷ 9 ∷ 4 ∷ 6 ∷ 8 ∷ 2 ∷ 7 ∷ 1 ∷ 3 ∷ 5 ∷ []
-
-abbrev pub next_carry : ℕ → ℕ → ℕ
-next_carry carry digit = slice_index_or carry_table ((carry + (digit - 48)) % 10) 0
-
--- what the check digit at the end leaves: zero where it is right
-abbrev pub carry_of : List ℕ → ℕ
-carry_of digits = fold next_carry 0 digits
-
--- the guidelines' reference, and one with another last digit
-check_row : carry_of (codes "210000000003139471430009017") ≡ 0
-check_row = refl
-
-wrong_row : carry_of (codes "210000000003139471430009018") ≡ 9
-wrong_row = refl
-
 -- texts with what no line says
 abbrev pub text_checks : Addressee → List (Option ContentError)
 text_checks p =
@@ -135,9 +117,9 @@ text_checks p =
 -- what is missing or too long
 abbrev pub form_checks : Addressee → List (Option ContentError)
 form_checks p =
-    refused_if (not (is_filled p.name)) Name Empty
-    ∷ refused_if (not (is_filled p.code)) PostalCode Empty
-    ∷ refused_if (not (is_filled p.city)) City Empty
+    refused_if (is_empty p.name) Name Empty
+    ∷ refused_if (is_empty p.code) PostalCode Empty
+    ∷ refused_if (is_empty p.city) City Empty
     ∷ refused_if (nat_lt 70 (length (chars p.name))) Name TooLong
     ∷ refused_if (nat_lt 70 (length (chars p.street))) Street TooLong
     ∷ refused_if (nat_lt 16 (length (chars p.number))) Number TooLong
@@ -266,10 +248,14 @@ addressee_at line first = record {
   country = line (first + 5);
 }
 
+-- the line before an address says its kind
+abbrev pub has_kind : (ℕ → List ℕ) → ℕ → Bool
+has_kind line kind = bytes_eq (line kind) (address_kind (addressee_at line (kind + 1)))
+
 -- the bill that lines say
 abbrev pub invoice_in : (ℕ → List ℕ) → Option Invoice
 invoice_in line =
-    if bytes_eq (line 0) (codes "SPC") && bytes_eq (line 1) (codes "0200") && bytes_eq (line 2) (codes "1") && bytes_eq (line 27) (reference_kind (line 28)) && bytes_eq (line 30) (codes "EPD")
+    if bytes_eq (line 0) (codes "SPC") && bytes_eq (line 1) (codes "0200") && bytes_eq (line 2) (codes "1") && has_kind line 4 && has_kind line 20 && bytes_eq (line 27) (reference_kind (line 28)) && bytes_eq (line 30) (codes "EPD")
     then option_map (λ currency. record {
       iban = line 3;
       creditor = addressee_at line 5;

@@ -3,14 +3,14 @@ use Rattle.std.specs.Prelude.{ℕ, not, ◌&&◌, List, [], ◌∷◌, Option, S
 use Rattle.std.specs.Str.{bytes_eq}
 use Rattle.std.specs.List.{list_any}
 use Rattle.qrcode_contents.specs.declared.card.Card.{Card}
-use Rattle.qrcode_contents.specs.declared.errors.ContentError.{ContentError}
-use Rattle.qrcode_contents.specs.declared.errors.Field.TheVariants.{Name, Family, Given, Organisation, Phone, Email, Url, Street, City, Region, PostalCode, Country, Note}
-use Rattle.qrcode_contents.specs.declared.errors.Cause.TheVariants.{Empty, ControlCharacter}
-use Rattle.qrcode_contents.specs.Characters.{is_control, is_stray}
-use Rattle.qrcode_contents.specs.ContentLines.{content_text, structured, read_content, part_in}
-use Rattle.qrcode_contents.specs.Entries.{Entry, is_filled, value_of}
-use Rattle.qrcode_contents.specs.Links.{Parameter}
-use Rattle.qrcode_contents.specs.Refusals.{refused_if, first_refusal}
+use Rattle.qrcode_fields.specs.declared.errors.ContentError.{ContentError}
+use Rattle.qrcode_fields.specs.declared.errors.Field.TheVariants.{Name, Family, Given, Organisation, Phone, Email, Url, Street, City, Region, PostalCode, Country, Note}
+use Rattle.qrcode_fields.specs.declared.errors.Cause.TheVariants.{Empty, ControlCharacter}
+use Rattle.qrcode_fields.specs.Characters.{is_control, is_stray}
+use Rattle.qrcode_fields.specs.ContentLines.{content_text, structured, read_content, part_in}
+use Rattle.qrcode_fields.specs.Entries.{Entry, is_empty, value_of}
+use Rattle.qrcode_fields.specs.Links.{Parameter}
+use Rattle.qrcode_fields.specs.Refusals.{refused_if, first_refusal}
 
 -- a contact as its card says it
 pub record Contact : Type 0 where
@@ -49,8 +49,8 @@ contact_of c = record {
 -- control characters: in texts tabs and line feeds may stand, in an address of the web none
 abbrev pub card_checks : Contact → List (Option ContentError)
 card_checks c =
-    refused_if (not (is_filled c.name)) Name Empty
-    ∷ refused_if (not (is_filled c.family)) Family Empty
+    refused_if (is_empty c.name) Name Empty
+    ∷ refused_if (is_empty c.family) Family Empty
     ∷ refused_if (list_any is_stray c.name) Name ControlCharacter
     ∷ refused_if (list_any is_stray c.family) Family ControlCharacter
     ∷ refused_if (list_any is_stray c.given) Given ControlCharacter

@@ -3,12 +3,12 @@ use Rattle.std.specs.Prelude.{ℕ, ◌==◌, ◌&&◌, not, List, [], ◌∷◌,
 use Rattle.std.specs.List.{list_all}
 use Rattle.std.specs.Option.{option_map}
 use Rattle.qrcode_contents.specs.declared.contact.Contact.{Contact}
-use Rattle.qrcode_contents.specs.declared.errors.ContentError.{ContentError}
-use Rattle.qrcode_contents.specs.declared.errors.Field.TheVariants.{Name, Given, Phone, Email, Url, Birthday, Note, Street, City, Region, PostalCode, Country}
-use Rattle.qrcode_contents.specs.declared.errors.Cause.TheVariants.{Empty, Character}
-use Rattle.qrcode_contents.specs.Characters.{is_digit, control_refusal}
-use Rattle.qrcode_contents.specs.Entries.{Entry, single, is_filled, marked_text, read_entries, value_of, part_of}
-use Rattle.qrcode_contents.specs.Refusals.{refused_if, first_refusal}
+use Rattle.qrcode_fields.specs.declared.errors.ContentError.{ContentError}
+use Rattle.qrcode_fields.specs.declared.errors.Field.TheVariants.{Name, Given, Phone, Email, Url, Birthday, Note, Street, City, Region, PostalCode, Country}
+use Rattle.qrcode_fields.specs.declared.errors.Cause.TheVariants.{Empty, Character}
+use Rattle.qrcode_fields.specs.Characters.{is_digit, control_refusal}
+use Rattle.qrcode_fields.specs.Entries.{Entry, single, is_empty, is_filled, marked_text, read_entries, value_of, part_of}
+use Rattle.qrcode_fields.specs.Refusals.{refused_if, first_refusal}
 
 -- a contact as its text says it
 pub record Person : Type 0 where
@@ -51,7 +51,7 @@ person_controls p = control_refusal (
 -- a missing name, and what is no birthday
 unfoldable pub person_checks : Person → Option ContentError
 person_checks p = first_refusal (
-    refused_if (not (is_filled p.family)) Name Empty
+    refused_if (is_empty p.family) Name Empty
     ∷ refused_if (is_filled p.birthday && not (length p.birthday == 8)) Birthday Character
     ∷ refused_if (not (list_all is_digit p.birthday)) Birthday Character
     ∷ [])

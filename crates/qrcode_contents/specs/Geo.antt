@@ -3,13 +3,13 @@ use Rattle.std.specs.Prelude.{◌≡◌, ℕ, zero, suc, nat_lt, ◌+◌, ◌-�
 use Rattle.std.specs.Int.{is_negative}
 use Rattle.std.specs.Option.{option_map}
 use Rattle.std.specs.Str.Parse.{digits_value}
-use Rattle.qrcode_contents.specs.declared.errors.ContentError.{ContentError}
-use Rattle.qrcode_contents.specs.declared.errors.Field.TheVariants.{Latitude, Longitude}
-use Rattle.qrcode_contents.specs.declared.errors.Cause.TheVariants.{Range}
+use Rattle.qrcode_fields.specs.declared.errors.ContentError.{ContentError}
+use Rattle.qrcode_fields.specs.declared.errors.Field.TheVariants.{Latitude, Longitude}
+use Rattle.qrcode_fields.specs.declared.errors.Cause.TheVariants.{Range}
 use Rattle.qrcode_contents.specs.declared.geo.Place.{Place}
-use Rattle.qrcode_contents.specs.Entries.{behind}
-use Rattle.qrcode_contents.specs.Links.{before, after}
-use Rattle.qrcode_contents.specs.Refusals.{refused_if, first_refusal}
+use Rattle.qrcode_fields.specs.Entries.{behind}
+use Rattle.qrcode_fields.specs.Links.{before, after}
+use Rattle.qrcode_fields.specs.Refusals.{refused_if, first_refusal}
 
 -- what the link cannot say
 abbrev pub place_checks : Place → List (Option ContentError)

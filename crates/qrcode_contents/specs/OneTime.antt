@@ -4,10 +4,10 @@ use Rattle.std.specs.Str.{bytes_eq}
 use Rattle.std.specs.Str.Parse.{digits_value}
 use Rattle.std.specs.List.{list_all, list_any, starts_with}
 use Rattle.std.specs.Option.{option_map, option_and_then}
-use Rattle.qrcode_contents.specs.declared.errors.ContentError.{ContentError}
-use Rattle.qrcode_contents.specs.declared.errors.Field.TheVariants.{Secret, Issuer, Account, Period}
-use Rattle.qrcode_contents.specs.declared.errors.Cause.TheVariants.{Empty, Character, ControlCharacter, Range}
-use Rattle.qrcode_contents.specs.declared.links.Part.TheVariants.{Path}
+use Rattle.qrcode_fields.specs.declared.errors.ContentError.{ContentError}
+use Rattle.qrcode_fields.specs.declared.errors.Field.TheVariants.{Secret, Issuer, Account, Period}
+use Rattle.qrcode_fields.specs.declared.errors.Cause.TheVariants.{Empty, Character, ControlCharacter, Range}
+use Rattle.qrcode_fields.specs.declared.links.Part.TheVariants.{Path}
 use Rattle.qrcode_contents.specs.declared.one_time.Factor.{Factor}
 use Rattle.qrcode_contents.specs.declared.one_time.Factor.TheVariants.{Time, Counter}
 use Rattle.qrcode_contents.specs.declared.one_time.Algorithm.{Algorithm}
@@ -15,11 +15,11 @@ use Rattle.qrcode_contents.specs.declared.one_time.Algorithm.TheVariants.{Sha1, 
 use Rattle.qrcode_contents.specs.declared.one_time.Digits.{Digits}
 use Rattle.qrcode_contents.specs.declared.one_time.Digits.TheVariants.{Six, Eight}
 use Rattle.qrcode_contents.specs.declared.one_time.OneTime.{OneTime}
-use Rattle.qrcode_contents.specs.Characters.{is_control}
-use Rattle.qrcode_contents.specs.Entries.{is_filled, behind}
-use Rattle.qrcode_contents.specs.Links.{Parameter, before, after, part_text, query_text, read_parameter, value_in}
-use Rattle.qrcode_contents.specs.Percents.{decoded}
-use Rattle.qrcode_contents.specs.Refusals.{refused_if, first_refusal}
+use Rattle.qrcode_fields.specs.Characters.{is_control}
+use Rattle.qrcode_fields.specs.Entries.{is_empty, is_filled, behind}
+use Rattle.qrcode_fields.specs.Links.{Parameter, before, after, part_text, query_text, read_parameter, value_in}
+use Rattle.qrcode_fields.specs.Percents.{decoded}
+use Rattle.qrcode_fields.specs.Refusals.{refused_if, first_refusal}
 
 -- one-time passwords as their text says them
 pub record Key : Type 0 where
@@ -63,10 +63,10 @@ abbrev pub key_checks : Key → List (Option ContentError)
 key_checks k =
     refused_if (list_any is_control k.issuer) Issuer ControlCharacter
     ∷ refused_if (list_any is_colon k.issuer) Issuer Character
-    ∷ refused_if (not (is_filled k.account)) Account Empty
+    ∷ refused_if (is_empty k.account) Account Empty
     ∷ refused_if (list_any is_control k.account) Account ControlCharacter
     ∷ refused_if (list_any is_colon k.account || begins_with_space k.account) Account Character
-    ∷ refused_if (not (is_filled k.secret)) Secret Empty
+    ∷ refused_if (is_empty k.secret) Secret Empty
     ∷ refused_if (not (list_all is_base32 k.secret)) Secret Character
     ∷ refused_if (has_no_period k.factor) Period Range
     ∷ []

@@ -3,18 +3,18 @@ use Rattle.std.specs.Prelude.{ℕ, nat_lt, nat_le, ◌==◌, ◌%◌, ◌&&◌, 
 use Rattle.std.specs.Str.{bytes_eq, chars}
 use Rattle.std.specs.List.{list_all, starts_with}
 use Rattle.std.specs.Option.{option_map, option_and_then}
-use Rattle.qrcode_contents.specs.declared.errors.ContentError.{ContentError}
-use Rattle.qrcode_contents.specs.declared.errors.Field.TheVariants.{Bic, Name, Iban, Amount, Purpose, Reference, Message, Information, Whole}
-use Rattle.qrcode_contents.specs.declared.errors.Cause.TheVariants.{Empty, TooLong, Character, CheckDigits, Range, Unused}
+use Rattle.qrcode_fields.specs.declared.errors.ContentError.{ContentError}
+use Rattle.qrcode_fields.specs.declared.errors.Field.TheVariants.{Bic, Name, Iban, Amount, Purpose, Reference, Message, Information, Whole}
+use Rattle.qrcode_fields.specs.declared.errors.Cause.TheVariants.{Empty, TooLong, Character, CheckDigits, Range, Unused}
 use Rattle.qrcode_contents.specs.declared.payment.PaymentVersion.{PaymentVersion}
 use Rattle.qrcode_contents.specs.declared.payment.PaymentVersion.TheVariants.{One, Two}
 use Rattle.qrcode_contents.specs.declared.payment.Payment.{Payment}
-use Rattle.qrcode_contents.specs.Amounts.{amount_text, read_amount}
-use Rattle.qrcode_contents.specs.Characters.{is_capital, control_refusal}
-use Rattle.qrcode_contents.specs.Entries.{is_filled, behind}
-use Rattle.qrcode_contents.specs.Lines.{lines_text, read_lines, line_at}
-use Rattle.qrcode_contents.specs.Numbers.{checked_number}
-use Rattle.qrcode_contents.specs.Refusals.{refused_if, first_refusal}
+use Rattle.qrcode_fields.specs.Amounts.{amount_text, read_amount}
+use Rattle.qrcode_fields.specs.Characters.{is_capital, control_refusal}
+use Rattle.qrcode_fields.specs.Entries.{is_empty, is_filled, behind}
+use Rattle.qrcode_fields.specs.Lines.{lines_text, read_lines, line_at}
+use Rattle.qrcode_fields.specs.Numbers.{checked_number}
+use Rattle.qrcode_fields.specs.Refusals.{refused_if, first_refusal}
 
 -- a transfer as its text says it
 pub record Transfer : Type 0 where
@@ -73,7 +73,7 @@ control_checks t = control_refusal (
 -- what is no BIC, and where it lacks
 unfoldable pub bank_checks : Transfer → Option ContentError
 bank_checks t = first_refusal (
-    refused_if (needs_bic t.version && not (is_filled t.bic)) Bic Empty
+    refused_if (needs_bic t.version && is_empty t.bic) Bic Empty
     ∷ refused_if (is_filled t.bic && not (is_bic t.bic)) Bic Character
     ∷ [])
 
@@ -88,7 +88,7 @@ account_checks t = first_refusal (
 -- what is too long, and a wrong reference
 unfoldable pub message_checks : Transfer → Option ContentError
 message_checks t = first_refusal (
-    refused_if (not (is_filled t.name)) Name Empty
+    refused_if (is_empty t.name) Name Empty
     ∷ refused_if (nat_lt 70 (length (chars t.name))) Name TooLong
     ∷ refused_if (nat_lt 4 (length t.purpose)) Purpose TooLong
     ∷ refused_if (not (list_all is_capital t.purpose)) Purpose Character

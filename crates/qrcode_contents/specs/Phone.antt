@@ -2,13 +2,13 @@
 use Rattle.std.specs.Prelude.{ℕ, ◌==◌, ◌||◌, not, Bool, List, [], ◌∷◌, ◌++◌, Option, codes, if◌then◌else◌}
 use Rattle.std.specs.List.{list_all}
 use Rattle.std.specs.Option.{option_map, option_and_then}
-use Rattle.qrcode_contents.specs.declared.errors.ContentError.{ContentError}
-use Rattle.qrcode_contents.specs.declared.errors.Field.TheVariants.{Phone}
-use Rattle.qrcode_contents.specs.declared.errors.Cause.TheVariants.{Empty, Character}
-use Rattle.qrcode_contents.specs.Characters.{is_digit}
-use Rattle.qrcode_contents.specs.Entries.{is_filled, behind}
-use Rattle.qrcode_contents.specs.Percents.{encoded, decoded}
-use Rattle.qrcode_contents.specs.Refusals.{refused_if, first_refusal}
+use Rattle.qrcode_fields.specs.declared.errors.ContentError.{ContentError}
+use Rattle.qrcode_fields.specs.declared.errors.Field.TheVariants.{Phone}
+use Rattle.qrcode_fields.specs.declared.errors.Cause.TheVariants.{Empty, Character}
+use Rattle.qrcode_fields.specs.Characters.{is_digit}
+use Rattle.qrcode_fields.specs.Entries.{is_empty, behind}
+use Rattle.qrcode_fields.specs.Percents.{encoded, decoded}
+use Rattle.qrcode_fields.specs.Refusals.{refused_if, first_refusal}
 
 -- a byte of a number: a digit, a plus sign, or one of -.()
 abbrev pub is_dialled : ℕ → Bool
@@ -17,7 +17,7 @@ is_dialled b = is_digit b || b == 43 || b == 45 || b == 46 || b == 40 || b == 41
 -- what the link cannot say
 abbrev pub phone_refusal : List ℕ → Option ContentError
 phone_refusal number = first_refusal (
-    refused_if (not (is_filled number)) Phone Empty ∷ refused_if (not (list_all is_dialled number)) Phone Character ∷ [])
+    refused_if (is_empty number) Phone Empty ∷ refused_if (not (list_all is_dialled number)) Phone Character ∷ [])
 
 -- the text of a message to a number
 abbrev pub message_text : List ℕ → List ℕ → List ℕ

@@ -2,14 +2,14 @@
 use Rattle.std.specs.Prelude.{ℕ, nat_lt, ◌&&◌, not, Bool, true, false, List, [], ◌∷◌, ◌++◌, length, Option, Some, None, flat_map, codes, if◌then◌else◌}
 use Rattle.std.specs.Str.{bytes_eq}
 use Rattle.std.specs.Option.{option_map, option_and_then}
-use Rattle.qrcode_contents.specs.declared.errors.ContentError.{ContentError}
-use Rattle.qrcode_contents.specs.declared.errors.Field.TheVariants.{Ssid, Password}
-use Rattle.qrcode_contents.specs.declared.errors.Cause.TheVariants.{Empty, TooLong, Unused}
+use Rattle.qrcode_fields.specs.declared.errors.ContentError.{ContentError}
+use Rattle.qrcode_fields.specs.declared.errors.Field.TheVariants.{Ssid, Password}
+use Rattle.qrcode_fields.specs.declared.errors.Cause.TheVariants.{Empty, TooLong, Unused}
 use Rattle.qrcode_contents.specs.declared.wifi.Security.{Security}
 use Rattle.qrcode_contents.specs.declared.wifi.Security.TheVariants.{Open, Wep, Wpa, Wpa3}
 use Rattle.qrcode_contents.specs.declared.wifi.Wifi.{Wifi}
-use Rattle.qrcode_contents.specs.Refusals.{refused_if, first_refusal}
-use Rattle.qrcode_contents.specs.Entries.{Entry, single, is_filled, marked_text, read_entries, value_of}
+use Rattle.qrcode_fields.specs.Refusals.{refused_if, first_refusal}
+use Rattle.qrcode_fields.specs.Entries.{Entry, single, is_empty, is_filled, marked_text, read_entries, value_of}
 
 -- a network as its text says it
 pub record Network : Type 0 where
@@ -38,10 +38,10 @@ is_open Wpa3 = false
 -- what the text cannot say
 abbrev pub wifi_refusal : Network → Option ContentError
 wifi_refusal n = first_refusal (
-    refused_if (not (is_filled n.ssid)) Ssid Empty
+    refused_if (is_empty n.ssid) Ssid Empty
     ∷ refused_if (nat_lt 32 (length n.ssid)) Ssid TooLong
     ∷ refused_if (is_open n.security && is_filled n.password) Password Unused
-    ∷ refused_if (not (is_open n.security) && not (is_filled n.password)) Password Empty
+    ∷ refused_if (not (is_open n.security) && is_empty n.password) Password Empty
     ∷ [])
 
 -- the entries of the text

@@ -1,19 +1,21 @@
 //! The text of a Swiss QR bill.
 
-ghost use Rattle.std.specs.Prelude.{◌≡◌, ◌++◌, ◌∷◌, ◌==◌, Option, Some, [], IfOk, OnOk, IsOkUnless, string_bytes};
+ghost use Rattle.std.specs.Prelude.{◌≡◌, ◌++◌, ◌∷◌, ◌==◌, ◌&&◌, nat_le, length, Option, Some, [], IfOk, OnOk, IsOkUnless, string_bytes};
 ghost use Rattle.std.specs.List.{list_all};
 ghost use Rattle.std.specs.Option.{option_map};
-ghost use Rattle.qrcode_contents.specs.declared.errors.ContentError.{ContentError};
-ghost use Rattle.qrcode_contents.specs.declared.errors.ContentError.TheVariants.{OutOfMemory};
-ghost use Rattle.qrcode_contents.specs.Bill.{addressee_of, invoice_of, is_latin, foreign_count, is_unsaid, is_letter, is_country, is_account, is_qr_account, is_creditor_reference, is_qr_reference, reference_kind, carry_of, text_refusal, form_refusal, is_nobody, of_debtor, debtor_refusal, is_out_of_range, account_refusal, reference_refusal, bill_refusal, currency_name, address_kind, address_lines, amount_line, end_lines, bill_text, read_bill};
-ghost use Rattle.qrcode_contents.specs.Lines.{later_text};
-ghost use Rattle.qrcode_contents.specs.Refusals.{Answers, checked};
+ghost use Rattle.qrcode_fields.specs.declared.errors.ContentError.{ContentError};
+ghost use Rattle.qrcode_fields.specs.declared.errors.ContentError.TheVariants.{OutOfMemory};
+ghost use Rattle.qrcode_contents.specs.Bill.{addressee_of, invoice_of, is_latin, foreign_count, is_unsaid, is_letter, is_country, is_account, is_qr_account, is_creditor_reference, is_qr_reference, reference_kind, text_refusal, form_refusal, is_nobody, of_debtor, debtor_refusal, is_out_of_range, account_refusal, reference_refusal, bill_refusal, currency_name, address_kind, address_lines, amount_line, end_lines, bill_text, read_bill};
+ghost use Rattle.qrcode_fields.specs.Characters.{is_capital, is_digit};
+ghost use Rattle.qrcode_fields.specs.Lines.{later_text};
+ghost use Rattle.qrcode_fields.specs.Refusals.{Answers, checked};
 
-use crate::amounts::push_amount;
-use crate::characters::{are_capitals, are_digits, character_count, has_control};
-use crate::errors::{Cause, ContentError, ContentResult, Field};
-use crate::lines::push_lines;
-use crate::numbers::has_check_digits;
+use qrcode_fields::amounts::push_amount;
+use qrcode_fields::characters::{are_capitals, are_digits, has_control};
+use qrcode_fields::errors::{Cause, ContentError, ContentResult, Field};
+use qrcode_fields::lines::push_lines;
+use qrcode_fields::numbers::{carry_of, has_check_digits};
+use qrcode_fields::refusals::{refuse_first, too_long};
 use qrcode_types::types::{EcLevel, Version};
 use std::alloc::Global;
 
@@ -112,6 +114,13 @@ fn are_letters(text: &str) -> bool
     bytes.iter().all(|byte| byte.is_ascii_uppercase())
 }
 
+// Whether it is a code of a country.
+fn is_country(text: &str) -> bool
+    ensures { result ≡ is_country text.now }
+{
+    text.len() == 2 && are_letters(text)
+}
+
 // Whether it has the characters of an account of Switzerland or Liechtenstein.
 fn is_an_account(text: &str) -> bool
     ensures { result ≡ is_account text.now }
@@ -142,6 +151,21 @@ fn is_qr_reference(text: &str) -> bool
     !text.is_empty() && !is_creditor_reference(text)
 }
 
+// Whether it has the characters of a QR reference.
+fn has_qr_form(text: &str) -> bool
+    ensures { result ≡ (length text.now == 27 && list_all is_digit text.now) }
+{
+    text.len() == 27 && are_digits(text)
+}
+
+// Whether it has the characters of a reference of ISO 11649.
+fn has_creditor_form(text: &str) -> bool
+    ensures { result ≡ (nat_le 5 (length text.now) && nat_le (length text.now) 25
+        && list_all is_capital text.now) }
+{
+    text.len() >= 5 && text.len() <= 25 && are_capitals(text)
+}
+
 // The line of the reference's kind.
 fn kind_of(reference: &str) -> &'static str
     ensures { result.now ≡ reference_kind reference.now }
@@ -162,22 +186,6 @@ fn is_out_of_range(cents: Option<u64>) -> bool
     cents.is_some_and(|cents| cents < 1 || cents > 99_999_999_999)
 }
 
-// The carry behind a digit, by the carry before it and the digit.
-static CARRIES: [usize; 10] = [0, 9, 4, 6, 8, 2, 7, 1, 3, 5];
-
-// The carry behind all digits, modulo 10, recursive.
-#[tactic(auto, using(crate::proofs::Carries::carry_below))]
-fn carry_of(digits: &[u8]) -> usize
-    ensures { result ≡ carry_of digits.now }
-{
-    let mut carry: usize = 0;
-    for digit in digits {
-        let sum = carry + usize::from(digit.saturating_sub(b'0'));
-        carry = CARRIES[sum % 10];
-    }
-    carry
-}
-
 // Refuses fields of somebody else for the debtor.
 fn of_debtor(answer: ContentResult<()>) -> ContentResult<()>
     ensures { (refusal : Option ContentError) → answer ≡ checked refusal
@@ -195,12 +203,14 @@ impl Party<'_> {
     fn check_texts(&self) -> ContentResult<()>
         ensures { result ≡ checked (text_refusal (addressee_of self.now)) }
     {
-        Field::Name.refuse_if(is_unsaid(self.name), Cause::Character)?;
-        Field::Street.refuse_if(is_unsaid(self.street), Cause::Character)?;
-        Field::Number.refuse_if(is_unsaid(self.number), Cause::Character)?;
-        Field::PostalCode.refuse_if(is_unsaid(self.code), Cause::Character)?;
-        Field::City.refuse_if(is_unsaid(self.city), Cause::Character)?;
-        Field::Country.refuse_if(is_unsaid(self.country), Cause::Character)
+        refuse_first(&[
+            (is_unsaid(self.name), Field::Name, Cause::Character),
+            (is_unsaid(self.street), Field::Street, Cause::Character),
+            (is_unsaid(self.number), Field::Number, Cause::Character),
+            (is_unsaid(self.code), Field::PostalCode, Cause::Character),
+            (is_unsaid(self.city), Field::City, Cause::Character),
+            (is_unsaid(self.country), Field::Country, Cause::Character),
+        ])
     }
 
     // Refuses what is missing or too long.
@@ -208,16 +218,17 @@ impl Party<'_> {
     fn check_form(&self) -> ContentResult<()>
         ensures { result ≡ checked (form_refusal (addressee_of self.now)) }
     {
-        let is_country = self.country.len() == 2 && are_letters(self.country);
-        Field::Name.refuse_if(self.name.is_empty(), Cause::Empty)?;
-        Field::PostalCode.refuse_if(self.code.is_empty(), Cause::Empty)?;
-        Field::City.refuse_if(self.city.is_empty(), Cause::Empty)?;
-        Field::Name.refuse_if(character_count(self.name) > 70, Cause::TooLong)?;
-        Field::Street.refuse_if(character_count(self.street) > 70, Cause::TooLong)?;
-        Field::Number.refuse_if(character_count(self.number) > 16, Cause::TooLong)?;
-        Field::PostalCode.refuse_if(character_count(self.code) > 16, Cause::TooLong)?;
-        Field::City.refuse_if(character_count(self.city) > 35, Cause::TooLong)?;
-        Field::Country.refuse_if(!is_country, Cause::Character)
+        refuse_first(&[
+            (self.name.is_empty(), Field::Name, Cause::Empty),
+            (self.code.is_empty(), Field::PostalCode, Cause::Empty),
+            (self.city.is_empty(), Field::City, Cause::Empty),
+            too_long(Field::Name, self.name, 70),
+            too_long(Field::Street, self.street, 70),
+            too_long(Field::Number, self.number, 16),
+            too_long(Field::PostalCode, self.code, 16),
+            too_long(Field::City, self.city, 35),
+            (!is_country(self.country), Field::Country, Cause::Character),
+        ])
     }
 
     // Whether nobody is named.
@@ -271,10 +282,19 @@ impl Bill<'_> {
     fn check_account(&self) -> ContentResult<()>
         ensures { result ≡ checked (account_refusal (invoice_of self.now)) }
     {
-        let wrong = is_unsaid(self.iban) || !is_an_account(self.iban);
-        Field::Iban.refuse_if(wrong, Cause::Character)?;
-        Field::Iban.refuse_if(!has_check_digits(self.iban.as_bytes()), Cause::CheckDigits)?;
-        Field::Amount.refuse_if(is_out_of_range(self.cents), Cause::Range)
+        refuse_first(&[
+            (
+                is_unsaid(self.iban) | !is_an_account(self.iban),
+                Field::Iban,
+                Cause::Character,
+            ),
+            (
+                !has_check_digits(self.iban.as_bytes()),
+                Field::Iban,
+                Cause::CheckDigits,
+            ),
+            (is_out_of_range(self.cents), Field::Amount, Cause::Range),
+        ])
     }
 
     // Refuses a wrong reference, one that does not belong to the account, and a long message.
@@ -285,20 +305,38 @@ impl Bill<'_> {
         let bytes = self.reference.as_bytes();
         let qr = is_qr_reference(self.reference);
         let creditor = is_creditor_reference(self.reference);
-        let digits = self.reference.len() == 27 && are_digits(self.reference);
-        let form = self.reference.len() >= 5
-            && self.reference.len() <= 25
-            && are_capitals(self.reference);
         let of_qr = is_qr_account(self.iban);
-        Field::Reference.refuse_if(is_unsaid(self.reference), Cause::Character)?;
-        Field::Message.refuse_if(is_unsaid(self.message), Cause::Character)?;
-        Field::Reference.refuse_if(qr && !digits, Cause::Character)?;
-        Field::Reference.refuse_if(qr && carry_of(bytes) != 0, Cause::CheckDigits)?;
-        Field::Reference.refuse_if(creditor && !form, Cause::Character)?;
-        Field::Reference.refuse_if(creditor && !has_check_digits(bytes), Cause::CheckDigits)?;
-        Field::Reference.refuse_if(of_qr && !qr, Cause::Unused)?;
-        Field::Reference.refuse_if(!of_qr && qr, Cause::Unused)?;
-        Field::Message.refuse_if(character_count(self.message) > 140, Cause::TooLong)
+        refuse_first(&[
+            (
+                is_unsaid(self.reference),
+                Field::Reference,
+                Cause::Character,
+            ),
+            (is_unsaid(self.message), Field::Message, Cause::Character),
+            (
+                qr & !has_qr_form(self.reference),
+                Field::Reference,
+                Cause::Character,
+            ),
+            (
+                qr & (carry_of(bytes) != 0),
+                Field::Reference,
+                Cause::CheckDigits,
+            ),
+            (
+                creditor & !has_creditor_form(self.reference),
+                Field::Reference,
+                Cause::Character,
+            ),
+            (
+                creditor & !has_check_digits(bytes),
+                Field::Reference,
+                Cause::CheckDigits,
+            ),
+            (of_qr & !qr, Field::Reference, Cause::Unused),
+            (!of_qr & qr, Field::Reference, Cause::Unused),
+            too_long(Field::Message, self.message, 140),
+        ])
     }
 
     // Refuses what the text cannot say.

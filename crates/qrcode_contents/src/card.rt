@@ -2,15 +2,16 @@
 
 ghost use Rattle.std.specs.Prelude.{◌≡◌, Some, IfOk, IsOkUnless, string_bytes};
 ghost use Rattle.std.specs.List.{list_any};
-ghost use Rattle.qrcode_contents.specs.declared.errors.Cause.TheVariants.{ControlCharacter};
-ghost use Rattle.qrcode_contents.specs.declared.errors.ContentError.TheVariants.{OutOfMemory};
+ghost use Rattle.qrcode_fields.specs.declared.errors.Cause.TheVariants.{ControlCharacter};
+ghost use Rattle.qrcode_fields.specs.declared.errors.ContentError.TheVariants.{OutOfMemory};
 ghost use Rattle.qrcode_contents.specs.Card.{contact_of, text_refusal, place_refusal, card_refusal, card_text, read_card};
-ghost use Rattle.qrcode_contents.specs.Characters.{is_stray};
-ghost use Rattle.qrcode_contents.specs.Refusals.{Answers, checked, refused_if};
+ghost use Rattle.qrcode_fields.specs.Characters.{is_stray};
+ghost use Rattle.qrcode_fields.specs.Refusals.{Answers, checked, refused_if};
 
-use crate::characters::{has_stray, refuse_control};
-use crate::content_lines::{push_content, push_value};
-use crate::errors::{Cause, ContentResult, Field};
+use qrcode_fields::characters::has_control;
+use qrcode_fields::content_lines::{push_content, push_value};
+use qrcode_fields::errors::{Cause, ContentResult, Field};
+use qrcode_fields::refusals::{refuse_first, stray};
 use std::alloc::Global;
 
 /// A contact. What is empty is left out; texts may have line feeds.
@@ -44,29 +45,24 @@ pub struct Card<'a> {
     pub note: &'a str,
 }
 
-// Refuses a text with control characters other than tabs and line feeds.
-fn refuse_stray(field: Field, text: &str) -> ContentResult<()>
-    ensures { result ≡ checked (refused_if (list_any is_stray text.now) field ControlCharacter) }
-{
-    field.refuse_if(has_stray(text), Cause::ControlCharacter)
-}
-
 impl Card<'_> {
     // Refuses what is missing, and control characters.
     #[tactic(auto, unfolding(crate::specs::Card::text_refusal))]
     fn check_texts(&self) -> ContentResult<()>
         ensures { result ≡ checked (text_refusal (contact_of self.now)) }
     {
-        Field::Name.refuse_if(self.name.is_empty(), Cause::Empty)?;
-        Field::Family.refuse_if(self.family.is_empty(), Cause::Empty)?;
-        refuse_stray(Field::Name, self.name)?;
-        refuse_stray(Field::Family, self.family)?;
-        refuse_stray(Field::Given, self.given)?;
-        refuse_stray(Field::Organisation, self.organisation)?;
-        refuse_stray(Field::Phone, self.phone)?;
-        refuse_stray(Field::Email, self.email)?;
-        refuse_control(Field::Url, self.url)?;
-        refuse_stray(Field::Note, self.note)
+        refuse_first(&[
+            (self.name.is_empty(), Field::Name, Cause::Empty),
+            (self.family.is_empty(), Field::Family, Cause::Empty),
+            stray(Field::Name, self.name),
+            stray(Field::Family, self.family),
+            stray(Field::Given, self.given),
+            stray(Field::Organisation, self.organisation),
+            stray(Field::Phone, self.phone),
+            stray(Field::Email, self.email),
+            (has_control(self.url), Field::Url, Cause::ControlCharacter),
+            stray(Field::Note, self.note),
+        ])
     }
 
     // Refuses control characters in the address.
@@ -74,11 +70,13 @@ impl Card<'_> {
     fn check_place(&self) -> ContentResult<()>
         ensures { result ≡ checked (place_refusal (contact_of self.now)) }
     {
-        refuse_stray(Field::Street, self.street)?;
-        refuse_stray(Field::City, self.city)?;
-        refuse_stray(Field::Region, self.region)?;
-        refuse_stray(Field::PostalCode, self.code)?;
-        refuse_stray(Field::Country, self.country)
+        refuse_first(&[
+            stray(Field::Street, self.street),
+            stray(Field::City, self.city),
+            stray(Field::Region, self.region),
+            stray(Field::PostalCode, self.code),
+            stray(Field::Country, self.country),
+        ])
     }
 
     // Refuses what the card cannot say.

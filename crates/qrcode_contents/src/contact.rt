@@ -1,13 +1,14 @@
 //! The text of a contact.
 
 ghost use Rattle.std.specs.Prelude.{◌≡◌, Some, IfOk, IsOkUnless, string_bytes};
-ghost use Rattle.qrcode_contents.specs.declared.errors.ContentError.TheVariants.{OutOfMemory};
+ghost use Rattle.qrcode_fields.specs.declared.errors.ContentError.TheVariants.{OutOfMemory};
 ghost use Rattle.qrcode_contents.specs.Contact.{person_of, person_controls, person_checks, contact_refusal, mecard_text, read_mecard};
-ghost use Rattle.qrcode_contents.specs.Refusals.{Answers, checked};
+ghost use Rattle.qrcode_fields.specs.Refusals.{Answers, checked};
 
-use crate::characters::{are_digits, refuse_control};
-use crate::entries::push_entry;
-use crate::errors::{Cause, ContentResult, Field};
+use qrcode_fields::characters::are_digits;
+use qrcode_fields::entries::push_entry;
+use qrcode_fields::errors::{Cause, ContentResult, Field};
+use qrcode_fields::refusals::{refuse_controls, refuse_first};
 use std::alloc::Global;
 
 /// A contact. What is empty is left out.
@@ -45,17 +46,19 @@ impl Contact<'_> {
     fn check_controls(&self) -> ContentResult<()>
         ensures { result ≡ checked (person_controls (person_of self.now)) }
     {
-        refuse_control(Field::Name, self.family)?;
-        refuse_control(Field::Given, self.given)?;
-        refuse_control(Field::Phone, self.phone)?;
-        refuse_control(Field::Email, self.email)?;
-        refuse_control(Field::Url, self.url)?;
-        refuse_control(Field::Note, self.note)?;
-        refuse_control(Field::Street, self.street)?;
-        refuse_control(Field::City, self.city)?;
-        refuse_control(Field::Region, self.region)?;
-        refuse_control(Field::PostalCode, self.code)?;
-        refuse_control(Field::Country, self.country)
+        refuse_controls(&[
+            (Field::Name, self.family),
+            (Field::Given, self.given),
+            (Field::Phone, self.phone),
+            (Field::Email, self.email),
+            (Field::Url, self.url),
+            (Field::Note, self.note),
+            (Field::Street, self.street),
+            (Field::City, self.city),
+            (Field::Region, self.region),
+            (Field::PostalCode, self.code),
+            (Field::Country, self.country),
+        ])
     }
 
     // Refuses a contact with no name, and what is no birthday.
@@ -64,9 +67,19 @@ impl Contact<'_> {
         ensures { result ≡ checked (person_checks (person_of self.now)) }
     {
         let born = !self.birthday.is_empty();
-        Field::Name.refuse_if(self.family.is_empty(), Cause::Empty)?;
-        Field::Birthday.refuse_if(born && self.birthday.len() != 8, Cause::Character)?;
-        Field::Birthday.refuse_if(!are_digits(self.birthday), Cause::Character)
+        refuse_first(&[
+            (self.family.is_empty(), Field::Name, Cause::Empty),
+            (
+                born & (self.birthday.len() != 8),
+                Field::Birthday,
+                Cause::Character,
+            ),
+            (
+                !are_digits(self.birthday),
+                Field::Birthday,
+                Cause::Character,
+            ),
+        ])
     }
 
     // Refuses fields that the text cannot say.

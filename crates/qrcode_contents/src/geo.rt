@@ -1,11 +1,12 @@
 //! Links to places.
 
 ghost use Rattle.std.specs.Prelude.{◌≡◌, ◌<◌, ◌*◌, ◌%◌, ◌++◌, Some, IfOk, OnOk, IsOkUnless, string_bytes};
-ghost use Rattle.qrcode_contents.specs.declared.errors.ContentError.TheVariants.{OutOfMemory};
+ghost use Rattle.qrcode_fields.specs.declared.errors.ContentError.TheVariants.{OutOfMemory};
 ghost use Rattle.qrcode_contents.specs.Geo.{place_refusal, first_digit, fraction_text, sign_text, coordinate_text, place_text, read_place};
-ghost use Rattle.qrcode_contents.specs.Refusals.{Answers, checked};
+ghost use Rattle.qrcode_fields.specs.Refusals.{Answers, checked};
 
-use crate::errors::{Cause, ContentResult, Field};
+use qrcode_fields::errors::{Cause, ContentResult, Field};
+use qrcode_fields::refusals::refuse_first;
 use std::alloc::Global;
 use std::fmt::Write;
 
@@ -81,8 +82,10 @@ impl Place {
     {
         let north = self.latitude.unsigned_abs();
         let east = self.longitude.unsigned_abs();
-        Field::Latitude.refuse_if(north > 90_000_000, Cause::Range)?;
-        Field::Longitude.refuse_if(east > 180_000_000, Cause::Range)
+        refuse_first(&[
+            (north > 90_000_000, Field::Latitude, Cause::Range),
+            (east > 180_000_000, Field::Longitude, Cause::Range),
+        ])
     }
 
     // The link to a place that is not refused.

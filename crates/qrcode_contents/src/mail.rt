@@ -1,13 +1,14 @@
 //! Links that write a mail.
 
 ghost use Rattle.std.specs.Prelude.{◌≡◌, ◌==◌, Some, IfOk, IsOkUnless, string_bytes, count_by};
-ghost use Rattle.qrcode_contents.specs.declared.errors.ContentError.TheVariants.{OutOfMemory};
+ghost use Rattle.qrcode_fields.specs.declared.errors.ContentError.TheVariants.{OutOfMemory};
 ghost use Rattle.qrcode_contents.specs.Mail.{letter_of, mail_refusal, mail_text, read_mail};
-ghost use Rattle.qrcode_contents.specs.Refusals.{Answers, checked};
+ghost use Rattle.qrcode_fields.specs.Refusals.{Answers, checked};
 
-use crate::characters::{has_control, has_stray};
-use crate::errors::{Cause, ContentResult, Field};
-use crate::links::{Part, push_part, push_query};
+use qrcode_fields::characters::{has_control, has_stray};
+use qrcode_fields::errors::{Cause, ContentResult, Field};
+use qrcode_fields::links::{Part, push_part, push_query};
+use qrcode_fields::refusals::refuse_first;
 use std::alloc::Global;
 
 /// A mail that is not yet written. What is empty is left out.
@@ -35,10 +36,24 @@ impl Mail<'_> {
     fn check(&self) -> ContentResult<()>
         ensures { result ≡ checked (mail_refusal (letter_of self.now)) }
     {
-        Field::Email.refuse_if(has_control(self.address), Cause::ControlCharacter)?;
-        Field::Email.refuse_if(!has_one_at(self.address), Cause::Character)?;
-        Field::Subject.refuse_if(has_control(self.subject), Cause::ControlCharacter)?;
-        Field::Message.refuse_if(has_stray(self.body), Cause::ControlCharacter)
+        refuse_first(&[
+            (
+                has_control(self.address),
+                Field::Email,
+                Cause::ControlCharacter,
+            ),
+            (!has_one_at(self.address), Field::Email, Cause::Character),
+            (
+                has_control(self.subject),
+                Field::Subject,
+                Cause::ControlCharacter,
+            ),
+            (
+                has_stray(self.body),
+                Field::Message,
+                Cause::ControlCharacter,
+            ),
+        ])
     }
 
     // The link of a mail that is not refused.

@@ -2,14 +2,14 @@
 
 ghost use Rattle.std.specs.Prelude.{◌≡◌, ◌++◌, ◌∷◌, [], codes, Some, IfOk, OnOk, IsOkUnless, string_bytes};
 ghost use Rattle.std.specs.List.{list_all, list_any};
-ghost use Rattle.qrcode_contents.specs.declared.errors.ContentError.TheVariants.{OutOfMemory};
+ghost use Rattle.qrcode_fields.specs.declared.errors.ContentError.TheVariants.{OutOfMemory};
 ghost use Rattle.qrcode_contents.specs.OneTime.{key_of, is_base32, is_colon, has_no_period, key_refusal, factor_name, factor_parameter, algorithm_value, digits_text, label_text, key_text, read_key, is_a_word};
-ghost use Rattle.qrcode_contents.specs.Links.{query_text};
-ghost use Rattle.qrcode_contents.specs.Refusals.{Answers, checked};
+ghost use Rattle.qrcode_fields.specs.Links.{query_text};
+ghost use Rattle.qrcode_fields.specs.Refusals.{Answers, checked};
 
-use crate::characters::has_control;
-use crate::errors::{Cause, ContentResult, Field};
-use crate::links::{Part, push_part, push_query};
+use qrcode_fields::characters::has_control;
+use qrcode_fields::errors::{Cause, ContentResult, Field};
+use qrcode_fields::links::{Part, push_part, push_query};
 use std::alloc::Global;
 
 /// What the passwords change with.
@@ -22,13 +22,13 @@ pub enum Factor {
 }
 
 impl Factor {
-    // The name in the link.
-    fn name(self) -> &'static str
-        ensures { result.now ≡ factor_name self }
+    // The beginning of the link.
+    fn start(self) -> &'static str
+        ensures { result.now ≡ codes "otpauth://" ++ (factor_name self ++ codes "/") }
     {
         match self {
-            Factor::Time(_) => "totp",
-            Factor::Counter(_) => "hotp",
+            Factor::Time(_) => "otpauth://totp/",
+            Factor::Counter(_) => "otpauth://hotp/",
         }
     }
 
@@ -206,9 +206,7 @@ impl OneTime<'_> {
         ensures memory { IsOkUnless result OutOfMemory }
     {
         let number = self.factor.value(alloc)?;
-        let mut text = String::from_str(alloc, "otpauth://")?;
-        text.push_str(self.factor.name())?;
-        text.push_str("/")?;
+        let mut text = String::from_str(alloc, self.factor.start())?;
         self.push_label(&mut text)?;
         push_parameters(
             &mut text,

@@ -1,18 +1,19 @@
 //! The text of a SEPA credit transfer.
 
 ghost use Rattle.std.specs.Prelude.{◌≡◌, ◌++◌, ◌≤◌, Some, IfOk, OnOk, IsOkUnless, string_bytes, length, nat_lt, Ok, Err, if◌then◌else◌};
-ghost use Rattle.qrcode_contents.specs.declared.errors.ContentError.TheVariants.{Refused, OutOfMemory};
-ghost use Rattle.qrcode_contents.specs.declared.errors.Field.TheVariants.{Whole};
-ghost use Rattle.qrcode_contents.specs.declared.errors.Cause.TheVariants.{TooLong};
-ghost use Rattle.qrcode_contents.specs.Lines.{later_text};
-ghost use Rattle.qrcode_contents.specs.Refusals.{Answers, checked};
+ghost use Rattle.qrcode_fields.specs.declared.errors.ContentError.TheVariants.{Refused, OutOfMemory};
+ghost use Rattle.qrcode_fields.specs.declared.errors.Field.TheVariants.{Whole};
+ghost use Rattle.qrcode_fields.specs.declared.errors.Cause.TheVariants.{TooLong};
+ghost use Rattle.qrcode_fields.specs.Lines.{later_text};
+ghost use Rattle.qrcode_fields.specs.Refusals.{Answers, checked};
 ghost use Rattle.qrcode_contents.specs.Payment.{payment_fields, control_checks, needs_bic, bank_checks, account_checks, message_checks, field_checks, payment_refusal, payment_text, later_count, later_lines, read_payment, version_name, is_bic, is_account, is_reference};
 
-use crate::amounts::push_amount;
-use crate::characters::{are_capitals, character_count, refuse_control};
-use crate::errors::{Cause, ContentError, ContentResult, Field};
-use crate::lines::push_lines;
-use crate::numbers::has_check_digits;
+use qrcode_fields::amounts::push_amount;
+use qrcode_fields::characters::are_capitals;
+use qrcode_fields::errors::{Cause, ContentError, ContentResult, Field};
+use qrcode_fields::lines::push_lines;
+use qrcode_fields::numbers::has_check_digits;
+use qrcode_fields::refusals::{refuse_controls, refuse_first, too_long};
 use qrcode_types::types::{EcLevel, Version};
 use std::alloc::Global;
 
@@ -115,13 +116,15 @@ impl Payment<'_> {
     fn check_controls(&self) -> ContentResult<()>
         ensures { result ≡ checked (control_checks (payment_fields self.now)) }
     {
-        refuse_control(Field::Bic, self.bic)?;
-        refuse_control(Field::Name, self.name)?;
-        refuse_control(Field::Iban, self.iban)?;
-        refuse_control(Field::Purpose, self.purpose)?;
-        refuse_control(Field::Reference, self.reference)?;
-        refuse_control(Field::Message, self.message)?;
-        refuse_control(Field::Information, self.information)
+        refuse_controls(&[
+            (Field::Bic, self.bic),
+            (Field::Name, self.name),
+            (Field::Iban, self.iban),
+            (Field::Purpose, self.purpose),
+            (Field::Reference, self.reference),
+            (Field::Message, self.message),
+            (Field::Information, self.information),
+        ])
     }
 
     // Refuses what is no BIC, and where it lacks.
@@ -130,11 +133,14 @@ impl Payment<'_> {
         ensures { result ≡ checked (bank_checks (payment_fields self.now)) }
     {
         let needed = self.version.needs_bic();
-        Field::Bic.refuse_if(needed && self.bic.is_empty(), Cause::Empty)?;
-        Field::Bic.refuse_if(
-            !self.bic.is_empty() && !is_a_bic(self.bic),
-            Cause::Character,
-        )
+        refuse_first(&[
+            (needed & self.bic.is_empty(), Field::Bic, Cause::Empty),
+            (
+                !self.bic.is_empty() & !is_a_bic(self.bic),
+                Field::Bic,
+                Cause::Character,
+            ),
+        ])
     }
 
     // Refuses what is no account, and an amount that is out of range.
@@ -142,9 +148,19 @@ impl Payment<'_> {
     fn check_account(&self) -> ContentResult<()>
         ensures { result ≡ checked (account_checks (payment_fields self.now)) }
     {
-        Field::Iban.refuse_if(!is_an_account(self.iban), Cause::Character)?;
-        Field::Iban.refuse_if(!has_check_digits(self.iban.as_bytes()), Cause::CheckDigits)?;
-        Field::Amount.refuse_if(self.cents < 1 || self.cents > 99_999_999_999, Cause::Range)
+        refuse_first(&[
+            (!is_an_account(self.iban), Field::Iban, Cause::Character),
+            (
+                !has_check_digits(self.iban.as_bytes()),
+                Field::Iban,
+                Cause::CheckDigits,
+            ),
+            (
+                (self.cents < 1) | (self.cents > 99_999_999_999),
+                Field::Amount,
+                Cause::Range,
+            ),
+        ])
     }
 
     // Refuses names and messages that are too long, and a wrong reference.
@@ -153,19 +169,30 @@ impl Payment<'_> {
         ensures { result ≡ checked (message_checks (payment_fields self.now)) }
     {
         let referenced = !self.reference.is_empty();
-        Field::Name.refuse_if(self.name.is_empty(), Cause::Empty)?;
-        Field::Name.refuse_if(character_count(self.name) > 70, Cause::TooLong)?;
-        Field::Purpose.refuse_if(self.purpose.len() > 4, Cause::TooLong)?;
-        Field::Purpose.refuse_if(!are_capitals(self.purpose), Cause::Character)?;
-        Field::Reference.refuse_if(
-            referenced && !is_a_reference(self.reference),
-            Cause::Character,
-        )?;
         let checked = has_check_digits(self.reference.as_bytes());
-        Field::Reference.refuse_if(referenced && !checked, Cause::CheckDigits)?;
-        Field::Message.refuse_if(referenced && !self.message.is_empty(), Cause::Unused)?;
-        Field::Message.refuse_if(character_count(self.message) > 140, Cause::TooLong)?;
-        Field::Information.refuse_if(character_count(self.information) > 70, Cause::TooLong)
+        refuse_first(&[
+            (self.name.is_empty(), Field::Name, Cause::Empty),
+            too_long(Field::Name, self.name, 70),
+            (self.purpose.len() > 4, Field::Purpose, Cause::TooLong),
+            (
+                !are_capitals(self.purpose),
+                Field::Purpose,
+                Cause::Character,
+            ),
+            (
+                referenced & !is_a_reference(self.reference),
+                Field::Reference,
+                Cause::Character,
+            ),
+            (referenced & !checked, Field::Reference, Cause::CheckDigits),
+            (
+                referenced & !self.message.is_empty(),
+                Field::Message,
+                Cause::Unused,
+            ),
+            too_long(Field::Message, self.message, 140),
+            too_long(Field::Information, self.information, 70),
+        ])
     }
 
     // Refuses fields that the text cannot say.

@@ -2,14 +2,15 @@
 
 ghost use Rattle.std.specs.Prelude.{◌≡◌, ◌++◌, Some, IfOk, OnOk, IsOkUnless, string_bytes, codes};
 ghost use Rattle.std.specs.List.{list_all};
-ghost use Rattle.qrcode_contents.specs.declared.errors.ContentError.TheVariants.{OutOfMemory};
-ghost use Rattle.qrcode_contents.specs.Entries.{behind};
-ghost use Rattle.qrcode_contents.specs.Percents.{encoded, decoded};
+ghost use Rattle.qrcode_fields.specs.declared.errors.ContentError.TheVariants.{OutOfMemory};
+ghost use Rattle.qrcode_fields.specs.Entries.{behind};
+ghost use Rattle.qrcode_fields.specs.Percents.{encoded, decoded};
 ghost use Rattle.qrcode_contents.specs.Phone.{phone_refusal, is_dialled, message_text, read_message};
-ghost use Rattle.qrcode_contents.specs.Refusals.{Answers, checked};
+ghost use Rattle.qrcode_fields.specs.Refusals.{Answers, checked};
 
-use crate::errors::{Cause, ContentResult, Field};
-use crate::percents::push_encoded;
+use qrcode_fields::errors::{Cause, ContentResult, Field};
+use qrcode_fields::percents::push_encoded;
+use qrcode_fields::refusals::refuse_first;
 use std::alloc::Global;
 
 /// A telephone number: digits, `+`, and `-`, `.`, `(` and `)` between digits.
@@ -55,8 +56,10 @@ impl Phone<'_> {
     fn check(&self) -> ContentResult<()>
         ensures { result ≡ checked (phone_refusal self.now.number.now) }
     {
-        Field::Phone.refuse_if(self.number.is_empty(), Cause::Empty)?;
-        Field::Phone.refuse_if(!are_dialled(self.number), Cause::Character)
+        refuse_first(&[
+            (self.number.is_empty(), Field::Phone, Cause::Empty),
+            (!are_dialled(self.number), Field::Phone, Cause::Character),
+        ])
     }
 
     /// The link that calls the number.

@@ -1,12 +1,13 @@
 //! The text that joins a wireless network.
 
 ghost use Rattle.std.specs.Prelude.{◌≡◌, [], Some, IfOk, IsOkUnless, string_bytes, codes, if◌then◌else◌};
-ghost use Rattle.qrcode_contents.specs.declared.errors.ContentError.TheVariants.{OutOfMemory};
-ghost use Rattle.qrcode_contents.specs.Refusals.{Answers, checked};
+ghost use Rattle.qrcode_fields.specs.declared.errors.ContentError.TheVariants.{OutOfMemory};
+ghost use Rattle.qrcode_fields.specs.Refusals.{Answers, checked};
 ghost use Rattle.qrcode_contents.specs.Wifi.{wifi_fields, wifi_refusal, wifi_text, read_wifi, security_name};
 
-use crate::entries::push_entry;
-use crate::errors::{Cause, ContentResult, Field};
+use qrcode_fields::entries::push_entry;
+use qrcode_fields::errors::{Cause, ContentResult, Field};
+use qrcode_fields::refusals::refuse_first;
 use std::alloc::Global;
 
 /// How a network is secured.
@@ -62,10 +63,20 @@ impl Wifi<'_> {
         ensures { result ≡ checked (wifi_refusal (wifi_fields self.now)) }
     {
         let open = self.security == Security::Open;
-        Field::Ssid.refuse_if(self.ssid.is_empty(), Cause::Empty)?;
-        Field::Ssid.refuse_if(self.ssid.len() > 32, Cause::TooLong)?;
-        Field::Password.refuse_if(open && !self.password.is_empty(), Cause::Unused)?;
-        Field::Password.refuse_if(!open && self.password.is_empty(), Cause::Empty)
+        refuse_first(&[
+            (self.ssid.is_empty(), Field::Ssid, Cause::Empty),
+            (self.ssid.len() > 32, Field::Ssid, Cause::TooLong),
+            (
+                open & !self.password.is_empty(),
+                Field::Password,
+                Cause::Unused,
+            ),
+            (
+                !open & self.password.is_empty(),
+                Field::Password,
+                Cause::Empty,
+            ),
+        ])
     }
 
     // The text of a network that is not refused.

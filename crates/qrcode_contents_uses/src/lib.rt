@@ -6,7 +6,10 @@ ghost use Rattle.std.specs.Prelude.{◌≤◌, chars, IfOk};
 ghost use Rattle.qrcode_types.specs.Versions.{side};
 ghost use Rattle.qrcode_types.specs.declared.types.EcLevel.TheVariants.{M};
 ghost use Rattle.qrcode_contents.specs.Bill.{invoice_of, bill_text};
+ghost use Rattle.qrcode_contents.specs.Card.{contact_of, card_text};
+ghost use Rattle.qrcode_contents.specs.Geo.{place_text};
 ghost use Rattle.qrcode_contents.specs.Mail.{letter_of, mail_text};
+ghost use Rattle.qrcode_contents.specs.OneTime.{key_of, key_text};
 ghost use Rattle.qrcode_contents.specs.Payment.{payment_fields, payment_text};
 ghost use Rattle.qrcode_contents.specs.Wifi.{wifi_fields, wifi_text};
 ghost use Rattle.qrcode.specs.Texts.{IsShownAs};
@@ -14,8 +17,11 @@ ghost use Rattle.qrcode.specs.Texts.{IsShownAs};
 use qrcode::types::QrError;
 use qrcode::{EcLevel, QrCode};
 use qrcode_contents::bill::Bill;
+use qrcode_contents::card::Card;
 use qrcode_contents::errors::ContentError;
+use qrcode_contents::geo::Place;
 use qrcode_contents::mail::Mail;
+use qrcode_contents::one_time::OneTime;
 use qrcode_contents::payment::Payment;
 use qrcode_contents::wifi::Wifi;
 use std::alloc::Global;
@@ -90,5 +96,32 @@ pub fn mail(alloc: Global, mail: &Mail) -> Result<QrCode, Unmade>
         (chars (mail_text (letter_of mail.now))) code.modules) }
 {
     let text = mail.text(alloc)?;
+    bounded(alloc, text.as_str(), 177)
+}
+
+/// The symbol of a contact.
+pub fn card(alloc: Global, card: &Card) -> Result<QrCode, Unmade>
+    ensures shown { IfOk result (λ code. IsShownAs code.version M
+        (chars (card_text (contact_of card.now))) code.modules) }
+{
+    let text = card.text(alloc)?;
+    bounded(alloc, text.as_str(), 177)
+}
+
+/// The symbol of a place.
+pub fn place(alloc: Global, place: &Place) -> Result<QrCode, Unmade>
+    ensures shown { IfOk result (λ code. IsShownAs code.version M
+        (chars (place_text place.now)) code.modules) }
+{
+    let text = place.text(alloc)?;
+    bounded(alloc, text.as_str(), 177)
+}
+
+/// The symbol of one-time passwords.
+pub fn one_time(alloc: Global, passwords: &OneTime) -> Result<QrCode, Unmade>
+    ensures shown { IfOk result (λ code. IsShownAs code.version M
+        (chars (key_text (key_of passwords.now))) code.modules) }
+{
+    let text = passwords.text(alloc)?;
     bounded(alloc, text.as_str(), 177)
 }

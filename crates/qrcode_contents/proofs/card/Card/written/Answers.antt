@@ -1,5 +1,5 @@
 use Rattle.qrcode_contents.specs.Card.{card_text}
-use Rattle.qrcode_contents.proofs.ContentTexts.{eleven_pushed}
+use Rattle.qrcode_contents.proofs.PushedTexts.{eleven_pushed}
 use Rattle.qrcode_contents.proofs.card.Card.written.Goals as goal
 
 pub returns-clause-value : goal.returns-clause-value

@@ -1,5 +1,5 @@
 use Rattle.qrcode_contents.specs.Contact.{mecard_text}
-use Rattle.qrcode_contents.proofs.EntryTexts.{seven_pushed}
+use Rattle.qrcode_contents.proofs.PushedTexts.{seven_pushed}
 use Rattle.qrcode_contents.proofs.contact.Contact.written.Goals as goal
 
 pub returns-clause-value : goal.returns-clause-value

@@ -1,0 +1,28 @@
+-- What characters fields have.
+use Rattle.std.specs.Prelude.{ℕ, nat_lt, ◌==◌, ◌&&◌, ◌||◌, not, Bool, List, map, Option}
+use Rattle.std.specs.List.{list_any}
+use Rattle.qrcode_fields.specs.declared.errors.ContentError.{ContentError}
+use Rattle.qrcode_fields.specs.declared.errors.Field.{Field}
+use Rattle.qrcode_fields.specs.declared.errors.Cause.TheVariants.{ControlCharacter}
+use Rattle.qrcode_fields.specs.Refusals.{refused_if, first_refusal}
+
+-- a digit
+abbrev pub is_digit : ℕ → Bool
+is_digit b = nat_lt 47 b && nat_lt b 58
+
+-- a digit, or a letter A to Z
+abbrev pub is_capital : ℕ → Bool
+is_capital b = (nat_lt 47 b && nat_lt b 58) || (nat_lt 64 b && nat_lt b 91)
+
+-- a control character of ASCII
+abbrev pub is_control : ℕ → Bool
+is_control b = nat_lt b 32 || b == 127
+
+-- a control character that is neither a tab nor a line feed
+abbrev pub is_stray : ℕ → Bool
+is_stray b = is_control b && not (b == 9) && not (b == 10)
+
+-- the first field with a control character
+abbrev pub control_refusal : List (Field × List ℕ) → Option ContentError
+control_refusal fields =
+    first_refusal (map (λ field. refused_if (list_any is_control field.1) field.0 ControlCharacter) fields)

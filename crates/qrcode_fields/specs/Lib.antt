@@ -1,0 +1,11 @@
+pub mod Amounts
+pub mod Characters
+pub mod ContentLines
+pub mod Entries
+pub mod EntryTests
+pub mod Escapes
+pub mod Lines
+pub mod Links
+pub mod Numbers
+pub mod Percents
+pub mod Refusals

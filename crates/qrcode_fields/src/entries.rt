@@ -1,0 +1,71 @@
+//! Entries of a text, each a key and the parts of a value.
+
+ghost use Rattle.std.specs.Prelude.{◌≡◌, ◌<◌, ◌++◌, map, flat_map, string_bytes, OnOk, IsOkUnless};
+ghost use Rattle.std.specs.List.{list_any};
+ghost use Rattle.qrcode_fields.specs.declared.errors.ContentError.TheVariants.{OutOfMemory};
+ghost use Rattle.qrcode_fields.specs.Entries.{is_filled, parts_text, marked_text};
+
+use crate::errors::ContentResult;
+use crate::escapes::{Escapes, push_escaped};
+
+/// Appends parts, escaped, with a separator between each two. After `OutOfMemory` a part of it is
+/// appended.
+pub fn push_parts(
+    text: &mut String,
+    escapes: Escapes,
+    separator: char,
+    parts: &[&str],
+) -> ContentResult<()>
+    requires { separator < 128 }
+    ensures appends { OnOk result (string_bytes text.new
+        ≡ string_bytes text.old
+        ++ parts_text escapes separator (map (λ part. part.now) parts.now)) }
+    ensures memory { IsOkUnless result OutOfMemory }
+{
+    let Some((first, later)) = parts.split_first() else {
+        return Ok(());
+    };
+    push_escaped(text, escapes, first)?;
+    for part in later {
+        text.push(separator)?;
+        push_escaped(text, escapes, part)?;
+    }
+    Ok(())
+}
+
+/// Whether a part has bytes.
+pub fn any_filled(parts: &[&str]) -> bool
+    ensures { result ≡ list_any (λ part. is_filled part.now) parts.now }
+{
+    parts.iter().any(|part| !part.is_empty())
+}
+
+/// Appends an entry with a semicolon behind it, and nothing where no part has bytes. After
+/// `OutOfMemory` a part of it is appended.
+pub fn push_entry(text: &mut String, key: &str, parts: &[&str]) -> ContentResult<()>
+    ensures appends { OnOk result (string_bytes text.new
+        ≡ string_bytes text.old ++ marked_text (key.now, map (λ part. part.now) parts.now)) }
+    ensures memory { IsOkUnless result OutOfMemory }
+{
+    if !any_filled(parts) {
+        return Ok(());
+    }
+    text.push_str(key)?;
+    text.push(':')?;
+    push_parts(text, Escapes::Marks, ',', parts)?;
+    text.push(';')?;
+    Ok(())
+}
+
+/// Appends entries, each a key and the parts of its value, as `push_entry` does. After
+/// `OutOfMemory` a part of them is appended.
+pub fn push_entries(text: &mut String, entries: &[(&str, &[&str])]) -> ContentResult<()>
+    ensures appends { OnOk result (string_bytes text.new ≡ string_bytes text.old ++ flat_map
+        (λ entry. marked_text (entry.0.now, map (λ part. part.now) entry.1.now)) entries.now) }
+    ensures memory { IsOkUnless result OutOfMemory }
+{
+    for (key, parts) in entries {
+        push_entry(text, key, parts)?;
+    }
+    Ok(())
+}
