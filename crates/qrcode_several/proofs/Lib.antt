@@ -1,0 +1,4 @@
+pub mod Borders
+pub mod Fronts
+pub mod Parts
+pub mod Together

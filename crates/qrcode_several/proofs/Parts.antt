@@ -1,0 +1,112 @@
+-- The list of bits of a part, and its symbol.
+use Rattle.std.proofs.Common.{◌≡◌, ℕ, suc, ◌+◌, ◌-◌, ◌<◌, ◌≤◌, ◌++◌, Bool, false, List, [], ◌∷◌, length, sym, ap, subst, ◌∙◌, arith, inl, inr, true≢false, Some, None, Result, Ok, Err, IfOk, IsTrue, length-append, append_assoc, if◌then◌else◌}
+use Rattle.std.proofs.lemmas.Bool.{cases_lt}
+use Rattle.qrcode_types.specs.Versions.{is_valid, is_micro, has_level, capacity}
+use Rattle.qrcode_types.specs.declared.types.Version.{Version}
+use Rattle.qrcode_types.specs.declared.types.EcLevel.{EcLevel}
+use Rattle.qrcode_types.specs.declared.types.QrError.{QrError}
+use Rattle.qrcode_bits.specs.BitList.{BitList}
+use Rattle.qrcode_bits.specs.Cuts.{IsCut}
+use Rattle.qrcode_bits.specs.Refusals.{append_refusal, bit_limit, data_limit}
+use Rattle.qrcode_bits.specs.Segments.{total_cost}
+use Rattle.qrcode_bits.specs.StructuredAppend.{parity, append_header, append_front, SpellsPart}
+use Rattle.qrcode_bits.specs.Written.{written, pieces_of, terminated, terminator_length, ending}
+use Rattle.qrcode_bits.specs.declared.bits.manner.Manner.{Manner}
+use Rattle.qrcode_bits.specs.declared.optimize.Segment.{Segment}
+use Rattle.qrcode_bits.proofs.Changed.{append_fits}
+use Rattle.qrcode_bits.proofs.CutPieces.{cut_pieces, length-written}
+use Rattle.qrcode_bits.proofs.Endings.{read_as, ending-is_end, terminated-ending}
+use Rattle.qrcode.specs.Code.{Code}
+use Rattle.qrcode.specs.Reading.{EncodesBits}
+use Rattle.qrcode_several.specs.Division.{part}
+use Rattle.qrcode_several.specs.Reading.{EachAt}
+use Rattle.qrcode_several.specs.Symbols.{front_length, PartFits, HoldSeveral, IsPartList, IsPartSymbol, AreSeveral}
+use Rattle.qrcode_several.proofs.Borders.{parts_joined, part_text}
+use Rattle.qrcode_several.proofs.Fronts.{length-header, length-front}
+use Rattle.qrcode_several.proofs.Together.{together}
+
+-- a cut behind the bits in front, terminated, is read as the part
+pub part_spelled : (v : Version) (l : EcLevel) (place last parity : ℕ) (bytes : List ℕ) (ss : List Segment) → IsTrue (is_valid v) → is_micro v ≡ false → IsCut v bytes ss
+    → front_length last + total_cost v ss ≤ capacity v l → SpellsPart v (terminated v l (append_front place last parity ++ written v (pieces_of bytes ss))) place last parity bytes
+part_spelled v l place last parity bytes ss valid normal cut room =
+    let front = append_front place last parity in
+    let ps = pieces_of bytes ss in
+    let ready = front ++ written v ps in
+    let e = ending (terminator_length v) (length ready) (capacity v l) in
+    let pieces = cut_pieces v l bytes ss valid cut (omega (arith, room)) in
+    let fits : length ready ≤ capacity v l =
+    omega (arith, length-append front (written v ps), length-front place last parity, length-written v bytes 0 ss (length bytes) cut.tiles (omega arith), room) in
+    record {
+      exists = λ _. normal;
+      rest = written v ps ++ e;
+      parted = terminated-ending v l ready ∙ append_assoc front (written v ps) e;
+      spelled = record {
+        pieces = ps;
+        read = read_as v ps e valid pieces.0 (ending-is_end (terminator_length v) (length ready) (capacity v l) fits);
+        joined = pieces.2;
+      };
+    }
+
+-- one item more
+pub each-push : {X : Type 0} (P : ℕ → X → Type 0) (xs : List X) (x : X) → EachAt P xs → P (length xs) x → EachAt P (xs ++ x ∷ [])
+each-push P [] x each last = (last, tt)
+each-push P (y ∷ xs) x each last = (each.0, each-push (λ place. P (suc place)) xs x each.1 last)
+
+-- a header is taken where it has room
+pub header_taken : (v : Version) (used place last parity : ℕ) → is_micro v ≡ false → used + 20 ≤ bit_limit → append_refusal used (if is_micro v then None else Some (append_header place last parity)) ≡ None
+header_taken v used place last parity normal room =
+    ap (λ t. append_refusal used (if t then None else Some (append_header place last parity))) normal
+    ∙ append_fits used (append_header place last parity) (omega (arith, room, length-header place last parity))
+
+-- the symbol of the list of a part
+pub symbol_of : (m : Manner) (v : Version) (l : EcLevel) (place last parity : ℕ) (bytes : List ℕ) (list : BitList) (code : Result Code QrError) → IsPartList m v l place last parity bytes list
+    → IfOk code (λ code. code.version ≡ list.version) → IfOk code (λ code. code.level ≡ l) → IfOk code (λ code. EncodesBits list.version l list.bits code.modules)
+    → IfOk code (IsPartSymbol m v l place last parity bytes)
+symbol_of m v l place last parity bytes list (Err e) made version level encodes = tt
+symbol_of m v l place last parity bytes list (Ok code) made version level encodes =
+    let bits = terminated v l (append_front place last parity ++ written v (pieces_of bytes made.segments)) in
+    let own : EncodesBits v l bits code.modules = subst (λ b. EncodesBits v l b code.modules) made.bits (subst (λ u. EncodesBits u l list.bits code.modules) made.version encodes) in
+    let spelled : SpellsPart v bits place last parity bytes = subst (λ b. SpellsPart v b place last parity bytes) made.bits made.spelled in
+    record {
+      version = version ∙ made.version;
+      level = level;
+      segments = made.segments;
+      least = made.least;
+      encodes = own;
+      read = λ other damage. record { version = v; level = l; bits = bits; read = (own.read other damage).found; spelled = spelled };
+    }
+
+-- the symbols of the first count that holds the data
+pub several_of : (m : Manner) (v : Version) (l : EcLevel) (bytes : List ℕ) (count : ℕ) (codes : List Code) → HoldSeveral m v l bytes count → ((n : ℕ) → n < count → ¬ HoldSeveral m v l bytes n)
+    → length codes ≡ count → EachAt (λ place. IsPartSymbol m v l place (count - 1) (parity bytes) (part m bytes count place)) codes → AreSeveral m v l bytes codes
+several_of m v l bytes count codes held none is symbols =
+    let some : 0 < length codes = omega (arith, held.some, is) in
+    record {
+      held = subst (HoldSeveral m v l bytes) (sym is) held;
+      fewest = λ n other. elim (cases_lt n count) [ inl below ↦ absurd (none n below other) | inr above ↦ omega (arith, above, is) ];
+      symbols = subst (λ n. EachAt (λ place. IsPartSymbol m v l place (n - 1) (parity bytes) (part m bytes n place)) codes) (sym is) symbols;
+      joined = parts_joined m bytes (length codes) some;
+      read = λ squares same each. together m bytes (length codes) squares some same each;
+      characters = λ text u place inside. part_text m bytes (length codes) place text u inside;
+    }
+
+pub pair_ok : {T : Type 0} {P Q R : T → Type 0} (r : Result T QrError) → ((x : T) → P x → Q x → R x) → IfOk r P → IfOk r Q → IfOk r R
+pair_ok (Ok x) f p q = f x p q
+pair_ok (Err e) f p q = tt
+
+-- what parts that fit say of the data, and parts that do not
+pub held_by : (m : Manner) (v : Version) (l : EcLevel) (bytes : List ℕ) (count room : ℕ) → IsTrue (has_level v l) → is_micro v ≡ false → length bytes ≤ data_limit → 0 < count → count ≤ 16 → room ≡ capacity v l
+    → ((place : ℕ) → place < count → PartFits m v (part m bytes count place) (front_length (count - 1)) room) → HoldSeveral m v l bytes count
+held_by m v l bytes count room exists normal limit some most is fits = record {
+  exists = exists;
+  normal = normal;
+  limit = limit;
+  some = some;
+  at_most = most;
+  room = λ place inside. subst (λ n. PartFits m v (part m bytes count place) (front_length (count - 1)) n) is (fits place inside);
+}
+
+pub none_by : (m : Manner) (v : Version) (l : EcLevel) (bytes : List ℕ) (count room : ℕ) (all : Bool) → room ≡ capacity v l → all ≡ false
+    → (((place : ℕ) → place < count → PartFits m v (part m bytes count place) (front_length (count - 1)) room) → IsTrue all) → ¬ HoldSeveral m v l bytes count
+none_by m v l bytes count room all is not fits = λ held.
+    true≢false (sym (fits (λ place inside. subst (λ n. PartFits m v (part m bytes count place) (front_length (count - 1)) n) (sym is) (held.room place inside))) ∙ not)

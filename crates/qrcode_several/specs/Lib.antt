@@ -1,0 +1,3 @@
+pub mod Division
+pub mod Reading
+pub mod Symbols

@@ -1,0 +1,33 @@
+-- How several squares are read.
+use Rattle.std.specs.Prelude.{◌≡◌, ℕ, suc, ◌-◌, Bool, List, [], ◌∷◌, length, flat_map, slice_index_or}
+use Rattle.qrcode_types.specs.declared.types.Version.{Version}
+use Rattle.qrcode_types.specs.declared.types.EcLevel.{EcLevel}
+use Rattle.qrcode_types.specs.declared.types.Color.{Color}
+use Rattle.qrcode_symbol.specs.Reading.{ReadsBits}
+use Rattle.qrcode_bits.specs.StructuredAppend.{parity, SpellsPart}
+
+-- a fact of each item and its place
+abbrev pub EachAt : {X : Type 0} → (ℕ → X → Type 0) → List X → Type 0
+EachAt P [] = Unit {0}
+EachAt P (x ∷ xs) = P 0 x × EachAt (λ place. P (suc place)) xs
+
+-- a reader finds these bytes, as those of the symbol at a place
+pub record ReadsPart (s : List Color) (place last parity : ℕ) (bytes : List ℕ) : Type 0 where
+  pub version : Version
+  pub level : EcLevel
+  pub bits : List Bool
+  pub read : ReadsBits s version level bits
+  pub spelled : SpellsPart version bits place last parity bytes
+
+-- Squares in the order of their places are read as data: each as the part at its place among as many, with the parity of the
+-- data, and the parts one after the other are the data.
+pub record ReadsSeveral (squares : List (List Color)) (bytes : List ℕ) : Type 0 where
+  pub parts : List (List ℕ)
+  pub counted : length parts ≡ length squares
+  pub read : EachAt (λ place s. ReadsPart s place (length squares - 1) (parity bytes) (slice_index_or parts place [])) squares
+  pub joined : flat_map (λ part. part) parts ≡ bytes
+
+-- these bytes are found, and no others
+pub record ReadsSeveralOnly (squares : List (List Color)) (bytes : List ℕ) : Type 0 where
+  pub found : ReadsSeveral squares bytes
+  pub only : (others : List ℕ) → ReadsSeveral squares others → others ≡ bytes
