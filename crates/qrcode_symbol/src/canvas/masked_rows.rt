@@ -169,6 +169,15 @@ fn decide_rows<R: PackedRow>(layer: Layer, from: usize, to: usize, rows: &mut [R
     }
 }
 
+// The next of twelve in a ring, with no division.
+#[inline(always)]
+fn next_of_twelve(number: usize) -> usize
+    requires { number < 12 }
+    ensures { result ≡ (number + 1) % 12 }
+{
+    if number == 11 { 0 } else { number + 1 }
+}
+
 // Writes the rows with the places turned that the mask turns.
 fn turn_rows<R: PackedRow>(modules: &PackedModules<'_, R>, mask: MaskPattern, rows: &mut [R])
     requires length { length rows.old ≡ modules.now.width }
@@ -180,9 +189,11 @@ fn turn_rows<R: PackedRow>(modules: &PackedModules<'_, R>, mask: MaskPattern, ro
         → FitsWidth modules.now.width (slice_index_or (map R.bits rows.new) y 0) }
 {
     let turned = turned_rows(mask);
+    let mut twelfth = 0;
     for y in 0..modules.width {
-        let places = modules.free.row(y).and(long_row(turned[y % 12]));
+        let places = modules.free.row(y).and(long_row(turned[twelfth]));
         rows[y] = modules.dark.row(y).xor(places);
+        twelfth = next_of_twelve(twelfth);
     }
 }
 
