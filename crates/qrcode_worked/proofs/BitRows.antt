@@ -1,5 +1,5 @@
 -- Bits written and ended.
-use Rattle.std.proofs.Common.{◌≡◌, pos, [], ◌∷◌, drop, lit<, refl}
+use Rattle.std.proofs.Common.{◌≡◌, pos, [], ◌∷◌, ◌++◌, drop, lit<, refl}
 use Rattle.std.specs.Prelude.{codes, replicate}
 use Rattle.qrcode_types.specs.Bits.{number_bits, number_of, byte_at, bytes_of}
 use Rattle.qrcode_types.specs.Tables.{block_table}
@@ -10,7 +10,8 @@ use Rattle.qrcode_types.specs.declared.types.EcLevel.TheVariants.{L, Q, H}
 use Rattle.qrcode_types.specs.declared.types.Mode.TheVariants.{Numeric, Alphanumeric, Byte, Kanji}
 use Rattle.qrcode_bits.specs.Written.{written, written_piece, padding, zeros_end, ending, terminated}
 use Rattle.qrcode_bits.specs.Spelling.{Spells}
-use Rattle.qrcode_worked.specs.Data.{piece, digits, normal_bits, micro_bits, normal_data, hello_data}
+use Rattle.qrcode_bits.specs.StructuredAppend.{parity, append_header, append_front}
+use Rattle.qrcode_worked.specs.Data.{piece, digits, normal_bits, micro_bits, normal_data, hello_data, first_of_pi, second_of_pi, eleventh_of_pi, part_of_pi}
 
 pub written_digits : bytes_of (written_piece (Normal (pos 1)) digits) ≡ 0x10 ∷ 0x20 ∷ 0x0C ∷ 0x56 ∷ 0x61 ∷ 0x80 ∷ []
 unfolding number_bits number_of byte_at bytes_of
@@ -63,3 +64,21 @@ half = refl
 pub twice : bytes_of (terminated (Micro (pos 1)) L (written (Micro (pos 1)) (piece Numeric (codes "1") ∷ piece Numeric (codes "1") ∷ []))) ≡ 0x22 ∷ 0x44 ∷ 0x00 ∷ []
 unfolding number_bits number_of byte_at bytes_of block_table blocks_entry block_lengths data_length capacity padding zeros_end ending terminated
 twice = refl
+
+pub parity_of_digits : parity (codes "0123456789" ++ (0x93 ∷ 0xFA ∷ 0x96 ∷ 0x7B ∷ [])) ≡ 0x85
+parity_of_digits = refl
+
+pub first_part : bytes_of (part_of_pi 0 1 (codes "314159265358979323846264338327")) ≡ first_of_pi
+unfolding number_bits number_of byte_at bytes_of block_table blocks_entry block_lengths data_length capacity padding zeros_end ending terminated append_header
+first_part = refl
+
+pub second_part : bytes_of (part_of_pi 1 1 (codes "950288419716939937510582097494")) ≡ second_of_pi
+unfolding number_bits number_of byte_at bytes_of block_table blocks_entry block_lengths data_length capacity padding zeros_end ending terminated append_header
+second_part = refl
+
+pub eleventh_part : bytes_of (part_of_pi 10 15 (codes "1693")) ≡ eleventh_of_pi
+unfolding number_bits number_of byte_at bytes_of block_table blocks_entry block_lengths data_length capacity padding zeros_end ending terminated append_header
+eleventh_part = refl
+
+pub alone : append_front 0 0 0x85 ≡ []
+alone = refl

@@ -4,6 +4,7 @@ use Rattle.qrcode_types.specs.declared.types.Version.TheVariants.{Normal, Micro}
 use Rattle.qrcode_types.specs.declared.types.EcLevel.TheVariants.{L, M}
 use Rattle.qrcode_types.specs.declared.types.Mode.{Mode}
 use Rattle.qrcode_types.specs.declared.types.Mode.TheVariants.{Numeric}
+use Rattle.qrcode_bits.specs.StructuredAppend.{parity, append_front}
 use Rattle.qrcode_bits.specs.Written.{Piece, written_piece, terminated}
 use Rattle.qrcode_bits.specs.declared.optimize.Segment.{Segment}
 
@@ -39,3 +40,23 @@ hello_data = 0x20 ∷ 0x5B ∷ 0x0B ∷ 0x78 ∷ 0xD1 ∷ 0x72 ∷ 0xDC ∷ 0x4D
 -- the codewords of the digits in Micro 2 at L
 abbrev pub micro_block : List ℕ
 micro_block = 0x40 ∷ 0x18 ∷ 0xAC ∷ 0xC3 ∷ 0x00 ∷ 0x86 ∷ 0x0D ∷ 0x22 ∷ 0xAE ∷ 0x30 ∷ []
+
+-- sixty digits of pi
+abbrev pub pi_digits : List ℕ
+pi_digits = codes "314159265358979323846264338327950288419716939937510582097494"
+
+-- some of them as the part at a place, ended in Normal 1 at L
+abbrev pub part_of_pi : ℕ → ℕ → List ℕ → List Bool
+part_of_pi place last bytes =
+    terminated (Normal (pos 1)) L (append_front place last (parity pi_digits) ++ written_piece (Normal (pos 1)) (piece Numeric bytes))
+
+-- the codewords that segno makes of both of two parts
+abbrev pub first_of_pi : List ℕ
+first_of_pi = 0x30 ∷ 0x10 ∷ 0x51 ∷ 0x07 ∷ 0x93 ∷ 0xA2 ∷ 0x7D ∷ 0x09 ∷ 0x59 ∷ 0xBD ∷ 0x35 ∷ 0x0F ∷ 0x4E ∷ 0x42 ∷ 0x15 ∷ 0x25 ∷ 0x1C ∷ 0x00 ∷ 0xEC ∷ []
+
+abbrev pub second_of_pi : List ℕ
+second_of_pi = 0x31 ∷ 0x10 ∷ 0x51 ∷ 0x07 ∷ 0xBB ∷ 0x64 ∷ 0x81 ∷ 0xA3 ∷ 0xB3 ∷ 0x3A ∷ 0xBE ∷ 0xA5 ∷ 0xFE ∷ 0x91 ∷ 0x86 ∷ 0x17 ∷ 0xB8 ∷ 0x00 ∷ 0xEC ∷ []
+
+-- and of the eleventh of sixteen
+abbrev pub eleventh_of_pi : List ℕ
+eleventh_of_pi = 0x3A ∷ 0xF0 ∷ 0x51 ∷ 0x01 ∷ 0x0A ∷ 0x93 ∷ 0x00 ∷ 0xEC ∷ 0x11 ∷ 0xEC ∷ 0x11 ∷ 0xEC ∷ 0x11 ∷ 0xEC ∷ 0x11 ∷ 0xEC ∷ 0x11 ∷ 0xEC ∷ 0x11 ∷ []

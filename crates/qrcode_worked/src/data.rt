@@ -1,6 +1,6 @@
 //! Data as segments and as bits.
 
-ghost use Rattle.std.specs.Prelude.{◌≡◌, pos, [], ◌∷◌, codes, map, replicate};
+ghost use Rattle.std.specs.Prelude.{◌≡◌, pos, [], ◌∷◌, ◌++◌, codes, map, replicate};
 ghost use Rattle.qrcode_types.specs.Bits.{bytes_of};
 ghost use Rattle.qrcode_types.specs.Versions.{capacity};
 ghost use Rattle.qrcode_types.specs.declared.types.Version.TheVariants.{Normal, Micro};
@@ -11,7 +11,8 @@ ghost use Rattle.qrcode_bits.specs.Runs.{runs};
 ghost use Rattle.qrcode_bits.specs.Grouping.{grouping};
 ghost use Rattle.qrcode_bits.specs.Written.{written, written_piece, terminated};
 ghost use Rattle.qrcode_bits.specs.Spelling.{Spells};
-ghost use Rattle.qrcode_worked.specs.Data.{segment, piece, digits, normal_bits, micro_bits, normal_data, hello_data};
+ghost use Rattle.qrcode_bits.specs.StructuredAppend.{parity, append_front};
+ghost use Rattle.qrcode_worked.specs.Data.{segment, piece, digits, normal_bits, micro_bits, normal_data, hello_data, first_of_pi, second_of_pi, eleventh_of_pi, part_of_pi};
 
 /// Digits before a letter are joined with it in Normal 1 and not in Micro 2, and lone bytes that could
 /// begin a pair are runs of their own.
@@ -70,6 +71,18 @@ pub fn written_text()
     ensures twice { bytes_of (terminated (Micro (pos 1)) L (written (Micro (pos 1))
         (piece Numeric (codes "1") ∷ piece Numeric (codes "1") ∷ [])))
         ≡ 0x22 ∷ 0x44 ∷ 0x00 ∷ [] }
+{}
+
+/// Sixty digits of pi in two symbols and in sixteen, and a parity, as segno writes them; a symbol that
+/// is the only one has nothing in front.
+pub fn parts_of_digits()
+    ensures parity { parity (codes "0123456789" ++ (0x93 ∷ 0xFA ∷ 0x96 ∷ 0x7B ∷ [])) ≡ 0x85 }
+    ensures first { bytes_of (part_of_pi 0 1 (codes "314159265358979323846264338327"))
+        ≡ first_of_pi }
+    ensures second { bytes_of (part_of_pi 1 1 (codes "950288419716939937510582097494"))
+        ≡ second_of_pi }
+    ensures eleventh { bytes_of (part_of_pi 10 15 (codes "1693")) ≡ eleventh_of_pi }
+    ensures alone { append_front 0 0 0x85 ≡ [] }
 {}
 
 /// Table 7: the bits that some versions hold at level L.
