@@ -1,5 +1,6 @@
-//! Digits of pi in two symbols, and a text that fits one, which has no header: the symbols of segno's
-//! `make_sequence` and `make` under the masks 0, 7 and 0, which are of least penalty.
+//! Digits of pi in two symbols, a text in three, and one that fits a single symbol, which has no header:
+//! the symbols of segno's `make_sequence` and `make` under the masks of least penalty (0 and 7; 6, 6 and
+//! 2; 0), the text written in UTF-8.
 
 use qrcode::types::QrResult;
 use qrcode::{EcLevel, QrCode, Version};
@@ -18,6 +19,18 @@ const SECOND: &str =
 const ALONE: &str =
     "#######.##....#######\n#.....#.#..#..#.....#\n#.###.#.#..##.#.###.#\n#.###.#.#.....#.###.#\n#.###.#.#.#...#.###.#\n#.....#...#...#.....#\n#######.#.#.#.#######\n........#............\n.##.#.##....#.#.#####\n.#......####....#...#\n..##.###.##...#.##...\n.##.##.#..##.#.#.###.\n#...#.#.#.###.###.#.#\n........##.#..#...#.#\n#######.#.#....#.##..\n#.....#..#.##.##.#...\n#.###.#.#.#...#######\n#.###.#..#.#.#.#...#.\n#.###.#.#..#.###.#..#\n#.....#.#.####...#.##\n#######....#.###....#";
 
+// Three even parts of its 32 bytes would divide the character of bytes 20 and 21: the second ends before.
+const WORDS: &str = "pijamalı hasta yağız şoföre";
+
+const WORDS_1: &str =
+    "#######.#...#.#######\n#.....#...#.#.#.....#\n#.###.#....##.#.###.#\n#.###.#...#.#.#.###.#\n#.###.#..#.##.#.###.#\n#.....#..##...#.....#\n#######.#.#.#.#######\n........#............\n##.##.#...##..#.....#\n#####...##..#####.#.#\n......##.####...#####\n.###...###.##....#.#.\n##..#.####.##.#.##..#\n........##..#.##.##..\n#######.....######.#.\n#.....#..##..#....#..\n#.###.#.##.##.#..##.#\n#.###.#.#...###...#..\n#.###.#..#######.#.##\n#.....#.#..#..#.#....\n#######.###..#..####.";
+
+const WORDS_2: &str =
+    "#######.#...#.#######\n#.....#...#.#.#.....#\n#.###.#....##.#.###.#\n#.###.#...#.#.#.###.#\n#.###.#..#.##.#.###.#\n#.....#..##...#.....#\n#######.#.#.#.#######\n........#............\n##.##.#...##..#.....#\n#.###..#.##.#.###.#.#\n.##.#.#.#.###..#.####\n#...##.#...##....#.#.\n.###..##..#####.##..#\n........#..#..#..##..\n#######..###..#.#..#.\n#.....#...###..#.....\n#.###.#.##.#.##..##.#\n#.###.#.#..###.#..##.\n#.###.#..#..##.###.##\n#.....#.#...#####.#..\n#######.##.#....####.";
+
+const WORDS_3: &str =
+    "#######...#.#.#######\n#.....#.###.#.#.....#\n#.###.#...#.#.#.###.#\n#.###.#.##..#.#.###.#\n#.###.#..#.##.#.###.#\n#.....#.#..##.#.....#\n#######.#.#.#.#######\n.........#...........\n#####.###..###.#.#.#.\n..###..##.#...#...#..\n###.#.##..#.##....##.\n#..#....##.#.###.#.#.\n###.###..######.#.##.\n........##...#.#.#.##\n#######.#..##.##..#..\n#.....#..#.#.######.#\n#.###.#.#.#..###..#..\n#.###.#.####.#.##...#\n#.###.#.#...#.####...\n#.....#.##..##..#.###\n#######.##.#..#..##..";
+
 // The symbols are drawn so.
 fn check(rt: &impl Abort, alloc: Global, codes: QrResult<Vec<QrCode>>, texts: &[&str]) {
     let codes = codes.expect(rt, "symbols");
@@ -35,6 +48,8 @@ fn sequences_of_segno(rt: HostRuntime) {
     check(&rt, rt.alloc(), codes, &[FIRST, SECOND]);
     let codes = encode_text_several(rt.alloc(), DIGITS, version, EcLevel::L);
     check(&rt, rt.alloc(), codes, &[FIRST, SECOND]);
+    let codes = encode_text_several(rt.alloc(), WORDS, version, EcLevel::L);
+    check(&rt, rt.alloc(), codes, &[WORDS_1, WORDS_2, WORDS_3]);
     let codes = encode_text_several(rt.alloc(), "HELLO WORLD", version, EcLevel::Q);
     check(&rt, rt.alloc(), codes, &[ALONE]);
 }
