@@ -4,6 +4,7 @@
 #![tactic(auto)]
 
 mod files;
+mod others;
 
 use files::write_all;
 use std::env;
