@@ -2,6 +2,8 @@
 //! which readers show that text.
 #![tactic(auto)]
 
+pub mod several;
+
 ghost use Rattle.std.specs.Prelude.{◌≤◌, chars, IfOk};
 ghost use Rattle.qrcode_types.specs.Versions.{side};
 ghost use Rattle.qrcode_types.specs.declared.types.EcLevel.TheVariants.{M};

@@ -1,0 +1,22 @@
+//! A text in several symbols, as the page on calls shows it.
+
+ghost use Rattle.std.specs.Prelude.{◌≤◌, pos, length, IfOk};
+ghost use Rattle.qrcode_types.specs.declared.types.Version.TheVariants.{Normal};
+ghost use Rattle.qrcode_types.specs.declared.types.EcLevel.TheVariants.{M};
+ghost use Rattle.qrcode_bits.specs.declared.bits.manner.Manner.TheVariants.{Text};
+ghost use Rattle.qrcode_several.specs.Symbols.{AreSeveral};
+
+use qrcode::types::QrResult;
+use qrcode::{EcLevel, QrCode, Version};
+use qrcode_several::encode_text_several;
+use std::alloc::Global;
+
+/// A long text in symbols of Normal 5, as few as hold its even parts, and 16 at most: the parts that
+/// readers find in them, in order, are the text.
+pub fn pages(alloc: Global, text: &str) -> QrResult<Vec<QrCode>>
+    ensures symbols { IfOk result (λ codes.
+        AreSeveral Text (Normal (pos 5)) M text.now codes.items) }
+    ensures at_most { IfOk result (λ codes. length codes.items ≤ 16) }
+{
+    encode_text_several(alloc, text, Version::Normal(5), EcLevel::M)
+}
