@@ -10,8 +10,9 @@ use crate::scenario::Memory::Takes;
 use crate::scenario::Scenario;
 use crate::scenario::Single::{Image, Picture};
 
+/// Pictures of a small symbol.
 #[rattlefmt::skip]
-pub static SCENARIOS: [Scenario; 74] = [
+pub static OF_MICRO: [Scenario; 12] = [
     Scenario("Renderer::to_image", Takes, None, Once(Image)),
     Scenario("Renderer::build: char", Takes, None, Once(Picture(Chars, Micro2))),
     Scenario("Renderer::build: Str", Takes, None, Once(Picture(Strings, Micro2))),
@@ -24,6 +25,11 @@ pub static SCENARIOS: [Scenario; 74] = [
     Scenario("Renderer::build: Rgb", Takes, None, Once(Picture(Rgb, Micro2))),
     Scenario("Renderer::build: Rgba", Takes, None, Once(Picture(Rgba, Micro2))),
     Scenario("Renderer::build: a user's canvas", Takes, None, Once(Picture(Bars, Micro2))),
+];
+
+/// Pictures of no modules.
+#[rattlefmt::skip]
+pub static OF_NOTHING: [Scenario; 11] = [
     Scenario("Renderer::build: char, no modules", Takes, None, Once(Picture(Chars, NoModules))),
     Scenario("Renderer::build: Str, no modules", Takes, None, Once(Picture(Strings, NoModules))),
     Scenario("Renderer::build: a user's element, no modules", Takes, None, Once(Picture(Words, NoModules))),
@@ -35,6 +41,11 @@ pub static SCENARIOS: [Scenario; 74] = [
     Scenario("Renderer::build: Rgb, no modules", Takes, None, Once(Picture(Rgb, NoModules))),
     Scenario("Renderer::build: Rgba, no modules", Takes, None, Once(Picture(Rgba, NoModules))),
     Scenario("Renderer::build: a user's canvas, no modules", Takes, None, Once(Picture(Bars, NoModules))),
+];
+
+/// Pictures of great symbols.
+#[rattlefmt::skip]
+pub static OF_WIDE: [Scenario; 17] = [
     Scenario("Renderer::build: Str, Normal 40", Takes, None, Once(Picture(Strings, Normal40))),
     Scenario("Renderer::build: Dense1x2, Normal 40", Takes, None, Once(Picture(HalfBlocks, Normal40))),
     Scenario("Renderer::build: svg, Normal 40", Takes, None, Once(Picture(Svg, Normal40))),
@@ -52,6 +63,11 @@ pub static SCENARIOS: [Scenario; 74] = [
     Scenario("Renderer::build: Rgb, wide", Takes, None, Once(Picture(Rgb, Wide(9)))),
     Scenario("Renderer::build: Rgba, wide", Takes, None, Once(Picture(Rgba, Wide(9)))),
     Scenario("Renderer::build: a user's canvas, wide", Takes, None, Once(Picture(Bars, Wide(9)))),
+];
+
+/// What each call of a canvas draws.
+#[rattlefmt::skip]
+pub static OF_CALLS: [Scenario; 11] = [
     Scenario("render::Canvas: char", Takes, None, Once(Picture(Chars, Calls))),
     Scenario("render::Canvas: Str", Takes, None, Once(Picture(Strings, Calls))),
     Scenario("render::Canvas: a user's element", Takes, None, Once(Picture(Words, Calls))),
@@ -63,6 +79,11 @@ pub static SCENARIOS: [Scenario; 74] = [
     Scenario("render::Canvas: Rgb", Takes, None, Once(Picture(Rgb, Calls))),
     Scenario("render::Canvas: Rgba", Takes, None, Once(Picture(Rgba, Calls))),
     Scenario("render::Canvas: a user's canvas", Takes, None, Once(Picture(Bars, Calls))),
+];
+
+/// Pictures of files.
+#[rattlefmt::skip]
+pub static OF_FILES: [Scenario; 11] = [
     Scenario("Renderer::build: svg path", Takes, None, Once(Picture(Path, Micro2))),
     Scenario("Renderer::build: svg path element", Takes, None, Once(Picture(PathElement, Micro2))),
     Scenario("Renderer::build: eps", Takes, None, Once(Picture(Eps, Micro2))),
@@ -74,6 +95,11 @@ pub static SCENARIOS: [Scenario; 74] = [
     Scenario("Renderer::build: eps, no modules", Takes, None, Once(Picture(Eps, NoModules))),
     Scenario("Renderer::build: pbm, no modules", Takes, None, Once(Picture(Pbm, NoModules))),
     Scenario("Renderer::build: pgm, no modules", Takes, None, Once(Picture(Pgm, NoModules))),
+];
+
+/// Pictures of files of great symbols, and of what each call draws.
+#[rattlefmt::skip]
+pub static OF_WIDE_FILES: [Scenario; 12] = [
     Scenario("Renderer::build: svg path, wide", Takes, None, Once(Picture(Path, Wide(9)))),
     Scenario("Renderer::build: svg path element, wide", Takes, None, Once(Picture(PathElement, Wide(9)))),
     Scenario("Renderer::build: eps, wide", Takes, None, Once(Picture(Eps, Wide(9)))),

@@ -18,8 +18,9 @@ const TEXT: &[u8] = b"some text, 0123456789, AND SOME MORE";
 // Digits, one more than are taken.
 const LONG: Data = Times(b'7', 1_048_577);
 
+/// Symbols that are made.
 #[rattlefmt::skip]
-pub static SCENARIOS: [Scenario; 43] = [
+pub static MADE: [Scenario; 14] = [
     Scenario("QrCode::new", Takes, None, Once(Code(New(Bytes(TEXT))))),
     Scenario("QrCode::new: nothing", Takes, None, Once(Code(New(Bytes(b""))))),
     Scenario("QrCode::new: 2,331 letters", Takes, None, Once(Code(New(Times(b'a', 2331))))),
@@ -38,6 +39,11 @@ pub static SCENARIOS: [Scenario; 43] = [
     ])))),
     Scenario("QrCode::with_bits: nothing", Takes, None, Once(Code(WithBits(Micro(1), L, &[Push::Terminator(L)])))),
     Scenario("QrCode::with_bits: Normal 40", Takes, None, Once(Code(WithBits(Normal(40), L, &[Push::Terminator(L)])))),
+];
+
+/// Symbols of long data, and those that are refused.
+#[rattlefmt::skip]
+pub static REFUSED: [Scenario; 10] = [
     Scenario("long data", Takes, None, Once(Single::Data(LONG))),
     Scenario("QrCode::new: long data", NoMoreThan("long data"), Some(DataTooLong), Once(Code(New(LONG)))),
     Scenario("QrCode::with_error_correction_level: long data", NoMoreThan("long data"), Some(DataTooLong), Once(Code(WithLevel(LONG, L)))),
@@ -48,6 +54,11 @@ pub static SCENARIOS: [Scenario; 43] = [
     Scenario("QrCode::with_version: no room", Takes, Some(DataTooLong), Once(Code(WithVersion(Bytes(b"123456"), Micro(1), L)))),
     Scenario("QrCode::with_bits: no such level", NOTHING, Some(InvalidVersion), Once(Code(WithBits(Micro(1), H, &[])))),
     Scenario("QrCode::with_bits: long list", NoMoreThan("long list"), Some(DataTooLong), Once(Code(WithBits(Micro(1), L, &[Push::Numeric(b"1234567")])))),
+];
+
+/// Calls of symbols.
+#[rattlefmt::skip]
+pub static CALLED: [Scenario; 19] = [
     Scenario("QrCode::to_vec", Takes, None, Once(Symbol(Micro(2), SymbolCall::ToVec))),
     Scenario("QrCode::into_vec", Takes, None, Once(Symbol(Micro(2), SymbolCall::IntoVec))),
     Scenario("QrCode::to_colors", Takes, None, Once(Symbol(Micro(2), SymbolCall::ToColors))),
