@@ -5,9 +5,11 @@ pub mod Distances
 pub mod Divisions
 pub mod Generators
 pub mod Interleavings
+pub mod Lanes
 pub mod Parts
 pub mod Places
 pub mod Powers
 pub mod Products
+pub mod Registers
 pub mod Syndromes
 pub mod Xor

@@ -1,16 +1,26 @@
 //! Division by generators, whose remainders are the error correction bytes.
 
-ghost use Rattle.std.specs.Prelude.{◌≡◌, ℕ, suc, ◌<◌, ◌≤◌, ◌++◌, ◌*◌, ◌∷◌, [], length, take, slice_index, slice_index_or, bit_xor};
+ghost use Rattle.std.specs.Prelude.{◌≡◌, ℕ, suc, ◌<◌, ◌≤◌, ◌++◌, ◌*◌, ◌∷◌, [], length, take, replicate, slice_index, slice_index_or, bit_xor};
 ghost use Rattle.qrcode_types.specs.Bits.{AreBytes};
 ghost use Rattle.qrcode_ec.specs.Field.{product};
 ghost use Rattle.qrcode_ec.specs.Codes.{Vanishes};
 ghost use Rattle.qrcode_ec.specs.Dividing.{AreMultiples, AreOfGenerator};
 
 use crate::field::{power, product};
+use std::simd::u8x32;
 
 /// The coefficients that a generator or a remainder has room for, the highest power first. Zeros
 /// stand behind the last one.
 pub const ROOM: usize = 72;
+
+// The coefficients that a vector has room for. No block of a symbol has more error correction bytes.
+const LANES: usize = 32;
+
+// Each lane takes the one behind it, and the last one the first of a second vector.
+const NEXT_LANES: [usize; LANES] = [
+    1, 2, 3, 4, 5, 6, 7, 8, 9, 10, 11, 12, 13, 14, 15, 16, 17, 18, 19, 20, 21, 22, 23, 24, 25, 26,
+    27, 28, 29, 30, 31, 32,
+];
 
 // Multiplies the polynomial of a leading one and these coefficients, of which there are fewer than
 // `length`, by x - root.
@@ -108,19 +118,41 @@ fn multiples(first: &[u8; ROOM]) -> [[u8; ROOM]; 16]
     rows
 }
 
-// Moves the remainder on by one byte, and subtracts two multiples of the generator from it. It and
-// they have their coefficients in the first `reach` places, the last of which is none.
-fn advance(register: &mut [u8; ROOM], low: &[u8; ROOM], high: &[u8; ROOM], reach: usize)
-    requires { reach < 72 }
-    ensures below { (j : ℕ) → j < reach → slice_index register.new j
+// Moves a remainder on by one byte, and subtracts two multiples of the generator from it.
+fn advance(register: &mut [u8; ROOM], low: &[u8; ROOM], high: &[u8; ROOM])
+    ensures below { (j : ℕ) → j < 71 → slice_index register.new j
         ≡ bit_xor (slice_index register.old (suc j))
         (bit_xor (slice_index low.now j) (slice_index high.now j)) }
-    ensures behind { (j : ℕ) → reach ≤ j
+    ensures behind { (j : ℕ) → 71 ≤ j
         → slice_index register.new j ≡ slice_index register.old j }
 {
-    for i in 0..reach {
+    for i in 0..ROOM - 1 {
         register[i] = register[i + 1] ^ (low[i] ^ high[i]);
     }
+}
+
+// The same in a vector, which has the first `LANES` coefficients.
+#[inline(always)]
+fn advanced(register: u8x32, low: &[u8; ROOM], high: &[u8; ROOM]) -> u8x32
+    requires { length register ≡ 32 }
+    ensures long { length result ≡ 32 }
+    ensures value { (j : ℕ) → j < 32 → slice_index result j
+        ≡ bit_xor (slice_index register (suc j))
+        (bit_xor (slice_index low.now j) (slice_index high.now j)) }
+{
+    let moved = register.shuffle(u8x32::splat(0), NEXT_LANES);
+    moved ^ (u8x32::from_slice(low) ^ u8x32::from_slice(high))
+}
+
+// The lanes of a vector, with zeros behind them.
+#[inline(always)]
+fn in_room(lanes: u8x32) -> [u8; ROOM]
+    requires { length lanes ≡ 32 }
+    ensures { result ≡ lanes ++ replicate 40 0 }
+{
+    let mut row = [0; ROOM];
+    lanes.copy_to_slice(&mut row);
+    row
 }
 
 /// A generator, by its multiples: those by the bytes below 16, and those by the multiples of 16.
@@ -129,13 +161,9 @@ fn advance(register: &mut [u8; ROOM], low: &[u8; ROOM], high: &[u8; ROOM], reach
 pub struct Divider {
     /// The degree of the generator, and the length of a remainder.
     pub degree: usize,
-    // The degree rounded up, so that whole pairs of vectors of bytes are moved.
-    reach: usize,
     low: [[u8; ROOM]; 16],
     high: [[u8; ROOM]; 16],
     pub ghost at_most: { degree ≤ 69 },
-    pub ghost reached: { degree ≤ reach },
-    pub ghost inside: { reach < 72 },
     pub ghost generator: { AreOfGenerator degree low high },
 }
 
@@ -148,7 +176,6 @@ impl Divider {
         let low = multiples(&generator(degree));
         Divider {
             degree,
-            reach: (degree.div_ceil(32) * 32).min(ROOM - 1),
             low,
             high: multiples(&doubled(&low[8])),
         }
@@ -160,6 +187,32 @@ impl Divider {
         ensures vanishes { Vanishes (bytes.now ++ take self.now.degree result) self.now.degree }
         ensures bytes { AreBytes result }
     {
+        if self.degree <= LANES {
+            self.short_remainder(bytes)
+        } else {
+            self.long_remainder(bytes)
+        }
+    }
+
+    // The same of a degree up to `LANES`, as all symbols have: a vector holds the remainder.
+    fn short_remainder(&self, bytes: &[u8]) -> [u8; ROOM]
+        requires { self.now.degree ≤ 32 }
+        ensures vanishes { Vanishes (bytes.now ++ take self.now.degree result) self.now.degree }
+        ensures bytes { AreBytes result }
+    {
+        let mut register = u8x32::splat(0);
+        for byte in bytes {
+            let factor = usize::from(*byte ^ register.to_array()[0]);
+            register = advanced(register, &self.low[factor % 16], &self.high[factor / 16]);
+        }
+        in_room(register)
+    }
+
+    // The same of any degree.
+    fn long_remainder(&self, bytes: &[u8]) -> [u8; ROOM]
+        ensures vanishes { Vanishes (bytes.now ++ take self.now.degree result) self.now.degree }
+        ensures bytes { AreBytes result }
+    {
         let mut register = [0; ROOM];
         for byte in bytes {
             let factor = usize::from(*byte ^ register[0]);
@@ -167,7 +220,6 @@ impl Divider {
                 &mut register,
                 &self.low[factor % 16],
                 &self.high[factor / 16],
-                self.reach,
             );
         }
         register
