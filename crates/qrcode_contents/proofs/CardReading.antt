@@ -4,72 +4,14 @@ use Rattle.std.specs.List.{list_any}
 use Rattle.std.proofs.lemmas.Bool.Decides.{nat_tests}
 use Rattle.qrcode_fields.specs.declared.errors.Field.TheVariants.{Name, Family, Given, Organisation, Phone, Email, Url, Street, City, Region, PostalCode, Country, Note}
 use Rattle.qrcode_fields.specs.declared.errors.Cause.TheVariants.{ControlCharacter}
-use Rattle.qrcode_fields.specs.declared.escapes.Escapes.TheVariants.{Lines}
 use Rattle.qrcode_contents.specs.Card.{Contact, card_checks, place_checks, text_refusal, place_refusal, card_refusal, card_lines, card_text, contact_in, read_card}
 use Rattle.qrcode_fields.specs.Characters.{is_control, is_stray}
 use Rattle.qrcode_fields.specs.ContentLines.{content_text, structured, read_content, part_in}
 use Rattle.qrcode_fields.specs.Entries.{Entry, is_filled, value_of}
-use Rattle.qrcode_fields.specs.Escapes.{letter_of, with_letter, escaped, unescaped_from, pieces_from}
-use Rattle.qrcode_fields.proofs.ContentReading.{begins_blank, IsContent, AreContent, content_read}
-use Rattle.qrcode_fields.proofs.EntryReading.{neither, parts_read, no_part}
-use Rattle.qrcode_fields.proofs.LinkReading.{HasNo, HasNo-append, none_of, no_return, no_stray_return}
+use Rattle.qrcode_fields.proofs.ContentParts.{IsPlain, IsPlain-structured, part_read, one_plain, line_with}
+use Rattle.qrcode_fields.proofs.ContentReading.{AreContent, content_read}
+use Rattle.qrcode_fields.proofs.LinkReading.{HasNo, none_of, no_return, no_stray_return}
 use Rattle.qrcode_fields.proofs.Passing.{all_pass, test_passes}
-use Rattle.qrcode_fields.proofs.Pieces.{semicolon_escaped}
-
--- what a value of lines may have: no carriage return, and no line feed
-record IsPlain (bytes : List ℕ) : Type 0 where
-  no_return : HasNo 13 bytes
-  no_feed : HasNo 10 bytes
-
-IsPlain-append : (xs ys : List ℕ) → IsPlain xs → IsPlain ys → IsPlain (xs ++ ys)
-IsPlain-append xs ys x y = record {
-  no_return = HasNo-append 13 xs ys x.no_return y.no_return;
-  no_feed = HasNo-append 10 xs ys x.no_feed y.no_feed;
-}
-
-plain_nothing : IsPlain []
-plain_nothing = record { no_return = refl; no_feed = refl }
-
-escaped_feed : (b : ℕ) (feed marked : Bool) → (b == 10) ≡ feed → (b == 92 || b == 59 || b == 44) ≡ marked → (b == 13) ≡ false → IsPlain (with_letter b (letter_of Lines b))
-escaped_feed b true marked feed mark other = rw feed (record { no_return = refl; no_feed = refl })
-escaped_feed b false true feed mark other = rw (feed, mark) (record { no_return = rw other refl; no_feed = rw feed refl })
-escaped_feed b false false feed mark other = rw (feed, mark) (record { no_return = rw other refl; no_feed = rw feed refl })
-
-IsPlain-escaped : (bytes : List ℕ) → HasNo 13 bytes → IsPlain (escaped Lines bytes)
-unfolding escaped
-IsPlain-escaped [] none = plain_nothing
-IsPlain-escaped (b ∷ bytes) none =
-    let parts = neither (b == 13) (list_any (λ x. x == 13) bytes) none in
-    IsPlain-append (with_letter b (letter_of Lines b)) (escaped Lines bytes) (escaped_feed b (b == 10) (b == 92 || b == 59 || b == 44) refl refl parts.0) (IsPlain-escaped bytes parts.1)
-
--- parts with no carriage return
-abbrev HaveNoReturns : List (List ℕ) → Type 0
-HaveNoReturns [] = Unit {0}
-HaveNoReturns (part ∷ parts) = HasNo 13 part × HaveNoReturns parts
-
-IsPlain-later : (parts : List (List ℕ)) → HaveNoReturns parts → IsPlain (flat_map (λ later. 59 ∷ escaped Lines later) parts)
-IsPlain-later [] none = plain_nothing
-IsPlain-later (part ∷ parts) none =
-    IsPlain-append (59 ∷ escaped Lines part) (flat_map (λ later. 59 ∷ escaped Lines later) parts)
-    (IsPlain-append (59 ∷ []) (escaped Lines part) (record { no_return = refl; no_feed = refl }) (IsPlain-escaped part none.0)) (IsPlain-later parts none.1)
-
-structured_by : (part : List ℕ) (parts : List (List ℕ)) (some : Bool) → list_any is_filled (part ∷ parts) ≡ some → HaveNoReturns (part ∷ parts) → IsPlain (structured (part ∷ parts))
-structured_by part parts true is none =
-    rw is (IsPlain-append (escaped Lines part) (flat_map (λ later. 59 ∷ escaped Lines later) parts) (IsPlain-escaped part none.0) (IsPlain-later parts none.1))
-structured_by part parts false is none = rw is plain_nothing
-
-IsPlain-structured : (part : List ℕ) (parts : List (List ℕ)) → HaveNoReturns (part ∷ parts) → IsPlain (structured (part ∷ parts))
-IsPlain-structured part parts none = structured_by part parts (list_any is_filled (part ∷ parts)) refl none
-
-part_by : (i : ℕ) (part : List ℕ) (parts : List (List ℕ)) (some : Bool) → list_any is_filled (part ∷ parts) ≡ some → part_in i (structured (part ∷ parts)) ≡ get_or (part ∷ parts) i []
-unfolding unescaped_from pieces_from
-part_by i part parts true is = rw is (ap (λ xs. get_or xs i []) (parts_read 59 semicolon_escaped Lines part parts))
-part_by zero part parts false is = rw is (sym (no_part (part ∷ parts) zero is))
-part_by (suc i) part parts false is = rw is (sym (no_part (part ∷ parts) (suc i) is))
-
--- a part is read back
-part_read : (i : ℕ) (part : List ℕ) (parts : List (List ℕ)) → part_in i (structured (part ∷ parts)) ≡ get_or (part ∷ parts) i []
-part_read i part parts = part_by i part parts (list_any is_filled (part ∷ parts)) refl
 
 no_feed_of : (b : ℕ) → is_control b ≡ false → (b == 10) ≡ false
 no_feed_of b is = grind (arith, nat_tests)
@@ -113,23 +55,11 @@ card_said c is =
       note = no_stray_return c.note (test_passes (list_any is_stray c.note) Note ControlCharacter t.1.1.1.1.1.1.1.1.1.0);
     }
 
--- a key with a value
-line_with : (key value : List ℕ) → begins_blank (key ++ 58 ∷ value) ≡ false → HasNo 58 key → HasNo 13 key → HasNo 10 key → IsPlain value → IsContent (key, value)
-line_with key value starts no_colon no_return_key no_feed_key is = record {
-  starts = starts;
-  no_colon = no_colon;
-  no_return = HasNo-append 13 key (58 ∷ value) no_return_key is.no_return;
-  no_feed = HasNo-append 10 key (58 ∷ value) no_feed_key is.no_feed;
-}
-
 word_plain : IsPlain (codes "VCARD")
 word_plain = record { no_return = refl; no_feed = refl }
 
 version_plain : IsPlain (codes "3.0")
 version_plain = record { no_return = refl; no_feed = refl }
-
-one_plain : (text : List ℕ) → HasNo 13 text → IsPlain (structured (text ∷ []))
-one_plain text none = IsPlain-structured text [] (none, tt)
 
 card_content : (c : Contact) → AreTexts c → AreContent (card_lines c)
 card_content c are = (

@@ -8,10 +8,9 @@ ghost use Rattle.qrcode_contents.specs.Card.{contact_of, text_refusal, place_ref
 ghost use Rattle.qrcode_fields.specs.Characters.{is_stray};
 ghost use Rattle.qrcode_fields.specs.Refusals.{Answers, checked, refused_if};
 
-use qrcode_fields::characters::has_control;
 use qrcode_fields::content_lines::{push_content, push_value};
 use qrcode_fields::errors::{Cause, ContentResult, Field};
-use qrcode_fields::refusals::{refuse_first, stray};
+use qrcode_fields::refusals::{controls, refuse_first, stray};
 use std::alloc::Global;
 
 /// A contact. What is empty is left out; texts may have line feeds.
@@ -60,7 +59,7 @@ impl Card<'_> {
             stray(Field::Organisation, self.organisation),
             stray(Field::Phone, self.phone),
             stray(Field::Email, self.email),
-            (has_control(self.url), Field::Url, Cause::ControlCharacter),
+            controls(Field::Url, self.url),
             stray(Field::Note, self.note),
         ])
     }

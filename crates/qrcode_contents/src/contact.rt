@@ -8,7 +8,7 @@ ghost use Rattle.qrcode_fields.specs.Refusals.{Answers, checked};
 use qrcode_fields::characters::are_digits;
 use qrcode_fields::entries::push_entry;
 use qrcode_fields::errors::{Cause, ContentResult, Field};
-use qrcode_fields::refusals::{refuse_controls, refuse_first};
+use qrcode_fields::refusals::{controls, refuse_first};
 use std::alloc::Global;
 
 /// A contact. What is empty is left out.
@@ -46,18 +46,18 @@ impl Contact<'_> {
     fn check_controls(&self) -> ContentResult<()>
         ensures { result ≡ checked (person_controls (person_of self.now)) }
     {
-        refuse_controls(&[
-            (Field::Name, self.family),
-            (Field::Given, self.given),
-            (Field::Phone, self.phone),
-            (Field::Email, self.email),
-            (Field::Url, self.url),
-            (Field::Note, self.note),
-            (Field::Street, self.street),
-            (Field::City, self.city),
-            (Field::Region, self.region),
-            (Field::PostalCode, self.code),
-            (Field::Country, self.country),
+        refuse_first(&[
+            controls(Field::Name, self.family),
+            controls(Field::Given, self.given),
+            controls(Field::Phone, self.phone),
+            controls(Field::Email, self.email),
+            controls(Field::Url, self.url),
+            controls(Field::Note, self.note),
+            controls(Field::Street, self.street),
+            controls(Field::City, self.city),
+            controls(Field::Region, self.region),
+            controls(Field::PostalCode, self.code),
+            controls(Field::Country, self.country),
         ])
     }
 

@@ -5,10 +5,9 @@ ghost use Rattle.qrcode_fields.specs.declared.errors.ContentError.TheVariants.{O
 ghost use Rattle.qrcode_contents.specs.Mail.{letter_of, mail_refusal, mail_text, read_mail};
 ghost use Rattle.qrcode_fields.specs.Refusals.{Answers, checked};
 
-use qrcode_fields::characters::{has_control, has_stray};
 use qrcode_fields::errors::{Cause, ContentResult, Field};
 use qrcode_fields::links::{Part, push_part, push_query};
-use qrcode_fields::refusals::refuse_first;
+use qrcode_fields::refusals::{controls, refuse_first, stray};
 use std::alloc::Global;
 
 /// A mail that is not yet written. What is empty is left out.
@@ -37,22 +36,10 @@ impl Mail<'_> {
         ensures { result ≡ checked (mail_refusal (letter_of self.now)) }
     {
         refuse_first(&[
-            (
-                has_control(self.address),
-                Field::Email,
-                Cause::ControlCharacter,
-            ),
+            controls(Field::Email, self.address),
             (!has_one_at(self.address), Field::Email, Cause::Character),
-            (
-                has_control(self.subject),
-                Field::Subject,
-                Cause::ControlCharacter,
-            ),
-            (
-                has_stray(self.body),
-                Field::Message,
-                Cause::ControlCharacter,
-            ),
+            controls(Field::Subject, self.subject),
+            stray(Field::Message, self.body),
         ])
     }
 

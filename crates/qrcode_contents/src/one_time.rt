@@ -7,9 +7,9 @@ ghost use Rattle.qrcode_contents.specs.OneTime.{key_of, is_base32, is_colon, has
 ghost use Rattle.qrcode_fields.specs.Links.{query_text};
 ghost use Rattle.qrcode_fields.specs.Refusals.{Answers, checked};
 
-use qrcode_fields::characters::has_control;
 use qrcode_fields::errors::{Cause, ContentResult, Field};
 use qrcode_fields::links::{Part, push_part, push_query};
+use qrcode_fields::refusals::{controls, refuse_first};
 use std::alloc::Global;
 
 /// What the passwords change with.
@@ -176,14 +176,17 @@ impl OneTime<'_> {
         ensures { result ≡ checked (key_refusal (key_of self.now)) }
     {
         let wrong = has_colon(self.account) || self.account.as_bytes().starts_with(b" ");
-        Field::Issuer.refuse_if(has_control(self.issuer), Cause::ControlCharacter)?;
-        Field::Issuer.refuse_if(has_colon(self.issuer), Cause::Character)?;
-        Field::Account.refuse_if(self.account.is_empty(), Cause::Empty)?;
-        Field::Account.refuse_if(has_control(self.account), Cause::ControlCharacter)?;
-        Field::Account.refuse_if(wrong, Cause::Character)?;
-        Field::Secret.refuse_if(self.secret.is_empty(), Cause::Empty)?;
-        Field::Secret.refuse_if(!is_in_base32(self.secret), Cause::Character)?;
-        Field::Period.refuse_if(self.factor.has_no_period(), Cause::Range)
+        let wrong_secret = !is_in_base32(self.secret);
+        refuse_first(&[
+            controls(Field::Issuer, self.issuer),
+            (has_colon(self.issuer), Field::Issuer, Cause::Character),
+            (self.account.is_empty(), Field::Account, Cause::Empty),
+            controls(Field::Account, self.account),
+            (wrong, Field::Account, Cause::Character),
+            (self.secret.is_empty(), Field::Secret, Cause::Empty),
+            (wrong_secret, Field::Secret, Cause::Character),
+            (self.factor.has_no_period(), Field::Period, Cause::Range),
+        ])
     }
 
     // Appends the label: the issuer, if any, and the account.

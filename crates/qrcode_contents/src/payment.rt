@@ -13,7 +13,7 @@ use qrcode_fields::characters::are_capitals;
 use qrcode_fields::errors::{Cause, ContentError, ContentResult, Field};
 use qrcode_fields::lines::push_lines;
 use qrcode_fields::numbers::has_check_digits;
-use qrcode_fields::refusals::{refuse_controls, refuse_first, too_long};
+use qrcode_fields::refusals::{controls, refuse_first, too_long};
 use qrcode_types::types::{EcLevel, Version};
 use std::alloc::Global;
 
@@ -116,14 +116,14 @@ impl Payment<'_> {
     fn check_controls(&self) -> ContentResult<()>
         ensures { result ≡ checked (control_checks (payment_fields self.now)) }
     {
-        refuse_controls(&[
-            (Field::Bic, self.bic),
-            (Field::Name, self.name),
-            (Field::Iban, self.iban),
-            (Field::Purpose, self.purpose),
-            (Field::Reference, self.reference),
-            (Field::Message, self.message),
-            (Field::Information, self.information),
+        refuse_first(&[
+            controls(Field::Bic, self.bic),
+            controls(Field::Name, self.name),
+            controls(Field::Iban, self.iban),
+            controls(Field::Purpose, self.purpose),
+            controls(Field::Reference, self.reference),
+            controls(Field::Message, self.message),
+            controls(Field::Information, self.information),
         ])
     }
 

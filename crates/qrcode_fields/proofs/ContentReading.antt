@@ -1,5 +1,6 @@
 -- Content lines are read back.
 use Rattle.std.proofs.Common.{◌≡◌, ℕ, zero, suc, nat_lt, ◌+◌, ◌==◌, ◌||◌, not, List, [], ◌∷◌, ◌++◌, Bool, true, false, map, filter, refl, ap, ap₂, ◌∙◌, append_assoc, All, if◌then◌else◌}
+use Rattle.std.specs.Prelude.{slice_index_or}
 use Rattle.std.specs.Str.{bytes_eq, continuation_len}
 use Rattle.std.specs.List.{list_any, slice_split}
 use Rattle.std.proofs.lemmas.List.Elements.{All-nil, All-cons}
@@ -61,6 +62,11 @@ abbrev pub AreContent : List Parameter → Type 0
 AreContent [] = Unit {0}
 AreContent (p ∷ ps) = IsContent p × AreContent ps
 
+-- some of them before others
+pub AreContent-append : (ps qs : List Parameter) → AreContent ps → AreContent qs → AreContent (ps ++ qs)
+AreContent-append [] qs x y = y
+AreContent-append (p ∷ ps) qs x y = (x.0, AreContent-append ps qs x.1 y)
+
 no_break_first : (b : ℕ) → nat_lt 75 (0 + (1 + continuation_len b)) ≡ false
 no_break_first b = by_first b (nat_lt b 128) (nat_lt b 224) (nat_lt b 240) refl refl refl
   where
@@ -118,17 +124,26 @@ first_read key value rest is starts =
     ∙ ap (map read_line) (slice_split_at is_feed line 10 (filter is_kept (unfolded rest)) (all_no_feed line is.no_feed) refl)
     ∙ ap₂ (λ k v. single k v ∷ read_lines (filter is_kept (unfolded rest))) (before-at 58 key value is.no_colon) (after-at 58 key value is.no_colon)
 
-value_by : (key name value : List ℕ) (ps : List Parameter) (some : Bool) → is_filled value ≡ some → IsContent (name, value) → AreContent ps → value_of key (read_content (content_text ps)) ≡ value_of key (filled (entries_of ps)) → value_of key (read_content (content_text ((name, value) ∷ ps))) ≡ value_of key (filled (entries_of ((name, value) ∷ ps)))
-value_by key name value ps true is are later_are later =
-    rw is (ap (value_of key) (first_read name value (content_text ps) are (content_starts ps later_are)) ∙ ap (λ xs. if bytes_eq key name then value else xs) later)
-value_by key name value ps false is are later_are later = rw is later
+-- what stands behind the end of the last line
+abbrev pub behind_last : List Entry
+behind_last = single [] [] ∷ []
 
-filled_read : (key : List ℕ) (ps : List Parameter) → AreContent ps → bytes_eq key [] ≡ false → value_of key (read_content (content_text ps)) ≡ value_of key (filled (entries_of ps))
+lines_by : (key value : List ℕ) (ps : List Parameter) (some : Bool) → is_filled value ≡ some → IsContent (key, value) → AreContent ps → read_content (content_text ps) ≡ filled (entries_of ps) ++ behind_last → read_content (content_text ((key, value) ∷ ps)) ≡ filled (entries_of ((key, value) ∷ ps)) ++ behind_last
+lines_by key value ps true is are later_are later =
+    rw is (first_read key value (content_text ps) are (content_starts ps later_are) ∙ ap (λ xs. single key value ∷ xs) later)
+lines_by key value ps false is are later_are later = rw is later
+
+-- lines are read back, without those that have no value
+pub lines_read : (ps : List Parameter) → AreContent ps → read_content (content_text ps) ≡ filled (entries_of ps) ++ behind_last
 unfolding read_content unfolded
-filled_read key [] are some = rw some refl
-filled_read key ((name, value) ∷ ps) are some =
-    value_by key name value ps (is_filled value) refl are.0 are.1 (filled_read key ps are.1 some)
+lines_read [] are = refl
+lines_read ((key, value) ∷ ps) are = lines_by key value ps (is_filled value) refl are.0 are.1 (lines_read ps are.1)
+
+value_of-last : (key : List ℕ) (es : List Entry) → bytes_eq key [] ≡ false → value_of key (es ++ behind_last) ≡ value_of key es
+value_of-last key [] some = rw some refl
+value_of-last key (e ∷ es) some = ap (λ xs. if bytes_eq key e.0 then slice_index_or e.1 0 [] else xs) (value_of-last key es some)
 
 -- a value is read back
 pub content_read : (key : List ℕ) (ps : List Parameter) → AreContent ps → bytes_eq key [] ≡ false → are_distinct (entries_of ps) ≡ true → value_of key (read_content (content_text ps)) ≡ value_of key (entries_of ps)
-content_read key ps are some distinct = filled_read key ps are some ∙ part_of-filled key 0 (entries_of ps) distinct
+content_read key ps are some distinct =
+    ap (value_of key) (lines_read ps are) ∙ value_of-last key (filled (entries_of ps)) some ∙ part_of-filled key 0 (entries_of ps) distinct

@@ -1,6 +1,7 @@
 pub mod AmountReading
 pub mod Answering
 pub mod Carries
+pub mod ContentParts
 pub mod ContentReading
 pub mod ContentTexts
 pub mod EntryReading

@@ -2,8 +2,6 @@
 use Rattle.std.specs.Prelude.{◌≡◌, ℕ, zero, suc, nat_lt, ◌+◌, ◌==◌, ◌&&◌, ◌||◌, not, List, [], ◌∷◌, ◌++◌, map, flat_map, filter, slice_index_or, codes, if◌then◌else◌, refl}
 use Rattle.std.specs.Str.{continuation_len}
 use Rattle.std.specs.List.{list_any, slice_split}
-use Rattle.qrcode_fields.specs.declared.content_lines.Value.{Value}
-use Rattle.qrcode_fields.specs.declared.content_lines.Value.TheVariants.{Plain, Parts}
 use Rattle.qrcode_fields.specs.declared.escapes.Escapes.TheVariants.{Lines}
 use Rattle.qrcode_fields.specs.Entries.{Entry, single, is_filled, parts_text, value_of}
 use Rattle.qrcode_fields.specs.Escapes.{unescaped, unescaped_from, pieces, pieces_from}
@@ -39,11 +37,6 @@ content_text lines = flat_map content_line lines
 -- the value of parts, escaped, with semicolons between them, and nothing where no part has bytes
 abbrev pub structured : List (List ℕ) → List ℕ
 structured parts = if list_any is_filled parts then parts_text Lines 59 parts else []
-
--- the value of a line: as it is, or of parts
-abbrev pub value_text : Value → List ℕ
-value_text (Plain plain) = plain.now
-value_text (Parts parts) = structured (map (λ part. part.now) parts.now)
 
 -- octets without the breaks inside folded lines, behind which a space or a tab stands
 unfoldable pub unfolded : List ℕ → List ℕ

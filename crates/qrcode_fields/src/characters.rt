@@ -3,11 +3,7 @@
 ghost use Rattle.std.specs.Prelude.{◌≡◌, length};
 ghost use Rattle.std.specs.List.{list_all, list_any};
 ghost use Rattle.std.specs.Str.{chars};
-ghost use Rattle.qrcode_fields.specs.declared.errors.Cause.TheVariants.{ControlCharacter};
 ghost use Rattle.qrcode_fields.specs.Characters.{is_capital, is_control, is_digit, is_stray};
-ghost use Rattle.qrcode_fields.specs.Refusals.{checked, refused_if};
-
-use crate::errors::{Cause, ContentResult, Field};
 
 /// Whether all bytes are digits or letters A to Z.
 pub fn are_capitals(text: &str) -> bool
@@ -48,11 +44,4 @@ pub fn character_count(text: &str) -> usize
     ensures { result ≡ length (chars text.now) }
 {
     text.chars().count()
-}
-
-/// Refuses the field where a byte of it is a control character.
-pub fn refuse_control(field: Field, text: &str) -> ContentResult<()>
-    ensures { result ≡ checked (refused_if (list_any is_control text.now) field ControlCharacter) }
-{
-    field.refuse_if(has_control(text), Cause::ControlCharacter)
 }

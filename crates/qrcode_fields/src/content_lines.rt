@@ -1,10 +1,10 @@
 //! Content lines, as vCard and iCalendar have them: folded, and ended by a carriage return and a
 //! line feed.
 
-ghost use Rattle.std.specs.Prelude.{◌≡◌, ◌+◌, ◌≤◌, ◌++◌, map, string_bytes, encode_utf8, IfOk, OnOk, IsOkUnless};
+ghost use Rattle.std.specs.Prelude.{◌≡◌, ◌+◌, ◌≤◌, [], ◌∷◌, ◌++◌, map, string_bytes, encode_utf8, IfOk, OnOk, IsOkUnless};
 ghost use Rattle.std.specs.Char.{len_utf8};
 ghost use Rattle.qrcode_fields.specs.declared.errors.ContentError.TheVariants.{OutOfMemory};
-ghost use Rattle.qrcode_fields.specs.ContentLines.{fold_break, next_column, folded_from, content_line, content_text, value_text, structured};
+ghost use Rattle.qrcode_fields.specs.ContentLines.{fold_break, next_column, folded_from, content_line, content_text, structured};
 
 use crate::entries::{any_filled, push_parts};
 use crate::errors::ContentResult;
@@ -81,36 +81,15 @@ pub fn push_content(
     push_value(alloc, text, key, value.as_str())
 }
 
-/// The value of a content line.
-#[derive(Copy, Clone, PartialEq, Eq, Debug)]
-pub enum Value<'a> {
-    /// A value as it is.
-    Plain(&'a str),
-    /// Parts, escaped, with semicolons between them.
-    Parts(&'a [&'a str]),
-}
-
-// Appends the line of a key and a value.
-fn push_line(alloc: Global, text: &mut String, key: &str, value: Value) -> ContentResult<()>
-    ensures appends { OnOk result (string_bytes text.new
-        ≡ string_bytes text.old ++ content_line (key.now, value_text value.entry)) }
-    ensures memory { IsOkUnless result OutOfMemory }
-{
-    match value {
-        Value::Plain(plain) => push_value(alloc, text, key, plain),
-        Value::Parts(parts) => push_content(alloc, text, key, parts),
-    }
-}
-
-/// Appends lines, each a key and a value; a line with no value is left out. After `OutOfMemory` a
-/// part of them is appended.
-pub fn push_lines(alloc: Global, text: &mut String, lines: &[(&str, Value)]) -> ContentResult<()>
+/// Appends lines, each a key and a text, escaped and folded; a line with no text is left out. After
+/// `OutOfMemory` a part of them is appended.
+pub fn push_texts(alloc: Global, text: &mut String, lines: &[(&str, &str)]) -> ContentResult<()>
     ensures appends { OnOk result (string_bytes text.new ≡ string_bytes text.old
-        ++ content_text (map (λ line. (line.0.now, value_text line.1)) lines.now)) }
+        ++ content_text (map (λ line. (line.0.now, structured (line.1.now ∷ []))) lines.now)) }
     ensures memory { IsOkUnless result OutOfMemory }
 {
     for (key, value) in lines {
-        push_line(alloc, text, key, *value)?;
+        push_content(alloc, text, key, &[*value])?;
     }
     Ok(())
 }

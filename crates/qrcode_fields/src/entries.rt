@@ -1,6 +1,6 @@
 //! Entries of a text, each a key and the parts of a value.
 
-ghost use Rattle.std.specs.Prelude.{◌≡◌, ◌<◌, ◌++◌, map, flat_map, string_bytes, OnOk, IsOkUnless};
+ghost use Rattle.std.specs.Prelude.{◌≡◌, ◌<◌, ◌++◌, map, string_bytes, OnOk, IsOkUnless};
 ghost use Rattle.std.specs.List.{list_any};
 ghost use Rattle.qrcode_fields.specs.declared.errors.ContentError.TheVariants.{OutOfMemory};
 ghost use Rattle.qrcode_fields.specs.Entries.{is_filled, parts_text, marked_text};
@@ -54,18 +54,5 @@ pub fn push_entry(text: &mut String, key: &str, parts: &[&str]) -> ContentResult
     text.push(':')?;
     push_parts(text, Escapes::Marks, ',', parts)?;
     text.push(';')?;
-    Ok(())
-}
-
-/// Appends entries, each a key and the parts of its value, as `push_entry` does. After
-/// `OutOfMemory` a part of them is appended.
-pub fn push_entries(text: &mut String, entries: &[(&str, &[&str])]) -> ContentResult<()>
-    ensures appends { OnOk result (string_bytes text.new ≡ string_bytes text.old ++ flat_map
-        (λ entry. marked_text (entry.0.now, map (λ part. part.now) entry.1.now)) entries.now) }
-    ensures memory { IsOkUnless result OutOfMemory }
-{
-    for (key, parts) in entries {
-        push_entry(text, key, parts)?;
-    }
     Ok(())
 }

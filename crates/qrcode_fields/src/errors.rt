@@ -2,7 +2,6 @@
 
 ghost use Rattle.std.specs.Prelude.{◌≡◌};
 ghost use Rattle.qrcode_fields.specs.declared.errors.ContentError.TheVariants.{OutOfMemory};
-ghost use Rattle.qrcode_fields.specs.Refusals.{refused_if, checked};
 
 use std::alloc::{AllocError, AllocFailed};
 use std::error::Error;
@@ -75,6 +74,20 @@ pub enum Field {
     Account,
     /// How long one holds.
     Period,
+    /// The identifier of an event.
+    Uid,
+    /// When an event was written.
+    Stamp,
+    /// When an event begins.
+    Begin,
+    /// When an event ends.
+    End,
+    /// What an event is.
+    Summary,
+    /// Where an event is.
+    Location,
+    /// What is told of an event.
+    Description,
     /// The whole text.
     Whole,
 }
@@ -140,17 +153,5 @@ impl<T: Drop> From<AllocFailed<T>> for ContentError {
 
     fn from(_error: AllocFailed<T>) -> ContentError {
         ContentError::OutOfMemory
-    }
-}
-
-impl Field {
-    /// Refuses the field for this cause where `refused`.
-    pub fn refuse_if(self, refused: bool, cause: Cause) -> ContentResult<()>
-        ensures { result ≡ checked (refused_if refused self cause) }
-    {
-        if refused {
-            return Err(ContentError::Refused(self, cause));
-        }
-        Ok(())
     }
 }

@@ -13,6 +13,13 @@ use crate::errors::{Cause, ContentError, ContentResult, Field};
 /// A check: whether a field is refused, which one, and for what cause.
 pub type Check = (bool, Field, Cause);
 
+/// Refuses a field with a control character, as a line break is.
+pub fn controls(field: Field, text: &str) -> Check
+    ensures { result ≡ (list_any is_control text.now, field, ControlCharacter) }
+{
+    (has_control(text), field, Cause::ControlCharacter)
+}
+
 /// Refuses a field with a control character that is neither a tab nor a line feed.
 pub fn stray(field: Field, text: &str) -> Check
     ensures { result ≡ (list_any is_stray text.now, field, ControlCharacter) }
@@ -35,19 +42,6 @@ pub fn refuse_first(checks: &[Check]) -> ContentResult<()>
     for (refused, field, cause) in checks {
         if *refused {
             return Err(ContentError::Refused(*field, *cause));
-        }
-    }
-    Ok(())
-}
-
-/// Refuses the first field with a control character.
-pub fn refuse_controls(fields: &[(Field, &str)]) -> ContentResult<()>
-    ensures { result ≡ checked (first_refusal (map
-        (λ field. refused_if (list_any is_control field.1.now) field.0 ControlCharacter) fields.now)) }
-{
-    for (field, text) in fields {
-        if has_control(text) {
-            return Err(ContentError::Refused(*field, Cause::ControlCharacter));
         }
     }
     Ok(())

@@ -1,0 +1,3 @@
+pub mod EventReading
+pub mod PushedTexts
+pub mod TimeReading

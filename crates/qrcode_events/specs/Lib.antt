@@ -1,0 +1,2 @@
+pub mod Event
+pub mod Times

@@ -1,0 +1,5 @@
+//! Events of a calendar, as iCalendar has them.
+#![tactic(auto)]
+
+pub mod event;
+pub mod times;
