@@ -12,6 +12,9 @@ use qrcode_contents::one_time::{Algorithm, Digits, Factor};
 use qrcode_contents::phone::Phone;
 use qrcode_contents::wifi::{Security, Wifi};
 use qrcode_contents_uses as uses;
+use qrcode_contents_uses::examples;
+use qrcode_events::event::Span;
+use qrcode_events::times::{Day, Moment};
 use std::alloc::Global;
 
 /// A content, by what changes from row to row.
@@ -36,13 +39,17 @@ enum Content {
     Mail(Mail<'static>),
     Place(Place),
     OneTime(Factor, &'static str, Algorithm, Digits),
+    /// From a day of February 2000 until another, where, and what is told of it.
+    Days(u8, u8, &'static str, &'static str),
+    /// From a moment until another.
+    Times(Moment, Moment),
 }
 
 /// A content, and its text or the field and the cause that it is refused by.
 type Row = (Content, Result<&'static str, (Field, Cause)>);
 
 #[rattlefmt::skip]
-static ROWS: [Row; 29] = [
+static ROWS: [Row; 33] = [
     // The Swiss Implementation Guidelines QR-bill, without what is told beside the message.
     (
         Content::Bill(DEBTOR, "210000000003139471430009017"),
@@ -69,7 +76,7 @@ static ROWS: [Row; 29] = [
     (Content::Contact("Sean"), Ok("MECARD:N:Owen,Sean;EMAIL:srowen@example.com;;")),
     (Content::Contact("Sean\n"), Err((Field::Given, ControlCharacter))),
     // The networks of that page.
-    (Content::Network(values::NETWORK), Ok("WIFI:T:WPA;S:mynetwork;P:mypass;;")),
+    (Content::Network(examples::NETWORK), Ok("WIFI:T:WPA;S:mynetwork;P:mypass;;")),
     (
         Content::Network(Wifi { security: Security::Open, ssid: "\"foo;bar\\baz\"", password: "", hidden: true }),
         Ok("WIFI:T:nopass;S:\\\"foo\\;bar\\\\baz\\\";H:true;;"),
@@ -91,7 +98,7 @@ static ROWS: [Row; 29] = [
     (Content::Message("+15105550101", Some("hello there")), Ok("sms:+15105550101?body=hello%20there")),
     (Content::Call("0800-CALL"), Err((Field::Phone, Character))),
     // The examples of RFC 6068, and two addresses.
-    (Content::Mail(values::MAIL), Ok("mailto:infobot@example.com?subject=current-issue")),
+    (Content::Mail(examples::MAIL), Ok("mailto:infobot@example.com?subject=current-issue")),
     (
         Content::Mail(Mail { address: "infobot@example.com", subject: "", body: "send current-issue\nsend index" }),
         Ok("mailto:infobot@example.com?body=send%20current-issue%0D%0Asend%20index"),
@@ -114,7 +121,27 @@ static ROWS: [Row; 29] = [
         Ok("otpauth://hotp/alice@google.com?secret=JBSWY3DPEHPK3PXP&algorithm=SHA256&digits=8&counter=0"),
     ),
     (Content::OneTime(Factor::Time(30), "A:B", Algorithm::Sha1, Digits::Six), Err((Field::Issuer, Character))),
+    // The party of RFC 5545, section 4, by another program; days, folded and escaped by hand; and days that are none.
+    (
+        Content::Times(examples::EVENING, examples::MORNING),
+        Ok("BEGIN:VCALENDAR\r\nVERSION:2.0\r\nPRODID:-//Goqlanis//Contents//EN\r\nBEGIN:VEVENT\r\nUID:19970610T172345Z-AF23B2@example.com\r\nDTSTAMP:19970610T172345Z\r\nDTSTART:19970714T170000Z\r\nDTEND:19970715T040000Z\r\nSUMMARY:Bastille Day Party\r\nEND:VEVENT\r\nEND:VCALENDAR\r\n"),
+    ),
+    (
+        Content::Days(28, 29, "Paris, France", "0123456789012345678901234567890123456789012345678901234567890123;\nb"),
+        Ok("BEGIN:VCALENDAR\r\nVERSION:2.0\r\nPRODID:-//Goqlanis//Contents//EN\r\nBEGIN:VEVENT\r\nUID:19970610T172345Z-AF23B2@example.com\r\nDTSTAMP:19970610T172345Z\r\nDTSTART;VALUE=DATE:20000228\r\nDTEND;VALUE=DATE:20000229\r\nSUMMARY:Bastille Day Party\r\nLOCATION:Paris\\, France\r\nDESCRIPTION:012345678901234567890123456789012345678901234567890123456789012\r\n 3\\;\\nb\r\nEND:VEVENT\r\nEND:VCALENDAR\r\n"),
+    ),
+    (Content::Days(29, 30, "", ""), Err((Field::End, Range))),
+    (Content::Times(examples::MORNING, examples::MORNING), Err((Field::End, Range))),
 ];
+
+// A day of February 2000, which had 29.
+fn february(day: u8) -> Day {
+    Day {
+        year: 2000,
+        month: 2,
+        day,
+    }
+}
 
 // The text of a message to a number, with a body or without.
 fn message_text(alloc: Global, number: &str, body: Option<&str>) -> ContentResult<String> {
@@ -128,7 +155,7 @@ fn message_text(alloc: Global, number: &str, body: Option<&str>) -> ContentResul
 fn text_of(alloc: Global, content: Content) -> ContentResult<String> {
     match content {
         Content::Bill(debtor, reference) => values::bill(debtor, reference).text(alloc),
-        Content::OpenBill => values::open_bill().text(alloc),
+        Content::OpenBill => examples::BILL.text(alloc),
         Content::Card(url) => values::card(url).text(alloc),
         Content::Note(note) => values::note(note).text(alloc),
         Content::Contact(given) => values::contact(given).mecard(alloc),
@@ -141,6 +168,11 @@ fn text_of(alloc: Global, content: Content) -> ContentResult<String> {
         Content::OneTime(factor, issuer, algorithm, digits) => {
             values::one_time(factor, issuer, algorithm, digits).text(alloc)
         }
+        Content::Days(first, end, location, description) => {
+            let span = Span::Days(february(first), february(end));
+            values::event(span, location, description).text(alloc)
+        }
+        Content::Times(begin, end) => values::event(Span::Times(begin, end), "", "").text(alloc),
     }
 }
 
@@ -165,12 +197,21 @@ fn contents_have_texts(rt: HostRuntime) {
 #[test]
 fn contents_have_symbols(rt: HostRuntime) {
     let alloc = rt.alloc();
-    let network = uses::network(alloc, &values::NETWORK).expect(&rt, "a symbol");
-    let mail = uses::mail(alloc, &values::MAIL).expect(&rt, "a symbol");
+    let network = uses::network(alloc, &examples::NETWORK).expect(&rt, "a symbol");
+    let mail = uses::mail(alloc, &examples::MAIL).expect(&rt, "a symbol");
     let payment = values::payment("BE72000000001616", "");
     let payment = uses::payment(alloc, &payment).expect(&rt, "a symbol");
     let bill = values::bill(DEBTOR, "210000000003139471430009017");
     let bill = uses::bill(alloc, &bill).expect(&rt, "a symbol");
     assert!(rt; network.width() == 29 && mail.width() == 33 && payment.width() == 41);
     assert!(rt; bill.width() <= 61);
+}
+
+#[test]
+fn examples_have_symbols(rt: HostRuntime) {
+    let alloc = rt.alloc();
+    assert!(rt; uses::contact(alloc, &examples::CONTACT).is_ok());
+    assert!(rt; uses::call(alloc, &examples::CALLED).is_ok());
+    assert!(rt; uses::message(alloc, &examples::WRITTEN_TO, "hello there").is_ok());
+    assert!(rt; uses::event(alloc, &examples::EVENT).is_ok());
 }

@@ -1,30 +1,12 @@
-//! The printed examples of the formats; some take the fields that tests change.
+//! The printed examples of the formats, with the fields that tests change.
 
 use qrcode_contents::bill::{Bill, Currency, Party};
 use qrcode_contents::card::Card;
 use qrcode_contents::contact::Contact;
-use qrcode_contents::mail::Mail;
 use qrcode_contents::one_time::{Algorithm, Digits, Factor, OneTime};
-use qrcode_contents::payment::{Payment, PaymentVersion};
-use qrcode_contents::wifi::{Security, Wifi};
-
-const NOBODY: Party<'static> = Party {
-    name: "",
-    street: "",
-    number: "",
-    code: "",
-    city: "",
-    country: "",
-};
-
-const CREDITOR: Party<'static> = Party {
-    name: "Robert Schneider AG",
-    street: "Rue du Lac",
-    number: "1268",
-    code: "2501",
-    city: "Biel",
-    country: "CH",
-};
+use qrcode_contents::payment::Payment;
+use qrcode_contents_uses::examples;
+use qrcode_events::event::{Event, Span};
 
 pub const DEBTOR: Party<'static> = Party {
     name: "Pia-Maria Rutschmann-Schnyder",
@@ -45,58 +27,22 @@ pub const NOWHERE: Party<'static> = Party {
     country: "CH",
 };
 
-pub const NETWORK: Wifi<'static> = Wifi {
-    security: Security::Wpa,
-    ssid: "mynetwork",
-    password: "mypass",
-    hidden: false,
-};
-
-pub const MAIL: Mail<'static> = Mail {
-    address: "infobot@example.com",
-    subject: "current-issue",
-    body: "",
-};
-
 pub fn bill(debtor: Party<'static>, reference: &'static str) -> Bill<'static> {
     Bill {
         iban: "CH4431999123000889012",
-        creditor: CREDITOR,
         cents: Some(194_975),
         currency: Currency::Franc,
         debtor,
         reference,
         message: "Order of 15 June 2020",
-    }
-}
-
-pub fn open_bill() -> Bill<'static> {
-    Bill {
-        iban: "CH5800791123000889012",
-        creditor: CREDITOR,
-        cents: None,
-        currency: Currency::Euro,
-        debtor: NOBODY,
-        reference: "RF18539007547034",
-        message: "",
+        ..examples::BILL
     }
 }
 
 pub fn card(url: &'static str) -> Card<'static> {
     Card {
-        name: "Frank Dawson",
-        family: "Dawson",
-        given: "Frank",
-        organisation: "Lotus Development Corporation",
-        phone: "+1-919-676-9515",
-        email: "fdawson@earthlink.net",
         url,
-        street: "6544 Battleford Drive",
-        city: "Raleigh",
-        region: "NC",
-        code: "27613-3502",
-        country: "U.S.A.",
-        note: "",
+        ..examples::CARD
     }
 }
 
@@ -120,32 +66,16 @@ pub fn note(note: &'static str) -> Card<'static> {
 
 pub fn contact(given: &'static str) -> Contact<'static> {
     Contact {
-        family: "Owen",
         given,
-        phone: "",
-        email: "srowen@example.com",
-        url: "",
-        birthday: "",
-        note: "",
-        street: "",
-        city: "",
-        region: "",
-        code: "",
-        country: "",
+        ..examples::CONTACT
     }
 }
 
 pub fn payment(iban: &'static str, reference: &'static str) -> Payment<'static> {
     Payment {
-        version: PaymentVersion::One,
-        bic: "BPOTBEB1",
-        name: "Red Cross of Belgium",
         iban,
-        cents: 100,
-        purpose: "CHAR",
         reference,
-        message: "Urgency fund",
-        information: "Sample EPC QR code",
+        ..examples::PAYMENT
     }
 }
 
@@ -158,9 +88,17 @@ pub fn one_time(
     OneTime {
         factor,
         issuer,
-        account: "alice@google.com",
-        secret: "JBSWY3DPEHPK3PXP",
         algorithm,
         digits,
+        ..examples::ONE_TIME
+    }
+}
+
+pub fn event(span: Span, location: &'static str, description: &'static str) -> Event<'static> {
+    Event {
+        span,
+        location,
+        description,
+        ..examples::EVENT
     }
 }

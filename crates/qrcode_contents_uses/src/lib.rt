@@ -2,30 +2,37 @@
 //! which readers show that text.
 #![tactic(auto)]
 
+pub mod examples;
 pub mod several;
 
-ghost use Rattle.std.specs.Prelude.{◌≤◌, chars, IfOk};
+ghost use Rattle.std.specs.Prelude.{◌≤◌, ◌++◌, chars, codes, IfOk};
 ghost use Rattle.qrcode_types.specs.Versions.{side};
 ghost use Rattle.qrcode_types.specs.declared.types.EcLevel.TheVariants.{M};
 ghost use Rattle.qrcode_contents.specs.Bill.{invoice_of, bill_text};
 ghost use Rattle.qrcode_contents.specs.Card.{contact_of, card_text};
+ghost use Rattle.qrcode_contents.specs.Contact.{person_of, mecard_text};
 ghost use Rattle.qrcode_contents.specs.Geo.{place_text};
 ghost use Rattle.qrcode_contents.specs.Mail.{letter_of, mail_text};
 ghost use Rattle.qrcode_contents.specs.OneTime.{key_of, key_text};
 ghost use Rattle.qrcode_contents.specs.Payment.{payment_fields, payment_text};
+ghost use Rattle.qrcode_contents.specs.Phone.{message_text};
 ghost use Rattle.qrcode_contents.specs.Wifi.{wifi_fields, wifi_text};
+ghost use Rattle.qrcode_events.specs.Event.{happening_of, event_text};
 ghost use Rattle.qrcode.specs.Texts.{IsShownAs};
 
 use qrcode::types::QrError;
 use qrcode::{EcLevel, QrCode};
 use qrcode_contents::bill::Bill;
 use qrcode_contents::card::Card;
+use qrcode_contents::contact::Contact;
 use qrcode_contents::errors::ContentError;
 use qrcode_contents::geo::Place;
 use qrcode_contents::mail::Mail;
 use qrcode_contents::one_time::OneTime;
 use qrcode_contents::payment::Payment;
+use qrcode_contents::phone::Phone;
 use qrcode_contents::wifi::Wifi;
+use qrcode_events::event::Event;
 use std::alloc::Global;
 
 /// Why there is no symbol.
@@ -125,5 +132,41 @@ pub fn one_time(alloc: Global, passwords: &OneTime) -> Result<QrCode, Unmade>
         (chars (key_text (key_of passwords.now))) code.modules) }
 {
     let text = passwords.text(alloc)?;
+    bounded(alloc, text.as_str(), 177)
+}
+
+/// The symbol of a contact, as MECARD.
+pub fn contact(alloc: Global, contact: &Contact) -> Result<QrCode, Unmade>
+    ensures shown { IfOk result (λ code. IsShownAs code.version M
+        (chars (mecard_text (person_of contact.now))) code.modules) }
+{
+    let text = contact.mecard(alloc)?;
+    bounded(alloc, text.as_str(), 177)
+}
+
+/// The symbol that calls a number.
+pub fn call(alloc: Global, phone: &Phone) -> Result<QrCode, Unmade>
+    ensures shown { IfOk result (λ code. IsShownAs code.version M
+        (chars (codes "tel:" ++ phone.now.number.now)) code.modules) }
+{
+    let text = phone.tel(alloc)?;
+    bounded(alloc, text.as_str(), 177)
+}
+
+/// The symbol that writes a message to a number.
+pub fn message(alloc: Global, phone: &Phone, body: &str) -> Result<QrCode, Unmade>
+    ensures shown { IfOk result (λ code. IsShownAs code.version M
+        (chars (message_text phone.now.number.now body.now)) code.modules) }
+{
+    let text = phone.message(alloc, body)?;
+    bounded(alloc, text.as_str(), 177)
+}
+
+/// The symbol of an event.
+pub fn event(alloc: Global, event: &Event) -> Result<QrCode, Unmade>
+    ensures shown { IfOk result (λ code. IsShownAs code.version M
+        (chars (event_text (happening_of event.now))) code.modules) }
+{
+    let text = event.text(alloc)?;
     bounded(alloc, text.as_str(), 177)
 }
