@@ -51,6 +51,12 @@ impl fmt::Display for Unread {
             Unread::Unscanned(Unscanned::NoSide) => {
                 f.write_str("it has no pixels, or more than 65,535 along a side")
             }
+            Unread::Unscanned(Unscanned::NoGrey) => {
+                f.write_str("its greatest grey is not one of 1 to 255; convert it to PBM")
+            }
+            Unread::Unscanned(Unscanned::NotPixel) => {
+                f.write_str("something that is no pixel stands before its last pixel")
+            }
             Unread::Unscanned(Unscanned::TooShort) => f.write_str("it ends before its last pixel"),
             Unread::NoSquare => f.write_str(
                 "its pixels are no square of modules of one size in a margin that is as wide at each side",

@@ -1,3 +1,4 @@
+mod Digits
 mod Framed
 mod Pieces
 mod Shown

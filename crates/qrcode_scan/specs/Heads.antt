@@ -1,5 +1,5 @@
 -- Heads of picture files: numbers behind white space and comments.
-use Rattle.std.specs.Prelude.{ℕ, ◌+◌, ◌-◌, ◌*◌, ◌==◌, nat_le, Bool, true, false, not, ◌||◌, ◌&&◌, List, [], ◌∷◌, drop, if◌then◌else◌}
+use Rattle.std.specs.Prelude.{ℕ, ◌+◌, ◌-◌, ◌*◌, ◌==◌, ◌≤◌, nat_le, Bool, true, false, not, ◌||◌, ◌&&◌, List, [], ◌∷◌, drop, if◌then◌else◌}
 
 -- white space
 abbrev pub is_white : ℕ → Bool
@@ -26,3 +26,22 @@ sides_of file =
     let across = digits_from 0 (after_space false (drop 2 file)) in
     let down = digits_from 0 (after_space false across.1) in
     (across.0, down.0, down.1)
+
+-- both sides that a head names have from 1 to 65,535 pixels
+abbrev pub HasSides : List ℕ → Type 0
+HasSides file =
+    let s = sides_of file in
+    ((1 ≤ s.0) × (s.0 ≤ 65535)) × ((1 ≤ s.1) × (s.1 ≤ 65535))
+
+-- the greatest grey that the head of a PGM file names behind the sides, and what follows it
+abbrev pub greatest_of : List ℕ → ℕ × List ℕ
+greatest_of file = digits_from 0 (after_space false (sides_of file).2)
+
+-- the greatest grey is one of bytes
+abbrev pub HasGrey : List ℕ → Type 0
+HasGrey file = (1 ≤ (greatest_of file).0) × ((greatest_of file).0 ≤ 255)
+
+-- whether white space ends a head, or the file does
+abbrev pub is_ended : List ℕ → Bool
+is_ended [] = true
+is_ended (c ∷ rest) = is_white c

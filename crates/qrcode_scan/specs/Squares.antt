@@ -1,6 +1,6 @@
 -- Squares of modules in pictures.
-use Rattle.std.specs.Prelude.{◌≡◌, ℕ, ◌+◌, ◌*◌, ◌/◌, ◌%◌, ◌≤◌, ◌<◌, Bool, true, false, List, length, map, not, slice_index_or}
-use Rattle.std.specs.List.{range_with_len}
+use Rattle.std.specs.Prelude.{◌≡◌, ℕ, ◌+◌, ◌*◌, ◌/◌, ◌%◌, ◌≤◌, ◌<◌, Bool, true, false, List, length, map, not, take, slice_index_or}
+use Rattle.std.specs.List.{range_with_len, list_all}
 use Rattle.qrcode_types.specs.Colors.{is_dark, color_of}
 use Rattle.qrcode_types.specs.declared.types.Color.{Color}
 use Rattle.qrcode_types.specs.declared.types.Color.TheVariants.{Light}
@@ -11,6 +11,10 @@ use Rattle.qrcode_render.specs.Picture.{picture}
 -- the pixels with dark and light exchanged
 abbrev pub inverted : Bitmap → Bitmap
 inverted b = record b { marks = map not b.marks }
+
+-- whether each pixel of the first row is dark, as of a margin where dark and light are exchanged
+abbrev pub has_dark_edge : Bitmap → Bool
+has_dark_edge b = list_all (λ mark. mark) (take b.across b.marks)
 
 -- whether the pixel in a column and row is dark
 abbrev pub mark_at : Bitmap → ℕ → ℕ → Bool

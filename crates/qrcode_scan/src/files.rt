@@ -1,8 +1,9 @@
 //! PBM and PGM files, as netpbm's pages pbm(5) and pgm(5) have them.
 
-ghost use Rattle.std.specs.Prelude.{◌≡◌, ◌==◌, ◌||◌, ◌*◌, ◌<◌, ◌≤◌, nat_lt, map, drop, length, IfOk};
-ghost use Rattle.qrcode_scan.specs.Files.{is_black_bit, packed_marks, plain_marks, bits_file, figures_file, greys_file, IsSeenIn};
-ghost use Rattle.qrcode_scan.specs.Heads.{sides_of};
+ghost use Rattle.std.specs.Prelude.{◌≡◌, ◌==◌, ◌||◌, ◌*◌, ◌<◌, ◌≤◌, nat_lt, true, false, map, drop, length, IfOk, IfErr, IfSome, IfNone};
+ghost use Rattle.std.specs.List.{prefix_len};
+ghost use Rattle.qrcode_scan.specs.Files.{is_black_bit, is_plain, packed_marks, plain_marks, bits_file, figures_file, greys_file, IsBitsFile, IsBitsRefusal, IsFiguresFile, IsFiguresRefusal, IsGreysFile, IsGreysRefusal, IsSeenIn, IsUnscanned};
+ghost use Rattle.qrcode_scan.specs.Heads.{after_space, digits_from, is_ended, sides_of, HasSides};
 
 use crate::halves::half_block_pixels;
 use crate::heads::{is_white, number};
@@ -14,9 +15,12 @@ use std::alloc::{AllocError, Global};
 /// follows the last pixel is not looked at.
 ///
 /// `NotPicture`: it is none of these. `NoSide`: it has no pixel, or more than 65,535 along a side.
-/// `TooShort`: it ends before its last pixel. `OutOfMemory`: memory was refused.
+/// `NoGrey`: the greatest grey is not one of 1 to 255. `NotPixel`: before its last pixel stands
+/// something that is neither a pixel nor white space. `TooShort`: it ends before its last pixel.
+/// `OutOfMemory`: memory was refused.
 pub fn pixels_of(alloc: Global, bytes: &[u8]) -> Result<Pixels, Unscanned>
     ensures value { IfOk result (IsSeenIn bytes.now) }
+    ensures causes { IfErr result (IsUnscanned bytes.now) }
 {
     match bytes {
         [b'P', b'1', ..] => figures(alloc, bytes),
@@ -26,28 +30,33 @@ pub fn pixels_of(alloc: Global, bytes: &[u8]) -> Result<Pixels, Unscanned>
     }
 }
 
-// The sides that a head names, and what follows them.
-fn sides(file: &[u8]) -> Result<(usize, usize, &[u8]), Unscanned>
+// The sides that a head names, and what follows them. `None`: there is no pixel along one, or more
+// than 65,535.
+fn sides(file: &[u8]) -> Option<(usize, usize, &[u8])>
     requires { 2 ≤ length file.now }
-    ensures value { IfOk result (λ head. (head.0, head.1, head.2.now) ≡ sides_of file.now) }
-    ensures at_most { IfOk result (λ head. (head.0 ≤ 65535) × (head.1 ≤ 65535)) }
-    ensures at_least { IfOk result (λ head. (1 ≤ head.0) × (1 ≤ head.1)) }
+    ensures value { IfSome result (λ head. (head.0, head.1, head.2.now) ≡ sides_of file.now) }
+    ensures at_most { IfSome result (λ head. (head.0 ≤ 65535) × (head.1 ≤ 65535)) }
+    ensures at_least { IfSome result (λ head. (1 ≤ head.0) × (1 ≤ head.1)) }
+    ensures none { IfNone result (¬ HasSides file.now) }
 {
-    let (across, rest) = number(&file[2..]).ok_or(Unscanned::NoSide)?;
-    let (down, rest) = number(rest).ok_or(Unscanned::NoSide)?;
+    let (across, rest) = number(&file[2..])?;
+    let (down, rest) = number(rest)?;
     if across == 0 || down == 0 {
-        return Err(Unscanned::NoSide);
+        return None;
     }
-    Ok((across, down, rest))
+    Some((across, down, rest))
 }
 
-// What follows the byte of white space at the end of a head.
-fn raster(rest: &[u8]) -> Result<&[u8], Unscanned>
-    ensures { IfOk result (λ bytes. bytes.now ≡ drop 1 rest.now) }
+// What follows the byte of white space at the end of a head. `None`: another byte stands there.
+fn raster(rest: &[u8]) -> Option<&[u8]>
+    ensures value { IfSome result (λ bytes. bytes.now ≡ drop 1 rest.now) }
+    ensures ended { IfSome result (λ _. is_ended rest.now ≡ true) }
+    ensures none { IfNone result (is_ended rest.now ≡ false) }
 {
     match rest {
-        [first, bytes @ ..] if is_white(*first) => Ok(bytes),
-        _ => Err(Unscanned::NotPicture),
+        [first, bytes @ ..] if is_white(*first) => Some(bytes),
+        [] => Some(rest),
+        _ => None,
     }
 }
 
@@ -55,10 +64,15 @@ fn raster(rest: &[u8]) -> Result<&[u8], Unscanned>
 #[tactic(auto, using(crate::proofs::Shown::bits_length))]
 fn bits(alloc: Global, file: &[u8]) -> Result<Pixels, Unscanned>
     requires { 2 ≤ length file.now }
-    ensures { IfOk result (λ pixels. pixels ≡ bits_file file.now) }
+    ensures value { IfOk result (λ pixels. IsBitsFile file.now × (pixels ≡ bits_file file.now)) }
+    ensures causes { IfErr result (IsBitsRefusal file.now) }
 {
-    let (across, down, rest) = sides(file)?;
-    let bytes = raster(rest)?;
+    let Some((across, down, rest)) = sides(file) else {
+        return Err(Unscanned::NoSide);
+    };
+    let Some(bytes) = raster(rest) else {
+        return Err(Unscanned::NotPixel);
+    };
     if bytes.len() < (across + 7) / 8 * down {
         return Err(Unscanned::TooShort);
     }
@@ -100,20 +114,44 @@ fn is_black_bit(bytes: &[u8], stride: usize, x: usize, y: usize) -> bool
 // The pixels of a PBM file of figures.
 fn figures(alloc: Global, file: &[u8]) -> Result<Pixels, Unscanned>
     requires { 2 ≤ length file.now }
-    ensures { IfOk result (λ pixels. pixels ≡ figures_file file.now) }
+    ensures value { IfOk result (λ pixels.
+        IsFiguresFile file.now × (pixels ≡ figures_file file.now)) }
+    ensures causes { IfErr result (IsFiguresRefusal file.now) }
 {
-    let (across, down, rest) = sides(file)?;
-    if rest
-        .iter()
-        .any(|byte| !is_figure(*byte) && !is_white(*byte))
-    {
-        return Err(Unscanned::NotPicture);
+    let Some((across, down, rest)) = sides(file) else {
+        return Err(Unscanned::NoSide);
+    };
+    let length = plain_length(rest);
+    let mut marks = plain_marks(alloc, &rest[..length])?;
+    if marks.len() < across * down {
+        return Err(if length < rest.len() {
+            Unscanned::NotPixel
+        } else {
+            Unscanned::TooShort
+        });
     }
-    let marks = plain_marks(alloc, rest)?;
-    if marks.len() != across * down {
-        return Err(Unscanned::TooShort);
-    }
+    marks.truncate(across * down);
     Ok(Pixels::new(across, down, marks))
+}
+
+// How many bytes stand before anything but figures and white space.
+fn plain_length(bytes: &[u8]) -> usize
+    ensures value { result ≡ prefix_len is_plain bytes.now }
+    ensures at_most { result ≤ length bytes.now }
+{
+    for i in 0..bytes.len() {
+        if !is_plain(bytes[i]) {
+            return i;
+        }
+    }
+    bytes.len()
+}
+
+// Whether a byte is a figure or white space.
+fn is_plain(byte: u8) -> bool
+    ensures { result ≡ is_plain byte }
+{
+    is_figure(byte) || is_white(byte)
 }
 
 // Whether a byte is a figure.
@@ -140,19 +178,38 @@ fn plain_marks(alloc: Global, bytes: &[u8]) -> Result<Vec<bool>, AllocError>
 // The pixels of a PGM file of bytes.
 fn greys(alloc: Global, file: &[u8]) -> Result<Pixels, Unscanned>
     requires { 2 ≤ length file.now }
-    ensures { IfOk result (λ pixels. pixels ≡ greys_file file.now) }
+    ensures value { IfOk result (λ pixels. IsGreysFile file.now × (pixels ≡ greys_file file.now)) }
+    ensures causes { IfErr result (IsGreysRefusal file.now) }
 {
-    let (across, down, rest) = sides(file)?;
-    let (greatest, rest) = number(rest).ok_or(Unscanned::NotPicture)?;
-    if greatest > 255 {
-        return Err(Unscanned::NotPicture);
-    }
-    let bytes = raster(rest)?;
+    let Some((across, down, rest)) = sides(file) else {
+        return Err(Unscanned::NoSide);
+    };
+    let Some((greatest, rest)) = greatest_grey(rest) else {
+        return Err(Unscanned::NoGrey);
+    };
+    let Some(bytes) = raster(rest) else {
+        return Err(Unscanned::NotPixel);
+    };
     if bytes.len() < across * down {
         return Err(Unscanned::TooShort);
     }
     let marks = grey_marks(alloc, greatest, &bytes[..across * down])?;
     Ok(Pixels::new(across, down, marks))
+}
+
+// The greatest grey behind the sides of a head, and what follows it. `None`: it is not one of 1 to 255.
+fn greatest_grey(rest: &[u8]) -> Option<(usize, &[u8])>
+    ensures value { IfSome result (λ found.
+        (found.0, found.1.now) ≡ digits_from 0 (after_space false rest.now)) }
+    ensures inside { IfSome result (λ found. (1 ≤ found.0) × (found.0 ≤ 255)) }
+    ensures none { IfNone result (let greatest = (digits_from 0 (after_space false rest.now)).0 in
+        ¬ ((1 ≤ greatest) × (greatest ≤ 255))) }
+{
+    let (greatest, rest) = number(rest)?;
+    if greatest == 0 || greatest > 255 {
+        return None;
+    }
+    Some((greatest, rest))
 }
 
 // The marks of greys, of which those below half of the greatest are dark.

@@ -1,6 +1,6 @@
 //! Heads of files: numbers behind white space and comments.
 
-ghost use Rattle.std.specs.Prelude.{◌≡◌, ◌≤◌, false, IfSome};
+ghost use Rattle.std.specs.Prelude.{◌≡◌, ◌≤◌, ◌<◌, false, IfSome, IfNone};
 ghost use Rattle.qrcode_scan.specs.Heads.{is_white, after_space, digits_from};
 
 use crate::pixels::GREATEST_SIDE;
@@ -35,11 +35,12 @@ fn after_space(bytes: &[u8]) -> &[u8]
 /// The number behind white space and comments, 0 where there is none, and what follows it.
 ///
 /// `None`: it is above 65,535.
-#[tactic(auto, unfolding(crate::specs::Heads::digits_from))]
+#[tactic(auto, using(crate::proofs::Digits::grows), unfolding(crate::specs::Heads::digits_from))]
 pub(crate) fn number(bytes: &[u8]) -> Option<(usize, &[u8])>
     ensures value { IfSome result (λ found.
         (found.0, found.1.now) ≡ digits_from 0 (after_space false bytes.now)) }
     ensures at_most { IfSome result (λ found. found.0 ≤ 65535) }
+    ensures none { IfNone result (65535 < (digits_from 0 (after_space false bytes.now)).0) }
 {
     let mut rest = after_space(bytes);
     let mut number = 0;

@@ -2,7 +2,8 @@
 
 ghost use Rattle.std.specs.Prelude.{◌≡◌, ◌+◌, ◌*◌, ◌^◌, ◌<◌, ◌≤◌, length, map, not, IfOk};
 ghost use Rattle.qrcode_render.specs.Bitmap.{Bitmap};
-ghost use Rattle.qrcode_scan.specs.Squares.{inverted};
+ghost use Rattle.qrcode_scan.specs.Squares.{has_dark_edge, inverted};
+ghost use Rattle.qrcode_scan.specs.declared.pixels.Unscanned.TheVariants.{OutOfMemory};
 
 use std::alloc::{AllocError, AllocFailed, Global};
 use std::marker::Model;
@@ -17,6 +18,10 @@ pub enum Unscanned {
     NotPicture,
     /// The picture has no pixel, or more than 65,535 along a side.
     NoSide,
+    /// The greatest grey of a PGM file is not one of 1 to 255.
+    NoGrey,
+    /// Something that is neither a pixel nor white space stands before the last pixel.
+    NotPixel,
     /// The file ends before its last pixel.
     TooShort,
     /// Memory was refused.
@@ -24,12 +29,16 @@ pub enum Unscanned {
 }
 
 impl From<AllocError> for Unscanned {
+    ghost from_gives = { λ _ e. e ≡ OutOfMemory };
+
     fn from(_error: AllocError) -> Unscanned {
         Unscanned::OutOfMemory
     }
 }
 
 impl<T: Drop> From<AllocFailed<T>> for Unscanned {
+    ghost from_gives = { λ _ e. e ≡ OutOfMemory };
+
     fn from(_error: AllocFailed<T>) -> Unscanned {
         Unscanned::OutOfMemory
     }
@@ -88,7 +97,9 @@ impl Pixels {
     }
 
     /// Whether the first row is dark, as where dark and light are exchanged.
-    pub fn has_dark_edge(&self) -> bool {
+    pub fn has_dark_edge(&self) -> bool
+        ensures { result ≡ has_dark_edge self.now }
+    {
         self.marks.iter().take(self.across).all(|mark| *mark)
     }
 
