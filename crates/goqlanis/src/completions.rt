@@ -1,6 +1,8 @@
 //! The completions of shells.
 
-use crate::options::{ENTRIES, Entry, NAME, Takes};
+use crate::command::goes_with;
+use crate::options::{ENTRIES, NAME, READING_ENTRIES};
+use goqlanis_contents::{Entry, SUBCOMMANDS, Subcommand, Takes};
 use std::alloc::{AllocError, Global};
 
 /// The completions of `bash`, `zsh` or `fish`.
@@ -15,30 +17,71 @@ pub fn completions(alloc: Global, shell: &str) -> Result<String, AllocError> {
 }
 
 static BASH_START: &str = "_goqlanis() {
-  local word=${COMP_WORDS[COMP_CWORD]}
+  local word=${COMP_WORDS[COMP_CWORD]} names
   case ${COMP_WORDS[COMP_CWORD-1]} in
 ";
 
-static BASH_END: &str = "' -- \"$word\"))
+static BASH_END: &str = "' ;;
+  esac
+  COMPREPLY=($(compgen -W \"--help $names\" -- \"$word\"))
 }
 complete -o default -F _goqlanis goqlanis
 ";
 
 fn push_bash(text: &mut String) -> Result<(), AllocError> {
     text.push_str(BASH_START)?;
-    for entry in &ENTRIES {
-        push_bash_case(text, entry)?;
+    push_bash_cases(text, &ENTRIES)?;
+    for subcommand in &SUBCOMMANDS {
+        push_bash_cases(text, subcommand.options)?;
     }
-    text.push_str("  esac\n  COMPREPLY=($(compgen -W '--help")?;
-    push_bash_names(text)?;
+    text.push_str("  esac\n  case ${COMP_WORDS[1]} in\n    read) names='")?;
+    push_names(text, &READING_ENTRIES)?;
+    text.push_str("' ;;\n")?;
+    for subcommand in &SUBCOMMANDS {
+        push_bash_subcommand(text, subcommand)?;
+    }
+    text.push_str("    *) names='read")?;
+    push_subcommand_words(text)?;
+    push_names(text, &ENTRIES)?;
     text.push_str(BASH_END)
 }
 
-// The names of all options.
-fn push_bash_names(text: &mut String) -> Result<(), AllocError> {
+// What bash completes behind options.
+fn push_bash_cases(text: &mut String, entries: &[Entry]) -> Result<(), AllocError> {
+    for entry in entries {
+        push_bash_case(text, entry)?;
+    }
+    Ok(())
+}
+
+// The names that bash completes behind the word of a subcommand.
+fn push_bash_subcommand(text: &mut String, subcommand: &Subcommand) -> Result<(), AllocError> {
+    let word = subcommand.word;
+    write!(text, "    {word}) names='")?;
+    push_names(text, subcommand.options)?;
     for entry in &ENTRIES {
+        if goes_with(subcommand, entry.long) {
+            let long = entry.long;
+            write!(text, " --{long}")?;
+        }
+    }
+    text.push_str("' ;;\n")
+}
+
+// The names of options.
+fn push_names(text: &mut String, entries: &[Entry]) -> Result<(), AllocError> {
+    for entry in entries {
         let long = entry.long;
         write!(text, " --{long}")?;
+    }
+    Ok(())
+}
+
+// The words of subcommands.
+fn push_subcommand_words(text: &mut String) -> Result<(), AllocError> {
+    for subcommand in &SUBCOMMANDS {
+        let word = subcommand.word;
+        write!(text, " {word}")?;
     }
     Ok(())
 }
@@ -73,8 +116,9 @@ fn push_zsh(text: &mut String) -> Result<(), AllocError> {
     for entry in &ENTRIES {
         push_zsh_option(text, entry)?;
     }
-    text.push_str("  '--help[Print help]' \\\n  '1:text:'\n")?;
-    Ok(())
+    text.push_str("  '--help[Print help]' \\\n  '1:text or word:(read")?;
+    push_subcommand_words(text)?;
+    text.push_str(")'\n")
 }
 
 // An option as zsh reads it.
@@ -100,17 +144,36 @@ fn push_zsh_option(text: &mut String, entry: &Entry) -> Result<(), AllocError> {
 }
 
 fn push_fish(text: &mut String) -> Result<(), AllocError> {
-    write!(text, "complete -c {NAME} -f\n")?;
+    write!(
+        text,
+        "complete -c {NAME} -f\ncomplete -c {NAME} -n __fish_use_subcommand -a 'read"
+    )?;
+    push_subcommand_words(text)?;
+    text.push_str("'\n")?;
     for entry in &ENTRIES {
-        push_fish_option(text, entry)?;
+        push_fish_option(text, entry, "")?;
+    }
+    for subcommand in &SUBCOMMANDS {
+        push_fish_subcommand(text, subcommand)?;
     }
     Ok(())
 }
 
-// An option as fish reads it.
-fn push_fish_option(text: &mut String, entry: &Entry) -> Result<(), AllocError> {
+// The options of a subcommand as fish reads them.
+fn push_fish_subcommand(text: &mut String, subcommand: &Subcommand) -> Result<(), AllocError> {
+    for entry in subcommand.options {
+        push_fish_option(text, entry, subcommand.word)?;
+    }
+    Ok(())
+}
+
+// An option as fish reads it, behind the word of a subcommand where one is given.
+fn push_fish_option(text: &mut String, entry: &Entry, word: &str) -> Result<(), AllocError> {
     let (long, help) = (entry.long, entry.help);
     write!(text, "complete -c {NAME} -l {long}")?;
+    if !word.is_empty() {
+        write!(text, " -n '__fish_seen_subcommand_from {word}'")?;
+    }
     if let Some(letter) = entry.short {
         write!(text, " -s {letter}")?;
     }

@@ -4,6 +4,7 @@
 mod asked;
 mod command;
 mod completions;
+mod contents;
 mod failure;
 mod files;
 mod manual;

@@ -2,8 +2,9 @@
 
 use crate::completions::push_words;
 use crate::options::{
-    ABOUT, ENTRIES, EXAMPLES, Entry, NAME, PICTURE_HELP, READING_ABOUT, READING_ENTRIES, Takes,
+    ABOUT, ENTRIES, EXAMPLES, NAME, PICTURE_HELP, READING_ABOUT, READING_ENTRIES,
 };
+use goqlanis_contents::{Entry, SUBCOMMANDS, Takes};
 use std::alloc::{AllocError, Global};
 
 /// The manual page, in the language of `man`.
@@ -19,6 +20,12 @@ pub fn manual(alloc: Global) -> Result<String, AllocError> {
         ".SH READING\n{READING_ABOUT}.\nPICTURE: {PICTURE_HELP}.\n"
     )?;
     push_options(&mut text, &READING_ENTRIES)?;
+    text.push_str(CONTENTS)?;
+    for subcommand in &SUBCOMMANDS {
+        let (title, about) = (subcommand.title, subcommand.about);
+        write!(text, ".SS {title}\n{about}.\n")?;
+        push_options(&mut text, subcommand.options)?;
+    }
     text.push_str(EXIT_STATUS)?;
     push_plain(&mut text, EXAMPLES.trim_start_matches("Examples:\n"))?;
     text.push_str(".fi\n")?;
@@ -27,10 +34,17 @@ pub fn manual(alloc: Global) -> Result<String, AllocError> {
 
 static DESCRIPTION: &str = ".B goqlanis read
 [OPTIONS] [PICTURE]
+.br
+.B goqlanis wifi
+[OPTIONS], and so on under CONTENTS
 .SH DESCRIPTION
 Draws the symbol of TEXT, or of a file, or of standard input, in the terminal or to a file.
 Input is taken byte by byte as it is.
 .SH OPTIONS
+";
+
+static CONTENTS: &str = ".SH CONTENTS
+Behind one of these words the options give the fields of a text, and those of drawing say what is drawn of it.
 ";
 
 static EXIT_STATUS: &str = ".SH EXIT STATUS

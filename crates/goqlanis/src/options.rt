@@ -1,32 +1,6 @@
 //! The options, in one table: the command line, its help, the completions and the manual are made of it.
 
-/// What an option takes.
-#[derive(Clone, Copy)]
-pub enum Takes {
-    /// Nothing.
-    Nothing,
-    /// A text, by the name that stands for it.
-    Text(&'static str),
-    /// Such a text, more than once.
-    Texts(&'static str),
-    /// The path of a file.
-    Path,
-    /// One of some words.
-    Word(&'static [&'static str]),
-    /// A whole number from one to another.
-    Number(u64, u64),
-}
-
-/// An option.
-#[derive(Clone, Copy)]
-pub struct Entry {
-    /// Its name behind two hyphens.
-    pub long: &'static str,
-    /// Its letter behind one.
-    pub short: Option<char>,
-    pub takes: Takes,
-    pub help: &'static str,
-}
+use goqlanis_contents::{Entry, Takes};
 
 /// The name of the program.
 pub const NAME: &str = "goqlanis";
@@ -224,4 +198,7 @@ pub const EXAMPLES: &str = "Examples:
       draws seat-0001.svg, seat-0002.svg and so on
   goqlanis read ticket.pbm
       reads a picture back; goqlanis read --help says more
+  goqlanis wifi --ssid Guests --password \"a;b\"
+      draws the symbol that joins a network; so do mecard, vcard, payment, bill, mail,
+      place, tel, sms and otp for what they name, and goqlanis wifi --help says more
 ";

@@ -5,9 +5,10 @@ use crate::failure::Failure;
 use crate::options::READING_NAME;
 use crate::progress::Progress;
 use crate::segments::{Pieces, characters_of};
-use crate::{command, completions, files, manual, reading};
+use crate::{command, completions, contents, files, manual, reading};
 use clap::error::ErrorKind;
 use clap::{ArgMatches, Error};
+use goqlanis_contents::{SUBCOMMANDS, Subcommand};
 use goqlanis_draw::{
     Request, draw, draw_segments, manner_of, refusal_text, segments_refusal_text, unwritable,
 };
@@ -19,23 +20,54 @@ use std::io::{IsTerminal, Read, Write};
 use std::process::ExitCode;
 use std::{env, fs, io};
 
+// What the first word asks for.
+#[derive(Clone, Copy)]
+enum Mode {
+    Draw,
+    Read,
+    Content(&'static Subcommand),
+}
+
 /// Does what the command line asks for, and returns the exit status.
 pub fn run(rt: &HostRuntime) -> Result<ExitCode, Failure> {
     let alloc = rt.alloc();
     let mut words = command_words(rt)?;
-    let reads = words.len() > 1 && words[1].as_str() == "read";
-    let (command, words) = if reads {
-        words[1] = String::from_str(alloc, READING_NAME)?;
-        (command::reading(alloc)?, &words[1..])
-    } else {
-        (command::drawing(alloc)?, &words[..])
+    let mode = mode_of(&words);
+    let (command, title) = match mode {
+        Mode::Draw => (command::drawing(alloc)?, None),
+        Mode::Read => (command::reading(alloc)?, Some(READING_NAME)),
+        Mode::Content(asked) => (command::content(alloc, asked)?, Some(asked.title)),
+    };
+    let words = match title {
+        Some(title) if words.len() > 1 => {
+            words[1] = String::from_str(alloc, title)?;
+            &words[1..]
+        }
+        _ => &words[..],
     };
     match command.try_get_matches_from(words) {
-        Ok(matches) if reads => reading::read(rt, &matches),
-        Ok(matches) => obey(rt, &matches),
+        Ok(matches) => match mode {
+            Mode::Draw => obey(rt, &matches),
+            Mode::Read => reading::read(rt, &matches),
+            Mode::Content(asked) => contents::draw_content(rt, asked, &matches),
+        },
         Err(error) if error.kind() == ErrorKind::OutOfMemory => Err(Failure::OutOfMemory),
         Err(error) => Ok(told(rt, &error)),
     }
+}
+
+// What the first word behind the program's name asks for.
+fn mode_of(words: &[String]) -> Mode {
+    let word = words.get(1).map_or("", |word| word.as_str());
+    if word == "read" {
+        return Mode::Read;
+    }
+    for subcommand in &SUBCOMMANDS {
+        if subcommand.word == word {
+            return Mode::Content(subcommand);
+        }
+    }
+    Mode::Draw
 }
 
 // The words of the command line, the program's name first.
@@ -73,8 +105,7 @@ fn obey(rt: &HostRuntime, matches: &ArgMatches<'_>) -> Result<ExitCode, Failure>
     if matches.get_flag("release") {
         return print(rt, b"goqlanis 1\n");
     }
-    let has_colours = rt.stdout().is_terminal() && env::var(rt, "NO_COLOR").is_err();
-    let asked = read_command_line(alloc, matches, has_colours)?;
+    let asked = read_command_line(alloc, matches, has_colours(rt))?;
     if let Some(words) = matches.get_strs("segment") {
         let drawing = segments_drawing(alloc, &asked.request, words)?;
         write(rt, &asked, &drawing, None)?;
@@ -87,6 +118,11 @@ fn obey(rt: &HostRuntime, matches: &ArgMatches<'_>) -> Result<ExitCode, Failure>
         draw_one(rt, &asked, &bytes, None)?;
         Ok(ExitCode::SUCCESS)
     }
+}
+
+/// Whether what goes to standard output may have colours.
+pub fn has_colours(rt: &HostRuntime) -> bool {
+    rt.stdout().is_terminal() && env::var(rt, "NO_COLOR").is_err()
 }
 
 /// Writes to standard output.
@@ -186,8 +222,8 @@ fn is_drawn_to_terminal(rt: &HostRuntime, asked: &Asked<'_>) -> bool {
     }
 }
 
-// Draws one symbol, and writes it.
-fn draw_one(
+/// Draws one symbol, and writes it.
+pub fn draw_one(
     rt: &HostRuntime,
     asked: &Asked<'_>,
     bytes: &[u8],
