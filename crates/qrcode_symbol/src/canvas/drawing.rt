@@ -35,9 +35,9 @@ pub(super) fn is_functional_place(places: PatternPlaces, x: usize, y: usize) -> 
         || format_index(version, width, x, y).is_some()
 }
 
-// A module after the functional patterns are drawn, the format places light. Most places that are
-// drawn one by one are timing modules, which need no search for a centre.
-fn pattern_module(places: PatternPlaces, x: usize, y: usize, old: Module) -> Module
+// A module after the functional patterns are drawn, the format places light, by a search for the centres near it.
+#[inline(never)]
+fn searched_module(places: PatternPlaces, x: usize, y: usize, old: Module) -> Module
     requires column { x < side places.version }
     requires row { y < side places.version }
     ensures { result ≡ pattern_module places.version x y old }
@@ -47,9 +47,6 @@ fn pattern_module(places: PatternPlaces, x: usize, y: usize, old: Module) -> Mod
         width,
         coordinates,
     } = places;
-    if let Some(color) = timing(version, width, x, y) {
-        return Module::Masked(color);
-    }
     let near_x = near_centre(coordinates, x);
     let near_y = near_centre(coordinates, y);
     match pattern(version, width, near_x, near_y, x, y) {
@@ -58,6 +55,19 @@ fn pattern_module(places: PatternPlaces, x: usize, y: usize, old: Module) -> Mod
             Some(_) => Module::Masked(Color::Light),
             None => old,
         },
+    }
+}
+
+// The same, without a search where there is a timing module, as at most places that are drawn one by one.
+#[inline(always)]
+fn pattern_module(places: PatternPlaces, x: usize, y: usize, old: Module) -> Module
+    requires column { x < side places.version }
+    requires row { y < side places.version }
+    ensures { result ≡ pattern_module places.version x y old }
+{
+    match timing(places.version, places.width, x, y) {
+        Some(color) => Module::Masked(color),
+        None => searched_module(places, x, y, old),
     }
 }
 
