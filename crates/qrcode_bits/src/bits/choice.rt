@@ -1,8 +1,6 @@
 //! The least version that holds data.
 
 ghost use Rattle.std.specs.Prelude.{◌≡◌, ◌⊎◌, ℕ, ◌+◌, ◌<◌, ◌≤◌, pos, false, length, List, MatchOption, IsTrue, IfOk, IfErr, IsOkUnless, Err};
-ghost use Rattle.std.specs.List.{count_by};
-ghost use Rattle.qrcode_types.specs.Characters as characters;
 ghost use Rattle.qrcode_types.specs.Modes.{by_band};
 ghost use Rattle.qrcode_types.specs.Versions as versions;
 ghost use Rattle.qrcode_types.specs.declared.types.Version.{Version};
@@ -17,8 +15,8 @@ ghost use Rattle.qrcode_bits.specs.Refusals.{data_limit};
 ghost use Rattle.qrcode_bits.specs.declared.optimize.Segment.{Segment};
 
 use super::{DATA_LIMIT, Manner};
+use crate::digits::count_digits;
 use crate::optimize::{Segment, least_segments_in, total_encoded_len};
-use qrcode_types::characters::is_digit;
 use qrcode_types::tables;
 use qrcode_types::types::{EcLevel, QrError, QrResult, Version};
 use std::alloc::Global;
@@ -239,18 +237,6 @@ fn least_bits(bytes: &[u8]) -> usize
 {
     let digits = count_digits(bytes);
     (20 * digits + 33 * (bytes.len() - digits)) / 6
-}
-
-fn count_digits(bytes: &[u8]) -> usize
-    ensures { result ≡ count_by characters.is_digit bytes.now }
-{
-    let mut count = 0;
-    for byte in bytes {
-        if is_digit(*byte) {
-            count += 1;
-        }
-    }
-    count
 }
 
 // The last version of Normal with length fields of the same sizes.

@@ -11,6 +11,7 @@ ghost use Rattle.qrcode_bits.specs.Refusals.{is_checked};
 ghost use Rattle.qrcode_bits.specs.Written.{written_piece, numeric_bits, alphanumeric_bits, kanji_bits};
 
 use super::stream::Stream;
+use crate::digits::are_digits;
 use qrcode_types::characters::{
     alphanumeric_number, can_write, character_count, digit_number, kanji_number,
 };
@@ -22,8 +23,9 @@ pub(super) fn may_write(mode: Mode, bytes: &[u8]) -> bool
     ensures { result ≡ not (is_checked mode && not (characters.can_write mode bytes.now)) }
 {
     match mode {
-        Mode::Numeric | Mode::Kanji => can_write(mode, bytes),
+        Mode::Numeric => are_digits(bytes),
         Mode::Alphanumeric | Mode::Byte => true,
+        Mode::Kanji => can_write(mode, bytes),
     }
 }
 

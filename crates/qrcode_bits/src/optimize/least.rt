@@ -18,7 +18,8 @@ ghost use Rattle.qrcode_bits.specs.declared.optimize.Segment.{Segment};
 use super::costs::{BestStart, Costs, HeaderBits, SingleCosts};
 use super::headers::MORE_THAN_ANY;
 use super::{Kind, Modes, Segment};
-use qrcode_types::characters::{bytes_each, can_write};
+use crate::digits::are_digits;
+use qrcode_types::characters::bytes_each;
 use qrcode_types::types::{Mode, QrError, QrResult, Version};
 use std::alloc::{AllocError, Global};
 
@@ -83,7 +84,7 @@ pub fn least_segments_in(
         (λ p. IsTrue (characters.can_write p.mode p.chunk)) (pieces_of bytes.now segments.items)) }
 {
     // Digits alone need no search: no cut takes fewer bits than one segment of them.
-    if modes.numeric && !bytes.is_empty() && can_write(Mode::Numeric, bytes) {
+    if modes.numeric && !bytes.is_empty() && are_digits(bytes) {
         let digits = Segment {
             mode: Mode::Numeric,
             begin: 0,
