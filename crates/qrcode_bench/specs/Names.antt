@@ -1,7 +1,7 @@
 -- The names of the cases.
 use Rattle.std.specs.Prelude.{ℕ, List, [], ◌∷◌, ◌++◌, codes, flat_map}
 use Rattle.qrcode_bench.specs.declared.cases.Case.{Case}
-use Rattle.qrcode_bench.specs.declared.cases.Case.TheVariants.{Micro2Digits, Normal1Digits, Bytes100, Bytes1000, Bytes2331, Digits7089, Mixed1000, Push7089, AutoMixed1000, LeastMixed1000, Codewords40, PatternsAndData40, BestMask1, BestMask40, Chars1, Chars40, HalfBlocks1, HalfBlocks40, Svg1, Svg40, Pic1, Pic40, Pixels1, Pixels40, Png100, Png40, Growth}
+use Rattle.qrcode_bench.specs.declared.cases.Case.TheVariants.{Micro2Digits, Normal1Digits, Bytes100, Bytes1000, Bytes2331, Digits7089, Mixed1000, Push7089, AutoMixed1000, LeastMixed1000, Codewords40, PatternsAndData40, BestMask1, BestMask40, Chars1, Chars40, HalfBlocks1, HalfBlocks40, Svg1, Svg40, Pic1, Pic40, Pixels1, Pixels40, Path40, Pbm40, Eps40, Png100, Png40, Png40At3, Png40At10, Growth}
 
 -- the name of a case
 abbrev pub name_of : Case → List ℕ
@@ -29,8 +29,13 @@ name_of Pic1 = codes "pic-1"
 name_of Pic40 = codes "pic-40"
 name_of Pixels1 = codes "pixels-1"
 name_of Pixels40 = codes "pixels-40"
+name_of Path40 = codes "path-40"
+name_of Pbm40 = codes "pbm-40"
+name_of Eps40 = codes "eps-40"
 name_of Png100 = codes "png-100"
 name_of Png40 = codes "png-40"
+name_of Png40At3 = codes "png-40-at-3"
+name_of Png40At10 = codes "png-40-at-10"
 name_of Growth = codes "growth"
 
 -- the names of cases, each with a newline

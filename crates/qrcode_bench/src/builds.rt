@@ -13,7 +13,7 @@ use qrcode::bits::{Bits, encode_auto};
 use qrcode::canvas::Canvas;
 use qrcode::ec::construct_codewords;
 use qrcode::optimize::least_segments;
-use qrcode::render::{Pixel, image, pic, svg, unicode};
+use qrcode::render::{Pixel, eps, image, pbm, pic, svg, unicode};
 use qrcode::types::{EcLevel, Mode, QrResult, Version};
 use qrcode_digest::Digest;
 use qrcode_types::tables::Blocks;
@@ -50,8 +50,13 @@ pub fn build(alloc: Global, case: Case, count: u32) -> QrResult<Digest> {
         Case::Pic40 => text::<pic::Color>(alloc, 2331, count),
         Case::Pixels1 => pixels(alloc, 14, count),
         Case::Pixels40 => pixels(alloc, 2331, count),
-        Case::Png100 => files(alloc, 100, count),
-        Case::Png40 => files(alloc, 2331, count),
+        Case::Path40 => text::<svg::Path>(alloc, 2331, count),
+        Case::Pbm40 => files::<pbm::Bit>(alloc, 2331, 8, count),
+        Case::Eps40 => text::<eps::Color>(alloc, 2331, count),
+        Case::Png100 => files::<qrcode_png::Color>(alloc, 100, 8, count),
+        Case::Png40 => files::<qrcode_png::Color>(alloc, 2331, 8, count),
+        Case::Png40At3 => files::<qrcode_png::Color>(alloc, 2331, 3, count),
+        Case::Png40At10 => files::<qrcode_png::Color>(alloc, 2331, 10, count),
         Case::Growth => growth(alloc, count),
     }
 }
@@ -239,12 +244,26 @@ fn pixels(alloc: Global, size: usize, count: u32) -> QrResult<Digest> {
     })
 }
 
-// PNG files that are pictures of the symbol of words.
-fn files(alloc: Global, size: usize, count: u32) -> QrResult<Digest> {
+// Files that are pictures of the symbol of words, of so many pixels a module.
+fn files<P: Pixel<Image = Vec<u8>>>(
+    alloc: Global,
+    size: usize,
+    pixels: u32,
+    count: u32,
+) -> QrResult<Digest>
+    requires { pixels ≤ 10 }
+{
     let data = repeated(alloc, WORDS, size)?;
     let code = QrCode::new(alloc, &data)?;
     repeat(count, || {
-        let file = picture::<qrcode_png::Color>(alloc, &code)?;
+        let file = scaled::<P>(alloc, &code, pixels)?;
         Ok(of_bytes(&file))
     })
+}
+
+// The picture of a symbol, of so many pixels a module.
+fn scaled<P: Pixel>(alloc: Global, code: &QrCode, pixels: u32) -> QrResult<P::Image>
+    requires { pixels ≤ 10 }
+{
+    code.render::<P>().module_size(pixels).build(alloc)
 }

@@ -33,13 +33,18 @@ pub enum Case {
     Pic40,
     Pixels1,
     Pixels40,
+    Path40,
+    Pbm40,
+    Eps40,
     Png100,
     Png40,
+    Png40At3,
+    Png40At10,
     Growth,
 }
 
 /// All cases, in the order of the list.
-pub static CASES: [Case; 27] = [
+pub static CASES: [Case; 32] = [
     Case::Micro2Digits,
     Case::Normal1Digits,
     Case::Bytes100,
@@ -64,8 +69,13 @@ pub static CASES: [Case; 27] = [
     Case::Pic40,
     Case::Pixels1,
     Case::Pixels40,
+    Case::Path40,
+    Case::Pbm40,
+    Case::Eps40,
     Case::Png100,
     Case::Png40,
+    Case::Png40At3,
+    Case::Png40At10,
     Case::Growth,
 ];
 
@@ -99,8 +109,13 @@ impl Case {
             Case::Pic40 => "pic-40",
             Case::Pixels1 => "pixels-1",
             Case::Pixels40 => "pixels-40",
+            Case::Path40 => "path-40",
+            Case::Pbm40 => "pbm-40",
+            Case::Eps40 => "eps-40",
             Case::Png100 => "png-100",
             Case::Png40 => "png-40",
+            Case::Png40At3 => "png-40-at-3",
+            Case::Png40At10 => "png-40-at-10",
             Case::Growth => "growth",
         }
     }
