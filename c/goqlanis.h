@@ -114,7 +114,7 @@ uint32_t goq_encode_marked_text(const uint8_t *text, size_t text_length, uint32_
 uint32_t goq_encode_in(
     const uint8_t *data, size_t data_length, uint32_t version, uint32_t level, uint8_t *modules, size_t modules_length, goq_symbol *symbol);
 
-/* The symbol of segments, one behind the other, of a version and level; the least version is the first that is not refused with GOQ_NO_ROOM. Of several causes
+/* The symbol of segments, one behind the other, of a version and level. Of several causes
    the first is told, in this order: GOQ_NO_SUCH_LEVEL, GOQ_NO_SUCH_VERSION, GOQ_LEVEL_NOT_IN_VERSION; of each segment GOQ_NO_SUCH_KIND, GOQ_NOT_IN_MODE,
    GOQ_NO_MODE, GOQ_NO_SUCH_NUMBER, GOQ_NO_ROOM; then GOQ_NO_ROOM, GOQ_SMALL_BUFFER; GOQ_OUT_OF_MEMORY. */
 uint32_t goq_encode_segments(const goq_segment *segments, size_t segments_length, uint32_t version, uint32_t level, uint8_t *modules, size_t modules_length,
@@ -122,6 +122,10 @@ uint32_t goq_encode_segments(const goq_segment *segments, size_t segments_length
 
 /* The least Normal version that holds data at a level. GOQ_NO_SUCH_LEVEL, GOQ_NO_ROOM, GOQ_OUT_OF_MEMORY. */
 uint32_t goq_least_version(const uint8_t *data, size_t data_length, uint32_t level, uint32_t *version);
+
+/* The least Normal version that holds segments, one behind the other, at a level. Of several causes the first is told, in this order: GOQ_NO_SUCH_LEVEL;
+   of each segment GOQ_NO_SUCH_KIND, GOQ_NOT_IN_MODE, GOQ_NO_SUCH_NUMBER, where a version has room for those before it; GOQ_NO_ROOM; GOQ_OUT_OF_MEMORY. */
+uint32_t goq_least_version_of_segments(const goq_segment *segments, size_t segments_length, uint32_t level, uint32_t *version);
 
 /* The modules along a side of a version; 0 where there is no such version. */
 uint32_t goq_width(uint32_t version);

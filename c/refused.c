@@ -31,8 +31,9 @@ static uint32_t call(int number)
     case 5: return goq_least_version(data, sizeof data, GOQ_M, &outputs.version);
     case 6: return goq_read(square, modules, out, room, &outputs.reading);
     case 7: return goq_read_length(square, modules, &outputs.count);
-    case 8: return goq_draw_length(square, modules, known.width, 4, 1, GOQ_PNG, &outputs.count);
-    default: return goq_draw(square, modules, known.width, 4, 1, (uint32_t)number - 9, out, room, &outputs.count);
+    case 8: return goq_least_version_of_segments(segments, 2, GOQ_M, &outputs.version);
+    case 9: return goq_draw_length(square, modules, known.width, 4, 1, GOQ_PNG, &outputs.count);
+    default: return goq_draw(square, modules, known.width, 4, 1, (uint32_t)number - 10, out, room, &outputs.count);
     }
 }
 
@@ -45,7 +46,7 @@ int main(void)
         data[i] = (uint8_t)(i * 37);
     if (goq_encode(data, sizeof data, GOQ_M, square, sizeof square, &known) != GOQ_OK)
         return 1;
-    for (int number = 0; number <= 9 + GOQ_PBM; number++, calls++) {
+    for (int number = 0; number <= 10 + GOQ_PBM; number++, calls++) {
         size_t all = 1, answered = 0;
         for (size_t i = 0; i <= all; i++) { /* at first none is refused */
             pool_requests = 0;

@@ -158,6 +158,29 @@ static void by_hand(void)
     refuses(goq_encode_segments(segments, 4, 1, GOQ_M, modules, 440, &symbol), GOQ_SMALL_BUFFER, "a module too few of segments");
 }
 
+static uint32_t version;
+
+static uint32_t least_of(uint32_t kind, uint32_t number, const void *bytes, size_t length, uint32_t level)
+{
+    goq_segment segments[] = {{GOQ_ECI, 26, NULL, 0}, {kind, number, bytes, length}};
+    return goq_least_version_of_segments(segments, 2, level, &version);
+}
+
+/* The least version of a header of 12 bits and bytes at level L, where Normal 1 has 152 bits, and Normal 40 23,648 (ISO/IEC 18004, table 7). */
+static void least_of_segments(void)
+{
+    version = 77;
+    expect(least_of(GOQ_BYTES, 0, before, 1, 9) == GOQ_NO_SUCH_LEVEL && version == 77, "level 9 of a least version");
+    expect(least_of(7, 0, before, 1, GOQ_L) == GOQ_NO_SUCH_KIND && version == 77, "kind 7 of a least version");
+    expect(least_of(GOQ_NUMERIC, 0, "1a", 2, GOQ_L) == GOQ_NOT_IN_MODE && version == 77, "a letter among digits of a least version");
+    expect(least_of(GOQ_ECI, 1000000, NULL, 0, GOQ_L) == GOQ_NO_SUCH_NUMBER && version == 77, "character set 1,000,000 of a least version");
+    expect(least_of(GOQ_BYTES, 0, out, 2953, GOQ_L) == GOQ_NO_ROOM && version == 77, "no version for segments");
+    expect(least_of(GOQ_BYTES, 0, out, 2952, GOQ_L) == GOQ_OK && version == 40, "Normal 40 for segments");
+    expect(least_of(GOQ_BYTES, 0, out, 16, GOQ_L) == GOQ_OK && version == 1, "Normal 1 for segments");
+    expect(least_of(GOQ_BYTES, 0, out, 17, GOQ_L) == GOQ_OK && version == 2, "Normal 2 for segments");
+    expect(goq_least_version_of_segments(NULL, 0, GOQ_H, &version) == GOQ_OK && version == 1, "the least version of no segments, from NULL");
+}
+
 static uint8_t found[GOQ_BYTES_MAX];
 static goq_reading reading;
 
@@ -222,6 +245,7 @@ int main(void)
     shapes();
     drawings();
     by_hand();
+    least_of_segments();
     readings();
     pairs();
     return wrong != 0;

@@ -27,7 +27,7 @@ import ctypes.util
 import os
 from typing import Iterable, NamedTuple, Optional, Sequence, Tuple, Union
 
-__all__ = ["Symbol", "Reading", "encode", "encode_text", "encode_segments", "read", "least_version", "is_functional", "Error", "NoSuchLevel", "NoSuchVersion",
+__all__ = ["Symbol", "Reading", "encode", "encode_text", "encode_segments", "read", "least_version", "least_version_of_segments", "is_functional", "Error", "NoSuchLevel", "NoSuchVersion",
            "LevelNotInVersion", "TooLong", "NoMode", "NoRoom", "OutOfMemory", "NoSuchSize", "NotInMode", "NoSuchNumber", "Unread", "NoSuchSide", "NoFormat", "Damaged",
            "NotSpelled"]
 
@@ -128,6 +128,7 @@ def _load() -> ctypes.CDLL:
     library.goq_encode_segments.argtypes = [ctypes.POINTER(_Segment), size, number, number, ctypes.c_void_p, size, ctypes.POINTER(_Known)]
     library.goq_read.argtypes = [text, size, ctypes.c_void_p, size, ctypes.POINTER(_Read)]
     library.goq_least_version.argtypes = [text, size, number, ctypes.POINTER(number)]
+    library.goq_least_version_of_segments.argtypes = [ctypes.POINTER(_Segment), size, number, ctypes.POINTER(number)]
     library.goq_is_functional.argtypes = [number, number, number]
     library.goq_is_functional.restype = ctypes.c_bool
     library.goq_draw_length.argtypes = [text, size, number, number, number, number, ctypes.POINTER(size)]
@@ -320,6 +321,19 @@ def encode_segments(segments: Iterable[Tuple[str, Union[bytes, int, None]]], lev
         ...
     goqlanis.NotInMode: the mode of a segment lacks one of its bytes
     """
+    listed, count = _listed(segments)
+    number, given = _level_number(level), ctypes.c_uint32()
+    if version is None:
+        _raise(_library.goq_least_version_of_segments(listed, len(listed), number, ctypes.byref(given)), count, version, level)
+    else:
+        given.value = _version_number(str(version))
+    modules, known = ctypes.create_string_buffer(MOST_MODULES), _Known()
+    _raise(_library.goq_encode_segments(listed, len(listed), given, number, modules, MOST_MODULES, ctypes.byref(known)), count, version, level)
+    return Symbol(modules.raw[:known.width * known.width], known)
+
+
+def _listed(segments: Iterable[Tuple[str, Union[bytes, int, None]]]) -> Tuple[ctypes.Array, int]:
+    """Segments as the library takes them, and how many bytes they have."""
     rows, count = [], 0
     for kind, value in segments:
         if kind not in KINDS:
@@ -330,14 +344,7 @@ def encode_segments(segments: Iterable[Tuple[str, Union[bytes, int, None]]], lev
             raise NoSuchNumber(_REFUSALS[15][1])
         rows.append(_Segment(KINDS.index(kind), given, data, len(data)))
         count += len(data)
-    listed, number = (_Segment * len(rows))(*rows), _level_number(level)
-    modules, known = ctypes.create_string_buffer(MOST_MODULES), _Known()
-    for each in range(1, 41) if version is None else (_version_number(str(version)),):
-        answer = _library.goq_encode_segments(listed, len(rows), each, number, modules, MOST_MODULES, ctypes.byref(known))
-        if answer != 6:
-            break
-    _raise(answer, count, version, level)
-    return Symbol(modules.raw[:known.width * known.width], known)
+    return (_Segment * len(rows))(*rows), count
 
 
 class Reading(NamedTuple):
@@ -382,6 +389,17 @@ def least_version(data: bytes, level: str = "M") -> str:
     """
     data, found = _bytes(data), ctypes.c_uint32()
     _raise(_library.goq_least_version(data, len(data), _level_number(level), ctypes.byref(found)), len(data), None, level)
+    return _version_name(found.value)
+
+
+def least_version_of_segments(segments: Iterable[Tuple[str, Union[bytes, int, None]]], level: str = "M") -> str:
+    """The least Normal version that holds segments, one behind the other, at a level. They are given as to `encode_segments`.
+
+    >>> least_version_of_segments([("eci", 26), ("byte", bytes(2952))], "L")
+    '40'
+    """
+    (listed, count), found = _listed(segments), ctypes.c_uint32()
+    _raise(_library.goq_least_version_of_segments(listed, len(listed), _level_number(level), ctypes.byref(found)), count, None, level)
     return _version_name(found.value)
 
 

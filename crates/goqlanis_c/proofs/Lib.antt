@@ -1,4 +1,5 @@
 pub mod Greys
 pub mod Known
+pub mod Least
 pub mod Refused
 pub mod Taken

@@ -19,7 +19,7 @@ use Rattle.goqlanis_c.specs.Drawings.{format_named, colors_of, IsDrawn}
 use Rattle.goqlanis_c.specs.declared.drawing.Format.{Format}
 use Rattle.goqlanis_c.specs.declared.drawing.Format.TheVariants.{Png}
 use Rattle.goqlanis_c.specs.Names.{level_named, version_named}
-use Rattle.goqlanis_c.specs.Segments.{written_segments, IsFirstRefused, IsSymbolOfSegments}
+use Rattle.goqlanis_c.specs.Segments.{written_segments, AreHeld, IsFirstRefused, IsSymbolOfSegments}
 use Rattle.goqlanis_c.specs.declared.segments.Segment as by_hand
 use Rattle.goqlanis_c.specs.declared.answers.Refusal.{Refusal}
 use Rattle.goqlanis_c.specs.declared.answers.Refusal.TheVariants.{NoSuchLevel, NoSuchVersion, LevelNotInVersion, TooLong, NoMode, NoRoom, SmallBuffer, OutOfMemory, NoSuchFormat, NotSquare, NoSuchSize, NotText, NoSuchKind, NotInMode, NoSuchNumber, NoSuchSide, NoFormat, Damaged, NotSpelled}
@@ -86,6 +86,14 @@ IsJointCause version level segments room refusal = ⊥
 -- why segments are refused at a version and level, where the buffer has so much room
 abbrev pub IsSegmentsCause : ℕ → ℕ → List by_hand.Segment → ℕ → Refusal → Type 0
 IsSegmentsCause version level segments room refusal = IsSegmentCause version segments refusal ⊎ IsJointCause version level segments room refusal
+
+-- why no least version of segments is told at a level: of the segments one is refused, whose cause no version mends, or no Normal version holds them
+abbrev pub IsLeastCause : ℕ → List by_hand.Segment → Refusal → Type 0
+IsLeastCause level segments refusal =
+    (refusal ≡ OutOfMemory)
+    ⊎ (((refusal ≡ NoSuchLevel) × (level_named level ≡ None))
+    ⊎ (((refusal ≢ NoRoom) × ((n : ℕ) × IsFirstRefused (Normal (pos n)) segments refusal))
+    ⊎ ((refusal ≡ NoRoom) × ((l : EcLevel) × ((level_named level ≡ Some l) × ((n : ℕ) → ¬ AreHeld (Normal (pos n)) l segments))))))
 
 -- why a text is refused at a level, where the least Normal version is chosen and the buffer has so much room
 abbrev pub IsTextCause : Manner → ℕ → List ℕ → ℕ → Refusal → Type 0

@@ -1,5 +1,5 @@
 -- Segments whose modes C names, and headers: their bits, and what refuses them.
-use Rattle.std.specs.Prelude.{◌≡◌, ℕ, ◌<◌, nat_lt, not, Bool, List, [], ◌∷◌, ◌++◌, length, take, flat_map, slice_get, Option, Some, None, unwrap_or, if◌then◌else◌}
+use Rattle.std.specs.Prelude.{◌≡◌, ◌⊎◌, ℕ, pos, ◌<◌, ◌≤◌, nat_lt, not, false, IsTrue, Bool, List, [], ◌∷◌, ◌++◌, length, take, flat_map, slice_get, Option, Some, None, unwrap_or, if◌then◌else◌}
 use Rattle.std.specs.List.{AllByRecursion}
 use Rattle.std.specs.Option.{option_map}
 use Rattle.qrcode_types.specs.Bits.{number_bits}
@@ -10,7 +10,9 @@ use Rattle.qrcode_types.specs.declared.types.Mode.TheVariants.{Numeric, Alphanum
 use Rattle.qrcode_types.specs.declared.types.QrError.{QrError}
 use Rattle.qrcode_types.specs.declared.types.QrError.TheVariants.{DataTooLong, InvalidVersion, UnsupportedCharacterSet, InvalidEciDesignator, InvalidCharacter}
 use Rattle.qrcode_types.specs.declared.types.QrError.TheVariants as error
+use Rattle.qrcode_types.specs.Versions.{has_level, capacity}
 use Rattle.qrcode_types.specs.declared.types.Version.{Version}
+use Rattle.qrcode_types.specs.declared.types.Version.TheVariants.{Normal}
 use Rattle.qrcode_bits.specs.Refusals.{append_refusal, eci_refusal, indicator_bits, piece_refusal}
 use Rattle.qrcode_bits.specs.Spelling.{IsReadable, SpellsOnly}
 use Rattle.qrcode_bits.specs.Written.{Piece, eci_bits, terminated, written, written_piece}
@@ -90,3 +92,23 @@ pub record IsSymbolOfSegments (v : Version) (l : EcLevel) (segments : List Segme
   pub encodes : EncodesBits v l (bits_of_segments v l segments) s
   pub spelled : (pieces : List Piece) → AllByRecursion (IsReadable v) pieces → written_segments v segments ≡ written v pieces
       → SpellsOnly v (bits_of_segments v l segments) (flat_map (λ p. p.chunk) pieces)
+
+-- the version has the level, none of the segments is refused, and the symbol has room for their bits
+pub record AreHeld (v : Version) (l : EcLevel) (segments : List Segment) : Type 0 where
+  pub exists : IsTrue (has_level v l)
+  pub taken : AreTaken v segments (length segments)
+  pub room : length (written_segments v segments) ≤ capacity v l
+
+-- why segments are not held, or want of memory
+abbrev pub AreUnheld : Version → EcLevel → List Segment → Refusal → Type 0
+AreUnheld v l segments refusal =
+    (refusal ≡ OutOfMemory)
+    ⊎ (IsFirstRefused v segments refusal
+    ⊎ (((refusal ≡ LevelNotInVersion) × (has_level v l ≡ false)) ⊎ ((refusal ≡ NoRoom) × (capacity v l < length (written_segments v segments)))))
+
+-- the least Normal version that holds segments
+pub record IsLeastHeld (l : EcLevel) (segments : List Segment) (v : Version) : Type 0 where
+  pub number : ℕ
+  pub is : v ≡ Normal (pos number)
+  pub held : AreHeld v l segments
+  pub least : (n : ℕ) → AreHeld (Normal (pos n)) l segments → number ≤ n

@@ -1,11 +1,15 @@
 //! Symbols of segments whose modes the caller names, and of headers.
 
-ghost use Rattle.std.specs.Prelude.{◌≡◌, ◌≢◌, ◌⊎◌, ◌++◌, ℕ, [], length, Some, None, IfOk, IfErr, IfSome, OnOk};
+ghost use Rattle.std.specs.Prelude.{◌≡◌, ◌≢◌, ◌⊎◌, ◌++◌, ◌≤◌, ℕ, pos, [], length, Some, None, IfOk, IfErr, IfSome, OnOk, IsTrue};
+ghost use Rattle.qrcode_types.specs.Versions.{is_valid, has_level, capacity};
+ghost use Rattle.qrcode_types.specs.declared.types.EcLevel.{EcLevel};
+ghost use Rattle.qrcode_types.specs.declared.types.Version.{Version};
+ghost use Rattle.qrcode_types.specs.declared.types.Version.TheVariants.{Normal};
 ghost use Rattle.qrcode_bits.specs.Pushes.{PushesPiece};
-ghost use Rattle.goqlanis_c.specs.Answers.{refusal_of, IsSegmentsCause};
+ghost use Rattle.goqlanis_c.specs.Answers.{refusal_of, IsSegmentsCause, IsLeastCause};
 ghost use Rattle.goqlanis_c.specs.Names.{level_named, version_named};
 ghost use Rattle.goqlanis_c.specs.Outputs.{IsSegmentsSymbol};
-ghost use Rattle.goqlanis_c.specs.Segments.{kind_named, segment_bits, segment_refusal, written_segments, AreTaken, IsFirstRefused, IsSymbolOfSegments};
+ghost use Rattle.goqlanis_c.specs.Segments.{kind_named, segment_bits, segment_refusal, written_segments, AreTaken, AreUnheld, IsFirstRefused, IsLeastHeld, IsSymbolOfSegments};
 ghost use Rattle.goqlanis_c.specs.declared.answers.Refusal.TheVariants.{OutOfMemory};
 
 use crate::answers::Refusal;
@@ -116,6 +120,76 @@ fn of_segments(
     push_all(&mut bits, segments)?;
     bits.push_terminator(ec_level)?;
     Ok(QrCode::with_bits(alloc, bits, ec_level)?)
+}
+
+/// The number of the least Normal version that holds segments, one behind the other, at a level, to
+/// `version`.
+///
+/// 0, or the number of a `Refusal`: `NoSuchLevel`; of each segment in order `NoSuchKind`, `NotInMode`,
+/// `NoSuchNumber`; `NoRoom`; or `OutOfMemory`. Then `version` is as it was.
+#[unsafe(no_mangle)]
+pub extern "C" fn goq_least_version_of_segments(
+    alloc: Global,
+    segments: &[Segment<'_>],
+    level: u32,
+    version: &mut u32,
+) -> u32
+    ensures made { result ≡ 0 → (l : EcLevel) × ((v : Version) × ((level_named level ≡ Some l)
+        × ((version_named version.new ≡ Some v) × IsLeastHeld l segments.now v))) }
+    ensures unchanged { result ≢ 0 → version.new ≡ version.old }
+    ensures causes { IfSome (refusal_of result) (IsLeastCause level segments.now) }
+{
+    match least_version(alloc, segments, level) {
+        Ok(number) => {
+            *version = number;
+            0
+        }
+        Err(refusal) => refusal.number(),
+    }
+}
+
+// The number of the least Normal version that holds segments at the level of a number.
+fn least_version(alloc: Global, segments: &[Segment<'_>], level: u32) -> Result<u32, Refusal>
+    ensures least { IfOk result (λ number. (l : EcLevel) × ((level_named level ≡ Some l)
+        × IsLeastHeld l segments.now (Normal (pos number)))) }
+    ensures at_least { IfOk result (λ number. 1 ≤ number) }
+    ensures at_most { IfOk result (λ number. number ≤ 40) }
+    ensures causes { IfErr result (IsLeastCause level segments.now) }
+{
+    let Some(ec_level) = level_named(level) else {
+        return Err(Refusal::NoSuchLevel);
+    };
+    for number in 1..41 {
+        match held(alloc, segments, Version::Normal(number as i16), ec_level) {
+            Ok(_) => return Ok(number),
+            Err(refusal) if refusal != Refusal::NoRoom => return Err(refusal),
+            Err(_) => {}
+        }
+    }
+    Err(Refusal::NoRoom)
+}
+
+// The bits of segments, where a version holds them at a level.
+fn held(
+    alloc: Global,
+    segments: &[Segment<'_>],
+    version: Version,
+    ec_level: EcLevel,
+) -> Result<Bits, Refusal>
+    requires valid { IsTrue (is_valid version) }
+    ensures exists { OnOk result (IsTrue (has_level version ec_level)) }
+    ensures taken { OnOk result (AreTaken version segments.now (length segments.now)) }
+    ensures room { OnOk result
+        (length (written_segments version segments.now) ≤ capacity version ec_level) }
+    ensures causes { IfErr result (AreUnheld version ec_level segments.now) }
+{
+    let mut bits = Bits::new(alloc, version);
+    let room = bits.max_len(ec_level)?;
+    push_all(&mut bits, segments)?;
+    if bits.len() > room {
+        return Err(Refusal::NoRoom);
+    }
+    Ok(bits)
 }
 
 // Appends segments one behind the other to an empty list.

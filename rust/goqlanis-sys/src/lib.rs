@@ -85,6 +85,7 @@ extern "C" {
     pub fn goq_read(modules: *const u8, modules_length: usize, bytes: *mut u8, bytes_length: usize, reading: *mut goq_reading) -> u32;
     pub fn goq_read_length(modules: *const u8, modules_length: usize, count: *mut usize) -> u32;
     pub fn goq_least_version(data: *const u8, data_length: usize, level: u32, version: *mut u32) -> u32;
+    pub fn goq_least_version_of_segments(segments: *const goq_segment, segments_length: usize, level: u32, version: *mut u32) -> u32;
     pub fn goq_width(version: u32) -> u32;
     pub fn goq_is_functional(version: u32, x: u32, y: u32) -> bool;
     pub fn goq_draw(modules: *const u8, modules_length: usize, width: u32, zone: u32, scale: u32, format: u32, out: *mut u8, out_length: usize, count: *mut usize) -> u32;

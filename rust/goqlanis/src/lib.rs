@@ -54,6 +54,19 @@ impl std::error::Error for QrError {}
 
 pub type QrResult<T> = Result<T, QrError>;
 
+// What an answer to a request for a symbol means.
+fn accepted(answer: u32) -> QrResult<()> {
+    match answer {
+        sys::GOQ_OK => Ok(()),
+        sys::GOQ_NO_SUCH_VERSION | sys::GOQ_LEVEL_NOT_IN_VERSION => Err(QrError::InvalidVersion),
+        sys::GOQ_NOT_IN_MODE => Err(QrError::InvalidCharacter),
+        sys::GOQ_NO_SUCH_NUMBER => Err(QrError::InvalidEciDesignator),
+        sys::GOQ_NO_MODE => Err(QrError::UnsupportedCharacterSet),
+        sys::GOQ_OUT_OF_MEMORY => Err(QrError::OutOfMemory),
+        _ => Err(QrError::DataTooLong),
+    }
+}
+
 /// A version: `Normal` 1 to 40, `Micro` 1 to 4.
 #[derive(Clone, Copy, Debug, PartialEq, Eq)]
 pub enum Version {
@@ -81,6 +94,21 @@ impl Version {
 
     pub fn is_micro(self) -> bool {
         matches!(self, Version::Micro(_))
+    }
+
+    /// The least Normal version that holds segments, one behind the other, at a level.
+    ///
+    /// ```
+    /// use goqlanis::{EcLevel, Segment, Version};
+    ///
+    /// let segments = [Segment::Eci(26), Segment::Byte(&[0; 2952])];
+    /// assert_eq!(Version::least_of_segments(&segments, EcLevel::L), Ok(Version::Normal(40)));
+    /// ```
+    pub fn least_of_segments(segments: &[Segment<'_>], ec_level: EcLevel) -> QrResult<Self> {
+        let given: Vec<_> = segments.iter().map(Segment::given).collect();
+        let mut version = 0;
+        accepted(unsafe { sys::goq_least_version_of_segments(given.as_ptr(), given.len(), ec_level as u32, &mut version) })?;
+        Ok(Version::named(version))
     }
 
     /// The modules along a side; 0 for a version that is none.
@@ -207,18 +235,15 @@ impl QrCode {
         })
     }
 
+    /// The symbol of segments, one behind the other, at a level, of the least Normal version that holds them.
+    pub fn of_segments(segments: &[Segment<'_>], ec_level: EcLevel) -> QrResult<Self> {
+        Self::with_segments(segments, Version::least_of_segments(segments, ec_level)?, ec_level)
+    }
+
     fn made(ec_level: EcLevel, encode: impl FnOnce(&mut [u8], &mut sys::goq_symbol) -> u32) -> QrResult<Self> {
         let mut modules = vec![0; sys::GOQ_MODULES_MAX];
         let mut known = sys::goq_symbol::default();
-        match encode(&mut modules, &mut known) {
-            sys::GOQ_OK => {}
-            sys::GOQ_NO_SUCH_VERSION | sys::GOQ_LEVEL_NOT_IN_VERSION => return Err(QrError::InvalidVersion),
-            sys::GOQ_NOT_IN_MODE => return Err(QrError::InvalidCharacter),
-            sys::GOQ_NO_SUCH_NUMBER => return Err(QrError::InvalidEciDesignator),
-            sys::GOQ_NO_MODE => return Err(QrError::UnsupportedCharacterSet),
-            sys::GOQ_OUT_OF_MEMORY => return Err(QrError::OutOfMemory),
-            _ => return Err(QrError::DataTooLong),
-        }
+        accepted(encode(&mut modules, &mut known))?;
         let width = known.width as usize;
         modules.truncate(width * width);
         Ok(QrCode { modules, version: Version::named(known.version), ec_level, width })

@@ -55,6 +55,8 @@ fn pictures() {
 fn segments() {
     let segments = [Segment::Eci(26), Segment::Byte("é".as_bytes()), Segment::Numeric(b"123")];
     assert_eq!(QrCode::with_segments(&segments, Version::Normal(1), EcLevel::M).unwrap().width(), 21);
+    assert_eq!(QrCode::of_segments(&segments, EcLevel::M).unwrap().version(), Version::Normal(1));
+    assert_eq!(Version::least_of_segments(&[Segment::Byte(&[0; 2954])], EcLevel::L), Err(QrError::DataTooLong));
     let refused = |segment: Segment<'_>| QrCode::with_segments(&[segment], Version::Normal(1), EcLevel::M).unwrap_err();
     assert_eq!(refused(Segment::Numeric(b"12a")), QrError::InvalidCharacter);
     assert_eq!(refused(Segment::Eci(1_000_000)), QrError::InvalidEciDesignator);
