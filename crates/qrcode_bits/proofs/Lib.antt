@@ -7,6 +7,7 @@ pub mod Chunks
 pub mod CutPieces
 pub mod Designators
 pub mod DigitCuts
+pub mod DigitGroups
 pub mod Endings
 pub mod FirstSegments
 pub mod Fitting

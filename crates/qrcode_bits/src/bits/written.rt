@@ -1,6 +1,6 @@
 //! How pieces are written: mode indicator, length field and data bits.
 
-ghost use Rattle.std.specs.Prelude.{◌≡◌, ◌+◌, ◌*◌, ◌/◌, ◌<◌, ◌≤◌, ◌^◌, ◌++◌, ◌&&◌, not, false, length, IsTrue};
+ghost use Rattle.std.specs.Prelude.{◌≡◌, ◌+◌, ◌-◌, ◌*◌, ◌/◌, ◌<◌, ◌≤◌, ◌^◌, ◌++◌, ◌&&◌, not, false, length, IsTrue};
 ghost use Rattle.std.specs.List.{list_all};
 ghost use Rattle.qrcode_types.specs.Bits.{number_bits, bits_of};
 ghost use Rattle.qrcode_types.specs.Versions.{is_valid};
@@ -69,17 +69,31 @@ fn push_header(stream: &mut Stream, version: Version, mode: Mode, count: usize)
     stream.push_number(mode.length_bits_count(version) as u32, count as u32);
 }
 
-// Appends digits, three in ten bits, two in seven, one in four.
-
+// Appends digits, six in twenty bits while there are so many.
 fn push_digits(stream: &mut Stream, digits: &[u8])
     requires digits { IsTrue (list_all characters.is_digit digits.now) }
     requires room { (10 * length digits.now + 2) / 3 ≤ stream.old.room }
     ensures { stream.new.bits ≡ stream.old.bits ++ numeric_bits digits.now }
 {
     let mut rest = digits;
+    while let [first, second, third, fourth, fifth, sixth, more @ ..] = rest {
+        let high = three_digits_number(*first, *second, *third);
+        let low = three_digits_number(*fourth, *fifth, *sixth);
+        stream.push_number(20, 1024 * high + low);
+        rest = more;
+    }
+    push_last_digits(stream, rest);
+}
+
+// Appends digits, three in ten bits, two in seven, one in four.
+fn push_last_digits(stream: &mut Stream, digits: &[u8])
+    requires digits { IsTrue (list_all characters.is_digit digits.now) }
+    requires room { (10 * length digits.now + 2) / 3 ≤ stream.old.room }
+    ensures { stream.new.bits ≡ stream.old.bits ++ numeric_bits digits.now }
+{
+    let mut rest = digits;
     while let [first, second, third, more @ ..] = rest {
-        let number = 100 * digit_number(*first) + 10 * digit_number(*second) + digit_number(*third);
-        stream.push_number(10, number);
+        stream.push_number(10, three_digits_number(*first, *second, *third));
         rest = more;
     }
     match rest {
@@ -89,6 +103,17 @@ fn push_digits(stream: &mut Stream, digits: &[u8])
         [last] => stream.push_number(4, digit_number(*last)),
         _ => {}
     }
+}
+
+// The number that three digits write.
+fn three_digits_number(first: u8, second: u8, third: u8) -> u32
+    requires first { IsTrue (characters.is_digit first) }
+    requires second { IsTrue (characters.is_digit second) }
+    requires third { IsTrue (characters.is_digit third) }
+    ensures value { result ≡ 100 * (first - 48) + 10 * (second - 48) + (third - 48) }
+    ensures at_most { result ≤ 999 }
+{
+    100 * digit_number(first) + 10 * digit_number(second) + digit_number(third)
 }
 
 // Appends characters of the alphabet, two in eleven bits, one in six.
