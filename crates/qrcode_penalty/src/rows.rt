@@ -39,6 +39,10 @@ pub(crate) fn finder_penalty<R: PackedRow>(row: R, width: u32) -> u32
     // The dark columns from whose second next on three are alike.
     let middles = row.without(edges.or(next).down(2));
     let shapes = turns.and(turns.down(4)).and(middles);
+    // Most rows of a narrow square have none.
+    if shapes.count_ones() == 0 {
+        return 0;
+    }
     // The columns with a dark module among themselves and the three before.
     let twos = row.or(row.up(1));
     let fours = twos.or(twos.up(2));
