@@ -72,6 +72,7 @@ impl FromColor for Module {
 }
 
 // Writes the whole fours of a row, and gives the places that are left.
+#[inline(always)]
 fn unpack_fours<R: PackedRow, S: FromColor>(line: R, row: &mut [S]) -> R
     ensures done { (x : ℕ) → x < 4 * (length row.old / 4)
         → slice_index_or row.new x (S.from_color Light)
@@ -88,6 +89,7 @@ fn unpack_fours<R: PackedRow, S: FromColor>(line: R, row: &mut [S]) -> R
 }
 
 // Writes a part of a row by its places, of which the dark ones are set.
+#[inline(always)]
 fn unpack_part<R: PackedRow, S: FromColor>(line: R, row: &mut [S])
     ensures { (x : ℕ) → x < length row.old
         → slice_index_or row.new x (S.from_color Light)
@@ -100,19 +102,20 @@ fn unpack_part<R: PackedRow, S: FromColor>(line: R, row: &mut [S])
     }
 }
 
-// Writes a row by its places, of which the dark ones are set: word by word, since shifts of a word are cheap.
+// Writes a row by its places, of which the dark ones are set: word by word, since shifts of a word are cheap. A whole word
+// has a length that is known when this is compiled.
 fn unpack_row<R: PackedRow, S: FromColor>(line: R, row: &mut [S])
-    requires { length row.old ≤ 192 }
     ensures { (x : ℕ) → x < length row.old
         → slice_index_or row.new x (S.from_color Light)
         ≡ S.from_color (color_of (is_set (R.bits line) x)) }
 {
+    let words = row.len() / 64;
     let mut rest = line;
-    for k in 0..(row.len() + 63) / 64 {
-        let end = row.len().min(64 * k + 64);
-        unpack_part(rest.first_word(), &mut row[64 * k..end]);
+    for k in 0..words {
+        unpack_part(rest.first_word(), &mut row[64 * k..64 * k + 64]);
         rest = rest.down(63).down(1);
     }
+    unpack_part(rest.first_word(), &mut row[64 * words..]);
 }
 
 /// Writes the rows of a square by their places, of which the dark ones are set.

@@ -1,4 +1,4 @@
-use Rattle.std.proofs.Common.{◌≡◌, ◌+◌, ◌-◌, ◌*◌, ◌/◌, ◌^◌, ◌<◌, ◌≤◌, suc, min, length, take, drop, length-take, length-drop, slice_index_or, ap, ◌∙◌, arith, inl, inr}
+use Rattle.std.proofs.Common.{◌≡◌, ◌+◌, ◌-◌, ◌*◌, ◌/◌, ◌^◌, ◌<◌, ◌≤◌, suc, length, take, drop, length-take, length-drop, slice_index_or, ap, ◌∙◌, arith, inl, inr}
 use Rattle.std.proofs.lemmas.Nat.{shr-shr}
 use Rattle.std.proofs.lemmas.Bool.Decides.{leb_tells}
 use borrow.Rule.Slice.PartMut.{put_mid}
@@ -18,12 +18,10 @@ loop-k-preserved g c =
     let line = places c.args.line in
     let old = c.loop-k.row in
     let new = c.unpack_part.new.row in
-    let end = c.min-end.result in
-    let count = end - 64 * k in
-    let room : 64 * k ≤ length old = omega arith in
-    let kept : length new ≡ length (take count (drop (64 * k) old)) = omega arith in
+    let count = 64 * k + 64 - 64 * k in
     let size : length old ≡ length c.args.row.now = omega arith in
-    let ends : end ≡ min (length old) (64 * k + 64) = c.min-end.ensures in
+    let room : 64 * k + 64 ≤ length old = omega (arith, size) in
+    let kept : length new ≡ length (take count (drop (64 * k) old)) = omega arith in
     let next : 64 * k + 63 + 1 ≡ 64 * (k + 1) = omega arith in
     record {
       rest = c.down-rest.ensures ∙ ap (λ n. n / 2 ^ 1) (c.down.ensures ∙ ap (λ n. n / 2 ^ 63) c.loop-k.invariant.rest ∙ shr-shr line (64 * k) 63) ∙ shr-shr line (64 * k + 63) 1 ∙ ap (λ n. line / 2 ^ n) next;
@@ -34,7 +32,7 @@ loop-k-preserved g c =
             let e : x ≡ 64 * k + i = omega (arith, p.1) in
             let turn : i + 64 * k ≡ x = omega (arith, p.1) in
             let low : i < 64 = omega (arith, h, p.1) in
-            let wide : i < length (take count (drop (64 * k) old)) = simp (length-take, length-drop) (omega (arith, h, l, p.1, size, ends)) in
+            let wide : i < length (take count (drop (64 * k) old)) = simp (length-take, length-drop) (omega (arith, room, low)) in
             ap (λ n. slice_index_or (put_mid (64 * k) count old new) n (of Light)) e
             ∙ part_inside (of Light) (64 * k) count old new i (omega (arith, room)) (omega (arith, wide, kept))
             ∙ c.unpack_part.ensures i wide
@@ -44,4 +42,29 @@ loop-k-preserved g c =
     }
 
 pub returns : goal.returns
-returns g c = λ x h. c.loop-k.invariant.done x (omega (arith, h)) h
+returns g c = λ x h.
+    let places = g.R.PackedRow.bits in
+    let of = g.S.FromColor.from_color in
+    let line = places c.args.line in
+    let old = c.loop-k.row in
+    let new = c.unpack_part-2.new.row in
+    let from = 64 * (length c.args.row.now / 64) in
+    let count = length old - from in
+    let size : length old ≡ length c.args.row.now = omega arith in
+    let all : 64 * c.loop-k.k ≡ from = omega arith in
+    let room : from ≤ length old = omega (arith, size) in
+    let kept : length new ≡ length (take count (drop from old)) = omega arith in
+    elim (leb_tells (suc x) from) [
+      | inl p ↦ part_before (of Light) from count old new x (omega (arith, p.1)) (omega (arith, room)) ∙ c.loop-k.invariant.done x (omega (arith, p.1)) h
+      | inr p ↦
+          let i = x - from in
+          let e : x ≡ from + i = omega (arith, p.1) in
+          let turn : i + from ≡ x = omega (arith, p.1) in
+          let low : i < 64 = omega (arith, h, p.1) in
+          let wide : i < length (take count (drop from old)) = simp (length-take, length-drop) (omega (arith, h, p.1, size)) in
+          ap (λ n. slice_index_or (put_mid from count old new) n (of Light)) e
+          ∙ part_inside (of Light) from count old new i (omega (arith, room)) (omega (arith, wide, kept))
+          ∙ c.unpack_part-2.ensures i wide
+          ∙ ap (λ b. of (color_of b))
+          (ap (λ n. is_set n i) c.first_word-2.ensures ∙ has_mod (places c.loop-k.rest) 64 i low ∙ ap (λ n. is_set n i) (c.loop-k.invariant.rest ∙ ap (λ n. line / 2 ^ n) all) ∙ has_shr line from i ∙ ap (is_set line) turn)
+    ]

@@ -30,10 +30,3 @@ loop-y-preserved g c = λ x y h l.
     (λ y m. part_before (of Light) (n * w) k old new (y * w + x) (omega (arith, mul-add-lt y w x n m h, mul_comm w n)) (omega (arith, size, full)) ∙ c.loop-y.invariant x y h m)
     (part_inside (of Light) (n * w) k old new x (omega (arith, size, full)) (omega (arith, wide, kept)) ∙ c.unpack_row.ensures x wide ∙ ap (λ r. of (color_of (is_set r x))) at)
     y l
-
-pub unpack_row-requires : goal.unpack_row-requires
-unpack_row-requires g c =
-    let w = c.args.width in
-    let n = c.loop-y.y in
-    let step : (n + 1) * w ≡ n * w + w = grind arith in
-    simp (length-take, length-drop) (omega (arith, step))
