@@ -24,20 +24,20 @@ use Rattle.qrcode_places.proofs.FormatPlaces.{normal_index, micro_index}
 use Rattle.qrcode_places.proofs.Corners.{no_where, no_or, or_none, far_finder}
 use Rattle.qrcode_symbol.proofs.Covered.{no_copy, no_if, no_timing}
 
--- a module that has a pattern, or else a format place
-drawn_or_light : Option Color → Module
-drawn_or_light (Some c) = Masked c
-drawn_or_light None = Masked Light
+-- the colour of a pattern, or else of a format place
+drawn_or_light : Option Color → Color
+drawn_or_light (Some c) = c
+drawn_or_light None = Light
 
 settled : (p : Option Color) (f : Option ℕ) (m : Module) → (p ≡ None → is_some f ≡ true)
-    → elim p as (λ _. Module) [ Some c ↦ Masked c | None ↦ elim f as (λ _. Module) [ Some i ↦ Masked Light | None ↦ m ] ] ≡ drawn_or_light p
+    → elim p as (λ _. Module) [ Some c ↦ Masked c | None ↦ elim f as (λ _. Module) [ Some i ↦ Masked Light | None ↦ m ] ] ≡ Masked (drawn_or_light p)
 unfolding drawn_or_light
 settled (Some c) f m h = refl
 settled None (Some i) m h = refl
 settled None None m h = absurd (true≢false (sym (h refl)))
 
-shows : (v : Version) (x y : ℕ) (m : Module) (p : Option Color) → pattern v x y ≡ p → (p ≡ None → is_some (format_index v x y) ≡ true) → pattern_module v x y m ≡ drawn_or_light p
-shows v x y m p e h = settled (pattern v x y) (format_index v x y) m (λ q. h (sym e ∙ q)) ∙ ap drawn_or_light e
+shows : (v : Version) (x y : ℕ) (m : Module) (p : Option Color) → pattern v x y ≡ p → (p ≡ None → is_some (format_index v x y) ≡ true) → pattern_module v x y m ≡ Masked (drawn_or_light p)
+shows v x y m p e h = settled (pattern v x y) (format_index v x y) m (λ q. h (sym e ∙ q)) ∙ ap (λ q. Masked (drawn_or_light q)) e
 
 -- a pattern from its parts, where no alignment pattern and no version word is
 parts : (v : Version) (x y : ℕ) (f t d : Option Color) → finder v x y ≡ f → alignment v x y ≡ None → timing v x y ≡ t → dark_module v x y ≡ d → version_pattern v x y ≡ None
@@ -46,15 +46,15 @@ unfolding pattern
 parts v x y f t d ef ea et ed ev = rw (ef, ea, et, ed, ev) refl
 
 -- a table that is computed from a function of columns and rows
-table : ℕ → ℕ → (ℕ → ℕ → Module) → List (List Module)
+table : ℕ → ℕ → (ℕ → ℕ → Color) → List (List Color)
 table across down f = map (λ j. map (λ i. f i j) (range_with_len 0 across)) (range_with_len 0 down)
 
-table_at : (across down : ℕ) (f : ℕ → ℕ → Module) (block : List (List Module)) → block ≡ table across down f → (i j : ℕ) → i < across → j < down → get_or (get_or block j []) i Empty ≡ f i j
+table_at : (across down : ℕ) (f : ℕ → ℕ → Color) (block : List (List Color)) → block ≡ table across down f → (i j : ℕ) → i < across → j < down → get_or (get_or block j []) i Light ≡ f i j
 unfolding table
 table_at across down f block e i j p q =
-    ap (λ b. get_or (get_or b j []) i Empty) e
-    ∙ ap (λ (l : List Module). get_or l i Empty) (get_or-map-range_with_len (λ j. map (λ i. f i j) (range_with_len 0 across)) 0 down j j [] q (omega arith))
-    ∙ get_or-map-range_with_len (λ i. f i j) 0 across i i Empty p (omega arith)
+    ap (λ b. get_or (get_or b j []) i Light) e
+    ∙ ap (λ (l : List Color). get_or l i Light) (get_or-map-range_with_len (λ j. map (λ i. f i j) (range_with_len 0 across)) 0 down j j [] q (omega arith))
+    ∙ get_or-map-range_with_len (λ i. f i j) 0 across i i Light p (omega arith)
 
 -- a finder pattern has all places near its centre
 near_finder : (a b x y : ℕ) → abs_diff a x ≤ 4 → abs_diff b y ≤ 4 → finder_at a b x y ≡ None → ⊥
@@ -187,7 +187,7 @@ normal_top_left n some i j p q m =
     let ej : 0 + j ≡ j = omega arith in
     rw (ei, ej)
     (shows (Normal (pos n)) i j m (top_left_part i j) (top_left_pattern n i j p yl some) (top_left_format n i j p yl)
-    ∙ sym (table_at 9 9 (λ x y. drawn_or_light (top_left_part x y)) NORMAL_TOP_LEFT top_left_table i j p yl))
+    ∙ ap Masked (sym (table_at 9 9 (λ x y. drawn_or_light (top_left_part x y)) NORMAL_TOP_LEFT top_left_table i j p yl)))
 
 -- the top right of Normal
 shifted : (k a b : ℕ) → abs_diff (k + a) (k + b) ≡ abs_diff a b
@@ -233,7 +233,7 @@ normal_top_right n some i j p q m =
     let ej : 0 + j ≡ j = omega arith in
     rw ej
     (shows (Normal (pos n)) (4 * n + 9 + i) j m (finder_at 4 3 i j) (top_right_pattern n i j p yl some) (top_right_format n i j p yl some)
-    ∙ sym (table_at 8 9 (λ x y. drawn_or_light (finder_at 4 3 x y)) NORMAL_TOP_RIGHT top_right_table i j p yl))
+    ∙ ap Masked (sym (table_at 8 9 (λ x y. drawn_or_light (finder_at 4 3 x y)) NORMAL_TOP_RIGHT top_right_table i j p yl)))
 
 -- the bottom left of Normal
 bottom_left_part : ℕ → ℕ → Option Color
@@ -290,7 +290,7 @@ normal_bottom_left n some i j p q m =
     let ei : 0 + i ≡ i = omega arith in
     rw ei
     (shows (Normal (pos n)) i (4 * n + 9 + j) m (bottom_left_part i j) (bottom_left_pattern n i j p yl some) (bottom_left_format n i j p yl some)
-    ∙ sym (table_at 9 8 (λ x y. drawn_or_light (bottom_left_part x y)) NORMAL_BOTTOM_LEFT bottom_left_table i j p yl))
+    ∙ ap Masked (sym (table_at 9 8 (λ x y. drawn_or_light (bottom_left_part x y)) NORMAL_BOTTOM_LEFT bottom_left_table i j p yl)))
 
 -- the corner of Micro
 micro_part : ℕ → ℕ → Option Color
@@ -330,13 +330,13 @@ micro_top_left n i j p q m =
     let ej : 0 + j ≡ j = omega arith in
     rw (ei, ej)
     (shows (Micro n) i j m (micro_part i j) (micro_pattern n i j) (micro_format n i j p yl)
-    ∙ sym (table_at 9 9 (λ x y. drawn_or_light (micro_part x y)) MICRO_TOP_LEFT micro_table i j p yl))
+    ∙ ap Masked (sym (table_at 9 9 (λ x y. drawn_or_light (micro_part x y)) MICRO_TOP_LEFT micro_table i j p yl)))
 
 -- an alignment pattern
 ring : ℕ → ℕ → Bool
 ring i j = not (max (abs_diff 2 i) (abs_diff 2 j) == 1)
 
-alignment_table : ALIGNMENT ≡ table 5 5 (λ i j. Masked (color_of (ring i j)))
+alignment_table : ALIGNMENT ≡ table 5 5 (λ i j. color_of (ring i j))
 unfolding table ring
 alignment_table = refl
 
@@ -394,7 +394,7 @@ alignment_shown (Normal (pos n)) a b valid ca cb apart i j p q m =
     let ea : abs_diff a (a - 2 + i) ≡ abs_diff 2 i = omega arith in
     let eb : abs_diff b (b - 2 + j) ≡ abs_diff 2 j = omega arith in
     aligned n a b (a - 2 + i) (b - 2 + j) ca cb apart (omega arith) (omega arith) m
-    ∙ rw (ea, eb) (sym (table_at 5 5 (λ i j. Masked (color_of (ring i j))) ALIGNMENT alignment_table i j p jl))
+    ∙ rw (ea, eb) (ap Masked (sym (table_at 5 5 (λ i j. color_of (ring i j)) ALIGNMENT alignment_table i j p jl)))
 alignment_shown (Normal (negsuc n)) a b valid ca cb apart i j p q m = absurd (true≢false (sym valid))
 alignment_shown (Micro n) a b valid ca cb apart i j p q m = absurd (no_centre n a ca)
 

@@ -2,10 +2,12 @@
 use Rattle.std.specs.Prelude.{◌≡◌, ◌≢◌, ℕ, ◌+◌, ◌-◌, ◌*◌, ◌/◌, ◌%◌, ◌<◌, ◌≤◌, false, List, [], length, slice_get, slice_index_or, IfSome}
 use Rattle.qrcode_types.specs.Versions.{side}
 use Rattle.qrcode_types.specs.declared.types.Version.{Version}
+use Rattle.qrcode_types.specs.declared.types.Color.{Color}
+use Rattle.qrcode_types.specs.declared.types.Color.TheVariants.{Light}
 use Rattle.qrcode_places.specs.Patterns.{centres, is_corner_centre}
 use Rattle.qrcode_symbol.specs.Canvas.{blank, pattern_module, with_patterns}
 use Rattle.qrcode_symbol.specs.declared.canvas.Module.{Module}
-use Rattle.qrcode_symbol.specs.declared.canvas.Module.TheVariants.{Empty}
+use Rattle.qrcode_symbol.specs.declared.canvas.Module.TheVariants.{Empty, Masked}
 
 -- the functional patterns leave the module at index i as it is
 abbrev pub IsPatterned : Version → List Module → ℕ → Type 0
@@ -21,10 +23,10 @@ abbrev pub IsRectanglePatterned : Version → List Module → ℕ → ℕ → �
 IsRectanglePatterned v modules left top across down =
     (x y : ℕ) → left ≤ x → x < left + across → top ≤ y → y < top + down → IsPatterned v modules (y * side v + x)
 
--- a block of modules, row by row, shows the functional patterns from a column and a row on
-abbrev pub IsBlockAt : Version → List (List Module) → ℕ → ℕ → ℕ → Type 0
+-- a block of colours, row by row, shows the functional patterns from a column and a row on
+abbrev pub IsBlockAt : Version → List (List Color) → ℕ → ℕ → ℕ → Type 0
 IsBlockAt v block across left top =
-    (i j : ℕ) → i < across → j < length block → (m : Module) → pattern_module v (left + i) (top + j) m ≡ slice_index_or (slice_index_or block j []) i Empty
+    (i j : ℕ) → i < across → j < length block → (m : Module) → pattern_module v (left + i) (top + j) m ≡ Masked (slice_index_or (slice_index_or block j []) i Light)
 
 -- one of the coordinates of the alignment centres
 abbrev pub IsCentre : Version → ℕ → Type 0

@@ -6,6 +6,7 @@ ghost use Rattle.qrcode_types.specs.Versions.{is_valid, is_micro, side};
 ghost use Rattle.qrcode_places.specs.Patterns.{centres, is_functional_place, is_corner_centre};
 ghost use Rattle.qrcode_symbol.specs.Canvas.{pattern_module, with_patterns};
 ghost use Rattle.qrcode_symbol.specs.Patterned.{DrawsTowards, IsRectanglePatterned, AreAlignmentsPatterned, IsBlockAt, IsCentre, IsDrawn};
+ghost use Rattle.qrcode_symbol.specs.declared.canvas.Module.TheVariants.{Masked};
 
 mod blocks;
 
@@ -109,23 +110,23 @@ fn draw_rectangle<C: Cell>(
     }
 }
 
-// Writes modules over as many others.
+// Writes modules that no mask turns over as many others.
 #[inline(always)]
-fn put_row<C: Cell>(row: &[Module], modules: &mut [C])
-    requires { length modules.old ≡ length row.now }
-    ensures { map C.shows modules.new ≡ row.now }
+fn put_row<C: Cell, const ACROSS: usize>(colors: [Color; ACROSS], modules: &mut [C])
+    requires { length modules.old ≡ ACROSS }
+    ensures { map C.shows modules.new ≡ map Masked colors.entry }
 {
-    for i in 0..row.len() {
-        modules[i] = C::of(row[i]);
+    for i in 0..ACROSS {
+        modules[i] = C::of(Module::Masked(colors[i]));
     }
 }
 
-// Draws a block of modules, which a table holds row by row.
+// Draws a block of modules, whose colours a table holds row by row.
 fn draw_block<C: Cell, const ACROSS: usize>(
     places: PatternPlaces,
     left: usize,
     top: usize,
-    block: &[[Module; ACROSS]],
+    block: &[[Color; ACROSS]],
     modules: &mut [C],
 )
     requires columns { left + ACROSS ≤ side places.version }
@@ -139,7 +140,7 @@ fn draw_block<C: Cell, const ACROSS: usize>(
 {
     for row in 0..block.len() {
         let start = (top + row) * places.width + left;
-        put_row(&block[row], &mut modules[start..start + ACROSS]);
+        put_row(block[row], &mut modules[start..start + ACROSS]);
     }
 }
 

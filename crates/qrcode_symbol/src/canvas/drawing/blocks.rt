@@ -1,17 +1,16 @@
 //! Blocks of functional modules that are the same in all versions that have them, row by row.
 
-use super::super::Module;
 use qrcode_types::types::Color;
 
-// A dark module, its name short so that a block can be seen.
-const D: Module = Module::Masked(Color::Dark);
+// Dark, its name short so that a block can be seen.
+const D: Color = Color::Dark;
 
-// A light module.
-const L: Module = Module::Masked(Color::Light);
+// Light.
+const L: Color = Color::Light;
 
 /// The finder pattern at the top left of Normal, with the format places round it and the first modules
 /// of both timing lines.
-pub(super) static NORMAL_TOP_LEFT: [[Module; 9]; 9] = [
+pub(super) static NORMAL_TOP_LEFT: [[Color; 9]; 9] = [
     [D, D, D, D, D, D, D, L, L],
     [D, L, L, L, L, L, D, L, L],
     [D, L, D, D, D, L, D, L, L],
@@ -24,7 +23,7 @@ pub(super) static NORMAL_TOP_LEFT: [[Module; 9]; 9] = [
 ];
 
 /// The finder pattern at the top right of Normal, with the format places below it.
-pub(super) static NORMAL_TOP_RIGHT: [[Module; 8]; 9] = [
+pub(super) static NORMAL_TOP_RIGHT: [[Color; 8]; 9] = [
     [L, D, D, D, D, D, D, D],
     [L, D, L, L, L, L, L, D],
     [L, D, L, D, D, D, L, D],
@@ -38,7 +37,7 @@ pub(super) static NORMAL_TOP_RIGHT: [[Module; 8]; 9] = [
 
 /// The finder pattern at the bottom left of Normal, with the dark module and the format places beside
 /// it.
-pub(super) static NORMAL_BOTTOM_LEFT: [[Module; 9]; 8] = [
+pub(super) static NORMAL_BOTTOM_LEFT: [[Color; 9]; 8] = [
     [L, L, L, L, L, L, L, L, D],
     [D, D, D, D, D, D, D, L, L],
     [D, L, L, L, L, L, D, L, L],
@@ -51,7 +50,7 @@ pub(super) static NORMAL_BOTTOM_LEFT: [[Module; 9]; 8] = [
 
 /// The finder pattern of Micro, with the format places round it and the first modules of both timing
 /// lines.
-pub(super) static MICRO_TOP_LEFT: [[Module; 9]; 9] = [
+pub(super) static MICRO_TOP_LEFT: [[Color; 9]; 9] = [
     [D, D, D, D, D, D, D, L, D],
     [D, L, L, L, L, L, D, L, L],
     [D, L, D, D, D, L, D, L, L],
@@ -64,7 +63,7 @@ pub(super) static MICRO_TOP_LEFT: [[Module; 9]; 9] = [
 ];
 
 /// An alignment pattern.
-pub(super) static ALIGNMENT: [[Module; 5]; 5] = [
+pub(super) static ALIGNMENT: [[Color; 5]; 5] = [
     [D, D, D, D, D],
     [D, L, L, L, D],
     [D, L, D, L, D],

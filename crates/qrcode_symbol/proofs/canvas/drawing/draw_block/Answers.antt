@@ -1,10 +1,11 @@
 use Rattle.std.proofs.Common.{◌≡◌, ◌+◌, ◌-◌, ◌*◌, ◌≤◌, rules, [], length, take, drop, length-take, length-drop, get_or, map, List, subst, ap, sym, ◌∙◌, arith}
-use Rattle.std.proofs.lemmas.List.{get_or_read, length-map}
+use Rattle.std.proofs.lemmas.List.{get_or_read, get_or-map, length-map}
 use Rattle.qrcode_symbol.specs.declared.canvas.Module.{Module}
 use Rattle.qrcode_symbol.specs.Patterned.{DrawsTowards, IsRectanglePatterned}
 use Rattle.qrcode_symbol.proofs.Shown.{map-put_mid}
 use Rattle.qrcode_types.specs.Versions.{side}
-use Rattle.qrcode_symbol.specs.declared.canvas.Module.TheVariants.{Empty}
+use Rattle.qrcode_symbol.specs.declared.canvas.Module.TheVariants.{Empty, Masked}
+use Rattle.qrcode_types.specs.declared.types.Color.TheVariants.{Light}
 use Rattle.qrcode_symbol.proofs.Patterned.{block_row, row_inside}
 use Rattle.qrcode_symbol.proofs.canvas.drawing.draw_block.Goals as goal
 
@@ -25,9 +26,12 @@ loop-row-preserved g c =
     let inside = row_inside (side v) left across (top + n) c.requires.columns (omega arith) in
     let room : length (take (start + across - start) (drop start c.loop-row.modules)) ≡ across = simp (length-take, length-drop) (omega arith) in
     let long : length row ≡ across = length-map c.put_row.new.modules shows ∙ c.put_row.auto.modules ∙ room in
+    let colors = c.index-block-row.result in
+    let wide : length colors ≡ across = sym (length-map colors Masked) ∙ ap length (sym c.put_row.ensures) ∙ long in
     let square : length old ≡ side v * side v = length-map c.loop-row.modules shows ∙ omega arith in
     let step = block_row v (map shows c.args.modules.now) old row left top across n start at c.requires.columns (omega arith) square long
-    (λ i h x. c.requires.shown i n h (omega arith) x ∙ sym (ap (λ l. get_or l i Empty) (c.put_row.ensures ∙ read))) c.loop-row.invariant.towards c.loop-row.invariant.drawn in
+    (λ i h x. c.requires.shown i n h (omega arith) x
+    ∙ sym (ap (λ l. get_or l i Empty) c.put_row.ensures ∙ get_or-map Masked colors i Light Empty (omega (arith, h, wide)) ∙ ap (λ l. Masked (get_or l i Light)) read)) c.loop-row.invariant.towards c.loop-row.invariant.drawn in
     let after = map-put_mid shows start across c.loop-row.modules c.put_row.new.modules in
     let P : List Module → Type 0 = λ ms. DrawsTowards v (map shows c.args.modules.now) ms × IsRectanglePatterned v ms left top across (n + 1) in
     let both = subst P (sym after) step in
