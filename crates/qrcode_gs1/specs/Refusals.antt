@@ -1,0 +1,105 @@
+-- Which elements are refused, and for what cause.
+use Rattle.std.specs.Prelude.{◌≡◌, ◌⊎◌, ℕ, nat_lt, ◌==◌, ◌&&◌, ◌||◌, ◌+◌, ◌-◌, ◌*◌, ◌%◌, not, Bool, true, false, List, [], ◌∷◌, length, take, Option, Some, None, if◌then◌else◌, Result, Ok, Err, codes, refl}
+use Rattle.std.specs.List.{list_all}
+use Rattle.std.specs.declared.alloc.Global.{Global}
+use Rattle.std.specs.declared.vec.Vec.{Vec}
+use Rattle.qrcode_gs1.specs.declared.errors.Cause.{Cause}
+use Rattle.qrcode_gs1.specs.declared.errors.Cause.TheVariants.{UnknownIdentifier, Length, Character, CheckDigit}
+use Rattle.qrcode_gs1.specs.declared.errors.Gs1Error.{Gs1Error}
+use Rattle.qrcode_gs1.specs.declared.errors.Gs1Error.TheVariants.{Refused, OutOfMemory}
+use Rattle.qrcode_gs1.specs.Elements.{Item, is_within, number_of, prefix_of, digit_count, fixed_length, is_fixed}
+
+-- the first and the last identifier; the least and the greatest length of a value; how many of its first characters have to be digits; and how many of these end in a check digit
+abbrev pub Rule : Type 0
+Rule = (ℕ × ℕ) × (ℕ × ℕ) × ℕ × ℕ
+
+-- a digit
+abbrev pub is_digit : ℕ → Bool
+is_digit b = is_within 48 57 b
+
+-- one of the 82 characters: digits, letters, and ! " % & ' ( ) * + , - . / : ; < = > ? _
+unfoldable pub is_character : ℕ → Bool
+is_character b =
+    is_within 33 34 b || is_within 37 63 b || is_within 65 90 b || b == 95 || is_within 97 122 b
+
+-- the first rule for this number
+abbrev pub first_rule : List Rule → ℕ → Option Rule
+first_rule [] n = None
+first_rule (rule ∷ rules) n = if is_within rule.0.0 rule.0.1 n then Some rule else first_rule rules n
+
+-- the rule for this number: from 3100 to 3699 the last digit counts decimals, and is at most 5
+unfoldable pub numbered_rule : List Rule → ℕ → Option Rule
+numbered_rule rules n = if is_within 3100 3699 n && nat_lt 5 (n % 10) then None else first_rule rules n
+
+-- an identifier is digits, as many as its first two say
+abbrev pub is_identifier : List ℕ → Bool
+is_identifier bytes = (length bytes == digit_count (prefix_of bytes)) && list_all is_digit bytes
+
+-- the rule of an identifier
+abbrev pub rule_of : List Rule → List ℕ → Option Rule
+rule_of rules bytes = if is_identifier bytes then numbered_rule rules (number_of bytes) else None
+
+-- digits, the last by 1, the one before it by 3, and so on in turn
+abbrev pub weighted_sum : List ℕ → ℕ
+weighted_sum [] = 0
+weighted_sum (digit ∷ digits) = (1 + 2 * (length digits % 2)) * (digit - 48) + weighted_sum digits
+
+-- the last digit makes the sum a multiple of ten
+abbrev pub is_checked : List ℕ → Bool
+is_checked digits = weighted_sum digits % 10 == 0
+
+-- printed examples of a GTIN, a GLN and an SSCC, and one with a wrong digit
+trade_item_row : is_checked (codes "09506000134352") ≡ true
+trade_item_row = refl
+
+location_row : is_checked (codes "4006381333931") ≡ true
+location_row = refl
+
+wrong_row : is_checked (codes "09506000134353") ≡ false
+wrong_row = refl
+
+-- the value has as many characters as the rule, and the identifier's first digits, say
+abbrev pub is_long_enough : Rule → Item → Bool
+is_long_enough rule item =
+    is_within rule.1.0 rule.1.1 (length item.1)
+    && (not (is_fixed item.0) || (length item.0 + length item.1 == fixed_length (prefix_of item.0)))
+
+-- the value has characters that may stand there
+abbrev pub is_written : Rule → List ℕ → Bool
+is_written rule value = list_all is_character value && list_all is_digit (take rule.2 value)
+
+-- what is wrong with an element for which there is this rule
+abbrev pub cause_by : Rule → Item → Option Cause
+cause_by rule item =
+    if not (is_long_enough rule item) then Some Length
+    else (if not (is_written rule item.1) then Some Character
+    else (if not (is_checked (take rule.3 item.1)) then Some CheckDigit else None))
+
+-- what is wrong with an element
+abbrev pub cause_found : Option Rule → Item → Option Cause
+cause_found None item = Some UnknownIdentifier
+cause_found (Some rule) item = cause_by rule item
+
+abbrev pub cause_of : List Rule → Item → Option Cause
+cause_of rules item = cause_found (rule_of rules item.0) item
+
+-- a cause at this index, or what is refused behind it
+abbrev pub refusal_or : Option Cause → ℕ → Option Gs1Error → Option Gs1Error
+refusal_or None index later = later
+refusal_or (Some cause) index later = Some (Refused index cause)
+
+-- the first element that is refused, of those from this index on
+abbrev pub refusal_from : List Rule → ℕ → List Item → Option Gs1Error
+refusal_from rules index [] = None
+refusal_from rules index (item ∷ items) =
+    refusal_or (cause_of rules item) index (refusal_from rules (index + 1) items)
+
+-- the answer of a check that refuses so
+abbrev pub checked : Option Gs1Error → Result (Unit {0}) Gs1Error
+checked None = Ok tt
+checked (Some e) = Err e
+
+-- bytes with this property where nothing is refused; else the refusal, or the want of memory
+abbrev pub Answers : Option Gs1Error → Result (Vec ℕ Global) Gs1Error → (List ℕ → Type 0) → Type 0
+Answers refusal (Ok bytes) P = (refusal ≡ None) × P bytes.items
+Answers refusal (Err e) P = (refusal ≡ Some e) ⊎ (e ≡ OutOfMemory)

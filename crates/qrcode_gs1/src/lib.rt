@@ -1,0 +1,7 @@
+//! Element strings of GS1: application identifiers with their values.
+#![tactic(auto)]
+
+pub mod checks;
+pub mod elements;
+pub mod errors;
+pub mod table;
