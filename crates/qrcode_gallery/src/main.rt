@@ -1,4 +1,4 @@
-//! Prints the symbol of a text in one of the six ways to draw, as `qrcode_gallery svg TEXT`.
+//! Prints the symbol of a text in one of the ten ways to draw, as `qrcode_gallery svg TEXT`.
 #![tactic(auto)]
 
 mod program;
@@ -6,7 +6,7 @@ mod program;
 use qrcode_programs::{Fault, end, words};
 use std::process::ExitCode;
 
-static USAGE: &str = "wants char|str|half-blocks|svg|pic|pixels and a text";
+static USAGE: &str = "wants char|str|half-blocks|svg|path|pic|eps|pixels|pbm|png and a text";
 
 fn main(rt: HostRuntime) -> ExitCode {
     let run = draw_arguments(&rt);

@@ -5,11 +5,11 @@ ghost use Rattle.qrcode_types.specs.declared.types.EcLevel.TheVariants.{M};
 ghost use Rattle.qrcode_types.specs.declared.types.QrError.TheVariants.{OutOfMemory};
 ghost use Rattle.qrcode_bits.specs.Choice.{IsRefused};
 ghost use Rattle.qrcode_programs.specs.Runs.{IsRun, IsCannotWrite};
-ghost use Rattle.qrcode_uses.specs.Drawings.{IsDrawnAs};
-ghost use Rattle.qrcode_gallery.specs.Kinds.{name_of, drawing_in};
+ghost use Rattle.qrcode_gallery.specs.Kinds.{name_of, is_drawing, IsDrawnIn};
 ghost use Rattle.qrcode_gallery.specs.declared.program.Kind.{Kind};
 
 use qrcode::QrCode;
+use qrcode::render::{eps, pbm, svg};
 use qrcode::types::QrResult;
 use qrcode_programs::{Fault, deliver};
 use qrcode_uses::drawings;
@@ -23,8 +23,12 @@ pub enum Kind {
     Pairs,
     HalfBlocks,
     Svg,
+    Path,
     Pic,
+    Eps,
     Pixels,
+    Pbm,
+    Png,
 }
 
 // The kind of a name.
@@ -37,16 +41,19 @@ fn kind_of(name: &str) -> Option<Kind>
         "str" => Some(Kind::Pairs),
         "half-blocks" => Some(Kind::HalfBlocks),
         "svg" => Some(Kind::Svg),
+        "path" => Some(Kind::Path),
         "pic" => Some(Kind::Pic),
+        "eps" => Some(Kind::Eps),
         "pixels" => Some(Kind::Pixels),
+        "pbm" => Some(Kind::Pbm),
+        "png" => Some(Kind::Png),
         _ => None,
     }
 }
 
 // The drawing of bytes in a kind.
 fn draw(alloc: Global, kind: Kind, bytes: &[u8]) -> QrResult<Vec<u8>>
-    ensures drawing { IfOk result (λ drawing.
-        IsDrawnAs (drawing_in kind) bytes.now drawing.items) }
+    ensures drawing { IfOk result (λ drawing. IsDrawnIn kind bytes.now drawing.items) }
     ensures causes { IfErr result (IsRefused M bytes.now) }
 {
     let code = QrCode::new(alloc, bytes)?;
@@ -57,7 +64,7 @@ fn draw(alloc: Global, kind: Kind, bytes: &[u8]) -> QrResult<Vec<u8>>
 // The drawing of a symbol in a kind.
 fn drawing_of(alloc: Global, kind: Kind, code: &QrCode) -> QrResult<Vec<u8>>
     ensures drawing { IfOk result (λ drawing.
-        drawing.items ≡ drawing_in kind code.now.version code.now.modules) }
+        is_drawing kind code.now.version code.now.modules drawing.items) }
     ensures memory { IsOkUnless result OutOfMemory }
 {
     let text = match kind {
@@ -65,8 +72,12 @@ fn drawing_of(alloc: Global, kind: Kind, code: &QrCode) -> QrResult<Vec<u8>>
         Kind::Pairs => drawings::as_pairs(alloc, code)?,
         Kind::HalfBlocks => drawings::as_half_blocks(alloc, code)?,
         Kind::Svg => drawings::as_svg(alloc, code)?,
+        Kind::Path => code.render::<svg::Path>().build(alloc)?,
         Kind::Pic => drawings::as_pic(alloc, code)?,
+        Kind::Eps => code.render::<eps::Color>().build(alloc)?,
         Kind::Pixels => return drawings::as_grey_map(alloc, code),
+        Kind::Pbm => return code.render::<pbm::Bit>().build(alloc),
+        Kind::Png => return code.render::<qrcode_png::Color>().build(alloc),
     };
     Ok(text.into_bytes())
 }
@@ -78,7 +89,7 @@ pub fn run<W: Write>(alloc: Global, name: &str, text: &str, out: &mut W) -> Resu
     ensures nothing { IfErr result (λ fault.
         IsCannotWrite fault ⊎ (W.contents out.new ≡ W.contents out.old)) }
     ensures runs { IsErrOf result Fault.Usage ⊎ ((kind : Kind) × (name.now ≡ name_of kind)
-        × IsRun (IsDrawnAs (drawing_in kind) text.now) (IsRefused M text.now)
+        × IsRun (IsDrawnIn kind text.now) (IsRefused M text.now)
         (W.contents out.old) (W.contents out.new) result) }
 {
     let Some(kind) = kind_of(name) else {

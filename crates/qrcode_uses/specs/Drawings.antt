@@ -1,13 +1,11 @@
 -- The six ways to draw a symbol, each with its quiet zone.
-use Rattle.std.specs.Prelude.{◌≡◌, ℕ, true, false, List, [], ◌∷◌, ◌++◌, codes, decimal, encode_utf8}
-use Rattle.qrcode_types.specs.declared.types.EcLevel.TheVariants.{M}
+use Rattle.std.specs.Prelude.{ℕ, true, false, List, [], ◌∷◌, ◌++◌, codes, decimal, encode_utf8}
 use Rattle.qrcode_types.specs.declared.types.Version.{Version}
 use Rattle.qrcode_types.specs.declared.types.Color.{Color}
 use Rattle.qrcode_render.specs.Layout.{pixels_across, pixels_down}
 use Rattle.qrcode_render.specs.Picture.{picture}
 use Rattle.qrcode_render.specs.Texts.{dense_text, raw_bytes}
 use Rattle.qrcode_render.specs.Vectors as vectors
-use Rattle.qrcode.specs.Acceptance.{IsChosenSymbol}
 use Rattle.qrcode.specs.Pictures.{layout_in, cells_text}
 
 -- whole blocks and spaces
@@ -36,10 +34,3 @@ grey_map v s =
     let at = layout_in 8 v in
     codes "P5\n" ++ (decimal (pixels_across at) ++ (codes " " ++ (decimal (pixels_down at) ++ codes "\n255\n")))
     ++ raw_bytes (0 ∷ []) (255 ∷ []) (picture at s)
-
--- the symbol that is chosen for data at level M, as a drawing shows it
-pub record IsDrawnAs (show : Version → List Color → List ℕ) (bytes drawing : List ℕ) : Type 0 where
-  pub version : Version
-  pub colors : List Color
-  pub symbol : IsChosenSymbol version M bytes colors
-  pub shown : drawing ≡ show version colors
