@@ -8,12 +8,15 @@ use crate::pictures::Kind::{
 use crate::scenario::Call::Once;
 use crate::scenario::Memory::Takes;
 use crate::scenario::Scenario;
-use crate::scenario::Single::{Image, Picture};
+use crate::scenario::Single::{Filled, Image, Picture};
+use qrcode::types::Version;
 
-/// Pictures of a small symbol.
+/// Pictures of a small symbol, and of two written into buffers.
 #[rattlefmt::skip]
-pub static OF_MICRO: [Scenario; 12] = [
+pub static OF_MICRO: [Scenario; 14] = [
     Scenario("Renderer::to_image", Takes, None, Once(Image)),
+    Scenario("Renderer::build_into: Luma", Takes, None, Once(Filled(Version::Micro(1)))),
+    Scenario("Renderer::build_into: Luma, wide", Takes, None, Once(Filled(Version::Normal(40)))),
     Scenario("Renderer::build: char", Takes, None, Once(Picture(Chars, Micro2))),
     Scenario("Renderer::build: Str", Takes, None, Once(Picture(Strings, Micro2))),
     Scenario("Renderer::build: a user's element", Takes, None, Once(Picture(Words, Micro2))),
