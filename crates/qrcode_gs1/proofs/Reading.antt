@@ -12,7 +12,7 @@ use Rattle.qrcode_gs1.specs.declared.errors.Gs1Error.{Gs1Error}
 use Rattle.qrcode_gs1.specs.declared.errors.Gs1Error.TheVariants.{OutOfMemory}
 use Rattle.qrcode_gs1.specs.declared.errors.Cause.{Cause}
 use Rattle.qrcode_gs1.specs.declared.errors.Cause.TheVariants.{Length, Character, CheckDigit}
-use Rattle.qrcode_gs1.specs.Elements.{Item, number_of, prefix_of, digit_count, fixed_length, is_fixed, separator, element_string, before_separator, behind_separator, first_element, item_of, read_items, read_elements}
+use Rattle.qrcode_gs1.specs.Elements.{Item, number_of, prefix_of, digit_count, fixed_length, is_fixed, separator, element_string, before_separator, behind_separator, first_element, item_of, read_items, read_elements, are_apart}
 use Rattle.qrcode_gs1.specs.Refusals.{Rule, is_digit, is_character, is_identifier, numbered_rule, is_checked, cause_by, cause_found, cause_of, refusal_or, refusal_from, checked, Answers}
 
 -- two tests that hold
@@ -187,6 +187,33 @@ read_back rules items is =
     let are = all_whole rules 0 items is in
     reads items (length (element_string items)) are (count items are)
 
+-- Separators stand apart.
+
+apart_join : (xs ys : List ℕ) → is_plain xs ≡ true → are_apart ys ≡ true → are_apart (xs ++ ys) ≡ true
+apart_join [] ys plain apart = apart
+apart_join (x ∷ []) [] plain apart = refl
+apart_join (x ∷ []) (y ∷ ys) plain apart = rw (denied _ (both (not (x == 29)) true plain).0) apart
+apart_join (x ∷ z ∷ xs) ys plain apart =
+    let parts = both (not (x == 29)) (is_plain (z ∷ xs)) plain in
+    rw (denied _ parts.0) (apart_join (z ∷ xs) ys parts.1 apart)
+
+apart_separator : (xs later : List ℕ) → is_plain xs ≡ true → 2 ≤ length xs → are_apart (xs ++ later) ≡ true → are_apart (29 ∷ (xs ++ later)) ≡ true
+apart_separator [] later plain least apart = let no : ⊥ = omega (arith, least) in absurd no
+apart_separator (x ∷ xs) later plain least apart = rw (denied _ (both (not (x == 29)) (is_plain xs) plain).0) apart
+
+apart_behind : (unfixed : Bool) (items : List Item) → AllWhole items → are_apart (separator unfixed items ++ element_string items) ≡ true
+apart_behind unfixed [] are = refl
+apart_behind false (item ∷ items) are = apart_join (item.0 ++ item.1) (separator (not (is_fixed item.0)) items ++ element_string items) are.0.plain (apart_behind (not (is_fixed item.0)) items are.1)
+apart_behind true (item ∷ items) are =
+    let bytes = item.0 ++ item.1 in
+    let later = separator (not (is_fixed item.0)) items ++ element_string items in
+    apart_separator bytes later are.0.plain (item_least item are.0) (apart_join bytes later are.0.plain (apart_behind (not (is_fixed item.0)) items are.1))
+
+-- the separators of elements of which none is refused stand apart
+pub apart : (rules : List Rule) (items : List Item) → refusal_from rules 0 items ≡ None → are_apart (element_string items) ≡ true
+apart rules [] is = refl
+apart rules (item ∷ items) is = apart_behind false (item ∷ items) (all_whole rules 0 (item ∷ items) is)
+
 -- a check that passes refuses nothing
 pub checked_none : (refusal : Option Gs1Error) (r : Result (Unit {0}) Gs1Error) (x : Unit {0}) → r ≡ checked refusal → r ≡ Ok x → refusal ≡ None
 checked_none None r x is ok = refl
@@ -196,3 +223,8 @@ checked_none (Some e) r x is ok = cc
 pub answered : (refusal : Option Gs1Error) (r : Result (Vec ℕ Global) Gs1Error) (bytes : List ℕ) (P : List ℕ → Type 0) → refusal ≡ None → IfOk r (λ v. v.items ≡ bytes) → IsOkUnless r OutOfMemory → P bytes → Answers refusal r P
 answered refusal (Ok v) bytes P none is memory says = (none, subst P (sym is) says)
 answered refusal (Err e) bytes P none is memory says = inr memory
+
+-- what is so of the bytes is so of what is written
+pub written_so : (P : List ℕ → Type 0) (r : Result (Vec ℕ Global) Gs1Error) (bytes : List ℕ) → P bytes → IfOk r (λ v. v.items ≡ bytes) → IfOk r (λ v. P v.items)
+written_so P (Ok v) bytes says is = subst P (sym is) says
+written_so P (Err e) bytes says is = tt

@@ -1,5 +1,5 @@
 -- Element strings of GS1: application identifiers, each with its value (GS1 General Specifications, "Processing of data from a GS1 symbology").
-use Rattle.std.specs.Prelude.{ℕ, zero, suc, nat_lt, ◌==◌, ◌&&◌, ◌||◌, ◌+◌, ◌-◌, ◌*◌, not, Bool, List, [], ◌∷◌, ◌++◌, length, take, drop, fold, if◌then◌else◌}
+use Rattle.std.specs.Prelude.{ℕ, zero, suc, nat_lt, ◌==◌, ◌&&◌, ◌||◌, ◌+◌, ◌-◌, ◌*◌, not, Bool, true, List, [], ◌∷◌, ◌++◌, length, take, drop, fold, if◌then◌else◌}
 
 -- an identifier and its value
 abbrev pub Item : Type 0
@@ -79,3 +79,9 @@ read_items (suc n) (b ∷ rest) =
 -- the elements of an element string; each takes a byte at least
 abbrev pub read_elements : List ℕ → List Item
 read_elements bytes = read_items (length bytes) bytes
+
+-- no separator stands right behind another
+abbrev pub are_apart : List ℕ → Bool
+are_apart [] = true
+are_apart (b ∷ []) = true
+are_apart (b ∷ c ∷ rest) = not ((b == 29) && (c == 29)) && are_apart (c ∷ rest)

@@ -1,8 +1,8 @@
 //! Elements and the string of them.
 
-ghost use Rattle.std.specs.Prelude.{◌≡◌, ◌++◌, map, IfOk, OnOk, IsOkUnless};
+ghost use Rattle.std.specs.Prelude.{◌≡◌, ◌++◌, map, IfOk, OnOk, IsOkUnless, IsTrue};
 ghost use Rattle.qrcode_gs1.specs.declared.errors.Gs1Error.TheVariants.{OutOfMemory};
-ghost use Rattle.qrcode_gs1.specs.Elements.{element_string, read_elements};
+ghost use Rattle.qrcode_gs1.specs.Elements.{element_string, read_elements, are_apart};
 ghost use Rattle.qrcode_gs1.specs.Items.{item};
 ghost use Rattle.qrcode_gs1.specs.Refusals.{Answers, checked, refusal_from};
 
@@ -58,6 +58,7 @@ pub fn element_string(alloc: Global, elements: &[Element]) -> Gs1Result<Vec<u8>>
     ensures reads { Answers (refusal_from RULES 0 (map item elements.now)) result
         (λ bytes. read_elements bytes ≡ map item elements.now) }
     ensures value { IfOk result (λ bytes. bytes.items ≡ element_string (map item elements.now)) }
+    ensures apart { IfOk result (λ bytes. IsTrue (are_apart bytes.items)) }
 {
     check(elements)?;
     written(alloc, elements)
