@@ -1,4 +1,5 @@
 pub mod Attributes
+pub mod Beginnings
 pub mod FilledRuns
 pub mod Folds
 pub mod Grids
@@ -13,4 +14,5 @@ pub mod RasterPictures
 pub mod PutRows
 pub mod Rectangles
 pub mod Sizes
+pub mod StrokedRows
 pub mod TextLines

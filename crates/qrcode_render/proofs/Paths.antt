@@ -1,10 +1,11 @@
 -- Texts of rectangles, put together of those of columns and rows.
 use Rattle.std.proofs.Common.{◌≡◌, ℕ, ◌+◌, ◌<◌, ◌≤◌, ◌^◌, List, [], ◌∷◌, ◌++◌, length, ap, arith, append_assoc, length-append}
-use Rattle.std.specs.Prelude.{decimal}
+use Rattle.std.specs.Prelude.{codes, decimal}
 use Rattle.std.proofs.lemmas.List.{append-nil}
 use Rattle.std.specs.Str.{IsAscii, IsUtf8}
 use Rattle.std.proofs.lemmas.Fmt.{length-decimal-le, IsAscii-decimal}
 use Rattle.std.proofs.lemmas.Str.{IsAscii-append, IsUtf8-from_ascii}
+use Rattle.qrcode_render.specs.Eps.{eps_rect, eps_column, eps_row}
 use Rattle.qrcode_render.specs.Strokes.{rect_text, stroke}
 use Rattle.qrcode_render.specs.Vectors.{svg_rect, svg_column, svg_row, pic_rect, pic_column, pic_row}
 
@@ -21,6 +22,13 @@ pic_regroup text p a s b c d e = simp (append_assoc, append-nil)
 -- a box is that of its column and its row
 pub pic_rect-is : (left top width height : ℕ) (text : List ℕ) → pic_rect left top width height text ≡ text ++ rect_text (pic_column left) (pic_row top width height)
 pic_rect-is left top width height text = pic_regroup text (112 ∷ 40 ∷ []) (decimal left) (44 ∷ []) (decimal top) (decimal width) (decimal height) (41 ∷ 10 ∷ [])
+
+eps_regroup : (text a s b c d e : List ℕ) → text ++ (a ++ (s ++ (b ++ (s ++ (c ++ (s ++ (d ++ e))))))) ≡ text ++ ((a ++ s) ++ ((b ++ (s ++ (c ++ (s ++ d)))) ++ ([] ++ e)))
+eps_regroup text a s b c d e = simp append_assoc
+
+-- a box of PostScript is that of its column and its row
+pub eps_rect-is : (left top width height : ℕ) (text : List ℕ) → eps_rect left top width height text ≡ text ++ rect_text (eps_column left) (eps_row top width height)
+eps_rect-is left top width height text = eps_regroup text (decimal left) (codes " ") (decimal top) (decimal width) (decimal height) (codes " rectfill\n")
 
 -- a number below 2^32 has at most ten digits
 pub number_short : (n : ℕ) → n < 2 ^ 32 → length (decimal n) ≤ 10
@@ -48,9 +56,12 @@ sides-IsUtf8 s t top width height a b c p q =
     let three = IsAscii-append (decimal top ++ s ++ decimal width) t two q in
     IsUtf8-from_ascii _ (IsAscii-append (decimal top ++ s ++ decimal width ++ t) (decimal height) three (IsAscii-decimal height (omega arith)))
 
--- the rectangles of SVG and of PIC are such
+-- the rectangles of SVG, of PIC and of PostScript are such
 pub svg_strokes : svg_rect ≡ stroke svg_column svg_row
 svg_strokes = λ k left top width height text. svg_rect-is left top width height text k
 
 pub pic_strokes : pic_rect ≡ stroke pic_column pic_row
 pic_strokes = λ k left top width height text. pic_rect-is left top width height text k
+
+pub eps_strokes : eps_rect ≡ stroke eps_column eps_row
+eps_strokes = λ k left top width height text. eps_rect-is left top width height text k

@@ -1,5 +1,5 @@
 -- The text of Encapsulated PostScript.
-use Rattle.std.specs.Prelude.{ℕ, List, ◌++◌, codes, decimal}
+use Rattle.std.specs.Prelude.{ℕ, List, [], ◌++◌, codes, decimal}
 use Rattle.qrcode_types.specs.declared.types.Color.{Color}
 use Rattle.qrcode_render.specs.declared.eps.Color as eps
 use Rattle.qrcode_render.specs.Drawn.{drawn}
@@ -31,6 +31,13 @@ eps_start w h dark light = eps_head w h ++ (eps_paint light ++ (eps_box 0 0 w h 
 -- a dark rectangle
 abbrev pub eps_rect : ℕ → ℕ → ℕ → ℕ → List ℕ → List ℕ
 eps_rect left top width height text = text ++ eps_box left top width height
+
+-- what the column of a rectangle determines of its box, and what its row and its sides
+abbrev pub eps_column : ℕ → List ℕ × List ℕ
+eps_column left = (decimal left ++ codes " ", [])
+
+abbrev pub eps_row : ℕ → ℕ → ℕ → List ℕ × List ℕ
+eps_row top width height = (decimal top ++ (codes " " ++ (decimal width ++ (codes " " ++ decimal height))), codes " rectfill\n")
 
 -- what stands behind the last dark rectangle
 abbrev pub eps_end : List ℕ

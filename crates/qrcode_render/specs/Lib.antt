@@ -6,14 +6,15 @@ pub mod Grid
 pub mod GridOf
 pub mod Half
 pub mod Ink
-pub mod Inked
 pub mod Layout
 pub mod LineOf
 pub mod Lines
 pub mod Paths
 pub mod Picture
+pub mod Put
 pub mod Raster
 pub mod Setting
+pub mod Shades
 pub mod Shown
 pub mod Strips
 pub mod Strokes

@@ -1,18 +1,22 @@
-//! Rows of pixels in a buffer of the caller.
+//! Pictures in a buffer of the caller.
 
-ghost use Rattle.std.specs.Prelude.{◌≡◌, ◌+◌, ◌*◌, ◌≤◌, [], ◌∷◌, ◌++◌, length, take, flat_map, max, vec_len, OnOk, OnErr, IsOkUnless, IsTrue};
+ghost use Rattle.std.specs.Prelude.{◌≡◌, ◌+◌, ◌*◌, ◌≤◌, [], ◌∷◌, ◌++◌, length, take, flat_map, max, vec_len, IfOk, OnOk, OnErr, IsOkUnless, IsTrue};
 ghost use Rattle.std.specs.List.{range_with_len};
 ghost use Rattle.qrcode_types.specs.declared.types.QrError.TheVariants.{OutOfMemory};
 ghost use Rattle.qrcode_render.specs.Grid.{all_columns, all_rows, cell_row, pixels_of, repeated};
 ghost use Rattle.qrcode_render.specs.Layout.{pixels_across, pixels_down};
+ghost use Rattle.qrcode_render.specs.Put.{IsPutWhere};
 ghost use Rattle.qrcode_render.specs.Setting.{fits, layout_of, picture_of};
 ghost use Rattle.qrcode_render.specs.Texts.{marks_text, raw_bytes};
+ghost use Rattle.qrcode_render.specs.Vectors.{pic_start, pic_text, svg_start, svg_text};
 
-use crate::Renderer;
 use crate::grid::Grid;
 use crate::image::Luma;
+use crate::pic::{self, put_pic};
 use crate::rows::CellTexts;
 use crate::stamps::{Line, put_text};
+use crate::svg::{self, put_svg};
+use crate::{Modules, Pixel, Renderer};
 use qrcode_types::types::QrResult;
 use std::alloc::Global;
 
@@ -85,5 +89,65 @@ impl<'a> Renderer<'a, Luma> {
     {
         let (dark, light) = self.colors();
         put_greys(alloc, &self.grid(), dark.0[0], light.0[0], bytes)
+    }
+}
+
+// The modules of a renderer.
+fn modules_of<'a, P: Pixel>(renderer: &Renderer<'a, P>) -> Modules<'a>
+    requires fits { IsTrue (fits renderer.now) }
+    ensures { result ≡ record {
+      content = renderer.now.content;
+      count = renderer.now.count;
+      zone = renderer.now.zone;
+      across = renderer.now.across;
+      down = renderer.now.down;
+    } }
+{
+    Modules {
+        content: renderer.content,
+        count: renderer.modules_count,
+        zone: renderer.quiet_zone,
+        width: renderer.module_width,
+        height: renderer.module_height,
+    }
+}
+
+impl<'a, 'c> Renderer<'a, svg::Color<'c>> {
+    /// Writes the text that `build` would give into the beginning of a buffer, and answers how long it
+    /// is; or None, where the buffer has not room for its start, its end and 80 bytes for each module.
+    /// Refuses with `OutOfMemory` alone. Then, and where it answers None, the buffer is as it was.
+    pub fn put(&self, alloc: Global, bytes: &mut [u8]) -> QrResult<Option<usize>>
+        requires fits { IsTrue (fits self.now) }
+        ensures made { let s = self.now in let at = layout_of s in IfOk result
+            (IsPutWhere (svg_text at s.content s.dark.0.now s.light.0.now)
+            (length (svg_start (pixels_across at) (pixels_down at) s.dark.0.now s.light.0.now)
+            + length s.content * 80 + 9) bytes.old bytes.new) }
+        ensures unchanged { OnErr result (bytes.new ≡ bytes.old) }
+        ensures memory { IsOkUnless result OutOfMemory }
+    {
+        put_svg(
+            alloc,
+            &modules_of(self),
+            self.dark_color,
+            self.light_color,
+            bytes,
+        )
+    }
+}
+
+impl<'a> Renderer<'a, pic::Color> {
+    /// Writes the text that `build` would give into the beginning of a buffer, and answers how long it
+    /// is; or None, where the buffer has not room for its start and 80 bytes for each module. Refuses
+    /// with `OutOfMemory` alone. Then, and where it answers None, the buffer is as it was.
+    pub fn put(&self, alloc: Global, bytes: &mut [u8]) -> QrResult<Option<usize>>
+        requires fits { IsTrue (fits self.now) }
+        ensures made { let s = self.now in let at = layout_of s in IfOk result
+            (IsPutWhere (pic_text at s.content)
+            (length (pic_start (pixels_across at) (pixels_down at)) + length s.content * 80)
+            bytes.old bytes.new) }
+        ensures unchanged { OnErr result (bytes.new ≡ bytes.old) }
+        ensures memory { IsOkUnless result OutOfMemory }
+    {
+        put_pic(alloc, &modules_of(self), bytes)
     }
 }

@@ -4,10 +4,13 @@ ghost use Rattle.std.proofs.Common.{rules};
 ghost use Rattle.std.specs.Prelude.{◌≡◌, ℕ, ◌^◌, ◌<◌, ◌++◌, List, string_bytes, OnOk, IsOkUnless};
 ghost use Rattle.qrcode_types.specs.declared.types.QrError.TheVariants.{OutOfMemory};
 ghost use Rattle.qrcode_types.specs.Colors.{select_of};
-ghost use Rattle.qrcode_render.specs.Eps.{eps_head, eps_paint, eps_box, eps_turn, eps_start, eps_rect, eps_end, eps_text};
+ghost use Rattle.qrcode_render.specs.Eps.{eps_head, eps_paint, eps_box, eps_turn, eps_start, eps_rect, eps_column, eps_row, eps_end, eps_text};
 ghost use Rattle.qrcode_render.specs.Setting.{layout_of};
 
-use crate::Pixel;
+use crate::ink::{Column, Piece, Row};
+use crate::stamps::Stamp;
+use crate::strokes::{Strokes, push_modules};
+use crate::{Modules, Pixel};
 use qrcode_types::types::{Color as ModuleColor, QrResult};
 use std::alloc::Global;
 use std::fmt::Write;
@@ -80,6 +83,36 @@ fn push_box(text: &mut String, left: u32, top: u32, width: u32, height: u32) -> 
     Ok(())
 }
 
+/// Boxes, put together of the texts of columns and rows.
+struct Boxes;
+
+impl Strokes for Boxes {
+    ghost column_texts = { eps_column };
+
+    ghost row_texts = { eps_row };
+
+    #[tactic(auto, using(crate::proofs::Paths::number_short))]
+    fn column(left: u32) -> Column {
+        let mut front = Stamp::new(b"");
+        front.push_number(left);
+        front.push(b" ");
+        let back = Stamp::new(b"");
+        Piece::new(front, back)
+    }
+
+    #[tactic(auto, using(crate::proofs::Paths::number_short))]
+    fn row(top: u32, width: u32, height: u32) -> Row {
+        let mut front = Stamp::new(b"");
+        front.push_number(top);
+        front.push(b" ");
+        front.push_number(width);
+        front.push(b" ");
+        front.push_number(height);
+        let back = Stamp::new(b" rectfill\n");
+        Piece::new(front, back)
+    }
+}
+
 impl crate::Canvas for Canvas {
     type Pixel = Color;
 
@@ -132,6 +165,20 @@ impl crate::Canvas for Canvas {
 
     fn draw_dark_rect(&mut self, left: u32, top: u32, width: u32, height: u32) -> QrResult<()> {
         push_box(&mut self.text, left, top, width, height)
+    }
+
+    #[tactic(auto, unfolding(crate::specs::Eps::eps_text))]
+    fn picture(
+        alloc: Global,
+        modules: &Modules,
+        dark_pixel: Color,
+        light_pixel: Color,
+    ) -> QrResult<String> {
+        let (width, height) = modules.pixels();
+        let canvas = Self::new(alloc, width, height, dark_pixel, light_pixel)?;
+        let mut text = push_modules::<Boxes>(canvas.text, modules)?;
+        text.push_str("showpage\n%%EOF\n")?;
+        Ok(text)
     }
 
     #[tactic(auto, unfolding(crate::specs::Eps::eps_text))]

@@ -1,9 +1,12 @@
 //! Cells in rows and columns, of which each shows as a rectangle of pixels.
 
-ghost use Rattle.std.specs.Prelude.{◌≡◌, ◌+◌, ◌*◌, ◌^◌, ◌<◌, ◌≤◌, false, length, replicate};
+ghost use Rattle.std.specs.Prelude.{◌≡◌, ◌+◌, ◌-◌, ◌*◌, ◌^◌, ◌<◌, ◌≤◌, false, length, replicate};
+ghost use Rattle.std.specs.List.{slice_range};
+ghost use Rattle.qrcode_render.specs.Bitmap.{marked_line};
 ghost use Rattle.qrcode_render.specs.Grid.{cell_row, all_columns, all_rows};
+ghost use Rattle.qrcode_render.specs.Shades.{colors_of, shown};
 
-use crate::marks::{is_dark, mark_line};
+use crate::marks::{is_dark, mark_bytes, mark_line};
 use qrcode_types::types::Color;
 use std::marker::Model;
 
@@ -29,11 +32,69 @@ fn dark_in(cells: &[Color]) -> u8
     count
 }
 
+// How many of a few bytes are not zero.
+fn set_in(bytes: &[u8]) -> u8
+    requires { length bytes.now ≤ 255 }
+    ensures { result ≤ length bytes.now }
+{
+    let mut count = 0u8;
+    for byte in bytes {
+        count += u8::from(*byte != 0);
+    }
+    count
+}
+
+// Cells as colours, or as bytes, of which those that are not zero are dark.
+#[derive(Copy, Clone)]
+enum Shades<'a> {
+    Colors(&'a [Color]),
+    Bytes(&'a [u8]),
+}
+
+impl<'a> Shades<'a> {
+    // How many cells there are.
+    fn len(&self) -> usize
+        ensures { result ≡ length (shown self.now) }
+    {
+        match *self {
+            Shades::Colors(colors) => colors.len(),
+            Shades::Bytes(bytes) => bytes.len(),
+        }
+    }
+
+    // How many of a few cells, from a first one up to an end, are dark.
+    fn dark_in(&self, first: usize, end: usize) -> u8
+        requires order { first ≤ end }
+        requires inside { end ≤ length (shown self.now) }
+        requires few { end - first ≤ 255 }
+        ensures { result ≤ end - first }
+    {
+        match *self {
+            Shades::Colors(colors) => dark_in(&colors[first..end]),
+            Shades::Bytes(bytes) => set_in(&bytes[first..end]),
+        }
+    }
+
+    // Makes the marks of the dark ones of some cells dark, from a place on.
+    fn mark(&self, first: usize, end: usize, marks: &mut [bool], start: usize)
+        requires order { first ≤ end }
+        requires inside { end ≤ length (shown self.now) }
+        requires room { start + (end - first) ≤ length marks.old }
+        ensures { marks.new
+            ≡ marked_line start (slice_range (shown self.now) first end) marks.old }
+    {
+        match *self {
+            Shades::Colors(colors) => mark_line(marks, start, &colors[first..end]),
+            Shades::Bytes(bytes) => mark_bytes(marks, start, &bytes[first..end]),
+        }
+    }
+}
+
 /// Cells in row order with light ones around them at each side, each of so many pixels across and
 /// down.
 #[derive(Drop)]
 pub struct Grid<'a> {
-    cells: &'a [Color],
+    cells: Shades<'a>,
     columns: usize,
     rows: usize,
     zone: usize,
@@ -44,11 +105,12 @@ pub struct Grid<'a> {
 impl<'a> Model for Grid<'a> {
     ghost use Rattle.std.specs.Prelude.{◌≡◌, ◌+◌, ◌*◌, ◌^◌, ◌<◌, ◌≤◌, length};
     ghost use Rattle.qrcode_render.specs.Grid.{Grid, all_columns, all_rows};
+    ghost use Rattle.qrcode_render.specs.Shades.{shown};
 
     ghost Value = { Grid };
 
     ghost view = { λ g. record {
-      cells = g.cells.now;
+      cells = shown g.cells;
       columns = g.columns;
       rows = g.rows;
       zone = g.zone;
@@ -56,7 +118,7 @@ impl<'a> Model for Grid<'a> {
       down = g.down;
     } };
 
-    ghost invariant = { λ g. (length g.cells.now ≡ g.rows * g.columns)
+    ghost invariant = { λ g. (length (shown g.cells) ≡ g.rows * g.columns)
         × (g.columns + 2 * g.zone < 2 ^ 32) × (g.rows + 2 * g.zone < 2 ^ 32)
         × (1 ≤ g.across) × (1 ≤ g.down)
         × ((g.columns + 2 * g.zone) * g.across < 2 ^ 32)
@@ -91,9 +153,37 @@ impl<'a> Grid<'a> {
         } }
     {
         Grid {
-            cells,
+            cells: Shades::Colors(cells),
             columns: columns as usize,
             rows: rows as usize,
+            zone: zone as usize,
+            across,
+            down,
+        }
+    }
+
+    /// The same of a square of cells that are bytes, `side` in a row and in a column: those that are
+    /// not zero are dark.
+    pub fn of_bytes(cells: &'a [u8], side: u32, zone: u32, across: u32, down: u32) -> Grid<'a>
+        requires square { length cells.now ≡ side * side }
+        requires side { side + 2 * zone < 2 ^ 32 }
+        requires wide { 1 ≤ across }
+        requires high { 1 ≤ down }
+        requires across { (side + 2 * zone) * across < 2 ^ 32 }
+        requires down { (side + 2 * zone) * down < 2 ^ 32 }
+        ensures { result ≡ record {
+          cells = colors_of cells.now;
+          columns = side;
+          rows = side;
+          zone = zone;
+          across = across;
+          down = down;
+        } }
+    {
+        Grid {
+            cells: Shades::Bytes(cells),
+            columns: side as usize,
+            rows: side as usize,
             zone: zone as usize,
             across,
             down,
@@ -140,20 +230,21 @@ impl<'a> Grid<'a> {
         clear(marks);
         if self.zone <= row && row < self.zone + self.rows {
             let start = (row - self.zone) * self.columns;
-            let line = &self.cells[start..start + self.columns];
-            mark_line(marks, self.zone, line);
+            self.cells
+                .mark(start, start + self.columns, marks, self.zone);
         }
     }
 
     // How many cells are dark.
     pub(crate) fn dark_count(&self) -> usize {
-        let parts = self.cells.len() / COUNTED;
+        let all = self.cells.len();
+        let parts = all / COUNTED;
         let mut count = 0;
         for i in 0..parts {
-            let start = COUNTED * i;
-            count += usize::from(dark_in(&self.cells[start..start + COUNTED]));
+            let first = COUNTED * i;
+            count += usize::from(self.cells.dark_in(first, first + COUNTED));
         }
-        count + usize::from(dark_in(&self.cells[COUNTED * parts..]))
+        count + usize::from(self.cells.dark_in(COUNTED * parts, all))
     }
 
     /// The bytes of all pixels, of which dark and light ones have so many and each row so many more,

@@ -3,6 +3,7 @@
 ghost use Rattle.std.specs.Prelude.{◌≡◌, ◌+◌, ◌≤◌, length};
 ghost use Rattle.qrcode_types.specs.Colors.{is_dark};
 ghost use Rattle.qrcode_render.specs.Bitmap.{marked_line};
+ghost use Rattle.qrcode_render.specs.Shades.{colors_of};
 
 use qrcode_types::types::Color;
 
@@ -23,5 +24,15 @@ pub fn mark_line(marks: &mut [bool], start: usize, line: &[Color])
 {
     for (i, color) in line.iter().enumerate() {
         marks[start + i] = marks[start + i] | is_dark(*color);
+    }
+}
+
+/// The same of a row of bytes, of which those that are not zero are dark.
+pub fn mark_bytes(marks: &mut [bool], start: usize, line: &[u8])
+    requires { start + length line.now ≤ length marks.old }
+    ensures { marks.new ≡ marked_line start (colors_of line.now) marks.old }
+{
+    for (i, byte) in line.iter().enumerate() {
+        marks[start + i] = marks[start + i] | (*byte != 0);
     }
 }

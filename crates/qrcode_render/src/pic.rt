@@ -1,14 +1,16 @@
 //! Pictures as PIC.
 
 ghost use Rattle.std.proofs.Common.{rules};
-ghost use Rattle.std.specs.Prelude.{◌≡◌, ℕ, ◌^◌, ◌<◌, List, string_bytes, OnOk, IsOkUnless};
+ghost use Rattle.std.specs.Prelude.{◌≡◌, ℕ, ◌+◌, ◌*◌, ◌^◌, ◌<◌, List, length, string_bytes, IfOk, OnOk, OnErr, IsOkUnless};
 ghost use Rattle.qrcode_types.specs.declared.types.QrError.TheVariants.{OutOfMemory};
+ghost use Rattle.qrcode_render.specs.Layout.{layout};
+ghost use Rattle.qrcode_render.specs.Put.{IsPutWhere};
 ghost use Rattle.qrcode_render.specs.Setting.{layout_of};
 ghost use Rattle.qrcode_render.specs.Vectors.{pic_start, pic_rect, pic_column, pic_row, pic_text};
 
 use crate::ink::{Column, Piece, Row};
 use crate::stamps::Stamp;
-use crate::strokes::{Strokes, push_modules};
+use crate::strokes::{Strokes, push_modules, put_modules};
 use crate::{Modules, Pixel};
 use qrcode_types::types::QrResult;
 use std::alloc::Global;
@@ -86,6 +88,20 @@ impl Strokes for Boxes {
         let back = Stamp::new(b"");
         Piece::new(front, back)
     }
+}
+
+// Writes the text of modules into the beginning of a buffer that has room for any of so many modules.
+pub(crate) fn put_pic(alloc: Global, modules: &Modules, bytes: &mut [u8]) -> QrResult<Option<usize>>
+    ensures made { let m = modules.now in let w = (m.count + 2 * m.zone) * m.across in
+        let h = (m.count + 2 * m.zone) * m.down in
+        IfOk result (IsPutWhere (pic_text (layout m.count m.zone m.across m.down) m.content)
+        (length (pic_start w h) + length m.content * 80) bytes.old bytes.new) }
+    ensures unchanged { OnErr result (bytes.new ≡ bytes.old) }
+    ensures memory { IsOkUnless result OutOfMemory }
+{
+    let (width, height) = modules.pixels();
+    let canvas = <Canvas as crate::Canvas>::new(alloc, width, height, Color, Color)?;
+    put_modules::<Boxes>(&canvas.text, modules, b"", bytes)
 }
 
 impl crate::Canvas for Canvas {

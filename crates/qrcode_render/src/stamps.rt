@@ -1,6 +1,6 @@
 //! Short texts that are written with the bytes behind them, into a line with room for these.
 
-ghost use Rattle.std.specs.Prelude.{◌≡◌, ℕ, ◌+◌, ◌≤◌, ◌<◌, List, [], ◌++◌, length, take, vec_len, IfOk, OnOk, IsOkUnless, decimal};
+ghost use Rattle.std.specs.Prelude.{◌≡◌, ℕ, ◌+◌, ◌≤◌, ◌<◌, List, [], ◌++◌, length, take, drop, vec_len, IfOk, OnOk, IsOkUnless, decimal};
 ghost use Rattle.qrcode_types.specs.declared.types.QrError.TheVariants.{OutOfMemory};
 
 use qrcode_types::types::{QrError, QrResult};
@@ -16,6 +16,7 @@ pub const LONGEST: usize = 32;
 pub(crate) fn put_text(bytes: &mut [u8], at: usize, text: &[u8]) -> usize
     requires { at + length text.now ≤ length bytes.old }
     ensures writes { take result bytes.new ≡ take at bytes.old ++ text.now }
+    ensures rest { drop result bytes.new ≡ drop result bytes.old }
     ensures end { result ≡ at + length text.now }
     ensures room { length bytes.new ≡ length bytes.old }
 {
@@ -180,7 +181,8 @@ impl Line {
 
     /// The text.
     pub fn as_slice(&self) -> &[u8]
-        ensures { result.now ≡ self.now.text }
+        ensures value { result.now ≡ self.now.text }
+        ensures at_most { length result.now ≤ self.now.room }
     {
         &self.bytes[..self.end]
     }

@@ -1,17 +1,20 @@
 //! Texts of rectangles, put together of kept texts: those that a column determines, and those that a
 //! row and the sides determine.
 
-ghost use Rattle.std.specs.Prelude.{◌≡◌, ℕ, ◌+◌, ◌*◌, ◌^◌, ◌<◌, ◌≤◌, List, ◌++◌, length, string_bytes, IfOk, OnOk, IsOkUnless};
+ghost use Rattle.std.specs.Prelude.{◌≡◌, ℕ, ◌+◌, ◌*◌, ◌^◌, ◌<◌, ◌≤◌, List, [], ◌++◌, length, take, drop, string_bytes, IfOk, IfSome, IfNone, OnOk, OnErr, IsOkUnless};
+ghost use Rattle.std.specs.Str.{IsUtf8};
 ghost use Rattle.qrcode_types.specs.declared.types.QrError.TheVariants.{OutOfMemory};
 ghost use Rattle.qrcode_render.specs.Drawn.{drawn, drawn_row};
-ghost use Rattle.qrcode_render.specs.Inked.{whole_text};
 ghost use Rattle.qrcode_render.specs.Layout.{layout};
+ghost use Rattle.qrcode_render.specs.Put.{IsPutWhere};
 ghost use Rattle.qrcode_render.specs.Strokes.{stroke, columns_from};
 
 use crate::Modules;
-use crate::ink::{Column, Ink, Row};
-use qrcode_types::types::{Color, QrResult};
+use crate::ink::{Column, MOST, Row, put_rect};
+use crate::stamps::{Line, put_text};
+use qrcode_types::types::{Color, QrError, QrResult};
 use std::alloc::Global;
+use std::str::from_utf8_unchecked;
 
 /// How a vector format writes rectangles.
 pub trait Strokes {
@@ -42,39 +45,42 @@ fn columns<S: Strokes>(alloc: Global, left: u32, width: u32, count: u32) -> QrRe
     Ok(columns)
 }
 
-// Appends the rectangles of the dark modules of a row.
-fn push_line<S: Strokes>(
-    ink: &mut Ink,
+// Writes the rectangles of the dark modules of a row into a line.
+fn write_line<S: Strokes>(
+    line: &mut Line,
     columns: &[Column],
     row: &Row,
-    line: &[Color],
+    content: &[Color],
     left: u32,
     top: u32,
     width: u32,
     height: u32,
-) -> QrResult<()>
-    requires length { length line.now ≤ length columns.now }
+)
+    requires length { length content.now ≤ length columns.now }
     requires columns { columns.now
         ≡ columns_from S.column_texts left width (length columns.now) }
     requires row { row.now ≡ S.row_texts top width height }
-    ensures appends { OnOk result
-        (whole_text ink.new ≡ drawn_row (stroke S.column_texts S.row_texts)
-        left top width height line.now (whole_text ink.old)) }
-    ensures memory { IsOkUnless result OutOfMemory }
+    requires room { length content.now * 80 ≤ line.old.room }
+    ensures text { line.new.text ≡ drawn_row (stroke S.column_texts S.row_texts)
+        left top width height content.now [] }
+    ensures at_most { length line.new.text ≤ length content.now * 80 }
+    ensures room { line.new.room ≡ line.old.room }
+    ensures is_text { ∥ IsUtf8 line.new.text ∥₁ }
 {
     let _ = (left, top, width, height);
-    for (i, color) in line.iter().enumerate() {
+    line.clear();
+    for (i, color) in content.iter().enumerate() {
         match color {
             Color::Light => {}
-            Color::Dark => ink.push_rect(&columns[i], row)?,
+            Color::Dark => put_rect(line, &columns[i], row),
         }
     }
-    Ok(())
 }
 
 // Appends the rectangles of the dark modules of a square, row by row.
 fn push_rows<S: Strokes>(
-    ink: &mut Ink,
+    text: &mut String,
+    line: &mut Line,
     columns: &[Column],
     content: &[Color],
     count: u32,
@@ -87,20 +93,61 @@ fn push_rows<S: Strokes>(
     requires across { (count + 2 * zone) * width < 2 ^ 32 }
     requires down { (count + 2 * zone) * height < 2 ^ 32 }
     requires columns { columns.now ≡ columns_from S.column_texts (zone * width) width count }
-    ensures appends { OnOk result (whole_text ink.new
+    requires room { count * 80 ≤ line.old.room }
+    ensures appends { OnOk result (string_bytes text.new
         ≡ drawn (stroke S.column_texts S.row_texts)
-        (layout count zone width height) content.now (whole_text ink.old)) }
+        (layout count zone width height) content.now (string_bytes text.old)) }
     ensures memory { IsOkUnless result OutOfMemory }
 {
     let left = zone * width;
     for row in 0..count {
         let start = row as usize * count as usize;
-        let line = &content[start..start + count as usize];
+        let cells = &content[start..start + count as usize];
         let top = (row + zone) * height;
         let piece = S::row(top, width, height);
-        push_line::<S>(ink, columns, &piece, line, left, top, width, height)?;
+        write_line::<S>(line, columns, &piece, cells, left, top, width, height);
+        text.push_str(unsafe { from_utf8_unchecked(line.as_slice()) })?;
     }
     Ok(())
+}
+
+// Writes them from a place on, and answers where they end.
+fn put_rows<S: Strokes>(
+    bytes: &mut [u8],
+    at: usize,
+    line: &mut Line,
+    columns: &[Column],
+    content: &[Color],
+    count: u32,
+    zone: u32,
+    width: u32,
+    height: u32,
+) -> usize
+    requires square { length content.now ≡ count * count }
+    requires side_fits { count + 2 * zone < 2 ^ 32 }
+    requires across { (count + 2 * zone) * width < 2 ^ 32 }
+    requires down { (count + 2 * zone) * height < 2 ^ 32 }
+    requires columns { columns.now ≡ columns_from S.column_texts (zone * width) width count }
+    requires line_room { count * 80 ≤ line.old.room }
+    requires room { at + count * (count * 80) ≤ length bytes.old }
+    ensures writes { take result bytes.new ≡ drawn (stroke S.column_texts S.row_texts)
+        (layout count zone width height) content.now (take at bytes.old) }
+    ensures rest { drop result bytes.new ≡ drop result bytes.old }
+    ensures at_least { at ≤ result }
+    ensures at_most { result ≤ at + count * (count * 80) }
+    ensures room { length bytes.new ≡ length bytes.old }
+{
+    let left = zone * width;
+    let mut end = at;
+    for row in 0..count {
+        let start = row as usize * count as usize;
+        let cells = &content[start..start + count as usize];
+        let top = (row + zone) * height;
+        let piece = S::row(top, width, height);
+        write_line::<S>(line, columns, &piece, cells, left, top, width, height);
+        end = put_text(bytes, end, line.as_slice());
+    }
+    end
 }
 
 // Room for the rectangles of the dark modules, of which none has longer texts than those of the last
@@ -118,6 +165,14 @@ fn room_of<S: Strokes>(columns: &[Column], modules: &Modules) -> usize {
         .saturating_mul(row.saturating_add(column))
 }
 
+// A line with room for the rectangles of a row.
+fn row_line(alloc: Global, count: u32) -> QrResult<Line>
+    ensures room { IfOk result (λ line. count * 80 ≤ line.room) }
+    ensures memory { IsOkUnless result OutOfMemory }
+{
+    Line::new(alloc, count as usize * MOST)
+}
+
 /// Appends the rectangles of the dark modules to a text. Refuses with `OutOfMemory` alone.
 pub fn push_modules<S: Strokes>(text: String, modules: &Modules) -> QrResult<String>
     ensures value { IfOk result (λ all. string_bytes all ≡ drawn (stroke S.column_texts S.row_texts)
@@ -125,13 +180,15 @@ pub fn push_modules<S: Strokes>(text: String, modules: &Modules) -> QrResult<Str
         modules.now.content (string_bytes text)) }
     ensures memory { IsOkUnless result OutOfMemory }
 {
+    let alloc = *text.allocator();
     let left = modules.zone * modules.width;
-    let columns = columns::<S>(*text.allocator(), left, modules.width, modules.count)?;
+    let columns = columns::<S>(alloc, left, modules.width, modules.count)?;
+    let mut line = row_line(alloc, modules.count)?;
     let mut text = text;
     text.reserve(room_of::<S>(&columns, modules))?;
-    let mut ink = Ink::new(text)?;
     push_rows::<S>(
-        &mut ink,
+        &mut text,
+        &mut line,
         &columns,
         modules.content,
         modules.count,
@@ -139,5 +196,59 @@ pub fn push_modules<S: Strokes>(text: String, modules: &Modules) -> QrResult<Str
         modules.width,
         modules.height,
     )?;
-    ink.into_text()
+    Ok(text)
+}
+
+// The most bytes of so many rectangles with a start and an end, where they can be counted.
+fn most_of(start: usize, modules: usize, end: usize) -> Option<usize>
+    ensures value { IfSome result (λ most. most ≡ start + modules * 80 + end) }
+    ensures uncounted { IfNone result (2 ^ 64 ≤ start + modules * 80 + end) }
+{
+    modules
+        .checked_mul(MOST)?
+        .checked_add(start)?
+        .checked_add(end)
+}
+
+/// Writes a text, the rectangles of the dark modules and an end into the beginning of a buffer, and
+/// answers how long they are; or None, where the buffer has not room for a text of 80 bytes for each
+/// module between the two. Refuses with `OutOfMemory` alone. Then, and where it answers None, the
+/// buffer is as it was.
+pub fn put_modules<S: Strokes>(
+    start: &String,
+    modules: &Modules,
+    end: &[u8],
+    bytes: &mut [u8],
+) -> QrResult<Option<usize>>
+    ensures made { IfOk result (IsPutWhere (drawn (stroke S.column_texts S.row_texts)
+        (layout modules.now.count modules.now.zone modules.now.across modules.now.down)
+        modules.now.content (string_bytes start.now) ++ end.now)
+        (length (string_bytes start.now) + length modules.now.content * 80 + length end.now)
+        bytes.old bytes.new) }
+    ensures unchanged { OnErr result (bytes.new ≡ bytes.old) }
+    ensures memory { IsOkUnless result OutOfMemory }
+{
+    let alloc = *start.allocator();
+    let left = modules.zone * modules.width;
+    let columns = columns::<S>(alloc, left, modules.width, modules.count)?;
+    let mut line = row_line(alloc, modules.count)?;
+    let Some(most) = most_of(start.len(), modules.content.len(), end.len()) else {
+        return Ok(None);
+    };
+    if bytes.len() < most {
+        return Ok(None);
+    }
+    let at = put_text(bytes, 0, start.as_bytes());
+    let at = put_rows::<S>(
+        bytes,
+        at,
+        &mut line,
+        &columns,
+        modules.content,
+        modules.count,
+        modules.zone,
+        modules.width,
+        modules.height,
+    );
+    Ok(Some(put_text(bytes, at, end)))
 }

@@ -1,15 +1,17 @@
 //! Pictures as SVG.
 
 ghost use Rattle.std.proofs.Common.{rules};
-ghost use Rattle.std.specs.Prelude.{◌≡◌, ℕ, ◌^◌, ◌<◌, ◌++◌, List, string_bytes, OnOk, IsOkUnless, codes};
+ghost use Rattle.std.specs.Prelude.{◌≡◌, ℕ, ◌+◌, ◌*◌, ◌^◌, ◌<◌, ◌++◌, List, length, string_bytes, IfOk, OnOk, OnErr, IsOkUnless, codes};
 ghost use Rattle.qrcode_types.specs.declared.types.QrError.TheVariants.{OutOfMemory};
 ghost use Rattle.qrcode_types.specs.Colors.{select_of};
+ghost use Rattle.qrcode_render.specs.Layout.{layout};
+ghost use Rattle.qrcode_render.specs.Put.{IsPutWhere};
 ghost use Rattle.qrcode_render.specs.Setting.{layout_of};
 ghost use Rattle.qrcode_render.specs.Vectors.{svg_frame, svg_ground, svg_start, svg_rect, svg_column, svg_row, svg_end, svg_text};
 
 use crate::ink::{Column, Piece, Row};
 use crate::stamps::Stamp;
-use crate::strokes::{Strokes, push_modules};
+use crate::strokes::{Strokes, push_modules, put_modules};
 pub use crate::svg_path::{Path, PathElement};
 use crate::{Modules, Pixel};
 use qrcode_types::types::{Color as ModuleColor, QrResult};
@@ -124,6 +126,29 @@ fn push_ground(text: &mut String, width: u32, height: u32, dark: &str, light: &s
         "<rect x=\"0\" y=\"0\" width=\"{width}\" height=\"{height}\" fill=\"{light}\"/><path fill=\"{dark}\" d=\""
     )?;
     Ok(())
+}
+
+// Writes the text of modules into the beginning of a buffer that has room for any of so many modules.
+#[tactic(auto, unfolding(crate::specs::Vectors::svg_text))]
+pub(crate) fn put_svg(
+    alloc: Global,
+    modules: &Modules,
+    dark: Color,
+    light: Color,
+    bytes: &mut [u8],
+) -> QrResult<Option<usize>>
+    ensures made { let m = modules.now in let w = (m.count + 2 * m.zone) * m.across in
+        let h = (m.count + 2 * m.zone) * m.down in
+        IfOk result (IsPutWhere (svg_text (layout m.count m.zone m.across m.down) m.content
+        dark.entry.0.now light.entry.0.now)
+        (length (svg_start w h dark.entry.0.now light.entry.0.now) + length m.content * 80 + 9)
+        bytes.old bytes.new) }
+    ensures unchanged { OnErr result (bytes.new ≡ bytes.old) }
+    ensures memory { IsOkUnless result OutOfMemory }
+{
+    let (width, height) = modules.pixels();
+    let canvas = <Canvas as crate::Canvas>::new(alloc, width, height, dark, light)?;
+    put_modules::<Paths>(&canvas.text, modules, b"\"/></svg>", bytes)
 }
 
 impl<'a> crate::Canvas for Canvas<'a> {

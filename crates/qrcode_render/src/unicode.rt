@@ -1,21 +1,22 @@
 //! Pictures as texts of half blocks: two rows of pixels in a line.
 
 ghost use Rattle.std.proofs.Common.{rules};
-ghost use Rattle.std.specs.Prelude.{◌≡◌, ℕ, ◌+◌, ◌*◌, ◌/◌, ◌^◌, ◌<◌, ◌≤◌, Bool, [], ◌∷◌, ◌++◌, length, flat_map, string_bytes, IfOk, OnOk, IsOkUnless};
-ghost use Rattle.std.specs.List.{range_with_len};
+ghost use Rattle.std.specs.Prelude.{◌≡◌, ℕ, ◌+◌, ◌*◌, ◌/◌, ◌^◌, ◌<◌, ◌≤◌, Bool, [], ◌∷◌, ◌++◌, length, take, drop, map, string_bytes, IfOk, IfSome, IfNone, OnErr, IsOkUnless};
+ghost use Rattle.std.specs.List.{join_with_byte, range_with_len};
 ghost use Rattle.qrcode_types.specs.declared.types.QrError.TheVariants.{OutOfMemory};
 ghost use Rattle.qrcode_types.specs.Colors.{is_dark};
 ghost use Rattle.qrcode_render.specs.Grid.{pixels_of};
 ghost use Rattle.qrcode_render.specs.Half.{is_dark_half};
 ghost use Rattle.qrcode_render.specs.Lines.{two_text};
-ghost use Rattle.qrcode_render.specs.Strips.{IsStripOf};
+ghost use Rattle.qrcode_render.specs.Put.{IsPutWhere};
+ghost use Rattle.qrcode_render.specs.Strips.{IsStripOf, lines_room};
 ghost use Rattle.qrcode_render.specs.Texts.{half_blocks, column_text, columns_text, dense_line, dense_text};
 
 use crate::Pixel;
 use crate::fours::{Fours, push_columns, push_ones};
 use crate::grid::Grid;
 use crate::page::{Finish, Page};
-use crate::stamps::{Line, Stamp};
+use crate::stamps::{LONGEST, Line, Stamp, put_text};
 use crate::strips::mark_pixels;
 use qrcode_types::types::{Color, QrError, QrResult};
 use std::alloc::Global;
@@ -158,7 +159,8 @@ impl Strip {
         })
     }
 
-    // Writes the line of two rows.
+    // Writes the line of two rows. Within its callers, for the same reason as `put_lines`.
+    #[inline(always)]
     fn write_two(&mut self, grid: &Grid, halves: &Halves, i: u32)
         requires fits { IsStripOf grid.now self.old }
         requires inside { 2 * i + 1 < (pixels_of grid.now).down }
@@ -203,27 +205,43 @@ impl Strip {
     }
 }
 
-// Appends the lines of cells, each with a newline. Within its caller, so that places of the room stay in
-// registers.
+// Writes the lines of cells, with a newline between two, and answers where they end. Within its callers,
+// so that places of the room stay in registers.
 #[inline(always)]
-fn push_lines(raw: &mut Vec<u8>, grid: &Grid, halves: &Halves, strip: &mut Strip) -> QrResult<()>
+fn put_lines(bytes: &mut [u8], grid: &Grid, halves: &Halves, strip: &mut Strip) -> usize
     requires fits { IsStripOf grid.now strip.old }
-    ensures appends { OnOk result (raw.new.items ≡ raw.old.items ++ flat_map (λ i.
-        dense_line halves.now.marked halves.now.other (pixels_of grid.now) i ++ 10 ∷ [])
+    requires down { 0 < (pixels_of grid.now).down }
+    requires room { lines_room (pixels_of grid.now) ≤ length bytes.old }
+    ensures writes { take result bytes.new ≡ join_with_byte 10 (map
+        (dense_line halves.now.marked halves.now.other (pixels_of grid.now))
         (range_with_len 0 (((pixels_of grid.now).down + 1) / 2))) }
-    ensures memory { IsOkUnless result OutOfMemory }
+    ensures rest { drop result bytes.new ≡ drop result bytes.old }
+    ensures inside { result ≤ length bytes.new }
+    ensures room { length bytes.new ≡ length bytes.old }
 {
     let (_, height) = grid.pixels();
-    let pairs = height / 2;
-    for i in 0..pairs {
+    let last = (height - 1) / 2;
+    let mut end = 0;
+    for i in 0..last {
         strip.write_two(grid, halves, i);
-        raw.extend_from_slice(strip.line.as_slice())?;
+        end = put_text(bytes, end, strip.line.as_slice());
     }
     if height % 2 == 1 {
-        strip.write_last(grid, halves, pairs);
-        raw.extend_from_slice(strip.line.as_slice())?;
+        strip.write_last(grid, halves, last);
+    } else {
+        strip.write_two(grid, halves, last);
     }
-    Ok(())
+    let line = strip.line.as_slice();
+    put_text(bytes, end, &line[..line.len() - 1])
+}
+
+// The most bytes of the lines of a picture and behind them, where they can be counted.
+fn room_of(width: u32, height: u32) -> Option<usize>
+    ensures value { IfSome result (λ room. room ≡ (height + 1) / 2 * (3 * width + 33)) }
+    ensures uncounted { IfNone result (2 ^ 64 ≤ (height + 1) / 2 * (3 * width + 33)) }
+{
+    let line = LONGEST_HALF * width as usize + 1 + LONGEST;
+    (height.div_ceil(2) as usize).checked_mul(line)
 }
 
 // The lines of cells, where marked pixels are drawn dark or not and others dark or not.
@@ -237,14 +255,46 @@ fn lines_of(alloc: Global, grid: &Grid, marked: bool, other: bool) -> QrResult<S
     let (width, height) = grid.pixels();
     let halves = Halves::new(alloc, marked, other)?;
     let mut strip = Strip::new(alloc, grid)?;
-    let line = LONGEST_HALF * width as usize + 1;
-    let room = line
-        .checked_mul(height.div_ceil(2) as usize)
-        .ok_or(QrError::OutOfMemory)?;
-    let mut raw = Vec::with_capacity(alloc, room)?;
-    push_lines(&mut raw, grid, &halves, &mut strip)?;
-    raw.pop();
+    let room = room_of(width, height).ok_or(QrError::OutOfMemory)?;
+    let mut raw = vec![in alloc; 0; room]?;
+    let end = put_lines(&mut raw, grid, &halves, &mut strip);
+    raw.truncate(end);
 
     // Lines of half blocks are a text.
     Ok(unsafe { String::from_utf8_unchecked(raw) })
+}
+
+impl HalfBlocks {
+    /// Writes the text of cells into the beginning of a buffer, and answers how long it is; or None,
+    /// where the buffer has not room for any picture of so many pixels: for each two rows 3 bytes a
+    /// pixel and 33 more. Refuses with `OutOfMemory` alone. Then, and where it answers None, the buffer
+    /// is as it was.
+    #[tactic(auto, unfolding(crate::specs::Texts::dense_text))]
+    pub fn put(
+        alloc: Global,
+        grid: &Grid,
+        dark: Dense1x2,
+        light: Dense1x2,
+        bytes: &mut [u8],
+    ) -> QrResult<Option<usize>>
+        ensures made { IfOk result (IsPutWhere
+            (dense_text (is_dark_half dark) (is_dark_half light) (pixels_of grid.now))
+            (lines_room (pixels_of grid.now)) bytes.old bytes.new) }
+        ensures unchanged { OnErr result (bytes.new ≡ bytes.old) }
+        ensures memory { IsOkUnless result OutOfMemory }
+    {
+        let (width, height) = grid.pixels();
+        if width == 0 || height == 0 {
+            return Ok(Some(0));
+        }
+        let Some(room) = room_of(width, height) else {
+            return Ok(None);
+        };
+        if bytes.len() < room {
+            return Ok(None);
+        }
+        let halves = Halves::new(alloc, dark.is_dark(), light.is_dark())?;
+        let mut strip = Strip::new(alloc, grid)?;
+        Ok(Some(put_lines(bytes, grid, &halves, &mut strip)))
+    }
 }

@@ -29,7 +29,7 @@ loop-row-preserved c =
     let text : List _ → List ℕ = λ marks. marks_text texts.dark.items texts.light.items marks ++ end in
     let rows : ℕ → List ℕ = λ r. repeated g.down (text (cell_row g r)) in
     let written : c.as_slice.result.now ≡ text (cell_row g row) =
-    c.as_slice.ensures
+    c.as_slice.ensures.value
     ∙ ap (λ (l : Written). l.text) c.push.ensures
     ∙ ap (λ (l : Written). l.text ++ end) c.write.ensures
     ∙ ap text c.mark_row.ensures in
