@@ -1,6 +1,7 @@
 pub mod AppendHeaders
 pub mod Automatic
 pub mod Bands
+pub mod ByteCuts
 pub mod Changed
 pub mod Chosen
 pub mod Chunks

@@ -1,6 +1,7 @@
 -- Bits of numbers that are joined, cut and packed into bytes.
-use Rattle.std.proofs.Common.{◌≡◌, ℕ, zero, suc, ◌+◌, ◌-◌, ◌*◌, ◌/◌, ◌%◌, ◌^◌, ◌<◌, ◌≤◌, Bool, false, ◌==◌, List, [], ◌∷◌, ◌++◌, length, replicate, bit_and, refl, ap, ap₂, sym, ◌∙◌, arith, append_assoc, append-nil, length-append, add-zero}
+use Rattle.std.proofs.Common.{◌≡◌, ℕ, zero, suc, ◌+◌, ◌-◌, ◌*◌, ◌/◌, ◌%◌, ◌^◌, ◌<◌, ◌≤◌, Bool, false, ◌==◌, List, [], ◌∷◌, ◌++◌, length, take, drop, get_or, replicate, bit_and, refl, ap, ap₂, sym, ◌∙◌, arith, append_assoc, append-nil, length-append, add-zero}
 use Rattle.std.specs.Int.{bit_at}
+use Rattle.std.proofs.lemmas.List.{take_all}
 use Rattle.std.proofs.lemmas.Nat.Bits.{bit_at_cat_low, bit_at_cat_high, bit_at-zero}
 use Rattle.std.proofs.lemmas.Nat.{shr_split, mod_below, pow_pos, mul-add-lt, pow-add, shl_whole, one_shl, and_mask}
 use Rattle.qrcode_types.specs.Bits.{number_bits, bits_of}
@@ -77,3 +78,26 @@ number_bits-filled rest count zeros e =
     ∙ ap₂ (λ (n x : ℕ). number_bits n x) (sym e) (sym (add-zero (rest * 2 ^ zeros)))
     ∙ number_bits-cat count zeros rest 0 (pow_pos zeros)
     ∙ ap (λ r. number_bits count rest ++ r) (number_bits-zero zeros)
+
+-- two bytes as one number
+pub two_bytes : (a b : ℕ) → b < 2 ^ 8 → number_bits 16 (256 * a + b) ≡ number_bits 8 a ++ number_bits 8 b
+two_bytes a b small = let e : 256 * a + b ≡ a * 2 ^ 8 + b = omega arith in ap (λ n. number_bits 16 n) e ∙ number_bits-cat 8 8 a b small
+
+-- four bytes in front of others, as one number of two pairs
+pub four_bytes : (bits : List Bool) (rest : List ℕ) (high low : ℕ) → 4 ≤ length rest → low ≤ 65535
+    → number_bits 16 high ≡ number_bits 8 (get_or rest 0 0) ++ number_bits 8 (get_or rest 1 0) → number_bits 16 low ≡ number_bits 8 (get_or rest 2 0) ++ number_bits 8 (get_or rest 3 0)
+    → (bits ++ number_bits 32 (65536 * high + low)) ++ bits_of (take (length rest - 4) (drop 4 rest)) ≡ bits ++ bits_of rest
+four_bytes bits (a ∷ b ∷ c ∷ d ∷ more) high low long small front behind =
+    let whole : take (length (a ∷ b ∷ c ∷ d ∷ more) - 4) more ≡ more = take_all _ more (omega arith) in
+    let pairs : 65536 * high + low ≡ high * 2 ^ 16 + low = omega arith in
+    let cut = ap (λ n. number_bits 32 n) pairs ∙ number_bits-cat 16 16 high low (omega (arith, small)) ∙ ap₂ (λ (x y : List Bool). x ++ y) front behind in
+    let x = number_bits 8 a ++ number_bits 8 b in
+    let y = number_bits 8 c ++ number_bits 8 d in
+    ap₂ (λ (n : List Bool) (bytes : List ℕ). (bits ++ n) ++ bits_of bytes) cut whole
+    ∙ append_assoc bits (x ++ y) (bits_of more)
+    ∙ ap (λ r. bits ++ r) (append_assoc x y (bits_of more) ∙ append_assoc (number_bits 8 a) (number_bits 8 b) (y ++ bits_of more)
+    ∙ ap (λ r. number_bits 8 a ++ (number_bits 8 b ++ r)) (append_assoc (number_bits 8 c) (number_bits 8 d) (bits_of more)))
+four_bytes bits [] high low long small front behind = absurd (omega (arith, long))
+four_bytes bits (a ∷ []) high low long small front behind = absurd (omega (arith, long))
+four_bytes bits (a ∷ b ∷ []) high low long small front behind = absurd (omega (arith, long))
+four_bytes bits (a ∷ b ∷ c ∷ []) high low long small front behind = absurd (omega (arith, long))

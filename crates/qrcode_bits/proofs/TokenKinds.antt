@@ -34,7 +34,7 @@ pair_leads : (b c : ℕ) → is_kanji b c ≡ true → can_lead b ≡ true
 unfolding is_kanji
 pair_leads b c h = grind (arith, and_parts, or_cases)
 
-low_no_pair : (b c : ℕ) → b < 129 → is_kanji b c ≡ false
+pub low_no_pair : (b c : ℕ) → b < 129 → is_kanji b c ≡ false
 low_no_pair b c below = elim (cases_Bool (is_kanji b c)) [
   | inl pair ↦ absurd (true≢false (sym (pair_leads b c pair) ∙ agree_below_at can_lead (λ b. false) 129 b refl below))
   | inr other ↦ other

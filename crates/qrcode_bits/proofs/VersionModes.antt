@@ -1,5 +1,5 @@
 -- The headers of the modes of a version.
-use Rattle.std.proofs.Common.{◌≡◌, ◌+◌, ◌<◌, ◌≤◌, nat_le, pos, negsuc, Bool, true, ◌&&◌, IsTrue, refl, arith}
+use Rattle.std.proofs.Common.{◌≡◌, ◌+◌, ◌<◌, ◌≤◌, nat_le, pos, negsuc, ℤ, Bool, true, ◌&&◌, IsTrue, refl, arith}
 use Rattle.std.proofs.lemmas.Bool.{agree_below, agree_below_at, and_parts, cond_both, cond-true, leb-true}
 use Rattle.qrcode_types.specs.Versions.{is_valid}
 use Rattle.qrcode_types.specs.Modes.{has_mode, mode_bits_count, length_bits_count}
@@ -39,6 +39,17 @@ all_near = by_tables (λ v. for_all (is_near v)) refl refl
 
 pub digits_length : (v : Version) (m : Mode) → IsTrue (is_valid v) → length_bits_count Numeric v ≤ length_bits_count m v + 2
 digits_length v m valid = leb-true (length_bits_count Numeric v) (length_bits_count m v + 2) (at_each (is_near v) (all_near v valid) m)
+
+-- each length field of digits in Normal has ten bits at least
+abbrev is_long : Version → Bool
+is_long (Normal v) = nat_le 10 (length_bits_count Numeric (Normal v))
+is_long (Micro v) = true
+
+all_long : (v : Version) → IsTrue (is_valid v) → is_long v ≡ true
+all_long = by_tables is_long refl refl
+
+pub long_digits : (n : ℤ) → IsTrue (is_valid (Normal n)) → 10 ≤ length_bits_count Numeric (Normal n)
+long_digits n valid = leb-true 10 (length_bits_count Numeric (Normal n)) (all_long (Normal n) valid)
 
 -- each version has digits
 pub has_digits : (v : Version) → IsTrue (is_valid v) → has_mode v Numeric ≡ true

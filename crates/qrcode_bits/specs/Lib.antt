@@ -17,6 +17,7 @@ pub mod Runs
 pub mod RunsLeft
 pub mod Segments
 pub mod Shown
+pub mod Sparse
 pub mod Spelling
 pub mod StreamView
 pub mod TextPushes

@@ -20,6 +20,7 @@ mod headers;
 mod least;
 mod mode_sets;
 mod runs;
+mod single;
 mod tokens;
 
 /// A range of the data, from the byte `begin` to the byte before `end`, in one mode.

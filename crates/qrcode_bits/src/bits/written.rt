@@ -134,8 +134,32 @@ fn push_characters(stream: &mut Stream, text: &[u8])
     }
 }
 
-// Appends bytes.
+// Appends bytes: four as one number while there are as many.
 fn push_bytes(stream: &mut Stream, bytes: &[u8])
+    requires room { 8 * length bytes.now ≤ stream.old.room }
+    ensures { stream.new.bits ≡ stream.old.bits ++ bits_of bytes.now }
+{
+    let mut rest = bytes;
+    while let [first, second, third, fourth, more @ ..] = rest {
+        let high = two_bytes_number(*first, *second);
+        let low = two_bytes_number(*third, *fourth);
+        stream.push_number(32, 65536 * high + low);
+        rest = more;
+    }
+    push_last_bytes(stream, rest);
+}
+
+// The number that two bytes write.
+#[inline(always)]
+fn two_bytes_number(first: u8, second: u8) -> u32
+    ensures bits { number_bits 16 result ≡ number_bits 8 first ++ number_bits 8 second }
+    ensures at_most { result ≤ 65535 }
+{
+    256 * u32::from(first) + u32::from(second)
+}
+
+// Appends bytes one by one.
+fn push_last_bytes(stream: &mut Stream, bytes: &[u8])
     requires room { 8 * length bytes.now ≤ stream.old.room }
     ensures { stream.new.bits ≡ stream.old.bits ++ bits_of bytes.now }
 {

@@ -17,8 +17,8 @@ ghost use Rattle.qrcode_bits.specs.declared.optimize.Segment.{Segment};
 
 use super::costs::{BestStart, Costs, HeaderBits, SingleCosts};
 use super::headers::MORE_THAN_ANY;
+use super::single::single_mode;
 use super::{Kind, Modes, Segment};
-use crate::digits::are_digits;
 use qrcode_types::characters::bytes_each;
 use qrcode_types::types::{Mode, QrError, QrResult, Version};
 use std::alloc::{AllocError, Global};
@@ -83,14 +83,13 @@ pub fn least_segments_in(
     ensures writable { IfOk result (λ segments. AllByRecursion
         (λ p. IsTrue (characters.can_write p.mode p.chunk)) (pieces_of bytes.now segments.items)) }
 {
-    // Digits alone need no search: no cut takes fewer bits than one segment of them.
-    if modes.numeric && !bytes.is_empty() && are_digits(bytes) {
-        let digits = Segment {
-            mode: Mode::Numeric,
+    if let Some(mode) = single_mode(bytes, version, modes) {
+        let whole = Segment {
+            mode,
             begin: 0,
             end: bytes.len(),
         };
-        return Ok(vec![in alloc; digits; 1]?);
+        return Ok(vec![in alloc; whole; 1]?);
     }
     searched_segments(alloc, bytes, version, modes)
 }

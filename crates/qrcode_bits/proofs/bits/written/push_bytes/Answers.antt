@@ -1,13 +1,12 @@
-use Rattle.std.proofs.Common.{take, get_or, arith, append_assoc}
-use Rattle.std.proofs.lemmas.List.{take_more}
-use Rattle.qrcode_bits.proofs.Packing.{bits_of-push}
+use Rattle.std.proofs.Common.{◌∙◌, arith}
+use Rattle.qrcode_bits.proofs.Packing.{four_bytes}
 use Rattle.qrcode_bits.proofs.bits.written.push_bytes.Goals as goal
 
-pub loop-byte-preserved : goal.loop-byte-preserved
-loop-byte-preserved c =
-    let bytes = c.args.bytes.now in
-    let at = c.loop-byte.byte-index in
+pub loop-rest-preserved : goal.loop-rest-preserved
+loop-rest-preserved c =
+    let high = c.two_bytes_number-high in
+    let low = c.two_bytes_number-low in
     record {
-      bits = rw (c.push_number.ensures.bits, c.from.ensures, c.loop-byte.invariant.bits, append_assoc, take_more bytes at 0 (omega arith), bits_of-push (take at bytes) (get_or bytes at 0));
+      bits = rw c.push_number.ensures.bits (four_bytes c.loop-rest.stream.bits c.loop-rest.rest.now high.result low.result c.in-len4-up.len_at_least low.ensures.at_most high.ensures.bits low.ensures.bits ∙ c.loop-rest.invariant.bits);
       room = omega arith;
     }
