@@ -197,12 +197,12 @@ four_steps v pair s =
     let three : s + 1 + 1 + 1 ≡ s + 3 = omega arith in
     rw (three, two) refl
 
-pub four_upwards : (v : Version) (pair s last : ℕ) → pair % 2 ≡ 0 → s + 4 ≤ side v → last ≡ row_index v pair (s + 3)
-    → ((last + 3 * side v) ∷ (last + 2 * side v) ∷ (last + side v) ∷ last ∷ []) ≡ map (row_index v pair) (range_with_len s 4)
-four_upwards v pair s last up inside at =
-    let a : last + 3 * side v ≡ row_index v pair s = omega (arith, at, upwards_by v pair s (s + 3) 3 up (omega arith) (omega (arith, inside))) in
-    let b : last + 2 * side v ≡ row_index v pair (s + 1) = omega (arith, at, upwards_by v pair (s + 1) (s + 3) 2 up (omega arith) (omega (arith, inside))) in
-    let c : last + side v ≡ row_index v pair (s + 2) = omega (arith, at, upwards_by v pair (s + 2) (s + 3) 1 up (omega arith) (omega (arith, inside))) in
+pub four_upwards : (v : Version) (pair s first : ℕ) → pair % 2 ≡ 0 → s + 4 ≤ side v → first ≡ row_index v pair s
+    → (first ∷ (first - side v) ∷ (first - 2 * side v) ∷ (first - 3 * side v) ∷ []) ≡ map (row_index v pair) (range_with_len s 4)
+four_upwards v pair s first up inside at =
+    let a : first - side v ≡ row_index v pair (s + 1) = omega (arith, at, upwards_by v pair s (s + 1) 1 up (omega arith) (omega (arith, inside))) in
+    let b : first - 2 * side v ≡ row_index v pair (s + 2) = omega (arith, at, upwards_by v pair s (s + 2) 2 up (omega arith) (omega (arith, inside))) in
+    let c : first - 3 * side v ≡ row_index v pair (s + 3) = omega (arith, at, upwards_by v pair s (s + 3) 3 up (omega arith) (omega (arith, inside))) in
     rw (a, b, c, at) (sym (four_steps v pair s))
 
 pub four_downwards : (v : Version) (pair s first : ℕ) → pair % 2 ≡ 1 → first ≡ row_index v pair s

@@ -76,8 +76,9 @@ impl<const PARITY: usize> Pair<PARITY> {
     {
         let width = self.width;
         if PARITY == 0 {
-            let last = self.index(step + 3);
-            return [last + 3 * width, last + 2 * width, last + width, last];
+            // From the first row, whose index goes from four steps to the next with no product.
+            let first = self.index(step);
+            return [first, first - width, first - 2 * width, first - 3 * width];
         }
         let first = self.index(step);
         [first, first + width, first + 2 * width, first + 3 * width]
