@@ -1,5 +1,7 @@
-//! The tests of element strings: printed examples, and elements that zint refuses for the same causes.
+//! The tests of elements of GS1: printed examples, elements that zint refuses for the same causes, and their symbols.
 #![tactic(auto)]
 
 #[cfg(test)]
 mod strings;
+#[cfg(test)]
+mod symbols;

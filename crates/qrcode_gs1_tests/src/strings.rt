@@ -6,7 +6,7 @@ use qrcode_gs1::errors::Gs1Error;
 use std::alloc::Global;
 
 /// An identifier and a value.
-type Pair = (&'static str, &'static str);
+pub(crate) type Pair = (&'static str, &'static str);
 
 /// Elements, and their string or the first that is refused and the cause.
 type Row = (&'static [Pair], Result<&'static str, (usize, Cause)>);
@@ -43,12 +43,21 @@ static ROWS: [Row; 14] = [
     (&[BEFORE, ("001", "06141412345678908")], Err((1, UnknownIdentifier))),
 ];
 
-// The answer for some elements.
-fn answer(alloc: Global, pairs: &[Pair]) -> Result<Vec<u8>, Gs1Error> {
+// Elements of identifiers and values.
+pub(crate) fn elements_of(
+    alloc: Global,
+    pairs: &[Pair],
+) -> Result<Vec<Element<'static>>, Gs1Error> {
     let mut elements = Vec::new(alloc);
     for (identifier, value) in pairs {
         elements.push(Element { identifier, value })?;
     }
+    Ok(elements)
+}
+
+// The answer for some elements.
+fn answer(alloc: Global, pairs: &[Pair]) -> Result<Vec<u8>, Gs1Error> {
+    let elements = elements_of(alloc, pairs)?;
     element_string(alloc, &elements)
 }
 

@@ -1,0 +1,33 @@
+use Rattle.std.proofs.Common.{◌*◌, ◌≤◌, length, arith, ap, subst, ◌∙◌}
+use Rattle.qrcode_bits.specs.Segments.{total_cost}
+use Rattle.qrcode_bits.specs.Cuts.{IsLeastCutIn}
+use Rattle.qrcode_bits.specs.ModeSets.{text_modes}
+use Rattle.qrcode_bits.proofs.LeastCuts.{cost_most}
+use Rattle.qrcode_bits.proofs.Several.{small_inside}
+use Rattle.qrcode_gs1_symbol.proofs.choice.measure.Goals as goal
+use Rattle.qrcode_gs1_symbol.proofs.choice.measure.Goals.{In_ok-segments}
+
+least : (c : In_ok-segments) → IsLeastCutIn (text_modes) c.args.version c.args.standing.now c.in_ok-segments.segments.items
+least c = subst (λ set. IsLeastCutIn set c.args.version c.args.standing.now c.in_ok-segments.segments.items) c.modes.ensures c.in_ok-segments.ensures.least
+
+short : (c : In_ok-segments) → total_cost c.args.version c.in_ok-segments.segments.items ≤ 32 * length c.args.standing.now
+short c = omega (arith, cost_most (text_modes) c.args.version c.args.standing.now 0 c.in_ok-segments.segments.items (length c.args.standing.now) c.requires.valid (least c).reached.cut.tiles)
+
+pub total_encoded_len-requires-clause-ranges : goal.total_encoded_len-requires-clause-ranges
+total_encoded_len-requires-clause-ranges c =
+    rw c.deref.ensures.value (small_inside (length c.args.standing.now) c.in_ok-segments.segments.items (omega arith) c.in_ok-segments.ensures.inside)
+
+pub total_encoded_len-requires-clause-fits : goal.total_encoded_len-requires-clause-fits
+total_encoded_len-requires-clause-fits c =
+    let k = (goal.at.total_encoded_len-requires-clause-fits c).In_ok-segments in
+    rw c.deref.ensures.value (omega (arith, short k, c.requires.limit))
+
+pub returns-clause-measured : goal.returns-clause-measured
+returns-clause-measured c =
+    let k = (goal.at.returns-clause-measured c).In_ok-segments in
+    (c.in_ok-segments.segments.items, (least k, c.total_encoded_len.ensures ∙ ap (total_cost c.args.version) c.deref.ensures.value))
+
+pub returns-clause-at_most : goal.returns-clause-at_most
+returns-clause-at_most c =
+    let k = (goal.at.returns-clause-at_most c).In_ok-segments in
+    omega (arith, short k, c.requires.limit, c.total_encoded_len.ensures, ap (total_cost c.args.version) c.deref.ensures.value)

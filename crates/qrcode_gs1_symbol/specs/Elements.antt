@@ -1,0 +1,23 @@
+-- The symbol of elements of GS1.
+use Rattle.std.specs.Prelude.{◌≡◌, ◌⊎◌, List, None, Some}
+use Rattle.qrcode_types.specs.declared.types.EcLevel.{EcLevel}
+use Rattle.qrcode_gs1.specs.Elements.{Item, element_string, read_elements}
+use Rattle.qrcode_gs1.specs.Refusals.{refusal_from}
+use Rattle.qrcode_gs1.specs.declared.errors.Gs1Error.TheVariants.{OutOfMemory}
+use Rattle.qrcode_gs1.specs.declared.table.TheConstants.{RULES}
+use Rattle.qrcode.specs.Code.{Code}
+use Rattle.qrcode_gs1_symbol.specs.Symbols.{IsMarkedSymbol, IsMarkedRefused}
+use Rattle.qrcode_gs1_symbol.specs.declared.Position.TheVariants.{First}
+use Rattle.qrcode_gs1_symbol.specs.declared.errors.SymbolError.{SymbolError}
+use Rattle.qrcode_gs1_symbol.specs.declared.errors.SymbolError.TheVariants.{Elements, Symbol}
+
+-- none of the elements is refused, and the symbol is that of their element string behind FNC1 in first position, which is read as the elements
+pub record IsGs1Symbol (l : EcLevel) (items : List Item) (code : Code) : Type 0 where
+  pub accepted : refusal_from RULES 0 items ≡ None
+  pub symbol : IsMarkedSymbol First l (element_string items) code
+  pub elements : read_elements (element_string items) ≡ items
+
+-- why there is none: the first element that is refused, or no version holds their element string; or memory was refused
+abbrev pub IsGs1Refused : EcLevel → List Item → SymbolError → Type 0
+IsGs1Refused l items (Elements e) = (refusal_from RULES 0 items ≡ Some e) ⊎ (e ≡ OutOfMemory)
+IsGs1Refused l items (Symbol e) = (refusal_from RULES 0 items ≡ None) × IsMarkedRefused First l (element_string items) e

@@ -1,0 +1,137 @@
+//! The symbol of bytes behind FNC1.
+
+ghost use Rattle.std.specs.Prelude.{◌≡◌, ◌+◌, ◌++◌, ◌≤◌, ℕ, pos, false, length, map, IfOk, IfErr, OnOk, IsOkUnless, IsTrue};
+ghost use Rattle.qrcode_types.specs.Versions.{is_micro, has_level, capacity};
+ghost use Rattle.qrcode_types.specs.declared.types.QrError.TheVariants.{OutOfMemory};
+ghost use Rattle.qrcode_types.specs.declared.types.Version.TheVariants.{Normal};
+ghost use Rattle.qrcode_bits.specs.Cuts.{IsCut};
+ghost use Rattle.qrcode_bits.specs.Pushes.{with_bits, PushesAll};
+ghost use Rattle.qrcode_bits.specs.Refusals.{StopsAt, data_limit, bit_limit};
+ghost use Rattle.qrcode_bits.specs.Segments.{AreInside, total_cost};
+ghost use Rattle.qrcode_bits.specs.Written.{pieces_of, written, terminated};
+ghost use Rattle.qrcode_gs1.specs.Elements.{are_apart};
+ghost use Rattle.qrcode_gs1_symbol.specs.Characters.{mark};
+ghost use Rattle.qrcode_gs1_symbol.specs.StandIns.{stand_in};
+ghost use Rattle.qrcode_gs1_symbol.specs.Symbols.{HoldsMarked, IsMarkedList, IsMarkedSymbol, IsMarkedRefused};
+
+use crate::Position;
+use crate::characters::{characters, stand_ins};
+use crate::choice::least_number;
+use qrcode::QrCode;
+use qrcode::types::{EcLevel, QrError, QrResult, Version};
+use qrcode_bits::bits::{Bits, DATA_LIMIT, Manner};
+use qrcode_bits::optimize::{Segment, least_segments_in};
+use std::alloc::Global;
+
+// How many bits the mark takes.
+fn mark_length(position: Position) -> usize
+    ensures value { result ≡ length (mark position) }
+    ensures at_most { result ≤ 12 }
+{
+    match position {
+        Position::First => 4,
+        Position::Second(_) => 12,
+    }
+}
+
+// Appends the mark.
+fn push_mark(bits: &mut Bits, position: Position) -> QrResult<()>
+    requires normal { is_micro bits.old.version ≡ false }
+    requires room { length bits.old.bits + 12 ≤ bit_limit }
+    ensures appended { OnOk result (bits.new ≡ with_bits bits.old (mark position)) }
+    ensures memory { IsOkUnless result OutOfMemory }
+{
+    match position {
+        Position::First => bits.push_fnc1_first_position(),
+        Position::Second(application) => bits.push_fnc1_second_position(application),
+    }
+}
+
+// Appends the bytes of all segments in their modes.
+fn push_all(bits: &mut Bits, bytes: &[u8], segments: Vec<Segment>) -> QrResult<()>
+    requires { AreInside (length bytes.now) segments.items }
+    ensures pushed { OnOk result
+        (PushesAll bits.old.version bits.old.bits bytes.now segments.items bits.new.bits) }
+    ensures stopped { IfErr result (λ e. StopsAt bits.old.version bits.old.bits
+        (pieces_of bytes.now segments.items) e bits.new.bits) }
+    ensures version { bits.new.version ≡ bits.old.version }
+{
+    bits.push_segments(bytes, segments.into_iter())
+}
+
+// The mark and segments of bytes that stand behind it as they are written, terminated.
+fn ended_bits(
+    alloc: Global,
+    bytes: &[u8],
+    segments: Vec<Segment>,
+    position: Position,
+    version: Version,
+    ec_level: EcLevel,
+) -> QrResult<Bits>
+    requires exists { IsTrue (has_level version ec_level) }
+    requires normal { is_micro version ≡ false }
+    requires cut { IsCut version bytes.now segments.items }
+    requires room { length (mark position) + total_cost version segments.items
+        ≤ capacity version ec_level }
+    ensures ended { IfOk result (λ list. list ≡ record {
+      version = version;
+      bits = terminated version ec_level
+          (mark position ++ written version (pieces_of bytes.now segments.items));
+    }) }
+    ensures full { IfOk result (λ list. length list.bits ≡ capacity version ec_level) }
+    ensures memory { IsOkUnless result OutOfMemory }
+{
+    let mut bits = Bits::new(alloc, version);
+    push_mark(&mut bits, position)?;
+    push_all(&mut bits, bytes, segments)?;
+    bits.push_terminator(ec_level)?;
+    Ok(bits)
+}
+
+// The mark and least segments of bytes in a version that holds them.
+fn marked_bits(
+    alloc: Global,
+    bytes: &[u8],
+    standing: &[u8],
+    position: Position,
+    number: usize,
+    ec_level: EcLevel,
+) -> QrResult<Bits>
+    requires limit { length bytes.now ≤ data_limit }
+    requires apart { IsTrue (are_apart bytes.now) }
+    requires standing { standing.now ≡ map stand_in bytes.now }
+    requires at_most { number ≤ 40 }
+    requires holds { HoldsMarked position ec_level bytes.now number }
+    ensures bits { IfOk result
+        (IsMarkedList position (Normal (pos number)) ec_level bytes.now) }
+    ensures memory { IsOkUnless result OutOfMemory }
+{
+    let version = Version::Normal(number as i16);
+    let segments = least_segments_in(alloc, standing, version, Manner::Text.modes())?;
+    let written = characters(alloc, bytes, &segments)?;
+    ended_bits(alloc, &written, segments, position, version, ec_level)
+}
+
+// The symbol of bytes behind FNC1 at a level, of the least version of Normal that holds them.
+//
+// `DataTooLong`: none does. `OutOfMemory`: memory was refused.
+pub(crate) fn symbol(
+    alloc: Global,
+    bytes: &[u8],
+    position: Position,
+    ec_level: EcLevel,
+) -> QrResult<QrCode>
+    requires { IsTrue (are_apart bytes.now) }
+    ensures symbol { IfOk result (IsMarkedSymbol position ec_level bytes.now) }
+    ensures accepts { (number : ℕ) → HoldsMarked position ec_level bytes.now number
+        → IsOkUnless result OutOfMemory }
+    ensures causes { IfErr result (IsMarkedRefused position ec_level bytes.now) }
+{
+    if bytes.len() > DATA_LIMIT {
+        return Err(QrError::DataTooLong);
+    }
+    let standing = stand_ins(alloc, bytes)?;
+    let number = least_number(alloc, &standing, mark_length(position), ec_level)?;
+    let bits = marked_bits(alloc, bytes, &standing, position, number, ec_level)?;
+    QrCode::with_bits(alloc, bits, ec_level)
+}

@@ -1,0 +1,69 @@
+//! Symbols with FNC1 (ISO/IEC 18004:2006, 6.4.8): elements of GS1 in first position, and data of other
+//! applications in second.
+#![tactic(auto)]
+
+ghost use Rattle.std.specs.Prelude.{ℕ, map, IfOk, IfErr, IsOkUnless, IsTrue};
+ghost use Rattle.qrcode_types.specs.declared.types.QrError.TheVariants.{OutOfMemory};
+ghost use Rattle.qrcode_gs1.specs.Elements.{are_apart};
+ghost use Rattle.qrcode_gs1.specs.Items.{item};
+ghost use Rattle.qrcode_gs1_symbol.specs.Elements.{IsGs1Symbol, IsGs1Refused};
+ghost use Rattle.qrcode_gs1_symbol.specs.Symbols.{HoldsMarked, IsMarkedSymbol, IsMarkedRefused};
+ghost use Rattle.qrcode_gs1_symbol.specs.declared.Position.TheVariants.{Second};
+
+use drawing::symbol;
+use errors::SymbolResult;
+use qrcode::QrCode;
+use qrcode::types::{EcLevel, QrResult};
+use qrcode_gs1::elements::{Element, element_string};
+pub use separators::are_apart;
+use std::alloc::Global;
+
+mod characters;
+mod choice;
+mod drawing;
+pub mod errors;
+mod separators;
+
+/// Where FNC1 stands.
+#[derive(Copy, Clone, PartialEq, Eq, Debug)]
+pub enum Position {
+    /// In first position: the bytes are an element string of GS1.
+    First,
+    /// In second position, with the indicator of an application.
+    Second(u8),
+}
+
+/// The symbol of elements of GS1 at a level, of the least version of Normal that holds them: FNC1 in
+/// first position and their element string, in segments of the fewest bits of all in which percent
+/// signs stand in the mode Byte. Separators stand as percent signs in the mode Alphanumeric.
+///
+/// `Elements`: which element is refused first, and why. `Symbol(DataTooLong)`: no version of Normal
+/// holds them. `OutOfMemory`, in either: memory was refused.
+pub fn gs1(alloc: Global, elements: &[Element], ec_level: EcLevel) -> SymbolResult<QrCode>
+    ensures symbol { IfOk result (IsGs1Symbol ec_level (map item elements.now)) }
+    ensures causes { IfErr result (IsGs1Refused ec_level (map item elements.now)) }
+{
+    let bytes = element_string(alloc, elements)?;
+    Ok(symbol(alloc, &bytes, Position::First, ec_level)?)
+}
+
+/// The symbol of data at a level, of the least version of Normal that holds it: FNC1 in second
+/// position, the indicator of the application, and the data in such segments. Of an indicator of two
+/// digits the number is given, and of one letter its byte and 100. Byte 29 is the separator, of which
+/// none stands right behind another (`are_apart` tells).
+///
+/// `DataTooLong`: no version of Normal holds the data. `OutOfMemory`: memory was refused.
+pub fn for_application(
+    alloc: Global,
+    application: u8,
+    bytes: &[u8],
+    ec_level: EcLevel,
+) -> QrResult<QrCode>
+    requires { IsTrue (are_apart bytes.now) }
+    ensures symbol { IfOk result (IsMarkedSymbol (Second application) ec_level bytes.now) }
+    ensures accepts { (number : ℕ) → HoldsMarked (Second application) ec_level bytes.now number
+        → IsOkUnless result OutOfMemory }
+    ensures causes { IfErr result (IsMarkedRefused (Second application) ec_level bytes.now) }
+{
+    symbol(alloc, bytes, Position::Second(application), ec_level)
+}

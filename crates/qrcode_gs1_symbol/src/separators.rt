@@ -1,0 +1,18 @@
+//! Separators.
+
+ghost use Rattle.std.specs.Prelude.{◌≡◌};
+ghost use Rattle.qrcode_gs1.specs.Elements.{are_apart};
+
+/// Whether no separator, byte 29, stands right behind another.
+pub fn are_apart(bytes: &[u8]) -> bool
+    ensures { result ≡ are_apart bytes.now }
+{
+    let mut apart = true;
+    let mut behind = 0;
+    for place in (0..bytes.len()).rev() {
+        let byte = bytes[place];
+        apart = !((byte == 29) & (behind == 29)) & apart;
+        behind = byte;
+    }
+    apart
+}

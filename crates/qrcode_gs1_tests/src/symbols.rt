@@ -1,0 +1,112 @@
+//! The symbols of elements.
+
+use crate::strings::{Pair, elements_of};
+use qrcode::QrCode;
+use qrcode::bits::Bits;
+use qrcode::types::{EcLevel, QrError, QrResult, Version};
+use qrcode_gs1::errors::{Cause, Gs1Error};
+use qrcode_gs1_symbol::errors::{SymbolError, SymbolResult};
+use qrcode_gs1_symbol::{are_apart, for_application, gs1};
+use std::alloc::Global;
+
+const EXAMPLE: [Pair; 4] = [
+    ("01", "04912345123459"),
+    ("15", "970331"),
+    ("30", "128"),
+    ("10", "ABC123"),
+];
+
+/// Elements, a level, and the version in which zint 2.11.1 writes them (`zint --gs1 -b 58`).
+type Row = (&'static [Pair], EcLevel, i16);
+
+#[rattlefmt::skip]
+static ROWS: [Row; 9] = [
+    (&EXAMPLE, EcLevel::M, 2),
+    (&EXAMPLE, EcLevel::Q, 3),
+    (&[("01", "03453120000011"), ("17", "191125"), ("10", "ABCD1234"), ("21", "10")], EcLevel::M, 2),
+    (&[("01", "03453120000011"), ("17", "191125"), ("10", "ABCD1234"), ("21", "10")], EcLevel::H, 3),
+    (&[("00", "106141412345678908")], EcLevel::Q, 1),
+    (&[("00", "106141412345678908")], EcLevel::H, 2),
+    (&[("253", "4006381333931X"), ("3103", "001750"), ("21", "%a")], EcLevel::M, 2),
+    (&[("01", "09501101530003"), ("17", "250119"), ("10", "AB%C")], EcLevel::L, 1),
+    (&[("10", "abc"), ("21", "def")], EcLevel::H, 2),
+];
+
+// The symbol of elements.
+fn symbol(alloc: Global, pairs: &[Pair], ec_level: EcLevel) -> SymbolResult<QrCode> {
+    let elements = elements_of(alloc, pairs)?;
+    gs1(alloc, &elements, ec_level)
+}
+
+// The symbol of the standard's example, divided as the standard divides it.
+fn divided(alloc: Global) -> QrResult<QrCode> {
+    let mut bits = Bits::new(alloc, Version::Normal(2));
+    bits.push_fnc1_first_position()?;
+    bits.push_numeric_data(b"01049123451234591597033130128")?;
+    bits.push_alphanumeric_data(b"%10ABC123")?;
+    bits.push_terminator(EcLevel::M)?;
+    QrCode::with_bits(alloc, bits, EcLevel::M)
+}
+
+// The symbol of the standard's example of an application, divided as the standard divides it.
+fn divided_for_application(alloc: Global) -> QrResult<QrCode> {
+    let mut bits = Bits::new(alloc, Version::Normal(3));
+    bits.push_fnc1_second_position(37)?;
+    bits.push_alphanumeric_data(b"AA1234BBB112")?;
+    bits.push_byte_data(b"text text text text\r")?;
+    bits.push_terminator(EcLevel::M)?;
+    QrCode::with_bits(alloc, bits, EcLevel::M)
+}
+
+#[test]
+fn symbols_have_the_versions_of_zint(rt: HostRuntime) {
+    for (i, (pairs, ec_level, number)) in ROWS.iter().enumerate() {
+        let version = match symbol(rt.alloc(), pairs, *ec_level) {
+            Ok(code) => Some(code.version()),
+            Err(_) => None,
+        };
+        assert!(rt; version == Some(Version::Normal(*number)), "row {i}");
+    }
+}
+
+// ISO/IEC 18004:2006, 6.4.8.1.
+#[test]
+fn the_example_of_the_standard_is_divided_as_there(rt: HostRuntime) {
+    let alloc = rt.alloc();
+    let same = match (symbol(alloc, &EXAMPLE, EcLevel::M), divided(alloc)) {
+        (Ok(code), Ok(expected)) => code.colors() == expected.colors(),
+        _ => false,
+    };
+    assert!(rt; same);
+}
+
+// ISO/IEC 18004:2006, 6.4.8.2.
+#[test]
+fn the_example_of_an_application_is_divided_as_there(rt: HostRuntime) {
+    let alloc = rt.alloc();
+    let bytes = b"AA1234BBB112text text text text\r";
+    assert!(rt; are_apart(bytes));
+    let code = for_application(alloc, 37, bytes, EcLevel::M);
+    let same = match (code, divided_for_application(alloc)) {
+        (Ok(code), Ok(expected)) => code.colors() == expected.colors(),
+        _ => false,
+    };
+    assert!(rt; same);
+}
+
+#[test]
+fn separators_stand_apart_or_not(rt: HostRuntime) {
+    assert!(rt; are_apart(b"") & are_apart(b"\x1d") & are_apart(b"\x1da\x1d"));
+    assert!(rt; !are_apart(b"\x1d\x1d") & !are_apart(b"a\x1d\x1db"));
+}
+
+#[test]
+fn refusals_are_told(rt: HostRuntime) {
+    let alloc = rt.alloc();
+    let wrong = symbol(alloc, &[("01", "09506000134353")], EcLevel::M).err();
+    let cause = SymbolError::Elements(Gs1Error::Refused(0, Cause::CheckDigit));
+    assert!(rt; wrong == Some(cause));
+    let long = [("10", "abcdefghijklmnopqrst"); 200];
+    let error = symbol(alloc, &long, EcLevel::H).err();
+    assert!(rt; error == Some(SymbolError::Symbol(QrError::DataTooLong)));
+}
