@@ -1,90 +1,42 @@
-//! The command line.
+//! The command line, as `clap` reads it.
 
-use crate::options::{
-    ABOUT, ENTRIES, EXAMPLES, NAME, PICTURE_HELP, READING_ABOUT, READING_ENTRIES, READING_NAME,
-};
 use clap::builder::ValueParser;
-use clap::{Arg, ArgAction, Command};
-use goqlanis_contents::{Entry, Subcommand, Takes};
+use clap::{Arg, ArgAction, ArgMatches, Command};
+use goqlanis_options::{EXAMPLES, Entry, Given, Purpose, Takes, Task};
 use std::alloc::{AllocError, Global};
 
-/// The command line that draws, as `clap` reads it.
-pub fn drawing<'a>(alloc: Global) -> Result<Command<'a>, AllocError> {
-    let text = Arg::new(alloc, "TEXT").value_name("TEXT").help(
-        "The text; standard input where there is neither it nor --input",
-    );
-    let command = Command::new(alloc, NAME)
-        .about(ABOUT)
-        .after_help(EXAMPLES)
-        .arg(text)?;
-    with_options(alloc, command, &ENTRIES)
-}
-
-/// The command line behind the word that asks for reading, as `clap` reads it.
-pub fn reading<'a>(alloc: Global) -> Result<Command<'a>, AllocError> {
-    let picture = Arg::new(alloc, "PICTURE")
-        .value_name("PICTURE")
-        .help(PICTURE_HELP);
-    let command = Command::new(alloc, READING_NAME)
-        .about(READING_ABOUT)
-        .arg(picture)?;
-    with_options(alloc, command, &READING_ENTRIES)
-}
-
-/// The command line behind the word of a subcommand, as `clap` reads it: the options that give its
-/// fields, and those of drawing that go with it.
-pub fn content<'a>(alloc: Global, subcommand: &Subcommand) -> Result<Command<'a>, AllocError> {
-    let command = Command::new(alloc, subcommand.title).about(subcommand.about);
-    let mut command = with_options(alloc, command, subcommand.options)?;
-    for entry in &ENTRIES {
-        if goes_with(subcommand, entry.long) {
-            command = command.arg(argument(alloc, entry))?;
-        }
-    }
-    Ok(command)
-}
-
-/// Whether an option of drawing goes with a subcommand: none that gives the data, and where the
-/// format says the level none that says it.
-pub fn goes_with(subcommand: &Subcommand, option: &str) -> bool {
-    match option {
-        "input" | "trim" | "lines" | "bytes" | "segment" | "completions" | "manual" | "release" => {
-            false
-        }
-        "level" | "version" | "least-version" | "micro" | "boost" | "eci" => {
-            !subcommand.kind.is_of_level_m()
-        }
-        _ => true,
-    }
-}
-
-// A command line with options.
-fn with_options<'a>(
+/// The command line of a task with its options.
+pub fn command_of<'a>(
     alloc: Global,
-    command: Command<'a>,
-    entries: &[Entry],
+    task: &Task,
+    options: &[&'static Entry],
 ) -> Result<Command<'a>, AllocError> {
-    let mut command = command;
-    for entry in entries {
+    let mut command = Command::new(alloc, task.title).about(task.about);
+    if let Some(operand) = task.operand() {
+        let arg = Arg::new(alloc, operand.name)
+            .value_name(operand.name)
+            .help(operand.help);
+        command = command.arg(arg)?;
+    }
+    for entry in options {
         command = command.arg(argument(alloc, entry))?;
     }
-    Ok(command)
+    match task.purpose {
+        Purpose::Draw => Ok(command.after_help(EXAMPLES)),
+        Purpose::Read | Purpose::Content(_) => Ok(command),
+    }
 }
 
-// An option, as `clap` reads it.
-fn argument<'a>(alloc: Global, entry: &Entry) -> Arg<'a> {
+// An option.
+fn argument<'a>(alloc: Global, entry: &'static Entry) -> Arg<'a> {
     let arg = Arg::new(alloc, entry.long)
         .long(entry.long)
         .help(entry.help);
-    match entry.short {
-        Some(letter) => taking(arg.short(letter), entry.takes),
-        None => taking(arg, entry.takes),
-    }
-}
-
-// An option that takes so much.
-fn taking<'a>(arg: Arg<'a>, takes: Takes) -> Arg<'a> {
-    match takes {
+    let arg = match entry.short {
+        Some(letter) => arg.short(letter),
+        None => arg,
+    };
+    match entry.takes {
         Takes::Nothing => arg.action(ArgAction::SetTrue),
         Takes::Text(name) => arg.value_name(name),
         Takes::Texts(name) => arg.value_name(name).action(ArgAction::Append),
@@ -94,4 +46,33 @@ fn taking<'a>(arg: Arg<'a>, takes: Takes) -> Arg<'a> {
             .value_name("NUMBER")
             .value_parser(ValueParser::unsigned(least, most)),
     }
+}
+
+/// What a command line gives for options, and beside them.
+pub fn given<'a>(
+    alloc: Global,
+    task: &Task,
+    options: &[&'static Entry],
+    matches: &ArgMatches<'a>,
+) -> Result<Given<'a>, AllocError> {
+    let mut given = Given::new(alloc);
+    if let Some(operand) = task.operand() {
+        push_values(&mut given, operand.name, matches)?;
+    }
+    for entry in options {
+        push_values(&mut given, entry.long, matches)?;
+    }
+    Ok(given)
+}
+
+// All that is given for one.
+fn push_values<'a>(
+    given: &mut Given<'a>,
+    name: &'a str,
+    matches: &ArgMatches<'a>,
+) -> Result<(), AllocError> {
+    for value in matches.get_strs(name).unwrap_or(&[]) {
+        given.push(name, *value)?;
+    }
+    Ok(())
 }

@@ -1,32 +1,29 @@
 //! Draws QR and Micro QR symbols: `goqlanis --help` says how.
 #![tactic(auto)]
 
-mod asked;
 mod command;
-mod completions;
-mod contents;
-mod failure;
-mod files;
-mod manual;
-mod options;
-mod program;
-mod progress;
-mod reading;
-mod segments;
 
-use failure::Failure;
+use clap::error::ErrorKind;
+use command::{command_of, given};
+use goqlanis_run::{Failure, obey, status, words};
 use std::process::ExitCode;
 
 fn main(rt: HostRuntime) -> ExitCode {
-    match program::run(&rt) {
-        Ok(code) => code,
-        Err(failure) => {
-            let _ = eprintln!(rt; "goqlanis: {failure}");
-            match failure {
-                Failure::Usage(_) => ExitCode::from(2),
-                Failure::Refused(_) | Failure::Closed(_) | Failure::OutOfMemory =>
-                    ExitCode::FAILURE,
-            }
-        }
+    status(&rt, run(&rt))
+}
+
+// Does what the command line asks for, and returns the exit status.
+fn run(rt: &HostRuntime) -> Result<ExitCode, Failure> {
+    let alloc = rt.alloc();
+    let (task, words) = words(rt)?;
+    let options = task.all_options(alloc)?;
+    match command_of(alloc, task, &options)?.try_get_matches_from(&words) {
+        Ok(matches) => obey(rt, task, &given(alloc, task, &options, &matches)?),
+        Err(error) if error.kind() == ErrorKind::OutOfMemory => Err(Failure::OutOfMemory),
+        // (what is written fails where nobody reads it)
+        Err(error) => match error.print(rt) {
+            Ok(()) => Ok(ExitCode::from(error.exit_code() as u8)),
+            Err(_) => Ok(ExitCode::FAILURE),
+        },
     }
 }

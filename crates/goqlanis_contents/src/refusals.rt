@@ -1,6 +1,6 @@
 //! Why there is no text, told by the option that is wrong and what would help.
 
-use crate::kinds::Kind;
+use goqlanis_options::Kind;
 use qrcode_fields::errors::{Cause, ContentError, Field};
 use std::alloc::{AllocError, AllocFailed, Global};
 
@@ -52,7 +52,7 @@ fn option_of(kind: Kind, field: Field) -> &'static str {
         Field::Ssid => "--ssid",
         Field::Password => "--password",
         Field::Bic => "--bic",
-        Field::Name if kind == Kind::Mecard => "--family",
+        Field::Name if matches!(kind, Kind::Mecard) => "--family",
         Field::Name => "--name",
         Field::Family => "--family",
         Field::Given => "--given",

@@ -1,8 +1,8 @@
 //! From the options that are given to a text.
 
-use crate::given::Given;
-use crate::kinds::Kind;
+use crate::events::event;
 use crate::refusals::{Refusal, refusal_of, wrong};
+use goqlanis_options::{Given, Kind};
 use qrcode_contents::bill::{Bill, Currency, Party};
 use qrcode_contents::card::Card;
 use qrcode_contents::contact::Contact;
@@ -32,6 +32,7 @@ pub fn text_of(alloc: Global, kind: Kind, given: &Given<'_>) -> Result<String, R
             None => phone(given).sms(alloc),
         },
         Kind::Otp => passwords(alloc, given)?.text(alloc),
+        Kind::Event => event(alloc, given)?.text(alloc),
     };
     match text {
         Ok(text) => Ok(text),
@@ -54,7 +55,7 @@ fn network<'a>(given: &Given<'a>) -> Wifi<'a> {
         security,
         ssid: given.text("ssid"),
         password,
-        hidden: given.text("hidden") == "true",
+        hidden: given.has_flag("hidden"),
     }
 }
 

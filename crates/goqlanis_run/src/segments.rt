@@ -9,14 +9,14 @@ use std::alloc::{AllocError, Global};
 
 /// Segments by hand: their bytes one after the other, and of each its mode and where it ends.
 #[derive(Drop)]
-pub struct Pieces {
+pub(crate) struct Pieces {
     bytes: Vec<u8>,
     ends: Vec<(Mode, usize)>,
 }
 
 impl Pieces {
     /// The segments of words MODE:TEXT, of which the text of Kanji is Shift JIS in digits to the base 16.
-    pub fn read(alloc: Global, words: &[&str]) -> Result<Pieces, Failure> {
+    pub(crate) fn read(alloc: Global, words: &[&str]) -> Result<Pieces, Failure> {
         let mut bytes = Vec::new(alloc);
         let mut ends = Vec::with_capacity(alloc, words.len())?;
         for word in words {
@@ -38,7 +38,7 @@ impl Pieces {
     }
 
     /// The segments.
-    pub fn segments(&self, alloc: Global) -> Result<Vec<Segment<'_>>, AllocError> {
+    pub(crate) fn segments(&self, alloc: Global) -> Result<Vec<Segment<'_>>, AllocError> {
         let mut segments = Vec::with_capacity(alloc, self.ends.len())?;
         let mut rest = self.bytes.as_slice();
         let mut start = 0;
@@ -62,10 +62,12 @@ fn parts(word: &str) -> Option<(Mode, &str)> {
         ("byte", Mode::Byte),
         ("kanji", Mode::Kanji),
     ];
-    let mode = modes
-        .iter()
-        .find(|entry| entry.0.eq_ignore_ascii_case(name))?;
-    Some((mode.1, text))
+    for (known, mode) in modes {
+        if known.eq_ignore_ascii_case(name) {
+            return Some((mode, text));
+        }
+    }
+    None
 }
 
 // Appends the bytes of pairs of digits to the base 16, and says whether they are such.
@@ -82,7 +84,7 @@ fn push_digits(bytes: &mut Vec<u8>, digits: &[u8]) -> Result<bool, AllocError> {
 }
 
 /// The number of two digits to the base 16.
-pub fn two_digits(high: u8, low: u8) -> Option<u8> {
+pub(crate) fn two_digits(high: u8, low: u8) -> Option<u8> {
     match (digit(high), digit(low)) {
         (Some(high), Some(low)) => Some(16 * high + low),
         _ => None,
@@ -102,7 +104,7 @@ fn digit(byte: u8) -> Option<u8>
 }
 
 /// Why a mode does not write a text.
-pub fn characters_of(mode: Mode) -> &'static str {
+pub(crate) fn characters_of(mode: Mode) -> &'static str {
     match mode {
         Mode::Numeric => "numeric writes digits alone",
         Mode::Alphanumeric => "alphanumeric writes digits, capitals, space and $%*+-./: alone",

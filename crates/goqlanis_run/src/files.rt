@@ -8,7 +8,11 @@ use std::{fs, io};
 /// Writes a file whole or not at all: beside it under another name, and renamed into its place, with
 /// the permissions of the file that stood there. A link is followed. What is no regular file, as a
 /// pipe, is written straight.
-pub fn write_whole<R: Files + AllocGlobal>(rt: &R, path: &str, bytes: &[u8]) -> io::Result<()> {
+pub(crate) fn write_whole<R: Files + AllocGlobal>(
+    rt: &R,
+    path: &str,
+    bytes: &[u8],
+) -> io::Result<()> {
     if path.starts_with("/dev/") || path.starts_with("/proc/") {
         return write_straight(rt, path, bytes);
     }
@@ -67,7 +71,10 @@ fn replace<R: Files + AllocGlobal>(
         };
         let written = fill(&mut file, permissions, bytes);
         drop(file);
-        let done = written.and_then(|()| fs::rename(rt, beside.as_str(), path));
+        let done = match written {
+            Ok(()) => fs::rename(rt, beside.as_str(), path),
+            Err(error) => Err(error),
+        };
         if done.is_err() {
             let _ = fs::remove_file(rt, beside.as_str());
         }

@@ -1,9 +1,9 @@
 //! From the command line to what is asked for.
 
-use crate::failure::Failure;
+use crate::failure::{Failure, usage};
 use crate::segments::two_digits;
-use clap::ArgMatches;
 use goqlanis_draw::{Choice, Format, Ink, Request};
+use goqlanis_options::Given;
 use qrcode::bits::Manner;
 use qrcode::types::{EcLevel, Version};
 use qrcode_png::GREATEST_SIDE;
@@ -11,7 +11,7 @@ use std::alloc::Global;
 
 /// Where the data comes from.
 #[derive(Clone, Copy)]
-pub enum Source<'a> {
+pub(crate) enum Source<'a> {
     Text(&'a str),
     File(&'a str),
     StandardInput,
@@ -19,7 +19,7 @@ pub enum Source<'a> {
 
 /// Where the drawing goes.
 #[derive(Clone, Copy)]
-pub enum Target<'a> {
+pub(crate) enum Target<'a> {
     /// Standard output, unless that is a terminal and the drawing is no text.
     Terminal,
     /// Standard output, whatever it is.
@@ -28,8 +28,8 @@ pub enum Target<'a> {
 }
 
 /// How data is written.
-#[derive(Clone, Copy, PartialEq, Eq)]
-pub enum Writing {
+#[derive(Clone, Copy)]
+pub(crate) enum Writing {
     /// What is UTF-8 as a text, and other bytes as bytes.
     ByItself,
     /// As bytes.
@@ -40,7 +40,7 @@ pub enum Writing {
 
 /// What is asked for.
 #[derive(Clone, Copy)]
-pub struct Asked<'a> {
+pub(crate) struct Asked<'a> {
     /// Its manner is that of data that is written as a text; `writing` decides.
     pub request: Request<'a>,
     pub writing: Writing,
@@ -52,34 +52,34 @@ pub struct Asked<'a> {
     pub is_by_line: bool,
 }
 
-/// What the command line asks for. `has_colours`: the drawing goes to a terminal that may show colours.
-pub fn read_command_line<'a>(
+/// What is asked for by the options that are given. `has_colours`: the drawing goes to a terminal that may show colours.
+pub(crate) fn asked_for<'a>(
     alloc: Global,
-    matches: &ArgMatches<'a>,
+    given: &Given<'a>,
     has_colours: bool,
 ) -> Result<Asked<'a>, Failure> {
-    let source = source_of(alloc, matches)?;
-    let target = match matches.get_str("output") {
+    let source = source_of(alloc, given)?;
+    let target = match given.get("output") {
         None => Target::Terminal,
         Some("-") => Target::StandardOutput,
         Some(path) => Target::File(path),
     };
-    let request = request_of(alloc, matches, target, has_colours)?;
+    let request = request_of(alloc, given, target, has_colours)?;
     Ok(Asked {
         request,
-        writing: writing_of(alloc, matches)?,
+        writing: writing_of(alloc, given)?,
         source,
         target,
-        trims: matches.get_flag("trim"),
-        is_by_line: matches.get_flag("lines"),
+        trims: given.has_flag("trim"),
+        is_by_line: given.has_flag("lines"),
     })
 }
 
-fn source_of<'a>(alloc: Global, matches: &ArgMatches<'a>) -> Result<Source<'a>, Failure> {
-    if matches.contains_id("segment") {
-        check_segments(alloc, matches)?;
+fn source_of<'a>(alloc: Global, given: &Given<'a>) -> Result<Source<'a>, Failure> {
+    if given.get("segment").is_some() {
+        check_segments(alloc, given)?;
     }
-    match (matches.get_str("TEXT"), matches.get_str("input")) {
+    match (given.get("TEXT"), given.get("input")) {
         (Some(_), Some(_)) => usage(alloc, "TEXT and --input: one of them is enough"),
         (Some(text), None) => Ok(Source::Text(text)),
         (None, Some("-")) => Ok(Source::StandardInput),
@@ -89,12 +89,12 @@ fn source_of<'a>(alloc: Global, matches: &ArgMatches<'a>) -> Result<Source<'a>, 
 }
 
 // Refuses what does not go with segments by hand.
-fn check_segments(alloc: Global, matches: &ArgMatches<'_>) -> Result<(), Failure> {
-    if matches.contains_id("TEXT") || matches.contains_id("input") {
+fn check_segments(alloc: Global, given: &Given<'_>) -> Result<(), Failure> {
+    if given.get("TEXT").is_some() || given.get("input").is_some() {
         return usage(alloc, "--segment is the data: leave out TEXT and --input");
     }
     for name in ["trim", "lines", "bytes", "eci", "boost"] {
-        if matches.get_flag(name) {
+        if given.has_flag(name) {
             let text = format!(in alloc; "--segment and --{name}: one of them is enough")?;
             return Err(Failure::Usage(text));
         }
@@ -102,8 +102,8 @@ fn check_segments(alloc: Global, matches: &ArgMatches<'_>) -> Result<(), Failure
     Ok(())
 }
 
-fn writing_of(alloc: Global, matches: &ArgMatches<'_>) -> Result<Writing, Failure> {
-    match (matches.get_flag("bytes"), matches.get_flag("eci")) {
+fn writing_of(alloc: Global, given: &Given<'_>) -> Result<Writing, Failure> {
+    match (given.has_flag("bytes"), given.has_flag("eci")) {
         (true, true) => usage(alloc, "--bytes and --eci: one of them is enough"),
         (true, false) => Ok(Writing::Bytes),
         (false, true) => Ok(Writing::Marked),
@@ -112,10 +112,10 @@ fn writing_of(alloc: Global, matches: &ArgMatches<'_>) -> Result<Writing, Failur
 }
 
 // Which version is taken: the one that is asked for, or the least from one on.
-fn choice_of(alloc: Global, matches: &ArgMatches<'_>) -> Result<Choice, Failure> {
-    let (given, least) = (matches.get_str("version"), matches.get_str("least-version"));
-    let (is_micro, is_boosted) = (matches.get_flag("micro"), matches.get_flag("boost"));
-    let from = match (given, least) {
+fn choice_of(alloc: Global, given: &Given<'_>) -> Result<Choice, Failure> {
+    let (only, least) = (given.get("version"), given.get("least-version"));
+    let (is_micro, is_boosted) = (given.has_flag("micro"), given.has_flag("boost"));
+    let from = match (only, least) {
         (Some(_), Some(_)) => {
             return usage(
                 alloc,
@@ -154,46 +154,46 @@ fn choice_of(alloc: Global, matches: &ArgMatches<'_>) -> Result<Choice, Failure>
 
 fn request_of<'a>(
     alloc: Global,
-    matches: &ArgMatches<'a>,
+    given: &Given<'a>,
     target: Target<'a>,
     has_colours: bool,
 ) -> Result<Request<'a>, Failure> {
-    let choice = choice_of(alloc, matches)?;
-    let format = format(alloc, matches.get_str("format"), target, has_colours)?;
-    check_format(alloc, matches, format)?;
-    let (scale, size) = sizes(alloc, matches, format)?;
-    let (dark, light) = inks(alloc, matches, format)?;
+    let choice = choice_of(alloc, given)?;
+    let format = format(alloc, given.get("format"), target, has_colours)?;
+    check_format(alloc, given, format)?;
+    let (scale, size) = sizes(alloc, given, format)?;
+    let (dark, light) = inks(alloc, given, format)?;
     Ok(Request {
         manner: Manner::Text,
         choice,
-        level: level(matches.get_str("level")),
+        level: level(given.get("level")),
         format,
-        zone: matches.get_one::<u8>("quiet-zone"),
+        zone: given.number::<u8>("quiet-zone"),
         scale,
         size,
-        dpi: matches.get_one::<u16>("dpi"),
+        dpi: given.number::<u16>("dpi"),
         dark,
         light,
-        is_inverted: matches.get_flag("invert"),
+        is_inverted: given.has_flag("invert"),
     })
 }
 
 // The colours of dark and of light modules.
 fn inks<'a>(
     alloc: Global,
-    matches: &ArgMatches<'a>,
+    given: &Given<'a>,
     format: Format,
 ) -> Result<(Ink<'a>, Ink<'a>), Failure> {
-    let dark = ink(alloc, matches.get_str("colour"), "#000", format)?;
-    let light = ink(alloc, matches.get_str("background"), "#fff", format)?;
+    let dark = ink(alloc, given.get("colour"), "#000", format)?;
+    let light = ink(alloc, given.get("background"), "#fff", format)?;
     Ok((dark, light))
 }
 
 // Refuses options that a format does not have.
-fn check_format(alloc: Global, matches: &ArgMatches<'_>, format: Format) -> Result<(), Failure> {
+fn check_format(alloc: Global, given: &Given<'_>, format: Format) -> Result<(), Failure> {
     if !matches!(format, Format::Svg | Format::Eps | Format::Png) {
         for name in ["colour", "background"] {
-            if matches.contains_id(name) {
+            if given.get(name).is_some() {
                 let text = format!(in alloc;
                     "--{name}: PNG, SVG and EPS alone have colours; add --format png, svg or eps"
                 )?;
@@ -201,13 +201,13 @@ fn check_format(alloc: Global, matches: &ArgMatches<'_>, format: Format) -> Resu
             }
         }
     }
-    if format != Format::Png && matches.contains_id("dpi") {
+    if format != Format::Png && given.get("dpi").is_some() {
         return usage(
             alloc,
             "--dpi: PNG alone names its dots per inch; EPS has a point for a pixel, 72 to an inch",
         );
     }
-    if format == Format::Pic && matches.get_flag("invert") {
+    if format == Format::Pic && given.has_flag("invert") {
         return usage(
             alloc,
             "--invert: PIC draws no light modules; take another --format",
@@ -217,15 +217,8 @@ fn check_format(alloc: Global, matches: &ArgMatches<'_>, format: Format) -> Resu
 }
 
 // The pixels of a module, and those of a side where they are asked for.
-fn sizes(
-    alloc: Global,
-    matches: &ArgMatches<'_>,
-    format: Format,
-) -> Result<(u16, Option<u16>), Failure> {
-    let (scale, size) = (
-        matches.get_one::<u16>("scale"),
-        matches.get_one::<u16>("size"),
-    );
+fn sizes(alloc: Global, given: &Given<'_>, format: Format) -> Result<(u16, Option<u16>), Failure> {
+    let (scale, size) = (given.number::<u16>("scale"), given.number::<u16>("size"));
     if scale.is_some() && size.is_some() {
         return usage(alloc, "--scale and --size: one of them is enough");
     }
@@ -233,7 +226,7 @@ fn sizes(
         Format::HalfBlocks | Format::Terminal | Format::Chars | Format::Pic => 1,
         _ => 8,
     });
-    let zone = matches.get_one::<u8>("quiet-zone").unwrap_or(4);
+    let zone = given.number::<u8>("quiet-zone").unwrap_or(4);
     let most = GREATEST_SIDE / (177 + 2 * zone as u32);
     if format == Format::Png && scale as u32 > most {
         let text = format!(in alloc;
@@ -283,7 +276,10 @@ fn format(
         Target::Terminal if has_colours => Ok(Format::Terminal),
         Target::Terminal | Target::StandardOutput => Ok(Format::HalfBlocks),
         Target::File(path) => {
-            let ending = path.rsplit_once('.').map_or("", |parts| parts.1);
+            let ending = match path.rsplit_once('.') {
+                Some((_, ending)) => ending,
+                None => "",
+            };
             named_format(ending).ok_or(Failure::Usage(format!(in alloc;
                 "--output {path}: its ending is none of .txt .png .svg .eps .pic .pbm .pgm; add --format"
             )?))
@@ -305,10 +301,12 @@ fn named_format(name: &str) -> Option<Format> {
         ("pbm", Format::Pbm),
         ("pgm", Format::Pgm),
     ];
-    names
-        .iter()
-        .find(|entry| entry.0.eq_ignore_ascii_case(name))
-        .map(|entry| entry.1)
+    for (known, format) in names {
+        if known.eq_ignore_ascii_case(name) {
+            return Some(format);
+        }
+    }
+    None
 }
 
 // A colour: # and three or six digits to the base 16, or in SVG a name of letters.
@@ -322,7 +320,7 @@ fn ink<'a>(
     if let Some(ink) = ink_of(name) {
         return Ok(ink);
     }
-    let is_name = !name.is_empty() && name.as_bytes().iter().all(|b| b.is_ascii_alphabetic());
+    let is_name = !name.is_empty() && name.as_bytes().iter().all(u8::is_ascii_alphabetic);
     if is_name && format == Format::Svg {
         return Ok(Ink {
             name,
@@ -354,9 +352,4 @@ fn ink_of(name: &str) -> Option<Ink<'_>> {
         green: two_digits(high[1], low[1])?,
         blue: two_digits(high[2], low[2])?,
     })
-}
-
-/// A wrong command line, by a text.
-pub fn usage<T>(alloc: Global, text: &str) -> Result<T, Failure> {
-    Err(Failure::Usage(String::from_str(alloc, text)?))
 }

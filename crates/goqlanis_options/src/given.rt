@@ -1,6 +1,7 @@
 //! The options that are given.
 
 use std::alloc::{AllocError, Global};
+use std::str::FromStr;
 
 /// Names of options, and what is given for them.
 #[derive(Drop)]
@@ -22,7 +23,7 @@ impl<'a> Given<'a> {
         Ok(())
     }
 
-    /// What is given for an option, where something is.
+    /// What is given for an option first, where something is.
     pub fn get(&self, name: &str) -> Option<&'a str> {
         for (known, value) in &self.values {
             if *known == name {
@@ -35,5 +36,32 @@ impl<'a> Given<'a> {
     /// What is given for an option, or an empty text.
     pub fn text(&self, name: &str) -> &'a str {
         self.get(name).unwrap_or("")
+    }
+
+    /// The number that is given for an option, where something is and it is such a number.
+    pub fn number<T: FromStr>(&self, name: &str) -> Option<T>
+    where
+        T::Err: Drop,
+    {
+        match self.get(name)?.parse() {
+            Ok(number) => Some(number),
+            Err(_) => None,
+        }
+    }
+
+    /// Whether a flag is given.
+    pub fn has_flag(&self, name: &str) -> bool {
+        self.text(name) == "true"
+    }
+
+    /// All that is given for an option, in order. It fails for want of memory alone.
+    pub fn all(&self, alloc: Global, name: &str) -> Result<Vec<&'a str>, AllocError> {
+        let mut all = Vec::new(alloc);
+        for (known, value) in &self.values {
+            if *known == name {
+                all.push(*value)?;
+            }
+        }
+        Ok(all)
     }
 }

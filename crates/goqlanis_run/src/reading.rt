@@ -1,19 +1,18 @@
 //! `goqlanis read`: a picture, read back.
 
 use crate::failure::Failure;
-use crate::program::{print, read_file, read_standard_input, write_file};
-use crate::{command, files};
-use clap::ArgMatches;
+use crate::streams::{print, read_file, read_standard_input, write_file};
 use goqlanis_draw::{Scan, Unread, read_picture};
+use goqlanis_options::Given;
 use qrcode::types::Version;
 use qrcode_reader::{Position, WrongCodeword};
 use std::alloc::{AllocError, Global};
 use std::process::ExitCode;
 
 /// Reads the picture that the command line names, and writes its data.
-pub fn read(rt: &HostRuntime, matches: &ArgMatches<'_>) -> Result<ExitCode, Failure> {
+pub(crate) fn read(rt: &HostRuntime, given: &Given<'_>) -> Result<ExitCode, Failure> {
     let alloc = rt.alloc();
-    let (name, bytes) = match matches.get_str("PICTURE") {
+    let (name, bytes) = match given.get("PICTURE") {
         None | Some("-") => ("standard input", read_standard_input(rt, "a picture")?),
         Some(path) => (path, read_file(rt, path)?),
     };
@@ -24,17 +23,14 @@ pub fn read(rt: &HostRuntime, matches: &ArgMatches<'_>) -> Result<ExitCode, Fail
             return Err(Failure::Refused(format!(in alloc; "cannot read {name}: {error}")?));
         }
     };
-    if matches.get_flag("verbose") {
+    if given.has_flag("verbose") {
         let text = description(alloc, &scan)?;
         let _ = eprint!(rt; "{text}");
     }
     let data = scan.any.reading.data.as_slice();
-    match matches.get_str("output") {
+    match given.get("output") {
         None | Some("-") => print(rt, data),
-        Some(path) => {
-            write_file(rt, path, data)?;
-            Ok(ExitCode::SUCCESS)
-        }
+        Some(path) => write_file(rt, path, data),
     }
 }
 
@@ -48,32 +44,19 @@ fn description(alloc: Global, scan: &Scan) -> Result<String, AllocError> {
     };
     let (count, zone, scale) = (square.count, square.zone, square.scale);
     let place = position_text(scan.any.position);
-    let (exchanged, headers) = (exchanged_text(scan), headers_text(scan));
     let mut text = format!(in alloc;
         "version {kind}{number}, level {level:?}, mask {mask}
 modules: {count} by {count}; pixels of a module: {scale}; quiet zone: {zone}
-position: {place}{exchanged}{headers}\n"
+position: {place}"
     )?;
+    if scan.is_inverted != scan.any.is_inverted {
+        text.push_str(", dark and light exchanged")?;
+    }
+    if scan.has_headers {
+        text.push_str(", with headers between the segments")?;
+    }
     push_wrong(&mut text, &reading.wrong)?;
     Ok(text)
-}
-
-// Whether dark and light are exchanged.
-fn exchanged_text(scan: &Scan) -> &'static str {
-    if scan.is_inverted != scan.any.is_inverted {
-        ", dark and light exchanged"
-    } else {
-        ""
-    }
-}
-
-// Whether there are headers.
-fn headers_text(scan: &Scan) -> &'static str {
-    if scan.has_headers {
-        ", with headers between the segments"
-    } else {
-        ""
-    }
 }
 
 // How a symbol stands in its picture.
@@ -93,7 +76,7 @@ fn position_text(position: Position) -> &'static str {
 // How many codewords are wrong, and which.
 fn push_wrong(text: &mut String, wrong: &[WrongCodeword]) -> Result<(), AllocError> {
     let count = wrong.len();
-    write!(text, "wrong codewords: {count}")?;
+    write!(text, "\nwrong codewords: {count}")?;
     let mut sign = ", by block and place from 0: ";
     for each in wrong {
         let (block, place) = (each.block, each.place);

@@ -13,7 +13,7 @@ static EMPTY: &str = "........................................";
 /// A bar that says how many lines are done. It stands on standard error, where that is a terminal
 /// that can take a line back, and to which no drawing goes.
 #[derive(Clone, Copy)]
-pub struct Progress {
+pub(crate) struct Progress {
     is_shown: bool,
     total: usize,
     cells: usize,
@@ -21,7 +21,7 @@ pub struct Progress {
 
 impl Progress {
     /// No line of so many is done.
-    pub fn new(rt: &HostRuntime, total: usize, is_drawn_there: bool) -> Progress {
+    pub(crate) fn new(rt: &HostRuntime, total: usize, is_drawn_there: bool) -> Progress {
         Progress {
             is_shown: !is_drawn_there && rt.stderr().is_terminal() && !is_dumb(rt),
             total,
@@ -30,7 +30,7 @@ impl Progress {
     }
 
     /// So many lines are done: the bar is drawn anew where it grows.
-    pub fn show(&mut self, rt: &HostRuntime, done: usize) {
+    pub(crate) fn show(&mut self, rt: &HostRuntime, done: usize) {
         let cells = (done.saturating_mul(CELLS) / self.total.max(1)).min(CELLS);
         if self.is_shown && cells != self.cells {
             self.cells = cells;
@@ -42,7 +42,7 @@ impl Progress {
     }
 
     /// Takes the bar away, for a line of text in its place or at the end.
-    pub fn clear(&mut self, rt: &HostRuntime) {
+    pub(crate) fn clear(&mut self, rt: &HostRuntime) {
         if self.is_shown {
             self.cells = CELLS;
             let _ = eprint!(rt; "\r\x1b[K");
@@ -52,5 +52,8 @@ impl Progress {
 
 // Whether the terminal takes no control sequences.
 fn is_dumb(rt: &HostRuntime) -> bool {
-    env::var(rt, "TERM").is_ok_and(|name| name.as_str() == "dumb")
+    match env::var(rt, "TERM") {
+        Ok(name) => name.as_str() == "dumb",
+        Err(_) => false,
+    }
 }

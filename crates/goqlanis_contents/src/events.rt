@@ -1,0 +1,86 @@
+//! An event of a calendar, from the options that are given.
+
+use crate::refusals::{Refusal, wrong};
+use goqlanis_options::Given;
+use qrcode_events::event::{Event, Span};
+use qrcode_events::times::{Day, Moment};
+use std::alloc::Global;
+
+// An event: of whole days where its begin is a day, and else of moments.
+pub(crate) fn event<'a>(alloc: Global, given: &Given<'a>) -> Result<Event<'a>, Refusal> {
+    let span = if day_of(given.text("begin").as_bytes()).is_some() {
+        Span::Days(
+            day(alloc, given, "begin", "--begin")?,
+            day(alloc, given, "end", "--end")?,
+        )
+    } else {
+        Span::Times(
+            moment(alloc, given, "begin", "--begin")?,
+            moment(alloc, given, "end", "--end")?,
+        )
+    };
+    Ok(Event {
+        uid: given.text("uid"),
+        stamp: moment(alloc, given, "stamp", "--stamp")?,
+        span,
+        summary: given.text("summary"),
+        location: given.text("location"),
+        description: given.text("description"),
+    })
+}
+
+// The day that an option gives.
+fn day(alloc: Global, given: &Given<'_>, name: &str, option: &str) -> Result<Day, Refusal> {
+    match day_of(given.text(name).as_bytes()) {
+        Some(day) => Ok(day),
+        None => Err(wrong(alloc, option, "it is no day", "; write it as 19970714")),
+    }
+}
+
+// The moment that an option gives.
+fn moment(alloc: Global, given: &Given<'_>, name: &str, option: &str) -> Result<Moment, Refusal> {
+    match moment_of(given.text(name).as_bytes()) {
+        Some(moment) => Ok(moment),
+        None => Err(wrong(
+            alloc,
+            option,
+            "it is no moment",
+            "; write it in UTC as 19970714T170000Z, or begin and end both as days",
+        )),
+    }
+}
+
+// A day of eight digits.
+fn day_of(bytes: &[u8]) -> Option<Day> {
+    if bytes.len() != 8 {
+        return None;
+    }
+    Some(Day {
+        year: u16::from(pair_at(bytes, 0)?) * 100 + u16::from(pair_at(bytes, 2)?),
+        month: pair_at(bytes, 4)?,
+        day: pair_at(bytes, 6)?,
+    })
+}
+
+// A moment: a day, T, six digits and Z.
+fn moment_of(bytes: &[u8]) -> Option<Moment> {
+    if bytes.len() != 16 || bytes[8] != b'T' || bytes[15] != b'Z' {
+        return None;
+    }
+    Some(Moment {
+        day: day_of(&bytes[..8])?,
+        hour: pair_at(bytes, 9)?,
+        minute: pair_at(bytes, 11)?,
+        second: pair_at(bytes, 13)?,
+    })
+}
+
+// The number of two digits at a place.
+fn pair_at(bytes: &[u8], place: usize) -> Option<u8> {
+    let tens = *bytes.get(place)?;
+    let ones = *bytes.get(place.saturating_add(1))?;
+    if !tens.is_ascii_digit() || !ones.is_ascii_digit() {
+        return None;
+    }
+    Some(10 * (tens - b'0') + (ones - b'0'))
+}

@@ -1,0 +1,140 @@
+//! What the program can be asked for.
+
+use crate::contents::{BILL, EVENT, MAIL, MECARD, OTP, PAYMENT, PLACE, SMS, TEL, VCARD, WIFI};
+use crate::drawing::DRAWING;
+use crate::entries::Entry;
+use crate::reading::READING;
+use std::alloc::{AllocError, Global};
+
+/// What a text is of.
+#[derive(Clone, Copy)]
+pub enum Kind {
+    /// A wireless network.
+    Wifi,
+    /// A contact, as MECARD.
+    Mecard,
+    /// A contact, as vCard.
+    Vcard,
+    /// A SEPA credit transfer.
+    Payment,
+    /// A Swiss QR bill.
+    Bill,
+    /// A mail.
+    Mail,
+    /// A place on the earth.
+    Place,
+    /// A call.
+    Tel,
+    /// A message to a telephone.
+    Sms,
+    /// One-time passwords.
+    Otp,
+    /// An event of a calendar.
+    Event,
+}
+
+/// What is done.
+#[derive(Clone, Copy)]
+pub enum Purpose {
+    /// Data is drawn.
+    Draw,
+    /// A picture is read.
+    Read,
+    /// The text of fields is drawn, which options give.
+    Content(Kind),
+}
+
+/// What stands on the command line beside options.
+#[derive(Clone, Copy)]
+pub struct Operand {
+    pub name: &'static str,
+    pub help: &'static str,
+}
+
+/// What the program can be asked for.
+#[derive(Clone, Copy)]
+pub struct Task {
+    /// The word that asks for it; of drawing, for which no word asks, an empty one.
+    pub word: &'static str,
+    /// The program and the word.
+    pub title: &'static str,
+    pub about: &'static str,
+    pub purpose: Purpose,
+    /// Its options, without those of drawing that go with it.
+    pub options: &'static [Entry],
+}
+
+/// What words ask for, in the order of the manual.
+pub(crate) fn worded_tasks() -> [&'static Task; 12] {
+    [
+        &READING, &WIFI, &MECARD, &VCARD, &PAYMENT, &BILL, &MAIL, &PLACE, &TEL, &SMS, &OTP, &EVENT,
+    ]
+}
+
+/// What the first word behind the program's name asks for.
+pub fn task_of(word: &str) -> &'static Task {
+    for task in worded_tasks() {
+        if task.word == word {
+            return task;
+        }
+    }
+    drawing()
+}
+
+/// What is asked for where no word asks for anything else.
+pub(crate) fn drawing() -> &'static Task {
+    &DRAWING
+}
+
+impl Task {
+    /// What it takes beside options.
+    pub fn operand(&self) -> Option<Operand> {
+        match self.purpose {
+            Purpose::Draw => Some(Operand {
+                name: "TEXT",
+                help: "The text; standard input where there is neither it nor --input",
+            }),
+            Purpose::Read => Some(Operand {
+                name: "PICTURE",
+                help: "A PBM file, a PGM file of bytes, or half blocks; standard input where there is none",
+            }),
+            Purpose::Content(_) => None,
+        }
+    }
+
+    /// All options that it takes: its own, and those of drawing that go with it.
+    pub fn all_options(&self, alloc: Global) -> Result<Vec<&'static Entry>, AllocError> {
+        let mut all = Vec::new(alloc);
+        for entry in self.options {
+            all.push(entry)?;
+        }
+        for entry in drawing().options {
+            if self.goes_with(entry.long) {
+                all.push(entry)?;
+            }
+        }
+        Ok(all)
+    }
+
+    // Whether an option of drawing is beside its own: of a text none that gives the data, and where
+    // the format says the level none that says it.
+    fn goes_with(&self, option: &str) -> bool {
+        let Purpose::Content(kind) = self.purpose else {
+            return false;
+        };
+        match option {
+            "input"
+            | "trim"
+            | "lines"
+            | "bytes"
+            | "segment"
+            | "completions"
+            | "manual"
+            | "release" => false,
+            "level" | "version" | "least-version" | "micro" | "boost" | "eci" => {
+                !matches!(kind, Kind::Payment | Kind::Bill)
+            }
+            _ => true,
+        }
+    }
+}

@@ -1,0 +1,109 @@
+//! Drawings, made and written.
+
+use crate::asked::{Asked, Target, Writing};
+use crate::failure::{Failure, refused};
+use crate::segments::{Pieces, characters_of};
+use crate::streams::{print, write_file};
+use goqlanis_draw::{
+    Request, draw, draw_segments, manner_of, refusal_text, segments_refusal_text, unwritable,
+};
+use goqlanis_options::Given;
+use qrcode::bits::Manner;
+use qrcode::types::QrError;
+use std::alloc::{AllocError, Global};
+use std::io::IsTerminal;
+use std::process::ExitCode;
+
+/// Draws one symbol, and writes it: of a line, to the file of its number.
+pub(crate) fn draw_one(
+    rt: &HostRuntime,
+    asked: &Asked<'_>,
+    bytes: &[u8],
+    number: Option<usize>,
+) -> Result<ExitCode, Failure> {
+    let alloc = rt.alloc();
+    let request = Request {
+        manner: manner(alloc, asked.writing, bytes)?,
+        ..asked.request
+    };
+    let drawing = match draw(alloc, &request, bytes) {
+        Ok(drawing) => drawing,
+        Err(QrError::OutOfMemory) => return Err(Failure::OutOfMemory),
+        Err(error) => {
+            let text = refusal_text(alloc, &request, bytes.len(), error)?;
+            return Err(Failure::Refused(text));
+        }
+    };
+    write_drawing(rt, asked, &drawing, number)
+}
+
+/// The drawing of segments by hand.
+pub(crate) fn segments_drawing(
+    alloc: Global,
+    request: &Request<'_>,
+    given: &Given<'_>,
+) -> Result<Vec<u8>, Failure> {
+    let pieces = Pieces::read(alloc, &given.all(alloc, "segment")?)?;
+    let segments = pieces.segments(alloc)?;
+    if let Some(place) = unwritable(&segments) {
+        let why = match segments.get(place) {
+            Some(segment) => characters_of(segment.mode),
+            None => "",
+        };
+        let number = place.saturating_add(1);
+        return Err(Failure::Refused(format!(in alloc; "segment {number}: {why}")?));
+    }
+    match draw_segments(alloc, request, &segments) {
+        Ok(drawing) => Ok(drawing),
+        Err(QrError::OutOfMemory) => Err(Failure::OutOfMemory),
+        Err(error) => {
+            let text = segments_refusal_text(alloc, request, error)?;
+            Err(Failure::Refused(text))
+        }
+    }
+}
+
+/// Writes a drawing: of a line, to the file of its number.
+pub(crate) fn write_drawing(
+    rt: &HostRuntime,
+    asked: &Asked<'_>,
+    drawing: &[u8],
+    number: Option<usize>,
+) -> Result<ExitCode, Failure> {
+    match (asked.target, number) {
+        (Target::File(path), None) => write_file(rt, path, drawing),
+        (Target::File(path), Some(number)) => {
+            let path = numbered(rt.alloc(), path, number)?;
+            write_file(rt, path.as_str(), drawing)
+        }
+        (Target::Terminal, _) if !asked.request.format.is_text() && rt.stdout().is_terminal() => {
+            refused(
+                rt.alloc(),
+                "a picture of bytes is not for a terminal: add --output FILE, or --output - to see it",
+            )
+        }
+        (Target::Terminal | Target::StandardOutput, _) => print(rt, drawing),
+    }
+}
+
+// How data is written.
+fn manner(alloc: Global, writing: Writing, bytes: &[u8]) -> Result<Manner, Failure> {
+    match (writing, manner_of(bytes)) {
+        (Writing::ByItself, manner) => Ok(manner),
+        (Writing::Bytes, _) => Ok(Manner::Bytes),
+        (Writing::Marked, Manner::Bytes) => {
+            refused(alloc, "the data is not UTF-8: leave out --eci")
+        }
+        (Writing::Marked, _) => Ok(Manner::MarkedText),
+    }
+}
+
+// A path with the number of a line before its ending.
+fn numbered(alloc: Global, path: &str, number: usize) -> Result<String, AllocError> {
+    match path.rsplit_once('.') {
+        Some((stem, ending)) if !ending.contains('/') => {
+            format!(in alloc; "{stem}-{number:04}.{ending}")
+        }
+        _ => format!(in alloc; "{path}-{number:04}"),
+    }
+}

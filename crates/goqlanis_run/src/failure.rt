@@ -1,0 +1,57 @@
+//! Why the program does not do what it is asked.
+
+use std::alloc::{AllocError, AllocFailed, Global};
+use std::process::ExitCode;
+use thiserror::Error;
+
+/// Why the program does not do what it is asked.
+#[derive(Drop, Debug, Error)]
+pub enum Failure {
+    /// The command line is wrong: status 2.
+    #[error("{0}")]
+    Usage(String),
+    /// The data, a file or the terminal does not serve: status 1.
+    #[error("{0}")]
+    Refused(String),
+    /// Standard output takes no more: status 1.
+    #[error("{0}")]
+    Closed(String),
+    /// Memory was refused: status 1.
+    #[error("out of memory")]
+    OutOfMemory,
+}
+
+impl From<AllocError> for Failure {
+    fn from(_error: AllocError) -> Failure {
+        Failure::OutOfMemory
+    }
+}
+
+impl<T: Drop> From<AllocFailed<T>> for Failure {
+    fn from(_error: AllocFailed<T>) -> Failure {
+        Failure::OutOfMemory
+    }
+}
+
+/// The exit status of a run, whose failure is told in a line on standard error.
+pub fn status(rt: &HostRuntime, run: Result<ExitCode, Failure>) -> ExitCode {
+    let failure = match run {
+        Ok(code) => return code,
+        Err(failure) => failure,
+    };
+    let _ = eprintln!(rt; "goqlanis: {failure}");
+    match failure {
+        Failure::Usage(_) => ExitCode::from(2),
+        Failure::Refused(_) | Failure::Closed(_) | Failure::OutOfMemory => ExitCode::FAILURE,
+    }
+}
+
+/// A wrong command line, by a text.
+pub(crate) fn usage<T>(alloc: Global, text: &str) -> Result<T, Failure> {
+    Err(Failure::Usage(String::from_str(alloc, text)?))
+}
+
+/// A refusal, by its reason.
+pub(crate) fn refused<T>(alloc: Global, why: &str) -> Result<T, Failure> {
+    Err(Failure::Refused(String::from_str(alloc, why)?))
+}

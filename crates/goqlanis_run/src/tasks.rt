@@ -1,0 +1,98 @@
+//! What the command line asks for, done.
+
+use crate::asked::{Asked, Source, asked_for};
+use crate::drawing::{draw_one, segments_drawing, write_drawing};
+use crate::failure::{Failure, refused};
+use crate::lines::draw_lines;
+use crate::reading::read;
+use crate::streams::{has_colours, print, read_file, read_standard_input};
+use goqlanis_contents::{Refusal, text_of};
+use goqlanis_options::{Given, Kind, Purpose, Task, completions_of, manual_page, task_of};
+use qrcode_programs::Fault;
+use std::process::ExitCode;
+
+/// What the command line asks for, and its words: the title of the task, and what stands behind the word
+/// that asks for it.
+///
+/// `Refused`: a word is not UTF-8. `OutOfMemory`: memory was refused.
+pub fn words(rt: &HostRuntime) -> Result<(&'static Task, Vec<String>), Failure> {
+    let alloc = rt.alloc();
+    let mut words: Vec<String> = match qrcode_programs::words(rt) {
+        Ok(words) => words.collect(alloc)?,
+        Err(Fault::NotText) => {
+            return refused(
+                alloc,
+                "an argument is not UTF-8: put the data into a file, and name it by --input",
+            );
+        }
+        Err(_) => return Err(Failure::OutOfMemory),
+    };
+    let task = match words.get(1) {
+        Some(word) => task_of(word.as_str()),
+        None => task_of(""),
+    };
+    if words.len() > 1 && !task.word.is_empty() {
+        words.remove(0);
+        words[0] = String::from_str(alloc, task.title)?;
+    }
+    Ok((task, words))
+}
+
+/// Does a task with the options that are given, and returns the exit status.
+pub fn obey(rt: &HostRuntime, task: &Task, given: &Given<'_>) -> Result<ExitCode, Failure> {
+    match task.purpose {
+        Purpose::Draw => draw_data(rt, given),
+        Purpose::Read => read(rt, given),
+        Purpose::Content(kind) => draw_content(rt, kind, given),
+    }
+}
+
+// Draws data, unless a text about the program is asked for.
+fn draw_data(rt: &HostRuntime, given: &Given<'_>) -> Result<ExitCode, Failure> {
+    let alloc = rt.alloc();
+    if let Some(shell) = given.get("completions") {
+        return print(rt, completions_of(alloc, shell)?.as_bytes());
+    }
+    if given.has_flag("manual") {
+        return print(rt, manual_page(alloc)?.as_bytes());
+    }
+    if given.has_flag("release") {
+        return print(rt, b"goqlanis 1\n");
+    }
+    let asked = asked_for(alloc, given, has_colours(rt))?;
+    if given.get("segment").is_some() {
+        let drawing = segments_drawing(alloc, &asked.request, given)?;
+        return write_drawing(rt, &asked, &drawing, None);
+    }
+    let bytes = data(rt, &asked)?;
+    if asked.is_by_line {
+        draw_lines(rt, &asked, &bytes)
+    } else {
+        draw_one(rt, &asked, &bytes, None)
+    }
+}
+
+// Draws the text of a kind, of the fields that are given.
+fn draw_content(rt: &HostRuntime, kind: Kind, given: &Given<'_>) -> Result<ExitCode, Failure> {
+    let alloc = rt.alloc();
+    let asked = asked_for(alloc, given, has_colours(rt))?;
+    match text_of(alloc, kind, given) {
+        Ok(text) => draw_one(rt, &asked, text.as_bytes(), None),
+        Err(Refusal::Wrong(text)) => Err(Failure::Refused(text)),
+        Err(Refusal::OutOfMemory) => Err(Failure::OutOfMemory),
+    }
+}
+
+// The data that is asked about.
+fn data(rt: &HostRuntime, asked: &Asked<'_>) -> Result<Vec<u8>, Failure> {
+    let alloc = rt.alloc();
+    let mut bytes = match asked.source {
+        Source::Text(text) => Vec::from_slice(alloc, text.as_bytes())?,
+        Source::File(path) => read_file(rt, path)?,
+        Source::StandardInput => read_standard_input(rt, "the text")?,
+    };
+    if asked.trims && bytes.last() == Some(&b'\n') {
+        bytes.pop();
+    }
+    Ok(bytes)
+}
