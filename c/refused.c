@@ -10,7 +10,7 @@ size_t pool_live(void);
 static uint8_t data[500], text[500], square[GOQ_MODULES_MAX];
 static goq_symbol known;
 static struct outputs {
-    uint8_t buffer[200000];
+    uint8_t buffer[700000]; /* room for any picture of the symbol's width */
     goq_symbol symbol;
     goq_reading reading;
     size_t count;

@@ -98,6 +98,7 @@ static void shapes(void)
 static void drawings(void)
 {
     static const char *starts[] = {"", "", "<?xml", "maxpswid", "", "\x89PNG", "%!PS-Adobe-3.0 EPSF-3.0\n", "P4\n58 58\n"};
+    static uint8_t exact[20000];
     size_t count = 5, length = 0;
     goq_encode((const uint8_t *)"01234567", 8, GOQ_M, modules, sizeof modules, &symbol);
     for (uint32_t format = GOQ_HALF_BLOCKS; format <= GOQ_PBM; format++) {
@@ -106,6 +107,10 @@ static void drawings(void)
         expect(goq_draw(modules, 441, 21, 4, 2, format, out, length - 1, &count) == GOQ_SMALL_BUFFER && count == 5, "a byte too few");
         expect(goq_draw(modules, 441, 21, 4, 2, format, out, length, &count) == GOQ_OK && count == length && out[length] == 9, "a picture");
         expect(!memcmp(out, starts[format], strlen(starts[format])), "how it starts");
+        memcpy(exact, out, length);
+        memset(out, 9, sizeof out);
+        expect(goq_draw(modules, 441, 21, 4, 2, format, out, sizeof out, &count) == GOQ_OK && count == length && out[length] == 9, "in a roomy buffer");
+        expect(!memcmp(out, exact, length), "the same picture");
         count = 5;
         if (format == GOQ_GREY)
             expect(length == 58 * 58 && out[0] == 255 && out[58 * 8 + 8] == 0, "grey pixels");

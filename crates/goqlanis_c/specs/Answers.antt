@@ -1,6 +1,6 @@
 -- What the calls for C answer: 0, or the number of a refusal; and the cause of each refusal.
 use Rattle.std.specs.Prelude.{◌≡◌, ◌≢◌, ◌⊎◌, ◌+◌, ◌*◌, ◌^◌, ◌<◌, ◌≤◌, ◌-◌, ◌==◌, ⊤, ℕ, pos, List, [], ◌∷◌, length, false, IsUtf8, Option, Some, None, slice_get, if◌then◌else◌}
-use Rattle.qrcode_types.specs.Versions.{has_level, capacity}
+use Rattle.qrcode_types.specs.Versions.{has_level}
 use Rattle.qrcode_types.specs.declared.types.EcLevel.{EcLevel}
 use Rattle.qrcode_types.specs.declared.types.Version.{Version}
 use Rattle.qrcode_types.specs.declared.types.Version.TheVariants.{Normal}
@@ -19,7 +19,7 @@ use Rattle.goqlanis_c.specs.Drawings.{format_named, colors_of, IsDrawn}
 use Rattle.goqlanis_c.specs.declared.drawing.Format.{Format}
 use Rattle.goqlanis_c.specs.declared.drawing.Format.TheVariants.{Png}
 use Rattle.goqlanis_c.specs.Names.{level_named, version_named}
-use Rattle.goqlanis_c.specs.Segments.{written_segments, AreHeld, IsFirstRefused, IsSymbolOfSegments}
+use Rattle.goqlanis_c.specs.Segments.{HasNoRoom, HaveNoRoom, IsFirstRefused, IsSymbolOfSegments}
 use Rattle.goqlanis_c.specs.declared.segments.Segment as by_hand
 use Rattle.goqlanis_c.specs.declared.answers.Refusal.{Refusal}
 use Rattle.goqlanis_c.specs.declared.answers.Refusal.TheVariants.{NoSuchLevel, NoSuchVersion, LevelNotInVersion, TooLong, NoMode, NoRoom, SmallBuffer, OutOfMemory, NoSuchFormat, NotSquare, NoSuchSize, NotText, NoSuchKind, NotInMode, NoSuchNumber, NoSuchSide, NoFormat, Damaged, NotSpelled}
@@ -76,7 +76,7 @@ IsJointCause version level segments room NoSuchVersion = version_named version �
 IsJointCause version level segments room LevelNotInVersion =
     (l : EcLevel) × ((v : Version) × ((level_named level ≡ Some l) × ((version_named version ≡ Some v) × (has_level v l ≡ false))))
 IsJointCause version level segments room NoRoom =
-    (l : EcLevel) × ((v : Version) × ((level_named level ≡ Some l) × ((version_named version ≡ Some v) × (capacity v l < length (written_segments v segments)))))
+    (l : EcLevel) × ((v : Version) × ((level_named level ≡ Some l) × ((version_named version ≡ Some v) × HaveNoRoom v l segments)))
 IsJointCause version level segments room SmallBuffer =
     (l : EcLevel) × ((v : Version) × ((s : List Color)
     × ((level_named level ≡ Some l) × ((version_named version ≡ Some v) × (IsSymbolOfSegments v l segments s × (room < length s))))))
@@ -87,13 +87,22 @@ IsJointCause version level segments room refusal = ⊥
 abbrev pub IsSegmentsCause : ℕ → ℕ → List by_hand.Segment → ℕ → Refusal → Type 0
 IsSegmentsCause version level segments room refusal = IsSegmentCause version segments refusal ⊎ IsJointCause version level segments room refusal
 
--- why no least version of segments is told at a level: of the segments one is refused, whose cause no version mends, or no Normal version holds them
+-- a refusal of one of the segments in the first Normal version that has room for those before it
+pub record IsLasting (l : EcLevel) (segments : List by_hand.Segment) (refusal : Refusal) : Type 0 where
+  pub number : ℕ
+  pub some : 1 ≤ number
+  pub most : number ≤ 40
+  pub before : (n : ℕ) → 1 ≤ n → n < number → HasNoRoom (Normal (pos n)) l segments
+  pub refused : IsFirstRefused (Normal (pos number)) segments refusal
+
+-- why no least version of segments is told at a level: want of memory; no such level; one of the segments is refused, whose cause no version mends; or no
+-- Normal version has room for them
 abbrev pub IsLeastCause : ℕ → List by_hand.Segment → Refusal → Type 0
 IsLeastCause level segments refusal =
     (refusal ≡ OutOfMemory)
     ⊎ (((refusal ≡ NoSuchLevel) × (level_named level ≡ None))
-    ⊎ (((refusal ≢ NoRoom) × ((n : ℕ) × IsFirstRefused (Normal (pos n)) segments refusal))
-    ⊎ ((refusal ≡ NoRoom) × ((l : EcLevel) × ((level_named level ≡ Some l) × ((n : ℕ) → ¬ AreHeld (Normal (pos n)) l segments))))))
+    ⊎ ((l : EcLevel) × ((level_named level ≡ Some l) × (((refusal ≢ NoRoom) × IsLasting l segments refusal)
+    ⊎ ((refusal ≡ NoRoom) × ((n : ℕ) → 1 ≤ n → n ≤ 40 → HasNoRoom (Normal (pos n)) l segments))))))
 
 -- why a text is refused at a level, where the least Normal version is chosen and the buffer has so much room
 abbrev pub IsTextCause : Manner → ℕ → List ℕ → ℕ → Refusal → Type 0

@@ -1,5 +1,5 @@
 -- What the calls for C draw.
-use Rattle.std.specs.Prelude.{◌≡◌, ℕ, ◌==◌, not, true, false, List, [], ◌∷◌, map, codes, slice_get, Option, None}
+use Rattle.std.specs.Prelude.{◌≡◌, ℕ, ◌==◌, not, true, false, List, [], ◌∷◌, ◌++◌, length, drop, map, codes, slice_get, Option, None, Some}
 use Rattle.qrcode_types.specs.Colors.{color_of}
 use Rattle.qrcode_types.specs.declared.types.Color.{Color}
 use Rattle.qrcode_png.specs.Shown.{IsFileOf}
@@ -47,3 +47,9 @@ IsDrawnIn Pbm at modules bytes = bytes ≡ pbm_file true false (picture at modul
 -- the picture of modules of a width as bytes, with a quiet zone and a scale
 abbrev pub IsDrawn : Format → List ℕ → ℕ → ℕ → ℕ → List ℕ → Type 0
 IsDrawn f modules width zone scale bytes = IsDrawnIn f (layout width zone scale scale) (colors_of modules) bytes
+
+-- a picture of modules in a format at the beginning of a buffer that is otherwise as it was, and its length; or the buffer as it was
+abbrev pub IsDrawnInto : Format → List ℕ → ℕ → ℕ → ℕ → List ℕ → List ℕ → Option ℕ → Type 0
+IsDrawnInto f modules width zone scale old new (Some count) =
+    (bytes : List ℕ) × (IsDrawn f modules width zone scale bytes × ((count ≡ length bytes) × (new ≡ bytes ++ drop (length bytes) old)))
+IsDrawnInto f modules width zone scale old new None = new ≡ old

@@ -99,12 +99,20 @@ pub record AreHeld (v : Version) (l : EcLevel) (segments : List Segment) : Type 
   pub taken : AreTaken v segments (length segments)
   pub room : length (written_segments v segments) ≤ capacity v l
 
+-- none of the segments is refused, and the symbol has no room for their bits
+abbrev pub HaveNoRoom : Version → EcLevel → List Segment → Type 0
+HaveNoRoom v l segments = AreTaken v segments (length segments) × (capacity v l < length (written_segments v segments))
+
+-- a version has no room for the segments: for one of them, or for all together
+abbrev pub HasNoRoom : Version → EcLevel → List Segment → Type 0
+HasNoRoom v l segments = IsFirstRefused v segments NoRoom ⊎ HaveNoRoom v l segments
+
 -- why segments are not held, or want of memory
 abbrev pub AreUnheld : Version → EcLevel → List Segment → Refusal → Type 0
 AreUnheld v l segments refusal =
     (refusal ≡ OutOfMemory)
     ⊎ (IsFirstRefused v segments refusal
-    ⊎ (((refusal ≡ LevelNotInVersion) × (has_level v l ≡ false)) ⊎ ((refusal ≡ NoRoom) × (capacity v l < length (written_segments v segments)))))
+    ⊎ (((refusal ≡ LevelNotInVersion) × (has_level v l ≡ false)) ⊎ ((refusal ≡ NoRoom) × HaveNoRoom v l segments)))
 
 -- the least Normal version that holds segments
 pub record IsLeastHeld (l : EcLevel) (segments : List Segment) (v : Version) : Type 0 where

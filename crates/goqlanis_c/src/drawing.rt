@@ -8,14 +8,17 @@ ghost use Rattle.qrcode_render.specs.Files.{pbm_file};
 ghost use Rattle.qrcode_render.specs.Half.{is_dark_half};
 ghost use Rattle.qrcode_render.specs.Layout.{layout};
 ghost use Rattle.qrcode_render.specs.Picture.{picture};
+ghost use Rattle.qrcode_render.specs.Put.{IsPutWhere};
+ghost use Rattle.qrcode_render.specs.Strips.{lines_room};
 ghost use Rattle.qrcode_render.specs.Texts.{dense_text, raw_bytes};
-ghost use Rattle.qrcode_render.specs.Vectors.{svg_text, pic_text};
+ghost use Rattle.qrcode_render.specs.Vectors.{svg_start, svg_text, pic_start, pic_text};
 ghost use Rattle.goqlanis_c.specs.declared.drawing.Format.TheVariants.{Grey};
-ghost use Rattle.goqlanis_c.specs.Drawings.{format_named, colors_of, black, white, eps_grey, IsDrawn};
+ghost use Rattle.goqlanis_c.specs.Drawings.{format_named, colors_of, black, white, eps_grey, IsDrawn, IsDrawnInto};
 
+use qrcode::render::grid::Grid;
 use qrcode::render::image::Luma;
 use qrcode::render::pbm::Bit;
-use qrcode::render::unicode::Dense1x2;
+use qrcode::render::unicode::{Dense1x2, HalfBlocks};
 use qrcode::render::{Pixel, Renderer, eps, pic, svg};
 use qrcode::types::{Color, QrResult};
 use std::alloc::Global;
@@ -85,23 +88,24 @@ fn color_all(colors: &mut [Color], modules: &[u8])
 // The text of half blocks, where dark pixels are drawn so and light ones so.
 fn half_blocks(
     alloc: Global,
-    colors: &[Color],
-    width: usize,
+    modules: &[u8],
+    width: u32,
     zone: u32,
     scale: u32,
     dark: Dense1x2,
     light: Dense1x2,
 ) -> QrResult<Vec<u8>>
-    requires square { length colors.now ≡ width * width }
+    requires square { length modules.now ≡ width * width }
     requires side { width + 2 * zone < 2 ^ 16 }
     requires scale { scale < 2 ^ 16 }
     requires positive { 1 ≤ scale }
     ensures drawing { IfOk result (λ bytes. bytes.items
         ≡ dense_text (is_dark_half dark) (is_dark_half light)
-        (picture (layout width zone scale scale) colors.now)) }
+        (picture (layout width zone scale scale) (colors_of modules.now))) }
     ensures memory { IsOkUnless result OutOfMemory }
 {
-    let text = Renderer::<Dense1x2>::new(colors, width, zone)
+    let colors = colors_of(alloc, modules)?;
+    let text = Renderer::<Dense1x2>::new(&colors, width as usize, zone)
         .dark_color(dark)
         .light_color(light)
         .module_size(scale)
@@ -110,105 +114,105 @@ fn half_blocks(
 }
 
 // The text of SVG.
-fn as_svg(alloc: Global, colors: &[Color], width: usize, zone: u32, scale: u32) -> QrResult<Vec<u8>>
-    requires square { length colors.now ≡ width * width }
+fn as_svg(alloc: Global, modules: &[u8], width: u32, zone: u32, scale: u32) -> QrResult<Vec<u8>>
+    requires square { length modules.now ≡ width * width }
     requires side { width + 2 * zone < 2 ^ 16 }
     requires scale { scale < 2 ^ 16 }
     requires positive { 1 ≤ scale }
     ensures drawing { IfOk result (λ bytes. bytes.items
-        ≡ svg_text (layout width zone scale scale) colors.now
+        ≡ svg_text (layout width zone scale scale) (colors_of modules.now)
         (codes "#000") (codes "#fff")) }
     ensures memory { IsOkUnless result OutOfMemory }
 {
-    let text = Renderer::<svg::Color>::new(colors, width, zone)
+    let colors = colors_of(alloc, modules)?;
+    let text = Renderer::<svg::Color>::new(&colors, width as usize, zone)
         .module_size(scale)
         .build(alloc)?;
     Ok(text.into_bytes())
 }
 
 // The text of PIC.
-fn as_pic(alloc: Global, colors: &[Color], width: usize, zone: u32, scale: u32) -> QrResult<Vec<u8>>
-    requires square { length colors.now ≡ width * width }
+fn as_pic(alloc: Global, modules: &[u8], width: u32, zone: u32, scale: u32) -> QrResult<Vec<u8>>
+    requires square { length modules.now ≡ width * width }
     requires side { width + 2 * zone < 2 ^ 16 }
     requires scale { scale < 2 ^ 16 }
     requires positive { 1 ≤ scale }
     ensures drawing { IfOk result (λ bytes. bytes.items
-        ≡ pic_text (layout width zone scale scale) colors.now) }
+        ≡ pic_text (layout width zone scale scale) (colors_of modules.now)) }
     ensures memory { IsOkUnless result OutOfMemory }
 {
-    let text = Renderer::<pic::Color>::new(colors, width, zone)
+    let colors = colors_of(alloc, modules)?;
+    let text = Renderer::<pic::Color>::new(&colors, width as usize, zone)
         .module_size(scale)
         .build(alloc)?;
     Ok(text.into_bytes())
 }
 
 // The greys of the pixels.
-fn as_greys(
-    alloc: Global,
-    colors: &[Color],
-    width: usize,
-    zone: u32,
-    scale: u32,
-) -> QrResult<Vec<u8>>
-    requires square { length colors.now ≡ width * width }
+fn as_greys(alloc: Global, modules: &[u8], width: u32, zone: u32, scale: u32) -> QrResult<Vec<u8>>
+    requires square { length modules.now ≡ width * width }
     requires side { width + 2 * zone < 2 ^ 16 }
     requires scale { scale < 2 ^ 16 }
     requires positive { 1 ≤ scale }
     ensures drawing { IfOk result (λ bytes. bytes.items
         ≡ raw_bytes (0 ∷ []) (255 ∷ [])
-        (picture (layout width zone scale scale) colors.now)) }
+        (picture (layout width zone scale scale) (colors_of modules.now))) }
     ensures memory { IsOkUnless result OutOfMemory }
 {
-    let image = Renderer::<Luma>::new(colors, width, zone)
+    let colors = colors_of(alloc, modules)?;
+    let image = Renderer::<Luma>::new(&colors, width as usize, zone)
         .module_size(scale)
         .build(alloc)?;
     Ok(image.into_raw())
 }
 
 // The text of EPS.
-fn as_eps(alloc: Global, colors: &[Color], width: usize, zone: u32, scale: u32) -> QrResult<Vec<u8>>
-    requires square { length colors.now ≡ width * width }
+fn as_eps(alloc: Global, modules: &[u8], width: u32, zone: u32, scale: u32) -> QrResult<Vec<u8>>
+    requires square { length modules.now ≡ width * width }
     requires side { width + 2 * zone < 2 ^ 16 }
     requires scale { scale < 2 ^ 16 }
     requires positive { 1 ≤ scale }
     ensures drawing { IfOk result (λ bytes. bytes.items
-        ≡ eps_text (layout width zone scale scale) colors.now
+        ≡ eps_text (layout width zone scale scale) (colors_of modules.now)
         (eps_grey 0) (eps_grey 255)) }
     ensures memory { IsOkUnless result OutOfMemory }
 {
-    let text = Renderer::<eps::Color>::new(colors, width, zone)
+    let colors = colors_of(alloc, modules)?;
+    let text = Renderer::<eps::Color>::new(&colors, width as usize, zone)
         .module_size(scale)
         .build(alloc)?;
     Ok(text.into_bytes())
 }
 
 // A PNG file.
-fn as_png(alloc: Global, colors: &[Color], width: usize, zone: u32, scale: u32) -> QrResult<Vec<u8>>
-    requires square { length colors.now ≡ width * width }
+fn as_png(alloc: Global, modules: &[u8], width: u32, zone: u32, scale: u32) -> QrResult<Vec<u8>>
+    requires square { length modules.now ≡ width * width }
     requires side { width + 2 * zone < 2 ^ 16 }
     requires scale { scale < 2 ^ 16 }
     requires positive { 1 ≤ scale }
     ensures drawing { IfOk result (λ bytes. IsFileOf
-        (picture (layout width zone scale scale) colors.now) black white None bytes.items) }
+        (picture (layout width zone scale scale) (colors_of modules.now)) black white None bytes.items) }
     ensures memory { IsOkUnless result OutOfMemory }
 {
-    Renderer::<qrcode_png::Color>::new(colors, width, zone)
+    let colors = colors_of(alloc, modules)?;
+    Renderer::<qrcode_png::Color>::new(&colors, width as usize, zone)
         .module_size(scale)
         .build(alloc)
 }
 
 // A PBM file.
-fn as_pbm(alloc: Global, colors: &[Color], width: usize, zone: u32, scale: u32) -> QrResult<Vec<u8>>
-    requires square { length colors.now ≡ width * width }
+fn as_pbm(alloc: Global, modules: &[u8], width: u32, zone: u32, scale: u32) -> QrResult<Vec<u8>>
+    requires square { length modules.now ≡ width * width }
     requires side { width + 2 * zone < 2 ^ 16 }
     requires scale { scale < 2 ^ 16 }
     requires positive { 1 ≤ scale }
     ensures drawing { IfOk result (λ bytes. bytes.items
         ≡ pbm_file true false
-        (picture (layout width zone scale scale) colors.now)) }
+        (picture (layout width zone scale scale) (colors_of modules.now))) }
     ensures memory { IsOkUnless result OutOfMemory }
 {
-    Renderer::<Bit>::new(colors, width, zone)
+    let colors = colors_of(alloc, modules)?;
+    Renderer::<Bit>::new(&colors, width as usize, zone)
         .module_size(scale)
         .build(alloc)
 }
@@ -239,6 +243,119 @@ pub(crate) fn greys_into(
         .build_into(alloc, out)
 }
 
+// Writes the text of half blocks into a buffer that has room for any.
+fn half_blocks_into(
+    alloc: Global,
+    modules: &[u8],
+    width: u32,
+    zone: u32,
+    scale: u32,
+    dark: Dense1x2,
+    light: Dense1x2,
+    out: &mut [u8],
+) -> QrResult<Option<usize>>
+    requires square { length modules.now ≡ width * width }
+    requires side { width + 2 * zone < 2 ^ 16 }
+    requires scale { scale < 2 ^ 16 }
+    requires positive { 1 ≤ scale }
+    ensures drawing { let shown = picture (layout width zone scale scale) (colors_of modules.now) in
+        IfOk result (IsPutWhere (dense_text (is_dark_half dark) (is_dark_half light) shown)
+        (lines_room shown) out.old out.new) }
+    ensures unchanged { OnErr result (out.new ≡ out.old) }
+    ensures memory { IsOkUnless result OutOfMemory }
+{
+    let grid = Grid::of_bytes(modules, width, zone, scale, scale);
+    HalfBlocks::put(alloc, &grid, dark, light, out)
+}
+
+// Writes the text of SVG into a buffer that has room for any.
+fn svg_into(
+    alloc: Global,
+    modules: &[u8],
+    width: u32,
+    zone: u32,
+    scale: u32,
+    out: &mut [u8],
+) -> QrResult<Option<usize>>
+    requires square { length modules.now ≡ width * width }
+    requires side { width + 2 * zone < 2 ^ 16 }
+    requires scale { scale < 2 ^ 16 }
+    requires positive { 1 ≤ scale }
+    ensures drawing { let side = (width + 2 * zone) * scale in IfOk result (IsPutWhere
+        (svg_text (layout width zone scale scale) (colors_of modules.now)
+        (codes "#000") (codes "#fff"))
+        (length (svg_start side side (codes "#000") (codes "#fff"))
+        + length (colors_of modules.now) * 80 + 9) out.old out.new) }
+    ensures unchanged { OnErr result (out.new ≡ out.old) }
+    ensures memory { IsOkUnless result OutOfMemory }
+{
+    let colors = colors_of(alloc, modules)?;
+    Renderer::<svg::Color>::new(&colors, width as usize, zone)
+        .module_size(scale)
+        .put(alloc, out)
+}
+
+// Writes the text of PIC into a buffer that has room for any.
+fn pic_into(
+    alloc: Global,
+    modules: &[u8],
+    width: u32,
+    zone: u32,
+    scale: u32,
+    out: &mut [u8],
+) -> QrResult<Option<usize>>
+    requires square { length modules.now ≡ width * width }
+    requires side { width + 2 * zone < 2 ^ 16 }
+    requires scale { scale < 2 ^ 16 }
+    requires positive { 1 ≤ scale }
+    ensures drawing { let side = (width + 2 * zone) * scale in IfOk result (IsPutWhere
+        (pic_text (layout width zone scale scale) (colors_of modules.now))
+        (length (pic_start side side) + length (colors_of modules.now) * 80) out.old out.new) }
+    ensures unchanged { OnErr result (out.new ≡ out.old) }
+    ensures memory { IsOkUnless result OutOfMemory }
+{
+    let colors = colors_of(alloc, modules)?;
+    Renderer::<pic::Color>::new(&colors, width as usize, zone)
+        .module_size(scale)
+        .put(alloc, out)
+}
+
+/// Writes the text of modules, so many along a side, into the beginning of a buffer, and answers how
+/// long it is; or None, where the format is not written so or the buffer has not room for any such
+/// text. Refuses with `OutOfMemory` alone. Then, and where it answers None, the buffer is as it was.
+pub(crate) fn draw_into(
+    alloc: Global,
+    modules: &[u8],
+    width: u32,
+    zone: u32,
+    scale: u32,
+    format: Format,
+    out: &mut [u8],
+) -> QrResult<Option<usize>>
+    requires square { length modules.now ≡ width * width }
+    requires side { width + 2 * zone < 2 ^ 16 }
+    requires scale { scale < 2 ^ 16 }
+    requires positive { 1 ≤ scale }
+    ensures drawing { IfOk result
+        (IsDrawnInto format modules.now width zone scale out.old out.new) }
+    ensures unchanged { OnErr result (out.new ≡ out.old) }
+    ensures memory { IsOkUnless result OutOfMemory }
+{
+    let dark = Dense1x2::Dark;
+    let light = Dense1x2::Light;
+    match format {
+        Format::HalfBlocks => {
+            half_blocks_into(alloc, modules, width, zone, scale, dark, light, out)
+        }
+        Format::LightHalfBlocks => {
+            half_blocks_into(alloc, modules, width, zone, scale, light, dark, out)
+        }
+        Format::Svg => svg_into(alloc, modules, width, zone, scale, out),
+        Format::Pic => pic_into(alloc, modules, width, zone, scale, out),
+        _ => Ok(None),
+    }
+}
+
 // The text or the bytes of modules, so many along a side, in a format.
 pub(crate) fn draw(
     alloc: Global,
@@ -256,13 +373,11 @@ pub(crate) fn draw(
         IsDrawn format modules.now width zone scale bytes.items) }
     ensures memory { IsOkUnless result OutOfMemory }
 {
-    let colors = colors_of(alloc, modules)?;
-    let width = width as usize;
     match format {
         Format::HalfBlocks => {
             half_blocks(
                 alloc,
-                &colors,
+                modules,
                 width,
                 zone,
                 scale,
@@ -273,7 +388,7 @@ pub(crate) fn draw(
         Format::LightHalfBlocks => {
             half_blocks(
                 alloc,
-                &colors,
+                modules,
                 width,
                 zone,
                 scale,
@@ -281,11 +396,11 @@ pub(crate) fn draw(
                 Dense1x2::Dark,
             )
         }
-        Format::Svg => as_svg(alloc, &colors, width, zone, scale),
-        Format::Pic => as_pic(alloc, &colors, width, zone, scale),
-        Format::Grey => as_greys(alloc, &colors, width, zone, scale),
-        Format::Png => as_png(alloc, &colors, width, zone, scale),
-        Format::Eps => as_eps(alloc, &colors, width, zone, scale),
-        Format::Pbm => as_pbm(alloc, &colors, width, zone, scale),
+        Format::Svg => as_svg(alloc, modules, width, zone, scale),
+        Format::Pic => as_pic(alloc, modules, width, zone, scale),
+        Format::Grey => as_greys(alloc, modules, width, zone, scale),
+        Format::Png => as_png(alloc, modules, width, zone, scale),
+        Format::Eps => as_eps(alloc, modules, width, zone, scale),
+        Format::Pbm => as_pbm(alloc, modules, width, zone, scale),
     }
 }

@@ -7,7 +7,7 @@ ghost use Rattle.goqlanis_c.specs.Outputs.{IsLengthOf, IsPictureOf};
 ghost use Rattle.goqlanis_c.specs.declared.drawing.Format.{Format};
 
 use crate::answers::Refusal;
-use crate::drawing::{Format, draw, format_named, greys_into};
+use crate::drawing::{Format, draw, draw_into, format_named, greys_into};
 use crate::symbols::fill;
 use std::alloc::Global;
 
@@ -99,8 +99,38 @@ fn put_greys(
     }
 }
 
-// The same, copied from memory of its own.
+// A picture in the format of a number at the beginning of a buffer, and its length: written there where
+// its format is and there is room for any, and else copied.
 fn put_drawing(
+    alloc: Global,
+    modules: &[u8],
+    width: u32,
+    zone: u32,
+    scale: u32,
+    format: u32,
+    out: &mut [u8],
+) -> Result<usize, Refusal>
+    ensures made { IfOk result (λ count.
+        IsPictureOf modules.now width zone scale format out.old out.new count) }
+    ensures unchanged { OnErr result (out.new ≡ out.old) }
+    ensures causes { IfErr result
+        (IsDrawingCause modules.now width zone scale format (length out.old)) }
+{
+    let Some(named) = format_named(format) else {
+        return Err(Refusal::NoSuchFormat);
+    };
+    if let Err(refusal) = pixels_along(modules, width, zone, scale) {
+        return Err(refusal);
+    }
+    match draw_into(alloc, modules, width, zone, scale, named, out) {
+        Ok(Some(count)) => Ok(count),
+        Ok(None) => put_copy(alloc, modules, width, zone, scale, format, out),
+        Err(_) => Err(Refusal::OutOfMemory),
+    }
+}
+
+// The same, copied from memory of its own.
+fn put_copy(
     alloc: Global,
     modules: &[u8],
     width: u32,

@@ -1,7 +1,7 @@
 use Rattle.std.proofs.Common.{w16, ap, sym, ◌∙◌, arith}
 use Rattle.std.proofs.lemmas.Int.{to_z_pos}
 use Rattle.qrcode_types.specs.declared.types.Version.TheVariants.{Normal}
-use Rattle.goqlanis_c.proofs.Least.{least_held, lasting, not_room, unheld_more}
+use Rattle.goqlanis_c.proofs.Least.{in_none, least_held, lasting, not_room, no_room_more}
 use Rattle.goqlanis_c.proofs.segments.least_version.Goals as goal
 
 pub returns-in-Ok-clause-least : goal.returns-in-Ok-clause-least
@@ -20,12 +20,19 @@ pub returns-in-Err-clause-causes : goal.returns-in-Err-clause-causes
 returns-in-Err-clause-causes c =
     let number = c.loop-number.number in
     let named = ap Normal (to_z_pos w16 number (omega (arith, c.loop-number-test.true))) in
-    lasting number c.args.level _ c.in-Some.ec_level c.args.segments.now c.in-Err.refusal named c.loop-number.invariant.0 (omega (arith, c.loop-number-test.true)) (not_room c.in-Err.refusal c.if-ne.ensures) c.in-Err.ensures.causes
+    lasting number c.args.level _ c.in-Some.ec_level c.args.segments.now c.in-Err.refusal named c.loop-number.invariant.0 (omega (arith, c.loop-number-test.true))
+    (sym c.level_named.ensures.value ∙ c.in-Some.is) (not_room c.in-Err.refusal c.if-ne.ensures) c.in-Err.ensures.causes c.loop-number.invariant.1
 
 pub loop-number-preserved : goal.loop-number-preserved
 loop-number-preserved c =
     let number = c.loop-number.number in
     let named = ap Normal (to_z_pos w16 number (omega (arith, c.loop-number-test.true))) in (
       omega arith,
-      unheld_more number _ c.in-Some.ec_level c.args.segments.now _ named c.if-ne.ensures c.in-Err.ensures.causes c.loop-number.invariant.1,
+      no_room_more number _ c.in-Some.ec_level c.args.segments.now _ named c.loop-number.invariant.0 (omega (arith, c.loop-number-test.true)) c.if-ne.ensures
+      c.in-Err.ensures.causes c.loop-number.invariant.1,
     )
+
+pub returns-clause-causes : goal.returns-clause-causes
+returns-clause-causes c =
+    in_none c.args.level c.loop-number.number c.in-Some.ec_level c.args.segments.now (sym c.level_named.ensures.value ∙ c.in-Some.is)
+    (omega (arith, c.loop-number-test.false)) c.loop-number.invariant.1
