@@ -29,7 +29,7 @@ loop-number-preserved c =
     let named = ap Normal (to_z_pos w16 number (omega (arith, c.loop-number-test.true))) in (
       omega arith,
       no_room_more number _ c.in-Some.ec_level c.args.segments.now _ named c.loop-number.invariant.0 (omega (arith, c.loop-number-test.true)) c.if-ne.ensures
-      c.in-Err.ensures.causes c.loop-number.invariant.1,
+          c.in-Err.ensures.causes c.loop-number.invariant.1,
     )
 
 pub returns-clause-causes : goal.returns-clause-causes
