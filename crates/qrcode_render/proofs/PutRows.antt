@@ -1,6 +1,5 @@
 -- Rows of pixels of one byte each: how many bytes they have.
 use Rattle.std.proofs.Common.{◌≡◌, ℕ, zero, suc, ◌+◌, ◌*◌, List, [], ◌∷◌, Bool, true, false, length, length-append, ap, arith}
-use Rattle.std.specs.List.{flat_map, range_with_len}
 use Rattle.qrcode_render.specs.Grid.{repeated}
 use Rattle.qrcode_render.specs.Texts.{marks_text}
 use Rattle.qrcode_render.proofs.LineTexts.{flat_range_more}

@@ -32,12 +32,15 @@ eps_start w h dark light = eps_head w h ++ (eps_paint light ++ (eps_box 0 0 w h 
 abbrev pub eps_rect : ℕ → ℕ → ℕ → ℕ → List ℕ → List ℕ
 eps_rect left top width height text = text ++ eps_box left top width height
 
--- what the column of a rectangle determines of its box, and what its row and its sides
+-- what the column of a rectangle determines of its box, what its sides, and what its row and the text of the sides
 abbrev pub eps_column : ℕ → List ℕ × List ℕ
 eps_column left = (decimal left ++ codes " ", [])
 
-abbrev pub eps_row : ℕ → ℕ → ℕ → List ℕ × List ℕ
-eps_row top width height = (decimal top ++ (codes " " ++ (decimal width ++ (codes " " ++ decimal height))), codes " rectfill\n")
+abbrev pub eps_sides : ℕ → ℕ → List ℕ
+eps_sides width height = codes " " ++ (decimal width ++ (codes " " ++ decimal height))
+
+abbrev pub eps_row : ℕ → List ℕ → List ℕ × List ℕ
+eps_row top sides = (decimal top ++ sides, codes " rectfill\n")
 
 -- what stands behind the last dark rectangle
 abbrev pub eps_end : List ℕ

@@ -24,12 +24,15 @@ abbrev pub svg_rect : ℕ → ℕ → ℕ → ℕ → List ℕ → List ℕ
 svg_rect left top width height text =
     text ++ (codes "M" ++ (decimal left ++ (codes " " ++ (decimal top ++ (codes "h" ++ (decimal width ++ (codes "v" ++ (decimal height ++ (codes "H" ++ (decimal left ++ (codes "V" ++ decimal top)))))))))))
 
--- what the column of a rectangle determines of its path, and what its row and its sides
+-- what the column of a rectangle determines of its path, what its sides, and what its row and the text of the sides
 abbrev pub svg_column : ℕ → List ℕ × List ℕ
 svg_column left = (codes "M" ++ (decimal left ++ codes " "), codes "H" ++ (decimal left ++ codes "V"))
 
-abbrev pub svg_row : ℕ → ℕ → ℕ → List ℕ × List ℕ
-svg_row top width height = (decimal top ++ (codes "h" ++ (decimal width ++ (codes "v" ++ decimal height))), decimal top)
+abbrev pub svg_sides : ℕ → ℕ → List ℕ
+svg_sides width height = codes "h" ++ (decimal width ++ (codes "v" ++ decimal height))
+
+abbrev pub svg_row : ℕ → List ℕ → List ℕ × List ℕ
+svg_row top sides = (decimal top ++ sides, decimal top)
 
 -- what stands behind the last dark rectangle
 abbrev pub svg_end : List ℕ
@@ -49,12 +52,15 @@ abbrev pub pic_rect : ℕ → ℕ → ℕ → ℕ → List ℕ → List ℕ
 pic_rect left top width height text =
     text ++ (codes "p(" ++ (decimal left ++ (codes "," ++ (decimal top ++ (codes "," ++ (decimal width ++ (codes "," ++ (decimal height ++ codes ")\n"))))))))
 
--- what the column of a rectangle determines of its box, and what its row and its sides
+-- what the column of a rectangle determines of its box, what its sides, and what its row and the text of the sides
 abbrev pub pic_column : ℕ → List ℕ × List ℕ
 pic_column left = (codes "p(" ++ (decimal left ++ codes ","), codes ")\n")
 
-abbrev pub pic_row : ℕ → ℕ → ℕ → List ℕ × List ℕ
-pic_row top width height = (decimal top ++ (codes "," ++ (decimal width ++ (codes "," ++ decimal height))), [])
+abbrev pub pic_sides : ℕ → ℕ → List ℕ
+pic_sides width height = codes "," ++ (decimal width ++ (codes "," ++ decimal height))
+
+abbrev pub pic_row : ℕ → List ℕ → List ℕ × List ℕ
+pic_row top sides = (decimal top ++ sides, [])
 
 -- the picture of modules
 abbrev pub pic_text : Layout → List Color → List ℕ

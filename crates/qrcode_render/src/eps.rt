@@ -4,10 +4,10 @@ ghost use Rattle.std.proofs.Common.{rules};
 ghost use Rattle.std.specs.Prelude.{◌≡◌, ℕ, ◌^◌, ◌<◌, ◌++◌, List, string_bytes, OnOk, IsOkUnless};
 ghost use Rattle.qrcode_types.specs.declared.types.QrError.TheVariants.{OutOfMemory};
 ghost use Rattle.qrcode_types.specs.Colors.{select_of};
-ghost use Rattle.qrcode_render.specs.Eps.{eps_head, eps_paint, eps_box, eps_turn, eps_start, eps_rect, eps_column, eps_row, eps_end, eps_text};
+ghost use Rattle.qrcode_render.specs.Eps.{eps_head, eps_paint, eps_box, eps_turn, eps_start, eps_rect, eps_column, eps_sides, eps_row, eps_end, eps_text};
 ghost use Rattle.qrcode_render.specs.Setting.{layout_of};
 
-use crate::ink::{Column, Piece, Row};
+use crate::ink::{Column, Piece, Row, Sides, number};
 use crate::stamps::Stamp;
 use crate::strokes::{Strokes, push_modules};
 use crate::{Modules, Pixel};
@@ -89,6 +89,8 @@ struct Boxes;
 impl Strokes for Boxes {
     ghost column_texts = { eps_column };
 
+    ghost sides_text = { eps_sides };
+
     ghost row_texts = { eps_row };
 
     #[tactic(auto, using(crate::proofs::Paths::number_short))]
@@ -100,16 +102,13 @@ impl Strokes for Boxes {
         Piece::new(front, back)
     }
 
-    #[tactic(auto, using(crate::proofs::Paths::number_short))]
-    fn row(top: u32, width: u32, height: u32) -> Row {
-        let mut front = Stamp::new(b"");
-        front.push_number(top);
-        front.push(b" ");
-        front.push_number(width);
-        front.push(b" ");
-        front.push_number(height);
-        let back = Stamp::new(b" rectfill\n");
-        Piece::new(front, back)
+    fn sides(width: u32, height: u32) -> Sides {
+        Sides::new(b' ', width, b' ', height)
+    }
+
+    fn row(top: u32, sides: &Sides) -> Row {
+        let front = sides.behind(&number(top));
+        Piece::new(front, Stamp::new(b" rectfill\n"))
     }
 }
 

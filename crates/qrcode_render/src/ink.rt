@@ -1,10 +1,10 @@
-//! Texts of rectangles: what a column determines of them, and what a row and the sides do.
+//! Texts of rectangles: what a column determines of them, what the sides, and what a row does.
 
-ghost use Rattle.std.specs.Prelude.{◌≡◌, ℕ, ◌+◌, ◌≤◌, List, ◌++◌, length};
+ghost use Rattle.std.specs.Prelude.{◌≡◌, ℕ, ◌+◌, ◌≤◌, ◌<◌, List, ◌∷◌, ◌++◌, length, decimal};
 ghost use Rattle.std.specs.Str.{IsUtf8};
 ghost use Rattle.qrcode_render.specs.Strokes.{rect_text};
 
-use crate::stamps::{LONGEST, Line, Stamp};
+use crate::stamps::{LONGEST, Line, Stamp, joined};
 use std::marker::Model;
 
 /// The most bytes of the text in front of a column and of that behind a column or a row.
@@ -51,6 +51,59 @@ pub type Column = Piece<SHORT>;
 
 /// The texts of a row.
 pub type Row = Piece<LONGEST>;
+
+/// A number in decimal digits.
+pub fn number(n: u32) -> Stamp<SHORT>
+    ensures value { result ≡ decimal n }
+    ensures at_most { length result ≤ 10 }
+    ensures is_text { ∥ IsUtf8 result ∥₁ }
+{
+    let mut text = Stamp::new(b"");
+    text.push_number(n);
+    text
+}
+
+/// The text of two sides, which stands behind the number of each row.
+#[derive(Drop)]
+pub struct Sides {
+    text: Stamp<LONGEST>,
+}
+
+impl Model for Sides {
+    ghost use Rattle.std.specs.Prelude.{ℕ, ◌≤◌, List, length};
+    ghost use Rattle.std.specs.Str.{IsUtf8};
+
+    ghost Value = { List ℕ };
+
+    ghost view = { λ s. s.text };
+
+    ghost invariant = { λ s. (length s.text ≤ 22) × (∥ IsUtf8 s.text ∥₁) };
+}
+
+impl Sides {
+    /// A width and a height, each behind a byte of ASCII.
+    pub fn new(before: u8, width: u32, between: u8, height: u32) -> Sides
+        requires before { before < 128 }
+        requires between { between < 128 }
+        ensures { result ≡ before ∷ (decimal width ++ (between ∷ decimal height)) }
+    {
+        let mut text = Stamp::new(&[before]);
+        text.push_number(width);
+        text.push(&[between]);
+        text.push_number(height);
+        Sides { text }
+    }
+
+    /// A number with the sides behind it.
+    pub fn behind(&self, number: &Stamp<SHORT>) -> Stamp<LONGEST>
+        requires at_most { length number.now ≤ 10 }
+        requires is_text { ∥ IsUtf8 number.now ∥₁ }
+        ensures value { result ≡ number.now ++ self.now }
+        ensures is_text { ∥ IsUtf8 result ∥₁ }
+    {
+        joined(number, &self.text)
+    }
+}
 
 /// The most bytes of a rectangle.
 pub const MOST: usize = 3 * SHORT + LONGEST;

@@ -6,9 +6,9 @@ ghost use Rattle.qrcode_types.specs.declared.types.QrError.TheVariants.{OutOfMem
 ghost use Rattle.qrcode_render.specs.Layout.{layout};
 ghost use Rattle.qrcode_render.specs.Put.{IsPutWhere};
 ghost use Rattle.qrcode_render.specs.Setting.{layout_of};
-ghost use Rattle.qrcode_render.specs.Vectors.{pic_start, pic_rect, pic_column, pic_row, pic_text};
+ghost use Rattle.qrcode_render.specs.Vectors.{pic_start, pic_rect, pic_column, pic_sides, pic_row, pic_text};
 
-use crate::ink::{Column, Piece, Row};
+use crate::ink::{Column, Piece, Row, Sides, number};
 use crate::stamps::Stamp;
 use crate::strokes::{Strokes, push_modules, put_modules};
 use crate::{Modules, Pixel};
@@ -66,6 +66,8 @@ struct Boxes;
 impl Strokes for Boxes {
     ghost column_texts = { pic_column };
 
+    ghost sides_text = { pic_sides };
+
     ghost row_texts = { pic_row };
 
     #[tactic(auto, using(crate::proofs::Paths::number_short))]
@@ -77,16 +79,13 @@ impl Strokes for Boxes {
         Piece::new(front, back)
     }
 
-    #[tactic(auto, using(crate::proofs::Paths::number_short))]
-    fn row(top: u32, width: u32, height: u32) -> Row {
-        let mut front = Stamp::new(b"");
-        front.push_number(top);
-        front.push(b",");
-        front.push_number(width);
-        front.push(b",");
-        front.push_number(height);
-        let back = Stamp::new(b"");
-        Piece::new(front, back)
+    fn sides(width: u32, height: u32) -> Sides {
+        Sides::new(b',', width, b',', height)
+    }
+
+    fn row(top: u32, sides: &Sides) -> Row {
+        let front = sides.behind(&number(top));
+        Piece::new(front, Stamp::new(b""))
     }
 }
 

@@ -119,6 +119,19 @@ impl<const N: usize> Stamp<N> {
     }
 }
 
+/// A short text and another behind it, copied at once.
+pub fn joined(first: &Stamp<16>, second: &Stamp<LONGEST>) -> Stamp<LONGEST>
+    requires { length first.now + length second.now ≤ 32 }
+    ensures { result ≡ first.now ++ second.now }
+{
+    let mut wide = [0; 2 * LONGEST];
+    let end = first.write(&mut wide, 0);
+    let end = second.write(&mut wide, end);
+    let mut start = [0; LONGEST];
+    start.copy_from_slice(&wide[..LONGEST]);
+    Stamp { start, len: end }
+}
+
 /// A text that is written into room taken before. The room is kept for the next text.
 #[derive(Drop)]
 pub struct Line {

@@ -1,5 +1,5 @@
-//! Texts of rectangles, put together of kept texts: those that a column determines, and those that a
-//! row and the sides determine.
+//! Texts of rectangles, put together of kept texts: those that a column determines, that of the sides,
+//! and those that a row and the text of the sides determine.
 
 ghost use Rattle.std.specs.Prelude.{◌≡◌, ℕ, ◌+◌, ◌*◌, ◌^◌, ◌<◌, ◌≤◌, List, [], ◌++◌, length, take, drop, string_bytes, IfOk, IfSome, IfNone, OnOk, OnErr, IsOkUnless};
 ghost use Rattle.std.specs.Str.{IsUtf8};
@@ -10,7 +10,7 @@ ghost use Rattle.qrcode_render.specs.Put.{IsPutWhere};
 ghost use Rattle.qrcode_render.specs.Strokes.{stroke, columns_from};
 
 use crate::Modules;
-use crate::ink::{Column, MOST, Row, put_rect};
+use crate::ink::{Column, MOST, Row, Sides, put_rect};
 use crate::stamps::{Line, put_text};
 use qrcode_types::types::{Color, QrError, QrResult};
 use std::alloc::Global;
@@ -18,18 +18,25 @@ use std::str::from_utf8_unchecked;
 
 /// How a vector format writes rectangles.
 pub trait Strokes {
-    // What the column of a rectangle determines, and what its row and its sides.
+    // What the column of a rectangle determines, what its sides, and what its row and the text of the
+    // sides.
     ghost column_texts: { ℕ → List ℕ × List ℕ };
 
-    ghost row_texts: { ℕ → ℕ → ℕ → List ℕ × List ℕ };
+    ghost sides_text: { ℕ → ℕ → List ℕ };
+
+    ghost row_texts: { ℕ → List ℕ → List ℕ × List ℕ };
 
     /// The texts of a column.
     fn column(left: u32) -> Column
         ensures { result ≡ column_texts left };
 
-    /// The texts of a row and sides.
-    fn row(top: u32, width: u32, height: u32) -> Row
-        ensures { result ≡ row_texts top width height };
+    /// The text of sides.
+    fn sides(width: u32, height: u32) -> Sides
+        ensures { result ≡ sides_text width height };
+
+    /// The texts of a row and the text of sides.
+    fn row(top: u32, sides: &Sides) -> Row
+        ensures { result ≡ row_texts top sides.now };
 }
 
 // The texts of columns of modules of so many pixels, from a first pixel on.
@@ -59,9 +66,9 @@ fn write_line<S: Strokes>(
     requires length { length content.now ≤ length columns.now }
     requires columns { columns.now
         ≡ columns_from S.column_texts left width (length columns.now) }
-    requires row { row.now ≡ S.row_texts top width height }
+    requires row { row.now ≡ S.row_texts top (S.sides_text width height) }
     requires room { length content.now * 80 ≤ line.old.room }
-    ensures text { line.new.text ≡ drawn_row (stroke S.column_texts S.row_texts)
+    ensures text { line.new.text ≡ drawn_row (stroke S.column_texts S.sides_text S.row_texts)
         left top width height content.now [] }
     ensures at_most { length line.new.text ≤ length content.now * 80 }
     ensures room { line.new.room ≡ line.old.room }
@@ -95,16 +102,17 @@ fn push_rows<S: Strokes>(
     requires columns { columns.now ≡ columns_from S.column_texts (zone * width) width count }
     requires room { count * 80 ≤ line.old.room }
     ensures appends { OnOk result (string_bytes text.new
-        ≡ drawn (stroke S.column_texts S.row_texts)
+        ≡ drawn (stroke S.column_texts S.sides_text S.row_texts)
         (layout count zone width height) content.now (string_bytes text.old)) }
     ensures memory { IsOkUnless result OutOfMemory }
 {
     let left = zone * width;
+    let sides = S::sides(width, height);
     for row in 0..count {
         let start = row as usize * count as usize;
         let cells = &content[start..start + count as usize];
         let top = (row + zone) * height;
-        let piece = S::row(top, width, height);
+        let piece = S::row(top, &sides);
         write_line::<S>(line, columns, &piece, cells, left, top, width, height);
         text.push_str(unsafe { from_utf8_unchecked(line.as_slice()) })?;
     }
@@ -130,7 +138,7 @@ fn put_rows<S: Strokes>(
     requires columns { columns.now ≡ columns_from S.column_texts (zone * width) width count }
     requires line_room { count * 80 ≤ line.old.room }
     requires room { at + count * (count * 80) ≤ length bytes.old }
-    ensures writes { take result bytes.new ≡ drawn (stroke S.column_texts S.row_texts)
+    ensures writes { take result bytes.new ≡ drawn (stroke S.column_texts S.sides_text S.row_texts)
         (layout count zone width height) content.now (take at bytes.old) }
     ensures rest { drop result bytes.new ≡ drop result bytes.old }
     ensures at_least { at ≤ result }
@@ -138,12 +146,13 @@ fn put_rows<S: Strokes>(
     ensures room { length bytes.new ≡ length bytes.old }
 {
     let left = zone * width;
+    let sides = S::sides(width, height);
     let mut end = at;
     for row in 0..count {
         let start = row as usize * count as usize;
         let cells = &content[start..start + count as usize];
         let top = (row + zone) * height;
-        let piece = S::row(top, width, height);
+        let piece = S::row(top, &sides);
         write_line::<S>(line, columns, &piece, cells, left, top, width, height);
         end = put_text(bytes, end, line.as_slice());
     }
@@ -154,7 +163,8 @@ fn put_rows<S: Strokes>(
 // column and of the last row.
 fn room_of<S: Strokes>(columns: &[Column], modules: &Modules) -> usize {
     let last = (modules.count + modules.zone) * modules.height;
-    let row = S::row(last, modules.width, modules.height).len();
+    let sides = S::sides(modules.width, modules.height);
+    let row = S::row(last, &sides).len();
     let column = match columns.last() {
         Some(column) => column.len(),
         None => 0,
@@ -175,7 +185,8 @@ fn row_line(alloc: Global, count: u32) -> QrResult<Line>
 
 /// Appends the rectangles of the dark modules to a text. Refuses with `OutOfMemory` alone.
 pub fn push_modules<S: Strokes>(text: String, modules: &Modules) -> QrResult<String>
-    ensures value { IfOk result (λ all. string_bytes all ≡ drawn (stroke S.column_texts S.row_texts)
+    ensures value { IfOk result (λ all. string_bytes all
+        ≡ drawn (stroke S.column_texts S.sides_text S.row_texts)
         (layout modules.now.count modules.now.zone modules.now.across modules.now.down)
         modules.now.content (string_bytes text)) }
     ensures memory { IsOkUnless result OutOfMemory }
@@ -220,7 +231,7 @@ pub fn put_modules<S: Strokes>(
     end: &[u8],
     bytes: &mut [u8],
 ) -> QrResult<Option<usize>>
-    ensures made { IfOk result (IsPutWhere (drawn (stroke S.column_texts S.row_texts)
+    ensures made { IfOk result (IsPutWhere (drawn (stroke S.column_texts S.sides_text S.row_texts)
         (layout modules.now.count modules.now.zone modules.now.across modules.now.down)
         modules.now.content (string_bytes start.now) ++ end.now)
         (length (string_bytes start.now) + length modules.now.content * 80 + length end.now)

@@ -7,9 +7,9 @@ ghost use Rattle.qrcode_types.specs.Colors.{select_of};
 ghost use Rattle.qrcode_render.specs.Layout.{layout};
 ghost use Rattle.qrcode_render.specs.Put.{IsPutWhere};
 ghost use Rattle.qrcode_render.specs.Setting.{layout_of};
-ghost use Rattle.qrcode_render.specs.Vectors.{svg_frame, svg_ground, svg_start, svg_rect, svg_column, svg_row, svg_end, svg_text};
+ghost use Rattle.qrcode_render.specs.Vectors.{svg_frame, svg_ground, svg_start, svg_rect, svg_column, svg_sides, svg_row, svg_end, svg_text};
 
-use crate::ink::{Column, Piece, Row};
+use crate::ink::{Column, Piece, Row, Sides, number};
 use crate::stamps::Stamp;
 use crate::strokes::{Strokes, push_modules, put_modules};
 pub use crate::svg_path::{Path, PathElement};
@@ -75,6 +75,8 @@ struct Paths;
 impl Strokes for Paths {
     ghost column_texts = { svg_column };
 
+    ghost sides_text = { svg_sides };
+
     ghost row_texts = { svg_row };
 
     #[tactic(auto, using(crate::proofs::Paths::number_short))]
@@ -88,16 +90,13 @@ impl Strokes for Paths {
         Piece::new(front, back)
     }
 
-    #[tactic(auto, using(crate::proofs::Paths::number_short))]
-    fn row(top: u32, width: u32, height: u32) -> Row {
-        let mut back = Stamp::new(b"");
-        back.push_number(top);
-        let mut front = Stamp::new(b"");
-        front.push_number(top);
-        front.push(b"h");
-        front.push_number(width);
-        front.push(b"v");
-        front.push_number(height);
+    fn sides(width: u32, height: u32) -> Sides {
+        Sides::new(b'h', width, b'v', height)
+    }
+
+    fn row(top: u32, sides: &Sides) -> Row {
+        let back = number(top);
+        let front = sides.behind(&back);
         Piece::new(front, back)
     }
 }

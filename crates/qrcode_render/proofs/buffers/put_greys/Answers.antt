@@ -1,4 +1,4 @@
-use Rattle.std.proofs.Common.{◌<◌, [], ◌∷◌, length, ap, ap₂, ◌∙◌, sym, arith}
+use Rattle.std.proofs.Common.{[], ◌∷◌, length, ap, ap₂, ◌∙◌, sym, arith}
 use Rattle.std.proofs.lemmas.List.{append-nil}
 use Rattle.std.specs.List.{flat_map, range_with_len}
 use Rattle.qrcode_render.specs.Grid.{all_rows, cell_row, repeated, row_text}

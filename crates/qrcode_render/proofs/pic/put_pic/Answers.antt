@@ -5,7 +5,7 @@ use Rattle.qrcode_render.specs.Drawn.{drawn}
 use Rattle.qrcode_render.specs.Layout.{layout}
 use Rattle.qrcode_render.specs.Put.{IsPutWhere}
 use Rattle.qrcode_render.specs.Strokes.{stroke}
-use Rattle.qrcode_render.specs.Vectors.{pic_column, pic_row}
+use Rattle.qrcode_render.specs.Vectors.{pic_column, pic_sides, pic_row}
 use Rattle.qrcode_render.specs.Vectors.{pic_rect, pic_start, pic_text}
 use Rattle.qrcode_render.proofs.Paths.{pic_strokes}
 use Rattle.qrcode_render.proofs.pic.put_pic.Goals as goal
@@ -21,7 +21,7 @@ returns-clause-made c =
     let new = c.put_modules.new.bytes in
     let begun = string_bytes c.in_ok-canvas.canvas.text in
     let start : begun ≡ pic_start w h = c.in_ok-canvas.ensures.starts ∙ ap₂ pic_start c.pixels-width.ensures.across c.pixels-width.ensures.down in
-    let text : drawn (stroke pic_column pic_row) at m.content begun ++ [] ≡ pic_text at m.content = append-nil _ ∙ ap (λ rect. drawn rect at m.content (string_bytes c.in_ok-canvas.canvas.text)) (sym pic_strokes) ∙ ap (drawn pic_rect at m.content) start in
+    let text : drawn (stroke pic_column pic_sides pic_row) at m.content begun ++ [] ≡ pic_text at m.content = append-nil _ ∙ ap (λ rect. drawn rect at m.content (string_bytes c.in_ok-canvas.canvas.text)) (sym pic_strokes) ∙ ap (drawn pic_rect at m.content) start in
     let room : length begun + length m.content * 80 + 0 ≡ length (pic_start w h) + length m.content * 80 = omega (arith, ap length start) in
     subst (λ r. IfOk c.put_modules.result (IsPutWhere (pic_text at m.content) r old new)) room
     (subst (λ t. IfOk c.put_modules.result (IsPutWhere t (length begun + length m.content * 80 + 0) old new)) text c.put_modules.ensures.made)

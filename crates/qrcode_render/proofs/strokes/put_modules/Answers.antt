@@ -10,7 +10,7 @@ use Rattle.qrcode_render.proofs.strokes.put_modules.Goals as goal
 pub returns-clause-made : goal.returns-clause-made
 returns-clause-made g c =
     let m = c.args.modules.now in
-    let draw : List ℕ → List ℕ = λ t. drawn (stroke g.S.Strokes.column_texts g.S.Strokes.row_texts) (layout m.count m.zone m.across m.down) m.content t in
+    let draw : List ℕ → List ℕ = λ t. drawn (stroke g.S.Strokes.column_texts g.S.Strokes.sides_text g.S.Strokes.row_texts) (layout m.count m.zone m.across m.down) m.content t in
     let old = c.args.bytes.now in
     let one = c.put_text-at.new.bytes in
     let two = c.put_rows-at.new.bytes in
@@ -19,7 +19,7 @@ returns-clause-made g c =
     let n = c.put_text.result in
     let further : j ≤ n = omega (arith, c.put_text.ensures.end) in
     let written = c.put_text.ensures.writes
-    ∙ ap (λ t. t ++ c.args.end.now) (c.put_rows-at.ensures.writes ∙ ap (λ (s : Square). drawn (stroke g.S.Strokes.column_texts g.S.Strokes.row_texts) (layout s.count s.zone s.across s.down) s.content (take i one)) c.modules.view_is ∙ ap draw (c.put_text-at.ensures.writes ∙ c.as_bytes.ensures.value)) in
+    ∙ ap (λ t. t ++ c.args.end.now) (c.put_rows-at.ensures.writes ∙ ap (λ (s : Square). drawn (stroke g.S.Strokes.column_texts g.S.Strokes.sides_text g.S.Strokes.row_texts) (layout s.count s.zone s.across s.down) s.content (take i one)) c.modules.view_is ∙ ap draw (c.put_text-at.ensures.writes ∙ c.as_bytes.ensures.value)) in
     let rest = c.put_text.ensures.rest
     ∙ drop-on j n two one further c.put_rows-at.ensures.rest
     ∙ drop-on i n one old (omega (arith, further, c.put_rows-at.ensures.at_least)) c.put_text-at.ensures.rest in

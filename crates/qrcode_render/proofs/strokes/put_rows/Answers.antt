@@ -49,9 +49,9 @@ loop-row-preserved g c =
     let written = c.as_slice.ensures.value ∙ c.write_line.ensures.text in
     let k = length c.as_slice.result.now in
     let end : c.put_text-end.result ≡ c.loop-row.end + k = c.put_text-end.ensures.end in (
-      ap (λ t. drawn_from (stroke g.S.Strokes.column_texts g.S.Strokes.row_texts) at ((row + 1) * n) (drop ((row + 1) * n) c.args.content.now) t)
+      ap (λ t. drawn_from (stroke g.S.Strokes.column_texts g.S.Strokes.sides_text g.S.Strokes.row_texts) at ((row + 1) * n) (drop ((row + 1) * n) c.args.content.now) t)
           (c.put_text-end.ensures.writes ∙ ap (λ t. before ++ t) written)
-          ∙ rows_more g.S.Strokes.column_texts g.S.Strokes.row_texts at row c.args.content.now before inside
+          ∙ rows_more g.S.Strokes.column_texts g.S.Strokes.sides_text g.S.Strokes.row_texts at row c.args.content.now before inside
           ∙ c.loop-row.invariant.0,
       c.put_text-end.ensures.rest
           ∙ drop-on c.loop-row.end c.put_text-end.result c.loop-row.bytes c.args.bytes.now (omega (arith, end)) c.loop-row.invariant.1,
@@ -60,3 +60,7 @@ loop-row-preserved g c =
       c.put_text-end.ensures.room ∙ c.loop-row.invariant.4,
       c.write_line.ensures.room ∙ c.loop-row.invariant.5,
     )
+
+pub write_line-requires-clause-row : goal.write_line-requires-clause-row
+write_line-requires-clause-row g c =
+    c.row-piece.ensures ∙ ap (g.S.Strokes.row_texts ((c.loop-row.row + c.args.zone) * c.args.height)) c.sides-sides.ensures

@@ -13,7 +13,7 @@ use Rattle.qrcode_render.proofs.strokes.write_line.Goals.{in-Light, in-Dark}
 -- The rectangle of a module, then those of the modules after it.
 pub loop-i-preserved : goal.loop-i-preserved
 loop-i-preserved g c =
-    let rect = stroke g.S.Strokes.column_texts g.S.Strokes.row_texts in
+    let rect = stroke g.S.Strokes.column_texts g.S.Strokes.sides_text g.S.Strokes.row_texts in
     let i = c.loop-i.i in
     let x = c.args.left + i * c.args.width in
     let content = c.args.content.now in
