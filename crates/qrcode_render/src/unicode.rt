@@ -244,6 +244,35 @@ fn room_of(width: u32, height: u32) -> Option<usize>
     (height.div_ceil(2) as usize).checked_mul(line)
 }
 
+// The lines of cells, with a newline between two, in room that is taken once. Within its callers, as
+// `put_lines`.
+#[inline(always)]
+fn made_lines(alloc: Global, grid: &Grid, halves: &Halves, strip: &mut Strip) -> QrResult<Vec<u8>>
+    requires fits { IsStripOf grid.now strip.old }
+    requires down { 0 < (pixels_of grid.now).down }
+    ensures value { IfOk result (λ lines. lines.items ≡ join_with_byte 10 (map
+        (dense_line halves.now.marked halves.now.other (pixels_of grid.now))
+        (range_with_len 0 (((pixels_of grid.now).down + 1) / 2)))) }
+    ensures memory { IsOkUnless result OutOfMemory }
+{
+    let (width, height) = grid.pixels();
+    let room = room_of(width, height).ok_or(QrError::OutOfMemory)?;
+    let mut lines = Vec::with_capacity(alloc, room)?;
+    let last = (height - 1) / 2;
+    for i in 0..last {
+        strip.write_two(grid, halves, i);
+        lines.extend_from_slice(strip.line.as_slice())?;
+    }
+    if height % 2 == 1 {
+        strip.write_last(grid, halves, last);
+    } else {
+        strip.write_two(grid, halves, last);
+    }
+    let line = strip.line.as_slice();
+    lines.extend_from_slice(&line[..line.len() - 1])?;
+    Ok(lines)
+}
+
 // The lines of cells, where marked pixels are drawn dark or not and others dark or not.
 fn lines_of(alloc: Global, grid: &Grid, marked: bool, other: bool) -> QrResult<String>
     requires across { 0 < (pixels_of grid.now).across }
@@ -252,16 +281,12 @@ fn lines_of(alloc: Global, grid: &Grid, marked: bool, other: bool) -> QrResult<S
         string_bytes text ≡ dense_text marked other (pixels_of grid.now)) }
     ensures memory { IsOkUnless result OutOfMemory }
 {
-    let (width, height) = grid.pixels();
     let halves = Halves::new(alloc, marked, other)?;
     let mut strip = Strip::new(alloc, grid)?;
-    let room = room_of(width, height).ok_or(QrError::OutOfMemory)?;
-    let mut raw = vec![in alloc; 0; room]?;
-    let end = put_lines(&mut raw, grid, &halves, &mut strip);
-    raw.truncate(end);
+    let lines = made_lines(alloc, grid, &halves, &mut strip)?;
 
     // Lines of half blocks are a text.
-    Ok(unsafe { String::from_utf8_unchecked(raw) })
+    Ok(unsafe { String::from_utf8_unchecked(lines) })
 }
 
 impl HalfBlocks {
