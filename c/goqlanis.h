@@ -2,7 +2,7 @@
 
    Data may be any bytes. Each call works in buffers that its caller gives, keeps nothing and uses nothing that is shared, so that calls may run in any
    threads at once, each with buffers of its own. There is nothing to free. Every call that answers GOQ_OK has written all its outputs; every other answer
-   has one cause, and all outputs are as they were. A pointer with length 0 may be NULL.
+   has one cause, and all outputs are as they were, but that goq_content tells the place of a field. A pointer with length 0 may be NULL.
 
    The library asks for memory by rattle_alloc, rattle_realloc and rattle_dealloc, which stand over malloc unless the program has its own. */
 #ifndef GOQLANIS_H
@@ -11,6 +11,7 @@
 #include <stdbool.h>
 #include <stddef.h>
 #include <stdint.h>
+#include <string.h>
 
 #ifdef __cplusplus
 extern "C" {
@@ -38,6 +39,16 @@ enum {
     GOQ_NO_FORMAT = 17, /* no level and mask are within three bits of each copy of the format word */
     GOQ_DAMAGED = 18, /* a block has too many wrong codewords */
     GOQ_NOT_SPELLED = 19 /* the data bits are not segments and an end, as where a header stands in front */
+    GOQ_NO_SUCH_CONTENT = 32, /* no kind of content has the number */
+    GOQ_NO_SUCH_FIELD = 33, /* the kind has no field at this place */
+    GOQ_FIELD_EMPTY = 34, /* the field may not be empty */
+    GOQ_FIELD_TOO_LONG = 35, /* the field, or the whole text, is longer than the format allows */
+    GOQ_FIELD_TOO_SHORT = 36, /* the field is shorter than the format allows */
+    GOQ_FIELD_CONTROL = 37, /* the field has a line break or another control character */
+    GOQ_FIELD_CHARACTER = 38, /* the field has a character that the format does not allow there, or a number has bytes */
+    GOQ_FIELD_CHECK_DIGITS = 39, /* the check digits are wrong */
+    GOQ_FIELD_RANGE = 40, /* the number is outside what the format allows; that of a text is 0 */
+    GOQ_FIELD_UNUSED = 41 /* the field has no place beside what else is given */
 };
 
 /* Error correction levels. */
@@ -69,6 +80,145 @@ enum {
     GOQ_FNC1_SECOND = 6 /* a header: FNC1 in the second position, `number` being the indicator of the application, below 256 */
 };
 
+/* Kinds of content, whose fields stand in the order of the names below: a text in UTF-8, or a number where a comment says so. What is not given is empty or 0. */
+enum {
+    GOQ_WIFI = 0, /* joins a wireless network */
+    GOQ_MECARD = 1, /* a contact as MECARD */
+    GOQ_VCARD = 2, /* a contact as vCard 3.0 */
+    GOQ_PAYMENT = 3, /* a SEPA credit transfer (EPC069-12), for a symbol of level M and at most version 13 */
+    GOQ_BILL = 4, /* a Swiss QR bill, for a symbol of level M and at most version 25, without its cross */
+    GOQ_MAIL = 5,
+    GOQ_GEO = 6, /* a place on the earth */
+    GOQ_TEL = 7, /* a call */
+    GOQ_SMS = 8, /* a message to a telephone */
+    GOQ_TOTP = 9, /* one-time passwords that change with the time */
+    GOQ_HOTP = 10, /* one-time passwords that change with a counter */
+    GOQ_EVENT = 11, /* an event of a calendar, in UTC */
+    GOQ_DAYS = 12 /* an event of whole days */
+};
+
+enum {
+    GOQ_WIFI_SSID, /* 1 to 32 bytes */
+    GOQ_WIFI_PASSWORD, /* none for an open network */
+    GOQ_WIFI_SECURITY, /* a number: GOQ_BY_PASSWORD .. GOQ_WPA3 */
+    GOQ_WIFI_HIDDEN, /* a number: 1 where the network does not tell its name */
+    GOQ_WIFI_FIELDS
+};
+
+/* How a network is secured: by WPA with a password and open without, or as it is said. */
+enum { GOQ_BY_PASSWORD = 0, GOQ_OPEN = 1, GOQ_WEP = 2, GOQ_WPA = 3, GOQ_WPA3 = 4 };
+
+enum {
+    GOQ_MECARD_FAMILY, /* the family name, or the only one */
+    GOQ_MECARD_GIVEN,
+    GOQ_MECARD_PHONE,
+    GOQ_MECARD_EMAIL,
+    GOQ_MECARD_URL,
+    GOQ_MECARD_BIRTHDAY, /* eight digits, as 19700131 */
+    GOQ_MECARD_NOTE,
+    GOQ_MECARD_STREET,
+    GOQ_MECARD_CITY,
+    GOQ_MECARD_REGION,
+    GOQ_MECARD_CODE, /* the postal code */
+    GOQ_MECARD_COUNTRY,
+    GOQ_MECARD_FIELDS
+};
+
+enum {
+    GOQ_VCARD_NAME, /* the whole name, as it is shown */
+    GOQ_VCARD_FAMILY,
+    GOQ_VCARD_GIVEN,
+    GOQ_VCARD_ORGANISATION,
+    GOQ_VCARD_PHONE,
+    GOQ_VCARD_EMAIL,
+    GOQ_VCARD_URL,
+    GOQ_VCARD_STREET,
+    GOQ_VCARD_CITY,
+    GOQ_VCARD_REGION,
+    GOQ_VCARD_CODE,
+    GOQ_VCARD_COUNTRY,
+    GOQ_VCARD_NOTE,
+    GOQ_VCARD_FIELDS
+};
+
+enum {
+    GOQ_PAYMENT_NAME, /* who is paid, up to 70 characters */
+    GOQ_PAYMENT_IBAN, /* without spaces */
+    GOQ_PAYMENT_AMOUNT, /* a number: cents of a euro, 1 to 99,999,999,999 */
+    GOQ_PAYMENT_BIC, /* makes the text one of version 001; 002 without */
+    GOQ_PAYMENT_PURPOSE, /* up to four capitals and digits */
+    GOQ_PAYMENT_REFERENCE, /* of ISO 11649 */
+    GOQ_PAYMENT_MESSAGE, /* in place of a reference, up to 140 characters */
+    GOQ_PAYMENT_INFORMATION, /* for who pays, up to 70 characters */
+    GOQ_PAYMENT_FIELDS
+};
+
+enum {
+    GOQ_BILL_IBAN, /* of Switzerland or Liechtenstein, without spaces */
+    GOQ_BILL_NAME, /* who is paid, up to 70 characters */
+    GOQ_BILL_STREET,
+    GOQ_BILL_NUMBER, /* of the house */
+    GOQ_BILL_CODE,
+    GOQ_BILL_CITY,
+    GOQ_BILL_COUNTRY, /* two capitals, as CH */
+    GOQ_BILL_AMOUNT, /* a number: hundredths; 0 leaves it open */
+    GOQ_BILL_CURRENCY, /* a number: GOQ_CHF or GOQ_EUR */
+    GOQ_BILL_REFERENCE, /* 27 digits for a QR-IBAN; RF.. or none for another */
+    GOQ_BILL_MESSAGE, /* up to 140 characters */
+    GOQ_BILL_DEBTOR_NAME, /* who pays: all six empty name nobody. A wrong one of them is told by this place */
+    GOQ_BILL_DEBTOR_STREET,
+    GOQ_BILL_DEBTOR_NUMBER,
+    GOQ_BILL_DEBTOR_CODE,
+    GOQ_BILL_DEBTOR_CITY,
+    GOQ_BILL_DEBTOR_COUNTRY,
+    GOQ_BILL_FIELDS
+};
+
+enum { GOQ_CHF = 0, GOQ_EUR = 1 };
+
+enum { GOQ_MAIL_ADDRESS, GOQ_MAIL_SUBJECT, GOQ_MAIL_BODY, GOQ_MAIL_FIELDS };
+
+/* Numbers: millionths of a degree north of the equator and east of Greenwich, below 0 to the south and west. */
+enum { GOQ_GEO_LATITUDE, GOQ_GEO_LONGITUDE, GOQ_GEO_FIELDS };
+
+enum { GOQ_TEL_NUMBER, GOQ_TEL_FIELDS };
+enum { GOQ_SMS_NUMBER, GOQ_SMS_BODY, GOQ_SMS_FIELDS };
+
+enum {
+    GOQ_TOTP_ACCOUNT,
+    GOQ_TOTP_SECRET, /* in base 32, without spaces and = */
+    GOQ_TOTP_ISSUER,
+    GOQ_TOTP_ALGORITHM, /* a number: GOQ_SHA1 .. GOQ_SHA512 */
+    GOQ_TOTP_DIGITS, /* a number: GOQ_SIX_DIGITS or GOQ_EIGHT_DIGITS */
+    GOQ_TOTP_PERIOD, /* a number: how many seconds one holds; 0 for 30 */
+    GOQ_TOTP_FIELDS
+};
+
+enum {
+    GOQ_HOTP_ACCOUNT,
+    GOQ_HOTP_SECRET,
+    GOQ_HOTP_ISSUER,
+    GOQ_HOTP_ALGORITHM,
+    GOQ_HOTP_DIGITS,
+    GOQ_HOTP_COUNTER, /* a number: where the counter begins */
+    GOQ_HOTP_FIELDS
+};
+
+enum { GOQ_SHA1 = 0, GOQ_SHA256 = 1, GOQ_SHA512 = 2 };
+enum { GOQ_SIX_DIGITS = 0, GOQ_EIGHT_DIGITS = 1 };
+
+/* GOQ_EVENT and GOQ_DAYS have the same fields. Moments are numbers of fourteen digits, as 19970714170000 in UTC, and days of eight, as 19970714. */
+enum {
+    GOQ_EVENT_UID, /* an identifier that no other event has */
+    GOQ_EVENT_STAMP, /* when this was written, a moment in both */
+    GOQ_EVENT_BEGIN,
+    GOQ_EVENT_END, /* of whole days the day behind the last */
+    GOQ_EVENT_SUMMARY,
+    GOQ_EVENT_LOCATION,
+    GOQ_EVENT_DESCRIPTION,
+    GOQ_EVENT_FIELDS
+};
+
 /* This many bytes hold the modules of every symbol. */
 enum { GOQ_MODULES_MAX = 177 * 177 };
 
@@ -89,6 +239,17 @@ typedef struct {
     const uint8_t *bytes; /* of the modes; not looked at in headers; may be NULL where the length is 0 */
     size_t length;
 } goq_segment;
+
+/* A field of a content: a text in UTF-8, whose number is 0; or a number, whose length is 0. */
+typedef struct {
+    int64_t number;
+    const uint8_t *bytes; /* may be NULL where the length is 0 */
+    size_t length;
+} goq_field;
+
+/* The field of a text that ends with a zero, and that of a number. */
+#define GOQ_TEXT(text) {0, (const uint8_t *)(text), strlen(text)}
+#define GOQ_NUMBER(number) {(number), NULL, 0}
 
 /* What is read of a square beside its bytes. */
 typedef struct {
@@ -149,6 +310,14 @@ uint32_t goq_read(const uint8_t *modules, size_t modules_length, uint8_t *bytes,
 
 /* How many bytes goq_read would write, to `count`. GOQ_NO_SUCH_SIDE, GOQ_NO_FORMAT, GOQ_DAMAGED, GOQ_NOT_SPELLED, GOQ_OUT_OF_MEMORY. */
 uint32_t goq_read_length(const uint8_t *modules, size_t modules_length, size_t *count);
+
+/* The text of a kind of content, to be encoded by goq_encode_text: at the beginning of `out`, and its length to `count`, with no zero behind it. No symbol holds
+   a text of more than GOQ_BYTES_MAX bytes. Fields behind those given are empty or 0. Of several causes the first is told, in this order: GOQ_NO_SUCH_CONTENT; of
+   each field GOQ_NO_SUCH_FIELD, GOQ_NOT_TEXT, GOQ_FIELD_RANGE, GOQ_FIELD_CHARACTER, where it is wrong by itself; what the format refuses, GOQ_FIELD_EMPTY ..
+   GOQ_FIELD_UNUSED; GOQ_SMALL_BUFFER; GOQ_OUT_OF_MEMORY. Where a field is wrong, its place goes to `place`, GOQ_PAYMENT_FIELDS for a payment that is too long as
+   a whole; otherwise `place` is as it was. */
+uint32_t goq_content(
+    uint32_t kind, const goq_field *fields, size_t fields_length, uint8_t *out, size_t out_length, size_t *count, size_t *place);
 
 #ifdef __cplusplus
 }

@@ -1,0 +1,5 @@
+pub mod Answers
+pub mod Contents
+pub mod Forms
+pub mod Given
+pub mod Values
