@@ -38,12 +38,12 @@ enum {
     GOQ_NO_SUCH_SIDE = 16, /* no version has so many modules */
     GOQ_NO_FORMAT = 17, /* no level and mask are within three bits of each copy of the format word */
     GOQ_DAMAGED = 18, /* a block has too many wrong codewords */
-    GOQ_NOT_SPELLED = 19 /* the data bits are not segments and an end, as where a header stands in front */
+    GOQ_NOT_SPELLED = 19, /* the data bits are not segments and an end, as where a header stands in front */
     GOQ_NO_SUCH_CONTENT = 32, /* no kind of content has the number */
     GOQ_NO_SUCH_FIELD = 33, /* the kind has no field at this place */
     GOQ_FIELD_EMPTY = 34, /* the field may not be empty */
     GOQ_FIELD_TOO_LONG = 35, /* the field, or the whole text, is longer than the format allows */
-    GOQ_FIELD_TOO_SHORT = 36, /* the field is shorter than the format allows */
+    GOQ_FIELD_TOO_SHORT = 36, /* the field is shorter than the format allows, which none of the formats so far says */
     GOQ_FIELD_CONTROL = 37, /* the field has a line break or another control character */
     GOQ_FIELD_CHARACTER = 38, /* the field has a character that the format does not allow there, or a number has bytes */
     GOQ_FIELD_CHECK_DIGITS = 39, /* the check digits are wrong */
