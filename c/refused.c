@@ -7,20 +7,36 @@
 extern size_t pool_requests, pool_refused, pool_most;
 size_t pool_live(void);
 
+enum { LAST = 10 + GOQ_PBM, CONTENTS = 4 }; /* the last number of a call below, and how many contents follow */
+
 static uint8_t data[500], text[500], square[GOQ_MODULES_MAX];
 static goq_symbol known;
 static struct outputs {
     uint8_t buffer[700000]; /* room for any picture of the symbol's width */
     goq_symbol symbol;
     goq_reading reading;
-    size_t count;
+    size_t count, place;
     uint32_t version;
 } outputs, before;
+
+/* A content of each way in which its text is written. */
+static uint32_t content(int number)
+{
+    const goq_field network[] = {GOQ_TEXT("mynetwork"), GOQ_TEXT("my;pass")};
+    const goq_field card[GOQ_VCARD_FIELDS] = {[GOQ_VCARD_NAME] = GOQ_TEXT("Frank Dawson"), [GOQ_VCARD_FAMILY] = GOQ_TEXT("Dawson, F.")};
+    const goq_field key[] = {GOQ_TEXT("alice@google.com"), GOQ_TEXT("JBSWY3DPEHPK3PXP"), GOQ_TEXT("Example"), GOQ_NUMBER(GOQ_SHA256)};
+    const goq_field days[] = {GOQ_TEXT("AF23B2@example.com"), GOQ_NUMBER(19970610172345), GOQ_NUMBER(20000228), GOQ_NUMBER(20000229)};
+    const struct { uint32_t kind; const goq_field *fields; size_t count; } all[CONTENTS] = {
+        {GOQ_WIFI, network, 2}, {GOQ_VCARD, card, GOQ_VCARD_FIELDS}, {GOQ_HOTP, key, 4}, {GOQ_DAYS, days, 4}};
+    return goq_content(all[number].kind, all[number].fields, all[number].count, outputs.buffer, sizeof outputs.buffer, &outputs.count, &outputs.place);
+}
 
 static uint32_t call(int number)
 {
     uint8_t *out = outputs.buffer;
     size_t room = sizeof outputs.buffer, modules = (size_t)known.width * known.width;
+    if (number > LAST)
+        return content(number - LAST - 1);
     goq_segment segments[] = {{GOQ_ECI, 26, NULL, 0}, {GOQ_BYTES, 0, data, sizeof data}};
     switch (number) {
     case 0: return goq_encode(data, sizeof data, GOQ_M, out, room, &outputs.symbol);
@@ -46,7 +62,7 @@ int main(void)
         data[i] = (uint8_t)(i * 37);
     if (goq_encode(data, sizeof data, GOQ_M, square, sizeof square, &known) != GOQ_OK)
         return 1;
-    for (int number = 0; number <= 10 + GOQ_PBM; number++, calls++) {
+    for (int number = 0; number <= LAST + CONTENTS; number++, calls++) {
         size_t all = 1, answered = 0;
         for (size_t i = 0; i <= all; i++) { /* at first none is refused */
             pool_requests = 0;

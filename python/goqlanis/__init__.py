@@ -27,7 +27,7 @@ import ctypes.util
 import os
 from typing import Iterable, NamedTuple, Optional, Sequence, Tuple, Union
 
-__all__ = ["Symbol", "Reading", "encode", "encode_text", "encode_segments", "read", "least_version", "least_version_of_segments", "is_functional", "Error", "NoSuchLevel", "NoSuchVersion",
+__all__ = ["contents", "Symbol", "Reading", "encode", "encode_text", "encode_segments", "read", "least_version", "least_version_of_segments", "is_functional", "Error", "NoSuchLevel", "NoSuchVersion",
            "LevelNotInVersion", "TooLong", "NoMode", "NoRoom", "OutOfMemory", "NoSuchSize", "NotInMode", "NoSuchNumber", "Unread", "NoSuchSide", "NoFormat", "Damaged",
            "NotSpelled"]
 
@@ -411,3 +411,6 @@ def is_functional(version: str, x: int, y: int) -> bool:
     """
     number = _version_number(str(version))
     return number > 0 and x >= 0 and y >= 0 and _library.goq_is_functional(number, x, y)
+
+
+from . import contents  # noqa: E402 - it stands on what is above

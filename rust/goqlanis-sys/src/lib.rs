@@ -22,6 +22,16 @@ pub const GOQ_NO_SUCH_SIDE: u32 = 16;
 pub const GOQ_NO_FORMAT: u32 = 17;
 pub const GOQ_DAMAGED: u32 = 18;
 pub const GOQ_NOT_SPELLED: u32 = 19;
+pub const GOQ_NO_SUCH_CONTENT: u32 = 32;
+pub const GOQ_NO_SUCH_FIELD: u32 = 33;
+pub const GOQ_FIELD_EMPTY: u32 = 34;
+pub const GOQ_FIELD_TOO_LONG: u32 = 35;
+pub const GOQ_FIELD_TOO_SHORT: u32 = 36;
+pub const GOQ_FIELD_CONTROL: u32 = 37;
+pub const GOQ_FIELD_CHARACTER: u32 = 38;
+pub const GOQ_FIELD_CHECK_DIGITS: u32 = 39;
+pub const GOQ_FIELD_RANGE: u32 = 40;
+pub const GOQ_FIELD_UNUSED: u32 = 41;
 
 pub const GOQ_HALF_BLOCKS: u32 = 0;
 pub const GOQ_LIGHT_HALF_BLOCKS: u32 = 1;
@@ -39,6 +49,20 @@ pub const GOQ_KANJI: u32 = 3;
 pub const GOQ_ECI: u32 = 4;
 pub const GOQ_FNC1_FIRST: u32 = 5;
 pub const GOQ_FNC1_SECOND: u32 = 6;
+
+pub const GOQ_WIFI: u32 = 0;
+pub const GOQ_MECARD: u32 = 1;
+pub const GOQ_VCARD: u32 = 2;
+pub const GOQ_PAYMENT: u32 = 3;
+pub const GOQ_BILL: u32 = 4;
+pub const GOQ_MAIL: u32 = 5;
+pub const GOQ_GEO: u32 = 6;
+pub const GOQ_TEL: u32 = 7;
+pub const GOQ_SMS: u32 = 8;
+pub const GOQ_TOTP: u32 = 9;
+pub const GOQ_HOTP: u32 = 10;
+pub const GOQ_EVENT: u32 = 11;
+pub const GOQ_DAYS: u32 = 12;
 
 /// This many bytes hold the modules of every symbol.
 pub const GOQ_MODULES_MAX: usize = 177 * 177;
@@ -61,6 +85,15 @@ pub struct goq_symbol {
 pub struct goq_segment {
     pub kind: u32,
     pub number: u32,
+    pub bytes: *const u8,
+    pub length: usize,
+}
+
+/// A field of a content: a text in UTF-8, whose number is 0; or a number, whose length is 0.
+#[repr(C)]
+#[derive(Clone, Copy, Debug)]
+pub struct goq_field {
+    pub number: i64,
     pub bytes: *const u8,
     pub length: usize,
 }
@@ -90,4 +123,5 @@ extern "C" {
     pub fn goq_is_functional(version: u32, x: u32, y: u32) -> bool;
     pub fn goq_draw(modules: *const u8, modules_length: usize, width: u32, zone: u32, scale: u32, format: u32, out: *mut u8, out_length: usize, count: *mut usize) -> u32;
     pub fn goq_draw_length(modules: *const u8, modules_length: usize, width: u32, zone: u32, scale: u32, format: u32, count: *mut usize) -> u32;
+    pub fn goq_content(kind: u32, fields: *const goq_field, fields_length: usize, out: *mut u8, out_length: usize, count: *mut usize, place: *mut usize) -> u32;
 }

@@ -15,6 +15,7 @@ use goqlanis_sys as sys;
 use std::fmt;
 use std::ops::Index;
 
+pub mod contents;
 pub mod reading;
 pub mod render;
 

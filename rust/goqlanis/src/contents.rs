@@ -1,0 +1,496 @@
+//! Texts that symbols carry: networks, contacts, payments, links and events. Each is read back as exactly its fields.
+//!
+//! ```
+//! use goqlanis::contents::{Cause, ContentError, Payment, Security, Wifi};
+//! use goqlanis::{EcLevel, QrCode};
+//!
+//! let network = Wifi { security: Security::Wpa, ssid: "mynetwork", password: "mypass", hidden: false };
+//! let text = network.text()?;
+//! assert_eq!(text, "WIFI:T:WPA;S:mynetwork;P:mypass;;");
+//! assert_eq!(QrCode::of_text(&text, EcLevel::M).unwrap().width(), 29);
+//!
+//! let wrong = Payment { name: "Red Cross of Belgium", iban: "BE72000000001617", cents: 100, ..Payment::default() };
+//! assert_eq!(wrong.text(), Err(ContentError::Refused("iban", Cause::CheckDigits)));
+//! # Ok::<(), ContentError>(())
+//! ```
+use goqlanis_sys as sys;
+use std::fmt;
+
+/// What a format cannot say of a field.
+#[derive(Clone, Copy, Debug, PartialEq, Eq)]
+pub enum Cause {
+    /// The field may not be empty.
+    Empty,
+    /// The field, or the whole text, is longer than the format allows.
+    TooLong,
+    /// The field is shorter than the format allows.
+    TooShort,
+    /// The field has a line break or another control character.
+    ControlCharacter,
+    /// The field has a character that the format does not allow there.
+    Character,
+    /// The check digits are wrong.
+    CheckDigits,
+    /// The number is outside the format's range.
+    Range,
+    /// The field has no place beside the others.
+    Unused,
+}
+
+/// Why a value has no text.
+#[derive(Clone, Copy, Debug, PartialEq, Eq)]
+pub enum ContentError {
+    /// The format cannot say the field of this name, for this cause; `text` is the text as a whole, and `debtor` a field of who pays.
+    Refused(&'static str, Cause),
+    /// No symbol holds so long a text.
+    DataTooLong,
+    /// Memory was refused.
+    OutOfMemory,
+}
+
+impl fmt::Display for ContentError {
+    fn fmt(&self, out: &mut fmt::Formatter<'_>) -> fmt::Result {
+        match self {
+            ContentError::Refused(field, cause) => write!(out, "{field}: {cause:?}"),
+            ContentError::DataTooLong => out.write_str("data too long"),
+            ContentError::OutOfMemory => out.write_str("out of memory"),
+        }
+    }
+}
+
+impl std::error::Error for ContentError {}
+
+pub type ContentResult = Result<String, ContentError>;
+
+// A field: its name, and a text or a number.
+enum Field<'a> {
+    Text(&'static str, &'a str),
+    Number(&'static str, i64),
+}
+
+impl Field<'_> {
+    fn name(&self) -> &'static str {
+        match self {
+            Field::Text(name, _) | Field::Number(name, _) => name,
+        }
+    }
+
+    fn given(&self) -> sys::goq_field {
+        match self {
+            Field::Text(_, text) => sys::goq_field { number: 0, bytes: text.as_ptr(), length: text.len() },
+            Field::Number(_, number) => sys::goq_field { number: *number, bytes: std::ptr::null(), length: 0 },
+        }
+    }
+}
+
+use Field::{Number, Text};
+
+// A number as the library takes it; one above all that it takes is out of range.
+fn whole(name: &'static str, number: u64) -> Result<Field<'static>, ContentError> {
+    match i64::try_from(number) {
+        Ok(number) => Ok(Number(name, number)),
+        Err(_) => Err(ContentError::Refused(name, Cause::Range)),
+    }
+}
+
+// The text of a kind, of fields in the library's order.
+fn text_of(kind: u32, fields: &[Field<'_>]) -> ContentResult {
+    let given: Vec<sys::goq_field> = fields.iter().map(Field::given).collect();
+    let mut out = vec![0; sys::GOQ_BYTES_MAX];
+    let (mut count, mut place) = (0, 0);
+    // SAFETY: each field points to a text that outlives the call, and the lengths are those of the buffers.
+    let answer = unsafe { sys::goq_content(kind, given.as_ptr(), given.len(), out.as_mut_ptr(), out.len(), &mut count, &mut place) };
+    let cause = match answer {
+        sys::GOQ_OK => {
+            out.truncate(count);
+            return Ok(String::from_utf8(out).expect("the library writes UTF-8"));
+        }
+        sys::GOQ_SMALL_BUFFER => return Err(ContentError::DataTooLong),
+        sys::GOQ_FIELD_EMPTY => Cause::Empty,
+        sys::GOQ_FIELD_TOO_LONG => Cause::TooLong,
+        sys::GOQ_FIELD_TOO_SHORT => Cause::TooShort,
+        sys::GOQ_FIELD_CONTROL => Cause::ControlCharacter,
+        sys::GOQ_FIELD_CHARACTER => Cause::Character,
+        sys::GOQ_FIELD_CHECK_DIGITS => Cause::CheckDigits,
+        sys::GOQ_FIELD_RANGE => Cause::Range,
+        sys::GOQ_FIELD_UNUSED => Cause::Unused,
+        _ => return Err(ContentError::OutOfMemory),
+    };
+    Err(ContentError::Refused(fields.get(place).map_or("text", Field::name), cause))
+}
+
+/// How a network is secured.
+#[derive(Clone, Copy, Debug, PartialEq, Eq)]
+pub enum Security {
+    Open = 1,
+    Wep = 2,
+    Wpa = 3,
+    Wpa3 = 4,
+}
+
+/// A wireless network. An open network has an empty password.
+#[derive(Clone, Copy, Debug, PartialEq, Eq)]
+pub struct Wifi<'a> {
+    pub security: Security,
+    pub ssid: &'a str,
+    pub password: &'a str,
+    pub hidden: bool,
+}
+
+impl Wifi<'_> {
+    pub fn text(&self) -> ContentResult {
+        text_of(sys::GOQ_WIFI, &[Text("ssid", self.ssid), Text("password", self.password), Number("security", self.security as i64), Number("hidden", self.hidden.into())])
+    }
+}
+
+/// A contact, as MECARD. What is empty is left out.
+#[derive(Clone, Copy, Debug, Default, PartialEq, Eq)]
+pub struct Contact<'a> {
+    pub family: &'a str,
+    pub given: &'a str,
+    pub phone: &'a str,
+    pub email: &'a str,
+    pub url: &'a str,
+    pub birthday: &'a str,
+    pub note: &'a str,
+    pub street: &'a str,
+    pub city: &'a str,
+    pub region: &'a str,
+    pub code: &'a str,
+    pub country: &'a str,
+}
+
+impl Contact<'_> {
+    pub fn mecard(&self) -> ContentResult {
+        text_of(
+            sys::GOQ_MECARD,
+            &[
+                Text("family", self.family),
+                Text("given", self.given),
+                Text("phone", self.phone),
+                Text("email", self.email),
+                Text("url", self.url),
+                Text("birthday", self.birthday),
+                Text("note", self.note),
+                Text("street", self.street),
+                Text("city", self.city),
+                Text("region", self.region),
+                Text("code", self.code),
+                Text("country", self.country),
+            ],
+        )
+    }
+}
+
+/// A contact, as vCard 3.0. What is empty is left out.
+#[derive(Clone, Copy, Debug, Default, PartialEq, Eq)]
+pub struct Card<'a> {
+    pub name: &'a str,
+    pub family: &'a str,
+    pub given: &'a str,
+    pub organisation: &'a str,
+    pub phone: &'a str,
+    pub email: &'a str,
+    pub url: &'a str,
+    pub street: &'a str,
+    pub city: &'a str,
+    pub region: &'a str,
+    pub code: &'a str,
+    pub country: &'a str,
+    pub note: &'a str,
+}
+
+impl Card<'_> {
+    pub fn text(&self) -> ContentResult {
+        text_of(
+            sys::GOQ_VCARD,
+            &[
+                Text("name", self.name),
+                Text("family", self.family),
+                Text("given", self.given),
+                Text("organisation", self.organisation),
+                Text("phone", self.phone),
+                Text("email", self.email),
+                Text("url", self.url),
+                Text("street", self.street),
+                Text("city", self.city),
+                Text("region", self.region),
+                Text("code", self.code),
+                Text("country", self.country),
+                Text("note", self.note),
+            ],
+        )
+    }
+}
+
+/// A SEPA credit transfer, of version 001 with a BIC and of 002 without.
+#[derive(Clone, Copy, Debug, Default, PartialEq, Eq)]
+pub struct Payment<'a> {
+    pub name: &'a str,
+    pub iban: &'a str,
+    /// The amount in cents of a euro.
+    pub cents: u64,
+    pub bic: &'a str,
+    pub purpose: &'a str,
+    pub reference: &'a str,
+    pub message: &'a str,
+    pub information: &'a str,
+}
+
+impl Payment<'_> {
+    pub fn text(&self) -> ContentResult {
+        text_of(
+            sys::GOQ_PAYMENT,
+            &[
+                Text("name", self.name),
+                Text("iban", self.iban),
+                whole("cents", self.cents)?,
+                Text("bic", self.bic),
+                Text("purpose", self.purpose),
+                Text("reference", self.reference),
+                Text("message", self.message),
+                Text("information", self.information),
+            ],
+        )
+    }
+}
+
+/// The currency of a bill.
+#[derive(Clone, Copy, Debug, PartialEq, Eq)]
+pub enum Currency {
+    Franc = 0,
+    Euro = 1,
+}
+
+/// A name with its address.
+#[derive(Clone, Copy, Debug, Default, PartialEq, Eq)]
+pub struct Party<'a> {
+    pub name: &'a str,
+    pub street: &'a str,
+    pub number: &'a str,
+    pub code: &'a str,
+    pub city: &'a str,
+    pub country: &'a str,
+}
+
+/// A Swiss QR bill.
+#[derive(Clone, Copy, Debug, PartialEq, Eq)]
+pub struct Bill<'a> {
+    pub iban: &'a str,
+    pub creditor: Party<'a>,
+    /// The amount in hundredths, or left open.
+    pub cents: Option<u64>,
+    pub currency: Currency,
+    /// Who pays; all fields empty where nobody is named.
+    pub debtor: Party<'a>,
+    pub reference: &'a str,
+    pub message: &'a str,
+}
+
+impl Bill<'_> {
+    pub fn text(&self) -> ContentResult {
+        if self.cents == Some(0) {
+            return Err(ContentError::Refused("cents", Cause::Range));
+        }
+        let (creditor, debtor) = (&self.creditor, &self.debtor);
+        text_of(
+            sys::GOQ_BILL,
+            &[
+                Text("iban", self.iban),
+                Text("creditor.name", creditor.name),
+                Text("creditor.street", creditor.street),
+                Text("creditor.number", creditor.number),
+                Text("creditor.code", creditor.code),
+                Text("creditor.city", creditor.city),
+                Text("creditor.country", creditor.country),
+                whole("cents", self.cents.unwrap_or(0))?,
+                Number("currency", self.currency as i64),
+                Text("reference", self.reference),
+                Text("message", self.message),
+                Text("debtor", debtor.name),
+                Text("debtor", debtor.street),
+                Text("debtor", debtor.number),
+                Text("debtor", debtor.code),
+                Text("debtor", debtor.city),
+                Text("debtor", debtor.country),
+            ],
+        )
+    }
+}
+
+/// A mail. What is empty is left out.
+#[derive(Clone, Copy, Debug, Default, PartialEq, Eq)]
+pub struct Mail<'a> {
+    pub address: &'a str,
+    pub subject: &'a str,
+    pub body: &'a str,
+}
+
+impl Mail<'_> {
+    pub fn text(&self) -> ContentResult {
+        text_of(sys::GOQ_MAIL, &[Text("address", self.address), Text("subject", self.subject), Text("body", self.body)])
+    }
+}
+
+/// A place on the earth, in millionths of a degree north of the equator and east of Greenwich.
+#[derive(Clone, Copy, Debug, PartialEq, Eq)]
+pub struct Place {
+    pub latitude: i32,
+    pub longitude: i32,
+}
+
+impl Place {
+    pub fn text(&self) -> ContentResult {
+        text_of(sys::GOQ_GEO, &[Number("latitude", self.latitude.into()), Number("longitude", self.longitude.into())])
+    }
+}
+
+/// A telephone number.
+#[derive(Clone, Copy, Debug, PartialEq, Eq)]
+pub struct Phone<'a> {
+    pub number: &'a str,
+}
+
+impl Phone<'_> {
+    /// The link that calls the number.
+    pub fn tel(&self) -> ContentResult {
+        text_of(sys::GOQ_TEL, &[Text("number", self.number)])
+    }
+
+    /// The link that writes to the number.
+    pub fn sms(&self) -> ContentResult {
+        self.message("")
+    }
+
+    /// The link that writes this body to the number; an empty one is left out.
+    pub fn message(&self, body: &str) -> ContentResult {
+        text_of(sys::GOQ_SMS, &[Text("number", self.number), Text("body", body)])
+    }
+}
+
+/// What one-time passwords change with.
+#[derive(Clone, Copy, Debug, PartialEq, Eq)]
+pub enum Factor {
+    /// The time; each holds for so many seconds.
+    Time(u32),
+    /// A counter, which begins here.
+    Counter(u64),
+}
+
+/// The hash of one-time passwords.
+#[derive(Clone, Copy, Debug, PartialEq, Eq)]
+pub enum Algorithm {
+    Sha1 = 0,
+    Sha256 = 1,
+    Sha512 = 2,
+}
+
+/// How many digits a one-time password has.
+#[derive(Clone, Copy, Debug, PartialEq, Eq)]
+pub enum Digits {
+    Six = 0,
+    Eight = 1,
+}
+
+/// One-time passwords of an account.
+#[derive(Clone, Copy, Debug, PartialEq, Eq)]
+pub struct OneTime<'a> {
+    pub factor: Factor,
+    pub issuer: &'a str,
+    pub account: &'a str,
+    /// In base 32, without `=` at its end.
+    pub secret: &'a str,
+    pub algorithm: Algorithm,
+    pub digits: Digits,
+}
+
+impl OneTime<'_> {
+    pub fn text(&self) -> ContentResult {
+        let (kind, factor) = match self.factor {
+            Factor::Time(0) => return Err(ContentError::Refused("period", Cause::Range)),
+            Factor::Time(seconds) => (sys::GOQ_TOTP, Number("period", seconds.into())),
+            Factor::Counter(count) => (sys::GOQ_HOTP, whole("counter", count)?),
+        };
+        let (algorithm, digits) = (Number("algorithm", self.algorithm as i64), Number("digits", self.digits as i64));
+        text_of(kind, &[Text("account", self.account), Text("secret", self.secret), Text("issuer", self.issuer), algorithm, digits, factor])
+    }
+}
+
+/// A day of the calendar.
+#[derive(Clone, Copy, Debug, PartialEq, Eq)]
+pub struct Day {
+    pub year: u16,
+    pub month: u8,
+    pub day: u8,
+}
+
+/// A second of a day, in UTC.
+#[derive(Clone, Copy, Debug, PartialEq, Eq)]
+pub struct Moment {
+    pub day: Day,
+    pub hour: u8,
+    pub minute: u8,
+    pub second: u8,
+}
+
+impl Day {
+    // The library's number; 0, which is no day, where a part has too many digits.
+    fn number(self) -> i64 {
+        match (self.year, self.month, self.day) {
+            (0..=9999, 0..=99, 0..=99) => (i64::from(self.year) * 100 + i64::from(self.month)) * 100 + i64::from(self.day),
+            _ => 0,
+        }
+    }
+}
+
+impl Moment {
+    // The library's number; 0, which is no moment, where a part has too many digits.
+    fn number(self) -> i64 {
+        match (self.hour, self.minute, self.second) {
+            (0..=99, 0..=99, 0..=99) => ((self.day.number() * 100 + i64::from(self.hour)) * 100 + i64::from(self.minute)) * 100 + i64::from(self.second),
+            _ => 0,
+        }
+    }
+}
+
+/// When an event begins and ends.
+#[derive(Clone, Copy, Debug, PartialEq, Eq)]
+pub enum Span {
+    /// From a day until before another.
+    Days(Day, Day),
+    /// From a moment until a later one.
+    Times(Moment, Moment),
+}
+
+/// An event of a calendar. What is empty is left out.
+#[derive(Clone, Copy, Debug, PartialEq, Eq)]
+pub struct Event<'a> {
+    pub uid: &'a str,
+    /// When it was written.
+    pub stamp: Moment,
+    pub span: Span,
+    pub summary: &'a str,
+    pub location: &'a str,
+    pub description: &'a str,
+}
+
+impl Event<'_> {
+    pub fn text(&self) -> ContentResult {
+        let (kind, begin, end) = match self.span {
+            Span::Days(first, end) => (sys::GOQ_DAYS, first.number(), end.number()),
+            Span::Times(begin, end) => (sys::GOQ_EVENT, begin.number(), end.number()),
+        };
+        text_of(
+            kind,
+            &[
+                Text("uid", self.uid),
+                Number("stamp", self.stamp.number()),
+                Number("begin", begin),
+                Number("end", end),
+                Text("summary", self.summary),
+                Text("location", self.location),
+                Text("description", self.description),
+            ],
+        )
+    }
+}
