@@ -1,7 +1,13 @@
-//! The tests of texts of contents: printed examples of the formats, and refusals by field and cause.
+//! The tests of contents: printed examples of the formats, elements of GS1 and their symbols, data in several symbols, and refusals by field and cause.
 #![tactic(auto)]
 
 #[cfg(test)]
 mod contents;
+#[cfg(test)]
+mod elements;
+#[cfg(test)]
+mod sequences;
+#[cfg(test)]
+mod symbols;
 #[cfg(test)]
 mod values;

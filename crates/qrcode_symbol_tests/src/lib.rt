@@ -1,7 +1,20 @@
-//! The tests of symbols as they are drawn on a canvas.
+//! The tests of what symbols are made of: the types, which all layers speak of, error correction and the correction of blocks, penalties of squares of many
+//! kinds and of whole symbols, and symbols as they are drawn on a canvas.
 #![tactic(auto)]
 
 #[cfg(test)]
 mod canvas;
 #[cfg(test)]
+mod correction;
+#[cfg(test)]
 mod drawings;
+#[cfg(test)]
+mod printed;
+#[cfg(test)]
+mod squares;
+#[cfg(test)]
+mod symbols;
+#[cfg(test)]
+mod trials;
+#[cfg(test)]
+mod values;

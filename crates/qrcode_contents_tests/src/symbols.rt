@@ -1,6 +1,6 @@
 //! The symbols of elements.
 
-use crate::strings::{Pair, elements_of};
+use crate::elements::{Pair, elements_of};
 use qrcode::QrCode;
 use qrcode::bits::Bits;
 use qrcode::types::{EcLevel, QrError, QrResult, Version};

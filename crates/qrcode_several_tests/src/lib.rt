@@ -1,5 +1,0 @@
-//! Symbols of data in several, as segno makes them (`make_sequence`).
-#![tactic(auto)]
-
-#[cfg(test)]
-mod sequences;
