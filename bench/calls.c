@@ -27,6 +27,10 @@ static const struct {
     {"pic-40", words, 2331, 0, GOQ_M, GOQ_PIC, 4, 8},
     {"pixels-1", words, 14, 0, GOQ_M, GOQ_GREY, 4, 8},
     {"pixels-40", words, 2331, 0, GOQ_M, GOQ_GREY, 4, 8},
+    {"pbm-40", words, 2331, 0, GOQ_M, GOQ_PBM, 4, 8},
+    {"eps-40", words, 2331, 0, GOQ_M, GOQ_EPS, 4, 8},
+    {"png-100", words, 100, 0, GOQ_M, GOQ_PNG, 4, 8},
+    {"png-40", words, 2331, 0, GOQ_M, GOQ_PNG, 4, 8},
 };
 
 static uint8_t data[7089], modules[GOQ_MODULES_MAX], out[4000000];
