@@ -1,4 +1,4 @@
-/* What goq_content answers: a printed example of each format, each cause with the place that is told, and outputs untouched on each refusal. */
+/* What goq_content and goq_gs1 answer: a printed example of each format, each cause with the place that is told, and outputs untouched on each refusal. */
 #include "goqlanis.h"
 #include <stdio.h>
 
@@ -219,6 +219,37 @@ static void events(void)
     refuses(GOQ_DAYS, days, 5, GOQ_FIELD_RANGE, GOQ_EVENT_STAMP, "no stamp");
 }
 
+/* The elements of the GS1 DataMatrix Guideline, and a wrong one of each cause at the second place. */
+static uint32_t ask_elements(const goq_element *elements, size_t elements_length, size_t room)
+{
+    memset(out, 7, sizeof out);
+    memcpy(before, out, sizeof out);
+    count = place = 99;
+    return goq_gs1(elements, elements_length, out, room, &count, &place);
+}
+
+#define ELEMENT(identifier, value) {(const uint8_t *)(identifier), strlen(identifier), (const uint8_t *)(value), strlen(value)}
+
+static void elements(void)
+{
+    const char *text = "010345312000001117191125" "10ABCD1234\x1d" "2110";
+    const goq_element printed[] = {ELEMENT("01", "03453120000011"), ELEMENT("17", "191125"), ELEMENT("10", "ABCD1234"), ELEMENT("21", "10")};
+    const struct { goq_element element; uint32_t answer; } wrong_ones[] = {{ELEMENT("05", "1"), GOQ_NO_SUCH_IDENTIFIER}, {ELEMENT("17", "19112"), GOQ_ELEMENT_LENGTH},
+        {ELEMENT("10", "a b"), GOQ_FIELD_CHARACTER}, {ELEMENT("01", "03453120000012"), GOQ_FIELD_CHECK_DIGITS}, {ELEMENT("10", "\xc3"), GOQ_NOT_TEXT}};
+    const goq_segment segments[] = {{GOQ_FNC1_FIRST, 0, NULL, 0}, {GOQ_BYTES, 0, out, strlen(text)}};
+    static uint8_t modules[GOQ_MODULES_MAX];
+    goq_symbol symbol;
+    expect(ask_elements(printed, 4, strlen(text) - 1) == GOQ_SMALL_BUFFER && count == 99 && place == 99 && !memcmp(out, before, sizeof out), "a byte too few");
+    expect(ask_elements(printed, 4, strlen(text)) == GOQ_OK && count == strlen(text) && place == 99 && !memcmp(out, text, count) && out[count] == 7, text);
+    expect(goq_encode_segments(segments, 2, 3, GOQ_M, modules, sizeof modules, &symbol) == GOQ_OK, "the symbol of elements");
+    for (size_t i = 0; i < sizeof wrong_ones / sizeof wrong_ones[0]; i++) {
+        const goq_element both[] = {printed[0], wrong_ones[i].element};
+        expect(ask_elements(both, 2, sizeof out) == wrong_ones[i].answer && place == 1, "a wrong element");
+        expect(count == 99 && !memcmp(out, before, sizeof out), "outputs of a wrong element");
+    }
+    expect(ask_elements(NULL, 0, 0) == GOQ_OK && count == 0, "no elements, from NULL");
+}
+
 int main(void)
 {
     networks();
@@ -228,5 +259,6 @@ int main(void)
     links();
     passwords();
     events();
+    elements();
     return wrong != 0;
 }

@@ -2,7 +2,7 @@
 
    Data may be any bytes. Each call works in buffers that its caller gives, keeps nothing and uses nothing that is shared, so that calls may run in any
    threads at once, each with buffers of its own. There is nothing to free. Every call that answers GOQ_OK has written all its outputs; every other answer
-   has one cause, and all outputs are as they were, but that goq_content tells the place of a field. A pointer with length 0 may be NULL.
+   has one cause, and all outputs are as they were, but that goq_content and goq_gs1 tell the place of what is wrong. A pointer with length 0 may be NULL.
 
    The library asks for memory by rattle_alloc, rattle_realloc and rattle_dealloc, which stand over malloc unless the program has its own. */
 #ifndef GOQLANIS_H
@@ -48,7 +48,9 @@ enum {
     GOQ_FIELD_CHARACTER = 38, /* the field has a character that the format does not allow there, or a number has bytes */
     GOQ_FIELD_CHECK_DIGITS = 39, /* the check digits are wrong */
     GOQ_FIELD_RANGE = 40, /* the number is outside what the format allows; that of a text is 0 */
-    GOQ_FIELD_UNUSED = 41 /* the field has no place beside what else is given */
+    GOQ_FIELD_UNUSED = 41, /* the field has no place beside what else is given */
+    GOQ_NO_SUCH_IDENTIFIER = 42, /* the application identifier of an element is not in the table */
+    GOQ_ELEMENT_LENGTH = 43 /* the value of an element has too few or too many characters */
 };
 
 /* Error correction levels. */
@@ -251,6 +253,14 @@ typedef struct {
 #define GOQ_TEXT(text) {0, (const uint8_t *)(text), strlen(text)}
 #define GOQ_NUMBER(number) {(number), NULL, 0}
 
+/* An element of GS1: the digits of its application identifier, without parentheses, and its value, with the check digit where it has one. */
+typedef struct {
+    const uint8_t *identifier;
+    size_t identifier_length;
+    const uint8_t *value;
+    size_t value_length;
+} goq_element;
+
 /* What is read of a square beside its bytes. */
 typedef struct {
     uint32_t version;
@@ -318,6 +328,11 @@ uint32_t goq_read_length(const uint8_t *modules, size_t modules_length, size_t *
    a whole; otherwise `place` is as it was. */
 uint32_t goq_content(
     uint32_t kind, const goq_field *fields, size_t fields_length, uint8_t *out, size_t out_length, size_t *count, size_t *place);
+
+/* The element string of GS1, to be encoded by goq_encode_segments as GOQ_BYTES behind GOQ_FNC1_FIRST: at the beginning of `out`, and its length to `count`, with a
+   separator (byte 29) behind each element whose length is not predefined and that another one follows. The first element that is wrong is told by its place, to
+   `place`: GOQ_NOT_TEXT; else GOQ_NO_SUCH_IDENTIFIER, GOQ_ELEMENT_LENGTH, GOQ_FIELD_CHARACTER, GOQ_FIELD_CHECK_DIGITS. GOQ_SMALL_BUFFER, GOQ_OUT_OF_MEMORY. */
+uint32_t goq_gs1(const goq_element *elements, size_t elements_length, uint8_t *out, size_t out_length, size_t *count, size_t *place);
 
 #ifdef __cplusplus
 }

@@ -7,7 +7,7 @@
 extern size_t pool_requests, pool_refused, pool_most;
 size_t pool_live(void);
 
-enum { LAST = 10 + GOQ_PBM, CONTENTS = 4 }; /* the last number of a call below, and how many contents follow */
+enum { LAST = 10 + GOQ_PBM, CONTENTS = 5 }; /* the last number of a call below, and how many contents follow */
 
 static uint8_t data[500], text[500], square[GOQ_MODULES_MAX];
 static goq_symbol known;
@@ -26,7 +26,10 @@ static uint32_t content(int number)
     const goq_field card[GOQ_VCARD_FIELDS] = {[GOQ_VCARD_NAME] = GOQ_TEXT("Frank Dawson"), [GOQ_VCARD_FAMILY] = GOQ_TEXT("Dawson, F.")};
     const goq_field key[] = {GOQ_TEXT("alice@google.com"), GOQ_TEXT("JBSWY3DPEHPK3PXP"), GOQ_TEXT("Example"), GOQ_NUMBER(GOQ_SHA256)};
     const goq_field days[] = {GOQ_TEXT("AF23B2@example.com"), GOQ_NUMBER(19970610172345), GOQ_NUMBER(20000228), GOQ_NUMBER(20000229)};
-    const struct { uint32_t kind; const goq_field *fields; size_t count; } all[CONTENTS] = {
+    const goq_element lot = {(const uint8_t *)"10", 2, (const uint8_t *)"ABCD1234", 8}, elements[] = {lot, lot};
+    if (number == CONTENTS - 1)
+        return goq_gs1(elements, 2, outputs.buffer, sizeof outputs.buffer, &outputs.count, &outputs.place);
+    const struct { uint32_t kind; const goq_field *fields; size_t count; } all[] = {
         {GOQ_WIFI, network, 2}, {GOQ_VCARD, card, GOQ_VCARD_FIELDS}, {GOQ_HOTP, key, 4}, {GOQ_DAYS, days, 4}};
     return goq_content(all[number].kind, all[number].fields, all[number].count, outputs.buffer, sizeof outputs.buffer, &outputs.count, &outputs.place);
 }

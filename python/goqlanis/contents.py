@@ -18,12 +18,13 @@ goqlanis.contents.WrongCheckDigits: iban: the check digits are wrong
 import ctypes
 import datetime
 import decimal
-from typing import NamedTuple, Optional, Sequence, Tuple, Union
+from typing import Iterable, NamedTuple, Optional, Sequence, Tuple, Union
 
 from . import MOST_BYTES, Error, NoRoom, OutOfMemory, _library
 
-__all__ = ["Party", "wifi", "mecard", "vcard", "payment", "bill", "mail", "geo", "tel", "sms", "totp", "hotp", "event", "WrongField", "EmptyField", "TooLong", "TooShort",
-           "ControlCharacter", "WrongCharacter", "WrongCheckDigits", "OutOfRange", "Unused"]
+__all__ = ["Party", "wifi", "mecard", "vcard", "payment", "bill", "mail", "geo", "tel", "sms", "totp", "hotp", "event", "gs1", "WrongField", "EmptyField", "TooLong", "TooShort",
+           "ControlCharacter", "WrongCharacter", "WrongCheckDigits", "OutOfRange", "Unused",
+           "UnknownIdentifier", "WrongLength"]
 
 WIFI, MECARD, VCARD, PAYMENT, BILL, MAIL, GEO, TEL, SMS, TOTP, HOTP, EVENT, DAYS = range(13)
 SECURITIES = (None, "open", "WEP", "WPA", "WPA3")
@@ -84,13 +85,28 @@ class Unused(WrongField):
     why = "it has no place beside what else is given"
 
 
-_CAUSES = {34: EmptyField, 35: TooLong, 36: TooShort, 37: ControlCharacter, 38: WrongCharacter, 39: WrongCheckDigits, 40: OutOfRange, 41: Unused}
+class UnknownIdentifier(WrongField):
+    """The application identifier is not in the table."""
+    why = "its application identifier is not in the table"
+
+
+class WrongLength(WrongField):
+    """The value of an element has too few or too many characters."""
+    why = "its value has too few or too many characters"
+
+
+_CAUSES = {34: EmptyField, 35: TooLong, 36: TooShort, 37: ControlCharacter, 38: WrongCharacter, 39: WrongCheckDigits, 40: OutOfRange, 41: Unused, 42: UnknownIdentifier, 43: WrongLength}
 
 
 class _Field(ctypes.Structure):
     _fields_ = [("number", ctypes.c_int64), ("bytes", ctypes.c_char_p), ("length", ctypes.c_size_t)]
 
 
+class _Element(ctypes.Structure):
+    _fields_ = [("identifier", ctypes.c_char_p), ("identifier_length", ctypes.c_size_t), ("value", ctypes.c_char_p), ("value_length", ctypes.c_size_t)]
+
+
+_library.goq_gs1.argtypes = [ctypes.POINTER(_Element), ctypes.c_size_t, ctypes.c_void_p, ctypes.c_size_t, ctypes.POINTER(ctypes.c_size_t), ctypes.POINTER(ctypes.c_size_t)]
 _library.goq_content.argtypes = [ctypes.c_uint32, ctypes.POINTER(_Field), ctypes.c_size_t, ctypes.c_void_p, ctypes.c_size_t, ctypes.POINTER(ctypes.c_size_t),
                                  ctypes.POINTER(ctypes.c_size_t)]
 
@@ -105,13 +121,18 @@ def _text_of(kind: int, fields: Sequence[Tuple[str, Union[str, int]]]) -> str:
         rows.append(_Field(number, data, len(data)))
     out, count, place = ctypes.create_string_buffer(MOST_BYTES), ctypes.c_size_t(), ctypes.c_size_t()
     answer = _library.goq_content(kind, (_Field * len(rows))(*rows), len(rows), out, MOST_BYTES, ctypes.byref(count), ctypes.byref(place))
+    _refuse(answer, fields[place.value][0] if place.value < len(fields) else "text")
+    return out.raw[:count.value].decode()
+
+
+def _refuse(answer: int, field: str) -> None:
+    """Raises what an answer of the library stands for."""
     if answer in _CAUSES:
-        raise _CAUSES[answer](fields[place.value][0] if place.value < len(fields) else "text")
+        raise _CAUSES[answer](field)
     if answer == 7:
         raise NoRoom(f"no symbol holds a text of more than {MOST_BYTES} bytes")
     if answer:
         raise OutOfMemory("memory was refused") if answer == 8 else Error(f"answer {answer}")
-    return out.raw[:count.value].decode()
 
 
 def _choice(name: str, value, choices: tuple) -> int:
@@ -280,6 +301,24 @@ def event(uid: str, stamp: datetime.datetime, begin: datetime.date, end: datetim
     number = _moment if are_moments else _day
     return _text_of(EVENT if are_moments else DAYS, [("uid", uid), ("stamp", _moment(stamp)), ("begin", number(begin)), ("end", number(end)), ("summary", summary),
                                                      ("location", location), ("description", description)])
+
+
+def gs1(elements: Iterable[Tuple[str, str]]) -> bytes:
+    """The element string of GS1, of application identifiers without parentheses and their values. A wrong element is told by its place, as `elements[1]`.
+
+    >>> data = gs1([("01", "03453120000011"), ("17", "191125"), ("10", "ABCD1234"), ("21", "10")])
+    >>> data
+    b'01034531200000111719112510ABCD1234\\x1d2110'
+    >>> from goqlanis import encode_segments
+    >>> encode_segments([("fnc1_first", None), ("byte", data)]).version
+    '3'
+    """
+    rows = [(identifier.encode(), value.encode()) for identifier, value in elements]
+    given = (_Element * len(rows))(*(_Element(identifier, len(identifier), value, len(value)) for identifier, value in rows))
+    out, count, place = ctypes.create_string_buffer(MOST_BYTES), ctypes.c_size_t(), ctypes.c_size_t()
+    answer = _library.goq_gs1(given, len(rows), out, MOST_BYTES, ctypes.byref(count), ctypes.byref(place))
+    _refuse(answer, f"elements[{place.value}]")
+    return out.raw[:count.value]
 
 
 def _day(day: datetime.date) -> int:

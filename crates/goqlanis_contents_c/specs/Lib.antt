@@ -1,5 +1,6 @@
 pub mod Answers
 pub mod Contents
+pub mod Elements
 pub mod Forms
 pub mod Given
 pub mod Values

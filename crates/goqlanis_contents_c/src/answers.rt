@@ -1,9 +1,10 @@
 //! What the call answers.
 
 ghost use Rattle.std.specs.Prelude.{◌≡◌, ◌≢◌};
-ghost use Rattle.goqlanis_contents_c.specs.Answers.{cause_number, number_of, place_told};
+ghost use Rattle.goqlanis_contents_c.specs.Answers.{cause_number, element_number, number_of, place_told};
 
 use qrcode_fields::errors::Cause;
+use qrcode_gs1::errors::Cause as ElementCause;
 
 /// Why a call refuses, and at which place its fields are wrong.
 #[derive(Clone, Copy, Debug, Drop, PartialEq, Eq)]
@@ -20,6 +21,8 @@ pub enum Refusal {
     NoSuchField(usize),
     /// The format cannot say the field at this place, for this cause.
     Wrong(usize, Cause),
+    /// The element of GS1 at this place is refused, for this cause.
+    NotElement(usize, ElementCause),
 }
 
 // The number of a cause.
@@ -39,6 +42,19 @@ fn cause_number(cause: Cause) -> u32
     }
 }
 
+// The number of a cause of an element.
+fn element_number(cause: ElementCause) -> u32
+    ensures value { result ≡ element_number cause }
+    ensures not_made { result ≢ 0 }
+{
+    match cause {
+        ElementCause::Character => 38,
+        ElementCause::CheckDigit => 39,
+        ElementCause::UnknownIdentifier => 42,
+        ElementCause::Length => 43,
+    }
+}
+
 impl Refusal {
     /// The number that C sees.
     pub fn number(self) -> u32
@@ -52,6 +68,7 @@ impl Refusal {
             Refusal::NoSuchContent => 32,
             Refusal::NoSuchField(_) => 33,
             Refusal::Wrong(_, cause) => cause_number(cause),
+            Refusal::NotElement(_, cause) => element_number(cause),
         }
     }
 
@@ -60,8 +77,8 @@ impl Refusal {
         ensures value { result ≡ place_told self before }
     {
         match self {
-            Refusal::NotText(place) | Refusal::NoSuchField(place) | Refusal::Wrong(place, _) =>
-                place,
+            Refusal::NotText(place) | Refusal::NoSuchField(place) => place,
+            Refusal::Wrong(place, _) | Refusal::NotElement(place, _) => place,
             _ => before,
         }
     }

@@ -59,7 +59,7 @@ fn write(alloc: Global, kind: u32, given: &[Item<'_>], out: &mut [u8]) -> Result
 }
 
 // Writes bytes at the beginning of a buffer that has room for them.
-fn fill(out: &mut [u8], bytes: &[u8])
+pub(crate) fn fill(out: &mut [u8], bytes: &[u8])
     requires room { length bytes.now ≤ length out.old }
     ensures filled { out.new ≡ bytes.now ++ drop (length bytes.now) out.old }
 {

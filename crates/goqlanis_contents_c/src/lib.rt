@@ -4,6 +4,7 @@
 
 mod answers;
 mod contents;
+mod elements;
 mod forms;
 mod given;
 mod texts;

@@ -32,6 +32,8 @@ pub const GOQ_FIELD_CHARACTER: u32 = 38;
 pub const GOQ_FIELD_CHECK_DIGITS: u32 = 39;
 pub const GOQ_FIELD_RANGE: u32 = 40;
 pub const GOQ_FIELD_UNUSED: u32 = 41;
+pub const GOQ_NO_SUCH_IDENTIFIER: u32 = 42;
+pub const GOQ_ELEMENT_LENGTH: u32 = 43;
 
 pub const GOQ_HALF_BLOCKS: u32 = 0;
 pub const GOQ_LIGHT_HALF_BLOCKS: u32 = 1;
@@ -98,6 +100,16 @@ pub struct goq_field {
     pub length: usize,
 }
 
+/// An element of GS1: the digits of its application identifier, and its value.
+#[repr(C)]
+#[derive(Clone, Copy, Debug)]
+pub struct goq_element {
+    pub identifier: *const u8,
+    pub identifier_length: usize,
+    pub value: *const u8,
+    pub value_length: usize,
+}
+
 /// What is read of a square beside its bytes.
 #[repr(C)]
 #[derive(Clone, Copy, Debug, Default, PartialEq, Eq)]
@@ -124,4 +136,5 @@ extern "C" {
     pub fn goq_draw(modules: *const u8, modules_length: usize, width: u32, zone: u32, scale: u32, format: u32, out: *mut u8, out_length: usize, count: *mut usize) -> u32;
     pub fn goq_draw_length(modules: *const u8, modules_length: usize, width: u32, zone: u32, scale: u32, format: u32, count: *mut usize) -> u32;
     pub fn goq_content(kind: u32, fields: *const goq_field, fields_length: usize, out: *mut u8, out_length: usize, count: *mut usize, place: *mut usize) -> u32;
+    pub fn goq_gs1(elements: *const goq_element, elements_length: usize, out: *mut u8, out_length: usize, count: *mut usize, place: *mut usize) -> u32;
 }

@@ -35,6 +35,10 @@ pub enum Cause {
     Range,
     /// The field has no place beside the others.
     Unused,
+    /// The application identifier of an element is not in the table.
+    UnknownIdentifier,
+    /// The value of an element has too few or too many characters.
+    Length,
 }
 
 /// Why a value has no text.
@@ -42,6 +46,8 @@ pub enum Cause {
 pub enum ContentError {
     /// The format cannot say the field of this name, for this cause; `text` is the text as a whole, and `debtor` a field of who pays.
     Refused(&'static str, Cause),
+    /// The element of GS1 at this place is refused, for this cause.
+    Element(usize, Cause),
     /// No symbol holds so long a text.
     DataTooLong,
     /// Memory was refused.
@@ -52,6 +58,7 @@ impl fmt::Display for ContentError {
     fn fmt(&self, out: &mut fmt::Formatter<'_>) -> fmt::Result {
         match self {
             ContentError::Refused(field, cause) => write!(out, "{field}: {cause:?}"),
+            ContentError::Element(place, cause) => write!(out, "element {place}: {cause:?}"),
             ContentError::DataTooLong => out.write_str("data too long"),
             ContentError::OutOfMemory => out.write_str("out of memory"),
         }
@@ -100,12 +107,18 @@ fn text_of(kind: u32, fields: &[Field<'_>]) -> ContentResult {
     let (mut count, mut place) = (0, 0);
     // SAFETY: each field points to a text that outlives the call, and the lengths are those of the buffers.
     let answer = unsafe { sys::goq_content(kind, given.as_ptr(), given.len(), out.as_mut_ptr(), out.len(), &mut count, &mut place) };
-    let cause = match answer {
+    match answer {
         sys::GOQ_OK => {
             out.truncate(count);
-            return Ok(String::from_utf8(out).expect("the library writes UTF-8"));
+            Ok(String::from_utf8(out).expect("the library writes UTF-8"))
         }
-        sys::GOQ_SMALL_BUFFER => return Err(ContentError::DataTooLong),
+        _ => Err(refused(answer, |cause| ContentError::Refused(fields.get(place).map_or("text", Field::name), cause))),
+    }
+}
+
+// What an answer other than `GOQ_OK` means, where a cause is one of a field.
+fn refused(answer: u32, of_field: impl FnOnce(Cause) -> ContentError) -> ContentError {
+    of_field(match answer {
         sys::GOQ_FIELD_EMPTY => Cause::Empty,
         sys::GOQ_FIELD_TOO_LONG => Cause::TooLong,
         sys::GOQ_FIELD_TOO_SHORT => Cause::TooShort,
@@ -114,9 +127,40 @@ fn text_of(kind: u32, fields: &[Field<'_>]) -> ContentResult {
         sys::GOQ_FIELD_CHECK_DIGITS => Cause::CheckDigits,
         sys::GOQ_FIELD_RANGE => Cause::Range,
         sys::GOQ_FIELD_UNUSED => Cause::Unused,
-        _ => return Err(ContentError::OutOfMemory),
+        sys::GOQ_NO_SUCH_IDENTIFIER => Cause::UnknownIdentifier,
+        sys::GOQ_ELEMENT_LENGTH => Cause::Length,
+        sys::GOQ_SMALL_BUFFER => return ContentError::DataTooLong,
+        _ => return ContentError::OutOfMemory,
+    })
+}
+
+/// The element string of GS1, of application identifiers without parentheses and their values: bytes that stand behind FNC1 in first position.
+///
+/// ```
+/// use goqlanis::contents::{gs1, Cause, ContentError};
+///
+/// let bytes = gs1(&[("01", "03453120000011"), ("10", "ABCD1234"), ("21", "10")])?;
+/// assert_eq!(bytes, b"010345312000001110ABCD1234\x1d2110");
+/// assert_eq!(gs1(&[("10", "ABCD1234"), ("01", "03453120000012")]), Err(ContentError::Element(1, Cause::CheckDigits)));
+/// # Ok::<(), ContentError>(())
+/// ```
+pub fn gs1(elements: &[(&str, &str)]) -> Result<Vec<u8>, ContentError> {
+    let one = |(identifier, value): &(&str, &str)| sys::goq_element {
+        identifier: identifier.as_ptr(),
+        identifier_length: identifier.len(),
+        value: value.as_ptr(),
+        value_length: value.len(),
     };
-    Err(ContentError::Refused(fields.get(place).map_or("text", Field::name), cause))
+    let given: Vec<sys::goq_element> = elements.iter().map(one).collect();
+    let mut out = vec![0; sys::GOQ_BYTES_MAX];
+    let (mut count, mut place) = (0, 0);
+    // SAFETY: each element points to texts that outlive the call, and the lengths are those of the buffers.
+    let answer = unsafe { sys::goq_gs1(given.as_ptr(), given.len(), out.as_mut_ptr(), out.len(), &mut count, &mut place) };
+    if answer != sys::GOQ_OK {
+        return Err(refused(answer, |cause| ContentError::Element(place, cause)));
+    }
+    out.truncate(count);
+    Ok(out)
 }
 
 /// How a network is secured.
