@@ -1,5 +1,5 @@
 -- Why elements have no symbol.
-use Rattle.std.proofs.Common.{◌≡◌, List, None, sym, subst, Result, Ok, Err, IfErr}
+use Rattle.std.proofs.Common.{◌≡◌, ℕ, List, None, sym, subst, Result, Ok, Err, IfErr}
 use Rattle.std.specs.Prelude.{IsErr, IsErrAnd}
 use Rattle.qrcode_types.specs.declared.types.EcLevel.{EcLevel}
 use Rattle.qrcode_types.specs.declared.types.QrError.{QrError}
@@ -14,7 +14,7 @@ use Rattle.qrcode_gs1_symbol.specs.declared.errors.SymbolError.{SymbolError}
 use Rattle.qrcode_gs1_symbol.specs.declared.errors.SymbolError.TheVariants.{Symbol}
 
 -- a refusal of the element string's symbol that is handed on
-pub symbol_refused : (l : EcLevel) (items : List Item) (r : Result Code SymbolError) (e : QrError) → IsErr r × IsErrAnd r (λ x. x ≡ Symbol e) → refusal_from RULES 0 items ≡ None
-    → IsMarkedRefused First l (element_string items) e → IfErr r (IsGs1Refused l items)
-symbol_refused l items (Ok code) e is none cause = tt
-symbol_refused l items (Err x) e is none cause = subst (IsGs1Refused l items) (sym is.1) (none, cause)
+pub symbol_refused : (from : ℕ) (l : EcLevel) (items : List Item) (r : Result Code SymbolError) (e : QrError) → IsErr r × IsErrAnd r (λ x. x ≡ Symbol e) → refusal_from RULES 0 items ≡ None
+    → IsMarkedRefused from First l (element_string items) e → IfErr r (IsGs1Refused from l items)
+symbol_refused from l items (Ok code) e is none cause = tt
+symbol_refused from l items (Err x) e is none cause = subst (IsGs1Refused from l items) (sym is.1) (none, cause)

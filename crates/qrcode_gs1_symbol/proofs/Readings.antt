@@ -101,17 +101,18 @@ marked_list p n l bytes ss v w (Ok list) same is exists least apart room ended f
     }
 
 -- and its symbol
-pub symbol_of : (p : Position) (n : ℕ) (l : EcLevel) (bytes : List ℕ) (list : BitList) (r : Result Code QrError) → HoldsMarked p l bytes n → ((other : ℕ) → HoldsMarked p l bytes other → n ≤ other)
+pub symbol_of : (from : ℕ) (p : Position) (n : ℕ) (l : EcLevel) (bytes : List ℕ) (list : BitList) (r : Result Code QrError) → from ≤ n → HoldsMarked p l bytes n → ((other : ℕ) → from ≤ other → HoldsMarked p l bytes other → n ≤ other)
     → IsMarkedList p (Normal (pos n)) l bytes list → IfOk r (λ code. code.version ≡ list.version) → IfOk r (λ code. code.level ≡ l) → IfOk r (λ code. EncodesBits list.version l list.bits code.modules)
-    → IfOk r (IsMarkedSymbol p l bytes)
-symbol_of p n l bytes list (Err e) holds first made version level encodes = tt
-symbol_of p n l bytes list (Ok code) holds first made version level encodes =
+    → IfOk r (IsMarkedSymbol from p l bytes)
+symbol_of from p n l bytes list (Err e) above holds first made version level encodes = tt
+symbol_of from p n l bytes list (Ok code) above holds first made version level encodes =
     let u = Normal (pos n) in
     let bits = terminated u l (mark p ++ written u (marked_pieces bytes made.segments)) in
     let own : EncodesBits u l bits code.modules = subst (λ b. EncodesBits u l b code.modules) made.bits (subst (λ x. EncodesBits x l list.bits code.modules) made.version encodes) in
     let spelled : SpellsMarked u bits p bytes = subst (λ b. SpellsMarked u b p bytes) made.bits made.spelled in
     record {
       number = n;
+      at_least = above;
       version = version ∙ made.version;
       level = level;
       holds = holds;

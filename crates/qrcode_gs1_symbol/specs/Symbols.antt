@@ -45,18 +45,19 @@ pub record IsMarkedList (p : Position) (v : Version) (l : EcLevel) (bytes : List
   pub full : length list.bits ≡ capacity v l
   pub spelled : SpellsMarked v list.bits p bytes
 
--- The symbol of the mark and a least cut, of the least version of Normal that holds them, of which every damaged symbol is read as the bytes behind that mark, and as no others.
-pub record IsMarkedSymbol (p : Position) (l : EcLevel) (bytes : List ℕ) (code : Code) : Type 0 where
+-- The symbol of the mark and a least cut, of the least version of Normal from one on that holds them, of which every damaged symbol is read as the bytes behind that mark, and as no others.
+pub record IsMarkedSymbol (from : ℕ) (p : Position) (l : EcLevel) (bytes : List ℕ) (code : Code) : Type 0 where
   pub number : ℕ
+  pub at_least : from ≤ number
   pub version : code.version ≡ Normal (pos number)
   pub level : code.level ≡ l
   pub holds : HoldsMarked p l bytes number
-  pub least_version : (other : ℕ) → HoldsMarked p l bytes other → number ≤ other
+  pub least_version : (other : ℕ) → from ≤ other → HoldsMarked p l bytes other → number ≤ other
   pub segments : List Segment
   pub least : IsLeastMarkedCut (Normal (pos number)) bytes segments
   pub encodes : EncodesBits (Normal (pos number)) l (terminated (Normal (pos number)) l (mark p ++ written (Normal (pos number)) (marked_pieces bytes segments))) code.modules
   pub read : (other : List Color) → IsDamaged (Normal (pos number)) l encodes.mask code.modules other → ReadsMarkedOnly other p bytes
 
--- why there is none: memory was refused, or no version of Normal holds them
-abbrev pub IsMarkedRefused : Position → EcLevel → List ℕ → QrError → Type 0
-IsMarkedRefused p l bytes e = (e ≡ OutOfMemory) ⊎ ((e ≡ DataTooLong) × ((number : ℕ) → ¬ HoldsMarked p l bytes number))
+-- why there is none: memory was refused, or no version of Normal from one on holds them
+abbrev pub IsMarkedRefused : ℕ → Position → EcLevel → List ℕ → QrError → Type 0
+IsMarkedRefused from p l bytes e = (e ≡ OutOfMemory) ⊎ ((e ≡ DataTooLong) × ((number : ℕ) → from ≤ number → ¬ HoldsMarked p l bytes number))

@@ -77,7 +77,7 @@ fn holds(
     }
 }
 
-// The least version of Normal that holds what stands for bytes behind so many bits.
+// The least version of Normal, from one on, that holds what stands for bytes behind so many bits.
 //
 // `DataTooLong`: none does. `OutOfMemory`: memory was refused.
 pub(crate) fn least_number(
@@ -85,17 +85,19 @@ pub(crate) fn least_number(
     standing: &[u8],
     front: usize,
     ec_level: EcLevel,
+    from: usize,
 ) -> QrResult<usize>
     requires limit { length standing.now ≤ data_limit }
     requires front { front ≤ 12 }
     ensures holds { IfOk result (HoldsBehind front ec_level standing.now) }
+    ensures at_least { IfOk result (λ number. from ≤ number) }
     ensures at_most { IfOk result (λ number. number ≤ 40) }
-    ensures least { IfOk result (λ number. (other : ℕ)
+    ensures least { IfOk result (λ number. (other : ℕ) → from ≤ other
         → HoldsBehind front ec_level standing.now other → number ≤ other) }
     ensures causes { IfErr result (λ e. (e ≡ OutOfMemory) ⊎ ((e ≡ DataTooLong)
-        × ((number : ℕ) → ¬ HoldsBehind front ec_level standing.now number))) }
+        × ((number : ℕ) → from ≤ number → ¬ HoldsBehind front ec_level standing.now number))) }
 {
-    for number in 1..41 {
+    for number in from.max(1)..41 {
         if holds(alloc, standing, front, ec_level, number)? {
             return Ok(number);
         }

@@ -112,7 +112,8 @@ fn marked_bits(
     ended_bits(alloc, &written, segments, position, version, ec_level)
 }
 
-// The symbol of bytes behind FNC1 at a level, of the least version of Normal that holds them.
+// The symbol of bytes behind FNC1 at a level, of the least version of Normal, from one on, that holds
+// them.
 //
 // `DataTooLong`: none does. `OutOfMemory`: memory was refused.
 pub(crate) fn symbol(
@@ -120,18 +121,19 @@ pub(crate) fn symbol(
     bytes: &[u8],
     position: Position,
     ec_level: EcLevel,
+    from: usize,
 ) -> QrResult<QrCode>
     requires { IsTrue (are_apart bytes.now) }
-    ensures symbol { IfOk result (IsMarkedSymbol position ec_level bytes.now) }
-    ensures accepts { (number : ℕ) → HoldsMarked position ec_level bytes.now number
+    ensures symbol { IfOk result (IsMarkedSymbol from position ec_level bytes.now) }
+    ensures accepts { (number : ℕ) → from ≤ number → HoldsMarked position ec_level bytes.now number
         → IsOkUnless result OutOfMemory }
-    ensures causes { IfErr result (IsMarkedRefused position ec_level bytes.now) }
+    ensures causes { IfErr result (IsMarkedRefused from position ec_level bytes.now) }
 {
     if bytes.len() > DATA_LIMIT {
         return Err(QrError::DataTooLong);
     }
     let standing = stand_ins(alloc, bytes)?;
-    let number = least_number(alloc, &standing, mark_length(position), ec_level)?;
+    let number = least_number(alloc, &standing, mark_length(position), ec_level, from)?;
     let bits = marked_bits(alloc, bytes, &standing, position, number, ec_level)?;
     QrCode::with_bits(alloc, bits, ec_level)
 }

@@ -40,11 +40,27 @@ pub enum Position {
 /// `Elements`: which element is refused first, and why. `Symbol(DataTooLong)`: no version of Normal
 /// holds them. `OutOfMemory`, in either: memory was refused.
 pub fn gs1(alloc: Global, elements: &[Element], ec_level: EcLevel) -> SymbolResult<QrCode>
-    ensures symbol { IfOk result (IsGs1Symbol ec_level (map item elements.now)) }
-    ensures causes { IfErr result (IsGs1Refused ec_level (map item elements.now)) }
+    ensures symbol { IfOk result (IsGs1Symbol 0 ec_level (map item elements.now)) }
+    ensures causes { IfErr result (IsGs1Refused 0 ec_level (map item elements.now)) }
+{
+    gs1_from(alloc, elements, ec_level, 0)
+}
+
+/// The same, of the least version of Normal, from the one of this number on, that holds the elements.
+///
+/// `Elements`: which element is refused first, and why. `Symbol(DataTooLong)`: no version of Normal
+/// from it on holds them. `OutOfMemory`, in either: memory was refused.
+pub fn gs1_from(
+    alloc: Global,
+    elements: &[Element],
+    ec_level: EcLevel,
+    from: usize,
+) -> SymbolResult<QrCode>
+    ensures symbol { IfOk result (IsGs1Symbol from ec_level (map item elements.now)) }
+    ensures causes { IfErr result (IsGs1Refused from ec_level (map item elements.now)) }
 {
     let bytes = element_string(alloc, elements)?;
-    Ok(symbol(alloc, &bytes, Position::First, ec_level)?)
+    Ok(symbol(alloc, &bytes, Position::First, ec_level, from)?)
 }
 
 /// The symbol of data at a level, of the least version of Normal that holds it: FNC1 in second
@@ -60,10 +76,10 @@ pub fn for_application(
     ec_level: EcLevel,
 ) -> QrResult<QrCode>
     requires { IsTrue (are_apart bytes.now) }
-    ensures symbol { IfOk result (IsMarkedSymbol (Second application) ec_level bytes.now) }
+    ensures symbol { IfOk result (IsMarkedSymbol 0 (Second application) ec_level bytes.now) }
     ensures accepts { (number : ℕ) → HoldsMarked (Second application) ec_level bytes.now number
         → IsOkUnless result OutOfMemory }
-    ensures causes { IfErr result (IsMarkedRefused (Second application) ec_level bytes.now) }
+    ensures causes { IfErr result (IsMarkedRefused 0 (Second application) ec_level bytes.now) }
 {
-    symbol(alloc, bytes, Position::Second(application), ec_level)
+    symbol(alloc, bytes, Position::Second(application), ec_level, 0)
 }

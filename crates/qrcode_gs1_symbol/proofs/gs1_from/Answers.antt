@@ -3,11 +3,11 @@ use Rattle.qrcode_gs1.specs.Items.{item}
 use Rattle.qrcode_gs1_symbol.specs.Symbols.{IsMarkedRefused}
 use Rattle.qrcode_gs1_symbol.specs.declared.Position.TheVariants.{First}
 use Rattle.qrcode_gs1_symbol.proofs.Elements.{symbol_refused}
-use Rattle.qrcode_gs1_symbol.proofs.gs1.Goals as goal
+use Rattle.qrcode_gs1_symbol.proofs.gs1_from.Goals as goal
 
 pub returns-in_err-symbol-clause-causes : goal.returns-in_err-symbol-clause-causes
 returns-in_err-symbol-clause-causes c =
     let l = c.args.ec_level in
     let e = c.in_err-symbol.field-0.0 in
-    symbol_refused l (map item c.args.elements.now) c.from_residual-in_err-symbol.result e c.from_residual-in_err-symbol.ensures c.in_ok-bytes.ensures.reads.0
-    (subst (λ xs. IsMarkedRefused First l xs e) (c.deref.ensures.value ∙ c.in_ok-bytes.ensures.value) c.in_err-symbol.ensures.causes)
+    symbol_refused c.args.from l (map item c.args.elements.now) c.from_residual-in_err-symbol.result e c.from_residual-in_err-symbol.ensures c.in_ok-bytes.ensures.reads.0
+    (subst (λ xs. IsMarkedRefused c.args.from First l xs e) (c.deref.ensures.value ∙ c.in_ok-bytes.ensures.value) c.in_err-symbol.ensures.causes)
