@@ -23,7 +23,7 @@ pub fn command_of<'a>(
     }
     match task.purpose {
         Purpose::Draw => Ok(command.after_help(EXAMPLES)),
-        Purpose::Read | Purpose::Content(_) => Ok(command),
+        Purpose::Read | Purpose::Content(_) | Purpose::Elements => Ok(command),
     }
 }
 

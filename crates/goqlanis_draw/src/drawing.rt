@@ -1,14 +1,17 @@
 //! Drawings for requests.
 
-ghost use Rattle.std.specs.Prelude.{◌≡◌, ◌++◌, ◌*◌, ◌≤◌, length, max, codes, string_bytes, unwrap_or, ◌<◌, ◌^◌, IsTrue, IfOk, IfErr, OnOk, IsOkUnless};
+ghost use Rattle.std.specs.Prelude.{◌≡◌, ◌++◌, ◌*◌, ◌≤◌, length, map, max, codes, string_bytes, unwrap_or, ◌<◌, ◌^◌, IsTrue, IfOk, IfErr, OnOk, IsOkUnless};
 ghost use Rattle.qrcode_types.specs.Versions.{side};
 ghost use Rattle.qrcode_types.specs.declared.types.QrError.TheVariants.{OutOfMemory};
 ghost use Rattle.qrcode.specs.Pictures.{quiet_zone};
 ghost use Rattle.qrcode_render.specs.Setting.{fits};
 ghost use Rattle.goqlanis_draw.specs.Drawings.{IsDrawing, IsShownBy, IsPngOf, per_metre, coloured_byte, coloured_text, eps_ink, half_block_text, layout_for, png_ink, scale_for, setting_for};
+ghost use Rattle.qrcode_gs1.specs.Items.{item};
+ghost use Rattle.goqlanis_draw.specs.Elements.{IsDrawingOfElements};
 ghost use Rattle.goqlanis_draw.specs.Segments.{IsDrawingOfPieces, pieces_of};
 ghost use Rattle.goqlanis_draw.specs.Symbols.{IsSymbolOf, IsRefusalOf};
 
+use crate::elements::symbol_of_elements;
 use crate::request::{Choice, Format, Ink, Request};
 use crate::segments::{Segment, symbol_of};
 use qrcode::QrCode;
@@ -17,6 +20,8 @@ use qrcode::render::pgm::Grey;
 use qrcode::render::unicode::Dense1x2;
 use qrcode::render::{Pixel, Renderer, eps, pic, svg};
 use qrcode::types::{Color, QrResult};
+use qrcode_gs1::elements::Element;
+use qrcode_gs1_symbol::errors::SymbolResult;
 use qrcode_png::with_density;
 use std::alloc::Global;
 
@@ -56,6 +61,24 @@ pub fn draw_segments(
         IsDrawingOfPieces request.now (pieces_of segments.now) drawing.items) }
 {
     let code = symbol_of(alloc, request.choice, request.level, segments)?;
+    let drawing = drawing_of(alloc, request, &code)?;
+    Ok(drawing)
+}
+
+/// The drawing of elements of GS1 that a request asks for; its manner is not looked at, and a choice with
+/// levels to be raised keeps the level.
+///
+/// `Elements`: which element is refused first, and why. `Symbol(DataTooLong)`: no version that may be
+/// taken holds them; none of Micro does. `OutOfMemory`, in either: memory was refused.
+pub fn draw_elements(
+    alloc: Global,
+    request: &Request<'_>,
+    elements: &[Element<'_>],
+) -> SymbolResult<Vec<u8>>
+    ensures drawing { IfOk result (λ drawing.
+        IsDrawingOfElements request.now (map item elements.now) drawing.items) }
+{
+    let code = symbol_of_elements(alloc, request.choice, request.level, elements)?;
     let drawing = drawing_of(alloc, request, &code)?;
     Ok(drawing)
 }

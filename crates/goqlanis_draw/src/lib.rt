@@ -3,13 +3,14 @@
 #![tactic(auto)]
 
 mod drawing;
+mod elements;
 mod refusal;
 mod request;
 mod scanning;
 mod segments;
 
-pub use drawing::{draw, draw_segments};
-pub use refusal::{refusal_text, segments_refusal_text};
+pub use drawing::{draw, draw_elements, draw_segments};
+pub use refusal::{elements_refusal_text, refusal_text, segments_refusal_text};
 pub use request::{Choice, Format, Ink, Request, manner_of};
 pub use scanning::{Scan, Unread, read_picture};
 pub use segments::{Segment, unwritable};

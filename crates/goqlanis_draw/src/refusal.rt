@@ -1,8 +1,10 @@
 //! What a refusal says: what, why, and what would help.
 
+use crate::elements::symbol_of_elements;
 use crate::request::{Choice, Request};
 use qrcode::bits::Manner;
 use qrcode::types::{EcLevel, Mode, QrError, Version};
+use qrcode_gs1::elements::Element;
 use qrcode_types::tables;
 use std::alloc::{AllocError, Global};
 use std::fmt;
@@ -60,6 +62,33 @@ pub fn segments_refusal_text(
         }
         (error, _) => refusal_text(alloc, request, 0, error),
     }
+}
+
+/// The text of a refusal of elements of GS1 that no version that may be taken holds.
+pub fn elements_refusal_text(
+    alloc: Global,
+    request: &Request<'_>,
+    elements: &[Element<'_>],
+) -> Result<String, AllocError> {
+    let level = request.level;
+    let Choice::At(version) = request.choice else {
+        return format!(in alloc; "no version holds the elements at level {level:?}");
+    };
+    let name = Name(version);
+    if version.is_micro() {
+        return format!(in alloc; "version {name} has no FNC1, as all of Micro QR; take 1 to 40");
+    }
+    let mut text = format!(in alloc;
+        "version {name} at level {level:?} does not hold the elements"
+    )?;
+    if let Ok(code) = symbol_of_elements(alloc, Choice::From(version), level, elements) {
+        let least = code.version();
+        if least != version {
+            let name = Name(least);
+            write!(text, "; version {name} does")?;
+        }
+    }
+    Ok(text)
 }
 
 // No version that may be taken holds so many bytes.

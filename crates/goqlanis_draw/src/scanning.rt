@@ -4,9 +4,10 @@ ghost use Rattle.std.specs.Prelude.{◌≡◌, true, IfOk};
 ghost use Rattle.qrcode_scan.specs.Squares.{inverted};
 ghost use Rattle.goqlanis_draw.specs.Scans.{IsReadAs, IsScanOf, IsSquareOf};
 
+use qrcode::types::Mode;
 use qrcode_reader::{AnyReading, Position, Reading, read_any, read_bits};
 use qrcode_scan::{Pixels, Square, Unscanned, pixels_of, square_of};
-use qrcode_spell::pieces;
+use qrcode_spell::{Header, Part, Parts, pieces};
 use std::alloc::{AllocError, Global};
 use std::fmt;
 
@@ -136,7 +137,50 @@ fn read_with_headers(alloc: Global, square: &Square) -> Result<Reading, Unread> 
         version: bits.version,
         ec_level: bits.ec_level,
         mask: bits.mask,
-        data: found.bytes,
+        data: as_handed_on(alloc, &found)?,
         wrong: bits.wrong,
     })
+}
+
+// The bytes of a symbol's parts, as readers hand them on (ISO/IEC 18004:2006, 6.4.8): behind FNC1 a percent
+// sign of the mode Alphanumeric is a separator, byte 29, and two of them are a percent sign.
+fn as_handed_on(alloc: Global, found: &Parts) -> Result<Vec<u8>, AllocError> {
+    let mut bytes = Vec::with_capacity(alloc, found.bytes.len())?;
+    let mut rest = found.bytes.as_slice();
+    let mut is_marked = false;
+    for part in &found.parts {
+        match *part {
+            Part::Front(Header::Fnc1First | Header::Fnc1Second(_)) => is_marked = true,
+            Part::Front(_) => {}
+            Part::Bytes(mode, count) => {
+                let (chunk, more) = rest.split_at(count.min(rest.len()));
+                if is_marked && mode == Mode::Alphanumeric {
+                    push_undoubled(&mut bytes, chunk)?;
+                } else {
+                    bytes.extend_from_slice(chunk)?;
+                }
+                rest = more;
+            }
+        }
+    }
+    Ok(bytes)
+}
+
+// Appends alphanumeric characters, of which a percent sign is a separator and two are a percent sign.
+fn push_undoubled(bytes: &mut Vec<u8>, characters: &[u8]) -> Result<(), AllocError> {
+    let mut is_open = false;
+    for byte in characters {
+        let is_sign = *byte == b'%';
+        if is_open && !is_sign {
+            bytes.push(29)?;
+        }
+        if is_open || !is_sign {
+            bytes.push(*byte)?;
+        }
+        is_open = is_sign && !is_open;
+    }
+    if is_open {
+        bytes.push(29)?;
+    }
+    Ok(())
 }

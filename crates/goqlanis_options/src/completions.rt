@@ -127,7 +127,7 @@ fn push_zsh(text: &mut String, task: &Task, options: &[&Entry]) -> Result<(), Al
             text.push_str(")' ;;\n")
         }
         Purpose::Read => text.push_str("read)' '2:picture:_files' ;;\n"),
-        Purpose::Content(_) => {
+        Purpose::Content(_) | Purpose::Elements => {
             text.push_str(task.word)?;
             text.push_str(")' ;;\n")
         }

@@ -15,6 +15,15 @@ macro_rules! text {
     };
 }
 
+/// Elements of GS1.
+pub(crate) static ELEMENTS: Task = Task {
+    word: "gs1",
+    title: "goqlanis gs1",
+    about: "Draws the symbol of elements of GS1, behind FNC1 in first position",
+    purpose: Purpose::Elements,
+    options: &[],
+};
+
 /// A wireless network.
 pub(crate) static WIFI: Task = Task {
     word: "wifi",

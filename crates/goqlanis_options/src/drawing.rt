@@ -176,4 +176,6 @@ pub const EXAMPLES: &str = "Examples:
   goqlanis wifi --ssid Guests --password \"a;b\"
       draws the symbol that joins a network; so do mecard, vcard, payment, bill, mail,
       place, tel, sms, otp and event for what they name, and goqlanis wifi --help says more
+  goqlanis gs1 -o label.png \"(01)09521234543213(17)271231(10)ABC123\"
+      draws a label of GS1
 ";

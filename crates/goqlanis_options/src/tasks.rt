@@ -1,6 +1,8 @@
 //! What the program can be asked for.
 
-use crate::contents::{BILL, EVENT, MAIL, MECARD, OTP, PAYMENT, PLACE, SMS, TEL, VCARD, WIFI};
+use crate::contents::{
+    BILL, ELEMENTS, EVENT, MAIL, MECARD, OTP, PAYMENT, PLACE, SMS, TEL, VCARD, WIFI,
+};
 use crate::drawing::DRAWING;
 use crate::entries::Entry;
 use crate::reading::READING;
@@ -42,6 +44,8 @@ pub enum Purpose {
     Read,
     /// The text of fields is drawn, which options give.
     Content(Kind),
+    /// Elements of GS1 are drawn.
+    Elements,
 }
 
 /// What stands on the command line beside options.
@@ -65,9 +69,10 @@ pub struct Task {
 }
 
 /// What words ask for, in the order of the manual.
-pub(crate) fn worded_tasks() -> [&'static Task; 12] {
+pub(crate) fn worded_tasks() -> [&'static Task; 13] {
     [
         &READING, &WIFI, &MECARD, &VCARD, &PAYMENT, &BILL, &MAIL, &PLACE, &TEL, &SMS, &OTP, &EVENT,
+        &ELEMENTS,
     ]
 }
 
@@ -98,6 +103,10 @@ impl Task {
                 name: "PICTURE",
                 help: "A PBM file, a PGM file of bytes, or half blocks; standard input where there is none",
             }),
+            Purpose::Elements => Some(Operand {
+                name: "ELEMENTS",
+                help: "Each identifier in round brackets, and behind it its value, in which a backslash stands before an opening bracket",
+            }),
             Purpose::Content(_) => None,
         }
     }
@@ -116,11 +125,25 @@ impl Task {
         Ok(all)
     }
 
-    // Whether an option of drawing is beside its own: of a text none that gives the data, and where
-    // the format says the level none that says it.
+    /// The options among these that words of a command line may name. To read these words no others
+    /// need to be known.
+    pub fn named_options(
+        &self,
+        alloc: Global,
+        words: &[String],
+    ) -> Result<Vec<&'static Entry>, AllocError> {
+        let mut named = self.all_options(alloc)?;
+        named.retain(|entry| words.iter().any(|word| entry.is_named_by(word.as_bytes())));
+        Ok(named)
+    }
+
+    // Whether an option of drawing is beside its own: none that gives the data, where the format says
+    // the level none that says it, and of elements none that goes with texts alone.
     fn goes_with(&self, option: &str) -> bool {
-        let Purpose::Content(kind) = self.purpose else {
-            return false;
+        let (is_text, has_level) = match self.purpose {
+            Purpose::Draw | Purpose::Read => return false,
+            Purpose::Content(kind) => (true, !matches!(kind, Kind::Payment | Kind::Bill)),
+            Purpose::Elements => (false, true),
         };
         match option {
             "input"
@@ -131,9 +154,8 @@ impl Task {
             | "completions"
             | "manual"
             | "release" => false,
-            "level" | "version" | "least-version" | "micro" | "boost" | "eci" => {
-                !matches!(kind, Kind::Payment | Kind::Bill)
-            }
+            "level" | "version" | "least-version" => has_level,
+            "micro" | "boost" | "eci" => has_level && is_text,
             _ => true,
         }
     }

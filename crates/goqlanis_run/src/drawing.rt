@@ -4,12 +4,16 @@ use crate::asked::{Asked, Target, Writing};
 use crate::failure::{Failure, refused};
 use crate::segments::{Pieces, characters_of};
 use crate::streams::{print, write_file};
+use goqlanis_contents::Elements;
 use goqlanis_draw::{
-    Request, draw, draw_segments, manner_of, refusal_text, segments_refusal_text, unwritable,
+    Request, draw, draw_elements, draw_segments, elements_refusal_text, manner_of, refusal_text,
+    segments_refusal_text, unwritable,
 };
 use goqlanis_options::Given;
 use qrcode::bits::Manner;
 use qrcode::types::QrError;
+use qrcode_gs1::errors::Gs1Error;
+use qrcode_gs1_symbol::errors::SymbolError;
 use std::alloc::{AllocError, Global};
 use std::io::IsTerminal;
 use std::process::ExitCode;
@@ -60,6 +64,27 @@ pub(crate) fn segments_drawing(
             let text = segments_refusal_text(alloc, request, error)?;
             Err(Failure::Refused(text))
         }
+    }
+}
+
+/// The drawing of elements of GS1, of a text that has them.
+pub(crate) fn elements_drawing(
+    alloc: Global,
+    request: &Request<'_>,
+    text: &str,
+) -> Result<Vec<u8>, Failure> {
+    let read = Elements::read(alloc, text)?;
+    let elements = read.elements(alloc)?;
+    match draw_elements(alloc, request, &elements) {
+        Ok(drawing) => Ok(drawing),
+        Err(SymbolError::Elements(Gs1Error::Refused(index, cause))) => {
+            Err(Failure::Refused(read.refusal(alloc, index, cause)?))
+        }
+        Err(SymbolError::Symbol(QrError::DataTooLong)) => {
+            let text = elements_refusal_text(alloc, request, &elements)?;
+            Err(Failure::Refused(text))
+        }
+        Err(SymbolError::Elements(_) | SymbolError::Symbol(_)) => Err(Failure::OutOfMemory),
     }
 }
 

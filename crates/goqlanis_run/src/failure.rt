@@ -1,5 +1,6 @@
 //! Why the program does not do what it is asked.
 
+use goqlanis_contents::Refusal;
 use std::alloc::{AllocError, AllocFailed, Global};
 use std::process::ExitCode;
 use thiserror::Error;
@@ -30,6 +31,15 @@ impl From<AllocError> for Failure {
 impl<T: Drop> From<AllocFailed<T>> for Failure {
     fn from(_error: AllocFailed<T>) -> Failure {
         Failure::OutOfMemory
+    }
+}
+
+impl From<Refusal> for Failure {
+    fn from(refusal: Refusal) -> Failure {
+        match refusal {
+            Refusal::Wrong(text) => Failure::Refused(text),
+            Refusal::OutOfMemory => Failure::OutOfMemory,
+        }
     }
 }
 

@@ -1,12 +1,12 @@
 //! What the command line asks for, done.
 
 use crate::asked::{Asked, Source, asked_for};
-use crate::drawing::{draw_one, segments_drawing, write_drawing};
+use crate::drawing::{draw_one, elements_drawing, segments_drawing, write_drawing};
 use crate::failure::{Failure, refused};
 use crate::lines::draw_lines;
 use crate::reading::read;
 use crate::streams::{has_colours, print, read_file, read_standard_input};
-use goqlanis_contents::{Refusal, text_of};
+use goqlanis_contents::text_of;
 use goqlanis_options::{Given, Kind, Purpose, Task, completions_of, manual_page, task_of};
 use qrcode_programs::Fault;
 use std::process::ExitCode;
@@ -44,6 +44,7 @@ pub fn obey(rt: &HostRuntime, task: &Task, given: &Given<'_>) -> Result<ExitCode
         Purpose::Draw => draw_data(rt, given),
         Purpose::Read => read(rt, given),
         Purpose::Content(kind) => draw_content(rt, kind, given),
+        Purpose::Elements => draw_gs1(rt, given),
     }
 }
 
@@ -76,11 +77,16 @@ fn draw_data(rt: &HostRuntime, given: &Given<'_>) -> Result<ExitCode, Failure> {
 fn draw_content(rt: &HostRuntime, kind: Kind, given: &Given<'_>) -> Result<ExitCode, Failure> {
     let alloc = rt.alloc();
     let asked = asked_for(alloc, given, has_colours(rt))?;
-    match text_of(alloc, kind, given) {
-        Ok(text) => draw_one(rt, &asked, text.as_bytes(), None),
-        Err(Refusal::Wrong(text)) => Err(Failure::Refused(text)),
-        Err(Refusal::OutOfMemory) => Err(Failure::OutOfMemory),
-    }
+    let text = text_of(alloc, kind, given)?;
+    draw_one(rt, &asked, text.as_bytes(), None)
+}
+
+// Draws elements of GS1.
+fn draw_gs1(rt: &HostRuntime, given: &Given<'_>) -> Result<ExitCode, Failure> {
+    let alloc = rt.alloc();
+    let asked = asked_for(alloc, given, has_colours(rt))?;
+    let drawing = elements_drawing(alloc, &asked.request, given.text("ELEMENTS"))?;
+    write_drawing(rt, &asked, &drawing, None)
 }
 
 // The data that is asked about.
