@@ -16,6 +16,11 @@ fn main(rt: HostRuntime) -> ExitCode {
 fn run(rt: &HostRuntime) -> Result<ExitCode, Failure> {
     let alloc = rt.alloc();
     let (task, words) = words(rt)?;
+    let named = task.named_options(alloc, &words)?;
+    if let Ok(matches) = command_of(alloc, task, &named)?.try_get_matches_from(&words) {
+        return obey(rt, task, &given(alloc, task, &named, &matches)?);
+    }
+    // (what is wrong is said by all options)
     let options = task.all_options(alloc)?;
     match command_of(alloc, task, &options)?.try_get_matches_from(&words) {
         Ok(matches) => obey(rt, task, &given(alloc, task, &options, &matches)?),

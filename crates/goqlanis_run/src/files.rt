@@ -16,30 +16,27 @@ pub(crate) fn write_whole<R: Files + AllocGlobal>(
     if path.starts_with("/dev/") || path.starts_with("/proc/") {
         return write_straight(rt, path, bytes);
     }
-    match fs::metadata(rt, path) {
-        Ok(old) if old.is_file() => replace_old(rt, path, old.permissions(), bytes),
+    match fs::symlink_metadata(rt, path) {
+        Ok(old) if old.is_file() => replace(rt, path, Some(old.permissions()), bytes),
+        Ok(old) if old.is_symlink() => write_linked(rt, path, bytes),
         Ok(_) => write_straight(rt, path, bytes),
-        // (a link to nothing is written straight, which makes what it names)
-        Err(error) if error.kind() == ErrorKind::NotFound => {
-            if fs::symlink_metadata(rt, path).is_ok() {
-                write_straight(rt, path, bytes)
-            } else {
-                replace(rt, path, None, bytes)
-            }
-        }
+        Err(error) if error.kind() == ErrorKind::NotFound => replace(rt, path, None, bytes),
         Err(error) => Err(error),
     }
 }
 
-// Puts a new file into the place of an old one, or of what a link names.
-fn replace_old<R: Files + AllocGlobal>(
-    rt: &R,
-    path: &str,
-    permissions: Permissions,
-    bytes: &[u8],
-) -> io::Result<()> {
-    let place = fs::canonicalize(rt, path)?;
-    replace(rt, place.as_path().as_str(), Some(permissions), bytes)
+// Writes what a link names, as that is written by its own name. (A link to nothing is written straight,
+// which makes what it names.)
+fn write_linked<R: Files + AllocGlobal>(rt: &R, link: &str, bytes: &[u8]) -> io::Result<()> {
+    match fs::metadata(rt, link) {
+        Ok(old) if old.is_file() => {
+            let place = fs::canonicalize(rt, link)?;
+            replace(rt, place.as_path().as_str(), Some(old.permissions()), bytes)
+        }
+        Ok(_) => write_straight(rt, link, bytes),
+        Err(error) if error.kind() == ErrorKind::NotFound => write_straight(rt, link, bytes),
+        Err(error) => Err(error),
+    }
 }
 
 // Writes what is no regular file.
