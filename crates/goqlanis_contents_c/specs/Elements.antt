@@ -21,9 +21,16 @@ items_of parts = map item_of parts
 abbrev pub IsText : Part → Type 0
 IsText p = IsUtf8 p.identifier.now × IsUtf8 p.value.now
 
--- the element at a place is not UTF-8
-abbrev pub IsNoText : List Part → ℕ → Type 0
-IsNoText parts place = (p : Part) × ((slice_get parts place ≡ Some p) × (¬ IsText p))
+-- so many elements are UTF-8
+abbrev pub AreTexts : List Part → ℕ → Type 0
+AreTexts parts count = (i : ℕ) → i < count → (p : Part) → slice_get parts i ≡ Some p → IsText p
+
+-- the element at a place is the first that is not UTF-8
+pub record IsFirstNoText (parts : List Part) (place : ℕ) : Type 0 where
+  pub part : Part
+  pub at : slice_get parts place ≡ Some part
+  pub before : AreTexts parts place
+  pub wrong : ¬ IsText part
 
 -- the string of elements, none of which is refused; it is read as exactly these
 pub record IsString (parts : List Part) (bytes : List ℕ) : Type 0 where
@@ -40,8 +47,9 @@ pub record IsStringIn (parts : List Part) (old new : List ℕ) (count : ℕ) : T
 
 -- why elements have no string in a buffer of so much room
 abbrev pub IsElementsCause : List Part → ℕ → Refusal → Type 0
-IsElementsCause parts room (NotText place) = IsNoText parts place
-IsElementsCause parts room (NotElement place cause) = refusal_from RULES 0 (items_of parts) ≡ Some (Refused place cause)
+IsElementsCause parts room (NotText place) = IsFirstNoText parts place
+IsElementsCause parts room (NotElement place cause) =
+    AreTexts parts (length parts) × (refusal_from RULES 0 (items_of parts) ≡ Some (Refused place cause))
 IsElementsCause parts room SmallBuffer = (bytes : List ℕ) × (IsString parts bytes × (room < length bytes))
 IsElementsCause parts room OutOfMemory = ⊤
 IsElementsCause parts room refusal = ⊥

@@ -1,8 +1,8 @@
 //! Elements of GS1, in a buffer.
 
-ghost use Rattle.std.specs.Prelude.{◌≡◌, ◌≢◌, ◌⊎◌, ℕ, length, map, IfOk, IfErr, OnErr, IfSome, IfNone};
+ghost use Rattle.std.specs.Prelude.{◌≡◌, ◌≢◌, ◌⊎◌, ℕ, length, map, IfOk, IfErr, OnOk, OnErr, OnSome, IfSome, IfNone};
 ghost use Rattle.qrcode_gs1.specs.Items.{item};
-ghost use Rattle.goqlanis_contents_c.specs.Elements.{item_of, items_of, IsText, IsNoText, IsString, IsStringIn, IsElementsCause, AreElementsRefused};
+ghost use Rattle.goqlanis_contents_c.specs.Elements.{item_of, items_of, IsText, AreTexts, IsString, IsStringIn, IsElementsCause, AreElementsRefused};
 ghost use Rattle.goqlanis_contents_c.specs.declared.answers.Refusal.TheVariants.{NotText, OutOfMemory};
 
 use crate::answers::Refusal;
@@ -89,6 +89,7 @@ fn string_of(alloc: Global, parts: &[Part<'_>]) -> Result<Vec<u8>, Refusal>
 // The elements, where all are UTF-8.
 fn elements_of<'a>(alloc: Global, parts: &[Part<'a>]) -> Result<Vec<Element<'a>>, Refusal>
     ensures value { IfOk result (λ elements. map item elements.items ≡ items_of parts.now) }
+    ensures texts { OnOk result (AreTexts parts.now (length parts.now)) }
     ensures causes { (room : ℕ) → IfErr result (IsElementsCause parts.now room) }
 {
     let mut elements = Vec::new(alloc);
@@ -106,6 +107,7 @@ fn elements_of<'a>(alloc: Global, parts: &[Part<'a>]) -> Result<Vec<Element<'a>>
 // An element, where it is UTF-8.
 fn element_of<'a>(part: &Part<'a>) -> Option<Element<'a>>
     ensures value { IfSome result (λ element. item element ≡ item_of part.now) }
+    ensures text { OnSome result (IsText part.now) }
     ensures none { IfNone result (¬ IsText part.now) }
 {
     match (str::from_utf8(part.identifier), str::from_utf8(part.value)) {
