@@ -1,5 +1,5 @@
 -- What is read of a picture.
-use Rattle.std.specs.Prelude.{◌≡◌, ℕ, Bool, false, List, if◌then◌else◌}
+use Rattle.std.specs.Prelude.{◌≡◌, ℕ, false, List, if◌then◌else◌}
 use Rattle.qrcode_render.specs.Bitmap.{Bitmap}
 use Rattle.qrcode_scan.specs.Files.{IsSeenIn}
 use Rattle.qrcode_scan.specs.Squares.{has_dark_edge, inverted, IsSquareIn}
