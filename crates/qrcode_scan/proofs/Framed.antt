@@ -11,7 +11,7 @@ use Rattle.qrcode_types.specs.declared.types.Color.TheVariants.{Light, Dark}
 use Rattle.qrcode_render.specs.Bitmap.{Bitmap}
 use Rattle.qrcode_render.specs.Layout.{Layout, layout, pixels_across, pixels_down}
 use Rattle.qrcode_render.specs.Picture.{picture, is_dark_pixel}
-use Rattle.qrcode_scan.specs.Squares.{mark_at, sampled, IsSquareIn, IsFramedIn}
+use Rattle.qrcode_scan.specs.Squares.{IsFramedIn, IsRowOf, IsSquareIn, mark_at, sampled}
 
 -- a pixel of a picture
 pub pixel_of : (at : Layout) (s : List Color) (k : ℕ) → k < pixels_across at * pixels_down at
@@ -90,6 +90,25 @@ seen_pixel b at s x y is left top =
     let inside : y * w + x < w * pixels_down at = mul-add-lt y w x (pixels_down at) top left in
     ap (λ (p : Bitmap). get_or p.marks (y * p.across + x) false) is ∙ pixel_of at s (y * w + x) inside
     ∙ ap₂ (λ (i j : ℕ). is_dark_pixel at s i j) (mod-mul-add y w x left) (div-mul-add y w x left)
+
+-- a row of pixels that are a picture
+pub row_shown : (b : Bitmap) (at : Layout) (s : List Color) (y : ℕ) → b ≡ picture at s → y < pixels_down at → IsRowOf b.marks at s y
+row_shown b at s y is top =
+    let across : b.across ≡ pixels_across at = ap (λ (p : Bitmap). p.across) is in
+    λ x left. ap (λ w. get_or b.marks (y * w + x) false) (sym across) ∙ seen_pixel b at s x y is left top
+
+-- a product of numbers that is not 0
+some_width : (n w k : ℕ) → k < n * w → 0 < w
+some_width n zero k inside = omega (arith, inside)
+some_width n (suc w) k inside = omega arith
+
+-- the pixels of rows that are those of a picture
+pub rows_shown : (marks : List Bool) (at : Layout) (s : List Color) (n k : ℕ) → ((y : ℕ) → y < n → IsRowOf marks at s y) → k < n * pixels_across at
+    → get_or marks k false ≡ is_dark_pixel at s (k % pixels_across at) (k / pixels_across at)
+rows_shown marks at s n k rows inside =
+    let w = pixels_across at in
+    let some = some_width n w k inside in
+    ap (λ i. get_or marks i false) (sym (div-add-mod' k w)) ∙ rows (k / w) (div_below k w n some (omega (arith, inside))) (k % w) (mod_below k w some)
 
 -- dark where the test of a colour holds is that colour
 color_of_is_dark : (c : Color) → color_of (is_dark c) ≡ c

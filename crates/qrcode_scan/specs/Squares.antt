@@ -5,8 +5,8 @@ use Rattle.qrcode_types.specs.Colors.{is_dark, color_of}
 use Rattle.qrcode_types.specs.declared.types.Color.{Color}
 use Rattle.qrcode_types.specs.declared.types.Color.TheVariants.{Light}
 use Rattle.qrcode_render.specs.Bitmap.{Bitmap}
-use Rattle.qrcode_render.specs.Layout.{layout}
-use Rattle.qrcode_render.specs.Picture.{picture}
+use Rattle.qrcode_render.specs.Layout.{Layout, layout, pixels_across}
+use Rattle.qrcode_render.specs.Picture.{picture, is_dark_pixel}
 
 -- the pixels with dark and light exchanged
 abbrev pub inverted : Bitmap → Bitmap
@@ -24,6 +24,11 @@ mark_at b x y = slice_index_or b.marks (y * b.across + x) false
 abbrev pub sampled : Bitmap → ℕ → ℕ → ℕ → List Color
 sampled b count margin scale =
     map (λ i. color_of (mark_at b (margin + i % count * scale) (margin + i / count * scale))) (range_with_len 0 (count * count))
+
+-- a row of marks is that of the picture of modules
+abbrev pub IsRowOf : List Bool → Layout → List Color → ℕ → Type 0
+IsRowOf marks at modules y =
+    (x : ℕ) → x < pixels_across at → slice_index_or marks (y * pixels_across at + x) false ≡ is_dark_pixel at modules x y
 
 -- the pixels are the picture of a square of so many modules a side inside a margin of so many light ones, each module of so many pixels a side
 pub record IsSquareIn (b : Bitmap) (count zone scale : ℕ) (modules : List Color) : Type 0 where

@@ -1,11 +1,11 @@
 //! Squares of modules in pixels.
 
-ghost use Rattle.std.specs.Prelude.{◌≡◌, ◌*◌, ◌<◌, ◌≤◌, ℕ, List, false, true, length, slice_index_or, IsTrue, IsFalse, IfOk, IfSome, IfNone};
+ghost use Rattle.std.specs.Prelude.{◌≡◌, ◌+◌, ◌*◌, ◌<◌, ◌≤◌, ℕ, List, false, true, length, slice_index_or, IsTrue, IsFalse, IfOk, IfSome, IfNone};
 ghost use Rattle.qrcode_render.specs.Layout.{layout};
 ghost use Rattle.qrcode_render.specs.Picture.{picture, is_dark_pixel};
 ghost use Rattle.qrcode_types.specs.Colors.{color_of};
 ghost use Rattle.qrcode_types.specs.declared.types.Color.{Color};
-ghost use Rattle.qrcode_scan.specs.Squares.{IsFramedIn, IsSquareIn, mark_at, sampled};
+ghost use Rattle.qrcode_scan.specs.Squares.{IsFramedIn, IsRowOf, IsSquareIn, mark_at, sampled};
 
 use crate::pixels::Pixels;
 use qrcode_types::types::Color;
@@ -185,8 +185,52 @@ fn is_shown(pixels: &Pixels, square: &Square) -> bool
         return false;
     }
     let marks = pixels.marks();
-    for i in 0..marks.len() {
-        if marks[i] != is_dark_pixel(square, i % side, i / side) {
+    for y in 0..side {
+        if !is_row_shown(marks, square, side, y) {
+            return false;
+        }
+    }
+    true
+}
+
+// Whether a row of pixels is that of the picture of a square, where those above it are: the one above,
+// but where a row of modules begins.
+fn is_row_shown(marks: &[bool], square: &Square, side: usize, y: usize) -> bool
+    requires scale { 1 ≤ square.now.scale }
+    requires at_most { (square.now.count ≤ 177) × (square.now.zone ≤ 65535) }
+    requires side { side ≡ (square.now.count + 2 * square.now.zone) * square.now.scale }
+    requires fits { side ≤ 65535 }
+    requires inside { y < side }
+    requires all { length marks.now ≡ side * side }
+    requires above { (k : ℕ) → k < y → IsRowOf marks.now (layout square.now.count square.now.zone
+        square.now.scale square.now.scale) square.now.modules.items k }
+    ensures value { IsTrue result → IsRowOf marks.now (layout square.now.count square.now.zone
+        square.now.scale square.now.scale) square.now.modules.items y }
+    ensures other { IsFalse result → ¬ IsRowOf marks.now (layout square.now.count square.now.zone
+        square.now.scale square.now.scale) square.now.modules.items y }
+{
+    let start = y * side;
+    let row = &marks[start..start + side];
+    if y % square.scale == 0 {
+        is_line_shown(row, square, y)
+    } else {
+        row == &marks[start - side..start]
+    }
+}
+
+// Whether marks are a row of the picture of a square.
+fn is_line_shown(row: &[bool], square: &Square, y: usize) -> bool
+    requires scale { 1 ≤ square.now.scale }
+    requires at_most { (square.now.count ≤ 177) × (square.now.zone ≤ 65535) }
+    ensures value { IsTrue result → (k : ℕ) → k < length row.now → slice_index_or row.now k false
+        ≡ is_dark_pixel (layout square.now.count square.now.zone square.now.scale
+        square.now.scale) square.now.modules.items k y }
+    ensures other { IsFalse result → ¬ ((k : ℕ) → k < length row.now
+        → slice_index_or row.now k false ≡ is_dark_pixel (layout square.now.count square.now.zone
+        square.now.scale square.now.scale) square.now.modules.items k y) }
+{
+    for x in 0..row.len() {
+        if row[x] != is_dark_pixel(square, x, y) {
             return false;
         }
     }

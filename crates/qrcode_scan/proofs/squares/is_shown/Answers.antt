@@ -1,29 +1,32 @@
-use Rattle.std.proofs.Common.{◌≡◌, arith, below_more, sym, ap, ◌∙◌, rules, false, get_or, length}
-use Rattle.qrcode_render.specs.Layout.{layout}
-use Rattle.qrcode_scan.proofs.Shown.{shown_by_all, shown_at}
+use Rattle.std.proofs.Common.{◌≡◌, ◌*◌, ◌<◌, ℕ, length, get_or, false, below_more, arith, sym, subst, ap, ap₂, ◌∙◌}
+use Rattle.qrcode_render.specs.Layout.{layout, pixels_across}
+use Rattle.qrcode_scan.specs.Squares.{IsRowOf}
+use Rattle.qrcode_scan.proofs.Framed.{row_shown, rows_shown}
+use Rattle.qrcode_scan.proofs.Shown.{shown_by_all}
 use Rattle.qrcode_scan.proofs.squares.is_shown.Goals as goal
 
-pub loop-i-preserved : goal.loop-i-preserved
-loop-i-preserved c =
-    let same : get_or c.marks-marks.result.now c.loop-i.i false ≡ c.is_dark_pixel.result = search rules in
-    below_more _ _ c.loop-i.invariant (same ∙ c.is_dark_pixel.ensures)
+pub loop-y-preserved : goal.loop-y-preserved
+loop-y-preserved c = below_more _ _ c.loop-y.invariant (c.is_row_shown.ensures.value c.if-not-is_row_shown.false)
 
-pub returns-then-marks-i-clause-other : goal.returns-then-marks-i-clause-other
-returns-then-marks-i-clause-other c =
-    λ _ is.
+pub returns-then-not-is_row_shown-clause-other : goal.returns-then-not-is_row_shown-clause-other
+returns-then-not-is_row_shown-clause-other c =
     let q = c.args.square.now in
     let p = c.args.pixels.now in
-    let marks = c.marks-marks.ensures.value in
     let at = layout q.count q.zone q.scale q.scale in
-    let pixel = ap (λ m. get_or m c.loop-i.i false) marks ∙ shown_at p at q.modules.items c.loop-i.i is (omega (arith, ap length marks)) in
-    let dark = c.is_dark_pixel.ensures in
-    search (rules, pixel, dark)
+    λ _ is. c.is_row_shown.ensures.other c.if-not-is_row_shown.true
+    (subst (λ m. IsRowOf m at q.modules.items c.loop-y.y) (sym c.marks-marks.ensures.value) (row_shown p at q.modules.items c.loop-y.y is c.loop-y-test.true))
 
 pub returns-clause-value : goal.returns-clause-value
 returns-clause-value c =
     let q = c.args.square.now in
     let p = c.args.pixels.now in
+    let at = layout q.count q.zone q.scale q.scale in
+    let w = pixels_across at in
     let marks = c.marks-marks.ensures.value in
-    λ _. shown_by_all p (layout q.count q.zone q.scale q.scale) q.modules.items (sym c.sides-across.ensures.across ∙ c.if-across-side.false) (sym c.sides-across.ensures.down ∙ c.if-down-side.false)
-    (ap length (sym marks) ∙ c.marks-marks.ensures.all)
-    (λ k inside. ap (λ m. get_or m k false) (sym marks) ∙ c.loop-i.invariant k (omega (arith, inside, ap length marks)))
+    let across : p.across ≡ w = sym c.sides-across.ensures.across ∙ c.if-across-side.false in
+    let down : p.down ≡ w = sym c.sides-across.ensures.down ∙ c.if-down-side.false in
+    let all : length p.marks ≡ p.across * p.down = ap length (sym marks) ∙ c.marks-marks.ensures.all in
+    let square : length p.marks ≡ w * w = all ∙ ap₂ (λ (x y : ℕ). x * y) across down in
+    λ _. shown_by_all p at q.modules.items across down all
+    (λ k inside. ap (λ m. get_or m k false) (sym marks)
+    ∙ rows_shown c.marks-marks.result.now at q.modules.items w k (λ y top. c.loop-y.invariant y (omega (arith, top, c.loop-y-test.false))) (omega (arith, inside, square)))
