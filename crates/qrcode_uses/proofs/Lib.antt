@@ -1,4 +1,3 @@
-pub mod Bars
 pub mod Charsets
 pub mod Payments
 pub mod Tickets

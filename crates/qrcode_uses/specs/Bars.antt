@@ -1,5 +1,5 @@
 -- The bars of a label.
-use Rattle.std.specs.Prelude.{◌≡◌, ℕ, ◌+◌, ◌==◌, ◌&&◌, Bool, List, [], ◌∷◌, if◌then◌else◌}
+use Rattle.std.specs.Prelude.{◌≡◌, ℕ, ◌+◌, ◌==◌, ◌&&◌, Bool, List, [], ◌∷◌, reverse, if◌then◌else◌}
 use Rattle.qrcode_types.specs.declared.types.Version.{Version}
 use Rattle.qrcode_types.specs.declared.types.EcLevel.TheVariants.{M}
 use Rattle.qrcode_types.specs.declared.types.Color.{Color}
@@ -17,16 +17,15 @@ goes_on a b = a.top == b.top && a.height == b.height && a.left + a.width == b.le
 abbrev pub bar : ℕ → ℕ → ℕ → ℕ → Bar
 bar left top width height = record { left = left; top = top; width = width; height = height }
 
--- bars and one more behind them; where it goes on from the last one, that one is wider instead
+-- bars, the last one first, and one more before them; where it goes on from the last one, that one is wider instead
 abbrev pub with_bar : ℕ → ℕ → ℕ → ℕ → List Bar → List Bar
 with_bar left top width height [] = bar left top width height ∷ []
-with_bar left top width height (a ∷ []) =
-    if goes_on a (bar left top width height) then bar a.left a.top (a.width + width) a.height ∷ [] else a ∷ bar left top width height ∷ []
-with_bar left top width height (a ∷ b ∷ bars) = a ∷ with_bar left top width height (b ∷ bars)
+with_bar left top width height (a ∷ bars) =
+    if goes_on a (bar left top width height) then bar a.left a.top (a.width + width) a.height ∷ bars else bar left top width height ∷ a ∷ bars
 
 -- a bar for each run of dark modules of a row
 abbrev pub bars_of : Layout → List Color → List Bar
-bars_of at content = drawn with_bar at content []
+bars_of at content = reverse (drawn with_bar at content [])
 
 -- the bars of the symbol that is chosen for data at level M, in modules of 4 dots
 pub record IsLabel (bytes : List ℕ) (bars : List Bar) : Type 0 where

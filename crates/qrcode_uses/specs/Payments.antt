@@ -1,5 +1,5 @@
 -- The text and the picture of a payment.
-use Rattle.std.specs.Prelude.{◌≡◌, ℕ, ◌+◌, ◌*◌, ◌/◌, ◌%◌, ◌≤◌, pos, List, ◌++◌, length, codes, decimal}
+use Rattle.std.specs.Prelude.{◌≡◌, ℕ, ◌/◌, ◌%◌, ◌≤◌, pos, List, ◌++◌, length, codes, decimal}
 use Rattle.qrcode_types.specs.declared.types.Version.{Version}
 use Rattle.qrcode_types.specs.declared.types.Version.TheVariants.{Normal}
 use Rattle.qrcode_types.specs.declared.types.EcLevel.TheVariants.{M}

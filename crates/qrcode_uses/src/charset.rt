@@ -34,7 +34,7 @@ pub fn greek_bits(alloc: Global, text: &[u8]) -> QrResult<Bits>
     ensures version { IfOk result (λ bits. bits.version ≡ Normal (pos 1)) }
     ensures bits { IfOk result (λ bits. bits.bits ≡ greek_bits text.now) }
     ensures accepts { length text.now ≤ 16 → IsOkUnless result OutOfMemory }
-    ensures full { IfOk result (λ bits. length bits.bits ≡ capacity (Normal (pos 1)) L) }
+    ensures full { IfOk result (λ bits. length bits.bits ≡ capacity bits.version L) }
 {
     let mut bits = Bits::new(alloc, Version::Normal(1));
     bits.push_eci_designator(GREEK)?;

@@ -1,7 +1,7 @@
 //! A canvas of one's own: the bars that a label printer fills.
 
 ghost use Rattle.std.proofs.Common.{rules};
-ghost use Rattle.std.specs.Prelude.{◌≡◌, ◌+◌, ◌^◌, ◌<◌, ◌==◌, ◌&&◌, List, [], IfOk, IfErr, OnOk, IsOkUnless};
+ghost use Rattle.std.specs.Prelude.{◌≡◌, ◌+◌, ◌^◌, ◌<◌, ◌==◌, ◌&&◌, List, [], reverse, IfOk, IfErr, OnOk, IsOkUnless};
 ghost use Rattle.qrcode_types.specs.declared.types.EcLevel.TheVariants.{M};
 ghost use Rattle.qrcode_types.specs.declared.types.QrError.TheVariants.{OutOfMemory};
 ghost use Rattle.qrcode_bits.specs.Choice.{IsRefused};
@@ -87,7 +87,7 @@ pub struct Label {
 }
 
 impl Canvas for Label {
-    ghost use Rattle.std.specs.Prelude.{◌≡◌, List, []};
+    ghost use Rattle.std.specs.Prelude.{◌≡◌, List, [], reverse};
     ghost use Rattle.qrcode_render.specs.Setting.{layout_of};
     ghost use Rattle.qrcode_uses.specs.Bars.{with_bar, bars_of};
     ghost use Rattle.qrcode_uses.specs.declared.label.Bar.{Bar};
@@ -98,7 +98,7 @@ impl Canvas for Label {
 
     ghost Drawing = { List Bar };
 
-    ghost shown = { λ label. label.bars.items };
+    ghost shown = { λ label. reverse label.bars.items };
 
     ghost across = { λ label. label.width };
 
@@ -110,7 +110,7 @@ impl Canvas for Label {
 
     ghost rect_step = { with_bar };
 
-    ghost is_end = { λ bars image. image.items ≡ bars };
+    ghost is_end = { λ bars image. image.items ≡ reverse bars };
 
     ghost is_picture = { λ s image. image.items ≡ bars_of (layout_of s) s.content };
 
@@ -152,8 +152,8 @@ impl Canvas for Label {
 // Appends a bar, or widens the last one where the bar goes on from it.
 fn push_bar(bars: &mut Vec<Bar>, bar: Bar) -> QrResult<()>
     requires { bar.left + bar.width < 2 ^ 32 }
-    ensures draws { OnOk result (bars.new.items
-        ≡ with_bar bar.left bar.top bar.width bar.height bars.old.items) }
+    ensures draws { OnOk result (reverse bars.new.items
+        ≡ with_bar bar.left bar.top bar.width bar.height (reverse bars.old.items)) }
     ensures memory { IsOkUnless result OutOfMemory }
 {
     match bars.pop() {

@@ -1,22 +1,13 @@
-use Rattle.std.proofs.Common.{◌≡◌, ℕ, ◌+◌, ◌*◌, ◌<◌, ◌≤◌, ◌++◌, List, length, get_or, true, refl, sym, ap, ap₂, subst, ◌∙◌, arith, rules, pos}
-use Rattle.std.specs.Prelude.{codes}
+use Rattle.std.proofs.Common.{◌≤◌, length, arith, rules}
 use Rattle.std.proofs.lemmas.Result.{IfOk-weaker}
-use Rattle.qrcode_types.specs.Versions.{side}
-use Rattle.qrcode_types.specs.declared.types.EcLevel.TheVariants.{M}
-use Rattle.qrcode_types.specs.declared.types.Version.TheVariants.{Normal}
-use Rattle.qrcode_types.proofs.Writing.{are_bytes}
-use Rattle.qrcode_bits.specs.Choice.{Holds}
 use Rattle.qrcode_uses.specs.Payments.{IsNormalUpTo}
 use Rattle.qrcode_uses.proofs.Payments.{text_held}
 use Rattle.qrcode_uses.proofs.payment.picture_of.Goals as goal
 
-held : (text : List ℕ) → ((k : ℕ) → get_or text k 0 < 256) → length text ≤ 331 → Holds (Normal (pos 13)) M text
-held text below small = text_held text (are_bytes text below) small
-
 pub returns-in_err-code-clause-accepts : goal.returns-in_err-code-clause-accepts
 returns-in_err-code-clause-accepts c = λ small.
     let text = c.args.text.now in
-    let memory = c.in_err-code.ensures.accepts 13 (held text (λ k. omega (arith, c.type_inv.text k)) small) in
+    let memory = c.in_err-code.ensures.accepts 13 (text_held text (λ k. omega (arith, c.type_inv.text k)) small) in
     search rules
 
 pub returns-clause-picture : goal.returns-clause-picture
@@ -24,5 +15,5 @@ returns-clause-picture c =
     let code = c.in_ok-code.code in
     let text = c.args.text.now in
     let least = c.in_ok-code.ensures.symbol.least_version in
-    let small : length text ≤ 331 → IsNormalUpTo 13 code.version = λ short. (least.number, (least.is, least.least 13 (held text (λ k. omega (arith, c.type_inv.text k)) short))) in
+    let small : length text ≤ 331 → IsNormalUpTo 13 code.version = λ short. (least.number, (least.is, least.least 13 (text_held text (λ k. omega (arith, c.type_inv.text k)) short))) in
     IfOk-weaker c.as_picture.result _ _ (λ svg e. record { version = code.version; colors = code.modules; symbol = c.in_ok-code.ensures.symbol; small = small; size = c.as_picture.ensures.size; drawn = e }) c.as_picture.ensures.drawing

@@ -1,6 +1,5 @@
-use Rattle.std.proofs.Common.{◌≡◌, ◌*◌, true, false, length, rules, sym, ap, ap₂, subst, ◌∙◌, arith, pos}
+use Rattle.std.proofs.Common.{true, false, rules, sym, ap, subst, ◌∙◌, arith, pos}
 use Rattle.std.proofs.lemmas.Result.{IfOk-weaker}
-use Rattle.qrcode_types.specs.Versions.{side}
 use Rattle.qrcode_types.specs.declared.types.EcLevel.TheVariants.{L}
 use Rattle.qrcode_types.specs.declared.types.Version.TheVariants.{Micro}
 use Rattle.qrcode_types.specs.declared.types.Version.{Version}
