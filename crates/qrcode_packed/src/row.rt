@@ -1,6 +1,6 @@
 //! Rows of modules, packed into words.
 
-ghost use Rattle.std.specs.Prelude.{◌≡◌, ℕ, ◌+◌, ◌-◌, ◌*◌, ◌/◌, ◌%◌, ◌<◌, ◌≤◌, ◌^◌, bit_and, bit_or, bit_xor, count_ones};
+ghost use Rattle.std.specs.Prelude.{◌≡◌, ℕ, ◌+◌, ◌-◌, ◌*◌, ◌/◌, ◌%◌, ◌<◌, ◌≤◌, ◌^◌, ◌==◌, bit_and, bit_or, bit_xor, count_ones};
 ghost use Rattle.std.proofs.Common.{lit≤};
 
 /// A row of modules, packed into words: bit x is set where a test holds of the module in column x.
@@ -52,6 +52,10 @@ pub trait PackedRow: Copy {
     fn count_ones(self) -> u32
         ensures value { result ≡ count_ones (bits self) }
         ensures at_most { result ≤ 192 };
+
+    /// Whether no bit is set.
+    fn is_zero(self) -> bool
+        ensures { result ≡ (bits self == 0) };
 
     /// The row of three words, `low` being its first 64 bits; what goes past the room is left out.
     fn of_words(low: u64, middle: u64, high: u64) -> Self
@@ -110,6 +114,11 @@ impl PackedRow for u64 {
     }
 
     #[inline(always)]
+    fn is_zero(self) -> bool {
+        self == 0
+    }
+
+    #[inline(always)]
     fn of_words(low: u64, _middle: u64, _high: u64) -> u64 {
         low
     }
@@ -165,6 +174,11 @@ impl PackedRow for u128 {
     #[inline(always)]
     fn count_ones(self) -> u32 {
         u128::count_ones(self)
+    }
+
+    #[inline(always)]
+    fn is_zero(self) -> bool {
+        self == 0
     }
 
     #[inline(always)]
@@ -269,6 +283,11 @@ impl PackedRow for Row192 {
     #[inline(always)]
     fn count_ones(self) -> u32 {
         self.high.count_ones() + self.middle.count_ones() + self.low.count_ones()
+    }
+
+    #[inline(always)]
+    fn is_zero(self) -> bool {
+        self.low == 0 && self.middle == 0 && self.high == 0
     }
 
     #[inline(always)]

@@ -1,5 +1,6 @@
 pub mod ColumnWords
 pub mod Finders
+pub mod Inside
 pub mod LastColumn
 pub mod Lines
 pub mod Runs

@@ -1,15 +1,16 @@
 -- The words of the code, place by place.
 use Rattle.std.proofs.Common.{◌≡◌, ℕ, zero, suc, ◌+◌, ◌-◌, ◌*◌, ◌/◌, ◌^◌, ◌<◌, ◌≤◌, Bool, true, false, not, ◌&&◌, ◌||◌, refl, ap, ap₂, sym, ◌∙◌, arith, count_ones, bit_and, bit_or, bit_xor, add_assoc}
-use Rattle.std.proofs.lemmas.Nat.{xor_lt, shr_le, pow-add, pow_pos, zero_from_ones}
+use Rattle.std.proofs.lemmas.Nat.{or_lt, pow-add, pow_pos}
 use Rattle.std.proofs.Math.Nat.{mul-lt-mul_of_pos_right}
 use Rattle.std.proofs.Math.Pow.{pow_mono}
 use Rattle.std.specs.Int.Count.{ones}
 use Rattle.qrcode_packed.specs.Rows.{is_set}
-use Rattle.qrcode_packed.proofs.Places.{differ, has_and, has_or, has_xor, has_without, has_shr, has_shl, has_shl_below, has_first, has_first_above}
-use Rattle.qrcode_penalty.specs.Penalty.{sum_below, is_run, run_penalty_at, same, run_penalty, begins_run}
+use Rattle.qrcode_packed.proofs.Places.{differ, has_and, has_or, has_xor, has_without, has_shr, has_shl, has_shl_below, has_first, has_first_above, below_from_places}
+use Rattle.qrcode_penalty.specs.Penalty.{sum_below, count_if, is_run, same, run_penalty}
 use Rattle.qrcode_penalty.specs.Padding.{block_penalty_in}
 use Rattle.qrcode_penalty.proofs.Runs.{run_penalty-windows}
-use Rattle.qrcode_penalty.proofs.Sums.{run_places, weigh_places}
+use Rattle.qrcode_penalty.proofs.Sums.{count_places, weigh_places}
+use Rattle.qrcode_penalty.proofs.Inside.{three, shifted_at, inside_sum}
 
 run_test : (a b c d e : Bool) → not ((differ a b || differ b c) || (differ c d || differ d e)) ≡ (same a a && (same a b && (same a c && (same a d && (same a e && true)))))
 run_test true true true true true = refl
@@ -67,9 +68,9 @@ abbrev pub without : ℕ → ℕ → ℕ
 without a b = bit_xor a (bit_and a b)
 
 -- of no places none are left
-pub none_left : (a b : ℕ) → count_ones a ≡ 0 → count_ones (without a b) ≡ 0
+pub none_left : (a b : ℕ) → a ≡ 0 → count_ones (without a b) ≡ 0
 unfolding ones
-none_left a b h = ap (λ n. count_ones (without n b)) (zero_from_ones a h)
+none_left a b h = ap (λ n. count_ones (without n b)) h
 
 spread_at : (a k : ℕ) → not (is_set (spread a) k) ≡ is_run (is_set a) k 5
 spread_at a k = simp (has_or, has_xor, has_shr, add_assoc) (run_test (is_set a k) (is_set a (k + 1)) (is_set a (k + 2)) (is_set a (k + 3)) (is_set a (k + 4)))
@@ -84,8 +85,12 @@ without_above n b k h = has_without (2 ^ n - 1) b k ∙ ap (λ t. t && not (is_s
 abbrev pub windows : ℕ → ℕ → ℕ
 windows a n = without (2 ^ (n - 4) - 1) (spread a)
 
-abbrev pub first_windows : ℕ → ℕ → ℕ
-first_windows a n = bit_and (windows a n) (bit_or (edges a * 2 ^ 1) (2 ^ 1 - 1))
+-- the windows and the place behind each, and the same with the two places behind each
+abbrev pub two_places : ℕ → ℕ → ℕ
+two_places a n = bit_or (windows a n) (windows a n * 2 ^ 1)
+
+abbrev pub three_places : ℕ → ℕ → ℕ
+three_places a n = bit_or (windows a n) (two_places a n * 2 ^ 1)
 
 pub not_same : (a b : Bool) → differ a b ≡ not (same a b)
 not_same true true = refl
@@ -93,28 +98,24 @@ not_same true false = refl
 not_same false true = refl
 not_same false false = refl
 
-or_false : (a : Bool) → (a || false) ≡ a
-or_false true = refl
-or_false false = refl
+three_at : (a n k : ℕ) → is_set (three_places a n) k ≡ three (is_set (windows a n)) k
+three_at a n zero = shifted_at (windows a n) (two_places a n) 0
+three_at a n (suc k) =
+    shifted_at (windows a n) (two_places a n) (suc k) ∙ ap (λ t. is_set (windows a n) (suc k) || t) (shifted_at (windows a n) (windows a n) k)
 
-begins_at : (a k : ℕ) → is_set (bit_or (edges a * 2 ^ 1) (2 ^ 1 - 1)) k ≡ begins_run (is_set a) k
-begins_at a zero = has_or (edges a * 2 ^ 1) (2 ^ 1 - 1) 0 ∙ ap₂ (λ (x y : Bool). x || y) (has_shl_below (edges a) 1 0 (omega arith)) (has_first 1 0 (omega arith))
-begins_at a (suc k) =
-    let e : suc k ≡ k + 1 = omega arith in
-    let other : is_set (2 ^ 1 - 1) (suc k) ≡ false = has_first_above 1 (suc k) (omega arith) in
-    let shifted : is_set (edges a * 2 ^ 1) (suc k) ≡ is_set (edges a) k = ap (λ i. is_set (edges a * 2 ^ 1) i) e ∙ has_shl (edges a) 1 k in
-    let here : is_set (edges a) k ≡ not (same (is_set a k) (is_set a (suc k))) = has_xor a (a / 2 ^ 1) k ∙ ap (λ b. differ (is_set a k) b) (has_shr a 1 k ∙ ap (λ i. is_set a i) (sym e)) ∙ not_same (is_set a k) (is_set a (suc k)) in
-    has_or (edges a * 2 ^ 1) (2 ^ 1 - 1) (suc k) ∙ ap₂ (λ (x y : Bool). x || y) (shifted ∙ here) other ∙ or_false (not (same (is_set a k) (is_set a (suc k))))
+three_above : (a n k : ℕ) → 7 ≤ n → n - 2 ≤ k → is_set (three_places a n) k ≡ false
+three_above a n zero room h = absurd (omega (arith, room, h))
+three_above a n (suc zero) room h = absurd (omega (arith, room, h))
+three_above a n (suc (suc k)) room h =
+    let none : (j : ℕ) → k ≤ j → is_set (windows a n) j ≡ false = λ j l. without_above (n - 4) (spread a) j (omega (arith, room, h, l)) in
+    three_at a n (suc (suc k)) ∙ ap₂ (λ (x y : Bool). x || y) (none (suc (suc k)) (omega arith)) (ap₂ (λ (x y : Bool). x || y) (none (suc k) (omega arith)) (none k (omega arith)))
 
-pub runs_of : (a n : ℕ) → count_ones (windows a n) + 2 * count_ones (first_windows a n) ≡ run_penalty n (is_set a)
-unfolding run_penalty_at
-runs_of a n =
-    run_places (windows a n) (first_windows a n) (n - 4) (run_penalty_at (is_set a)) (λ k. is_run (is_set a) k 5) (begins_run (is_set a))
-    (λ k h. without_at (n - 4) (spread a) k h ∙ spread_at a k)
-    (λ k h. without_above (n - 4) (spread a) k h)
-    (λ k h. has_and (windows a n) (bit_or (edges a * 2 ^ 1) (2 ^ 1 - 1)) k ∙ ap₂ (λ (x y : Bool). x && y) (without_at (n - 4) (spread a) k h ∙ spread_at a k) (begins_at a k))
-    (λ k h. has_and (windows a n) (bit_or (edges a * 2 ^ 1) (2 ^ 1 - 1)) k ∙ ap (λ x. x && is_set (bit_or (edges a * 2 ^ 1) (2 ^ 1 - 1)) k) (without_above (n - 4) (spread a) k h))
-    (λ k h. refl)
+pub runs_of : (a n : ℕ) → 7 ≤ n → count_ones (three_places a n) ≡ run_penalty n (is_set a)
+runs_of a n room =
+    let e : n - 4 + 2 ≡ n - 2 = omega (arith, room) in
+    count_places (three_places a n) (three (is_set (windows a n))) (n - 2) (λ k h. three_at a n k) (λ k h. three_above a n k room h)
+    ∙ ap (λ m. sum_below m (λ k. count_if (three (is_set (windows a n)) k) 1)) (sym e)
+    ∙ inside_sum (is_set a) (is_set (windows a n)) (n - 4) (λ k h. without_at (n - 4) (spread a) k h ∙ spread_at a k) (λ k h. without_above (n - 4) (spread a) k h)
     ∙ sym (run_penalty-windows n (is_set a))
 
 -- the words of blocks_between
@@ -136,5 +137,15 @@ fits_up a w j room h k =
     let below : a * 2 ^ j < 2 ^ w * 2 ^ j = mul-lt-mul_of_pos_right h (pow_pos j) in
     omega (arith, below, pow-add 2 w j, pow_mono k)
 
-pub edges_room : (a w room : ℕ) → w + 3 ≤ room → a < 2 ^ w → edges a * 2 ^ 1 < 2 ^ room
-edges_room a w room k h = fits_up (edges a) w 1 room (xor_lt w a (a / 2 ^ 1) h (omega (arith, shr_le a 1))) (omega arith)
+pub windows_below : (a n : ℕ) → windows a n < 2 ^ (n - 4)
+windows_below a n = below_from_places (windows a n) (n - 4) (without_above (n - 4) (spread a))
+
+pub windows_room : (a n room : ℕ) → 7 ≤ n → n + 3 ≤ room → windows a n * 2 ^ 1 < 2 ^ room
+windows_room a n room h k = fits_up (windows a n) (n - 4) 1 room (windows_below a n) (omega (arith, h, k))
+
+pub two_room : (a n room : ℕ) → 7 ≤ n → n + 3 ≤ room → two_places a n * 2 ^ 1 < 2 ^ room
+two_room a n room h k =
+    let wider : 2 ^ (n - 4) ≤ 2 ^ (n - 3) = pow_mono (omega (arith, h)) in
+    let low : windows a n < 2 ^ (n - 3) = omega (arith, windows_below a n, wider) in
+    let up : windows a n * 2 ^ 1 < 2 ^ (n - 3) = fits_up (windows a n) (n - 4) 1 (n - 3) (windows_below a n) (omega (arith, h)) in
+    fits_up (two_places a n) (n - 3) 1 room (or_lt (n - 3) (windows a n) (windows a n * 2 ^ 1) low up) (omega (arith, h, k))

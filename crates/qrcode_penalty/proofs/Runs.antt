@@ -112,7 +112,7 @@ few line m h =
     (λ k l. count_none _ _ (no_cost (run_length line k) (omega (arith, run_length-le line k)))) in
     omega (arith, none, no_cost (run_length line m) (omega (arith, run_length-le line m)))
 
-is_run-same : (line : ℕ → Bool) (i : ℕ) → let s = λ (k : ℕ). same (line k) (line (suc k)) in
+pub is_run-same : (line : ℕ → Bool) (i : ℕ) → let s = λ (k : ℕ). same (line k) (line (suc k)) in
     is_run line i 5 ≡ (s (suc (suc (suc i))) && (s (suc (suc i)) && (s (suc i) && s i)))
 is_run-same line i = simp add-one (five_same (line i) (line (suc i)) (line (suc (suc i))) (line (suc (suc (suc i)))) (line (suc (suc (suc (suc i))))))
 

@@ -71,17 +71,6 @@ weigh_places c n f w inside above =
     ∙ sym (sum_times c (λ k. count_if (f k) 1) w)
     ∙ sum_same (λ k. c * count_if (f k) 1) (λ k. count_if (f k) c) w (λ k l. times_if c (f k))
 
-one_or_three : (p q : Bool) → count_if p 1 + count_if (p && q) 2 ≡ count_if p (if q then 3 else 1)
-one_or_three true true = refl
-one_or_three true false = refl
-one_or_three false q = refl
-
-pub run_places : (windows first : ℕ) (w : ℕ) (term : ℕ → ℕ) (f g : ℕ → Bool) → ((k : ℕ) → k < w → is_set windows k ≡ f k) → ((k : ℕ) → w ≤ k → is_set windows k ≡ false) → ((k : ℕ) → k < w → is_set first k ≡ (f k && g k)) → ((k : ℕ) → w ≤ k → is_set first k ≡ false) → ((k : ℕ) → k < w → count_if (f k) (if g k then 3 else 1) ≡ term k) → count_ones windows + 2 * count_ones first ≡ sum_below w term
-run_places windows first w term f g a b c d e =
-    ap₂ (λ (x y : ℕ). x + y) (count_places windows f w a b) (weigh_places 2 first (λ k. f k && g k) w c d)
-    ∙ sym (sum_plus (λ k. count_if (f k) 1) (λ k. count_if (f k && g k) 2) w)
-    ∙ sum_same (λ k. count_if (f k) 1 + count_if (f k && g k) 2) term w (λ k l. one_or_three (f k) (g k) ∙ e k l)
-
 -- a sum goes on with the next number
 pub sum_step : (f : ℕ → ℕ) (n s v : ℕ) → s ≡ sum_below n f → v ≡ f n → s + v ≡ sum_below (n + 1) f
 unfolding sum_below

@@ -133,7 +133,7 @@ fn column_finders<R: PackedRow>(square: &PackedSquare<'_, R>, y: usize) -> u32
     let dark = ends.and(square.row(y + 3));
     let light = square.row(y + 1).or(square.row(y + 5));
     let forms = dark.without(light);
-    if forms.count_ones() == 0 {
+    if forms.is_zero() {
         return 0;
     }
     let crowded = four_rows(square, y).and(four_rows(square, y + 11));

@@ -7,7 +7,7 @@ ghost use Rattle.qrcode_penalty.specs.Penalty.{run_penalty, finder_penalty, line
 use qrcode_packed::row::PackedRow;
 use qrcode_packed::square::PackedSquare;
 
-/// One for each window of five equal modules, and two more where it begins its run.
+/// As many as lie inside runs of five modules or more, neither first nor last: a run of n modules costs n - 2.
 #[inline(always)]
 pub(crate) fn run_penalty<R: PackedRow>(row: R, width: u32) -> u32
     requires at_least { 7 ≤ width }
@@ -18,9 +18,10 @@ pub(crate) fn run_penalty<R: PackedRow>(row: R, width: u32) -> u32
 {
     let edges = row.xor(row.down(1));
     let pairs = edges.or(edges.down(1));
+    // Where five equal modules begin: n - 4 times in a run of n. With the two places behind each it is n - 2.
     let windows = R::first(width - 4).without(pairs.or(pairs.down(2)));
-    let begins = windows.and(edges.up(1).or(R::first(1)));
-    windows.count_ones() + 2 * begins.count_ones()
+    let two = windows.or(windows.up(1));
+    windows.or(two.up(1)).count_ones()
 }
 
 /// 40 for each finder form with four light modules on one side.
@@ -40,7 +41,7 @@ pub(crate) fn finder_penalty<R: PackedRow>(row: R, width: u32) -> u32
     let middles = row.without(edges.or(next).down(2));
     let shapes = turns.and(turns.down(4)).and(middles);
     // Most rows of a narrow square have none.
-    if shapes.count_ones() == 0 {
+    if shapes.is_zero() {
         return 0;
     }
     // The columns with a dark module among themselves and the three before.
