@@ -1,5 +1,5 @@
 -- The runs of a line by the modules inside them: each window of five counts with the two places behind it.
-use Rattle.std.proofs.Common.{◌≡◌, ℕ, zero, suc, ◌+◌, ◌*◌, ◌^◌, ◌<◌, ◌≤◌, Bool, true, false, not, ◌&&◌, ◌||◌, refl, ap, ap₂, sym, ◌∙◌, arith, bit_or, if◌then◌else◌}
+use Rattle.std.proofs.Common.{◌≡◌, ℕ, zero, suc, ◌+◌, ◌*◌, ◌^◌, ◌<◌, ◌≤◌, Bool, true, false, not, ◌&&◌, ◌||◌, refl, ap, ap₂, ◌∙◌, arith, bit_or, if◌then◌else◌}
 use Rattle.qrcode_packed.specs.Rows.{is_set}
 use Rattle.qrcode_packed.proofs.Places.{has_or, has_shl, has_shl_below}
 use Rattle.qrcode_penalty.specs.Penalty.{sum_below, count_if, same, is_run, begins_run, run_penalty_at}

@@ -5,7 +5,7 @@ use Rattle.std.proofs.Math.Nat.{mul-lt-mul_of_pos_right}
 use Rattle.std.proofs.Math.Pow.{pow_mono}
 use Rattle.std.specs.Int.Count.{ones}
 use Rattle.qrcode_packed.specs.Rows.{is_set}
-use Rattle.qrcode_packed.proofs.Places.{differ, has_and, has_or, has_xor, has_without, has_shr, has_shl, has_shl_below, has_first, has_first_above, below_from_places}
+use Rattle.qrcode_packed.proofs.Places.{differ, has_and, has_or, has_xor, has_without, has_shr, has_first, has_first_above, below_from_places}
 use Rattle.qrcode_penalty.specs.Penalty.{sum_below, count_if, is_run, same, run_penalty}
 use Rattle.qrcode_penalty.specs.Padding.{block_penalty_in}
 use Rattle.qrcode_penalty.proofs.Runs.{run_penalty-windows}

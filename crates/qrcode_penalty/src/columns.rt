@@ -219,7 +219,9 @@ pub(crate) fn column_run_penalties<R: PackedRow>(square: &PackedSquare<'_, R>) -
     total
 }
 
-/// What the finder forms of all columns cost, by the rows in which they begin, two rows at a time.
+/// What the finder forms of all columns cost, by the rows in which they begin, two rows at a time. Not inlined: its words
+/// and those of the other loops would be in each other's way.
+#[inline(never)]
 #[tactic(auto, using(crate::proofs::Sums::sum_step, crate::proofs::Sums::sum_two), unfolding(crate::specs::Penalty::sum_below))]
 pub(crate) fn column_finder_penalties<R: PackedRow>(square: &PackedSquare<'_, R>) -> u32
     ensures value { let width = square.now.width in result ≡ sum_below (width - 6)
