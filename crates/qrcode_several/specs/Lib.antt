@@ -1,3 +1,4 @@
 pub mod Division
+pub mod Joining
 pub mod Reading
 pub mod Symbols

@@ -3,7 +3,9 @@
 
 mod division;
 mod drawing;
+pub mod errors;
 mod holding;
+mod joining;
 
 ghost use Rattle.std.specs.Prelude.{ℕ, IfOk, IfErr, IsOkUnless};
 ghost use Rattle.qrcode_types.specs.declared.types.QrError.TheVariants.{OutOfMemory};
@@ -12,6 +14,7 @@ ghost use Rattle.qrcode_several.specs.Symbols.{HoldSeveral, AreSeveral, AreRefus
 
 use drawing::symbols;
 use holding::{Wanted, hold};
+pub use joining::{Part, join};
 use qrcode::QrCode;
 use qrcode::types::{EcLevel, QrError, QrResult, Version};
 use qrcode_bits::bits::{DATA_LIMIT, Manner};
