@@ -1,2 +1,3 @@
+mod Choices
 mod Pieces
 mod Segmented

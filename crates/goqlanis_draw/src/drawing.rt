@@ -6,12 +6,13 @@ ghost use Rattle.qrcode_types.specs.declared.types.QrError.TheVariants.{OutOfMem
 ghost use Rattle.qrcode.specs.Pictures.{quiet_zone};
 ghost use Rattle.qrcode_render.specs.Setting.{fits};
 ghost use Rattle.goqlanis_draw.specs.Drawings.{IsDrawing, IsShownBy, IsPngOf, per_metre, coloured_byte, coloured_text, eps_ink, half_block_text, layout_for, png_ink, scale_for, setting_for};
+ghost use Rattle.qrcode_gs1.specs.Elements.{are_apart};
 ghost use Rattle.qrcode_gs1.specs.Items.{item};
-ghost use Rattle.goqlanis_draw.specs.Elements.{IsDrawingOfElements};
+ghost use Rattle.goqlanis_draw.specs.Elements.{IsDrawingOfElements, IsElementsRefused, IsDrawingForApplication, IsApplicationRefused};
 ghost use Rattle.goqlanis_draw.specs.Segments.{IsDrawingOfPieces, pieces_of};
 ghost use Rattle.goqlanis_draw.specs.Symbols.{IsSymbolOf, IsRefusalOf};
 
-use crate::elements::symbol_of_elements;
+use crate::elements::{symbol_for_application, symbol_of_elements};
 use crate::request::{Choice, Format, Ink, Request};
 use crate::segments::{Segment, symbol_of};
 use qrcode::QrCode;
@@ -77,8 +78,34 @@ pub fn draw_elements(
 ) -> SymbolResult<Vec<u8>>
     ensures drawing { IfOk result (λ drawing.
         IsDrawingOfElements request.now (map item elements.now) drawing.items) }
+    ensures causes { IfErr result
+        (IsElementsRefused request.now.choice request.now.level (map item elements.now)) }
 {
     let code = symbol_of_elements(alloc, request.choice, request.level, elements)?;
+    let drawing = drawing_of(alloc, request, &code)?;
+    Ok(drawing)
+}
+
+/// The drawing of data of an application, behind FNC1 in second position and the application's
+/// indicator, that a request asks for; its manner is not looked at, and a choice with levels to be
+/// raised keeps the level. Byte 29 is the separator, of which none stands right behind another.
+///
+/// `DataTooLong`: no version that may be taken holds the data; none of Micro does. `OutOfMemory`:
+/// memory was refused.
+pub fn draw_for_application(
+    alloc: Global,
+    request: &Request<'_>,
+    application: u8,
+    bytes: &[u8],
+) -> QrResult<Vec<u8>>
+    requires { IsTrue (are_apart bytes.now) }
+    ensures drawing { IfOk result (λ drawing.
+        IsDrawingForApplication request.now application bytes.now drawing.items) }
+    ensures causes { IfErr result
+        (IsApplicationRefused request.now.choice application request.now.level bytes.now) }
+{
+    let (choice, level) = (request.choice, request.level);
+    let code = symbol_for_application(alloc, choice, level, application, bytes)?;
     let drawing = drawing_of(alloc, request, &code)?;
     Ok(drawing)
 }

@@ -1,21 +1,23 @@
-//! Symbols of elements of GS1.
+//! Symbols of elements of GS1, and of data of applications.
 
-ghost use Rattle.std.specs.Prelude.{◌≡◌, map, IfOk};
+ghost use Rattle.std.specs.Prelude.{◌≡◌, ◌≢◌, true, false, map, IfOk, IfErr, IsTrue};
+ghost use Rattle.qrcode_gs1.specs.Elements.{are_apart};
 ghost use Rattle.qrcode_gs1.specs.Items.{item};
-ghost use Rattle.goqlanis_draw.specs.Elements.{IsElementsIn, number_of};
+ghost use Rattle.goqlanis_draw.specs.Elements.{IsElementsIn, IsElementsRefused, IsApplicationIn, IsApplicationRefused, number_of};
 
 use crate::request::Choice;
 use qrcode::QrCode;
-use qrcode::types::{EcLevel, QrError, Version};
+use qrcode::types::{EcLevel, QrError, QrResult, Version};
 use qrcode_gs1::elements::Element;
 use qrcode_gs1_symbol::errors::{SymbolError, SymbolResult};
-use qrcode_gs1_symbol::gs1_from;
+use qrcode_gs1_symbol::{for_application_from, gs1_from};
 use std::alloc::Global;
 
 /// The symbol of elements that a choice asks for at a level, which is kept.
 ///
 /// `Elements`: which element is refused first, and why. `Symbol(DataTooLong)`: no version that may be
 /// taken holds them. `OutOfMemory`, in either: memory was refused.
+#[tactic(auto, using(crate::proofs::Choices::elements_alone))]
 pub(crate) fn symbol_of_elements(
     alloc: Global,
     choice: Choice,
@@ -23,15 +25,61 @@ pub(crate) fn symbol_of_elements(
     elements: &[Element<'_>],
 ) -> SymbolResult<QrCode>
     ensures symbol { IfOk result (IsElementsIn choice level (map item elements.now)) }
+    ensures causes { IfErr result (IsElementsRefused choice level (map item elements.now)) }
 {
-    let (Choice::From(from) | Choice::Boosted(from) | Choice::At(from)) = choice;
-    let code = gs1_from(alloc, elements, level, number_of(from))?;
     match choice {
-        Choice::At(version) if code.version() != version => {
-            Err(SymbolError::Symbol(QrError::DataTooLong))
+        Choice::From(from) | Choice::Boosted(from) => {
+            gs1_from(alloc, elements, level, number_of(from))
         }
-        _ => Ok(code),
+        Choice::At(version) => {
+            let code = gs1_from(alloc, elements, level, number_of(version))?;
+            if is_of(&code, version) {
+                Ok(code)
+            } else {
+                Err(SymbolError::Symbol(QrError::DataTooLong))
+            }
+        }
     }
+}
+
+/// The symbol of data of an application that a choice asks for at a level, which is kept.
+///
+/// `DataTooLong`: no version that may be taken holds the data. `OutOfMemory`: memory was refused.
+#[tactic(auto, using(crate::proofs::Choices::alone))]
+pub(crate) fn symbol_for_application(
+    alloc: Global,
+    choice: Choice,
+    level: EcLevel,
+    application: u8,
+    bytes: &[u8],
+) -> QrResult<QrCode>
+    requires { IsTrue (are_apart bytes.now) }
+    ensures symbol { IfOk result (IsApplicationIn choice application level bytes.now) }
+    ensures causes { IfErr result
+        (IsApplicationRefused choice application level bytes.now) }
+{
+    match choice {
+        Choice::From(from) | Choice::Boosted(from) => {
+            for_application_from(alloc, application, bytes, level, number_of(from))
+        }
+        Choice::At(version) => {
+            let from = number_of(version);
+            let code = for_application_from(alloc, application, bytes, level, from)?;
+            if is_of(&code, version) {
+                Ok(code)
+            } else {
+                Err(QrError::DataTooLong)
+            }
+        }
+    }
+}
+
+// Whether a symbol is of a version.
+fn is_of(code: &QrCode, version: Version) -> bool
+    ensures same { result ≡ true → code.now.version ≡ version }
+    ensures other { result ≡ false → code.now.version ≢ version }
+{
+    code.version() == version
 }
 
 // The number of a version of Normal; 0 for Micro, which has no FNC1.

@@ -9,8 +9,10 @@ mod request;
 mod scanning;
 mod segments;
 
-pub use drawing::{draw, draw_elements, draw_segments};
-pub use refusal::{elements_refusal_text, refusal_text, segments_refusal_text};
+pub use drawing::{draw, draw_elements, draw_for_application, draw_segments};
+pub use refusal::{
+    application_refusal_text, elements_refusal_text, refusal_text, segments_refusal_text,
+};
 pub use request::{Choice, Format, Ink, Request, manner_of};
 pub use scanning::{Scan, Unread, read_picture};
 pub use segments::{Segment, unwritable};

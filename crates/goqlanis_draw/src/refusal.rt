@@ -1,6 +1,9 @@
 //! What a refusal says: what, why, and what would help.
 
-use crate::elements::symbol_of_elements;
+ghost use Rattle.std.specs.Prelude.{IsTrue};
+ghost use Rattle.qrcode_gs1.specs.Elements.{are_apart};
+
+use crate::elements::{symbol_for_application, symbol_of_elements};
 use crate::request::{Choice, Request};
 use qrcode::bits::Manner;
 use qrcode::types::{EcLevel, Mode, QrError, Version};
@@ -70,19 +73,55 @@ pub fn elements_refusal_text(
     request: &Request<'_>,
     elements: &[Element<'_>],
 ) -> Result<String, AllocError> {
+    let (from, level) = (least_version(request.choice), request.level);
+    let least = match symbol_of_elements(alloc, Choice::From(from), level, elements) {
+        Ok(code) => Some(code.version()),
+        Err(_) => None,
+    };
+    marked_refusal_text(alloc, request, "elements", least)
+}
+
+/// The text of a refusal of data of an application that no version that may be taken holds.
+pub fn application_refusal_text(
+    alloc: Global,
+    request: &Request<'_>,
+    application: u8,
+    bytes: &[u8],
+) -> Result<String, AllocError>
+    requires { IsTrue (are_apart bytes.now) }
+{
+    let (from, level) = (least_version(request.choice), request.level);
+    let least = match symbol_for_application(alloc, Choice::From(from), level, application, bytes) {
+        Ok(code) => Some(code.version()),
+        Err(_) => None,
+    };
+    marked_refusal_text(alloc, request, "data", least)
+}
+
+// The version of a choice.
+fn least_version(choice: Choice) -> Version {
+    let (Choice::From(version) | Choice::Boosted(version) | Choice::At(version)) = choice;
+    version
+}
+
+// The text of a refusal of what stands behind FNC1, by the least version that holds it from the one that
+// is asked for on.
+fn marked_refusal_text(
+    alloc: Global,
+    request: &Request<'_>,
+    what: &str,
+    least: Option<Version>,
+) -> Result<String, AllocError> {
     let level = request.level;
     let Choice::At(version) = request.choice else {
-        return format!(in alloc; "no version holds the elements at level {level:?}");
+        return format!(in alloc; "no version holds the {what} at level {level:?}");
     };
     let name = Name(version);
     if version.is_micro() {
         return format!(in alloc; "version {name} has no FNC1, as all of Micro QR; take 1 to 40");
     }
-    let mut text = format!(in alloc;
-        "version {name} at level {level:?} does not hold the elements"
-    )?;
-    if let Ok(code) = symbol_of_elements(alloc, Choice::From(version), level, elements) {
-        let least = code.version();
+    let mut text = format!(in alloc; "version {name} at level {level:?} does not hold the {what}")?;
+    if let Some(least) = least {
         if least != version {
             let name = Name(least);
             write!(text, "; version {name} does")?;

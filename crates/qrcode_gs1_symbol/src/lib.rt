@@ -2,7 +2,7 @@
 //! applications in second.
 #![tactic(auto)]
 
-ghost use Rattle.std.specs.Prelude.{ℕ, map, IfOk, IfErr, IsOkUnless, IsTrue};
+ghost use Rattle.std.specs.Prelude.{ℕ, ◌≤◌, map, IfOk, IfErr, IsOkUnless, IsTrue};
 ghost use Rattle.qrcode_types.specs.declared.types.QrError.TheVariants.{OutOfMemory};
 ghost use Rattle.qrcode_gs1.specs.Elements.{are_apart};
 ghost use Rattle.qrcode_gs1.specs.Items.{item};
@@ -12,6 +12,7 @@ ghost use Rattle.qrcode_gs1_symbol.specs.declared.Position.TheVariants.{Second};
 
 use drawing::symbol;
 use errors::SymbolResult;
+pub use indicators::indicator_of;
 use qrcode::QrCode;
 use qrcode::types::{EcLevel, QrResult};
 use qrcode_gs1::elements::{Element, element_string};
@@ -22,6 +23,7 @@ mod characters;
 mod choice;
 mod drawing;
 pub mod errors;
+mod indicators;
 mod separators;
 
 /// Where FNC1 stands.
@@ -64,9 +66,8 @@ pub fn gs1_from(
 }
 
 /// The symbol of data at a level, of the least version of Normal that holds it: FNC1 in second
-/// position, the indicator of the application, and the data in such segments. Of an indicator of two
-/// digits the number is given, and of one letter its byte and 100. Byte 29 is the separator, of which
-/// none stands right behind another (`are_apart` tells).
+/// position, the indicator of the application, as `indicator_of` gives it, and the data in such
+/// segments. Byte 29 is the separator, of which none stands right behind another (`are_apart` tells).
 ///
 /// `DataTooLong`: no version of Normal holds the data. `OutOfMemory`: memory was refused.
 pub fn for_application(
@@ -81,5 +82,25 @@ pub fn for_application(
         → IsOkUnless result OutOfMemory }
     ensures causes { IfErr result (IsMarkedRefused 0 (Second application) ec_level bytes.now) }
 {
-    symbol(alloc, bytes, Position::Second(application), ec_level, 0)
+    for_application_from(alloc, application, bytes, ec_level, 0)
+}
+
+/// The same, of the least version of Normal, from the one of this number on, that holds the data.
+///
+/// `DataTooLong`: no version of Normal from it on holds the data. `OutOfMemory`: memory was refused.
+pub fn for_application_from(
+    alloc: Global,
+    application: u8,
+    bytes: &[u8],
+    ec_level: EcLevel,
+    from: usize,
+) -> QrResult<QrCode>
+    requires { IsTrue (are_apart bytes.now) }
+    ensures symbol { IfOk result (IsMarkedSymbol from (Second application) ec_level bytes.now) }
+    ensures accepts { (number : ℕ) → from ≤ number
+        → HoldsMarked (Second application) ec_level bytes.now number
+        → IsOkUnless result OutOfMemory }
+    ensures causes { IfErr result (IsMarkedRefused from (Second application) ec_level bytes.now) }
+{
+    symbol(alloc, bytes, Position::Second(application), ec_level, from)
 }
