@@ -1,5 +1,5 @@
 -- Texts of Swiss QR bills, line by line, by the Swiss Implementation Guidelines QR-bill of SIX, version 2.
-use Rattle.std.specs.Prelude.{◌≡◌, ℕ, nat_lt, nat_le, ◌+◌, ◌-◌, ◌%◌, ◌==◌, ◌&&◌, ◌||◌, not, Bool, false, List, [], ◌∷◌, ◌++◌, length, count_by, fold, slice_index_or, Option, Some, None, codes, if◌then◌else◌, refl}
+use Rattle.std.specs.Prelude.{ℕ, nat_lt, nat_le, ◌+◌, ◌%◌, ◌==◌, ◌&&◌, ◌||◌, not, Bool, false, List, [], ◌∷◌, ◌++◌, length, count_by, slice_index_or, Option, Some, None, codes, if◌then◌else◌}
 use Rattle.std.specs.Str.{bytes_eq, chars}
 use Rattle.std.specs.List.{list_all, list_any, starts_with}
 use Rattle.std.specs.Option.{option_map}

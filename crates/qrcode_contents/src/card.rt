@@ -8,7 +8,7 @@ ghost use Rattle.qrcode_contents.specs.Card.{contact_of, text_refusal, place_ref
 ghost use Rattle.qrcode_fields.specs.Characters.{is_stray};
 ghost use Rattle.qrcode_fields.specs.Refusals.{Answers, checked, refused_if};
 
-use qrcode_fields::content_lines::{push_content, push_value};
+use qrcode_fields::content_lines::{push_content, push_texts, push_value};
 use qrcode_fields::errors::{Cause, ContentResult, Field};
 use qrcode_fields::refusals::{controls, refuse_first, stray};
 use std::alloc::Global;
@@ -92,7 +92,21 @@ impl Card<'_> {
         ensures value { IfOk result (λ text. string_bytes text ≡ card_text (contact_of self.now)) }
         ensures memory { IsOkUnless result OutOfMemory }
     {
-        let mut text = String::new(alloc);
+        let mut text = String::from_str(alloc, "BEGIN:VCARD\r\nVERSION:3.0\r\n")?;
+        push_content(
+            alloc,
+            &mut text,
+            "N",
+            &[self.family, self.given, "", "", ""],
+        )?;
+        let texts = [
+            ("FN", self.name),
+            ("ORG", self.organisation),
+            ("TEL", self.phone),
+            ("EMAIL", self.email),
+        ];
+        push_texts(alloc, &mut text, &texts)?;
+        push_value(alloc, &mut text, "URL", self.url)?;
         let address = [
             "",
             "",
@@ -102,22 +116,9 @@ impl Card<'_> {
             self.code,
             self.country,
         ];
-        push_value(alloc, &mut text, "BEGIN", "VCARD")?;
-        push_value(alloc, &mut text, "VERSION", "3.0")?;
-        push_content(
-            alloc,
-            &mut text,
-            "N",
-            &[self.family, self.given, "", "", ""],
-        )?;
-        push_content(alloc, &mut text, "FN", &[self.name])?;
-        push_content(alloc, &mut text, "ORG", &[self.organisation])?;
-        push_content(alloc, &mut text, "TEL", &[self.phone])?;
-        push_content(alloc, &mut text, "EMAIL", &[self.email])?;
-        push_value(alloc, &mut text, "URL", self.url)?;
         push_content(alloc, &mut text, "ADR", &address)?;
         push_content(alloc, &mut text, "NOTE", &[self.note])?;
-        push_value(alloc, &mut text, "END", "VCARD")?;
+        text.push_str("END:VCARD\r\n")?;
         Ok(text)
     }
 

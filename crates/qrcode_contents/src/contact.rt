@@ -6,7 +6,7 @@ ghost use Rattle.qrcode_contents.specs.Contact.{person_of, person_controls, pers
 ghost use Rattle.qrcode_fields.specs.Refusals.{Answers, checked};
 
 use qrcode_fields::characters::are_digits;
-use qrcode_fields::entries::push_entry;
+use qrcode_fields::entries::{push_entry, push_texts};
 use qrcode_fields::errors::{Cause, ContentResult, Field};
 use qrcode_fields::refusals::{controls, refuse_first};
 use std::alloc::Global;
@@ -97,12 +97,13 @@ impl Contact<'_> {
         ensures memory { IsOkUnless result OutOfMemory }
     {
         let mut text = String::from_str(alloc, "MECARD:")?;
-        push_entry(&mut text, "N", &[self.family, self.given])?;
-        push_entry(&mut text, "TEL", &[self.phone])?;
-        push_entry(&mut text, "EMAIL", &[self.email])?;
-        push_entry(&mut text, "URL", &[self.url])?;
-        push_entry(&mut text, "BDAY", &[self.birthday])?;
-        push_entry(&mut text, "NOTE", &[self.note])?;
+        let texts = [
+            ("TEL", self.phone),
+            ("EMAIL", self.email),
+            ("URL", self.url),
+            ("BDAY", self.birthday),
+            ("NOTE", self.note),
+        ];
         let address = [
             "",
             "",
@@ -112,6 +113,8 @@ impl Contact<'_> {
             self.code,
             self.country,
         ];
+        push_entry(&mut text, "N", &[self.family, self.given])?;
+        push_texts(&mut text, &texts)?;
         push_entry(&mut text, "ADR", &address)?;
         text.push_str(";")?;
         Ok(text)

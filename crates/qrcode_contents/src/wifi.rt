@@ -5,7 +5,7 @@ ghost use Rattle.qrcode_fields.specs.declared.errors.ContentError.TheVariants.{O
 ghost use Rattle.qrcode_fields.specs.Refusals.{Answers, checked};
 ghost use Rattle.qrcode_contents.specs.Wifi.{wifi_fields, wifi_refusal, wifi_text, read_wifi, security_name};
 
-use qrcode_fields::entries::push_entry;
+use qrcode_fields::entries::push_texts;
 use qrcode_fields::errors::{Cause, ContentResult, Field};
 use qrcode_fields::refusals::refuse_first;
 use std::alloc::Global;
@@ -85,10 +85,13 @@ impl Wifi<'_> {
         ensures memory { IsOkUnless result OutOfMemory }
     {
         let mut text = String::from_str(alloc, "WIFI:")?;
-        push_entry(&mut text, "T", &[self.security.name()])?;
-        push_entry(&mut text, "S", &[self.ssid])?;
-        push_entry(&mut text, "P", &[self.password])?;
-        push_entry(&mut text, "H", &[truth(self.hidden)])?;
+        let texts = [
+            ("T", self.security.name()),
+            ("S", self.ssid),
+            ("P", self.password),
+            ("H", truth(self.hidden)),
+        ];
+        push_texts(&mut text, &texts)?;
         text.push_str(";")?;
         Ok(text)
     }

@@ -1,9 +1,9 @@
 //! Entries of a text, each a key and the parts of a value.
 
-ghost use Rattle.std.specs.Prelude.{◌≡◌, ◌<◌, ◌++◌, map, string_bytes, OnOk, IsOkUnless};
+ghost use Rattle.std.specs.Prelude.{◌≡◌, ◌<◌, ◌++◌, map, flat_map, string_bytes, OnOk, IsOkUnless};
 ghost use Rattle.std.specs.List.{list_any};
 ghost use Rattle.qrcode_fields.specs.declared.errors.ContentError.TheVariants.{OutOfMemory};
-ghost use Rattle.qrcode_fields.specs.Entries.{is_filled, parts_text, marked_text};
+ghost use Rattle.qrcode_fields.specs.Entries.{is_filled, single, parts_text, marked_text};
 
 use crate::errors::ContentResult;
 use crate::escapes::{Escapes, push_escaped};
@@ -54,5 +54,18 @@ pub fn push_entry(text: &mut String, key: &str, parts: &[&str]) -> ContentResult
     text.push(':')?;
     push_parts(text, Escapes::Marks, ',', parts)?;
     text.push(';')?;
+    Ok(())
+}
+
+/// Appends entries, each a key and a text; one with no text is left out. After `OutOfMemory` a part
+/// of them is appended.
+pub fn push_texts(text: &mut String, entries: &[(&str, &str)]) -> ContentResult<()>
+    ensures appends { OnOk result (string_bytes text.new ≡ string_bytes text.old
+        ++ flat_map marked_text (map (λ entry. single entry.0.now entry.1.now) entries.now)) }
+    ensures memory { IsOkUnless result OutOfMemory }
+{
+    for (key, value) in entries {
+        push_entry(text, key, &[*value])?;
+    }
     Ok(())
 }

@@ -1,8 +1,16 @@
-use Rattle.qrcode_contents.specs.Card.{card_text}
-use Rattle.qrcode_contents.proofs.PushedTexts.{eleven_pushed}
+use Rattle.std.proofs.Common.{[], ◌∷◌, codes}
+use Rattle.qrcode_contents.specs.Card.{contact_of, card_text}
+use Rattle.qrcode_fields.specs.ContentLines.{folded_from, structured}
+use Rattle.qrcode_contents.proofs.PushedTexts.{card_pushed}
 use Rattle.qrcode_contents.proofs.card.Card.written.Goals as goal
 
 pub returns-clause-value : goal.returns-clause-value
-unfolding card_text
+unfolding card_text folded_from
 returns-clause-value c =
-    eleven_pushed _ _ _ _ _ _ _ _ _ _ _ _ _ _ _ _ _ _ _ _ _ _ _ c.new-text.ensures.bytes c.in_ok-push_value.ensures.appends c.in_ok-push_value-2.ensures.appends c.in_ok-push_content.ensures.appends c.in_ok-push_content-2.ensures.appends c.in_ok-push_content-3.ensures.appends c.in_ok-push_content-4.ensures.appends c.in_ok-push_content-5.ensures.appends c.in_ok-push_value-3.ensures.appends c.in_ok-push_content-6.ensures.appends c.in_ok-push_content-7.ensures.appends c.in_ok-push_value-4.ensures.appends
+    let p = contact_of c.args.self.now in
+    card_pushed ((codes "BEGIN", codes "VCARD") ∷ (codes "VERSION", codes "3.0") ∷ [])
+    ((codes "FN", structured (p.name ∷ [])) ∷ (codes "ORG", structured (p.organisation ∷ [])) ∷ (codes "TEL", structured (p.phone ∷ [])) ∷ (codes "EMAIL", structured (p.email ∷ [])) ∷ [])
+    ((codes "END", codes "VCARD") ∷ [])
+    (codes "N", structured (p.family ∷ p.given ∷ [] ∷ [] ∷ [] ∷ [])) (codes "URL", p.url)
+    (codes "ADR", structured ([] ∷ [] ∷ p.street ∷ p.city ∷ p.region ∷ p.code ∷ p.country ∷ [])) (codes "NOTE", structured (p.note ∷ []))
+    _ _ _ _ _ _ _ c.in_ok-text.ensures.ok c.in_ok-push_content.ensures.appends c.in_ok-push_texts.ensures.appends c.in_ok-push_value.ensures.appends c.in_ok-push_content-2.ensures.appends c.in_ok-push_content-3.ensures.appends c.in_ok-push_str.ensures.bytes
