@@ -1,6 +1,6 @@
 -- Rows of cells as pixels, eight in a byte.
 use Rattle.std.proofs.Common.{◌≡◌, ℕ, zero, suc, ◌+◌, ◌*◌, ◌/◌, ◌^◌, ◌<◌, ◌≤◌, inl, inr, Bool, true, false, List, [], ◌∷◌, ◌++◌, length, map, replicate, get_or, refl, ap, ap₂, ◌∙◌, sym, arith, if◌then◌else◌}
-use Rattle.std.proofs.Math.Nat.{pow-suc, pow-le-pow_right}
+use Rattle.std.proofs.Math.Nat.{pow-suc, pow-le-pow_right, div-mul-le_self}
 use Rattle.std.proofs.lemmas.Bool.{cases_lt}
 use Rattle.std.proofs.lemmas.Nat.{le-div}
 use Rattle.std.proofs.lemmas.List.{map-append, get_or_past, get_or-map, length-map}
@@ -68,6 +68,29 @@ bit_past marked other a xs x some past =
     let ink : Bool → Bool = λ m. if m then marked else other in
     let end : get_or (inked marked other xs) (x / a) false ≡ false = get_or_past (inked marked other xs) (x / a) false (omega (arith, length-map xs ink)) in
     ap (λ b. if b then 1 else 0) (sym (ap (λ l. get_or l x false) (inked-each marked other a xs) ∙ get_or-each-all a (inked marked other xs) x false some ∙ end))
+
+-- a later pixel stands in no earlier cell
+div_grows : (a x y : ℕ) → 0 < a → x ≤ y → x / a ≤ y / a
+div_grows a x y some h = le-div (x / a) y a some (omega (arith, div-mul-le_self x a, h))
+
+-- pixels of one cell are all black, or none is
+one_cell : (marked other : Bool) (a : ℕ) (xs : List Bool) (x y : ℕ) → 0 < a → x / a ≡ y / a
+    → black_bit (inked marked other (each a xs)) x ≡ black_bit (inked marked other (each a xs)) y
+one_cell marked other a xs x y some same =
+    let at : (z : ℕ) → get_or (inked marked other (each a xs)) z false ≡ get_or (inked marked other xs) (z / a) false = λ z. ap (λ l. get_or l z false) (inked-each marked other a xs) ∙ get_or-each-all a (inked marked other xs) z false some in
+    ap (λ b. if b then 1 else 0) (at x ∙ ap (λ c. get_or (inked marked other xs) c false) same ∙ sym (at y))
+
+-- eight pixels of one cell
+pub byte_of_one : (marked other : Bool) (a : ℕ) (xs : List Bool) (start : ℕ) → 0 < a → (start + 7) / a ≡ start / a
+    → 255 * black_bit (inked marked other (each a xs)) start ≡ bits_from (inked marked other (each a xs)) start 8
+unfolding bits_from
+byte_of_one marked other a xs start some same =
+    let blacks : List Bool = inked marked other (each a xs) in
+    let e : (i : ℕ) → i ≤ 7 → black_bit blacks (start + i) ≡ black_bit blacks start = λ i h.
+    one_cell marked other a xs (start + i) start some
+    (omega (arith, same, div_grows a start (start + i) some (omega arith), div_grows a (start + i) (start + 7) some (omega (arith, h)))) in
+    let none : bits_from blacks start 0 ≡ 0 = refl in
+    omega (arith, none, bits_more blacks start 0, bits_more blacks start 1, bits_more blacks start 2, bits_more blacks start 3, bits_more blacks start 4, bits_more blacks start 5, bits_more blacks start 6, bits_more blacks start 7, e 0 (omega arith), e 1 (omega arith), e 2 (omega arith), e 3 (omega arith), e 4 (omega arith), e 5 (omega arith), e 6 (omega arith), e 7 (omega arith))
 
 -- one byte more
 pub bytes_more : (blacks : List Bool) (i : ℕ) → map (λ k. bits_from blacks (8 * k) 8) (range_with_len 0 i) ++ bits_from blacks (8 * i) 8 ∷ [] ≡ map (λ k. bits_from blacks (8 * k) 8) (range_with_len 0 (i + 1))

@@ -3,6 +3,7 @@
 ghost use Rattle.std.specs.Prelude.{◌≡◌, ◌+◌, ◌*◌, ◌≤◌, [], ◌∷◌, ◌++◌, length, take, flat_map, max, vec_len, IfOk, OnOk, OnErr, IsOkUnless, IsTrue};
 ghost use Rattle.std.specs.List.{range_with_len};
 ghost use Rattle.qrcode_types.specs.declared.types.QrError.TheVariants.{OutOfMemory};
+ghost use Rattle.qrcode_render.specs.Eps.{eps_start, eps_text};
 ghost use Rattle.qrcode_render.specs.Grid.{all_columns, all_rows, cell_row, pixels_of, repeated};
 ghost use Rattle.qrcode_render.specs.Layout.{pixels_across, pixels_down};
 ghost use Rattle.qrcode_render.specs.Put.{IsPutWhere};
@@ -10,6 +11,7 @@ ghost use Rattle.qrcode_render.specs.Setting.{fits, layout_of, picture_of};
 ghost use Rattle.qrcode_render.specs.Texts.{marks_text, raw_bytes};
 ghost use Rattle.qrcode_render.specs.Vectors.{pic_start, pic_text, svg_start, svg_text};
 
+use crate::eps::{self, put_eps};
 use crate::grid::Grid;
 use crate::image::Luma;
 use crate::pic::{self, put_pic};
@@ -149,5 +151,28 @@ impl<'a> Renderer<'a, pic::Color> {
         ensures memory { IsOkUnless result OutOfMemory }
     {
         put_pic(alloc, &modules_of(self), bytes)
+    }
+}
+
+impl<'a> Renderer<'a, eps::Color> {
+    /// Writes the text that `build` would give into the beginning of a buffer, and answers how long it
+    /// is; or None, where the buffer has not room for its start, its end and 80 bytes for each module.
+    /// Refuses with `OutOfMemory` alone. Then, and where it answers None, the buffer is as it was.
+    pub fn put(&self, alloc: Global, bytes: &mut [u8]) -> QrResult<Option<usize>>
+        requires fits { IsTrue (fits self.now) }
+        ensures made { let s = self.now in let at = layout_of s in IfOk result
+            (IsPutWhere (eps_text at s.content s.dark s.light)
+            (length (eps_start (pixels_across at) (pixels_down at) s.dark s.light)
+            + length s.content * 80 + 15) bytes.old bytes.new) }
+        ensures unchanged { OnErr result (bytes.new ≡ bytes.old) }
+        ensures memory { IsOkUnless result OutOfMemory }
+    {
+        put_eps(
+            alloc,
+            &modules_of(self),
+            self.dark_color,
+            self.light_color,
+            bytes,
+        )
     }
 }

@@ -1,15 +1,17 @@
 //! Pictures as Encapsulated PostScript, in which a pixel is a point: 1/72 of an inch.
 
 ghost use Rattle.std.proofs.Common.{rules};
-ghost use Rattle.std.specs.Prelude.{◌≡◌, ℕ, ◌^◌, ◌<◌, ◌++◌, List, string_bytes, OnOk, IsOkUnless};
+ghost use Rattle.std.specs.Prelude.{◌≡◌, ℕ, ◌+◌, ◌*◌, ◌^◌, ◌<◌, ◌++◌, List, length, string_bytes, IfOk, OnOk, OnErr, IsOkUnless};
 ghost use Rattle.qrcode_types.specs.declared.types.QrError.TheVariants.{OutOfMemory};
 ghost use Rattle.qrcode_types.specs.Colors.{select_of};
 ghost use Rattle.qrcode_render.specs.Eps.{eps_head, eps_paint, eps_box, eps_turn, eps_start, eps_rect, eps_column, eps_sides, eps_row, eps_end, eps_text};
+ghost use Rattle.qrcode_render.specs.Layout.{layout};
+ghost use Rattle.qrcode_render.specs.Put.{IsPutWhere};
 ghost use Rattle.qrcode_render.specs.Setting.{layout_of};
 
 use crate::ink::{Column, Piece, Row, Sides, number};
 use crate::stamps::Stamp;
-use crate::strokes::{Strokes, push_modules};
+use crate::strokes::{Strokes, push_modules, put_modules};
 use crate::{Modules, Pixel};
 use qrcode_types::types::{Color as ModuleColor, QrResult};
 use std::alloc::Global;
@@ -110,6 +112,27 @@ impl Strokes for Boxes {
         let front = sides.behind(&number(top));
         Piece::new(front, Stamp::new(b" rectfill\n"))
     }
+}
+
+// Writes the text of modules into the beginning of a buffer that has room for any of so many modules.
+#[tactic(auto, unfolding(crate::specs::Eps::eps_text))]
+pub(crate) fn put_eps(
+    alloc: Global,
+    modules: &Modules,
+    dark: Color,
+    light: Color,
+    bytes: &mut [u8],
+) -> QrResult<Option<usize>>
+    ensures made { let m = modules.now in let w = (m.count + 2 * m.zone) * m.across in
+        let h = (m.count + 2 * m.zone) * m.down in IfOk result (IsPutWhere
+        (eps_text (layout m.count m.zone m.across m.down) m.content dark light)
+        (length (eps_start w h dark light) + length m.content * 80 + 15) bytes.old bytes.new) }
+    ensures unchanged { OnErr result (bytes.new ≡ bytes.old) }
+    ensures memory { IsOkUnless result OutOfMemory }
+{
+    let (width, height) = modules.pixels();
+    let canvas = <Canvas as crate::Canvas>::new(alloc, width, height, dark, light)?;
+    put_modules::<Boxes>(&canvas.text, modules, b"showpage\n%%EOF\n", bytes)
 }
 
 impl crate::Canvas for Canvas {
