@@ -1,4 +1,4 @@
-/* Makes a case of bench/run by the library for C, so many times: calls CASE COUNT. Without a case it lists them. */
+/* Makes a case of bench/run by the library for C, so many times: calls CASE COUNT. Without a case it lists them, pictures with the pixels along a side of a module. */
 #include "goqlanis.h"
 #include <stdio.h>
 #include <stdlib.h>
@@ -48,8 +48,8 @@ int main(int argc, char **argv)
     size_t found = 0, all = sizeof cases / sizeof *cases, count;
     if (argc == 1)
         for (size_t i = 0; i < all; i++)
-            puts(cases[i].name);
-    if (argc != 3)
+            printf(cases[i].scale ? "%s %u\n" : "%s\n", cases[i].name, (unsigned)cases[i].scale);
+    if (argc < 3)
         return argc != 1;
     while (strcmp(cases[found].name, argv[1]))
         if (++found == all)

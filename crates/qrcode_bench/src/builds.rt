@@ -1,6 +1,6 @@
 //! What is built in each case. All that a build takes is made before the first one.
 
-ghost use Rattle.std.specs.Prelude.{◌≡◌, ◌<◌, ◌≤◌, length, IfOk, IsTrue};
+ghost use Rattle.std.specs.Prelude.{◌≡◌, ◌<◌, ◌≤◌, length, IfOk, IfSome, IsTrue};
 ghost use Rattle.qrcode_bits.specs.Refusals.{data_limit};
 ghost use Rattle.qrcode_types.specs.Versions as versions;
 ghost use Rattle.qrcode_types.specs.Versions.{is_valid, has_level};
@@ -22,9 +22,42 @@ use std::alloc::Global;
 // The codewords of Normal 40.
 const CODEWORDS: usize = 3706;
 
-/// Builds a case so many times, and gives the digest of what was built.
+/// Builds a case so many times, and gives the digest of what was built. Pictures whose modules have
+/// pixels in them have so many along a side of each as is told, or as stands here.
+pub fn build(alloc: Global, case: Case, count: u32, pixels: Option<u32>) -> QrResult<Digest>
+    requires { IfSome pixels (λ n. n ≤ 10) }
+{
+    match pixels {
+        Some(pixels) => build_told(alloc, case, pixels, count),
+        None => build_fixed(alloc, case, count),
+    }
+}
+
+// The same where the pixels of a module are told. What is no picture, or one without pixels, is as it is
+// without.
+fn build_told(alloc: Global, case: Case, pixels: u32, count: u32) -> QrResult<Digest>
+    requires { pixels ≤ 10 }
+{
+    match case {
+        Case::HalfBlocks1 => told_text::<unicode::Dense1x2>(alloc, 14, pixels, count),
+        Case::HalfBlocks40 => told_text::<unicode::Dense1x2>(alloc, 2331, pixels, count),
+        Case::Svg1 => told_text::<svg::Color>(alloc, 14, pixels, count),
+        Case::Svg40 => told_text::<svg::Color>(alloc, 2331, pixels, count),
+        Case::Pic1 => told_text::<pic::Color>(alloc, 14, pixels, count),
+        Case::Pic40 => told_text::<pic::Color>(alloc, 2331, pixels, count),
+        Case::Pixels1 => told_pixels(alloc, 14, pixels, count),
+        Case::Pixels40 => told_pixels(alloc, 2331, pixels, count),
+        Case::Pbm40 => files::<pbm::Bit>(alloc, 2331, pixels, count),
+        Case::Eps40 => told_text::<eps::Color>(alloc, 2331, pixels, count),
+        Case::Png100 => files::<qrcode_png::Color>(alloc, 100, pixels, count),
+        Case::Png40 => files::<qrcode_png::Color>(alloc, 2331, pixels, count),
+        _ => build_fixed(alloc, case, count),
+    }
+}
+
+// The same where they stand here.
 #[tactic(auto, unfolding(qrcode_types::specs::Tables::block_table, qrcode_types::specs::Versions::blocks_entry))]
-pub fn build(alloc: Global, case: Case, count: u32) -> QrResult<Digest> {
+fn build_fixed(alloc: Global, case: Case, count: u32) -> QrResult<Digest> {
     match case {
         Case::Micro2Digits => in_version(alloc, Version::Micro(2), EcLevel::L, count),
         Case::Normal1Digits => in_version(alloc, Version::Normal(1), EcLevel::M, count),
@@ -240,6 +273,34 @@ fn pixels(alloc: Global, size: usize, count: u32) -> QrResult<Digest> {
     let code = QrCode::new(alloc, &data)?;
     repeat(count, || {
         let image = picture::<image::Luma>(alloc, &code)?;
+        Ok(of_bytes(&image.into_raw()))
+    })
+}
+
+// Texts and rows of pixels of the same, with so many pixels a module.
+fn told_text<P: Pixel<Image = String>>(
+    alloc: Global,
+    size: usize,
+    pixels: u32,
+    count: u32,
+) -> QrResult<Digest>
+    requires { pixels ≤ 10 }
+{
+    let data = repeated(alloc, WORDS, size)?;
+    let code = QrCode::new(alloc, &data)?;
+    repeat(count, || {
+        let text = scaled::<P>(alloc, &code, pixels)?;
+        Ok(of_bytes(text.as_bytes()))
+    })
+}
+
+fn told_pixels(alloc: Global, size: usize, pixels: u32, count: u32) -> QrResult<Digest>
+    requires { pixels ≤ 10 }
+{
+    let data = repeated(alloc, WORDS, size)?;
+    let code = QrCode::new(alloc, &data)?;
+    repeat(count, || {
+        let image = scaled::<image::Luma>(alloc, &code, pixels)?;
         Ok(of_bytes(&image.into_raw()))
     })
 }

@@ -19,10 +19,12 @@ fn main(rt: HostRuntime) -> ExitCode {
         Ok(mut args) => {
             let case = args.nth(1);
             let count = args.next();
+            let pixels = args.next();
             match run(
                 rt.alloc(),
                 text_of(&case),
                 text_of(&count),
+                text_of(&pixels),
                 &mut rt.stdout(),
             ) {
                 Ok(()) => return ExitCode::SUCCESS,
