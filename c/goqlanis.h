@@ -305,7 +305,7 @@ uint32_t goq_width(uint32_t version);
 bool goq_is_functional(uint32_t version, uint32_t x, uint32_t y);
 
 /* The picture of modules, `width` along a side, dark where a byte is not zero, with a quiet zone of `zone` modules at each side and `scale` pixels a module:
-   at the beginning of `out`, and its length in bytes to `count`. A text has no zero behind it.
+   at the beginning of `out`, and its length in bytes to `count`. A text has no zero behind it. GOQ_MODULES_MAX * 80 + 400 bytes are room for any SVG, PIC or EPS.
    GOQ_NO_SUCH_FORMAT, GOQ_NOT_SQUARE, GOQ_NO_SUCH_SIZE, GOQ_SMALL_BUFFER, GOQ_OUT_OF_MEMORY. */
 uint32_t goq_draw(const uint8_t *modules, size_t modules_length, uint32_t width, uint32_t zone, uint32_t scale, uint32_t format, uint8_t *out,
     size_t out_length, size_t *count);

@@ -3,7 +3,7 @@
 ghost use Rattle.std.specs.Prelude.{◌≡◌, ◌+◌, ◌*◌, ◌^◌, ◌<◌, ◌≤◌, true, false, [], ◌∷◌, length, codes, None, IfOk, OnOk, OnErr, IsOkUnless};
 ghost use Rattle.qrcode_types.specs.declared.types.QrError.TheVariants.{OutOfMemory};
 ghost use Rattle.qrcode_png.specs.Shown.{IsFileOf};
-ghost use Rattle.qrcode_render.specs.Eps.{eps_text};
+ghost use Rattle.qrcode_render.specs.Eps.{eps_start, eps_text};
 ghost use Rattle.qrcode_render.specs.Files.{pbm_file};
 ghost use Rattle.qrcode_render.specs.Half.{is_dark_half};
 ghost use Rattle.qrcode_render.specs.Layout.{layout};
@@ -17,7 +17,8 @@ ghost use Rattle.goqlanis_c.specs.Drawings.{format_named, colors_of, black, whit
 
 use qrcode::render::grid::Grid;
 use qrcode::render::image::Luma;
-use qrcode::render::pbm::Bit;
+use qrcode::render::page::Finish;
+use qrcode::render::pbm::{self, Bit};
 use qrcode::render::unicode::{Dense1x2, HalfBlocks};
 use qrcode::render::{Pixel, Renderer, eps, pic, svg};
 use qrcode::types::{Color, QrResult};
@@ -194,10 +195,10 @@ fn as_png(alloc: Global, modules: &[u8], width: u32, zone: u32, scale: u32) -> Q
         (picture (layout width zone scale scale) (colors_of modules.now)) black white None bytes.items) }
     ensures memory { IsOkUnless result OutOfMemory }
 {
-    let colors = colors_of(alloc, modules)?;
-    Renderer::<qrcode_png::Color>::new(&colors, width as usize, zone)
-        .module_size(scale)
-        .build(alloc)
+    let grid = Grid::of_bytes(modules, width, zone, scale, scale);
+    let dark = qrcode_png::Color::default_color(Color::Dark);
+    let light = qrcode_png::Color::default_color(Color::Light);
+    qrcode_png::File::image(alloc, &grid, dark, light)
 }
 
 // A PBM file.
@@ -211,10 +212,8 @@ fn as_pbm(alloc: Global, modules: &[u8], width: u32, zone: u32, scale: u32) -> Q
         (picture (layout width zone scale scale) (colors_of modules.now))) }
     ensures memory { IsOkUnless result OutOfMemory }
 {
-    let colors = colors_of(alloc, modules)?;
-    Renderer::<Bit>::new(&colors, width as usize, zone)
-        .module_size(scale)
-        .build(alloc)
+    let grid = Grid::of_bytes(modules, width, zone, scale, scale);
+    pbm::File::image(alloc, &grid, Bit::Black, Bit::White)
 }
 
 /// Writes the greys of the pixels of modules, so many along a side, into a buffer that has as many
@@ -320,6 +319,33 @@ fn pic_into(
         .put(alloc, out)
 }
 
+// Writes the text of EPS into a buffer that has room for any.
+fn eps_into(
+    alloc: Global,
+    modules: &[u8],
+    width: u32,
+    zone: u32,
+    scale: u32,
+    out: &mut [u8],
+) -> QrResult<Option<usize>>
+    requires square { length modules.now ≡ width * width }
+    requires side { width + 2 * zone < 2 ^ 16 }
+    requires scale { scale < 2 ^ 16 }
+    requires positive { 1 ≤ scale }
+    ensures drawing { let side = (width + 2 * zone) * scale in IfOk result (IsPutWhere
+        (eps_text (layout width zone scale scale) (colors_of modules.now)
+        (eps_grey 0) (eps_grey 255))
+        (length (eps_start side side (eps_grey 0) (eps_grey 255))
+        + length (colors_of modules.now) * 80 + 15) out.old out.new) }
+    ensures unchanged { OnErr result (out.new ≡ out.old) }
+    ensures memory { IsOkUnless result OutOfMemory }
+{
+    let colors = colors_of(alloc, modules)?;
+    Renderer::<eps::Color>::new(&colors, width as usize, zone)
+        .module_size(scale)
+        .put(alloc, out)
+}
+
 /// Writes the text of modules, so many along a side, into the beginning of a buffer, and answers how
 /// long it is; or None, where the format is not written so or the buffer has not room for any such
 /// text. Refuses with `OutOfMemory` alone. Then, and where it answers None, the buffer is as it was.
@@ -352,6 +378,7 @@ pub(crate) fn draw_into(
         }
         Format::Svg => svg_into(alloc, modules, width, zone, scale, out),
         Format::Pic => pic_into(alloc, modules, width, zone, scale, out),
+        Format::Eps => eps_into(alloc, modules, width, zone, scale, out),
         _ => Ok(None),
     }
 }

@@ -2,7 +2,7 @@ use Rattle.std.proofs.Common.{refl, sym, subst}
 use Rattle.std.specs.Prelude.{IfOk}
 use Rattle.std.proofs.lemmas.Result.{IfOk-weaker}
 use Rattle.goqlanis_c.specs.Drawings.{IsDrawnInto}
-use Rattle.goqlanis_c.specs.declared.drawing.Format.TheVariants.{HalfBlocks, LightHalfBlocks, Svg, Pic}
+use Rattle.goqlanis_c.specs.declared.drawing.Format.TheVariants.{HalfBlocks, LightHalfBlocks, Svg, Pic, Eps}
 use Rattle.goqlanis_c.proofs.Put.{drawn_into}
 use Rattle.goqlanis_c.proofs.drawing.draw_into.Goals as goal
 
@@ -37,3 +37,11 @@ returns-in-Pic-clause-drawing c =
     let new = c.pic_into.new.out in
     subst (λ f. IfOk c.pic_into.result (IsDrawnInto f a.modules.now a.width a.zone a.scale old new)) (sym c.in-Pic.is)
     (IfOk-weaker c.pic_into.result _ _ (λ at put. drawn_into Pic a.modules.now a.width a.zone a.scale _ _ old new at refl put) c.pic_into.ensures.drawing)
+
+pub returns-in-Eps-clause-drawing : goal.returns-in-Eps-clause-drawing
+returns-in-Eps-clause-drawing c =
+    let a = c.args in
+    let old = a.out.now in
+    let new = c.eps_into.new.out in
+    subst (λ f. IfOk c.eps_into.result (IsDrawnInto f a.modules.now a.width a.zone a.scale old new)) (sym c.in-Eps.is)
+    (IfOk-weaker c.eps_into.result _ _ (λ at put. drawn_into Eps a.modules.now a.width a.zone a.scale _ _ old new at refl put) c.eps_into.ensures.drawing)
