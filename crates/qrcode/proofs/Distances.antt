@@ -4,11 +4,6 @@ use Rattle.std.proofs.lemmas.Bool.{cases_eq, eq-eqb, ne_eqb}
 use Rattle.qrcode_types.specs.Bits.{bit_distance}
 use Rattle.qrcode_ec.specs.Codes.{distance}
 
-pub bit_distance-same : (a : List Bool) → bit_distance a a ≡ 0
-bit_distance-same [] = refl
-bit_distance-same (true ∷ a) = omega (arith, bit_distance-same a)
-bit_distance-same (false ∷ a) = omega (arith, bit_distance-same a)
-
 pub bit_distance-turned : (a b : List Bool) → bit_distance a b ≡ bit_distance b a
 bit_distance-turned [] [] = refl
 bit_distance-turned [] (true ∷ b) = refl
@@ -37,9 +32,6 @@ bit_distance-through (false ∷ a) (false ∷ b) (false ∷ c) h k = omega (arit
 abbrev mark : ℕ → ℕ → ℕ
 mark x y = cond (eqb x y) 0 1
 
-mark-same : (x : ℕ) → mark x x ≡ 0
-mark-same x = ap (λ t. cond t 0 1) (eq-eqb x x refl)
-
 mark_cases : (x y : ℕ) → ((x ≡ y) × (mark x y ≡ 0)) ⊎ ((x ≡ y → ⊥) × (mark x y ≡ 1))
 mark_cases x y = elim (cases_eq x y) [
   | inl e ↦ inl (e, ap (λ t. cond t 0 1) (eq-eqb x y e))
@@ -60,10 +52,6 @@ mark-through x y z = elim (mark_cases x z) [
     | inl f ↦ elim (mark_cases y z) [ inl g ↦ absurd (e.0 (f.0 ∙ g.0)) | inr g ↦ omega (arith, e.1, f.1, g.1) ]
   ]
 ]
-
-pub distance-same : (a : List ℕ) → distance a a ≡ 0
-distance-same [] = refl
-distance-same (x ∷ a) = ap₂ (λ m n. m + n) (mark-same x) (distance-same a)
 
 pub distance-turned : (a b : List ℕ) → distance a b ≡ distance b a
 distance-turned [] [] = refl

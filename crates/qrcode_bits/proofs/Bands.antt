@@ -2,7 +2,7 @@
 use Rattle.std.proofs.Common.{◌≡◌, ℕ, zero, suc, ◌+◌, ◌-◌, ◌*◌, ◌≤◌, Bool, true, ◌&&◌, List, [], ◌∷◌, length, refl, ap, subst, ◌∙◌, arith, pos, IsTrue, inl, inr}
 use Rattle.std.specs.Prelude.{nat_le, slice_range}
 use Rattle.std.specs.List.{AllByRecursion}
-use Rattle.std.proofs.lemmas.Bool.{agree_below, agree_below_at, and_parts, and_from, cases_lt, leb-true, le-leb, lt-leb}
+use Rattle.std.proofs.lemmas.Bool.{agree_below, agree_below_at, and_parts, cases_lt, leb-true, le-leb, lt-leb}
 use Rattle.std.proofs.lemmas.Bool.Decides.{nat_tests}
 use Rattle.std.proofs.lemmas.List.Sums.{sum_by-cons}
 use Rattle.std.proofs.lemmas.List.{take_all}
@@ -43,29 +43,11 @@ normal_level (suc n) l h k =
     let c = and_parts (has_level v Q) (has_level v H) b.1 in
     elim l as (λ l. IsTrue (has_level v l)) [ L ↦ a.0 | M ↦ b.0 | Q ↦ c.0 | H ↦ c.1 ]
 
-pub normal_valid : (n : ℕ) → 1 ≤ n → n ≤ 40 → IsTrue (is_valid (Normal (pos n)))
-normal_valid n some most = and_from _ _ (le-leb 1 n some) (le-leb n 40 most)
-
 pub normal_number : (n : ℕ) (l : EcLevel) → IsTrue (has_level (Normal (pos n)) l) → (1 ≤ n) × (n ≤ 40)
 normal_number n l has =
     let valid = and_parts (is_valid (Normal (pos n))) _ has in
     let within = and_parts (nat_le 1 n) (nat_le n 40) valid.0 in
     (leb-true 1 n within.0, leb-true n 40 within.1)
-
--- ---- costs
-band_le : (i j a b c : ℕ) → i ≤ j → a ≤ b → b ≤ c → by_band i a b c ≤ by_band j a b c
-band_le i j a b c h p q = grind (arith, nat_tests)
-
-width_le : (i j : ℕ) (m : Mode) → i ≤ j → length_bits_count m (Normal (pos i)) ≤ length_bits_count m (Normal (pos j))
-width_le i j Numeric h = band_le i j 10 12 14 h (omega arith) (omega arith)
-width_le i j Alphanumeric h = band_le i j 9 11 13 h (omega arith) (omega arith)
-width_le i j Byte h = band_le i j 8 16 16 h (omega arith) (omega arith)
-width_le i j Kanji h = band_le i j 8 10 12 h (omega arith) (omega arith)
-
--- no cut takes fewer bits in a higher version
-pub cost_le : (i j : ℕ) (ss : List Segment) → i ≤ j → total_cost (Normal (pos i)) ss ≤ total_cost (Normal (pos j)) ss
-cost_le i j [] h = omega arith
-cost_le i j (s ∷ ss) h = omega (arith, sum_by-cons (cost (Normal (pos i))) s ss, sum_by-cons (cost (Normal (pos j))) s ss, width_le i j s.mode h, cost_le i j ss h)
 
 -- the last version of a band
 abbrev pub last_of : ℕ → ℕ
@@ -129,9 +111,6 @@ same_band first k low high = elim (cases_lt 9 first) [
             rw (e, e', h, g) refl
       ]
 ]
-
-pub last_of-le : (n : ℕ) → n ≤ 40 → n ≤ last_of n
-last_of-le n h = grind (arith, nat_tests)
 
 pub last_of-most : (n : ℕ) → last_of n ≤ 40
 last_of-most n = grind (arith, nat_tests)

@@ -49,10 +49,6 @@ terminator_fits v l used exists fits =
     cond-false (not (has_level v l)) (Some InvalidVersion) _ (ap not exists)
     ∙ cond-true (nat_le used (capacity v l)) None (Some DataTooLong) (le-leb used (capacity v l) fits)
 
--- a count that is refused refuses the piece
-pub by_count : (v : Version) (used : ℕ) (p : Piece) (e : QrError) → count_refusal v used p.mode (character_count p.mode (length p.chunk)) ≡ Some e → piece_refusal v used p ≡ Some e
-by_count v used p e h = ap (λ o. option_or o (if is_checked p.mode && not (can_write p.mode p.chunk) then Some InvalidCharacter else None)) h
-
 -- a count that is not refused: its mode exists, it fits its length field, and the list has room
 pub record Takes (v : Version) (used : ℕ) (m : Mode) (count : ℕ) : Type 0 where
   pub mode : IsTrue (has_mode v m)

@@ -12,7 +12,7 @@ length-number_bits zero n = refl
 length-number_bits (suc count) n = ap suc (length-number_bits count n)
 
 -- two lists that begin with as many items
-same_front : {X : Type 0} (a b x y : List X) → length a ≡ length b → a ++ x ≡ b ++ y → (a ≡ b) × (x ≡ y)
+pub same_front : {X : Type 0} (a b x y : List X) → length a ≡ length b → a ++ x ≡ b ++ y → (a ≡ b) × (x ≡ y)
 same_front [] [] x y l e = (refl, e)
 same_front [] (b ∷ v) x y l e = cc
 same_front (a ∷ u) [] x y l e = cc

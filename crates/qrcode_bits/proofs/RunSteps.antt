@@ -1,5 +1,5 @@
 -- How runs begin, go on and end, token by token.
-use Rattle.std.proofs.Common.{◌≡◌, ℕ, ◌+◌, ◌-◌, ◌≤◌, length, arith, subst, Bool, true, false, List, [], ◌∷◌, refl, ◌∙◌, ap, cond}
+use Rattle.std.proofs.Common.{◌≡◌, ℕ, ◌+◌, ◌-◌, ◌≤◌, length, arith, subst, Bool, true, false, List, [], ◌∷◌, refl, cond}
 use Rattle.qrcode_bits.specs.declared.optimize.Segment.{Segment}
 use Rattle.qrcode_bits.specs.declared.optimize.Kind.{Kind}
 use Rattle.qrcode_bits.specs.declared.optimize.Kind.TheVariants.{Pair, LoneLead, Digit, Letter, Other}
@@ -56,22 +56,9 @@ runs_after-more k j begin end ks e =
 pub runs_after-over : (k : Kind) (begin end : ℕ) (ks : List Kind) → goes_on k ks ≡ false → runs_after k begin end ks ≡ segment k begin end ∷ runs_from end ks
 runs_after-over k begin end ks e = rw e refl
 
--- the first token of the bytes begins a run
-pub run-begins : (k : Kind) (begin : ℕ) (bs rest : List ℕ) → kinds bs ≡ k ∷ kinds rest → length bs ≡ width k + length rest → runs_from begin (kinds bs) ≡ runs_after k begin (begin + (length bs - length rest)) (kinds rest)
-run-begins k begin bs rest e n =
-    let w : length bs - length rest ≡ width k = omega arith in rw (w, e) refl
-
 -- the next token goes on with it
 pub run-goes_on : (k j : Kind) (begin : ℕ) (bs mid rest : List ℕ) → go_together k j ≡ true → length mid ≤ length bs → kinds mid ≡ j ∷ kinds rest → length mid ≡ width j + length rest
     → runs_after k begin (begin + (length bs - length mid)) (kinds mid) ≡ runs_after k begin (begin + (length bs - length rest)) (kinds rest)
 run-goes_on k j begin bs mid rest on le e n =
     let w : begin + (length bs - length rest) ≡ begin + (length bs - length mid) + width j = omega arith in
     rw (w, e) (runs_after-more k j begin (begin + (length bs - length mid)) (kinds rest) on)
-
--- the bytes end
-pub run-ends : (k : Kind) (begin end : ℕ) (rest : List ℕ) → rest ≡ [] → runs_after k begin end (kinds rest) ≡ segment k begin end ∷ runs_from end (kinds rest)
-run-ends k begin end rest e = rw e refl
-
--- the next token is of another run
-pub run-over : (k j : Kind) (begin end : ℕ) (rest after : List ℕ) → kinds rest ≡ j ∷ kinds after → go_together k j ≡ false → runs_after k begin end (kinds rest) ≡ segment k begin end ∷ runs_from end (kinds rest)
-run-over k j begin end rest after e not_on = runs_after-over k begin end (kinds rest) (ap (goes_on k) e ∙ not_on)

@@ -4,7 +4,6 @@ use Rattle.std.specs.Prelude.{slice_range}
 use Rattle.std.specs.List.{list_all, AllByRecursion}
 use Rattle.std.proofs.lemmas.Bool.{and_parts, and_from}
 use Rattle.std.proofs.lemmas.List.{length-take-le, length-drop}
-use Rattle.qrcode_types.specs.Bits.{AreBytes}
 use Rattle.qrcode_types.specs.declared.types.Mode.{Mode}
 use Rattle.qrcode_types.specs.declared.types.Mode.TheVariants.{Numeric, Alphanumeric, Byte, Kanji}
 use Rattle.qrcode_types.specs.Characters.{is_digit, is_alphanumeric, is_kanji, are_kanji, can_write, bytes_each}
@@ -31,14 +30,6 @@ pub all-drop : {X : Type 0} (P : X → Type 0) (n : ℕ) (xs : List X) → AllBy
 all-drop P zero xs a = a
 all-drop P (suc n) [] a = a
 all-drop P (suc n) (x ∷ xs) a = all-drop P n xs a.1
-
-pub all-take : {X : Type 0} (P : X → Type 0) (n : ℕ) (xs : List X) → AllByRecursion P xs → AllByRecursion P (take n xs)
-all-take P zero xs a = tt
-all-take P (suc n) [] a = a
-all-take P (suc n) (x ∷ xs) a = (a.0, all-take P n xs a.1)
-
-pub range_bytes : (bytes : List ℕ) (a b : ℕ) → AreBytes bytes → AreBytes (slice_range bytes a b)
-range_bytes bytes a b are = all-take (λ n. n < 256) (b - a) (drop a bytes) (all-drop (λ n. n < 256) a bytes are)
 
 list_all_both : (p : ℕ → Bool) (a b : List ℕ) → list_all p a ≡ true → list_all p b ≡ true → list_all p (a ++ b) ≡ true
 list_all_both p [] b h k = k

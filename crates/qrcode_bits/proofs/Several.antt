@@ -61,10 +61,6 @@ pub small_inside : (n : ℕ) (ss : List Segment) → n ≤ 134217728 → AreInsi
 small_inside n [] small h = tt
 small_inside n (s ∷ ss) small h = ((h.0.0, omega (arith, h.0.1, small)), small_inside n ss small h.1)
 
--- no segment yet
-pub pushes_none : (v : Version) (old : List Bool) (bytes : List ℕ) → PushesAll v old bytes [] old
-pushes_none v old bytes = record { taken = refl; bits = sym (append-nil old); longer = omega arith }
-
 -- one segment more
 pushes_more : (v : Version) (old : List Bool) (bytes : List ℕ) (ss : List Segment) (s : Segment) (now new : List Bool) → s.begin ≤ s.end → s.end ≤ length bytes
     → PushesAll v old bytes ss now → piece_refusal v (length now) (piece_of bytes s) ≡ None → new ≡ now ++ written_piece v (piece_of bytes s) → PushesAll v old bytes (ss ++ s ∷ []) new

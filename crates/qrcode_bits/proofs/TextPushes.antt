@@ -21,7 +21,7 @@ use Rattle.qrcode_bits.specs.Written.{Piece, written, written_piece, pieces_of, 
 use Rattle.qrcode_bits.specs.declared.bits.manner.Manner.{Manner}
 use Rattle.qrcode_bits.specs.declared.optimize.Segment.{Segment}
 use Rattle.qrcode_bits.proofs.Automatic.{held_short}
-use Rattle.qrcode_bits.proofs.Changed.{list_of, append_fits, append_long}
+use Rattle.qrcode_bits.proofs.Changed.{list_of, append_fits}
 use Rattle.qrcode_bits.proofs.CutPieces.{cut_pieces, length-written}
 use Rattle.qrcode_bits.proofs.Fitting.{cut_stop, readable_stop}
 use Rattle.qrcode_bits.proofs.Lengths.{length-piece}
@@ -56,11 +56,6 @@ stop_refusal v old ps new s =
       each : (o : Option Piece) (m n : ℕ) → m ≡ n → IfSome o (λ p. IsCause (piece_refusal v m p) DataTooLong) → IfSome o (λ p. piece_refusal v n p ≡ Some DataTooLong)
       each None m n e h = tt
       each (Some p) m n e h = ap (λ k. piece_refusal v k p) (sym e) ∙ too_long (piece_refusal v m p) h
-
--- the bits in front have no room
-pub front_long : (m : Manner) (bytes : List ℕ) (list : BitList) (ss : List Segment) → IsLeastCutIn (modes_of m) list.version bytes ss → bit_limit < length list.bits + length (front m) → HasNoRoom m bytes list
-front_long m bytes list ss least long =
-    (ss, (least, ap (λ o. option_or o (pieces_refusal list.version (length list.bits + length (front m)) (pieces_of bytes ss))) (append_long (length list.bits) (front m) long)))
 
 -- or a piece is too long
 piece_long : (m : Manner) (bytes : List ℕ) (list : BitList) (ss : List Segment) (new : List Bool) → IsLeastCutIn (modes_of m) list.version bytes ss → length list.bits + length (front m) ≤ bit_limit

@@ -71,9 +71,5 @@ header_is set v m has = cond-true (allows set v m) (mode_bits_count v + length_b
 pub header_tells : (set : Modes) (v : Version) (m : Mode) → header set v m < more_than_any → allows set v m ≡ true
 header_tells set v m = cond_both (allows set v m) (mode_bits_count v + length_bits_count m v) more_than_any (λ n. n < more_than_any → allows set v m ≡ true) (λ has _. has) (λ lacks below. absurd (omega (arith, below)))
 
--- a header is short, or it is more than any data takes
-pub header_bound : (set : Modes) (v : Version) (m : Mode) → IsTrue (is_valid v) → header set v m ≤ more_than_any
-header_bound set v m valid = cond_both (allows set v m) (mode_bits_count v + length_bits_count m v) more_than_any (λ n. n ≤ more_than_any) (λ _. omega (arith, header_short v m valid)) (λ _. omega arith)
-
 pub header_below : (set : Modes) (v : Version) (m : Mode) → IsTrue (is_valid v) → header set v m < more_than_any → header set v m ≤ 24
 header_below set v m valid below = omega (arith, header_is set v m (header_tells set v m below), header_short v m valid)

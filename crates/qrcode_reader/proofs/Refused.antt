@@ -90,14 +90,6 @@ blocked s v l k words e square format same refused = elim refused [
       subst (λ e. IsBitCause s e) (sym found.1) is
 ]
 
--- why there are no bits is why there are no bytes
-pub bytes_too : (s : List Color) (e : Unread) → IsBitCause s e → IsCause s e
-bytes_too s NoSuchSide cause = cause
-bytes_too s NoFormat cause = cause
-bytes_too s (Damaged b) cause = cause
-bytes_too s NotSpelled cause = absurd cause
-bytes_too s OutOfMemory cause = tt
-
 pub bytes_only_memory : (s : List Color) (e : Unread) → IsCause s e → (bytes : List ℕ) → Reads s bytes → e ≡ OutOfMemory
 bytes_only_memory s NoSuchSide cause bytes q = only_memory s NoSuchSide cause q.version q.level q.bits q.read
 bytes_only_memory s NoFormat cause bytes q = only_memory s NoFormat cause q.version q.level q.bits q.read

@@ -10,7 +10,8 @@ use Rattle.qrcode_bits.proofs.Numbers.{same_number, length-number_bits}
 use Rattle.qrcode_bits.proofs.Lengths.{length-data}
 use Rattle.qrcode_bits.proofs.Spellings.{indicator-small, same_mode}
 use Rattle.qrcode_spell.specs.Steps.{AreWrittenAs, BeginsWithNumber, BeginsWithData, BeginsWithPiece}
-use Rattle.qrcode_spell.proofs.Groups.{same_front, same_count}
+use Rattle.qrcode_bits.proofs.Numbers.{same_front}
+use Rattle.qrcode_spell.proofs.Groups.{same_count}
 use Rattle.qrcode_spell.proofs.Refused.{length_of_written}
 
 -- no length field

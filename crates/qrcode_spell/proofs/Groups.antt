@@ -1,5 +1,5 @@
 -- How the bits of characters begin with those of the first of them.
-use Rattle.std.proofs.Common.{◌≡◌, ◌==◌, ◌≤◌, ◌<◌, ◌-◌, ◌+◌, ◌*◌, ◌^◌, ℕ, ◌++◌, List, [], ◌∷◌, Bool, true, ◌&&◌, length, refl, sym, ap, ap₂, subst, ◌∙◌, arith, ◌⊎◌, inl, inr, min, append_assoc, append-nil, length-append, true≢false}
+use Rattle.std.proofs.Common.{◌≡◌, ◌≤◌, ◌-◌, ◌+◌, ◌*◌, ℕ, ◌++◌, List, [], ◌∷◌, Bool, true, ◌&&◌, length, refl, sym, ap, ap₂, subst, ◌∙◌, arith, ◌⊎◌, inl, inr, min, append_assoc, append-nil, length-append, true≢false}
 use Rattle.std.specs.List.{list_all}
 use Rattle.std.specs.Prelude.{nat_lt, flat_map}
 use Rattle.std.proofs.lemmas.Bool.{and_parts}
@@ -11,19 +11,9 @@ use Rattle.qrcode_types.specs.declared.types.Mode.TheVariants.{Numeric, Alphanum
 use Rattle.qrcode_bits.specs.Written.{data_bits_in, numeric_bits, alphanumeric_bits, kanji_bits}
 use Rattle.qrcode_bits.proofs.Chunks.{same_data}
 use Rattle.qrcode_bits.proofs.Lengths.{length-data}
+use Rattle.qrcode_bits.proofs.Numbers.{same_front}
 use Rattle.qrcode_spell.specs.Steps.{group_bits, AreWrittenAs}
 use Rattle.qrcode_spell.proofs.Refused.{length_of_written}
-
--- two lists that begin with as many items
-pub same_front : {X : Type 0} (a b x y : List X) → length a ≡ length b → a ++ x ≡ b ++ y → (a ≡ b) × (x ≡ y)
-same_front [] [] x y l e = (refl, e)
-same_front [] (b ∷ v) x y l e = cc
-same_front (a ∷ u) [] x y l e = cc
-same_front {X = X} (a ∷ u) (b ∷ v) x y l e =
-    let heads : a ≡ b = cc in
-    let tails : u ++ x ≡ v ++ y = cc in
-    let r = same_front u v x y (omega arith) tails in
-    (ap₂ (λ (h : X) (t : List X). h ∷ t) heads r.0, r.1)
 
 -- the first characters, which are written together
 record FirstGroup (m : Mode) (bytes : List ℕ) : Type 0 where
