@@ -27,23 +27,3 @@ pub struct Entry {
     pub takes: Takes,
     pub help: &'static str,
 }
-
-impl Entry {
-    /// Whether a word of a command line may name it: by its name behind two hyphens, or by its letter
-    /// behind one.
-    pub fn is_named_by(&self, word: &[u8]) -> bool {
-        match word {
-            [b'-', b'-', name @ ..] => {
-                matches!(
-                    name.strip_prefix(self.long.as_bytes()),
-                    Some([] | [b'=', ..])
-                )
-            }
-            [b'-', letters @ ..] => match self.short {
-                Some(letter) => letters.iter().any(|byte| char::from(*byte) == letter),
-                None => false,
-            },
-            _ => false,
-        }
-    }
-}

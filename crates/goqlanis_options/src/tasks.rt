@@ -125,18 +125,6 @@ impl Task {
         Ok(all)
     }
 
-    /// The options among these that words of a command line may name. To read these words no others
-    /// need to be known.
-    pub fn named_options(
-        &self,
-        alloc: Global,
-        words: &[String],
-    ) -> Result<Vec<&'static Entry>, AllocError> {
-        let mut named = self.all_options(alloc)?;
-        named.retain(|entry| words.iter().any(|word| entry.is_named_by(word.as_bytes())));
-        Ok(named)
-    }
-
     // Whether an option of drawing is beside its own: none that gives the data, where the format says
     // the level none that says it, and of elements none that goes with texts alone.
     fn goes_with(&self, option: &str) -> bool {
