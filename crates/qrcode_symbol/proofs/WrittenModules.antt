@@ -1,45 +1,69 @@
 -- Rows that are written as colours.
-use Rattle.std.proofs.Common.{◌≡◌, ℕ, zero, suc, ◌+◌, ◌*◌, ◌/◌, ◌%◌, ◌^◌, ◌<◌, [], map, slice_index_or, refl, ap, ◌∙◌, arith}
-use Rattle.std.specs.List.{range_with_len}
-use Rattle.std.proofs.Math.ListN.{get_or-map}
-use Rattle.std.proofs.lemmas.List.FromFn.{get_or-map-range_with_len}
+use Rattle.std.proofs.Common.{◌≡◌, ℕ, zero, suc, ◌+◌, ◌-◌, ◌*◌, ◌/◌, ◌%◌, ◌^◌, ◌<◌, ◌≤◌, List, ◌++◌, length, take, length-take, slice_index_or, refl, ap, ◌∙◌, inl, inr, arith}
+use Rattle.std.specs.Int.{w64, to_le_bytes}
+use Rattle.std.proofs.lemmas.Bool.Decides.{leb_tells}
+use Rattle.std.proofs.lemmas.List.{length-append, get_or_append_left, get_or-append-add, get_or-take}
 use Rattle.qrcode_types.specs.Colors.{color_of}
-use Rattle.qrcode_packed.specs.Rows.{is_set}
-use Rattle.qrcode_packed.proofs.Places.{has_shr}
 use Rattle.qrcode_types.specs.declared.types.Color.{Color}
 use Rattle.qrcode_types.specs.declared.types.Color.TheVariants.{Light}
-use Rattle.qrcode_symbol.specs.declared.canvas.unpacking.TheConstants.{FOURS}
+use Rattle.qrcode_packed.specs.Rows.{is_set}
+use Rattle.qrcode_packed.proofs.Places.{has_shr}
+use Rattle.qrcode_symbol.specs.Unpacking.{IsRowWritten}
 use Rattle.qrcode_symbol.proofs.MaskRows.{has_mod}
 
--- the table of fours of the code
-fours_row : (n : ℕ) → n < 16 → slice_index_or FOURS n [] ≡ map (λ i. color_of (is_set n i)) (range_with_len 0 4)
-unfolding is_set
-fours_row zero h = refl
-fours_row (suc zero) h = refl
-fours_row (suc (suc zero)) h = refl
-fours_row (suc (suc (suc zero))) h = refl
-fours_row (suc (suc (suc (suc zero)))) h = refl
-fours_row (suc (suc (suc (suc (suc zero))))) h = refl
-fours_row (suc (suc (suc (suc (suc (suc zero)))))) h = refl
-fours_row (suc (suc (suc (suc (suc (suc (suc zero))))))) h = refl
-fours_row (suc (suc (suc (suc (suc (suc (suc (suc zero)))))))) h = refl
-fours_row (suc (suc (suc (suc (suc (suc (suc (suc (suc zero))))))))) h = refl
-fours_row (suc (suc (suc (suc (suc (suc (suc (suc (suc (suc zero)))))))))) h = refl
-fours_row (suc (suc (suc (suc (suc (suc (suc (suc (suc (suc (suc zero))))))))))) h = refl
-fours_row (suc (suc (suc (suc (suc (suc (suc (suc (suc (suc (suc (suc zero)))))))))))) h = refl
-fours_row (suc (suc (suc (suc (suc (suc (suc (suc (suc (suc (suc (suc (suc zero))))))))))))) h = refl
-fours_row (suc (suc (suc (suc (suc (suc (suc (suc (suc (suc (suc (suc (suc (suc zero)))))))))))))) h = refl
-fours_row (suc (suc (suc (suc (suc (suc (suc (suc (suc (suc (suc (suc (suc (suc (suc zero))))))))))))))) h = refl
-fours_row (suc (suc (suc (suc (suc (suc (suc (suc (suc (suc (suc (suc (suc (suc (suc (suc n)))))))))))))))) h = absurd (omega arith)
+-- a byte of a word
+byte_is : (n k : ℕ) → k < 8 → slice_index_or (to_le_bytes w64 n) k 0 ≡ n / 2 ^ (8 * k) % 2 ^ 8
+byte_is n zero h = omega arith
+byte_is n (suc zero) h = refl
+byte_is n (suc (suc zero)) h = refl
+byte_is n (suc (suc (suc zero))) h = refl
+byte_is n (suc (suc (suc (suc zero)))) h = refl
+byte_is n (suc (suc (suc (suc (suc zero))))) h = refl
+byte_is n (suc (suc (suc (suc (suc (suc zero)))))) h = refl
+byte_is n (suc (suc (suc (suc (suc (suc (suc zero))))))) h = refl
+byte_is n (suc (suc (suc (suc (suc (suc (suc (suc k)))))))) h = absurd (omega arith)
 
--- what four colours of a line are written as, from what is left of it
-pub four_at : {S : Type 0} (of : Color → S) (rest word line j i : ℕ) → i < 4 → word ≡ rest % 2 ^ 64 → rest ≡ line / 2 ^ (4 * j) →
-    slice_index_or (map of (slice_index_or FOURS (word % 16) [])) i (of Light) ≡ of (color_of (is_set line (4 * j + i)))
-four_at of rest word line j i h e f =
-    let small : word % 16 < 16 = omega arith in
-    let turn : i + 4 * j ≡ 4 * j + i = omega arith in
-    get_or-map of (slice_index_or FOURS (word % 16) []) i Light
-    ∙ ap (λ l. of (slice_index_or l i Light)) (fours_row (word % 16) small)
-    ∙ ap of (get_or-map-range_with_len (λ i. color_of (is_set (word % 16) i)) 0 4 i i Light h (omega arith))
-    ∙ ap (λ b. of (color_of b))
-    (has_mod word 4 i h ∙ ap (λ n. is_set n i) e ∙ has_mod rest 64 i (omega arith) ∙ ap (λ n. is_set n i) f ∙ has_shr line (4 * j) i ∙ ap (is_set line) turn)
+-- a bit of a word stands in one of its bytes
+pub bit_in_byte : (n x : ℕ) → x < 64 → is_set (slice_index_or (to_le_bytes w64 n) (x / 8) 0) (x % 8) ≡ is_set n x
+bit_in_byte n x h =
+    let turn : x % 8 + 8 * (x / 8) ≡ x = omega arith in
+    ap (λ b. is_set b (x % 8)) (byte_is n (x / 8) (omega arith))
+    ∙ has_mod (n / 2 ^ (8 * (x / 8))) 8 (x % 8) (omega arith)
+    ∙ has_shr n (8 * (x / 8)) (x % 8)
+    ∙ ap (is_set n) turn
+
+-- a place of what is left of a line
+pub word_at : (rest word line a x : ℕ) → x < 64 → word ≡ rest % 2 ^ 64 → rest ≡ line / 2 ^ a → is_set word x ≡ is_set line (a + x)
+word_at rest word line a x h e f =
+    let turn : x + a ≡ a + x = omega arith in
+    ap (λ n. is_set n x) e ∙ has_mod rest 64 x h ∙ ap (λ n. is_set n x) f ∙ has_shr line a x ∙ ap (is_set line) turn
+
+-- the places of a word, appended as items
+pub chunk_written : {S : Type 0} (of : Color → S) (word count : ℕ) (old chunk new : List S) → new ≡ old ++ take count chunk → count ≤ 64 → length chunk ≡ 64
+    → ((x : ℕ) → x < 64 → slice_index_or chunk x (of Light) ≡ of (color_of (is_set word x))) → IsRowWritten of word count old new
+chunk_written {S = S} of word count old chunk new is small long are =
+    let part : List S = take count chunk in
+    let size : length part ≡ count = omega (arith, length-take count chunk, long, small) in
+    record {
+      size = ap length is ∙ length-append old part ∙ ap (λ n. length old + n) size;
+      before = λ i h. ap (λ l. slice_index_or l i (of Light)) is ∙ get_or_append_left old part (of Light) i h;
+      shown = λ x h.
+          ap (λ l. slice_index_or l (length old + x) (of Light)) is ∙ get_or-append-add old part x (of Light) ∙ get_or-take count chunk x (of Light) h ∙ are x (omega (arith, h, small));
+    }
+
+-- the next places of a line
+pub row_more : {S : Type 0} (of : Color → S) (line word a b : ℕ) (old mid new : List S) → IsRowWritten of line a old mid → IsRowWritten of word b mid new
+    → ((x : ℕ) → x < b → is_set word x ≡ is_set line (a + x)) → IsRowWritten of line (a + b) old new
+row_more of line word a b old mid new first next same = record {
+  size = omega (arith, first.size, next.size);
+  before = λ i h. next.before i (omega (arith, h, first.size)) ∙ first.before i h;
+  shown = λ x h. elim (leb_tells (suc x) a) [
+    | inl p ↦ next.before (length old + x) (omega (arith, p.1, first.size)) ∙ first.shown x (omega (arith, p.1))
+    | inr p ↦
+        let i = x - a in
+        let e : length old + x ≡ length mid + i = omega (arith, p.1, first.size) in
+        let turn : a + i ≡ x = omega (arith, p.1) in
+        let low : i < b = omega (arith, h, p.1) in
+        ap (λ n. slice_index_or new n (of Light)) e ∙ next.shown i low ∙ ap (λ t. of (color_of t)) (same i low ∙ ap (is_set line) turn)
+  ];
+}

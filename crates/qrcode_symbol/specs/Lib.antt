@@ -8,3 +8,4 @@ pub mod Patterned
 pub mod Penalties
 pub mod Reading
 pub mod Symbol
+pub mod Unpacking

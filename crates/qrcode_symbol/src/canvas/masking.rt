@@ -83,10 +83,10 @@ fn best_of<R: PackedRow, S: FromColor>(
     ensures memory { IsOkUnless result OutOfMemory }
 {
     let mut masked = vec![in alloc; R::first(0); packed.width]?;
-    let mut answer = vec![in alloc; S::from_color(Color::Light); packed.width * packed.width]?;
+    let mut answer = Vec::with_capacity(alloc, packed.width * packed.width)?;
     let best = least_mask(packed, &mut masked);
     mask_rows(packed, nth_mask(packed.version, best), &mut masked);
-    unpack_rows(packed.width, &masked, &mut answer);
+    unpack_rows(packed.width, &masked, &mut answer)?;
     Ok(answer)
 }
 

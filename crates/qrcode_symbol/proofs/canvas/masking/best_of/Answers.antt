@@ -1,8 +1,8 @@
-use Rattle.std.proofs.Common.{◌≡◌, ◌*◌, subst, sym, ◌∙◌, arith, map, length}
-use Rattle.std.proofs.lemmas.List.{length-replicate, take_at}
+use Rattle.std.proofs.Common.{◌≡◌, subst, sym, ◌∙◌, arith, map}
+use Rattle.std.proofs.lemmas.List.{take_at}
 use Rattle.qrcode_packed.specs.Rows.{Shows}
 use Rattle.qrcode_places.specs.Words.{format_word}
-use Rattle.qrcode_symbol.specs.Masking.{masked_dark, IsBestShown}
+use Rattle.qrcode_symbol.specs.Masking.{masked_dark}
 use Rattle.qrcode_symbol.proofs.BestMasks.{best_shown}
 use Rattle.qrcode_symbol.proofs.canvas.masking.best_of.Goals as goal
 
@@ -16,10 +16,8 @@ returns-clause-best g c = λ modules darks frees.
     let dark = packed.dark.rows in
     let free = packed.free.rows in
     let mask = c.nth_mask.result in
-    let new = c.unpack_rows.new.square in
-    let size : length new ≡ w * w = grind (arith, length-replicate) in
+    let new = c.unpack_rows.new.square.items in
     let rows : c.deref.result.now ≡ c.mask_rows.new.masked = c.deref.ensures.value ∙ take_at c.mask_rows.new.masked _ _ (omega arith) in
     let shows = subst (λ rs. Shows w (map bits rs) (masked_dark v (format_word v l mask) mask dark free)) (sym rows) c.mask_rows.ensures.shows in
-    let best = best_shown g.S.FromColor.from_color v l modules new dark free (map bits c.deref.result.now) c.least_mask-best.result w mask packed.side c.nth_mask.ensures.value
-    darks frees c.least_mask-best.ensures c.nth_mask.ensures.exists shows size c.unpack_rows.ensures in
-    subst (IsBestShown v l modules g.S.FromColor.from_color) (sym (take_at new _ _ (omega arith))) best
+    best_shown g.S.FromColor.from_color v l modules new dark free (map bits c.deref.result.now) c.least_mask-best.result w mask packed.side c.nth_mask.ensures.value
+    darks frees c.least_mask-best.ensures c.nth_mask.ensures.exists shows c.in_ok-unpack_rows.ensures.length c.in_ok-unpack_rows.ensures.shown
