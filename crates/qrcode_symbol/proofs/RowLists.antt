@@ -1,5 +1,5 @@
 -- Lists of rows, as their numbers.
-use Rattle.std.proofs.Common.{◌≡◌, ◌==◌, ◌&&◌, ◌++◌, ℕ, true, false, refl, ap₂, ◌/◌, ◌%◌, bit_and, bit_xor, ◌+◌, ◌*◌, ◌^◌, ◌<◌, ◌≤◌, Bool, List, length, take, drop, slice_index_or, slice_set, map, inl, inr, ap, sym, ◌∙◌, arith, subst, length-take, length-drop, unwrap_or}
+use Rattle.std.proofs.Common.{◌≡◌, ◌&&◌, ◌++◌, ℕ, true, false, refl, ap₂, bit_and, bit_xor, ◌+◌, ◌*◌, ◌^◌, ◌<◌, ◌≤◌, Bool, List, length, take, drop, slice_index_or, slice_set, map, inl, inr, ap, sym, ◌∙◌, arith, subst, length-take, length-drop, unwrap_or}
 use Rattle.std.proofs.lemmas.Nat.{mul-add-lt, xor_lt, and_le_l}
 use Rattle.std.proofs.lemmas.Bool.Decides.{leb_tells}
 use Rattle.std.proofs.lemmas.List.{map-set, get_or-set_other, get_or-take, get_or-drop, get_or_append_left, get_or-append-add}
@@ -86,13 +86,6 @@ decided_fit {v} {word} {w} {old} {new} {from} {y} are fits k =
 -- a row behind one that is written
 pub other_row : {A : Type 0} (f : A → ℕ) (rows : List A) (y k : ℕ) (r : A) → y < k → slice_index_or (map f (slice_set rows y r)) k 0 ≡ slice_index_or (map f rows) k 0
 other_row f rows y k r h = ap (λ l. slice_index_or l k 0) (map-set f rows y r) ∙ get_or-set_other (map f rows) y k (f r) 0 (λ e. absurd (omega arith))
-
--- the lowest bit of what is left of a row
-pub first_bit : (rest word line i : ℕ) → word ≡ rest % 2 ^ 64 → rest ≡ line / 2 ^ i → (word % 2 == 1) ≡ is_set line i
-unfolding is_set
-first_bit rest word line i e f =
-    let cut : word % 2 ≡ rest % 2 = omega arith in
-    ap (λ n. n == 1) (cut ∙ ap (λ n. n % 2) f)
 
 -- the places of a square after a part of it was written
 pub part_before : {A : Type 0} (d : A) (a k : ℕ) (xs ys : List A) (i : ℕ) → i < a → a ≤ length xs → slice_index_or (put_mid a k xs ys) i d ≡ slice_index_or xs i d

@@ -1,4 +1,4 @@
-use Rattle.std.proofs.Common.{◌≡◌, ℕ, ◌+◌, ◌*◌, ◌<◌, ap, ◌∙◌, arith, below_more, slice_index_or, length, mul_comm, map}
+use Rattle.std.proofs.Common.{◌≡◌, ℕ, ◌+◌, ◌*◌, ap, ◌∙◌, arith, below_more, slice_index_or, length, mul_comm, map}
 use Rattle.std.proofs.lemmas.Nat.{mul-add-lt}
 use Rattle.qrcode_types.specs.Colors.{color_of}
 use Rattle.qrcode_packed.specs.Rows.{is_set, dark_in}
