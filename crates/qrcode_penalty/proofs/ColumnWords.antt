@@ -1,15 +1,15 @@
 -- The words of the code for columns, place by place.
-use Rattle.std.proofs.Common.{◌≡◌, ℕ, zero, suc, ◌+◌, ◌-◌, ◌*◌, ◌<◌, ◌≤◌, Bool, true, false, not, ◌&&◌, ◌||◌, List, refl, ap, ap₂, sym, ◌∙◌, arith, count_ones, if◌then◌else◌, bit_and, bit_or, bit_xor, add_assoc, slice_index_or, length, le-leb}
+use Rattle.std.proofs.Common.{◌≡◌, ℕ, zero, suc, ◌+◌, ◌-◌, ◌*◌, ◌≤◌, Bool, true, false, not, ◌&&◌, ◌||◌, List, refl, ap, ap₂, ◌∙◌, arith, count_ones, if◌then◌else◌, bit_and, bit_or, bit_xor, add_assoc, slice_index_or, length, le-leb}
 use Rattle.std.proofs.lemmas.List.{get_or_past}
 use Rattle.std.proofs.lemmas.Nat.{or_lt}
 use Rattle.qrcode_packed.specs.Rows.{is_set}
 use Rattle.qrcode_packed.proofs.Places.{differ, has_and, has_or, has_xor, has_without, has_zero, has_above}
-use Rattle.qrcode_penalty.specs.Penalty.{sum_below, count_if, is_run, run_penalty_at, same, begins_run, block_penalty_at, finder_penalty_at, is_finder_like, is_light_from}
+use Rattle.qrcode_penalty.specs.Penalty.{sum_below, count_if, is_run, same, block_penalty_at, finder_penalty_at, is_finder_like, is_light_from}
 use Rattle.qrcode_penalty.proofs.Finders.{pad, four, finder_at}
 use Rattle.qrcode_packed.specs.Rows.{dark_in, FitsWidth}
 use Rattle.qrcode_penalty.specs.Padding.{padded_row, is_lone_form, block_penalty_in}
 use Rattle.qrcode_penalty.proofs.Sums.{sum_same, sum_plus, weigh_places}
-use Rattle.qrcode_penalty.proofs.Lines.{without, not_same}
+use Rattle.qrcode_penalty.proofs.Lines.{without}
 
 upper_test : (a b c d e : Bool) → not (((differ b c || differ c d) || differ d e) || differ a b) ≡ (same a a && (same a b && (same a c && (same a d && (same a e && true)))))
 upper_test true true true true true = refl
@@ -53,7 +53,7 @@ row rows y = slice_index_or rows y 0
 pub or_fits : (n a b w : ℕ) → w ≡ bit_or a b → FitsWidth n a → FitsWidth n b → FitsWidth n w
 or_fits n a b w e h k = rw e (or_lt n a b h k)
 
--- the words of two_column_runs
+-- the words of mixed_from and two_mixed
 abbrev pub change : List ℕ → ℕ → ℕ
 change rows y = bit_xor (row rows y) (row rows (y + 1))
 
@@ -67,25 +67,6 @@ upper_at rows y x = simp (has_or, has_xor, add_assoc) (upper_test (is_set (row r
 pub lower_at : (rows : List ℕ) (y x : ℕ) → not (is_set (bit_or (inner rows y) (change rows (y + 4))) x) ≡ is_run (dark_in rows x) (y + 1) 5
 unfolding dark_in
 lower_at rows y x = simp (has_or, has_xor, add_assoc) (lower_test (is_set (row rows (y + 1)) x) (is_set (row rows (y + 2)) x) (is_set (row rows (y + 3)) x) (is_set (row rows (y + 4)) x) (is_set (row rows (y + 5)) x))
-
-pub changes_in : (rows : List ℕ) (y x : ℕ) → 0 < y → is_set (bit_xor (row rows (y - 1)) (row rows y)) x ≡ begins_run (dark_in rows x) y
-unfolding dark_in
-changes_in rows zero x h = absurd (omega arith)
-changes_in rows (suc y) x h =
-    let e : suc y - 1 ≡ y = omega arith in
-    ap (λ i. is_set (bit_xor (row rows i) (row rows (suc y))) x) e ∙ has_xor (row rows y) (row rows (suc y)) x ∙ not_same (is_set (row rows y) x) (is_set (row rows (suc y)) x)
-
-pub changes_next : (rows : List ℕ) (y x : ℕ) → is_set (change rows y) x ≡ begins_run (dark_in rows x) (y + 1)
-changes_next rows y x =
-    let e : y + 1 - 1 ≡ y = omega arith in
-    ap (λ i. is_set (bit_xor (row rows i) (row rows (y + 1))) x) (sym e) ∙ changes_in rows (y + 1) x (omega arith)
-
--- what windows cost by the words that tell which are of two colours and which begin their run
-pub column_runs_of : (rows : List ℕ) (y n mixed begun : ℕ) → ((x : ℕ) → not (is_set mixed x) ≡ is_run (dark_in rows x) y 5) → ((x : ℕ) → x < n → is_set begun x ≡ begins_run (dark_in rows x) y) →
-    sum_below n (λ x. count_if (not (is_set mixed x)) (if is_set begun x then 3 else 1)) ≡ sum_below n (λ x. run_penalty_at (dark_in rows x) y)
-unfolding run_penalty_at
-column_runs_of rows y n mixed begun windows starts =
-    sum_same _ _ n (λ x h. ap₂ (λ (a b : Bool). count_if a (if b then 3 else 1)) (windows x) (starts x h))
 
 -- the words of column_finders
 padded_at : (rows : List ℕ) (x k : ℕ) → is_set (padded_row rows k) x ≡ pad (dark_in rows x) k

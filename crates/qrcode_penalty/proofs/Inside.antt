@@ -1,22 +1,11 @@
 -- The runs of a line by the modules inside them: each window of five counts with the two places behind it.
-use Rattle.std.proofs.Common.{◌≡◌, ℕ, zero, suc, ◌+◌, ◌*◌, ◌^◌, ◌<◌, ◌≤◌, Bool, true, false, not, ◌&&◌, ◌||◌, refl, ap, ap₂, ◌∙◌, arith, bit_or, if◌then◌else◌}
+use Rattle.std.proofs.Common.{◌≡◌, ℕ, zero, suc, ◌+◌, ◌*◌, ◌^◌, ◌<◌, ◌≤◌, Bool, true, false, not, ◌&&◌, ◌||◌, refl, ap, ap₂, sym, ◌∙◌, arith, bit_or, if◌then◌else◌}
 use Rattle.qrcode_packed.specs.Rows.{is_set}
 use Rattle.qrcode_packed.proofs.Places.{has_or, has_shl, has_shl_below}
 use Rattle.qrcode_penalty.specs.Penalty.{sum_below, count_if, same, is_run, begins_run, run_penalty_at}
+use Rattle.qrcode_penalty.specs.Inside.{before, two, three, run_from, inside_row}
 use Rattle.qrcode_penalty.proofs.Runs.{is_run-same}
-
--- the test holds of the place before, which is there
-abbrev pub before : (ℕ → Bool) → ℕ → Bool
-before v zero = false
-before v (suc k) = v k
-
--- the test holds of the place or the one before
-abbrev pub two : (ℕ → Bool) → ℕ → Bool
-two v k = v k || before v k
-
--- the test holds of the place or one of the two before
-abbrev pub three : (ℕ → Bool) → ℕ → Bool
-three v k = v k || before (two v) k
+use Rattle.qrcode_penalty.proofs.Sums.{sum_same, sum_plus, sum_swap}
 
 -- a number with itself, shifted by one place
 pub shifted_at : (a b k : ℕ) → is_set (bit_or a (b * 2 ^ 1)) k ≡ (is_set a k || before (is_set b) k)
@@ -84,3 +73,19 @@ inside_sum line v n h none =
     let here = ap (λ b. count_if (b || before (two v) n) 1) (none n (omega arith)) in
     let same_next = ap₂ (λ (a b : Bool). count_if (a || (b || before v n)) 1) (none (suc n) (omega arith)) (none n (omega arith)) in
     ap (λ m. sum_below m (λ k. count_if (three v k) 1)) e ∙ omega (arith, inside_runs line v n h, here, same_next)
+
+-- how many have one in the row before n, and in that or the one before it
+abbrev pub last_row : (ℕ → ℕ → Bool) → ℕ → ℕ → ℕ
+last_row dark m n = sum_below m (λ x. count_if (before (run_from dark x) n) 1)
+
+abbrev pub both_row : (ℕ → ℕ → Bool) → ℕ → ℕ → ℕ
+both_row dark m n = sum_below m (λ x. count_if (before (two (run_from dark x)) n) 1)
+
+pub columns_inside : (dark : ℕ → ℕ → Bool) (m n : ℕ) → sum_below n (inside_row dark m) + (both_row dark m n + last_row dark m n) ≡ sum_below n (λ y. sum_below m (λ x. run_penalty_at (dark x) y))
+columns_inside dark m n =
+    ap₂ (λ (a b : ℕ). a + b)
+    (sum_swap (λ x y. count_if (three (run_from dark x) y) 1) n m)
+    (sym (sum_plus (λ x. count_if (before (two (run_from dark x)) n) 1) (λ x. count_if (before (run_from dark x) n) 1) m))
+    ∙ sym (sum_plus (λ x. sum_below n (λ y. count_if (three (run_from dark x) y) 1)) (λ x. behind (run_from dark x) n) m)
+    ∙ sum_same _ (λ x. sum_below n (run_penalty_at (dark x))) m (λ x h. inside_runs (dark x) (run_from dark x) n (λ k l. refl))
+    ∙ sym (sum_swap (λ x y. run_penalty_at (dark x) y) n m)

@@ -1,3 +1,4 @@
+pub mod ColumnRuns
 pub mod ColumnWords
 pub mod Finders
 pub mod Inside

@@ -5,12 +5,13 @@ use Rattle.std.proofs.Math.Nat.{mul-lt-mul_of_pos_right}
 use Rattle.std.proofs.Math.Pow.{pow_mono}
 use Rattle.std.specs.Int.Count.{ones}
 use Rattle.qrcode_packed.specs.Rows.{is_set}
-use Rattle.qrcode_packed.proofs.Places.{differ, has_and, has_or, has_xor, has_without, has_shr, has_first, has_first_above, below_from_places}
+use Rattle.qrcode_packed.proofs.Places.{differ, has_or, has_xor, has_without, has_shr, has_first, has_first_above, below_from_places}
 use Rattle.qrcode_penalty.specs.Penalty.{sum_below, count_if, is_run, same, run_penalty}
 use Rattle.qrcode_penalty.specs.Padding.{block_penalty_in}
 use Rattle.qrcode_penalty.proofs.Runs.{run_penalty-windows}
 use Rattle.qrcode_penalty.proofs.Sums.{count_places, weigh_places}
-use Rattle.qrcode_penalty.proofs.Inside.{three, shifted_at, inside_sum}
+use Rattle.qrcode_penalty.specs.Inside.{three}
+use Rattle.qrcode_penalty.proofs.Inside.{shifted_at, inside_sum}
 
 run_test : (a b c d e : Bool) → not ((differ a b || differ b c) || (differ c d || differ d e)) ≡ (same a a && (same a b && (same a c && (same a d && (same a e && true)))))
 run_test true true true true true = refl
@@ -91,12 +92,6 @@ two_places a n = bit_or (windows a n) (windows a n * 2 ^ 1)
 
 abbrev pub three_places : ℕ → ℕ → ℕ
 three_places a n = bit_or (windows a n) (two_places a n * 2 ^ 1)
-
-pub not_same : (a b : Bool) → differ a b ≡ not (same a b)
-not_same true true = refl
-not_same true false = refl
-not_same false true = refl
-not_same false false = refl
 
 three_at : (a n k : ℕ) → is_set (three_places a n) k ≡ three (is_set (windows a n)) k
 three_at a n zero = shifted_at (windows a n) (two_places a n) 0

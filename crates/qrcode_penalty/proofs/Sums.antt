@@ -1,5 +1,5 @@
 -- Sums over the numbers below a bound, and the places of a packed line as such a sum.
-use Rattle.std.proofs.Common.{◌≡◌, ℕ, zero, suc, ◌+◌, ◌*◌, ◌/◌, ◌%◌, ◌^◌, ◌<◌, ◌≤◌, Bool, true, false, not, ◌==◌, ◌&&◌, ◌||◌, refl, ap, ap₂, sym, ◌∙◌, arith, count_ones, if◌then◌else◌}
+use Rattle.std.proofs.Common.{◌≡◌, ℕ, zero, suc, ◌+◌, ◌*◌, ◌/◌, ◌%◌, ◌^◌, ◌<◌, ◌≤◌, Bool, true, false, not, ◌==◌, refl, ap, ap₂, sym, ◌∙◌, arith, count_ones, if◌then◌else◌}
 use Rattle.std.specs.Int.{bit_at}
 use Rattle.std.specs.Int.Count.{ones, ones_step}
 use Rattle.std.proofs.lemmas.Nat.{shr_below}
@@ -85,13 +85,11 @@ sum_two f n s v h k =
     let one : s + f n ≡ sum_below (n + 1) f = sum_step f n s (f n) h refl in
     omega (arith, k, sum_step f (n + 1) (s + f n) (f (n + 1)) one refl, ap (λ m. sum_below m f) e)
 
--- what windows cost that are mixed where f holds, and begin a run where g holds
-window_more : (f g : Bool) → count_if (not f) (if g then 3 else 1) + 3 * count_if f 1 ≡ 1 + 2 * count_if (f || g) 1
-window_more true g = refl
-window_more false true = refl
-window_more false false = refl
-
-pub window_sum : (f g : ℕ → Bool) (n : ℕ) → sum_below n (λ k. count_if (not (f k)) (if g k then 3 else 1)) + 3 * sum_below n (λ k. count_if (f k) 1) ≡ n + 2 * sum_below n (λ k. count_if (f k || g k) 1)
+-- the places where a test does not hold, and those where it holds
+pub sum_others : (f : ℕ → Bool) (n : ℕ) → sum_below n (λ k. count_if (not (f k)) 1) + sum_below n (λ k. count_if (f k) 1) ≡ n
 unfolding sum_below
-window_sum f g zero = refl
-window_sum f g (suc n) = omega (arith, window_sum f g n, window_more (f n) (g n))
+sum_others f zero = refl
+sum_others f (suc n) = omega (arith, sum_others f n, by_case (f n)) where
+  by_case : (b : Bool) → count_if (not b) 1 + count_if b 1 ≡ 1
+  by_case true = refl
+  by_case false = refl

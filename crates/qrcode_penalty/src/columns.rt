@@ -1,26 +1,13 @@
 //! What the columns of a square and its two by two modules cost: the columns lie side by side in the words of its rows.
 
-ghost use Rattle.std.specs.Prelude.{◌≡◌, ℕ, ◌+◌, ◌-◌, ◌*◌, ◌/◌, ◌<◌, ◌≤◌, ◌^◌, bit_or, bit_xor, false, not, slice_index_or, if◌then◌else◌};
+ghost use Rattle.std.specs.Prelude.{◌≡◌, ℕ, ◌+◌, ◌-◌, ◌*◌, ◌/◌, ◌<◌, ◌≤◌, ◌^◌, bit_or, bit_xor, false, not, slice_index_or};
 ghost use Rattle.qrcode_packed.specs.Rows.{FitsWidth, is_set, dark_in};
-ghost use Rattle.qrcode_penalty.specs.Penalty.{count_if, run_penalty_at, finder_penalty_at, block_penalty, sum_below, begins_run};
+ghost use Rattle.qrcode_penalty.specs.Penalty.{count_if, is_run, run_penalty_at, finder_penalty_at, block_penalty, sum_below};
+ghost use Rattle.qrcode_penalty.specs.Inside.{before, two, run_from, inside_row};
 ghost use Rattle.qrcode_penalty.specs.Padding.{padded_row, is_lone_form, block_penalty_in};
 
 use qrcode_packed::row::PackedRow;
 use qrcode_packed::square::PackedSquare;
-
-// The columns in which a run begins in row y.
-#[inline(always)]
-fn begun_at<R: PackedRow>(square: &PackedSquare<'_, R>, y: usize) -> R
-    requires { y < square.now.width }
-    ensures shown { (x : ℕ) → x < square.now.width
-        → is_set (R.bits result) x ≡ begins_run (dark_in square.now.rows x) y }
-    ensures fits { FitsWidth square.now.width (R.bits result) }
-{
-    if y == 0 {
-        return R::first(square.width());
-    }
-    changes(square, y - 1)
-}
 
 // Where row y and the next are of two colours.
 #[inline(always)]
@@ -34,52 +21,51 @@ fn changes<R: PackedRow>(square: &PackedSquare<'_, R>, y: usize) -> R
     square.row(y).xor(square.row(y + 1))
 }
 
-// What the windows of five cost in the columns where they are not of two colours: 1, or 3 where a run begins.
+// How many columns are not mixed.
 #[inline(always)]
-fn window_costs<R: PackedRow>(width: u32, mixed: R, begun: R) -> u32
+fn unmixed<R: PackedRow>(width: u32, mixed: R) -> u32
     requires room { width ≤ 189 }
-    requires mixed_fits { FitsWidth width (R.bits mixed) }
-    requires begun_fits { FitsWidth width (R.bits begun) }
-    ensures value { result ≡ sum_below width (λ x. count_if (not (is_set (R.bits mixed) x))
-        (if is_set (R.bits begun) x then 3 else 1)) }
-    ensures at_most { result ≤ 600 }
+    requires fits { FitsWidth width (R.bits mixed) }
+    ensures value { result ≡ sum_below width (λ x. count_if (not (is_set (R.bits mixed) x)) 1) }
+    ensures at_most { result ≤ 189 }
 {
-    // Each column counts 1; one that is mixed 2 - 3 more, and one whose run begins 2 more.
-    width + 2 * mixed.or(begun).count_ones() - 3 * mixed.count_ones()
+    width - mixed.count_ones()
 }
 
-// What the windows of five that begin in row y cost, over all columns.
+// Where the five modules from row y on are not of one colour.
 #[inline(always)]
-fn column_runs<R: PackedRow>(square: &PackedSquare<'_, R>, y: usize) -> u32
+fn mixed_from<R: PackedRow>(square: &PackedSquare<'_, R>, y: usize) -> R
     requires { y + 4 < square.now.width }
-    ensures value { result ≡ sum_below square.now.width
-        (λ x. run_penalty_at (dark_in square.now.rows x) y) }
-    ensures at_most { result ≤ 600 }
+    ensures shown { (x : ℕ) → not (is_set (R.bits result) x)
+        ≡ is_run (dark_in square.now.rows x) y 5 }
+    ensures fits { FitsWidth square.now.width (R.bits result) }
 {
-    let width = square.width();
+    let _width = square.width();
     let inner = changes(square, y + 1)
         .or(changes(square, y + 2))
         .or(changes(square, y + 3));
-    window_costs(width, inner.or(changes(square, y)), begun_at(square, y))
+    inner.or(changes(square, y))
 }
 
-// The same of row y, which is not the first, and the next together: three changes are common to both.
+// The same of row y and of the next: three changes are common to both.
 #[inline(always)]
-fn two_column_runs<R: PackedRow>(square: &PackedSquare<'_, R>, y: usize) -> u32
-    requires later { 0 < y }
-    requires inside { y + 5 < square.now.width }
-    ensures value { result ≡ sum_below square.now.width
-        (λ x. run_penalty_at (dark_in square.now.rows x) y) + sum_below square.now.width
-        (λ x. run_penalty_at (dark_in square.now.rows x) (y + 1)) }
-    ensures at_most { result ≤ 1200 }
+fn two_mixed<R: PackedRow>(square: &PackedSquare<'_, R>, y: usize) -> (R, R)
+    requires { y + 5 < square.now.width }
+    ensures upper { (x : ℕ) → not (is_set (R.bits result.0) x)
+        ≡ is_run (dark_in square.now.rows x) y 5 }
+    ensures lower { (x : ℕ) → not (is_set (R.bits result.1) x)
+        ≡ is_run (dark_in square.now.rows x) (y + 1) 5 }
+    ensures upper_fits { FitsWidth square.now.width (R.bits result.0) }
+    ensures lower_fits { FitsWidth square.now.width (R.bits result.1) }
 {
-    let width = square.width();
-    let first = changes(square, y);
+    let _width = square.width();
     let inner = changes(square, y + 1)
         .or(changes(square, y + 2))
         .or(changes(square, y + 3));
-    let upper = window_costs(width, inner.or(first), changes(square, y - 1));
-    upper + window_costs(width, inner.or(changes(square, y + 4)), first)
+    (
+        inner.or(changes(square, y)),
+        inner.or(changes(square, y + 4)),
+    )
 }
 
 // The k-th row of a square with four light rows before it and light rows behind it.
@@ -201,22 +187,56 @@ fn blocks_between<R: PackedRow>(width: u32, upper: R, lower: R, edged: R) -> u32
     3 * R::first(width - 1).without(mixed).count_ones()
 }
 
-/// What the runs of all columns cost, by the rows in which their windows begin, two rows at a time behind the first.
-#[tactic(auto, using(crate::proofs::Sums::sum_step, crate::proofs::Sums::sum_two), unfolding(crate::specs::Penalty::sum_below))]
+// What the runs of all columns cost behind the first y rows, where five modules begin in one row more or in none. Not
+// inlined: the loop over pairs of rows then keeps its words at hand.
+#[inline(never)]
+fn last_runs<R: PackedRow>(square: &PackedSquare<'_, R>, y: usize, both: R, last: R) -> u32
+    requires inside { y + 4 ≤ square.now.width }
+    requires near { square.now.width ≤ y + 5 }
+    requires both_at { let dark = dark_in square.now.rows in (x : ℕ) → x < square.now.width
+        → is_set (R.bits both) x ≡ not (before (two (run_from dark x)) y) }
+    requires last_at { let dark = dark_in square.now.rows in (x : ℕ) → x < square.now.width
+        → is_set (R.bits last) x ≡ not (before (run_from dark x) y) }
+    requires both_fits { FitsWidth square.now.width (R.bits both) }
+    requires last_fits { FitsWidth square.now.width (R.bits last) }
+    ensures value { let dark = dark_in square.now.rows in let width = square.now.width in
+        sum_below y (inside_row dark width) + result
+        ≡ sum_below (width - 4) (λ i. sum_below width (λ x. run_penalty_at (dark x) i)) }
+    ensures at_most { result ≤ 600 }
+{
+    let width = square.width();
+    if y + 4 == width as usize {
+        let one_behind = unmixed(width, last);
+        let two_behind = unmixed(width, both);
+        return two_behind + one_behind;
+    }
+    let mixed = mixed_from(square, y);
+    let inside = unmixed(width, both.and(mixed));
+    let behind = unmixed(width, last.and(mixed));
+    inside + behind + unmixed(width, mixed)
+}
+
+/// What the runs of all columns cost: as many modules as lie inside runs of five or more, neither first nor last. Five
+/// equal modules begin n - 4 times in a run of n, and with the two rows behind each it is n - 2.
 pub(crate) fn column_run_penalties<R: PackedRow>(square: &PackedSquare<'_, R>) -> u32
     ensures value { result ≡ sum_below (square.now.width - 4)
         (λ y. sum_below square.now.width (λ x. run_penalty_at (dark_in square.now.rows x) y)) }
     ensures at_most { result ≤ 10000 * square.now.width }
 {
-    let count = square.width() as usize - 4;
-    let mut total = column_runs(square, 0);
-    for k in 0..(count - 1) / 2 {
-        total += two_column_runs(square, 2 * k + 1);
+    let width = square.width();
+    let count = width as usize - 4;
+    // Where the five from the row before on are mixed, and where those from each of the two rows before on are.
+    let mut last = R::first(width);
+    let mut both = last;
+    let mut total = 0;
+    for k in 0..count / 2 {
+        let (upper, lower) = two_mixed(square, 2 * k);
+        total += unmixed(width, both.and(upper));
+        both = upper.and(lower);
+        total += unmixed(width, last.and(both));
+        last = lower;
     }
-    if count % 2 == 0 {
-        total += column_runs(square, count - 1);
-    }
-    total
+    total + last_runs(square, 2 * (count / 2), both, last)
 }
 
 /// What the finder forms of all columns cost, by the rows in which they begin, two rows at a time. Not inlined: its words
