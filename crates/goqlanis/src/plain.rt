@@ -4,8 +4,8 @@ use goqlanis_options::{Entry, Given, Takes, Task};
 use std::alloc::{AllocError, Global};
 
 /// What plain words give: an option by its name behind two hyphens or by its letter behind one, its value
-/// in the word behind it, and a word beside options. `None`: the words are not so plain, or one of them
-/// is wrong, so that `clap` has to read them.
+/// in the word behind it or behind the name and `=`, and a word beside options. `None`: the words are not
+/// so plain, or one of them is wrong, so that `clap` has to read them.
 ///
 /// It fails for want of memory alone.
 pub fn plainly_given<'a>(
@@ -29,6 +29,8 @@ pub fn plainly_given<'a>(
                 Takes::Nothing => given.push(entry.long, "true")?,
                 _ => open = Some(entry),
             }
+        } else if let Some((entry, value)) = joined_of(options, &given, word) {
+            given.push(entry.long, value)?;
         } else if let Some(name) = operand_of(task, &given, word) {
             given.push(name, word)?;
         } else {
@@ -47,6 +49,21 @@ fn option_of(options: &[&'static Entry], given: &Given<'_>, word: &[u8]) -> Opti
         }
     }
     None
+}
+
+// The option and its value of a word --NAME=VALUE.
+fn joined_of<'a>(
+    options: &[&'static Entry],
+    given: &Given<'_>,
+    word: &'a str,
+) -> Option<(&'static Entry, &'a str)> {
+    let (name, value) = word.split_once('=')?;
+    match option_of(options, given, name.as_bytes()) {
+        Some(entry) if name.starts_with("--") && is_plain_value(entry.takes, value) => {
+            Some((entry, value))
+        }
+        _ => None,
+    }
 }
 
 // Whether a word is the name of an option behind two hyphens, or its letter behind one.
