@@ -103,6 +103,9 @@ impl Pixel for char {
     }
 }
 
+// More room is not taken before the length of a picture is known.
+const MOST_ROOM: usize = 1 << 24;
+
 /// Draws a symbol as it is set.
 pub struct Renderer<'a, P> {
     modules: &'a [u8],
@@ -153,16 +156,44 @@ impl<'a, P: Pixel> Renderer<'a, P> {
     ///
     /// Panics where memory is refused, or a PNG file would have more than 65,535 pixels a side.
     pub fn build(&self) -> P::Image {
-        let (format, width) = (P::format(self.inverted), self.width as u32);
-        let mut count = 0;
-        let asked = unsafe { sys::goq_draw_length(self.modules.as_ptr(), self.modules.len(), width, self.zone, self.scale, format, &mut count) };
-        assert_eq!(asked, sys::GOQ_OK, "memory was refused, or the picture is too large");
-        let mut bytes = vec![0; count];
-        let drawn = unsafe {
-            sys::goq_draw(self.modules.as_ptr(), self.modules.len(), width, self.zone, self.scale, format, bytes.as_mut_ptr(), bytes.len(), &mut count)
-        };
-        assert_eq!(drawn, sys::GOQ_OK, "memory was refused");
+        let format = P::format(self.inverted);
+        let room = self.room(format);
+        let (mut answer, mut bytes) = if room <= MOST_ROOM { self.drawn(format, room) } else { (sys::GOQ_SMALL_BUFFER, Vec::new()) };
+        if answer == sys::GOQ_SMALL_BUFFER {
+            (answer, bytes) = self.drawn(format, self.length(format));
+        }
+        assert_eq!(answer, sys::GOQ_OK, "memory was refused, or the picture is too large");
         P::image(bytes, (self.side() * self.scale) as usize, self.chars)
+    }
+
+    // The picture in a buffer of so many bytes, and the library's answer.
+    fn drawn(&self, format: u32, room: usize) -> (u32, Vec<u8>) {
+        let (mut bytes, mut count) = (vec![0; room], 0);
+        let (modules, width) = (self.modules, self.width as u32);
+        let answer = unsafe { sys::goq_draw(modules.as_ptr(), modules.len(), width, self.zone, self.scale, format, bytes.as_mut_ptr(), room, &mut count) };
+        bytes.truncate(count);
+        bytes.shrink_to_fit();
+        (answer, bytes)
+    }
+
+    // The length of the picture, which is drawn for it.
+    fn length(&self, format: u32) -> usize {
+        let (modules, width, mut count) = (self.modules, self.width as u32, 0);
+        let answer = unsafe { sys::goq_draw_length(modules.as_ptr(), modules.len(), width, self.zone, self.scale, format, &mut count) };
+        assert_eq!(answer, sys::GOQ_OK, "memory was refused, or the picture is too large");
+        count
+    }
+
+    // Room for any picture of so many modules and pixels along a side, so that it is drawn once; of PNG for all but unusual ones.
+    fn room(&self, format: u32) -> usize {
+        let side = self.side() as usize * self.scale as usize;
+        match format {
+            sys::GOQ_HALF_BLOCKS | sys::GOQ_LIGHT_HALF_BLOCKS => side.div_ceil(2) * (3 * side + 33),
+            sys::GOQ_GREY => side * side,
+            sys::GOQ_PBM => side.div_ceil(8) * side + 32,
+            sys::GOQ_PNG => self.width * self.width + 8 * side + side * side / 512 + 1000,
+            _ => self.modules.len() * 80 + 400,
+        }
     }
 }
 
