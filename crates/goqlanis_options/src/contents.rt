@@ -21,7 +21,11 @@ pub(crate) static ELEMENTS: Task = Task {
     title: "goqlanis gs1",
     about: "Draws the symbol of elements of GS1, behind FNC1 in first position",
     purpose: Purpose::Elements,
-    options: &[],
+    options: &[text!(
+        "application",
+        "INDICATOR",
+        "Draw data of an application in place of elements, behind FNC1 in second position: two digits or a letter"
+    )],
 };
 
 /// A wireless network.

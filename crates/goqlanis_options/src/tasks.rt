@@ -105,7 +105,7 @@ impl Task {
             }),
             Purpose::Elements => Some(Operand {
                 name: "ELEMENTS",
-                help: "Each identifier in round brackets, and behind it its value, in which a backslash stands before an opening bracket",
+                help: "Each identifier in round brackets, and behind it its value, in which a backslash stands before an opening bracket; with --application the data",
             }),
             Purpose::Content(_) => None,
         }

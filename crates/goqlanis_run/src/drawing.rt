@@ -6,14 +6,15 @@ use crate::segments::{Pieces, characters_of};
 use crate::streams::{print, write_file};
 use goqlanis_contents::Elements;
 use goqlanis_draw::{
-    Request, draw, draw_elements, draw_segments, elements_refusal_text, manner_of, refusal_text,
-    segments_refusal_text, unwritable,
+    Request, application_refusal_text, draw, draw_elements, draw_for_application, draw_segments,
+    elements_refusal_text, manner_of, refusal_text, segments_refusal_text, unwritable,
 };
 use goqlanis_options::Given;
 use qrcode::bits::Manner;
 use qrcode::types::QrError;
 use qrcode_gs1::errors::Gs1Error;
 use qrcode_gs1_symbol::errors::SymbolError;
+use qrcode_gs1_symbol::{are_apart, indicator_of};
 use std::alloc::{AllocError, Global};
 use std::io::IsTerminal;
 use std::process::ExitCode;
@@ -85,6 +86,42 @@ pub(crate) fn elements_drawing(
             Err(Failure::Refused(text))
         }
         Err(SymbolError::Elements(_) | SymbolError::Symbol(_)) => Err(Failure::OutOfMemory),
+    }
+}
+
+/// The drawing of data of an application, by the application's indicator.
+pub(crate) fn application_drawing(
+    alloc: Global,
+    request: &Request<'_>,
+    indicator: &str,
+    data: &str,
+) -> Result<Vec<u8>, Failure> {
+    let Some(application) = indicator_of(indicator.as_bytes()) else {
+        let text = format!(in alloc;
+            "--application {indicator}: an indicator is two digits or one letter, as 37 or a"
+        )?;
+        return Err(Failure::Usage(text));
+    };
+    if data.is_empty() {
+        return refused(
+            alloc,
+            "ELEMENTS: behind --application they are its data, as \"AA1234BBB112text\"",
+        );
+    }
+    let bytes = data.as_bytes();
+    if !are_apart(bytes) {
+        return refused(
+            alloc,
+            "ELEMENTS: a separator, byte 29, stands right behind another; leave one of them out",
+        );
+    }
+    match draw_for_application(alloc, request, application, bytes) {
+        Ok(drawing) => Ok(drawing),
+        Err(QrError::OutOfMemory) => Err(Failure::OutOfMemory),
+        Err(_) => {
+            let text = application_refusal_text(alloc, request, application, bytes)?;
+            Err(Failure::Refused(text))
+        }
     }
 }
 

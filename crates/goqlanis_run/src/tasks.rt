@@ -1,7 +1,9 @@
 //! What the command line asks for, done.
 
 use crate::asked::{Asked, Source, asked_for};
-use crate::drawing::{draw_one, elements_drawing, segments_drawing, write_drawing};
+use crate::drawing::{
+    application_drawing, draw_one, elements_drawing, segments_drawing, write_drawing,
+};
 use crate::failure::{Failure, refused};
 use crate::lines::draw_lines;
 use crate::reading::read;
@@ -81,11 +83,15 @@ fn draw_content(rt: &HostRuntime, kind: Kind, given: &Given<'_>) -> Result<ExitC
     draw_one(rt, &asked, text.as_bytes(), None)
 }
 
-// Draws elements of GS1.
+// Draws elements of GS1, or data of an application.
 fn draw_gs1(rt: &HostRuntime, given: &Given<'_>) -> Result<ExitCode, Failure> {
     let alloc = rt.alloc();
     let asked = asked_for(alloc, given, has_colours(rt))?;
-    let drawing = elements_drawing(alloc, &asked.request, given.text("ELEMENTS"))?;
+    let (request, text) = (&asked.request, given.text("ELEMENTS"));
+    let drawing = match given.get("application") {
+        None => elements_drawing(alloc, request, text)?,
+        Some(indicator) => application_drawing(alloc, request, indicator, text)?,
+    };
     write_drawing(rt, &asked, &drawing, None)
 }
 
