@@ -1,12 +1,12 @@
 -- The rows of pixels of a picture of cells.
-use Rattle.std.proofs.Common.{◌≡◌, ℕ, zero, suc, ◌+◌, ◌*◌, ◌/◌, ◌%◌, ◌-◌, ◌<◌, ◌≤◌, inl, inr, List, [], ◌∷◌, ◌++◌, length, get_or, take, drop, map, replicate, refl, ap, ap₂, ◌∙◌, sym, arith, Bool, true, false, append_assoc, add-zero, length-append, length-drop, if◌then◌else◌, ◌||◌, ◌&&◌, nat_le, nat_lt, set}
+use Rattle.std.proofs.Common.{◌≡◌, ℕ, zero, suc, ◌+◌, ◌*◌, ◌/◌, ◌%◌, ◌-◌, ◌<◌, ◌≤◌, inl, inr, List, [], ◌∷◌, ◌++◌, length, get_or, take, drop, map, replicate, refl, ap, ap₂, ◌∙◌, sym, arith, Bool, true, false, append_assoc, add-zero, length-append, length-drop, if◌then◌else◌, ◌&&◌, nat_le, nat_lt, set}
 use Rattle.std.proofs.Math.ListN.{length-take, get_or-append}
 use Rattle.std.proofs.Math.Nat.{add-div_right}
 use Rattle.std.proofs.Math.Seq.{take-add}
 use Rattle.std.proofs.lemmas.Bool.{cases_lt, leb-true, ltb-true}
 use Rattle.std.proofs.lemmas.Bool.Decides.{nat_tests}
 use Rattle.std.proofs.lemmas.Nat.{div-mul-add, mod-mul-add, row_fits, row_fits_turned, div_below, mod_below, div-add-mod'}
-use Rattle.std.proofs.lemmas.List.{get_or-append-add, length-replicate, get_or-replicate, append-nil, get_or-take, get_or-drop, get_or-map, take_all, length-map, get_or_at, set_at, replicate-append-replicate, get_or-append_right}
+use Rattle.std.proofs.lemmas.List.{get_or-append-add, length-replicate, get_or-replicate, append-nil, get_or-take, get_or-drop, get_or-map, take_all, length-map, set_at, replicate-append-replicate, get_or-append_right}
 use Rattle.std.proofs.lemmas.List.Concat.{flat_map-append}
 use Rattle.std.proofs.lemmas.List.FromFn.{fill_by_all, length-map-range_with_len, get_or-map-range_with_len}
 use Rattle.std.specs.List.{flat_map, range_with_len, slice_range, join_with_byte}
@@ -194,9 +194,7 @@ marked-between [] before rest = refl
 marked-between (c ∷ line) before rest =
     let after = replicate (length line) false ++ rest in
     let next : length (before ++ is_dark c ∷ []) ≡ length before + 1 = omega (arith, length-append before (is_dark c ∷ [])) in
-    let turned : set (before ++ false ∷ after) (length before) (get_or (before ++ false ∷ after) (length before) false || is_dark c) ≡ before ++ is_dark c ∷ after =
-    ap (λ b. set (before ++ false ∷ after) (length before) (b || is_dark c)) (get_or_at before false after false (length before) refl)
-    ∙ set_at before false after (is_dark c) (length before) refl in
+    let turned : set (before ++ false ∷ after) (length before) (is_dark c) ≡ before ++ is_dark c ∷ after = set_at before false after (is_dark c) (length before) refl in
     let grouped : (ys : List Bool) → before ++ is_dark c ∷ ys ≡ before ++ (is_dark c ∷ []) ++ ys = λ ys. sym (append_assoc before (is_dark c ∷ []) ys) in
     ap (marked_line (length before + 1) line) (turned ∙ grouped after)
     ∙ ap (λ n. marked_line n line (before ++ (is_dark c ∷ []) ++ after)) (sym next)

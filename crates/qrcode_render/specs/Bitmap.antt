@@ -1,5 +1,5 @@
 -- Pixels that are dark or light, whatever stands for them.
-use Rattle.std.specs.Prelude.{ℕ, ◌+◌, ◌*◌, Bool, true, false, ◌||◌, List, [], ◌∷◌, slice_set, slice_index_or, replicate}
+use Rattle.std.specs.Prelude.{ℕ, ◌+◌, ◌*◌, Bool, true, false, List, [], ◌∷◌, slice_set, replicate}
 use Rattle.std.specs.List.{slice_range}
 use Rattle.qrcode_types.specs.Colors.{is_dark}
 use Rattle.qrcode_types.specs.declared.types.Color.{Color}
@@ -31,7 +31,7 @@ with_dark_rect left top width height b = record b { marks = filled (marked b.acr
 abbrev pub row_of : Bitmap → ℕ → List Bool
 row_of b y = slice_range b.marks (y * b.across) (y * b.across + b.across)
 
--- the marks after the dark modules of a row, each of one pixel, whose first module stands at a place
+-- the marks after the modules of a row, each of one pixel, whose first module stands at a place
 abbrev pub marked_line : ℕ → List Color → List Bool → List Bool
 marked_line start [] marks = marks
-marked_line start (c ∷ line) marks = marked_line (start + 1) line (slice_set marks start (slice_index_or marks start false || is_dark c))
+marked_line start (c ∷ line) marks = marked_line (start + 1) line (slice_set marks start (is_dark c))

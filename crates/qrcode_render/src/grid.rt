@@ -17,8 +17,8 @@ fn clear(marks: &mut [bool])
     marks.fill(false);
 }
 
-// The most cells whose dark ones a byte counts, which takes many cells at once.
-const COUNTED: usize = 255;
+// Cells whose dark ones a byte counts: the most that are seven times the 32 that are taken at once.
+const COUNTED: usize = 224;
 
 // How many of a few cells are dark.
 fn dark_in(cells: &[Color]) -> u8
@@ -75,7 +75,7 @@ impl<'a> Shades<'a> {
         }
     }
 
-    // Makes the marks of the dark ones of some cells dark, from a place on.
+    // Marks which of some cells are dark, from a place on.
     fn mark(&self, first: usize, end: usize, marks: &mut [bool], start: usize)
         requires order { first ≤ end }
         requires inside { end ≤ length (shown self.now) }

@@ -17,13 +17,13 @@ pub fn is_dark(color: Color) -> bool
     }
 }
 
-/// Makes the marks of the dark modules of a row dark, from a place on.
+/// Marks which modules of a row are dark, from a place on.
 pub fn mark_line(marks: &mut [bool], start: usize, line: &[Color])
     requires { start + length line.now ≤ length marks.old }
     ensures { marks.new ≡ marked_line start line.now marks.old }
 {
     for (i, color) in line.iter().enumerate() {
-        marks[start + i] = marks[start + i] | is_dark(*color);
+        marks[start + i] = is_dark(*color);
     }
 }
 
@@ -33,6 +33,6 @@ pub fn mark_bytes(marks: &mut [bool], start: usize, line: &[u8])
     ensures { marks.new ≡ marked_line start (colors_of line.now) marks.old }
 {
     for (i, byte) in line.iter().enumerate() {
-        marks[start + i] = marks[start + i] | (*byte != 0);
+        marks[start + i] = *byte != 0;
     }
 }

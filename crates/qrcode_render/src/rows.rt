@@ -17,7 +17,8 @@ use std::alloc::Global;
 // The most bytes of a cell of which four make a stamp.
 const SHORT: usize = 8;
 
-/// Appends a text so many times.
+/// Appends a text so many times. Apart from its callers, so that its few variables stay in registers.
+#[inline(never)]
 pub fn push_times(raw: &mut Vec<u8>, text: &[u8], times: u32) -> QrResult<()>
     ensures appends { OnOk result (raw.new.items ≡ raw.old.items ++ repeated times text.now) }
     ensures memory { IsOkUnless result OutOfMemory }
