@@ -13,11 +13,11 @@ use Rattle.qrcode_contents.specs.declared.one_time.Algorithm.{Algorithm}
 use Rattle.qrcode_contents.specs.declared.one_time.Algorithm.TheVariants.{Sha1, Sha256, Sha512}
 use Rattle.qrcode_contents.specs.declared.one_time.Digits.{Digits}
 use Rattle.qrcode_contents.specs.declared.one_time.Digits.TheVariants.{Six, Eight}
-use Rattle.qrcode_fields.specs.Characters.{is_control}
+use Rattle.qrcode_fields.specs.Characters.{is_base32, is_control}
 use Rattle.qrcode_fields.specs.Entries.{is_filled}
 use Rattle.qrcode_fields.specs.EntryTests.{are_distinct}
 use Rattle.qrcode_fields.specs.Links.{before, part_text, query_text, value_in}
-use Rattle.qrcode_contents.specs.OneTime.{Key, is_base32, is_colon, begins_with_space, is_a_word, key_checks, key_refusal, factor_parameter, algorithm_value, digits_text, label_text, key_parameters, key_text, read_algorithm, read_digits, read_factor, without_spaces, read_account, key_in, read_key}
+use Rattle.qrcode_contents.specs.OneTime.{Key, is_colon, begins_with_space, is_a_word, key_checks, key_refusal, factor_parameter, algorithm_value, digits_text, label_text, key_parameters, key_text, read_algorithm, read_digits, read_factor, without_spaces, read_account, key_in, read_key}
 use Rattle.qrcode_fields.specs.Percents.{decoded}
 use Rattle.qrcode_fields.proofs.EntryReading.{both, neither}
 use Rattle.qrcode_fields.proofs.LinkReading.{HasNo, HasNo-append, HasNo-part, AreParameters, entries_of, after-at, value_read, path_read, decoded-path, path_decoded, no_return}

@@ -5,9 +5,10 @@ use Rattle.std.specs.Option.{option_map}
 use Rattle.std.proofs.lemmas.Bool.Decides.{nat_tests}
 use Rattle.qrcode_fields.specs.declared.errors.Field.TheVariants.{Phone}
 use Rattle.qrcode_fields.specs.declared.errors.Cause.TheVariants.{Empty, Character}
+use Rattle.qrcode_fields.specs.Characters.{is_dialled}
 use Rattle.qrcode_fields.specs.Entries.{is_empty, behind}
 use Rattle.qrcode_fields.specs.Percents.{encoded, decoded}
-use Rattle.qrcode_contents.specs.Phone.{is_dialled, phone_refusal, message_text, before_query, from_query, read_message}
+use Rattle.qrcode_contents.specs.Phone.{phone_refusal, message_text, before_query, from_query, read_message}
 use Rattle.qrcode_fields.specs.Refusals.{refused_if}
 use Rattle.qrcode_fields.proofs.EntryReading.{both}
 use Rattle.qrcode_fields.proofs.Passing.{passes, test_passes}

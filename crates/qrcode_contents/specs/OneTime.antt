@@ -1,5 +1,5 @@
 -- Links of one-time passwords, by the page "Key URI Format" of the Google Authenticator project: `otpauth://`, `totp` or `hotp`, a label and parameters.
-use Rattle.std.specs.Prelude.{◌≡◌, ℕ, nat_lt, ◌==◌, ◌<◌, ◌^◌, ◌&&◌, ◌||◌, not, Bool, false, List, [], ◌∷◌, ◌++◌, Option, Some, None, codes, decimal, if◌then◌else◌, refl}
+use Rattle.std.specs.Prelude.{◌≡◌, ℕ, ◌==◌, ◌<◌, ◌^◌, ◌||◌, not, Bool, false, List, [], ◌∷◌, ◌++◌, Option, Some, None, codes, decimal, if◌then◌else◌, refl}
 use Rattle.std.specs.Str.{bytes_eq}
 use Rattle.std.specs.Str.Parse.{digits_value}
 use Rattle.std.specs.List.{list_all, list_any, starts_with}
@@ -15,7 +15,7 @@ use Rattle.qrcode_contents.specs.declared.one_time.Algorithm.TheVariants.{Sha1, 
 use Rattle.qrcode_contents.specs.declared.one_time.Digits.{Digits}
 use Rattle.qrcode_contents.specs.declared.one_time.Digits.TheVariants.{Six, Eight}
 use Rattle.qrcode_contents.specs.declared.one_time.OneTime.{OneTime}
-use Rattle.qrcode_fields.specs.Characters.{is_control}
+use Rattle.qrcode_fields.specs.Characters.{is_base32, is_control}
 use Rattle.qrcode_fields.specs.Entries.{is_empty, is_filled, behind}
 use Rattle.qrcode_fields.specs.Links.{Parameter, before, after, part_text, query_text, read_parameter, value_in}
 use Rattle.qrcode_fields.specs.Percents.{decoded}
@@ -40,10 +40,6 @@ key_of o = record {
   algorithm = o.algorithm;
   digits = o.digits;
 }
-
--- a character of base 32 (RFC 4648, section 6)
-abbrev pub is_base32 : ℕ → Bool
-is_base32 b = (nat_lt 64 b && nat_lt b 91) || (nat_lt 49 b && nat_lt b 56)
 
 -- a colon ends the issuer
 abbrev pub is_colon : ℕ → Bool

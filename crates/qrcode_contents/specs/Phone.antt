@@ -1,18 +1,14 @@
 -- Links to telephones: `tel:` (RFC 3966) or `sms:` (RFC 5724), and the number behind it.
-use Rattle.std.specs.Prelude.{ℕ, ◌==◌, ◌||◌, not, Bool, List, [], ◌∷◌, ◌++◌, Option, codes, if◌then◌else◌}
+use Rattle.std.specs.Prelude.{ℕ, ◌==◌, not, List, [], ◌∷◌, ◌++◌, Option, codes, if◌then◌else◌}
 use Rattle.std.specs.List.{list_all}
 use Rattle.std.specs.Option.{option_map, option_and_then}
 use Rattle.qrcode_fields.specs.declared.errors.ContentError.{ContentError}
 use Rattle.qrcode_fields.specs.declared.errors.Field.TheVariants.{Phone}
 use Rattle.qrcode_fields.specs.declared.errors.Cause.TheVariants.{Empty, Character}
-use Rattle.qrcode_fields.specs.Characters.{is_digit}
+use Rattle.qrcode_fields.specs.Characters.{is_dialled}
 use Rattle.qrcode_fields.specs.Entries.{is_empty, behind}
 use Rattle.qrcode_fields.specs.Percents.{encoded, decoded}
 use Rattle.qrcode_fields.specs.Refusals.{refused_if, first_refusal}
-
--- a byte of a number: a digit, a plus sign, or one of -.()
-abbrev pub is_dialled : ℕ → Bool
-is_dialled b = is_digit b || b == 43 || b == 45 || b == 46 || b == 40 || b == 41
 
 -- what the link cannot say
 abbrev pub phone_refusal : List ℕ → Option ContentError

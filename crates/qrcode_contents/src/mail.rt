@@ -1,10 +1,11 @@
 //! Links that write a mail.
 
-ghost use Rattle.std.specs.Prelude.{◌≡◌, ◌==◌, Some, IfOk, IsOkUnless, string_bytes, count_by};
+ghost use Rattle.std.specs.Prelude.{◌≡◌, Some, IfOk, IsOkUnless, string_bytes};
 ghost use Rattle.qrcode_fields.specs.declared.errors.ContentError.TheVariants.{OutOfMemory};
 ghost use Rattle.qrcode_contents.specs.Mail.{letter_of, mail_refusal, mail_text, read_mail};
 ghost use Rattle.qrcode_fields.specs.Refusals.{Answers, checked};
 
+use qrcode_fields::characters::has_one_at;
 use qrcode_fields::errors::{Cause, ContentResult, Field};
 use qrcode_fields::links::{Part, push_part, push_query};
 use qrcode_fields::refusals::{controls, refuse_first, stray};
@@ -19,14 +20,6 @@ pub struct Mail<'a> {
     pub subject: &'a str,
     /// The text, of lines with a line feed between each two.
     pub body: &'a str,
-}
-
-// Whether a text has one `@`.
-fn has_one_at(text: &str) -> bool
-    ensures { result ≡ (count_by (λ b. b == 64) text.now == 1) }
-{
-    let bytes = text.as_bytes();
-    bytes.iter().filter(|byte| **byte == b'@').count() == 1
 }
 
 impl Mail<'_> {

@@ -1,12 +1,13 @@
 //! Links of one-time passwords.
 
 ghost use Rattle.std.specs.Prelude.{◌≡◌, ◌++◌, ◌∷◌, [], codes, Some, IfOk, OnOk, IsOkUnless, string_bytes};
-ghost use Rattle.std.specs.List.{list_all, list_any};
+ghost use Rattle.std.specs.List.{list_any};
 ghost use Rattle.qrcode_fields.specs.declared.errors.ContentError.TheVariants.{OutOfMemory};
-ghost use Rattle.qrcode_contents.specs.OneTime.{key_of, is_base32, is_colon, has_no_period, key_refusal, factor_name, factor_parameter, algorithm_value, digits_text, label_text, key_text, read_key, is_a_word};
+ghost use Rattle.qrcode_contents.specs.OneTime.{key_of, is_colon, has_no_period, key_refusal, factor_name, factor_parameter, algorithm_value, digits_text, label_text, key_text, read_key, is_a_word};
 ghost use Rattle.qrcode_fields.specs.Links.{query_text};
 ghost use Rattle.qrcode_fields.specs.Refusals.{Answers, checked};
 
+use qrcode_fields::characters::is_in_base32;
 use qrcode_fields::errors::{Cause, ContentResult, Field};
 use qrcode_fields::links::{Part, push_part, push_query};
 use qrcode_fields::refusals::{controls, refuse_first};
@@ -123,16 +124,6 @@ pub struct OneTime<'a> {
     pub algorithm: Algorithm,
     /// How many digits a password has.
     pub digits: Digits,
-}
-
-// Whether all bytes are characters of base 32.
-fn is_in_base32(text: &str) -> bool
-    ensures { result ≡ list_all is_base32 text.now }
-{
-    let bytes = text.as_bytes();
-    bytes
-        .iter()
-        .all(|byte| matches!(*byte, b'A'..=b'Z' | b'2'..=b'7'))
 }
 
 // Whether a byte is a colon.

@@ -1,13 +1,13 @@
 //! Links to a telephone.
 
 ghost use Rattle.std.specs.Prelude.{◌≡◌, ◌++◌, Some, IfOk, OnOk, IsOkUnless, string_bytes, codes};
-ghost use Rattle.std.specs.List.{list_all};
 ghost use Rattle.qrcode_fields.specs.declared.errors.ContentError.TheVariants.{OutOfMemory};
 ghost use Rattle.qrcode_fields.specs.Entries.{behind};
 ghost use Rattle.qrcode_fields.specs.Percents.{encoded, decoded};
-ghost use Rattle.qrcode_contents.specs.Phone.{phone_refusal, is_dialled, message_text, read_message};
+ghost use Rattle.qrcode_contents.specs.Phone.{phone_refusal, message_text, read_message};
 ghost use Rattle.qrcode_fields.specs.Refusals.{Answers, checked};
 
+use qrcode_fields::characters::are_dialled;
 use qrcode_fields::errors::{Cause, ContentResult, Field};
 use qrcode_fields::percents::push_encoded;
 use qrcode_fields::refusals::refuse_first;
@@ -18,14 +18,6 @@ use std::alloc::Global;
 pub struct Phone<'a> {
     /// The number.
     pub number: &'a str,
-}
-
-// Whether all bytes may stand in a number.
-fn are_dialled(text: &str) -> bool
-    ensures { result ≡ list_all is_dialled text.now }
-{
-    let bytes = text.as_bytes();
-    bytes.iter().all(|byte| matches!(*byte, b'0'..=b'9' | b'+' | b'-' | b'.' | b'(' | b')'))
 }
 
 // The number behind a scheme.

@@ -14,6 +14,14 @@ is_digit b = nat_lt 47 b && nat_lt b 58
 abbrev pub is_capital : ℕ → Bool
 is_capital b = (nat_lt 47 b && nat_lt b 58) || (nat_lt 64 b && nat_lt b 91)
 
+-- a byte of a telephone number: a digit, a plus sign, or one of -.()
+abbrev pub is_dialled : ℕ → Bool
+is_dialled b = is_digit b || b == 43 || b == 45 || b == 46 || b == 40 || b == 41
+
+-- a character of base 32 (RFC 4648, section 6)
+abbrev pub is_base32 : ℕ → Bool
+is_base32 b = (nat_lt 64 b && nat_lt b 91) || (nat_lt 49 b && nat_lt b 56)
+
 -- a control character of ASCII
 abbrev pub is_control : ℕ → Bool
 is_control b = nat_lt b 32 || b == 127

@@ -1,9 +1,9 @@
 //! What characters a field has.
 
-ghost use Rattle.std.specs.Prelude.{◌≡◌, length};
+ghost use Rattle.std.specs.Prelude.{◌≡◌, ◌==◌, length, count_by};
 ghost use Rattle.std.specs.List.{list_all, list_any};
 ghost use Rattle.std.specs.Str.{chars};
-ghost use Rattle.qrcode_fields.specs.Characters.{is_capital, is_control, is_digit, is_stray};
+ghost use Rattle.qrcode_fields.specs.Characters.{is_base32, is_capital, is_control, is_dialled, is_digit, is_stray};
 
 /// Whether all bytes are digits or letters A to Z.
 pub fn are_capitals(text: &str) -> bool
@@ -21,6 +21,32 @@ pub fn are_digits(text: &str) -> bool
 {
     let bytes = text.as_bytes();
     bytes.iter().all(|byte| matches!(*byte, b'0'..=b'9'))
+}
+
+/// Whether all bytes may stand in a telephone number: digits, `+`, `-`, `.`, `(` and `)`.
+pub fn are_dialled(text: &str) -> bool
+    ensures { result ≡ list_all is_dialled text.now }
+{
+    let bytes = text.as_bytes();
+    bytes.iter().all(|byte| matches!(*byte, b'0'..=b'9' | b'+' | b'-' | b'.' | b'(' | b')'))
+}
+
+/// Whether all bytes are characters of base 32.
+pub fn is_in_base32(text: &str) -> bool
+    ensures { result ≡ list_all is_base32 text.now }
+{
+    let bytes = text.as_bytes();
+    bytes
+        .iter()
+        .all(|byte| matches!(*byte, b'A'..=b'Z' | b'2'..=b'7'))
+}
+
+/// Whether a text has one `@`.
+pub fn has_one_at(text: &str) -> bool
+    ensures { result ≡ (count_by (λ b. b == 64) text.now == 1) }
+{
+    let bytes = text.as_bytes();
+    bytes.iter().filter(|byte| **byte == b'@').count() == 1
 }
 
 /// Whether a byte is a control character, as a line break is.
