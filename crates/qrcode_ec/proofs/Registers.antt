@@ -25,41 +25,46 @@ first_register n room register long zeros = record {
   ends = λ j _. zeros j;
 }
 
--- the two rows are the generator times the factor together, and all are zeros from `reach` on
-step : (n f reach : ℕ) (old new : List ℕ) (low high : List (List ℕ)) → AreOfGenerator n low high → f < 256 → n ≤ reach
-    → ((j : ℕ) → j < reach → get_or new j 0 ≡ bit_xor (get_or old (suc j) 0) (bit_xor (get_or (get_or low (f % 16) []) j 0) (get_or (get_or high (f / 16) []) j 0)))
+-- two rows are together the generator times a factor
+pub by_rows : (n room byte f : ℕ) (done old new g : List ℕ) (low high : List (List ℕ)) → AreOfGenerator n g low high → byte < 256 → f ≡ bit_xor byte (get_or old 0 0) → IsRegister n room done old
+    → ((j : ℕ) → j < 32 → get_or new j 0 ≡ bit_xor (get_or old (suc j) 0) (bit_xor (get_or (get_or low (f % 16) []) j 0) (get_or (get_or high (f / 16) []) j 0)))
+    → (j : ℕ) → j < 32 → get_or new j 0 ≡ bit_xor (get_or old (suc j) 0) (product f (get_or g j 0))
+by_rows n room byte f done old new g low high are small sum before at j less =
+    let few : f < 256 = subst (λ x. x < 256) (sym sum) (xor_lt 8 byte (get_or old 0 0) small (before.bytes 0)) in
+    at j less ∙ ap (bit_xor (get_or old (suc j) 0)) (ap₂ bit_xor (are.units.at (f % 16) j (omega arith) less) (are.sixteens.at (f / 16) j (omega arith) less) ∙ product_halves f (get_or g j 0))
+
+-- the generator and the remainder are zeros from `reach` on
+step : (n f reach : ℕ) (old new g : List ℕ) → n ≤ reach → ((j : ℕ) → n ≤ j → get_or g j 0 ≡ 0)
+    → ((j : ℕ) → j < reach → get_or new j 0 ≡ bit_xor (get_or old (suc j) 0) (product f (get_or g j 0)))
     → ((j : ℕ) → reach ≤ j → get_or new j 0 ≡ get_or old j 0) → ((j : ℕ) → n ≤ j → get_or old j 0 ≡ 0)
-    → (j : ℕ) → j < 72 → get_or new j 0 ≡ bit_xor (get_or old (suc j) 0) (product f (get_or (get_or low 1 []) j 0))
-step n f reach old new low high are small reached at kept ends j within = elim (cases_lt j reach) [
-  | inl less ↦ at j less ∙ ap (bit_xor (get_or old (suc j) 0))
-      (ap₂ bit_xor (are.units.at (f % 16) j (omega arith) within) (are.sixteens.at (f / 16) j (omega arith) within) ∙ product_halves f (get_or (get_or low 1 []) j 0))
-  | inr most ↦ kept j most ∙ ends j (omega arith) ∙ sym (ap₂ bit_xor (ends (suc j) (omega arith)) (ap (product f) (are.ends j (omega arith)) ∙ product_zero_r f))
+    → (j : ℕ) → get_or new j 0 ≡ bit_xor (get_or old (suc j) 0) (product f (get_or g j 0))
+step n f reach old new g reached zeros at kept ends j = elim (cases_lt j reach) [
+  | inl less ↦ at j less
+  | inr most ↦ kept j most ∙ ends j (omega arith) ∙ sym (ap₂ bit_xor (ends (suc j) (omega arith)) (ap (product f) (zeros j (omega arith)) ∙ product_zero_r f))
 ]
 
 -- one more byte of the data, where the register has at least as many places as are moved
-pub next_register : (n room reach byte f : ℕ) (done old new : List ℕ) (low high : List (List ℕ)) → AreOfGenerator n low high → n ≤ reach → reach ≤ room → room ≤ 72 → 0 < room → byte < 256
+pub next_register : (n room reach byte f : ℕ) (done old new g : List ℕ) (low high : List (List ℕ)) → AreOfGenerator n g low high → n ≤ reach → reach ≤ room → room ≤ 72 → 0 < room → byte < 256
     → f ≡ bit_xor byte (get_or old 0 0) → length new ≡ room
-    → ((j : ℕ) → j < reach → get_or new j 0 ≡ bit_xor (get_or old (suc j) 0) (bit_xor (get_or (get_or low (f % 16) []) j 0) (get_or (get_or high (f / 16) []) j 0)))
+    → ((j : ℕ) → j < reach → get_or new j 0 ≡ bit_xor (get_or old (suc j) 0) (product f (get_or g j 0)))
     → ((j : ℕ) → reach ≤ j → get_or new j 0 ≡ get_or old j 0)
     → IsRegister n room done old → IsRegister n room (done ++ byte ∷ []) new
-next_register n room reach byte f done old new low high are reached inside most some small sum long at kept before =
-    let g = get_or low 1 [] in
-    let few : f < 256 = subst (λ x. x < 256) (sym sum) (xor_lt 8 byte (get_or old 0 0) small (before.bytes 0)) in
-    let moved = step n f reach old new low high are few reached at kept before.ends in
+next_register n room reach byte f done old new g low high are reached inside most some small sum long at kept before =
+    let moved = step n f reach old new g reached are.ends at kept before.ends in
     let front : length (take room g) ≡ room = length-take-le room g (omega (arith, are.long)) in
     record {
       long = long;
       bytes = λ j. elim (cases_lt j room) [
-        | inl within ↦ subst (λ x. x < 256) (sym (moved j (omega arith))) (xor_lt 8 (get_or old (suc j) 0) (product f (get_or g j 0)) (before.bytes (suc j)) (product_lt f (get_or g j 0)))
+        | inl within ↦ subst (λ x. x < 256) (sym (moved j)) (xor_lt 8 (get_or old (suc j) 0) (product f (get_or g j 0)) (before.bytes (suc j)) (product_lt f (get_or g j 0)))
         | inr past ↦ subst (λ x. x < 256) (sym (get_or_past new j 0 (omega (arith, long)))) (omega arith)
       ];
       vanishes = λ k below. division_step k byte done old (take room g) new small (omega (arith, before.long)) (front ∙ sym before.long) (long ∙ sym before.long)
           (vanishes_cut (suc room) n (1 ∷ g) (omega (arith, are.long)) (behind g are.ends) are.vanishes k below)
-          (λ j within. moved j (omega (arith, before.long, within)) ∙ ap (λ x. bit_xor (get_or old (suc j) 0) (product x (get_or g j 0))) sum
+          (λ j within. moved j ∙ ap (λ x. bit_xor (get_or old (suc j) 0) (product x (get_or g j 0))) sum
           ∙ ap (λ x. bit_xor (get_or old (suc j) 0) (product (bit_xor byte (get_or old 0 0)) x)) (sym (get_or-take room g j 0 (omega (arith, before.long, within)))))
           (before.vanishes k below);
       ends = λ j over. elim (cases_lt j room) [
-        | inl within ↦ moved j (omega arith) ∙ ap₂ bit_xor (before.ends (suc j) (omega (arith, over))) (ap (product f) (are.ends j over) ∙ product_zero_r f)
+        | inl within ↦ moved j ∙ ap₂ bit_xor (before.ends (suc j) (omega (arith, over))) (ap (product f) (are.ends j over) ∙ product_zero_r f)
         | inr past ↦ get_or_past new j 0 (omega (arith, long, past))
       ];
     }

@@ -64,23 +64,23 @@ fn double(byte: u8) -> u8
 }
 
 // A row times 2.
-fn doubled(row: &[u8; ROOM]) -> [u8; ROOM]
-    ensures { (j : ℕ) → j < 72 → slice_index result j ≡ product 2 (slice_index row.now j) }
+fn doubled(row: &[u8; LANES]) -> [u8; LANES]
+    ensures { (j : ℕ) → j < 32 → slice_index result j ≡ product 2 (slice_index row.now j) }
 {
-    let mut multiple = [0; ROOM];
-    for j in 0..ROOM {
+    let mut multiple = [0; LANES];
+    for j in 0..LANES {
         multiple[j] = double(row[j]);
     }
     multiple
 }
 
 // The sum of two rows.
-fn sum(first: &[u8; ROOM], second: &[u8; ROOM]) -> [u8; ROOM]
-    ensures { (j : ℕ) → j < 72
+fn sum(first: &[u8; LANES], second: &[u8; LANES]) -> [u8; LANES]
+    ensures { (j : ℕ) → j < 32
         → slice_index result j ≡ bit_xor (slice_index first.now j) (slice_index second.now j) }
 {
-    let mut row = [0; ROOM];
-    for j in 0..ROOM {
+    let mut row = [0; LANES];
+    for j in 0..LANES {
         row[j] = first[j] ^ second[j];
     }
     row
@@ -88,12 +88,12 @@ fn sum(first: &[u8; ROOM], second: &[u8; ROOM]) -> [u8; ROOM]
 
 // Row k, where the rows before have the lesser multiples of row 1. A multiple by a power of two is
 // twice another, and each other one is the sum of two rows before it.
-fn next_multiple(rows: &[[u8; ROOM]; 16], k: usize) -> [u8; ROOM]
+fn next_multiple(rows: &[[u8; LANES]; 16], k: usize) -> [u8; LANES]
     requires at_least { 2 ≤ k }
     requires at_most { k < 16 }
-    requires earlier { (i j : ℕ) → i < k → j < 72 → slice_index (slice_index_or rows.now i []) j
+    requires earlier { (i j : ℕ) → i < k → j < 32 → slice_index (slice_index_or rows.now i []) j
         ≡ product i (slice_index (slice_index_or rows.now 1 []) j) }
-    ensures { (j : ℕ) → j < 72
+    ensures { (j : ℕ) → j < 32
         → slice_index result j ≡ product k (slice_index (slice_index_or rows.now 1 []) j) }
 {
     let rest = k & (k - 1);
@@ -106,11 +106,10 @@ fn next_multiple(rows: &[[u8; ROOM]; 16], k: usize) -> [u8; ROOM]
 // The multiples of a row by 0, 1, 2 and so on. It is not inlined, since LLVM would then set the room
 // of a divider to zeros before it writes to it.
 #[inline(never)]
-fn multiples(first: &[u8; ROOM]) -> [[u8; ROOM]; 16]
-    ensures first { slice_index_or result 1 [] ≡ first.now }
-    ensures multiples { AreMultiples first.now 1 result }
+fn multiples(first: &[u8; LANES]) -> [[u8; LANES]; 16]
+    ensures { AreMultiples first.now 1 result }
 {
-    let mut rows = [[0; ROOM]; 16];
+    let mut rows = [[0; LANES]; 16];
     rows[1] = *first;
     for k in 2..16 {
         rows[k] = next_multiple(&rows, k);
@@ -118,22 +117,23 @@ fn multiples(first: &[u8; ROOM]) -> [[u8; ROOM]; 16]
     rows
 }
 
-// Moves a remainder on by one byte, and subtracts two multiples of the generator from it.
-fn advance(register: &mut [u8; ROOM], low: &[u8; ROOM], high: &[u8; ROOM])
-    ensures below { (j : ℕ) → j < 71 → slice_index register.new j
+// Moves a remainder on by one byte, and subtracts a multiple of the generator from it.
+fn advance(register: &mut [u8; ROOM], generator: &[u8; ROOM], degree: usize, factor: u8)
+    requires { degree ≤ 69 }
+    ensures below { (j : ℕ) → j < degree → slice_index register.new j
         ≡ bit_xor (slice_index register.old (suc j))
-        (bit_xor (slice_index low.now j) (slice_index high.now j)) }
-    ensures behind { (j : ℕ) → 71 ≤ j
+        (product factor (slice_index generator.now j)) }
+    ensures behind { (j : ℕ) → degree ≤ j
         → slice_index register.new j ≡ slice_index register.old j }
 {
-    for i in 0..ROOM - 1 {
-        register[i] = register[i + 1] ^ (low[i] ^ high[i]);
+    for i in 0..degree {
+        register[i] = register[i + 1] ^ product(factor, generator[i]);
     }
 }
 
-// The same in a vector, which has the first `LANES` coefficients.
+// The same in a vector, which has the first `LANES` coefficients, by the multiple's two parts.
 #[inline(always)]
-fn advanced(register: u8x32, low: &[u8; ROOM], high: &[u8; ROOM]) -> u8x32
+fn advanced(register: u8x32, low: &[u8; LANES], high: &[u8; LANES]) -> u8x32
     requires { length register ≡ 32 }
     ensures long { length result ≡ 32 }
     ensures value { (j : ℕ) → j < 32 → slice_index result j
@@ -155,16 +155,26 @@ fn in_room(lanes: u8x32) -> [u8; ROOM]
     row
 }
 
-/// A generator, by its multiples: those by the bytes below 16, and those by the multiples of 16.
-/// Any byte is the sum of one of the first and one of the second.
+// The coefficients of a generator that a vector has room for.
+#[inline(always)]
+fn first_lanes(generator: &[u8; ROOM]) -> [u8; LANES]
+    ensures { result ≡ take 32 generator.now }
+{
+    u8x32::from_slice(generator).to_array()
+}
+
+/// A generator without its leading one, and multiples of what a vector has room for of it: those by
+/// the bytes below 16, and those by the multiples of 16. Any byte is the sum of one of the first and
+/// one of the second.
 #[derive(Drop)]
 pub struct Divider {
     /// The degree of the generator, and the length of a remainder.
     pub degree: usize,
-    low: [[u8; ROOM]; 16],
-    high: [[u8; ROOM]; 16],
+    generator: [u8; ROOM],
+    low: [[u8; LANES]; 16],
+    high: [[u8; LANES]; 16],
     pub ghost at_most: { degree ≤ 69 },
-    pub ghost generator: { AreOfGenerator degree low high },
+    pub ghost multiples: { AreOfGenerator degree generator low high },
 }
 
 impl Divider {
@@ -173,9 +183,11 @@ impl Divider {
         requires { degree ≤ 69 }
         ensures { result.degree ≡ degree }
     {
-        let low = multiples(&generator(degree));
+        let generator = generator(degree);
+        let low = multiples(&first_lanes(&generator));
         Divider {
             degree,
+            generator,
             low,
             high: multiples(&doubled(&low[8])),
         }
@@ -208,19 +220,15 @@ impl Divider {
         in_room(register)
     }
 
-    // The same of any degree.
+    // The same of any degree, by products.
     fn long_remainder(&self, bytes: &[u8]) -> [u8; ROOM]
         ensures vanishes { Vanishes (bytes.now ++ take self.now.degree result) self.now.degree }
         ensures bytes { AreBytes result }
     {
         let mut register = [0; ROOM];
         for byte in bytes {
-            let factor = usize::from(*byte ^ register[0]);
-            advance(
-                &mut register,
-                &self.low[factor % 16],
-                &self.high[factor / 16],
-            );
+            let factor = *byte ^ register[0];
+            advance(&mut register, &self.generator, self.degree, factor);
         }
         register
     }

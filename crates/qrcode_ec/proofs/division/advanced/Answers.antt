@@ -4,12 +4,12 @@ use Rattle.qrcode_ec.proofs.division.advanced.Goals as goal
 
 pub returns-clause-long : goal.returns-clause-long
 returns-clause-long c =
-    let low : length c.args.low.now ≡ 72 = search rules in
-    let high : length c.args.high.now ≡ 72 = search rules in
+    let low : length c.args.low.now ≡ 32 = search rules in
+    let high : length c.args.high.now ≡ 32 = search rules in
     length-next c.args.register c.args.low.now c.args.high.now c.requires (omega (arith, low)) (omega (arith, high))
 
 pub returns-clause-value : goal.returns-clause-value
 returns-clause-value c = λ j less.
-    let low : length c.args.low.now ≡ 72 = search rules in
-    let high : length c.args.high.now ≡ 72 = search rules in
+    let low : length c.args.low.now ≡ 32 = search rules in
+    let high : length c.args.high.now ≡ 32 = search rules in
     next_at c.args.register c.args.low.now c.args.high.now c.requires (omega (arith, low)) (omega (arith, high)) j less

@@ -6,5 +6,5 @@ abbrev pub invariant-loop-k : goal.invariant-loop-k
 invariant-loop-k l = record {
   long : length l.rows ≡ 16;
   one : get_or l.rows 1 [] ≡ l.first;
-  below : (i j : ℕ) → i < l.k → j < 72 → get_or (get_or l.rows i []) j 0 ≡ product i (get_or l.first j 0);
+  below : (i j : ℕ) → i < l.k → j < 32 → get_or (get_or l.rows i []) j 0 ≡ product i (get_or l.first j 0);
 }

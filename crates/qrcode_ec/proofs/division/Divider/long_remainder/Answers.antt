@@ -1,4 +1,4 @@
-use Rattle.std.proofs.Common.{◌≡◌, ◌+◌, ◌∷◌, [], ◌++◌, List, ℕ, take, get_or, refl, subst, sym, add-one, arith}
+use Rattle.std.proofs.Common.{◌≡◌, ◌+◌, ◌∷◌, [], ◌++◌, List, ℕ, take, get_or, bit_xor, refl, subst, sym, add-one, arith}
 use Rattle.std.proofs.Math.Seq.{take-suc}
 use Rattle.std.proofs.lemmas.List.{take_all}
 use Rattle.qrcode_ec.specs.Codes.{Vanishes}
@@ -18,8 +18,8 @@ loop-byte-preserved c =
     let byte = get_or message i 0 in
     let longer : take (i + 1) message ≡ take i message ++ byte ∷ [] = rw (add-one, take-suc message i 0 c.loop-byte-test.true) in
     subst (λ (done : List ℕ). IsRegister divider.degree 72 done c.advance.new.register) (sym longer)
-    (next_register divider.degree 72 71 byte c.from-factor.result (take i message) c.loop-byte.register c.advance.new.register divider.low divider.high divider.generator
-    (omega (arith, divider.at_most)) (omega arith) (omega arith) (omega arith) (omega (arith, c.type_inv.bytes i)) c.from-factor.ensures c.advance.array_long c.advance.ensures.below c.advance.ensures.behind c.loop-byte.invariant)
+    (next_register divider.degree 72 divider.degree byte (bit_xor byte (get_or c.loop-byte.register 0 0)) (take i message) c.loop-byte.register c.advance.new.register divider.generator divider.low divider.high divider.multiples
+    (omega arith) (omega (arith, divider.at_most)) (omega arith) (omega arith) (omega (arith, c.type_inv.bytes i)) refl c.advance.array_long c.advance.ensures.below c.advance.ensures.behind c.loop-byte.invariant)
 
 pub returns-clause-vanishes : goal.returns-clause-vanishes
 returns-clause-vanishes c =

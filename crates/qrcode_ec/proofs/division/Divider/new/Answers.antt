@@ -1,8 +1,8 @@
-use Rattle.std.proofs.Common.{rules, ◌≡◌, ◌*◌, ◌<◌, ◌==◌, ◌∷◌, ℕ, List, [], true, length, get_or, refl, sym, ap, ap₂, ◌∙◌, arith, subst}
+use Rattle.std.proofs.Common.{rules, ◌≡◌, ◌*◌, ◌<◌, ◌==◌, ℕ, List, [], true, take, get_or, refl, sym, ap, ap₂, ◌∙◌, arith, subst}
 use Rattle.std.proofs.lemmas.Bool.{agree_below_at, eqb-true}
+use Rattle.std.proofs.lemmas.List.{get_or-take}
 use Rattle.qrcode_types.specs.Polynomials.{carryless, remainder, remainder_from, xor_sum}
 use Rattle.qrcode_ec.specs.Field.{product}
-use Rattle.qrcode_ec.specs.Codes.{Vanishes}
 use Rattle.qrcode_ec.specs.Dividing.{AreMultiples}
 use Rattle.qrcode_ec.proofs.Products.{product_assoc}
 use Rattle.qrcode_ec.proofs.division.Divider.new.Goals as goal
@@ -16,7 +16,7 @@ unfolding product carryless xor_sum remainder remainder_from
 eightfold = refl
 
 -- the multiples of 16 times a row are those of twice its eightfold
-high_rows : (g eight sixteen : List ℕ) (low high : List (List ℕ)) → AreMultiples g 1 low → eight ≡ get_or low 8 [] → ((j : ℕ) → j < 72 → get_or sixteen j 0 ≡ product 2 (get_or eight j 0))
+high_rows : (g eight sixteen : List ℕ) (low high : List (List ℕ)) → AreMultiples g 1 low → eight ≡ get_or low 8 [] → ((j : ℕ) → j < 32 → get_or sixteen j 0 ≡ product 2 (get_or eight j 0))
     → AreMultiples sixteen 1 high → AreMultiples g 16 high
 high_rows g eight sixteen low high units is twice multiples = record {
   at = λ k j small within.
@@ -27,16 +27,20 @@ high_rows g eight sixteen low high units is twice multiples = record {
       multiples.at k j small within ∙ ap₂ product one sixteenth ∙ sym (product_assoc k 16 x) ∙ ap (λ n. product n x) (sixteenfold k small);
 }
 
-pub invariant_of-result-clause-generator : goal.invariant_of-result-clause-generator
-invariant_of-result-clause-generator c =
-    let g = c.generator.result in
+-- multiples of what a vector has room for
+front_rows : (g : List ℕ) (unit : ℕ) (rows : List (List ℕ)) → AreMultiples (take 32 g) unit rows → AreMultiples g unit rows
+front_rows g unit rows are = record { at = λ k j small within. are.at k j small within ∙ ap (product (k * unit)) (get_or-take 32 g j 0 within) }
+
+pub invariant_of-result-clause-multiples : goal.invariant_of-result-clause-multiples
+invariant_of-result-clause-multiples c =
+    let g = c.generator-generator.result in
     let low = c.multiples-low.result in
-    let e = c.multiples-low.ensures.first in
-    let long : length g ≡ 72 = search rules in
+    let front : AreMultiples (take 32 g) 1 low = subst (λ row. AreMultiples row 1 low) c.first_lanes.ensures c.multiples-low.ensures in
+    let units = front_rows g 1 low front in
     record {
-      long = ap length e ∙ long;
-      vanishes = subst (λ g. Vanishes (1 ∷ g) c.args.degree) (sym e) c.generator.ensures.vanishes;
-      ends = λ j most. ap (λ g. get_or g j 0) e ∙ c.generator.ensures.ends j most;
-      units = subst (λ g. AreMultiples g 1 low) (sym e) c.multiples-low.ensures.multiples;
-      sixteens = subst (λ g. AreMultiples g 16 c.multiples.result) (sym e) (high_rows g (get_or low 8 []) c.doubled.result low c.multiples.result c.multiples-low.ensures.multiples refl c.doubled.ensures c.multiples.ensures.multiples);
+      long = search rules;
+      vanishes = c.generator-generator.ensures.vanishes;
+      ends = c.generator-generator.ensures.ends;
+      units = units;
+      sixteens = high_rows g (get_or low 8 []) c.doubled.result low c.multiples.result units refl c.doubled.ensures c.multiples.ensures;
     }

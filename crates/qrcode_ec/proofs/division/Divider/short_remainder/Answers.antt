@@ -4,7 +4,7 @@ use Rattle.std.proofs.lemmas.List.{take_all, take-append-le, get_or_past}
 use Rattle.qrcode_ec.specs.Codes.{Vanishes}
 use Rattle.qrcode_ec.proofs.Bytes.{bytes_from}
 use Rattle.qrcode_ec.proofs.Lanes.{get_or-zeros}
-use Rattle.qrcode_ec.proofs.Registers.{IsRegister, first_register, next_register}
+use Rattle.qrcode_ec.proofs.Registers.{IsRegister, first_register, next_register, by_rows}
 use Rattle.qrcode_ec.proofs.Syndromes.{zeros_at, vanishes_behind}
 use Rattle.qrcode_ec.proofs.division.Divider.short_remainder.Goals as goal
 
@@ -22,8 +22,9 @@ loop-byte-preserved c =
     let long = c.advanced-register.ensures.long in
     let longer : take (i + 1) message ≡ take i message ++ byte ∷ [] = rw (add-one, take-suc message i 0 c.loop-byte-test.true) in
     subst (λ (done : List ℕ). IsRegister divider.degree 32 done new) (sym longer)
-    (next_register divider.degree 32 32 byte c.from-factor.result (take i message) old new divider.low divider.high divider.generator
-    c.requires (omega arith) (omega arith) (omega arith) (omega (arith, c.type_inv.bytes i)) c.from-factor.ensures long c.advanced-register.ensures.value
+    (next_register divider.degree 32 32 byte c.from-factor.result (take i message) old new divider.generator divider.low divider.high divider.multiples
+    c.requires (omega arith) (omega arith) (omega arith) (omega (arith, c.type_inv.bytes i)) c.from-factor.ensures long
+    (by_rows divider.degree 32 byte c.from-factor.result (take i message) old new divider.generator divider.low divider.high divider.multiples (omega (arith, c.type_inv.bytes i)) c.from-factor.ensures c.loop-byte.invariant c.advanced-register.ensures.value)
     (λ j past. get_or_past new j 0 (omega (arith, long)) ∙ sym (get_or_past old j 0 (omega (arith, c.loop-byte.invariant.long)))) c.loop-byte.invariant)
 
 pub returns-clause-vanishes : goal.returns-clause-vanishes
