@@ -20,7 +20,7 @@ const EXAMPLE: [Pair; 4] = [
 type Row = (&'static [Pair], EcLevel, i16);
 
 #[rattlefmt::skip]
-static ROWS: [Row; 9] = [
+static ROWS: [Row; 14] = [
     (&EXAMPLE, EcLevel::M, 2),
     (&EXAMPLE, EcLevel::Q, 3),
     (&[("01", "03453120000011"), ("17", "191125"), ("10", "ABCD1234"), ("21", "10")], EcLevel::M, 2),
@@ -30,6 +30,13 @@ static ROWS: [Row; 9] = [
     (&[("253", "4006381333931X"), ("3103", "001750"), ("21", "%a")], EcLevel::M, 2),
     (&[("01", "09501101530003"), ("17", "250119"), ("10", "AB%C")], EcLevel::L, 1),
     (&[("10", "abc"), ("21", "def")], EcLevel::H, 2),
+
+    // Percent signs among capitals, which would take a greater version in Byte.
+    (&[("10", "ABCDEFGH%IJKLMNOP")], EcLevel::M, 1),
+    (&[("10", "ABCDEFGH%IJKLMNOP")], EcLevel::H, 2),
+    (&[("01", "09501101530003"), ("10", "ABCD%EFGH")], EcLevel::L, 1),
+    (&[("10", "ABC%"), ("21", "DEF")], EcLevel::Q, 1),
+    (&[("10", "ABCDEFGH"), ("21", "%IJKLMNOP")], EcLevel::L, 1),
 ];
 
 // The symbol of elements.
@@ -56,6 +63,16 @@ fn divided_for_application(alloc: Global) -> QrResult<QrCode> {
     bits.push_byte_data(b"text text text text\r")?;
     bits.push_terminator(EcLevel::M)?;
     QrCode::with_bits(alloc, bits, EcLevel::M)
+}
+
+// The symbol of data of an application in two segments of capitals.
+fn in_two(alloc: Global, first: &[u8], behind: &[u8]) -> QrResult<QrCode> {
+    let mut bits = Bits::new(alloc, Version::Normal(1));
+    bits.push_fnc1_second_position(37)?;
+    bits.push_alphanumeric_data(first)?;
+    bits.push_alphanumeric_data(behind)?;
+    bits.push_terminator(EcLevel::L)?;
+    QrCode::with_bits(alloc, bits, EcLevel::L)
 }
 
 #[test]
@@ -92,6 +109,27 @@ fn the_example_of_an_application_is_divided_as_there(rt: HostRuntime) {
         _ => false,
     };
     assert!(rt; same);
+}
+
+// Three percent signs would be read as a percent sign and a separator, and two as a percent sign.
+#[test]
+fn a_separator_ends_its_segment_before_another_and_before_a_percent_sign(rt: HostRuntime) {
+    let alloc = rt.alloc();
+    for (bytes, first, behind) in [
+        (
+            &b"AAAAAAAA\x1d%BBBBBBBB"[..],
+            &b"AAAAAAAA%"[..],
+            &b"%%BBBBBBBB"[..],
+        ),
+        (b"AAAAAAAA\x1d\x1dBBBBBBBB", b"AAAAAAAA%", b"%BBBBBBBB"),
+    ] {
+        let code = for_application(alloc, 37, bytes, EcLevel::L);
+        let same = match (code, in_two(alloc, first, behind)) {
+            (Ok(code), Ok(expected)) => code.colors() == expected.colors(),
+            _ => false,
+        };
+        assert!(rt; same);
+    }
 }
 
 #[test]

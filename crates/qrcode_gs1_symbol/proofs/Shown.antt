@@ -1,77 +1,100 @@
--- A reader takes the characters of a segment for the bytes for which they stand.
-use Rattle.std.proofs.Common.{◌≡◌, ℕ, ◌==◌, ◌&&◌, not, Bool, true, false, List, [], ◌∷◌, ◌++◌, map, refl, sym, ap, subst, ◌∙◌, true≢false, ◌⊎◌, inl, inr, if◌then◌else◌}
-use Rattle.std.specs.List.{list_all}
+-- A mode can write what a segment has for bytes, and a reader takes it for them.
+use Rattle.std.proofs.Common.{◌≡◌, ℕ, ◌==◌, ◌&&◌, ◌||◌, not, Bool, true, false, List, [], ◌∷◌, ◌++◌, refl, sym, ap, ap₂, subst, ◌∙◌, true≢false, inl, inr, if◌then◌else◌}
 use Rattle.std.proofs.lemmas.Bool.{and_parts, and_from}
-use Rattle.std.proofs.lemmas.List.{map-id}
+use Rattle.qrcode_types.specs.Characters.{alphabet, is_alphanumeric, can_write}
 use Rattle.qrcode_types.specs.declared.types.Mode.{Mode}
 use Rattle.qrcode_types.specs.declared.types.Mode.TheVariants.{Numeric, Alphanumeric, Byte, Kanji}
-use Rattle.qrcode_gs1_symbol.specs.Characters.{character, can_stand, undoubled, shown_in}
-use Rattle.qrcode_gs1.specs.Elements.{are_apart}
-use Rattle.qrcode_gs1_symbol.proofs.Bytes.{equal, stands, other_written}
+use Rattle.qrcode_bits.specs.Tokens.{first_byte}
+use Rattle.qrcode_bits.proofs.SegmentRanges.{write_both, write_none}
+use Rattle.qrcode_gs1_symbol.specs.Characters.{characters_for, characters, has_characters, must_end, can_stand, undoubled, shown_in}
+use Rattle.qrcode_gs1_symbol.proofs.Steps.{equal, tested}
 
-abbrev letter : ℕ → ℕ
-letter b = character Alphanumeric b
+percent_is : is_alphanumeric 37 ≡ true
+unfolding is_alphanumeric alphabet
+percent_is = refl
 
--- the character of a byte that is no separator
-letter_other : (b : ℕ) → (b == 29) ≡ false → letter b ≡ b
-letter_other b other = ap (λ t. if t then 37 else b) other
+right_of : (a b : Bool) → (a || b) ≡ true → a ≡ false → b ≡ true
+right_of true b is not_left = absurd (true≢false not_left)
+right_of false b is not_left = is
 
--- it is no percent sign
-letter_no_percent : (b : ℕ) → stands b ≡ true → (b == 29) ≡ false → (letter b == 37) ≡ false
-letter_no_percent b is other = ap (λ x. x == 37) (letter_other b other) ∙ (other_written b is other).1
+neither : (a b : Bool) → (a || b) ≡ false → b ≡ false
+neither true b is = absurd (true≢false is)
+neither false b is = is
 
-last_other : (b : ℕ) → (b == 37) ≡ false → undoubled (b ∷ []) ≡ b ∷ []
-last_other b other = ap (λ (t : Bool). (if t then 29 else b) ∷ []) other
+-- what it has for another byte than a separator and a percent sign is that byte
+other_for : (b : ℕ) → (b == 29) ≡ false → (b == 37) ≡ false → characters_for Alphanumeric b ≡ b ∷ []
+other_for b separator percent = ap₂ (λ (s t : Bool). if s then 37 ∷ [] else (if t then 37 ∷ 37 ∷ [] else b ∷ [])) separator percent
 
-other_first : (b y : ℕ) (ys : List ℕ) → (b == 37) ≡ false → undoubled (b ∷ y ∷ ys) ≡ b ∷ undoubled (y ∷ ys)
-other_first b y ys other = ap (λ (t : Bool). if t then (if y == 37 then 37 ∷ undoubled ys else 29 ∷ undoubled (y ∷ ys)) else b ∷ undoubled (y ∷ ys)) other
+-- the cases of a byte
+pub by_byte : (P : ℕ → List ℕ → Type 0) → P 29 (37 ∷ []) → P 37 (37 ∷ 37 ∷ []) → (b : ℕ) → ((b == 29) ≡ false → (b == 37) ≡ false → P b (b ∷ [])) → P b (characters_for Alphanumeric b)
+by_byte P separator percent b other = elim (tested (b == 29)) [
+  | inl is ↦ subst (λ n. P n (characters_for Alphanumeric n)) (sym (equal b 29 is)) separator
+  | inr plain ↦ elim (tested (b == 37)) [
+    | inl is ↦ subst (λ n. P n (characters_for Alphanumeric n)) (sym (equal b 37 is)) percent
+    | inr none ↦ subst (P b) (sym (other_for b plain none)) (other plain none)
+  ]
+]
 
-separator_first : (y : ℕ) (ys : List ℕ) → (y == 37) ≡ false → undoubled (37 ∷ y ∷ ys) ≡ 29 ∷ undoubled (y ∷ ys)
-separator_first y ys other = ap (λ (t : Bool). if t then 37 ∷ undoubled ys else 29 ∷ undoubled (y ∷ ys)) other
+letter_written : (b : ℕ) → has_characters Alphanumeric b ≡ true → can_write Alphanumeric (characters_for Alphanumeric b) ≡ true
+letter_written b has = by_byte (λ n chunk. can_write Alphanumeric chunk ≡ true) (and_from _ _ percent_is refl) (and_from _ _ percent_is (and_from _ _ percent_is refl)) b
+    (λ plain none. and_from _ _ (right_of (b == 29) (is_alphanumeric b) has plain) refl)
 
-tested : (b : Bool) → (b ≡ true) ⊎ (b ≡ false)
-tested true = inl refl
-tested false = inr refl
+one_written : (m : Mode) (b : ℕ) → has_characters m b ≡ true → can_write m (characters_for m b) ≡ true
+one_written Numeric b has = and_from _ _ has refl
+one_written Alphanumeric b has = letter_written b has
+one_written Byte b has = and_from _ _ has refl
+one_written Kanji b has = absurd (true≢false (sym has))
+
+-- the mode can write what it has for bytes
+pub characters_written : (m : Mode) (bytes : List ℕ) → can_stand m bytes ≡ true → can_write m (characters m bytes) ≡ true
+characters_written m [] can = write_none m
+characters_written m (b ∷ bytes) can =
+    let parts = and_parts (has_characters m b) (not (must_end m b (first_byte bytes)) && can_stand m bytes) can in
+    let both = and_parts (not (must_end m b (first_byte bytes))) (can_stand m bytes) parts.1 in
+    write_both m (characters_for m b) (characters m bytes) (one_written m b parts.0) (characters_written m bytes both.1)
+
+-- another character than a percent sign is what it is
+other_first : (b : ℕ) (more : List ℕ) → (b == 37) ≡ false → undoubled (b ∷ more) ≡ b ∷ undoubled more
+other_first b [] other = ap (λ (t : Bool). (if t then 29 else b) ∷ []) other
+other_first b (y ∷ ys) other = ap (λ (t : Bool). if t then (if y == 37 then 37 ∷ undoubled ys else 29 ∷ undoubled (y ∷ ys)) else b ∷ undoubled (y ∷ ys)) other
+
+-- a percent sign before another character is a separator
+separator_first : (more : List ℕ) → (first_byte more == 37) ≡ false → undoubled (37 ∷ more) ≡ 29 ∷ undoubled more
+separator_first [] other = refl
+separator_first (y ∷ ys) other = ap (λ (t : Bool). if t then 37 ∷ undoubled ys else 29 ∷ undoubled (y ∷ ys)) other
 
 denied : (a : Bool) → not a ≡ true → a ≡ false
 denied true is = absurd (true≢false (sym is))
 denied false is = refl
 
-last_shown : (b : ℕ) → stands b ≡ true → undoubled (letter b ∷ []) ≡ b ∷ []
-last_shown b is = elim (tested (b == 29)) [
-  | inl separator ↦ subst (λ x. undoubled (letter x ∷ []) ≡ x ∷ []) (sym (equal b 29 separator)) refl
-  | inr other ↦ ap (λ x. undoubled (x ∷ [])) (letter_other b other) ∙ last_other b (other_written b is other).1
-]
+left_no : (a b : Bool) → (a || b) ≡ false → a ≡ false
+left_no true b is = absurd (true≢false is)
+left_no false b is = refl
 
-first_shown : (b c : ℕ) (ys : List ℕ) → stands b ≡ true → stands c ≡ true → not ((b == 29) && (c == 29)) ≡ true → undoubled (letter b ∷ letter c ∷ ys) ≡ b ∷ undoubled (letter c ∷ ys)
-first_shown b c ys is next apart = elim (tested (b == 29)) [
-  | inl separator ↦
-      let behind : (c == 29) ≡ false = denied (c == 29) (subst (λ t. not (t && (c == 29)) ≡ true) separator apart) in
-      subst (λ x. undoubled (letter x ∷ letter c ∷ ys) ≡ x ∷ undoubled (letter c ∷ ys)) (sym (equal b 29 separator)) (separator_first (letter c) ys (letter_no_percent c next behind))
-  | inr other ↦ ap (λ x. undoubled (x ∷ letter c ∷ ys)) (letter_other b other) ∙ other_first b (letter c) ys (other_written b is other).1
-]
+-- what stands behind a separator begins with no percent sign
+behind_separator : (bytes : List ℕ) → must_end Alphanumeric 29 (first_byte bytes) ≡ false → (first_byte (characters Alphanumeric bytes) == 37) ≡ false
+behind_separator [] goes = refl
+behind_separator (c ∷ bytes) goes =
+    let percent = neither (c == 29) (c == 37) goes in
+    ap (λ cs. first_byte (cs ++ characters Alphanumeric bytes) == 37) (other_for c (left_no (c == 29) (c == 37) goes) percent) ∙ percent
 
-letters_shown : (xs : List ℕ) → list_all stands xs ≡ true → are_apart xs ≡ true → undoubled (map letter xs) ≡ xs
-letters_shown [] is apart = refl
-letters_shown (b ∷ []) is apart = last_shown b (and_parts (stands b) true is).0
-letters_shown (b ∷ c ∷ xs) is apart =
-    let parts = and_parts (stands b) (list_all stands (c ∷ xs)) is in
-    let gap = and_parts (not ((b == 29) && (c == 29))) (are_apart (c ∷ xs)) apart in
-    first_shown b c (map letter xs) parts.0 (and_parts (stands c) (list_all stands xs) parts.1).0 gap.0
-    ∙ ap (λ ys. b ∷ ys) (letters_shown (c ∷ xs) parts.1 gap.1)
+letters_shown : (bytes : List ℕ) → can_stand Alphanumeric bytes ≡ true → undoubled (characters Alphanumeric bytes) ≡ bytes
+letters_shown [] can = refl
+letters_shown (b ∷ bytes) can =
+    let more = characters Alphanumeric bytes in
+    let parts = and_parts (has_characters Alphanumeric b) (not (must_end Alphanumeric b (first_byte bytes)) && can_stand Alphanumeric bytes) can in
+    let both = and_parts (not (must_end Alphanumeric b (first_byte bytes))) (can_stand Alphanumeric bytes) parts.1 in
+    by_byte (λ n chunk. must_end Alphanumeric n (first_byte bytes) ≡ false → undoubled (chunk ++ more) ≡ n ∷ undoubled more)
+    (λ goes. separator_first more (behind_separator bytes goes)) (λ goes. refl) b (λ plain none goes. other_first b more none) (denied _ both.0)
+    ∙ ap (λ ys. b ∷ ys) (letters_shown bytes both.1)
 
-pub chunk_shown : (m : Mode) (xs : List ℕ) → can_stand m xs ≡ true → are_apart xs ≡ true → shown_in m (map (character m) xs) ≡ xs
-chunk_shown Numeric xs is apart = map-id xs
-chunk_shown Alphanumeric xs is apart = letters_shown xs is apart
-chunk_shown Byte xs is apart = map-id xs
-chunk_shown Kanji xs is apart = absurd (true≢false (sym is))
+same_bytes : (m : Mode) → ((b : ℕ) → characters_for m b ≡ b ∷ []) → (bytes : List ℕ) → characters m bytes ≡ bytes
+same_bytes m same [] = refl
+same_bytes m same (b ∷ bytes) = ap₂ (λ (x y : List ℕ). x ++ y) (same b) (same_bytes m same bytes)
 
--- parts of bytes whose separators stand apart
-pub apart_parts : (xs ys : List ℕ) → are_apart (xs ++ ys) ≡ true → (are_apart xs ≡ true) × (are_apart ys ≡ true)
-apart_parts [] ys h = (refl, h)
-apart_parts (x ∷ []) [] h = (refl, refl)
-apart_parts (x ∷ []) (y ∷ ys) h = (refl, (and_parts (not ((x == 29) && (y == 29))) (are_apart (y ∷ ys)) h).1)
-apart_parts (x ∷ y ∷ xs) ys h =
-    let parts = and_parts (not ((x == 29) && (y == 29))) (are_apart (y ∷ (xs ++ ys))) h in
-    let r = apart_parts (y ∷ xs) ys parts.1 in
-    (and_from (not ((x == 29) && (y == 29))) (are_apart (y ∷ xs)) parts.0 r.0, r.1)
+-- a reader takes what a segment has for bytes for them
+pub chunk_shown : (m : Mode) (bytes : List ℕ) → can_stand m bytes ≡ true → shown_in m (characters m bytes) ≡ bytes
+chunk_shown Numeric bytes can = same_bytes Numeric (λ b. refl) bytes
+chunk_shown Alphanumeric bytes can = letters_shown bytes can
+chunk_shown Byte bytes can = same_bytes Byte (λ b. refl) bytes
+chunk_shown Kanji bytes can = same_bytes Kanji (λ b. refl) bytes

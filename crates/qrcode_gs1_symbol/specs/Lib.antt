@@ -1,6 +1,7 @@
 pub mod Characters
+pub mod Cuts
 pub mod Elements
+pub mod Fewest
 pub mod Indicators
 pub mod Reading
-pub mod StandIns
 pub mod Symbols

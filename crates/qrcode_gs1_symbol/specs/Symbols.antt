@@ -1,6 +1,5 @@
 -- The symbol of bytes behind FNC1.
-use Rattle.std.specs.Prelude.{◌≡◌, ◌⊎◌, ℕ, ◌+◌, ◌≤◌, pos, List, ◌++◌, length, slice_range, IsTrue}
-use Rattle.std.specs.List.{AllByRecursion}
+use Rattle.std.specs.Prelude.{◌≡◌, ◌⊎◌, ℕ, ◌+◌, ◌≤◌, pos, List, ◌++◌, length, IsTrue}
 use Rattle.qrcode_types.specs.Versions.{has_level, capacity}
 use Rattle.qrcode_types.specs.declared.types.Version.{Version}
 use Rattle.qrcode_types.specs.declared.types.Version.TheVariants.{Normal}
@@ -10,31 +9,21 @@ use Rattle.qrcode_types.specs.declared.types.QrError.TheVariants.{DataTooLong, O
 use Rattle.qrcode_types.specs.declared.types.Color.{Color}
 use Rattle.qrcode_symbol.specs.Symbol.{IsDamaged}
 use Rattle.qrcode_bits.specs.BitList.{BitList}
-use Rattle.qrcode_bits.specs.Segments.{Tile, total_cost}
 use Rattle.qrcode_bits.specs.Written.{written, terminated}
 use Rattle.qrcode_bits.specs.declared.optimize.Segment.{Segment}
 use Rattle.qrcode.specs.Code.{Code}
 use Rattle.qrcode.specs.Reading.{EncodesBits}
-use Rattle.qrcode_gs1_symbol.specs.Characters.{mark, can_stand, marked_pieces}
+use Rattle.qrcode_gs1_symbol.specs.Characters.{mark, marked_pieces}
+use Rattle.qrcode_gs1_symbol.specs.Cuts.{IsMarkedCut, IsLeastMarkedCut, marked_cost}
 use Rattle.qrcode_gs1_symbol.specs.Reading.{SpellsMarked, ReadsMarkedOnly}
 use Rattle.qrcode_gs1_symbol.specs.declared.Position.{Position}
-
--- the segments cover the bytes, and characters of their modes stand for these
-pub record IsMarkedCut (bytes : List ℕ) (segments : List Segment) : Type 0 where
-  pub tiles : Tile 0 segments (length bytes)
-  pub standing : AllByRecursion (λ s. IsTrue (can_stand s.mode (slice_range bytes s.begin s.end))) segments
-
--- such a cut that none is shorter than
-pub record IsLeastMarkedCut (v : Version) (bytes : List ℕ) (segments : List Segment) : Type 0 where
-  pub reached : IsMarkedCut bytes segments
-  pub least : (others : List Segment) → IsMarkedCut bytes others → total_cost v segments ≤ total_cost v others
 
 -- a version of Normal has the level, and its symbol has room for the mark and some such cut
 pub record HoldsMarked (p : Position) (l : EcLevel) (bytes : List ℕ) (number : ℕ) : Type 0 where
   pub exists : IsTrue (has_level (Normal (pos number)) l)
   pub segments : List Segment
   pub cut : IsMarkedCut bytes segments
-  pub room : length (mark p) + total_cost (Normal (pos number)) segments ≤ capacity (Normal (pos number)) l
+  pub room : length (mark p) + marked_cost (Normal (pos number)) bytes segments ≤ capacity (Normal (pos number)) l
 
 -- the mark and a least cut, terminated
 pub record IsMarkedList (p : Position) (v : Version) (l : EcLevel) (bytes : List ℕ) (list : BitList) : Type 0 where

@@ -1,51 +1,27 @@
 //! The symbol of bytes behind FNC1.
 
-ghost use Rattle.std.specs.Prelude.{◌≡◌, ◌+◌, ◌++◌, ◌≤◌, ℕ, pos, false, length, map, IfOk, IfErr, OnOk, IsOkUnless, IsTrue};
+ghost use Rattle.std.specs.Prelude.{◌≡◌, ◌+◌, ◌++◌, ◌≤◌, ℕ, pos, false, length, IfOk, IfErr, OnOk, IsOkUnless, IsTrue};
 ghost use Rattle.qrcode_types.specs.Versions.{is_micro, has_level, capacity};
 ghost use Rattle.qrcode_types.specs.declared.types.QrError.TheVariants.{OutOfMemory};
 ghost use Rattle.qrcode_types.specs.declared.types.Version.TheVariants.{Normal};
 ghost use Rattle.qrcode_bits.specs.Cuts.{IsCut};
-ghost use Rattle.qrcode_bits.specs.Pushes.{with_bits, PushesAll};
-ghost use Rattle.qrcode_bits.specs.Refusals.{StopsAt, data_limit, bit_limit};
+ghost use Rattle.qrcode_bits.specs.Pushes.{PushesAll};
+ghost use Rattle.qrcode_bits.specs.Refusals.{StopsAt, data_limit};
 ghost use Rattle.qrcode_bits.specs.Segments.{AreInside, total_cost};
 ghost use Rattle.qrcode_bits.specs.Written.{pieces_of, written, terminated};
-ghost use Rattle.qrcode_gs1.specs.Elements.{are_apart};
 ghost use Rattle.qrcode_gs1_symbol.specs.Characters.{mark};
-ghost use Rattle.qrcode_gs1_symbol.specs.StandIns.{stand_in};
 ghost use Rattle.qrcode_gs1_symbol.specs.Symbols.{HoldsMarked, IsMarkedList, IsMarkedSymbol, IsMarkedRefused};
 
 use crate::Position;
-use crate::characters::{characters, stand_ins};
+use crate::characters::Characters;
 use crate::choice::least_number;
+use crate::least::least_segments;
+use crate::mark::push_mark;
 use qrcode::QrCode;
 use qrcode::types::{EcLevel, QrError, QrResult, Version};
-use qrcode_bits::bits::{Bits, DATA_LIMIT, Manner};
-use qrcode_bits::optimize::{Segment, least_segments_in};
+use qrcode_bits::bits::{Bits, DATA_LIMIT};
+use qrcode_bits::optimize::Segment;
 use std::alloc::Global;
-
-// How many bits the mark takes.
-fn mark_length(position: Position) -> usize
-    ensures value { result ≡ length (mark position) }
-    ensures at_most { result ≤ 12 }
-{
-    match position {
-        Position::First => 4,
-        Position::Second(_) => 12,
-    }
-}
-
-// Appends the mark.
-fn push_mark(bits: &mut Bits, position: Position) -> QrResult<()>
-    requires normal { is_micro bits.old.version ≡ false }
-    requires room { length bits.old.bits + 12 ≤ bit_limit }
-    ensures appended { OnOk result (bits.new ≡ with_bits bits.old (mark position)) }
-    ensures memory { IsOkUnless result OutOfMemory }
-{
-    match position {
-        Position::First => bits.push_fnc1_first_position(),
-        Position::Second(application) => bits.push_fnc1_second_position(application),
-    }
-}
 
 // Appends the bytes of all segments in their modes.
 fn push_all(bits: &mut Bits, bytes: &[u8], segments: Vec<Segment>) -> QrResult<()>
@@ -92,14 +68,11 @@ fn ended_bits(
 fn marked_bits(
     alloc: Global,
     bytes: &[u8],
-    standing: &[u8],
     position: Position,
     number: usize,
     ec_level: EcLevel,
 ) -> QrResult<Bits>
     requires limit { length bytes.now ≤ data_limit }
-    requires apart { IsTrue (are_apart bytes.now) }
-    requires standing { standing.now ≡ map stand_in bytes.now }
     requires at_most { number ≤ 40 }
     requires holds { HoldsMarked position ec_level bytes.now number }
     ensures bits { IfOk result
@@ -107,8 +80,11 @@ fn marked_bits(
     ensures memory { IsOkUnless result OutOfMemory }
 {
     let version = Version::Normal(number as i16);
-    let segments = least_segments_in(alloc, standing, version, Manner::Text.modes())?;
-    let written = characters(alloc, bytes, &segments)?;
+    let cut = least_segments(alloc, bytes, version)?;
+    let Characters {
+        bytes: written,
+        segments,
+    } = Characters::of(alloc, bytes, &cut)?;
     ended_bits(alloc, &written, segments, position, version, ec_level)
 }
 
@@ -123,7 +99,6 @@ pub(crate) fn symbol(
     ec_level: EcLevel,
     from: usize,
 ) -> QrResult<QrCode>
-    requires { IsTrue (are_apart bytes.now) }
     ensures symbol { IfOk result (IsMarkedSymbol from position ec_level bytes.now) }
     ensures accepts { (number : ℕ) → from ≤ number → HoldsMarked position ec_level bytes.now number
         → IsOkUnless result OutOfMemory }
@@ -132,8 +107,7 @@ pub(crate) fn symbol(
     if bytes.len() > DATA_LIMIT {
         return Err(QrError::DataTooLong);
     }
-    let standing = stand_ins(alloc, bytes)?;
-    let number = least_number(alloc, &standing, mark_length(position), ec_level, from)?;
-    let bits = marked_bits(alloc, bytes, &standing, position, number, ec_level)?;
+    let number = least_number(bytes, position, ec_level, from)?;
+    let bits = marked_bits(alloc, bytes, position, number, ec_level)?;
     QrCode::with_bits(alloc, bits, ec_level)
 }

@@ -2,9 +2,8 @@
 //! applications in second.
 #![tactic(auto)]
 
-ghost use Rattle.std.specs.Prelude.{ℕ, ◌≤◌, map, IfOk, IfErr, IsOkUnless, IsTrue};
+ghost use Rattle.std.specs.Prelude.{ℕ, ◌≤◌, map, IfOk, IfErr, IsOkUnless};
 ghost use Rattle.qrcode_types.specs.declared.types.QrError.TheVariants.{OutOfMemory};
-ghost use Rattle.qrcode_gs1.specs.Elements.{are_apart};
 ghost use Rattle.qrcode_gs1.specs.Items.{item};
 ghost use Rattle.qrcode_gs1_symbol.specs.Elements.{IsGs1Symbol, IsGs1Refused};
 ghost use Rattle.qrcode_gs1_symbol.specs.Symbols.{HoldsMarked, IsMarkedSymbol, IsMarkedRefused};
@@ -21,9 +20,12 @@ use std::alloc::Global;
 
 mod characters;
 mod choice;
+mod costs;
 mod drawing;
 pub mod errors;
 mod indicators;
+mod least;
+mod mark;
 mod separators;
 
 /// Where FNC1 stands.
@@ -36,8 +38,8 @@ pub enum Position {
 }
 
 /// The symbol of elements of GS1 at a level, of the least version of Normal that holds them: FNC1 in
-/// first position and their element string, in segments of the fewest bits of all in which percent
-/// signs stand in the mode Byte. Separators stand as percent signs in the mode Alphanumeric.
+/// first position and their element string, in segments of the fewest bits. In the mode Alphanumeric a
+/// separator stands as a percent sign, and a percent sign as two.
 ///
 /// `Elements`: which element is refused first, and why. `Symbol(DataTooLong)`: no version of Normal
 /// holds them. `OutOfMemory`, in either: memory was refused.
@@ -67,7 +69,7 @@ pub fn gs1_from(
 
 /// The symbol of data at a level, of the least version of Normal that holds it: FNC1 in second
 /// position, the indicator of the application, as `indicator_of` gives it, and the data in such
-/// segments. Byte 29 is the separator, of which none stands right behind another (`are_apart` tells).
+/// segments. Byte 29 is the separator.
 ///
 /// `DataTooLong`: no version of Normal holds the data. `OutOfMemory`: memory was refused.
 pub fn for_application(
@@ -76,7 +78,6 @@ pub fn for_application(
     bytes: &[u8],
     ec_level: EcLevel,
 ) -> QrResult<QrCode>
-    requires { IsTrue (are_apart bytes.now) }
     ensures symbol { IfOk result (IsMarkedSymbol 0 (Second application) ec_level bytes.now) }
     ensures accepts { (number : ℕ) → HoldsMarked (Second application) ec_level bytes.now number
         → IsOkUnless result OutOfMemory }
@@ -95,7 +96,6 @@ pub fn for_application_from(
     ec_level: EcLevel,
     from: usize,
 ) -> QrResult<QrCode>
-    requires { IsTrue (are_apart bytes.now) }
     ensures symbol { IfOk result (IsMarkedSymbol from (Second application) ec_level bytes.now) }
     ensures accepts { (number : ℕ) → from ≤ number
         → HoldsMarked (Second application) ec_level bytes.now number

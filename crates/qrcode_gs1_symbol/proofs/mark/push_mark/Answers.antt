@@ -1,6 +1,6 @@
 use Rattle.std.proofs.Common.{length}
 use Rattle.qrcode_gs1_symbol.proofs.Marks.{first_taken, second_taken}
-use Rattle.qrcode_gs1_symbol.proofs.drawing.push_mark.Goals as goal
+use Rattle.qrcode_gs1_symbol.proofs.mark.push_mark.Goals as goal
 
 pub returns-in-First-clause-memory : goal.returns-in-First-clause-memory
 returns-in-First-clause-memory c =

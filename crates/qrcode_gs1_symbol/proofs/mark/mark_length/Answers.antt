@@ -2,7 +2,7 @@ use Rattle.std.proofs.Common.{length, sym, ap, ◌∙◌}
 use Rattle.qrcode_gs1_symbol.specs.Characters.{mark}
 use Rattle.qrcode_gs1_symbol.specs.declared.Position.{Position}
 use Rattle.qrcode_gs1_symbol.proofs.Marks.{length-first, length-second}
-use Rattle.qrcode_gs1_symbol.proofs.drawing.mark_length.Goals as goal
+use Rattle.qrcode_gs1_symbol.proofs.mark.mark_length.Goals as goal
 
 pub returns-in-First-clause-value : goal.returns-in-First-clause-value
 returns-in-First-clause-value c = sym (ap (λ (p : Position). length (mark p)) c.in-First.is ∙ length-first)

@@ -1,0 +1,35 @@
+use Rattle.std.proofs.Common.{◌≡◌, ◌+◌, ◌<◌, ℕ, length-append, ◌++◌, [], ◌∷◌, List, take, length, get_or, sym, ap, ap₂, subst, ◌∙◌, arith}
+use Rattle.std.specs.Prelude.{slice_range}
+use Rattle.std.proofs.lemmas.Grind.{common_steps}
+use Rattle.std.proofs.lemmas.List.{take_more}
+use Rattle.qrcode_types.specs.declared.types.Mode.TheVariants.{Numeric}
+use Rattle.qrcode_bits.specs.declared.optimize.Segment.{Segment}
+use Rattle.qrcode_bits.proofs.SegmentRanges.{length-range}
+use Rattle.qrcode_gs1_symbol.specs.Characters.{characters}
+use Rattle.qrcode_gs1_symbol.specs.Cuts.{AreCharacters}
+use Rattle.qrcode_gs1_symbol.proofs.Pieces.{characters_more, characters_some, tile_at}
+use Rattle.qrcode_gs1_symbol.proofs.characters.Characters.of.Goals as goal
+
+pub loop-segment-preserved : goal.loop-segment-preserved
+loop-segment-preserved c =
+    let bytes = c.args.bytes.now in
+    let ss = c.args.segments.now in
+    let i = c.loop-segment.segment-index in
+    let d : Segment = record { mode = Numeric; begin = 0; end = 0 } in
+    let s : Segment = get_or ss i d in
+    let w = c.loop-segment.written.items in
+    let ranges = c.loop-segment.ranges.items in
+    let chunk = characters s.mode (slice_range bytes s.begin s.end) in
+    let range : Segment = record { mode = s.mode; begin = length w; end = length w + length chunk } in
+    let at = tile_at 0 ss (length bytes) i d c.requires.tiles c.loop-segment-test.true in
+    let some : 0 < length chunk = omega (arith, characters_some s.mode (slice_range bytes s.begin s.end), length-range bytes s.begin s.end (omega (arith, at.0)) at.1, at.0) in
+    let written : c.push_characters.new.written.items ≡ w ++ chunk = c.in_ok-push_characters.ensures.appended in
+    let begin : c.len-begin.result ≡ length w = omega (arith, c.len-begin.ensures, c.loop-segment.written.ok.0) in
+    let end : c.len.result ≡ length w + length chunk = omega (arith, c.len.ensures, c.push_characters.new.written.ok.0, ap length written, length-append w chunk) in
+    let whole : ℕ → ℕ → List Segment = λ a b. ranges ++ record { mode = s.mode; begin = a; end = b } ∷ [] in
+    let same : c.push.new.self.items ≡ whole c.len-begin.result c.len.result = grind (arith, common_steps) in
+    let pushed : c.push.new.self.items ≡ ranges ++ range ∷ [] = same ∙ ap₂ whole begin end in
+    subst (λ w. AreCharacters bytes (take (i + 1) ss) w c.push.new.self.items) (sym written)
+    (subst (AreCharacters bytes (take (i + 1) ss) (w ++ chunk)) (sym pushed)
+    (subst (λ xs. AreCharacters bytes xs (w ++ chunk) (ranges ++ range ∷ [])) (sym (take_more ss i d c.loop-segment-test.true))
+    (characters_more bytes (take i ss) s w ranges c.loop-segment.invariant some)))

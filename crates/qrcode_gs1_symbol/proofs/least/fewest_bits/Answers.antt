@@ -1,0 +1,32 @@
+use Rattle.std.proofs.Common.{◌≡◌, ◌<◌, drop, ap, sym, subst, ◌∙◌, arith}
+use Rattle.std.proofs.lemmas.List.{length-drop}
+use Rattle.qrcode_types.proofs.Writing.{are_bytes}
+use Rattle.qrcode_bits.proofs.SegmentRanges.{all-drop}
+use Rattle.qrcode_gs1_symbol.specs.Fewest.{AreAllFew, headers_of}
+use Rattle.qrcode_gs1_symbol.specs.declared.costs.Costs.{Costs}
+use Rattle.qrcode_gs1_symbol.proofs.Bounds.{fewest}
+use Rattle.qrcode_gs1_symbol.proofs.Cuts.{bytes_few, headers_small, rest_few, some_least}
+use Rattle.qrcode_gs1_symbol.proofs.least.fewest_bits.Goals as goal
+
+pub with_byte_before-costs-requires-clause-few : goal.with_byte_before-costs-requires-clause-few
+with_byte_before-costs-requires-clause-few c =
+    let bytes = c.args.bytes.now in
+    let i = c.loop-i.i in
+    let are = are_bytes bytes (λ k. omega (arith, c.type_inv.bytes k)) in
+    subst AreAllFew (sym c.loop-i.invariant.rest)
+    (rest_few (headers_of c.args.version) (drop i bytes) (headers_small c.args.version c.requires.normal).byte (all-drop (λ n. n < 256) i bytes are) (omega (arith, length-drop i bytes, c.requires.limit)))
+
+pub returns-clause-least : goal.returns-clause-least
+returns-clause-least c =
+    let v = c.args.version in
+    let bytes = c.args.bytes.now in
+    let some = some_least v bytes (are_bytes bytes (λ k. omega (arith, c.type_inv.bytes k))) in
+    let start : c.loop-i.i ≡ 0 = omega arith in
+    (some.0, (some.1.0, ap (λ (r : Costs). r.start.bits) c.loop-i.invariant.rest ∙ ap (λ k. fewest (headers_of v) (drop k bytes)) start ∙ some.1.1))
+
+pub returns-clause-at_most : goal.returns-clause-at_most
+returns-clause-at_most c =
+    let v = c.args.version in
+    let bytes = c.args.bytes.now in
+    let i = c.loop-i.i in
+    omega (arith, ap (λ (r : Costs). r.start.bits) c.loop-i.invariant.rest, bytes_few (headers_of v) (drop i bytes) (headers_small v c.requires.normal).byte, length-drop i bytes, c.requires.limit)

@@ -1,0 +1,38 @@
+use Rattle.std.proofs.Common.{◌≡◌, ◌-◌, ◌<◌, drop, get_or, set, sym, ap, ap₂, ◌∙◌, arith, subst, inl, inr, get_or-set_other, get_or-set_same}
+use Rattle.std.proofs.lemmas.Bool.{cases_lt}
+use Rattle.std.proofs.lemmas.List.{length-drop}
+use Rattle.qrcode_types.proofs.Writing.{are_bytes}
+use Rattle.qrcode_bits.proofs.SegmentRanges.{all-drop}
+use Rattle.qrcode_gs1_symbol.specs.Fewest.{AreAllFew, step, costs_of, past_end}
+use Rattle.qrcode_gs1_symbol.proofs.Cuts.{rest_few, counted_back, first_back}
+use Rattle.qrcode_gs1_symbol.proofs.least.least_starts.Goals as goal
+
+pub with_byte_before-costs-requires-clause-few : goal.with_byte_before-costs-requires-clause-few
+with_byte_before-costs-requires-clause-few c =
+    let bytes = c.args.bytes.now in
+    let i = c.loop-i.i in
+    let are = are_bytes bytes (λ k. omega (arith, c.type_inv.bytes k)) in
+    subst AreAllFew (sym c.loop-i.invariant.rest)
+    (rest_few c.args.headers (drop i bytes) c.requires.headers.byte (all-drop (λ n. n < 256) i bytes are) (omega (arith, length-drop i bytes, c.requires.limit)))
+
+pub loop-i-preserved : goal.loop-i-preserved
+loop-i-preserved c =
+    let bytes = c.args.bytes.now in
+    let h = c.args.headers in
+    let i = c.loop-i.i in
+    let place = i - 1 in
+    let new = c.with_byte_before-costs.result in
+    let rest : new ≡ costs_of h (drop place bytes) =
+    c.with_byte_before-costs.ensures ∙ ap₂ (λ f r. step h (get_or bytes place 0) f r) c.loop-i.invariant.follows c.loop-i.invariant.rest ∙ counted_back h bytes i (omega arith) (omega arith) in
+    record {
+      count = c.loop-i.invariant.count;
+      rest = rest;
+      follows = first_back bytes i (omega arith) (omega arith);
+      done = λ k from to. elim (cases_lt k i) [
+        | inl below ↦
+            let same : k ≡ place = omega arith in
+            ap (λ k. get_or (set c.loop-i.starts.items place new.start) k past_end) same ∙ get_or-set_same c.loop-i.starts.items place new.start past_end (omega arith)
+            ∙ ap (λ r. r.start) rest ∙ ap (λ k. (costs_of h (drop k bytes)).start) (sym same)
+        | inr above ↦ let other : k ≡ place → ⊥ = omega arith in get_or-set_other c.loop-i.starts.items place k new.start past_end other ∙ c.loop-i.invariant.done k above to
+      ];
+    }
