@@ -5,6 +5,7 @@ use Rattle.std.proofs.lemmas.List.{take_more, take-append-drop, take_all, append
 use Rattle.std.proofs.lemmas.Bool.Decides.{nat_tests}
 use Rattle.std.proofs.lemmas.List.Concat.{flat_map-append}
 use Rattle.std.proofs.lemmas.List.FromFn.{map-range_with_len_more, length-map-range_with_len}
+use Rattle.qrcode_render.specs.Grid.{repeated}
 use Rattle.qrcode_render.specs.Lines.{line_start}
 use Rattle.qrcode_render.specs.Texts.{marks_text, lines_text}
 
@@ -95,7 +96,15 @@ text_at_most dark light [] n d l = omega arith
 text_at_most dark light (true ∷ marks) n d l = omega (arith, length-append dark (marks_text dark light marks), text_at_most dark light marks n d l)
 text_at_most dark light (false ∷ marks) n d l = omega (arith, length-append light (marks_text dark light marks), text_at_most dark light marks n d l)
 
--- room for the texts of marks behind nothing
-pub cells_room : (dark light : List ℕ) (marks : List Bool) (old : List ℕ) (m n : ℕ) → old ≡ [] → length dark ≤ m → length light ≤ m → length marks * m + 32 ≤ n → length (old ++ marks_text dark light marks) + 32 ≤ n
-cells_room dark light marks old m n none d l room =
-    omega (arith, length-append old (marks_text dark light marks), ap length none, text_at_most dark light marks m d l)
+-- room for the texts of marks behind others
+pub cells_room : (dark light : List ℕ) (marks : List Bool) (old : List ℕ) (m n : ℕ) → length dark ≤ m → length light ≤ m → length old + length marks * m + 32 ≤ n → length (old ++ marks_text dark light marks) + 32 ≤ n
+cells_room dark light marks old m n d l room =
+    omega (arith, length-append old (marks_text dark light marks), text_at_most dark light marks m d l)
+
+-- a text so many times behind another, which is empty unless that is once
+pub repeated-behind : (n : ℕ) (before text : List ℕ) → 1 ≤ n → (2 ≤ n → before ≡ []) → repeated n (before ++ text) ≡ before ++ repeated n text
+repeated-behind zero before text some none = absurd (omega arith)
+repeated-behind (suc zero) before text some none = append_assoc before text []
+repeated-behind (suc (suc n)) before text some none =
+    let empty = none (omega arith) in
+    ap (λ b. repeated (suc (suc n)) (b ++ text)) empty ∙ sym (ap (λ b. b ++ repeated (suc (suc n)) text) empty)

@@ -55,6 +55,7 @@ fn put_lines(bytes: &mut [u8], grid: &Grid, texts: &CellTexts, marks: &mut [bool
     let mut at = 0;
     for row in 0..rows {
         grid.mark_row(row, marks);
+        line.clear();
         texts.write(line, marks);
         at = put_times(bytes, at, line.as_slice(), down);
     }
@@ -72,7 +73,7 @@ fn put_greys(alloc: Global, grid: &Grid, dark: u8, light: u8, bytes: &mut [u8]) 
     let (columns, _) = grid.sides();
     let texts = CellTexts::new(alloc, across, &[dark], &[light])?;
     let mut marks = vec![in alloc; false; columns]?;
-    let mut line = texts.line(alloc, columns, &[])?;
+    let mut line = Line::new(alloc, texts.room(columns, &[])?)?;
     put_lines(bytes, grid, &texts, &mut marks, &mut line);
     Ok(())
 }

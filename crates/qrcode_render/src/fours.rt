@@ -5,19 +5,19 @@ ghost use Rattle.qrcode_types.specs.declared.types.QrError.TheVariants.{OutOfMem
 ghost use Rattle.qrcode_render.specs.Lines.{paired, pair_number, two_text, AreMarksAt};
 ghost use Rattle.qrcode_render.specs.Texts.{marks_text, columns_text};
 
-use crate::stamps::{LONGEST, Line, Stamp};
+use crate::stamps::{Line, Stamp};
 use qrcode_types::types::QrResult;
 use std::alloc::Global;
 use std::marker::Model;
 
 // Appends a text followed by each.
-fn push_pairs(
-    pairs: &mut Vec<Stamp<LONGEST>>,
-    first: &Stamp<LONGEST>,
-    texts: &[Stamp<LONGEST>],
+fn push_pairs<const N: usize>(
+    pairs: &mut Vec<Stamp<N>>,
+    first: &Stamp<N>,
+    texts: &[Stamp<N>],
 ) -> QrResult<()>
-    requires first { length first.now ≤ 16 }
-    requires short { All (λ text. length text ≤ 16) texts.now }
+    requires first { 2 * length first.now ≤ N }
+    requires short { All (λ text. 2 * length text ≤ N) texts.now }
     ensures appends { OnOk result
         (pairs.new.items ≡ pairs.old.items ++ map (λ b. first.now ++ b) texts.now) }
     ensures memory { IsOkUnless result OutOfMemory }
@@ -29,8 +29,8 @@ fn push_pairs(
 }
 
 /// Each text followed by each, the second changing first.
-pub fn pairs(alloc: Global, texts: &[Stamp<LONGEST>]) -> QrResult<Vec<Stamp<LONGEST>>>
-    requires short { All (λ text. length text ≤ 16) texts.now }
+pub fn pairs<const N: usize>(alloc: Global, texts: &[Stamp<N>]) -> QrResult<Vec<Stamp<N>>>
+    requires short { All (λ text. 2 * length text ≤ N) texts.now }
     ensures value { IfOk result (λ v. v.items ≡ paired texts.now) }
     ensures memory { IsOkUnless result OutOfMemory }
 {
@@ -57,14 +57,17 @@ fn four_number(a: bool, b: bool, c: bool, d: bool) -> usize
     (word.wrapping_mul(0x0804_0201) >> 24) as usize
 }
 
-/// Texts that stand for four marks, by those that stand for two.
+/// Texts of at most `N` bytes that stand for four marks, by those that stand for two.
 #[derive(Drop)]
-pub struct Fours {
-    twos: Vec<Stamp<LONGEST>>,
-    fours: Vec<Stamp<LONGEST>>,
+pub struct Fours<const N: usize> {
+    twos: Vec<Stamp<N>>,
+    fours: Vec<Stamp<N>>,
 }
 
-impl Model for Fours {
+impl<const N: usize> Model for Fours<N> {
+    ghost use Rattle.std.specs.Prelude.{◌≡◌, ℕ, List, length};
+    ghost use Rattle.qrcode_render.specs.Lines.{paired};
+
     ghost Value = { List (List ℕ) };
 
     ghost view = { λ p. p.twos.items };
@@ -72,12 +75,12 @@ impl Model for Fours {
     ghost invariant = { λ p. (length p.twos.items ≡ 4) × (p.fours.items ≡ paired p.twos.items) };
 }
 
-impl Fours {
+impl<const N: usize> Fours<N> {
     /// The palette of the texts that stand for two marks. Refuses with `OutOfMemory` alone.
-    pub fn new(alloc: Global, twos: Vec<Stamp<LONGEST>>) -> QrResult<Fours>
+    pub fn new(alloc: Global, twos: Vec<Stamp<N>>) -> QrResult<Fours<N>>
         requires four { length twos.items ≡ 4 }
-        requires short { All (λ text. length text ≤ 16) twos.items }
-        ensures twos { IfOk result (λ palette. palette ≡ twos.items) }
+        requires short { All (λ text. 2 * length text ≤ N) twos.items }
+        ensures twos { IfOk result (λ palette. palette ≡ twos.entry.items) }
         ensures memory { IsOkUnless result OutOfMemory }
     {
         let fours = pairs(alloc, &twos)?;
@@ -85,14 +88,14 @@ impl Fours {
     }
 
     /// The text that stands for two marks.
-    pub fn two(&self, first: bool, second: bool) -> &Stamp<LONGEST>
+    pub fn two(&self, first: bool, second: bool) -> &Stamp<N>
         ensures { result.now ≡ two_text self.now first second }
     {
         &self.twos[pair_number(first, second)]
     }
 
     /// The text that stands for four marks.
-    pub fn four(&self, a: bool, b: bool, c: bool, d: bool) -> &Stamp<LONGEST>
+    pub fn four(&self, a: bool, b: bool, c: bool, d: bool) -> &Stamp<N>
         ensures { result.now ≡ two_text self.now a b ++ two_text self.now c d }
     {
         &self.fours[four_number(a, b, c, d)]
@@ -114,7 +117,14 @@ pub fn push_ones(line: &mut Line, dark: &[u8], light: &[u8], marks: &[bool])
 }
 
 /// Appends the text that stands for each mark, four at a time, by a palette of these texts.
-pub fn push_marks(line: &mut Line, palette: &Fours, dark: &[u8], light: &[u8], marks: &[bool])
+pub fn push_marks<const N: usize>(
+    line: &mut Line,
+    palette: &Fours<N>,
+    dark: &[u8],
+    light: &[u8],
+    marks: &[bool],
+)
+    requires at_most { N ≤ 32 }
     requires room { length (line.old.text ++ marks_text dark.now light.now marks.now) + 32
         ≤ line.old.room }
     requires twos { (a b : Bool) →
@@ -148,7 +158,7 @@ fn interleave(upper: &[bool], lower: &[bool], columns: &mut [bool])
 /// `columns` is room for all marks.
 pub fn push_columns(
     line: &mut Line,
-    palette: &Fours,
+    palette: &Fours<8>,
     upper: &[bool],
     lower: &[bool],
     columns: &mut [bool],

@@ -14,9 +14,6 @@ use crate::stamps::{Line, Stamp};
 use qrcode_types::types::{QrError, QrResult};
 use std::alloc::Global;
 
-// The most bytes of a cell of which four make a stamp.
-const SHORT: usize = 8;
-
 /// Appends a text so many times. Apart from its callers, so that its few variables stay in registers.
 #[inline(never)]
 pub fn push_times(raw: &mut Vec<u8>, text: &[u8], times: u32) -> QrResult<()>
@@ -39,13 +36,20 @@ fn times(alloc: Global, text: &[u8], times: u32) -> QrResult<Vec<u8>>
     Ok(whole)
 }
 
-// The palette of the texts that stand for a dark and a light cell, where they are short.
-fn palette_of(alloc: Global, dark: &[u8], light: &[u8]) -> QrResult<Option<Fours>>
+// The palette of the texts that stand for a dark and a light cell, where four have at most `N` bytes,
+// and one has more bytes than are told.
+fn palette_of<const N: usize>(
+    alloc: Global,
+    dark: &[u8],
+    light: &[u8],
+    past: usize,
+) -> QrResult<Option<Fours<N>>>
     ensures twos { IfOk result (λ palette. ForSome palette (λ p. (a b : Bool) →
         two_text p a b ≡ marks_text dark.now light.now (a ∷ b ∷ []))) }
     ensures memory { IsOkUnless result OutOfMemory }
 {
-    if dark.len() > SHORT || light.len() > SHORT {
+    let longest = dark.len().max(light.len());
+    if longest <= past || N / 4 < longest {
         return Ok(None);
     }
     let mut ones = Vec::with_capacity(alloc, 2)?;
@@ -55,13 +59,17 @@ fn palette_of(alloc: Global, dark: &[u8], light: &[u8]) -> QrResult<Option<Fours
     Ok(Some(Fours::new(alloc, twos)?))
 }
 
-// The texts that stand for a dark and a light cell, and for four where they are short.
+// The texts that stand for a dark and a light cell, and for four where they are short: those of at most
+// 16 bytes are written at once, and those of at most 32 by two steps.
 #[derive(Drop)]
 pub(crate) struct CellTexts {
     pub(crate) dark: Vec<u8>,
     pub(crate) light: Vec<u8>,
-    palette: Option<Fours>,
-    ghost twos: { ForSome palette (λ p. (a b : Bool) →
+    narrow: Option<Fours<16>>,
+    wide: Option<Fours<32>>,
+    ghost narrow_twos: { ForSome narrow (λ p. (a b : Bool) →
+        two_text p a b ≡ marks_text dark.items light.items (a ∷ b ∷ [])) },
+    ghost wide_twos: { ForSome wide (λ p. (a b : Bool) →
         two_text p a b ≡ marks_text dark.items light.items (a ∷ b ∷ [])) },
 }
 
@@ -74,43 +82,48 @@ impl CellTexts {
     {
         let dark = times(alloc, dark, across)?;
         let light = times(alloc, light, across)?;
-        let palette = palette_of(alloc, &dark, &light)?;
+        let narrow = palette_of(alloc, &dark, &light, 0)?;
+        let wide = palette_of(alloc, &dark, &light, 4)?;
         Ok(CellTexts {
             dark,
             light,
-            palette,
+            narrow,
+            wide,
         })
     }
 
-    // A line with room for so many cells and a text at the end.
-    pub(crate) fn line(&self, alloc: Global, cells: usize, end: &[u8]) -> QrResult<Line>
-        ensures room { IfOk result (λ line. line.room
-            ≡ cells * max (vec_len self.now.dark) (vec_len self.now.light) + length end.now + 32) }
+    // The most bytes of a row of so many cells and a text at its end.
+    pub(crate) fn room(&self, cells: usize, end: &[u8]) -> QrResult<usize>
+        ensures value { IfOk result (λ room. room
+            ≡ cells * max (vec_len self.now.dark) (vec_len self.now.light) + length end.now) }
         ensures memory { IsOkUnless result OutOfMemory }
     {
         let longest = self.dark.len().max(self.light.len());
         let row = cells.checked_mul(longest).ok_or(QrError::OutOfMemory)?;
-        let room = row.checked_add(end.len()).ok_or(QrError::OutOfMemory)?;
-        Line::new(alloc, room)
+        row.checked_add(end.len()).ok_or(QrError::OutOfMemory)
     }
 
-    // Writes the text of marks.
+    // Appends the text of marks.
     pub(crate) fn write(&self, line: &mut Line, marks: &[bool])
-        requires room { length marks.now * max (vec_len self.now.dark) (vec_len self.now.light) + 32
+        requires room { length line.old.text
+            + length marks.now * max (vec_len self.now.dark) (vec_len self.now.light) + 32
             ≤ line.old.room }
         ensures { line.new ≡ record line.old {
-          text = marks_text self.now.dark.items self.now.light.items marks.now;
+          text = line.old.text ++ marks_text self.now.dark.items self.now.light.items marks.now;
         } }
     {
-        line.clear();
-        match &self.palette {
-            Some(palette) => push_marks(line, palette, &self.dark, &self.light, marks),
-            None => push_ones(line, &self.dark, &self.light, marks),
+        if let Some(palette) = &self.narrow {
+            push_marks(line, palette, &self.dark, &self.light, marks);
+        } else if let Some(palette) = &self.wide {
+            push_marks(line, palette, &self.dark, &self.light, marks);
+        } else {
+            push_ones(line, &self.dark, &self.light, marks);
         }
     }
 }
 
-// Appends the rows of cells, each as often as a cell has pixels down.
+// Appends the rows of cells, each as often as a cell has pixels down. Where that is once, as many are
+// copied together as an empty line has room for. A row has at most so many bytes as are told.
 fn push_lines(
     raw: &mut Vec<u8>,
     grid: &Grid,
@@ -118,10 +131,13 @@ fn push_lines(
     end: &[u8],
     marks: &mut [bool],
     line: &mut Line,
+    most: usize,
 ) -> QrResult<()>
     requires columns { length marks.old ≡ all_columns grid.now }
-    requires room { all_columns grid.now * max (vec_len texts.now.dark) (vec_len texts.now.light)
-        + length end.now + 32 ≤ line.old.room }
+    requires empty { line.old.text ≡ [] }
+    requires at_most { all_columns grid.now
+        * max (vec_len texts.now.dark) (vec_len texts.now.light) + length end.now ≤ most }
+    requires room { most + 32 ≤ line.old.room }
     ensures appends { OnOk result (raw.new.items ≡ raw.old.items ++ flat_map (λ row.
         repeated grid.now.down (marks_text texts.now.dark.items texts.now.light.items
         (cell_row grid.now row) ++ end.now)) (range_with_len 0 (all_rows grid.now))) }
@@ -133,10 +149,16 @@ fn push_lines(
         grid.mark_row(row, marks);
         texts.write(line, marks);
         line.push(end);
-        push_times(raw, line.as_slice(), down)?;
+        if down > 1 || line.free() < most {
+            push_times(raw, line.as_slice(), down)?;
+            line.clear();
+        }
     }
-    Ok(())
+    push_times(raw, line.as_slice(), 1)
 }
+
+// The rows that are copied together where each is copied once.
+const TOGETHER: usize = 4;
 
 /// Appends the rows of cells, of which each pixel is the text that stands for dark or for light, and
 /// each row of pixels has a text at its end. Refuses with `OutOfMemory` alone.
@@ -152,10 +174,16 @@ pub fn push_rows(
     ensures memory { IsOkUnless result OutOfMemory }
 {
     let alloc = *raw.allocator();
-    let (across, _) = grid.cell();
+    let (across, down) = grid.cell();
     let (columns, _) = grid.sides();
     let texts = CellTexts::new(alloc, across, dark, light)?;
     let mut marks = vec![in alloc; false; columns]?;
-    let mut line = texts.line(alloc, columns, end)?;
-    push_lines(raw, grid, &texts, end, &mut marks, &mut line)
+    let most = texts.room(columns, end)?;
+    let room = if down == 1 {
+        most.saturating_mul(TOGETHER)
+    } else {
+        most
+    };
+    let mut line = Line::new(alloc, room)?;
+    push_lines(raw, grid, &texts, end, &mut marks, &mut line, most)
 }

@@ -1,6 +1,6 @@
 //! Short texts that are written with the bytes behind them, into a line with room for these.
 
-ghost use Rattle.std.specs.Prelude.{◌≡◌, ℕ, ◌+◌, ◌≤◌, ◌<◌, List, [], ◌++◌, length, take, drop, vec_len, IfOk, OnOk, IsOkUnless, decimal};
+ghost use Rattle.std.specs.Prelude.{◌≡◌, ℕ, ◌+◌, ◌-◌, ◌≤◌, ◌<◌, List, [], ◌++◌, length, take, drop, vec_len, IfOk, OnOk, IsOkUnless, decimal};
 ghost use Rattle.qrcode_types.specs.declared.types.QrError.TheVariants.{OutOfMemory};
 
 use qrcode_types::types::{QrError, QrResult};
@@ -190,6 +190,13 @@ impl Line {
         ensures { result ≡ length self.now.text }
     {
         self.end
+    }
+
+    /// How many bytes may be appended.
+    pub fn free(&self) -> usize
+        ensures { result ≡ self.now.room - (length self.now.text + 32) }
+    {
+        (self.bytes.len() - self.end).saturating_sub(LONGEST)
     }
 
     /// The text.

@@ -110,7 +110,7 @@ fn half(upper: bool, lower: bool) -> &'static str
 struct Halves {
     marked: bool,
     other: bool,
-    palette: Fours,
+    palette: Fours<8>,
     ghost twos: { (upper lower : Bool) → two_text palette upper lower ≡ column_text marked other upper lower },
 }
 

@@ -17,7 +17,7 @@ put_times-at-requires c =
     let rows = g.down * line in
     let columns : length marks ≡ all_columns g = ap length c.mark_row.ensures ∙ length-map-range_with_len (λ column. is_dark_cell g column c.loop-row.row) 0 (all_columns g) in
     let long : length c.as_slice.result.now ≡ line =
-    ap length (c.as_slice.ensures.value ∙ ap (λ (l : Written). l.text) c.write.ensures)
+    ap length (c.as_slice.ensures.value ∙ ap (λ (l : Written). l.text) c.write.ensures ∙ ap (λ (l : Written). l.text ++ marks_text texts.dark.items texts.light.items marks) c.clear.ensures)
     ∙ length-marks texts.dark.items texts.light.items g.across marks (omega (arith, c.requires.dark)) (omega (arith, c.requires.light))
     ∙ ap (λ n. n * g.across) columns in
     let here : c.cell-down.result.1 * length c.as_slice.result.now ≡ rows = ap₂ (λ m n. m * n) c.cell-down.ensures.down long in
@@ -36,16 +36,16 @@ loop-row-preserved c =
     let rows : ℕ → List ℕ = λ r. repeated g.down (text (cell_row g r)) in
     let columns : length marks ≡ all_columns g = ap length c.mark_row.ensures ∙ length-map-range_with_len (λ column. is_dark_cell g column row) 0 (all_columns g) in
     let long : length c.as_slice.result.now ≡ line =
-    ap length (c.as_slice.ensures.value ∙ ap (λ (l : Written). l.text) c.write.ensures)
+    ap length (c.as_slice.ensures.value ∙ ap (λ (l : Written). l.text) c.write.ensures ∙ ap (λ (l : Written). l.text ++ marks_text texts.dark.items texts.light.items marks) c.clear.ensures)
     ∙ length-marks texts.dark.items texts.light.items g.across marks (omega (arith, c.requires.dark)) (omega (arith, c.requires.light))
     ∙ ap (λ n. n * g.across) columns in
     let here : c.cell-down.result.1 * length c.as_slice.result.now ≡ g.down * line = ap₂ (λ m n. m * n) c.cell-down.ensures.down long in
-    let written : c.as_slice.result.now ≡ text (cell_row g row) = c.as_slice.ensures.value ∙ ap (λ (l : Written). l.text) c.write.ensures ∙ ap text c.mark_row.ensures in (
+    let written : c.as_slice.result.now ≡ text (cell_row g row) = c.as_slice.ensures.value ∙ ap (λ (l : Written). l.text) c.write.ensures ∙ ap (λ (l : Written). l.text ++ text marks) c.clear.ensures ∙ ap text c.mark_row.ensures in (
       omega (arith, c.put_times-at.ensures.end, c.loop-row.invariant.0, here),
       c.put_times-at.ensures.writes
           ∙ ap₂ (λ xs ys. xs ++ ys) c.loop-row.invariant.1 (ap₂ (λ n t. repeated n t) c.cell-down.ensures.down written)
           ∙ sym (flat_range_more rows row (row + 1) refl),
       c.put_times-at.ensures.room ∙ c.loop-row.invariant.2,
       columns ∙ sym c.requires.columns,
-      ap (λ (l : Written). l.room) c.write.ensures ∙ c.loop-row.invariant.4,
+      ap (λ (l : Written). l.room) c.write.ensures ∙ ap (λ (l : Written). l.room) c.clear.ensures ∙ c.loop-row.invariant.4,
     )

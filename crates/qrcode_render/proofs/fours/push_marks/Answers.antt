@@ -5,7 +5,7 @@ use Rattle.qrcode_render.proofs.LineTexts.{marks_text_four, marks_text_rest, tex
 use Rattle.qrcode_render.proofs.fours.push_marks.Goals as goal
 
 pub put-requires : goal.put-requires
-put-requires c =
+put-requires g c =
     let dark = c.args.dark.now in
     let light = c.args.light.now in
     let marks = c.args.marks.now in
@@ -21,7 +21,7 @@ put-requires c =
     omega (arith, text_room dark light marks at next c.args.line.now.text c.four-four.result.now c.args.line.now.room is c.requires.room, ap (λ (l : Written). length l.text) c.loop-i.invariant, ap (λ (l : Written). l.room) c.loop-i.invariant)
 
 pub loop-i-preserved : goal.loop-i-preserved
-loop-i-preserved c =
+loop-i-preserved g c =
     let dark = c.args.dark.now in
     let light = c.args.light.now in
     let marks = c.args.marks.now in
@@ -42,7 +42,7 @@ loop-i-preserved c =
     ∙ ap (λ t. record old { text = t }) joined
 
 pub push_ones-requires : goal.push_ones-requires
-push_ones-requires c =
+push_ones-requires g c =
     let dark = c.args.dark.now in
     let light = c.args.light.now in
     let marks = c.args.marks.now in
@@ -57,7 +57,7 @@ push_ones-requires c =
     record { room = omega (arith, c.requires.room, ap length text, ap (λ (l : Written). l.room) c.loop-i.invariant) }
 
 pub returns : goal.returns
-returns c =
+returns g c =
     let dark = c.args.dark.now in
     let light = c.args.light.now in
     let marks = c.args.marks.now in
