@@ -116,7 +116,9 @@ pub fn push_ones(line: &mut Line, dark: &[u8], light: &[u8], marks: &[bool])
     }
 }
 
-/// Appends the text that stands for each mark, four at a time, by a palette of these texts.
+/// Appends the text that stands for each mark, four at a time, by a palette of these texts. Within its
+/// callers, so that places of the line stay in registers.
+#[inline(always)]
 pub fn push_marks<const N: usize>(
     line: &mut Line,
     palette: &Fours<N>,

@@ -103,7 +103,8 @@ impl CellTexts {
         row.checked_add(end.len()).ok_or(QrError::OutOfMemory)
     }
 
-    // Appends the text of marks.
+    // Appends the text of marks. Within its callers, for the same reason as `push_lines`.
+    #[inline(always)]
     pub(crate) fn write(&self, line: &mut Line, marks: &[bool])
         requires room { length line.old.text
             + length marks.now * max (vec_len self.now.dark) (vec_len self.now.light) + 32
@@ -123,7 +124,9 @@ impl CellTexts {
 }
 
 // Appends the rows of cells, each as often as a cell has pixels down. Where that is once, as many are
-// copied together as an empty line has room for. A row has at most so many bytes as are told.
+// copied together as an empty line has room for. A row has at most so many bytes as are told. Within its
+// caller, so that places of the line stay in registers.
+#[inline(always)]
 fn push_lines(
     raw: &mut Vec<u8>,
     grid: &Grid,
