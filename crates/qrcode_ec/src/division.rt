@@ -2,11 +2,11 @@
 
 ghost use Rattle.std.specs.Prelude.{◌≡◌, ℕ, suc, ◌<◌, ◌≤◌, ◌++◌, ◌*◌, ◌∷◌, [], length, take, replicate, slice_index, slice_index_or, bit_xor};
 ghost use Rattle.qrcode_types.specs.Bits.{AreBytes};
-ghost use Rattle.qrcode_ec.specs.Field.{product};
+ghost use Rattle.qrcode_ec.specs.Field.{product, power};
 ghost use Rattle.qrcode_ec.specs.Codes.{Vanishes};
 ghost use Rattle.qrcode_ec.specs.Dividing.{AreMultiples, AreOfGenerator};
 
-use crate::field::{power, product};
+use crate::field::{product, times_power};
 use std::simd::u8x32;
 
 /// The coefficients that a generator or a remainder has room for, the highest power first. Zeros
@@ -23,19 +23,20 @@ const NEXT_LANES: [usize; LANES] = [
 ];
 
 // Multiplies the polynomial of a leading one and these coefficients, of which there are fewer than
-// `length`, by x - root.
-fn multiply(coefficients: &mut [u8; ROOM], length: usize, root: u8)
-    requires { length ≤ 72 }
+// `length`, by x - root, where the root is the power of 2 with this exponent.
+fn multiply(coefficients: &mut [u8; ROOM], length: usize, exponent: usize)
+    requires length { length ≤ 72 }
+    requires exponent { exponent < 255 }
     ensures below { (j : ℕ) → j < length → slice_index coefficients.new j
         ≡ bit_xor (slice_index coefficients.old j)
-        (product root (slice_index (1 ∷ coefficients.old) j)) }
+        (product (power exponent) (slice_index (1 ∷ coefficients.old) j)) }
     ensures behind { (j : ℕ) → length ≤ j
         → slice_index coefficients.new j ≡ slice_index coefficients.old j }
 {
     let mut previous = 1;
     for i in 0..length {
         let current = coefficients[i];
-        coefficients[i] = current ^ product(root, previous);
+        coefficients[i] = current ^ times_power(exponent, previous);
         previous = current;
     }
 }
@@ -49,7 +50,7 @@ fn generator(degree: usize) -> [u8; ROOM]
 {
     let mut coefficients = [0; ROOM];
     for i in 0..degree {
-        multiply(&mut coefficients, i + 1, power(i));
+        multiply(&mut coefficients, i + 1, i);
     }
     coefficients
 }

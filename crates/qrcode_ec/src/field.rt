@@ -1,6 +1,6 @@
 //! The field of bytes: polynomials over two elements, modulo x^8 + x^4 + x^3 + x^2 + 1.
 
-ghost use Rattle.std.specs.Prelude.{◌≡◌, ◌≢◌, ℕ, ◌+◌, ◌<◌, ◌≤◌, ◌⊎◌};
+ghost use Rattle.std.specs.Prelude.{◌≡◌, ◌≢◌, ℕ, ◌+◌, ◌%◌, ◌<◌, ◌≤◌, ◌⊎◌};
 ghost use Rattle.qrcode_ec.specs.Field.{IsProduct, HasFieldLaws, product, power};
 
 // The powers of 2, from exponent 0 on. They come round after 255.
@@ -60,6 +60,37 @@ fn logarithm(byte: u8) -> usize
     LOGARITHMS[usize::from(byte)].into()
 }
 
+// A number below 510 modulo 255, with no division.
+#[inline(always)]
+fn come_round(sum: usize) -> usize
+    requires { sum < 510 }
+    ensures { result ≡ sum % 255 }
+{
+    if sum < 255 { sum } else { sum - 255 }
+}
+
+// The power of 2 whose exponent is the sum of two below 255.
+#[inline(always)]
+fn power_of_sum(first: usize, second: usize) -> u8
+    requires first { first < 255 }
+    requires second { second < 255 }
+    ensures { result ≡ power (first + second) }
+{
+    POWERS[come_round(first + second)]
+}
+
+/// A byte times the power of 2 with this exponent.
+#[inline(always)]
+pub(crate) fn times_power(exponent: usize, byte: u8) -> u8
+    requires { exponent < 255 }
+    ensures { result ≡ product (power exponent) byte }
+{
+    if byte == 0 {
+        return 0;
+    }
+    power_of_sum(exponent, logarithm(byte))
+}
+
 /// The product of two bytes in the field.
 #[inline(always)]
 pub fn product(a: u8, b: u8) -> u8
@@ -71,7 +102,7 @@ pub fn product(a: u8, b: u8) -> u8
     if a == 0 || b == 0 {
         return 0;
     }
-    power(logarithm(a) + logarithm(b))
+    power_of_sum(logarithm(a), logarithm(b))
 }
 
 /// The byte whose product with `b` is `a`.

@@ -19,7 +19,7 @@ returns-then-a-eq0-clause-laws c = subst (HasFieldLaws c.args.a c.args.b) (sym (
 
 pub returns-clause-value : goal.returns-clause-value
 returns-clause-value c =
-    c.power.ensures.value ∙ power_add c.logarithm.result c.logarithm-2.result
+    c.power_of_sum.ensures ∙ power_add c.logarithm.result c.logarithm-2.result
     ∙ ap₂ product c.logarithm.ensures.value c.logarithm-2.ensures.value
 
 pub returns-clause-is_product : goal.returns-clause-is_product
