@@ -17,7 +17,7 @@ use Rattle.qrcode_places.specs.Patterns.{pattern, format_index, color_if, finder
 use Rattle.qrcode_symbol.specs.Canvas.{pattern_module}
 use Rattle.qrcode_symbol.specs.Patterned.{IsBlockAt, IsCentre}
 use Rattle.qrcode_symbol.specs.declared.canvas.Module.{Module}
-use Rattle.qrcode_symbol.specs.declared.canvas.Module.TheVariants.{Empty, Masked}
+use Rattle.qrcode_symbol.specs.declared.canvas.Module.TheVariants.{Masked}
 use Rattle.qrcode_symbol.specs.declared.canvas.drawing.blocks.TheConstants.{NORMAL_TOP_LEFT, NORMAL_TOP_RIGHT, NORMAL_BOTTOM_LEFT, MICRO_TOP_LEFT, ALIGNMENT}
 use Rattle.qrcode_symbol.proofs.Centres.{IsGood, centre_good, centre_found, centre_inside, found}
 use Rattle.qrcode_places.proofs.FormatPlaces.{normal_index, micro_index}

@@ -6,14 +6,15 @@ pub mod Centres
 pub mod Choices
 pub mod Codewords
 pub mod Covered
+pub mod Decided
 pub mod Filled
-pub mod FixedPlaces
 pub mod Functional
 pub mod Mapped
 pub mod MaskRows
 pub mod MaskedSquares
 pub mod NextBits
 pub mod Numbers
+pub mod OnePlace
 pub mod PackedLists
 pub mod Patterned
 pub mod Remasking

@@ -1,18 +1,15 @@
 -- Lists of rows, as their numbers.
-use Rattle.std.proofs.Common.{◌≡◌, ◌&&◌, ◌++◌, ℕ, true, false, refl, ap₂, bit_and, bit_xor, ◌+◌, ◌*◌, ◌^◌, ◌<◌, ◌≤◌, Bool, List, length, take, drop, slice_index_or, slice_set, map, inl, inr, ap, sym, ◌∙◌, arith, subst, length-take, length-drop, unwrap_or}
+use Rattle.std.proofs.Common.{◌≡◌, ◌&&◌, ◌++◌, ℕ, true, false, refl, ap₂, bit_and, bit_xor, ◌+◌, ◌*◌, ◌^◌, ◌<◌, ◌≤◌, Bool, List, length, take, drop, slice_index_or, ap, sym, ◌∙◌, arith, subst, length-take, length-drop}
 use Rattle.std.proofs.lemmas.Nat.{mul-add-lt, xor_lt, and_le_l}
-use Rattle.std.proofs.lemmas.Bool.Decides.{leb_tells}
-use Rattle.std.proofs.lemmas.List.{map-set, get_or-set_other, get_or-take, get_or-drop, get_or_append_left, get_or-append-add}
+use Rattle.std.proofs.lemmas.List.{get_or-take, get_or-drop, get_or_append_left, get_or-append-add}
 use borrow.Rule.Slice.PartMut.{put_mid, post_of}
 use Rattle.qrcode_packed.specs.Rows.{is_set, dark_in, FitsWidth}
 use Rattle.qrcode_packed.proofs.Places.{differ, has_and, has_xor}
 use Rattle.qrcode_packed.proofs.RowLists.{rows_fit}
-use Rattle.qrcode_types.specs.declared.types.Version.{Version}
 use Rattle.qrcode_places.specs.Masks.{turns, turned_if}
 use Rattle.qrcode_places.specs.declared.masks.MaskPattern.{MaskPattern}
 use Rattle.qrcode_symbol.specs.declared.canvas.Module.{Module}
 use Rattle.qrcode_symbol.specs.declared.canvas.Module.TheVariants.{Empty}
-use Rattle.qrcode_places.specs.Patterns.{decided_bit}
 use Rattle.qrcode_symbol.specs.Masking.{packed, ShowsModules}
 use Rattle.qrcode_symbol.proofs.PackedLists.{packed_lt, has_packed}
 
@@ -64,28 +61,6 @@ turned_row_is w mask dark free k row d f m p q e dark_ends free_ends turned = re
       ∙ ap₂ (λ (a b : ℕ). turned_if (is_set b x && turns mask x k) (is_set a x)) p q;
   ends = subst (λ (n : ℕ). n < 2 ^ w) (sym e) (xor_lt w d (bit_and f m) dark_ends (omega (arith, and_le_l f m, free_ends)));
 }
-
--- row k with the bits that no mask decides, from a row on
-pub record IsDecidedRow (v : Version) (word w old from k new : ℕ) : Type 0 where
-  pub decided : from ≤ k → (x : ℕ) → x < w → is_set new x ≡ unwrap_or (decided_bit v word x k) (is_set old x)
-  pub before : k < from → new ≡ old
-  pub ends : new < 2 ^ w
-
--- the rows from one on and before y have such bits, and the others are as they were
-pub record AreDecidedFrom (v : Version) (word w : ℕ) (old new : List ℕ) (from y : ℕ) : Type 0 where
-  pub done : (k : ℕ) → k < y → IsDecidedRow v word w (slice_index_or old k 0) from k (slice_index_or new k 0)
-  pub behind : (k : ℕ) → y ≤ k → slice_index_or new k 0 ≡ slice_index_or old k 0
-
-pub decided_fit : {v : Version} {word w : ℕ} {old new : List ℕ} {from y : ℕ} → AreDecidedFrom v word w old new from y → ((k : ℕ) → slice_index_or old k 0 < 2 ^ w) → (k : ℕ) → slice_index_or new k 0 < 2 ^ w
-decided_fit {v} {word} {w} {old} {new} {from} {y} are fits k =
-    elim (leb_tells y k) [
-      | inl p ↦ subst (λ (n : ℕ). n < 2 ^ w) (sym (are.behind k p.1)) (fits k)
-      | inr p ↦ (are.done k p.1).ends
-    ]
-
--- a row behind one that is written
-pub other_row : {A : Type 0} (f : A → ℕ) (rows : List A) (y k : ℕ) (r : A) → y < k → slice_index_or (map f (slice_set rows y r)) k 0 ≡ slice_index_or (map f rows) k 0
-other_row f rows y k r h = ap (λ l. slice_index_or l k 0) (map-set f rows y r) ∙ get_or-set_other (map f rows) y k (f r) 0 (λ e. absurd (omega arith))
 
 -- the places of a square after a part of it was written
 pub part_before : {A : Type 0} (d : A) (a k : ℕ) (xs ys : List A) (i : ℕ) → i < a → a ≤ length xs → slice_index_or (put_mid a k xs ys) i d ≡ slice_index_or xs i d

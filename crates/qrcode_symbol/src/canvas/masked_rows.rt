@@ -1,17 +1,20 @@
 //! The rows of a square under a mask, with the format word.
 
-ghost use Rattle.std.specs.Prelude.{◌≡◌, ◌≢◌, ℕ, ◌+◌, ◌%◌, ◌<◌, ◌≤◌, ◌^◌, ◌&&◌, length, map, slice_index_or, IsTrue, unwrap_or};
+ghost use Rattle.std.specs.Prelude.{◌≡◌, ◌≢◌, ℕ, ◌+◌, ◌-◌, ◌%◌, ◌<◌, ◌≤◌, ◌^◌, ◌&&◌, length, map, slice_index_or, true, false, IsTrue};
+ghost use Rattle.qrcode_types.specs.Bits.{has_bit};
+ghost use Rattle.qrcode_types.specs.Versions.{is_micro};
 ghost use Rattle.qrcode_packed.specs.Rows.{FitsWidth, IsSquare, is_set, dark_in, Shows};
 ghost use Rattle.qrcode_places.specs.Masks.{turns, turned_if, exists_in};
 ghost use Rattle.qrcode_places.specs.Words.{format_word};
-ghost use Rattle.qrcode_places.specs.Patterns.{decided_bit};
 ghost use Rattle.qrcode_symbol.specs.Masking.{masked_dark, next_places, three_words};
+ghost use Rattle.qrcode_symbol.specs.Deciding.{IsPutInRow, IsPutInColumn, AreDecided};
 
-use super::layer::{Layer, fixed_bit};
+use super::layer::Layer;
 use super::packing::PackedModules;
 use qrcode_packed::row::PackedRow;
 use qrcode_places::masks::MaskPattern;
 use qrcode_places::words::format_word;
+use qrcode_types::types::Version;
 
 // The places that each mask turns in six columns of twelve rows, column x at bit x. All masks go on so, every six
 // columns and every twelve rows.
@@ -81,91 +84,73 @@ fn put<R: PackedRow>(row: R, place: u32, set: bool) -> R
     row.without(one)
 }
 
-// Row 8 with the bits that no mask decides at some places, from one on and up to another.
+// A row with the lowest bits of a number at so many places from one on, the highest of them first.
 #[inline(always)]
-fn fixed_places<R: PackedRow>(layer: Layer, from: usize, to: usize, row: R) -> R
-    requires room { layer.width + 3 ≤ R.room }
-    requires order { from ≤ to }
-    requires inside { to ≤ layer.width }
-    requires fits { FitsWidth layer.width (R.bits row) }
-    ensures between { (x : ℕ) → from ≤ x → x < to → is_set (R.bits result) x
-        ≡ unwrap_or (decided_bit layer.version layer.word x 8) (is_set (R.bits row) x) }
-    ensures before { (x : ℕ) → x < from → is_set (R.bits result) x ≡ is_set (R.bits row) x }
-    ensures behind { (x : ℕ) → to ≤ x → is_set (R.bits result) x ≡ is_set (R.bits row) x }
-    ensures fits { FitsWidth layer.width (R.bits result) }
+fn put_bits<R: PackedRow>(row: R, first: usize, count: usize, bits: u16) -> R
+    requires count { count ≤ 16 }
+    requires inside { first + count < R.room }
+    ensures { IsPutInRow (R.bits row) first count (λ i. has_bit bits (count - 1 - i)) (R.bits result) }
 {
     let mut line = row;
-    for x in from..to {
-        if let Some(bit) = fixed_bit(layer, x, 8) {
-            line = put(line, x as u32, bit);
-        }
+    for i in 0..count {
+        line = put(line, (first + i) as u32, (bits >> (count - 1 - i)) % 2 == 1);
     }
     line
 }
 
-// Row 8 with the bits that no mask decides, all of which stand in its corners. Not inlined, it keeps the loop over the
-// rows short.
-#[inline(never)]
-fn fixed_row<R: PackedRow>(layer: Layer, row: R) -> R
-    requires room { layer.width + 3 ≤ R.room }
-    requires fits { FitsWidth layer.width (R.bits row) }
-    ensures shown { (x : ℕ) → x < layer.width → is_set (R.bits result) x
-        ≡ unwrap_or (decided_bit layer.version layer.word x 8) (is_set (R.bits row) x) }
-    ensures fits { FitsWidth layer.width (R.bits result) }
-{
-    let left = fixed_places(layer, 0, 9, row);
-    fixed_places(layer, (layer.width - 8).max(9), layer.width, left)
-}
-
-// Another row with the bit that no mask decides, if it has one: only column 8 has such bits there.
+// Writes the lowest bits of a number into column 8, from a row on, the lowest first.
 #[inline(always)]
-fn fixed_place<R: PackedRow>(layer: Layer, y: usize, row: R) -> R
-    requires room { layer.width + 3 ≤ R.room }
-    requires other { y ≢ 8 }
-    requires fits { FitsWidth layer.width (R.bits row) }
-    ensures shown { (x : ℕ) → x < layer.width → is_set (R.bits result) x
-        ≡ unwrap_or (decided_bit layer.version layer.word x y) (is_set (R.bits row) x) }
-    ensures fits { FitsWidth layer.width (R.bits result) }
+fn put_column<R: PackedRow>(rows: &mut [R], first: usize, count: usize, bits: u16)
+    requires count { count ≤ 16 }
+    requires room { 9 < R.room }
+    requires inside { first + count ≤ length rows.old }
+    ensures { IsPutInColumn (map R.bits rows.old) first count (has_bit bits) (map R.bits rows.new) }
 {
-    match fixed_bit(layer, 8, y) {
-        Some(bit) => put(row, 8, bit),
-        None => row,
+    for i in 0..count {
+        rows[first + i] = put(rows[first + i], 8, (bits >> i) % 2 == 1);
     }
 }
 
-// A row with the bits that no mask decides.
+// Writes the bits that no mask decides into the rows of Normal: both copies of the format word, and the dark module.
 #[inline(always)]
-fn decided_row<R: PackedRow>(layer: Layer, y: usize, row: R) -> R
+fn decide_normal<R: PackedRow>(layer: Layer, rows: &mut [R])
+    requires normal { is_micro layer.version ≡ false }
     requires room { layer.width + 3 ≤ R.room }
-    requires fits { FitsWidth layer.width (R.bits row) }
-    ensures shown { (x : ℕ) → x < layer.width → is_set (R.bits result) x
-        ≡ unwrap_or (decided_bit layer.version layer.word x y) (is_set (R.bits row) x) }
-    ensures fits { FitsWidth layer.width (R.bits result) }
-{
-    if y == 8 {
-        return fixed_row(layer, row);
-    }
-    fixed_place(layer, y, row)
-}
-
-// Writes the bits that no mask decides into rows, from one on and up to another.
-fn decide_rows<R: PackedRow>(layer: Layer, from: usize, to: usize, rows: &mut [R])
-    requires room { layer.width + 3 ≤ R.room }
-    requires order { from ≤ to }
-    requires inside { to ≤ layer.width }
     requires length { length rows.old ≡ layer.width }
-    requires fits { (y : ℕ) → FitsWidth layer.width (slice_index_or (map R.bits rows.old) y 0) }
-    ensures between { (x y : ℕ) → x < layer.width → from ≤ y → y < to
-        → dark_in (map R.bits rows.new) x y ≡ unwrap_or (decided_bit layer.version layer.word x y)
-        (dark_in (map R.bits rows.old) x y) }
-    ensures before { (x y : ℕ) → y < from
-        → dark_in (map R.bits rows.new) x y ≡ dark_in (map R.bits rows.old) x y }
-    ensures behind { (x y : ℕ) → to ≤ y
-        → dark_in (map R.bits rows.new) x y ≡ dark_in (map R.bits rows.old) x y }
-    ensures fits { (y : ℕ) → FitsWidth layer.width (slice_index_or (map R.bits rows.new) y 0) }
+    ensures shown { AreDecided layer.version layer.word (map R.bits rows.old) (map R.bits rows.new) }
 {
-    for y in from..to {
-        rows[y] = decided_row(layer, y, rows[y]);
+    let Layer { width, word, .. } = layer;
+    put_column(rows, 0, 6, word);
+    put_column(rows, 7, 1, word >> 6);
+    put_column(rows, width - 7, 7, word >> 8);
+    put_column(rows, width - 8, 1, 1);
+    let left = put_bits(rows[8], 0, 6, word >> 9);
+    let middle = put_bits(left, 7, 2, word >> 7);
+    rows[8] = put_bits(middle, width - 8, 8, word);
+}
+
+// The same of Micro, which has one copy.
+#[inline(always)]
+fn decide_micro<R: PackedRow>(layer: Layer, rows: &mut [R])
+    requires micro { is_micro layer.version ≡ true }
+    requires room { layer.width + 3 ≤ R.room }
+    requires length { length rows.old ≡ layer.width }
+    ensures shown { AreDecided layer.version layer.word (map R.bits rows.old) (map R.bits rows.new) }
+{
+    put_column(rows, 1, 7, layer.word);
+    rows[8] = put_bits(rows[8], 1, 8, layer.word >> 7);
+}
+
+// Writes the bits that no mask decides into the rows.
+#[inline(always)]
+fn decide_rows<R: PackedRow>(layer: Layer, rows: &mut [R])
+    requires room { layer.width + 3 ≤ R.room }
+    requires length { length rows.old ≡ layer.width }
+    ensures shown { AreDecided layer.version layer.word (map R.bits rows.old) (map R.bits rows.new) }
+{
+    match layer.version {
+        Version::Normal(_) => decide_normal(layer, rows),
+        Version::Micro(_) => decide_micro(layer, rows),
     }
 }
 
@@ -197,7 +182,7 @@ fn turn_rows<R: PackedRow>(modules: &PackedModules<'_, R>, mask: MaskPattern, ro
     }
 }
 
-/// Writes the rows under a mask, with its format word, which stands in the first and the last rows alone.
+/// Writes the rows under a mask, with its format word.
 pub(super) fn mask_rows<R: PackedRow>(
     modules: &PackedModules<'_, R>,
     mask: MaskPattern,
@@ -212,14 +197,12 @@ pub(super) fn mask_rows<R: PackedRow>(
     ensures square { IsSquare R.room
         (record { width = modules.now.width; rows = map R.bits masked.new }) }
 {
-    let width = modules.width;
     let layer = Layer {
         version: modules.version,
-        width,
+        width: modules.width,
         word: format_word(modules.version, modules.ec_level, mask),
         mask,
     };
     turn_rows(modules, mask, masked);
-    decide_rows(layer, 0, 9, masked);
-    decide_rows(layer, (width - 8).max(9), width, masked);
+    decide_rows(layer, masked);
 }
