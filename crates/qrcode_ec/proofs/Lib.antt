@@ -1,10 +1,11 @@
-pub mod Carryless
 pub mod Bytes
+pub mod Carryless
 pub mod Columns
 pub mod Distances
 pub mod Divisions
 pub mod Generators
 pub mod Interleavings
+pub mod KnownGenerators
 pub mod Lanes
 pub mod Parts
 pub mod Places

@@ -3,7 +3,7 @@ use Rattle.qrcode_ec.specs.Codes.{Vanishes}
 use Rattle.qrcode_ec.specs.Field.{power}
 use Rattle.qrcode_ec.proofs.Generators.{next_generator}
 use Rattle.qrcode_ec.proofs.Syndromes.{vanishes_padded, zeros_at}
-use Rattle.qrcode_ec.proofs.division.generator.Goals as goal
+use Rattle.qrcode_ec.proofs.division.made_generator.Goals as goal
 
 pub loop-i-init : goal.loop-i-init
 loop-i-init c = record { long = refl; vanishes = λ i below. absurd (omega arith); ends = λ j _. zeros_at 72 j }
