@@ -1,0 +1,84 @@
+"""Squares by chance, which the library and the judge are to read alike, or refuse for the same cause."""
+from random import Random
+
+import goqlanis
+from forms import WIDTHS, blocks, form, levels
+from looks import answered, damaged, differs, judged, square_of
+
+SMALL = ["M1", "M2", "M3", "M4", "1", "2", "3", "4", "5", "6", "7"]
+
+
+def symbol(version, chance):
+    """The square of a symbol of some digits, or in Normal of some bytes, and its level."""
+    level = chance.choice(levels(version))
+    data = chance.randbytes(chance.randrange(1, 5))
+    if version.startswith("M"):
+        data = bytes(48 + byte % 10 for byte in data)
+    return bytearray(square_of(goqlanis.encode(data, level, version))), level
+
+
+def turned(square, version, level, chance):
+    """A symbol with modules turned by chance, from none to twice as many as codewords can be corrected."""
+    parts = blocks(version, level)
+    for _ in range(chance.randrange(min(parts.ec // 2 * parts.count * 2 + 3, 1000))):
+        square[chance.randrange(len(square))] ^= 1
+    return square
+
+
+def noise(square, version, chance, everywhere):
+    """A square of noise, or a symbol with noise everywhere but in the row and the column of the format word."""
+    width = form(version).width
+    return bytes(chance.randrange(2) if everywhere or 8 not in divmod(place, width) else module for place, module in enumerate(square))
+
+
+def square_by_chance(chance, versions):
+    """One square: of ten, seven are symbols with modules turned, one is a symbol with as many wrong codewords in each block as can be corrected and up to two more in the last,
+    one is noise, and one noise with a format word."""
+    version = chance.choice(versions)
+    square, level = symbol(version, chance)
+    kind = chance.randrange(10)
+    if kind < 2:
+        return noise(square, version, chance, kind == 0)
+    if kind == 2:
+        return damaged(square, version, level, chance, chance.randrange(3))[0]
+    return turned(square, version, level, chance)
+
+
+def compared(count, seed, versions):
+    """What is wrong with so many squares by chance, and how many were read, and refused for which cause."""
+    chance, found, counts = Random(seed), [], {}
+    for number in range(count):
+        square = square_by_chance(chance, versions)
+        judge = judged(square)
+        kind = judge if isinstance(judge, str) else "read"
+        counts[kind] = counts.get(kind, 0) + 1
+        it = differs(judge, answered(square))
+        found += [f"square {number} of seed {seed}: {it}"] if it else []
+    return found, counts
+
+
+def told(counts):
+    return ", ".join(f"{counts[kind]} {kind}" for kind in sorted(counts, reverse=True))
+
+
+def small_squares():
+    """Squares by chance are read alike, or refused alike"""
+    found, counts = compared(5000, 2006, SMALL)
+    rare = [kind for kind, least in (("read", 2000), ("Damaged", 1000), ("NoFormat", 200)) if counts.get(kind, 0) < least]
+    return found + [f"too few are {kind}" for kind in rare], told(counts)
+
+
+def large_squares():
+    """And larger ones"""
+    found, counts = compared(120, 18004, list(WIDTHS.values()))
+    return found, told(counts)
+
+
+def other_sides():
+    """Squares with a side that no version has"""
+    sides = [side for side in range(185) if side not in WIDTHS]
+    found = [f"side {side}" for side in sides if not judged(bytes(side * side)) == answered(bytes(side * side)) == "NoSuchSide"]
+    return found, f"{len(sides)} sides"
+
+
+TESTS = [small_squares, large_squares, other_sides]

@@ -1,0 +1,152 @@
+"""Data bits of symbols: printed ones, headers, and lists of segments of each length where a codeword has four bits; segments in any order; damage without finder patterns."""
+import goqlanis
+import reading
+from forms import blocks, form
+from looks import answered, differs, judged, not_read, square_of, turn_format, turn_word
+from spelling import count_bits
+
+# Data, version, level, and the codewords of data, the last one filled with zeros. Those of `HELLO WORLD` are printed in many places; `01234567` and the two pairs are examples of
+# the standard; the others were written by hand.
+CODEWORDS = [
+    (b"123A", "M2", "L", "18f72500ec"),
+    (b"99999", "M1", "L", "bf3e30"),
+    (b"0" * 20, "M3", "L", "2800000000000000000000"),
+    (b"HELLO WORLD", "1", "Q", "205b0b78d172dc4d4340ec11ec"),
+    (b"01234567", "1", "M", "10200c566180ec11ec11ec11ec11ec11"),
+    (b"01234567", "1", "H", "10200c566180ec11ec"),
+    (b"\x93\x5f\xe4\xaa", "1", "H", "8026cfeaa800ec11ec"),
+    (b"\x93\x5f\xe4\xaa", "M4", "Q", "64d9fd550000ec11ec11"),
+]
+
+
+def hexadecimal(bits):
+    bits += "0" * (-len(bits) % 8)
+    return f"{int(bits, 2):0{len(bits) // 4}x}"
+
+
+def printed_codewords():
+    """Data bits are those that are printed"""
+    found = []
+    for data, version, level, words in CODEWORDS:
+        bits = reading.read_bits(square_of(goqlanis.encode(data, level, version))).bits
+        found += [f"{data} in {version}-{level}: {hexadecimal(bits)}"] if hexadecimal(bits) != words else []
+    return found, f"{len(CODEWORDS)} symbols"
+
+
+# Data, version, level, and the bits of its least cut, by hand: of thirty aABCDEF 204 bytes and six letters take 1690 bits, and all bytes in one segment 1692; of the others one
+# segment takes fewer bits than each cut.
+LEAST = [(b"aABCDEF" * 30, "9", "L", 1690), (b"a1234b", "1", "L", 60), (b"1234567A", "1", "L", 57)]
+
+
+def least_cuts():
+    """Data takes as many bits as its least cut"""
+    found = []
+    for data, version, level, length in LEAST:
+        _, said = reading.read_headed(square_of(goqlanis.encode(data, level, version)))
+        found += [f"{data}: {said.length}"] if (said.data, said.length) != (data, length) else []
+    return found, f"{len(LEAST)} symbols"
+
+
+def written(shape, count):
+    """The bits of a segment of so many sevens in Micro."""
+    bits = "0" * (shape.number - 1) + f"{count:0{count_bits(shape, 'numeric')}b}"
+    bits += f"{777:010b}" * (count // 3)
+    return bits + ("", f"{7:04b}", f"{77:07b}")[count % 3]
+
+
+def lists_of_each_length(shape, room):
+    """For each length that segments of digits can have, up to the room, the counts of digits of one list of them."""
+    most, found = 2 ** count_bits(shape, "numeric"), {0: []}
+    for length in range(room + 1):
+        for count in range(most if length in found else 0):
+            longer = length + len(written(shape, count))
+            if longer <= room:
+                found.setdefault(longer, found[length] + [count])
+    return found
+
+
+def ended(shape, bits, room):
+    """Bits with their end: twice the number of the version and one zeros, zeros to a whole codeword, 11101100 and 00010001 by turns, and four zeros for a codeword of four bits."""
+    bits += "0" * min(2 * shape.number + 1, room - len(bits))
+    bits += "0" * min(-len(bits) % 8, room - len(bits))
+    while len(bits) + 8 <= room:
+        bits += "11101100"
+        bits += "00010001" if len(bits) + 8 <= room else ""
+    return bits + "0" * (room - len(bits))
+
+
+def not_ended(square, expected):
+    bits = reading.read_bits(square).bits
+    return "" if bits == expected else f"{bits} and not {expected}"
+
+
+def lists_are_ended():
+    """Lists of each length are ended where a codeword has four bits"""
+    found, counts = [], []
+    for version, level in (("M1", "L"), ("M3", "L"), ("M3", "M")):
+        shape, room = form(version), blocks(version, level).capacity
+        lists = lists_of_each_length(shape, room)
+        for counted in lists.values():
+            square = square_of(goqlanis.encode_segments([("numeric", b"7" * count) for count in counted], level, version))
+            it = not_ended(square, ended(shape, "".join(written(shape, count) for count in counted), room))
+            found += [f"{counted} in {version}-{level}: {it}"] if it else []
+        counts.append(len(lists))
+    return found + ([] if counts == [15, 67, 51] else [f"{counts} lengths"]), f"{sum(counts)} lists"
+
+
+def segments_in_any_order():
+    """Segments of modes that no least cut takes are read; those without a character by the judge alone"""
+    segments = [("alphanumeric", b"AB"), ("numeric", b"12"), ("byte", b"2A"), ("numeric", b"12"), ("kanji", b"\x93\x5f"), ("byte", b"\x93\x5f")]
+    it = not_read(square_of(goqlanis.encode_segments(segments, "L", "2")), "2", "L", b"AB122A12\x93\x5f\x93\x5f")
+    square = square_of(goqlanis.encode_segments([("byte", b""), *segments[:2], ("kanji", b"")], "L", "2"))
+    empty = "" if reading.read_headed(square)[1].data == b"AB12" and answered(square) == "NotSpelled" else "segments without a character"
+    return list(filter(None, (it, empty))), "2 symbols"
+
+
+# Segments with headers in front, the version and level of their symbol, and the headers and bytes that are read of it.
+HEADED = [
+    ([("eci", 9), ("byte", b"\xca\xfe\xe4\xe9\xea\xe1\xf2 QR")], "1", "L", [("ECI", 9)], b"\xca\xfe\xe4\xe9\xea\xe1\xf2 QR"),
+    ([("eci", 127), ("byte", b"a"), ("eci", 128), ("numeric", b"12")], "2", "M", [("ECI", 127), ("ECI", 128)], b"a12"),
+    ([("eci", 16383), ("alphanumeric", b"A"), ("eci", 16384), ("eci", 999999)], "3", "Q", [("ECI", 16383), ("ECI", 16384), ("ECI", 999999)], b"A"),
+    ([("fnc1_first", None), ("numeric", b"0109501101530003")], "1", "Q", [("FNC1",)], b"0109501101530003"),
+    ([("fnc1_second", 37), ("kanji", b"\x93\x5f")], "10", "H", [("FNC1", 37)], b"\x93\x5f"),
+]
+
+
+def headers_are_read():
+    """Headers are read as they were given, and a reading of bytes alone is refused"""
+    found = []
+    for segments, version, level, headers, data in HEADED:
+        square = square_of(goqlanis.encode_segments(segments, level, version))
+        bits, said = reading.read_headed(square)
+        if (bits.version, bits.level, said.headers, said.data) != (version, level, headers, data) or answered(square) != "NotSpelled":
+            found.append(f"{segments}: {said}")
+    return found, f"{len(HEADED)} symbols"
+
+
+def readme_symbols():
+    """The symbols of README are read back"""
+    symbols = [
+        (goqlanis.encode_text("01234567", "M"), "1", "M", b"01234567"),
+        (goqlanis.encode_text("BCD\n002\n1\nSCT\n..", "M"), "2", "M", b"BCD\n002\n1\nSCT\n.."),
+        (goqlanis.encode(b"01234567", "L", "M2"), "M2", "L", b"01234567"),
+    ]
+    found = [not_read(square_of(symbol), version, level, data) for symbol, version, level, data in symbols]
+    return list(filter(None, found)), f"{len(symbols)} symbols"
+
+
+def without_finders():
+    """Five wrong codewords without finder patterns"""
+    shape, parts = form("1"), blocks("1", "M")
+    square = bytearray(square_of(goqlanis.encode(b"01234567", "M", "1")))
+    for number, bits in enumerate([0xff, 0x01, 0x80, 0x5a, 0x11]):
+        turn_word(square, shape, parts, number * 6, bits)
+    turn_format(square, shape, [0, 7, 14])
+    for top, left in ((0, 0), (0, 13), (13, 0)):
+        for row in range(top, top + 8):
+            square[row * 21 + left:row * 21 + left + 8] = bytes(8)
+    it = not_read(square, "1", "M", b"01234567", 5) or differs(judged(square)[2], 2)
+    return [it] if it else [], "a symbol"
+
+
+TESTS = [printed_codewords, least_cuts, readme_symbols, headers_are_read, lists_are_ended, segments_in_any_order, without_finders]

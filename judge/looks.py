@@ -1,0 +1,99 @@
+"""What is looked at in a square: each look answers what is wrong, and an empty text where nothing is."""
+import goqlanis
+import penalty
+import reading
+from forms import blocks, form
+
+MOST_WRONG_IN_FORMAT = 3
+
+
+def square_of(symbol):
+    """The modules of a symbol of the library, a byte each."""
+    return bytes(map(int, (module for row in symbol.matrix for module in row)))
+
+
+def drawn(rows):
+    """The square of rows of `#` and `.`."""
+    return bytes(letter == "#" for letter in "".join(rows))
+
+
+def rows_of(square):
+    """Rows of modules, as the library reads them."""
+    width = int(len(square) ** 0.5)
+    return [square[i:i + width] for i in range(0, len(square), width)] if width else []
+
+
+def judged(square):
+    """Version, level, mask, count of wrong codewords and bytes by the judge, or the name of its refusal."""
+    try:
+        bits, data = reading.read(square)
+    except (reading.NoSuchSide, reading.NoFormat, reading.Damaged, reading.NotSpelled) as refusal:
+        return type(refusal).__name__
+    return bits.version, bits.level, bits.mask, bits.wrong, data
+
+
+def answered(square):
+    """The same by the library."""
+    try:
+        found = goqlanis.read(rows_of(square))
+    except goqlanis.Unread as refusal:
+        return type(refusal).__name__
+    return found.version, found.level, found.mask, found.wrong, found.data
+
+
+def differs(judge, library):
+    """Whether the library reads otherwise than the judge."""
+    return "" if judge == library else f"the judge says {judge}, and the library {library}"
+
+
+def not_alike(square):
+    return differs(judged(square), answered(square))
+
+
+def not_read(square, version, level, data, wrong=0):
+    """Whether a square is not read as data of a version and level, with so many wrong codewords, by judge and library; where there are any, each copy of the format word has three
+    wrong bits, and else none."""
+    said = judged(square)
+    if said[:2] != (version, level) or said[3:] != (wrong, data):
+        return f"the judge reads {said} of {version}-{level}"
+    word = reading.WORDS[version][level, said[2]]
+    bits = {reading.wrong_bits(square, copy, word) for copy in form(version).copies}
+    if bits != {MOST_WRONG_IN_FORMAT if wrong else 0}:
+        return f"{bits} wrong bits in the format word of {version}-{level}"
+    return differs(said, answered(square))
+
+
+def not_least(square):
+    """Whether the mask of a symbol is not the first of least penalty, counted on the whole symbol under each mask."""
+    bits = reading.read_bits(square)
+    first = penalty.first_least(reading.penalties(square, bits))
+    return "" if bits.mask == first else f"mask {bits.mask} of {bits.version}-{bits.level}, and not {first}"
+
+
+def turn_word(square, shape, parts, number, bits):
+    """Changes the bits of a codeword that a byte has; of one of four bits, the byte's first four."""
+    begin, count = parts.word_bits(number)
+    for k in range(count):
+        square[shape.places[begin + k]] ^= bits >> (7 - k) & 1
+
+
+def turn_format(square, shape, numbers):
+    """Turns the bits of these numbers in each copy of the format word."""
+    for copy in shape.copies:
+        for number in numbers:
+            square[copy[number]] ^= 1
+
+
+def damaged(square, version, level, chance, more=0):
+    """A symbol with as much damage as is read, by chance: three wrong bits in each copy of the format word, and in each block half as many wrong codewords as it has for error
+    correction, in the last one some more. And how many codewords are wrong."""
+    shape, parts, square, wrong = form(version), blocks(version, level), bytearray(square), 0
+    for copy in shape.copies:
+        for place in chance.sample(copy, MOST_WRONG_IN_FORMAT):
+            square[place] ^= 1
+    shares = parts.shares()
+    for share in shares:
+        for number in chance.sample(share, parts.ec // 2 + more * (share is shares[-1])):
+            turn_word(square, shape, parts, number, chance.randrange(1, 16) << 4 | chance.randrange(16))
+            wrong += 1
+    return square, wrong

@@ -1,0 +1,98 @@
+"""Symbols of all 168 pairs of version and level, with no damage and with the most, and what is refused beside them."""
+from random import Random
+
+import goqlanis
+from forms import VERSIONS, blocks, form, levels, pairs
+from looks import damaged, not_alike, not_least, not_read, square_of
+from spelling import count_bits
+from tables import LEVELS
+
+
+def most(version, level, mode):
+    """The most digits or small letters that a symbol holds; none where the version lacks the mode."""
+    shape = form(version)
+    width = count_bits(shape, mode)
+    bits = blocks(version, level).capacity - (shape.number - 1 if shape.is_micro else 4) - width
+    if width == 0 or bits < 0:
+        return 0
+    return bits // 8 if mode == "byte" else bits // 10 * 3 + (bits % 10 >= 4) + (bits % 10 >= 7)
+
+
+def refusal(call, *words):
+    """The name of a call's refusal, empty where it refuses nothing."""
+    try:
+        call(*words)
+    except goqlanis.Error as error:
+        return type(error).__name__
+    return ""
+
+
+def not_drawn(symbol):
+    """Whether a picture in greys of one pixel a module has others than the symbol's modules."""
+    pixels = bytes(0 if module else 255 for module in square_of(symbol))
+    return "" if symbol.grey(scale=1, quiet_zone=0) == pixels else "the picture is another one"
+
+
+def symbol_complaint(version, level, data, chance):
+    """A symbol of data is drawn, takes the mask of least penalty, and is read with no damage and with the most."""
+    symbol = goqlanis.encode(data, level, version)
+    square = square_of(symbol)
+    worst, wrong = damaged(square, version, level, chance)
+    return not_read(square, version, level, data) or not_drawn(symbol) or not_least(square) or not_read(worst, version, level, data, wrong)
+
+
+def pair_complaints(version, level, chance):
+    """Symbols of no digit, of one, of the most digits and of the most small letters; one more is refused. What is damaged beyond the bound is read or refused alike."""
+    count = most(version, level, "numeric")
+    digits = bytes(chance.choices(b"0123456789", k=count + 1))
+    found = [symbol_complaint(version, level, digits[1:], chance)]
+    found += [not_read(square_of(goqlanis.encode(data, level, version)), version, level, data) for data in (b"", b"7")]
+    found.append("" if refusal(goqlanis.encode, digits, level, version) == "NoRoom" else f"{count + 1} digits are not refused")
+    count = most(version, level, "byte")
+    if count:
+        data = bytes(chance.choices(b"abcdefghijklmnopqrstuvwxyz", k=count))
+        found.append(symbol_complaint(version, level, data, chance))
+        found.append("" if refusal(goqlanis.encode, data + b"a", level, version) == "NoRoom" else f"{count + 1} letters are not refused")
+    beyond, _ = damaged(square_of(goqlanis.encode(digits[1:], level, version)), version, level, chance, 1)
+    return found + [not_alike(beyond)]
+
+
+def all_pairs():
+    """Symbols of all pairs, with no damage and with the most, under the mask of least penalty"""
+    chance = Random(168)
+    found = [f"{version}-{level}: {it}" for version, level in pairs() for it in pair_complaints(version, level, chance) if it]
+    return found, f"{len(pairs())} pairs"
+
+
+def missing_levels():
+    """Pairs that there are not are refused"""
+    missing = [(version, level) for version in VERSIONS for level in LEVELS if level not in levels(version)]
+    found = [f"{version}-{level}" for version, level in missing if refusal(goqlanis.encode, b"", level, version) != "LevelNotInVersion"]
+    return found + ([] if len(missing) == 8 else ["there are not eight"]), f"{len(missing)} pairs"
+
+
+def least_version(rooms, count):
+    """The number of the least version of Normal that holds so many bytes in one segment, 41 where none does."""
+    for number, room in enumerate(rooms, 1):
+        if count == 0 or count * 8 + 4 + count_bits(form(str(number)), "byte") <= room:
+            return number
+    return 41
+
+
+def least_versions():
+    """Letters are held by the least version with room for them"""
+    found, asked = [], 0
+    for level in LEVELS:
+        rooms = [blocks(str(number), level).capacity for number in range(1, 41)]
+        count = 0
+        while (number := least_version(rooms, count)) <= 40:
+            if goqlanis.least_version(b"a" * count, level) != str(number):
+                found.append(f"{count} letters at {level}")
+            count += 1
+        if refusal(goqlanis.least_version, b"a" * count, level) != "NoRoom":
+            found.append(f"{count} letters at {level} are not refused")
+        asked += count + 1
+    return found, f"{asked} calls"
+
+
+TESTS = [all_pairs, missing_levels, least_versions]

@@ -1,0 +1,58 @@
+"""Penalties of squares, term by term, with rows and columns as texts of `0` and `1` (6.8.2)."""
+import re
+
+RUNS = re.compile("0{5,}|1{5,}")
+FINDERS = re.compile("(?=1011101)")
+TERMS = ("runs", "blocks", "finders", "balance")
+MICRO_TERMS = ("both sides", "greater side")
+
+
+def lines(square, width):
+    """The rows, and the columns."""
+    text = square.translate(LETTERS).decode()
+    return [text[i * width:(i + 1) * width] for i in range(width)], [text[j::width] for j in range(width)]
+
+
+LETTERS = bytes([48, 49]) + bytes(254)
+
+
+def runs(line):
+    """Three for five modules of one colour in a line, and one for each further."""
+    return sum(len(run) - 2 for run in RUNS.findall(line))
+
+
+def blocks(rows):
+    """Three for each two by two modules of one colour."""
+    count = 0
+    for colour in (rows, [row.translate({48: 49, 49: 48}) for row in rows]):
+        joined = [pair & pair >> 1 for pair in (int(above, 2) & int(below, 2) for above, below in zip(colour, colour[1:]))]
+        count += sum(bin(pairs).count("1") for pairs in joined)
+    return 3 * count
+
+
+def finders(line):
+    """Forty for each form of a finder pattern that has four light modules on a side; outside of the square all is light."""
+    wide = "0000" + line + "0000"
+    return sum(40 for found in FINDERS.finditer(wide) if "0000" in (wide[found.start() - 4:found.start()], wide[found.start() + 7:found.start() + 11]))
+
+
+def normal(square, width):
+    """The four terms of Normal. The last is how far 200 times the share of dark modules, rounded down, is from 100."""
+    rows, columns = lines(square, width)
+    both = rows + columns
+    balance = abs(200 * square.count(1) // len(square) - 100)
+    return dict(zip(TERMS, (sum(map(runs, both)), blocks(rows), sum(map(finders, both)), balance)))
+
+
+def micro(square, width):
+    """The two terms of Micro: the light modules of the last row and of the last column, without the first of each, and 15 times the greater of both. The standard
+    takes the mask of the greatest sum of dark ones, sixteen times the lesser and the greater, which is the mask of the least sum here."""
+    rows, columns = lines(square, width)
+    row, column = rows[-1][1:].count("0"), columns[-1][1:].count("0")
+    return dict(zip(MICRO_TERMS, (row + column, 15 * max(row, column))))
+
+
+def first_least(penalties, left_out=None):
+    """The number of the first of least sum, all terms or all but one being counted."""
+    sums = [sum(cost for term, cost in terms.items() if term != left_out) for terms in penalties]
+    return sums.index(min(sums))

@@ -1,0 +1,126 @@
+"""What is read of a square of modules, errors corrected."""
+from typing import NamedTuple
+
+import penalty
+from field import Uncorrected, corrected
+from forms import WIDTHS, blocks, form
+from spelling import Unspelled, spelled
+from tables import MICRO_SYMBOLS, NORMAL_LEVELS
+
+
+class NoSuchSide(Exception):
+    """No version has so many modules."""
+
+
+class NoFormat(Exception):
+    """No format word is near each of its copies."""
+
+
+class Damaged(Exception):
+    """A block has too many wrong codewords."""
+
+
+class NotSpelled(Exception):
+    """The data bits are not segments and an end, or have a header."""
+
+
+class Bits(NamedTuple):
+    """The data bits of a square, and what it is beside them. The mask is its number in its version."""
+
+    version: str
+    level: str
+    mask: int
+    wrong: int
+    bits: str
+
+
+def divided(five):
+    """The format word of five bits: they and the rest of their division by 10100110111 (Annex C)."""
+    rest = five << 10
+    for k in range(4, -1, -1):
+        if rest >> (10 + k) & 1:
+            rest ^= 0b10100110111 << k
+    return five << 10 | rest
+
+
+def named(version, five):
+    """The level and the mask that five bits name in a version, if they do."""
+    if not version.startswith("M"):
+        return NORMAL_LEVELS[five >> 3], five & 7
+    owner, level = MICRO_SYMBOLS[five >> 2]
+    return (level, five & 3) if owner == version else None
+
+
+def words(version):
+    """Each format word of a version with its level and mask."""
+    turned = 0b100010001000101 if version.startswith("M") else 0b101010000010010
+    return {named(version, five): divided(five) ^ turned for five in range(32) if named(version, five)}
+
+
+WORDS = {version: words(version) for version in WIDTHS.values()}
+
+
+def wrong_bits(square, copy, word):
+    """How many bits of a copy of the format word are not those of a word."""
+    return sum(square[place] != word >> (14 - k) & 1 for k, place in enumerate(copy))
+
+
+def read_format(square, shape):
+    """The level and the mask whose word differs in at most three bits from each copy."""
+    for found, word in WORDS[shape.version].items():
+        if all(wrong_bits(square, copy, word) <= 3 for copy in shape.copies):
+            return found
+    raise NoFormat
+
+
+def words_of(stream, count, parts):
+    """The codewords of a stream of so many bits. One of four bits is filled with zeros."""
+    if not parts.has_half:
+        return (stream >> count % 8).to_bytes(parts.total, "big")
+    bits, cut = f"{stream:0{count}b}", parts.data * 8 - 4
+    return int(bits[:cut] + "0000" + bits[cut:], 2).to_bytes(parts.total, "big")
+
+
+def read_bits(square):
+    """The data bits of a square."""
+    version = WIDTHS.get(int(len(square) ** 0.5))
+    if version is None or form(version).width ** 2 != len(square):
+        raise NoSuchSide
+    shape = form(version)
+    level, mask = read_format(square, shape)
+    parts = blocks(version, level)
+    found, data, wrong = words_of(shape.stream(square, mask), len(shape.places), parts), b"", 0
+    for share, length in zip(parts.shares(), parts.lengths):
+        try:
+            block, count = corrected(bytes(map(found.__getitem__, share)), parts.ec)
+        except Uncorrected:
+            raise Damaged from None
+        data, wrong = data + block[:length], wrong + count
+    bits = f"{int.from_bytes(data, 'big'):0{len(data) * 8}b}"[:parts.capacity]
+    return Bits(version, level, mask, wrong, bits)
+
+
+def read_headed(square):
+    """What a square says, with its headers."""
+    bits = read_bits(square)
+    try:
+        return bits, spelled(form(bits.version), bits.bits)
+    except Unspelled:
+        raise NotSpelled from None
+
+
+def read(square):
+    """What a square says that has no headers and no segment without a character, as the library reads it: its bits, and its bytes."""
+    bits, found = read_headed(square)
+    if found.headers or not found.are_filled:
+        raise NotSpelled
+    return bits, found.data
+
+
+def penalties(square, bits):
+    """The terms of the penalty of a symbol as it would be under each mask of its version."""
+    shape, found = form(bits.version), []
+    for mask in shape.mask_numbers():
+        other = shape.remasked(square, bits.mask, mask, WORDS[bits.version][bits.level, mask])
+        found.append((penalty.micro if shape.is_micro else penalty.normal)(other, shape.width))
+    return found

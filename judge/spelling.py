@@ -1,0 +1,132 @@
+"""The bytes and headers that data bits spell. Bits are a text of `0` and `1`."""
+from typing import NamedTuple
+
+from tables import CHARACTERS, COUNT_BITS, MICRO_COUNT_BITS, MICRO_MODES, MODES
+
+ECI, FNC1_FIRST, FNC1_SECOND, STRUCTURED_APPEND = 7, 5, 9, 3
+
+
+class Unspelled(Exception):
+    """The bits are not segments and an end."""
+
+
+class Spelled(NamedTuple):
+    """The bytes of all segments; the headers in front of them: `("ECI", 26)`, `("FNC1",)`, `("FNC1", 37)`, `("symbol", place, last, parity)`; how many bits they take; and whether
+    each segment has a character."""
+
+    data: bytes
+    headers: list
+    length: int
+    are_filled: bool
+
+
+class Front:
+    """Bits that are taken from the front."""
+
+    def __init__(self, bits):
+        self.bits, self.at = bits, 0
+
+    def number(self, count):
+        if self.at + count > len(self.bits):
+            raise Unspelled
+        self.at += count
+        return int("0" + self.bits[self.at - count:self.at], 2)
+
+    def is_end(self, count):
+        """Whether the next bits, or as many as are left, are zeros."""
+        return "1" not in self.bits[self.at:self.at + count]
+
+
+def digits(front, count):
+    """Three digits in ten bits, two that are left in seven, and one in four."""
+    found = ""
+    while count > 0:
+        taken = min(count, 3)
+        part = str(front.number((0, 4, 7, 10)[taken])).zfill(taken)
+        if len(part) > taken:
+            raise Unspelled
+        found, count = found + part, count - taken
+    return found.encode()
+
+
+def letters(front, count):
+    """Two letters in eleven bits, and one that is left in six."""
+    found = []
+    for _ in range(count // 2):
+        found += divmod(front.number(11), 45)
+    if count % 2:
+        found.append(front.number(6))
+    if any(number >= 45 for number in found):
+        raise Unspelled
+    return bytes(CHARACTERS[number] for number in found)
+
+
+def plain(front, count):
+    return bytes(front.number(8) for _ in range(count))
+
+
+def pairs(front, count):
+    """A pair of Shift JIS in thirteen bits: its bytes less 0x8140 or 0xc140, the first 192 times and the second once."""
+    found = b""
+    for _ in range(count):
+        first, second = divmod(front.number(13), 0xc0)
+        joined = first * 256 + second
+        pair = (joined + (0x8140 if joined + 0x8140 <= 0x9ffc else 0xc140)).to_bytes(2, "big")
+        if pair[1] == 0x7f or pair[1] > 0xfc:
+            raise Unspelled
+        found += pair
+    return found
+
+
+READERS = {"numeric": digits, "alphanumeric": letters, "byte": plain, "kanji": pairs}
+
+
+def count_bits(form, mode):
+    """The bits of the count of characters."""
+    if form.is_micro:
+        return MICRO_COUNT_BITS[mode][form.number - 1]
+    return COUNT_BITS[mode][(form.number >= 10) + (form.number >= 27)]
+
+
+def number_of_set(front):
+    """The number of a character set, in one, two or three bytes."""
+    if front.number(1) == 0:
+        return front.number(7)
+    if front.number(1) == 0:
+        return front.number(14)
+    if front.number(1) == 1:
+        raise Unspelled
+    return front.number(21)
+
+
+def header(indicator, front):
+    """The header of an indicator."""
+    if indicator == ECI:
+        return "ECI", number_of_set(front)
+    if indicator == FNC1_FIRST:
+        return ("FNC1",)
+    if indicator == FNC1_SECOND:
+        return "FNC1", front.number(8)
+    if indicator == STRUCTURED_APPEND:
+        return "symbol", front.number(4) + 1, front.number(4) + 1, front.number(8)
+    raise Unspelled
+
+
+def spelled(form, bits):
+    """What data bits of a version spell."""
+    front, data, headers, are_filled = Front(bits), b"", [], True
+    while not front.is_end(form.number * 2 + 1 if form.is_micro else 4):
+        indicator = front.number(form.number - 1 if form.is_micro else 4)
+        known = indicator < 4 if form.is_micro else indicator in MODES
+        if known:
+            mode = MICRO_MODES[indicator] if form.is_micro else MODES[indicator]
+            width = count_bits(form, mode)
+            if width == 0:
+                raise Unspelled
+            count = front.number(width)
+            data, are_filled = data + READERS[mode](front, count), are_filled and count > 0
+        elif form.is_micro:
+            raise Unspelled
+        else:
+            headers.append(header(indicator, front))
+    return Spelled(data, headers, front.at, are_filled)
