@@ -1,5 +1,7 @@
 //! Printed blocks, damaged and corrected.
 
+ghost use Rattle.std.specs.Prelude.{◌≤◌};
+
 use qrcode_correct::{Corrector, Damaged, correct};
 use std::process::Abort;
 
@@ -64,6 +66,25 @@ fn blocks_without_much_are_corrected(rt: HostRuntime) {
     assert!(rt; correct(&mut zeros, 1) == Err(Damaged));
     assert!(rt; correct(&mut zeros, 5) == Ok(1));
     assert!(rt; zeros == [0, 0, 0]);
+}
+
+// Zeros vanish at any points: a list of 255 with as many other bytes as can be corrected is corrected to
+// zeros.
+fn are_zeros_again(count: usize) -> bool
+    requires { count ≤ 69 }
+{
+    let mut bytes = [0; 255];
+    for k in 0..count / 2 {
+        bytes[k.wrapping_mul(7) % 255] = 0xa5;
+    }
+    correct(&mut bytes, count) == Ok(count / 2) && bytes == [0; 255]
+}
+
+#[test]
+fn zeros_are_corrected_by_any_number_of_bytes(rt: HostRuntime) {
+    for count in 0..70 {
+        assert!(rt; are_zeros_again(count), "with {count}");
+    }
 }
 
 #[test]
