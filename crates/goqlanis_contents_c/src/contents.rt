@@ -1,13 +1,10 @@
-//! The text of fields, in a buffer.
+//! The texts of networks, contacts, payments and their kin.
 
-ghost use Rattle.std.specs.Prelude.{◌≡◌, ◌≢◌, ◌≤◌, ◌++◌, ℕ, length, drop, string_bytes, IfOk, IfErr, OnErr};
-ghost use Rattle.goqlanis_contents_c.specs.Contents.{IsCause, IsContent, IsContentIn, IsRefused};
+ghost use Rattle.std.specs.Prelude.{◌≡◌, ◌≢◌, length};
+ghost use Rattle.goqlanis_contents_buffers.specs.Contents.{IsContentIn, IsRefused};
 
-use crate::answers::Refusal;
-use crate::forms::{check, forms_of, kind_named, place_of};
-use crate::given::Item;
-use crate::texts::text_of;
-use qrcode_fields::errors::ContentError;
+use goqlanis_contents_buffers::contents::write;
+use goqlanis_contents_buffers::given::Item;
 use std::alloc::Global;
 
 /// The text of fields of a kind, at the beginning of `out`, and its length to `count`.
@@ -41,46 +38,4 @@ pub extern "C" fn goq_content(
     };
     *place = refusal.place(*place);
     refusal.number()
-}
-
-// Writes the text of fields at the beginning of a buffer. Its length.
-fn write(alloc: Global, kind: u32, given: &[Item<'_>], out: &mut [u8]) -> Result<usize, Refusal>
-    ensures made { IfOk result (IsContentIn kind given.now out.old out.new) }
-    ensures unchanged { OnErr result (out.new ≡ out.old) }
-    ensures causes { IfErr result (IsCause kind given.now (length out.old)) }
-{
-    let text = content(alloc, kind, given)?;
-    let bytes = text.as_bytes();
-    if out.len() < bytes.len() {
-        return Err(Refusal::SmallBuffer);
-    }
-    fill(out, bytes);
-    Ok(bytes.len())
-}
-
-// Writes bytes at the beginning of a buffer that has room for them.
-pub(crate) fn fill(out: &mut [u8], bytes: &[u8])
-    requires room { length bytes.now ≤ length out.old }
-    ensures filled { out.new ≡ bytes.now ++ drop (length bytes.now) out.old }
-{
-    out[..bytes.len()].copy_from_slice(bytes);
-}
-
-// The text of fields of the kind of a number.
-fn content(alloc: Global, kind: u32, given: &[Item<'_>]) -> Result<String, Refusal>
-    ensures text { IfOk result (λ text. IsContent kind given.now (string_bytes text)) }
-    ensures causes { (room : ℕ) → IfErr result (IsCause kind given.now room) }
-{
-    let Some(kind) = kind_named(kind) else {
-        return Err(Refusal::NoSuchContent);
-    };
-    let forms = forms_of(kind);
-    check(forms, given)?;
-    match text_of(alloc, kind, given) {
-        Ok(text) => Ok(text),
-        Err(ContentError::Refused(field, cause)) => {
-            Err(Refusal::Wrong(place_of(forms, field), cause))
-        }
-        Err(ContentError::OutOfMemory) => Err(Refusal::OutOfMemory),
-    }
 }
