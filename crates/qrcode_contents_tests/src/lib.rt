@@ -6,6 +6,8 @@ mod contents;
 #[cfg(test)]
 mod elements;
 #[cfg(test)]
+mod joining;
+#[cfg(test)]
 mod sequences;
 #[cfg(test)]
 mod symbols;
