@@ -1,11 +1,13 @@
 -- The pieces of a cut, as they are written and as they are read.
-use Rattle.std.proofs.Common.{◌≡◌, ℕ, zero, suc, ◌+◌, ◌-◌, ◌*◌, ◌<◌, ◌≤◌, List, [], ◌∷◌, ◌++◌, length, get_or, take, drop, refl, sym, ap, ap₂, subst, ◌∙◌, arith, length-append, IsTrue}
+use Rattle.std.proofs.Common.{◌≡◌, ℕ, zero, suc, ◌+◌, ◌-◌, ◌*◌, ◌<◌, ◌≤◌, List, [], ◌∷◌, ◌++◌, length, get_or, take, drop, refl, sym, ap, ap₂, subst, ◌∙◌, arith, length-append, IsTrue, w16, to_z}
 use Rattle.std.specs.Prelude.{flat_map, slice_range, pos}
 use Rattle.std.specs.List.{AllByRecursion}
+use Rattle.std.proofs.lemmas.Int.{to_z_pos}
 use Rattle.std.proofs.lemmas.List.{take_all, take-append-le, drop-append-le, length-drop}
 use Rattle.std.proofs.Math.Seq.{drop-append_seam}
 use Rattle.qrcode_types.specs.Characters.{can_write}
 use Rattle.qrcode_types.specs.Modes.{has_mode, data_bits_count}
+use Rattle.qrcode_types.specs.Versions.{capacity}
 use Rattle.qrcode_types.specs.declared.types.EcLevel.{EcLevel}
 use Rattle.qrcode_types.specs.declared.types.Version.{Version}
 use Rattle.qrcode_types.specs.declared.types.Mode.{Mode}
@@ -145,6 +147,14 @@ cost_long v bytes from (s ∷ ss) t are =
       cost_long v bytes s.end ss t.1.1 are.1,
     )
 
--- bytes that are held are few
+-- a version that holds bytes has three bits for each
+pub held_short : (p : Position) (l : EcLevel) (bytes : List ℕ) (n : ℕ) → HoldsMarked p l bytes n → 3 * length bytes ≤ capacity (Normal (pos n)) l
+held_short p l bytes n holds = omega (arith, cost_long (Normal (pos n)) bytes 0 holds.segments holds.cut.tiles holds.cut.standing, holds.room)
+
+-- so they are few
 pub held_few : (p : Position) (l : EcLevel) (bytes : List ℕ) (n : ℕ) → HoldsMarked p l bytes n → length bytes ≤ 23648
-held_few p l bytes n holds = omega (arith, cost_long (Normal (pos n)) bytes 0 holds.segments holds.cut.tiles holds.cut.standing, holds.room, capacity_at_most (Normal (pos n)) l)
+held_few p l bytes n holds = omega (arith, held_short p l bytes n holds, capacity_at_most (Normal (pos n)) l)
+
+-- the version of a small number
+pub version_is : (n : ℕ) → n ≤ 40 → Normal (to_z w16 n) ≡ Normal (pos n)
+version_is n most = ap Normal (to_z_pos w16 n (omega (arith, most)))

@@ -20,7 +20,10 @@ fn holds(bytes: &[u8], position: Position, ec_level: EcLevel, number: usize) -> 
 {
     let version = Version::Normal(number as i16);
     match tables::capacity(version, ec_level) {
-        Some(room) => mark_length(position) + fewest_bits(bytes, version) <= room,
+        // Each byte takes three bits at least, so that few versions are looked at closely.
+        Some(room) => {
+            3 * bytes.len() <= room && mark_length(position) + fewest_bits(bytes, version) <= room
+        }
         None => false,
     }
 }

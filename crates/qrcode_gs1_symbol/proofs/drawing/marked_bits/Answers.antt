@@ -1,18 +1,14 @@
-use Rattle.std.proofs.Common.{◌≡◌, ℕ, ◌+◌, ◌≤◌, length, pos, sym, ap, subst, arith, w16, to_z}
-use Rattle.std.proofs.lemmas.Int.{to_z_pos}
+use Rattle.std.proofs.Common.{◌+◌, ◌≤◌, length, pos, sym, subst, arith, w16, to_z}
 use Rattle.qrcode_types.specs.Versions.{capacity}
 use Rattle.qrcode_types.specs.declared.types.Version.TheVariants.{Normal}
 use Rattle.qrcode_bits.specs.Cuts.{IsCut}
 use Rattle.qrcode_bits.specs.Segments.{AreInside, total_cost}
 use Rattle.qrcode_gs1_symbol.specs.Characters.{mark}
 use Rattle.qrcode_gs1_symbol.specs.Cuts.{IsLeastMarkedCut, AreCharacters, marked_cost}
-use Rattle.qrcode_gs1_symbol.proofs.Pieces.{written_cut, written_cost, tiles_inside}
+use Rattle.qrcode_gs1_symbol.proofs.Pieces.{written_cut, written_cost, tiles_inside, version_is}
 use Rattle.qrcode_gs1_symbol.proofs.Spelled.{marked_list}
 use Rattle.qrcode_gs1_symbol.proofs.drawing.marked_bits.Goals as goal
 use Rattle.qrcode_gs1_symbol.proofs.drawing.marked_bits.Goals.{In_ok-cut, In_ok-written}
-
-version_is : (n : ℕ) → n ≤ 40 → Normal (to_z w16 n) ≡ Normal (pos n)
-version_is n most = ap Normal (to_z_pos w16 n (omega (arith, most)))
 
 -- the segments are a least cut
 least : (c : In_ok-cut) → IsLeastMarkedCut (Normal (pos c.args.number)) c.args.bytes.now c.in_ok-cut.cut.items
