@@ -1,3 +1,4 @@
+pub mod PairWords
 pub mod Places
 pub mod RowLists
 pub mod Words

@@ -51,12 +51,12 @@ shr_top w m l j k e p =
     subst P none (shr_words w 0 m l j k e p)
 
 -- a word that is shifted to the left: what goes over its edge, and what stays
-word_shl : (l j k : ℕ) → (l / 2 ^ k) * 2 ^ (j + k) + l * 2 ^ j % 2 ^ (j + k) ≡ l * 2 ^ j
+pub word_shl : (l j k : ℕ) → (l / 2 ^ k) * 2 ^ (j + k) + l * 2 ^ j % 2 ^ (j + k) ≡ l * 2 ^ j
 word_shl l j k =
     let over : l * 2 ^ j / 2 ^ (j + k) ≡ l / 2 ^ k = sym (shr-shr (l * 2 ^ j) j k) ∙ ap (λ n. n / 2 ^ k) (shl-shr l j) in
     ap (λ n. n * 2 ^ (j + k) + l * 2 ^ j % 2 ^ (j + k)) (sym over) ∙ shr_split (l * 2 ^ j) (j + k)
 
-or_plus : (m l j k : ℕ) → l < 2 ^ (j + k) → bit_or (m * 2 ^ j % 2 ^ (j + k)) (l / 2 ^ k) ≡ m * 2 ^ j % 2 ^ (j + k) + l / 2 ^ k
+pub or_plus : (m l j k : ℕ) → l < 2 ^ (j + k) → bit_or (m * 2 ^ j % 2 ^ (j + k)) (l / 2 ^ k) ≡ m * 2 ^ j % 2 ^ (j + k) + l / 2 ^ k
 or_plus m l j k h =
     let turn : k + j ≡ j + k = omega arith in
     let cut : m * 2 ^ j % 2 ^ (j + k) ≡ (m % 2 ^ k) * 2 ^ j = ap (λ n. m * 2 ^ j % 2 ^ n) (sym turn) ∙ shl-mod m k j in

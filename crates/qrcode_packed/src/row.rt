@@ -1,7 +1,9 @@
 //! Rows of modules, packed into words.
 
-ghost use Rattle.std.specs.Prelude.{◌≡◌, ℕ, ◌+◌, ◌-◌, ◌*◌, ◌/◌, ◌%◌, ◌<◌, ◌≤◌, ◌^◌, ◌==◌, bit_and, bit_or, bit_xor, count_ones};
+ghost use Rattle.std.specs.Prelude.{◌≡◌, ℕ, ◌+◌, ◌-◌, ◌*◌, ◌/◌, ◌%◌, ◌<◌, ◌≤◌, ◌^◌, ◌==◌, bit_and, bit_or, bit_xor, count_ones, refl};
 ghost use Rattle.std.proofs.Common.{lit≤};
+
+use crate::pair::{Longer, RowPair, WordPair};
 
 /// A row of modules, packed into words: bit x is set where a test holds of the module in column x.
 pub trait PackedRow: Copy {
@@ -13,6 +15,14 @@ pub trait PackedRow: Copy {
 
     // No type has room for more than 192 bits.
     ghost room_at_most: { room ≤ 192 };
+
+    /// Two such rows side by side.
+    type Pair: RowPair;
+
+    /// This row as the upper one and another as the lower one.
+    fn beside(self, lower: Self) -> Self::Pair
+        ensures upper { Self.Pair.upper result ≡ bits self }
+        ensures lower { Self.Pair.lower result ≡ bits lower };
 
     /// The row in which the first `count` bits are set.
     fn first(count: u32) -> Self
@@ -64,6 +74,9 @@ pub trait PackedRow: Copy {
     /// The first 64 bits.
     fn first_word(self) -> u64
         ensures { result ≡ bits self % 2 ^ 64 };
+
+    // A pair has as much room for each row.
+    ghost pair_room: { Self.Pair.room ≡ room };
 }
 
 impl PackedRow for u64 {
@@ -72,6 +85,15 @@ impl PackedRow for u64 {
     ghost bits = { λ row. row };
 
     ghost room_at_most = { lit≤ tt };
+
+    type Pair = WordPair;
+
+    ghost pair_room = { refl };
+
+    #[inline(always)]
+    fn beside(self, lower: u64) -> WordPair {
+        WordPair { upper: self, lower }
+    }
 
     #[inline(always)]
     fn first(count: u32) -> u64 {
@@ -135,6 +157,18 @@ impl PackedRow for u128 {
     ghost bits = { λ row. row };
 
     ghost room_at_most = { lit≤ tt };
+
+    type Pair = Longer<WordPair>;
+
+    ghost pair_room = { refl };
+
+    #[inline(always)]
+    fn beside(self, lower: u128) -> Longer<WordPair> {
+        Longer {
+            low: self.first_word().beside(lower.first_word()),
+            high: ((self >> 64) as u64).beside((lower >> 64) as u64),
+        }
+    }
 
     #[inline(always)]
     fn first(count: u32) -> u128 {
@@ -206,6 +240,21 @@ impl PackedRow for Row192 {
     ghost bits = { λ row. (row.high * 2 ^ 64 + row.middle) * 2 ^ 64 + row.low };
 
     ghost room_at_most = { lit≤ tt };
+
+    type Pair = Longer<Longer<WordPair>>;
+
+    ghost pair_room = { refl };
+
+    #[inline(always)]
+    fn beside(self, lower: Row192) -> Longer<Longer<WordPair>> {
+        Longer {
+            low: self.low.beside(lower.low),
+            high: Longer {
+                low: self.middle.beside(lower.middle),
+                high: self.high.beside(lower.high),
+            },
+        }
+    }
 
     #[inline(always)]
     fn first(count: u32) -> Row192 {

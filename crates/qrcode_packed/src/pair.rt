@@ -1,0 +1,283 @@
+//! Two rows of modules side by side: each word of a vector of two lanes belongs to one of them.
+
+ghost use Rattle.std.proofs.Common.{lit≤};
+ghost use Rattle.std.specs.Prelude.{◌≡◌, ℕ, ◌+◌, ◌-◌, ◌*◌, ◌/◌, ◌%◌, ◌<◌, ◌≤◌, ◌^◌, ◌==◌, ◌&&◌, ◌∷◌, [], bit_and, bit_or, bit_xor, count_ones};
+
+use std::simd::u64x2;
+
+/// Two rows of modules, an upper one and a lower one, packed into words: what is done, is done to both.
+pub trait RowPair: Copy {
+    // How many bits each row has room for.
+    ghost room: { ℕ };
+
+    // The number that has the bits of the upper row.
+    ghost upper: { Self → ℕ };
+
+    // The number that has the bits of the lower row.
+    ghost lower: { Self → ℕ };
+
+    /// The bits that are set in both.
+    fn and(self, other: Self) -> Self
+        ensures upper { upper result ≡ bit_and (upper self) (upper other) }
+        ensures lower { lower result ≡ bit_and (lower self) (lower other) };
+
+    /// The bits that are set in either.
+    fn or(self, other: Self) -> Self
+        ensures upper { upper result ≡ bit_or (upper self) (upper other) }
+        ensures lower { lower result ≡ bit_or (lower self) (lower other) };
+
+    /// The bits that are set in one of them alone.
+    fn xor(self, other: Self) -> Self
+        ensures upper { upper result ≡ bit_xor (upper self) (upper other) }
+        ensures lower { lower result ≡ bit_xor (lower self) (lower other) };
+
+    /// The bits that are set here and not in the other.
+    fn without(self, other: Self) -> Self
+        ensures upper { upper result
+            ≡ bit_xor (upper self) (bit_and (upper self) (upper other)) }
+        ensures lower { lower result
+            ≡ bit_xor (lower self) (bit_and (lower self) (lower other)) };
+
+    /// Each bit moves down by `count`, from 1 to 63; what goes below bit 0 is left out.
+    fn down(self, count: u32) -> Self
+        requires at_least { 0 < count }
+        requires at_most { count < 64 }
+        ensures upper { upper result ≡ upper self / 2 ^ count }
+        ensures lower { lower result ≡ lower self / 2 ^ count };
+
+    /// Each bit moves up by `count`, from 1 to 63, and the last bits of the words below come behind; none may go past the
+    /// room.
+    fn up_over(self, below: WordPair, count: u32) -> Self
+        requires at_least { 0 < count }
+        requires at_most { count < 64 }
+        requires upper_fits { upper self * 2 ^ count < 2 ^ room }
+        requires lower_fits { lower self * 2 ^ count < 2 ^ room }
+        ensures upper { upper result
+            ≡ upper self * 2 ^ count + below.upper / 2 ^ (64 - count) }
+        ensures lower { lower result
+            ≡ lower self * 2 ^ count + below.lower / 2 ^ (64 - count) };
+
+    /// Each bit moves up by `count`, from 1 to 63; none may go past the room.
+    fn up(self, count: u32) -> Self
+        requires at_least { 0 < count }
+        requires at_most { count < 64 }
+        requires upper_fits { upper self * 2 ^ count < 2 ^ room }
+        requires lower_fits { lower self * 2 ^ count < 2 ^ room }
+        ensures upper { upper result ≡ upper self * 2 ^ count }
+        ensures lower { lower result ≡ lower self * 2 ^ count };
+
+    /// How many bits are set in the two rows together.
+    fn count_ones(self) -> u32
+        ensures value { result ≡ count_ones (upper self) + count_ones (lower self) }
+        ensures at_most { result ≤ 2 * room };
+
+    /// Whether no bit is set in either row.
+    fn is_zero(self) -> bool
+        ensures { result ≡ (upper self == 0 && lower self == 0) };
+
+    /// The first word of each row.
+    fn first_words(self) -> WordPair
+        ensures upper { result.upper ≡ upper self % 2 ^ 64 }
+        ensures lower { result.lower ≡ lower self % 2 ^ 64 };
+}
+
+/// Two rows of few words, before which more may stand.
+pub trait ShortPair: RowPair {
+    // Two words are enough.
+    ghost short: { Self.RowPair.room ≤ 128 };
+}
+
+/// Two rows of up to 64 bits.
+#[derive(Copy, Clone)]
+pub struct WordPair {
+    pub(crate) upper: u64,
+    pub(crate) lower: u64,
+}
+
+// The words as a vector.
+#[inline(always)]
+fn lanes(pair: WordPair) -> u64x2
+    ensures { result ≡ pair.upper ∷ pair.lower ∷ [] }
+{
+    u64x2::from_array([pair.upper, pair.lower])
+}
+
+// Each word moves up; what goes past it is left out.
+#[inline(always)]
+fn words_up(pair: WordPair, count: u32) -> WordPair
+    requires { count < 64 }
+    ensures upper { result.upper ≡ pair.upper * 2 ^ count % 2 ^ 64 }
+    ensures lower { result.lower ≡ pair.lower * 2 ^ count % 2 ^ 64 }
+{
+    let words = (lanes(pair) << u64x2::splat(u64::from(count))).to_array();
+    WordPair {
+        upper: words[0],
+        lower: words[1],
+    }
+}
+
+impl RowPair for WordPair {
+    ghost room = { 64 };
+
+    ghost upper = { λ pair. pair.upper };
+
+    ghost lower = { λ pair. pair.lower };
+
+    #[inline(always)]
+    fn and(self, other: WordPair) -> WordPair {
+        let words = (lanes(self) & lanes(other)).to_array();
+        WordPair {
+            upper: words[0],
+            lower: words[1],
+        }
+    }
+
+    #[inline(always)]
+    fn or(self, other: WordPair) -> WordPair {
+        let words = (lanes(self) | lanes(other)).to_array();
+        WordPair {
+            upper: words[0],
+            lower: words[1],
+        }
+    }
+
+    #[inline(always)]
+    fn xor(self, other: WordPair) -> WordPair {
+        let words = (lanes(self) ^ lanes(other)).to_array();
+        WordPair {
+            upper: words[0],
+            lower: words[1],
+        }
+    }
+
+    #[inline(always)]
+    fn without(self, other: WordPair) -> WordPair {
+        self.xor(self.and(other))
+    }
+
+    #[inline(always)]
+    fn down(self, count: u32) -> WordPair {
+        let words = (lanes(self) >> u64x2::splat(u64::from(count))).to_array();
+        WordPair {
+            upper: words[0],
+            lower: words[1],
+        }
+    }
+
+    #[inline(always)]
+    fn up_over(self, below: WordPair, count: u32) -> WordPair {
+        words_up(self, count).or(below.down(64 - count))
+    }
+
+    #[inline(always)]
+    fn up(self, count: u32) -> WordPair {
+        words_up(self, count)
+    }
+
+    #[inline(always)]
+    fn count_ones(self) -> u32 {
+        self.upper.count_ones() + self.lower.count_ones()
+    }
+
+    #[inline(always)]
+    fn is_zero(self) -> bool {
+        self.upper == 0 && self.lower == 0
+    }
+
+    #[inline(always)]
+    fn first_words(self) -> WordPair {
+        self
+    }
+}
+
+/// Two rows that have 64 bits more before those of a pair.
+#[derive(Copy, Clone)]
+pub struct Longer<P: ShortPair> {
+    pub(crate) low: WordPair,
+    pub(crate) high: P,
+}
+
+impl<P: ShortPair> RowPair for Longer<P> {
+    ghost room = { P.room + 64 };
+
+    ghost upper = { λ pair. P.upper pair.high * 2 ^ 64 + pair.low.upper };
+
+    ghost lower = { λ pair. P.lower pair.high * 2 ^ 64 + pair.low.lower };
+
+    #[inline(always)]
+    fn and(self, other: Longer<P>) -> Longer<P> {
+        Longer {
+            low: self.low.and(other.low),
+            high: self.high.and(other.high),
+        }
+    }
+
+    #[inline(always)]
+    fn or(self, other: Longer<P>) -> Longer<P> {
+        Longer {
+            low: self.low.or(other.low),
+            high: self.high.or(other.high),
+        }
+    }
+
+    #[inline(always)]
+    fn xor(self, other: Longer<P>) -> Longer<P> {
+        Longer {
+            low: self.low.xor(other.low),
+            high: self.high.xor(other.high),
+        }
+    }
+
+    #[inline(always)]
+    fn without(self, other: Longer<P>) -> Longer<P> {
+        self.xor(self.and(other))
+    }
+
+    #[inline(always)]
+    fn down(self, count: u32) -> Longer<P> {
+        let over = words_up(self.high.first_words(), 64 - count);
+        Longer {
+            low: over.or(self.low.down(count)),
+            high: self.high.down(count),
+        }
+    }
+
+    #[inline(always)]
+    fn up_over(self, below: WordPair, count: u32) -> Longer<P> {
+        Longer {
+            low: words_up(self.low, count).or(below.down(64 - count)),
+            high: self.high.up_over(self.low, count),
+        }
+    }
+
+    #[inline(always)]
+    fn up(self, count: u32) -> Longer<P> {
+        Longer {
+            low: words_up(self.low, count),
+            high: self.high.up_over(self.low, count),
+        }
+    }
+
+    #[inline(always)]
+    fn count_ones(self) -> u32 {
+        self.high.count_ones() + self.low.count_ones()
+    }
+
+    #[inline(always)]
+    fn is_zero(self) -> bool {
+        self.low.is_zero() && self.high.is_zero()
+    }
+
+    #[inline(always)]
+    fn first_words(self) -> WordPair {
+        self.low
+    }
+}
+
+impl ShortPair for WordPair {
+    ghost short = { lit≤ tt };
+}
+
+impl ShortPair for Longer<WordPair> {
+    ghost short = { lit≤ tt };
+}
