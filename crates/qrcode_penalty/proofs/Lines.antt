@@ -29,6 +29,15 @@ pub and_false : (a : Bool) → (a && false) ≡ false
 and_false true = refl
 and_false false = refl
 
+-- where two tests hold, each of them does
+pub both_left : (a b : Bool) → (a && b) ≡ true → a ≡ true
+both_left true b h = refl
+both_left false b h = h
+
+pub both_right : (a b : Bool) → (a && b) ≡ true → b ≡ true
+both_right true b h = h
+both_right false b h = cc
+
 pub finder_test : (a b c d e f g q : Bool) → ((((((a && c) && (e && g)) && d) && not (b || f)) && q)) ≡ ((a && not b && c && d && e && not f && g) && q)
 finder_test false b c d e f g q = refl
 finder_test true true c d e f g q = ap (λ x. x && q) (and_false ((c && (e && g)) && d))
