@@ -177,12 +177,15 @@ impl Line {
         self.end = stamp.write(&mut self.bytes, self.end);
     }
 
-    /// Appends a text of any length.
+    /// Appends a text of any length. One byte is stored without a call.
     pub fn push(&mut self, text: &[u8])
         requires { length self.old.text + length text.now + 32 ≤ self.old.room }
         ensures { self.new ≡ record self.old { text = self.old.text ++ text.now } }
     {
-        self.end = put_text(&mut self.bytes, self.end, text);
+        self.end = match text {
+            [byte] => put_text(&mut self.bytes, self.end, &[*byte]),
+            _ => put_text(&mut self.bytes, self.end, text),
+        };
     }
 
     /// How many bytes the text has.
