@@ -2,7 +2,7 @@
 
 use crate::drawings::{DARK, DIAGONAL, MICRO_2, NONE, NORMAL_1};
 use crate::pictures::Colors::{Both, Usual};
-use crate::pictures::Size::{AtLeast, Default};
+use crate::pictures::Size::{AtLeast, Default, Of};
 use crate::pictures::Text::{Is, Starts};
 use crate::pictures::Zone::On;
 use crate::pictures::{Row, Text, writes};
@@ -11,7 +11,7 @@ use qrcode_types::types::QrResult;
 use std::alloc::Global;
 
 #[rattlefmt::skip]
-static SVG: [Row<svg::Color<'static>, Text>; 4] = [
+static SVG: [Row<svg::Color<'static>, Text>; 5] = [
     Row(DARK, On(0), Usual, Default, Is(concat!(
         "<?xml version=\"1.0\" standalone=\"yes\"?><svg xmlns=\"http://www.w3.org/2000/svg\" version=\"1.1\" width=\"8\" height=\"8\" viewBox=\"0 0 8 8\" shape-rendering=\"crispEdges\">",
         "<rect x=\"0\" y=\"0\" width=\"8\" height=\"8\" fill=\"#fff\"/><path fill=\"#000\" d=\"M0 0h8v8H0V0\"/></svg>"
@@ -19,6 +19,10 @@ static SVG: [Row<svg::Color<'static>, Text>; 4] = [
     Row(DIAGONAL, On(1), Usual, Default, Is(concat!(
         "<?xml version=\"1.0\" standalone=\"yes\"?><svg xmlns=\"http://www.w3.org/2000/svg\" version=\"1.1\" width=\"32\" height=\"32\" viewBox=\"0 0 32 32\" shape-rendering=\"crispEdges\">",
         "<rect x=\"0\" y=\"0\" width=\"32\" height=\"32\" fill=\"#fff\"/><path fill=\"#000\" d=\"M8 8h8v8H8V8M16 16h8v8H16V16\"/></svg>"
+    ))),
+    Row(DIAGONAL, On(0), Usual, Of(5, 2), Is(concat!(
+        "<?xml version=\"1.0\" standalone=\"yes\"?><svg xmlns=\"http://www.w3.org/2000/svg\" version=\"1.1\" width=\"10\" height=\"4\" viewBox=\"0 0 10 4\" shape-rendering=\"crispEdges\">",
+        "<rect x=\"0\" y=\"0\" width=\"10\" height=\"4\" fill=\"#fff\"/><path fill=\"#000\" d=\"M0 0h5v2H0V0M5 2h5v2H5V2\"/></svg>"
     ))),
     Row(NONE, On(0), Usual, Default, Is(concat!(
         "<?xml version=\"1.0\" standalone=\"yes\"?><svg xmlns=\"http://www.w3.org/2000/svg\" version=\"1.1\" width=\"0\" height=\"0\" viewBox=\"0 0 0 0\" shape-rendering=\"crispEdges\">",
@@ -31,7 +35,7 @@ static SVG: [Row<svg::Color<'static>, Text>; 4] = [
 ];
 
 #[rattlefmt::skip]
-static PIC: [Row<pic::Color, Text>; 3] = [
+static PIC: [Row<pic::Color, Text>; 4] = [
     Row(DARK, On(0), Usual, Default, Is(concat!(
         "maxpswid=8;maxpsht=8;movewid=0;moveht=1;boxwid=1;boxht=1\ndefine p { box wid $3 ht $4 fill 1 with .nw at $1,-$2 }\n",
         "box wid maxpswid ht maxpsht with .nw at 0,0\np(0,0,8,8)\n"
@@ -39,6 +43,10 @@ static PIC: [Row<pic::Color, Text>; 3] = [
     Row(DIAGONAL, On(1), Usual, AtLeast(1, 1), Is(concat!(
         "maxpswid=4;maxpsht=4;movewid=0;moveht=1;boxwid=1;boxht=1\ndefine p { box wid $3 ht $4 fill 1 with .nw at $1,-$2 }\n",
         "box wid maxpswid ht maxpsht with .nw at 0,0\np(1,1,1,1)\np(2,2,1,1)\n"
+    ))),
+    Row(DIAGONAL, On(1), Usual, Of(5, 2), Is(concat!(
+        "maxpswid=20;maxpsht=8;movewid=0;moveht=1;boxwid=1;boxht=1\ndefine p { box wid $3 ht $4 fill 1 with .nw at $1,-$2 }\n",
+        "box wid maxpswid ht maxpsht with .nw at 0,0\np(5,2,5,2)\np(10,4,5,2)\n"
     ))),
     Row(NORMAL_1, On(4), Usual, AtLeast(1, 1), Starts(concat!(
         "maxpswid=29;maxpsht=29;movewid=0;moveht=1;boxwid=1;boxht=1\ndefine p { box wid $3 ht $4 fill 1 with .nw at $1,-$2 }\n",
