@@ -40,12 +40,13 @@ def told_of(square):
 
 
 def other_encoders():
-    """The judge reads symbols of segno, qrcodegen, zint, qrencode and zxing as they were asked for"""
+    """The judge reads symbols of segno, qrcodegen, zint, qrencode and zxing as they were asked for, and the library as the judge"""
     found, count = [], 0
     for square, told in world_squares():
         count += 1
         said = told_of(square)
-        found += [f"{said} and not {told}"] if said != told else []
+        it = not_alike(square) if said == told else f"{said} and not {told}"
+        found += [it] if it else []
     return found + ([] if count == 198 else ["there are not 198"]), f"{count} squares"
 
 
