@@ -5,7 +5,7 @@ use Rattle.qrcode_packed.specs.Rows.{is_set, FitsWidth}
 use Rattle.qrcode_packed.proofs.Places.{has_and}
 use Rattle.qrcode_penalty.specs.Penalty.{sum_below, count_if}
 use Rattle.qrcode_penalty.proofs.Sums.{sum_same}
-use Rattle.qrcode_penalty.specs.Inside.{before, two, three, run_from, inside_row}
+use Rattle.qrcode_penalty.specs.Inside.{before, two, run_from, inside_row}
 
 either_case : (p q : Bool) → not (not p && not q) ≡ (q || p)
 either_case true true = refl

@@ -1,5 +1,5 @@
 -- The words of the code for columns, place by place.
-use Rattle.std.proofs.Common.{◌≡◌, ℕ, zero, suc, ◌+◌, ◌-◌, ◌*◌, ◌≤◌, Bool, true, false, not, ◌&&◌, ◌||◌, List, refl, ap, ap₂, ◌∙◌, arith, count_ones, if◌then◌else◌, bit_and, bit_or, bit_xor, add_assoc, slice_index_or, length, le-leb}
+use Rattle.std.proofs.Common.{◌≡◌, ℕ, zero, suc, ◌+◌, ◌-◌, ◌*◌, ◌≤◌, Bool, true, false, not, ◌&&◌, ◌||◌, List, refl, ap, ap₂, sym, ◌∙◌, arith, count_ones, if◌then◌else◌, bit_and, bit_or, bit_xor, add_assoc, slice_index_or, length, le-leb}
 use Rattle.std.proofs.lemmas.List.{get_or_past}
 use Rattle.std.proofs.lemmas.Nat.{or_lt}
 use Rattle.qrcode_packed.specs.Rows.{is_set}
@@ -7,7 +7,7 @@ use Rattle.qrcode_packed.proofs.Places.{differ, has_and, has_or, has_xor, has_wi
 use Rattle.qrcode_penalty.specs.Penalty.{sum_below, count_if, is_run, same, block_penalty_at, finder_penalty_at, is_finder_like, is_light_from}
 use Rattle.qrcode_penalty.proofs.Finders.{pad, four, finder_at}
 use Rattle.qrcode_packed.specs.Rows.{dark_in, FitsWidth}
-use Rattle.qrcode_penalty.specs.Padding.{padded_row, is_lone_form, block_penalty_in}
+use Rattle.qrcode_penalty.specs.Padding.{padded_row, four_rows, is_lone_form, block_penalty_in}
 use Rattle.qrcode_penalty.proofs.Sums.{sum_same, sum_plus, weigh_places}
 use Rattle.qrcode_penalty.proofs.Lines.{without}
 
@@ -79,29 +79,86 @@ padded_at rows x (suc (suc (suc (suc k)))) =
     let e : suc (suc (suc (suc k))) - 4 ≡ k = omega arith in
     ap (λ t. is_set (if t then row rows (suc (suc (suc (suc k))) - 4) else 0) x) (le-leb 4 (suc (suc (suc (suc k)))) (omega arith)) ∙ ap (λ i. is_set (row rows i) x) e
 
-abbrev pub four_at : List ℕ → ℕ → ℕ
-four_at rows k = bit_or (bit_or (padded_row rows k) (padded_row rows (k + 1))) (bit_or (padded_row rows (k + 2)) (padded_row rows (k + 3)))
-
 padded_inside : (rows : List ℕ) (k i : ℕ) → 4 ≤ k → k - 4 ≡ i → padded_row rows k ≡ row rows i
 padded_inside rows k i h e = ap (λ t. if t then row rows (k - 4) else 0) (le-leb 4 k h) ∙ ap (row rows) e
 
--- four rows that stand in the square
-pub four_inside : (rows : List ℕ) (k : ℕ) → 4 ≤ k → four_at rows k ≡ bit_or (bit_or (row rows (k - 4)) (row rows (k - 3))) (bit_or (row rows (k - 2)) (row rows (k - 1)))
-four_inside rows k h =
-    ap₂ bit_or
-    (ap₂ bit_or (padded_inside rows k (k - 4) h refl) (padded_inside rows (k + 1) (k - 3) (omega arith) (omega arith)))
-    (ap₂ bit_or (padded_inside rows (k + 2) (k - 2) (omega arith) (omega arith)) (padded_inside rows (k + 3) (k - 1) (omega arith) (omega arith)))
+shared_first : (a b c d : Bool) → (((b || c) || d) || a) ≡ ((a || b) || (c || d))
+shared_first true true c d = refl
+shared_first true false true d = refl
+shared_first true false false true = refl
+shared_first true false false false = refl
+shared_first false true c d = refl
+shared_first false false true d = refl
+shared_first false false false true = refl
+shared_first false false false false = refl
+
+shared_last : (b c d e : Bool) → (((b || c) || d) || e) ≡ ((b || c) || (d || e))
+shared_last true c d e = refl
+shared_last false true d e = refl
+shared_last false false d e = refl
+
+-- the words of two_fours: three rows are common to both
+abbrev pub common_rows : List ℕ → ℕ → ℕ
+common_rows rows k = bit_or (bit_or (row rows (k - 3)) (row rows (k - 2))) (row rows (k - 1))
+
+four_set : (rows : List ℕ) (k x a b c d : ℕ) → padded_row rows k ≡ a → padded_row rows (k + 1) ≡ b → padded_row rows (k + 2) ≡ c → padded_row rows (k + 3) ≡ d →
+    is_set (four_rows rows k) x ≡ ((is_set a x || is_set b x) || (is_set c x || is_set d x))
+four_set rows k x a b c d p q r s =
+    has_or (bit_or (padded_row rows k) (padded_row rows (k + 1))) (bit_or (padded_row rows (k + 2)) (padded_row rows (k + 3))) x
+    ∙ ap₂ (λ (t u : Bool). t || u)
+    (has_or (padded_row rows k) (padded_row rows (k + 1)) x ∙ ap₂ (λ (m n : ℕ). is_set m x || is_set n x) p q)
+    (has_or (padded_row rows (k + 2)) (padded_row rows (k + 3)) x ∙ ap₂ (λ (m n : ℕ). is_set m x || is_set n x) r s)
+
+pub first_four : (rows : List ℕ) (k x : ℕ) → 4 ≤ k → is_set (bit_or (common_rows rows k) (row rows (k - 4))) x ≡ is_set (four_rows rows k) x
+first_four rows k x h =
+    let a = row rows (k - 4) in
+    let b = row rows (k - 3) in
+    let c = row rows (k - 2) in
+    let d = row rows (k - 1) in
+    let joined : is_set (bit_or (bit_or (bit_or b c) d) a) x ≡ ((is_set a x || is_set b x) || (is_set c x || is_set d x)) =
+    simp has_or (shared_first (is_set a x) (is_set b x) (is_set c x) (is_set d x)) in
+    joined ∙ sym (four_set rows k x a b c d (padded_inside rows k (k - 4) h refl) (padded_inside rows (k + 1) (k - 3) (omega arith) (omega arith)) (padded_inside rows (k + 2) (k - 2) (omega arith) (omega arith)) (padded_inside rows (k + 3) (k - 1) (omega arith) (omega arith)))
+
+pub next_four : (rows : List ℕ) (k x : ℕ) → 4 ≤ k → is_set (bit_or (common_rows rows k) (row rows k)) x ≡ is_set (four_rows rows (k + 1)) x
+next_four rows k x h =
+    let b = row rows (k - 3) in
+    let c = row rows (k - 2) in
+    let d = row rows (k - 1) in
+    let e = row rows k in
+    let joined : is_set (bit_or (bit_or (bit_or b c) d) e) x ≡ ((is_set b x || is_set c x) || (is_set d x || is_set e x)) =
+    simp has_or (shared_last (is_set b x) (is_set c x) (is_set d x) (is_set e x)) in
+    joined ∙ sym (four_set rows (k + 1) x b c d e (padded_inside rows (k + 1) (k - 3) (omega arith) (omega arith)) (padded_inside rows (k + 1 + 1) (k - 2) (omega arith) (omega arith)) (padded_inside rows (k + 1 + 2) (k - 1) (omega arith) (omega arith)) (padded_inside rows (k + 1 + 3) k (omega arith) (omega arith)))
 
 abbrev pub columns_alike : List ℕ → ℕ → ℕ
 columns_alike rows y = without (bit_and (bit_and (bit_and (row rows y) (row rows (y + 2))) (bit_and (row rows (y + 4)) (row rows (y + 6)))) (row rows (y + 3))) (bit_or (row rows (y + 1)) (row rows (y + 5)))
 
+abbrev pub dark_rows : List ℕ → ℕ → ℕ
+dark_rows rows y = bit_and (bit_and (bit_and (row rows y) (row rows (y + 2))) (bit_and (row rows (y + 4)) (row rows (y + 6)))) (row rows (y + 3))
+
+abbrev pub light_rows : List ℕ → ℕ → ℕ
+light_rows rows y = bit_or (row rows (y + 1)) (row rows (y + 5))
+
 abbrev pub columns_crowded : List ℕ → ℕ → ℕ
-columns_crowded rows y = bit_and (four_at rows y) (four_at rows (y + 11))
+columns_crowded rows y = bit_and (four_rows rows y) (four_rows rows (y + 11))
 
 abbrev pub column_forms : List ℕ → ℕ → ℕ
 column_forms rows y = without (columns_alike rows y) (columns_crowded rows y)
 
-four_places : (rows : List ℕ) (x k : ℕ) → is_set (four_at rows k) x ≡ four (pad (dark_in rows x)) k
+neither : (d l c : Bool) → (d && not (l || c)) ≡ ((d && not l) && not c)
+neither true true c = refl
+neither true false c = refl
+neither false l c = refl
+
+-- the word of lone_forms, by words that show where the rows around are dark
+pub form_by : (rows : List ℕ) (y x a b : ℕ) → is_set a x ≡ is_set (four_rows rows y) x → is_set b x ≡ is_set (four_rows rows (y + 11)) x →
+    is_set (without (dark_rows rows y) (bit_or (light_rows rows y) (bit_and a b))) x ≡ is_set (column_forms rows y) x
+form_by rows y x a b p q =
+    has_without (dark_rows rows y) (bit_or (light_rows rows y) (bit_and a b)) x
+    ∙ ap (λ t. is_set (dark_rows rows y) x && not t) (has_or (light_rows rows y) (bit_and a b) x ∙ ap (λ t. is_set (light_rows rows y) x || t) (has_and a b x ∙ ap₂ (λ (s t : Bool). s && t) p q))
+    ∙ neither (is_set (dark_rows rows y) x) (is_set (light_rows rows y) x) (is_set (four_rows rows y) x && is_set (four_rows rows (y + 11)) x)
+    ∙ sym (has_without (columns_alike rows y) (columns_crowded rows y) x ∙ ap₂ (λ (s t : Bool). s && not t) (has_without (dark_rows rows y) (light_rows rows y) x) (has_and (four_rows rows y) (four_rows rows (y + 11)) x))
+
+four_places : (rows : List ℕ) (x k : ℕ) → is_set (four_rows rows k) x ≡ four (pad (dark_in rows x)) k
 four_places rows x k =
     has_or (bit_or (padded_row rows k) (padded_row rows (k + 1))) (bit_or (padded_row rows (k + 2)) (padded_row rows (k + 3))) x
     ∙ ap₂ (λ (a b : Bool). a || b)

@@ -4,7 +4,7 @@ ghost use Rattle.std.specs.Prelude.{◌≡◌, ℕ, ◌+◌, ◌-◌, ◌*◌, �
 ghost use Rattle.qrcode_packed.specs.Rows.{FitsWidth, is_set, dark_in};
 ghost use Rattle.qrcode_penalty.specs.Penalty.{count_if, is_run, run_penalty_at, finder_penalty_at, block_penalty, sum_below};
 ghost use Rattle.qrcode_penalty.specs.Inside.{before, two, run_from, inside_row};
-ghost use Rattle.qrcode_penalty.specs.Padding.{padded_row, is_lone_form, block_penalty_in};
+ghost use Rattle.qrcode_penalty.specs.Padding.{padded_row, four_rows, is_lone_form, block_penalty_in};
 
 use qrcode_packed::row::PackedRow;
 use qrcode_packed::square::PackedSquare;
@@ -80,25 +80,29 @@ fn padded_row<R: PackedRow>(square: &PackedSquare<'_, R>, k: usize) -> R
     R::first(0)
 }
 
-// Where one of the four rows from the k-th on is dark, all of which stand in the square: counted from four light rows
-// before the first, they end before row k.
+// Where one of the four rows from the k-th on is dark, and where one of the four from the next on is, all of which stand
+// in the square: counted from four light rows before the first, three are common to both.
 #[inline(always)]
-fn four_inside<R: PackedRow>(square: &PackedSquare<'_, R>, k: usize) -> R
+fn two_fours<R: PackedRow>(square: &PackedSquare<'_, R>, k: usize) -> (R, R)
     requires at_least { 4 ≤ k }
-    requires at_most { k ≤ square.now.width }
-    ensures { let row = padded_row square.now.rows in R.bits result
-        ≡ bit_or (bit_or (row k) (row (k + 1))) (bit_or (row (k + 2)) (row (k + 3))) }
+    requires at_most { k < square.now.width }
+    ensures upper { (x : ℕ) → is_set (R.bits result.0) x
+        ≡ is_set (four_rows square.now.rows k) x }
+    ensures lower { (x : ℕ) → is_set (R.bits result.1) x
+        ≡ is_set (four_rows square.now.rows (k + 1)) x }
 {
-    let first = square.row(k - 4).or(square.row(k - 3));
-    first.or(square.row(k - 2).or(square.row(k - 1)))
+    let inner = square
+        .row(k - 3)
+        .or(square.row(k - 2))
+        .or(square.row(k - 1));
+    (inner.or(square.row(k - 4)), inner.or(square.row(k)))
 }
 
 // Where one of the four rows from the k-th on is dark, light rows being put around the square.
 #[inline(always)]
 fn four_rows<R: PackedRow>(square: &PackedSquare<'_, R>, k: usize) -> R
     requires { k < 2 ^ 32 }
-    ensures { let row = padded_row square.now.rows in R.bits result
-        ≡ bit_or (bit_or (row k) (row (k + 1))) (bit_or (row (k + 2)) (row (k + 3))) }
+    ensures { R.bits result ≡ four_rows square.now.rows k }
 {
     let first = padded_row(square, k).or(padded_row(square, k + 1));
     let second = padded_row(square, k + 2).or(padded_row(square, k + 3));
@@ -126,12 +130,14 @@ fn column_finders<R: PackedRow>(square: &PackedSquare<'_, R>, y: usize) -> u32
     40 * forms.without(crowded).count_ones()
 }
 
-// Where finder forms begin in row y that have four light rows before them or after them, when all these rows stand in
-// the square.
+// Where finder forms begin in row y that have four light rows before them or after them, by where those are dark.
 #[inline(always)]
-fn lone_forms<R: PackedRow>(square: &PackedSquare<'_, R>, y: usize) -> R
-    requires at_least { 4 ≤ y }
-    requires inside { y + 10 < square.now.width }
+fn lone_forms<R: PackedRow>(square: &PackedSquare<'_, R>, y: usize, before: R, after: R) -> R
+    requires inside { y + 6 < square.now.width }
+    requires before_at { (x : ℕ) → is_set (R.bits before) x
+        ≡ is_set (four_rows square.now.rows y) x }
+    requires after_at { (x : ℕ) → is_set (R.bits after) x
+        ≡ is_set (four_rows square.now.rows (y + 11)) x }
     ensures shown { (x : ℕ) → is_set (R.bits result) x
         ≡ is_lone_form square.now.width (dark_in square.now.rows x) y }
     ensures beside { (x : ℕ) → square.now.width ≤ x → is_set (R.bits result) x ≡ false }
@@ -141,8 +147,7 @@ fn lone_forms<R: PackedRow>(square: &PackedSquare<'_, R>, y: usize) -> R
     let ends = upper.and(square.row(y + 4).and(square.row(y + 6)));
     let dark = ends.and(square.row(y + 3));
     let light = square.row(y + 1).or(square.row(y + 5));
-    let crowded_rows = four_inside(square, y).and(four_inside(square, y + 11));
-    dark.without(light).without(crowded_rows)
+    dark.without(light.or(before.and(after)))
 }
 
 // What the finder forms that begin in row y and the next cost: of two in one column, one at most begins there, so that
@@ -158,8 +163,11 @@ fn two_column_finders<R: PackedRow>(square: &PackedSquare<'_, R>, y: usize) -> u
 {
     let width = square.width();
     if 4 <= y && y + 11 < width as usize {
-        let forms = lone_forms(square, y).or(lone_forms(square, y + 1));
-        return 40 * forms.count_ones();
+        let (before, next_before) = two_fours(square, y);
+        let (after, next_after) = two_fours(square, y + 11);
+        let forms = lone_forms(square, y, before, after);
+        let next_forms = lone_forms(square, y + 1, next_before, next_after);
+        return 40 * forms.or(next_forms).count_ones();
     }
     column_finders(square, y) + column_finders(square, y + 1)
 }
