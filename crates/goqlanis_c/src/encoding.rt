@@ -1,17 +1,11 @@
 //! Symbols of bytes.
 
-ghost use Rattle.std.specs.Prelude.{◌≡◌, ◌≢◌, ℕ, length, Some, IfOk, IfErr, IfSome, OnErr};
-ghost use Rattle.qrcode.specs.Acceptance.{IsChosenSymbol, IsLeastSymbol};
-ghost use Rattle.goqlanis_c.specs.Answers.{refusal_of, IsAutomaticCause, IsCauseIn};
-ghost use Rattle.goqlanis_c.specs.Names.{level_named, version_named};
-ghost use Rattle.goqlanis_c.specs.Outputs.{IsAutomaticSymbol, IsSymbolIn};
+ghost use Rattle.std.specs.Prelude.{◌≡◌, ◌≢◌, length, IfSome};
+ghost use Rattle.goqlanis_buffers.specs.Answers.{refusal_of, IsAutomaticCause, IsCauseIn};
+ghost use Rattle.goqlanis_buffers.specs.Outputs.{IsAutomaticSymbol, IsSymbolIn};
 
-use crate::answers::Refusal;
-use crate::names::{level_named, version_named};
-use crate::symbols::{Symbol, write_symbol};
-use qrcode::QrCode;
-use qrcode::bits::DATA_LIMIT;
-use qrcode::types::{QrError, Version};
+use goqlanis_buffers::encoding::{automatic, in_version};
+use goqlanis_buffers::symbols::{Symbol, write_symbol};
 use std::alloc::Global;
 
 /// The symbol of bytes at a level, of the least Normal version that holds them: its modules row by
@@ -45,23 +39,6 @@ pub extern "C" fn goq_encode(
     }
 }
 
-// The symbol of bytes at the level of a number.
-fn automatic(alloc: Global, bytes: &[u8], level: u32) -> Result<QrCode, Refusal>
-    ensures level { IfOk result (λ code. level_named level ≡ Some code.level) }
-    ensures symbol { IfOk result (λ code.
-        IsChosenSymbol code.version code.level bytes.now code.modules) }
-    ensures causes { (room : ℕ) → IfErr result (IsAutomaticCause level bytes.now room) }
-{
-    let Some(ec_level) = level_named(level) else {
-        return Err(Refusal::NoSuchLevel);
-    };
-    match QrCode::with_error_correction_level(alloc, bytes, ec_level) {
-        Ok(code) => Ok(code),
-        Err(QrError::OutOfMemory) => Err(Refusal::OutOfMemory),
-        Err(_) => Err(Refusal::NoRoom),
-    }
-}
-
 /// The symbol of bytes, of a version and level of these numbers: its modules row by row, 1 for a dark
 /// one, at the beginning of `modules`, and what it is beside them.
 ///
@@ -92,24 +69,4 @@ pub extern "C" fn goq_encode_in(
         Ok(()) => 0,
         Err(refusal) => refusal.number(),
     }
-}
-
-// The symbol of bytes, of a version and level of these numbers.
-fn in_version(alloc: Global, bytes: &[u8], version: u32, level: u32) -> Result<QrCode, Refusal>
-    ensures version { IfOk result (λ code. version_named version ≡ Some code.version) }
-    ensures level { IfOk result (λ code. level_named level ≡ Some code.level) }
-    ensures symbol { IfOk result (λ code.
-        IsLeastSymbol code.version code.level bytes.now code.modules) }
-    ensures causes { (room : ℕ) → IfErr result (IsCauseIn version level bytes.now room) }
-{
-    let Some(ec_level) = level_named(level) else {
-        return Err(Refusal::NoSuchLevel);
-    };
-    let Some(version) = version_named(version) else {
-        return Err(Refusal::NoSuchVersion);
-    };
-    if bytes.len() > DATA_LIMIT {
-        return Err(Refusal::TooLong);
-    }
-    Ok(QrCode::with_version(alloc, bytes, version, ec_level)?)
 }

@@ -1,67 +1,16 @@
 //! Symbols of segments whose modes the caller names, and of headers.
 
-ghost use Rattle.std.specs.Prelude.{◌≡◌, ◌≢◌, ◌⊎◌, ◌++◌, ◌≤◌, ℕ, pos, [], length, Some, None, IfOk, IfErr, IfSome, OnOk, IsTrue};
-ghost use Rattle.qrcode_types.specs.Versions.{is_valid, has_level, capacity};
+ghost use Rattle.std.specs.Prelude.{◌≡◌, ◌≢◌, length, Some, IfSome};
 ghost use Rattle.qrcode_types.specs.declared.types.EcLevel.{EcLevel};
 ghost use Rattle.qrcode_types.specs.declared.types.Version.{Version};
-ghost use Rattle.qrcode_types.specs.declared.types.Version.TheVariants.{Normal};
-ghost use Rattle.qrcode_bits.specs.Pushes.{PushesPiece};
-ghost use Rattle.goqlanis_c.specs.Answers.{refusal_of, IsSegmentsCause, IsLeastCause};
-ghost use Rattle.goqlanis_c.specs.Names.{level_named, version_named};
-ghost use Rattle.goqlanis_c.specs.Outputs.{IsSegmentsSymbol};
-ghost use Rattle.goqlanis_c.specs.Segments.{kind_named, segment_bits, segment_refusal, written_segments, AreTaken, AreUnheld, IsFirstRefused, IsLeastHeld, IsSymbolOfSegments};
-ghost use Rattle.goqlanis_c.specs.declared.answers.Refusal.TheVariants.{OutOfMemory};
+ghost use Rattle.goqlanis_buffers.specs.Answers.{refusal_of, IsSegmentsCause, IsLeastCause};
+ghost use Rattle.goqlanis_buffers.specs.Names.{level_named, version_named};
+ghost use Rattle.goqlanis_buffers.specs.Outputs.{IsSegmentsSymbol};
+ghost use Rattle.goqlanis_buffers.specs.Segments.{IsLeastHeld};
 
-use crate::answers::Refusal;
-use crate::names::{level_named, version_named};
-use crate::symbols::{Symbol, write_symbol};
-use qrcode::QrCode;
-use qrcode::bits::Bits;
-use qrcode::types::{EcLevel, Mode, QrResult, Version};
-use qrcode_types::characters::can_write;
+use goqlanis_buffers::segments::{Segment, least_version, of_segments};
+use goqlanis_buffers::symbols::{Symbol, write_symbol};
 use std::alloc::Global;
-
-/// A segment: bytes in a mode, or a header for what stands behind it.
-#[repr(C)]
-#[derive(Clone, Copy)]
-pub struct Segment<'a> {
-    /// What it is, by the number of a `Kind`.
-    pub kind: u32,
-    /// The number of a character set or of an application. It means nothing in other kinds.
-    pub number: u32,
-    /// The bytes. They mean nothing in headers.
-    pub bytes: &'a [u8],
-}
-
-/// What a segment is.
-#[derive(Clone, Copy, Debug)]
-pub enum Kind {
-    /// Bytes in a mode.
-    Data(Mode),
-    /// The number of a character set, below 1,000,000 (ECI).
-    CharacterSet,
-    /// FNC1 in the first position.
-    FirstPosition,
-    /// FNC1 in the second position, with the indicator of an application, below 256.
-    SecondPosition,
-}
-
-// The kind of a number: 0 for digits, 1 for the alphabet of 45 characters, 2 for bytes, 3 for pairs of
-// Shift JIS, 4 for a character set, 5 and 6 for FNC1 in the first and in the second position.
-fn kind_named(number: u32) -> Option<Kind>
-    ensures value { result ≡ kind_named number }
-{
-    match number {
-        0 => Some(Kind::Data(Mode::Numeric)),
-        1 => Some(Kind::Data(Mode::Alphanumeric)),
-        2 => Some(Kind::Data(Mode::Byte)),
-        3 => Some(Kind::Data(Mode::Kanji)),
-        4 => Some(Kind::CharacterSet),
-        5 => Some(Kind::FirstPosition),
-        6 => Some(Kind::SecondPosition),
-        _ => None,
-    }
-}
 
 /// The symbol of segments, one behind the other, of a version and level of these numbers: its modules
 /// row by row, 1 for a dark one, at the beginning of `modules`, and what it is beside them.
@@ -96,32 +45,6 @@ pub extern "C" fn goq_encode_segments(
     }
 }
 
-// The symbol of segments, of a version and level of these numbers.
-fn of_segments(
-    alloc: Global,
-    segments: &[Segment<'_>],
-    version: u32,
-    level: u32,
-) -> Result<QrCode, Refusal>
-    ensures version { IfOk result (λ code. version_named version ≡ Some code.version) }
-    ensures level { IfOk result (λ code. level_named level ≡ Some code.level) }
-    ensures symbol { IfOk result (λ code.
-        IsSymbolOfSegments code.version code.level segments.now code.modules) }
-    ensures causes { (room : ℕ) → IfErr result (IsSegmentsCause version level segments.now room) }
-{
-    let Some(ec_level) = level_named(level) else {
-        return Err(Refusal::NoSuchLevel);
-    };
-    let Some(version) = version_named(version) else {
-        return Err(Refusal::NoSuchVersion);
-    };
-    let mut bits = Bits::new(alloc, version);
-    bits.max_len(ec_level)?;
-    push_all(&mut bits, segments)?;
-    bits.push_terminator(ec_level)?;
-    Ok(QrCode::with_bits(alloc, bits, ec_level)?)
-}
-
 /// The number of the least Normal version that holds segments, one behind the other, at a level, to
 /// `version`.
 ///
@@ -145,107 +68,5 @@ pub extern "C" fn goq_least_version_of_segments(
             0
         }
         Err(refusal) => refusal.number(),
-    }
-}
-
-// The number of the least Normal version that holds segments at the level of a number.
-fn least_version(alloc: Global, segments: &[Segment<'_>], level: u32) -> Result<u32, Refusal>
-    ensures least { IfOk result (λ number. (l : EcLevel) × ((level_named level ≡ Some l)
-        × IsLeastHeld l segments.now (Normal (pos number)))) }
-    ensures at_least { IfOk result (λ number. 1 ≤ number) }
-    ensures at_most { IfOk result (λ number. number ≤ 40) }
-    ensures causes { IfErr result (IsLeastCause level segments.now) }
-{
-    let Some(ec_level) = level_named(level) else {
-        return Err(Refusal::NoSuchLevel);
-    };
-    for number in 1..41 {
-        match held(alloc, segments, Version::Normal(number as i16), ec_level) {
-            Ok(_) => return Ok(number),
-            Err(refusal) if refusal != Refusal::NoRoom => return Err(refusal),
-            Err(_) => {}
-        }
-    }
-    Err(Refusal::NoRoom)
-}
-
-// The bits of segments, where a version holds them at a level.
-fn held(
-    alloc: Global,
-    segments: &[Segment<'_>],
-    version: Version,
-    ec_level: EcLevel,
-) -> Result<Bits, Refusal>
-    requires valid { IsTrue (is_valid version) }
-    ensures exists { OnOk result (IsTrue (has_level version ec_level)) }
-    ensures taken { OnOk result (AreTaken version segments.now (length segments.now)) }
-    ensures room { OnOk result
-        (length (written_segments version segments.now) ≤ capacity version ec_level) }
-    ensures causes { IfErr result (AreUnheld version ec_level segments.now) }
-{
-    let mut bits = Bits::new(alloc, version);
-    let room = bits.max_len(ec_level)?;
-    push_all(&mut bits, segments)?;
-    if bits.len() > room {
-        return Err(Refusal::NoRoom);
-    }
-    Ok(bits)
-}
-
-// Appends segments one behind the other to an empty list.
-fn push_all(bits: &mut Bits, segments: &[Segment<'_>]) -> Result<(), Refusal>
-    requires empty { bits.old.bits ≡ [] }
-    ensures version { bits.new.version ≡ bits.old.version }
-    ensures written { OnOk result
-        (bits.new.bits ≡ written_segments bits.old.version segments.now) }
-    ensures taken { OnOk result (AreTaken bits.old.version segments.now (length segments.now)) }
-    ensures refused { IfErr result (λ refusal. (refusal ≡ OutOfMemory)
-        ⊎ IsFirstRefused bits.old.version segments.now refusal) }
-{
-    for i in 0..segments.len() {
-        push(bits, &segments[i])?;
-    }
-    Ok(())
-}
-
-// Appends a segment.
-fn push(bits: &mut Bits, segment: &Segment<'_>) -> Result<(), Refusal>
-    ensures version { bits.new.version ≡ bits.old.version }
-    ensures appends { OnOk result (bits.new.bits
-        ≡ bits.old.bits ++ segment_bits bits.old.version segment.now) }
-    ensures taken { OnOk result
-        (segment_refusal bits.old.version (length bits.old.bits) segment.now ≡ None) }
-    ensures refused { IfErr result (λ refusal. (refusal ≡ OutOfMemory)
-        ⊎ (segment_refusal bits.old.version (length bits.old.bits) segment.now ≡ Some refusal)) }
-{
-    match kind_named(segment.kind) {
-        None => return Err(Refusal::NoSuchKind),
-        Some(Kind::Data(mode)) => {
-            if !can_write(mode, segment.bytes) {
-                return Err(Refusal::NotInMode);
-            }
-            push_data(bits, mode, segment.bytes)?;
-        }
-        Some(Kind::CharacterSet) => bits.push_eci_designator(segment.number)?,
-        Some(Kind::FirstPosition) => bits.push_fnc1_first_position()?,
-        Some(Kind::SecondPosition) => {
-            if segment.number > 255 {
-                return Err(Refusal::NoSuchNumber);
-            }
-            bits.push_fnc1_second_position(segment.number as u8)?;
-        }
-    }
-    Ok(())
-}
-
-// Appends bytes in a mode.
-fn push_data(bits: &mut Bits, mode: Mode, bytes: &[u8]) -> QrResult<()>
-    ensures { PushesPiece mode bytes.now bits.old bits.new result }
-{
-    match mode {
-        Mode::Numeric => bits.push_numeric_data(bytes),
-        Mode::Alphanumeric => bits.push_alphanumeric_data(bytes),
-        Mode::Byte => bits.push_byte_data(bytes),
-        Mode::Kanji => bits.push_kanji_data(bytes),
     }
 }

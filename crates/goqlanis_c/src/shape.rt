@@ -6,11 +6,11 @@ ghost use Rattle.qrcode_places.specs.Patterns.{is_functional_place};
 ghost use Rattle.qrcode_bits.specs.Choice.{IsLeastHolding};
 ghost use Rattle.qrcode_types.specs.declared.types.EcLevel.{EcLevel};
 ghost use Rattle.qrcode_types.specs.declared.types.Version.{Version};
-ghost use Rattle.goqlanis_c.specs.Answers.{refusal_of, IsAutomaticCause};
-ghost use Rattle.goqlanis_c.specs.Names.{level_named, version_named};
+ghost use Rattle.goqlanis_buffers.specs.Answers.{refusal_of, IsAutomaticCause};
+ghost use Rattle.goqlanis_buffers.specs.Names.{level_named, version_named};
 
-use crate::answers::Refusal;
-use crate::names::{level_named, version_named, version_number};
+use goqlanis_buffers::answers::Refusal;
+use goqlanis_buffers::names::{level_named, version_named, version_number};
 use qrcode::bits::encode_auto;
 use qrcode::canvas;
 use qrcode::types::QrError;

@@ -1,17 +1,13 @@
 //! Symbols of texts.
 
-ghost use Rattle.std.specs.Prelude.{◌≡◌, ◌≢◌, ℕ, length, Some, IfOk, IfErr, IfSome};
+ghost use Rattle.std.specs.Prelude.{◌≡◌, ◌≢◌, length, IfSome};
 ghost use Rattle.qrcode_bits.specs.declared.bits.manner.Manner.TheVariants.{Text, MarkedText};
-ghost use Rattle.goqlanis_c.specs.Answers.{refusal_of, IsChosenAs, IsTextCause};
-ghost use Rattle.goqlanis_c.specs.Names.{level_named};
-ghost use Rattle.goqlanis_c.specs.Outputs.{IsTextSymbol};
+ghost use Rattle.goqlanis_buffers.specs.Answers.{refusal_of, IsTextCause};
+ghost use Rattle.goqlanis_buffers.specs.Outputs.{IsTextSymbol};
 
-use crate::answers::Refusal;
-use crate::names::level_named;
-use crate::symbols::{Symbol, write_symbol};
-use qrcode::QrCode;
+use goqlanis_buffers::symbols::{Symbol, write_symbol};
+use goqlanis_buffers::texts::symbol_of;
 use qrcode::bits::Manner;
-use qrcode::types::{QrError, Version};
 use std::alloc::Global;
 
 /// The symbol of a text in UTF-8 at a level, of the least Normal version that holds it: its modules as
@@ -68,25 +64,5 @@ pub extern "C" fn goq_encode_marked_text(
     match write_symbol(code, modules, symbol) {
         Ok(()) => 0,
         Err(refusal) => refusal.number(),
-    }
-}
-
-// The symbol of a text in a manner, at the level of a number.
-fn symbol_of(alloc: Global, text: &[u8], manner: Manner, level: u32) -> Result<QrCode, Refusal>
-    ensures level { IfOk result (λ code. level_named level ≡ Some code.level) }
-    ensures symbol { IfOk result (λ code.
-        IsChosenAs manner code.version code.level text.now code.modules) }
-    ensures causes { (room : ℕ) → IfErr result (IsTextCause manner level text.now room) }
-{
-    let Some(ec_level) = level_named(level) else {
-        return Err(Refusal::NoSuchLevel);
-    };
-    if str::from_utf8(text).is_err() {
-        return Err(Refusal::NotText);
-    }
-    match QrCode::at_least(alloc, text, manner, Version::Normal(1), ec_level) {
-        Ok(code) => Ok(code),
-        Err(QrError::OutOfMemory) => Err(Refusal::OutOfMemory),
-        Err(_) => Err(Refusal::NoRoom),
     }
 }

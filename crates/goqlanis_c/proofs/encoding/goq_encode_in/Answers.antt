@@ -1,6 +1,6 @@
 use Rattle.std.proofs.Common.{length}
-use Rattle.goqlanis_c.specs.Answers.{IsCauseIn}
-use Rattle.goqlanis_c.proofs.Refused.{told}
+use Rattle.goqlanis_buffers.specs.Answers.{IsCauseIn}
+use Rattle.goqlanis_buffers.proofs.Refused.{told}
 use Rattle.goqlanis_c.proofs.encoding.goq_encode_in.Goals as goal
 
 pub returns-in-Err-clause-causes : goal.returns-in-Err-clause-causes

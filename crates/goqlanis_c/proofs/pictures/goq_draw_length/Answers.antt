@@ -1,5 +1,5 @@
-use Rattle.goqlanis_c.specs.Answers.{IsDrawingCause}
-use Rattle.goqlanis_c.proofs.Refused.{told}
+use Rattle.goqlanis_buffers.specs.Answers.{IsDrawingCause}
+use Rattle.goqlanis_buffers.proofs.Refused.{told}
 use Rattle.goqlanis_c.proofs.pictures.goq_draw_length.Goals as goal
 
 pub returns-in-Err-clause-causes : goal.returns-in-Err-clause-causes

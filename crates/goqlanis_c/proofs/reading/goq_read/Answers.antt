@@ -1,6 +1,6 @@
 use Rattle.std.proofs.Common.{length}
-use Rattle.goqlanis_c.specs.Answers.{IsReadingCause}
-use Rattle.goqlanis_c.proofs.Refused.{told}
+use Rattle.goqlanis_buffers.specs.Answers.{IsReadingCause}
+use Rattle.goqlanis_buffers.proofs.Refused.{told}
 use Rattle.goqlanis_c.proofs.reading.goq_read.Goals as goal
 
 pub returns-in-Err-clause-causes : goal.returns-in-Err-clause-causes

@@ -1,7 +1,7 @@
 use Rattle.std.proofs.Common.{length}
 use Rattle.qrcode_bits.specs.declared.bits.manner.Manner.TheVariants.{MarkedText}
-use Rattle.goqlanis_c.specs.Answers.{IsTextCause}
-use Rattle.goqlanis_c.proofs.Refused.{told}
+use Rattle.goqlanis_buffers.specs.Answers.{IsTextCause}
+use Rattle.goqlanis_buffers.proofs.Refused.{told}
 use Rattle.goqlanis_c.proofs.texts.goq_encode_marked_text.Goals as goal
 
 pub returns-in-Err-clause-causes : goal.returns-in-Err-clause-causes

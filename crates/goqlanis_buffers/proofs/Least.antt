@@ -1,0 +1,94 @@
+-- The least version of segments.
+use Rattle.std.proofs.Common.{◌≡◌, ℕ, ◌+◌, ◌<◌, ◌≤◌, List, true, false, Some, IsTrue, refl, sym, subst, ◌∙◌, inl, inr, true≢false, arith, pos}
+use denote.Enum.Bare.{sameb, differs_true, differs_false}
+use Rattle.std.specs.Prelude.{◌≢◌, not}
+use Rattle.goqlanis_buffers.specs.contracts.answers.Refusal.{the_type}
+use Rattle.std.proofs.lemmas.Bool.{cases_lt}
+use Rattle.std.proofs.lemmas.Option.{slice_get_within}
+use Rattle.qrcode_types.specs.Versions.{has_level}
+use Rattle.qrcode_types.specs.declared.types.EcLevel.{EcLevel}
+use Rattle.qrcode_types.specs.declared.types.Version.{Version}
+use Rattle.qrcode_types.specs.declared.types.Version.TheVariants.{Normal}
+use Rattle.qrcode_bits.proofs.Bands.{normal_level, normal_number}
+use Rattle.goqlanis_buffers.specs.Answers.{IsLeastCause}
+use Rattle.goqlanis_buffers.specs.Names.{level_named}
+use Rattle.goqlanis_buffers.specs.Segments.{AreHeld, AreUnheld, HasNoRoom, IsLeastHeld}
+use Rattle.goqlanis_buffers.specs.declared.answers.Refusal.{Refusal}
+use Rattle.goqlanis_buffers.specs.declared.answers.Refusal.TheVariants.{NoRoom, OutOfMemory}
+use Rattle.goqlanis_buffers.specs.declared.segments.Segment.{Segment}
+
+-- what there is no room for is not held
+not_held : (v : Version) (l : EcLevel) (segments : List Segment) → HasNoRoom v l segments → ¬ AreHeld v l segments
+not_held v l segments why held = elim why [
+  | inl first ↦
+      let none = held.taken first.place (slice_get_within segments first.place first.segment first.at) first.segment first.at in
+      let same = sym none ∙ first.refused in
+      absurd cc
+  | inr c ↦ absurd (omega (arith, c.1, held.room))
+]
+
+-- a refusal by what the test for want of room says of it
+pub not_room : (r : Refusal) → true ≡ not (sameb the_type r NoRoom) → r ≢ NoRoom
+not_room r found = differs_true the_type r NoRoom (sym found)
+
+is_room : (r : Refusal) → false ≡ not (sameb the_type r NoRoom) → r ≡ NoRoom
+is_room r found = differs_false the_type tt r NoRoom (sym found)
+
+-- segments that are refused for want of room in a version that has the level
+no_room : (v : Version) (l : EcLevel) (segments : List Segment) → IsTrue (has_level v l) → AreUnheld v l segments NoRoom → HasNoRoom v l segments
+no_room v l segments exists why = elim why [
+  | inl memory ↦ let same : NoRoom ≡ OutOfMemory = memory in absurd cc
+  | inr c ↦ elim c [
+    | inl first ↦ inl first
+    | inr c ↦ elim c [
+      | inl c ↦ absurd (true≢false (sym exists ∙ c.1))
+      | inr c ↦ inr c.1
+    ]
+  ]
+]
+
+-- one version more has no room for the segments
+pub no_room_more : (number : ℕ) (v : Version) (l : EcLevel) (segments : List Segment) (r : Refusal) → v ≡ Normal (pos number) → 1 ≤ number → number ≤ 40
+    → false ≡ not (sameb the_type r NoRoom) → AreUnheld v l segments r
+    → ((n : ℕ) → 1 ≤ n → n < number → HasNoRoom (Normal (pos n)) l segments)
+    → (n : ℕ) → 1 ≤ n → n < number + 1 → HasNoRoom (Normal (pos n)) l segments
+no_room_more number v l segments r named some most found why lesser n first small = elim (cases_lt n number) [
+  | inl less ↦ lesser n first less
+  | inr more ↦
+      let equal : number ≡ n = omega (arith, more, small) in
+      let unheld = subst (λ r. AreUnheld (Normal (pos number)) l segments r) (is_room r found) (subst (λ w. AreUnheld w l segments r) named why) in
+      subst (λ k. HasNoRoom (Normal (pos k)) l segments) equal (no_room (Normal (pos number)) l segments (normal_level number l some most) unheld)
+]
+
+-- a version that holds segments, and none less that has room
+pub least_held : (number : ℕ) (v : Version) (l : EcLevel) (segments : List Segment) → v ≡ Normal (pos number) → AreHeld v l segments
+    → ((n : ℕ) → 1 ≤ n → n < number → HasNoRoom (Normal (pos n)) l segments) → IsLeastHeld l segments (Normal (pos number))
+least_held number v l segments named held lesser = record {
+  number = number;
+  is = refl;
+  held = subst (λ w. AreHeld w l segments) named held;
+  least = λ n other. elim (cases_lt n number) [
+    | inl less ↦ absurd (not_held (Normal (pos n)) l segments (lesser n (normal_number n l other.exists).0 less) other)
+    | inr more ↦ more
+  ];
+}
+
+-- a refusal that no version mends
+pub lasting : (number level : ℕ) (v : Version) (l : EcLevel) (segments : List Segment) (r : Refusal) → v ≡ Normal (pos number) → 1 ≤ number → number ≤ 40
+    → level_named level ≡ Some l → r ≢ NoRoom → AreUnheld v l segments r
+    → ((n : ℕ) → 1 ≤ n → n < number → HasNoRoom (Normal (pos n)) l segments) → IsLeastCause level segments r
+lasting number level v l segments r named some most is other why lesser = elim (subst (λ w. AreUnheld w l segments r) named why) [
+  | inl memory ↦ inl memory
+  | inr c ↦ elim c [
+    | inl first ↦ inr (inr (l, (is, inl (other, record { number = number; some = some; most = most; before = lesser; refused = first }))))
+    | inr c ↦ elim c [
+      | inl c ↦ absurd (true≢false (sym (normal_level number l some most) ∙ c.1))
+      | inr c ↦ absurd (other c.0)
+    ]
+  ]
+]
+
+-- no version has room
+pub in_none : (level number : ℕ) (l : EcLevel) (segments : List Segment) → level_named level ≡ Some l → 40 < number
+    → ((n : ℕ) → 1 ≤ n → n < number → HasNoRoom (Normal (pos n)) l segments) → IsLeastCause level segments NoRoom
+in_none level number l segments is above lesser = inr (inr (l, (is, inr (refl, λ n some most. lesser n some (omega (arith, most, above))))))

@@ -1,0 +1,141 @@
+-- What the calls for C answer: 0, or the number of a refusal; and the cause of each refusal.
+use Rattle.std.specs.Prelude.{◌≡◌, ◌≢◌, ◌⊎◌, ◌+◌, ◌*◌, ◌^◌, ◌<◌, ◌≤◌, ◌-◌, ◌==◌, ⊤, ℕ, pos, List, [], ◌∷◌, length, false, IsUtf8, Option, Some, None, slice_get, if◌then◌else◌}
+use Rattle.qrcode_types.specs.Versions.{has_level}
+use Rattle.qrcode_types.specs.declared.types.EcLevel.{EcLevel}
+use Rattle.qrcode_types.specs.declared.types.Version.{Version}
+use Rattle.qrcode_types.specs.declared.types.Version.TheVariants.{Normal}
+use Rattle.qrcode_types.specs.declared.types.Color.{Color}
+use Rattle.qrcode_bits.specs.Cuts.{IsCut}
+use Rattle.qrcode_bits.specs.Choice.{Holds}
+use Rattle.qrcode_bits.specs.Manners.{rank, HoldsAs, IsLeastFrom}
+use Rattle.qrcode_bits.specs.Refusals.{data_limit}
+use Rattle.qrcode_bits.specs.declared.bits.manner.Manner.{Manner}
+use Rattle.qrcode_bits.specs.declared.optimize.Segment.{Segment}
+use Rattle.qrcode.specs.Acceptance.{IsChosenSymbol, IsLeastSymbol}
+use Rattle.qrcode.specs.Reading.{ReadsOnly}
+use Rattle.qrcode.specs.Texts.{IsSymbolAs}
+use Rattle.qrcode_reader.specs.Readings.{HasNoVersion, HasNoFormat, HasDamagedBlock, SpellsNothing}
+use Rattle.goqlanis_buffers.specs.Drawings.{format_named, colors_of, IsDrawn}
+use Rattle.goqlanis_buffers.specs.declared.drawing.Format.{Format}
+use Rattle.goqlanis_buffers.specs.declared.drawing.Format.TheVariants.{Png}
+use Rattle.goqlanis_buffers.specs.Names.{level_named, version_named}
+use Rattle.goqlanis_buffers.specs.Segments.{HasNoRoom, HaveNoRoom, IsFirstRefused, IsSymbolOfSegments}
+use Rattle.goqlanis_buffers.specs.declared.segments.Segment as by_hand
+use Rattle.goqlanis_buffers.specs.declared.answers.Refusal.{Refusal}
+use Rattle.goqlanis_buffers.specs.declared.answers.Refusal.TheVariants.{NoSuchLevel, NoSuchVersion, LevelNotInVersion, TooLong, NoMode, NoRoom, SmallBuffer, OutOfMemory, NoSuchFormat, NotSquare, NoSuchSize, NotText, NoSuchKind, NotInMode, NoSuchNumber, NoSuchSide, NoFormat, Damaged, NotSpelled}
+
+-- the refusals in the order of their numbers, from 1 on
+abbrev pub refusals : List Refusal
+refusals =
+    NoSuchLevel ∷ NoSuchVersion ∷ LevelNotInVersion ∷ TooLong ∷ NoMode ∷ NoRoom ∷ SmallBuffer ∷ OutOfMemory ∷
+    NoSuchFormat ∷ NotSquare ∷ NoSuchSize ∷ NotText ∷ NoSuchKind ∷ NotInMode ∷ NoSuchNumber ∷
+    NoSuchSide ∷ NoFormat ∷ Damaged ∷ NotSpelled ∷ []
+
+-- the refusal of an answer, where it is one
+abbrev pub refusal_of : ℕ → Option Refusal
+refusal_of n = if n == 0 then None else slice_get refusals (n - 1)
+
+-- the symbol of data in a manner, of the least Normal version that holds it
+abbrev pub IsChosenAs : Manner → Version → EcLevel → List ℕ → List Color → Type 0
+IsChosenAs m v l bytes s = IsLeastFrom m (Normal (pos 1)) l bytes v × IsSymbolAs m v l bytes s
+
+-- why bytes are refused at a level, where the least Normal version is chosen and the buffer has so much room
+abbrev pub IsAutomaticCause : ℕ → List ℕ → ℕ → Refusal → Type 0
+IsAutomaticCause level bytes room NoSuchLevel = level_named level ≡ None
+IsAutomaticCause level bytes room NoRoom = (l : EcLevel) × ((level_named level ≡ Some l) × ((n : ℕ) → ¬ Holds (Normal (pos n)) l bytes))
+IsAutomaticCause level bytes room SmallBuffer =
+    (l : EcLevel) × ((v : Version) × ((s : List Color) × ((level_named level ≡ Some l) × (IsChosenSymbol v l bytes s × (room < length s)))))
+IsAutomaticCause level bytes room OutOfMemory = ⊤
+IsAutomaticCause level bytes room refusal = ⊥
+
+-- why bytes are refused at a version and level, where the buffer has so much room.
+abbrev pub IsCauseIn : ℕ → ℕ → List ℕ → ℕ → Refusal → Type 0
+IsCauseIn version level bytes room NoSuchLevel = level_named level ≡ None
+IsCauseIn version level bytes room NoSuchVersion = version_named version ≡ None
+IsCauseIn version level bytes room LevelNotInVersion =
+    (l : EcLevel) × ((v : Version) × ((level_named level ≡ Some l) × ((version_named version ≡ Some v) × (has_level v l ≡ false))))
+IsCauseIn version level bytes room TooLong = data_limit < length bytes
+IsCauseIn version level bytes room NoMode =
+    (v : Version) × ((version_named version ≡ Some v) × ((segments : List Segment) → ¬ IsCut v bytes segments))
+IsCauseIn version level bytes room NoRoom =
+    (l : EcLevel) × ((v : Version) × ((level_named level ≡ Some l) × ((version_named version ≡ Some v) × (¬ Holds v l bytes))))
+IsCauseIn version level bytes room SmallBuffer =
+    (l : EcLevel) × ((v : Version) × ((s : List Color)
+    × ((level_named level ≡ Some l) × ((version_named version ≡ Some v) × (IsLeastSymbol v l bytes s × (room < length s))))))
+IsCauseIn version level bytes room OutOfMemory = ⊤
+IsCauseIn version level bytes room refusal = ⊥
+
+-- one of the segments is refused in a version, the first that can be, and this is why
+abbrev pub IsSegmentCause : ℕ → List by_hand.Segment → Refusal → Type 0
+IsSegmentCause version segments refusal = (v : Version) × ((version_named version ≡ Some v) × IsFirstRefused v segments refusal)
+
+-- why all together are refused at a version and level, where the buffer has so much room
+abbrev pub IsJointCause : ℕ → ℕ → List by_hand.Segment → ℕ → Refusal → Type 0
+IsJointCause version level segments room NoSuchLevel = level_named level ≡ None
+IsJointCause version level segments room NoSuchVersion = version_named version ≡ None
+IsJointCause version level segments room LevelNotInVersion =
+    (l : EcLevel) × ((v : Version) × ((level_named level ≡ Some l) × ((version_named version ≡ Some v) × (has_level v l ≡ false))))
+IsJointCause version level segments room NoRoom =
+    (l : EcLevel) × ((v : Version) × ((level_named level ≡ Some l) × ((version_named version ≡ Some v) × HaveNoRoom v l segments)))
+IsJointCause version level segments room SmallBuffer =
+    (l : EcLevel) × ((v : Version) × ((s : List Color)
+    × ((level_named level ≡ Some l) × ((version_named version ≡ Some v) × (IsSymbolOfSegments v l segments s × (room < length s))))))
+IsJointCause version level segments room OutOfMemory = ⊤
+IsJointCause version level segments room refusal = ⊥
+
+-- why segments are refused at a version and level, where the buffer has so much room
+abbrev pub IsSegmentsCause : ℕ → ℕ → List by_hand.Segment → ℕ → Refusal → Type 0
+IsSegmentsCause version level segments room refusal = IsSegmentCause version segments refusal ⊎ IsJointCause version level segments room refusal
+
+-- a refusal of one of the segments in the first Normal version that has room for those before it
+pub record IsLasting (l : EcLevel) (segments : List by_hand.Segment) (refusal : Refusal) : Type 0 where
+  pub number : ℕ
+  pub some : 1 ≤ number
+  pub most : number ≤ 40
+  pub before : (n : ℕ) → 1 ≤ n → n < number → HasNoRoom (Normal (pos n)) l segments
+  pub refused : IsFirstRefused (Normal (pos number)) segments refusal
+
+-- why no least version of segments is told at a level: want of memory; no such level; one of the segments is refused, whose cause no version mends; or no
+-- Normal version has room for them
+abbrev pub IsLeastCause : ℕ → List by_hand.Segment → Refusal → Type 0
+IsLeastCause level segments refusal =
+    (refusal ≡ OutOfMemory)
+    ⊎ (((refusal ≡ NoSuchLevel) × (level_named level ≡ None))
+    ⊎ ((l : EcLevel) × ((level_named level ≡ Some l) × (((refusal ≢ NoRoom) × IsLasting l segments refusal)
+    ⊎ ((refusal ≡ NoRoom) × ((n : ℕ) → 1 ≤ n → n ≤ 40 → HasNoRoom (Normal (pos n)) l segments))))))
+
+-- why a text is refused at a level, where the least Normal version is chosen and the buffer has so much room
+abbrev pub IsTextCause : Manner → ℕ → List ℕ → ℕ → Refusal → Type 0
+IsTextCause m level bytes room NoSuchLevel = level_named level ≡ None
+IsTextCause m level bytes room NotText = ¬ IsUtf8 bytes
+IsTextCause m level bytes room NoRoom =
+    (l : EcLevel) × ((level_named level ≡ Some l) × ((v : Version) → rank (Normal (pos 1)) ≤ rank v → ¬ HoldsAs m v l bytes))
+IsTextCause m level bytes room SmallBuffer =
+    (l : EcLevel) × ((v : Version) × ((s : List Color) × ((level_named level ≡ Some l) × (IsChosenAs m v l bytes s × (room < length s)))))
+IsTextCause m level bytes room OutOfMemory = ⊤
+IsTextCause m level bytes room refusal = ⊥
+
+-- a PNG file has no side of so many pixels
+abbrev pub IsNoPngSide : ℕ → Type 0
+IsNoPngSide side = (side ≡ 0) ⊎ (2 ^ 16 ≤ side)
+
+-- why modules of a width are not drawn in a format, with a quiet zone and a scale, where the buffer has so much room
+abbrev pub IsDrawingCause : List ℕ → ℕ → ℕ → ℕ → ℕ → ℕ → Refusal → Type 0
+IsDrawingCause modules width zone scale format room NoSuchFormat = format_named format ≡ None
+IsDrawingCause modules width zone scale format room NotSquare = length modules ≢ width * width
+IsDrawingCause modules width zone scale format room NoSuchSize =
+    (scale ≡ 0) ⊎ ((2 ^ 16 ≤ scale) ⊎ ((2 ^ 16 ≤ width + 2 * zone) ⊎ ((format_named format ≡ Some Png) × IsNoPngSide ((width + 2 * zone) * scale))))
+IsDrawingCause modules width zone scale format room SmallBuffer =
+    (f : Format) × ((bytes : List ℕ) × ((format_named format ≡ Some f) × (IsDrawn f modules width zone scale bytes × (room < length bytes))))
+IsDrawingCause modules width zone scale format room OutOfMemory = ⊤
+IsDrawingCause modules width zone scale format room refusal = ⊥
+
+-- why modules are not read into a buffer of so much room
+abbrev pub IsReadingCause : List ℕ → ℕ → Refusal → Type 0
+IsReadingCause modules room NoSuchSide = HasNoVersion (colors_of modules)
+IsReadingCause modules room NoFormat = HasNoFormat (colors_of modules)
+IsReadingCause modules room Damaged = (block : ℕ) × HasDamagedBlock (colors_of modules) block
+IsReadingCause modules room NotSpelled = SpellsNothing (colors_of modules)
+IsReadingCause modules room SmallBuffer = (bytes : List ℕ) × (ReadsOnly (colors_of modules) bytes × (room < length bytes))
+IsReadingCause modules room OutOfMemory = ⊤
+IsReadingCause modules room refusal = ⊥

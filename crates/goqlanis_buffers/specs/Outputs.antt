@@ -1,0 +1,74 @@
+-- What the calls for C write into the buffers of their caller.
+use Rattle.std.specs.Prelude.{◌≡◌, ◌++◌, ℕ, List, length, map, drop, Some}
+use Rattle.qrcode_types.specs.Colors.{select_of}
+use Rattle.qrcode_types.specs.Versions.{side}
+use Rattle.qrcode_types.specs.declared.types.Color.{Color}
+use Rattle.qrcode_bits.specs.declared.bits.manner.Manner.{Manner}
+use Rattle.qrcode.specs.Acceptance.{IsChosenSymbol, IsLeastSymbol}
+use Rattle.qrcode.specs.Code.{Code}
+use Rattle.goqlanis_buffers.specs.Answers.{IsChosenAs}
+use Rattle.goqlanis_buffers.specs.Drawings.{format_named, IsDrawn}
+use Rattle.goqlanis_buffers.specs.declared.drawing.Format.{Format}
+use Rattle.goqlanis_buffers.specs.Names.{level_named, version_named}
+use Rattle.goqlanis_buffers.specs.Segments.{IsSymbolOfSegments}
+use Rattle.goqlanis_buffers.specs.declared.segments.Segment.{Segment}
+use Rattle.goqlanis_buffers.specs.declared.symbols.Symbol.{Symbol}
+
+-- modules as bytes, a one for a dark one
+abbrev pub module_bytes : List Color → List ℕ
+module_bytes modules = map (λ c. select_of c 1 0) modules
+
+-- a buffer begins with some bytes, and is otherwise as it was
+abbrev pub IsFilled : List ℕ → List ℕ → List ℕ → Type 0
+IsFilled old new bytes = new ≡ bytes ++ drop (length bytes) old
+
+-- a symbol in buffers: its modules row by row at the beginning of one, and what it is beside them
+pub record IsWritten (code : Code) (old new : List ℕ) (symbol : Symbol) : Type 0 where
+  pub modules : IsFilled old new (module_bytes code.modules)
+  pub version : version_named symbol.version ≡ Some code.version
+  pub level : level_named symbol.level ≡ Some code.level
+  pub width : symbol.width ≡ side code.version
+
+-- the symbol that is chosen for bytes at a level of a number, in buffers
+pub record IsAutomaticSymbol (level : ℕ) (bytes old new : List ℕ) (symbol : Symbol) : Type 0 where
+  pub code : Code
+  pub asked : level_named level ≡ Some code.level
+  pub chosen : IsChosenSymbol code.version code.level bytes code.modules
+  pub written : IsWritten code old new symbol
+
+-- the symbol that is chosen for a text at a level of a number, in buffers
+pub record IsTextSymbol (m : Manner) (level : ℕ) (bytes old new : List ℕ) (symbol : Symbol) : Type 0 where
+  pub code : Code
+  pub asked : level_named level ≡ Some code.level
+  pub chosen : IsChosenAs m code.version code.level bytes code.modules
+  pub written : IsWritten code old new symbol
+
+-- the symbol of bytes, of a version and level of these numbers, in buffers
+pub record IsSymbolIn (version level : ℕ) (bytes old new : List ℕ) (symbol : Symbol) : Type 0 where
+  pub code : Code
+  pub asked_version : version_named version ≡ Some code.version
+  pub asked_level : level_named level ≡ Some code.level
+  pub least : IsLeastSymbol code.version code.level bytes code.modules
+  pub written : IsWritten code old new symbol
+
+-- the symbol of segments, of a version and level of these numbers, in buffers
+pub record IsSegmentsSymbol (version level : ℕ) (segments : List Segment) (old new : List ℕ) (symbol : Symbol) : Type 0 where
+  pub code : Code
+  pub asked_version : version_named version ≡ Some code.version
+  pub asked_level : level_named level ≡ Some code.level
+  pub made : IsSymbolOfSegments code.version code.level segments code.modules
+  pub written : IsWritten code old new symbol
+
+-- a picture of modules, in a format of a number, at the beginning of a buffer, and its length
+pub record IsPictureOf (modules : List ℕ) (width zone scale format : ℕ) (old new : List ℕ) (count : ℕ) : Type 0 where
+  pub named : Format
+  pub bytes : List ℕ
+  pub asked : format_named format ≡ Some named
+  pub drawn : IsDrawn named modules width zone scale bytes
+  pub filled : IsFilled old new bytes
+  pub counted : count ≡ length bytes
+
+-- the length of a picture of modules, in a format of a number
+abbrev pub IsLengthOf : List ℕ → ℕ → ℕ → ℕ → ℕ → ℕ → Type 0
+IsLengthOf modules width zone scale format count =
+    (f : Format) × ((bytes : List ℕ) × ((format_named format ≡ Some f) × (IsDrawn f modules width zone scale bytes × (count ≡ length bytes))))

@@ -1,0 +1,98 @@
+//! What the calls for C answer.
+
+ghost use Rattle.std.specs.Prelude.{◌≡◌, ◌≤◌, Some};
+ghost use Rattle.goqlanis_buffers.specs.Answers.{refusal_of};
+ghost use Rattle.goqlanis_buffers.specs.Segments.{refusal_in};
+
+use qrcode::types::QrError;
+
+/// Why a call refuses. Each refusal has one cause.
+#[derive(Clone, Copy, Debug, Drop, PartialEq, Eq)]
+pub enum Refusal {
+    /// No level has the number.
+    NoSuchLevel,
+    /// No version has the number.
+    NoSuchVersion,
+    /// The version lacks the level.
+    LevelNotInVersion,
+    /// The bytes are more than 1,048,576.
+    TooLong,
+    /// The bytes need a mode that the version lacks.
+    NoMode,
+    /// No symbol of the asked kind holds the bytes.
+    NoRoom,
+    /// The buffer is too small for what would be written.
+    SmallBuffer,
+    /// Memory was refused.
+    OutOfMemory,
+    /// No format has the number.
+    NoSuchFormat,
+    /// The modules are not as many as the square of their width.
+    NotSquare,
+    /// A module would have no pixel, or the picture more than 65,535 modules along a side, or a module
+    /// more pixels.
+    NoSuchSize,
+    /// The bytes are not UTF-8.
+    NotText,
+    /// No kind of segment has the number.
+    NoSuchKind,
+    /// A segment's mode lacks one of its bytes.
+    NotInMode,
+    /// A character set has no number above 999,999, and an application none above 255.
+    NoSuchNumber,
+    /// No version has so many modules.
+    NoSuchSide,
+    /// No level and mask are within three bits of each copy of the format word.
+    NoFormat,
+    /// A block has too many wrong codewords.
+    Damaged,
+    /// The data bits are not segments and an end.
+    NotSpelled,
+}
+
+impl Refusal {
+    /// The number that C sees.
+    pub fn number(self) -> u32
+        ensures value { refusal_of result ≡ Some self }
+        ensures not_made { 1 ≤ result }
+    {
+        match self {
+            Refusal::NoSuchLevel => 1,
+            Refusal::NoSuchVersion => 2,
+            Refusal::LevelNotInVersion => 3,
+            Refusal::TooLong => 4,
+            Refusal::NoMode => 5,
+            Refusal::NoRoom => 6,
+            Refusal::SmallBuffer => 7,
+            Refusal::OutOfMemory => 8,
+            Refusal::NoSuchFormat => 9,
+            Refusal::NotSquare => 10,
+            Refusal::NoSuchSize => 11,
+            Refusal::NotText => 12,
+            Refusal::NoSuchKind => 13,
+            Refusal::NotInMode => 14,
+            Refusal::NoSuchNumber => 15,
+            Refusal::NoSuchSide => 16,
+            Refusal::NoFormat => 17,
+            Refusal::Damaged => 18,
+            Refusal::NotSpelled => 19,
+        }
+    }
+}
+
+/// What an error is told as: of a push, or of a constructor whose version is valid and whose bytes are
+/// within the limit.
+impl From<QrError> for Refusal {
+    ghost from_gives = { λ e refusal. refusal ≡ refusal_in e };
+
+    fn from(error: QrError) -> Refusal {
+        match error {
+            QrError::UnsupportedCharacterSet => Refusal::NoMode,
+            QrError::InvalidVersion => Refusal::LevelNotInVersion,
+            QrError::OutOfMemory => Refusal::OutOfMemory,
+            QrError::DataTooLong => Refusal::NoRoom,
+            QrError::InvalidEciDesignator => Refusal::NoSuchNumber,
+            QrError::InvalidCharacter => Refusal::NotInMode,
+        }
+    }
+}

@@ -1,0 +1,13 @@
+//! Symbols, pictures and readings in the buffers of a caller, who names versions, levels and formats by
+//! numbers, as programs in C do. Each call keeps nothing; where it refuses, all its outputs are as they were.
+#![tactic(auto)]
+
+pub mod answers;
+pub mod drawing;
+pub mod encoding;
+pub mod names;
+pub mod pictures;
+pub mod reading;
+pub mod segments;
+pub mod symbols;
+pub mod texts;

@@ -1,0 +1,55 @@
+//! The numbers that stand for levels and versions in C.
+
+ghost use Rattle.std.specs.Prelude.{◌≡◌, Some, IfSome, IsTrue};
+ghost use Rattle.qrcode_types.specs.Versions.{is_valid};
+ghost use Rattle.goqlanis_buffers.specs.Names.{level_named, version_named};
+
+use qrcode::types::{EcLevel, Version};
+
+/// The level of a number: 0 for `L`, 1 for `M`, 2 for `Q`, 3 for `H`.
+pub fn level_named(number: u32) -> Option<EcLevel>
+    ensures value { result ≡ level_named number }
+{
+    match number {
+        0 => Some(EcLevel::L),
+        1 => Some(EcLevel::M),
+        2 => Some(EcLevel::Q),
+        3 => Some(EcLevel::H),
+        _ => None,
+    }
+}
+
+/// The number of a level.
+pub(crate) fn level_number(level: EcLevel) -> u32
+    ensures value { level_named result ≡ Some level }
+{
+    match level {
+        EcLevel::L => 0,
+        EcLevel::M => 1,
+        EcLevel::Q => 2,
+        EcLevel::H => 3,
+    }
+}
+
+/// The version of a number: 1 to 40 for Normal, 41 to 44 for Micro.
+pub fn version_named(number: u32) -> Option<Version>
+    ensures value { result ≡ version_named number }
+    ensures valid { IfSome result (λ version. IsTrue (is_valid version)) }
+{
+    match number {
+        1..=40 => Some(Version::Normal(number as i16)),
+        41..=44 => Some(Version::Micro((number - 40) as i16)),
+        _ => None,
+    }
+}
+
+/// The number of a version.
+pub fn version_number(version: Version) -> u32
+    requires { IsTrue (is_valid version) }
+    ensures value { version_named result ≡ Some version }
+{
+    match version {
+        Version::Normal(number) => number as u32,
+        Version::Micro(number) => 40 + number as u32,
+    }
+}

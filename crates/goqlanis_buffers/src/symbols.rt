@@ -1,0 +1,64 @@
+//! Symbols in buffers.
+
+ghost use Rattle.std.specs.Prelude.{◌≡◌, ◌<◌, ◌≤◌, length, IfErr, OnOk, OnErr};
+ghost use Rattle.goqlanis_buffers.specs.Outputs.{module_bytes, IsFilled, IsWritten};
+ghost use Rattle.goqlanis_buffers.specs.declared.answers.Refusal.TheVariants.{SmallBuffer, OutOfMemory};
+
+use crate::answers::Refusal;
+use crate::names::{level_number, version_number};
+use qrcode::QrCode;
+use qrcode::types::{Color, QrResult};
+use std::alloc::Global;
+
+/// What a symbol is beside its modules.
+#[repr(C)]
+#[derive(Clone, Copy)]
+pub struct Symbol {
+    /// 1 to 40 for Normal, 41 to 44 for Micro.
+    pub version: u32,
+    /// 0 for `L`, 1 for `M`, 2 for `Q`, 3 for `H`.
+    pub level: u32,
+    /// The modules along a side.
+    pub width: u32,
+}
+
+/// Writes a symbol into buffers, or says that they are too small (`SmallBuffer`) and leaves them as
+/// they were.
+pub fn write_symbol(code: QrCode, modules: &mut [u8], symbol: &mut Symbol) -> Result<(), Refusal>
+    ensures written { OnOk result (IsWritten code modules.old modules.new symbol.new) }
+    ensures unchanged { OnErr result (modules.new ≡ modules.old) }
+    ensures symbol_unchanged { OnErr result (symbol.new ≡ symbol.old) }
+    ensures cause { IfErr result (λ refusal. refusal ≡ SmallBuffer) }
+    ensures small { OnErr result (length modules.old < length code.modules) }
+{
+    let known = Symbol {
+        version: version_number(code.version()),
+        level: level_number(code.error_correction_level()),
+        width: code.width() as u32,
+    };
+    let colors = code.into_colors();
+    if modules.len() < colors.len() {
+        return Err(Refusal::SmallBuffer);
+    }
+    fill_modules(modules, &colors);
+    *symbol = known;
+    Ok(())
+}
+
+// Writes modules at the beginning of a buffer that has room for them.
+fn fill_modules(out: &mut [u8], colors: &[Color])
+    requires room { length colors.now ≤ length out.old }
+    ensures filled { IsFilled out.old out.new (module_bytes colors.now) }
+{
+    for i in 0..colors.len() {
+        out[i] = colors[i].select(1, 0);
+    }
+}
+
+/// Writes bytes at the beginning of a buffer that has room for them.
+pub fn fill(out: &mut [u8], bytes: &[u8])
+    requires room { length bytes.now ≤ length out.old }
+    ensures filled { IsFilled out.old out.new bytes.now }
+{
+    out[..bytes.len()].copy_from_slice(bytes);
+}
