@@ -2,12 +2,11 @@
 #![tactic(auto)]
 
 mod command;
-mod plain;
 
 use clap::error::ErrorKind;
 use command::{command_of, given};
+use goqlanis_options::plainly_given;
 use goqlanis_run::{Failure, obey, status, words};
-use plain::plainly_given;
 use std::process::ExitCode;
 
 fn main(rt: HostRuntime) -> ExitCode {
@@ -18,10 +17,10 @@ fn main(rt: HostRuntime) -> ExitCode {
 fn run(rt: &HostRuntime) -> Result<ExitCode, Failure> {
     let alloc = rt.alloc();
     let (task, words) = words(rt)?;
-    let options = task.all_options(alloc)?;
-    if let Some(given) = plainly_given(alloc, task, &options, &words)? {
+    if let Some(given) = plainly_given(alloc, task, &words)? {
         return obey(rt, task, &given);
     }
+    let options = task.all_options(alloc)?;
     match command_of(alloc, task, &options)?.try_get_matches_from(&words) {
         Ok(matches) => obey(rt, task, &given(alloc, task, &options, &matches)?),
         Err(error) if error.kind() == ErrorKind::OutOfMemory => Err(Failure::OutOfMemory),

@@ -8,6 +8,7 @@ mod drawing;
 mod entries;
 mod given;
 mod manual;
+mod plain;
 mod reading;
 mod tasks;
 
@@ -16,4 +17,5 @@ pub use drawing::EXAMPLES;
 pub use entries::{Entry, Takes};
 pub use given::Given;
 pub use manual::manual_page;
+pub use plain::plainly_given;
 pub use tasks::{Kind, Operand, Purpose, Task, task_of};

@@ -85,15 +85,16 @@ fn push_option(text: &mut String, entry: &Entry) -> Result<(), AllocError> {
 
 // What an option takes, behind its name.
 fn push_value(text: &mut String, takes: Takes) -> Result<(), AllocError> {
+    if matches!(takes, Takes::Nothing) {
+        return Ok(());
+    }
+    text.push_str(" ")?;
     match takes {
         Takes::Nothing => Ok(()),
-        Takes::Text(name) | Takes::Texts(name) => write!(text, " {name}"),
-        Takes::Path => text.push_str(" FILE"),
-        Takes::Word(words) => {
-            text.push_str(" ")?;
-            push_words(text, words, "|")
-        }
-        Takes::Number(least, most) => write!(text, " {least}..{most}"),
+        Takes::Text(name) | Takes::Texts(name) => text.push_str(name),
+        Takes::Path => text.push_str("FILE"),
+        Takes::Word(words) => push_words(text, words, "|"),
+        Takes::Number(least, most) => write!(text, "{least}..{most}"),
     }
 }
 
