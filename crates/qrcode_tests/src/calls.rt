@@ -10,9 +10,6 @@ use qrcode::Version::{self, Micro, Normal};
 use qrcode::bits::{Bits, Manner};
 use qrcode::types::QrError::{self, DataTooLong, InvalidVersion, UnsupportedCharacterSet};
 use qrcode::types::QrResult;
-use qrcode_judge::reading::{self, Read};
-use qrcode_judge::spelling;
-use qrcode_judge::square::Square;
 use qrcode_pushes::{Push, make_push};
 use std::alloc::Global;
 use std::process::Abort;
@@ -40,17 +37,13 @@ enum Answer {
     Refused(QrError),
     /// A symbol of this version and level.
     Chosen(Version, EcLevel),
-    /// One that is read as the data.
-    Read,
-    /// One that is read as the data, and as these bytes of data bits.
-    Held(&'static [u8]),
     /// One under a mask, with these lines.
     Printed(usize, &'static [&'static str]),
     /// One under a mask, with these modules as hexadecimal digits.
     Modules(usize, &'static str),
 }
 
-use Answer::{Chosen, Held, Modules, Printed, Refused};
+use Answer::{Chosen, Modules, Printed, Refused};
 use Call::{At, AtLeast, Boosted, Given, In, MarkedText, MarkedTextIn, New, Pushed, Text, TextIn};
 
 // Bytes, how often they stand in the data, the call, and what it answers.
@@ -93,28 +86,16 @@ static REFUSALS_AND_CHOICES: [Row; 15] = [
 #[rattlefmt::skip]
 static CAPACITIES: [Row; 10] = [
     // As many as the standard's tables say, and no more.
-    (b"7", 34, In(Normal(1), M), Answer::Read),
+    (b"7", 34, In(Normal(1), M), Chosen(Normal(1), M)),
     (b"7", 35, In(Normal(1), M), Refused(DataTooLong)),
-    (b"a", 14, In(Normal(1), M), Answer::Read),
+    (b"a", 14, In(Normal(1), M), Chosen(Normal(1), M)),
     (b"a", 15, In(Normal(1), M), Refused(DataTooLong)),
-    (b"0", 23, In(Micro(3), L), Answer::Read),
+    (b"0", 23, In(Micro(3), L), Chosen(Micro(3), L)),
     (b"0", 24, In(Micro(3), L), Refused(DataTooLong)),
-    (b"a", 2331, In(Normal(40), M), Answer::Read),
+    (b"a", 2331, In(Normal(40), M), Chosen(Normal(40), M)),
     (b"a", 2332, In(Normal(40), M), Refused(DataTooLong)),
-    (b"7", 7089, In(Normal(40), L), Answer::Read),
+    (b"7", 7089, In(Normal(40), L), Chosen(Normal(40), L)),
     (b"7", 7090, In(Normal(40), L), Refused(DataTooLong)),
-];
-
-#[rattlefmt::skip]
-static DATA_BITS: [Row; 7] = [
-    // Data bits.
-    (b"123A", 1, In(Micro(2), L), Held(b"\x18\xf7\x25\x00\xec")),
-    (b"99999", 1, In(Micro(1), L), Held(b"\xbf\x3e\x30")),
-    (b"0", 20, In(Micro(3), L), Held(b"\x28\0\0\0\0\0\0\0\0\0\0")),
-    (b"HELLO WORLD", 1, In(Normal(1), Q), Held(b"\x20\x5b\x0b\x78\xd1\x72\xdc\x4d\x43\x40\xec\x11\xec")),
-    (b"01234567", 1, In(Normal(1), H), Held(b"\x10\x20\x0c\x56\x61\x80\xec\x11\xec")),
-    (b"\x93\x5f\xe4\xaa", 1, In(Normal(1), H), Held(b"\x80\x26\xcf\xea\xa8\x00\xec\x11\xec")),
-    (b"\x93\x5f\xe4\xaa", 1, In(Micro(4), Q), Held(b"\x64\xd9\xfd\x55\x00\x00\xec\x11\xec\x11")),
 ];
 
 #[rattlefmt::skip]
@@ -212,45 +193,19 @@ fn digits_of(alloc: Global, code: &QrCode) -> QrResult<String> {
     Ok(digits)
 }
 
-// The bytes of bits, the last one filled with zeros.
-fn bytes_of(alloc: Global, bits: &[bool]) -> Read<Vec<u8>> {
-    let mut bytes = Vec::new(alloc);
-    for bits in bits.chunks(8) {
-        bytes.push(spelling::byte_of(bits))?;
-    }
-    Ok(bytes)
-}
-
-// Whether a symbol has this mask and these lines, and is read with this mask.
+// Whether a symbol has this mask and these lines.
 fn is_printed(rt: &impl Abort, alloc: Global, code: &QrCode, mask: usize, lines: &[&str]) -> bool {
     let text = code.to_debug_str(alloc, '#', '.').expect(rt, "a text");
-    symbols::has_lines(text.as_str(), lines)
-        && symbols::read(rt, alloc, code).mask == mask
-        && code.mask().number() == mask
+    symbols::has_lines(text.as_str(), lines) && code.mask().number() == mask
 }
 
-// Whether a symbol of data is read as the data, and as these bytes of data bits, if they are told.
-fn is_read(
-    rt: &impl Abort,
-    alloc: Global,
-    code: &QrCode,
-    data: &[u8],
-    held: Option<&[u8]>,
-) -> bool {
-    let reading = symbols::read(rt, alloc, code);
-    let bytes = bytes_of(alloc, &reading.bits).expect(rt, "memory");
-    reading.bytes.as_slice() == data && (held.is_none() || held == Some(bytes.as_slice()))
-}
-
-// Whether a symbol of data is the expected one.
-fn is_answer(rt: &impl Abort, alloc: Global, code: &QrCode, data: &[u8], answer: Answer) -> bool {
+// Whether a symbol is the expected one.
+fn is_answer(rt: &impl Abort, alloc: Global, code: &QrCode, answer: Answer) -> bool {
     match answer {
         Refused(_) => false,
         Chosen(version, ec_level) => {
             code.version() == version && code.error_correction_level() == ec_level
         }
-        Answer::Read => is_read(rt, alloc, code, data, None),
-        Held(held) => is_read(rt, alloc, code, data, Some(held)),
         Printed(mask, lines) => is_printed(rt, alloc, code, mask, lines),
         Modules(mask, digits) => {
             code.mask().number() == mask
@@ -264,7 +219,7 @@ fn holds(rt: &impl Abort, alloc: Global, (bytes, count, call, answer): &Row) -> 
     let data = bytes.repeat(alloc, *count).expect(rt, "memory");
     match made(alloc, *call, &data) {
         Err(error) => matches!(answer, Refused(expected) if *expected == error),
-        Ok(code) => is_answer(rt, alloc, &code, &data, *answer),
+        Ok(code) => is_answer(rt, alloc, &code, *answer),
     }
 }
 
@@ -286,11 +241,6 @@ fn symbols_hold_so_much_and_no_more(rt: HostRuntime) {
 }
 
 #[test]
-fn data_is_held(rt: HostRuntime) {
-    check(&rt, rt.alloc(), &DATA_BITS);
-}
-
-#[test]
 fn printed_symbols_are_drawn(rt: HostRuntime) {
     check(&rt, rt.alloc(), &PRINTED);
 }
@@ -303,19 +253,4 @@ fn texts_are_encoded(rt: HostRuntime) {
 #[test]
 fn bits_are_drawn(rt: HostRuntime) {
     check(&rt, rt.alloc(), &ENDED_FOR_L);
-}
-
-// Whether a drawn symbol is read as the digits, with no wrong codeword.
-fn is_drawn_well(alloc: Global, rows: &[&str]) -> Read<bool> {
-    let square = Square::drawn(alloc, rows)?;
-    let places = square.places(alloc)?;
-    let reading = reading::read(alloc, &square, &places)?;
-    Ok(reading.bytes.as_slice() == b"01234567".as_slice() && reading.wrong == 0)
-}
-
-#[test]
-fn printed_symbols_are_read(rt: HostRuntime) {
-    for rows in [DIGITS_NORMAL, DIGITS_MICRO] {
-        assert!(rt; is_drawn_well(rt.alloc(), rows).expect(&rt, "a symbol"));
-    }
 }

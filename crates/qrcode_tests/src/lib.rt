@@ -1,4 +1,4 @@
-//! The tests of whole symbols, which the judge (`qrcode_judge`) reads.
+//! The tests of calls that make symbols and pictures, each with what other encoders or the standard's examples have.
 #![tactic(auto)]
 
 #[cfg(test)]
@@ -6,17 +6,7 @@ mod calls;
 #[cfg(test)]
 mod canvases;
 #[cfg(test)]
-mod damage;
-#[cfg(test)]
-mod letters;
-#[cfg(test)]
-mod lists;
-#[cfg(test)]
-mod masks;
-#[cfg(test)]
 mod pictures;
-#[cfg(test)]
-mod read_back;
 #[cfg(test)]
 mod squares;
 #[cfg(test)]

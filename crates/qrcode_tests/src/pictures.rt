@@ -72,17 +72,15 @@ fn small_symbol(rt: &impl Abort, alloc: Global) -> (QrCode, usize) {
     let code = symbol_in(rt, alloc, b"01234567", Version::Micro(2), EcLevel::L)
         .clone()
         .expect(rt, "memory");
-    let dark = symbols::square_of(alloc, &code)
-        .expect(rt, "memory")
-        .count_of_dark();
+    let dark = symbols::count_of_dark(&code);
     (code, dark)
 }
 
-// Greys are counted in each symbol that is read back.
 #[test]
 fn pixels_have_bytes(rt: HostRuntime) {
     let (code, dark) = small_symbol(&rt, rt.alloc());
     let pixels = dark.wrapping_mul(64);
+    assert!(rt; is_picture(picture::<Luma>(&rt, rt.alloc(), &code), 136, pixels));
     assert!(rt; is_picture(picture::<LumaA>(&rt, rt.alloc(), &code), 136, pixels));
     let image = code.render::<Rgba>().to_image(rt.alloc());
     assert!(rt; is_picture(image.expect(&rt, "a picture"), 136, pixels));
@@ -104,7 +102,7 @@ fn letters<P: Pixel<Image = String>>(
     symbols::count_of_letter(picture::<P>(rt, alloc, code).as_str(), letter)
 }
 
-// Texts for a module are counted in each symbol that is read back, and half blocks are compared by line.
+// Pairs and half blocks are compared by line, in `uses`.
 #[test]
 fn pixels_make_texts(rt: HostRuntime) {
     let (code, dark) = small_symbol(&rt, rt.alloc());

@@ -1,9 +1,7 @@
-//! What tests do with symbols: they end bits, read and draw, and compare lines.
+//! What tests do with symbols: they draw them, count and compare lines.
 
 use qrcode::render::Pixel;
-use qrcode::{EcLevel, QrCode, Version};
-use qrcode_judge::reading::{self, Read, Reading};
-use qrcode_judge::square::Square;
+use qrcode::{Color, EcLevel, QrCode, Version};
 use std::alloc::Global;
 use std::process::Abort;
 
@@ -18,16 +16,12 @@ pub fn symbol_in(
     QrCode::with_version(alloc, data, version, ec_level).expect(rt, "a symbol")
 }
 
-/// The square that a symbol shows.
-pub fn square_of(alloc: Global, code: &QrCode) -> Read<Square> {
-    Square::of(alloc, code.width(), &code.to_colors(alloc)?)
-}
-
-/// What a symbol is read as.
-pub fn read(rt: &impl Abort, alloc: Global, code: &QrCode) -> Reading {
-    let square = square_of(alloc, code).expect(rt, "memory");
-    let places = square.places(alloc).expect(rt, "memory");
-    reading::read(alloc, &square, &places).expect(rt, "a reading")
+/// How many modules of a symbol are dark.
+pub fn count_of_dark(code: &QrCode) -> usize {
+    code.colors()
+        .iter()
+        .filter(|color| **color == Color::Dark)
+        .count()
 }
 
 /// The picture of a symbol in pixels of a type, as it is drawn unless said otherwise.
