@@ -6,7 +6,6 @@ ghost use Rattle.qrcode_types.specs.declared.types.QrError.TheVariants.{OutOfMem
 ghost use Rattle.qrcode.specs.Pictures.{quiet_zone};
 ghost use Rattle.qrcode_render.specs.Setting.{fits};
 ghost use Rattle.goqlanis_draw.specs.Drawings.{IsDrawing, IsShownBy, IsPngOf, per_metre, coloured_byte, coloured_text, eps_ink, half_block_text, layout_for, png_ink, scale_for, setting_for};
-ghost use Rattle.qrcode_gs1.specs.Elements.{are_apart};
 ghost use Rattle.qrcode_gs1.specs.Items.{item};
 ghost use Rattle.goqlanis_draw.specs.Elements.{IsDrawingOfElements, IsElementsRefused, IsDrawingForApplication, IsApplicationRefused};
 ghost use Rattle.goqlanis_draw.specs.Segments.{IsDrawingOfPieces, pieces_of};
@@ -88,7 +87,7 @@ pub fn draw_elements(
 
 /// The drawing of data of an application, behind FNC1 in second position and the application's
 /// indicator, that a request asks for; its manner is not looked at, and a choice with levels to be
-/// raised keeps the level. Byte 29 is the separator, of which none stands right behind another.
+/// raised keeps the level. Byte 29 is the separator.
 ///
 /// `DataTooLong`: no version that may be taken holds the data; none of Micro does. `OutOfMemory`:
 /// memory was refused.
@@ -98,7 +97,6 @@ pub fn draw_for_application(
     application: u8,
     bytes: &[u8],
 ) -> QrResult<Vec<u8>>
-    requires { IsTrue (are_apart bytes.now) }
     ensures drawing { IfOk result (λ drawing.
         IsDrawingForApplication request.now application bytes.now drawing.items) }
     ensures causes { IfErr result

@@ -1,7 +1,6 @@
 //! Symbols of elements of GS1, and of data of applications.
 
-ghost use Rattle.std.specs.Prelude.{◌≡◌, ◌≢◌, true, false, map, IfOk, IfErr, IsTrue};
-ghost use Rattle.qrcode_gs1.specs.Elements.{are_apart};
+ghost use Rattle.std.specs.Prelude.{◌≡◌, ◌≢◌, true, false, map, IfOk, IfErr};
 ghost use Rattle.qrcode_gs1.specs.Items.{item};
 ghost use Rattle.goqlanis_draw.specs.Elements.{IsElementsIn, IsElementsRefused, IsApplicationIn, IsApplicationRefused, number_of};
 
@@ -53,7 +52,6 @@ pub(crate) fn symbol_for_application(
     application: u8,
     bytes: &[u8],
 ) -> QrResult<QrCode>
-    requires { IsTrue (are_apart bytes.now) }
     ensures symbol { IfOk result (IsApplicationIn choice application level bytes.now) }
     ensures causes { IfErr result
         (IsApplicationRefused choice application level bytes.now) }

@@ -1,8 +1,5 @@
 //! What a refusal says: what, why, and what would help.
 
-ghost use Rattle.std.specs.Prelude.{IsTrue};
-ghost use Rattle.qrcode_gs1.specs.Elements.{are_apart};
-
 use crate::elements::{symbol_for_application, symbol_of_elements};
 use crate::request::{Choice, Request};
 use qrcode::bits::Manner;
@@ -87,9 +84,7 @@ pub fn application_refusal_text(
     request: &Request<'_>,
     application: u8,
     bytes: &[u8],
-) -> Result<String, AllocError>
-    requires { IsTrue (are_apart bytes.now) }
-{
+) -> Result<String, AllocError> {
     let (from, level) = (least_version(request.choice), request.level);
     let least = match symbol_for_application(alloc, Choice::From(from), level, application, bytes) {
         Ok(code) => Some(code.version()),
