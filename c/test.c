@@ -1,5 +1,5 @@
 /* What the library for C answers: every call, every answer, outputs untouched on each refusal. It prints the digest of a symbol of each pair of version and
-   level, which `c/test` compares with those of the library. */
+   level, which `c/test` compares with those of other encoders. */
 #include "goqlanis.h"
 #include <stdio.h>
 #include <stdlib.h>
