@@ -1,5 +1,5 @@
 -- The text of a payment is read back.
-use Rattle.std.proofs.Common.{◌≡◌, ℕ, ◌<◌, ◌^◌, ◌%◌, ◌==◌, ◌||◌, not, List, [], ◌∷◌, ◌++◌, Bool, true, false, Some, None, take, get_or, map, nat_lt, codes, if◌then◌else◌, refl, ap, ◌∙◌, sym, arith}
+use Rattle.std.proofs.Common.{◌≡◌, ℕ, ◌<◌, ◌^◌, ◌||◌, not, List, [], ◌∷◌, ◌++◌, Bool, true, false, Some, None, take, get_or, map, nat_lt, codes, if◌then◌else◌, refl, ap, ◌∙◌, sym, arith}
 use Rattle.std.specs.List.{list_any}
 use Rattle.std.specs.Option.{option_map, option_and_then}
 use Rattle.std.proofs.lemmas.Bool.Decides.{nat_tests}
@@ -14,7 +14,7 @@ use Rattle.qrcode_fields.specs.Entries.{is_filled, behind}
 use Rattle.qrcode_fields.specs.Lines.{line_at}
 use Rattle.qrcode_contents.specs.Payment.{Transfer, version_name, payment_lines, payment_text, later_count, later_lines, read_payment, transfer_of, transfer_from, named_version, is_account, field_checks, control_checks, bank_checks, account_checks, message_checks}
 use Rattle.qrcode_fields.specs.Refusals.{refused_if}
-use Rattle.qrcode_fields.specs.Numbers.{checked_number}
+use Rattle.qrcode_contents.specs.Accounts.{is_checked}
 use Rattle.qrcode_fields.proofs.EntryReading.{neither}
 use Rattle.qrcode_fields.proofs.AmountReading.{amount_read, HasNoFeed-amount}
 use Rattle.qrcode_fields.proofs.LineReading.{HasNoFeed, HaveNoFeeds, HaveNoFeeds-take, HasNoFeed-from_control, lines_read}
@@ -67,7 +67,7 @@ amount_fits : (t : Transfer) → account_checks t ≡ None → t.cents < 2 ^ 64
 unfolding account_checks
 amount_fits t is =
     let iban = refused_if (not (is_account t.iban)) Iban Character in
-    let digits = refused_if (not (checked_number t.iban % 97 == 1)) Iban CheckDigits in
+    let digits = refused_if (not (is_checked t.iban)) Iban CheckDigits in
     let outside = nat_lt t.cents 1 || nat_lt 99999999999 t.cents in
     let amount = refused_if outside Amount Range in
     let last = passes amount [] (passes digits (amount ∷ []) (passes iban (digits ∷ amount ∷ []) is).1).1 in

@@ -4,14 +4,13 @@ use Rattle.std.specs.List.{list_all}
 use Rattle.std.specs.Option.{option_map}
 use Rattle.std.proofs.lemmas.Bool.Decides.{nat_tests}
 use Rattle.qrcode_fields.specs.declared.errors.Field.TheVariants.{Phone}
-use Rattle.qrcode_fields.specs.declared.errors.Cause.TheVariants.{Empty, Character}
+use Rattle.qrcode_fields.specs.declared.errors.Cause.TheVariants.{Character}
 use Rattle.qrcode_fields.specs.Characters.{is_dialled}
-use Rattle.qrcode_fields.specs.Entries.{is_empty, behind}
+use Rattle.qrcode_fields.specs.Entries.{behind}
 use Rattle.qrcode_fields.specs.Percents.{encoded, decoded}
-use Rattle.qrcode_contents.specs.Phone.{phone_refusal, message_text, before_query, from_query, read_message}
-use Rattle.qrcode_fields.specs.Refusals.{refused_if}
+use Rattle.qrcode_contents.specs.Phone.{phone_checks, phone_refusal, message_text, before_query, from_query, read_message}
 use Rattle.qrcode_fields.proofs.EntryReading.{both}
-use Rattle.qrcode_fields.proofs.Passing.{passes, test_passes}
+use Rattle.qrcode_fields.proofs.Passing.{all_pass, test_passes}
 
 -- a test whose denial does not hold
 pub holds : (b : Bool) → not b ≡ false → b ≡ true
@@ -34,11 +33,10 @@ from_query-at (b ∷ number) rest is =
     rw (no_query b parts.0) (from_query-at number rest parts.1)
 
 dialled : (number : List ℕ) → phone_refusal number ≡ None → list_all is_dialled number ≡ true
+unfolding phone_refusal
 dialled number is =
-    let empty = refused_if (is_empty number) Phone Empty in
-    let wrong = refused_if (not (list_all is_dialled number)) Phone Character in
-    let last = passes wrong [] (passes empty (wrong ∷ []) is).1 in
-    holds (list_all is_dialled number) (test_passes (not (list_all is_dialled number)) Phone Character last.0)
+    let none = all_pass (phone_checks number) is in
+    holds (list_all is_dialled number) (test_passes (not (list_all is_dialled number)) Phone Character none.1.0)
 
 -- what is read is what was said
 pub message_read : (number body : List ℕ) → phone_refusal number ≡ None → decoded (encoded body) ≡ body → read_message (message_text number body) ≡ Some (number, body)

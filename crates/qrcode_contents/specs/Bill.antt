@@ -1,5 +1,5 @@
 -- Texts of Swiss QR bills, line by line, by the Swiss Implementation Guidelines QR-bill of SIX, version 2.
-use Rattle.std.specs.Prelude.{ℕ, nat_lt, nat_le, ◌+◌, ◌%◌, ◌==◌, ◌&&◌, ◌||◌, not, Bool, false, List, [], ◌∷◌, ◌++◌, length, count_by, slice_index_or, Option, Some, None, codes, if◌then◌else◌}
+use Rattle.std.specs.Prelude.{ℕ, nat_lt, ◌+◌, ◌==◌, ◌&&◌, ◌||◌, not, Bool, false, List, [], ◌∷◌, ◌++◌, length, take, drop, count_by, slice_index_or, Option, Some, None, codes, if◌then◌else◌}
 use Rattle.std.specs.Str.{bytes_eq, chars}
 use Rattle.std.specs.List.{list_all, list_any, starts_with}
 use Rattle.std.specs.Option.{option_map}
@@ -7,15 +7,16 @@ use Rattle.qrcode_fields.specs.declared.errors.ContentError.{ContentError}
 use Rattle.qrcode_fields.specs.declared.errors.ContentError.TheVariants.{Refused, OutOfMemory}
 use Rattle.qrcode_fields.specs.declared.errors.Field.TheVariants.{Iban, Name, Street, Number, PostalCode, City, Country, Amount, Debtor, Reference, Message}
 use Rattle.qrcode_fields.specs.declared.errors.Cause.TheVariants.{Empty, TooLong, Character, CheckDigits, Range, Unused}
+use Rattle.qrcode_contents.specs.Accounts.{is_letter, has_form, is_checked}
 use Rattle.qrcode_contents.specs.declared.bill.Currency.{Currency}
 use Rattle.qrcode_contents.specs.declared.bill.Currency.TheVariants.{Franc, Euro}
 use Rattle.qrcode_contents.specs.declared.bill.Party.{Party}
 use Rattle.qrcode_contents.specs.declared.bill.Bill.{Bill}
 use Rattle.qrcode_fields.specs.Amounts.{amount_text, read_amount}
-use Rattle.qrcode_fields.specs.Characters.{is_capital, is_control, is_digit}
+use Rattle.qrcode_fields.specs.Characters.{is_control, is_digit}
 use Rattle.qrcode_fields.specs.Entries.{is_empty, is_filled}
 use Rattle.qrcode_fields.specs.Lines.{lines_text, read_lines, line_at}
-use Rattle.qrcode_fields.specs.Numbers.{carry_of, checked_number}
+use Rattle.qrcode_fields.specs.Numbers.{carry_of}
 use Rattle.qrcode_fields.specs.Refusals.{refused_if, first_refusal}
 
 -- a name with its address
@@ -71,10 +72,6 @@ foreign_count text = count_by (λ c. not (is_latin c)) (chars text)
 abbrev pub is_unsaid : List ℕ → Bool
 is_unsaid text = list_any is_control text || not (foreign_count text == 0)
 
--- a letter A to Z
-abbrev pub is_letter : ℕ → Bool
-is_letter b = nat_lt 64 b && nat_lt b 91
-
 -- a code of ISO 3166-1
 abbrev pub is_country : List ℕ → Bool
 is_country text = length text == 2 && list_all is_letter text
@@ -83,10 +80,10 @@ is_country text = length text == 2 && list_all is_letter text
 abbrev pub begins_with : List ℕ → List ℕ → Bool
 begins_with start text = starts_with (λ a b. a == b) text start
 
--- an account of Switzerland or Liechtenstein
+-- an account of Switzerland or Liechtenstein: behind the check digits five digits of the institution and twelve letters and digits
 abbrev pub is_account : List ℕ → Bool
 is_account text =
-    length text == 21 && list_all is_capital text && (begins_with (codes "CH") text || begins_with (codes "LI") text)
+    length text == 21 && has_form 21 text && (begins_with (codes "CH") text || begins_with (codes "LI") text) && list_all is_digit (take 5 (drop 4 text))
 
 -- an account whose institution has a number from 30000 to 31999, to which QR references belong
 abbrev pub is_qr_account : List ℕ → Bool
@@ -159,7 +156,7 @@ is_out_of_range (Some cents) = nat_lt cents 1 || nat_lt 99999999999 cents
 abbrev pub account_checks : Invoice → List (Option ContentError)
 account_checks b =
     refused_if (is_unsaid b.iban || not (is_account b.iban)) Iban Character
-    ∷ refused_if (not (checked_number b.iban % 97 == 1)) Iban CheckDigits
+    ∷ refused_if (not (is_checked b.iban)) Iban CheckDigits
     ∷ refused_if (is_out_of_range b.cents) Amount Range
     ∷ []
 
@@ -173,8 +170,8 @@ reference_checks b =
     ∷ refused_if (is_unsaid b.message) Message Character
     ∷ refused_if (is_qr_reference b.reference && not (length b.reference == 27 && list_all is_digit b.reference)) Reference Character
     ∷ refused_if (is_qr_reference b.reference && not (carry_of b.reference == 0)) Reference CheckDigits
-    ∷ refused_if (is_creditor_reference b.reference && not (nat_le 5 (length b.reference) && nat_le (length b.reference) 25 && list_all is_capital b.reference)) Reference Character
-    ∷ refused_if (is_creditor_reference b.reference && not (checked_number b.reference % 97 == 1)) Reference CheckDigits
+    ∷ refused_if (is_creditor_reference b.reference && not (has_form 25 b.reference)) Reference Character
+    ∷ refused_if (is_creditor_reference b.reference && not (is_checked b.reference)) Reference CheckDigits
     ∷ refused_if (is_qr_account b.iban && not (is_qr_reference b.reference)) Reference Unused
     ∷ refused_if (not (is_qr_account b.iban) && is_qr_reference b.reference) Reference Unused
     ∷ refused_if (nat_lt 140 (length (chars b.message))) Message TooLong

@@ -1,3 +1,4 @@
+pub mod Accounts
 pub mod Bill
 pub mod Card
 pub mod Contact

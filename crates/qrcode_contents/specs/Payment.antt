@@ -1,11 +1,12 @@
 -- Texts of SEPA credit transfers, line by line.
-use Rattle.std.specs.Prelude.{ℕ, nat_lt, nat_le, ◌==◌, ◌%◌, ◌&&◌, ◌||◌, not, Bool, true, false, List, [], ◌∷◌, ◌++◌, length, take, Option, Some, None, codes, if◌then◌else◌}
+use Rattle.std.specs.Prelude.{ℕ, nat_lt, ◌==◌, ◌&&◌, ◌||◌, not, Bool, true, false, List, [], ◌∷◌, ◌++◌, length, take, Option, Some, None, codes, if◌then◌else◌}
 use Rattle.std.specs.Str.{bytes_eq, chars}
 use Rattle.std.specs.List.{list_all, starts_with}
 use Rattle.std.specs.Option.{option_map, option_and_then}
 use Rattle.qrcode_fields.specs.declared.errors.ContentError.{ContentError}
 use Rattle.qrcode_fields.specs.declared.errors.Field.TheVariants.{Bic, Name, Iban, Amount, Purpose, Reference, Message, Information, Whole}
 use Rattle.qrcode_fields.specs.declared.errors.Cause.TheVariants.{Empty, TooLong, Character, CheckDigits, Range, Unused}
+use Rattle.qrcode_contents.specs.Accounts.{has_form, is_checked}
 use Rattle.qrcode_contents.specs.declared.payment.PaymentVersion.{PaymentVersion}
 use Rattle.qrcode_contents.specs.declared.payment.PaymentVersion.TheVariants.{One, Two}
 use Rattle.qrcode_contents.specs.declared.payment.Payment.{Payment}
@@ -13,7 +14,6 @@ use Rattle.qrcode_fields.specs.Amounts.{amount_text, read_amount}
 use Rattle.qrcode_fields.specs.Characters.{is_capital, control_refusal}
 use Rattle.qrcode_fields.specs.Entries.{is_empty, is_filled, behind}
 use Rattle.qrcode_fields.specs.Lines.{lines_text, read_lines, line_at}
-use Rattle.qrcode_fields.specs.Numbers.{checked_number}
 use Rattle.qrcode_fields.specs.Refusals.{refused_if, first_refusal}
 
 -- a transfer as its text says it
@@ -55,14 +55,13 @@ needs_bic Two = false
 abbrev pub is_bic : List ℕ → Bool
 is_bic text = (length text == 8 || length text == 11) && list_all is_capital text
 
--- the characters of an account number of ISO 13616
+-- the form of an account number of ISO 13616, which begins with its country
 abbrev pub is_account : List ℕ → Bool
-is_account text = nat_le 5 (length text) && nat_le (length text) 34 && list_all is_capital text
+is_account text = has_form 34 text
 
--- the characters of a creditor's reference of ISO 11649
+-- the form of a creditor's reference of ISO 11649
 abbrev pub is_reference : List ℕ → Bool
-is_reference text =
-    nat_le 5 (length text) && nat_le (length text) 25 && starts_with (λ a b. a == b) text (codes "RF") && list_all is_capital text
+is_reference text = has_form 25 text && starts_with (λ a b. a == b) text (codes "RF")
 
 -- line breaks and other control characters
 unfoldable pub control_checks : Transfer → Option ContentError
@@ -81,7 +80,7 @@ bank_checks t = first_refusal (
 unfoldable pub account_checks : Transfer → Option ContentError
 account_checks t = first_refusal (
     refused_if (not (is_account t.iban)) Iban Character
-    ∷ refused_if (not (checked_number t.iban % 97 == 1)) Iban CheckDigits
+    ∷ refused_if (not (is_checked t.iban)) Iban CheckDigits
     ∷ refused_if (nat_lt t.cents 1 || nat_lt 99999999999 t.cents) Amount Range
     ∷ [])
 
@@ -93,7 +92,7 @@ message_checks t = first_refusal (
     ∷ refused_if (nat_lt 4 (length t.purpose)) Purpose TooLong
     ∷ refused_if (not (list_all is_capital t.purpose)) Purpose Character
     ∷ refused_if (is_filled t.reference && not (is_reference t.reference)) Reference Character
-    ∷ refused_if (is_filled t.reference && not (checked_number t.reference % 97 == 1)) Reference CheckDigits
+    ∷ refused_if (is_filled t.reference && not (is_checked t.reference)) Reference CheckDigits
     ∷ refused_if (is_filled t.reference && is_filled t.message) Message Unused
     ∷ refused_if (nat_lt 140 (length (chars t.message))) Message TooLong
     ∷ refused_if (nat_lt 70 (length (chars t.information))) Information TooLong

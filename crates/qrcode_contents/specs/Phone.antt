@@ -1,19 +1,26 @@
 -- Links to telephones: `tel:` (RFC 3966) or `sms:` (RFC 5724), and the number behind it.
-use Rattle.std.specs.Prelude.{ℕ, ◌==◌, not, List, [], ◌∷◌, ◌++◌, Option, codes, if◌then◌else◌}
-use Rattle.std.specs.List.{list_all}
+use Rattle.std.specs.Prelude.{ℕ, ◌==◌, not, List, [], ◌∷◌, ◌++◌, drop, Option, codes, if◌then◌else◌}
+use Rattle.std.specs.List.{list_all, list_any}
 use Rattle.std.specs.Option.{option_map, option_and_then}
 use Rattle.qrcode_fields.specs.declared.errors.ContentError.{ContentError}
 use Rattle.qrcode_fields.specs.declared.errors.Field.TheVariants.{Phone}
 use Rattle.qrcode_fields.specs.declared.errors.Cause.TheVariants.{Empty, Character}
-use Rattle.qrcode_fields.specs.Characters.{is_dialled}
+use Rattle.qrcode_fields.specs.Characters.{is_dialled, is_digit}
 use Rattle.qrcode_fields.specs.Entries.{is_empty, behind}
 use Rattle.qrcode_fields.specs.Percents.{encoded, decoded}
 use Rattle.qrcode_fields.specs.Refusals.{refused_if, first_refusal}
 
--- what the link cannot say
-abbrev pub phone_refusal : List ℕ → Option ContentError
-phone_refusal number = first_refusal (
-    refused_if (is_empty number) Phone Empty ∷ refused_if (not (list_all is_dialled number)) Phone Character ∷ [])
+-- what the link cannot say: nothing, other characters, a plus sign that is not in front, and a number without a digit
+abbrev pub phone_checks : List ℕ → List (Option ContentError)
+phone_checks number =
+    refused_if (is_empty number) Phone Empty
+    ∷ refused_if (not (list_all is_dialled number)) Phone Character
+    ∷ refused_if (list_any (λ b. b == 43) (drop 1 number)) Phone Character
+    ∷ refused_if (not (list_any is_digit number)) Phone Character
+    ∷ []
+
+unfoldable pub phone_refusal : List ℕ → Option ContentError
+phone_refusal number = first_refusal (phone_checks number)
 
 -- the text of a message to a number
 abbrev pub message_text : List ℕ → List ℕ → List ℕ

@@ -1,20 +1,21 @@
 //! The text of a Swiss QR bill.
 
-ghost use Rattle.std.specs.Prelude.{◌≡◌, ◌++◌, ◌∷◌, ◌==◌, ◌&&◌, nat_le, length, Option, Some, [], IfOk, OnOk, IsOkUnless, string_bytes};
+ghost use Rattle.std.specs.Prelude.{◌≡◌, ◌++◌, ◌∷◌, ◌==◌, ◌&&◌, length, Option, Some, [], IfOk, OnOk, IsOkUnless, string_bytes};
 ghost use Rattle.std.specs.List.{list_all};
 ghost use Rattle.std.specs.Option.{option_map};
 ghost use Rattle.qrcode_fields.specs.declared.errors.ContentError.{ContentError};
 ghost use Rattle.qrcode_fields.specs.declared.errors.ContentError.TheVariants.{OutOfMemory};
-ghost use Rattle.qrcode_contents.specs.Bill.{addressee_of, invoice_of, is_latin, foreign_count, is_unsaid, is_letter, is_country, is_account, is_qr_account, is_creditor_reference, is_qr_reference, reference_kind, text_refusal, form_refusal, is_nobody, of_debtor, debtor_refusal, is_out_of_range, account_refusal, reference_refusal, bill_refusal, currency_name, address_kind, address_lines, amount_line, end_lines, bill_text, read_bill};
-ghost use Rattle.qrcode_fields.specs.Characters.{is_capital, is_digit};
+ghost use Rattle.qrcode_contents.specs.Bill.{addressee_of, invoice_of, is_latin, foreign_count, is_unsaid, is_country, is_account, is_qr_account, is_creditor_reference, is_qr_reference, reference_kind, text_refusal, form_refusal, is_nobody, of_debtor, debtor_refusal, is_out_of_range, account_refusal, reference_refusal, bill_refusal, currency_name, address_kind, address_lines, amount_line, end_lines, bill_text, read_bill};
+ghost use Rattle.qrcode_fields.specs.Characters.{is_digit};
 ghost use Rattle.qrcode_fields.specs.Lines.{later_text};
 ghost use Rattle.qrcode_fields.specs.Refusals.{Answers, checked};
 
+use crate::accounts::{are_figures, are_letters, has_form, is_checked};
 use qrcode_fields::amounts::push_amount;
-use qrcode_fields::characters::{are_capitals, are_digits, has_control};
+use qrcode_fields::characters::{are_digits, has_control};
 use qrcode_fields::errors::{Cause, ContentError, ContentResult, Field};
 use qrcode_fields::lines::push_lines;
-use qrcode_fields::numbers::{carry_of, has_check_digits};
+use qrcode_fields::numbers::carry_of;
 use qrcode_fields::refusals::{refuse_first, too_long};
 use qrcode_types::types::{EcLevel, Version};
 use std::alloc::Global;
@@ -67,7 +68,8 @@ pub struct Party<'a> {
 /// account with a number of an institution from 30000 to 31999 belongs.
 #[derive(Copy, Clone, PartialEq, Eq, Debug)]
 pub struct Bill<'a> {
-    /// The account in Switzerland or Liechtenstein, without spaces.
+    /// The account in Switzerland or Liechtenstein, without spaces: `CH` or `LI`, two check digits,
+    /// five digits of the institution, and 12 capitals and digits.
     pub iban: &'a str,
     /// Who is paid.
     pub creditor: Party<'a>,
@@ -106,27 +108,22 @@ fn is_unsaid(text: &str) -> bool
     has_control(text) || foreign_count(text) != 0
 }
 
-// Whether all bytes are letters A to Z.
-fn are_letters(text: &str) -> bool
-    ensures { result ≡ list_all is_letter text.now }
-{
-    let bytes = text.as_bytes();
-    bytes.iter().all(|byte| byte.is_ascii_uppercase())
-}
-
 // Whether it is a code of a country.
 fn is_country(text: &str) -> bool
     ensures { result ≡ is_country text.now }
 {
-    text.len() == 2 && are_letters(text)
+    text.len() == 2 && are_letters(text.as_bytes())
 }
 
-// Whether it has the characters of an account of Switzerland or Liechtenstein.
+// Whether it has the form of an account of Switzerland or Liechtenstein.
 fn is_an_account(text: &str) -> bool
     ensures { result ≡ is_account text.now }
 {
     let bytes = text.as_bytes();
-    text.len() == 21 && are_capitals(text) && (bytes.starts_with(b"CH") || bytes.starts_with(b"LI"))
+    bytes.len() == 21
+        && has_form(text, 21)
+        && (bytes.starts_with(b"CH") || bytes.starts_with(b"LI"))
+        && are_figures(&bytes[4..9])
 }
 
 // Whether QR references belong to the account.
@@ -156,14 +153,6 @@ fn has_qr_form(text: &str) -> bool
     ensures { result ≡ (length text.now == 27 && list_all is_digit text.now) }
 {
     text.len() == 27 && are_digits(text)
-}
-
-// Whether it has the characters of a reference of ISO 11649.
-fn has_creditor_form(text: &str) -> bool
-    ensures { result ≡ (nat_le 5 (length text.now) && nat_le (length text.now) 25
-        && list_all is_capital text.now) }
-{
-    text.len() >= 5 && text.len() <= 25 && are_capitals(text)
 }
 
 // The line of the reference's kind.
@@ -288,11 +277,7 @@ impl Bill<'_> {
                 Field::Iban,
                 Cause::Character,
             ),
-            (
-                !has_check_digits(self.iban.as_bytes()),
-                Field::Iban,
-                Cause::CheckDigits,
-            ),
+            (!is_checked(self.iban), Field::Iban, Cause::CheckDigits),
             (is_out_of_range(self.cents), Field::Amount, Cause::Range),
         ])
     }
@@ -302,7 +287,6 @@ impl Bill<'_> {
     fn check_reference(&self) -> ContentResult<()>
         ensures { result ≡ checked (reference_refusal (invoice_of self.now)) }
     {
-        let bytes = self.reference.as_bytes();
         let qr = is_qr_reference(self.reference);
         let creditor = is_creditor_reference(self.reference);
         let of_qr = is_qr_account(self.iban);
@@ -319,17 +303,17 @@ impl Bill<'_> {
                 Cause::Character,
             ),
             (
-                qr & (carry_of(bytes) != 0),
+                qr & (carry_of(self.reference.as_bytes()) != 0),
                 Field::Reference,
                 Cause::CheckDigits,
             ),
             (
-                creditor & !has_creditor_form(self.reference),
+                creditor & !has_form(self.reference, 25),
                 Field::Reference,
                 Cause::Character,
             ),
             (
-                creditor & !has_check_digits(bytes),
+                creditor & !is_checked(self.reference),
                 Field::Reference,
                 Cause::CheckDigits,
             ),

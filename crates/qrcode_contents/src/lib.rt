@@ -2,6 +2,7 @@
 //! named fields and the text of its format.
 #![tactic(auto)]
 
+mod accounts;
 pub mod bill;
 pub mod card;
 pub mod contact;

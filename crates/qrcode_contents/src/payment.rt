@@ -8,11 +8,11 @@ ghost use Rattle.qrcode_fields.specs.Lines.{later_text};
 ghost use Rattle.qrcode_fields.specs.Refusals.{Answers, checked};
 ghost use Rattle.qrcode_contents.specs.Payment.{payment_fields, control_checks, needs_bic, bank_checks, account_checks, message_checks, field_checks, payment_refusal, payment_text, later_count, later_lines, read_payment, version_name, is_bic, is_account, is_reference};
 
+use crate::accounts::{has_form, is_checked};
 use qrcode_fields::amounts::push_amount;
 use qrcode_fields::characters::are_capitals;
 use qrcode_fields::errors::{Cause, ContentError, ContentResult, Field};
 use qrcode_fields::lines::push_lines;
-use qrcode_fields::numbers::has_check_digits;
 use qrcode_fields::refusals::{controls, refuse_first, too_long};
 use qrcode_types::types::{EcLevel, Version};
 use std::alloc::Global;
@@ -64,13 +64,15 @@ pub struct Payment<'a> {
     pub bic: &'a str,
     /// Who is paid, 1 to 70 characters.
     pub name: &'a str,
-    /// The account, without spaces.
+    /// The account (IBAN), without spaces: two letters, two check digits, and 1 to 30 capitals and
+    /// digits.
     pub iban: &'a str,
     /// The amount in cents of a euro, 1 to 99,999,999,999.
     pub cents: u64,
     /// The code of the purpose, up to 4 capitals.
     pub purpose: &'a str,
-    /// The creditor's reference of ISO 11649, without spaces.
+    /// The creditor's reference of ISO 11649, without spaces: `RF`, two check digits, and 1 to 21
+    /// capitals and digits.
     pub reference: &'a str,
     /// A message, up to 140 characters.
     pub message: &'a str,
@@ -85,18 +87,18 @@ fn is_a_bic(text: &str) -> bool
     (text.len() == 8 || text.len() == 11) && are_capitals(text)
 }
 
-// Whether it has the characters of an IBAN.
+// Whether it has the form of an IBAN.
 fn is_an_account(text: &str) -> bool
     ensures { result ≡ is_account text.now }
 {
-    text.len() >= 5 && text.len() <= 34 && are_capitals(text)
+    has_form(text, 34)
 }
 
-// Whether it has the characters of a reference of ISO 11649.
+// Whether it has the form of a reference of ISO 11649.
 fn is_a_reference(text: &str) -> bool
     ensures { result ≡ is_reference text.now }
 {
-    text.len() >= 5 && text.len() <= 25 && text.as_bytes().starts_with(b"RF") && are_capitals(text)
+    has_form(text, 25) && text.as_bytes().starts_with(b"RF")
 }
 
 // Refuses a text of more than 331 bytes.
@@ -150,11 +152,7 @@ impl Payment<'_> {
     {
         refuse_first(&[
             (!is_an_account(self.iban), Field::Iban, Cause::Character),
-            (
-                !has_check_digits(self.iban.as_bytes()),
-                Field::Iban,
-                Cause::CheckDigits,
-            ),
+            (!is_checked(self.iban), Field::Iban, Cause::CheckDigits),
             (
                 (self.cents < 1) | (self.cents > 99_999_999_999),
                 Field::Amount,
@@ -169,7 +167,7 @@ impl Payment<'_> {
         ensures { result ≡ checked (message_checks (payment_fields self.now)) }
     {
         let referenced = !self.reference.is_empty();
-        let checked = has_check_digits(self.reference.as_bytes());
+        let checked = is_checked(self.reference);
         refuse_first(&[
             (self.name.is_empty(), Field::Name, Cause::Empty),
             too_long(Field::Name, self.name, 70),

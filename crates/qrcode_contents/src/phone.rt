@@ -1,7 +1,9 @@
 //! Links to a telephone.
 
-ghost use Rattle.std.specs.Prelude.{◌≡◌, ◌++◌, Some, IfOk, OnOk, IsOkUnless, string_bytes, codes};
+ghost use Rattle.std.specs.Prelude.{◌≡◌, ◌++◌, ◌==◌, drop, Some, IfOk, OnOk, IsOkUnless, string_bytes, codes};
+ghost use Rattle.std.specs.List.{list_any};
 ghost use Rattle.qrcode_fields.specs.declared.errors.ContentError.TheVariants.{OutOfMemory};
+ghost use Rattle.qrcode_fields.specs.Characters.{is_digit};
 ghost use Rattle.qrcode_fields.specs.Entries.{behind};
 ghost use Rattle.qrcode_fields.specs.Percents.{encoded, decoded};
 ghost use Rattle.qrcode_contents.specs.Phone.{phone_refusal, message_text, read_message};
@@ -13,7 +15,8 @@ use qrcode_fields::percents::push_encoded;
 use qrcode_fields::refusals::refuse_first;
 use std::alloc::Global;
 
-/// A telephone number: digits, `+`, and `-`, `.`, `(` and `)` between digits.
+/// A telephone number: digits, one at least, with `-`, `.`, `(` and `)` between them, and `+` in
+/// front of a global number.
 #[derive(Copy, Clone, PartialEq, Eq, Debug)]
 pub struct Phone<'a> {
     /// The number.
@@ -43,14 +46,32 @@ fn written_message(alloc: Global, number: &str, body: &str) -> ContentResult<Str
     Ok(text)
 }
 
+// Whether a plus sign stands behind the first byte.
+fn has_later_plus(number: &str) -> bool
+    ensures { result ≡ list_any (λ b. b == 43) (drop 1 number.now) }
+{
+    number.as_bytes().iter().skip(1).any(|byte| *byte == b'+')
+}
+
+// Whether a byte is a digit.
+fn has_digit(number: &str) -> bool
+    ensures { result ≡ list_any is_digit number.now }
+{
+    let bytes = number.as_bytes();
+    bytes.iter().any(|byte| byte.is_ascii_digit())
+}
+
 impl Phone<'_> {
     // Refuses what is no number.
+    #[tactic(auto, unfolding(crate::specs::Phone::phone_refusal))]
     fn check(&self) -> ContentResult<()>
         ensures { result ≡ checked (phone_refusal self.now.number.now) }
     {
         refuse_first(&[
             (self.number.is_empty(), Field::Phone, Cause::Empty),
             (!are_dialled(self.number), Field::Phone, Cause::Character),
+            (has_later_plus(self.number), Field::Phone, Cause::Character),
+            (!has_digit(self.number), Field::Phone, Cause::Character),
         ])
     }
 

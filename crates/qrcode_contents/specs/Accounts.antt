@@ -1,0 +1,23 @@
+-- Account numbers of ISO 13616 (IBAN) and creditors' references of ISO 11649: two letters, two check digits, and what is checked.
+use Rattle.std.specs.Prelude.{ℕ, nat_lt, nat_le, ◌+◌, ◌-◌, ◌*◌, ◌%◌, ◌==◌, ◌&&◌, Bool, List, length, take, drop, slice_index_or}
+use Rattle.std.specs.List.{list_all}
+use Rattle.qrcode_fields.specs.Characters.{is_capital, is_digit}
+use Rattle.qrcode_fields.specs.Numbers.{checked_number}
+
+-- a letter A to Z
+abbrev pub is_letter : ℕ → Bool
+is_letter b = nat_lt 64 b && nat_lt b 91
+
+-- the form of both: two letters, two digits, and letters and digits, of which there is one at least; so many characters at most
+abbrev pub has_form : ℕ → List ℕ → Bool
+has_form most text =
+    nat_le 5 (length text) && nat_le (length text) most && list_all is_letter (take 2 text) && list_all is_digit (take 2 (drop 2 text)) && list_all is_capital text
+
+-- the number of the two check digits
+abbrev pub check_number : List ℕ → ℕ
+check_number text = (slice_index_or text 2 0 - 48) * 10 + (slice_index_or text 3 0 - 48)
+
+-- check digits that are right: 98 less a remainder by 97, so 02 to 98
+abbrev pub is_checked : List ℕ → Bool
+is_checked text =
+    nat_lt 3 (length text) && nat_le 2 (check_number text) && nat_le (check_number text) 98 && checked_number text % 97 == 1
