@@ -12,6 +12,7 @@ use qrcode_contents::phone::Phone;
 use qrcode_contents::wifi::{Security, Wifi};
 use qrcode_events::event::{Event, Span};
 use qrcode_events::times::{Day, Moment};
+use qrcode_gs1::elements::Element;
 
 /// A network with a password.
 pub const NETWORK: Wifi<'static> = Wifi {
@@ -176,3 +177,23 @@ pub const EVENT: Event<'static> = Event {
     location: "",
     description: "",
 };
+
+/// What the label of a medicine carries: its number, expiry date, batch and serial number.
+pub const ELEMENTS: [Element<'static>; 4] = [
+    Element {
+        identifier: "01",
+        value: "03453120000011",
+    },
+    Element {
+        identifier: "17",
+        value: "191125",
+    },
+    Element {
+        identifier: "10",
+        value: "ABCD1234",
+    },
+    Element {
+        identifier: "21",
+        value: "10",
+    },
+];

@@ -1,12 +1,12 @@
 //! Symbols of contents, as the page on contents shows them: a value, its text, and the symbol in
-//! which readers show that text.
+//! which readers show that text; and the symbol of elements of GS1.
 #![tactic(auto)]
 
 pub mod examples;
 pub mod several;
 
-ghost use Rattle.std.specs.Prelude.{◌≤◌, ◌++◌, chars, codes, IfOk};
-ghost use Rattle.qrcode_types.specs.Versions.{side};
+ghost use Rattle.std.specs.Prelude.{◌≤◌, ◌++◌, chars, codes, map, IfOk, IfErr, IsTrue};
+ghost use Rattle.qrcode_types.specs.Versions.{is_valid, side};
 ghost use Rattle.qrcode_types.specs.declared.types.EcLevel.TheVariants.{M};
 ghost use Rattle.qrcode_contents.specs.Bill.{invoice_of, bill_text};
 ghost use Rattle.qrcode_contents.specs.Card.{contact_of, card_text};
@@ -18,21 +18,26 @@ ghost use Rattle.qrcode_contents.specs.Payment.{payment_fields, payment_text};
 ghost use Rattle.qrcode_contents.specs.Phone.{message_text};
 ghost use Rattle.qrcode_contents.specs.Wifi.{wifi_fields, wifi_text};
 ghost use Rattle.qrcode_events.specs.Event.{happening_of, event_text};
+ghost use Rattle.qrcode_gs1.specs.Items.{item};
+ghost use Rattle.qrcode_gs1_symbol.specs.Elements.{IsGs1Symbol, IsGs1Refused};
 ghost use Rattle.qrcode.specs.Texts.{IsShownAs};
 
 use qrcode::types::QrError;
-use qrcode::{EcLevel, QrCode};
-use qrcode_contents::bill::Bill;
+use qrcode::{EcLevel, QrCode, Version};
+use qrcode_contents::bill::{self, Bill};
 use qrcode_contents::card::Card;
 use qrcode_contents::contact::Contact;
 use qrcode_contents::errors::ContentError;
 use qrcode_contents::geo::Place;
 use qrcode_contents::mail::Mail;
 use qrcode_contents::one_time::OneTime;
-use qrcode_contents::payment::Payment;
+use qrcode_contents::payment::{self, Payment};
 use qrcode_contents::phone::Phone;
 use qrcode_contents::wifi::Wifi;
 use qrcode_events::event::Event;
+use qrcode_gs1::elements::Element;
+use qrcode_gs1_symbol::errors::SymbolResult;
+use qrcode_gs1_symbol::gs1;
 use std::alloc::Global;
 
 /// Why there is no symbol.
@@ -58,13 +63,15 @@ impl From<QrError> for Unmade {
     }
 }
 
-// The symbol of a text at level M, with at most so many modules along a side.
-fn bounded(alloc: Global, text: &str, most: usize) -> Result<QrCode, Unmade>
-    ensures shown { IfOk result (λ code. IsShownAs code.version M (chars text.now) code.modules) }
-    ensures at_most { IfOk result (λ code. side code.version ≤ most) }
+// The symbol of a text at a level, where its version is not above the largest.
+fn bounded(alloc: Global, text: &str, ec_level: EcLevel, largest: Version) -> Result<QrCode, Unmade>
+    requires { IsTrue (is_valid largest) }
+    ensures shown { IfOk result (λ code.
+        IsShownAs code.version ec_level (chars text.now) code.modules) }
+    ensures at_most { IfOk result (λ code. side code.version ≤ side largest) }
 {
-    let code = QrCode::of_text(alloc, text, EcLevel::M)?;
-    if code.width() > most {
+    let code = QrCode::of_text(alloc, text, ec_level)?;
+    if code.width() > largest.width() as usize {
         return Err(Unmade::Large);
     }
     Ok(code)
@@ -76,7 +83,7 @@ pub fn network(alloc: Global, network: &Wifi) -> Result<QrCode, Unmade>
         (chars (wifi_text (wifi_fields network.now))) code.modules) }
 {
     let text = network.text(alloc)?;
-    bounded(alloc, text.as_str(), 177)
+    Ok(QrCode::of_text(alloc, text.as_str(), EcLevel::M)?)
 }
 
 /// The symbol of a payment, at most Normal 13: 69 modules along a side.
@@ -86,7 +93,7 @@ pub fn payment(alloc: Global, payment: &Payment) -> Result<QrCode, Unmade>
     ensures at_most { IfOk result (λ code. side code.version ≤ 69) }
 {
     let text = payment.text(alloc)?;
-    bounded(alloc, text.as_str(), 69)
+    bounded(alloc, text.as_str(), payment::LEVEL, payment::LARGEST)
 }
 
 /// The symbol of a Swiss QR bill, at most Normal 25: 117 modules along a side.
@@ -96,7 +103,7 @@ pub fn bill(alloc: Global, bill: &Bill) -> Result<QrCode, Unmade>
     ensures at_most { IfOk result (λ code. side code.version ≤ 117) }
 {
     let text = bill.text(alloc)?;
-    bounded(alloc, text.as_str(), 117)
+    bounded(alloc, text.as_str(), bill::LEVEL, bill::LARGEST)
 }
 
 /// The symbol that writes a mail.
@@ -105,7 +112,7 @@ pub fn mail(alloc: Global, mail: &Mail) -> Result<QrCode, Unmade>
         (chars (mail_text (letter_of mail.now))) code.modules) }
 {
     let text = mail.text(alloc)?;
-    bounded(alloc, text.as_str(), 177)
+    Ok(QrCode::of_text(alloc, text.as_str(), EcLevel::M)?)
 }
 
 /// The symbol of a contact.
@@ -114,7 +121,7 @@ pub fn card(alloc: Global, card: &Card) -> Result<QrCode, Unmade>
         (chars (card_text (contact_of card.now))) code.modules) }
 {
     let text = card.text(alloc)?;
-    bounded(alloc, text.as_str(), 177)
+    Ok(QrCode::of_text(alloc, text.as_str(), EcLevel::M)?)
 }
 
 /// The symbol of a place.
@@ -123,7 +130,7 @@ pub fn place(alloc: Global, place: &Place) -> Result<QrCode, Unmade>
         (chars (place_text place.now)) code.modules) }
 {
     let text = place.text(alloc)?;
-    bounded(alloc, text.as_str(), 177)
+    Ok(QrCode::of_text(alloc, text.as_str(), EcLevel::M)?)
 }
 
 /// The symbol of one-time passwords.
@@ -132,7 +139,7 @@ pub fn one_time(alloc: Global, passwords: &OneTime) -> Result<QrCode, Unmade>
         (chars (key_text (key_of passwords.now))) code.modules) }
 {
     let text = passwords.text(alloc)?;
-    bounded(alloc, text.as_str(), 177)
+    Ok(QrCode::of_text(alloc, text.as_str(), EcLevel::M)?)
 }
 
 /// The symbol of a contact, as MECARD.
@@ -141,7 +148,7 @@ pub fn contact(alloc: Global, contact: &Contact) -> Result<QrCode, Unmade>
         (chars (mecard_text (person_of contact.now))) code.modules) }
 {
     let text = contact.mecard(alloc)?;
-    bounded(alloc, text.as_str(), 177)
+    Ok(QrCode::of_text(alloc, text.as_str(), EcLevel::M)?)
 }
 
 /// The symbol that calls a number.
@@ -150,7 +157,7 @@ pub fn call(alloc: Global, phone: &Phone) -> Result<QrCode, Unmade>
         (chars (codes "tel:" ++ phone.now.number.now)) code.modules) }
 {
     let text = phone.tel(alloc)?;
-    bounded(alloc, text.as_str(), 177)
+    Ok(QrCode::of_text(alloc, text.as_str(), EcLevel::M)?)
 }
 
 /// The symbol that writes a message to a number.
@@ -159,7 +166,7 @@ pub fn message(alloc: Global, phone: &Phone, body: &str) -> Result<QrCode, Unmad
         (chars (message_text phone.now.number.now body.now)) code.modules) }
 {
     let text = phone.message(alloc, body)?;
-    bounded(alloc, text.as_str(), 177)
+    Ok(QrCode::of_text(alloc, text.as_str(), EcLevel::M)?)
 }
 
 /// The symbol of an event.
@@ -168,5 +175,13 @@ pub fn event(alloc: Global, event: &Event) -> Result<QrCode, Unmade>
         (chars (event_text (happening_of event.now))) code.modules) }
 {
     let text = event.text(alloc)?;
-    bounded(alloc, text.as_str(), 177)
+    Ok(QrCode::of_text(alloc, text.as_str(), EcLevel::M)?)
+}
+
+/// The symbol of elements of GS1.
+pub fn elements(alloc: Global, elements: &[Element]) -> SymbolResult<QrCode>
+    ensures symbol { IfOk result (IsGs1Symbol 0 M (map item elements.now)) }
+    ensures causes { IfErr result (IsGs1Refused 0 M (map item elements.now)) }
+{
+    gs1(alloc, elements, EcLevel::M)
 }
