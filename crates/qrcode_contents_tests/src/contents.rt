@@ -199,8 +199,7 @@ fn contents_have_symbols(rt: HostRuntime) {
     let alloc = rt.alloc();
     let network = uses::network(alloc, &examples::NETWORK).expect(&rt, "a symbol");
     let mail = uses::mail(alloc, &examples::MAIL).expect(&rt, "a symbol");
-    let payment = values::payment("BE72000000001616", "");
-    let payment = uses::payment(alloc, &payment).expect(&rt, "a symbol");
+    let payment = uses::payment(alloc, &examples::PAYMENT).expect(&rt, "a symbol");
     let bill = values::bill(DEBTOR, "210000000003139471430009017");
     let bill = uses::bill(alloc, &bill).expect(&rt, "a symbol");
     assert!(rt; network.width() == 29 && mail.width() == 33 && payment.width() == 41);
@@ -211,7 +210,12 @@ fn contents_have_symbols(rt: HostRuntime) {
 fn examples_have_symbols(rt: HostRuntime) {
     let alloc = rt.alloc();
     assert!(rt; uses::contact(alloc, &examples::CONTACT).is_ok());
+    assert!(rt; uses::card(alloc, &examples::CARD).is_ok());
+    assert!(rt; uses::bill(alloc, &examples::BILL).is_ok());
     assert!(rt; uses::call(alloc, &examples::CALLED).is_ok());
     assert!(rt; uses::message(alloc, &examples::WRITTEN_TO, "hello there").is_ok());
+    assert!(rt; uses::place(alloc, &examples::PLACE).is_ok());
+    assert!(rt; uses::one_time(alloc, &examples::ONE_TIME).is_ok());
     assert!(rt; uses::event(alloc, &examples::EVENT).is_ok());
+    assert!(rt; uses::elements(alloc, &examples::ELEMENTS).is_ok());
 }
