@@ -10,7 +10,11 @@ use crate::reading::read;
 use crate::streams::{has_colours, print, read_file, read_standard_input};
 use goqlanis_contents::text_of;
 use goqlanis_options::{Given, Kind, Purpose, Task, completions_of, manual_page, task_of};
+use qrcode::QrCode;
+use qrcode::types::QrError;
+use qrcode_contents::bill;
 use qrcode_programs::Fault;
+use std::alloc::Global;
 use std::process::ExitCode;
 
 /// What the command line asks for, and its words: the title of the task, and what stands behind the word
@@ -80,7 +84,30 @@ fn draw_content(rt: &HostRuntime, kind: Kind, given: &Given<'_>) -> Result<ExitC
     let alloc = rt.alloc();
     let asked = asked_for(alloc, given, has_colours(rt))?;
     let text = text_of(alloc, kind, given)?;
+    if matches!(kind, Kind::Bill) {
+        check_bill(alloc, text.as_str())?;
+    }
     draw_one(rt, &asked, text.as_bytes(), None)
+}
+
+// The bytes that a symbol of a bill's level and largest version always holds.
+const BILL_ROOM: usize = 997;
+
+// Refuses the text of a bill that the largest version of bills does not hold.
+fn check_bill(alloc: Global, text: &str) -> Result<(), Failure> {
+    if text.len() <= BILL_ROOM {
+        return Ok(());
+    }
+    match QrCode::of_text_in(alloc, text, bill::LARGEST, bill::LEVEL) {
+        Ok(_) => Ok(()),
+        Err(QrError::OutOfMemory) => Err(Failure::OutOfMemory),
+        Err(_) => {
+            let more = text.len() - BILL_ROOM;
+            Err(Failure::Refused(format!(in alloc;
+                "the whole text: a bill has at most version 25, of {BILL_ROOM} bytes; shorten fields by {more} bytes (a letter with an accent takes two)"
+            )?))
+        }
+    }
 }
 
 // Draws elements of GS1, or data of an application.
