@@ -14,7 +14,7 @@ use qrcode::bits::Manner;
 use qrcode::types::QrError;
 use qrcode_gs1::errors::Gs1Error;
 use qrcode_gs1_symbol::errors::SymbolError;
-use qrcode_gs1_symbol::{are_apart, indicator_of};
+use qrcode_gs1_symbol::indicator_of;
 use std::alloc::{AllocError, Global};
 use std::io::IsTerminal;
 use std::process::ExitCode;
@@ -109,12 +109,6 @@ pub(crate) fn application_drawing(
         );
     }
     let bytes = data.as_bytes();
-    if !are_apart(bytes) {
-        return refused(
-            alloc,
-            "ELEMENTS: a separator, byte 29, stands right behind another; leave one of them out",
-        );
-    }
     match draw_for_application(alloc, request, application, bytes) {
         Ok(drawing) => Ok(drawing),
         Err(QrError::OutOfMemory) => Err(Failure::OutOfMemory),
