@@ -2,6 +2,7 @@
 
 use crate::elements::{symbol_for_application, symbol_of_elements};
 use crate::request::{Choice, Request};
+use crate::segments::{Segment, symbol_of};
 use qrcode::bits::Manner;
 use qrcode::types::{EcLevel, Mode, QrError, Version};
 use qrcode_gs1::elements::Element;
@@ -39,20 +40,22 @@ pub fn refusal_text(
     }
 }
 
-/// The text of a refusal of segments by hand.
+/// The text of a refusal of segments by hand; of one version that has no room for them it names the
+/// least behind it that has.
 pub fn segments_refusal_text(
     alloc: Global,
     request: &Request<'_>,
+    segments: &[Segment<'_>],
     error: QrError,
 ) -> Result<String, AllocError> {
-    let level = request.level;
     match (error, request.choice) {
-        (QrError::DataTooLong, Choice::At(version)) => {
-            let name = Name(version);
-            format!(in alloc; "version {name} at level {level:?} does not hold the segments")
-        }
-        (QrError::DataTooLong, _) => {
-            format!(in alloc; "no version holds the segments at level {level:?}")
+        (QrError::DataTooLong, choice) => {
+            let from = Choice::From(least_version(choice));
+            let least = match symbol_of(alloc, from, request.level, segments) {
+                Ok(code) => Some(code.version()),
+                Err(_) => None,
+            };
+            room_refusal_text(alloc, request, "segments", least)
         }
         (QrError::UnsupportedCharacterSet, Choice::At(version)) => {
             let name = Name(version);
@@ -107,14 +110,28 @@ fn marked_refusal_text(
     what: &str,
     least: Option<Version>,
 ) -> Result<String, AllocError> {
+    match request.choice {
+        Choice::At(version) if version.is_micro() => {
+            let name = Name(version);
+            format!(in alloc; "version {name} has no FNC1, as all of Micro QR; take 1 to 40")
+        }
+        _ => room_refusal_text(alloc, request, what, least),
+    }
+}
+
+// The text of a refusal of what no version that may be taken has room for, by the least version that holds
+// it from the one that is asked for on.
+fn room_refusal_text(
+    alloc: Global,
+    request: &Request<'_>,
+    what: &str,
+    least: Option<Version>,
+) -> Result<String, AllocError> {
     let level = request.level;
     let Choice::At(version) = request.choice else {
         return format!(in alloc; "no version holds the {what} at level {level:?}");
     };
     let name = Name(version);
-    if version.is_micro() {
-        return format!(in alloc; "version {name} has no FNC1, as all of Micro QR; take 1 to 40");
-    }
     let mut text = format!(in alloc; "version {name} at level {level:?} does not hold the {what}")?;
     if let Some(least) = least {
         if least != version {

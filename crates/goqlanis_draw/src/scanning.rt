@@ -1,8 +1,8 @@
 //! Pictures, read.
 
-ghost use Rattle.std.specs.Prelude.{◌≡◌, true, IfOk};
+ghost use Rattle.std.specs.Prelude.{◌≡◌, ◌++◌, true, IfOk, OnOk};
 ghost use Rattle.qrcode_scan.specs.Squares.{inverted};
-ghost use Rattle.goqlanis_draw.specs.Scans.{IsReadAs, IsScanOf, IsSquareOf};
+ghost use Rattle.goqlanis_draw.specs.Scans.{header_in, headers_in, IsHeaderReading, IsReadAs, IsScanOf, IsSquareOf};
 
 use qrcode::types::Mode;
 use qrcode_reader::{AnyReading, Position, Reading, read_any, read_bits};
@@ -22,6 +22,8 @@ pub struct Scan {
     pub any: AnyReading,
     /// Whether headers, as the number of a character set, stand between the segments.
     pub has_headers: bool,
+    /// These headers, in their order.
+    pub headers: Vec<Header>,
 }
 
 /// Why a picture is not read.
@@ -110,9 +112,10 @@ fn read_pixels(alloc: Global, pixels: &Pixels, is_inverted: bool) -> Result<Scan
             is_inverted,
             any,
             has_headers: false,
+            headers: Vec::new(alloc),
         });
     }
-    let reading = read_with_headers(alloc, &square)?;
+    let (reading, headers) = read_with_headers(alloc, &square)?;
     Ok(Scan {
         square,
         is_inverted,
@@ -122,24 +125,52 @@ fn read_pixels(alloc: Global, pixels: &Pixels, is_inverted: bool) -> Result<Scan
             reading,
         },
         has_headers: true,
+        headers,
     })
 }
 
-// The bytes of an upright square in which headers stand between segments.
-fn read_with_headers(alloc: Global, square: &Square) -> Result<Reading, Unread> {
+// The reading of an upright square in which headers stand between segments, and these headers.
+fn read_with_headers(alloc: Global, square: &Square) -> Result<(Reading, Vec<Header>), Unread>
+    ensures { IfOk result (λ read. IsHeaderReading square.now.modules.items
+        read.0.version read.0.ec_level read.0.mask read.0.wrong.items read.1.items) }
+{
     let unread = |error| match error {
         qrcode_reader::Unread::OutOfMemory => Unread::OutOfMemory,
         error => Unread::NoSymbol(square.count, error),
     };
     let bits = read_bits(alloc, &square.modules).map_err(unread)?;
     let found = pieces(alloc, &bits.bits, bits.version).map_err(|error| unread(error.into()))?;
-    Ok(Reading {
+    let headers = headers_of(alloc, &found.parts)?;
+    let reading = Reading {
         version: bits.version,
         ec_level: bits.ec_level,
         mask: bits.mask,
         data: as_handed_on(alloc, &found)?,
         wrong: bits.wrong,
-    })
+    };
+    Ok((reading, headers))
+}
+
+// The headers among parts.
+fn headers_of(alloc: Global, parts: &[Part]) -> Result<Vec<Header>, AllocError>
+    ensures { IfOk result (λ headers. headers.items ≡ headers_in parts.now) }
+{
+    let mut headers = Vec::new(alloc);
+    for part in parts {
+        push_header(&mut headers, *part)?;
+    }
+    Ok(headers)
+}
+
+// Appends the header that a part is; a segment is none.
+fn push_header(headers: &mut Vec<Header>, part: Part) -> Result<(), AllocError>
+    ensures { OnOk result (headers.new.items ≡ headers.old.items ++ header_in part) }
+{
+    match part {
+        Part::Front(header) => headers.push(header)?,
+        Part::Bytes(_, _) => {}
+    }
+    Ok(())
 }
 
 // The bytes of a symbol's parts, as readers hand them on (ISO/IEC 18004:2006, 6.4.8): behind FNC1 a percent

@@ -62,7 +62,7 @@ pub(crate) fn segments_drawing(
         Ok(drawing) => Ok(drawing),
         Err(QrError::OutOfMemory) => Err(Failure::OutOfMemory),
         Err(error) => {
-            let text = segments_refusal_text(alloc, request, error)?;
+            let text = segments_refusal_text(alloc, request, &segments, error)?;
             Err(Failure::Refused(text))
         }
     }

@@ -6,6 +6,7 @@ use goqlanis_draw::{Scan, Unread, read_picture};
 use goqlanis_options::Given;
 use qrcode::types::Version;
 use qrcode_reader::{Position, WrongCodeword};
+use qrcode_spell::Header;
 use std::alloc::{AllocError, Global};
 use std::process::ExitCode;
 
@@ -52,11 +53,46 @@ position: {place}"
     if scan.is_inverted != scan.any.is_inverted {
         text.push_str(", dark and light exchanged")?;
     }
-    if scan.has_headers {
-        text.push_str(", with headers between the segments")?;
-    }
     push_wrong(&mut text, &reading.wrong)?;
+    for header in &scan.headers {
+        push_header(&mut text, *header)?;
+    }
     Ok(text)
+}
+
+// What a header says, in a line.
+fn push_header(text: &mut String, header: Header) -> Result<(), AllocError> {
+    match header {
+        Header::Eci(number) => write!(
+            text,
+            "header: ECI {number}, the number of a character set\n"
+        ),
+        Header::Fnc1First => text.push_str("header: FNC1 in first position, elements of GS1\n"),
+        Header::Fnc1Second(indicator) => push_application(text, indicator),
+        Header::StructuredAppend {
+            place,
+            last,
+            parity,
+        } => {
+            let (number, count) = (place.saturating_add(1), last.saturating_add(1));
+            write!(
+                text,
+                "header: symbol {number} of {count}; all data has parity {parity}\n"
+            )
+        }
+    }
+}
+
+// FNC1 in second position, and its application: two digits, or a letter, which stands as its code and 100.
+fn push_application(text: &mut String, indicator: u8) -> Result<(), AllocError> {
+    text.push_str("header: FNC1 in second position, application ")?;
+    let code = indicator.saturating_sub(100);
+    if code.is_ascii_alphabetic() {
+        let letter = char::from(code);
+        write!(text, "{letter}\n")
+    } else {
+        write!(text, "{indicator:02}\n")
+    }
 }
 
 // How a symbol stands in its picture.
