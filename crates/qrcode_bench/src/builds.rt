@@ -94,24 +94,15 @@ fn build_fixed(alloc: Global, case: Case, count: u32) -> QrResult<Digest> {
     }
 }
 
-// Builds something so many times.
-fn repeat<F: Fn() -> QrResult<Digest>>(count: u32, build: F) -> QrResult<Digest>
-    requires { F.IsAlwaysCallable build }
-{
-    let mut digest = Digest::of::<u8>(&[]);
-    for _ in 0..count {
-        digest = digest.and(build()?);
-    }
-    Ok(digest)
-}
-
 // Symbols of eight digits, of a version and level.
 fn in_version(alloc: Global, version: Version, ec_level: EcLevel, count: u32) -> QrResult<Digest> {
     let data = repeated(alloc, DIGITS, 8)?;
-    repeat(count, || {
+    let mut digest = Digest::of::<u8>(&[]);
+    for _ in 0..count {
         let code = QrCode::with_version(alloc, &data, version, ec_level)?;
-        Ok(of_code(&code))
-    })
+        digest = digest.and(of_code(&code));
+    }
+    Ok(digest)
 }
 
 // Symbols of the least version for data.
@@ -125,10 +116,12 @@ fn at_level(
     requires { 0 < length text.now }
 {
     let data = repeated(alloc, text, size)?;
-    repeat(count, || {
+    let mut digest = Digest::of::<u8>(&[]);
+    for _ in 0..count {
         let code = QrCode::with_error_correction_level(alloc, &data, ec_level)?;
-        Ok(of_code(&code))
-    })
+        digest = digest.and(of_code(&code));
+    }
+    Ok(digest)
 }
 
 // Symbols that bytes fill, at level M: the first of Normal 1, the next of Normal 2, and so on to Normal
@@ -160,20 +153,24 @@ fn filled(alloc: Global, version: Version, data: &[u8]) -> QrResult<QrCode>
 // Lists of bits, each with one push of digits.
 fn push(alloc: Global, size: usize, count: u32) -> QrResult<Digest> {
     let data = repeated(alloc, DIGITS, size)?;
-    repeat(count, || {
+    let mut digest = Digest::of::<u8>(&[]);
+    for _ in 0..count {
         let mut bits = Bits::new(alloc, Version::Normal(40));
         bits.push_numeric_data(&data)?;
-        Ok(of_bytes(&bits.into_bytes()))
-    })
+        digest = digest.and(of_bytes(&bits.into_bytes()));
+    }
+    Ok(digest)
 }
 
 // Terminated lists of bits, of the least version for mixed data.
 fn automatic(alloc: Global, size: usize, count: u32) -> QrResult<Digest> {
     let data = repeated(alloc, MIXED, size)?;
-    repeat(count, || {
+    let mut digest = Digest::of::<u8>(&[]);
+    for _ in 0..count {
         let bits = encode_auto(alloc, &data, EcLevel::M)?;
-        Ok(of_bytes(&bits.into_bytes()))
-    })
+        digest = digest.and(of_bytes(&bits.into_bytes()));
+    }
+    Ok(digest)
 }
 
 // Segments of mixed data.
@@ -181,10 +178,12 @@ fn least(alloc: Global, size: usize, count: u32) -> QrResult<Digest>
     requires { size ≤ data_limit }
 {
     let data = repeated(alloc, MIXED, size)?;
-    repeat(count, || {
+    let mut digest = Digest::of::<u8>(&[]);
+    for _ in 0..count {
         let segments = least_segments(alloc, &data, Version::Normal(40))?;
-        Ok(of_segments(&segments))
-    })
+        digest = digest.and(of_segments(&segments));
+    }
+    Ok(digest)
 }
 
 // Codewords of all blocks of a version.
@@ -192,10 +191,12 @@ fn codewords(alloc: Global, version: Version, ec_level: EcLevel, count: u32) -> 
     requires { IsTrue (has_level version ec_level) }
 {
     let data = repeated(alloc, WORDS, data_length(version, ec_level))?;
-    repeat(count, || {
+    let mut digest = Digest::of::<u8>(&[]);
+    for _ in 0..count {
         let (data, ec) = construct_codewords(alloc, &data, version, ec_level)?;
-        Ok(of_bytes(&data).and(of_bytes(&ec)))
-    })
+        digest = digest.and(of_bytes(&data).and(of_bytes(&ec)));
+    }
+    Ok(digest)
 }
 
 // The data bytes of a version.
@@ -216,10 +217,12 @@ fn patterns_and_data(
     requires { IsTrue (is_valid version) }
 {
     let codewords = repeated(alloc, WORDS, CODEWORDS)?;
-    repeat(count, || {
+    let mut digest = Digest::of::<u8>(&[]);
+    for _ in 0..count {
         let canvas = drawn(alloc, version, ec_level, &codewords)?;
-        Ok(of_canvas(&canvas))
-    })
+        digest = digest.and(of_canvas(&canvas));
+    }
+    Ok(digest)
 }
 
 // A canvas with patterns, and with codewords at all places that they have.
@@ -240,10 +243,12 @@ fn best_mask(alloc: Global, version: Version, ec_level: EcLevel, count: u32) -> 
 {
     let codewords = repeated(alloc, WORDS, CODEWORDS)?;
     let canvas = drawn(alloc, version, ec_level, &codewords)?;
-    repeat(count, || {
+    let mut digest = Digest::of::<u8>(&[]);
+    for _ in 0..count {
         let best = canvas.apply_best_mask(alloc)?;
-        Ok(of_canvas(&best))
-    })
+        digest = digest.and(of_canvas(&best));
+    }
+    Ok(digest)
 }
 
 // Texts that are pictures of the symbol of words.
@@ -253,10 +258,12 @@ fn text<P: Pixel<Image = String>>(alloc: Global, size: usize, count: u32) -> QrR
 {
     let data = repeated(alloc, WORDS, size)?;
     let code = QrCode::new(alloc, &data)?;
-    repeat(count, || {
+    let mut digest = Digest::of::<u8>(&[]);
+    for _ in 0..count {
         let text = picture::<P>(alloc, &code)?;
-        Ok(of_bytes(text.as_bytes()))
-    })
+        digest = digest.and(of_bytes(text.as_bytes()));
+    }
+    Ok(digest)
 }
 
 // The picture of a symbol.
@@ -271,10 +278,12 @@ fn picture<P: Pixel>(alloc: Global, code: &QrCode) -> QrResult<P::Image>
 fn pixels(alloc: Global, size: usize, count: u32) -> QrResult<Digest> {
     let data = repeated(alloc, WORDS, size)?;
     let code = QrCode::new(alloc, &data)?;
-    repeat(count, || {
+    let mut digest = Digest::of::<u8>(&[]);
+    for _ in 0..count {
         let image = picture::<image::Luma>(alloc, &code)?;
-        Ok(of_bytes(&image.into_raw()))
-    })
+        digest = digest.and(of_bytes(&image.into_raw()));
+    }
+    Ok(digest)
 }
 
 // Texts and rows of pixels of the same, with so many pixels a module.
@@ -288,10 +297,12 @@ fn told_text<P: Pixel<Image = String>>(
 {
     let data = repeated(alloc, WORDS, size)?;
     let code = QrCode::new(alloc, &data)?;
-    repeat(count, || {
+    let mut digest = Digest::of::<u8>(&[]);
+    for _ in 0..count {
         let text = scaled::<P>(alloc, &code, pixels)?;
-        Ok(of_bytes(text.as_bytes()))
-    })
+        digest = digest.and(of_bytes(text.as_bytes()));
+    }
+    Ok(digest)
 }
 
 fn told_pixels(alloc: Global, size: usize, pixels: u32, count: u32) -> QrResult<Digest>
@@ -299,10 +310,12 @@ fn told_pixels(alloc: Global, size: usize, pixels: u32, count: u32) -> QrResult<
 {
     let data = repeated(alloc, WORDS, size)?;
     let code = QrCode::new(alloc, &data)?;
-    repeat(count, || {
+    let mut digest = Digest::of::<u8>(&[]);
+    for _ in 0..count {
         let image = scaled::<image::Luma>(alloc, &code, pixels)?;
-        Ok(of_bytes(&image.into_raw()))
-    })
+        digest = digest.and(of_bytes(&image.into_raw()));
+    }
+    Ok(digest)
 }
 
 // Files that are pictures of the symbol of words, of so many pixels a module.
@@ -316,10 +329,12 @@ fn files<P: Pixel<Image = Vec<u8>>>(
 {
     let data = repeated(alloc, WORDS, size)?;
     let code = QrCode::new(alloc, &data)?;
-    repeat(count, || {
+    let mut digest = Digest::of::<u8>(&[]);
+    for _ in 0..count {
         let file = scaled::<P>(alloc, &code, pixels)?;
-        Ok(of_bytes(&file))
-    })
+        digest = digest.and(of_bytes(&file));
+    }
+    Ok(digest)
 }
 
 // The picture of a symbol, of so many pixels a module.
