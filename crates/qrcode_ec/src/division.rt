@@ -193,7 +193,7 @@ fn advance(register: &mut [u8; ROOM], generator: &[u8; ROOM], degree: usize, fac
 #[inline(always)]
 fn advanced(register: u8x32, low: &[u8; LANES], high: &[u8; LANES]) -> u8x32
     requires { length register ≡ 32 }
-    ensures long { length result ≡ 32 }
+    ensures length { length result ≡ 32 }
     ensures value { (j : ℕ) → j < 32 → slice_index result j
         ≡ bit_xor (slice_index register (suc j))
         (bit_xor (slice_index low.now j) (slice_index high.now j)) }

@@ -2,7 +2,7 @@
 use Rattle.std.proofs.Common.{◌≡◌, ℕ, zero, suc, ◌+◌, ◌-◌, ◌*◌, ◌/◌, ◌%◌, ◌^◌, ◌<◌, ◌≤◌, Bool, true, false, not, ◌==◌, ◌&&◌, ◌||◌, refl, ap, sym, ◌∙◌, arith, min, max, bit_and, bit_or, bit_xor}
 use Rattle.std.specs.Int.{bit_at}
 use Rattle.std.proofs.lemmas.Nat.{shr-shr, shr_split, mod_below, pow_pos}
-use Rattle.std.proofs.lemmas.Nat.Bits.{bit_at_and, bit_at_or, bit_at_xor, bit_at-lt, bit_at-zero, bit_at_above, bit_at_ones, bit_at_ones_above, bit_at_cat_low, bit_at_cat_high, bit_at-pow_same, bit_at-pow_other, same_from_bits}
+use Rattle.std.proofs.lemmas.Nat.Bits.{bit_at_and, bit_at_or, bit_at_xor, bit_at-lt, bit_at-zero, bit_at_above, bit_at_ones, bit_at_ones_above, bit_at_cat_low, bit_at_cat_high, same_from_bits}
 use Rattle.qrcode_packed.specs.Rows.{is_set}
 
 -- exclusive or
@@ -84,14 +84,6 @@ has_first n k h = ap (λ x. x == 1) (bit_at_ones n k h)
 pub has_first_above : (n k : ℕ) → n ≤ k → is_set (2 ^ n - 1) k ≡ false
 unfolding is_set
 has_first_above n k h = ap (λ x. x == 1) (bit_at_ones_above n k h)
-
-pub has_one : (k : ℕ) → is_set (2 ^ k) k ≡ true
-unfolding is_set
-has_one k = ap (λ x. x == 1) (bit_at-pow_same k)
-
-pub has_one_other : (k i : ℕ) → (i ≡ k → ⊥) → is_set (2 ^ k) i ≡ false
-unfolding is_set
-has_one_other k i h = ap (λ x. x == 1) (bit_at-pow_other k i h)
 
 pub has_above : (n w k : ℕ) → n < 2 ^ w → w ≤ k → is_set n k ≡ false
 unfolding is_set

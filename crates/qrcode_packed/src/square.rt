@@ -21,7 +21,8 @@ impl<'a, R: PackedRow> Model for PackedSquare<'a, R> {
 
     ghost view = { λ s. record { width = s.width; rows = map R.bits s.rows.now } };
 
-    ghost invariant = { λ s. IsSquare R.room (record { width = s.width; rows = map R.bits s.rows.now }) };
+    ghost invariant = { λ s. IsSquare R.room
+        (record { width = s.width; rows = map R.bits s.rows.now }) };
 }
 
 impl<'a, R: PackedRow> PackedSquare<'a, R> {

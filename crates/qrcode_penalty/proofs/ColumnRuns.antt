@@ -7,12 +7,6 @@ use Rattle.qrcode_penalty.specs.Penalty.{sum_below, count_if}
 use Rattle.qrcode_penalty.proofs.Sums.{sum_same}
 use Rattle.qrcode_penalty.specs.Inside.{before, two, run_from, inside_row}
 
-either_case : (p q : Bool) → not (not p && not q) ≡ (q || p)
-either_case true true = refl
-either_case true false = refl
-either_case false true = refl
-either_case false false = refl
-
 neither_case : (p q : Bool) → (not p && not q) ≡ not (q || p)
 neither_case true true = refl
 neither_case true false = refl

@@ -158,13 +158,6 @@ form_by rows y x a b p q =
     ∙ neither (is_set (dark_rows rows y) x) (is_set (light_rows rows y) x) (is_set (four_rows rows y) x && is_set (four_rows rows (y + 11)) x)
     ∙ sym (has_without (columns_alike rows y) (columns_crowded rows y) x ∙ ap₂ (λ (s t : Bool). s && not t) (has_without (dark_rows rows y) (light_rows rows y) x) (has_and (four_rows rows y) (four_rows rows (y + 11)) x))
 
-four_places : (rows : List ℕ) (x k : ℕ) → is_set (four_rows rows k) x ≡ four (pad (dark_in rows x)) k
-four_places rows x k =
-    has_or (bit_or (padded_row rows k) (padded_row rows (k + 1))) (bit_or (padded_row rows (k + 2)) (padded_row rows (k + 3))) x
-    ∙ ap₂ (λ (a b : Bool). a || b)
-    (has_or (padded_row rows k) (padded_row rows (k + 1)) x ∙ ap₂ (λ (a b : Bool). a || b) (padded_at rows x k) (padded_at rows x (k + 1)))
-    (has_or (padded_row rows (k + 2)) (padded_row rows (k + 3)) x ∙ ap₂ (λ (a b : Bool). a || b) (padded_at rows x (k + 2)) (padded_at rows x (k + 3)))
-
 -- the form in column x, by the rows
 abbrev form_of : List ℕ → ℕ → ℕ → Bool
 form_of rows y x = (((((dark_in rows x y && dark_in rows x (y + 2)) && (dark_in rows x (y + 4) && dark_in rows x (y + 6))) && dark_in rows x (y + 3)) && not (dark_in rows x (y + 1) || dark_in rows x (y + 5))) && not (four (pad (dark_in rows x)) y && four (pad (dark_in rows x)) (y + 11)))

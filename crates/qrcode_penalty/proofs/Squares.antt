@@ -35,9 +35,10 @@ light_places a n =
     (λ k h. without_at (n - 1) (a / 2 ^ 1) k h ∙ ap not (has_shr a 1 k))
     (λ k h. without_above (n - 1) (a / 2 ^ 1) k h)
 
-pub micro_cost : (rows : List ℕ) (n h v : ℕ) → h ≡ light_count n (λ x. dark_in rows x (n - 1)) → v ≡ light_count n (dark_in rows (n - 1)) → h + v + 15 * max h v ≡ micro_penalty n (dark_in rows)
+-- the light modules of the last row and of the last column give the penalty of Micro
+pub micro_cost : (dark : ℕ → ℕ → Bool) (n h v : ℕ) → h ≡ light_count n (λ x. dark x (n - 1)) → v ≡ light_count n (dark (n - 1)) → h + v + 15 * max h v ≡ micro_penalty n dark
 unfolding micro_penalty
-micro_cost rows n h v a b = ap₂ (λ (x y : ℕ). x + y + 15 * max x y) a b
+micro_cost dark n h v a b = ap₂ (λ (x y : ℕ). x + y + 15 * max x y) a b
 
 -- lines of the same places have as many light ones
 pub light_same : (n : ℕ) (f g : ℕ → Bool) → ((k : ℕ) → k < n → f k ≡ g k) → light_count n f ≡ light_count n g

@@ -288,7 +288,7 @@ pub(crate) fn block_penalties<R: PackedRow>(square: &PackedSquare<'_, R>) -> u32
 }
 
 /// The last column as a row: bit y stands for its module in row y.
-pub(crate) fn last_column<R: PackedRow>(square: &PackedSquare<'_, R>) -> R
+pub fn last_column<R: PackedRow>(square: &PackedSquare<'_, R>) -> R
     ensures { (y : ℕ) → y < square.now.width
         → is_set (R.bits result) y ≡ dark_in square.now.rows (square.now.width - 1) y }
 {

@@ -1,10 +1,11 @@
 //! What a square costs.
 
-ghost use Rattle.std.specs.Prelude.{◌≡◌, ℕ, ◌<◌, ◌^◌, Bool};
-ghost use Rattle.qrcode_packed.specs.Rows.{dark_in, inside, Shows};
+ghost use Rattle.std.specs.Prelude.{◌≡◌, ℕ, ◌+◌, ◌-◌, ◌<◌, ◌≤◌, ◌^◌, Bool};
+ghost use Rattle.qrcode_packed.specs.Rows.{is_set, dark_in, inside, Shows};
 ghost use Rattle.qrcode_penalty.specs.Penalty.{normal_penalty, micro_penalty};
 
-use crate::columns::{block_penalties, column_finder_penalties, column_run_penalties, last_column};
+pub use crate::columns::last_column;
+use crate::columns::{block_penalties, column_finder_penalties, column_run_penalties};
 use crate::rows::{dark_count, light_count, row_penalties};
 use qrcode_packed::row::PackedRow;
 use qrcode_packed::square::PackedSquare;
@@ -36,7 +37,21 @@ pub fn micro_penalty<R: PackedRow>(square: &PackedSquare<'_, R>) -> u32
         → result ≡ micro_penalty square.now.width (inside square.now.width dark) }
 {
     let width = square.width();
-    let row = light_count(square.row(width as usize - 1), width);
-    let column = light_count(last_column(square), width);
+    micro_penalty_by_edges(square.row(width as usize - 1), last_column(square), width)
+}
+
+/// The same by the last row and the last column, which alone count: bit x of `bottom` stands for the module in column x,
+/// and bit y of `right` for the one in row y.
+pub fn micro_penalty_by_edges<R: PackedRow>(bottom: R, right: R, width: u32) -> u32
+    requires at_least { 7 ≤ width }
+    requires room { width + 3 ≤ R.room }
+    ensures value { (dark : ℕ → ℕ → Bool)
+        → ((x : ℕ) → x < width → is_set (R.bits bottom) x ≡ dark x (width - 1))
+        → ((y : ℕ) → y < width → is_set (R.bits right) y ≡ dark (width - 1) y)
+        → result ≡ micro_penalty width dark }
+    ensures at_most { result < 2 ^ 24 }
+{
+    let row = light_count(bottom, width);
+    let column = light_count(right, width);
     row + column + 15 * row.max(column)
 }

@@ -109,7 +109,7 @@ pub fn timing(version: Version, width: usize, x: usize, y: usize) -> Option<Colo
     color_if(on_line, (x + y) % 2 == 0)
 }
 
-// The module of Normal that is always dark.
+/// The module of Normal that is always dark.
 #[tactic(auto, unfolding(crate::specs::Patterns::dark_module))]
 pub fn dark_module(version: Version, width: usize, x: usize, y: usize) -> Option<Color>
     requires valid { IsTrue (is_valid version) }

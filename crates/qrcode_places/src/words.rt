@@ -88,8 +88,8 @@ pub fn format_word(version: Version, ec_level: EcLevel, mask: MaskPattern) -> u1
 /// (ISO/IEC 18004:2006, 6.10).
 #[tactic(auto, using(crate::proofs::WordTables::version_at))]
 pub fn version_word(number: usize) -> u32
-    requires low { 7 ≤ number }
-    requires high { number ≤ 40 }
+    requires at_least { 7 ≤ number }
+    requires at_most { number ≤ 40 }
     ensures { result ≡ version_word number }
 {
     VERSION_WORDS[number - 7]

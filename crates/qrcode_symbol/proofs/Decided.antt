@@ -16,15 +16,6 @@ use Rattle.qrcode_places.specs.Patterns.{dark_module, decided_bit, format_index}
 use Rattle.qrcode_places.proofs.FormatPlaces.{normal_cases, micro_cases, normal_index, micro_index}
 use Rattle.qrcode_symbol.specs.Deciding.{IsPutInRow, IsPutInColumn, AreDecided}
 
--- a row with one bit more of those that are put there
-pub put_more : (row first i : ℕ) (bit : ℕ → Bool) (line new : ℕ) → is_set new (first + i) ≡ bit i → ((k : ℕ) → k ≢ first + i → is_set new k ≡ is_set line k)
-    → IsPutInRow row first i bit line → IsPutInRow row first (i + 1) bit new
-put_more row first i bit line new here others so_far = record {
-  inside = below_more (λ k. is_set new (first + k) ≡ bit k) i (λ k h. others (first + k) (λ e. absurd (omega (arith, h, e))) ∙ so_far.inside k h) here;
-  before = λ x h. others x (λ e. absurd (omega (arith, h, e))) ∙ so_far.before x h;
-  behind = λ x h. others x (λ e. absurd (omega (arith, h, e))) ∙ so_far.behind x (omega (arith, h));
-}
-
 -- rows with one bit more of those that are put into column 8
 pub column_more : (rows : List ℕ) (first i : ℕ) (bit : ℕ → Bool) (lines : List ℕ) (row : ℕ) → first + i < length lines → is_set row 8 ≡ bit i
     → ((k : ℕ) → k ≢ 8 → is_set row k ≡ is_set (slice_index_or lines (first + i) 0) k) → IsPutInColumn rows first i bit lines
@@ -195,7 +186,7 @@ no_index (Normal v) word x y m e = absurd (true≢false (sym m))
 no_index (Micro v) word x y m e = ap (λ o. option_or (option_map (λ i. has_bit word (14 - i)) o) None) e
 
 module _ (v : Version) (word : ℕ) (micro : is_micro v ≡ true) where
-  micro_none : (x y : ℕ) → micro_cases x y ≡ None → decided_bit v word x y ≡ None
+  pub micro_none : (x y : ℕ) → micro_cases x y ≡ None → decided_bit v word x y ≡ None
   micro_none x y e = no_index v word x y micro (micro_index v x y micro ∙ e)
 
   pub micro_row : (row new : ℕ) → IsPutInRow row 1 8 (λ i. has_bit (word / 2 ^ 7) (8 - 1 - i)) new → (x : ℕ) → is_set new x ≡ unwrap_or (decided_bit v word x 8) (is_set row x)

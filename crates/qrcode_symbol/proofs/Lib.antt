@@ -7,6 +7,7 @@ pub mod Choices
 pub mod Codewords
 pub mod Covered
 pub mod Decided
+pub mod Edges
 pub mod Filled
 pub mod Functional
 pub mod Mapped

@@ -1,16 +1,17 @@
 -- Packed lists, place by place.
-use Rattle.std.proofs.Common.{◌≡◌, ℕ, zero, suc, ◌+◌, ◌-◌, ◌*◌, ◌/◌, ◌%◌, ◌^◌, ◌<◌, ◌≤◌, Bool, true, false, ◌==◌, List, [], ◌∷◌, length, ◌++◌, take, drop, get_or, set, nat_lt, map, cond, replicate, below_more, refl, ap, ap₂, sym, inl, inr, ◌∙◌, arith, min, mul_assoc, mul_comm, length-drop, drop-drop}
-use Rattle.std.proofs.lemmas.Nat.{pow_pos, mod_low}
+use Rattle.std.proofs.Common.{◌≡◌, ℕ, zero, suc, ◌+◌, ◌-◌, ◌*◌, ◌/◌, ◌%◌, ◌^◌, ◌<◌, ◌≤◌, Bool, true, false, ◌==◌, List, [], ◌∷◌, length, ◌++◌, take, drop, get_or, set, nat_lt, map, cond, replicate, below_more, refl, ap, ap₂, sym, inl, inr, ◌∙◌, arith, min, bit_and, mul_assoc, mul_comm, length-drop, drop-drop}
+use Rattle.std.proofs.lemmas.Nat.{pow_pos, mod_low, and_mask}
 use Rattle.std.specs.Int.{bit_at}
 use Rattle.std.proofs.lemmas.Nat.Bits.{bit_at_lowest, bit_at-suc}
 use Rattle.std.proofs.lemmas.List.{get_or-set_same, get_or-set_other, length-replicate, get_or-replicate, drop-replicate}
-use Rattle.std.proofs.lemmas.Bool.{ne_eqb}
-use Rattle.std.proofs.lemmas.Bool.Decides.{leb_tells}
+use Rattle.std.proofs.lemmas.Bool.{eqb-true}
 use Rattle.std.proofs.Math.ListN.{length-set}
 use lib.Lanes.{mask_l}
 use borrow.Rule.Slice.PartMut.{put_mid, post_of}
 use Rattle.qrcode_packed.specs.Rows.{is_set}
+use Rattle.qrcode_types.specs.Colors.{is_dark, color_of}
 use Rattle.qrcode_symbol.specs.Cells.{module_of_byte}
+use Rattle.qrcode_symbol.specs.declared.canvas.Module.TheVariants.{Empty, Masked, Unmasked}
 use Rattle.qrcode_symbol.specs.Masking.{is_dark_module, is_free, digit, packed}
 
 pub digit_le : (b : Bool) → digit b ≤ 1
@@ -173,31 +174,25 @@ packed_word f bytes d h e =
     let behind : post_of 0 (length bytes) (replicate 64 d) ≡ replicate (64 - length bytes) d = drop-replicate (length bytes) 64 d in
     ap (λ (l : List ℕ). packed f (bytes ++ l)) behind ∙ padded f bytes d (64 - length bytes) e
 
--- items that pass one of two tests
-pub packed_sum : {A : Type 0} (f g h : A → Bool) (xs : List A) → ((x : A) → digit (f x) + digit (g x) ≡ digit (h x)) → packed f xs + packed g xs ≡ packed h xs
-packed_sum f g h [] each = refl
-packed_sum f g h (x ∷ xs) each = omega (arith, each x, packed_sum f g h xs each)
+-- two tests that agree
+pub packed_same : {A : Type 0} (f g : A → Bool) (xs : List A) → ((x : A) → f x ≡ g x) → packed f xs ≡ packed g xs
+packed_same f g [] each = refl
+packed_same f g (x ∷ xs) each = omega (arith, ap digit (each x), packed_same f g xs each)
 
-dark_byte : (n : ℕ) → digit (n == 1) + digit (n == 4) ≡ digit (is_dark_module (module_of_byte n))
-dark_byte zero = refl
-dark_byte (suc zero) = refl
-dark_byte (suc (suc zero)) = refl
-dark_byte (suc (suc (suc zero))) = refl
-dark_byte (suc (suc (suc (suc zero)))) = refl
-dark_byte (suc (suc (suc (suc (suc n))))) =
-    ap₂ (λ (a b : Bool). digit a + digit b) (ne_eqb (suc (suc (suc (suc (suc n))))) 1 (λ e. absurd (omega (arith, e)))) (ne_eqb (suc (suc (suc (suc (suc n))))) 4 (λ e. absurd (omega (arith, e))))
+color_dark : (b : Bool) → is_dark (color_of b) ≡ b
+color_dark true = refl
+color_dark false = refl
 
-pub dark_bytes : (bytes : List ℕ) → packed (λ n. n == 1) bytes + packed (λ n. n == 4) bytes ≡ packed (λ n. is_dark_module (module_of_byte n)) bytes
-dark_bytes bytes = packed_sum (λ n. n == 1) (λ n. n == 4) (λ n. is_dark_module (module_of_byte n)) bytes dark_byte
+pub dark_byte : (n : ℕ) → (bit_and n 1 == 1) ≡ is_dark_module (module_of_byte n)
+dark_byte n = ap (λ m. m == 1) (and_mask n 1) ∙ sym (go (nat_lt n 128) (n == 2) refl) where
+  go : (low two : Bool) → (n == 2) ≡ two → is_dark_module (cond low (cond two Empty (Unmasked (color_of (n % 2 == 1)))) (Masked (color_of (n % 2 == 1)))) ≡ (n % 2 == 1)
+  go true true e = sym (ap (λ m. m % 2 == 1) (eqb-true n 2 e))
+  go true false e = color_dark (n % 2 == 1)
+  go false two e = color_dark (n % 2 == 1)
 
-free_byte : (n : ℕ) → nat_lt n 3 ≡ is_free (module_of_byte n)
-free_byte zero = refl
-free_byte (suc zero) = refl
-free_byte (suc (suc zero)) = refl
-free_byte (suc (suc (suc zero))) = refl
-free_byte (suc (suc (suc (suc zero)))) = refl
-free_byte (suc (suc (suc (suc (suc n))))) = elim (leb_tells (suc (suc (suc (suc (suc (suc n)))))) 3) [ inl p ↦ absurd (omega (arith, p.1)) | inr p ↦ p.0 ]
-
-pub free_bytes : (bytes : List ℕ) → packed (λ n. nat_lt n 3) bytes ≡ packed (λ n. is_free (module_of_byte n)) bytes
-free_bytes [] = refl
-free_bytes (b ∷ bytes) = omega (arith, ap digit (free_byte b), free_bytes bytes)
+pub free_byte : (n : ℕ) → nat_lt n 128 ≡ is_free (module_of_byte n)
+free_byte n = sym (go (nat_lt n 128) (n == 2)) where
+  go : (low two : Bool) → is_free (cond low (cond two Empty (Unmasked (color_of (n % 2 == 1)))) (Masked (color_of (n % 2 == 1)))) ≡ low
+  go true true = refl
+  go true false = refl
+  go false two = refl

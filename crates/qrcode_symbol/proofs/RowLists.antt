@@ -10,7 +10,7 @@ use Rattle.qrcode_places.specs.Masks.{turns, turned_if}
 use Rattle.qrcode_places.specs.declared.masks.MaskPattern.{MaskPattern}
 use Rattle.qrcode_symbol.specs.declared.canvas.Module.{Module}
 use Rattle.qrcode_symbol.specs.declared.canvas.Module.TheVariants.{Empty}
-use Rattle.qrcode_symbol.specs.Masking.{packed, ShowsModules}
+use Rattle.qrcode_symbol.specs.Masking.{packed, ShowsModules, IsTurnedRow}
 use Rattle.qrcode_symbol.proofs.PackedLists.{packed_lt, has_packed}
 
 -- the modules of row y
@@ -47,11 +47,7 @@ turned_at d f m x t e =
     ∙ ap (differ (is_set d x)) (has_and f m x ∙ ap (λ b. is_set f x && b) e)
     ∙ differ_turned (is_set f x && t) (is_set d x)
 
--- row k with the places turned that the mask turns
-pub record IsTurnedRow (w : ℕ) (mask : MaskPattern) (dark free : List ℕ) (k row : ℕ) : Type 0 where
-  pub shows : (x : ℕ) → x < w → is_set row x ≡ turned_if (dark_in free x k && turns mask x k) (dark_in dark x k)
-  pub ends : row < 2 ^ w
-
+-- what is put together so is such a row
 pub turned_row_is : (w : ℕ) (mask : MaskPattern) (dark free : List ℕ) (k row d f m : ℕ) → d ≡ slice_index_or dark k 0 → f ≡ slice_index_or free k 0 → row ≡ bit_xor d (bit_and f m)
     → d < 2 ^ w → f < 2 ^ w → ((x : ℕ) → x < w → is_set m x ≡ turns mask x k) → IsTurnedRow w mask dark free k row
 unfolding dark_in

@@ -21,7 +21,7 @@ map-put_mid shows a k xs ys =
     ∙ ap₂ (λ (l r : List Module). l ++ r) (sym (take-map shows a xs)) (map-append shows ys (post_of a k xs) ∙ ap (λ (l : List Module). map shows ys ++ l) (sym (ap (drop k) (drop-map shows a xs) ∙ drop-map shows k (drop a xs))))
 
 -- a test of the modules that are shown
-pub packed_map : {A : Type 0} (test : Module → Bool) (shows : A → Module) (xs : List A) → packed (λ x. test (shows x)) xs ≡ packed test (map shows xs)
+pub packed_map : {A B : Type 0} (test : B → Bool) (shows : A → B) (xs : List A) → packed (λ x. test (shows x)) xs ≡ packed test (map shows xs)
 packed_map test shows [] = refl
 packed_map test shows (x ∷ xs) = omega (arith, packed_map test shows xs)
 

@@ -1,10 +1,10 @@
 -- How a mask is chosen on rows packed into numbers.
-use Rattle.std.specs.Prelude.{◌≡◌, ℕ, ◌+◌, ◌*◌, ◌/◌, ◌%◌, ◌<◌, ◌≤◌, ◌^◌, bit_or, Bool, true, false, ◌&&◌, List, [], ◌∷◌, map, slice_index_or, if◌then◌else◌, unwrap_or}
+use Rattle.std.specs.Prelude.{◌≡◌, ℕ, ◌+◌, ◌-◌, ◌*◌, ◌/◌, ◌%◌, ◌<◌, ◌≤◌, ◌^◌, bit_or, Bool, true, false, ◌&&◌, List, [], ◌∷◌, map, slice_index_or, if◌then◌else◌, unwrap_or}
 use Rattle.qrcode_types.specs.Colors.{is_dark}
 use Rattle.qrcode_types.specs.declared.types.Color.{Color}
 use Rattle.qrcode_types.specs.declared.types.Version.{Version}
 use Rattle.qrcode_types.specs.declared.types.EcLevel.{EcLevel}
-use Rattle.qrcode_packed.specs.Rows.{Shows, inside, dark_in}
+use Rattle.qrcode_packed.specs.Rows.{Shows, inside, is_set, dark_in}
 use Rattle.qrcode_places.specs.Masks.{turns, turned_if, nth_mask}
 use Rattle.qrcode_places.specs.Words.{format_word}
 use Rattle.qrcode_places.specs.Patterns.{decided_bit}
@@ -48,6 +48,19 @@ next_places word = bit_or (word / 2 ^ 4) (word * 2 ^ 56 % 2 ^ 64)
 -- 192 such places, by the first 64
 abbrev pub three_words : ℕ → ℕ
 three_words word = (next_places (next_places word) * 2 ^ 64 + next_places word) * 2 ^ 64 + word
+
+-- row k with the places turned that the mask turns
+pub record IsTurnedRow (w : ℕ) (mask : MaskPattern) (dark free : List ℕ) (k row : ℕ) : Type 0 where
+  pub shows : (x : ℕ) → x < w → is_set row x ≡ turned_if (dark_in free x k && turns mask x k) (dark_in dark x k)
+  pub ends : row < 2 ^ w
+
+-- so are the rows before the one that has a number
+abbrev pub AreTurned : ℕ → MaskPattern → List ℕ → List ℕ → ℕ → List ℕ → Type 0
+AreTurned w mask dark free count rows = (y : ℕ) → y < count → IsTurnedRow w mask dark free y (slice_index_or rows y 0)
+
+-- the number whose bit y tells whether the place of a square in its last column and in row y is set
+abbrev pub IsLastColumn : ℕ → List ℕ → ℕ → Type 0
+IsLastColumn w rows column = (y : ℕ) → y < w → is_set column y ≡ dark_in rows (w - 1) y
 
 -- what such rows cost under the k-th mask
 unfoldable pub nth_cost : Version → EcLevel → ℕ → List ℕ → List ℕ → ℕ → ℕ

@@ -23,6 +23,7 @@ mod applying;
 mod cells;
 mod codewords;
 mod drawing;
+mod edges;
 mod filling;
 mod layer;
 mod masked_rows;
@@ -151,6 +152,8 @@ fn module_index(version: Version, x: i16, y: i16) -> usize
 
 impl Canvas {
     /// A canvas of empty modules.
+    ///
+    /// `OutOfMemory`: memory was refused.
     pub fn new(alloc: Global, version: Version, ec_level: EcLevel) -> QrResult<Self>
         requires { IsTrue (is_valid version) }
         ensures value { IfOk result (λ canvas. canvas
@@ -250,6 +253,8 @@ impl Canvas {
 
     /// The canvas under the first mask of least penalty (ISO/IEC 18004:2006, 6.8.3), the
     /// format words being counted too.
+    ///
+    /// `OutOfMemory`: memory was refused.
     pub fn apply_best_mask(&self, alloc: Global) -> QrResult<Self>
         requires { IsTrue (has_level self.now.version self.now.level) }
         ensures version { IfOk result (λ best. best.version ≡ self.now.version) }
@@ -272,6 +277,8 @@ impl Canvas {
 
     /// The colours of the canvas under the first mask of least penalty, row by row: what
     /// `apply_best_mask` gives, without a second canvas.
+    ///
+    /// `OutOfMemory`: memory was refused.
     pub fn best_colors(&self, alloc: Global) -> QrResult<Vec<Color>>
         requires { IsTrue (has_level self.now.version self.now.level) }
         ensures best { IfOk result (λ colors.
@@ -286,6 +293,8 @@ impl Canvas {
     }
 
     /// The same colours, where the canvas is freed before they are written.
+    ///
+    /// `OutOfMemory`: memory was refused.
     pub fn into_best_colors(self, alloc: Global) -> QrResult<Vec<Color>>
         requires { IsTrue (has_level self.version self.level) }
         ensures best { IfOk result (λ colors.
@@ -300,6 +309,8 @@ impl Canvas {
     }
 
     /// Whether each module is dark, row by row.
+    ///
+    /// `OutOfMemory`: memory was refused.
     pub fn to_bools(&self, alloc: Global) -> QrResult<Vec<bool>>
         ensures value { IfOk result (λ bools.
             bools.items ≡ map (λ m. is_dark (color_of_module m)) self.now.modules) }
@@ -309,6 +320,8 @@ impl Canvas {
     }
 
     /// The colour of each module, row by row.
+    ///
+    /// `OutOfMemory`: memory was refused.
     pub fn into_colors(self, alloc: Global) -> QrResult<Vec<Color>>
         ensures value { IfOk result (λ colors. colors.items ≡ colors_of self.modules) }
         ensures memory { IsOkUnless result OutOfMemory }

@@ -8,7 +8,7 @@ ghost use Rattle.qrcode_symbol.specs.declared.canvas.Module.{Module};
 
 use super::Module;
 use super::packing::{pack_bytes, pack_modules};
-use qrcode_types::types::Color;
+use qrcode_places::patterns::color_of;
 
 /// What shows a module.
 pub(super) trait Cell: Copy {
@@ -68,19 +68,20 @@ impl Cell for u8 {
         match m {
             Module::Unmasked(color) => color as u8,
             Module::Empty => 2,
-            Module::Masked(color) => 3 + color as u8,
+            Module::Masked(color) => 128 + color as u8,
         }
     }
 
     #[inline(always)]
     fn module(self) -> Module {
-        match self {
-            0 => Module::Unmasked(Color::Light),
-            1 => Module::Unmasked(Color::Dark),
-            2 => Module::Empty,
-            4 => Module::Masked(Color::Dark),
-            _ => Module::Masked(Color::Light),
+        let color = color_of(self % 2 == 1);
+        if self >= 128 {
+            return Module::Masked(color);
         }
+        if self == 2 {
+            return Module::Empty;
+        }
+        Module::Unmasked(color)
     }
 
     #[inline(always)]

@@ -6,7 +6,7 @@ ghost use Rattle.qrcode_types.specs.Versions.{is_micro};
 ghost use Rattle.qrcode_packed.specs.Rows.{FitsWidth, IsSquare, is_set, dark_in, Shows};
 ghost use Rattle.qrcode_places.specs.Masks.{turns, turned_if, exists_in};
 ghost use Rattle.qrcode_places.specs.Words.{format_word};
-ghost use Rattle.qrcode_symbol.specs.Masking.{masked_dark, next_places, three_words};
+ghost use Rattle.qrcode_symbol.specs.Masking.{masked_dark, next_places, three_words, AreTurned};
 ghost use Rattle.qrcode_symbol.specs.Deciding.{IsPutInRow, IsPutInColumn, AreDecided};
 
 use super::layer::Layer;
@@ -30,6 +30,19 @@ static TURNED: [[u8; 12]; 8] = [
     [0o25, 0o70, 0o61, 0o52, 0o07, 0o16, 0o25, 0o70, 0o61, 0o52, 0o07, 0o16],
 ];
 
+// The places that each mask turns in twelve rows of six columns, row y at bit y: the same ones, column by column.
+#[rattlefmt::skip]
+static TURNED_COLUMNS: [[u16; 6]; 8] = [
+    [0o2525, 0o5252, 0o2525, 0o5252, 0o2525, 0o5252],
+    [0o2525, 0o2525, 0o2525, 0o2525, 0o2525, 0o2525],
+    [0o7777, 0o0000, 0o0000, 0o7777, 0o0000, 0o0000],
+    [0o1111, 0o4444, 0o2222, 0o1111, 0o4444, 0o2222],
+    [0o1463, 0o1463, 0o1463, 0o6314, 0o6314, 0o6314],
+    [0o7777, 0o0101, 0o1111, 0o2525, 0o1111, 0o0101],
+    [0o7777, 0o0707, 0o3333, 0o2525, 0o5555, 0o6161],
+    [0o2525, 0o7070, 0o6161, 0o5252, 0o0707, 0o1616],
+];
+
 // Six places, again and again, in the first 64 columns.
 #[inline(always)]
 fn repeat(six: u64) -> u64
@@ -39,7 +52,7 @@ fn repeat(six: u64) -> u64
     six.wrapping_mul(0x1041_0410_4104_1041)
 }
 
-// The next 64 columns, where six places stand again and again: 64 is 4 more than a multiple of 6, and 60 is one.
+// The next 64 places, where six or twelve stand again and again: 64 is 4 more than a multiple of both, and 60 is one.
 #[inline(always)]
 fn next_places(word: u64) -> u64
     ensures { result ≡ next_places word }
@@ -47,27 +60,50 @@ fn next_places(word: u64) -> u64
     word >> 4 | word << 56
 }
 
-// A row in which six places stand again and again, by its first 64 columns.
+/// A line in which six or twelve places stand again and again, by its first 64 places.
 #[inline(always)]
-fn long_row<R: PackedRow>(word: u64) -> R
+pub(super) fn long_row<R: PackedRow>(word: u64) -> R
     ensures { R.bits result ≡ three_words word % 2 ^ R.room }
 {
     let middle = next_places(word);
     R::of_words(word, middle, next_places(middle))
 }
 
-// The places that the mask turns in the first 64 columns of twelve rows, which stand for all, since each mask goes on so
-// every twelve rows.
-fn turned_rows(mask: MaskPattern) -> [u64; 12]
-    ensures length { length result ≡ 12 }
-    ensures value { (x y : ℕ) → x < 192
-        → is_set (slice_index_or (map three_words result) (y % 12) 0) x ≡ turns mask x y }
+/// The places that the mask turns in the first 64 columns of row y, each of which goes on so.
+#[inline(always)]
+pub(super) fn turned_row(mask: MaskPattern, y: usize) -> u64
+    ensures { (x : ℕ) → x < 192 → is_set (three_words result) x ≡ turns mask x y }
 {
-    let mut rows = [0u64; 12];
+    repeat(TURNED[mask.number()][y % 12] as u64)
+}
+
+/// The places that the mask turns in the first 64 rows of column x, each of which goes on so.
+#[inline(always)]
+pub(super) fn turned_column(mask: MaskPattern, x: usize) -> u64
+    ensures { (y : ℕ) → y < 192 → is_set (three_words result) y ≡ turns mask x y }
+{
+    (TURNED_COLUMNS[mask.number()][x % 6] as u64).wrapping_mul(0x1001_0010_0100_1001)
+}
+
+// The places that a mask turns in the first 64 columns of twelve rows, which stand for all, since each mask goes on so
+// every twelve rows.
+#[derive(Drop)]
+struct TurnedRows {
+    mask: MaskPattern,
+    words: [u64; 12],
+    ghost length: { length words ≡ 12 },
+    ghost value: { (x y : ℕ) → x < 192
+        → is_set (slice_index_or (map three_words words) (y % 12) 0) x ≡ turns mask x y },
+}
+
+fn turned_rows(mask: MaskPattern) -> TurnedRows
+    ensures { result.mask ≡ mask }
+{
+    let mut words = [0u64; 12];
     for y in 0..12 {
-        rows[y] = repeat(TURNED[mask.number()][y] as u64);
+        words[y] = turned_row(mask, y);
     }
-    rows
+    TurnedRows { mask, words }
 }
 
 // The row with one place as given.
@@ -87,9 +123,10 @@ fn put<R: PackedRow>(row: R, place: u32, set: bool) -> R
 // A row with the lowest bits of a number at so many places from one on, the highest of them first.
 #[inline(always)]
 fn put_bits<R: PackedRow>(row: R, first: usize, count: usize, bits: u16) -> R
-    requires count { count ≤ 16 }
+    requires at_most { count ≤ 16 }
     requires inside { first + count < R.room }
-    ensures { IsPutInRow (R.bits row) first count (λ i. has_bit bits (count - 1 - i)) (R.bits result) }
+    ensures { IsPutInRow (R.bits row) first count (λ i. has_bit bits (count - 1 - i))
+        (R.bits result) }
 {
     let mut line = row;
     for i in 0..count {
@@ -101,7 +138,7 @@ fn put_bits<R: PackedRow>(row: R, first: usize, count: usize, bits: u16) -> R
 // Writes the lowest bits of a number into column 8, from a row on, the lowest first.
 #[inline(always)]
 fn put_column<R: PackedRow>(rows: &mut [R], first: usize, count: usize, bits: u16)
-    requires count { count ≤ 16 }
+    requires at_most { count ≤ 16 }
     requires room { 9 < R.room }
     requires inside { first + count ≤ length rows.old }
     ensures { IsPutInColumn (map R.bits rows.old) first count (has_bit bits) (map R.bits rows.new) }
@@ -117,7 +154,8 @@ fn decide_normal<R: PackedRow>(layer: Layer, rows: &mut [R])
     requires normal { is_micro layer.version ≡ false }
     requires room { layer.width + 3 ≤ R.room }
     requires length { length rows.old ≡ layer.width }
-    ensures shown { AreDecided layer.version layer.word (map R.bits rows.old) (map R.bits rows.new) }
+    ensures shown { AreDecided layer.version layer.word
+        (map R.bits rows.old) (map R.bits rows.new) }
 {
     let Layer { width, word, .. } = layer;
     put_column(rows, 0, 6, word);
@@ -135,7 +173,8 @@ fn decide_micro<R: PackedRow>(layer: Layer, rows: &mut [R])
     requires micro { is_micro layer.version ≡ true }
     requires room { layer.width + 3 ≤ R.room }
     requires length { length rows.old ≡ layer.width }
-    ensures shown { AreDecided layer.version layer.word (map R.bits rows.old) (map R.bits rows.new) }
+    ensures shown { AreDecided layer.version layer.word
+        (map R.bits rows.old) (map R.bits rows.new) }
 {
     put_column(rows, 1, 7, layer.word);
     rows[8] = put_bits(rows[8], 1, 8, layer.word >> 7);
@@ -146,7 +185,8 @@ fn decide_micro<R: PackedRow>(layer: Layer, rows: &mut [R])
 fn decide_rows<R: PackedRow>(layer: Layer, rows: &mut [R])
     requires room { layer.width + 3 ≤ R.room }
     requires length { length rows.old ≡ layer.width }
-    ensures shown { AreDecided layer.version layer.word (map R.bits rows.old) (map R.bits rows.new) }
+    ensures shown { AreDecided layer.version layer.word
+        (map R.bits rows.old) (map R.bits rows.new) }
 {
     match layer.version {
         Version::Normal(_) => decide_normal(layer, rows),
@@ -154,13 +194,30 @@ fn decide_rows<R: PackedRow>(layer: Layer, rows: &mut [R])
     }
 }
 
-// The next of twelve in a ring, with no division.
+// Writes up to twelve rows, from a multiple of twelve on, with the places turned that the mask turns. LLVM makes twelve
+// with the places of the mask at hand.
 #[inline(always)]
-fn next_of_twelve(number: usize) -> usize
-    requires { number < 12 }
-    ensures { result ≡ (number + 1) % 12 }
+fn turn_some_rows<R: PackedRow>(
+    modules: &PackedModules<'_, R>,
+    turned: &TurnedRows,
+    first: usize,
+    count: usize,
+    rows: &mut [R],
+)
+    requires at_most { count ≤ 12 }
+    requires multiple { first % 12 ≡ 0 }
+    requires inside { first + count ≤ modules.now.width }
+    requires length { length rows.old ≡ modules.now.width }
+    requires before { AreTurned modules.now.width turned.now.mask modules.now.dark.rows
+        modules.now.free.rows first (map R.bits rows.old) }
+    ensures { AreTurned modules.now.width turned.now.mask modules.now.dark.rows
+        modules.now.free.rows (first + count) (map R.bits rows.new) }
 {
-    if number == 11 { 0 } else { number + 1 }
+    for k in 0..count {
+        let y = first + k;
+        let places = modules.free.row(y).and(long_row(turned.words[k]));
+        rows[y] = modules.dark.row(y).xor(places);
+    }
 }
 
 // Writes the rows with the places turned that the mask turns.
@@ -174,12 +231,11 @@ fn turn_rows<R: PackedRow>(modules: &PackedModules<'_, R>, mask: MaskPattern, ro
         → FitsWidth modules.now.width (slice_index_or (map R.bits rows.new) y 0) }
 {
     let turned = turned_rows(mask);
-    let mut twelfth = 0;
-    for y in 0..modules.width {
-        let places = modules.free.row(y).and(long_row(turned[twelfth]));
-        rows[y] = modules.dark.row(y).xor(places);
-        twelfth = next_of_twelve(twelfth);
+    let count = modules.width / 12;
+    for k in 0..count {
+        turn_some_rows(modules, &turned, 12 * k, 12, rows);
     }
+    turn_some_rows(modules, &turned, 12 * count, modules.width % 12, rows);
 }
 
 /// Writes the rows under a mask, with its format word.
@@ -190,7 +246,7 @@ pub(super) fn mask_rows<R: PackedRow>(
 )
     requires mask_exists { IsTrue (exists_in modules.now.version mask) }
     requires length { length masked.old ≡ modules.now.width }
-    ensures shows { Shows modules.now.width (map R.bits masked.new)
+    ensures shown { Shows modules.now.width (map R.bits masked.new)
         (masked_dark modules.now.version
         (format_word modules.now.version modules.now.ec_level mask) mask
         modules.now.dark.rows modules.now.free.rows) }

@@ -11,6 +11,7 @@ ghost use Rattle.qrcode_symbol.specs.Masking.{is_dark_module, is_free, ShowsModu
 ghost use Rattle.qrcode_symbol.specs.declared.canvas.Module.{Module};
 
 use super::cells::Cell;
+use super::edges::least_micro_mask;
 use super::masked_rows::mask_rows;
 use super::packing::{PackedModules, pack_rows};
 use super::unpacking::{FromColor, unpack_rows};
@@ -52,6 +53,20 @@ fn nth_cost<R: PackedRow>(modules: &PackedModules<'_, R>, k: usize, masked: &mut
 
 // The number of the first mask under which the rows cost least; `masked` is a place to work in.
 fn least_mask<R: PackedRow>(modules: &PackedModules<'_, R>, masked: &mut [R]) -> usize
+    requires { length masked.old ≡ modules.now.width }
+    ensures { IsFirstLeastCost
+        (nth_cost modules.now.version modules.now.ec_level modules.now.width
+        modules.now.dark.rows modules.now.free.rows)
+        (mask_count modules.now.version) result }
+{
+    match modules.version {
+        Version::Normal(_) => least_mask_by_rows(modules, masked),
+        Version::Micro(_) => least_micro_mask(modules),
+    }
+}
+
+// The same by all rows under each mask.
+fn least_mask_by_rows<R: PackedRow>(modules: &PackedModules<'_, R>, masked: &mut [R]) -> usize
     requires { length masked.old ≡ modules.now.width }
     ensures { IsFirstLeastCost
         (nth_cost modules.now.version modules.now.ec_level modules.now.width

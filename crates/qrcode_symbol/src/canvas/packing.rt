@@ -1,6 +1,6 @@
 //! Modules packed into rows of places: which are dark, and which a mask may turn.
 
-ghost use Rattle.std.specs.Prelude.{◌≡◌, ◌==◌, ◌+◌, ◌*◌, ◌<◌, ◌≤◌, nat_lt, length, map, IsTrue};
+ghost use Rattle.std.specs.Prelude.{◌≡◌, ◌==◌, ◌+◌, ◌*◌, ◌<◌, ◌≤◌, nat_lt, bit_and, length, map, IsTrue};
 ghost use Rattle.qrcode_types.specs.Versions.{is_valid, has_level, side};
 ghost use Rattle.qrcode_packed.specs.Rows.{IsSquare};
 ghost use Rattle.qrcode_symbol.specs.Cells.{module_of_byte};
@@ -64,16 +64,6 @@ fn equal_to(bytes: [u8; 64], number: u8) -> u64
         .to_bitmask()
 }
 
-// Which of 64 bytes are below a number, the first in the lowest bit.
-#[inline(always)]
-fn below(bytes: [u8; 64], number: u8) -> u64
-    ensures { result ≡ packed (λ n. nat_lt n number) bytes }
-{
-    u8x64::from_array(bytes)
-        .simd_lt(u8x64::splat(number))
-        .to_bitmask()
-}
-
 /// Which of up to 64 modules are dark, and which a mask may turn. A byte for each answer first, so that LLVM makes
 /// sixteen at a time.
 pub(super) fn pack_modules(modules: &[Module]) -> (u64, u64)
@@ -90,16 +80,34 @@ pub(super) fn pack_modules(modules: &[Module]) -> (u64, u64)
     (equal_to(dark, 1), equal_to(free, 1))
 }
 
+// Which of 64 bytes show dark modules, and which show modules that a mask may turn, where the bytes lie.
+#[inline(always)]
+fn pack_whole(bytes: &[u8]) -> (u64, u64)
+    requires { length bytes.now ≡ 64 }
+    ensures dark { result.0 ≡ packed (λ n. bit_and n 1 == 1) bytes.now }
+    ensures free { result.1 ≡ packed (λ n. nat_lt n 128) bytes.now }
+{
+    let word = u8x64::from_slice(bytes);
+    let one = u8x64::splat(1);
+    (
+        (word & one).simd_eq(one).to_bitmask(),
+        word.simd_lt(u8x64::splat(128)).to_bitmask(),
+    )
+}
+
 /// Which of up to 64 modules are dark, and which a mask may turn, by the bytes that show them.
 pub(super) fn pack_bytes(bytes: &[u8]) -> (u64, u64)
     requires { length bytes.now ≤ 64 }
     ensures dark { result.0 ≡ packed (λ n. is_dark_module (module_of_byte n)) bytes.now }
     ensures free { result.1 ≡ packed (λ n. is_free (module_of_byte n)) bytes.now }
 {
-    // A byte of 3 is a light module that no mask turns.
-    let mut word = [3u8; 64];
+    if bytes.len() == 64 {
+        return pack_whole(bytes);
+    }
+    // A byte of 128 is a light module that no mask turns.
+    let mut word = [128u8; 64];
     word[..bytes.len()].copy_from_slice(bytes);
-    (equal_to(word, 1) + equal_to(word, 4), below(word, 3))
+    pack_whole(&word)
 }
 
 // Which modules of a row are dark, and which a mask may turn.

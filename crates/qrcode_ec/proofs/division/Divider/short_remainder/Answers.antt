@@ -19,7 +19,7 @@ loop-byte-preserved c =
     let byte = get_or message i 0 in
     let old = c.loop-byte.register in
     let new = c.advanced-register.result in
-    let long = c.advanced-register.ensures.long in
+    let long = c.advanced-register.ensures.length in
     let longer : take (i + 1) message ≡ take i message ++ byte ∷ [] = rw (add-one, take-suc message i 0 c.loop-byte-test.true) in
     subst (λ (done : List ℕ). IsRegister divider.degree 32 done new) (sym longer)
     (next_register divider.degree 32 32 byte c.from-factor.result (take i message) old new divider.generator divider.low divider.high divider.multiples

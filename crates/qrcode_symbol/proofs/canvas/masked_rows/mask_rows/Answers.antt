@@ -7,9 +7,9 @@ use Rattle.qrcode_symbol.specs.Masking.{masked_dark}
 use Rattle.qrcode_symbol.proofs.Decided.{decided_fits}
 use Rattle.qrcode_symbol.proofs.canvas.masked_rows.mask_rows.Goals as goal
 
-pub returns-clause-shows : goal.returns-clause-shows
+pub returns-clause-shown : goal.returns-clause-shown
 unfolding masked_dark
-returns-clause-shows g c = λ x y h l.
+returns-clause-shown g c = λ x y h l.
     let m = c.args.modules.now in
     let mask = c.args.mask in
     let word = c.format_word.result in

@@ -6,6 +6,6 @@ use Rattle.qrcode_symbol.proofs.canvas.masked_rows.turned_rows.Given as goal
 
 abbrev pub invariant-loop-y : goal.invariant-loop-y
 invariant-loop-y l = record {
-  length : length l.rows ≡ 12;
-  done : (k : ℕ) → k < l.y → (x : ℕ) → x < 192 → is_set (slice_index_or (map three_words l.rows) k 0) x ≡ turns l.fn.mask x k;
+  length : length l.words ≡ 12;
+  done : (k : ℕ) → k < l.y → (x : ℕ) → x < 192 → is_set (slice_index_or (map three_words l.words) k 0) x ≡ turns l.fn.mask x k;
 }

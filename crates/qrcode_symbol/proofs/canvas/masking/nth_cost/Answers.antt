@@ -13,5 +13,5 @@ returns-clause-value g c =
     let v = modules.version in
     let masked : MaskPattern → ℕ → ℕ → Bool = λ k. masked_dark v (format_word v modules.ec_level k) k modules.dark.rows modules.free.rows in
     let mask = c.nth_mask.result in
-    c.penalty.ensures.value (masked mask) (subst (λ (s : PackedRows). Shows s.width s.rows (masked mask)) (sym c.new.ensures) c.mask_rows.ensures.shows)
+    c.penalty.ensures.value (masked mask) (subst (λ (s : PackedRows). Shows s.width s.rows (masked mask)) (sym c.new.ensures) c.mask_rows.ensures.shown)
     ∙ ap₂ (λ (w : ℕ) (k : MaskPattern). penalty_of v (inside w (masked k))) (ap (λ (s : PackedRows). s.width) c.new.ensures) c.nth_mask.ensures.value
