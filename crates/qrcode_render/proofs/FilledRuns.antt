@@ -1,6 +1,5 @@
 -- The runs of dark cells, and what their path fills.
-use Rattle.std.proofs.Common.{◌≡◌, ℕ, zero, suc, ◌+◌, ◌-◌, ◌<◌, ◌≤◌, inl, inr, Bool, true, false, ◌&&◌, ◌||◌, nat_eq, nat_le, nat_lt, List, [], ◌∷◌, ◌++◌, length, drop, get_or, refl, ap, ap₂, ◌∙◌, sym, arith, append_assoc}
-use Rattle.std.proofs.Math.Seq.{drop-cons}
+use Rattle.std.proofs.Common.{◌≡◌, ℕ, zero, suc, ◌+◌, ◌-◌, ◌<◌, ◌≤◌, inl, inr, Bool, true, false, ◌&&◌, ◌||◌, nat_eq, nat_le, nat_lt, List, [], ◌∷◌, ◌++◌, get_or, refl, ap, ap₂, ◌∙◌, sym, arith, append_assoc}
 use Rattle.std.proofs.lemmas.Bool.{cases_lt}
 use Rattle.std.proofs.lemmas.Bool.Decides.{nat_tests}
 use Rattle.std.proofs.lemmas.List.{get_or_past}
@@ -19,20 +18,6 @@ path-append pen (x ∷ xs) ys = ap (λ t. run_text pen x ++ t) (path-append (beh
 pub pen-append : (pen : Pen) (xs ys : List Run) → pen_after pen (xs ++ ys) ≡ pen_after (pen_after pen xs) ys
 pen-append pen [] ys = refl
 pen-append pen (x ∷ xs) ys = pen-append (behind x) xs ys
-
--- a dark mark makes the run in front of it longer
-pub runs_dark : (top column width : ℕ) (marks : List Bool) → column < length marks → get_or marks column false ≡ true
-    → runs_from top column width (drop column marks) ≡ runs_from top (column + 1) (width + 1) (drop (column + 1) marks)
-runs_dark top column width marks inside dark =
-    let next : suc column ≡ column + 1 = omega arith in
-    ap (runs_from top column width) (drop-cons marks column false inside ∙ ap₂ (λ m n. m ∷ drop n marks) dark next)
-
--- a light mark ends it
-pub runs_light : (top column width : ℕ) (marks : List Bool) → column < length marks → get_or marks column false ≡ false
-    → runs_from top column width (drop column marks) ≡ ended top column width ++ runs_from top (column + 1) 0 (drop (column + 1) marks)
-runs_light top column width marks inside light =
-    let next : suc column ≡ column + 1 = omega arith in
-    ap (runs_from top column width) (drop-cons marks column false inside ∙ ap₂ (λ m n. m ∷ drop n marks) light next)
 
 or_assoc : (a b c : Bool) → (a || (b || c)) ≡ ((a || b) || c)
 or_assoc true b c = refl

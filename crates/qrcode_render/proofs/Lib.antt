@@ -4,7 +4,6 @@ pub mod FilledRuns
 pub mod Folds
 pub mod Grids
 pub mod LineTexts
-pub mod MarkedLines
 pub mod Packed
 pub mod Palettes
 pub mod Paths

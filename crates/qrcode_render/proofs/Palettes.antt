@@ -1,9 +1,8 @@
 -- Texts of pairs of texts.
-use Rattle.std.proofs.Common.{◌≡◌, ℕ, zero, suc, ◌+◌, ◌*◌, ◌<◌, inl, inr, take, List, [], ◌∷◌, ◌++◌, Bool, true, false, length, map, get_or, set, ap, ap₂, ◌∙◌, sym, subst, arith, length-append}
+use Rattle.std.proofs.Common.{◌≡◌, ℕ, zero, suc, ◌+◌, ◌*◌, ◌<◌, inl, inr, List, [], ◌∷◌, ◌++◌, Bool, true, false, length, map, get_or, set, ap, ap₂, ◌∙◌, sym, subst, arith, length-append}
 use Rattle.std.specs.List.{flat_map}
 use Rattle.std.proofs.lemmas.Bool.{cases_lt}
-use Rattle.std.proofs.lemmas.List.{get_or-map, get_or-append-add, length-map, take_more, map-append, append-nil, get_or-set_same, get_or-set_other}
-use Rattle.std.proofs.lemmas.List.Concat.{flat_map-append}
+use Rattle.std.proofs.lemmas.List.{get_or-map, get_or-append-add, length-map, get_or-set_same, get_or-set_other}
 use Rattle.std.proofs.Math.ListN.{get_or-append, length-set}
 use Rattle.qrcode_render.specs.Lines.{paired, pair_number, two_text, AreMarksAt}
 
@@ -38,15 +37,6 @@ get_or-pairs ts (x ∷ xs) (suc i) j h k =
     ap (λ n. get_or (first ++ rest) n []) place
     ∙ get_or-append-add first rest (i * length ts + j) []
     ∙ get_or-pairs ts xs i j (omega arith) k
-
--- one more piece, which was read from the list
-pub flat_map_read : {A B C : Type 0} (f : B → List C) (h : A → B) (xs : List A) (i : ℕ) (x : A) → i < length xs → x ≡ get_or xs i x → flat_map f (map h (take (i + 1) xs)) ≡ flat_map f (map h (take i xs)) ++ f (h x)
-flat_map_read f h xs i x inside is =
-    ap (λ ys. flat_map f (map h ys)) (take_more xs i x inside)
-    ∙ ap (flat_map f) (map-append h (take i xs) (get_or xs i x ∷ []))
-    ∙ flat_map-append f (map h (take i xs)) (h (get_or xs i x) ∷ [])
-    ∙ ap (λ ys. flat_map f (map h (take i xs)) ++ ys) (append-nil (f (h (get_or xs i x))))
-    ∙ ap (λ y. flat_map f (map h (take i xs)) ++ f (h y)) (sym is)
 
 pub get_or-paired : (ts : List (List ℕ)) (i j : ℕ) → length ts ≡ 4 → i < 4 → j < 4 → get_or (paired ts) (4 * i + j) [] ≡ get_or ts i [] ++ get_or ts j []
 get_or-paired ts i j four h k =

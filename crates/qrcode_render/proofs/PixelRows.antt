@@ -3,10 +3,10 @@ use Rattle.std.proofs.Common.{◌≡◌, ℕ, zero, suc, ◌+◌, ◌*◌, ◌/�
 use Rattle.std.specs.List.{flat_map, range_with_len}
 use Rattle.std.specs.Str.{IsUtf8}
 use Rattle.std.proofs.lemmas.Bool.{cases_lt}
-use Rattle.std.proofs.lemmas.List.FromFn.{fill_by_all, length-map-range_with_len}
+use Rattle.std.proofs.lemmas.List.FromFn.{fill_by_all}
 use Rattle.std.proofs.lemmas.Str.{IsUtf8-append, IsUtf8-nil}
 use Rattle.qrcode_render.specs.Bitmap.{Bitmap, row_of}
-use Rattle.qrcode_render.specs.Grid.{Grid, all_columns, all_rows, cell_row, each, is_dark_cell, pixels_of}
+use Rattle.qrcode_render.specs.Grid.{Grid, all_rows, cell_row, each, pixels_of}
 use Rattle.qrcode_render.specs.Texts.{half_blocks, column_text, columns_text, dense_line, marks_text}
 use Rattle.qrcode_render.proofs.Grids.{length-each, get_or-each, row_of-pixels}
 use Rattle.qrcode_render.proofs.LineTexts.{flat_range_more}
@@ -31,13 +31,6 @@ pixels_are_cells g y once high inside =
     sym (each_once (cell_row g (y / g.down)))
     ∙ ap (λ a. each a (cell_row g (y / g.down))) (sym once)
     ∙ sym (row_of-pixels g y (omega arith) high inside)
-
--- the pixels of a row
-pub length-row : (g : Grid) (y : ℕ) → 0 < g.across → 0 < g.down → y < all_rows g * g.down → length (row_of (pixels_of g) y) ≡ all_columns g * g.across
-length-row g y wide high inside =
-    ap length (row_of-pixels g y wide high inside)
-    ∙ length-each g.across (cell_row g (y / g.down))
-    ∙ ap (λ n. n * g.across) (length-map-range_with_len (λ column. is_dark_cell g column (y / g.down)) 0 (all_columns g))
 
 -- the texts of the first numbers are no longer than those of more
 pub flat_range_le : {B : Type 0} (f : ℕ → List B) (k n : ℕ) → k ≤ n → length (flat_map f (range_with_len 0 k)) ≤ length (flat_map f (range_with_len 0 n))

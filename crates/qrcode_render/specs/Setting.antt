@@ -31,6 +31,16 @@ pub record IsSquare (m : Square) : Type 0 where
   pub across : 1 ≤ m.across
   pub down : 1 ≤ m.down
 
+-- the square of a renderer's setting
+abbrev pub square_of : {P : Type 0} → Setting P → Square
+square_of s = record {
+  content = s.content;
+  count = s.count;
+  zone = s.zone;
+  across = s.across;
+  down = s.down;
+}
+
 -- a renderer's setting of a square, with the pixels that stand for dark and light, and the quiet zone where it is switched on
 abbrev pub setting_of : {P : Type 0} → Square → P → P → ℕ → Setting P
 setting_of m dark light whole = record {

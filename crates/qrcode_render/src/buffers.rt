@@ -3,22 +3,16 @@
 ghost use Rattle.std.specs.Prelude.{◌≡◌, ◌+◌, ◌*◌, ◌≤◌, [], ◌∷◌, ◌++◌, length, take, flat_map, max, vec_len, IfOk, OnOk, OnErr, IsOkUnless, IsTrue};
 ghost use Rattle.std.specs.List.{range_with_len};
 ghost use Rattle.qrcode_types.specs.declared.types.QrError.TheVariants.{OutOfMemory};
-ghost use Rattle.qrcode_render.specs.Eps.{eps_start, eps_text};
 ghost use Rattle.qrcode_render.specs.Grid.{all_columns, all_rows, cell_row, pixels_of, repeated};
 ghost use Rattle.qrcode_render.specs.Layout.{pixels_across, pixels_down};
-ghost use Rattle.qrcode_render.specs.Put.{IsPutWhere};
 ghost use Rattle.qrcode_render.specs.Setting.{fits, layout_of, picture_of};
 ghost use Rattle.qrcode_render.specs.Texts.{marks_text, raw_bytes};
-ghost use Rattle.qrcode_render.specs.Vectors.{pic_start, pic_text, svg_start, svg_text};
 
-use crate::eps::{self, put_eps};
+use crate::Renderer;
 use crate::grid::Grid;
 use crate::image::Luma;
-use crate::pic::{self, put_pic};
 use crate::rows::CellTexts;
 use crate::stamps::{Line, put_text};
-use crate::svg::{self, put_svg};
-use crate::{Modules, Pixel, Renderer};
 use qrcode_types::types::QrResult;
 use std::alloc::Global;
 
@@ -27,7 +21,7 @@ fn put_times(bytes: &mut [u8], at: usize, text: &[u8], times: u32) -> usize
     requires { at + times * length text.now ≤ length bytes.old }
     ensures writes { take result bytes.new ≡ take at bytes.old ++ repeated times text.now }
     ensures end { result ≡ at + times * length text.now }
-    ensures room { length bytes.new ≡ length bytes.old }
+    ensures length { length bytes.new ≡ length bytes.old }
 {
     let mut end = at;
     for _ in 0..times {
@@ -44,7 +38,7 @@ fn put_lines(bytes: &mut [u8], grid: &Grid, texts: &CellTexts, marks: &mut [bool
         + 32 ≤ line.old.room }
     requires dark { vec_len texts.now.dark ≡ grid.now.across }
     requires light { vec_len texts.now.light ≡ grid.now.across }
-    requires exact { length bytes.old
+    requires length { length bytes.old
         ≡ all_rows grid.now * (grid.now.down * (all_columns grid.now * grid.now.across)) }
     ensures { bytes.new ≡ flat_map (λ row. repeated grid.now.down
         (marks_text texts.now.dark.items texts.now.light.items (cell_row grid.now row)))
@@ -63,8 +57,8 @@ fn put_lines(bytes: &mut [u8], grid: &Grid, texts: &CellTexts, marks: &mut [bool
 
 // Writes the grey of each pixel into a buffer that has as many bytes.
 fn put_greys(alloc: Global, grid: &Grid, dark: u8, light: u8, bytes: &mut [u8]) -> QrResult<()>
-    requires exact { length bytes.old ≡ (pixels_of grid.now).across * (pixels_of grid.now).down }
-    ensures pixels { OnOk result
+    requires length { length bytes.old ≡ (pixels_of grid.now).across * (pixels_of grid.now).down }
+    ensures value { OnOk result
         (bytes.new ≡ raw_bytes (dark ∷ []) (light ∷ []) (pixels_of grid.now)) }
     ensures unchanged { OnErr result (bytes.new ≡ bytes.old) }
     ensures memory { IsOkUnless result OutOfMemory }
@@ -83,97 +77,14 @@ impl<'a> Renderer<'a, Luma> {
     /// picture has pixels. Refuses with `OutOfMemory` alone, and the buffer is then as it was.
     pub fn build_into(&self, alloc: Global, bytes: &mut [u8]) -> QrResult<()>
         requires fits { IsTrue (fits self.now) }
-        requires exact { length bytes.old
+        requires length { length bytes.old
             ≡ pixels_across (layout_of self.now) * pixels_down (layout_of self.now) }
-        ensures pixels { OnOk result (bytes.new
+        ensures value { OnOk result (bytes.new
             ≡ raw_bytes self.now.dark.0 self.now.light.0 (picture_of self.now)) }
         ensures unchanged { OnErr result (bytes.new ≡ bytes.old) }
         ensures memory { IsOkUnless result OutOfMemory }
     {
         let (dark, light) = self.colors();
         put_greys(alloc, &self.grid(), dark.0[0], light.0[0], bytes)
-    }
-}
-
-// The modules of a renderer.
-fn modules_of<'a, P: Pixel>(renderer: &Renderer<'a, P>) -> Modules<'a>
-    requires fits { IsTrue (fits renderer.now) }
-    ensures { result ≡ record {
-      content = renderer.now.content;
-      count = renderer.now.count;
-      zone = renderer.now.zone;
-      across = renderer.now.across;
-      down = renderer.now.down;
-    } }
-{
-    Modules {
-        content: renderer.content,
-        count: renderer.modules_count,
-        zone: renderer.quiet_zone,
-        width: renderer.module_width,
-        height: renderer.module_height,
-    }
-}
-
-impl<'a, 'c> Renderer<'a, svg::Color<'c>> {
-    /// Writes the text that `build` would give into the beginning of a buffer, and answers how long it
-    /// is; or None, where the buffer has not room for its start, its end and 80 bytes for each module.
-    /// Refuses with `OutOfMemory` alone. Then, and where it answers None, the buffer is as it was.
-    pub fn put(&self, alloc: Global, bytes: &mut [u8]) -> QrResult<Option<usize>>
-        requires fits { IsTrue (fits self.now) }
-        ensures made { let s = self.now in let at = layout_of s in IfOk result
-            (IsPutWhere (svg_text at s.content s.dark.0.now s.light.0.now)
-            (length (svg_start (pixels_across at) (pixels_down at) s.dark.0.now s.light.0.now)
-            + length s.content * 80 + 9) bytes.old bytes.new) }
-        ensures unchanged { OnErr result (bytes.new ≡ bytes.old) }
-        ensures memory { IsOkUnless result OutOfMemory }
-    {
-        put_svg(
-            alloc,
-            &modules_of(self),
-            self.dark_color,
-            self.light_color,
-            bytes,
-        )
-    }
-}
-
-impl<'a> Renderer<'a, pic::Color> {
-    /// Writes the text that `build` would give into the beginning of a buffer, and answers how long it
-    /// is; or None, where the buffer has not room for its start and 80 bytes for each module. Refuses
-    /// with `OutOfMemory` alone. Then, and where it answers None, the buffer is as it was.
-    pub fn put(&self, alloc: Global, bytes: &mut [u8]) -> QrResult<Option<usize>>
-        requires fits { IsTrue (fits self.now) }
-        ensures made { let s = self.now in let at = layout_of s in IfOk result
-            (IsPutWhere (pic_text at s.content)
-            (length (pic_start (pixels_across at) (pixels_down at)) + length s.content * 80)
-            bytes.old bytes.new) }
-        ensures unchanged { OnErr result (bytes.new ≡ bytes.old) }
-        ensures memory { IsOkUnless result OutOfMemory }
-    {
-        put_pic(alloc, &modules_of(self), bytes)
-    }
-}
-
-impl<'a> Renderer<'a, eps::Color> {
-    /// Writes the text that `build` would give into the beginning of a buffer, and answers how long it
-    /// is; or None, where the buffer has not room for its start, its end and 80 bytes for each module.
-    /// Refuses with `OutOfMemory` alone. Then, and where it answers None, the buffer is as it was.
-    pub fn put(&self, alloc: Global, bytes: &mut [u8]) -> QrResult<Option<usize>>
-        requires fits { IsTrue (fits self.now) }
-        ensures made { let s = self.now in let at = layout_of s in IfOk result
-            (IsPutWhere (eps_text at s.content s.dark s.light)
-            (length (eps_start (pixels_across at) (pixels_down at) s.dark s.light)
-            + length s.content * 80 + 15) bytes.old bytes.new) }
-        ensures unchanged { OnErr result (bytes.new ≡ bytes.old) }
-        ensures memory { IsOkUnless result OutOfMemory }
-    {
-        put_eps(
-            alloc,
-            &modules_of(self),
-            self.dark_color,
-            self.light_color,
-            bytes,
-        )
     }
 }

@@ -40,7 +40,7 @@ impl Model for Cells {
 impl Cells {
     /// A picture with no dark pixel. Refuses with `OutOfMemory` alone.
     pub fn new(alloc: Global, width: u32, height: u32) -> QrResult<Cells>
-        ensures blank { IfOk result (λ marks. marks ≡ blank width height) }
+        ensures value { IfOk result (λ marks. marks ≡ blank width height) }
         ensures memory { IsOkUnless result OutOfMemory }
     {
         let mut cells = Vec::new(alloc);

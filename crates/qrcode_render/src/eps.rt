@@ -1,18 +1,18 @@
 //! Pictures as Encapsulated PostScript, in which a pixel is a point: 1/72 of an inch.
 
 ghost use Rattle.std.proofs.Common.{rules};
-ghost use Rattle.std.specs.Prelude.{◌≡◌, ℕ, ◌+◌, ◌*◌, ◌^◌, ◌<◌, ◌++◌, List, length, string_bytes, IfOk, OnOk, OnErr, IsOkUnless};
+ghost use Rattle.std.specs.Prelude.{◌≡◌, ℕ, ◌+◌, ◌*◌, ◌^◌, ◌<◌, ◌++◌, List, length, string_bytes, IfOk, OnOk, OnErr, IsOkUnless, IsTrue};
 ghost use Rattle.qrcode_types.specs.declared.types.QrError.TheVariants.{OutOfMemory};
 ghost use Rattle.qrcode_types.specs.Colors.{select_of};
 ghost use Rattle.qrcode_render.specs.Eps.{eps_head, eps_paint, eps_box, eps_turn, eps_start, eps_rect, eps_column, eps_sides, eps_row, eps_end, eps_text};
-ghost use Rattle.qrcode_render.specs.Layout.{layout};
+ghost use Rattle.qrcode_render.specs.Layout.{pixels_across, pixels_down};
 ghost use Rattle.qrcode_render.specs.Put.{IsPutWhere};
-ghost use Rattle.qrcode_render.specs.Setting.{layout_of};
+ghost use Rattle.qrcode_render.specs.Setting.{fits, layout_of};
 
 use crate::ink::{Column, Piece, Row, Sides, number};
 use crate::stamps::Stamp;
 use crate::strokes::{Strokes, push_modules, put_modules};
-use crate::{Modules, Pixel};
+use crate::{Modules, Pixel, Renderer};
 use qrcode_types::types::{Color as ModuleColor, QrResult};
 use std::alloc::Global;
 use std::fmt::Write;
@@ -20,8 +20,11 @@ use std::fmt::Write;
 /// A colour of PostScript, as red, green and blue from 0 to 255.
 #[derive(Copy, Clone, PartialEq, Eq)]
 pub struct Color {
+    /// Red, from 0 to 255.
     pub red: u8,
+    /// Green, from 0 to 255.
     pub green: u8,
+    /// Blue, from 0 to 255.
     pub blue: u8,
 }
 
@@ -85,6 +88,9 @@ fn push_box(text: &mut String, left: u32, top: u32, width: u32, height: u32) -> 
     Ok(())
 }
 
+// The most bytes of what stands before the first box.
+const LONGEST_START: usize = 264;
+
 /// Boxes, put together of the texts of columns and rows.
 struct Boxes;
 
@@ -114,25 +120,31 @@ impl Strokes for Boxes {
     }
 }
 
-// Writes the text of modules into the beginning of a buffer that has room for any of so many modules.
-#[tactic(auto, unfolding(crate::specs::Eps::eps_text))]
-pub(crate) fn put_eps(
-    alloc: Global,
-    modules: &Modules,
-    dark: Color,
-    light: Color,
-    bytes: &mut [u8],
-) -> QrResult<Option<usize>>
-    ensures made { let m = modules.now in let w = (m.count + 2 * m.zone) * m.across in
-        let h = (m.count + 2 * m.zone) * m.down in IfOk result (IsPutWhere
-        (eps_text (layout m.count m.zone m.across m.down) m.content dark light)
-        (length (eps_start w h dark light) + length m.content * 80 + 15) bytes.old bytes.new) }
-    ensures unchanged { OnErr result (bytes.new ≡ bytes.old) }
-    ensures memory { IsOkUnless result OutOfMemory }
-{
-    let (width, height) = modules.pixels();
-    let canvas = <Canvas as crate::Canvas>::new(alloc, width, height, dark, light)?;
-    put_modules::<Boxes>(&canvas.text, modules, b"showpage\n%%EOF\n", bytes)
+impl<'a> Renderer<'a, Color> {
+    /// Writes the text that `build` would give into the beginning of a buffer, and answers how long it
+    /// is; or None, where the buffer has not room for its start, its end and 80 bytes for each module.
+    /// Refuses with `OutOfMemory` alone. Then, and where it answers None, the buffer is as it was.
+    #[tactic(auto, unfolding(crate::specs::Eps::eps_text))]
+    pub fn put(&self, alloc: Global, bytes: &mut [u8]) -> QrResult<Option<usize>>
+        requires fits { IsTrue (fits self.now) }
+        ensures made { let s = self.now in let at = layout_of s in IfOk result
+            (IsPutWhere (eps_text at s.content s.dark s.light)
+            (length (eps_start (pixels_across at) (pixels_down at) s.dark s.light)
+            + length s.content * 80 + 15) bytes.old bytes.new) }
+        ensures unchanged { OnErr result (bytes.new ≡ bytes.old) }
+        ensures memory { IsOkUnless result OutOfMemory }
+    {
+        let modules = self.modules();
+        let (width, height) = modules.pixels();
+        let canvas = <Canvas as crate::Canvas>::new(
+            alloc,
+            width,
+            height,
+            self.dark_color,
+            self.light_color,
+        )?;
+        put_modules::<Boxes>(&canvas.text, &modules, b"showpage\n%%EOF\n", bytes)
+    }
 }
 
 impl crate::Canvas for Canvas {
@@ -167,7 +179,9 @@ impl crate::Canvas for Canvas {
         dark_pixel: Color,
         light_pixel: Color,
     ) -> QrResult<Canvas> {
-        let mut text = format!(in alloc;
+        let mut text = String::with_capacity(alloc, LONGEST_START)?;
+        write!(
+            text,
             "%!PS-Adobe-3.0 EPSF-3.0\n%%BoundingBox: 0 0 {width} {height}\n%%LanguageLevel: 2\n%%EndComments\n"
         )?;
         push_paint(&mut text, light_pixel)?;

@@ -16,8 +16,8 @@ fn push_pairs<const N: usize>(
     first: &Stamp<N>,
     texts: &[Stamp<N>],
 ) -> QrResult<()>
-    requires first { 2 * length first.now ≤ N }
-    requires short { All (λ text. 2 * length text ≤ N) texts.now }
+    requires first_at_most { 2 * length first.now ≤ N }
+    requires texts_at_most { All (λ text. 2 * length text ≤ N) texts.now }
     ensures appends { OnOk result
         (pairs.new.items ≡ pairs.old.items ++ map (λ b. first.now ++ b) texts.now) }
     ensures memory { IsOkUnless result OutOfMemory }
@@ -28,9 +28,9 @@ fn push_pairs<const N: usize>(
     Ok(())
 }
 
-/// Each text followed by each, the second changing first.
-pub fn pairs<const N: usize>(alloc: Global, texts: &[Stamp<N>]) -> QrResult<Vec<Stamp<N>>>
-    requires short { All (λ text. 2 * length text ≤ N) texts.now }
+// Each text followed by each, the second changing first.
+fn pairs<const N: usize>(alloc: Global, texts: &[Stamp<N>]) -> QrResult<Vec<Stamp<N>>>
+    requires at_most { All (λ text. 2 * length text ≤ N) texts.now }
     ensures value { IfOk result (λ v. v.items ≡ paired texts.now) }
     ensures memory { IsOkUnless result OutOfMemory }
 {
@@ -60,7 +60,7 @@ fn four_number(a: bool, b: bool, c: bool, d: bool) -> usize
 /// Texts of at most `N` bytes that stand for four marks, by those that stand for two.
 #[derive(Drop)]
 pub struct Fours<const N: usize> {
-    twos: Vec<Stamp<N>>,
+    twos: [Stamp<N>; 4],
     fours: Vec<Stamp<N>>,
 }
 
@@ -70,17 +70,16 @@ impl<const N: usize> Model for Fours<N> {
 
     ghost Value = { List (List ℕ) };
 
-    ghost view = { λ p. p.twos.items };
+    ghost view = { λ p. p.twos };
 
-    ghost invariant = { λ p. (length p.twos.items ≡ 4) × (p.fours.items ≡ paired p.twos.items) };
+    ghost invariant = { λ p. (length p.twos ≡ 4) × (p.fours.items ≡ paired p.twos) };
 }
 
 impl<const N: usize> Fours<N> {
     /// The palette of the texts that stand for two marks. Refuses with `OutOfMemory` alone.
-    pub fn new(alloc: Global, twos: Vec<Stamp<N>>) -> QrResult<Fours<N>>
-        requires four { length twos.items ≡ 4 }
-        requires short { All (λ text. 2 * length text ≤ N) twos.items }
-        ensures twos { IfOk result (λ palette. palette ≡ twos.entry.items) }
+    pub fn new(alloc: Global, twos: [Stamp<N>; 4]) -> QrResult<Fours<N>>
+        requires at_most { All (λ text. 2 * length text ≤ N) twos }
+        ensures value { IfOk result (λ palette. palette ≡ twos.entry) }
         ensures memory { IsOkUnless result OutOfMemory }
     {
         let fours = pairs(alloc, &twos)?;

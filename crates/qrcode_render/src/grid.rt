@@ -1,6 +1,6 @@
 //! Cells in rows and columns, of which each shows as a rectangle of pixels.
 
-ghost use Rattle.std.specs.Prelude.{◌≡◌, ◌+◌, ◌-◌, ◌*◌, ◌^◌, ◌<◌, ◌≤◌, false, length, replicate};
+ghost use Rattle.std.specs.Prelude.{◌≡◌, ◌+◌, ◌-◌, ◌*◌, ◌^◌, ◌<◌, ◌≤◌, length};
 ghost use Rattle.std.specs.List.{slice_range};
 ghost use Rattle.qrcode_render.specs.Bitmap.{marked_line};
 ghost use Rattle.qrcode_render.specs.Grid.{cell_row, all_columns, all_rows};
@@ -9,13 +9,6 @@ ghost use Rattle.qrcode_render.specs.Shades.{colors_of, shown};
 use crate::marks::{is_dark, mark_bytes, mark_line};
 use qrcode_types::types::Color;
 use std::marker::Model;
-
-// Makes all marks light.
-fn clear(marks: &mut [bool])
-    ensures { marks.new ≡ replicate (length marks.old) false }
-{
-    marks.fill(false);
-}
 
 // Cells whose dark ones a byte counts: the most that are seven times the 32 that are taken at once.
 const COUNTED: usize = 224;
@@ -66,7 +59,7 @@ impl<'a> Shades<'a> {
     fn dark_in(&self, first: usize, end: usize) -> u8
         requires order { first ≤ end }
         requires inside { end ≤ length (shown self.now) }
-        requires few { end - first ≤ 255 }
+        requires at_most { end - first ≤ 255 }
         ensures { result ≤ end - first }
     {
         match *self {
@@ -137,12 +130,12 @@ impl<'a> Grid<'a> {
         down: u32,
     ) -> Grid<'a>
         requires square { length cells.now ≡ rows * columns }
-        requires columns { columns + 2 * zone < 2 ^ 32 }
-        requires rows { rows + 2 * zone < 2 ^ 32 }
-        requires wide { 1 ≤ across }
-        requires high { 1 ≤ down }
-        requires across { (columns + 2 * zone) * across < 2 ^ 32 }
-        requires down { (rows + 2 * zone) * down < 2 ^ 32 }
+        requires columns_fit { columns + 2 * zone < 2 ^ 32 }
+        requires rows_fit { rows + 2 * zone < 2 ^ 32 }
+        requires across_at_least { 1 ≤ across }
+        requires down_at_least { 1 ≤ down }
+        requires across_fits { (columns + 2 * zone) * across < 2 ^ 32 }
+        requires down_fits { (rows + 2 * zone) * down < 2 ^ 32 }
         ensures { result ≡ record {
           cells = cells.now;
           columns = columns;
@@ -166,11 +159,11 @@ impl<'a> Grid<'a> {
     /// not zero are dark.
     pub fn of_bytes(cells: &'a [u8], side: u32, zone: u32, across: u32, down: u32) -> Grid<'a>
         requires square { length cells.now ≡ side * side }
-        requires side { side + 2 * zone < 2 ^ 32 }
-        requires wide { 1 ≤ across }
-        requires high { 1 ≤ down }
-        requires across { (side + 2 * zone) * across < 2 ^ 32 }
-        requires down { (side + 2 * zone) * down < 2 ^ 32 }
+        requires side_fits { side + 2 * zone < 2 ^ 32 }
+        requires across_at_least { 1 ≤ across }
+        requires down_at_least { 1 ≤ down }
+        requires across_fits { (side + 2 * zone) * across < 2 ^ 32 }
+        requires down_fits { (side + 2 * zone) * down < 2 ^ 32 }
         ensures { result ≡ record {
           cells = colors_of cells.now;
           columns = side;
@@ -203,7 +196,7 @@ impl<'a> Grid<'a> {
     pub fn cell(&self) -> (u32, u32)
         ensures across { result.0 ≡ self.now.across }
         ensures down { result.1 ≡ self.now.down }
-        ensures positive { (1 ≤ result.0) × (1 ≤ result.1) }
+        ensures at_least { (1 ≤ result.0) × (1 ≤ result.1) }
         ensures fits { all_columns self.now * result.0 < 2 ^ 32 }
     {
         (self.across, self.down)
@@ -213,7 +206,7 @@ impl<'a> Grid<'a> {
     pub fn pixels(&self) -> (u32, u32)
         ensures across { result.0 ≡ all_columns self.now * self.now.across }
         ensures down { result.1 ≡ all_rows self.now * self.now.down }
-        ensures positive { (1 ≤ self.now.across) × (1 ≤ self.now.down) }
+        ensures at_least { (1 ≤ self.now.across) × (1 ≤ self.now.down) }
     {
         (
             (self.columns as u32 + 2 * self.zone as u32) * self.across,
@@ -223,11 +216,11 @@ impl<'a> Grid<'a> {
 
     /// Marks the dark cells of a row, the light ones around counted.
     pub fn mark_row(&self, row: usize, marks: &mut [bool])
-        requires row { row < all_rows self.now }
-        requires columns { length marks.old ≡ all_columns self.now }
+        requires inside { row < all_rows self.now }
+        requires length { length marks.old ≡ all_columns self.now }
         ensures { marks.new ≡ cell_row self.now row }
     {
-        clear(marks);
+        marks.fill(false);
         if self.zone <= row && row < self.zone + self.rows {
             let start = (row - self.zone) * self.columns;
             self.cells

@@ -22,6 +22,7 @@ mod fours;
 pub mod grid;
 pub mod image;
 mod ink;
+pub mod laws;
 mod marks;
 pub mod page;
 mod parts;
@@ -421,7 +422,7 @@ impl<'a, P: Pixel> Renderer<'a, P> {
         ensures memory { IsOkUnless result OutOfMemory }
 
         // A module or more makes a column and a row of pixels.
-        ensures some { 1 ≤ self.now.count → HasPixels self.now }
+        ensures pixels { 1 ≤ self.now.count → HasPixels self.now }
         ensures whole { IsWhole self.now }
 
         // On any canvas, the picture is what the drawing of the dark modules ends as.
@@ -438,12 +439,12 @@ impl<'a, P: Pixel> Renderer<'a, P> {
         P::Canvas::picture(alloc, &modules, self.dark_color, self.light_color)
     }
 
-    /// The picture, as `build` gives it.
+    /// The picture, as `build` gives it. Refuses with `OutOfMemory` alone.
     pub fn to_image(&self, alloc: Global) -> QrResult<P::Image>
         requires { IsTrue (fits self.now) }
         ensures picture { IfOk result (P.Canvas.is_picture self.now) }
         ensures memory { IsOkUnless result OutOfMemory }
-        ensures some { 1 ≤ self.now.count → HasPixels self.now }
+        ensures pixels { 1 ≤ self.now.count → HasPixels self.now }
         ensures whole { IsWhole self.now }
         ensures ends { IfOk result
             (P.Canvas.is_end (drawing_of P.Canvas.start P.Canvas.rect_step self.now)) }

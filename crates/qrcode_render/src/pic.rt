@@ -1,17 +1,17 @@
 //! Pictures as PIC.
 
 ghost use Rattle.std.proofs.Common.{rules};
-ghost use Rattle.std.specs.Prelude.{◌≡◌, ℕ, ◌+◌, ◌*◌, ◌^◌, ◌<◌, List, length, string_bytes, IfOk, OnOk, OnErr, IsOkUnless};
+ghost use Rattle.std.specs.Prelude.{◌≡◌, ℕ, ◌+◌, ◌*◌, ◌^◌, ◌<◌, List, length, string_bytes, IfOk, OnOk, OnErr, IsOkUnless, IsTrue};
 ghost use Rattle.qrcode_types.specs.declared.types.QrError.TheVariants.{OutOfMemory};
-ghost use Rattle.qrcode_render.specs.Layout.{layout};
+ghost use Rattle.qrcode_render.specs.Layout.{pixels_across, pixels_down};
 ghost use Rattle.qrcode_render.specs.Put.{IsPutWhere};
-ghost use Rattle.qrcode_render.specs.Setting.{layout_of};
+ghost use Rattle.qrcode_render.specs.Setting.{fits, layout_of};
 ghost use Rattle.qrcode_render.specs.Vectors.{pic_start, pic_rect, pic_column, pic_sides, pic_row, pic_text};
 
 use crate::ink::{Column, Piece, Row, Sides, number};
 use crate::stamps::Stamp;
 use crate::strokes::{Strokes, push_modules, put_modules};
-use crate::{Modules, Pixel};
+use crate::{Modules, Pixel, Renderer};
 use qrcode_types::types::QrResult;
 use std::alloc::Global;
 use std::fmt::Write;
@@ -60,6 +60,9 @@ fn push_rect(text: &mut String, left: u32, top: u32, width: u32, height: u32) ->
     Ok(())
 }
 
+// The most bytes of what stands before the first box.
+const LONGEST_START: usize = 176;
+
 /// Boxes, put together of the texts of columns and rows.
 struct Boxes;
 
@@ -89,18 +92,24 @@ impl Strokes for Boxes {
     }
 }
 
-// Writes the text of modules into the beginning of a buffer that has room for any of so many modules.
-pub(crate) fn put_pic(alloc: Global, modules: &Modules, bytes: &mut [u8]) -> QrResult<Option<usize>>
-    ensures made { let m = modules.now in let w = (m.count + 2 * m.zone) * m.across in
-        let h = (m.count + 2 * m.zone) * m.down in
-        IfOk result (IsPutWhere (pic_text (layout m.count m.zone m.across m.down) m.content)
-        (length (pic_start w h) + length m.content * 80) bytes.old bytes.new) }
-    ensures unchanged { OnErr result (bytes.new ≡ bytes.old) }
-    ensures memory { IsOkUnless result OutOfMemory }
-{
-    let (width, height) = modules.pixels();
-    let canvas = <Canvas as crate::Canvas>::new(alloc, width, height, Color, Color)?;
-    put_modules::<Boxes>(&canvas.text, modules, b"", bytes)
+impl<'a> Renderer<'a, Color> {
+    /// Writes the text that `build` would give into the beginning of a buffer, and answers how long it
+    /// is; or None, where the buffer has not room for its start and 80 bytes for each module. Refuses
+    /// with `OutOfMemory` alone. Then, and where it answers None, the buffer is as it was.
+    pub fn put(&self, alloc: Global, bytes: &mut [u8]) -> QrResult<Option<usize>>
+        requires fits { IsTrue (fits self.now) }
+        ensures made { let s = self.now in let at = layout_of s in IfOk result
+            (IsPutWhere (pic_text at s.content)
+            (length (pic_start (pixels_across at) (pixels_down at)) + length s.content * 80)
+            bytes.old bytes.new) }
+        ensures unchanged { OnErr result (bytes.new ≡ bytes.old) }
+        ensures memory { IsOkUnless result OutOfMemory }
+    {
+        let modules = self.modules();
+        let (width, height) = modules.pixels();
+        let canvas = <Canvas as crate::Canvas>::new(alloc, width, height, Color, Color)?;
+        put_modules::<Boxes>(&canvas.text, &modules, b"", bytes)
+    }
 }
 
 impl crate::Canvas for Canvas {
@@ -135,7 +144,9 @@ impl crate::Canvas for Canvas {
         _dark_pixel: Color,
         _light_pixel: Color,
     ) -> QrResult<Canvas> {
-        let text = format!(in alloc;
+        let mut text = String::with_capacity(alloc, LONGEST_START)?;
+        write!(
+            text,
             "maxpswid={width};maxpsht={height};movewid=0;moveht=1;boxwid=1;boxht=1\ndefine p {{ box wid $3 ht $4 fill 1 with .nw at $1,-$2 }}\nbox wid maxpswid ht maxpsht with .nw at 0,0\n"
         )?;
         Ok(Canvas {

@@ -8,13 +8,14 @@ ghost use Rattle.qrcode_render.specs.Grid.{all_columns, all_rows, cell_row, repe
 ghost use Rattle.qrcode_render.specs.Lines.{two_text};
 ghost use Rattle.qrcode_render.specs.Texts.{marks_text};
 
-use crate::fours::{Fours, pairs, push_marks, push_ones};
+use crate::fours::{Fours, push_marks, push_ones};
 use crate::grid::Grid;
 use crate::stamps::{Line, Stamp};
 use qrcode_types::types::{QrError, QrResult};
 use std::alloc::Global;
 
-/// Appends a text so many times. Apart from its callers, so that its few variables stay in registers.
+/// Appends a text so many times. Refuses with `OutOfMemory` alone. Apart from its callers, so that its few
+/// variables stay in registers.
 #[inline(never)]
 pub fn push_times(raw: &mut Vec<u8>, text: &[u8], times: u32) -> QrResult<()>
     ensures appends { OnOk result (raw.new.items ≡ raw.old.items ++ repeated times text.now) }
@@ -52,10 +53,14 @@ fn palette_of<const N: usize>(
     if longest <= past || N / 4 < longest {
         return Ok(None);
     }
-    let mut ones = Vec::with_capacity(alloc, 2)?;
-    ones.push(Stamp::new(light))?;
-    ones.push(Stamp::new(dark))?;
-    let twos = pairs(alloc, &ones)?;
+    let light = Stamp::<N>::new(light);
+    let dark = Stamp::<N>::new(dark);
+    let twos = [
+        light.and(&light),
+        light.and(&dark),
+        dark.and(&light),
+        dark.and(&dark),
+    ];
     Ok(Some(Fours::new(alloc, twos)?))
 }
 
@@ -136,7 +141,7 @@ fn push_lines(
     line: &mut Line,
     most: usize,
 ) -> QrResult<()>
-    requires columns { length marks.old ≡ all_columns grid.now }
+    requires length { length marks.old ≡ all_columns grid.now }
     requires empty { line.old.text ≡ [] }
     requires at_most { all_columns grid.now
         * max (vec_len texts.now.dark) (vec_len texts.now.light) + length end.now ≤ most }

@@ -41,8 +41,8 @@ fn push_step(text: &mut String, forward: &str, back: &str, from: usize, to: usiz
 
 // Appends the run of so many cells that ends before a column, where there are some.
 fn push_run(text: &mut String, pen: &mut Pen, top: usize, end: usize, width: usize) -> QrResult<()>
-    requires width { width ≤ end }
-    requires row { top < 2 ^ 32 }
+    requires width_at_most { width ≤ end }
+    requires row_at_most { top < 2 ^ 32 }
     ensures appends { OnOk result (string_bytes text.new
         ≡ string_bytes text.old ++ path_from pen.old (ended top end width)) }
     ensures pen { OnOk result (pen.new ≡ pen_after pen.old (ended top end width)) }
@@ -61,7 +61,7 @@ fn push_run(text: &mut String, pen: &mut Pen, top: usize, end: usize, width: usi
 
 // Appends the runs of the marks of a row.
 fn push_row(text: &mut String, pen: &mut Pen, marks: &[bool], top: usize) -> QrResult<()>
-    requires row { top < 2 ^ 32 }
+    requires row_at_most { top < 2 ^ 32 }
     ensures appends { OnOk result (string_bytes text.new
         ≡ string_bytes text.old ++ path_from pen.old (runs_from top 0 0 marks.now)) }
     ensures pen { OnOk result (pen.new ≡ pen_after pen.old (runs_from top 0 0 marks.now)) }
@@ -81,7 +81,7 @@ fn push_row(text: &mut String, pen: &mut Pen, marks: &[bool], top: usize) -> QrR
 
 /// Appends the runs of all rows, by marks of a row to write into. Refuses with `OutOfMemory` alone.
 pub fn push_runs(text: &mut String, grid: &Grid, marks: &mut [bool]) -> QrResult<()>
-    requires columns { length marks.old ≡ all_columns grid.now }
+    requires length { length marks.old ≡ all_columns grid.now }
     ensures appends { OnOk result
         (string_bytes text.new ≡ string_bytes text.old ++ path_text (runs_of grid.now)) }
     ensures memory { IsOkUnless result OutOfMemory }

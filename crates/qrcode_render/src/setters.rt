@@ -97,7 +97,7 @@ impl<'a, P: Pixel> Renderer<'a, P> {
     /// at most 4,294,967,296.
     #[tactic(auto, using(crate::proofs::Sizes::is_least_size))]
     pub fn min_dimensions(&mut self, width: u32, height: u32) -> &mut Self
-        requires some { 1 ≤ side_of self.old }
+        requires at_least { 1 ≤ side_of self.old }
         requires side_fits { side_of self.old < 2 ^ 32 }
         requires across_fits { width + side_of self.old - 1 < 2 ^ 32 }
         requires down_fits { height + side_of self.old - 1 < 2 ^ 32 }
@@ -121,7 +121,7 @@ impl<'a, P: Pixel> Renderer<'a, P> {
     /// The picture has a module, and its modules along a side and the pixels asked for are together
     /// at most 4,294,967,296.
     pub fn min_width(&mut self, width: u32) -> &mut Self
-        requires some { 1 ≤ side_of self.old }
+        requires at_least { 1 ≤ side_of self.old }
         requires side_fits { side_of self.old < 2 ^ 32 }
         requires across_fits { width + side_of self.old - 1 < 2 ^ 32 }
         ensures same { result.ghost_name ≡ self.entry.ghost_name }
@@ -142,7 +142,7 @@ impl<'a, P: Pixel> Renderer<'a, P> {
     /// The picture has a module, and at most 4,294,967,295 along a side.
     #[tactic(auto, using(crate::proofs::Sizes::is_greatest_size))]
     pub fn max_dimensions(&mut self, width: u32, height: u32) -> &mut Self
-        requires some { 1 ≤ side_of self.old }
+        requires at_least { 1 ≤ side_of self.old }
         requires side_fits { side_of self.old < 2 ^ 32 }
         ensures same { result.ghost_name ≡ self.entry.ghost_name }
         ensures sets { result.now ≡ record self.old {

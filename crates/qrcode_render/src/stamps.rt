@@ -16,9 +16,9 @@ pub const LONGEST: usize = 32;
 pub(crate) fn put_text(bytes: &mut [u8], at: usize, text: &[u8]) -> usize
     requires { at + length text.now ≤ length bytes.old }
     ensures writes { take result bytes.new ≡ take at bytes.old ++ text.now }
-    ensures rest { drop result bytes.new ≡ drop result bytes.old }
+    ensures unchanged { drop result bytes.new ≡ drop result bytes.old }
     ensures end { result ≡ at + length text.now }
-    ensures room { length bytes.new ≡ length bytes.old }
+    ensures length { length bytes.new ≡ length bytes.old }
 {
     let end = at + text.len();
     bytes[at..end].copy_from_slice(text);
@@ -30,7 +30,7 @@ fn put_number(bytes: &mut [u8], at: usize, n: u32) -> usize
     requires { at + length (decimal n) ≤ length bytes.old }
     ensures writes { take result bytes.new ≡ take at bytes.old ++ decimal n }
     ensures end { result ≡ at + length (decimal n) }
-    ensures room { length bytes.new ≡ length bytes.old }
+    ensures length { length bytes.new ≡ length bytes.old }
 {
     let place = if n < 10 {
         at
@@ -112,7 +112,7 @@ impl<const N: usize> Stamp<N> {
         requires { at + N ≤ length bytes.old }
         ensures writes { take result bytes.new ≡ take at bytes.old ++ self.now }
         ensures end { result ≡ at + length self.now }
-        ensures room { length bytes.new ≡ length bytes.old }
+        ensures length { length bytes.new ≡ length bytes.old }
     {
         Simd::<u8, N>::from_slice(&self.start).copy_to_slice(&mut bytes[at..]);
         at + self.len
@@ -151,7 +151,7 @@ impl Model for Line {
 }
 
 impl Line {
-    /// An empty text with so much room, and some behind it.
+    /// An empty text with so much room, and some behind it. Refuses with `OutOfMemory` alone.
     pub fn new(alloc: Global, room: usize) -> QrResult<Line>
         ensures empty { IfOk result (λ line. line.text ≡ []) }
         ensures room { IfOk result (λ line. line.room ≡ room + 32) }

@@ -153,7 +153,7 @@ impl<P: Element> Finish<P> for Lines {
 
 // The text of an element.
 fn element_text<P: Element>(alloc: Global, element: P) -> QrResult<String>
-    ensures text { IfOk result (λ text. string_bytes text ≡ P.text element) }
+    ensures value { IfOk result (λ text. string_bytes text ≡ P.text element) }
     ensures memory { IsOkUnless result OutOfMemory }
 {
     let mut text = String::with_capacity(alloc, element.strlen())?;

@@ -9,7 +9,7 @@ use crate::grid::Grid;
 
 // Marks each pixel of which the cell is marked.
 fn widen(cells: &[bool], across: usize, marks: &mut [bool])
-    requires positive { 1 ≤ across }
+    requires at_least { 1 ≤ across }
     requires length { length marks.old ≡ length cells.now * across }
     ensures { marks.new ≡ map (λ x. slice_index_or cells.now (x / across) false)
         (range_with_len 0 (length cells.now * across)) }
@@ -23,7 +23,7 @@ fn widen(cells: &[bool], across: usize, marks: &mut [bool])
 /// call a row costs a sixth of the marks.
 #[inline(always)]
 pub fn mark_pixels(grid: &Grid, y: u32, cells: &mut [bool], marks: &mut [bool])
-    requires row { y < all_rows grid.now * grid.now.down }
+    requires inside { y < all_rows grid.now * grid.now.down }
     requires cells { length cells.old ≡ all_columns grid.now }
     requires pixels { length marks.old ≡ all_columns grid.now * grid.now.across }
     ensures value { marks.new ≡ row_of (pixels_of grid.now) y }

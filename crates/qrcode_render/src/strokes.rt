@@ -63,12 +63,12 @@ fn write_line<S: Strokes>(
     width: u32,
     height: u32,
 )
-    requires length { length content.now ≤ length columns.now }
+    requires at_most { length content.now ≤ length columns.now }
     requires columns { columns.now
         ≡ columns_from S.column_texts left width (length columns.now) }
     requires row { row.now ≡ S.row_texts top (S.sides_text width height) }
     requires room { length content.now * 80 ≤ line.old.room }
-    ensures text { line.new.text ≡ drawn_row (stroke S.column_texts S.sides_text S.row_texts)
+    ensures value { line.new.text ≡ drawn_row (stroke S.column_texts S.sides_text S.row_texts)
         left top width height content.now [] }
     ensures at_most { length line.new.text ≤ length content.now * 80 }
     ensures room { line.new.room ≡ line.old.room }
@@ -140,10 +140,10 @@ fn put_rows<S: Strokes>(
     requires room { at + count * (count * 80) ≤ length bytes.old }
     ensures writes { take result bytes.new ≡ drawn (stroke S.column_texts S.sides_text S.row_texts)
         (layout count zone width height) content.now (take at bytes.old) }
-    ensures rest { drop result bytes.new ≡ drop result bytes.old }
+    ensures unchanged { drop result bytes.new ≡ drop result bytes.old }
     ensures at_least { at ≤ result }
     ensures at_most { result ≤ at + count * (count * 80) }
-    ensures room { length bytes.new ≡ length bytes.old }
+    ensures length { length bytes.new ≡ length bytes.old }
 {
     let left = zone * width;
     let sides = S::sides(width, height);
@@ -239,16 +239,16 @@ pub fn put_modules<S: Strokes>(
     ensures unchanged { OnErr result (bytes.new ≡ bytes.old) }
     ensures memory { IsOkUnless result OutOfMemory }
 {
-    let alloc = *start.allocator();
-    let left = modules.zone * modules.width;
-    let columns = columns::<S>(alloc, left, modules.width, modules.count)?;
-    let mut line = row_line(alloc, modules.count)?;
     let Some(most) = most_of(start.len(), modules.content.len(), end.len()) else {
         return Ok(None);
     };
     if bytes.len() < most {
         return Ok(None);
     }
+    let alloc = *start.allocator();
+    let left = modules.zone * modules.width;
+    let columns = columns::<S>(alloc, left, modules.width, modules.count)?;
+    let mut line = row_line(alloc, modules.count)?;
     let at = put_text(bytes, 0, start.as_bytes());
     let at = put_rows::<S>(
         bytes,

@@ -1,19 +1,19 @@
 //! Pictures as SVG.
 
 ghost use Rattle.std.proofs.Common.{rules};
-ghost use Rattle.std.specs.Prelude.{◌≡◌, ℕ, ◌+◌, ◌*◌, ◌^◌, ◌<◌, ◌++◌, List, length, string_bytes, IfOk, OnOk, OnErr, IsOkUnless, codes};
+ghost use Rattle.std.specs.Prelude.{◌≡◌, ℕ, ◌+◌, ◌*◌, ◌^◌, ◌<◌, ◌++◌, List, length, string_bytes, IfOk, OnOk, OnErr, IsOkUnless, IsTrue, codes};
 ghost use Rattle.qrcode_types.specs.declared.types.QrError.TheVariants.{OutOfMemory};
 ghost use Rattle.qrcode_types.specs.Colors.{select_of};
-ghost use Rattle.qrcode_render.specs.Layout.{layout};
+ghost use Rattle.qrcode_render.specs.Layout.{pixels_across, pixels_down};
 ghost use Rattle.qrcode_render.specs.Put.{IsPutWhere};
-ghost use Rattle.qrcode_render.specs.Setting.{layout_of};
-ghost use Rattle.qrcode_render.specs.Vectors.{svg_frame, svg_ground, svg_start, svg_rect, svg_column, svg_sides, svg_row, svg_end, svg_text};
+ghost use Rattle.qrcode_render.specs.Setting.{fits, layout_of};
+ghost use Rattle.qrcode_render.specs.Vectors.{svg_start, svg_rect, svg_column, svg_sides, svg_row, svg_end, svg_text};
 
 use crate::ink::{Column, Piece, Row, Sides, number};
 use crate::stamps::Stamp;
 use crate::strokes::{Strokes, push_modules, put_modules};
 pub use crate::svg_path::{Path, PathElement};
-use crate::{Modules, Pixel};
+use crate::{Modules, Pixel, Renderer};
 use qrcode_types::types::{Color as ModuleColor, QrResult};
 use std::alloc::Global;
 use std::fmt::Write;
@@ -69,6 +69,9 @@ fn push_rect(text: &mut String, left: u32, top: u32, width: u32, height: u32) ->
     Ok(())
 }
 
+// The most bytes of what stands before the first path, but for the names of the colours.
+const LONGEST_START: usize = 280;
+
 /// Paths of rectangles, put together of the texts of columns and rows.
 struct Paths;
 
@@ -101,53 +104,31 @@ impl Strokes for Paths {
     }
 }
 
-// Appends the sides and the view of the picture.
-fn push_frame(text: &mut String, width: u32, height: u32) -> QrResult<()>
-    ensures appends { OnOk result (string_bytes text.new
-        ≡ string_bytes text.old ++ svg_frame width height) }
-    ensures memory { IsOkUnless result OutOfMemory }
-{
-    write!(
-        text,
-        "{width}\" height=\"{height}\" viewBox=\"0 0 {width} {height}\" shape-rendering=\"crispEdges\">"
-    )?;
-    Ok(())
-}
-
-// Appends the light ground and the start of the dark path.
-fn push_ground(text: &mut String, width: u32, height: u32, dark: &str, light: &str) -> QrResult<()>
-    ensures appends { OnOk result (string_bytes text.new
-        ≡ string_bytes text.old ++ svg_ground width height dark.now light.now) }
-    ensures memory { IsOkUnless result OutOfMemory }
-{
-    write!(
-        text,
-        "<rect x=\"0\" y=\"0\" width=\"{width}\" height=\"{height}\" fill=\"{light}\"/><path fill=\"{dark}\" d=\""
-    )?;
-    Ok(())
-}
-
-// Writes the text of modules into the beginning of a buffer that has room for any of so many modules.
-#[tactic(auto, unfolding(crate::specs::Vectors::svg_text))]
-pub(crate) fn put_svg(
-    alloc: Global,
-    modules: &Modules,
-    dark: Color,
-    light: Color,
-    bytes: &mut [u8],
-) -> QrResult<Option<usize>>
-    ensures made { let m = modules.now in let w = (m.count + 2 * m.zone) * m.across in
-        let h = (m.count + 2 * m.zone) * m.down in
-        IfOk result (IsPutWhere (svg_text (layout m.count m.zone m.across m.down) m.content
-        dark.entry.0.now light.entry.0.now)
-        (length (svg_start w h dark.entry.0.now light.entry.0.now) + length m.content * 80 + 9)
-        bytes.old bytes.new) }
-    ensures unchanged { OnErr result (bytes.new ≡ bytes.old) }
-    ensures memory { IsOkUnless result OutOfMemory }
-{
-    let (width, height) = modules.pixels();
-    let canvas = <Canvas as crate::Canvas>::new(alloc, width, height, dark, light)?;
-    put_modules::<Paths>(&canvas.text, modules, b"\"/></svg>", bytes)
+impl<'a, 'c> Renderer<'a, Color<'c>> {
+    /// Writes the text that `build` would give into the beginning of a buffer, and answers how long it
+    /// is; or None, where the buffer has not room for its start, its end and 80 bytes for each module.
+    /// Refuses with `OutOfMemory` alone. Then, and where it answers None, the buffer is as it was.
+    #[tactic(auto, unfolding(crate::specs::Vectors::svg_text))]
+    pub fn put(&self, alloc: Global, bytes: &mut [u8]) -> QrResult<Option<usize>>
+        requires fits { IsTrue (fits self.now) }
+        ensures made { let s = self.now in let at = layout_of s in IfOk result
+            (IsPutWhere (svg_text at s.content s.dark.0.now s.light.0.now)
+            (length (svg_start (pixels_across at) (pixels_down at) s.dark.0.now s.light.0.now)
+            + length s.content * 80 + 9) bytes.old bytes.new) }
+        ensures unchanged { OnErr result (bytes.new ≡ bytes.old) }
+        ensures memory { IsOkUnless result OutOfMemory }
+    {
+        let modules = self.modules();
+        let (width, height) = modules.pixels();
+        let canvas = <Canvas as crate::Canvas>::new(
+            alloc,
+            width,
+            height,
+            self.dark_color,
+            self.light_color,
+        )?;
+        put_modules::<Paths>(&canvas.text, &modules, b"\"/></svg>", bytes)
+    }
 }
 
 impl<'a> crate::Canvas for Canvas<'a> {
@@ -184,12 +165,12 @@ impl<'a> crate::Canvas for Canvas<'a> {
     ) -> QrResult<Canvas<'a>> {
         let dark = dark_pixel.0;
         let light = light_pixel.0;
-        let mut text = String::from_str(
-            alloc,
-            "<?xml version=\"1.0\" standalone=\"yes\"?><svg xmlns=\"http://www.w3.org/2000/svg\" version=\"1.1\" width=\"",
+        let names = dark.len().saturating_add(light.len());
+        let mut text = String::with_capacity(alloc, LONGEST_START.saturating_add(names))?;
+        write!(
+            text,
+            "<?xml version=\"1.0\" standalone=\"yes\"?><svg xmlns=\"http://www.w3.org/2000/svg\" version=\"1.1\" width=\"{width}\" height=\"{height}\" viewBox=\"0 0 {width} {height}\" shape-rendering=\"crispEdges\"><rect x=\"0\" y=\"0\" width=\"{width}\" height=\"{height}\" fill=\"{light}\"/><path fill=\"{dark}\" d=\""
         )?;
-        push_frame(&mut text, width, height)?;
-        push_ground(&mut text, width, height, dark, light)?;
         Ok(Canvas {
             width,
             height,

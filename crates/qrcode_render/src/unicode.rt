@@ -24,7 +24,9 @@ use std::alloc::Global;
 /// A pixel that is half a character high.
 #[derive(Copy, Clone, PartialEq)]
 pub enum Dense1x2 {
+    /// A half that is drawn.
     Dark,
+    /// A half that is left out.
     Light,
 }
 
@@ -120,11 +122,12 @@ impl Halves {
         ensures other { IfOk result (λ halves. halves.other ≡ other) }
         ensures memory { IsOkUnless result OutOfMemory }
     {
-        let mut columns = Vec::with_capacity(alloc, 4)?;
-        columns.push(Stamp::new(half(other, other).as_bytes()))?;
-        columns.push(Stamp::new(half(other, marked).as_bytes()))?;
-        columns.push(Stamp::new(half(marked, other).as_bytes()))?;
-        columns.push(Stamp::new(half(marked, marked).as_bytes()))?;
+        let columns = [
+            Stamp::new(half(other, other).as_bytes()),
+            Stamp::new(half(other, marked).as_bytes()),
+            Stamp::new(half(marked, other).as_bytes()),
+            Stamp::new(half(marked, marked).as_bytes()),
+        ];
         Ok(Halves {
             marked,
             other,
@@ -215,9 +218,9 @@ fn put_lines(bytes: &mut [u8], grid: &Grid, halves: &Halves, strip: &mut Strip) 
     ensures writes { take result bytes.new ≡ join_with_byte 10 (map
         (dense_line halves.now.marked halves.now.other (pixels_of grid.now))
         (range_with_len 0 (((pixels_of grid.now).down + 1) / 2))) }
-    ensures rest { drop result bytes.new ≡ drop result bytes.old }
+    ensures unchanged { drop result bytes.new ≡ drop result bytes.old }
     ensures inside { result ≤ length bytes.new }
-    ensures room { length bytes.new ≡ length bytes.old }
+    ensures length { length bytes.new ≡ length bytes.old }
 {
     let (_, height) = grid.pixels();
     let last = (height - 1) / 2;

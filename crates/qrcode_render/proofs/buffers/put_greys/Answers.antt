@@ -16,8 +16,8 @@ put_lines-requires-clause-light c =
     omega (arith, ap length c.in_ok-texts.ensures.light, length-repeated (c.args.light ∷ []) c.cell-across.result.0, c.cell-across.ensures.across)
 
 -- Rows without an end are the bytes of all pixels.
-pub returns-clause-pixels : goal.returns-clause-pixels
-returns-clause-pixels c =
+pub returns-clause-value : goal.returns-clause-value
+returns-clause-value c =
     let g = c.args.grid.now in
     let dark = c.args.dark ∷ [] in
     let light = c.args.light ∷ [] in
@@ -26,4 +26,4 @@ returns-clause-pixels c =
     (c.in_ok-texts.ensures.dark ∙ ap (λ n. repeated n dark) c.cell-across.ensures.across)
     (c.in_ok-texts.ensures.light ∙ ap (λ n. repeated n light) c.cell-across.ensures.across)
     ∙ (λ k. flat_map (λ row. repeated g.down (sym (append-nil (row_text dark light g row)) k)) (range_with_len 0 (all_rows g)))
-    ∙ sym (raw_rows_text dark light g (omega (arith, c.cell-across.ensures.positive.0, c.cell-across.ensures.across)) (omega (arith, c.cell-across.ensures.positive.1, c.cell-across.ensures.down)))
+    ∙ sym (raw_rows_text dark light g (omega (arith, c.cell-across.ensures.at_least.0, c.cell-across.ensures.across)) (omega (arith, c.cell-across.ensures.at_least.1, c.cell-across.ensures.down)))

@@ -22,7 +22,7 @@ put_times-at-requires c =
     ∙ ap (λ n. n * g.across) columns in
     let here : c.cell-down.result.1 * length c.as_slice.result.now ≡ rows = ap₂ (λ m n. m * n) c.cell-down.ensures.down long in
     let inside : (c.loop-row.row + 1) * rows ≤ all_rows g * rows = mul-le-mul_right rows (omega (arith, c.loop-row-test.true, c.sides-rows.ensures.rows)) in
-    omega (arith, c.loop-row.invariant.0, here, inside, c.requires.exact, c.loop-row.invariant.2)
+    omega (arith, c.loop-row.invariant.0, here, inside, c.requires.length, c.loop-row.invariant.2)
 
 -- The rows of a row of cells stand behind those before.
 pub loop-row-preserved : goal.loop-row-preserved
@@ -45,7 +45,7 @@ loop-row-preserved c =
       c.put_times-at.ensures.writes
           ∙ ap₂ (λ xs ys. xs ++ ys) c.loop-row.invariant.1 (ap₂ (λ n t. repeated n t) c.cell-down.ensures.down written)
           ∙ sym (flat_range_more rows row (row + 1) refl),
-      c.put_times-at.ensures.room ∙ c.loop-row.invariant.2,
+      c.put_times-at.ensures.length ∙ c.loop-row.invariant.2,
       columns ∙ sym c.requires.columns,
       ap (λ (l : Written). l.room) c.write.ensures ∙ ap (λ (l : Written). l.room) c.clear.ensures ∙ c.loop-row.invariant.4,
     )

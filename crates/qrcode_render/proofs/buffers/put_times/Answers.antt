@@ -14,5 +14,5 @@ loop-preserved c =
           ∙ append_assoc old (repeated n text) text
           ∙ ap (λ xs. old ++ xs) (sym (flat_range_more (λ _. text) n (n + 1) refl)),
       omega (arith, c.put_text-end.ensures.end, c.loop.invariant.1),
-      c.put_text-end.ensures.room ∙ c.loop.invariant.2,
+      c.put_text-end.ensures.length ∙ c.loop.invariant.2,
     )

@@ -26,5 +26,5 @@ loop-row-preserved c =
           ∙ ap (λ xs. c.args.file.now.items ++ xs) (sym (flat_range_more rows row (row + 1) refl)),
       ap length c.mark_row.ensures
           ∙ length-map-range_with_len (λ column. is_dark_cell g column row) 0 (all_columns g)
-          ∙ sym c.requires.columns,
+          ∙ sym c.requires.length,
     )

@@ -37,7 +37,7 @@ loop-row-preserved c =
     let held = c.loop-row.line.text in
     let before = flat_map rows (range_with_len 0 row) in
     let columns : length marks ≡ all_columns g = ap length c.mark_row.ensures ∙ length-map-range_with_len (λ column. is_dark_cell g column row) 0 (all_columns g) in
-    let marked = columns ∙ sym c.requires.columns in
+    let marked = columns ∙ sym c.requires.length in
     let written : c.push.new.self.text ≡ held ++ here =
     ap (λ (l : Written). l.text) c.push.ensures
     ∙ ap (λ (l : Written). l.text ++ end) c.write.ensures
@@ -49,7 +49,7 @@ loop-row-preserved c =
     ∙ ap (λ xs. xs ++ rows row) c.loop-row.invariant.0
     ∙ append_assoc c.args.raw.now.items before (rows row)
     ∙ ap (λ xs. c.args.raw.now.items ++ xs) (sym (flat_range_more rows row (row + 1) refl)) in
-    let positive = c.cell-down.ensures.positive.1 in
+    let positive = c.cell-down.ensures.at_least.1 in
     elim c.if-down-gt1.branch [
       | then-down-gt1+in_ok-push_times w ↦
           let empty : c.if-down-gt1.line.text ≡ [] = ap (λ (l : Written). l.text) w.line-is ∙ ap (λ (l : Written). l.text) w.clear.ensures in

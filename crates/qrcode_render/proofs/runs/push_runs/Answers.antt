@@ -26,5 +26,5 @@ loop-row-preserved c =
           ∙ ap (pen_after start) more,
       ap length c.mark_row.ensures
           ∙ length-map-range_with_len (λ column. is_dark_cell g column row) 0 (all_columns g)
-          ∙ sym c.requires.columns,
+          ∙ sym c.requires.length,
     )

@@ -18,7 +18,7 @@ bounds-bytes-place t c =
       | then-n-lt10 w ↦ omega (arith, w.place-is, ap length w.bytes-is, ap length (decimal_digit n (omega arith)), c.requires)
       | else-n-lt10 w ↦
           let tenth = w.put_number-place.ensures in
-          omega (arith, w.place-is, ap length w.bytes-is, tenth.end, tenth.room, length_step n (omega arith) (omega arith), c.requires)
+          omega (arith, w.place-is, ap length w.bytes-is, tenth.end, tenth.length, length_step n (omega arith) (omega arith), c.requires)
     ]
 
 pub returns-clause-writes : goal.returns-clause-writes
@@ -31,7 +31,7 @@ returns-clause-writes t c =
       | then-n-lt10 w ↦ omega (arith, w.place-is, ap length w.bytes-is, ap length (decimal_digit n (omega arith)), c.requires)
       | else-n-lt10 w ↦
           let tenth = w.put_number-place.ensures in
-          omega (arith, w.place-is, ap length w.bytes-is, tenth.end, tenth.room, length_step n (omega arith) (omega arith), c.requires)
+          omega (arith, w.place-is, ap length w.bytes-is, tenth.end, tenth.length, length_step n (omega arith) (omega arith), c.requires)
     ] in
     take_more_set c.if-n-lt10.bytes c.if-n-lt10.place digit inside
     ∙ elim c.if-n-lt10.branch [

@@ -3,16 +3,16 @@ use Rattle.std.proofs.lemmas.List.{take-take, length-take-le}
 use Rattle.qrcode_render.proofs.stamps.joined.Goals as goal
 
 pub write-end-requires-2 : goal.write-end-requires-2
-write-end-requires-2 c = omega (arith, c.write-end.ensures.end, c.write-end.ensures.room, c.requires)
+write-end-requires-2 c = omega (arith, c.write-end.ensures.end, c.write-end.ensures.length, c.requires)
 
 pub slice_bounds-copy_from_slice-end-2 : goal.slice_bounds-copy_from_slice-end-2
 slice_bounds-copy_from_slice-end-2 c =
-    let wide : 32 ≤ length c.write-end-2.new.bytes = omega (arith, c.write-end.ensures.room, c.write-end-2.ensures.room) in
+    let wide : 32 ≤ length c.write-end-2.new.bytes = omega (arith, c.write-end.ensures.length, c.write-end-2.ensures.length) in
     omega (arith, length-take-le 32 c.write-end-2.new.bytes wide)
 
 pub copy_from_slice-requires : goal.copy_from_slice-requires
 copy_from_slice-requires c =
-    sym (length-take-le 32 c.write-end-2.new.bytes (omega (arith, c.write-end.ensures.room, c.write-end-2.ensures.room)))
+    sym (length-take-le 32 c.write-end-2.new.bytes (omega (arith, c.write-end.ensures.length, c.write-end-2.ensures.length)))
 
 pub returns : goal.returns
 returns c =

@@ -20,7 +20,7 @@ returns-clause-made g c =
     let further : j ≤ n = omega (arith, c.put_text.ensures.end) in
     let written = c.put_text.ensures.writes
     ∙ ap (λ t. t ++ c.args.end.now) (c.put_rows-at.ensures.writes ∙ ap (λ (s : Square). drawn (stroke g.S.Strokes.column_texts g.S.Strokes.sides_text g.S.Strokes.row_texts) (layout s.count s.zone s.across s.down) s.content (take i one)) c.modules.view_is ∙ ap draw (c.put_text-at.ensures.writes ∙ c.as_bytes.ensures.value)) in
-    let rest = c.put_text.ensures.rest
-    ∙ drop-on j n two one further c.put_rows-at.ensures.rest
-    ∙ drop-on i n one old (omega (arith, further, c.put_rows-at.ensures.at_least)) c.put_text-at.ensures.rest in
-    begins n old c.put_text.new.bytes _ (omega (arith, c.put_text.ensures.end, c.put_text.ensures.room, c.put_rows-at.ensures.at_most, c.put_rows-at.ensures.room, c.put_text-at.ensures.end, c.put_text-at.ensures.room, c.in-Some.ensures.value, c.modules.invariant.0, ap length c.as_bytes.ensures.value, c.if-bytes-most.false)) written rest
+    let rest = c.put_text.ensures.unchanged
+    ∙ drop-on j n two one further c.put_rows-at.ensures.unchanged
+    ∙ drop-on i n one old (omega (arith, further, c.put_rows-at.ensures.at_least)) c.put_text-at.ensures.unchanged in
+    begins n old c.put_text.new.bytes _ (omega (arith, c.put_text.ensures.end, c.put_text.ensures.length, c.put_rows-at.ensures.at_most, c.put_rows-at.ensures.length, c.put_text-at.ensures.end, c.put_text-at.ensures.length, c.in-Some.ensures.value, c.modules.invariant.0, ap length c.as_bytes.ensures.value, c.if-bytes-most.false)) written rest

@@ -10,8 +10,8 @@ use Rattle.qrcode_render.proofs.Beginnings.{drop-on}
 use Rattle.qrcode_render.specs.Drawn.{drawn_from}
 use Rattle.qrcode_render.specs.Strokes.{stroke}
 
-pub write_line-requires-clause-length : goal.write_line-requires-clause-length
-write_line-requires-clause-length g c =
+pub write_line-requires-clause-at_most : goal.write_line-requires-clause-at_most
+write_line-requires-clause-at_most g c =
     let n = c.args.count in
     let i = c.loop-row.row * n in
     let columns : length c.args.columns.now ≡ n = ap length c.requires.columns ∙ length-map-range_with_len (λ k. g.S.Strokes.column_texts (c.args.zone * c.args.width + k * c.args.width)) 0 n in
@@ -46,18 +46,18 @@ loop-row-preserved g c =
     let i = row * n in
     let inside : (row + 1) * n ≤ length c.args.content.now = omega (arith, mul-le-mul_right n c.loop-row-test.true, c.requires.square) in
     let before = take c.loop-row.end c.loop-row.bytes in
-    let written = c.as_slice.ensures.value ∙ c.write_line.ensures.text in
+    let written = c.as_slice.ensures.value ∙ c.write_line.ensures.value in
     let k = length c.as_slice.result.now in
     let end : c.put_text-end.result ≡ c.loop-row.end + k = c.put_text-end.ensures.end in (
       ap (λ t. drawn_from (stroke g.S.Strokes.column_texts g.S.Strokes.sides_text g.S.Strokes.row_texts) at ((row + 1) * n) (drop ((row + 1) * n) c.args.content.now) t)
           (c.put_text-end.ensures.writes ∙ ap (λ t. before ++ t) written)
           ∙ rows_more g.S.Strokes.column_texts g.S.Strokes.sides_text g.S.Strokes.row_texts at row c.args.content.now before inside
           ∙ c.loop-row.invariant.0,
-      c.put_text-end.ensures.rest
+      c.put_text-end.ensures.unchanged
           ∙ drop-on c.loop-row.end c.put_text-end.result c.loop-row.bytes c.args.bytes.now (omega (arith, end)) c.loop-row.invariant.1,
       omega (arith, end, length-take (i + n - i) (drop i c.args.content.now), ap length c.as_slice.ensures.value, c.write_line.ensures.at_most, c.loop-row.invariant.2),
       omega (arith, end, c.loop-row.invariant.3),
-      c.put_text-end.ensures.room ∙ c.loop-row.invariant.4,
+      c.put_text-end.ensures.length ∙ c.loop-row.invariant.4,
       c.write_line.ensures.room ∙ c.loop-row.invariant.5,
     )
 

@@ -35,7 +35,7 @@ loop-i-preserved g c =
       )
       | in-Dark w ↦
           let at = w.index-columns-i.result in
-          let inside : i < length columns = omega (arith, c.requires.length, c.loop-i-test.true) in
+          let inside : i < length columns = omega (arith, c.requires.at_most, c.loop-i-test.true) in
           let here = w.index-columns-i.is ∙ ap (λ cs. get_or cs i at) c.requires.columns ∙ get_or-map-range_with_len column 0 (length columns) i i at inside (omega arith) in
           let text = rect_text at c.args.row.now in
           let put = w.line-is ∙ w.put_rect.ensures.appends in

@@ -31,9 +31,9 @@ loop-i-preserved c =
       c.put_text-end.ensures.writes
           ∙ ap₂ (λ xs ys. xs ++ ys) c.loop-i.invariant.0 (c.as_slice.ensures.value ∙ c.write_two.ensures.value)
           ∙ sym (flat_range_more line i (i + 1) refl),
-      c.put_text-end.ensures.rest ∙ drop-on c.loop-i.end c.put_text-end.result c.loop-i.bytes c.args.bytes.now (omega (arith, end)) c.loop-i.invariant.1,
+      c.put_text-end.ensures.unchanged ∙ drop-on c.loop-i.end c.put_text-end.result c.loop-i.bytes c.args.bytes.now (omega (arith, end)) c.loop-i.invariant.1,
       omega (arith, end, c.as_slice.ensures.at_most, c.write_two.ensures.fits.room, c.loop-i.invariant.2),
-      c.put_text-end.ensures.room ∙ c.loop-i.invariant.3,
+      c.put_text-end.ensures.length ∙ c.loop-i.invariant.3,
       c.write_two.ensures.fits,
     )
 
@@ -58,9 +58,9 @@ returns-clause-writes c =
     ∙ with_last line i
     ∙ ap (λ k. join_with_byte 10 (map line (range_with_len 0 k))) count
 
-pub returns-clause-rest : goal.returns-clause-rest
-returns-clause-rest c =
-    c.put_text.ensures.rest ∙ drop-on c.loop-i.end c.put_text.result c.loop-i.bytes c.args.bytes.now (omega (arith, c.put_text.ensures.end)) c.loop-i.invariant.1
+pub returns-clause-unchanged : goal.returns-clause-unchanged
+returns-clause-unchanged c =
+    c.put_text.ensures.unchanged ∙ drop-on c.loop-i.end c.put_text.result c.loop-i.bytes c.args.bytes.now (omega (arith, c.put_text.ensures.end)) c.loop-i.invariant.1
 
 pub returns-clause-inside : goal.returns-clause-inside
 returns-clause-inside c =
@@ -74,4 +74,4 @@ returns-clause-inside c =
       | then-height-eq1 w ↦ ap (λ (s : Strip). s.line.room) w.strip-is ∙ w.write_last.ensures.fits.room
       | else-height-eq1 w ↦ ap (λ (s : Strip). s.line.room) w.strip-is ∙ w.write_two-else-height-eq1.ensures.fits.room
     ] in
-    omega (arith, below, room, length-take (length xs - 1) xs, c.put_text.ensures.end, c.put_text.ensures.room, c.as_slice-line.ensures.at_most, c.loop-i.invariant.2, c.loop-i.invariant.3, c.requires.room)
+    omega (arith, below, room, length-take (length xs - 1) xs, c.put_text.ensures.end, c.put_text.ensures.length, c.as_slice-line.ensures.at_most, c.loop-i.invariant.2, c.loop-i.invariant.3, c.requires.room)

@@ -4,8 +4,8 @@ use Rattle.std.specs.Prelude.{vec_len}
 use Rattle.qrcode_render.proofs.Grids.{light_cells}
 use Rattle.qrcode_render.proofs.cells.Cells.new.Goals as goal
 
-pub returns-clause-blank : goal.returns-clause-blank
-returns-clause-blank c =
+pub returns-clause-value : goal.returns-clause-value
+returns-clause-value c =
     let n = c.args.width * c.args.height in
     let none = c.new-cells.result in
     ap (λ ms. record { across = c.args.width; down = c.args.height; marks = ms })

@@ -20,8 +20,8 @@ returns-then-row-self c =
     let fits : start + g.columns ≤ g.rows * g.columns = row_fits (row - g.zone) g.columns g.rows g.columns (omega arith) (omega arith) in
     let n : length line ≡ g.columns = omega (arith, length-take (start + g.columns - start) (drop start (shown g.cells)), length-drop start (shown g.cells), c.self.invariant.0) in
     c.mark.ensures
-    ∙ ap (marked_line g.zone line) c.clear.ensures
-    ∙ marked-zone line g.zone (length c.args.marks.now) (omega (arith, c.requires.columns, ap (λ (x : Grid). x.columns) c.self.view_is, ap (λ (x : Grid). x.zone) c.self.view_is))
+    ∙ ap (marked_line g.zone line) (c.fill.ensures.after (λ y h. h))
+    ∙ marked-zone line g.zone (length c.args.marks.now) (omega (arith, c.requires.length, ap (λ (x : Grid). x.columns) c.self.view_is, ap (λ (x : Grid). x.zone) c.self.view_is))
     ∙ inside_row grid row c.if-self-row.true c.if-row-self.true c.self.invariant.0
     ∙ ap (λ x. cell_row x row) c.self.view_is
 
@@ -31,8 +31,8 @@ returns-else-self-row c =
     let g = c.args.self.now in
     let zone = ap (λ (x : Grid). x.zone) c.self.view_is in
     let rows = ap (λ (x : Grid). x.rows) c.self.view_is in
-    c.clear.ensures
-    ∙ ap (λ n. replicate n false) c.requires.columns
+    c.fill.ensures.after (λ y h. h)
+    ∙ ap (λ n. replicate n false) c.requires.length
     ∙ outside_row g row (λ top bottom. elim c.else-self-row.branch [
       | else-self-row-via-then-self-row+else-row-self w ↦ omega (arith, w.if-row-self.false, zone, rows)
       | else-self-row-via-else-self-row w ↦ omega (arith, w.if-self-row.false, zone)
