@@ -27,16 +27,6 @@ floor_le bytes (suc k) =
     let before = floor_le bytes k in
     elim (is_border bytes (suc k)) as (λ b. (if b then suc k else floor_border bytes k) ≤ suc k) [ true ↦ omega arith | false ↦ omega (arith, before) ]
 
-pub floor_here : (bytes : List ℕ) (k : ℕ) → is_border bytes (k + 1) ≡ true → floor_border bytes (k + 1) ≡ k + 1
-floor_here bytes k h =
-    let e : k + 1 ≡ suc k = omega arith in
-    ap (floor_border bytes) e ∙ ap (λ b. if b then suc k else floor_border bytes k) (sym (ap (is_border bytes) e) ∙ h) ∙ sym e
-
-pub floor_past : (bytes : List ℕ) (k i : ℕ) → i ≡ k + 1 → is_border bytes (k + 1) ≡ false → floor_border bytes i ≡ floor_border bytes k
-floor_past bytes k i is h =
-    let e : k + 1 ≡ suc k = omega arith in
-    ap (floor_border bytes) (is ∙ e) ∙ ap (λ b. if b then suc k else floor_border bytes k) (sym (ap (is_border bytes) e) ∙ h)
-
 floor_step : (bytes : List ℕ) (k : ℕ) → floor_border bytes k ≤ floor_border bytes (suc k)
 floor_step bytes k =
     let own = floor_le bytes k in

@@ -1,4 +1,5 @@
 pub mod Borders
+pub mod Choices
 pub mod Fronts
 pub mod Parts
 pub mod Shares

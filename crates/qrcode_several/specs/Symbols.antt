@@ -1,5 +1,5 @@
 -- The symbols of data that is parted between several.
-use Rattle.std.specs.Prelude.{◌≡◌, ◌⊎◌, ℕ, ◌+◌, ◌-◌, ◌<◌, ◌≤◌, ◌==◌, false, List, ◌++◌, length, flat_map, IsUtf8, IsTrue, if◌then◌else◌}
+use Rattle.std.specs.Prelude.{◌≡◌, ◌⊎◌, ℕ, ◌+◌, ◌-◌, ◌<◌, ◌≤◌, ◌==◌, false, List, ◌++◌, length, flat_map, chars, IsUtf8, IsTrue, if◌then◌else◌}
 use Rattle.std.specs.List.{range_with_len}
 use Rattle.qrcode_types.specs.Versions.{is_micro, has_level, capacity}
 use Rattle.qrcode_types.specs.declared.types.Version.{Version}
@@ -20,7 +20,7 @@ use Rattle.qrcode_bits.specs.declared.optimize.Segment.{Segment}
 use Rattle.qrcode.specs.Code.{Code}
 use Rattle.qrcode.specs.Reading.{EncodesBits}
 use Rattle.qrcode_several.specs.Division.{part}
-use Rattle.qrcode_several.specs.Reading.{EachAt, ReadsPart, ReadsSeveralOnly}
+use Rattle.qrcode_several.specs.Reading.{EachAt, ReadsPart, ShowsPartOnly, ReadsSeveralOnly}
 
 -- the bits of a least cut
 abbrev pub IsLeastLength : Manner → Version → List ℕ → ℕ → Type 0
@@ -52,7 +52,8 @@ pub record IsPartList (m : Manner) (v : Version) (l : EcLevel) (place last parit
   pub full : length list.bits ≡ capacity v l
   pub spelled : SpellsPart v list.bits place last parity bytes
 
--- the symbol of the part at a place, of which every damaged symbol is read as that part
+-- the symbol of the part at a place, of which every damaged symbol is read as that part; and of a text a reader shows it as exactly
+-- the part's characters
 pub record IsPartSymbol (m : Manner) (v : Version) (l : EcLevel) (place last parity : ℕ) (bytes : List ℕ) (code : Code) : Type 0 where
   pub version : code.version ≡ v
   pub level : code.level ≡ l
@@ -60,6 +61,7 @@ pub record IsPartSymbol (m : Manner) (v : Version) (l : EcLevel) (place last par
   pub least : IsLeastCutIn (modes_of m) v bytes segments
   pub encodes : EncodesBits v l (terminated v l (append_front place last parity ++ written v (pieces_of bytes segments))) code.modules
   pub read : (other : List Color) → IsDamaged v l encodes.mask code.modules other → ReadsPart other place last parity bytes
+  pub shown : IsTrue (is_text m) → IsUtf8 bytes → (other : List Color) → IsDamaged v l encodes.mask code.modules other → ShowsPartOnly other place last parity (chars bytes)
 
 -- The symbols of the fewest even parts that symbols of the version and level hold, in order. The parts are the data, and those
 -- of a text are texts; squares that are read as these parts are read as the data, and as nothing else.

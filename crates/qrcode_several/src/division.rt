@@ -43,8 +43,8 @@ fn floor_border(bytes: &[u8], place: usize) -> usize
 
 // Where the part at a place begins, and the one before it ends, of so many parts.
 fn part_begin(bytes: &[u8], manner: Manner, count: usize, place: usize) -> usize
-    requires some { 0 < count }
-    requires limit { length bytes.now ≤ data_limit }
+    requires at_least { 0 < count }
+    requires length_at_most { length bytes.now ≤ data_limit }
     requires inside { place ≤ count }
     requires at_most { count ≤ 16 }
     ensures { result ≡ part_begin manner bytes.now count place }
@@ -58,11 +58,11 @@ fn part_begin(bytes: &[u8], manner: Manner, count: usize, place: usize) -> usize
 
 // The part at a place of so many.
 pub(crate) fn part(bytes: &[u8], manner: Manner, count: usize, place: usize) -> &[u8]
-    requires limit { length bytes.now ≤ data_limit }
+    requires length_at_most { length bytes.now ≤ data_limit }
     requires inside { place < count }
     requires at_most { count ≤ 16 }
     ensures value { result.now ≡ part manner bytes.now count place }
-    ensures limit { length result.now ≤ data_limit }
+    ensures length_at_most { length result.now ≤ data_limit }
 {
     let begin = part_begin(bytes, manner, count, place);
     let end = part_begin(bytes, manner, count, place + 1);

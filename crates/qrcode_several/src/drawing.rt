@@ -1,13 +1,11 @@
 //! The symbols of the parts of data.
 
-ghost use Rattle.std.specs.Prelude.{◌≡◌, ◌+◌, ◌-◌, ◌≤◌, ◌<◌, false, length, IfOk, IfErr, OnOk, IsOkUnless, IsTrue};
+ghost use Rattle.std.specs.Prelude.{◌≡◌, ◌+◌, ◌-◌, ◌≤◌, ◌<◌, false, length, IfOk, OnOk, IsOkUnless, IsTrue};
 ghost use Rattle.qrcode_types.specs.Versions.{is_micro, has_level, capacity};
 ghost use Rattle.qrcode_types.specs.declared.types.QrError.TheVariants.{OutOfMemory};
-ghost use Rattle.qrcode_bits.specs.Pushes.{with_bits, PushesAll};
-ghost use Rattle.qrcode_bits.specs.Refusals.{StopsAt, data_limit, bit_limit};
-ghost use Rattle.qrcode_bits.specs.Segments.{AreInside};
+ghost use Rattle.qrcode_bits.specs.Pushes.{with_bits};
+ghost use Rattle.qrcode_bits.specs.Refusals.{data_limit, bit_limit};
 ghost use Rattle.qrcode_bits.specs.StructuredAppend.{append_front, parity};
-ghost use Rattle.qrcode_bits.specs.Written.{pieces_of};
 ghost use Rattle.qrcode_several.specs.Division.{part};
 ghost use Rattle.qrcode_several.specs.Reading.{EachAt};
 ghost use Rattle.qrcode_several.specs.Symbols.{front_length, PartFits, HoldSeveral, IsPartList, IsPartSymbol};
@@ -17,7 +15,7 @@ use crate::holding::Wanted;
 use qrcode::QrCode;
 use qrcode::types::QrResult;
 use qrcode_bits::bits::Bits;
-use qrcode_bits::optimize::{Segment, least_segments_in};
+use qrcode_bits::optimize::least_segments_in;
 use std::alloc::Global;
 
 // Which of several symbols one is, by its place and that of the last, and the parity of the data.
@@ -30,11 +28,11 @@ struct Share {
 
 // Appends what stands in front of the segments: a header, unless the symbol is the only one.
 fn push_front(bits: &mut Bits, share: Share) -> QrResult<()>
-    requires place { share.place ≤ share.last }
-    requires last { share.last ≤ 15 }
+    requires inside { share.place ≤ share.last }
+    requires at_most { share.last ≤ 15 }
     requires normal { is_micro bits.old.version ≡ false }
     requires room { length bits.old.bits + 20 ≤ bit_limit }
-    ensures appended { OnOk result (bits.new
+    ensures appends { OnOk result (bits.new
         ≡ with_bits bits.old (append_front share.place share.last share.parity)) }
     ensures memory { IsOkUnless result OutOfMemory }
 {
@@ -44,25 +42,13 @@ fn push_front(bits: &mut Bits, share: Share) -> QrResult<()>
     bits.push_structured_append(share.place, share.last, share.parity)
 }
 
-// Appends the bytes of all segments in their modes.
-fn push_all(bits: &mut Bits, bytes: &[u8], segments: Vec<Segment>) -> QrResult<()>
-    requires { AreInside (length bytes.now) segments.items }
-    ensures pushed { OnOk result
-        (PushesAll bits.old.version bits.old.bits bytes.now segments.items bits.new.bits) }
-    ensures stopped { IfErr result (λ e. StopsAt bits.old.version bits.old.bits
-        (pieces_of bytes.now segments.items) e bits.new.bits) }
-    ensures version { bits.new.version ≡ bits.old.version }
-{
-    bits.push_segments(bytes, segments.into_iter())
-}
-
 // The part at a place as a terminated list of bits.
 fn part_bits(alloc: Global, bytes: &[u8], wanted: Wanted, share: Share) -> QrResult<Bits>
     requires exists { IsTrue (has_level wanted.version wanted.ec_level) }
     requires normal { is_micro wanted.version ≡ false }
-    requires limit { length bytes.now ≤ data_limit }
-    requires place { share.place ≤ share.last }
-    requires last { share.last ≤ 15 }
+    requires length_at_most { length bytes.now ≤ data_limit }
+    requires inside { share.place ≤ share.last }
+    requires at_most { share.last ≤ 15 }
     requires room { PartFits wanted.manner wanted.version bytes.now (front_length share.last)
         (capacity wanted.version wanted.ec_level) }
     ensures bits { IfOk result (IsPartList wanted.manner wanted.version wanted.ec_level
@@ -72,8 +58,7 @@ fn part_bits(alloc: Global, bytes: &[u8], wanted: Wanted, share: Share) -> QrRes
     let segments = least_segments_in(alloc, bytes, wanted.version, wanted.manner.modes())?;
     let mut bits = Bits::new(alloc, wanted.version);
     push_front(&mut bits, share)?;
-    push_all(&mut bits, bytes, segments)?;
-    bits.push_terminator(wanted.ec_level)?;
+    bits.end_with(bytes, segments, wanted.ec_level)?;
     Ok(bits)
 }
 
@@ -81,9 +66,9 @@ fn part_bits(alloc: Global, bytes: &[u8], wanted: Wanted, share: Share) -> QrRes
 fn part_symbol(alloc: Global, bytes: &[u8], wanted: Wanted, share: Share) -> QrResult<QrCode>
     requires exists { IsTrue (has_level wanted.version wanted.ec_level) }
     requires normal { is_micro wanted.version ≡ false }
-    requires limit { length bytes.now ≤ data_limit }
-    requires place { share.place ≤ share.last }
-    requires last { share.last ≤ 15 }
+    requires length_at_most { length bytes.now ≤ data_limit }
+    requires inside { share.place ≤ share.last }
+    requires at_most { share.last ≤ 15 }
     requires room { PartFits wanted.manner wanted.version bytes.now (front_length share.last)
         (capacity wanted.version wanted.ec_level) }
     ensures symbol { IfOk result (IsPartSymbol wanted.manner wanted.version wanted.ec_level

@@ -12,9 +12,13 @@ use std::alloc::Global;
 /// that of the last, and the exclusive or of all bytes of the data.
 #[derive(Copy, Clone, Debug)]
 pub struct Part<'a> {
+    /// The place of the symbol.
     pub place: u8,
+    /// The place of the last symbol.
     pub last: u8,
+    /// The exclusive or of all bytes of the data.
     pub parity: u8,
+    /// The bytes of the part.
     pub bytes: &'a [u8],
 }
 

@@ -1,24 +1,28 @@
 //! Data in several symbols (structured append, ISO/IEC 18004:2006, 8).
 #![tactic(auto)]
 
+mod choice;
 mod division;
 mod drawing;
 pub mod errors;
 mod holding;
 mod joining;
+pub mod laws;
 
-ghost use Rattle.std.specs.Prelude.{ℕ, IfOk, IfErr, IsOkUnless};
+ghost use Rattle.std.specs.Prelude.{ℕ, pos, IfOk, IfErr, IsOkUnless};
 ghost use Rattle.qrcode_types.specs.declared.types.QrError.TheVariants.{OutOfMemory};
+ghost use Rattle.qrcode_types.specs.declared.types.Version.TheVariants.{Normal};
 ghost use Rattle.qrcode_bits.specs.declared.bits.manner.Manner.TheVariants.{Bytes, Text};
+ghost use Rattle.qrcode_several.specs.Fewest.{IsAmong, AreFewest, AreNotHeld};
 ghost use Rattle.qrcode_several.specs.Symbols.{HoldSeveral, AreSeveral, AreRefused};
 
-use drawing::symbols;
-use holding::{Wanted, hold};
+pub use choice::Versions;
+use choice::{encode_among, encode_as};
+use holding::Wanted;
 pub use joining::{Part, join};
 use qrcode::QrCode;
-use qrcode::types::{EcLevel, QrError, QrResult, Version};
-use qrcode_bits::bits::{DATA_LIMIT, Manner};
-use qrcode_types::tables;
+use qrcode::types::{EcLevel, QrResult, Version};
+use qrcode_bits::bits::Manner;
 use std::alloc::Global;
 
 /// The symbols of bytes in the fewest symbols of a version and level, at most 16, between which the
@@ -54,6 +58,8 @@ pub fn encode_several(
 
 /// The same of a text, of which no character is divided: each part ends at the last border between
 /// characters up to where even parts would end. Readers that take bytes for UTF-8 show each part.
+///
+/// It is refused by the same causes, `OutOfMemory` among them.
 pub fn encode_text_several(
     alloc: Global,
     text: &str,
@@ -77,29 +83,43 @@ pub fn encode_text_several(
     )
 }
 
-// The symbols of data in a manner: of as few even parts as each fit a symbol.
-fn encode_as(alloc: Global, bytes: &[u8], wanted: Wanted) -> QrResult<Vec<QrCode>>
-    ensures symbols { IfOk result (λ codes. AreSeveral
-        wanted.manner wanted.version wanted.ec_level bytes.now codes.items) }
-    ensures accepts { (count : ℕ)
-        → HoldSeveral wanted.manner wanted.version wanted.ec_level bytes.now count
+/// The symbols of bytes in the fewest symbols of any of some versions at a level, and among these in the
+/// least version of which as many hold the bytes: parted and written as `encode_several` does for one
+/// version.
+///
+/// `InvalidVersion`: there is none of the versions. `DataTooLong`: 16 symbols of none of them hold the
+/// parts, or the bytes are more than 1,048,576. `OutOfMemory`: memory was refused.
+pub fn encode_several_within(
+    alloc: Global,
+    bytes: &[u8],
+    versions: Versions,
+    ec_level: EcLevel,
+) -> QrResult<Vec<QrCode>>
+    ensures symbols { IfOk result (λ codes.
+        AreFewest Bytes versions ec_level bytes.now codes.items) }
+    ensures accepts { (n count : ℕ) → IsAmong versions n
+        → HoldSeveral Bytes (Normal (pos n)) ec_level bytes.now count
         → IsOkUnless result OutOfMemory }
-    ensures causes { IfErr result
-        (AreRefused wanted.manner wanted.version wanted.ec_level bytes.now) }
+    ensures causes { IfErr result (AreNotHeld Bytes versions ec_level bytes.now) }
 {
-    if wanted.version.is_micro() {
-        return Err(QrError::InvalidVersion);
-    }
-    let Some(room) = tables::capacity(wanted.version, wanted.ec_level) else {
-        return Err(QrError::InvalidVersion);
-    };
-    if bytes.len() > DATA_LIMIT {
-        return Err(QrError::DataTooLong);
-    }
-    for count in 1..17 {
-        if hold(alloc, bytes, wanted, count, room)? {
-            return symbols(alloc, bytes, wanted, count);
-        }
-    }
-    Err(QrError::DataTooLong)
+    encode_among(alloc, bytes, Manner::Bytes, versions, ec_level)
+}
+
+/// The same of a text, parted as `encode_text_several` does it.
+///
+/// It is refused by the same causes, `OutOfMemory` among them.
+pub fn encode_text_several_within(
+    alloc: Global,
+    text: &str,
+    versions: Versions,
+    ec_level: EcLevel,
+) -> QrResult<Vec<QrCode>>
+    ensures symbols { IfOk result (λ codes.
+        AreFewest Text versions ec_level text.now codes.items) }
+    ensures accepts { (n count : ℕ) → IsAmong versions n
+        → HoldSeveral Text (Normal (pos n)) ec_level text.now count
+        → IsOkUnless result OutOfMemory }
+    ensures causes { IfErr result (AreNotHeld Text versions ec_level text.now) }
+{
+    encode_among(alloc, text.as_bytes(), Manner::Text, versions, ec_level)
 }

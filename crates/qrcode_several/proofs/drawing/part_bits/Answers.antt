@@ -1,19 +1,13 @@
-use Rattle.std.proofs.Common.{◌≡◌, ◌+◌, ◌≤◌, ◌++◌, Bool, List, length, sym, arith, ap, ap₂, subst, ◌∙◌}
-use Rattle.qrcode_types.specs.Versions.{capacity}
-use Rattle.qrcode_types.specs.declared.types.Version.{Version}
-use Rattle.qrcode_types.specs.declared.types.QrError.TheVariants.{OutOfMemory}
-use Rattle.qrcode_types.proofs.BlockTable.{capacity-le}
+use Rattle.std.proofs.Common.{◌≡◌, ◌+◌, ◌≤◌, ◌++◌, length, IsTrue, sym, arith, ap, subst, ◌∙◌}
+use Rattle.qrcode_types.specs.Versions.{has_level, capacity}
 use Rattle.qrcode_bits.specs.BitList.{BitList}
-use Rattle.qrcode_bits.specs.Cuts.{IsLeastCutIn}
+use Rattle.qrcode_bits.specs.Cuts.{IsCut, IsLeastCutIn}
 use Rattle.qrcode_bits.specs.Manners.{modes_of}
-use Rattle.qrcode_bits.specs.Pushes.{with_bits, PushesAll}
+use Rattle.qrcode_bits.specs.Pushes.{with_bits}
 use Rattle.qrcode_bits.specs.Segments.{total_cost}
-use Rattle.qrcode_bits.specs.Refusals.{StopsAt, terminator_refusal}
 use Rattle.qrcode_bits.specs.StructuredAppend.{append_front, SpellsPart}
 use Rattle.qrcode_bits.specs.Written.{pieces_of, written, terminated}
-use Rattle.qrcode_bits.proofs.Changed.{list_of, terminator_fits}
-use Rattle.qrcode_bits.proofs.Fitting.{fitting_stop}
-use Rattle.qrcode_bits.proofs.Several.{handed_on}
+use Rattle.qrcode_bits.proofs.Changed.{list_of}
 use Rattle.qrcode_bits.proofs.Manners.{valid_of}
 use Rattle.qrcode_several.specs.Symbols.{front_length}
 use Rattle.qrcode_several.proofs.Fronts.{length-front}
@@ -28,62 +22,48 @@ room : (c : In_ok-segments) → front_length c.args.share.last + total_cost c.ar
 room c = let fits = c.requires.room in omega (arith, (least c).least fits.0 fits.1.0, fits.1.1)
 
 fronted : (c : In_ok-push_front) → c.push_front.new.bits ≡ list_of c.args.wanted.version (append_front c.args.share.place c.args.share.last c.args.share.parity)
-fronted c = c.in_ok-push_front.ensures.appended ∙ ap (λ (b : BitList). with_bits b (append_front c.args.share.place c.args.share.last c.args.share.parity)) c.new-bits.ensures.empty
+fronted c = c.in_ok-push_front.ensures.appends ∙ ap (λ (b : BitList). with_bits b (append_front c.args.share.place c.args.share.last c.args.share.parity)) c.new-bits.ensures.empty
 
-pub returns-in_err-push_all-clause-memory : goal.returns-in_err-push_all-clause-memory
-returns-in_err-push_all-clause-memory c =
-    let k = (goal.at.returns-in_err-push_all-clause-memory c).In_ok-push_front in
-    let s = (goal.at.returns-in_err-push_all-clause-memory c).In_ok-segments in
+pub end_with-requires-clause-exists : goal.end_with-requires-clause-exists
+end_with-requires-clause-exists c =
+    let k = (goal.at.end_with-requires-clause-exists c).In_ok-push_front in
+    subst (λ (b : BitList). IsTrue (has_level b.version c.args.wanted.ec_level)) (sym (fronted k)) c.requires.exists
+
+pub end_with-requires-clause-cut : goal.end_with-requires-clause-cut
+end_with-requires-clause-cut c =
+    let k = (goal.at.end_with-requires-clause-cut c).In_ok-push_front in
+    let s = (goal.at.end_with-requires-clause-cut c).In_ok-segments in
+    subst (λ (b : BitList). IsCut b.version c.args.bytes.now c.in_ok-segments.segments.items) (sym (fronted k)) (least s).reached.cut
+
+pub end_with-requires-clause-room : goal.end_with-requires-clause-room
+end_with-requires-clause-room c =
+    let k = (goal.at.end_with-requires-clause-room c).In_ok-push_front in
+    let s = (goal.at.end_with-requires-clause-room c).In_ok-segments in
+    let ss = c.in_ok-segments.segments.items in
     let v = c.args.wanted.version in
     let l = c.args.wanted.ec_level in
-    let front = append_front c.args.share.place c.args.share.last c.args.share.parity in
-    let bytes = c.args.bytes.now in
-    let ss = c.in_ok-segments.segments.items in
-    let e = c.in_err-push_all.field-0.0 in
-    let new = c.push_all.new.bits.bits in
-    let stop = subst (λ (b : BitList). StopsAt b.version b.bits (pieces_of bytes ss) e new) (fronted k) c.in_err-push_all.ensures.stopped in
-    handed_on c.from_residual-in_err-push_all.result e (λ e. e ≡ OutOfMemory) c.from_residual-in_err-push_all.ensures
-    (fitting_stop v l front bytes ss e new (valid_of v l c.requires.exists) (least s).reached.cut (omega (arith, room s))
-    (omega (arith, length-front c.args.share.place c.args.share.last c.args.share.parity, room s, capacity-le v l c.requires.exists)) stop)
-
-pub returns-in_err-push_terminator-clause-memory : goal.returns-in_err-push_terminator-clause-memory
-returns-in_err-push_terminator-clause-memory c =
-    let k = (goal.at.returns-in_err-push_terminator-clause-memory c).In_ok-push_front in
-    let s = (goal.at.returns-in_err-push_terminator-clause-memory c).In_ok-segments in
-    let v = c.args.wanted.version in
-    let l = c.args.wanted.ec_level in
-    let front = append_front c.args.share.place c.args.share.last c.args.share.parity in
-    let ss = c.in_ok-segments.segments.items in
-    let e = c.in_err-push_terminator.field-0.0 in
-    let list = c.push_all.new.bits in
-    let version : list.version ≡ v = c.push_all.ensures.version ∙ ap (λ (b : BitList). b.version) (fronted k) in
-    let all = subst (λ (b : BitList). PushesAll b.version b.bits c.args.bytes.now ss list.bits) (fronted k) c.in_ok-push_all.ensures.pushed in
-    let fits = terminator_fits v l (length list.bits) c.requires.exists (omega (arith, all.longer, length-front c.args.share.place c.args.share.last c.args.share.parity, room s)) in
-    handed_on c.from_residual-in_err-push_terminator.result e (λ e. e ≡ OutOfMemory) c.from_residual-in_err-push_terminator.ensures
-    (c.in_err-push_terminator.ensures.ends.accepted (ap (λ u. terminator_refusal u l (length list.bits)) version ∙ fits))
+    let own : length (append_front c.args.share.place c.args.share.last c.args.share.parity) + total_cost v ss ≤ capacity v l =
+    omega (arith, length-front c.args.share.place c.args.share.last c.args.share.parity, room s) in
+    subst (λ (b : BitList). length b.bits + total_cost b.version ss ≤ capacity b.version l) (sym (fronted k)) own
 
 pub returns-clause-bits : goal.returns-clause-bits
 returns-clause-bits c =
     let k = (goal.at.returns-clause-bits c).In_ok-push_front in
     let s = (goal.at.returns-clause-bits c).In_ok-segments in
-    let m = c.args.wanted.manner in
     let v = c.args.wanted.version in
     let l = c.args.wanted.ec_level in
-    let front = append_front c.args.share.place c.args.share.last c.args.share.parity in
+    let share = c.args.share in
+    let front = append_front share.place share.last share.parity in
     let bytes = c.args.bytes.now in
     let ss = c.in_ok-segments.segments.items in
-    let list = c.push_all.new.bits in
-    let new = c.push_terminator.new.self in
-    let all = subst (λ (b : BitList). PushesAll b.version b.bits bytes ss list.bits) (fronted k) c.in_ok-push_all.ensures.pushed in
-    let version : list.version ≡ v = c.push_all.ensures.version ∙ ap (λ (b : BitList). b.version) (fronted k) in
-    let ended = c.in_ok-push_terminator.ensures in
-    let is : new ≡ list_of v (terminated v l (front ++ written v (pieces_of bytes ss))) =
-    ended.ends.changed ∙ ap₂ (λ (u : Version) (b : List Bool). list_of u (terminated u l b)) version all.bits in
+    let ended = c.in_ok-end_with.ensures in
+    let is : c.end_with.new.self ≡ list_of v (terminated v l (front ++ written v (pieces_of bytes ss))) =
+    ended.ends ∙ ap (λ (b : BitList). list_of b.version (terminated b.version l (b.bits ++ written b.version (pieces_of bytes ss)))) (fronted k) in
     record {
       version = ap (λ (b : BitList). b.version) is;
       segments = ss;
       least = least s;
       bits = ap (λ (b : BitList). b.bits) is;
-      full = ended.full ∙ ap (λ u. capacity u l) version;
-      spelled = subst (λ b. SpellsPart v b c.args.share.place c.args.share.last c.args.share.parity bytes) (sym (ap (λ (b : BitList). b.bits) is)) (part_spelled v l c.args.share.place c.args.share.last c.args.share.parity bytes ss (valid_of v l c.requires.exists) c.requires.normal (least s).reached.cut (room s));
+      full = ended.full ∙ ap (λ (b : BitList). capacity b.version l) (fronted k);
+      spelled = subst (λ b. SpellsPart v b share.place share.last share.parity bytes) (sym (ap (λ (b : BitList). b.bits) is)) (part_spelled v l share.place share.last share.parity bytes ss (valid_of v l c.requires.exists) c.requires.normal (least s).reached.cut (room s));
     }

@@ -20,7 +20,7 @@ total_encoded_len-requires-clause-ranges c =
 pub total_encoded_len-requires-clause-fits : goal.total_encoded_len-requires-clause-fits
 total_encoded_len-requires-clause-fits c =
     let k = (goal.at.total_encoded_len-requires-clause-fits c).In_ok-segments in
-    rw c.deref.ensures.value (omega (arith, short k, c.requires.limit))
+    rw c.deref.ensures.value (omega (arith, short k, c.requires.length_at_most))
 
 pub returns-clause-measured : goal.returns-clause-measured
 returns-clause-measured c =
@@ -30,4 +30,4 @@ returns-clause-measured c =
 pub returns-clause-at_most : goal.returns-clause-at_most
 returns-clause-at_most c =
     let k = (goal.at.returns-clause-at_most c).In_ok-segments in
-    omega (arith, short k, c.requires.limit, c.total_encoded_len.ensures, ap (total_cost c.args.version) c.deref.ensures.value)
+    omega (arith, short k, c.requires.length_at_most, c.total_encoded_len.ensures, ap (total_cost c.args.version) c.deref.ensures.value)
