@@ -110,7 +110,7 @@ static void payments(void)
     printed[GOQ_PAYMENT_IBAN] = wrong_iban;
     refuses(GOQ_PAYMENT, printed, GOQ_PAYMENT_FIELDS, GOQ_FIELD_CHECK_DIGITS, GOQ_PAYMENT_IBAN, "a wrong IBAN");
     printed[GOQ_PAYMENT_IBAN] = short_iban;
-    expect(ask(GOQ_PAYMENT, printed, GOQ_PAYMENT_FIELDS, sizeof out) != GOQ_OK && place == GOQ_PAYMENT_IBAN, "a short IBAN");
+    refuses(GOQ_PAYMENT, printed, GOQ_PAYMENT_FIELDS, GOQ_FIELD_TOO_SHORT, GOQ_PAYMENT_IBAN, "a short IBAN");
     printed[GOQ_PAYMENT_IBAN] = iban;
     printed[GOQ_PAYMENT_REFERENCE] = reference;
     refuses(GOQ_PAYMENT, printed, GOQ_PAYMENT_FIELDS, GOQ_FIELD_UNUSED, GOQ_PAYMENT_MESSAGE, "a message beside a reference");
@@ -153,7 +153,7 @@ static void bills(void)
     refuses(GOQ_BILL, printed, GOQ_BILL_FIELDS, GOQ_FIELD_CHARACTER, GOQ_BILL_AMOUNT, "an amount as a text");
     printed[GOQ_BILL_AMOUNT] = none;
     printed[GOQ_BILL_DEBTOR_CITY] = none;
-    refuses(GOQ_BILL, printed, GOQ_BILL_FIELDS, GOQ_FIELD_EMPTY, GOQ_BILL_DEBTOR_NAME, "a debtor without a town");
+    refuses(GOQ_BILL, printed, GOQ_BILL_FIELDS, GOQ_FIELD_EMPTY, GOQ_BILL_DEBTOR_CITY, "a debtor without a town");
 }
 
 static void links(void)

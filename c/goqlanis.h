@@ -43,7 +43,7 @@ enum {
     GOQ_NO_SUCH_FIELD = 33, /* the kind has no field at this place */
     GOQ_FIELD_EMPTY = 34, /* the field may not be empty */
     GOQ_FIELD_TOO_LONG = 35, /* the field, or the whole text, is longer than the format allows */
-    GOQ_FIELD_TOO_SHORT = 36, /* the field is shorter than the format allows, which none of the formats so far says */
+    GOQ_FIELD_TOO_SHORT = 36, /* the field is shorter than the format allows */
     GOQ_FIELD_CONTROL = 37, /* the field has a line break or another control character */
     GOQ_FIELD_CHARACTER = 38, /* the field has a character that the format does not allow there, or a number has bytes */
     GOQ_FIELD_CHECK_DIGITS = 39, /* the check digits are wrong */
@@ -167,7 +167,7 @@ enum {
     GOQ_BILL_CURRENCY, /* a number: GOQ_CHF or GOQ_EUR */
     GOQ_BILL_REFERENCE, /* 27 digits for a QR-IBAN; RF.. or none for another */
     GOQ_BILL_MESSAGE, /* up to 140 characters */
-    GOQ_BILL_DEBTOR_NAME, /* who pays: all six empty name nobody. A wrong one of them is told by this place */
+    GOQ_BILL_DEBTOR_NAME, /* who pays: all six empty name nobody */
     GOQ_BILL_DEBTOR_STREET,
     GOQ_BILL_DEBTOR_NUMBER,
     GOQ_BILL_DEBTOR_CODE,

@@ -207,8 +207,7 @@ class Party(NamedTuple):
 
 
 def bill(iban: str, creditor: Party, amount: Optional[Number] = None, currency: str = "CHF", reference: str = "", message: str = "", debtor: Optional[Party] = None) -> str:
-    """A Swiss QR bill, for a symbol of level M and at most version 25, without its cross: with no amount it is left open. A wrong field of the debtor is told as
-    `debtor`.
+    """A Swiss QR bill, for a symbol of level M and at most version 25, without its cross: with no amount it is left open.
 
     >>> schneider = Party("Robert Schneider AG", "Rue du Lac", "1268", "2501", "Biel", "CH")
     >>> bill("CH5800791123000889012", schneider, currency="EUR", reference="RF18539007547034").splitlines()[27:]
@@ -219,7 +218,7 @@ def bill(iban: str, creditor: Party, amount: Optional[Number] = None, currency: 
         raise OutOfRange("amount")
     fields = [("iban", iban), *((f"creditor.{name}", value) for name, value in zip(Party._fields, creditor)), ("amount", cents),
               ("currency", _choice("currency", currency, CURRENCIES)), ("reference", reference), ("message", message)]
-    return _text_of(BILL, fields + [("debtor", value) for value in debtor or ()])
+    return _text_of(BILL, fields + [(f"debtor.{name}", value) for name, value in zip(Party._fields, debtor or ())])
 
 
 def mail(address: str, subject: str = "", body: str = "") -> str:

@@ -1,5 +1,9 @@
 //! Elements of GS1 as people write them, and why they are refused.
 
+ghost use Rattle.std.specs.Prelude.{◌≡◌, ◌≢◌, [], ◌∷◌, ◌++◌, map, true, encode_utf8, string_bytes, IfOk};
+ghost use Rattle.qrcode_gs1.specs.Items.{item};
+ghost use Rattle.goqlanis_contents.specs.Labels.{ends_with_backslash, items_of, label_text, read_text, value_text};
+
 use crate::refusals::{Refusal, wrong};
 use qrcode_gs1::checks::cause_of;
 use qrcode_gs1::elements::Element;
@@ -13,30 +17,47 @@ pub struct Elements {
     items: Vec<(String, String)>,
 }
 
+// The beginning of an element.
+#[derive(Drop)]
+enum Part {
+    // Nothing of it.
+    Nothing,
+    // Its opening bracket, and the beginning of its identifier.
+    Identifier(String),
+    // Its identifier in brackets, and the beginning of its value.
+    Value(String, String),
+}
+
 impl Elements {
     /// The elements of a text: each identifier in round brackets, and behind it its value, in which `\(`
     /// stands for `(`. Whether there is such an identifier, with such a value, is not looked at.
     ///
     /// `Wrong`: there is no element, or something else. `OutOfMemory`: memory was refused.
-    pub fn read(alloc: Global, text: &str) -> Result<Elements, Refusal> {
+    #[tactic(auto, using(crate::proofs::Labelling::label_more))]
+    pub fn read(alloc: Global, text: &str) -> Result<Elements, Refusal>
+        ensures written { IfOk result (λ elements.
+            label_text (items_of elements.items.items) ≡ text.now) }
+    {
         let mut items = Vec::new(alloc);
-        for (place, piece) in text.split('(').enumerate() {
-            if place > 0 {
-                push_piece(alloc, &mut items, piece)?;
-            } else if text.is_empty() || !piece.is_empty() {
-                return Err(wrong(
-                    alloc,
-                    "ELEMENTS",
-                    "they begin with an identifier in round brackets",
-                    ", as (01)09521234543213",
-                ));
+        let mut part = Part::Nothing;
+        for character in text.chars() {
+            part = next(alloc, &mut items, part, character)?;
+        }
+        match part {
+            Part::Nothing => Err(no_bracket(alloc)),
+            Part::Identifier(_) => Err(not_closed(alloc)),
+            Part::Value(identifier, value) => {
+                items.push((identifier, value))?;
+                Ok(Elements { items })
             }
         }
-        Ok(Elements { items })
     }
 
-    /// The elements, as a symbol is made of them.
-    pub fn elements(&self, alloc: Global) -> Result<Vec<Element<'_>>, AllocError> {
+    /// The elements, as a symbol is made of them. It fails for want of memory alone.
+    pub fn elements(&self, alloc: Global) -> Result<Vec<Element<'_>>, AllocError>
+        ensures value { IfOk result (λ elements. map item elements.items
+            ≡ items_of self.now.items.items) }
+    {
         let mut elements = Vec::with_capacity(alloc, self.items.len())?;
         for (identifier, value) in &self.items {
             elements.push(Element {
@@ -47,7 +68,8 @@ impl Elements {
         Ok(elements)
     }
 
-    /// Why the element at an index is refused: which one it is, what is wrong and what would help.
+    /// Why the element at an index is refused: which one it is, what is wrong and what would help; empty
+    /// where there is no such element. It fails for want of memory alone.
     pub fn refusal(&self, alloc: Global, index: usize, cause: Cause) -> Result<String, AllocError> {
         let Some((identifier, value)) = self.items.get(index) else {
             return Ok(String::new(alloc));
@@ -64,28 +86,86 @@ impl Elements {
     }
 }
 
-// Appends what stands behind an opening bracket: an identifier and its value, or behind a backslash more
-// of the last value.
-fn push_piece(
+// The beginning of an element with one more character of the text, which may end it and begin another.
+#[tactic(auto, using(crate::proofs::Labelling::identifier_closed, crate::proofs::Labelling::element_more, crate::proofs::Labelling::label_more))]
+fn next(
     alloc: Global,
     items: &mut Vec<(String, String)>,
-    piece: &str,
-) -> Result<(), Refusal> {
-    if let Some((_, value)) = items.last_mut() {
-        if value.as_str().ends_with('\\') {
-            value.pop();
-            value.push('(')?;
-            value.push_str(piece)?;
-            return Ok(());
+    part: Part,
+    character: char,
+) -> Result<Part, Refusal>
+    ensures appends { IfOk result (λ more. read_text items.new.items more
+        ≡ read_text items.old.items part ++ encode_utf8 character) }
+{
+    match part {
+        Part::Nothing if character == '(' => Ok(Part::Identifier(String::new(alloc))),
+        Part::Nothing => Err(no_bracket(alloc)),
+        Part::Identifier(_) if character == '(' => Err(not_closed(alloc)),
+        Part::Identifier(identifier) if character == ')' => {
+            Ok(Part::Value(identifier, String::new(alloc)))
+        }
+        Part::Identifier(mut identifier) => {
+            identifier.push(character)?;
+            Ok(Part::Identifier(identifier))
+        }
+        Part::Value(identifier, value) if character != '(' => {
+            Ok(Part::Value(identifier, with_character(value, character)?))
+        }
+        Part::Value(identifier, value) if ends_with_backslash(value.as_str()) => {
+            Ok(Part::Value(identifier, with_bracket(value)?))
+        }
+        Part::Value(identifier, value) => {
+            items.push((identifier, value))?;
+            Ok(Part::Identifier(String::new(alloc)))
         }
     }
-    let Some((identifier, value)) = piece.split_once(')') else {
-        let what = "an opening bracket has no closing one behind it";
-        return Err(wrong(alloc, "ELEMENTS", what, "; a value has ( as \\("));
-    };
-    let identifier = String::from_str(alloc, identifier)?;
-    items.push((identifier, String::from_str(alloc, value)?))?;
-    Ok(())
+}
+
+// Whether the last byte is a backslash.
+fn ends_with_backslash(value: &str) -> bool
+    ensures { result ≡ ends_with_backslash value.now }
+{
+    value.ends_with('\\')
+}
+
+// A value with one more character.
+#[tactic(auto, using(crate::proofs::Labelling::value_more))]
+fn with_character(value: String, character: char) -> Result<String, Refusal>
+    requires { character ≢ 40 }
+    ensures appends { IfOk result (λ more. value_text (string_bytes more)
+        ≡ value_text (string_bytes value) ++ encode_utf8 character) }
+{
+    let mut value = value;
+    value.push(character)?;
+    Ok(value)
+}
+
+// A value with an opening bracket in place of the backslash at its end, which is written as both.
+fn with_bracket(value: String) -> Result<String, Refusal>
+    requires { ends_with_backslash (string_bytes value) ≡ true }
+    ensures appends { IfOk result (λ more. value_text (string_bytes more)
+        ≡ value_text (string_bytes value) ++ 40 ∷ []) }
+{
+    let mut value = value;
+    value.pop();
+    value.push('(')?;
+    Ok(value)
+}
+
+// The refusal of a text that does not begin with a bracket.
+fn no_bracket(alloc: Global) -> Refusal {
+    wrong(
+        alloc,
+        "ELEMENTS",
+        "they begin with an identifier in round brackets",
+        ", as (01)09521234543213",
+    )
+}
+
+// The refusal of a bracket that is not closed.
+fn not_closed(alloc: Global) -> Refusal {
+    let what = "an opening bracket has no closing one behind it";
+    wrong(alloc, "ELEMENTS", what, "; a value has ( as \\(")
 }
 
 // Appends what is wrong with a value, and what would help.

@@ -68,7 +68,12 @@ fn option_of(kind: Kind, field: Field) -> &'static str {
         Field::Region => "--region",
         Field::PostalCode => "--code",
         Field::Country => "--country",
-        Field::Debtor => "--debtor-name, .. --debtor-country",
+        Field::DebtorName => "--debtor-name",
+        Field::DebtorStreet => "--debtor-street",
+        Field::DebtorNumber => "--debtor-number",
+        Field::DebtorPostalCode => "--debtor-code",
+        Field::DebtorCity => "--debtor-city",
+        Field::DebtorCountry => "--debtor-country",
         Field::Iban => "--iban",
         Field::Amount => "--amount",
         Field::Purpose => "--purpose",
@@ -97,7 +102,7 @@ fn option_of(kind: Kind, field: Field) -> &'static str {
 fn told(cause: Cause) -> &'static str {
     match cause {
         Cause::Empty => "it is wanted, and not empty",
-        Cause::TooLong => "it is longer than the format allows; shorten it",
+        Cause::TooLong => "it is longer than the format allows",
         Cause::TooShort => "it is shorter than the format allows",
         Cause::ControlCharacter =>
             "it has a line break or another control character; leave that out",
@@ -112,12 +117,16 @@ fn told(cause: Cause) -> &'static str {
 // What would help, of a field with such a cause.
 fn help_of(field: Field, cause: Cause) -> &'static str {
     match (cause, field) {
-        (Cause::Character | Cause::TooShort, Field::Iban) =>
+        (Cause::Character | Cause::TooShort | Cause::TooLong, Field::Iban) =>
             "; write it without spaces, as DE89370400440532013000",
-        (Cause::Character, Field::Bic) => "; it has 8 or 11 capitals and digits",
+        (Cause::Character | Cause::TooShort | Cause::TooLong, Field::Bic) =>
+            "; it has 8 or 11 capitals and digits",
         (Cause::Character, Field::Phone) => "; write digits, behind + for a global number",
         (Cause::Character, Field::Email) => "; write one address with one @",
-        (Cause::Character, Field::Country) => "; write two capitals, as CH",
+        (
+            Cause::Character | Cause::TooShort | Cause::TooLong,
+            Field::Country | Field::DebtorCountry,
+        ) => "; write two capitals, as CH",
         (Cause::Character, Field::Secret) => "; write A to Z and 2 to 7, without spaces and =",
         (Cause::Character | Cause::TooShort | Cause::TooLong, Field::Birthday) => {
             "; write eight digits, as 19700131"
@@ -132,6 +141,7 @@ fn help_of(field: Field, cause: Cause) -> &'static str {
         (Cause::Unused, Field::Reference) => {
             ": 27 digits go with a QR-IBAN alone, and RF.. or none with others"
         }
+        (Cause::TooLong, _) => "; shorten it",
         _ => "",
     }
 }

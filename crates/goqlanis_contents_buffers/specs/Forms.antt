@@ -4,7 +4,7 @@ use Rattle.std.specs.Int.{is_negative}
 use Rattle.std.specs.Str.{is_utf8}
 use Rattle.qrcode_fields.specs.Entries.{is_filled}
 use Rattle.qrcode_fields.specs.declared.errors.Field.{Field}
-use Rattle.qrcode_fields.specs.declared.errors.Field.TheVariants.{Account, Amount, Begin, Bic, Birthday, City, Country, Debtor, Description, Email, End, Family, Given, Iban, Information, Issuer, Latitude, Location, Longitude, Message, Name, Note, Number, Organisation, Password, Period, Phone, PostalCode, Purpose, Reference, Region, Secret, Ssid, Stamp, Street, Subject, Summary, Uid, Url}
+use Rattle.qrcode_fields.specs.declared.errors.Field.TheVariants.{Account, Amount, Begin, Bic, Birthday, City, Country, DebtorCity, DebtorCountry, DebtorName, DebtorNumber, DebtorPostalCode, DebtorStreet, Description, Email, End, Family, Given, Iban, Information, Issuer, Latitude, Location, Longitude, Message, Name, Note, Number, Organisation, Password, Period, Phone, PostalCode, Purpose, Reference, Region, Secret, Ssid, Stamp, Street, Subject, Summary, Uid, Url}
 use Rattle.qrcode_fields.specs.declared.errors.Cause.TheVariants.{Range, Character}
 use Rattle.goqlanis_contents_buffers.specs.declared.answers.Refusal.{Refusal}
 use Rattle.goqlanis_contents_buffers.specs.declared.answers.Refusal.TheVariants.{NotText, NoSuchField, Wrong}
@@ -29,7 +29,7 @@ forms_of Vcard =
 forms_of Payment =
     Text Name ∷ Text Iban ∷ Number Amount 9223372036854775807 ∷ Text Bic ∷ Text Purpose ∷ Text Reference ∷ Text Message ∷ Text Information ∷ []
 forms_of Bill =
-    Text Iban ∷ Text Name ∷ Text Street ∷ Text Number ∷ Text PostalCode ∷ Text City ∷ Text Country ∷ Number Amount 9223372036854775807 ∷ Plain 1 ∷ Text Reference ∷ Text Message ∷ Text Debtor ∷ Text Debtor ∷ Text Debtor ∷ Text Debtor ∷ Text Debtor ∷ Text Debtor ∷ []
+    Text Iban ∷ Text Name ∷ Text Street ∷ Text Number ∷ Text PostalCode ∷ Text City ∷ Text Country ∷ Number Amount 9223372036854775807 ∷ Plain 1 ∷ Text Reference ∷ Text Message ∷ Text DebtorName ∷ Text DebtorStreet ∷ Text DebtorNumber ∷ Text DebtorPostalCode ∷ Text DebtorCity ∷ Text DebtorCountry ∷ []
 forms_of Mail =
     Text Email ∷ Text Subject ∷ Text Message ∷ []
 forms_of Geo =

@@ -6,6 +6,7 @@ ghost use Rattle.goqlanis_contents_buffers.specs.Forms.{kind_named, forms_of, fo
 use crate::answers::Refusal;
 use crate::given::Item;
 use qrcode_fields::errors::{Cause, Field};
+use qrcode_fields::laws;
 
 /// A kind of content.
 #[derive(Clone, Copy, Debug)]
@@ -134,12 +135,12 @@ static BILL: [Form; 17] = [
     Form::Plain(1),
     Form::Text(Field::Reference),
     Form::Text(Field::Message),
-    Form::Text(Field::Debtor),
-    Form::Text(Field::Debtor),
-    Form::Text(Field::Debtor),
-    Form::Text(Field::Debtor),
-    Form::Text(Field::Debtor),
-    Form::Text(Field::Debtor),
+    Form::Text(Field::DebtorName),
+    Form::Text(Field::DebtorStreet),
+    Form::Text(Field::DebtorNumber),
+    Form::Text(Field::DebtorPostalCode),
+    Form::Text(Field::DebtorCity),
+    Form::Text(Field::DebtorCountry),
 ];
 
 static MAIL: [Form; 3] = [
@@ -216,12 +217,22 @@ pub(crate) fn forms_of(kind: Kind) -> &'static [Form]
     }
 }
 
+// Whether two fields are the same.
+fn is_same(a: Field, b: Field) -> bool
+    ensures { IsTrue result ↔ (a ≡ b) }
+{
+    laws::equality();
+    a == b
+}
+
 // Whether a form is that of a field that a format names.
 fn is_named(form: Form, field: Field) -> bool
     ensures { IsTrue result ↔ IsNamed field form }
 {
     match form {
-        Form::Text(named) | Form::Number(named, _) | Form::Signed(named, _) => named == field,
+        Form::Text(named) | Form::Number(named, _) | Form::Signed(named, _) => {
+            is_same(named, field)
+        }
         Form::Plain(_) => false,
     }
 }

@@ -11,7 +11,7 @@ use Rattle.qrcode_fields.specs.declared.errors.Cause.TheVariants.{Character, Ran
 use Rattle.qrcode_contents.specs.declared.bill.Currency.{Currency}
 use Rattle.qrcode_contents.specs.declared.bill.Currency.TheVariants.{Franc, Euro}
 use Rattle.qrcode_fields.specs.Amounts.{amount_text}
-use Rattle.qrcode_contents.specs.Bill.{Addressee, Invoice, is_unsaid, is_account, is_creditor_reference, reference_kind, text_checks, text_refusal, of_debtor, form_refusal, is_nobody, debtor_refusal, is_out_of_range, account_checks, account_refusal, reference_checks, reference_refusal, bill_checks, bill_refusal, currency_name, address_kind, address_lines, unused_lines, amount_line, end_lines, bill_lines, bill_text, read_cents, read_currency, invoice_in, read_bill}
+use Rattle.qrcode_contents.specs.Bill.{Addressee, Invoice, is_unsaid, is_creditor_reference, reference_kind, text_checks, text_refusal, of_debtor, named_refusal, is_nobody, party_refusal, debtor_refusal, is_out_of_range, account_checks, account_refusal, message_checks, message_refusal, bill_checks, bill_refusal, currency_name, address_kind, address_lines, unused_lines, amount_line, end_lines, bill_lines, bill_text, read_cents, read_currency, invoice_in, read_bill}
 use Rattle.qrcode_fields.specs.Characters.{is_control}
 use Rattle.qrcode_fields.specs.Entries.{is_filled}
 use Rattle.qrcode_fields.specs.Lines.{line_at}
@@ -112,19 +112,19 @@ record AreBillLines (b : Invoice) : Type 0 where
   message : HasNoFeed b.message
 
 bill_said : (b : Invoice) → bill_refusal b ≡ None → AreBillLines b
-unfolding bill_refusal account_refusal reference_refusal debtor_refusal
+unfolding bill_refusal account_refusal message_refusal party_refusal debtor_refusal
 bill_said b is =
     let none = all_pass (bill_checks b) is in
     let account = all_pass (account_checks b) none.0 in
-    let reference = all_pass (reference_checks b) none.1.1.1.1.0 in
-    let debtor = all_pass (option_map of_debtor (text_refusal b.debtor) ∷ (if is_nobody b.debtor then None else option_map of_debtor (form_refusal b.debtor)) ∷ []) none.1.1.1.0 in
+    let message = all_pass (message_checks b) none.1.1.1.1.0 in
+    let debtor = all_pass (text_refusal b.debtor ∷ (if is_nobody b.debtor then None else named_refusal b.debtor) ∷ []) (not_of_debtor (party_refusal b.debtor) none.1.1.1.0) in
     record {
-      iban = said b.iban (neither (is_unsaid b.iban) (not (is_account b.iban)) (test_passes (is_unsaid b.iban || not (is_account b.iban)) Iban Character account.0)).0;
-      cents = test_passes (is_out_of_range b.cents) Amount Range account.1.1.0;
+      iban = said b.iban (test_passes (is_unsaid b.iban) Iban Character account.0);
+      cents = test_passes (is_out_of_range b.cents) Amount Range account.1.1.1.1.1.1.0;
       creditor = address_said b.creditor none.1.0;
-      debtor = address_said b.debtor (not_of_debtor (text_refusal b.debtor) debtor.0);
-      reference = said b.reference (test_passes (is_unsaid b.reference) Reference Character reference.0);
-      message = said b.message (test_passes (is_unsaid b.message) Message Character reference.1.0);
+      debtor = address_said b.debtor debtor.0;
+      reference = said b.reference (test_passes (is_unsaid b.reference) Reference Character message.0);
+      message = said b.message (test_passes (is_unsaid b.message) Message Character message.1.0);
     }
 
 -- the lines behind the first
@@ -244,9 +244,9 @@ last_refusal : (o : Option ContentError) → first_refusal (o ∷ []) ≡ o
 last_refusal None = refl
 last_refusal (Some e) = refl
 
--- a debtor who is named, and whose texts are said
-pub debtor_checked : (p : Addressee) (texts : Result (Unit {0}) ContentError) (x : Unit {0}) → texts ≡ checked (option_map of_debtor (text_refusal p)) → texts ≡ Ok x → is_nobody p ≡ false → checked (option_map of_debtor (form_refusal p)) ≡ checked (debtor_refusal p)
-unfolding debtor_refusal
-debtor_checked p texts x is ok somebody =
-    let none = checked_none (option_map of_debtor (text_refusal p)) texts x is ok in
-    rw (none, somebody) (ap checked (sym (last_refusal (option_map of_debtor (form_refusal p)))))
+-- somebody who is named, and whose texts are said
+pub party_checked : (p : Addressee) (texts : Result (Unit {0}) ContentError) (x : Unit {0}) → texts ≡ checked (text_refusal p) → texts ≡ Ok x → is_nobody p ≡ false → checked (named_refusal p) ≡ checked (party_refusal p)
+unfolding party_refusal
+party_checked p texts x is ok somebody =
+    let none = checked_none (text_refusal p) texts x is ok in
+    rw (none, somebody) (ap checked (sym (last_refusal (named_refusal p))))

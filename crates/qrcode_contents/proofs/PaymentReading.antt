@@ -5,20 +5,19 @@ use Rattle.std.specs.Option.{option_map, option_and_then}
 use Rattle.std.proofs.lemmas.Bool.Decides.{nat_tests}
 use Rattle.qrcode_fields.specs.declared.errors.Field.{Field}
 use Rattle.qrcode_fields.specs.declared.errors.Field.TheVariants.{Bic, Name, Iban, Amount, Purpose, Reference, Message, Information}
-use Rattle.qrcode_fields.specs.declared.errors.Cause.TheVariants.{ControlCharacter, Character, CheckDigits, Range}
+use Rattle.qrcode_fields.specs.declared.errors.Cause.TheVariants.{ControlCharacter, Range}
 use Rattle.qrcode_contents.specs.declared.payment.PaymentVersion.{PaymentVersion}
 use Rattle.qrcode_contents.specs.declared.payment.PaymentVersion.TheVariants.{One, Two}
 use Rattle.qrcode_fields.specs.Amounts.{amount_text, read_amount}
 use Rattle.qrcode_fields.specs.Characters.{is_control, control_refusal}
 use Rattle.qrcode_fields.specs.Entries.{is_filled, behind}
 use Rattle.qrcode_fields.specs.Lines.{line_at}
-use Rattle.qrcode_contents.specs.Payment.{Transfer, version_name, payment_lines, payment_text, later_count, later_lines, read_payment, transfer_of, transfer_from, named_version, is_account, field_checks, control_checks, bank_checks, account_checks, message_checks}
+use Rattle.qrcode_contents.specs.Payment.{Transfer, version_name, payment_lines, payment_text, later_count, later_lines, read_payment, transfer_of, transfer_from, named_version, field_checks, control_checks, bank_checks, account_checks, name_checks, message_checks}
 use Rattle.qrcode_fields.specs.Refusals.{refused_if}
-use Rattle.qrcode_contents.specs.Accounts.{is_checked}
 use Rattle.qrcode_fields.proofs.EntryReading.{neither}
 use Rattle.qrcode_fields.proofs.AmountReading.{amount_read, HasNoFeed-amount}
 use Rattle.qrcode_fields.proofs.LineReading.{HasNoFeed, HaveNoFeeds, HaveNoFeeds-take, HasNoFeed-from_control, lines_read}
-use Rattle.qrcode_fields.proofs.Passing.{passes, test_passes}
+use Rattle.qrcode_fields.proofs.Passing.{passes, all_pass, test_passes}
 
 -- a field that is not filled is empty
 empty_from : (bytes : List ℕ) → is_filled bytes ≡ false → bytes ≡ []
@@ -63,15 +62,12 @@ lines_have_none t fits is =
     (refl, (version_none t.version, (refl, (refl, (have.0, (have.1.0, (have.1.1.0, (HasNoFeed-amount t.cents fits, later))))))))
 
 -- an amount that is not refused fits
-amount_fits : (t : Transfer) → account_checks t ≡ None → t.cents < 2 ^ 64
-unfolding account_checks
+amount_fits : (t : Transfer) → name_checks t ≡ None → t.cents < 2 ^ 64
+unfolding name_checks
 amount_fits t is =
-    let iban = refused_if (not (is_account t.iban)) Iban Character in
-    let digits = refused_if (not (is_checked t.iban)) Iban CheckDigits in
     let outside = nat_lt t.cents 1 || nat_lt 99999999999 t.cents in
-    let amount = refused_if outside Amount Range in
-    let last = passes amount [] (passes digits (amount ∷ []) (passes iban (digits ∷ amount ∷ []) is).1).1 in
-    let inside = neither (nat_lt t.cents 1) (nat_lt 99999999999 t.cents) (test_passes outside Amount Range last.0) in
+    let amount = passes (refused_if outside Amount Range) _ is in
+    let inside = neither (nat_lt t.cents 1) (nat_lt 99999999999 t.cents) (test_passes outside Amount Range amount.0) in
     let most : nat_lt 99999999999 t.cents ≡ false = inside.1 in
     grind (arith, nat_tests)
 
@@ -95,10 +91,8 @@ lines_say t fits =
 pub payment_read : (t : Transfer) → field_checks t ≡ None → read_payment (payment_text t) ≡ Some t
 unfolding payment_text read_payment field_checks
 payment_read t is =
-    let controls = passes (control_checks t) (bank_checks t ∷ account_checks t ∷ message_checks t ∷ []) is in
-    let bank = passes (bank_checks t) (account_checks t ∷ message_checks t ∷ []) controls.1 in
-    let account = passes (account_checks t) (message_checks t ∷ []) bank.1 in
-    let fits = amount_fits t account.0 in
-    let have = lines_have_none t fits controls.0 in
+    let none = all_pass (control_checks t ∷ bank_checks t ∷ account_checks t ∷ name_checks t ∷ message_checks t ∷ []) is in
+    let fits = amount_fits t none.1.1.1.0 in
+    let have = lines_have_none t fits none.0 in
     let later : List (List ℕ) = version_name t.version ∷ codes "1" ∷ codes "SCT" ∷ t.bic ∷ t.name ∷ t.iban ∷ (codes "EUR" ++ amount_text t.cents) ∷ later_lines t in
     ap (λ lines. transfer_of (line_at lines)) (lines_read (codes "BCD") later have.0 have.1) ∙ lines_say t fits

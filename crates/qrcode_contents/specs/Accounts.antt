@@ -1,17 +1,13 @@
 -- Account numbers of ISO 13616 (IBAN) and creditors' references of ISO 11649: two letters, two check digits, and what is checked.
 use Rattle.std.specs.Prelude.{ℕ, nat_lt, nat_le, ◌+◌, ◌-◌, ◌*◌, ◌%◌, ◌==◌, ◌&&◌, Bool, List, length, take, drop, slice_index_or}
 use Rattle.std.specs.List.{list_all}
-use Rattle.qrcode_fields.specs.Characters.{is_capital, is_digit}
+use Rattle.qrcode_fields.specs.Characters.{is_capital, is_capital_or_digit, is_digit}
 use Rattle.qrcode_fields.specs.Numbers.{checked_number}
 
--- a letter A to Z
-abbrev pub is_letter : ℕ → Bool
-is_letter b = nat_lt 64 b && nat_lt b 91
-
--- the form of both: two letters, two digits, and letters and digits, of which there is one at least; so many characters at most
-abbrev pub has_form : ℕ → List ℕ → Bool
-has_form most text =
-    nat_le 5 (length text) && nat_le (length text) most && list_all is_letter (take 2 text) && list_all is_digit (take 2 (drop 2 text)) && list_all is_capital text
+-- the form of both: two letters, two digits, and letters and digits
+abbrev pub has_form : List ℕ → Bool
+has_form text =
+    nat_lt 3 (length text) && list_all is_capital (take 2 text) && list_all is_digit (take 2 (drop 2 text)) && list_all is_capital_or_digit text
 
 -- the number of the two check digits
 abbrev pub check_number : List ℕ → ℕ

@@ -5,15 +5,16 @@ use Rattle.std.specs.List.{list_all, list_any, starts_with}
 use Rattle.std.specs.Option.{option_map}
 use Rattle.qrcode_fields.specs.declared.errors.ContentError.{ContentError}
 use Rattle.qrcode_fields.specs.declared.errors.ContentError.TheVariants.{Refused, OutOfMemory}
-use Rattle.qrcode_fields.specs.declared.errors.Field.TheVariants.{Iban, Name, Street, Number, PostalCode, City, Country, Amount, Debtor, Reference, Message}
-use Rattle.qrcode_fields.specs.declared.errors.Cause.TheVariants.{Empty, TooLong, Character, CheckDigits, Range, Unused}
-use Rattle.qrcode_contents.specs.Accounts.{is_letter, has_form, is_checked}
+use Rattle.qrcode_fields.specs.declared.errors.Field.{Field}
+use Rattle.qrcode_fields.specs.declared.errors.Field.TheVariants.{Iban, Name, Street, Number, PostalCode, City, Country, DebtorName, DebtorStreet, DebtorNumber, DebtorPostalCode, DebtorCity, DebtorCountry, Amount, Reference, Message}
+use Rattle.qrcode_fields.specs.declared.errors.Cause.TheVariants.{Empty, TooLong, TooShort, Character, CheckDigits, Range, Unused}
+use Rattle.qrcode_contents.specs.Accounts.{has_form, is_checked}
 use Rattle.qrcode_contents.specs.declared.bill.Currency.{Currency}
 use Rattle.qrcode_contents.specs.declared.bill.Currency.TheVariants.{Franc, Euro}
 use Rattle.qrcode_contents.specs.declared.bill.Party.{Party}
 use Rattle.qrcode_contents.specs.declared.bill.Bill.{Bill}
 use Rattle.qrcode_fields.specs.Amounts.{amount_text, read_amount}
-use Rattle.qrcode_fields.specs.Characters.{is_control, is_digit}
+use Rattle.qrcode_fields.specs.Characters.{is_capital, is_control, is_digit}
 use Rattle.qrcode_fields.specs.Entries.{is_empty, is_filled}
 use Rattle.qrcode_fields.specs.Lines.{lines_text, read_lines, line_at}
 use Rattle.qrcode_fields.specs.Numbers.{carry_of}
@@ -74,7 +75,7 @@ is_unsaid text = list_any is_control text || not (foreign_count text == 0)
 
 -- a code of ISO 3166-1
 abbrev pub is_country : List ℕ → Bool
-is_country text = length text == 2 && list_all is_letter text
+is_country text = length text == 2 && list_all is_capital text
 
 -- a text with this beginning
 abbrev pub begins_with : List ℕ → List ℕ → Bool
@@ -83,7 +84,7 @@ begins_with start text = starts_with (λ a b. a == b) text start
 -- an account of Switzerland or Liechtenstein: behind the check digits five digits of the institution and twelve letters and digits
 abbrev pub is_account : List ℕ → Bool
 is_account text =
-    length text == 21 && has_form 21 text && (begins_with (codes "CH") text || begins_with (codes "LI") text) && list_all is_digit (take 5 (drop 4 text))
+    length text == 21 && has_form text && (begins_with (codes "CH") text || begins_with (codes "LI") text) && list_all is_digit (take 5 (drop 4 text))
 
 -- an account whose institution has a number from 30000 to 31999, to which QR references belong
 abbrev pub is_qr_account : List ℕ → Bool
@@ -111,25 +112,40 @@ text_checks p =
     ∷ refused_if (is_unsaid p.country) Country Character
     ∷ []
 
--- what is missing or too long
+-- what is too long
+abbrev pub length_checks : Addressee → List (Option ContentError)
+length_checks p =
+    refused_if (nat_lt 70 (length (chars p.name))) Name TooLong
+    ∷ refused_if (nat_lt 70 (length (chars p.street))) Street TooLong
+    ∷ refused_if (nat_lt 16 (length (chars p.number))) Number TooLong
+    ∷ refused_if (nat_lt 16 (length (chars p.code))) PostalCode TooLong
+    ∷ refused_if (nat_lt 35 (length (chars p.city))) City TooLong
+    ∷ []
+
+-- what is missing, and what is no country
 abbrev pub form_checks : Addressee → List (Option ContentError)
 form_checks p =
     refused_if (is_empty p.name) Name Empty
     ∷ refused_if (is_empty p.code) PostalCode Empty
     ∷ refused_if (is_empty p.city) City Empty
-    ∷ refused_if (nat_lt 70 (length (chars p.name))) Name TooLong
-    ∷ refused_if (nat_lt 70 (length (chars p.street))) Street TooLong
-    ∷ refused_if (nat_lt 16 (length (chars p.number))) Number TooLong
-    ∷ refused_if (nat_lt 16 (length (chars p.code))) PostalCode TooLong
-    ∷ refused_if (nat_lt 35 (length (chars p.city))) City TooLong
+    ∷ refused_if (is_empty p.country) Country Empty
+    ∷ refused_if (nat_lt (length (chars p.country)) 2) Country TooShort
+    ∷ refused_if (nat_lt 2 (length (chars p.country))) Country TooLong
     ∷ refused_if (not (is_country p.country)) Country Character
     ∷ []
 
 unfoldable pub text_refusal : Addressee → Option ContentError
 text_refusal p = first_refusal (text_checks p)
 
+unfoldable pub length_refusal : Addressee → Option ContentError
+length_refusal p = first_refusal (length_checks p)
+
 unfoldable pub form_refusal : Addressee → Option ContentError
 form_refusal p = first_refusal (form_checks p)
+
+-- what is refused of somebody who is named
+unfoldable pub named_refusal : Addressee → Option ContentError
+named_refusal p = first_refusal (form_refusal p ∷ length_refusal p ∷ [])
 
 -- nobody is named
 abbrev pub is_nobody : Addressee → Bool
@@ -137,15 +153,28 @@ is_nobody p =
     not (is_filled p.name) && not (is_filled p.street) && not (is_filled p.number) && not (is_filled p.code)
     && not (is_filled p.city) && not (is_filled p.country)
 
--- the same cause, of the debtor
+-- the debtor's field that this one of an address is
+abbrev pub debtor_field : Field → Field
+debtor_field Name = DebtorName
+debtor_field Street = DebtorStreet
+debtor_field Number = DebtorNumber
+debtor_field PostalCode = DebtorPostalCode
+debtor_field City = DebtorCity
+debtor_field Country = DebtorCountry
+debtor_field field = field
+
+-- the same refusal, of the debtor's field
 abbrev pub of_debtor : ContentError → ContentError
-of_debtor (Refused field cause) = Refused Debtor cause
+of_debtor (Refused field cause) = Refused (debtor_field field) cause
 of_debtor OutOfMemory = OutOfMemory
 
--- what is refused of a debtor, who may be nobody
+-- what is refused of somebody, or of nobody
+unfoldable pub party_refusal : Addressee → Option ContentError
+party_refusal p = first_refusal (text_refusal p ∷ (if is_nobody p then None else named_refusal p) ∷ [])
+
+-- the same of the debtor
 unfoldable pub debtor_refusal : Addressee → Option ContentError
-debtor_refusal p = first_refusal (
-    option_map of_debtor (text_refusal p) ∷ (if is_nobody p then None else option_map of_debtor (form_refusal p)) ∷ [])
+debtor_refusal p = option_map of_debtor (party_refusal p)
 
 -- an amount that is no amount of a bill
 abbrev pub is_out_of_range : Option ℕ → Bool
@@ -155,7 +184,11 @@ is_out_of_range (Some cents) = nat_lt cents 1 || nat_lt 99999999999 cents
 -- what is no account, and an amount out of range
 abbrev pub account_checks : Invoice → List (Option ContentError)
 account_checks b =
-    refused_if (is_unsaid b.iban || not (is_account b.iban)) Iban Character
+    refused_if (is_unsaid b.iban) Iban Character
+    ∷ refused_if (is_empty b.iban) Iban Empty
+    ∷ refused_if (nat_lt (length (chars b.iban)) 21) Iban TooShort
+    ∷ refused_if (nat_lt 21 (length (chars b.iban))) Iban TooLong
+    ∷ refused_if (not (is_account b.iban)) Iban Character
     ∷ refused_if (not (is_checked b.iban)) Iban CheckDigits
     ∷ refused_if (is_out_of_range b.cents) Amount Range
     ∷ []
@@ -163,27 +196,60 @@ account_checks b =
 unfoldable pub account_refusal : Invoice → Option ContentError
 account_refusal b = first_refusal (account_checks b)
 
--- a wrong reference, one that does not belong to the account, and a long message
-abbrev pub reference_checks : Invoice → List (Option ContentError)
-reference_checks b =
+-- a message with what no line says, or a long one
+abbrev pub message_checks : Invoice → List (Option ContentError)
+message_checks b =
     refused_if (is_unsaid b.reference) Reference Character
     ∷ refused_if (is_unsaid b.message) Message Character
-    ∷ refused_if (is_qr_reference b.reference && not (length b.reference == 27 && list_all is_digit b.reference)) Reference Character
-    ∷ refused_if (is_qr_reference b.reference && not (carry_of b.reference == 0)) Reference CheckDigits
-    ∷ refused_if (is_creditor_reference b.reference && not (has_form 25 b.reference)) Reference Character
-    ∷ refused_if (is_creditor_reference b.reference && not (is_checked b.reference)) Reference CheckDigits
-    ∷ refused_if (is_qr_account b.iban && not (is_qr_reference b.reference)) Reference Unused
-    ∷ refused_if (not (is_qr_account b.iban) && is_qr_reference b.reference) Reference Unused
     ∷ refused_if (nat_lt 140 (length (chars b.message))) Message TooLong
     ∷ []
 
+unfoldable pub message_refusal : Invoice → Option ContentError
+message_refusal b = first_refusal (message_checks b)
+
+-- a reference that is to be a QR reference, and is none: 27 digits, of which the last is the check digit
+abbrev pub qr_checks : Invoice → List (Option ContentError)
+qr_checks b =
+    refused_if (is_qr_reference b.reference && not (list_all is_digit b.reference)) Reference Character
+    ∷ refused_if (is_qr_reference b.reference && nat_lt (length (chars b.reference)) 27) Reference TooShort
+    ∷ refused_if (nat_lt 27 (length (chars b.reference))) Reference TooLong
+    ∷ refused_if (is_qr_reference b.reference && not (carry_of b.reference == 0)) Reference CheckDigits
+    ∷ []
+
+unfoldable pub qr_refusal : Invoice → Option ContentError
+qr_refusal b = first_refusal (qr_checks b)
+
+-- a reference that is to be one of ISO 11649, and is none
+abbrev pub creditor_checks : Invoice → List (Option ContentError)
+creditor_checks b =
+    refused_if (is_creditor_reference b.reference && nat_lt (length (chars b.reference)) 5) Reference TooShort
+    ∷ refused_if (is_creditor_reference b.reference && nat_lt 25 (length (chars b.reference))) Reference TooLong
+    ∷ refused_if (is_creditor_reference b.reference && not (has_form b.reference)) Reference Character
+    ∷ refused_if (is_creditor_reference b.reference && not (is_checked b.reference)) Reference CheckDigits
+    ∷ []
+
+unfoldable pub creditor_refusal : Invoice → Option ContentError
+creditor_refusal b = first_refusal (creditor_checks b)
+
+-- a reference that does not belong to the account
+abbrev pub belonging_checks : Invoice → List (Option ContentError)
+belonging_checks b =
+    refused_if (is_qr_account b.iban && not (is_qr_reference b.reference)) Reference Unused
+    ∷ refused_if (not (is_qr_account b.iban) && is_qr_reference b.reference) Reference Unused
+    ∷ []
+
+unfoldable pub belonging_refusal : Invoice → Option ContentError
+belonging_refusal b = first_refusal (belonging_checks b)
+
+-- what is wrong with a reference
 unfoldable pub reference_refusal : Invoice → Option ContentError
-reference_refusal b = first_refusal (reference_checks b)
+reference_refusal b = first_refusal (qr_refusal b ∷ creditor_refusal b ∷ belonging_refusal b ∷ [])
 
 -- what the text cannot say
 abbrev pub bill_checks : Invoice → List (Option ContentError)
 bill_checks b =
-    account_refusal b ∷ text_refusal b.creditor ∷ form_refusal b.creditor ∷ debtor_refusal b.debtor ∷ reference_refusal b ∷ []
+    account_refusal b ∷ text_refusal b.creditor ∷ named_refusal b.creditor ∷ debtor_refusal b.debtor ∷ message_refusal b
+    ∷ reference_refusal b ∷ []
 
 unfoldable pub bill_refusal : Invoice → Option ContentError
 bill_refusal b = first_refusal (bill_checks b)

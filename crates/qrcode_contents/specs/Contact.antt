@@ -1,13 +1,15 @@
 -- Texts of contacts as MECARD: entries, of which a name and an address have parts.
-use Rattle.std.specs.Prelude.{ℕ, ◌==◌, ◌&&◌, not, List, [], ◌∷◌, ◌++◌, length, Option, flat_map, codes}
+use Rattle.std.specs.Prelude.{◌≡◌, ℕ, nat_lt, ◌&&◌, not, List, [], ◌∷◌, ◌++◌, length, Option, Some, flat_map, codes, refl}
 use Rattle.std.specs.List.{list_all}
+use Rattle.std.specs.Str.{chars}
 use Rattle.std.specs.Option.{option_map}
 use Rattle.qrcode_contents.specs.declared.contact.Contact.{Contact}
 use Rattle.qrcode_fields.specs.declared.errors.ContentError.{ContentError}
 use Rattle.qrcode_fields.specs.declared.errors.Field.TheVariants.{Name, Given, Phone, Email, Url, Birthday, Note, Street, City, Region, PostalCode, Country}
-use Rattle.qrcode_fields.specs.declared.errors.Cause.TheVariants.{Empty, Character}
+use Rattle.qrcode_fields.specs.declared.errors.Cause.TheVariants.{Empty, TooShort, TooLong, Character}
 use Rattle.qrcode_fields.specs.Characters.{is_digit, control_refusal}
-use Rattle.qrcode_fields.specs.Entries.{Entry, single, is_empty, is_filled, marked_text, read_entries, value_of, part_of}
+use Rattle.qrcode_fields.specs.Entries.{Entry, single, is_empty, is_filled, marked_text, key_of, behind_key, read_entry, read_entries, value_of, part_of}
+use Rattle.qrcode_fields.specs.Escapes.{unescaped_from, pieces_from}
 use Rattle.qrcode_fields.specs.Refusals.{refused_if, first_refusal}
 
 -- a contact as its text says it
@@ -52,8 +54,9 @@ person_controls p = control_refusal (
 unfoldable pub person_checks : Person → Option ContentError
 person_checks p = first_refusal (
     refused_if (is_empty p.family) Name Empty
-    ∷ refused_if (is_filled p.birthday && not (length p.birthday == 8)) Birthday Character
     ∷ refused_if (not (list_all is_digit p.birthday)) Birthday Character
+    ∷ refused_if (is_filled p.birthday && nat_lt (length (chars p.birthday)) 8) Birthday TooShort
+    ∷ refused_if (nat_lt 8 (length (chars p.birthday))) Birthday TooLong
     ∷ [])
 
 -- what the text cannot say
@@ -91,3 +94,22 @@ contact_from entries = record {
 -- the contact that a text says
 unfoldable pub read_mecard : List ℕ → Option Person
 read_mecard text = option_map contact_from (read_entries (codes "MECARD:") text)
+
+-- the example that the page "Barcode Contents" of the ZXing project prints; its address has four parts, which are read in the order of MECARD's
+printed_row : read_mecard (codes "MECARD:N:Owen,Sean;ADR:76 9th Avenue, 4th Floor, New York, NY 10011;TEL:12125551212;EMAIL:srowen@example.com;;")
+    ≡ Some (let p : Person = record {
+      family = codes "Owen";
+      given = codes "Sean";
+      phone = codes "12125551212";
+      email = codes "srowen@example.com";
+      url = [];
+      birthday = [];
+      note = [];
+      street = codes " New York";
+      city = codes " NY 10011";
+      region = [];
+      code = [];
+      country = [];
+    } in p)
+unfolding read_mecard read_entries read_entry key_of behind_key pieces_from unescaped_from
+printed_row = refl

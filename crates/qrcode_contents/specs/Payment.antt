@@ -5,13 +5,13 @@ use Rattle.std.specs.List.{list_all, starts_with}
 use Rattle.std.specs.Option.{option_map, option_and_then}
 use Rattle.qrcode_fields.specs.declared.errors.ContentError.{ContentError}
 use Rattle.qrcode_fields.specs.declared.errors.Field.TheVariants.{Bic, Name, Iban, Amount, Purpose, Reference, Message, Information, Whole}
-use Rattle.qrcode_fields.specs.declared.errors.Cause.TheVariants.{Empty, TooLong, Character, CheckDigits, Range, Unused}
+use Rattle.qrcode_fields.specs.declared.errors.Cause.TheVariants.{Empty, TooLong, TooShort, Character, CheckDigits, Range, Unused}
 use Rattle.qrcode_contents.specs.Accounts.{has_form, is_checked}
 use Rattle.qrcode_contents.specs.declared.payment.PaymentVersion.{PaymentVersion}
 use Rattle.qrcode_contents.specs.declared.payment.PaymentVersion.TheVariants.{One, Two}
 use Rattle.qrcode_contents.specs.declared.payment.Payment.{Payment}
 use Rattle.qrcode_fields.specs.Amounts.{amount_text, read_amount}
-use Rattle.qrcode_fields.specs.Characters.{is_capital, control_refusal}
+use Rattle.qrcode_fields.specs.Characters.{is_capital_or_digit, control_refusal}
 use Rattle.qrcode_fields.specs.Entries.{is_empty, is_filled, behind}
 use Rattle.qrcode_fields.specs.Lines.{lines_text, read_lines, line_at}
 use Rattle.qrcode_fields.specs.Refusals.{refused_if, first_refusal}
@@ -53,15 +53,11 @@ needs_bic Two = false
 
 -- a bank's identifier of ISO 9362
 abbrev pub is_bic : List ℕ → Bool
-is_bic text = (length text == 8 || length text == 11) && list_all is_capital text
-
--- the form of an account number of ISO 13616, which begins with its country
-abbrev pub is_account : List ℕ → Bool
-is_account text = has_form 34 text
+is_bic text = (length text == 8 || length text == 11) && list_all is_capital_or_digit text
 
 -- the form of a creditor's reference of ISO 11649
 abbrev pub is_reference : List ℕ → Bool
-is_reference text = has_form 25 text && starts_with (λ a b. a == b) text (codes "RF")
+is_reference text = has_form text && starts_with (λ a b. a == b) text (codes "RF")
 
 -- line breaks and other control characters
 unfoldable pub control_checks : Transfer → Option ContentError
@@ -73,24 +69,36 @@ control_checks t = control_refusal (
 unfoldable pub bank_checks : Transfer → Option ContentError
 bank_checks t = first_refusal (
     refused_if (needs_bic t.version && is_empty t.bic) Bic Empty
+    ∷ refused_if (is_filled t.bic && nat_lt (length (chars t.bic)) 8) Bic TooShort
+    ∷ refused_if (nat_lt 11 (length (chars t.bic))) Bic TooLong
     ∷ refused_if (is_filled t.bic && not (is_bic t.bic)) Bic Character
     ∷ [])
 
--- what is no account, and an amount out of range
+-- what is no account
 unfoldable pub account_checks : Transfer → Option ContentError
 account_checks t = first_refusal (
-    refused_if (not (is_account t.iban)) Iban Character
+    refused_if (is_empty t.iban) Iban Empty
+    ∷ refused_if (nat_lt (length (chars t.iban)) 5) Iban TooShort
+    ∷ refused_if (nat_lt 34 (length (chars t.iban))) Iban TooLong
+    ∷ refused_if (not (has_form t.iban)) Iban Character
     ∷ refused_if (not (is_checked t.iban)) Iban CheckDigits
-    ∷ refused_if (nat_lt t.cents 1 || nat_lt 99999999999 t.cents) Amount Range
     ∷ [])
 
--- what is too long, and a wrong reference
+-- an amount out of range, and a name or a purpose that is wrong
+unfoldable pub name_checks : Transfer → Option ContentError
+name_checks t = first_refusal (
+    refused_if (nat_lt t.cents 1 || nat_lt 99999999999 t.cents) Amount Range
+    ∷ refused_if (is_empty t.name) Name Empty
+    ∷ refused_if (nat_lt 70 (length (chars t.name))) Name TooLong
+    ∷ refused_if (nat_lt 4 (length (chars t.purpose))) Purpose TooLong
+    ∷ refused_if (not (list_all is_capital_or_digit t.purpose)) Purpose Character
+    ∷ [])
+
+-- a wrong reference, one beside a message, and what is too long
 unfoldable pub message_checks : Transfer → Option ContentError
 message_checks t = first_refusal (
-    refused_if (is_empty t.name) Name Empty
-    ∷ refused_if (nat_lt 70 (length (chars t.name))) Name TooLong
-    ∷ refused_if (nat_lt 4 (length t.purpose)) Purpose TooLong
-    ∷ refused_if (not (list_all is_capital t.purpose)) Purpose Character
+    refused_if (is_filled t.reference && nat_lt (length (chars t.reference)) 5) Reference TooShort
+    ∷ refused_if (nat_lt 25 (length (chars t.reference))) Reference TooLong
     ∷ refused_if (is_filled t.reference && not (is_reference t.reference)) Reference Character
     ∷ refused_if (is_filled t.reference && not (is_checked t.reference)) Reference CheckDigits
     ∷ refused_if (is_filled t.reference && is_filled t.message) Message Unused
@@ -122,7 +130,8 @@ payment_text t = lines_text (payment_lines t)
 
 -- what the fields refuse
 unfoldable pub field_checks : Transfer → Option ContentError
-field_checks t = first_refusal (control_checks t ∷ bank_checks t ∷ account_checks t ∷ message_checks t ∷ [])
+field_checks t =
+    first_refusal (control_checks t ∷ bank_checks t ∷ account_checks t ∷ name_checks t ∷ message_checks t ∷ [])
 
 -- what the text cannot say: what the fields refuse, and a text of more than 331 bytes
 abbrev pub payment_refusal : Transfer → Option ContentError

@@ -2,38 +2,23 @@
 //! check digits, and what is checked.
 
 ghost use Rattle.std.specs.Prelude.{◌≡◌, ◌<◌, length};
-ghost use Rattle.std.specs.List.{list_all};
-ghost use Rattle.qrcode_fields.specs.Characters.{is_digit};
-ghost use Rattle.qrcode_contents.specs.Accounts.{is_letter, has_form, check_number, is_checked};
+ghost use Rattle.qrcode_contents.specs.Accounts.{has_form, check_number, is_checked};
 
-use qrcode_fields::characters::are_capitals;
+use qrcode_fields::characters::{are_capitals, are_capitals_or_digits, are_digits};
 use qrcode_fields::numbers::has_check_digits;
 
-/// Whether all bytes are letters A to Z.
-pub fn are_letters(bytes: &[u8]) -> bool
-    ensures { result ≡ list_all is_letter bytes.now }
-{
-    bytes.iter().all(|byte| byte.is_ascii_uppercase())
-}
+/// The fewest characters of either: one behind the check digits.
+pub const LEAST: usize = 5;
 
-/// Whether all bytes are digits.
-pub fn are_figures(bytes: &[u8]) -> bool
-    ensures { result ≡ list_all is_digit bytes.now }
-{
-    bytes.iter().all(|byte| byte.is_ascii_digit())
-}
-
-/// Whether a text has the form of both: two letters, two digits, and letters and digits, of which
-/// there is one at least; `most` characters at most.
-pub fn has_form(text: &str, most: usize) -> bool
-    ensures { result ≡ has_form most text.now }
+/// Whether a text has the form of both: two letters, two digits, and letters and digits.
+pub fn has_form(text: &str) -> bool
+    ensures { result ≡ has_form text.now }
 {
     let bytes = text.as_bytes();
-    bytes.len() >= 5
-        && bytes.len() <= most
-        && are_letters(&bytes[..2])
-        && are_figures(&bytes[2..4])
-        && are_capitals(text)
+    bytes.len() > 3
+        && are_capitals(&bytes[..2])
+        && are_digits(&bytes[2..4])
+        && are_capitals_or_digits(text)
 }
 
 // The number of the two check digits.

@@ -1,22 +1,20 @@
 //! The text of a Swiss QR bill.
 
-ghost use Rattle.std.specs.Prelude.{◌≡◌, ◌++◌, ◌∷◌, ◌==◌, ◌&&◌, length, Option, Some, [], IfOk, OnOk, IsOkUnless, string_bytes};
-ghost use Rattle.std.specs.List.{list_all};
+ghost use Rattle.std.specs.Prelude.{◌≡◌, ◌++◌, ◌∷◌, Option, Some, [], IfOk, OnOk, IsOkUnless, string_bytes};
 ghost use Rattle.std.specs.Option.{option_map};
 ghost use Rattle.qrcode_fields.specs.declared.errors.ContentError.{ContentError};
 ghost use Rattle.qrcode_fields.specs.declared.errors.ContentError.TheVariants.{OutOfMemory};
-ghost use Rattle.qrcode_contents.specs.Bill.{addressee_of, invoice_of, is_latin, foreign_count, is_unsaid, is_country, is_account, is_qr_account, is_creditor_reference, is_qr_reference, reference_kind, text_refusal, form_refusal, is_nobody, of_debtor, debtor_refusal, is_out_of_range, account_refusal, reference_refusal, bill_refusal, currency_name, address_kind, address_lines, amount_line, end_lines, bill_text, read_bill};
-ghost use Rattle.qrcode_fields.specs.Characters.{is_digit};
+ghost use Rattle.qrcode_contents.specs.Bill.{addressee_of, invoice_of, is_latin, foreign_count, is_unsaid, is_country, is_account, is_qr_account, is_creditor_reference, is_qr_reference, reference_kind, text_refusal, length_refusal, form_refusal, named_refusal, is_nobody, party_refusal, debtor_field, of_debtor, debtor_refusal, is_out_of_range, account_refusal, message_refusal, qr_refusal, creditor_refusal, belonging_refusal, reference_refusal, bill_refusal, currency_name, address_kind, address_lines, amount_line, end_lines, bill_text, read_bill};
 ghost use Rattle.qrcode_fields.specs.Lines.{later_text};
 ghost use Rattle.qrcode_fields.specs.Refusals.{Answers, checked};
 
-use crate::accounts::{are_figures, are_letters, has_form, is_checked};
+use crate::accounts::{self, has_form, is_checked};
 use qrcode_fields::amounts::push_amount;
-use qrcode_fields::characters::{are_digits, has_control};
+use qrcode_fields::characters::{are_capitals, are_digits, character_count, has_control};
 use qrcode_fields::errors::{Cause, ContentError, ContentResult, Field};
 use qrcode_fields::lines::push_lines;
 use qrcode_fields::numbers::carry_of;
-use qrcode_fields::refusals::{refuse_first, too_long};
+use qrcode_fields::refusals::{refuse_first, too_long, too_short};
 use qrcode_types::types::{EcLevel, Version};
 use std::alloc::Global;
 
@@ -112,7 +110,7 @@ fn is_unsaid(text: &str) -> bool
 fn is_country(text: &str) -> bool
     ensures { result ≡ is_country text.now }
 {
-    text.len() == 2 && are_letters(text.as_bytes())
+    text.len() == 2 && are_capitals(text.as_bytes())
 }
 
 // Whether it has the form of an account of Switzerland or Liechtenstein.
@@ -121,9 +119,9 @@ fn is_an_account(text: &str) -> bool
 {
     let bytes = text.as_bytes();
     bytes.len() == 21
-        && has_form(text, 21)
+        && has_form(text)
         && (bytes.starts_with(b"CH") || bytes.starts_with(b"LI"))
-        && are_figures(&bytes[4..9])
+        && are_digits(&bytes[4..9])
 }
 
 // Whether QR references belong to the account.
@@ -148,13 +146,6 @@ fn is_qr_reference(text: &str) -> bool
     !text.is_empty() && !is_creditor_reference(text)
 }
 
-// Whether it has the characters of a QR reference.
-fn has_qr_form(text: &str) -> bool
-    ensures { result ≡ (length text.now == 27 && list_all is_digit text.now) }
-{
-    text.len() == 27 && are_digits(text)
-}
-
 // The line of the reference's kind.
 fn kind_of(reference: &str) -> &'static str
     ensures { result.now ≡ reference_kind reference.now }
@@ -175,13 +166,30 @@ fn is_out_of_range(cents: Option<u64>) -> bool
     cents.is_some_and(|cents| cents < 1 || cents > 99_999_999_999)
 }
 
-// Refuses fields of somebody else for the debtor.
+// The debtor's field that this one of an address is.
+fn debtor_field(field: Field) -> Field
+    ensures { result ≡ debtor_field field }
+{
+    match field {
+        Field::Name => Field::DebtorName,
+        Field::Street => Field::DebtorStreet,
+        Field::Number => Field::DebtorNumber,
+        Field::PostalCode => Field::DebtorPostalCode,
+        Field::City => Field::DebtorCity,
+        Field::Country => Field::DebtorCountry,
+        other => other,
+    }
+}
+
+// Refuses the debtor's fields where those of an address are refused.
 fn of_debtor(answer: ContentResult<()>) -> ContentResult<()>
     ensures { (refusal : Option ContentError) → answer ≡ checked refusal
         → result ≡ checked (option_map of_debtor refusal) }
 {
     match answer {
-        Err(ContentError::Refused(_, cause)) => Err(ContentError::Refused(Field::Debtor, cause)),
+        Err(ContentError::Refused(field, cause)) => {
+            Err(ContentError::Refused(debtor_field(field), cause))
+        }
         other => other,
     }
 }
@@ -202,7 +210,21 @@ impl Party<'_> {
         ])
     }
 
-    // Refuses what is missing or too long.
+    // Refuses what is too long.
+    #[tactic(auto, unfolding(crate::specs::Bill::length_refusal))]
+    fn check_lengths(&self) -> ContentResult<()>
+        ensures { result ≡ checked (length_refusal (addressee_of self.now)) }
+    {
+        refuse_first(&[
+            too_long(Field::Name, self.name, 70),
+            too_long(Field::Street, self.street, 70),
+            too_long(Field::Number, self.number, 16),
+            too_long(Field::PostalCode, self.code, 16),
+            too_long(Field::City, self.city, 35),
+        ])
+    }
+
+    // Refuses what is missing, and what is no country.
     #[tactic(auto, unfolding(crate::specs::Bill::form_refusal))]
     fn check_form(&self) -> ContentResult<()>
         ensures { result ≡ checked (form_refusal (addressee_of self.now)) }
@@ -211,13 +233,20 @@ impl Party<'_> {
             (self.name.is_empty(), Field::Name, Cause::Empty),
             (self.code.is_empty(), Field::PostalCode, Cause::Empty),
             (self.city.is_empty(), Field::City, Cause::Empty),
-            too_long(Field::Name, self.name, 70),
-            too_long(Field::Street, self.street, 70),
-            too_long(Field::Number, self.number, 16),
-            too_long(Field::PostalCode, self.code, 16),
-            too_long(Field::City, self.city, 35),
+            (self.country.is_empty(), Field::Country, Cause::Empty),
+            too_short(Field::Country, self.country, 2),
+            too_long(Field::Country, self.country, 2),
             (!is_country(self.country), Field::Country, Cause::Character),
         ])
+    }
+
+    // Refuses what cannot be said of somebody who is named.
+    #[tactic(auto, unfolding(crate::specs::Bill::named_refusal))]
+    fn check_named(&self) -> ContentResult<()>
+        ensures { result ≡ checked (named_refusal (addressee_of self.now)) }
+    {
+        self.check_form()?;
+        self.check_lengths()
     }
 
     // Whether nobody is named.
@@ -232,16 +261,23 @@ impl Party<'_> {
             && self.country.is_empty()
     }
 
-    // Refuses what cannot be said of a debtor.
-    #[tactic(auto, unfolding(crate::specs::Bill::debtor_refusal))]
-    fn check_debtor(&self) -> ContentResult<()>
-        ensures { result ≡ checked (debtor_refusal (addressee_of self.now)) }
+    // Refuses what cannot be said of somebody, or of nobody.
+    #[tactic(auto, unfolding(crate::specs::Bill::party_refusal))]
+    fn check_party(&self) -> ContentResult<()>
+        ensures { result ≡ checked (party_refusal (addressee_of self.now)) }
     {
-        of_debtor(self.check_texts())?;
+        self.check_texts()?;
         if self.is_nobody() {
             return Ok(());
         }
-        of_debtor(self.check_form())
+        self.check_named()
+    }
+
+    // Refuses what cannot be said of a debtor.
+    fn check_debtor(&self) -> ContentResult<()>
+        ensures { result ≡ checked (debtor_refusal (addressee_of self.now)) }
+    {
+        of_debtor(self.check_party())
     }
 
     // The line of the address's kind.
@@ -272,55 +308,90 @@ impl Bill<'_> {
         ensures { result ≡ checked (account_refusal (invoice_of self.now)) }
     {
         refuse_first(&[
-            (
-                is_unsaid(self.iban) | !is_an_account(self.iban),
-                Field::Iban,
-                Cause::Character,
-            ),
+            (is_unsaid(self.iban), Field::Iban, Cause::Character),
+            (self.iban.is_empty(), Field::Iban, Cause::Empty),
+            too_short(Field::Iban, self.iban, 21),
+            too_long(Field::Iban, self.iban, 21),
+            (!is_an_account(self.iban), Field::Iban, Cause::Character),
             (!is_checked(self.iban), Field::Iban, Cause::CheckDigits),
             (is_out_of_range(self.cents), Field::Amount, Cause::Range),
         ])
     }
 
-    // Refuses a wrong reference, one that does not belong to the account, and a long message.
+    // Refuses what no line says, and a long message.
+    #[tactic(auto, unfolding(crate::specs::Bill::message_refusal))]
+    fn check_message(&self) -> ContentResult<()>
+        ensures { result ≡ checked (message_refusal (invoice_of self.now)) }
+    {
+        let wrong_reference = is_unsaid(self.reference);
+        refuse_first(&[
+            (wrong_reference, Field::Reference, Cause::Character),
+            (is_unsaid(self.message), Field::Message, Cause::Character),
+            too_long(Field::Message, self.message, 140),
+        ])
+    }
+
+    // Refuses what is to be a QR reference, and is none.
+    #[tactic(auto, unfolding(crate::specs::Bill::qr_refusal))]
+    fn check_qr(&self) -> ContentResult<()>
+        ensures { result ≡ checked (qr_refusal (invoice_of self.now)) }
+    {
+        let bytes = self.reference.as_bytes();
+        let qr = is_qr_reference(self.reference);
+        let short = character_count(self.reference) < 27;
+        refuse_first(&[
+            (qr & !are_digits(bytes), Field::Reference, Cause::Character),
+            (qr & short, Field::Reference, Cause::TooShort),
+            too_long(Field::Reference, self.reference, 27),
+            (
+                qr & (carry_of(bytes) != 0),
+                Field::Reference,
+                Cause::CheckDigits,
+            ),
+        ])
+    }
+
+    // Refuses what is to be a reference of ISO 11649, and is none.
+    #[tactic(auto, unfolding(crate::specs::Bill::creditor_refusal))]
+    fn check_creditor(&self) -> ContentResult<()>
+        ensures { result ≡ checked (creditor_refusal (invoice_of self.now)) }
+    {
+        let creditor = is_creditor_reference(self.reference);
+        let count = character_count(self.reference);
+        let (formed, checked) = (has_form(self.reference), is_checked(self.reference));
+        refuse_first(&[
+            (
+                creditor & (count < accounts::LEAST),
+                Field::Reference,
+                Cause::TooShort,
+            ),
+            (creditor & (count > 25), Field::Reference, Cause::TooLong),
+            (creditor & !formed, Field::Reference, Cause::Character),
+            (creditor & !checked, Field::Reference, Cause::CheckDigits),
+        ])
+    }
+
+    // Refuses a reference that does not belong to the account.
+    #[tactic(auto, unfolding(crate::specs::Bill::belonging_refusal))]
+    fn check_belonging(&self) -> ContentResult<()>
+        ensures { result ≡ checked (belonging_refusal (invoice_of self.now)) }
+    {
+        let qr = is_qr_reference(self.reference);
+        let of_qr = is_qr_account(self.iban);
+        refuse_first(&[
+            (of_qr & !qr, Field::Reference, Cause::Unused),
+            (!of_qr & qr, Field::Reference, Cause::Unused),
+        ])
+    }
+
+    // Refuses a wrong reference.
     #[tactic(auto, unfolding(crate::specs::Bill::reference_refusal))]
     fn check_reference(&self) -> ContentResult<()>
         ensures { result ≡ checked (reference_refusal (invoice_of self.now)) }
     {
-        let qr = is_qr_reference(self.reference);
-        let creditor = is_creditor_reference(self.reference);
-        let of_qr = is_qr_account(self.iban);
-        refuse_first(&[
-            (
-                is_unsaid(self.reference),
-                Field::Reference,
-                Cause::Character,
-            ),
-            (is_unsaid(self.message), Field::Message, Cause::Character),
-            (
-                qr & !has_qr_form(self.reference),
-                Field::Reference,
-                Cause::Character,
-            ),
-            (
-                qr & (carry_of(self.reference.as_bytes()) != 0),
-                Field::Reference,
-                Cause::CheckDigits,
-            ),
-            (
-                creditor & !has_form(self.reference, 25),
-                Field::Reference,
-                Cause::Character,
-            ),
-            (
-                creditor & !is_checked(self.reference),
-                Field::Reference,
-                Cause::CheckDigits,
-            ),
-            (of_qr & !qr, Field::Reference, Cause::Unused),
-            (!of_qr & qr, Field::Reference, Cause::Unused),
-            too_long(Field::Message, self.message, 140),
-        ])
+        self.check_qr()?;
+        self.check_creditor()?;
+        self.check_belonging()
     }
 
     // Refuses what the text cannot say.
@@ -330,8 +401,9 @@ impl Bill<'_> {
     {
         self.check_account()?;
         self.creditor.check_texts()?;
-        self.creditor.check_form()?;
+        self.creditor.check_named()?;
         self.debtor.check_debtor()?;
+        self.check_message()?;
         self.check_reference()
     }
 
@@ -379,8 +451,8 @@ impl Bill<'_> {
 
     /// The text of the bill. Its symbol has the level [`LEVEL`] and a version up to [`LARGEST`].
     ///
-    /// An error names the field and why the text cannot say it, or is `OutOfMemory`. Of the debtor
-    /// it names only that it is the debtor.
+    /// An error names the field and why the text cannot say it, or is `OutOfMemory`. A field of the
+    /// debtor has a name of its own, as `DebtorCity`.
     pub fn text(&self, alloc: Global) -> ContentResult<String>
         ensures reads { Answers (bill_refusal (invoice_of self.now)) result
             (λ text. read_bill text ≡ Some (invoice_of self.now)) }

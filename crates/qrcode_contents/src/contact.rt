@@ -5,10 +5,10 @@ ghost use Rattle.qrcode_fields.specs.declared.errors.ContentError.TheVariants.{O
 ghost use Rattle.qrcode_contents.specs.Contact.{person_of, person_controls, person_checks, contact_refusal, mecard_text, read_mecard};
 ghost use Rattle.qrcode_fields.specs.Refusals.{Answers, checked};
 
-use qrcode_fields::characters::are_digits;
+use qrcode_fields::characters::{are_digits, character_count};
 use qrcode_fields::entries::{push_entry, push_texts};
 use qrcode_fields::errors::{Cause, ContentResult, Field};
-use qrcode_fields::refusals::{controls, refuse_first};
+use qrcode_fields::refusals::{controls, refuse_first, too_long};
 use std::alloc::Global;
 
 /// A contact. What is empty is left out.
@@ -66,19 +66,13 @@ impl Contact<'_> {
     fn check_forms(&self) -> ContentResult<()>
         ensures { result ≡ checked (person_checks (person_of self.now)) }
     {
-        let born = !self.birthday.is_empty();
+        let wrong = !are_digits(self.birthday.as_bytes());
+        let short = !self.birthday.is_empty() & (character_count(self.birthday) < 8);
         refuse_first(&[
             (self.family.is_empty(), Field::Name, Cause::Empty),
-            (
-                born & (self.birthday.len() != 8),
-                Field::Birthday,
-                Cause::Character,
-            ),
-            (
-                !are_digits(self.birthday),
-                Field::Birthday,
-                Cause::Character,
-            ),
+            (wrong, Field::Birthday, Cause::Character),
+            (short, Field::Birthday, Cause::TooShort),
+            too_long(Field::Birthday, self.birthday, 8),
         ])
     }
 

@@ -7,6 +7,7 @@ pub mod bill;
 pub mod card;
 pub mod contact;
 pub mod geo;
+pub mod laws;
 pub mod mail;
 pub mod one_time;
 pub mod payment;

@@ -6,14 +6,14 @@ ghost use Rattle.qrcode_fields.specs.declared.errors.Field.TheVariants.{Whole};
 ghost use Rattle.qrcode_fields.specs.declared.errors.Cause.TheVariants.{TooLong};
 ghost use Rattle.qrcode_fields.specs.Lines.{later_text};
 ghost use Rattle.qrcode_fields.specs.Refusals.{Answers, checked};
-ghost use Rattle.qrcode_contents.specs.Payment.{payment_fields, control_checks, needs_bic, bank_checks, account_checks, message_checks, field_checks, payment_refusal, payment_text, later_count, later_lines, read_payment, version_name, is_bic, is_account, is_reference};
+ghost use Rattle.qrcode_contents.specs.Payment.{payment_fields, control_checks, needs_bic, bank_checks, account_checks, name_checks, message_checks, field_checks, payment_refusal, payment_text, later_count, later_lines, read_payment, version_name, is_bic, is_reference};
 
-use crate::accounts::{has_form, is_checked};
+use crate::accounts::{self, has_form, is_checked};
 use qrcode_fields::amounts::push_amount;
-use qrcode_fields::characters::are_capitals;
+use qrcode_fields::characters::{are_capitals_or_digits, character_count};
 use qrcode_fields::errors::{Cause, ContentError, ContentResult, Field};
 use qrcode_fields::lines::push_lines;
-use qrcode_fields::refusals::{controls, refuse_first, too_long};
+use qrcode_fields::refusals::{controls, refuse_first, too_long, too_short};
 use qrcode_types::types::{EcLevel, Version};
 use std::alloc::Global;
 
@@ -84,21 +84,14 @@ pub struct Payment<'a> {
 fn is_a_bic(text: &str) -> bool
     ensures { result ≡ is_bic text.now }
 {
-    (text.len() == 8 || text.len() == 11) && are_capitals(text)
-}
-
-// Whether it has the form of an IBAN.
-fn is_an_account(text: &str) -> bool
-    ensures { result ≡ is_account text.now }
-{
-    has_form(text, 34)
+    (text.len() == 8 || text.len() == 11) && are_capitals_or_digits(text)
 }
 
 // Whether it has the form of a reference of ISO 11649.
 fn is_a_reference(text: &str) -> bool
     ensures { result ≡ is_reference text.now }
 {
-    has_form(text, 25) && text.as_bytes().starts_with(b"RF")
+    has_form(text) && text.as_bytes().starts_with(b"RF")
 }
 
 // Refuses a text of more than 331 bytes.
@@ -135,59 +128,62 @@ impl Payment<'_> {
         ensures { result ≡ checked (bank_checks (payment_fields self.now)) }
     {
         let needed = self.version.needs_bic();
+        let given = !self.bic.is_empty();
+        let short = character_count(self.bic) < 8;
         refuse_first(&[
             (needed & self.bic.is_empty(), Field::Bic, Cause::Empty),
-            (
-                !self.bic.is_empty() & !is_a_bic(self.bic),
-                Field::Bic,
-                Cause::Character,
-            ),
+            (given & short, Field::Bic, Cause::TooShort),
+            too_long(Field::Bic, self.bic, 11),
+            (given & !is_a_bic(self.bic), Field::Bic, Cause::Character),
         ])
     }
 
-    // Refuses what is no account, and an amount that is out of range.
+    // Refuses what is no account.
     #[tactic(auto, unfolding(crate::specs::Payment::account_checks))]
     fn check_account(&self) -> ContentResult<()>
         ensures { result ≡ checked (account_checks (payment_fields self.now)) }
     {
         refuse_first(&[
-            (!is_an_account(self.iban), Field::Iban, Cause::Character),
+            (self.iban.is_empty(), Field::Iban, Cause::Empty),
+            too_short(Field::Iban, self.iban, accounts::LEAST),
+            too_long(Field::Iban, self.iban, 34),
+            (!has_form(self.iban), Field::Iban, Cause::Character),
             (!is_checked(self.iban), Field::Iban, Cause::CheckDigits),
-            (
-                (self.cents < 1) | (self.cents > 99_999_999_999),
-                Field::Amount,
-                Cause::Range,
-            ),
         ])
     }
 
-    // Refuses names and messages that are too long, and a wrong reference.
+    // Refuses an amount that is out of range, and a name or a purpose that is wrong.
+    #[tactic(auto, unfolding(crate::specs::Payment::name_checks))]
+    fn check_name(&self) -> ContentResult<()>
+        ensures { result ≡ checked (name_checks (payment_fields self.now)) }
+    {
+        let outside = (self.cents < 1) | (self.cents > 99_999_999_999);
+        let wrong_purpose = !are_capitals_or_digits(self.purpose);
+        refuse_first(&[
+            (outside, Field::Amount, Cause::Range),
+            (self.name.is_empty(), Field::Name, Cause::Empty),
+            too_long(Field::Name, self.name, 70),
+            too_long(Field::Purpose, self.purpose, 4),
+            (wrong_purpose, Field::Purpose, Cause::Character),
+        ])
+    }
+
+    // Refuses a wrong reference, one beside a message, and what is too long.
     #[tactic(auto, unfolding(crate::specs::Payment::message_checks))]
     fn check_messages(&self) -> ContentResult<()>
         ensures { result ≡ checked (message_checks (payment_fields self.now)) }
     {
         let referenced = !self.reference.is_empty();
+        let short = character_count(self.reference) < accounts::LEAST;
+        let formed = is_a_reference(self.reference);
         let checked = is_checked(self.reference);
+        let beside = referenced & !self.message.is_empty();
         refuse_first(&[
-            (self.name.is_empty(), Field::Name, Cause::Empty),
-            too_long(Field::Name, self.name, 70),
-            (self.purpose.len() > 4, Field::Purpose, Cause::TooLong),
-            (
-                !are_capitals(self.purpose),
-                Field::Purpose,
-                Cause::Character,
-            ),
-            (
-                referenced & !is_a_reference(self.reference),
-                Field::Reference,
-                Cause::Character,
-            ),
+            (referenced & short, Field::Reference, Cause::TooShort),
+            too_long(Field::Reference, self.reference, 25),
+            (referenced & !formed, Field::Reference, Cause::Character),
             (referenced & !checked, Field::Reference, Cause::CheckDigits),
-            (
-                referenced & !self.message.is_empty(),
-                Field::Message,
-                Cause::Unused,
-            ),
+            (beside, Field::Message, Cause::Unused),
             too_long(Field::Message, self.message, 140),
             too_long(Field::Information, self.information, 70),
         ])
@@ -201,6 +197,7 @@ impl Payment<'_> {
         self.check_controls()?;
         self.check_bank()?;
         self.check_account()?;
+        self.check_name()?;
         self.check_messages()
     }
 

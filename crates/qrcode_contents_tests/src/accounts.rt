@@ -3,7 +3,9 @@
 
 use crate::values::{self, DEBTOR};
 use qrcode_contents::bill::Bill;
-use qrcode_contents::errors::Cause::{self, Character, CheckDigits, Empty, Unused};
+use qrcode_contents::errors::Cause::{
+    self, Character, CheckDigits, Empty, TooLong, TooShort, Unused,
+};
 use qrcode_contents::errors::{ContentError, ContentResult, Field};
 use qrcode_contents::phone::Phone;
 use qrcode_contents_uses::examples;
@@ -24,9 +26,9 @@ static ACCOUNTS: [Row; 23] = [
     ("BE98000000000081", None),
     ("BE059", None),
     ("BE72000000000000000000000000001616", None),
-    ("BE720000000000000000000000000001616", Some(Character)),
-    ("BE72", Some(Character)),
-    ("", Some(Character)),
+    ("BE720000000000000000000000000001616", Some(TooLong)),
+    ("BE72", Some(TooShort)),
+    ("", Some(Empty)),
     ("00010", Some(Character)),
     ("1E10000000001616", Some(Character)),
     ("B119000000001616", Some(Character)),
@@ -41,7 +43,7 @@ static ACCOUNTS: [Row; 23] = [
 
 // Accounts of bills: of Switzerland and Liechtenstein, then with a letter in the institution's
 // number, of another country, of another length, and with check digits that none has.
-static SWISS_ACCOUNTS: [Row; 15] = [
+static SWISS_ACCOUNTS: [Row; 16] = [
     ("CH9300762011623852957", None),
     ("LI21088100002324013AA", None),
     ("CH6300762A11623852957", None),
@@ -52,8 +54,9 @@ static SWISS_ACCOUNTS: [Row; 15] = [
     ("CH82007A2011623852957", Some(Character)),
     ("CH720076A011623852957", Some(Character)),
     ("DE9300762011623852957", Some(Character)),
-    ("CH800076201162385295", Some(Character)),
-    ("CH29007620116238529577", Some(Character)),
+    ("CH800076201162385295", Some(TooShort)),
+    ("CH29007620116238529577", Some(TooLong)),
+    ("", Some(Empty)),
     ("CH0000762000000000087", Some(CheckDigits)),
     ("CH0100762000000000069", Some(CheckDigits)),
     ("CH9900762000000000051", Some(CheckDigits)),
@@ -65,9 +68,9 @@ static REFERENCES: [Row; 12] = [
     ("RF712348231", None),
     ("RF040", None),
     ("RF22000000000000000001616", None),
-    ("RF220000000000000000001616", Some(Character)),
+    ("RF220000000000000000001616", Some(TooLong)),
     ("RFAB8", Some(Character)),
-    ("RF18", Some(Character)),
+    ("RF18", Some(TooShort)),
     ("RF18539007547034a", Some(Character)),
     ("RF19539007547034", Some(CheckDigits)),
     ("RF0072", Some(CheckDigits)),

@@ -1,9 +1,9 @@
 //! Texts of contents, and what they are refused for: printed examples of the formats.
 
-use crate::values::{self, DEBTOR, NOWHERE};
+use crate::values::{self, ABROAD, DEBTOR, NOWHERE};
 use qrcode_contents::bill::Party;
 use qrcode_contents::errors::Cause::{
-    self, Character, CheckDigits, ControlCharacter, Empty, Range, Unused,
+    self, Character, CheckDigits, ControlCharacter, Empty, Range, TooLong, TooShort, Unused,
 };
 use qrcode_contents::errors::{ContentError, ContentResult, Field};
 use qrcode_contents::geo::Place;
@@ -28,11 +28,13 @@ enum Content {
     Card(&'static str),
     /// A card with a note alone.
     Note(&'static str),
-    /// The given name.
-    Contact(&'static str),
+    /// The given name and the birthday.
+    Contact(&'static str, &'static str),
     Network(Wifi<'static>),
     /// Account and reference.
     Payment(&'static str, &'static str),
+    /// The bank's identifier of a payment.
+    Bank(&'static str),
     Call(&'static str),
     /// A number, to which something is sent.
     Message(&'static str, Option<&'static str>),
@@ -49,7 +51,7 @@ enum Content {
 type Row = (Content, Result<&'static str, (Field, Cause)>);
 
 #[rattlefmt::skip]
-static ROWS: [Row; 33] = [
+static ROWS: [Row; 44] = [
     // The Swiss Implementation Guidelines QR-bill, without what is told beside the message.
     (
         Content::Bill(DEBTOR, "210000000003139471430009017"),
@@ -61,7 +63,10 @@ static ROWS: [Row; 33] = [
     ),
     (Content::Bill(DEBTOR, "210000000003139471430009018"), Err((Field::Reference, CheckDigits))),
     (Content::Bill(DEBTOR, ""), Err((Field::Reference, Unused))),
-    (Content::Bill(NOWHERE, "210000000003139471430009017"), Err((Field::Debtor, Empty))),
+    (Content::Bill(DEBTOR, "21000000000313947143000901"), Err((Field::Reference, TooShort))),
+    (Content::Bill(DEBTOR, "2100000000031394714300090178"), Err((Field::Reference, TooLong))),
+    (Content::Bill(NOWHERE, "210000000003139471430009017"), Err((Field::DebtorCity, Empty))),
+    (Content::Bill(ABROAD, "210000000003139471430009017"), Err((Field::DebtorCountry, TooLong))),
     // An author's address in RFC 2426, in the lines that these fields have; a long line folded by hand.
     (
         Content::Card("http://home.earthlink.net/~fdawson"),
@@ -72,9 +77,17 @@ static ROWS: [Row; 33] = [
         Ok("BEGIN:VCARD\r\nVERSION:3.0\r\nN:A;;;;\r\nFN:A\r\nNOTE:0123456789012345678901234567890123456789012345678901234567890123456789\r\n \\, é\\nb\r\nEND:VCARD\r\n"),
     ),
     (Content::Card("http://home\n"), Err((Field::Url, ControlCharacter))),
-    // The form of a name with a comma that the page "Barcode Contents" of the ZXing project prints.
-    (Content::Contact("Sean"), Ok("MECARD:N:Owen,Sean;EMAIL:srowen@example.com;;")),
-    (Content::Contact("Sean\n"), Err((Field::Given, ControlCharacter))),
+    // The contact that the page "Barcode Contents" of the ZXing project prints, without its address, which has four
+    // parts there and not the seven that MECARD gives a meaning; and birthdays, of eight digits.
+    (Content::Contact("Sean", ""), Ok("MECARD:N:Owen,Sean;TEL:12125551212;EMAIL:srowen@example.com;;")),
+    (
+        Content::Contact("Sean", "19700310"),
+        Ok("MECARD:N:Owen,Sean;TEL:12125551212;EMAIL:srowen@example.com;BDAY:19700310;;"),
+    ),
+    (Content::Contact("Sean", "1970-310"), Err((Field::Birthday, Character))),
+    (Content::Contact("Sean", "1970310"), Err((Field::Birthday, TooShort))),
+    (Content::Contact("Sean", "197003100"), Err((Field::Birthday, TooLong))),
+    (Content::Contact("Sean\n", ""), Err((Field::Given, ControlCharacter))),
     // The networks of that page.
     (Content::Network(examples::NETWORK), Ok("WIFI:T:WPA;S:mynetwork;P:mypass;;")),
     (
@@ -90,6 +103,11 @@ static ROWS: [Row; 33] = [
         Content::Payment("BE72000000001616", ""),
         Ok("BCD\n001\n1\nSCT\nBPOTBEB1\nRed Cross of Belgium\nBE72000000001616\nEUR1.00\nCHAR\n\nUrgency fund\nSample EPC QR code"),
     ),
+    // Identifiers of banks, of 8 or 11 capitals and digits (ISO 9362).
+    (Content::Bank(""), Err((Field::Bic, Empty))),
+    (Content::Bank("BPOTBEB"), Err((Field::Bic, TooShort))),
+    (Content::Bank("BPOTBEB1X"), Err((Field::Bic, Character))),
+    (Content::Bank("BPOTBEB1XXXX"), Err((Field::Bic, TooLong))),
     (Content::Payment("BE72000000001617", ""), Err((Field::Iban, CheckDigits))),
     (Content::Payment("BE72000000001616", "RF18539007547034"), Err((Field::Message, Unused))),
     // The example of RFC 3966 with a global number, and of RFC 5724.
@@ -158,9 +176,10 @@ fn text_of(alloc: Global, content: Content) -> ContentResult<String> {
         Content::OpenBill => examples::BILL.text(alloc),
         Content::Card(url) => values::card(url).text(alloc),
         Content::Note(note) => values::note(note).text(alloc),
-        Content::Contact(given) => values::contact(given).mecard(alloc),
+        Content::Contact(given, birthday) => values::contact(given, birthday).mecard(alloc),
         Content::Network(network) => network.text(alloc),
         Content::Payment(iban, reference) => values::payment(iban, reference).text(alloc),
+        Content::Bank(bic) => values::bank(bic).text(alloc),
         Content::Call(number) => Phone { number }.tel(alloc),
         Content::Message(number, body) => message_text(alloc, number, body),
         Content::Mail(mail) => mail.text(alloc),

@@ -2,9 +2,9 @@
 //! the symbols of segno's `make_sequence` and `make` under the masks of least penalty (0 and 7; 6, 6 and
 //! 2; 0), the text written in UTF-8.
 
-use qrcode::types::QrResult;
+use qrcode::types::{QrError, QrResult};
 use qrcode::{EcLevel, QrCode, Version};
-use qrcode_several::{encode_several, encode_text_several};
+use qrcode_several::{Versions, encode_several, encode_several_within, encode_text_several};
 use std::alloc::Global;
 use std::process::Abort;
 
@@ -52,4 +52,48 @@ fn sequences_of_segno(rt: HostRuntime) {
     check(&rt, rt.alloc(), codes, &[WORDS_1, WORDS_2, WORDS_3]);
     let codes = encode_text_several(rt.alloc(), "HELLO WORLD", version, EcLevel::Q);
     check(&rt, rt.alloc(), codes, &[ALONE]);
+}
+
+// So many digits, the numbers of the least and the greatest version, and a level; then how many symbols
+// are the fewest, and of which version.
+type Row = (usize, usize, usize, EcLevel, Result<(usize, i16), QrError>);
+
+// By the standard's Tables 3 and 9, in even parts behind headers of 20 bits, computed in Python with the
+// judge's tables.
+#[rattlefmt::skip]
+static WITHIN: [Row; 9] = [
+    (60, 1, 1, EcLevel::L, Ok((2, 1))),
+    (60, 0, 2, EcLevel::L, Ok((1, 2))),
+    (560, 1, 1, EcLevel::L, Ok((16, 1))),
+    (561, 1, 1, EcLevel::L, Err(QrError::DataTooLong)),
+    (600, 3, 5, EcLevel::M, Ok((4, 5))),
+    (3000, 26, 27, EcLevel::H, Ok((3, 26))),
+    (7090, 1, 50, EcLevel::L, Ok((2, 28))),
+    (60, 2, 1, EcLevel::L, Err(QrError::InvalidVersion)),
+    (60, 41, 50, EcLevel::L, Err(QrError::InvalidVersion)),
+];
+
+// Whether a call gives this answer.
+fn is_answer(codes: QrResult<Vec<QrCode>>, answer: Result<(usize, i16), QrError>) -> bool {
+    match (codes, answer) {
+        (Ok(codes), Ok((count, number))) => match codes.as_slice() {
+            [first, ..] => codes.len() == count && first.version() == Version::Normal(number),
+            [] => false,
+        },
+        (Err(error), Err(wanted)) => error == wanted,
+        _ => false,
+    }
+}
+
+#[test]
+fn the_fewest_of_some_versions(rt: HostRuntime) {
+    for (digits, least, greatest, level, answer) in &WITHIN {
+        let bytes = Vec::from_elem(rt.alloc(), b'7', *digits).expect(&rt, "digits");
+        let versions = Versions {
+            least: *least,
+            greatest: *greatest,
+        };
+        let codes = encode_several_within(rt.alloc(), &bytes, versions, *level);
+        assert!(rt; is_answer(codes, *answer), "{digits}");
+    }
 }

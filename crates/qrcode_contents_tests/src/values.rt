@@ -27,6 +27,16 @@ pub const NOWHERE: Party<'static> = Party {
     country: "CH",
 };
 
+/// The debtor with a country of three letters.
+pub const ABROAD: Party<'static> = Party {
+    name: "Pia-Maria Rutschmann-Schnyder",
+    street: "Grosse Marktgasse",
+    number: "28",
+    code: "9400",
+    city: "Rorschach",
+    country: "CHE",
+};
+
 pub fn bill(debtor: Party<'static>, reference: &'static str) -> Bill<'static> {
     Bill {
         iban: "CH4431999123000889012",
@@ -64,9 +74,11 @@ pub fn note(note: &'static str) -> Card<'static> {
     }
 }
 
-pub fn contact(given: &'static str) -> Contact<'static> {
+pub fn contact(given: &'static str, birthday: &'static str) -> Contact<'static> {
     Contact {
         given,
+        phone: "12125551212",
+        birthday,
         ..examples::CONTACT
     }
 }
@@ -75,6 +87,13 @@ pub fn payment(iban: &'static str, reference: &'static str) -> Payment<'static> 
     Payment {
         iban,
         reference,
+        ..examples::PAYMENT
+    }
+}
+
+pub fn bank(bic: &'static str) -> Payment<'static> {
+    Payment {
+        bic,
         ..examples::PAYMENT
     }
 }

@@ -4,11 +4,12 @@ ghost use Rattle.std.specs.Prelude.{◌≤◌, pos, length, IfOk};
 ghost use Rattle.qrcode_types.specs.declared.types.Version.TheVariants.{Normal};
 ghost use Rattle.qrcode_types.specs.declared.types.EcLevel.TheVariants.{M};
 ghost use Rattle.qrcode_bits.specs.declared.bits.manner.Manner.TheVariants.{Text};
+ghost use Rattle.qrcode_several.specs.Fewest.{AreFewest};
 ghost use Rattle.qrcode_several.specs.Symbols.{AreSeveral};
 
 use qrcode::types::QrResult;
 use qrcode::{EcLevel, QrCode, Version};
-use qrcode_several::encode_text_several;
+use qrcode_several::{Versions, encode_text_several, encode_text_several_within};
 use std::alloc::Global;
 
 /// A long text in symbols of Normal 5, as few as hold its even parts, and 16 at most: the parts that
@@ -19,4 +20,18 @@ pub fn pages(alloc: Global, text: &str) -> QrResult<Vec<QrCode>>
     ensures at_most { IfOk result (λ codes. length codes.items ≤ 16) }
 {
     encode_text_several(alloc, text, Version::Normal(5), EcLevel::M)
+}
+
+/// The same in the fewest symbols of any of Normal 5 to 10, and of the least of these versions that
+/// takes as few.
+pub fn leaflets(alloc: Global, text: &str) -> QrResult<Vec<QrCode>>
+    ensures symbols { IfOk result (λ codes.
+        AreFewest Text (record { least = 5; greatest = 10 }) M text.now codes.items) }
+    ensures at_most { IfOk result (λ codes. length codes.items ≤ 16) }
+{
+    let versions = Versions {
+        least: 5,
+        greatest: 10,
+    };
+    encode_text_several_within(alloc, text, versions, EcLevel::M)
 }

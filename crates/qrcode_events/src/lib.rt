@@ -2,4 +2,5 @@
 #![tactic(auto)]
 
 pub mod event;
+pub mod laws;
 pub mod times;

@@ -10,9 +10,13 @@ use Rattle.qrcode_fields.specs.Refusals.{refused_if, first_refusal}
 abbrev pub is_digit : ℕ → Bool
 is_digit b = nat_lt 47 b && nat_lt b 58
 
--- a digit, or a letter A to Z
+-- a letter A to Z
 abbrev pub is_capital : ℕ → Bool
-is_capital b = (nat_lt 47 b && nat_lt b 58) || (nat_lt 64 b && nat_lt b 91)
+is_capital b = nat_lt 64 b && nat_lt b 91
+
+-- a digit, or a letter A to Z
+abbrev pub is_capital_or_digit : ℕ → Bool
+is_capital_or_digit b = is_digit b || is_capital b
 
 -- a byte of a telephone number: a digit, a plus sign, or one of -.()
 abbrev pub is_dialled : ℕ → Bool
@@ -20,7 +24,7 @@ is_dialled b = is_digit b || b == 43 || b == 45 || b == 46 || b == 40 || b == 41
 
 -- a character of base 32 (RFC 4648, section 6)
 abbrev pub is_base32 : ℕ → Bool
-is_base32 b = (nat_lt 64 b && nat_lt b 91) || (nat_lt 49 b && nat_lt b 56)
+is_base32 b = is_capital b || (nat_lt 49 b && nat_lt b 56)
 
 -- a control character of ASCII
 abbrev pub is_control : ℕ → Bool

@@ -7,7 +7,8 @@ ghost use Rattle.qrcode_fields.specs.Amounts.{amount_text};
 use crate::errors::ContentResult;
 use std::fmt::Write;
 
-/// Appends an amount that is given in hundredths, as `12.30`.
+/// Appends an amount that is given in hundredths, as `12.30`. After `OutOfMemory` a part of it is
+/// appended.
 #[tactic(auto, unfolding(crate::specs::Amounts::amount_text))]
 pub fn push_amount(text: &mut String, hundredths: u64) -> ContentResult<()>
     ensures appends { OnOk result (string_bytes text.new

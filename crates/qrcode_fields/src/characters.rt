@@ -3,24 +3,30 @@
 ghost use Rattle.std.specs.Prelude.{◌≡◌, ◌==◌, length, count_by};
 ghost use Rattle.std.specs.List.{list_all, list_any};
 ghost use Rattle.std.specs.Str.{chars};
-ghost use Rattle.qrcode_fields.specs.Characters.{is_base32, is_capital, is_control, is_dialled, is_digit, is_stray};
+ghost use Rattle.qrcode_fields.specs.Characters.{is_base32, is_capital, is_capital_or_digit, is_control, is_dialled, is_digit, is_stray};
+
+/// Whether all bytes are letters A to Z.
+pub fn are_capitals(bytes: &[u8]) -> bool
+    ensures { result ≡ list_all is_capital bytes.now }
+{
+    bytes.iter().all(|byte| byte.is_ascii_uppercase())
+}
+
+/// Whether all bytes are digits.
+pub fn are_digits(bytes: &[u8]) -> bool
+    ensures { result ≡ list_all is_digit bytes.now }
+{
+    bytes.iter().all(|byte| byte.is_ascii_digit())
+}
 
 /// Whether all bytes are digits or letters A to Z.
-pub fn are_capitals(text: &str) -> bool
-    ensures { result ≡ list_all is_capital text.now }
+pub fn are_capitals_or_digits(text: &str) -> bool
+    ensures { result ≡ list_all is_capital_or_digit text.now }
 {
     let bytes = text.as_bytes();
     bytes
         .iter()
         .all(|byte| matches!(*byte, b'0'..=b'9' | b'A'..=b'Z'))
-}
-
-/// Whether all bytes are digits.
-pub fn are_digits(text: &str) -> bool
-    ensures { result ≡ list_all is_digit text.now }
-{
-    let bytes = text.as_bytes();
-    bytes.iter().all(|byte| matches!(*byte, b'0'..=b'9'))
 }
 
 /// Whether all bytes may stand in a telephone number: digits, `+`, `-`, `.`, `(` and `)`.

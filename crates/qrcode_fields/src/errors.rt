@@ -16,7 +16,7 @@ pub enum Field {
     Password,
     /// The bank's identifier.
     Bic,
-    /// The name of whom is paid, or of a contact.
+    /// The name of who is paid, or of a contact.
     Name,
     /// The family name of a contact.
     Family,
@@ -46,8 +46,18 @@ pub enum Field {
     PostalCode,
     /// A country.
     Country,
-    /// Who pays.
-    Debtor,
+    /// The name of who pays.
+    DebtorName,
+    /// The street of who pays.
+    DebtorStreet,
+    /// The number of the house of who pays.
+    DebtorNumber,
+    /// The postal code of who pays.
+    DebtorPostalCode,
+    /// The town of who pays.
+    DebtorCity,
+    /// The country of who pays.
+    DebtorCountry,
     /// The account.
     Iban,
     /// The amount of money.

@@ -8,6 +8,7 @@ pub mod content_lines;
 pub mod entries;
 pub mod errors;
 pub mod escapes;
+pub mod laws;
 pub mod lines;
 pub mod links;
 pub mod numbers;

@@ -3,7 +3,7 @@
 ghost use Rattle.std.specs.Prelude.{◌≡◌, length, map, nat_lt};
 ghost use Rattle.std.specs.List.{list_any};
 ghost use Rattle.std.specs.Str.{chars};
-ghost use Rattle.qrcode_fields.specs.declared.errors.Cause.TheVariants.{ControlCharacter, TooLong};
+ghost use Rattle.qrcode_fields.specs.declared.errors.Cause.TheVariants.{ControlCharacter, TooLong, TooShort};
 ghost use Rattle.qrcode_fields.specs.Characters.{is_control, is_stray};
 ghost use Rattle.qrcode_fields.specs.Refusals.{checked, first_refusal, refused_if};
 
@@ -25,6 +25,13 @@ pub fn stray(field: Field, text: &str) -> Check
     ensures { result ≡ (list_any is_stray text.now, field, ControlCharacter) }
 {
     (has_stray(text), field, Cause::ControlCharacter)
+}
+
+/// Refuses a field of fewer characters than this.
+pub fn too_short(field: Field, text: &str, least: usize) -> Check
+    ensures { result ≡ (nat_lt (length (chars text.now)) least, field, TooShort) }
+{
+    (character_count(text) < least, field, Cause::TooShort)
 }
 
 /// Refuses a field of more characters than this.

@@ -4,4 +4,5 @@
 pub mod checks;
 pub mod elements;
 pub mod errors;
+pub mod laws;
 pub mod table;

@@ -10,7 +10,6 @@ use Rattle.qrcode_bits.specs.declared.bits.ExtendedMode.TheVariants.{Fnc1First, 
 use Rattle.qrcode_bits.proofs.Changed.{append_fits}
 use Rattle.qrcode_bits.proofs.Numbers.{length-number_bits}
 use Rattle.qrcode_gs1_symbol.specs.Characters.{mark}
-use Rattle.qrcode_gs1_symbol.specs.declared.Position.{Position}
 use Rattle.qrcode_gs1_symbol.specs.declared.Position.TheVariants.{First, Second}
 
 pub length-first : length (mark First) ≡ 4
@@ -18,10 +17,6 @@ length-first = length-number_bits 4 5
 
 pub length-second : (n : ℕ) → length (mark (Second n)) ≡ 12
 length-second n = omega (arith, length-append (number_bits 4 9) (number_bits 8 n), length-number_bits 4 9, length-number_bits 8 n)
-
-pub length-mark : (p : Position) → length (mark p) ≤ 12
-length-mark First = omega (arith, length-first)
-length-mark (Second n) = omega (arith, length-second n)
 
 -- a mark is taken where it has room
 pub first_taken : (v : Version) (used : ℕ) → is_micro v ≡ false → used + 12 ≤ bit_limit → append_refusal used (indicator_bits v Fnc1First) ≡ None

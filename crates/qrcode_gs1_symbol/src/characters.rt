@@ -46,7 +46,7 @@ impl Characters {
 
 // Appends what a segment in a mode has for bytes.
 fn push_characters(written: &mut Vec<u8>, mode: Mode, bytes: &[u8]) -> QrResult<()>
-    ensures appended { OnOk result
+    ensures appends { OnOk result
         (written.new.items ≡ written.old.items ++ characters mode bytes.now) }
     ensures memory { IsOkUnless result OutOfMemory }
 {
@@ -58,7 +58,7 @@ fn push_characters(written: &mut Vec<u8>, mode: Mode, bytes: &[u8]) -> QrResult<
 
 // Appends what it has for a byte.
 fn push_character(written: &mut Vec<u8>, mode: Mode, byte: u8) -> QrResult<()>
-    ensures appended { OnOk result
+    ensures appends { OnOk result
         (written.new.items ≡ written.old.items ++ characters_for mode byte) }
     ensures memory { IsOkUnless result OutOfMemory }
 {

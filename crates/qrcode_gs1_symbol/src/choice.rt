@@ -13,7 +13,7 @@ use qrcode_types::tables;
 
 // Whether a version of Normal holds bytes behind the mark.
 fn holds(bytes: &[u8], position: Position, ec_level: EcLevel, number: usize) -> bool
-    requires limit { length bytes.now ≤ data_limit }
+    requires length_at_most { length bytes.now ≤ data_limit }
     requires at_least { 1 ≤ number }
     requires at_most { number ≤ 40 }
     ensures { IsTrue result ↔ HoldsMarked position ec_level bytes.now number }
@@ -37,7 +37,7 @@ pub(crate) fn least_number(
     ec_level: EcLevel,
     from: usize,
 ) -> QrResult<usize>
-    requires limit { length bytes.now ≤ data_limit }
+    requires length_at_most { length bytes.now ≤ data_limit }
     ensures holds { IfOk result (HoldsMarked position ec_level bytes.now) }
     ensures at_least { IfOk result (λ number. from ≤ number) }
     ensures at_most { IfOk result (λ number. number ≤ 40) }

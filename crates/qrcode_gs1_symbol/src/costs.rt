@@ -42,8 +42,8 @@ pub(crate) struct Way {
 impl Way {
     // This way, behind a byte of so many bits.
     fn behind(self, bits: usize) -> Way
-        requires few { AreFew self }
-        requires small { bits ≤ 11 }
+        requires rest { AreFew self }
+        requires at_most { bits ≤ 11 }
         ensures { result ≡ behind bits self }
     {
         Way {
@@ -147,7 +147,7 @@ impl Costs {
     // The rest that begins one byte earlier, by that byte and the one behind it, if any, or 0.
     pub(crate) fn with_byte_before(self, headers: Headers, byte: u8, follows: u8) -> Costs
         requires headers { AreSmall headers }
-        requires few { AreAllFew self }
+        requires rest { AreAllFew self }
         ensures { result ≡ step headers byte follows self }
     {
         let digit = is_digit(byte);

@@ -1,13 +1,12 @@
 //! The symbol of bytes behind FNC1.
 
-ghost use Rattle.std.specs.Prelude.{◌≡◌, ◌+◌, ◌++◌, ◌≤◌, ℕ, pos, false, length, IfOk, IfErr, OnOk, IsOkUnless, IsTrue};
+ghost use Rattle.std.specs.Prelude.{◌≡◌, ◌+◌, ◌++◌, ◌≤◌, ℕ, pos, false, length, IfOk, IfErr, IsOkUnless, IsTrue};
 ghost use Rattle.qrcode_types.specs.Versions.{is_micro, has_level, capacity};
 ghost use Rattle.qrcode_types.specs.declared.types.QrError.TheVariants.{OutOfMemory};
 ghost use Rattle.qrcode_types.specs.declared.types.Version.TheVariants.{Normal};
 ghost use Rattle.qrcode_bits.specs.Cuts.{IsCut};
-ghost use Rattle.qrcode_bits.specs.Pushes.{PushesAll};
-ghost use Rattle.qrcode_bits.specs.Refusals.{StopsAt, data_limit};
-ghost use Rattle.qrcode_bits.specs.Segments.{AreInside, total_cost};
+ghost use Rattle.qrcode_bits.specs.Refusals.{data_limit};
+ghost use Rattle.qrcode_bits.specs.Segments.{total_cost};
 ghost use Rattle.qrcode_bits.specs.Written.{pieces_of, written, terminated};
 ghost use Rattle.qrcode_gs1_symbol.specs.Characters.{mark};
 ghost use Rattle.qrcode_gs1_symbol.specs.Symbols.{HoldsMarked, IsMarkedList, IsMarkedSymbol, IsMarkedRefused};
@@ -23,18 +22,6 @@ use qrcode_bits::bits::{Bits, DATA_LIMIT};
 use qrcode_bits::optimize::Segment;
 use std::alloc::Global;
 
-// Appends the bytes of all segments in their modes.
-fn push_all(bits: &mut Bits, bytes: &[u8], segments: Vec<Segment>) -> QrResult<()>
-    requires { AreInside (length bytes.now) segments.items }
-    ensures pushed { OnOk result
-        (PushesAll bits.old.version bits.old.bits bytes.now segments.items bits.new.bits) }
-    ensures stopped { IfErr result (λ e. StopsAt bits.old.version bits.old.bits
-        (pieces_of bytes.now segments.items) e bits.new.bits) }
-    ensures version { bits.new.version ≡ bits.old.version }
-{
-    bits.push_segments(bytes, segments.into_iter())
-}
-
 // The mark and segments of bytes that stand behind it as they are written, terminated.
 fn ended_bits(
     alloc: Global,
@@ -49,7 +36,7 @@ fn ended_bits(
     requires cut { IsCut version bytes.now segments.items }
     requires room { length (mark position) + total_cost version segments.items
         ≤ capacity version ec_level }
-    ensures ended { IfOk result (λ list. list ≡ record {
+    ensures ends { IfOk result (λ list. list ≡ record {
       version = version;
       bits = terminated version ec_level
           (mark position ++ written version (pieces_of bytes.now segments.items));
@@ -59,8 +46,7 @@ fn ended_bits(
 {
     let mut bits = Bits::new(alloc, version);
     push_mark(&mut bits, position)?;
-    push_all(&mut bits, bytes, segments)?;
-    bits.push_terminator(ec_level)?;
+    bits.end_with(bytes, segments, ec_level)?;
     Ok(bits)
 }
 
@@ -72,7 +58,7 @@ fn marked_bits(
     number: usize,
     ec_level: EcLevel,
 ) -> QrResult<Bits>
-    requires limit { length bytes.now ≤ data_limit }
+    requires length_at_most { length bytes.now ≤ data_limit }
     requires at_most { number ≤ 40 }
     requires holds { HoldsMarked position ec_level bytes.now number }
     ensures bits { IfOk result

@@ -17,7 +17,7 @@ use std::alloc::{AllocError, Global};
 pub(crate) fn fewest_bits(bytes: &[u8], version: Version) -> usize
     requires valid { IsTrue (is_valid version) }
     requires normal { is_micro version ≡ false }
-    requires limit { length bytes.now ≤ data_limit }
+    requires length_at_most { length bytes.now ≤ data_limit }
     ensures least { (segments : List Segment) × (IsLeastMarkedCut version bytes.now segments
         × (result ≡ marked_cost version bytes.now segments)) }
     ensures at_most { result ≤ 33554432 }
@@ -40,7 +40,7 @@ pub(crate) fn least_segments(
 ) -> QrResult<Vec<Segment>>
     requires valid { IsTrue (is_valid version) }
     requires normal { is_micro version ≡ false }
-    requires limit { length bytes.now ≤ data_limit }
+    requires length_at_most { length bytes.now ≤ data_limit }
     ensures least { IfOk result (λ segments.
         IsLeastMarkedCut version bytes.now segments.items) }
     ensures memory { IsOkUnless result OutOfMemory }
@@ -64,7 +64,7 @@ pub(crate) fn least_segments(
 // For each place the segment with which the rest from there on begins.
 fn least_starts(alloc: Global, bytes: &[u8], headers: Headers) -> Result<Vec<Start>, AllocError>
     requires headers { AreSmall headers }
-    requires limit { length bytes.now ≤ data_limit }
+    requires length_at_most { length bytes.now ≤ data_limit }
     ensures { IfOk result (λ starts. AreStarts headers bytes.now starts.items) }
 {
     let mut costs = Costs::at_end();

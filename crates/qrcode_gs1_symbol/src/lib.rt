@@ -24,6 +24,7 @@ mod costs;
 mod drawing;
 pub mod errors;
 mod indicators;
+pub mod laws;
 mod least;
 mod mark;
 mod separators;

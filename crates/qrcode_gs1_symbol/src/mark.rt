@@ -26,7 +26,7 @@ pub(crate) fn mark_length(position: Position) -> usize
 pub(crate) fn push_mark(bits: &mut Bits, position: Position) -> QrResult<()>
     requires normal { is_micro bits.old.version ≡ false }
     requires room { length bits.old.bits + 12 ≤ bit_limit }
-    ensures appended { OnOk result (bits.new ≡ with_bits bits.old (mark position)) }
+    ensures appends { OnOk result (bits.new ≡ with_bits bits.old (mark position)) }
     ensures memory { IsOkUnless result OutOfMemory }
 {
     match position {

@@ -44,7 +44,7 @@ pub enum Cause {
 /// Why a value has no text.
 #[derive(Clone, Copy, Debug, PartialEq, Eq)]
 pub enum ContentError {
-    /// The format cannot say the field of this name, for this cause; `text` is the text as a whole, and `debtor` a field of who pays.
+    /// The format cannot say the field of this name, for this cause; `text` is the text as a whole, and `debtor.city` the town of who pays.
     Refused(&'static str, Cause),
     /// The element of GS1 at this place is refused, for this cause.
     Element(usize, Cause),
@@ -351,12 +351,12 @@ impl Bill<'_> {
                 Number("currency", self.currency as i64),
                 Text("reference", self.reference),
                 Text("message", self.message),
-                Text("debtor", debtor.name),
-                Text("debtor", debtor.street),
-                Text("debtor", debtor.number),
-                Text("debtor", debtor.code),
-                Text("debtor", debtor.city),
-                Text("debtor", debtor.country),
+                Text("debtor.name", debtor.name),
+                Text("debtor.street", debtor.street),
+                Text("debtor.number", debtor.number),
+                Text("debtor.code", debtor.code),
+                Text("debtor.city", debtor.city),
+                Text("debtor.country", debtor.country),
             ],
         )
     }

@@ -41,7 +41,7 @@ fn payments_are_the_printed_ones() {
         message: "",
     };
     assert!(bill.text().unwrap().ends_with("\n\n\nEUR\n\n\n\n\n\n\n\nSCOR\nRF18539007547034\n\nEPD"));
-    assert_eq!(Bill { debtor: Party { city: "", ..creditor }, ..bill }.text(), Err(ContentError::Refused("debtor", Cause::Empty)));
+    assert_eq!(Bill { debtor: Party { city: "", ..creditor }, ..bill }.text(), Err(ContentError::Refused("debtor.city", Cause::Empty)));
     assert_eq!(Bill { cents: Some(0), ..bill }.text(), Err(ContentError::Refused("cents", Cause::Range)));
 }
 

@@ -52,4 +52,4 @@ returns-clause-bits c =
     let n = c.args.number in
     marked_list c.args.position n c.args.ec_level c.args.bytes.now c.in_ok-cut.cut.items (Normal (to_z w16 n)) c.deref-2.result.now c.in_ok-written.field-0.segments.items c.ended_bits.result
     (version_is n c.requires.at_most) (subst (λ xs. AreCharacters c.args.bytes.now c.in_ok-cut.cut.items xs c.in_ok-written.field-0.segments.items) (sym c.deref-2.ensures.value) (written_is w))
-    c.requires.holds.exists (least k) (room k) c.ended_bits.ensures.ended c.ended_bits.ensures.full
+    c.requires.holds.exists (least k) (room k) c.ended_bits.ensures.ends c.ended_bits.ensures.full

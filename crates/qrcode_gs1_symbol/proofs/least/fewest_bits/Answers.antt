@@ -8,13 +8,13 @@ use Rattle.qrcode_gs1_symbol.proofs.Bounds.{fewest}
 use Rattle.qrcode_gs1_symbol.proofs.Cuts.{bytes_few, headers_small, rest_few, some_least}
 use Rattle.qrcode_gs1_symbol.proofs.least.fewest_bits.Goals as goal
 
-pub with_byte_before-costs-requires-clause-few : goal.with_byte_before-costs-requires-clause-few
-with_byte_before-costs-requires-clause-few c =
+pub with_byte_before-costs-requires-clause-rest : goal.with_byte_before-costs-requires-clause-rest
+with_byte_before-costs-requires-clause-rest c =
     let bytes = c.args.bytes.now in
     let i = c.loop-i.i in
     let are = are_bytes bytes (λ k. omega (arith, c.type_inv.bytes k)) in
     subst AreAllFew (sym c.loop-i.invariant.rest)
-    (rest_few (headers_of c.args.version) (drop i bytes) (headers_small c.args.version c.requires.normal).byte (all-drop (λ n. n < 256) i bytes are) (omega (arith, length-drop i bytes, c.requires.limit)))
+    (rest_few (headers_of c.args.version) (drop i bytes) (headers_small c.args.version c.requires.normal).byte (all-drop (λ n. n < 256) i bytes are) (omega (arith, length-drop i bytes, c.requires.length_at_most)))
 
 pub returns-clause-least : goal.returns-clause-least
 returns-clause-least c =
@@ -29,4 +29,4 @@ returns-clause-at_most c =
     let v = c.args.version in
     let bytes = c.args.bytes.now in
     let i = c.loop-i.i in
-    omega (arith, ap (λ (r : Costs). r.start.bits) c.loop-i.invariant.rest, bytes_few (headers_of v) (drop i bytes) (headers_small v c.requires.normal).byte, length-drop i bytes, c.requires.limit)
+    omega (arith, ap (λ (r : Costs). r.start.bits) c.loop-i.invariant.rest, bytes_few (headers_of v) (drop i bytes) (headers_small v c.requires.normal).byte, length-drop i bytes, c.requires.length_at_most)

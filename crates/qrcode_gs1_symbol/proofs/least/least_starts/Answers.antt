@@ -7,13 +7,13 @@ use Rattle.qrcode_gs1_symbol.specs.Fewest.{AreAllFew, step, costs_of, past_end}
 use Rattle.qrcode_gs1_symbol.proofs.Cuts.{rest_few, counted_back, first_back}
 use Rattle.qrcode_gs1_symbol.proofs.least.least_starts.Goals as goal
 
-pub with_byte_before-costs-requires-clause-few : goal.with_byte_before-costs-requires-clause-few
-with_byte_before-costs-requires-clause-few c =
+pub with_byte_before-costs-requires-clause-rest : goal.with_byte_before-costs-requires-clause-rest
+with_byte_before-costs-requires-clause-rest c =
     let bytes = c.args.bytes.now in
     let i = c.loop-i.i in
     let are = are_bytes bytes (λ k. omega (arith, c.type_inv.bytes k)) in
     subst AreAllFew (sym c.loop-i.invariant.rest)
-    (rest_few c.args.headers (drop i bytes) c.requires.headers.byte (all-drop (λ n. n < 256) i bytes are) (omega (arith, length-drop i bytes, c.requires.limit)))
+    (rest_few c.args.headers (drop i bytes) c.requires.headers.byte (all-drop (λ n. n < 256) i bytes are) (omega (arith, length-drop i bytes, c.requires.length_at_most)))
 
 pub loop-i-preserved : goal.loop-i-preserved
 loop-i-preserved c =

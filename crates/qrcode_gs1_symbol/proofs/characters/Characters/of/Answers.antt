@@ -23,7 +23,7 @@ loop-segment-preserved c =
     let range : Segment = record { mode = s.mode; begin = length w; end = length w + length chunk } in
     let at = tile_at 0 ss (length bytes) i d c.requires.tiles c.loop-segment-test.true in
     let some : 0 < length chunk = omega (arith, characters_some s.mode (slice_range bytes s.begin s.end), length-range bytes s.begin s.end (omega (arith, at.0)) at.1, at.0) in
-    let written : c.push_characters.new.written.items ≡ w ++ chunk = c.in_ok-push_characters.ensures.appended in
+    let written : c.push_characters.new.written.items ≡ w ++ chunk = c.in_ok-push_characters.ensures.appends in
     let begin : c.len-begin.result ≡ length w = omega (arith, c.len-begin.ensures, c.loop-segment.written.ok.0) in
     let end : c.len.result ≡ length w + length chunk = omega (arith, c.len.ensures, c.push_characters.new.written.ok.0, ap length written, length-append w chunk) in
     let whole : ℕ → ℕ → List Segment = λ a b. ranges ++ record { mode = s.mode; begin = a; end = b } ∷ [] in

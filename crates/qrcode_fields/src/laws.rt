@@ -1,0 +1,19 @@
+//! Laws of the types that no call stands for, on the contract of a function that does nothing.
+
+ghost use Rattle.std.specs.Prelude.{◌≡◌, ◌↔◌, IsTrue};
+ghost use Rattle.qrcode_fields.specs.declared.errors.Cause.{Cause};
+ghost use Rattle.qrcode_fields.specs.declared.errors.Field.{Field};
+ghost use Rattle.qrcode_fields.specs.declared.escapes.Escapes.{Escapes};
+ghost use Rattle.qrcode_fields.specs.declared.links.Part.{Part};
+
+use crate::errors::{Cause, Field};
+use crate::escapes::Escapes;
+use crate::links::Part;
+
+/// Two values are equal by `==` exactly when they are the same.
+pub fn equality()
+    ensures fields { (a b : Field) → IsTrue (⟦<Field as PartialEq>⟧.eq a b) ↔ (a ≡ b) }
+    ensures reasons { (a b : Cause) → IsTrue (⟦<Cause as PartialEq>⟧.eq a b) ↔ (a ≡ b) }
+    ensures escapes { (a b : Escapes) → IsTrue (⟦<Escapes as PartialEq>⟧.eq a b) ↔ (a ≡ b) }
+    ensures parts { (a b : Part) → IsTrue (⟦<Part as PartialEq>⟧.eq a b) ↔ (a ≡ b) }
+{}

@@ -1,0 +1,11 @@
+//! Laws of the types that no call stands for, on the contract of a function that does nothing.
+
+ghost use Rattle.std.specs.Prelude.{◌≡◌, ◌↔◌, IsTrue};
+ghost use Rattle.qrcode_gs1_symbol.specs.declared.Position.{Position};
+
+use crate::Position;
+
+/// Two values are equal by `==` exactly when they are the same.
+pub fn equality()
+    ensures { (a b : Position) → IsTrue (⟦<Position as PartialEq>⟧.eq a b) ↔ (a ≡ b) }
+{}
