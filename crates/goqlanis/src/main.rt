@@ -17,10 +17,10 @@ fn main(rt: HostRuntime) -> ExitCode {
 fn run(rt: &HostRuntime) -> Result<ExitCode, Failure> {
     let alloc = rt.alloc();
     let (task, words) = words(rt)?;
-    if let Some(given) = plainly_given(alloc, task, &words)? {
+    let options = task.all_options(alloc)?;
+    if let Some(given) = plainly_given(alloc, task.operand(), &options, &words)? {
         return obey(rt, task, &given);
     }
-    let options = task.all_options(alloc)?;
     match command_of(alloc, task, &options)?.try_get_matches_from(&words) {
         Ok(matches) => obey(rt, task, &given(alloc, task, &options, &matches)?),
         Err(error) if error.kind() == ErrorKind::OutOfMemory => Err(Failure::OutOfMemory),

@@ -192,7 +192,8 @@ fn as_png(alloc: Global, modules: &[u8], width: u32, zone: u32, scale: u32) -> Q
     requires scale { scale < 2 ^ 16 }
     requires positive { 1 ≤ scale }
     ensures drawing { IfOk result (λ bytes. IsFileOf
-        (picture (layout width zone scale scale) (colors_of modules.now)) black white None bytes.items) }
+        (picture (layout width zone scale scale) (colors_of modules.now))
+        black white None bytes.items) }
     ensures memory { IsOkUnless result OutOfMemory }
 {
     let grid = Grid::of_bytes(modules, width, zone, scale, scale);

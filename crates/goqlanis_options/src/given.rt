@@ -1,5 +1,8 @@
 //! The options that are given.
 
+ghost use Rattle.std.specs.Prelude.{◌≡◌, ◌++◌, [], ◌∷◌, false, OnOk};
+ghost use Rattle.goqlanis_options.specs.Words.{IsFree};
+
 use std::alloc::{AllocError, Global};
 use std::str::FromStr;
 
@@ -11,16 +14,33 @@ pub struct Given<'a> {
 
 impl<'a> Given<'a> {
     /// Nothing is given.
-    pub fn new(alloc: Global) -> Given<'a> {
+    pub fn new(alloc: Global) -> Given<'a>
+        ensures value { result.values.items ≡ [] }
+    {
         Given {
             values: Vec::new(alloc),
         }
     }
 
     /// A value is given for an option; of a flag, `true` or `false`. It fails for want of memory alone.
-    pub fn push(&mut self, name: &'a str, value: &'a str) -> Result<(), AllocError> {
+    pub fn push(&mut self, name: &'a str, value: &'a str) -> Result<(), AllocError>
+        ensures appends { OnOk result (self.new.values.items
+            ≡ self.old.values.items ++ (name.entry, value.entry) ∷ []) }
+    {
         self.values.push((name, value))?;
         Ok(())
+    }
+
+    /// Whether something is given for an option.
+    pub fn has(&self, name: &str) -> bool
+        ensures { result ≡ false → IsFree self.now.values.items name.now }
+    {
+        for i in 0..self.values.len() {
+            if self.values[i].0 == name {
+                return true;
+            }
+        }
+        false
     }
 
     /// What is given for an option first, where something is.

@@ -111,31 +111,10 @@ impl Task {
         }
     }
 
-    /// The option of a name, its own or one of drawing that goes with it.
-    pub fn option(&self, name: &str) -> Option<&'static Entry> {
-        match named(self.options, name) {
-            Some(entry) => Some(entry),
-            None if self.goes_with(name) => named(drawing().options, name),
-            None => None,
-        }
-    }
-
-    /// The option of a letter, its own or one of drawing that goes with it.
-    pub fn option_of_letter(&self, letter: char) -> Option<&'static Entry> {
-        if let Some(entry) = lettered(self.options, letter) {
-            return Some(entry);
-        }
-        let entry = lettered(drawing().options, letter)?;
-        if self.goes_with(entry.long) {
-            Some(entry)
-        } else {
-            None
-        }
-    }
-
-    /// All options that it takes: its own, and those of drawing that go with it.
+    /// All options that it takes: its own, and those of drawing that go with it. It fails for want of memory alone.
     pub fn all_options(&self, alloc: Global) -> Result<Vec<&'static Entry>, AllocError> {
-        let mut all = Vec::new(alloc);
+        let count = self.options.len().saturating_add(drawing().options.len());
+        let mut all = Vec::with_capacity(alloc, count)?;
         for entry in self.options {
             all.push(entry)?;
         }
@@ -169,24 +148,4 @@ impl Task {
             _ => true,
         }
     }
-}
-
-// The option of a name in a table.
-fn named(options: &'static [Entry], name: &str) -> Option<&'static Entry> {
-    for entry in options {
-        if entry.long == name {
-            return Some(entry);
-        }
-    }
-    None
-}
-
-// The option of a letter in a table.
-fn lettered(options: &'static [Entry], letter: char) -> Option<&'static Entry> {
-    for entry in options {
-        if entry.short == Some(letter) {
-            return Some(entry);
-        }
-    }
-    None
 }
