@@ -26,10 +26,6 @@ pub record IsChosenSymbol (v : Version) (l : EcLevel) (bytes : List ℕ) (s : Li
   pub least_version : IsLeastHolding l bytes v
   pub symbol : IsLeastSymbol v l bytes s
 
--- a symbol can be chosen for the data
-abbrev pub HasSymbol : EcLevel → List ℕ → Type 0
-HasSymbol l bytes = (v : Version) × (s : List Color) × IsChosenSymbol v l bytes s
-
 -- what a constructor gives that chooses the version: the chosen symbol, where any Normal version holds the data
 pub record IsAutomatic (l : EcLevel) (bytes : List ℕ) (result : Result Code QrError) : Type 0 where
   pub level : IfOk result (λ code. code.level ≡ l)

@@ -81,3 +81,4 @@ pub record IsGivenAs (m : Manner) (v : Version) (l : EcLevel) (bytes : List ℕ)
   pub holds : IfOk result (λ code. HoldsAs m v l bytes)
   pub accepts : HoldsAs m v l bytes → IsOkUnless result OutOfMemory
   pub causes : IfErr result (IsRefusedIn m v l bytes)
+  pub too_long : IsTrue (is_valid v) → data_limit < length bytes → result ≡ Err DataTooLong

@@ -2,7 +2,7 @@
 #![tactic(auto)]
 
 ghost use Rattle.std.specs.Prelude.{◌≡◌, ◌↔◌, ◌+◌, ◌*◌, ◌-◌, ◌/◌, ◌%◌, ◌<◌, ◌≤◌, ◌++◌, Bool, List, true, false, Some, string_bytes, length, slice_index, slice_get, map, IsTrue, IfOk, IfErr, OnOk, IsOkUnless};
-ghost use Rattle.qrcode_types.specs.Versions.{side, has_level, capacity, data_length, total_ec_length, has_half_codeword};
+ghost use Rattle.qrcode_types.specs.Versions.{is_valid, side, has_level, capacity, data_length, total_ec_length, has_half_codeword};
 ghost use Rattle.qrcode_types.specs.declared.types.QrError.TheVariants.{OutOfMemory, InvalidVersion, DataTooLong};
 ghost use Rattle.qrcode_types.specs.Colors.{is_dark};
 ghost use Rattle.qrcode_types.specs.declared.types.EcLevel.TheVariants.{M};
@@ -12,6 +12,7 @@ ghost use Rattle.qrcode_places.specs.Patterns.{is_functional_place};
 ghost use Rattle.qrcode_symbol.specs.Patterned.{IsDrawn};
 ghost use Rattle.qrcode_symbol.specs.Symbol.{IsSymbol};
 ghost use Rattle.qrcode_bits.specs.Choice.{Holds};
+ghost use Rattle.qrcode_bits.specs.Refusals.{data_limit};
 ghost use Rattle.qrcode.specs.Acceptance.{IsAutomatic, IsLeastSymbol, IsRefusedAt};
 ghost use Rattle.qrcode.specs.Drawing.{IsBestDrawing, IsMaskOf};
 ghost use Rattle.qrcode.specs.Pictures.{quiet_zone, debug_text};
@@ -111,6 +112,8 @@ impl QrCode {
         ensures accepts { Holds version ec_level bytes.now → IsOkUnless result OutOfMemory }
         ensures holds { OnOk result (Holds version ec_level bytes.now) }
         ensures causes { IfErr result (IsRefusedAt version ec_level bytes.now) }
+        ensures too_long { IsTrue (is_valid version) → data_limit < length bytes.now
+            → result ≡ Err DataTooLong }
     {
         if !version.is_valid() {
             return Err(QrError::InvalidVersion);
@@ -224,6 +227,8 @@ impl QrCode {
 
     /// The modules as text, `on_char` for dark ones and `off_char` for light ones, row by row with a
     /// newline between each two, without a quiet zone.
+    ///
+    /// `OutOfMemory`: memory was refused.
     pub fn to_debug_str(&self, alloc: Global, on_char: char, off_char: char) -> QrResult<String>
         ensures value { IfOk result (λ text. string_bytes text
             ≡ debug_text self.now.version self.now.modules on_char off_char) }
@@ -237,6 +242,8 @@ impl QrCode {
     }
 
     /// Whether each module is dark, row by row.
+    ///
+    /// `OutOfMemory`: memory was refused.
     pub fn to_vec(&self, alloc: Global) -> QrResult<Vec<bool>>
         ensures value { IfOk result (λ modules. modules.items ≡ map is_dark self.now.modules) }
         ensures memory { IsOkUnless result OutOfMemory }
@@ -250,6 +257,8 @@ impl QrCode {
     }
 
     /// Whether each module is dark, row by row.
+    ///
+    /// `OutOfMemory`: memory was refused.
     pub fn into_vec(self, alloc: Global) -> QrResult<Vec<bool>>
         ensures value { IfOk result (λ modules. modules.items ≡ map is_dark self.modules) }
         ensures memory { IsOkUnless result OutOfMemory }
@@ -265,6 +274,8 @@ impl QrCode {
     }
 
     /// The colour of each module, row by row.
+    ///
+    /// `OutOfMemory`: memory was refused.
     pub fn to_colors(&self, alloc: Global) -> QrResult<Vec<Color>>
         ensures value { IfOk result (λ colors. colors.items ≡ self.now.modules) }
         ensures memory { IsOkUnless result OutOfMemory }

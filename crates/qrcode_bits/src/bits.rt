@@ -27,6 +27,7 @@ use std::marker::Model;
 
 mod automatic;
 mod choice;
+mod cuts;
 mod ending;
 mod manner;
 mod optimal;
@@ -142,7 +143,7 @@ impl Bits {
     /// Appends the mode indicator that announces something (ISO/IEC 18004:2006, 6.4.1).
     ///
     /// `UnsupportedCharacterSet`: the version has no such indicator. `DataTooLong`: the list would
-    /// pass 16,777,216 bits.
+    /// pass 16,777,216 bits. `OutOfMemory`: memory was refused.
     pub fn push_mode_indicator(&mut self, mode: ExtendedMode) -> QrResult<()>
         ensures { Appends
             (append_refusal (length self.old.bits) (indicator_bits self.old.version mode))
@@ -156,7 +157,8 @@ impl Bits {
     /// 6.4.2).
     ///
     /// `UnsupportedCharacterSet`: the version is one of Micro QR. `InvalidEciDesignator`: the number
-    /// is 1,000,000 or more. `DataTooLong`: the list would pass 16,777,216 bits.
+    /// is 1,000,000 or more. `DataTooLong`: the list would pass 16,777,216 bits. `OutOfMemory`:
+    /// memory was refused.
     pub fn push_eci_designator(&mut self, eci_designator: u32) -> QrResult<()>
         ensures { Appends (eci_refusal self.old.version (length self.old.bits) eci_designator)
             (number_bits 4 7 ++ eci_bits eci_designator) self.old self.new result }
@@ -181,7 +183,7 @@ impl Bits {
     ///
     /// `UnsupportedCharacterSet`: never, since each version has the mode. `DataTooLong`: the length
     /// field is too small, or the list would pass 16,777,216 bits. `InvalidCharacter`: a byte is no
-    /// digit.
+    /// digit. `OutOfMemory`: memory was refused.
     pub fn push_numeric_data(&mut self, bytes: &[u8]) -> QrResult<()>
         ensures { PushesPiece Mode.Numeric bytes.now self.old self.new result }
     {
@@ -192,7 +194,7 @@ impl Bits {
     /// indicator and length field (ISO/IEC 18004:2006, 6.4.4). Any other byte is written as `0` is.
     ///
     /// `UnsupportedCharacterSet`: the version lacks the mode. `DataTooLong`: the length field is too
-    /// small, or the list would pass 16,777,216 bits.
+    /// small, or the list would pass 16,777,216 bits. `OutOfMemory`: memory was refused.
     pub fn push_alphanumeric_data(&mut self, bytes: &[u8]) -> QrResult<()>
         ensures { PushesPiece Mode.Alphanumeric bytes.now self.old self.new result }
     {
@@ -202,7 +204,7 @@ impl Bits {
     /// Appends bytes, with mode indicator and length field (ISO/IEC 18004:2006, 6.4.5).
     ///
     /// `UnsupportedCharacterSet`: the version lacks the mode. `DataTooLong`: the length field is too
-    /// small, or the list would pass 16,777,216 bits.
+    /// small, or the list would pass 16,777,216 bits. `OutOfMemory`: memory was refused.
     pub fn push_byte_data(&mut self, bytes: &[u8]) -> QrResult<()>
         ensures { PushesPiece Mode.Byte bytes.now self.old self.new result }
     {
@@ -214,7 +216,7 @@ impl Bits {
     ///
     /// `UnsupportedCharacterSet`: the version lacks the mode. `DataTooLong`: the length field is too
     /// small for the pairs, or the list would pass 16,777,216 bits. `InvalidCharacter`: the bytes
-    /// are not pairs that the mode can write.
+    /// are not pairs that the mode can write. `OutOfMemory`: memory was refused.
     pub fn push_kanji_data(&mut self, bytes: &[u8]) -> QrResult<()>
         ensures { PushesPiece Mode.Kanji bytes.now self.old self.new result }
     {
@@ -224,7 +226,7 @@ impl Bits {
     /// Appends the mode indicator of FNC1 in the first position (ISO/IEC 18004:2006, 6.4.8.1).
     ///
     /// `UnsupportedCharacterSet`: the version is one of Micro QR. `DataTooLong`: the list would pass
-    /// 16,777,216 bits.
+    /// 16,777,216 bits. `OutOfMemory`: memory was refused.
     pub fn push_fnc1_first_position(&mut self) -> QrResult<()>
         ensures { Appends (append_refusal (length self.old.bits)
             (indicator_bits self.old.version ExtendedMode.Fnc1First))
@@ -237,7 +239,7 @@ impl Bits {
     /// application, as eight bits (ISO/IEC 18004:2006, 6.4.8.2).
     ///
     /// `UnsupportedCharacterSet`: the version is one of Micro QR. `DataTooLong`: the list would pass
-    /// 16,777,216 bits.
+    /// 16,777,216 bits. `OutOfMemory`: memory was refused.
     pub fn push_fnc1_second_position(&mut self, application_indicator: u8) -> QrResult<()>
         ensures { Appends (append_refusal (length self.old.bits)
             (option_map (λ bits. bits ++ number_bits 8 application_indicator)
@@ -255,7 +257,7 @@ impl Bits {
     /// and level holds (ISO/IEC 18004:2006, 6.4.9 and 6.4.10). A list of so many bits stays as it is.
     ///
     /// `InvalidVersion`: the version lacks the level. `DataTooLong`: the list is longer than the
-    /// symbol holds.
+    /// symbol holds. `OutOfMemory`: memory was refused.
     pub fn push_terminator(&mut self, ec_level: EcLevel) -> QrResult<()>
         ensures ends { Changes
             (terminator_refusal self.old.version ec_level (length self.old.bits)) self.old
@@ -284,7 +286,8 @@ impl Bits {
 
     /// Appends the bytes of each segment in its mode. Ranges may come in any order, again, or empty.
     ///
-    /// It fails as the first failing segment does; the segments before it stay appended.
+    /// It fails as the first failing segment does, for want of memory (`OutOfMemory`) too; the
+    /// segments before it stay appended.
     pub fn push_segments<I: Iterator<Item = Segment> + Drop>(
         &mut self,
         bytes: &[u8],
@@ -319,7 +322,7 @@ impl Bits {
 
     // Appends the bits of a number.
     fn push_number(&mut self, count: u32, number: u32) -> QrResult<()>
-        requires count { count ≤ 32 }
+        requires at_most { count ≤ 32 }
         requires fits { number < 2 ^ count }
         ensures { Appends (append_refusal (length self.old.bits) (Some (number_bits count number)))
             (number_bits count number) self.old self.new result }
@@ -347,9 +350,9 @@ impl Bits {
 
     // The bits of a piece of so many characters, where it may be appended.
     fn piece_length(&self, mode: Mode, count: usize) -> QrResult<usize>
-        ensures ok { IfOk result (λ bits. (bits ≡ cost_of self.now.version mode count)
+        ensures value { IfOk result (λ bits. (bits ≡ cost_of self.now.version mode count)
             × (count_refusal self.now.version (length self.now.bits) mode count ≡ None)) }
-        ensures err { IfErr result (λ e.
+        ensures causes { IfErr result (λ e.
             count_refusal self.now.version (length self.now.bits) mode count ≡ Some e) }
     {
         if !has_mode(self.version, mode) {
@@ -370,10 +373,10 @@ impl Bits {
 // The number of a mode indicator.
 fn extended_indicator(version: Version, mode: ExtendedMode) -> QrResult<u32>
     requires { IsTrue (versions.is_valid version) }
-    ensures ok { IfOk result (λ n. (indicator_bits version mode
+    ensures value { IfOk result (λ n. (indicator_bits version mode
         ≡ Some (number_bits (mode_bits_count version) n))
         × (n < 2 ^ mode_bits_count version)) }
-    ensures err { IfErr result (λ e. (e ≡ QrError.UnsupportedCharacterSet)
+    ensures causes { IfErr result (λ e. (e ≡ QrError.UnsupportedCharacterSet)
         × (indicator_bits version mode ≡ None)) }
 {
     match mode {

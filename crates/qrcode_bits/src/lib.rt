@@ -3,4 +3,5 @@
 
 pub mod bits;
 mod digits;
+pub mod laws;
 pub mod optimize;

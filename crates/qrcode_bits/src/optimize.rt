@@ -26,8 +26,11 @@ mod tokens;
 /// A range of the data, from the byte `begin` to the byte before `end`, in one mode.
 #[derive(PartialEq, Eq, Debug, Copy, Clone)]
 pub struct Segment {
+    /// The mode in which the range is written.
     pub mode: Mode,
+    /// The place of the first byte.
     pub begin: usize,
+    /// The place behind the last byte.
     pub end: usize,
 }
 
@@ -41,10 +44,6 @@ impl Segment {
         requires at_most { self.now.end - self.now.begin ≤ range_limit }
         ensures value { result ≡ cost version self.now }
         ensures at_most { result < 2 ^ 31 }
-
-        // Segments are equal by `==` exactly when mode, begin and end are.
-        ensures equal { (other : Segment)
-            → IsTrue (⟦<Segment as PartialEq>⟧.eq self.now other) ↔ (self.now ≡ other) }
     {
         let characters = character_count(self.mode, self.end - self.begin);
         version.mode_bits_count()

@@ -12,6 +12,8 @@ use Rattle.qrcode_places.specs.Words.{format_word}
 use Rattle.qrcode_places.specs.Patterns.{format_copies, first_format_place, second_format_place, micro_format_place}
 use Rattle.qrcode_places.specs.declared.masks.MaskPattern.{MaskPattern}
 use Rattle.qrcode_symbol.specs.Symbol.{bits_at}
+use Rattle.qrcode_reader.specs.declared.formats.FormatCopy.{FormatCopy}
+use Rattle.qrcode_reader.specs.declared.formats.FormatCopy.TheVariants.{First, Last}
 
 -- two lists of bits are within three bits of the format word of the level and mask
 pub record NamesFormat (v : Version) (first last : List Bool) (l : EcLevel) (k : MaskPattern) : Type 0 where
@@ -35,3 +37,8 @@ first_copy (Micro v) i = micro_format_place i
 abbrev pub last_copy : Version → ℕ → ℕ × ℕ
 last_copy (Normal v) i = second_format_place (4 * nat_abs v + 17) i
 last_copy (Micro v) i = micro_format_place i
+
+-- those of either
+abbrev pub copy_place : FormatCopy → Version → ℕ → ℕ × ℕ
+copy_place First = first_copy
+copy_place Last = last_copy

@@ -9,12 +9,19 @@ ghost use Rattle.qrcode_places.specs.Stream.{color_at};
 ghost use Rattle.qrcode_types.specs.declared.types.EcLevel.{EcLevel};
 ghost use Rattle.qrcode_places.specs.declared.masks.MaskPattern.{MaskPattern};
 ghost use Rattle.qrcode_symbol.specs.Symbol.{bits_at};
-ghost use Rattle.qrcode_reader.specs.Formats.{NamesFormat, HasFormat, first_copy, last_copy};
+ghost use Rattle.qrcode_reader.specs.Formats.{NamesFormat, HasFormat, first_copy, copy_place};
 
 use crate::walk::side;
 use qrcode_places::masks::{MaskPattern, mask_count, nth_mask};
 use qrcode_places::words::format_word;
 use qrcode_types::types::{Color, EcLevel, Version};
+
+// A copy of the format word; in Micro the two are one.
+#[derive(Copy, Clone)]
+enum FormatCopy {
+    First,
+    Last,
+}
 
 // One where a bit is another than that of a word, and else zero; bit 0 is the lowest.
 fn difference(bit: bool, word: u16, place: usize) -> usize
@@ -61,16 +68,16 @@ fn first_place(version: Version, i: usize) -> (usize, usize)
     }
 }
 
-// The place of a bit of the last copy: in Micro there is but one.
-fn last_place(version: Version, i: usize) -> (usize, usize)
+// The place of a bit of a copy.
+fn copy_place(copy: FormatCopy, version: Version, i: usize) -> (usize, usize)
     requires valid { IsTrue (is_valid version) }
-    requires below { i < 15 }
-    ensures { result ≡ last_copy version i }
+    requires at_most { i < 15 }
+    ensures { result ≡ copy_place copy version i }
 {
-    match version {
-        Version::Micro(_) => first_place(version, i),
-        Version::Normal(_) if i <= 6 => (8, side(version) - 1 - i),
-        Version::Normal(_) => (side(version) - 15 + i, 8),
+    match (copy, version) {
+        (FormatCopy::First, _) | (_, Version::Micro(_)) => first_place(version, i),
+        (FormatCopy::Last, Version::Normal(_)) if i <= 6 => (8, side(version) - 1 - i),
+        (FormatCopy::Last, Version::Normal(_)) => (side(version) - 15 + i, 8),
     }
 }
 
@@ -87,28 +94,15 @@ fn is_dark_at(version: Version, modules: &[Color], place: (usize, usize)) -> boo
     }
 }
 
-// The bits of the first copy of the format word.
-fn first_bits(version: Version, modules: &[Color]) -> [bool; 15]
+// The bits of a copy of the format word.
+fn copy_bits(copy: FormatCopy, version: Version, modules: &[Color]) -> [bool; 15]
     requires { IsTrue (is_valid version) }
     ensures { result
-        ≡ bits_at version modules.now (map (first_copy version) (range_with_len 0 15)) }
+        ≡ bits_at version modules.now (map (copy_place copy version) (range_with_len 0 15)) }
 {
     let mut bits = [false; 15];
     for i in 0..15 {
-        bits[i] = is_dark_at(version, modules, first_place(version, i));
-    }
-    bits
-}
-
-// The bits of the last copy.
-fn last_bits(version: Version, modules: &[Color]) -> [bool; 15]
-    requires { IsTrue (is_valid version) }
-    ensures { result
-        ≡ bits_at version modules.now (map (last_copy version) (range_with_len 0 15)) }
-{
-    let mut bits = [false; 15];
-    for i in 0..15 {
-        bits[i] = is_dark_at(version, modules, last_place(version, i));
+        bits[i] = is_dark_at(version, modules, copy_place(copy, version, i));
     }
     bits
 }
@@ -148,8 +142,8 @@ pub fn read_format(version: Version, modules: &[Color]) -> Option<(EcLevel, Mask
     ensures none { IfNone result ((ec_level : EcLevel) (mask : MaskPattern)
         → ¬ HasFormat version modules.now ec_level mask) }
 {
-    let first = first_bits(version, modules);
-    let last = last_bits(version, modules);
+    let first = copy_bits(FormatCopy::First, version, modules);
+    let last = copy_bits(FormatCopy::Last, version, modules);
     for ec_level in [EcLevel::L, EcLevel::M, EcLevel::Q, EcLevel::H] {
         if let Some(mask) = mask_near(version, ec_level, &first, &last) {
             return Some((ec_level, mask));

@@ -6,6 +6,7 @@ mod bits;
 mod blocks;
 mod correction;
 mod formats;
+pub mod laws;
 mod positions;
 mod reading;
 mod refusals;

@@ -67,7 +67,7 @@ fn put_module(
     x: usize,
     y: usize,
 ) -> usize
-    requires room { count < 354 }
+    requires at_most { count < 354 }
     requires valid { IsTrue (is_valid version) }
     requires patterns { canvas.now ≡ patterned_canvas version }
     requires square { length modules.now ≡ side version * side version }

@@ -1,4 +1,5 @@
 mod Digits
 mod Framed
 mod Pieces
+mod Rasters
 mod Shown

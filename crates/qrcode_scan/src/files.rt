@@ -91,9 +91,16 @@ fn packed_marks(
     requires down { down ≤ 65535 }
     ensures { IfOk result (λ marks. marks.items ≡ packed_marks bytes.now across down) }
 {
+    let stride = (across + 7) / 8;
     let mut marks = Vec::with_capacity(alloc, across * down)?;
-    for i in 0..across * down {
-        marks.push(is_black_bit(bytes, (across + 7) / 8, i % across, i / across))?;
+    let (mut x, mut y) = (0, 0);
+    for _i in 0..across * down {
+        marks.push(is_black_bit(bytes, stride, x, y))?;
+        x += 1;
+        if x == across {
+            x = 0;
+            y += 1;
+        }
     }
     Ok(marks)
 }

@@ -56,7 +56,7 @@ fn halves_of(alloc: Global, text: &[u8]) -> Result<Vec<Half>, Unscanned> {
 // What a text begins with, and what follows it.
 fn next_half(text: &[u8]) -> Result<(Half, &[u8]), Unscanned>
     requires { 1 ≤ length text.now }
-    ensures shorter { IfOk result (λ found. length found.1.now < length text.now) }
+    ensures at_most { IfOk result (λ found. length found.1.now < length text.now) }
 {
     match text {
         [b' ', more @ ..] => Ok((Half::Pair(false, false), more)),
@@ -72,7 +72,7 @@ fn next_half(text: &[u8]) -> Result<(Half, &[u8]), Unscanned>
 
 // What follows the m that ends a control sequence of digits and semicolons.
 fn behind_colour(text: &[u8]) -> Result<&[u8], Unscanned>
-    ensures shorter { IfOk result (λ rest. length rest.now ≤ length text.now) }
+    ensures at_most { IfOk result (λ rest. length rest.now ≤ length text.now) }
 {
     let mut rest = text;
     while let [first, more @ ..] = rest {

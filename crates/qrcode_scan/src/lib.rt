@@ -4,6 +4,7 @@
 mod files;
 mod halves;
 mod heads;
+pub mod laws;
 mod pixels;
 mod squares;
 

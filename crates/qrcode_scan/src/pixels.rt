@@ -69,7 +69,7 @@ impl Pixels {
     pub(crate) fn new(across: usize, down: usize, marks: Vec<bool>) -> Pixels
         requires across { across ≤ 65535 }
         requires down { down ≤ 65535 }
-        requires all { length marks.items ≡ across * down }
+        requires length { length marks.items ≡ across * down }
         ensures { result ≡ record { across = across; down = down; marks = marks.items } }
     {
         Pixels {
@@ -91,7 +91,7 @@ impl Pixels {
     /// The pixels, row by row, dark ones true.
     pub fn marks(&self) -> &[bool]
         ensures value { result.now ≡ self.now.marks }
-        ensures all { length result.now ≡ self.now.across * self.now.down }
+        ensures length { length result.now ≡ self.now.across * self.now.down }
     {
         &self.marks
     }
@@ -104,6 +104,8 @@ impl Pixels {
     }
 
     /// The pixels with dark and light exchanged.
+    ///
+    /// It fails for want of memory alone.
     pub fn inverted(&self, alloc: Global) -> Result<Pixels, AllocError>
         ensures { IfOk result (λ pixels. pixels ≡ inverted self.now) }
     {

@@ -201,7 +201,7 @@ fn is_row_shown(marks: &[bool], square: &Square, side: usize, y: usize) -> bool
     requires side { side ≡ (square.now.count + 2 * square.now.zone) * square.now.scale }
     requires fits { side ≤ 65535 }
     requires inside { y < side }
-    requires all { length marks.now ≡ side * side }
+    requires square { length marks.now ≡ side * side }
     requires above { (k : ℕ) → k < y → IsRowOf marks.now (layout square.now.count square.now.zone
         square.now.scale square.now.scale) square.now.modules.items k }
     ensures value { IsTrue result → IsRowOf marks.now (layout square.now.count square.now.zone

@@ -31,9 +31,9 @@ pub(crate) fn prefixed(
     prefix: u32,
     count: usize,
 ) -> Option<(u32, &[bool])>
-    requires width { width ≤ 32 }
-    requires count { count ≤ 32 }
-    requires prefix { prefix < 2 ^ width }
+    requires width_at_most { width ≤ 32 }
+    requires count_at_most { count ≤ 32 }
+    requires fits { prefix < 2 ^ width }
     ensures some { IfSome result (λ found. (front : List Bool)
         × IsPrefixed width prefix count found.0 front × (bits.now ≡ front ++ found.1.now)) }
     ensures none { IfNone result ((n : ℕ) (front rest : List Bool)

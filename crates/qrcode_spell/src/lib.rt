@@ -4,6 +4,7 @@
 mod characters;
 mod fields;
 mod headers;
+pub mod laws;
 mod parts;
 mod refusals;
 mod segments;

@@ -1,8 +1,7 @@
-//! Refusals, colours, levels, versions and modes.
+//! Texts of refusals, and entries of tables.
 
 use qrcode_types::tables::capacity;
-use qrcode_types::types::{Color, EcLevel, Mode, QrError, Version};
-use std::alloc::{AllocError, AllocFailed};
+use qrcode_types::types::{EcLevel, QrError, Version};
 
 static REFUSALS: [(QrError, &str); 6] = [
     (QrError::DataTooLong, "data too long"),
@@ -21,31 +20,6 @@ fn refusals_are_written(rt: HostRuntime) {
     for (error, text) in &REFUSALS {
         let written = format!(in rt.alloc(); "{error}").expect(&rt, "a text");
         assert!(rt; written.as_str() == *text, "{written}");
-    }
-}
-
-#[test]
-fn refused_memory_is_a_refusal(rt: HostRuntime) {
-    assert!(rt; QrError::from(AllocError) == QrError::OutOfMemory);
-    assert!(rt; QrError::from(AllocFailed { value: 1_u8 }) == QrError::OutOfMemory);
-}
-
-#[test]
-fn colors_turn(rt: HostRuntime) {
-    assert!(rt; !Color::Light == Color::Dark && !Color::Dark == Color::Light);
-    assert!(rt; Color::Dark.select('#', '.') == '#' && Color::Light.select('#', '.') == '.');
-}
-
-#[test]
-fn levels_rise(rt: HostRuntime) {
-    let levels = [EcLevel::L, EcLevel::M, EcLevel::Q, EcLevel::H];
-    assert!(rt; levels.map(|level| level.number()) == [0, 1, 2, 3]);
-    for a in &levels {
-        for b in &levels {
-            let (first, second) = (a.number(), b.number());
-            let is_so = (a < b) == (first < second) && (a == b) == (first == second);
-            assert!(rt; is_so, "{first} and {second}");
-        }
     }
 }
 
@@ -85,24 +59,4 @@ fn capacities_are_found(rt: HostRuntime) {
         let is_so = capacity(*version, *level) == *bits && has_level == bits.is_some();
         assert!(rt; is_so, "in row {row}");
     }
-}
-
-// The bits of so many characters.
-fn data_bits(mode: Mode, count: u16) -> usize {
-    mode.data_bits_count(usize::from(count))
-}
-
-#[test]
-fn sides_and_segments_are_measured(rt: HostRuntime) {
-    assert!(rt; Version::Normal(40).width() == 177 && Version::Micro(4).width() == 17);
-    assert!(rt; data_bits(Mode::Numeric, 8) == 27 && data_bits(Mode::Alphanumeric, 8) == 44);
-    assert!(rt; data_bits(Mode::Byte, 2332) == 18656 && data_bits(Mode::Kanji, 2) == 26);
-    assert!(rt; Mode::Numeric.length_bits_count(Version::Normal(10)) == 12);
-    assert!(rt; Version::Micro(1).mode_bits_count() == 0);
-}
-
-#[test]
-fn modes_are_joined(rt: HostRuntime) {
-    assert!(rt; Mode::Numeric.max(Mode::Kanji) == Mode::Byte);
-    assert!(rt; Mode::Alphanumeric.max(Mode::Numeric) == Mode::Alphanumeric);
 }

@@ -84,21 +84,6 @@ static REFUSALS_AND_CHOICES: [Row; 15] = [
 ];
 
 #[rattlefmt::skip]
-static CAPACITIES: [Row; 10] = [
-    // As many as the standard's tables say, and no more.
-    (b"7", 34, In(Normal(1), M), Chosen(Normal(1), M)),
-    (b"7", 35, In(Normal(1), M), Refused(DataTooLong)),
-    (b"a", 14, In(Normal(1), M), Chosen(Normal(1), M)),
-    (b"a", 15, In(Normal(1), M), Refused(DataTooLong)),
-    (b"0", 23, In(Micro(3), L), Chosen(Micro(3), L)),
-    (b"0", 24, In(Micro(3), L), Refused(DataTooLong)),
-    (b"a", 2331, In(Normal(40), M), Chosen(Normal(40), M)),
-    (b"a", 2332, In(Normal(40), M), Refused(DataTooLong)),
-    (b"7", 7089, In(Normal(40), L), Chosen(Normal(40), L)),
-    (b"7", 7090, In(Normal(40), L), Refused(DataTooLong)),
-];
-
-#[rattlefmt::skip]
 static PRINTED: [Row; 4] = [
     // Printed symbols.
     (b"01234567", 1, In(Normal(1), M), Printed(2, DIGITS_NORMAL)),
@@ -233,11 +218,6 @@ fn check(rt: &impl Abort, alloc: Global, rows: &[Row]) {
 #[test]
 fn data_is_refused_and_versions_are_chosen(rt: HostRuntime) {
     check(&rt, rt.alloc(), &REFUSALS_AND_CHOICES);
-}
-
-#[test]
-fn symbols_hold_so_much_and_no_more(rt: HostRuntime) {
-    check(&rt, rt.alloc(), &CAPACITIES);
 }
 
 #[test]

@@ -1,5 +1,6 @@
 //! Each use once, its answers taken from outside.
 
+use qrcode::render::image::Rgba;
 use qrcode::types::{QrError, QrResult};
 use qrcode::{EcLevel, QrCode, Version};
 use qrcode_uses::charset::{greek_bits, greek_symbol};
@@ -35,10 +36,6 @@ enum Drawing {
     PlainPayment,
     PlainTicket,
     PlainWithin,
-    PlainChars,
-    PlainTexts,
-    PlainSvgText,
-    PlainPicText,
 }
 
 /// What is looked at in a text.
@@ -59,7 +56,7 @@ enum Look {
 use Look::{Begins, Contains, Length, Line, Lines};
 
 #[rattlefmt::skip]
-static DRAWINGS: [(Drawing, Look); 28] = [
+static DRAWINGS: [(Drawing, Look); 24] = [
     (Drawing::Chars, Line(4, "    ███████  █ ██ ███████    ")),
     (Drawing::Pairs, Line(4, "        ##############    ##  ####  ##############        ")),
     (Drawing::HalfBlocks, Line(2, "    █▀▀▀▀▀█  █▄██ █▀▀▀▀▀█    ")),
@@ -85,10 +82,6 @@ static DRAWINGS: [(Drawing, Look); 28] = [
     (Drawing::PlainPayment, Contains("viewBox=\"0 0 231 231\"")),
     (Drawing::PlainTicket, Lines(9)),
     (Drawing::PlainWithin, Contains("viewBox=\"0 0 290 290\"")),
-    (Drawing::PlainChars, Lines(29)),
-    (Drawing::PlainTexts, Length(29 * 59 - 1)),
-    (Drawing::PlainSvgText, Contains("viewBox=\"0 0 232 232\"")),
-    (Drawing::PlainPicText, Contains("p(4,4,1,1)\n")),
 ];
 
 const GREEK_TEXT: &[u8] = b"\xca\xfe\xe4\xe9\xea\xe1\xf2 QR";
@@ -112,10 +105,6 @@ fn plain_drawn(alloc: Global, drawing: Drawing) -> QrResult<String> {
         Drawing::PlainPayment => plain::payment(alloc),
         Drawing::PlainTicket => plain::ticket(alloc),
         Drawing::PlainWithin => plain::within(alloc),
-        Drawing::PlainChars => plain::chars(alloc),
-        Drawing::PlainTexts => plain::texts(alloc),
-        Drawing::PlainSvgText => plain::svg_text(alloc),
-        Drawing::PlainPicText => plain::pic_text(alloc),
         _ => Ok(plain::text(alloc)?.0),
     }
 }
@@ -155,17 +144,13 @@ fn texts_are_drawn(rt: HostRuntime) {
     }
 }
 
-// Whether a file is a PGM file of 232 by 232 pixels.
-fn is_grey_map(file: &[u8]) -> bool {
-    file.starts_with(b"P5\n232 232\n255\n") && file.len() == 53_839
-}
-
 #[test]
 fn pixels_are_drawn(rt: HostRuntime) -> Result<(), Fail> {
     let code = QrCode::new(rt.alloc(), b"01234567")?;
     let file = as_grey_map(rt.alloc(), &code)?;
-    let greys = plain::greys(rt.alloc())?;
-    assert!(rt; is_grey_map(&file) && is_grey_map(&greys));
+    assert!(rt; file.starts_with(b"P5\n232 232\n255\n") && file.len() == 53_839);
+    let image = code.render::<Rgba>().to_image(rt.alloc())?;
+    assert!(rt; image.into_raw().len() == 4 * 53_824);
     let (width, height) = plain::colors(rt.alloc())?.dimensions();
     assert!(rt; width == 203 && height == 203);
     Ok(())

@@ -199,7 +199,7 @@ impl Version {
     pub(crate) fn row(self) -> usize
         requires { IsTrue (is_valid self) }
         ensures value { result ≡ row_of self }
-        ensures below { result < 44 }
+        ensures at_most { result < 44 }
     {
         match self {
             Version::Normal(v) => (v - 1) as usize,
@@ -217,9 +217,9 @@ impl Version {
         table: &[[T; 4]],
     ) -> QrResult<T>
         requires { length table.now ≡ 44 }
-        ensures valid { IsTrue (is_valid self)
+        ensures value { IsTrue (is_valid self)
             → IsFetched T.is_default T.eq table.now self ec_level result }
-        ensures invalid { is_valid self ≡ false → result ≡ Err QrError.InvalidVersion }
+        ensures no_version { is_valid self ≡ false → result ≡ Err QrError.InvalidVersion }
         ensures entry { IfOk result (IsEntry table.now self ec_level) }
     {
         if !self.is_valid() {

@@ -1,9 +1,8 @@
-//! Plain calls, as the README and the page on drawing show them.
+//! Plain calls, as the README shows them, and others whose bodies are checked with no contract of the caller.
 
 use qrcode::bits::Bits;
 use qrcode::render::image::{ImageBuffer, Luma, Rgb};
-use qrcode::render::string::Str;
-use qrcode::render::{pic, svg, unicode};
+use qrcode::render::{svg, unicode};
 use qrcode::types::QrResult;
 use qrcode::{EcLevel, QrCode, Version};
 use std::alloc::Global;
@@ -40,43 +39,6 @@ pub fn greek(alloc: Global) -> QrResult<QrCode> {
     bits.push_byte_data(b"\xca\xfe\xe4\xe9\xea\xe1\xf2 QR")?;
     bits.push_terminator(EcLevel::L)?;
     QrCode::with_bits(alloc, bits, EcLevel::L)
-}
-
-/// A character for each module.
-pub fn chars(alloc: Global) -> QrResult<String> {
-    let code = QrCode::new(alloc, b"01234567")?;
-    code.render::<char>().build(alloc)
-}
-
-/// A text for each module.
-pub fn texts(alloc: Global) -> QrResult<String> {
-    let code = QrCode::new(alloc, b"01234567")?;
-    code.render()
-        .dark_color(Str("##"))
-        .light_color(Str("  "))
-        .build(alloc)
-}
-
-/// SVG, in modules of 8 pixels.
-pub fn svg_text(alloc: Global) -> QrResult<String> {
-    let code = QrCode::new(alloc, b"01234567")?;
-    code.render::<svg::Color>().build(alloc)
-}
-
-/// PIC, whose unit is a module.
-pub fn pic_text(alloc: Global) -> QrResult<String> {
-    let code = QrCode::new(alloc, b"01234567")?;
-    code.render::<pic::Color>().module_size(1).build(alloc)
-}
-
-/// Grey pixels, as a PGM file.
-pub fn greys(alloc: Global) -> QrResult<Vec<u8>> {
-    let code = QrCode::new(alloc, b"01234567")?;
-    let image = code.render::<Luma>().build(alloc)?;
-    let (width, height) = image.dimensions();
-    let mut file = format!(in alloc; "P5\n{width} {height}\n255\n")?.into_bytes();
-    file.extend_from_slice(&image.into_raw())?;
-    Ok(file)
 }
 
 /// Pixels in colours, at least 200 across.

@@ -105,6 +105,8 @@ pub fn encode_in(
     ensures version { IfOk result (λ bits. bits.version ≡ version) }
     ensures accepts { HoldsAs manner version ec_level bytes.now → IsOkUnless result OutOfMemory }
     ensures causes { IfErr result (IsRefusedIn manner version ec_level bytes.now) }
+    ensures too_long { IsTrue (is_valid version) → data_limit < length bytes.now
+        → result ≡ Err DataTooLong }
 {
     if !version.is_valid() {
         return Err(QrError::InvalidVersion);
@@ -173,8 +175,7 @@ fn encode_chosen(
 {
     let mut bits = Bits::new(alloc, chosen.version);
     bits.push_front(manner)?;
-    bits.push_all(bytes, chosen.segments)?;
-    bits.push_terminator(ec_level)?;
+    bits.end_with(bytes, chosen.segments, ec_level)?;
     Ok(bits)
 }
 
@@ -183,7 +184,7 @@ impl Bits {
     pub(super) fn push_front(&mut self, manner: Manner) -> QrResult<()>
         requires exists { IsTrue (has_front self.old.version manner) }
         requires room { length self.old.bits + length (front manner) ≤ bit_limit }
-        ensures appended { OnOk result (self.new ≡ with_bits self.old (front manner)) }
+        ensures appends { OnOk result (self.new ≡ with_bits self.old (front manner)) }
         ensures memory { IsOkUnless result OutOfMemory }
     {
         match manner {

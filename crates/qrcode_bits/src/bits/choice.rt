@@ -76,7 +76,7 @@ fn choose_within(
     ec_level: EcLevel,
 ) -> QrResult<Chosen>
     requires valid { IsTrue (versions.is_valid from) }
-    requires limit { length bytes.now ≤ data_limit }
+    requires length_at_most { length bytes.now ≤ data_limit }
     ensures chosen { IfOk result (IsFirstHeld manner (rank from) ec_level bytes.now) }
     ensures causes { IfErr result (IsRefusedFrom manner from ec_level bytes.now) }
 {
@@ -103,7 +103,7 @@ fn choose_micro(
     wanted: Wanted,
     first: usize,
 ) -> QrResult<Option<Chosen>>
-    requires limit { length bytes.now ≤ data_limit }
+    requires length_at_most { length bytes.now ≤ data_limit }
     requires at_least { 1 ≤ first }
     requires at_most { first ≤ 4 }
     ensures chosen { IfOk result (λ found. MatchOption found
@@ -127,7 +127,7 @@ fn choose_at(
     version: Version,
 ) -> QrResult<Option<Chosen>>
     requires valid { IsTrue (versions.is_valid version) }
-    requires limit { length bytes.now ≤ data_limit }
+    requires length_at_most { length bytes.now ≤ data_limit }
     ensures chosen { IfOk result (λ found. MatchOption found
         (¬ HoldsAs wanted.manner version wanted.ec_level bytes.now)
         (λ chosen. (chosen.version ≡ version)
@@ -150,7 +150,7 @@ fn choose_at(
 // The same from a version of Normal on: in each band, where length fields are of one size, by one
 // search for segments.
 fn choose_normal(alloc: Global, bytes: &[u8], wanted: Wanted, first: usize) -> QrResult<Chosen>
-    requires limit { length bytes.now ≤ data_limit }
+    requires length_at_most { length bytes.now ≤ data_limit }
     requires least { (version : Version) (segments : List Segment)
         → IsCut version bytes.now segments → wanted.least ≤ total_cost version segments }
     requires at_least { 1 ≤ first }
@@ -177,7 +177,7 @@ fn choose_in_band(
     wanted: Wanted,
     first: usize,
 ) -> QrResult<Option<Chosen>>
-    requires limit { length bytes.now ≤ data_limit }
+    requires length_at_most { length bytes.now ≤ data_limit }
     requires least { (version : Version) (segments : List Segment)
         → IsCut version bytes.now segments → wanted.least ≤ total_cost version segments }
     requires at_least { 1 ≤ first }
@@ -211,7 +211,7 @@ pub(super) fn measure(
     version: Version,
 ) -> QrResult<Chosen>
     requires valid { IsTrue (versions.is_valid version) }
-    requires limit { length bytes.now ≤ data_limit }
+    requires length_at_most { length bytes.now ≤ data_limit }
     ensures measured { IfOk result (IsMeasured manner version bytes.now) }
     ensures no_cut { ((segments : List Segment)
         → ¬ IsCutIn (modes_of manner) version bytes.now segments)

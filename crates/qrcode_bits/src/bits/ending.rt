@@ -21,9 +21,9 @@ pub(super) fn terminator_length(version: Version) -> usize
 
 // Appends the terminator and the padding, behind so many bits.
 pub(super) fn push_ending(stream: &mut Stream, terminator: usize, used: usize, capacity: usize)
-    requires terminator { terminator ≤ 9 }
-    requires used { used ≤ capacity }
-    requires capacity { capacity ≤ 23648 }
+    requires terminator_at_most { terminator ≤ 9 }
+    requires used_at_most { used ≤ capacity }
+    requires capacity_at_most { capacity ≤ 23648 }
     requires room { capacity ≤ stream.old.room + used }
     ensures { stream.new.bits ≡ stream.old.bits ++ ending terminator used capacity }
 {

@@ -4,17 +4,14 @@ ghost use Rattle.std.specs.Prelude.{◌≡◌, ◌+◌, ◌<◌, ◌≤◌, ◌�
 ghost use Rattle.qrcode_types.specs.Versions.{capacity};
 ghost use Rattle.qrcode_types.specs.declared.types.EcLevel.{EcLevel};
 ghost use Rattle.qrcode_types.specs.declared.types.QrError.TheVariants.{DataTooLong, UnsupportedCharacterSet, OutOfMemory};
-ghost use Rattle.qrcode_bits.specs.Segments.{AreInside};
 ghost use Rattle.qrcode_bits.specs.Cuts.{IsCut, FitsIn};
-ghost use Rattle.qrcode_bits.specs.Written.{pieces_of};
 ghost use Rattle.qrcode_bits.specs.Spelling.{IsSpelled};
-ghost use Rattle.qrcode_bits.specs.Refusals.{StopsAt, data_limit, bit_limit};
-ghost use Rattle.qrcode_bits.specs.Pushes.{PushesAll};
+ghost use Rattle.qrcode_bits.specs.Refusals.{data_limit, bit_limit};
 ghost use Rattle.qrcode_bits.specs.Optimal.{PushesLeast, StopsInLeast};
 ghost use Rattle.qrcode_bits.specs.declared.optimize.Segment.{Segment};
 
 use super::Bits;
-use crate::optimize::{Segment, least_segments};
+use crate::optimize::least_segments;
 use qrcode_types::types::{QrError, QrResult};
 
 /// No more bytes of data than this are taken.
@@ -61,17 +58,5 @@ impl Bits {
         }
         let segments = least_segments(self.stream.allocator(), bytes, version)?;
         self.push_all(bytes, segments)
-    }
-
-    // Appends the bytes of all segments in their modes.
-    pub(super) fn push_all(&mut self, bytes: &[u8], segments: Vec<Segment>) -> QrResult<()>
-        requires { AreInside (length bytes.now) segments.items }
-        ensures pushed { OnOk result
-            (PushesAll self.old.version self.old.bits bytes.now segments.items self.new.bits) }
-        ensures stopped { IfErr result (λ e. StopsAt self.old.version self.old.bits
-            (pieces_of bytes.now segments.items) e self.new.bits) }
-        ensures version { self.new.version ≡ self.old.version }
-    {
-        self.push_segments(bytes, segments.into_iter())
     }
 }

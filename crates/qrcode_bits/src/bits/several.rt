@@ -15,10 +15,10 @@ impl Bits {
     /// the exclusive or of all bytes of the whole data. It stands in front of everything else.
     ///
     /// `UnsupportedCharacterSet`: the version is one of Micro QR. `DataTooLong`: the list would pass
-    /// 16,777,216 bits.
+    /// 16,777,216 bits. `OutOfMemory`: memory was refused.
     pub fn push_structured_append(&mut self, place: u8, last: u8, parity: u8) -> QrResult<()>
-        requires place { place ≤ last }
-        requires last { last ≤ 15 }
+        requires inside { place ≤ last }
+        requires at_most { last ≤ 15 }
         ensures { Appends (append_refusal (length self.old.bits)
             (if is_micro self.old.version then None else Some (append_header place last parity)))
             (append_header place last parity) self.old self.new result }

@@ -77,7 +77,7 @@ impl Stream {
 
     // Appends the `count` bits of a number, the highest first.
     pub(super) fn push_number(&mut self, count: u32, number: u32)
-        requires count { count ≤ 32 }
+        requires at_most { count ≤ 32 }
         requires fits { number < 2 ^ count }
         requires room { count ≤ self.old.room }
         ensures bits { self.new.bits ≡ self.old.bits ++ number_bits count number }
@@ -105,13 +105,13 @@ impl Stream {
 // Pushes the whole bytes at the front of the bits of `number`, and answers how many bits are left.
 fn push_whole_bytes(bytes: &mut Vec<u8>, number: u64, length: u32) -> u32
     requires fits { number < 2 ^ length }
-    requires length { length < 40 }
+    requires at_most { length < 40 }
     requires room { 8 * vec_len bytes.old + length ≤ 8 * vec_capacity bytes.old }
     ensures bits { bits_of bytes.new.items ++ number_bits result number
         ≡ bits_of bytes.old.items ++ number_bits length number }
-    ensures rest { result < 8 }
-    ensures len { 8 * vec_len bytes.new + result ≡ 8 * vec_len bytes.old + length }
-    ensures capacity { vec_capacity bytes.old ≤ vec_capacity bytes.new }
+    ensures at_most { result < 8 }
+    ensures length { 8 * vec_len bytes.new + result ≡ 8 * vec_len bytes.old + length }
+    ensures capacity_at_least { vec_capacity bytes.old ≤ vec_capacity bytes.new }
 {
     let mut left = length;
     while left >= 8 {

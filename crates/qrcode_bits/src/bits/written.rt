@@ -32,7 +32,7 @@ pub(super) fn may_write(mode: Mode, bytes: &[u8]) -> bool
 // Appends a piece.
 pub(super) fn push_written(stream: &mut Stream, version: Version, mode: Mode, bytes: &[u8])
     requires valid { IsTrue (is_valid version) }
-    requires mode { IsTrue (modes.has_mode version mode) }
+    requires mode_exists { IsTrue (modes.has_mode version mode) }
     requires counted { characters.character_count mode (length bytes.now)
         < 2 ^ modes.length_bits_count mode version }
     requires writable { is_checked mode && not (characters.can_write mode bytes.now) ≡ false }
@@ -54,7 +54,7 @@ pub(super) fn push_written(stream: &mut Stream, version: Version, mode: Mode, by
 #[tactic(auto, using(crate::proofs::Headers::header_fits))]
 fn push_header(stream: &mut Stream, version: Version, mode: Mode, count: usize)
     requires valid { IsTrue (is_valid version) }
-    requires mode { IsTrue (modes.has_mode version mode) }
+    requires mode_exists { IsTrue (modes.has_mode version mode) }
     requires counted { count < 2 ^ modes.length_bits_count mode version }
     requires room { modes.mode_bits_count version + modes.length_bits_count mode version
         ≤ stream.old.room }

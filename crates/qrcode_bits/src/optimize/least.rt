@@ -30,7 +30,7 @@ use std::alloc::{AllocError, Global};
 /// `UnsupportedCharacterSet`: there is no such cut. `OutOfMemory`: memory was refused.
 pub fn least_segments(alloc: Global, bytes: &[u8], version: Version) -> QrResult<Vec<Segment>>
     requires valid { IsTrue (is_valid version) }
-    requires limit { length bytes.now ≤ data_limit }
+    requires length_at_most { length bytes.now ≤ data_limit }
     ensures least { IfOk result (λ segments. IsLeastCut version bytes.now segments.items) }
 
     // Where the data cannot be cut, that is known before memory is asked for.
@@ -65,7 +65,7 @@ pub fn least_segments_in(
     modes: Modes,
 ) -> QrResult<Vec<Segment>>
     requires valid { IsTrue (is_valid version) }
-    requires limit { length bytes.now ≤ data_limit }
+    requires length_at_most { length bytes.now ≤ data_limit }
     ensures least { IfOk result (λ segments.
         IsLeastCutIn modes version bytes.now segments.items) }
 
@@ -102,7 +102,7 @@ fn searched_segments(
     modes: Modes,
 ) -> QrResult<Vec<Segment>>
     requires valid { IsTrue (is_valid version) }
-    requires limit { length bytes.now ≤ data_limit }
+    requires length_at_most { length bytes.now ≤ data_limit }
     ensures least { IfOk result (λ segments.
         IsLeastCutIn modes version bytes.now segments.items) }
     ensures no_cut { ((segments : List Segment) → ¬ IsCutIn modes version bytes.now segments)
@@ -129,7 +129,7 @@ fn searched_segments(
 // Whether the data can be cut. Bytes can write any, and else it is counted.
 fn can_be_cut(bytes: &[u8], version: Version, modes: Modes) -> bool
     requires valid { IsTrue (is_valid version) }
-    requires limit { length bytes.now ≤ data_limit }
+    requires length_at_most { length bytes.now ≤ data_limit }
     ensures { result
         ≡ nat_lt (costs_of (headers_of modes version) bytes.now).start.bits more_than_any }
 {
@@ -140,7 +140,7 @@ fn can_be_cut(bytes: &[u8], version: Version, modes: Modes) -> bool
 // The bits that the data takes at least.
 fn counted_bits(bytes: &[u8], headers: HeaderBits) -> u32
     requires headers { AreSmall headers }
-    requires limit { length bytes.now ≤ data_limit }
+    requires length_at_most { length bytes.now ≤ data_limit }
     ensures { result ≡ (costs_of headers bytes.now).start.bits }
 {
     let single = SingleCosts::of(headers);
@@ -158,7 +158,7 @@ fn least_starts(
     headers: HeaderBits,
 ) -> Result<Vec<BestStart>, AllocError>
     requires headers { AreSmall headers }
-    requires limit { length bytes.now ≤ data_limit }
+    requires length_at_most { length bytes.now ≤ data_limit }
     ensures { IfOk result (λ starts. AreStarts headers bytes.now starts.items) }
 {
     let single = SingleCosts::of(headers);
@@ -178,10 +178,10 @@ fn least_starts(
 // The first segment from a place on, in the mode of its start: the shortest with which the rest
 // takes as few bits as the start says.
 fn first_segment(bytes: &[u8], starts: &[BestStart], headers: HeaderBits, begin: usize) -> Segment
-    requires limit { length bytes.now ≤ data_limit }
+    requires length_at_most { length bytes.now ≤ data_limit }
     requires headers { AreSmall headers }
     requires starts { AreStarts headers bytes.now starts.now }
-    requires begin { begin < length bytes.now }
+    requires inside { begin < length bytes.now }
     ensures { IsFirst headers bytes.now begin result }
 {
     let BestStart { bits, mode } = starts[begin];

@@ -8,9 +8,13 @@ use qrcode_types::types::Mode;
 /// A set of modes.
 #[derive(PartialEq, Eq, Debug, Copy, Clone)]
 pub struct Modes {
+    /// Whether Numeric is in the set.
     pub numeric: bool,
+    /// Whether Alphanumeric is in the set.
     pub alphanumeric: bool,
+    /// Whether Byte is in the set.
     pub byte: bool,
+    /// Whether Kanji is in the set.
     pub kanji: bool,
 }
 

@@ -48,7 +48,7 @@ fn is_sparse(bytes: &[u8]) -> bool
 // Whether four neighbours from one of some places on are not so. Each place is looked at, so that LLVM takes sixteen
 // together.
 fn has_dense(bytes: &[u8], from: usize, to: usize) -> bool
-    requires order { from ≤ to }
+    requires ordered { from ≤ to }
     requires inside { to + 3 ≤ length bytes.now }
     ensures { result ≡ false → (i : ℕ) → from ≤ i → i < to → is_dense_at bytes.now i ≡ false }
 {

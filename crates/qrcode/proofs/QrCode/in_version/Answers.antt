@@ -2,6 +2,7 @@ use Rattle.std.proofs.Common.{arith, subst, ◌∙◌}
 use Rattle.std.specs.Prelude.{IsOkUnless}
 use Rattle.qrcode_types.specs.declared.types.QrError.TheVariants.{OutOfMemory}
 use Rattle.qrcode_bits.specs.Manners.{HoldsAs}
+use Rattle.qrcode_bits.proofs.Automatic.{held_short}
 use Rattle.qrcode_bits.proofs.Given.{if_ok, if_err}
 use Rattle.qrcode.specs.Texts.{IsSymbolAs}
 use Rattle.qrcode.proofs.TextSymbols.{symbol_as, shown_symbol, refused_for_memory}
@@ -33,4 +34,5 @@ returns c =
       holds = if_ok code (λ code _. holds) c.with_bits.ensures.level;
       accepts = λ _. memory k;
       causes = if_err code (λ e want. refused_for_memory m v l bytes e holds want) (memory k);
+      too_long = λ _ long. absurd (omega (arith, held_short m v l bytes holds, long));
     }

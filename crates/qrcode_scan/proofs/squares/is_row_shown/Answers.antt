@@ -28,7 +28,7 @@ returns-else-y-square-eq0-clause-other c =
     let marks = c.args.marks.now in
     let low : 1 ≤ y % q.scale = omega (arith, c.if-y-square-eq0.false) in
     let some = some_row y q.scale low in
-    let room : y * c.args.side + c.args.side ≤ length marks = omega (arith, mul-le-mul_right c.args.side c.requires.inside, c.requires.all) in
+    let room : y * c.args.side + c.args.side ≤ length marks = omega (arith, mul-le-mul_right c.args.side c.requires.inside, c.requires.square) in
     let same = rows_same marks at q.modules.items y c.requires.scale low some (subst (λ (w : ℕ). y * w + w ≤ length marks) c.requires.side room) (c.requires.above (y - 1) (omega (arith, some))) row in
     let yes = (slice_eq-Decides booleans_Decides _ _ _ c.eq.ensures).1 (subst (λ (w : ℕ). slice_range marks (y * w) (y * w + w) ≡ slice_range marks (y * w - w) (y * w)) (sym c.requires.side) same) in
     cc

@@ -25,7 +25,7 @@ returns-clause-value c =
     let marks = c.marks-marks.ensures.value in
     let across : p.across ≡ w = sym c.sides-across.ensures.across ∙ c.if-across-side.false in
     let down : p.down ≡ w = sym c.sides-across.ensures.down ∙ c.if-down-side.false in
-    let all : length p.marks ≡ p.across * p.down = ap length (sym marks) ∙ c.marks-marks.ensures.all in
+    let all : length p.marks ≡ p.across * p.down = ap length (sym marks) ∙ c.marks-marks.ensures.length in
     let square : length p.marks ≡ w * w = all ∙ ap₂ (λ (x y : ℕ). x * y) across down in
     λ _. shown_by_all p at q.modules.items across down all
     (λ k inside. ap (λ m. get_or m k false) (sym marks)

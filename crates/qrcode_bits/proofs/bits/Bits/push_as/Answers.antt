@@ -29,7 +29,7 @@ least : (c : In_ok-push_front) → IsLeastCutIn (modes_of c.args.manner) c.args.
 least c = subst (λ v. IsLeastCutIn (modes_of c.args.manner) v c.args.text.now c.in_ok-chosen.chosen.segments.items) (version c) c.in_ok-chosen.ensures.measured.least
 
 fronted : (c : In_ok-push_front) → c.push_front.new.self ≡ with_bits c.args.self.now (front c.args.manner)
-fronted c = c.in_ok-push_front.ensures.appended ∙ ap (λ (b : BitList). with_bits b (front c.args.manner)) c.in_ok-longer.ensures.value
+fronted c = c.in_ok-push_front.ensures.appends ∙ ap (λ (b : BitList). with_bits b (front c.args.manner)) c.in_ok-longer.ensures.value
 
 pub push_all-requires : goal.push_all-requires
 push_all-requires c =

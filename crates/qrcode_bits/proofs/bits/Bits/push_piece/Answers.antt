@@ -14,7 +14,7 @@ piece c = record { mode = c.args.mode; chunk = c.args.bytes.now }
 
 -- the count of the piece is not refused
 counted : (c : In_ok-length) → count_refusal c.args.self.now.version (length c.args.self.now.bits) c.args.mode (character_count c.args.mode (length c.args.bytes.now)) ≡ None
-counted c = sym (ap (count_refusal c.args.self.now.version (length c.args.self.now.bits) c.args.mode) c.character_count.ensures) ∙ c.in_ok-length.ensures.ok.1
+counted c = sym (ap (count_refusal c.args.self.now.version (length c.args.self.now.bits) c.args.mode) c.character_count.ensures) ∙ c.in_ok-length.ensures.value.1
 
 pub returns-then-not-may_write : goal.returns-then-not-may_write
 returns-then-not-may_write c =

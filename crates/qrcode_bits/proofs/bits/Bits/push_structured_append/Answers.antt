@@ -8,4 +8,4 @@ returns c =
     let old = c.args.self.now in
     let normal : is_micro old.version ≡ false = sym (c.if-is_micro.ensures ∙ ap (λ l. is_micro l.version) c.self.view_is) in
     append_pushed old.version c.args.place c.args.last c.args.parity (196608 + 256 * (16 * c.from.result + c.from-2.result) + c.from-3.result) old c.push_number.new.self c.push_number.result normal
-    (omega (arith, c.requires.place, c.requires.last)) (omega (arith, c.requires.last)) (omega arith) (omega (arith, c.from.ensures, c.from-2.ensures, c.from-3.ensures)) c.push_number.ensures
+    (omega (arith, c.requires.inside, c.requires.at_most)) (omega (arith, c.requires.at_most)) (omega arith) (omega (arith, c.from.ensures, c.from-2.ensures, c.from-3.ensures)) c.push_number.ensures

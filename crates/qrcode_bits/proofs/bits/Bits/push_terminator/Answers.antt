@@ -37,8 +37,8 @@ full c = ap length (ended_now c) ∙ length-terminated c.args.self.now.version c
 pub reserve-requires : goal.reserve-requires
 reserve-requires c = omega (arith, c.in_ok-capacity.ensures.at_most)
 
-pub push_ending-requires-clause-capacity : goal.push_ending-requires-clause-capacity
-push_ending-requires-clause-capacity c = omega (arith, c.in_ok-capacity.ensures.at_most)
+pub push_ending-requires-clause-capacity_at_most : goal.push_ending-requires-clause-capacity_at_most
+push_ending-requires-clause-capacity_at_most c = omega (arith, c.in_ok-capacity.ensures.at_most)
 
 pub invariant_of-self-2 : goal.invariant_of-self-2
 invariant_of-self-2 c =

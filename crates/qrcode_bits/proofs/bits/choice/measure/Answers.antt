@@ -20,9 +20,9 @@ total_encoded_len-requires-clause-ranges c =
 pub total_encoded_len-requires-clause-fits : goal.total_encoded_len-requires-clause-fits
 total_encoded_len-requires-clause-fits c =
     let k = (goal.at.total_encoded_len-requires-clause-fits c).In_ok-segments in
-    rw c.deref.ensures.value (omega (arith, short k, c.requires.limit))
+    rw c.deref.ensures.value (omega (arith, short k, c.requires.length_at_most))
 
 pub overflow_add-used : goal.overflow_add-used
 overflow_add-used c =
     let k = (goal.at.overflow_add-used c).In_ok-segments in
-    omega (arith, short k, c.requires.limit, c.front_length.ensures.at_most, c.total_encoded_len.ensures, ap (total_cost c.args.version) c.deref.ensures.value)
+    omega (arith, short k, c.requires.length_at_most, c.front_length.ensures.at_most, c.total_encoded_len.ensures, ap (total_cost c.args.version) c.deref.ensures.value)

@@ -13,5 +13,5 @@ returns-then-in_mode-lt-MORE_THAN_ANY c =
     let byte = c.in_mode.ensures ∙ ap (λ h. header_in h Byte) c.of-headers.ensures.value in
     let below = c.if-in_mode-lt-MORE_THAN_ANY.true in
     let short = header_below c.args.modes c.args.version Byte c.requires.valid (omega (arith, byte, below)) in
-    let limit = c.requires.limit in
+    let limit = c.requires.length_at_most in
     lt-ltb _ _ below ∙ sym (lt-ltb (costs_of h c.args.bytes.now).start.bits more_than_any (omega (arith, bytes_take h c.args.bytes.now, short, limit)))

@@ -17,7 +17,7 @@ returns-then-bits-header c =
     let count = c.loop-end.count + 1 in
     let end = c.loop-end.end + c.bytes_each-width.result in
     let are = are_bytes bytes (λ k. omega (arith, c.type_inv.bytes k)) in
-    let f = found_at c.args.headers bytes c.args.starts.now place c.requires.starts are c.requires.begin in
+    let f = found_at c.args.headers bytes c.args.starts.now place c.requires.starts are c.requires.inside in
     let w : c.bytes_each-width.result ≡ bytes_each m = c.bytes_each-width.ensures.value in
     let is : end ≡ place + count * bytes_each m = omega (arith, w, ap (λ n. c.loop-end.count * n) w, c.loop-end.invariant.end) in
     let first : count ≤ f.count = elim (cases_lt f.count count) [
@@ -45,7 +45,7 @@ unreachable-requires c =
     let place = c.args.begin in
     let m = (get_or c.args.starts.now place past_end).mode in
     let are = are_bytes c.args.bytes.now (λ k. omega (arith, c.type_inv.bytes k)) in
-    let f = found_at c.args.headers c.args.bytes.now c.args.starts.now place c.requires.starts are c.requires.begin in
+    let f = found_at c.args.headers c.args.bytes.now c.args.starts.now place c.requires.starts are c.requires.inside in
     let w : c.bytes_each-width.result ≡ bytes_each m = c.bytes_each-width.ensures.value in
     elim (cases_lt c.loop-end.count f.count) [
       | inl above ↦ absurd (omega (arith, w, ap (λ n. c.loop-end.count * n) w, c.loop-end.invariant.end, less_bytes m (c.loop-end.count + 1) f.count (omega arith), f.inside, c.loop-end-test.false))

@@ -20,7 +20,7 @@ use Rattle.qrcode_bits.proofs.optimize.least.searched_segments.Goals.{Else-not-c
 
 pub returns-then-not-can_be_cut-clause-accepts : goal.returns-then-not-can_be_cut-clause-accepts
 returns-then-not-can_be_cut-clause-accepts c = λ ss cut.
-    let few = cut_is_short c.args.modes c.args.version c.args.bytes.now c.requires.valid c.requires.limit ss cut in
+    let few = cut_is_short c.args.modes c.args.version c.args.bytes.now c.requires.valid c.requires.length_at_most ss cut in
     absurd (true≢false (sym (lt-ltb _ _ few) ∙ sym c.can_be_cut.ensures ∙ c.if-not-can_be_cut.true))
 
 some_cut : (c : Else-not-can_be_cut) → (ss : List Segment) × IsCutIn c.args.modes c.args.version c.args.bytes.now ss

@@ -1,0 +1,16 @@
+//! Laws of the types that no call stands for, on the contract of a function that does nothing.
+
+ghost use Rattle.std.specs.Prelude.{◌≡◌, ◌↔◌, IsTrue};
+ghost use Rattle.qrcode_bits.specs.declared.bits.manner.Manner.{Manner};
+ghost use Rattle.qrcode_bits.specs.declared.optimize.Segment.{Segment};
+ghost use Rattle.qrcode_bits.specs.declared.optimize.mode_sets.Modes.{Modes};
+
+use crate::bits::Manner;
+use crate::optimize::{Modes, Segment};
+
+/// Two values are equal by `==` exactly when they are the same.
+pub fn equality()
+    ensures segments { (a b : Segment) → IsTrue (⟦<Segment as PartialEq>⟧.eq a b) ↔ (a ≡ b) }
+    ensures mode_sets { (a b : Modes) → IsTrue (⟦<Modes as PartialEq>⟧.eq a b) ↔ (a ≡ b) }
+    ensures manners { (a b : Manner) → IsTrue (⟦<Manner as PartialEq>⟧.eq a b) ↔ (a ≡ b) }
+{}
