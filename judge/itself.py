@@ -14,26 +14,26 @@ from looks import damaged, drawn, not_alike, not_least, not_read, square_of, tur
 from masks import not_beyond, not_decided
 from printed import DIGITS_MICRO, DIGITS_NORMAL, PUBLISHED
 
-WORLD = Path(__file__).resolve().parent.parent / "crates" / "qrcode_world"
+WORLD = Path(__file__).resolve().parent.parent / "world"
 
 
 def world_squares():
-    """The squares of qrcode_world with what each was asked for."""
-    asked = [line.split() for line in (WORLD / "stdin").read_text().splitlines() if line and not line.startswith("#")]
-    for (width, digits), told in zip(asked, (WORLD / "stdout").read_text().splitlines(), strict=True):
+    """The squares of other encoders with what each was asked for, as world/make wrote them."""
+    asked = [line.split() for line in (WORLD / "squares").read_text().splitlines() if line and not line.startswith("#")]
+    for (width, digits), told in zip(asked, (WORLD / "readings").read_text().splitlines(), strict=True):
         count = int(width) ** 2
         yield bytes(map(int, f"{int(digits, 16):0{len(digits) * 4}b}"[:count])), told
 
 
 def told_header(kind, *numbers):
-    """A header, as qrcode_world tells it."""
+    """A header, in the words of world/make."""
     if kind == "symbol":
         return "symbol {} of {}, parity {}".format(*numbers)
     return " ".join(map(str, (kind, *numbers)))
 
 
 def told_of(square):
-    """A reading, as qrcode_world tells it."""
+    """A reading, in the words of world/make."""
     bits, found = reading.read_headed(square)
     name = f"{'Micro' if bits.version.startswith('M') else 'Normal'} {bits.version.lstrip('M')} {bits.level}, mask {bits.mask}"
     return f"{', '.join([name] + [told_header(*header) for header in found.headers])}: {found.data.hex()}" if bits.wrong == 0 else "wrong codewords"

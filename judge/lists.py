@@ -1,4 +1,7 @@
-"""Data bits of symbols: printed ones, headers, and lists of segments of each length where a codeword has four bits; segments in any order; damage without finder patterns."""
+"""Data bits of symbols: printed ones, headers, and lists of segments of each length where a codeword has four bits; segments in any order; damage without finder patterns; wrong bits
+of the format word."""
+from itertools import combinations, product
+
 import goqlanis
 import reading
 from forms import blocks, form
@@ -149,4 +152,15 @@ def without_finders():
     return [it] if it else [], "a symbol"
 
 
-TESTS = [printed_codewords, least_cuts, readme_symbols, headers_are_read, lists_are_ended, segments_in_any_order, without_finders]
+def wrong_bits_of_a_copy():
+    """Any three wrong bits of either copy of the format word are read over, and any four are refused"""
+    square, found, count = square_of(goqlanis.encode(b"01234567", "M", "1")), [], 0
+    for copy, (wrong, expected) in product(form("1").copies, ((3, answered(square)), (4, "NoFormat"))):
+        for places in combinations(copy, wrong):
+            turned = bytes(module ^ (place in places) for place, module in enumerate(square))
+            found += [f"{places}: {answered(turned)}"] if answered(turned) != expected else []
+            count += 1
+    return found + ([] if count == 2 * (455 + 1365) else ["there are not 3640"]), f"{count} squares"
+
+
+TESTS = [printed_codewords, least_cuts, readme_symbols, headers_are_read, lists_are_ended, segments_in_any_order, without_finders, wrong_bits_of_a_copy]

@@ -1,4 +1,4 @@
-"""Masks of symbols in which one term of the penalty decides alone, and of symbols with penalties of more than 16 bits."""
+"""Masks of symbols in which one term of the penalty decides alone, of symbols that several masks suit alike, and of symbols with penalties of more than 16 bits."""
 import goqlanis
 import penalty
 import reading
@@ -37,6 +37,21 @@ CHOICES = [
     (b"7", "M4", "Q", "greater side"),
 ]
 
+# The data of a symbol, its version and level, and the masks that have the least penalty, of which the first is taken.
+TIES = [
+    (b"3", "M1", "L", [1, 3]),
+    (b"9", "M2", "L", [1, 2]),
+    (b"1", "M2", "M", [1, 2]),
+    (b"33", "M3", "L", [2, 3]),
+    (b"0", "M3", "M", [0, 1]),
+    (b"9", "M4", "L", [2, 3]),
+    (b"0", "M4", "M", [1, 2, 3]),
+    (b"2", "M4", "Q", [1, 3]),
+    (b"GOQLANIS 10", "1", "L", [0, 7]),
+    (b"GOQLANIS 10", "1", "M", [0, 6]),
+    (b"GOQLANIS 27", "2", "L", [3, 5]),
+]
+
 # Symbols that are light under a mask for the most part: version, mask, and how many codewords are noise, so many that the penalty under the mask is a little more than 16 bits
 # hold, and less than those under the others if it is cut to 16 bits.
 LIGHT = [("36", 3, 950), ("38", 7, 1300), ("40", 5, 1650)]
@@ -58,6 +73,19 @@ def one_term_decides():
         it = not_least(square) or not_decided(square, term)
         found += [f"{data} in {version}-{level}: {it}"] if it else []
     return found, f"{len(CHOICES)} symbols"
+
+
+def first_of_several():
+    """Symbols that several masks suit alike have the first"""
+    found = []
+    for data, version, level, masks in TIES:
+        square = square_of(goqlanis.encode(data, level, version))
+        bits = reading.read_bits(square)
+        costs = [sum(terms.values()) for terms in reading.penalties(square, bits)]
+        least = [mask for mask, cost in enumerate(costs) if cost == min(costs)]
+        if least != masks or bits.mask != masks[0]:
+            found.append(f"{data} in {version}-{level}: mask {bits.mask} of {least}")
+    return found, f"{len(TIES)} symbols"
 
 
 def noise(row, column):
@@ -96,4 +124,4 @@ def more_than_16_bits():
     return found, f"{len(LIGHT)} symbols"
 
 
-TESTS = [one_term_decides, more_than_16_bits]
+TESTS = [one_term_decides, first_of_several, more_than_16_bits]
