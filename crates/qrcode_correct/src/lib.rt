@@ -2,6 +2,7 @@
 #![tactic(auto)]
 
 mod errors;
+pub mod laws;
 mod recurrences;
 mod residues;
 

@@ -1,6 +1,8 @@
 //! What the programs have in common: why they fail, how they write, and how they end.
 #![tactic(auto)]
 
+pub mod laws;
+
 ghost use Rattle.std.specs.Prelude.{◌≡◌, ◌⊎◌, is_ok, IfErr, IsErrOf, IsOkAnd, if◌then◌else◌};
 ghost use Rattle.std.specs.Process.{exit_status};
 ghost use Rattle.qrcode_types.specs.declared.types.QrError.TheVariants.{OutOfMemory};
