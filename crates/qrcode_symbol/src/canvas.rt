@@ -33,7 +33,7 @@ mod pattern_places;
 mod unpacking;
 
 use applying::mask_modules;
-use cells::Cell;
+use cells::empty_bytes;
 use codewords::Codewords;
 use drawing::{draw_patterns, is_functional_place};
 use filling::draw_codewords;
@@ -350,7 +350,7 @@ pub fn drawn_colors(
     ensures carries { AreCarried version ec_level bytes.now ec.now }
 {
     let width = side(version);
-    let mut cells = vec![in alloc; u8::of(Module::Empty); width * width]?;
+    let mut cells = empty_bytes(alloc, width * width)?;
     draw_patterns(version, &mut cells);
     let codewords = Codewords::new(version, ec_level, bytes, ec);
     draw_codewords(version, codewords, &mut cells);

@@ -72,7 +72,9 @@ fn pattern_module(places: PatternPlaces, x: usize, y: usize, old: Module) -> Mod
     }
 }
 
-// Draws the patterns at so many places of a row, from column `left` on.
+// Draws the patterns at so many places of a row, from column `left` on. Inlined, a line of timing modules is told from the
+// rest once.
+#[inline(always)]
 fn draw_row<C: Cell>(places: PatternPlaces, left: usize, across: usize, y: usize, modules: &mut [C])
     requires columns { left + across ≤ side places.version }
     requires row { y < side places.version }
@@ -89,6 +91,7 @@ fn draw_row<C: Cell>(places: PatternPlaces, left: usize, across: usize, y: usize
 }
 
 // Draws the patterns in a rectangle.
+#[inline(always)]
 fn draw_rectangle<C: Cell>(
     places: PatternPlaces,
     left: usize,
