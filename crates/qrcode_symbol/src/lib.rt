@@ -3,6 +3,7 @@
 #![tactic(auto)]
 
 pub mod canvas;
+pub mod laws;
 
 pub use qrcode_ec as ec;
 pub use qrcode_types::types;

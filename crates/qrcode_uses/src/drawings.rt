@@ -1,4 +1,4 @@
-//! The six ways to draw a symbol.
+//! Six ways to draw a symbol: texts of characters, pairs and half blocks, SVG, PIC and grey pixels.
 
 ghost use Rattle.std.specs.Prelude.{◌≡◌, string_bytes, IfOk, IsOkUnless};
 ghost use Rattle.qrcode_types.specs.declared.types.QrError.TheVariants.{OutOfMemory};
