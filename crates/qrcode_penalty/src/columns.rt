@@ -1,10 +1,10 @@
-//! What the columns of a square and its two by two modules cost: the columns lie side by side in the words of its rows.
+//! What the columns of a square cost: they lie side by side in the words of its rows.
 
-ghost use Rattle.std.specs.Prelude.{◌≡◌, ℕ, ◌+◌, ◌-◌, ◌*◌, ◌/◌, ◌<◌, ◌≤◌, ◌^◌, bit_or, bit_xor, false, not, slice_index_or};
+ghost use Rattle.std.specs.Prelude.{◌≡◌, ℕ, ◌+◌, ◌-◌, ◌*◌, ◌/◌, ◌<◌, ◌≤◌, ◌^◌, bit_xor, false, not, slice_index_or};
 ghost use Rattle.qrcode_packed.specs.Rows.{FitsWidth, is_set, dark_in};
-ghost use Rattle.qrcode_penalty.specs.Penalty.{count_if, is_run, run_penalty_at, finder_penalty_at, block_penalty, sum_below};
+ghost use Rattle.qrcode_penalty.specs.Penalty.{count_if, is_run, run_penalty_at, finder_penalty_at, sum_below};
 ghost use Rattle.qrcode_penalty.specs.Inside.{before, two, run_from, inside_row};
-ghost use Rattle.qrcode_penalty.specs.Padding.{padded_row, four_rows, is_lone_form, block_penalty_in};
+ghost use Rattle.qrcode_penalty.specs.Padding.{padded_row, four_rows, is_lone_form};
 
 use qrcode_packed::row::PackedRow;
 use qrcode_packed::square::PackedSquare;
@@ -172,29 +172,6 @@ fn two_column_finders<R: PackedRow>(square: &PackedSquare<'_, R>, y: usize) -> u
     column_finders(square, y) + column_finders(square, y + 1)
 }
 
-// Where a module of a row and the next are of two colours.
-#[inline(always)]
-fn edges<R: PackedRow>(row: R) -> R
-    ensures { R.bits result ≡ bit_xor (R.bits row) (R.bits row / 2 ^ 1) }
-{
-    row.xor(row.down(1))
-}
-
-// 3 for each two by two modules of one colour in two rows, by the edges of both.
-#[inline(always)]
-fn blocks_between<R: PackedRow>(width: u32, upper: R, lower: R, edged: R) -> u32
-    requires at_least { 7 ≤ width }
-    requires room { width + 3 ≤ R.room }
-    requires edged { R.bits edged ≡ bit_or (bit_xor (R.bits upper) (R.bits upper / 2 ^ 1))
-        (bit_xor (R.bits lower) (R.bits lower / 2 ^ 1)) }
-    ensures value { result ≡ sum_below (width - 1)
-        (block_penalty_in (is_set (R.bits upper)) (is_set (R.bits lower))) }
-    ensures at_most { result ≤ 600 }
-{
-    let mixed = upper.xor(lower).or(edged);
-    3 * R::first(width - 1).without(mixed).count_ones()
-}
-
 // What the runs of all columns cost behind the first y rows, where five modules begin in one row more or in none. Not
 // inlined: the loop over pairs of rows then keeps its words at hand.
 #[inline(never)]
@@ -263,26 +240,6 @@ pub(crate) fn column_finder_penalties<R: PackedRow>(square: &PackedSquare<'_, R>
     }
     if count % 2 == 1 {
         total += column_finders(square, count - 1);
-    }
-    total
-}
-
-/// What all two by two modules of one colour cost. Each row is kept with its edges for the next one.
-#[tactic(auto, using(crate::proofs::Sums::sum_step), unfolding(crate::specs::Penalty::sum_below, crate::specs::Penalty::block_penalty))]
-pub(crate) fn block_penalties<R: PackedRow>(square: &PackedSquare<'_, R>) -> u32
-    ensures value { result ≡ block_penalty square.now.width (dark_in square.now.rows) }
-    ensures at_most { result ≤ 10000 * square.now.width }
-{
-    let width = square.width();
-    let mut upper = square.row(0);
-    let mut upper_edges = edges(upper);
-    let mut total = 0;
-    for y in 0..width as usize - 1 {
-        let lower = square.row(y + 1);
-        let lower_edges = edges(lower);
-        total += blocks_between(width, upper, lower, upper_edges.or(lower_edges));
-        upper = lower;
-        upper_edges = lower_edges;
     }
     total
 }

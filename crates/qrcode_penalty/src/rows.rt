@@ -2,7 +2,7 @@
 
 ghost use Rattle.std.specs.Prelude.{◌≡◌, ℕ, ◌+◌, ◌-◌, ◌*◌, ◌<◌, ◌≤◌};
 ghost use Rattle.qrcode_packed.specs.Rows.{FitsWidth, is_set, dark_in};
-ghost use Rattle.qrcode_penalty.specs.Penalty.{run_penalty, finder_penalty, line_penalty, light_count, sum_below, dark_count, dark_count_in};
+ghost use Rattle.qrcode_penalty.specs.Penalty.{run_penalty, finder_penalty, line_penalty, block_penalty, block_penalty_at, light_count, sum_below, dark_count, dark_count_in};
 
 use qrcode_packed::pair::RowPair;
 use qrcode_packed::row::PackedRow;
@@ -70,21 +70,62 @@ fn two_row_penalties<R: PackedRow>(square: &PackedSquare<'_, R>, upper: usize, l
     run_penalties::<R>(rows, width) + finder_penalties::<R>(rows, width)
 }
 
-/// What the rows cost, each as a line, two at a time. The last one of an odd number is counted twice, and halved.
-pub(crate) fn row_penalties<R: PackedRow>(square: &PackedSquare<'_, R>) -> u32
-    ensures value { result ≡ sum_below square.now.width
-        (λ y. line_penalty square.now.width (λ x. dark_in square.now.rows x y)) }
-    ensures at_most { result ≤ 10000 * square.now.width }
+// What the two by two modules of one colour in a row and the next cost, for two such rows together.
+#[inline(always)]
+fn two_block_penalties<R: PackedRow>(
+    square: &PackedSquare<'_, R>,
+    upper: usize,
+    lower: usize,
+) -> u32
+    requires upper_inside { upper + 1 < square.now.width }
+    requires lower_inside { lower + 1 < square.now.width }
+    ensures value { let dark = dark_in square.now.rows in result
+        ≡ sum_below (square.now.width - 1) (block_penalty_at dark upper)
+        + sum_below (square.now.width - 1) (block_penalty_at dark lower) }
+    ensures at_most { result ≤ 1200 }
 {
-    let count = square.width() as usize;
+    let width = square.width();
+    let rows = square.row(upper).beside(square.row(lower));
+    let next = square.row(upper + 1).beside(square.row(lower + 1));
+    let edges = rows.xor(rows.down(1)).or(next.xor(next.down(1)));
+    let mixed = rows.xor(next).or(edges);
+    let places = R::first(width - 1);
+    3 * places.beside(places).without(mixed).count_ones()
+}
+
+// What the last rows cost behind an even number y of them, each as a line, and the blocks between them: one row that is
+// counted twice, and halved, or two.
+fn last_penalties<R: PackedRow>(square: &PackedSquare<'_, R>, y: usize) -> u32
+    requires at_least { y < square.now.width }
+    requires near { square.now.width ≤ y + 2 }
+    ensures value { let dark = dark_in square.now.rows in let width = square.now.width in
+        sum_below y (λ k. line_penalty width (λ x. dark x k))
+        + sum_below y (λ k. sum_below (width - 1) (block_penalty_at dark k)) + result
+        ≡ sum_below width (λ k. line_penalty width (λ x. dark x k)) + block_penalty width dark }
+    ensures at_most { result ≤ 30000 }
+{
+    let width = square.width();
+    if y + 1 == width as usize {
+        return two_row_penalties(square, y, y) / 2;
+    }
+    two_row_penalties(square, y, y + 1) + two_block_penalties(square, y, y) / 2
+}
+
+/// What the rows cost, each as a line, and all two by two modules of one colour, two rows at a time: both need where the
+/// colour changes in a row.
+pub(crate) fn row_and_block_penalties<R: PackedRow>(square: &PackedSquare<'_, R>) -> u32
+    ensures value { result ≡ sum_below square.now.width
+        (λ y. line_penalty square.now.width (λ x. dark_in square.now.rows x y))
+        + block_penalty square.now.width (dark_in square.now.rows) }
+    ensures at_most { result ≤ 20000 * square.now.width }
+{
+    let pairs = (square.width() as usize - 1) / 2;
     let mut total = 0;
-    for k in 0..count / 2 {
+    for k in 0..pairs {
         total += two_row_penalties(square, 2 * k, 2 * k + 1);
+        total += two_block_penalties(square, 2 * k, 2 * k + 1);
     }
-    if count % 2 == 1 {
-        total += two_row_penalties(square, count - 1, count - 1) / 2;
-    }
-    total
+    total + last_penalties(square, 2 * pairs)
 }
 
 // How many modules of row y are dark.
