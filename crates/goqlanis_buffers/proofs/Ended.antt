@@ -1,5 +1,5 @@
 -- The end of a list of segments.
-use Rattle.std.proofs.Common.{◌≡◌, ℕ, ◌<◌, ◌≤◌, nat_le, not, Bool, true, List, length, Option, Some, None, if◌then◌else◌, sym, ap, ap₂, subst, ◌∙◌, inl, inr}
+use Rattle.std.proofs.Common.{◌≡◌, ℕ, nat_le, not, Bool, true, List, length, Option, Some, None, if◌then◌else◌, sym, ap, ap₂, subst, ◌∙◌, inl, inr}
 use Rattle.std.specs.Prelude.{Result, Err}
 use Rattle.std.proofs.lemmas.Bool.{cases_lt, le-leb, lt-leb}
 use Rattle.qrcode_types.specs.Versions.{has_level, capacity}

@@ -3,7 +3,7 @@ use Rattle.std.proofs.Common.{◌≡◌, ℕ, ◌+◌, ◌<◌, ◌≤◌, List,
 use denote.Enum.Bare.{sameb, differs_true, differs_false}
 use Rattle.std.specs.Prelude.{◌≢◌, not}
 use Rattle.goqlanis_buffers.specs.contracts.answers.Refusal.{the_type}
-use Rattle.std.proofs.lemmas.Bool.{cases_lt}
+use Rattle.std.proofs.lemmas.Bool.{cases_lt, le-leb}
 use Rattle.std.proofs.lemmas.Option.{slice_get_within}
 use Rattle.qrcode_types.specs.Versions.{has_level}
 use Rattle.qrcode_types.specs.declared.types.EcLevel.{EcLevel}
@@ -11,7 +11,7 @@ use Rattle.qrcode_types.specs.declared.types.Version.{Version}
 use Rattle.qrcode_types.specs.declared.types.Version.TheVariants.{Normal}
 use Rattle.qrcode_bits.proofs.Bands.{normal_level, normal_number}
 use Rattle.goqlanis_buffers.specs.Answers.{IsLeastCause}
-use Rattle.goqlanis_buffers.specs.Names.{level_named}
+use Rattle.goqlanis_buffers.specs.Names.{level_named, version_named}
 use Rattle.goqlanis_buffers.specs.Segments.{AreHeld, AreUnheld, HasNoRoom, IsLeastHeld}
 use Rattle.goqlanis_buffers.specs.declared.answers.Refusal.{Refusal}
 use Rattle.goqlanis_buffers.specs.declared.answers.Refusal.TheVariants.{NoRoom, OutOfMemory}
@@ -59,6 +59,13 @@ no_room_more number v l segments r named some most found why lesser n first smal
       let unheld = subst (λ r. AreUnheld (Normal (pos number)) l segments r) (is_room r found) (subst (λ w. AreUnheld w l segments r) named why) in
       subst (λ k. HasNoRoom (Normal (pos k)) l segments) equal (no_room (Normal (pos number)) l segments (normal_level number l some most) unheld)
 ]
+
+-- the version of a number from 1 to 40
+pub named_normal : (number : ℕ) → 1 ≤ number → number ≤ 40 → version_named number ≡ Some (Normal (pos number))
+named_normal number some most =
+    let low = le-leb 1 number some in
+    let high = le-leb number 40 most in
+    rw (low, high) refl
 
 -- a version that holds segments, and none less that has room
 pub least_held : (number : ℕ) (v : Version) (l : EcLevel) (segments : List Segment) → v ≡ Normal (pos number) → AreHeld v l segments

@@ -1,5 +1,5 @@
 -- Refusals of the constructor, as C reads them.
-use Rattle.std.proofs.Common.{◌≡◌, ℕ, ◌≤◌, List, length, Some, IfSome, true, sym, subst, ◌∙◌, inl, inr, true≢false, arith}
+use Rattle.std.proofs.Common.{◌≡◌, ℕ, ◌≤◌, List, length, Some, true, sym, subst, ◌∙◌, inl, inr, true≢false, arith}
 use Rattle.std.specs.Prelude.{Result, Ok, Err, IsErr, IsErrAnd, IfErr}
 use Rattle.qrcode_types.specs.Versions.{is_valid}
 use Rattle.qrcode_types.specs.declared.types.EcLevel.{EcLevel}
@@ -7,9 +7,8 @@ use Rattle.qrcode_types.specs.declared.types.Version.{Version}
 use Rattle.qrcode_types.specs.declared.types.QrError.{QrError}
 use Rattle.qrcode_bits.specs.Refusals.{data_limit}
 use Rattle.qrcode.specs.Acceptance.{IsRefusedAt}
-use Rattle.goqlanis_buffers.specs.Answers.{refusal_of, IsCauseIn}
+use Rattle.goqlanis_buffers.specs.Answers.{IsCauseIn}
 use Rattle.goqlanis_buffers.specs.Segments.{refusal_in}
-use Rattle.goqlanis_buffers.specs.declared.answers.Refusal.{Refusal}
 use Rattle.goqlanis_buffers.specs.Names.{level_named, version_named}
 
 -- the constructor's causes, where level, version and limit were looked at before
@@ -39,7 +38,3 @@ refused version level v l bytes e room named levelled valid short cause =
 pub handed_on : {T R : Type 0} (result : Result T R) (r : R) (P : R → Type 0) → IsErr result × IsErrAnd result (λ x. x ≡ r) → P r → IfErr result P
 handed_on (Ok u) r P h p = tt
 handed_on (Err x) r P h p = subst P (sym h.1) p
-
--- what holds of a refusal holds of the one that C reads in its number
-pub told : (P : Refusal → Type 0) (n : ℕ) (r : Refusal) → refusal_of n ≡ Some r → P r → IfSome (refusal_of n) P
-told P n r is p = subst (λ o. IfSome o P) (sym is) p

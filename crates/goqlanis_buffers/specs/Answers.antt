@@ -4,22 +4,21 @@ use Rattle.qrcode_types.specs.Versions.{has_level}
 use Rattle.qrcode_types.specs.declared.types.EcLevel.{EcLevel}
 use Rattle.qrcode_types.specs.declared.types.Version.{Version}
 use Rattle.qrcode_types.specs.declared.types.Version.TheVariants.{Normal}
-use Rattle.qrcode_types.specs.declared.types.Color.{Color}
 use Rattle.qrcode_bits.specs.Cuts.{IsCut}
 use Rattle.qrcode_bits.specs.Choice.{Holds}
-use Rattle.qrcode_bits.specs.Manners.{rank, HoldsAs, IsLeastFrom}
+use Rattle.qrcode_bits.specs.Manners.{rank, HoldsAs}
 use Rattle.qrcode_bits.specs.Refusals.{data_limit}
 use Rattle.qrcode_bits.specs.declared.bits.manner.Manner.{Manner}
 use Rattle.qrcode_bits.specs.declared.optimize.Segment.{Segment}
-use Rattle.qrcode.specs.Acceptance.{IsChosenSymbol, IsLeastSymbol}
 use Rattle.qrcode.specs.Reading.{ReadsOnly}
-use Rattle.qrcode.specs.Texts.{IsSymbolAs}
 use Rattle.qrcode_reader.specs.Readings.{HasNoVersion, HasNoFormat, HasDamagedBlock, SpellsNothing}
-use Rattle.goqlanis_buffers.specs.Drawings.{format_named, colors_of, IsDrawn}
+use Rattle.qrcode_render.specs.Shades.{colors_of}
+use Rattle.goqlanis_buffers.specs.Drawings.{format_named, IsDrawn}
 use Rattle.goqlanis_buffers.specs.declared.drawing.Format.{Format}
 use Rattle.goqlanis_buffers.specs.declared.drawing.Format.TheVariants.{Png}
 use Rattle.goqlanis_buffers.specs.Names.{level_named, version_named}
-use Rattle.goqlanis_buffers.specs.Segments.{HasNoRoom, HaveNoRoom, IsFirstRefused, IsSymbolOfSegments}
+use Rattle.goqlanis_buffers.specs.Segments.{HasNoRoom, HaveNoRoom, IsFirstRefused}
+use Rattle.goqlanis_buffers.specs.Symbols.{ExceedsRoom, IsAutomaticSymbol, IsSymbolIn, IsSegmentsSymbol, IsTextSymbol}
 use Rattle.goqlanis_buffers.specs.declared.segments.Segment as by_hand
 use Rattle.goqlanis_buffers.specs.declared.answers.Refusal.{Refusal}
 use Rattle.goqlanis_buffers.specs.declared.answers.Refusal.TheVariants.{NoSuchLevel, NoSuchVersion, LevelNotInVersion, TooLong, NoMode, NoRoom, SmallBuffer, OutOfMemory, NoSuchFormat, NotSquare, NoSuchSize, NotText, NoSuchKind, NotInMode, NoSuchNumber, NoSuchSide, NoFormat, Damaged, NotSpelled}
@@ -35,16 +34,11 @@ refusals =
 abbrev pub refusal_of : ℕ → Option Refusal
 refusal_of n = if n == 0 then None else slice_get refusals (n - 1)
 
--- the symbol of data in a manner, of the least Normal version that holds it
-abbrev pub IsChosenAs : Manner → Version → EcLevel → List ℕ → List Color → Type 0
-IsChosenAs m v l bytes s = IsLeastFrom m (Normal (pos 1)) l bytes v × IsSymbolAs m v l bytes s
-
 -- why bytes are refused at a level, where the least Normal version is chosen and the buffer has so much room
 abbrev pub IsAutomaticCause : ℕ → List ℕ → ℕ → Refusal → Type 0
 IsAutomaticCause level bytes room NoSuchLevel = level_named level ≡ None
 IsAutomaticCause level bytes room NoRoom = (l : EcLevel) × ((level_named level ≡ Some l) × ((n : ℕ) → ¬ Holds (Normal (pos n)) l bytes))
-IsAutomaticCause level bytes room SmallBuffer =
-    (l : EcLevel) × ((v : Version) × ((s : List Color) × ((level_named level ≡ Some l) × (IsChosenSymbol v l bytes s × (room < length s)))))
+IsAutomaticCause level bytes room SmallBuffer = ExceedsRoom (IsAutomaticSymbol level bytes) room
 IsAutomaticCause level bytes room OutOfMemory = ⊤
 IsAutomaticCause level bytes room refusal = ⊥
 
@@ -59,9 +53,7 @@ IsCauseIn version level bytes room NoMode =
     (v : Version) × ((version_named version ≡ Some v) × ((segments : List Segment) → ¬ IsCut v bytes segments))
 IsCauseIn version level bytes room NoRoom =
     (l : EcLevel) × ((v : Version) × ((level_named level ≡ Some l) × ((version_named version ≡ Some v) × (¬ Holds v l bytes))))
-IsCauseIn version level bytes room SmallBuffer =
-    (l : EcLevel) × ((v : Version) × ((s : List Color)
-    × ((level_named level ≡ Some l) × ((version_named version ≡ Some v) × (IsLeastSymbol v l bytes s × (room < length s))))))
+IsCauseIn version level bytes room SmallBuffer = ExceedsRoom (IsSymbolIn version level bytes) room
 IsCauseIn version level bytes room OutOfMemory = ⊤
 IsCauseIn version level bytes room refusal = ⊥
 
@@ -77,9 +69,7 @@ IsJointCause version level segments room LevelNotInVersion =
     (l : EcLevel) × ((v : Version) × ((level_named level ≡ Some l) × ((version_named version ≡ Some v) × (has_level v l ≡ false))))
 IsJointCause version level segments room NoRoom =
     (l : EcLevel) × ((v : Version) × ((level_named level ≡ Some l) × ((version_named version ≡ Some v) × HaveNoRoom v l segments)))
-IsJointCause version level segments room SmallBuffer =
-    (l : EcLevel) × ((v : Version) × ((s : List Color)
-    × ((level_named level ≡ Some l) × ((version_named version ≡ Some v) × (IsSymbolOfSegments v l segments s × (room < length s))))))
+IsJointCause version level segments room SmallBuffer = ExceedsRoom (IsSegmentsSymbol version level segments) room
 IsJointCause version level segments room OutOfMemory = ⊤
 IsJointCause version level segments room refusal = ⊥
 
@@ -110,8 +100,7 @@ IsTextCause m level bytes room NoSuchLevel = level_named level ≡ None
 IsTextCause m level bytes room NotText = ¬ IsUtf8 bytes
 IsTextCause m level bytes room NoRoom =
     (l : EcLevel) × ((level_named level ≡ Some l) × ((v : Version) → rank (Normal (pos 1)) ≤ rank v → ¬ HoldsAs m v l bytes))
-IsTextCause m level bytes room SmallBuffer =
-    (l : EcLevel) × ((v : Version) × ((s : List Color) × ((level_named level ≡ Some l) × (IsChosenAs m v l bytes s × (room < length s)))))
+IsTextCause m level bytes room SmallBuffer = ExceedsRoom (IsTextSymbol m level bytes) room
 IsTextCause m level bytes room OutOfMemory = ⊤
 IsTextCause m level bytes room refusal = ⊥
 

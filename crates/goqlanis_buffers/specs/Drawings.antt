@@ -1,6 +1,5 @@
 -- What the calls for C draw.
-use Rattle.std.specs.Prelude.{◌≡◌, ℕ, ◌==◌, not, true, false, List, [], ◌∷◌, ◌++◌, length, drop, map, codes, slice_get, Option, None, Some}
-use Rattle.qrcode_types.specs.Colors.{color_of}
+use Rattle.std.specs.Prelude.{◌≡◌, ◌<◌, ℕ, true, false, List, [], ◌∷◌, ◌++◌, length, drop, codes, slice_get, Option, None, Some}
 use Rattle.qrcode_types.specs.declared.types.Color.{Color}
 use Rattle.qrcode_png.specs.Shown.{IsFileOf}
 use Rattle.qrcode_png.specs.declared.picture.Color as png
@@ -9,18 +8,17 @@ use Rattle.qrcode_render.specs.Files.{pbm_file}
 use Rattle.qrcode_render.specs.declared.eps.Color as eps
 use Rattle.qrcode_render.specs.Layout.{Layout, layout}
 use Rattle.qrcode_render.specs.Picture.{picture}
+use Rattle.qrcode_render.specs.Setting.{Square}
+use Rattle.qrcode_render.specs.Shades.{colors_of}
 use Rattle.qrcode_render.specs.Texts.{dense_text, raw_bytes}
 use Rattle.qrcode_render.specs.Vectors.{svg_text, pic_text}
+use Rattle.goqlanis_buffers.specs.declared.asked.Asked.{Asked}
 use Rattle.goqlanis_buffers.specs.declared.drawing.Format.{Format}
 use Rattle.goqlanis_buffers.specs.declared.drawing.Format.TheVariants.{HalfBlocks, LightHalfBlocks, Svg, Pic, Grey, Png, Eps, Pbm}
 
 -- the format of a number, in this order from 0 on
 abbrev pub format_named : ℕ → Option Format
 format_named n = slice_get (HalfBlocks ∷ LightHalfBlocks ∷ Svg ∷ Pic ∷ Grey ∷ Png ∷ Eps ∷ Pbm ∷ []) n
-
--- bytes as modules: those that are not zero are dark
-abbrev pub colors_of : List ℕ → List Color
-colors_of bytes = map (λ b. color_of (not (b == 0))) bytes
 
 -- black and white, opaque
 abbrev pub black : png.Color
@@ -48,8 +46,35 @@ IsDrawnIn Pbm at modules bytes = bytes ≡ pbm_file true false (picture at modul
 abbrev pub IsDrawn : Format → List ℕ → ℕ → ℕ → ℕ → List ℕ → Type 0
 IsDrawn f modules width zone scale bytes = IsDrawnIn f (layout width zone scale scale) (colors_of modules) bytes
 
--- a picture of modules in a format at the beginning of a buffer that is otherwise as it was, and its length; or the buffer as it was
-abbrev pub IsDrawnInto : Format → List ℕ → ℕ → ℕ → ℕ → List ℕ → List ℕ → Option ℕ → Type 0
-IsDrawnInto f modules width zone scale old new (Some count) =
-    (bytes : List ℕ) × (IsDrawn f modules width zone scale bytes × ((count ≡ length bytes) × (new ≡ bytes ++ drop (length bytes) old)))
-IsDrawnInto f modules width zone scale old new None = new ≡ old
+-- the square of modules that is asked to be drawn, as a renderer is set to it
+abbrev pub square_of : Asked → Square
+square_of a = record {
+  content = colors_of a.modules.now;
+  count = a.width;
+  zone = a.zone;
+  across = a.scale;
+  down = a.scale;
+}
+
+-- the picture that is asked for
+abbrev pub IsPictureFor : Asked → List ℕ → Type 0
+IsPictureFor a bytes = IsDrawn a.format a.modules.now a.width a.zone a.scale bytes
+
+-- its length
+abbrev pub IsLengthFor : Asked → ℕ → Type 0
+IsLengthFor a count = (bytes : List ℕ) × (IsPictureFor a bytes × (count ≡ length bytes))
+
+-- the picture at the beginning of a buffer that is otherwise as it was, and its length
+abbrev pub IsDrawnTo : Asked → List ℕ → List ℕ → ℕ → Type 0
+IsDrawnTo a old new count =
+    (bytes : List ℕ) × (IsPictureFor a bytes × ((count ≡ length bytes) × (new ≡ bytes ++ drop (length bytes) old)))
+
+-- the same; or the buffer has no room for it, and is as it was
+abbrev pub IsDrawnInto : Asked → List ℕ → List ℕ → Option ℕ → Type 0
+IsDrawnInto a old new (Some count) = IsDrawnTo a old new count
+IsDrawnInto a old new None = (new ≡ old) × ((bytes : List ℕ) × (IsPictureFor a bytes × (length old < length bytes)))
+
+-- the same; or the buffer is as it was
+abbrev pub IsTriedInto : Asked → List ℕ → List ℕ → Option ℕ → Type 0
+IsTriedInto a old new (Some count) = IsDrawnTo a old new count
+IsTriedInto a old new None = new ≡ old

@@ -3,15 +3,12 @@ use Rattle.std.specs.Prelude.{◌≡◌, ◌++◌, ℕ, List, length, map, drop,
 use Rattle.qrcode_types.specs.Colors.{select_of}
 use Rattle.qrcode_types.specs.Versions.{side}
 use Rattle.qrcode_types.specs.declared.types.Color.{Color}
-use Rattle.qrcode_bits.specs.declared.bits.manner.Manner.{Manner}
-use Rattle.qrcode.specs.Acceptance.{IsChosenSymbol, IsLeastSymbol}
+use Rattle.qrcode_types.specs.declared.types.EcLevel.{EcLevel}
+use Rattle.qrcode_types.specs.declared.types.Version.{Version}
 use Rattle.qrcode.specs.Code.{Code}
-use Rattle.goqlanis_buffers.specs.Answers.{IsChosenAs}
 use Rattle.goqlanis_buffers.specs.Drawings.{format_named, IsDrawn}
 use Rattle.goqlanis_buffers.specs.declared.drawing.Format.{Format}
 use Rattle.goqlanis_buffers.specs.Names.{level_named, version_named}
-use Rattle.goqlanis_buffers.specs.Segments.{IsSymbolOfSegments}
-use Rattle.goqlanis_buffers.specs.declared.segments.Segment.{Segment}
 use Rattle.goqlanis_buffers.specs.declared.symbols.Symbol.{Symbol}
 
 -- modules as bytes, a one for a dark one
@@ -29,34 +26,10 @@ pub record IsWritten (code : Code) (old new : List ℕ) (symbol : Symbol) : Type
   pub level : level_named symbol.level ≡ Some code.level
   pub width : symbol.width ≡ side code.version
 
--- the symbol that is chosen for bytes at a level of a number, in buffers
-pub record IsAutomaticSymbol (level : ℕ) (bytes old new : List ℕ) (symbol : Symbol) : Type 0 where
+-- a symbol that is asked for, in buffers
+pub record IsWrittenAs (Asked : Code → Type 0) (old new : List ℕ) (symbol : Symbol) : Type 0 where
   pub code : Code
-  pub asked : level_named level ≡ Some code.level
-  pub chosen : IsChosenSymbol code.version code.level bytes code.modules
-  pub written : IsWritten code old new symbol
-
--- the symbol that is chosen for a text at a level of a number, in buffers
-pub record IsTextSymbol (m : Manner) (level : ℕ) (bytes old new : List ℕ) (symbol : Symbol) : Type 0 where
-  pub code : Code
-  pub asked : level_named level ≡ Some code.level
-  pub chosen : IsChosenAs m code.version code.level bytes code.modules
-  pub written : IsWritten code old new symbol
-
--- the symbol of bytes, of a version and level of these numbers, in buffers
-pub record IsSymbolIn (version level : ℕ) (bytes old new : List ℕ) (symbol : Symbol) : Type 0 where
-  pub code : Code
-  pub asked_version : version_named version ≡ Some code.version
-  pub asked_level : level_named level ≡ Some code.level
-  pub least : IsLeastSymbol code.version code.level bytes code.modules
-  pub written : IsWritten code old new symbol
-
--- the symbol of segments, of a version and level of these numbers, in buffers
-pub record IsSegmentsSymbol (version level : ℕ) (segments : List Segment) (old new : List ℕ) (symbol : Symbol) : Type 0 where
-  pub code : Code
-  pub asked_version : version_named version ≡ Some code.version
-  pub asked_level : level_named level ≡ Some code.level
-  pub made : IsSymbolOfSegments code.version code.level segments code.modules
+  pub asked : Asked code
   pub written : IsWritten code old new symbol
 
 -- a picture of modules, in a format of a number, at the beginning of a buffer, and its length
@@ -72,3 +45,8 @@ pub record IsPictureOf (modules : List ℕ) (width zone scale format : ℕ) (old
 abbrev pub IsLengthOf : List ℕ → ℕ → ℕ → ℕ → ℕ → ℕ → Type 0
 IsLengthOf modules width zone scale format count =
     (f : Format) × ((bytes : List ℕ) × ((format_named format ≡ Some f) × (IsDrawn f modules width zone scale bytes × (count ≡ length bytes))))
+
+-- a number of a version of which something holds at the level of a number
+abbrev pub IsVersionAt : (EcLevel → Version → Type 0) → ℕ → ℕ → Type 0
+IsVersionAt Holding level number =
+    (l : EcLevel) × ((v : Version) × ((level_named level ≡ Some l) × ((version_named number ≡ Some v) × Holding l v)))

@@ -7,7 +7,7 @@ use Rattle.qrcode_places.specs.Masks.{mask_number, micro_mask_number}
 use Rattle.qrcode_places.specs.declared.masks.MaskPattern.{MaskPattern}
 use Rattle.qrcode_reader.specs.Readings.{IsReading}
 use Rattle.qrcode_reader.specs.declared.correction.WrongCodeword.{WrongCodeword}
-use Rattle.goqlanis_buffers.specs.Drawings.{colors_of}
+use Rattle.qrcode_render.specs.Shades.{colors_of}
 use Rattle.goqlanis_buffers.specs.Names.{level_named, version_named}
 use Rattle.goqlanis_buffers.specs.Outputs.{IsFilled}
 use Rattle.goqlanis_buffers.specs.declared.reading.Reading.{Reading}

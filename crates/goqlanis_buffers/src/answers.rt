@@ -2,6 +2,7 @@
 
 ghost use Rattle.std.specs.Prelude.{◌≡◌, ◌≤◌, Some};
 ghost use Rattle.goqlanis_buffers.specs.Answers.{refusal_of};
+ghost use Rattle.goqlanis_buffers.specs.Calls.{IsAnswer};
 ghost use Rattle.goqlanis_buffers.specs.Segments.{refusal_in};
 
 use qrcode::types::QrError;
@@ -54,7 +55,7 @@ impl Refusal {
     /// The number that C sees.
     pub fn number(self) -> u32
         ensures value { refusal_of result ≡ Some self }
-        ensures not_made { 1 ≤ result }
+        ensures at_least { 1 ≤ result }
     {
         match self {
             Refusal::NoSuchLevel => 1,
@@ -94,5 +95,19 @@ impl From<QrError> for Refusal {
             QrError::InvalidEciDesignator => Refusal::NoSuchNumber,
             QrError::InvalidCharacter => Refusal::NotInMode,
         }
+    }
+}
+
+/// What C is told of a result: 0, and its value in an output; or the number of the refusal, with the
+/// output as it was.
+pub fn answer<T: Copy>(made: Result<T, Refusal>, output: &mut T) -> u32
+    ensures { IsAnswer made result output.old output.new }
+{
+    match made {
+        Ok(value) => {
+            *output = value;
+            0
+        }
+        Err(refusal) => refusal.number(),
     }
 }

@@ -1,20 +1,15 @@
 //! Pictures of modules.
 
-ghost use Rattle.std.specs.Prelude.{◌≡◌, ◌+◌, ◌*◌, ◌^◌, ◌<◌, ◌≤◌, true, false, [], ◌∷◌, length, codes, None, IfOk, OnOk, OnErr, IsOkUnless};
+ghost use Rattle.std.specs.Prelude.{◌≡◌, ◌+◌, ◌*◌, length, IfOk, OnErr, IsOkUnless, IsTrue};
 ghost use Rattle.qrcode_types.specs.declared.types.QrError.TheVariants.{OutOfMemory};
-ghost use Rattle.qrcode_png.specs.Shown.{IsFileOf};
-ghost use Rattle.qrcode_render.specs.Eps.{eps_start, eps_text};
-ghost use Rattle.qrcode_render.specs.Files.{pbm_file};
-ghost use Rattle.qrcode_render.specs.Half.{is_dark_half};
-ghost use Rattle.qrcode_render.specs.Layout.{layout};
-ghost use Rattle.qrcode_render.specs.Picture.{picture};
-ghost use Rattle.qrcode_render.specs.Put.{IsPutWhere};
-ghost use Rattle.qrcode_render.specs.Strips.{lines_room};
-ghost use Rattle.qrcode_render.specs.Texts.{dense_text, raw_bytes};
-ghost use Rattle.qrcode_render.specs.Vectors.{svg_start, svg_text, pic_start, pic_text};
-ghost use Rattle.goqlanis_buffers.specs.declared.drawing.Format.TheVariants.{Grey};
-ghost use Rattle.goqlanis_buffers.specs.Drawings.{format_named, colors_of, black, white, eps_grey, IsDrawn, IsDrawnInto};
+ghost use Rattle.qrcode_render.specs.GridOf.{grid_of};
+ghost use Rattle.qrcode_render.specs.Setting.{fits, setting_of};
+ghost use Rattle.qrcode_render.specs.Shades.{colors_of};
+ghost use Rattle.goqlanis_buffers.specs.declared.drawing.Format.TheVariants.{Grey, Png};
+ghost use Rattle.goqlanis_buffers.specs.Drawings.{format_named, eps_grey, square_of, IsDrawnInto, IsLengthFor, IsPictureFor, IsTriedInto};
 
+use crate::asked::Asked;
+use crate::symbols::fill;
 use qrcode::render::grid::Grid;
 use qrcode::render::image::Luma;
 use qrcode::render::page::Finish;
@@ -86,349 +81,184 @@ fn color_all(colors: &mut [Color], modules: &[u8])
     }
 }
 
-// The text of half blocks, where dark pixels are drawn so and light ones so.
-fn half_blocks(
-    alloc: Global,
-    modules: &[u8],
-    width: u32,
-    zone: u32,
-    scale: u32,
-    dark: Dense1x2,
-    light: Dense1x2,
-) -> QrResult<Vec<u8>>
-    requires square { length modules.now ≡ width * width }
-    requires side { width + 2 * zone < 2 ^ 16 }
-    requires scale { scale < 2 ^ 16 }
-    requires positive { 1 ≤ scale }
-    ensures drawing { IfOk result (λ bytes. bytes.items
-        ≡ dense_text (is_dark_half dark) (is_dark_half light)
-        (picture (layout width zone scale scale) (colors_of modules.now))) }
-    ensures memory { IsOkUnless result OutOfMemory }
-{
-    let colors = colors_of(alloc, modules)?;
-    let text = Renderer::<Dense1x2>::new(&colors, width as usize, zone)
-        .dark_color(dark)
-        .light_color(light)
-        .module_size(scale)
-        .build(alloc)?;
-    Ok(text.into_bytes())
-}
-
-// The text of SVG.
-fn as_svg(alloc: Global, modules: &[u8], width: u32, zone: u32, scale: u32) -> QrResult<Vec<u8>>
-    requires square { length modules.now ≡ width * width }
-    requires side { width + 2 * zone < 2 ^ 16 }
-    requires scale { scale < 2 ^ 16 }
-    requires positive { 1 ≤ scale }
-    ensures drawing { IfOk result (λ bytes. bytes.items
-        ≡ svg_text (layout width zone scale scale) (colors_of modules.now)
-        (codes "#000") (codes "#fff")) }
-    ensures memory { IsOkUnless result OutOfMemory }
-{
-    let colors = colors_of(alloc, modules)?;
-    let text = Renderer::<svg::Color>::new(&colors, width as usize, zone)
-        .module_size(scale)
-        .build(alloc)?;
-    Ok(text.into_bytes())
-}
-
-// The text of PIC.
-fn as_pic(alloc: Global, modules: &[u8], width: u32, zone: u32, scale: u32) -> QrResult<Vec<u8>>
-    requires square { length modules.now ≡ width * width }
-    requires side { width + 2 * zone < 2 ^ 16 }
-    requires scale { scale < 2 ^ 16 }
-    requires positive { 1 ≤ scale }
-    ensures drawing { IfOk result (λ bytes. bytes.items
-        ≡ pic_text (layout width zone scale scale) (colors_of modules.now)) }
-    ensures memory { IsOkUnless result OutOfMemory }
-{
-    let colors = colors_of(alloc, modules)?;
-    let text = Renderer::<pic::Color>::new(&colors, width as usize, zone)
-        .module_size(scale)
-        .build(alloc)?;
-    Ok(text.into_bytes())
-}
-
-// The greys of the pixels.
-fn as_greys(alloc: Global, modules: &[u8], width: u32, zone: u32, scale: u32) -> QrResult<Vec<u8>>
-    requires square { length modules.now ≡ width * width }
-    requires side { width + 2 * zone < 2 ^ 16 }
-    requires scale { scale < 2 ^ 16 }
-    requires positive { 1 ≤ scale }
-    ensures drawing { IfOk result (λ bytes. bytes.items
-        ≡ raw_bytes (0 ∷ []) (255 ∷ [])
-        (picture (layout width zone scale scale) (colors_of modules.now))) }
-    ensures memory { IsOkUnless result OutOfMemory }
-{
-    let colors = colors_of(alloc, modules)?;
-    let image = Renderer::<Luma>::new(&colors, width as usize, zone)
-        .module_size(scale)
-        .build(alloc)?;
-    Ok(image.into_raw())
-}
-
-// The text of EPS.
-fn as_eps(alloc: Global, modules: &[u8], width: u32, zone: u32, scale: u32) -> QrResult<Vec<u8>>
-    requires square { length modules.now ≡ width * width }
-    requires side { width + 2 * zone < 2 ^ 16 }
-    requires scale { scale < 2 ^ 16 }
-    requires positive { 1 ≤ scale }
-    ensures drawing { IfOk result (λ bytes. bytes.items
-        ≡ eps_text (layout width zone scale scale) (colors_of modules.now)
-        (eps_grey 0) (eps_grey 255)) }
-    ensures memory { IsOkUnless result OutOfMemory }
-{
-    let colors = colors_of(alloc, modules)?;
-    let text = Renderer::<eps::Color>::new(&colors, width as usize, zone)
-        .module_size(scale)
-        .build(alloc)?;
-    Ok(text.into_bytes())
-}
-
-// A PNG file.
-fn as_png(alloc: Global, modules: &[u8], width: u32, zone: u32, scale: u32) -> QrResult<Vec<u8>>
-    requires square { length modules.now ≡ width * width }
-    requires side { width + 2 * zone < 2 ^ 16 }
-    requires scale { scale < 2 ^ 16 }
-    requires positive { 1 ≤ scale }
-    ensures drawing { IfOk result (λ bytes. IsFileOf
-        (picture (layout width zone scale scale) (colors_of modules.now))
-        black white None bytes.items) }
-    ensures memory { IsOkUnless result OutOfMemory }
-{
-    let grid = Grid::of_bytes(modules, width, zone, scale, scale);
-    let dark = qrcode_png::Color::default_color(Color::Dark);
-    let light = qrcode_png::Color::default_color(Color::Light);
-    qrcode_png::File::image(alloc, &grid, dark, light)
-}
-
-// A PBM file.
-fn as_pbm(alloc: Global, modules: &[u8], width: u32, zone: u32, scale: u32) -> QrResult<Vec<u8>>
-    requires square { length modules.now ≡ width * width }
-    requires side { width + 2 * zone < 2 ^ 16 }
-    requires scale { scale < 2 ^ 16 }
-    requires positive { 1 ≤ scale }
-    ensures drawing { IfOk result (λ bytes. bytes.items
-        ≡ pbm_file true false
-        (picture (layout width zone scale scale) (colors_of modules.now))) }
-    ensures memory { IsOkUnless result OutOfMemory }
-{
-    let grid = Grid::of_bytes(modules, width, zone, scale, scale);
-    pbm::File::image(alloc, &grid, Bit::Black, Bit::White)
-}
-
-/// Writes the greys of the pixels of modules, so many along a side, into a buffer that has as many
-/// bytes. Refuses with `OutOfMemory` alone.
-pub(crate) fn greys_into(
-    alloc: Global,
-    modules: &[u8],
-    width: u32,
-    zone: u32,
-    scale: u32,
-    out: &mut [u8],
-) -> QrResult<()>
-    requires square { length modules.now ≡ width * width }
-    requires side { width + 2 * zone < 2 ^ 16 }
-    requires scale { scale < 2 ^ 16 }
-    requires positive { 1 ≤ scale }
-    requires exact { length out.old
-        ≡ (width + 2 * zone) * scale * ((width + 2 * zone) * scale) }
-    ensures drawing { OnOk result (IsDrawn Grey modules.now width zone scale out.new) }
+/// Draws at the beginning of a buffer, and answers how long the picture is; or None, where the buffer has
+/// no room for it. Refuses with `OutOfMemory` alone. Then, and where it answers None, the buffer is as
+/// it was.
+pub(crate) fn draw_into(alloc: Global, asked: &Asked<'_>, out: &mut [u8]) -> QrResult<Option<usize>>
+    ensures drawing { IfOk result (IsDrawnInto asked.now out.old out.new) }
     ensures unchanged { OnErr result (out.new ≡ out.old) }
     ensures memory { IsOkUnless result OutOfMemory }
 {
-    let colors = colors_of(alloc, modules)?;
-    Renderer::<Luma>::new(&colors, width as usize, zone)
-        .module_size(scale)
-        .build_into(alloc, out)
+    if matches!(asked.format, Format::Grey) {
+        return greys_into(alloc, asked, out);
+    }
+    match text_into(alloc, asked, out)? {
+        Some(count) => Ok(Some(count)),
+        None => copy_into(alloc, asked, out),
+    }
 }
 
-// Writes the text of half blocks into a buffer that has room for any.
-fn half_blocks_into(
-    alloc: Global,
-    modules: &[u8],
-    width: u32,
-    zone: u32,
-    scale: u32,
-    dark: Dense1x2,
-    light: Dense1x2,
-    out: &mut [u8],
-) -> QrResult<Option<usize>>
-    requires square { length modules.now ≡ width * width }
-    requires side { width + 2 * zone < 2 ^ 16 }
-    requires scale { scale < 2 ^ 16 }
-    requires positive { 1 ≤ scale }
-    ensures drawing { let shown = picture (layout width zone scale scale) (colors_of modules.now) in
-        IfOk result (IsPutWhere (dense_text (is_dark_half dark) (is_dark_half light) shown)
-        (lines_room shown) out.old out.new) }
+/// How long the picture is. Refuses with `OutOfMemory` alone.
+pub(crate) fn drawn_length(alloc: Global, asked: &Asked<'_>) -> QrResult<usize>
+    ensures length { IfOk result (IsLengthFor asked.now) }
+    ensures memory { IsOkUnless result OutOfMemory }
+{
+    match asked.format {
+        Format::Grey => Ok(greys_length(asked)),
+        _ => Ok(drawn(alloc, asked)?.len()),
+    }
+}
+
+// How many pixels there are.
+fn greys_length(asked: &Asked<'_>) -> usize
+    ensures value { let side = (asked.now.width + 2 * asked.now.zone) * asked.now.scale in
+        result ≡ side * side }
+{
+    let side = (asked.width as usize + 2 * asked.zone as usize) * asked.scale as usize;
+    side * side
+}
+
+// Writes the greys of the pixels, row by row.
+fn greys_into(alloc: Global, asked: &Asked<'_>, out: &mut [u8]) -> QrResult<Option<usize>>
+    requires grey { asked.now.format ≡ Grey }
+    ensures drawing { IfOk result (IsDrawnInto asked.now out.old out.new) }
     ensures unchanged { OnErr result (out.new ≡ out.old) }
     ensures memory { IsOkUnless result OutOfMemory }
 {
-    let grid = Grid::of_bytes(modules, width, zone, scale, scale);
-    HalfBlocks::put(alloc, &grid, dark, light, out)
+    let length = greys_length(asked);
+    if out.len() < length {
+        return Ok(None);
+    }
+    let colors = colors_of(alloc, asked.modules)?;
+    renderer(asked, &colors, Luma([0]), Luma([255])).build_into(alloc, &mut out[..length])?;
+    Ok(Some(length))
 }
 
-// Writes the text of SVG into a buffer that has room for any.
-fn svg_into(
-    alloc: Global,
-    modules: &[u8],
-    width: u32,
-    zone: u32,
-    scale: u32,
-    out: &mut [u8],
-) -> QrResult<Option<usize>>
-    requires square { length modules.now ≡ width * width }
-    requires side { width + 2 * zone < 2 ^ 16 }
-    requires scale { scale < 2 ^ 16 }
-    requires positive { 1 ≤ scale }
-    ensures drawing { let side = (width + 2 * zone) * scale in IfOk result (IsPutWhere
-        (svg_text (layout width zone scale scale) (colors_of modules.now)
-        (codes "#000") (codes "#fff"))
-        (length (svg_start side side (codes "#000") (codes "#fff"))
-        + length (colors_of modules.now) * 80 + 9) out.old out.new) }
+// Writes a text straight into the buffer where it has room for any; other formats are not written so.
+fn text_into(alloc: Global, asked: &Asked<'_>, out: &mut [u8]) -> QrResult<Option<usize>>
+    ensures drawing { IfOk result (IsTriedInto asked.now out.old out.new) }
     ensures unchanged { OnErr result (out.new ≡ out.old) }
     ensures memory { IsOkUnless result OutOfMemory }
 {
-    let colors = colors_of(alloc, modules)?;
-    Renderer::<svg::Color>::new(&colors, width as usize, zone)
-        .module_size(scale)
-        .put(alloc, out)
+    let (dark, light) = (Dense1x2::Dark, Dense1x2::Light);
+    match asked.format {
+        Format::HalfBlocks => HalfBlocks::put(alloc, &grid(asked), dark, light, out),
+        Format::LightHalfBlocks => HalfBlocks::put(alloc, &grid(asked), light, dark, out),
+        Format::Grey | Format::Png | Format::Pbm => Ok(None),
+        _ => strokes_into(alloc, asked, out),
+    }
 }
 
-// Writes the text of PIC into a buffer that has room for any.
-fn pic_into(
-    alloc: Global,
-    modules: &[u8],
-    width: u32,
-    zone: u32,
-    scale: u32,
-    out: &mut [u8],
-) -> QrResult<Option<usize>>
-    requires square { length modules.now ≡ width * width }
-    requires side { width + 2 * zone < 2 ^ 16 }
-    requires scale { scale < 2 ^ 16 }
-    requires positive { 1 ≤ scale }
-    ensures drawing { let side = (width + 2 * zone) * scale in IfOk result (IsPutWhere
-        (pic_text (layout width zone scale scale) (colors_of modules.now))
-        (length (pic_start side side) + length (colors_of modules.now) * 80) out.old out.new) }
+// Draws in memory of its own, and copies that into the buffer where there is room.
+fn copy_into(alloc: Global, asked: &Asked<'_>, out: &mut [u8]) -> QrResult<Option<usize>>
+    ensures drawing { IfOk result (IsDrawnInto asked.now out.old out.new) }
     ensures unchanged { OnErr result (out.new ≡ out.old) }
     ensures memory { IsOkUnless result OutOfMemory }
 {
-    let colors = colors_of(alloc, modules)?;
-    Renderer::<pic::Color>::new(&colors, width as usize, zone)
-        .module_size(scale)
-        .put(alloc, out)
+    let bytes = drawn(alloc, asked)?;
+    if out.len() < bytes.len() {
+        return Ok(None);
+    }
+    fill(out, &bytes);
+    Ok(Some(bytes.len()))
 }
 
-// Writes the text of EPS into a buffer that has room for any.
-fn eps_into(
-    alloc: Global,
-    modules: &[u8],
-    width: u32,
-    zone: u32,
-    scale: u32,
-    out: &mut [u8],
-) -> QrResult<Option<usize>>
-    requires square { length modules.now ≡ width * width }
-    requires side { width + 2 * zone < 2 ^ 16 }
-    requires scale { scale < 2 ^ 16 }
-    requires positive { 1 ≤ scale }
-    ensures drawing { let side = (width + 2 * zone) * scale in IfOk result (IsPutWhere
-        (eps_text (layout width zone scale scale) (colors_of modules.now)
-        (eps_grey 0) (eps_grey 255))
-        (length (eps_start side side (eps_grey 0) (eps_grey 255))
-        + length (colors_of modules.now) * 80 + 15) out.old out.new) }
+// Writes a text of rectangles straight into the buffer where it has room for any; other formats are not
+// written so.
+fn strokes_into(alloc: Global, asked: &Asked<'_>, out: &mut [u8]) -> QrResult<Option<usize>>
+    ensures drawing { IfOk result (IsTriedInto asked.now out.old out.new) }
     ensures unchanged { OnErr result (out.new ≡ out.old) }
     ensures memory { IsOkUnless result OutOfMemory }
 {
-    let colors = colors_of(alloc, modules)?;
-    Renderer::<eps::Color>::new(&colors, width as usize, zone)
-        .module_size(scale)
-        .put(alloc, out)
-}
-
-/// Writes the text of modules, so many along a side, into the beginning of a buffer, and answers how
-/// long it is; or None, where the format is not written so or the buffer has not room for any such
-/// text. Refuses with `OutOfMemory` alone. Then, and where it answers None, the buffer is as it was.
-pub(crate) fn draw_into(
-    alloc: Global,
-    modules: &[u8],
-    width: u32,
-    zone: u32,
-    scale: u32,
-    format: Format,
-    out: &mut [u8],
-) -> QrResult<Option<usize>>
-    requires square { length modules.now ≡ width * width }
-    requires side { width + 2 * zone < 2 ^ 16 }
-    requires scale { scale < 2 ^ 16 }
-    requires positive { 1 ≤ scale }
-    ensures drawing { IfOk result
-        (IsDrawnInto format modules.now width zone scale out.old out.new) }
-    ensures unchanged { OnErr result (out.new ≡ out.old) }
-    ensures memory { IsOkUnless result OutOfMemory }
-{
-    let dark = Dense1x2::Dark;
-    let light = Dense1x2::Light;
-    match format {
-        Format::HalfBlocks => {
-            half_blocks_into(alloc, modules, width, zone, scale, dark, light, out)
+    let colors = colors_of(alloc, asked.modules)?;
+    match asked.format {
+        Format::Svg => {
+            renderer(asked, &colors, svg::Color("#000"), svg::Color("#fff")).put(alloc, out)
         }
-        Format::LightHalfBlocks => {
-            half_blocks_into(alloc, modules, width, zone, scale, light, dark, out)
-        }
-        Format::Svg => svg_into(alloc, modules, width, zone, scale, out),
-        Format::Pic => pic_into(alloc, modules, width, zone, scale, out),
-        Format::Eps => eps_into(alloc, modules, width, zone, scale, out),
+        Format::Pic => renderer(asked, &colors, pic::Color, pic::Color).put(alloc, out),
+        Format::Eps => renderer(asked, &colors, eps_grey(0), eps_grey(255)).put(alloc, out),
         _ => Ok(None),
     }
 }
 
-// The text or the bytes of modules, so many along a side, in a format.
-pub(crate) fn draw(
-    alloc: Global,
-    modules: &[u8],
-    width: u32,
-    zone: u32,
-    scale: u32,
-    format: Format,
-) -> QrResult<Vec<u8>>
-    requires square { length modules.now ≡ width * width }
-    requires side { width + 2 * zone < 2 ^ 16 }
-    requires scale { scale < 2 ^ 16 }
-    requires positive { 1 ≤ scale }
-    ensures drawing { IfOk result (λ bytes.
-        IsDrawn format modules.now width zone scale bytes.items) }
+// The text or the bytes of the picture.
+fn drawn(alloc: Global, asked: &Asked<'_>) -> QrResult<Vec<u8>>
+    ensures drawing { IfOk result (λ bytes. IsPictureFor asked.now bytes.items) }
     ensures memory { IsOkUnless result OutOfMemory }
 {
-    match format {
-        Format::HalfBlocks => {
-            half_blocks(
-                alloc,
-                modules,
-                width,
-                zone,
-                scale,
-                Dense1x2::Dark,
-                Dense1x2::Light,
-            )
-        }
-        Format::LightHalfBlocks => {
-            half_blocks(
-                alloc,
-                modules,
-                width,
-                zone,
-                scale,
-                Dense1x2::Light,
-                Dense1x2::Dark,
-            )
-        }
-        Format::Svg => as_svg(alloc, modules, width, zone, scale),
-        Format::Pic => as_pic(alloc, modules, width, zone, scale),
-        Format::Grey => as_greys(alloc, modules, width, zone, scale),
-        Format::Png => as_png(alloc, modules, width, zone, scale),
-        Format::Eps => as_eps(alloc, modules, width, zone, scale),
-        Format::Pbm => as_pbm(alloc, modules, width, zone, scale),
+    let (dark, light) = (Dense1x2::Dark, Dense1x2::Light);
+    let text = match asked.format {
+        Format::HalfBlocks => picture(alloc, asked, dark, light)?,
+        Format::LightHalfBlocks => picture(alloc, asked, light, dark)?,
+        Format::Svg => picture(alloc, asked, svg::Color("#000"), svg::Color("#fff"))?,
+        Format::Pic => picture(alloc, asked, pic::Color, pic::Color)?,
+        Format::Eps => picture(alloc, asked, eps_grey(0), eps_grey(255))?,
+        Format::Grey => return Ok(picture(alloc, asked, Luma([0]), Luma([255]))?.into_raw()),
+        Format::Png => return png(alloc, asked),
+        Format::Pbm => return pbm::File::image(alloc, &grid(asked), Bit::Black, Bit::White),
+    };
+    Ok(text.into_bytes())
+}
+
+// A PNG file.
+fn png(alloc: Global, asked: &Asked<'_>) -> QrResult<Vec<u8>>
+    requires format { asked.now.format ≡ Png }
+    ensures drawing { IfOk result (λ bytes. IsPictureFor asked.now bytes.items) }
+    ensures memory { IsOkUnless result OutOfMemory }
+{
+    let dark = qrcode_png::Color::default_color(Color::Dark);
+    let light = qrcode_png::Color::default_color(Color::Light);
+    qrcode_png::File::image(alloc, &grid(asked), dark, light)
+}
+
+// The picture of the modules as colours, of pixels that stand for dark and light.
+fn picture<P: Pixel>(alloc: Global, asked: &Asked<'_>, dark: P, light: P) -> QrResult<P::Image>
+    ensures picture { IfOk result (P.Canvas.is_picture
+        (setting_of (square_of asked.now) dark light asked.now.zone)) }
+    ensures memory { IsOkUnless result OutOfMemory }
+{
+    let colors = colors_of(alloc, asked.modules)?;
+    renderer(asked, &colors, dark, light).build(alloc)
+}
+
+// A renderer of these colours.
+fn renderer<'a, P: Pixel>(
+    asked: &Asked<'_>,
+    colors: &'a [Color],
+    dark: P,
+    light: P,
+) -> Renderer<'a, P>
+    requires colors { colors.now ≡ colors_of asked.now.modules.now }
+    ensures value { result ≡ setting_of (square_of asked.now) dark light asked.now.zone }
+    ensures fits { IsTrue (fits result) }
+{
+    let mut renderer = Renderer::new(colors, asked.width as usize, asked.zone);
+    renderer.dark_color(dark);
+    renderer.light_color(light);
+    renderer.module_size(asked.scale);
+    renderer
+}
+
+// The modules as they are, with the quiet zone.
+fn grid<'a>(asked: &Asked<'a>) -> Grid<'a>
+    ensures { result ≡ grid_of (square_of asked.now) }
+{
+    Grid::of_bytes(
+        asked.modules,
+        asked.width,
+        asked.zone,
+        asked.scale,
+        asked.scale,
+    )
+}
+
+// A grey of EPS.
+fn eps_grey(grey: u8) -> eps::Color
+    ensures { result ≡ eps_grey grey }
+{
+    eps::Color {
+        red: grey,
+        green: grey,
+        blue: grey,
     }
 }

@@ -1,25 +1,76 @@
 //! Symbols of bytes.
 
-ghost use Rattle.std.specs.Prelude.{◌≡◌, ℕ, Some, IfOk, IfErr};
-ghost use Rattle.qrcode.specs.Acceptance.{IsChosenSymbol, IsLeastSymbol};
+ghost use Rattle.std.specs.Prelude.{ℕ};
 ghost use Rattle.goqlanis_buffers.specs.Answers.{IsAutomaticCause, IsCauseIn};
-ghost use Rattle.goqlanis_buffers.specs.Names.{level_named, version_named};
+ghost use Rattle.goqlanis_buffers.specs.Calls.{Tells, TellsLeast, WritesAutomatic, WritesIn};
+ghost use Rattle.goqlanis_buffers.specs.Symbols.{IsAutomaticSymbol, IsSymbolIn};
+ghost use Rattle.goqlanis_buffers.specs.declared.answers.Refusal.{Refusal};
 
 use crate::answers::Refusal;
-use crate::names::{level_named, version_named};
+use crate::names::{level_named, version_named, version_number};
+use crate::symbols::{Symbol, write_symbol};
 use qrcode::QrCode;
-use qrcode::bits::DATA_LIMIT;
+use qrcode::bits::{DATA_LIMIT, encode_auto};
 use qrcode::types::{QrError, Version};
 use std::alloc::Global;
 
-/// The symbol of bytes at the level of a number, of the least Normal version that holds them.
+/// Writes the symbol of bytes at the level of a number, of the least Normal version that holds them,
+/// at the beginning of a buffer, and answers what it is beside its modules.
+///
+/// An error is `NoSuchLevel`, `NoRoom`, `SmallBuffer` or `OutOfMemory`; then the buffer is as it was.
+pub fn encode(
+    alloc: Global,
+    bytes: &[u8],
+    level: u32,
+    modules: &mut [u8],
+) -> Result<Symbol, Refusal>
+    ensures { WritesAutomatic level bytes.now modules.old modules.new result }
+{
+    match automatic(alloc, bytes, level) {
+        Ok(code) => write_symbol(code, modules),
+        Err(refusal) => Err(refusal),
+    }
+}
+
+/// The same of a version and level of these numbers.
+///
+/// An error is the first that applies of `NoSuchLevel`, `NoSuchVersion`, `TooLong`, `NoMode`,
+/// `LevelNotInVersion`, `NoRoom` and `SmallBuffer`, or `OutOfMemory`; then the buffer is as it was.
+pub fn encode_in(
+    alloc: Global,
+    bytes: &[u8],
+    version: u32,
+    level: u32,
+    modules: &mut [u8],
+) -> Result<Symbol, Refusal>
+    ensures { WritesIn version level bytes.now modules.old modules.new result }
+{
+    match in_version(alloc, bytes, version, level) {
+        Ok(code) => write_symbol(code, modules),
+        Err(refusal) => Err(refusal),
+    }
+}
+
+/// The number of the least Normal version that holds bytes at the level of a number.
 ///
 /// An error is `NoSuchLevel`, `NoRoom` or `OutOfMemory`.
-pub fn automatic(alloc: Global, bytes: &[u8], level: u32) -> Result<QrCode, Refusal>
-    ensures level { IfOk result (λ code. level_named level ≡ Some code.level) }
-    ensures symbol { IfOk result (λ code.
-        IsChosenSymbol code.version code.level bytes.now code.modules) }
-    ensures causes { (room : ℕ) → IfErr result (IsAutomaticCause level bytes.now room) }
+pub fn least_version(alloc: Global, bytes: &[u8], level: u32) -> Result<u32, Refusal>
+    ensures { TellsLeast level bytes.now result }
+{
+    let Some(ec_level) = level_named(level) else {
+        return Err(Refusal::NoSuchLevel);
+    };
+    match encode_auto(alloc, bytes, ec_level) {
+        Ok(bits) => Ok(version_number(bits.version())),
+        Err(QrError::OutOfMemory) => Err(Refusal::OutOfMemory),
+        Err(_) => Err(Refusal::NoRoom),
+    }
+}
+
+// The symbol of bytes at the level of a number.
+fn automatic(alloc: Global, bytes: &[u8], level: u32) -> Result<QrCode, Refusal>
+    ensures { Tells (IsAutomaticSymbol level bytes.now)
+        (λ refusal. (room : ℕ) → IsAutomaticCause level bytes.now room refusal) result }
 {
     let Some(ec_level) = level_named(level) else {
         return Err(Refusal::NoSuchLevel);
@@ -31,16 +82,10 @@ pub fn automatic(alloc: Global, bytes: &[u8], level: u32) -> Result<QrCode, Refu
     }
 }
 
-/// The symbol of bytes, of a version and level of these numbers.
-///
-/// An error is the first that applies of `NoSuchLevel`, `NoSuchVersion`, `TooLong`, `NoMode`,
-/// `LevelNotInVersion` and `NoRoom`, or `OutOfMemory`.
-pub fn in_version(alloc: Global, bytes: &[u8], version: u32, level: u32) -> Result<QrCode, Refusal>
-    ensures version { IfOk result (λ code. version_named version ≡ Some code.version) }
-    ensures level { IfOk result (λ code. level_named level ≡ Some code.level) }
-    ensures symbol { IfOk result (λ code.
-        IsLeastSymbol code.version code.level bytes.now code.modules) }
-    ensures causes { (room : ℕ) → IfErr result (IsCauseIn version level bytes.now room) }
+// The symbol of bytes, of a version and level of these numbers.
+fn in_version(alloc: Global, bytes: &[u8], version: u32, level: u32) -> Result<QrCode, Refusal>
+    ensures { Tells (IsSymbolIn version level bytes.now)
+        (λ refusal. (room : ℕ) → IsCauseIn version level bytes.now room refusal) result }
 {
     let Some(ec_level) = level_named(level) else {
         return Err(Refusal::NoSuchLevel);

@@ -3,8 +3,10 @@
 #![tactic(auto)]
 
 pub mod answers;
+mod asked;
 pub mod drawing;
 pub mod encoding;
+pub mod laws;
 pub mod names;
 pub mod pictures;
 pub mod reading;

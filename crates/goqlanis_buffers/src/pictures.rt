@@ -1,14 +1,13 @@
 //! Pictures in buffers.
 
-ghost use Rattle.std.specs.Prelude.{◌≡◌, ◌+◌, ◌*◌, ◌^◌, ◌<◌, ◌≤◌, ℕ, length, Some, IfOk, IfErr, OnOk, OnErr};
+ghost use Rattle.std.specs.Prelude.{◌≡◌, ◌+◌, ◌*◌, ◌^◌, ◌<◌, ◌≤◌, ℕ, length, Some, IfOk, IfErr, OnOk};
 ghost use Rattle.goqlanis_buffers.specs.Answers.{IsDrawingCause};
-ghost use Rattle.goqlanis_buffers.specs.Drawings.{format_named, IsDrawn};
-ghost use Rattle.goqlanis_buffers.specs.Outputs.{IsLengthOf, IsPictureOf};
-ghost use Rattle.goqlanis_buffers.specs.declared.drawing.Format.{Format};
+ghost use Rattle.goqlanis_buffers.specs.Calls.{TellsLength, WritesPicture};
+ghost use Rattle.goqlanis_buffers.specs.Drawings.{format_named};
 
 use crate::answers::Refusal;
-use crate::drawing::{Format, draw, draw_into, format_named, greys_into};
-use crate::symbols::fill;
+use crate::asked::Asked;
+use crate::drawing::{Format, draw_into, drawn_length, format_named};
 use std::alloc::Global;
 
 /// Writes the picture of modules in the format of a number at the beginning of a buffer, and answers
@@ -25,106 +24,24 @@ pub fn put_picture(
     format: u32,
     out: &mut [u8],
 ) -> Result<usize, Refusal>
-    ensures made { IfOk result (λ count.
-        IsPictureOf modules.now width zone scale format out.old out.new count) }
-    ensures unchanged { OnErr result (out.new ≡ out.old) }
-    ensures causes { IfErr result
-        (IsDrawingCause modules.now width zone scale format (length out.old)) }
+    ensures { WritesPicture modules.now width zone scale format out.old out.new result }
 {
-    if format == GREY {
-        put_greys(alloc, modules, width, zone, scale, out)
-    } else {
-        put_drawing(alloc, modules, width, zone, scale, format, out)
-    }
-}
-
-// The number of the format of grey pixels, of which each row is written into the buffer at once.
-const GREY: u32 = 4;
-
-// The rows of grey pixels of modules at the beginning of a buffer, and their length.
-fn put_greys(
-    alloc: Global,
-    modules: &[u8],
-    width: u32,
-    zone: u32,
-    scale: u32,
-    out: &mut [u8],
-) -> Result<usize, Refusal>
-    ensures made { IfOk result (λ count.
-        IsPictureOf modules.now width zone scale 4 out.old out.new count) }
-    ensures unchanged { OnErr result (out.new ≡ out.old) }
-    ensures causes { IfErr result
-        (IsDrawingCause modules.now width zone scale 4 (length out.old)) }
-{
-    let pixels = match pixels_along(modules, width, zone, scale) {
-        Ok(pixels) => pixels as usize,
+    let format = match checked(modules, width, zone, scale, format) {
+        Ok(format) => format,
         Err(refusal) => return Err(refusal),
     };
-    let length = pixels * pixels;
-    if out.len() < length {
-        return Err(Refusal::SmallBuffer);
-    }
-    match greys_into(alloc, modules, width, zone, scale, &mut out[..length]) {
-        Ok(()) => Ok(length),
-        Err(_) => Err(Refusal::OutOfMemory),
-    }
-}
-
-// A picture in the format of a number at the beginning of a buffer, and its length: written there where
-// its format is and there is room for any, and else copied.
-fn put_drawing(
-    alloc: Global,
-    modules: &[u8],
-    width: u32,
-    zone: u32,
-    scale: u32,
-    format: u32,
-    out: &mut [u8],
-) -> Result<usize, Refusal>
-    ensures made { IfOk result (λ count.
-        IsPictureOf modules.now width zone scale format out.old out.new count) }
-    ensures unchanged { OnErr result (out.new ≡ out.old) }
-    ensures causes { IfErr result
-        (IsDrawingCause modules.now width zone scale format (length out.old)) }
-{
-    let Some(named) = format_named(format) else {
-        return Err(Refusal::NoSuchFormat);
+    let asked = Asked {
+        modules,
+        width,
+        zone,
+        scale,
+        format,
     };
-    if let Err(refusal) = pixels_along(modules, width, zone, scale) {
-        return Err(refusal);
-    }
-    match draw_into(alloc, modules, width, zone, scale, named, out) {
+    match draw_into(alloc, &asked, out) {
         Ok(Some(count)) => Ok(count),
-        Ok(None) => put_copy(alloc, modules, width, zone, scale, format, out),
+        Ok(None) => Err(Refusal::SmallBuffer),
         Err(_) => Err(Refusal::OutOfMemory),
     }
-}
-
-// The same, copied from memory of its own.
-fn put_copy(
-    alloc: Global,
-    modules: &[u8],
-    width: u32,
-    zone: u32,
-    scale: u32,
-    format: u32,
-    out: &mut [u8],
-) -> Result<usize, Refusal>
-    ensures made { IfOk result (λ count.
-        IsPictureOf modules.now width zone scale format out.old out.new count) }
-    ensures unchanged { OnErr result (out.new ≡ out.old) }
-    ensures causes { IfErr result
-        (IsDrawingCause modules.now width zone scale format (length out.old)) }
-{
-    let bytes = match drawn(alloc, modules, width, zone, scale, format) {
-        Ok(bytes) => bytes,
-        Err(refusal) => return Err(refusal),
-    };
-    if out.len() < bytes.len() {
-        return Err(Refusal::SmallBuffer);
-    }
-    fill(out, &bytes);
-    Ok(bytes.len())
 }
 
 /// The length of the picture of modules in the format of a number.
@@ -138,88 +55,44 @@ pub fn length_of(
     scale: u32,
     format: u32,
 ) -> Result<usize, Refusal>
-    ensures made { IfOk result (IsLengthOf modules.now width zone scale format) }
-    ensures causes { (room : ℕ) → IfErr result
-        (IsDrawingCause modules.now width zone scale format room) }
+    ensures { TellsLength modules.now width zone scale format result }
 {
-    if format == GREY {
-        length_of_greys(modules, width, zone, scale)
-    } else {
-        length_drawn(alloc, modules, width, zone, scale, format)
-    }
-}
-
-// The length of rows of grey pixels, which are not drawn for it.
-fn length_of_greys(modules: &[u8], width: u32, zone: u32, scale: u32) -> Result<usize, Refusal>
-    ensures made { IfOk result (IsLengthOf modules.now width zone scale 4) }
-    ensures causes { (room : ℕ) → IfErr result
-        (IsDrawingCause modules.now width zone scale 4 room) }
-{
-    match pixels_along(modules, width, zone, scale) {
-        Ok(pixels) => Ok(pixels as usize * pixels as usize),
-        Err(refusal) => Err(refusal),
-    }
-}
-
-// The length of a picture, which is drawn for it.
-fn length_drawn(
-    alloc: Global,
-    modules: &[u8],
-    width: u32,
-    zone: u32,
-    scale: u32,
-    format: u32,
-) -> Result<usize, Refusal>
-    ensures made { IfOk result (IsLengthOf modules.now width zone scale format) }
-    ensures causes { (room : ℕ) → IfErr result
-        (IsDrawingCause modules.now width zone scale format room) }
-{
-    match drawn(alloc, modules, width, zone, scale, format) {
-        Ok(bytes) => Ok(bytes.len()),
-        Err(refusal) => Err(refusal),
-    }
-}
-
-// The picture of modules in the format of a number.
-fn drawn(
-    alloc: Global,
-    modules: &[u8],
-    width: u32,
-    zone: u32,
-    scale: u32,
-    format: u32,
-) -> Result<Vec<u8>, Refusal>
-    ensures picture { IfOk result (λ bytes. (f : Format) × ((format_named format ≡ Some f)
-        × IsDrawn f modules.now width zone scale bytes.items)) }
-    ensures causes { (room : ℕ) → IfErr result
-        (IsDrawingCause modules.now width zone scale format room) }
-{
-    let Some(format) = format_named(format) else {
-        return Err(Refusal::NoSuchFormat);
-    };
-    let pixels = match pixels_along(modules, width, zone, scale) {
-        Ok(pixels) => pixels,
+    let format = match checked(modules, width, zone, scale, format) {
+        Ok(format) => format,
         Err(refusal) => return Err(refusal),
     };
-    if matches!(format, Format::Png) && (pixels == 0 || pixels > 65_535) {
-        return Err(Refusal::NoSuchSize);
-    }
-    match draw(alloc, modules, width, zone, scale, format) {
-        Ok(bytes) => Ok(bytes),
+    let asked = Asked {
+        modules,
+        width,
+        zone,
+        scale,
+        format,
+    };
+    match drawn_length(alloc, &asked) {
+        Ok(length) => Ok(length),
         Err(_) => Err(Refusal::OutOfMemory),
     }
 }
 
-// The pixels along a side of the picture of modules.
-fn pixels_along(modules: &[u8], width: u32, zone: u32, scale: u32) -> Result<u64, Refusal>
-    ensures value { IfOk result (λ pixels. pixels ≡ (width + 2 * zone) * scale) }
+// The format of a number, where modules are a square and the picture is within the limits.
+fn checked(
+    modules: &[u8],
+    width: u32,
+    zone: u32,
+    scale: u32,
+    format: u32,
+) -> Result<Format, Refusal>
+    ensures format { IfOk result (λ named. format_named format ≡ Some named) }
     ensures square { OnOk result (length modules.now ≡ width * width) }
-    ensures side { OnOk result (width + 2 * zone < 2 ^ 16) }
-    ensures scale { OnOk result (scale < 2 ^ 16) }
-    ensures positive { OnOk result (1 ≤ scale) }
-    ensures causes { (format room : ℕ) → IfErr result
+    ensures side_at_most { OnOk result (width + 2 * zone < 2 ^ 16) }
+    ensures scale_at_most { OnOk result (scale < 2 ^ 16) }
+    ensures scale_at_least { OnOk result (1 ≤ scale) }
+    ensures causes { (room : ℕ) → IfErr result
         (IsDrawingCause modules.now width zone scale format room) }
 {
+    let Some(named) = format_named(format) else {
+        return Err(Refusal::NoSuchFormat);
+    };
     if modules.len() as u64 != u64::from(width) * u64::from(width) {
         return Err(Refusal::NotSquare);
     }
@@ -227,5 +100,9 @@ fn pixels_along(modules: &[u8], width: u32, zone: u32, scale: u32) -> Result<u64
     if scale == 0 || scale > 65_535 || side > 65_535 {
         return Err(Refusal::NoSuchSize);
     }
-    Ok(side * u64::from(scale))
+    let pixels = side * u64::from(scale);
+    if matches!(named, Format::Png) && (pixels == 0 || pixels > 65_535) {
+        return Err(Refusal::NoSuchSize);
+    }
+    Ok(named)
 }

@@ -5,12 +5,14 @@ ghost use Rattle.qrcode_types.specs.Versions.{has_level};
 ghost use Rattle.qrcode.specs.Reading.{ReadsOnly};
 ghost use Rattle.qrcode_reader.specs.Readings.{IsReading};
 ghost use Rattle.goqlanis_buffers.specs.Answers.{IsReadingCause};
-ghost use Rattle.goqlanis_buffers.specs.Drawings.{colors_of};
+ghost use Rattle.goqlanis_buffers.specs.Calls.{TellsReadLength, WritesReading};
+ghost use Rattle.qrcode_render.specs.Shades.{colors_of};
 ghost use Rattle.goqlanis_buffers.specs.Readings.{mask_number_in, IsTold};
 
 use crate::answers::Refusal;
 use crate::drawing::colors_of;
 use crate::names::{level_number, version_number};
+use crate::symbols::fill;
 use qrcode::canvas::MaskPattern;
 use qrcode::types::Version;
 use qrcode_reader::{Reading as Found, Unread, read};
@@ -32,11 +34,40 @@ pub struct Reading {
     pub length: usize,
 }
 
-/// What is read of a square.
+/// Writes the bytes of a square of modules, which are bytes in row order, dark where they are not zero,
+/// at the beginning of a buffer, and answers what is read beside them.
+///
+/// An error is `NoSuchSide`, `NoFormat`, `Damaged`, `NotSpelled`, `SmallBuffer` or `OutOfMemory`; then
+/// the buffer is as it was.
+pub fn read_into(alloc: Global, modules: &[u8], bytes: &mut [u8]) -> Result<Reading, Refusal>
+    ensures { WritesReading modules.now bytes.old bytes.new result }
+{
+    let found = match read_square(alloc, modules) {
+        Ok(found) => found,
+        Err(refusal) => return Err(refusal),
+    };
+    if bytes.len() < found.data.len() {
+        return Err(Refusal::SmallBuffer);
+    }
+    fill(bytes, &found.data);
+    Ok(told(&found))
+}
+
+/// How many bytes a square of modules is read as.
 ///
 /// An error is `NoSuchSide`, `NoFormat`, `Damaged`, `NotSpelled` or `OutOfMemory`.
+pub fn read_length(alloc: Global, modules: &[u8]) -> Result<usize, Refusal>
+    ensures { TellsReadLength modules.now result }
+{
+    match read_square(alloc, modules) {
+        Ok(found) => Ok(found.data.len()),
+        Err(refusal) => Err(refusal),
+    }
+}
+
+// What is read of a square.
 #[tactic(auto, using(crate::proofs::Known::only_these, crate::proofs::Known::existing))]
-pub fn read_square(alloc: Global, modules: &[u8]) -> Result<Found, Refusal>
+fn read_square(alloc: Global, modules: &[u8]) -> Result<Found, Refusal>
     ensures reading { IfOk result (λ read. IsReading (colors_of modules.now)
         read.version read.ec_level read.mask read.data.items read.wrong.items) }
     ensures only { IfOk result (λ read. ReadsOnly (colors_of modules.now) read.data.items) }
@@ -56,8 +87,8 @@ pub fn read_square(alloc: Global, modules: &[u8]) -> Result<Found, Refusal>
     }
 }
 
-/// What is told of a reading beside its bytes.
-pub fn told(found: &Found) -> Reading
+// What is told of a reading beside its bytes.
+fn told(found: &Found) -> Reading
     requires exists { IsTrue (has_level found.now.version found.now.ec_level) }
     ensures value { IsTold found.now.version found.now.ec_level found.now.mask
         (length found.now.wrong.items) (length found.now.data.items) result }

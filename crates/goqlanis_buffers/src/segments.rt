@@ -1,17 +1,17 @@
 //! Symbols of segments whose modes the caller names, and of headers.
 
-ghost use Rattle.std.specs.Prelude.{◌≡◌, ◌⊎◌, ◌++◌, ◌≤◌, ℕ, pos, [], length, Some, None, IfOk, IfErr, OnOk, IsTrue};
+ghost use Rattle.std.specs.Prelude.{◌≡◌, ◌⊎◌, ◌++◌, ◌≤◌, ℕ, [], length, Some, None, IfOk, IfErr, OnOk, IsTrue};
 ghost use Rattle.qrcode_types.specs.Versions.{is_valid, has_level, capacity};
-ghost use Rattle.qrcode_types.specs.declared.types.EcLevel.{EcLevel};
-ghost use Rattle.qrcode_types.specs.declared.types.Version.TheVariants.{Normal};
 ghost use Rattle.qrcode_bits.specs.Pushes.{PushesPiece};
-ghost use Rattle.goqlanis_buffers.specs.Answers.{IsSegmentsCause, IsLeastCause};
+ghost use Rattle.goqlanis_buffers.specs.Answers.{IsSegmentsCause};
+ghost use Rattle.goqlanis_buffers.specs.Calls.{TellsLeastOfSegments, WritesSegments};
 ghost use Rattle.goqlanis_buffers.specs.Names.{level_named, version_named};
-ghost use Rattle.goqlanis_buffers.specs.Segments.{kind_named, segment_bits, segment_refusal, written_segments, AreTaken, AreUnheld, IsFirstRefused, IsLeastHeld, IsSymbolOfSegments};
+ghost use Rattle.goqlanis_buffers.specs.Segments.{kind_named, segment_bits, segment_refusal, written_segments, AreTaken, AreUnheld, IsFirstRefused, IsSymbolOfSegments};
 ghost use Rattle.goqlanis_buffers.specs.declared.answers.Refusal.TheVariants.{OutOfMemory};
 
 use crate::answers::Refusal;
 use crate::names::{level_named, version_named};
+use crate::symbols::{Symbol, write_symbol};
 use qrcode::QrCode;
 use qrcode::bits::Bits;
 use qrcode::types::{EcLevel, Mode, QrResult, Version};
@@ -60,12 +60,29 @@ fn kind_named(number: u32) -> Option<Kind>
     }
 }
 
-/// The symbol of segments, one behind the other, of a version and level of these numbers.
+/// Writes the symbol of segments, one behind the other, of a version and level of these numbers, at the
+/// beginning of a buffer, and answers what it is beside its modules.
 ///
 /// An error is the first that applies of `NoSuchLevel`, `NoSuchVersion`, `LevelNotInVersion`; of each
-/// segment in order `NoSuchKind`, `NotInMode`, `NoMode`, `NoSuchNumber`, `NoRoom`; then `NoRoom`; or
-/// `OutOfMemory`.
-pub fn of_segments(
+/// segment in order `NoSuchKind`, `NotInMode`, `NoMode`, `NoSuchNumber`, `NoRoom`; then `NoRoom`,
+/// `SmallBuffer`; or `OutOfMemory`. Then the buffer is as it was.
+pub fn encode_segments(
+    alloc: Global,
+    segments: &[Segment<'_>],
+    version: u32,
+    level: u32,
+    modules: &mut [u8],
+) -> Result<Symbol, Refusal>
+    ensures { WritesSegments version level segments.now modules.old modules.new result }
+{
+    match of_segments(alloc, segments, version, level) {
+        Ok(code) => write_symbol(code, modules),
+        Err(refusal) => Err(refusal),
+    }
+}
+
+// The symbol of segments, of a version and level of these numbers.
+fn of_segments(
     alloc: Global,
     segments: &[Segment<'_>],
     version: u32,
@@ -95,11 +112,7 @@ pub fn of_segments(
 /// An error is `NoSuchLevel`; of each segment in order `NoSuchKind`, `NotInMode`, `NoSuchNumber`;
 /// `NoRoom`; or `OutOfMemory`.
 pub fn least_version(alloc: Global, segments: &[Segment<'_>], level: u32) -> Result<u32, Refusal>
-    ensures least { IfOk result (λ number. (l : EcLevel) × ((level_named level ≡ Some l)
-        × IsLeastHeld l segments.now (Normal (pos number)))) }
-    ensures at_least { IfOk result (λ number. 1 ≤ number) }
-    ensures at_most { IfOk result (λ number. number ≤ 40) }
-    ensures causes { IfErr result (IsLeastCause level segments.now) }
+    ensures { TellsLeastOfSegments level segments.now result }
 {
     let Some(ec_level) = level_named(level) else {
         return Err(Refusal::NoSuchLevel);

@@ -1,8 +1,8 @@
 //! Symbols in buffers.
 
-ghost use Rattle.std.specs.Prelude.{◌≡◌, ◌<◌, ◌≤◌, length, IfErr, OnOk, OnErr};
+ghost use Rattle.std.specs.Prelude.{◌≡◌, ◌<◌, ◌≤◌, length, IfOk, IfErr, OnErr};
 ghost use Rattle.goqlanis_buffers.specs.Outputs.{module_bytes, IsFilled, IsWritten};
-ghost use Rattle.goqlanis_buffers.specs.declared.answers.Refusal.TheVariants.{SmallBuffer, OutOfMemory};
+ghost use Rattle.goqlanis_buffers.specs.declared.answers.Refusal.TheVariants.{SmallBuffer};
 
 use crate::answers::Refusal;
 use crate::names::{level_number, version_number};
@@ -22,16 +22,15 @@ pub struct Symbol {
     pub width: u32,
 }
 
-/// Writes a symbol into buffers, or says that they are too small (`SmallBuffer`) and leaves them as
-/// they were.
-pub fn write_symbol(code: QrCode, modules: &mut [u8], symbol: &mut Symbol) -> Result<(), Refusal>
-    ensures written { OnOk result (IsWritten code modules.old modules.new symbol.new) }
+/// Writes a symbol at the beginning of a buffer, and answers what it is beside its modules; or says
+/// that the buffer is too small (`SmallBuffer`), and leaves it as it was.
+pub(crate) fn write_symbol(code: QrCode, modules: &mut [u8]) -> Result<Symbol, Refusal>
+    ensures written { IfOk result (IsWritten code modules.old modules.new) }
     ensures unchanged { OnErr result (modules.new ≡ modules.old) }
-    ensures symbol_unchanged { OnErr result (symbol.new ≡ symbol.old) }
-    ensures cause { IfErr result (λ refusal. refusal ≡ SmallBuffer) }
-    ensures small { OnErr result (length modules.old < length code.modules) }
+    ensures causes { IfErr result (λ refusal. refusal ≡ SmallBuffer) }
+    ensures no_room { OnErr result (length modules.old < length code.modules) }
 {
-    let known = Symbol {
+    let symbol = Symbol {
         version: version_number(code.version()),
         level: level_number(code.error_correction_level()),
         width: code.width() as u32,
@@ -41,8 +40,7 @@ pub fn write_symbol(code: QrCode, modules: &mut [u8], symbol: &mut Symbol) -> Re
         return Err(Refusal::SmallBuffer);
     }
     fill_modules(modules, &colors);
-    *symbol = known;
-    Ok(())
+    Ok(symbol)
 }
 
 // Writes modules at the beginning of a buffer that has room for them.
@@ -56,7 +54,7 @@ fn fill_modules(out: &mut [u8], colors: &[Color])
 }
 
 /// Writes bytes at the beginning of a buffer that has room for them.
-pub fn fill(out: &mut [u8], bytes: &[u8])
+pub(crate) fn fill(out: &mut [u8], bytes: &[u8])
     requires room { length bytes.now ≤ length out.old }
     ensures filled { IsFilled out.old out.new bytes.now }
 {

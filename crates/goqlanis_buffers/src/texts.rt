@@ -1,25 +1,42 @@
 //! Symbols of texts.
 
-ghost use Rattle.std.specs.Prelude.{◌≡◌, ℕ, Some, IfOk, IfErr};
-ghost use Rattle.goqlanis_buffers.specs.Answers.{IsChosenAs, IsTextCause};
-ghost use Rattle.goqlanis_buffers.specs.Names.{level_named};
+ghost use Rattle.std.specs.Prelude.{ℕ};
+ghost use Rattle.goqlanis_buffers.specs.Answers.{IsTextCause};
+ghost use Rattle.goqlanis_buffers.specs.Calls.{Tells, WritesText};
+ghost use Rattle.goqlanis_buffers.specs.Symbols.{IsTextSymbol};
 
 use crate::answers::Refusal;
 use crate::names::level_named;
+use crate::symbols::{Symbol, write_symbol};
 use qrcode::QrCode;
 use qrcode::bits::Manner;
 use qrcode::types::{QrError, Version};
 use std::alloc::Global;
 
-/// The symbol of a text in a manner, at the level of a number, of the least Normal version that
-/// holds it.
+/// Writes the symbol of a text in a manner, at the level of a number, of the least Normal version that
+/// holds it, at the beginning of a buffer, and answers what it is beside its modules.
 ///
-/// An error is the first that applies of `NoSuchLevel`, `NotText` and `NoRoom`, or `OutOfMemory`.
-pub fn symbol_of(alloc: Global, text: &[u8], manner: Manner, level: u32) -> Result<QrCode, Refusal>
-    ensures level { IfOk result (λ code. level_named level ≡ Some code.level) }
-    ensures symbol { IfOk result (λ code.
-        IsChosenAs manner code.version code.level text.now code.modules) }
-    ensures causes { (room : ℕ) → IfErr result (IsTextCause manner level text.now room) }
+/// An error is the first that applies of `NoSuchLevel`, `NotText`, `NoRoom` and `SmallBuffer`, or
+/// `OutOfMemory`; then the buffer is as it was.
+pub fn encode_text(
+    alloc: Global,
+    text: &[u8],
+    manner: Manner,
+    level: u32,
+    modules: &mut [u8],
+) -> Result<Symbol, Refusal>
+    ensures { WritesText manner level text.now modules.old modules.new result }
+{
+    match symbol_of(alloc, text, manner, level) {
+        Ok(code) => write_symbol(code, modules),
+        Err(refusal) => Err(refusal),
+    }
+}
+
+// The symbol of a text in a manner, at the level of a number.
+fn symbol_of(alloc: Global, text: &[u8], manner: Manner, level: u32) -> Result<QrCode, Refusal>
+    ensures { Tells (IsTextSymbol manner level text.now)
+        (λ refusal. (room : ℕ) → IsTextCause manner level text.now room refusal) result }
 {
     let Some(ec_level) = level_named(level) else {
         return Err(Refusal::NoSuchLevel);

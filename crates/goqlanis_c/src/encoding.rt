@@ -1,11 +1,10 @@
 //! Symbols of bytes.
 
-ghost use Rattle.std.specs.Prelude.{◌≡◌, ◌≢◌, length, IfSome};
-ghost use Rattle.goqlanis_buffers.specs.Answers.{refusal_of, IsAutomaticCause, IsCauseIn};
-ghost use Rattle.goqlanis_buffers.specs.Outputs.{IsAutomaticSymbol, IsSymbolIn};
+ghost use Rattle.goqlanis_buffers.specs.Calls.{IsTold, WritesAutomatic, WritesIn};
 
-use goqlanis_buffers::encoding::{automatic, in_version};
-use goqlanis_buffers::symbols::{Symbol, write_symbol};
+use goqlanis_buffers::answers::answer;
+use goqlanis_buffers::encoding::{encode, encode_in};
+use goqlanis_buffers::symbols::Symbol;
 use std::alloc::Global;
 
 /// The symbol of bytes at a level, of the least Normal version that holds them: its modules row by
@@ -22,21 +21,10 @@ pub extern "C" fn goq_encode(
     modules: &mut [u8],
     symbol: &mut Symbol,
 ) -> u32
-    ensures made { result ≡ 0
-        → IsAutomaticSymbol level bytes.now modules.old modules.new symbol.new }
-    ensures unchanged { result ≢ 0 → modules.new ≡ modules.old }
-    ensures symbol_unchanged { result ≢ 0 → symbol.new ≡ symbol.old }
-    ensures causes { IfSome (refusal_of result)
-        (IsAutomaticCause level bytes.now (length modules.old)) }
+    ensures { IsTold (WritesAutomatic level bytes.now modules.old modules.new)
+        result symbol.old symbol.new }
 {
-    let code = match automatic(alloc, bytes, level) {
-        Ok(code) => code,
-        Err(refusal) => return refusal.number(),
-    };
-    match write_symbol(code, modules, symbol) {
-        Ok(()) => 0,
-        Err(refusal) => refusal.number(),
-    }
+    answer(encode(alloc, bytes, level, modules), symbol)
 }
 
 /// The symbol of bytes, of a version and level of these numbers: its modules row by row, 1 for a dark
@@ -54,19 +42,8 @@ pub extern "C" fn goq_encode_in(
     modules: &mut [u8],
     symbol: &mut Symbol,
 ) -> u32
-    ensures made { result ≡ 0
-        → IsSymbolIn version level bytes.now modules.old modules.new symbol.new }
-    ensures unchanged { result ≢ 0 → modules.new ≡ modules.old }
-    ensures symbol_unchanged { result ≢ 0 → symbol.new ≡ symbol.old }
-    ensures causes { IfSome (refusal_of result)
-        (IsCauseIn version level bytes.now (length modules.old)) }
+    ensures { IsTold (WritesIn version level bytes.now modules.old modules.new)
+        result symbol.old symbol.new }
 {
-    let code = match in_version(alloc, bytes, version, level) {
-        Ok(code) => code,
-        Err(refusal) => return refusal.number(),
-    };
-    match write_symbol(code, modules, symbol) {
-        Ok(()) => 0,
-        Err(refusal) => refusal.number(),
-    }
+    answer(encode_in(alloc, bytes, version, level, modules), symbol)
 }

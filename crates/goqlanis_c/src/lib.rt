@@ -1,6 +1,6 @@
 //! Symbols for programs in C: the exported functions alone. Each call works in buffers that its caller gives,
 //! keeps nothing, and may run in any threads at once; where it refuses, all its outputs are as they were.
-#![tactic(auto)]
+#![tactic(auto, using(goqlanis_buffers::proofs::Told::told))]
 
 mod encoding;
 mod pictures;

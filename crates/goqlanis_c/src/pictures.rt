@@ -1,11 +1,8 @@
 //! Pictures in buffers.
 
-ghost use Rattle.std.specs.Prelude.{◌≡◌, ◌≢◌, ℕ, List, length, Some, IfSome};
-ghost use Rattle.goqlanis_buffers.specs.Answers.{refusal_of, IsDrawingCause};
-ghost use Rattle.goqlanis_buffers.specs.Drawings.{format_named, IsDrawn};
-ghost use Rattle.goqlanis_buffers.specs.Outputs.{IsPictureOf};
-ghost use Rattle.goqlanis_buffers.specs.declared.drawing.Format.{Format};
+ghost use Rattle.goqlanis_buffers.specs.Calls.{IsTold, TellsLength, WritesPicture};
 
+use goqlanis_buffers::answers::answer;
 use goqlanis_buffers::pictures::{length_of, put_picture};
 use std::alloc::Global;
 
@@ -26,20 +23,11 @@ pub extern "C" fn goq_draw(
     out: &mut [u8],
     count: &mut usize,
 ) -> u32
-    ensures made { result ≡ 0
-        → IsPictureOf modules.now width zone scale format out.old out.new count.new }
-    ensures unchanged { result ≢ 0 → out.new ≡ out.old }
-    ensures count_unchanged { result ≢ 0 → count.new ≡ count.old }
-    ensures causes { IfSome (refusal_of result)
-        (IsDrawingCause modules.now width zone scale format (length out.old)) }
+    ensures { IsTold (WritesPicture modules.now width zone scale format out.old out.new)
+        result count.old count.new }
 {
-    match put_picture(alloc, modules, width, zone, scale, format, out) {
-        Ok(length) => {
-            *count = length;
-            0
-        }
-        Err(refusal) => refusal.number(),
-    }
+    let put = put_picture(alloc, modules, width, zone, scale, format, out);
+    answer(put, count)
 }
 
 /// The length of the picture that `goq_draw` would write, to `count`; of PNG that of a file that shows
@@ -57,18 +45,8 @@ pub extern "C" fn goq_draw_length(
     format: u32,
     count: &mut usize,
 ) -> u32
-    ensures made { result ≡ 0 → (f : Format) × ((bytes : List ℕ)
-        × ((format_named format ≡ Some f) × (IsDrawn f modules.now width zone scale bytes
-        × (count.new ≡ length bytes)))) }
-    ensures count_unchanged { result ≢ 0 → count.new ≡ count.old }
-    ensures causes { (room : ℕ) → IfSome (refusal_of result)
-        (IsDrawingCause modules.now width zone scale format room) }
+    ensures { IsTold (TellsLength modules.now width zone scale format) result count.old count.new }
 {
-    match length_of(alloc, modules, width, zone, scale, format) {
-        Ok(length) => {
-            *count = length;
-            0
-        }
-        Err(refusal) => refusal.number(),
-    }
+    let length = length_of(alloc, modules, width, zone, scale, format);
+    answer(length, count)
 }

@@ -1,14 +1,9 @@
 //! Squares of modules read back.
 
-ghost use Rattle.std.specs.Prelude.{◌≡◌, ◌≢◌, ℕ, List, length, IfSome};
-ghost use Rattle.qrcode.specs.Reading.{ReadsOnly};
-ghost use Rattle.goqlanis_buffers.specs.Answers.{refusal_of, IsReadingCause};
-ghost use Rattle.goqlanis_buffers.specs.Drawings.{colors_of};
-ghost use Rattle.goqlanis_buffers.specs.Readings.{IsReadInto};
+ghost use Rattle.goqlanis_buffers.specs.Calls.{IsTold, TellsReadLength, WritesReading};
 
-use goqlanis_buffers::answers::Refusal;
-use goqlanis_buffers::reading::{Reading, read_square, told};
-use goqlanis_buffers::symbols::fill;
+use goqlanis_buffers::answers::answer;
+use goqlanis_buffers::reading::{Reading, read_into, read_length};
 use std::alloc::Global;
 
 /// The bytes of a square of modules, which are bytes in row order, dark where they are not zero, without
@@ -25,21 +20,10 @@ pub extern "C" fn goq_read(
     bytes: &mut [u8],
     reading: &mut Reading,
 ) -> u32
-    ensures made { result ≡ 0 → IsReadInto modules.now bytes.old bytes.new reading.new }
-    ensures unchanged { result ≢ 0 → bytes.new ≡ bytes.old }
-    ensures reading_unchanged { result ≢ 0 → reading.new ≡ reading.old }
-    ensures causes { IfSome (refusal_of result) (IsReadingCause modules.now (length bytes.old)) }
+    ensures { IsTold (WritesReading modules.now bytes.old bytes.new)
+        result reading.old reading.new }
 {
-    let found = match read_square(alloc, modules) {
-        Ok(found) => found,
-        Err(refusal) => return refusal.number(),
-    };
-    if bytes.len() < found.data.len() {
-        return Refusal::SmallBuffer.number();
-    }
-    *reading = told(&found);
-    fill(bytes, &found.data);
-    0
+    answer(read_into(alloc, modules, bytes), reading)
 }
 
 /// How many bytes `goq_read` would write, to `count`.
@@ -48,17 +32,7 @@ pub extern "C" fn goq_read(
 /// Then `count` is as it was.
 #[unsafe(no_mangle)]
 pub extern "C" fn goq_read_length(alloc: Global, modules: &[u8], count: &mut usize) -> u32
-    ensures made { result ≡ 0 → (bytes : List ℕ)
-        × (ReadsOnly (colors_of modules.now) bytes × (count.new ≡ length bytes)) }
-    ensures count_unchanged { result ≢ 0 → count.new ≡ count.old }
-    ensures causes { (room : ℕ) → IfSome (refusal_of result)
-        (IsReadingCause modules.now room) }
+    ensures { IsTold (TellsReadLength modules.now) result count.old count.new }
 {
-    match read_square(alloc, modules) {
-        Ok(found) => {
-            *count = found.data.len();
-            0
-        }
-        Err(refusal) => refusal.number(),
-    }
+    answer(read_length(alloc, modules), count)
 }

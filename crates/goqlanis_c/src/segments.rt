@@ -1,15 +1,10 @@
 //! Symbols of segments whose modes the caller names, and of headers.
 
-ghost use Rattle.std.specs.Prelude.{◌≡◌, ◌≢◌, length, Some, IfSome};
-ghost use Rattle.qrcode_types.specs.declared.types.EcLevel.{EcLevel};
-ghost use Rattle.qrcode_types.specs.declared.types.Version.{Version};
-ghost use Rattle.goqlanis_buffers.specs.Answers.{refusal_of, IsSegmentsCause, IsLeastCause};
-ghost use Rattle.goqlanis_buffers.specs.Names.{level_named, version_named};
-ghost use Rattle.goqlanis_buffers.specs.Outputs.{IsSegmentsSymbol};
-ghost use Rattle.goqlanis_buffers.specs.Segments.{IsLeastHeld};
+ghost use Rattle.goqlanis_buffers.specs.Calls.{IsTold, TellsLeastOfSegments, WritesSegments};
 
-use goqlanis_buffers::segments::{Segment, least_version, of_segments};
-use goqlanis_buffers::symbols::{Symbol, write_symbol};
+use goqlanis_buffers::answers::answer;
+use goqlanis_buffers::segments::{Segment, encode_segments, least_version};
+use goqlanis_buffers::symbols::Symbol;
 use std::alloc::Global;
 
 /// The symbol of segments, one behind the other, of a version and level of these numbers: its modules
@@ -28,21 +23,11 @@ pub extern "C" fn goq_encode_segments(
     modules: &mut [u8],
     symbol: &mut Symbol,
 ) -> u32
-    ensures made { result ≡ 0
-        → IsSegmentsSymbol version level segments.now modules.old modules.new symbol.new }
-    ensures unchanged { result ≢ 0 → modules.new ≡ modules.old }
-    ensures symbol_unchanged { result ≢ 0 → symbol.new ≡ symbol.old }
-    ensures causes { IfSome (refusal_of result)
-        (IsSegmentsCause version level segments.now (length modules.old)) }
+    ensures { IsTold (WritesSegments version level segments.now modules.old modules.new)
+        result symbol.old symbol.new }
 {
-    let code = match of_segments(alloc, segments, version, level) {
-        Ok(code) => code,
-        Err(refusal) => return refusal.number(),
-    };
-    match write_symbol(code, modules, symbol) {
-        Ok(()) => 0,
-        Err(refusal) => refusal.number(),
-    }
+    let written = encode_segments(alloc, segments, version, level, modules);
+    answer(written, symbol)
 }
 
 /// The number of the least Normal version that holds segments, one behind the other, at a level, to
@@ -57,16 +42,7 @@ pub extern "C" fn goq_least_version_of_segments(
     level: u32,
     version: &mut u32,
 ) -> u32
-    ensures made { result ≡ 0 → (l : EcLevel) × ((v : Version) × ((level_named level ≡ Some l)
-        × ((version_named version.new ≡ Some v) × IsLeastHeld l segments.now v))) }
-    ensures unchanged { result ≢ 0 → version.new ≡ version.old }
-    ensures causes { IfSome (refusal_of result) (IsLeastCause level segments.now) }
+    ensures { IsTold (TellsLeastOfSegments level segments.now) result version.old version.new }
 {
-    match least_version(alloc, segments, level) {
-        Ok(number) => {
-            *version = number;
-            0
-        }
-        Err(refusal) => refusal.number(),
-    }
+    answer(least_version(alloc, segments, level), version)
 }

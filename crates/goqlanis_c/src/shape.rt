@@ -1,19 +1,15 @@
 //! What versions look like, and which one holds bytes.
 
-ghost use Rattle.std.specs.Prelude.{◌≡◌, ◌≢◌, ◌&&◌, nat_lt, false, Some, None, IfSome, IfErr, IfOk};
+ghost use Rattle.std.specs.Prelude.{◌≡◌, ◌&&◌, nat_lt, false, None, IfSome};
 ghost use Rattle.qrcode_types.specs.Versions.{side};
 ghost use Rattle.qrcode_places.specs.Patterns.{is_functional_place};
-ghost use Rattle.qrcode_bits.specs.Choice.{IsLeastHolding};
-ghost use Rattle.qrcode_types.specs.declared.types.EcLevel.{EcLevel};
-ghost use Rattle.qrcode_types.specs.declared.types.Version.{Version};
-ghost use Rattle.goqlanis_buffers.specs.Answers.{refusal_of, IsAutomaticCause};
-ghost use Rattle.goqlanis_buffers.specs.Names.{level_named, version_named};
+ghost use Rattle.goqlanis_buffers.specs.Calls.{IsTold, TellsLeast};
+ghost use Rattle.goqlanis_buffers.specs.Names.{version_named};
 
-use goqlanis_buffers::answers::Refusal;
-use goqlanis_buffers::names::{level_named, version_named, version_number};
-use qrcode::bits::encode_auto;
+use goqlanis_buffers::answers::answer;
+use goqlanis_buffers::encoding::least_version;
+use goqlanis_buffers::names::version_named;
 use qrcode::canvas;
-use qrcode::types::QrError;
 use std::alloc::Global;
 
 /// The modules along a side of a version of a number, 1 to 40 for Normal, 41 to 44 for Micro; 0 where
@@ -59,20 +55,7 @@ pub extern "C" fn goq_least_version(
     level: u32,
     version: &mut u32,
 ) -> u32
-    ensures made { result ≡ 0 → (l : EcLevel) × ((v : Version) × ((level_named level ≡ Some l)
-        × ((version_named version.new ≡ Some v) × IsLeastHolding l bytes.now v))) }
-    ensures unchanged { result ≢ 0 → version.new ≡ version.old }
-    ensures causes { IfSome (refusal_of result) (IsAutomaticCause level bytes.now 0) }
+    ensures { IsTold (TellsLeast level bytes.now) result version.old version.new }
 {
-    let Some(ec_level) = level_named(level) else {
-        return Refusal::NoSuchLevel.number();
-    };
-    match encode_auto(alloc, bytes, ec_level) {
-        Ok(bits) => {
-            *version = version_number(bits.version());
-            0
-        }
-        Err(QrError::OutOfMemory) => Refusal::OutOfMemory.number(),
-        Err(_) => Refusal::NoRoom.number(),
-    }
+    answer(least_version(alloc, bytes, level), version)
 }

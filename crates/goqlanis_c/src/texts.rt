@@ -1,12 +1,11 @@
 //! Symbols of texts.
 
-ghost use Rattle.std.specs.Prelude.{◌≡◌, ◌≢◌, length, IfSome};
-ghost use Rattle.qrcode_bits.specs.declared.bits.manner.Manner.TheVariants.{Text, MarkedText};
-ghost use Rattle.goqlanis_buffers.specs.Answers.{refusal_of, IsTextCause};
-ghost use Rattle.goqlanis_buffers.specs.Outputs.{IsTextSymbol};
+ghost use Rattle.qrcode_bits.specs.declared.bits.manner.Manner.TheVariants.{MarkedText, Text};
+ghost use Rattle.goqlanis_buffers.specs.Calls.{IsTold, WritesText};
 
-use goqlanis_buffers::symbols::{Symbol, write_symbol};
-use goqlanis_buffers::texts::symbol_of;
+use goqlanis_buffers::answers::answer;
+use goqlanis_buffers::symbols::Symbol;
+use goqlanis_buffers::texts::encode_text;
 use qrcode::bits::Manner;
 use std::alloc::Global;
 
@@ -24,21 +23,11 @@ pub extern "C" fn goq_encode_text(
     modules: &mut [u8],
     symbol: &mut Symbol,
 ) -> u32
-    ensures made { result ≡ 0
-        → IsTextSymbol Text level text.now modules.old modules.new symbol.new }
-    ensures unchanged { result ≢ 0 → modules.new ≡ modules.old }
-    ensures symbol_unchanged { result ≢ 0 → symbol.new ≡ symbol.old }
-    ensures causes { IfSome (refusal_of result)
-        (IsTextCause Text level text.now (length modules.old)) }
+    ensures { IsTold (WritesText Text level text.now modules.old modules.new)
+        result symbol.old symbol.new }
 {
-    let code = match symbol_of(alloc, text, Manner::Text, level) {
-        Ok(code) => code,
-        Err(refusal) => return refusal.number(),
-    };
-    match write_symbol(code, modules, symbol) {
-        Ok(()) => 0,
-        Err(refusal) => refusal.number(),
-    }
+    let written = encode_text(alloc, text, Manner::Text, level, modules);
+    answer(written, symbol)
 }
 
 /// The same with the number 26 of UTF-8 (ECI) in front, which takes 12 bits.
@@ -50,19 +39,9 @@ pub extern "C" fn goq_encode_marked_text(
     modules: &mut [u8],
     symbol: &mut Symbol,
 ) -> u32
-    ensures made { result ≡ 0
-        → IsTextSymbol MarkedText level text.now modules.old modules.new symbol.new }
-    ensures unchanged { result ≢ 0 → modules.new ≡ modules.old }
-    ensures symbol_unchanged { result ≢ 0 → symbol.new ≡ symbol.old }
-    ensures causes { IfSome (refusal_of result)
-        (IsTextCause MarkedText level text.now (length modules.old)) }
+    ensures { IsTold (WritesText MarkedText level text.now modules.old modules.new)
+        result symbol.old symbol.new }
 {
-    let code = match symbol_of(alloc, text, Manner::MarkedText, level) {
-        Ok(code) => code,
-        Err(refusal) => return refusal.number(),
-    };
-    match write_symbol(code, modules, symbol) {
-        Ok(()) => 0,
-        Err(refusal) => refusal.number(),
-    }
+    let written = encode_text(alloc, text, Manner::MarkedText, level, modules);
+    answer(written, symbol)
 }

@@ -1,5 +1,5 @@
 use Rattle.std.proofs.Common.{◌≡◌, length, take}
-use Rattle.goqlanis_buffers.specs.Drawings.{colors_of}
+use Rattle.qrcode_render.specs.Shades.{colors_of}
 use Rattle.goqlanis_buffers.proofs.drawing.color_all.Given as goal
 
 -- so many modules are written

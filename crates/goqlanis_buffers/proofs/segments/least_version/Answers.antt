@@ -1,27 +1,27 @@
-use Rattle.std.proofs.Common.{w16, ap, sym, ◌∙◌, arith}
+use Rattle.std.proofs.Common.{w16, pos, ap, sym, ◌∙◌, arith}
 use Rattle.std.proofs.lemmas.Int.{to_z_pos}
 use Rattle.qrcode_types.specs.declared.types.Version.TheVariants.{Normal}
-use Rattle.goqlanis_buffers.proofs.Least.{in_none, least_held, lasting, not_room, no_room_more}
+use Rattle.goqlanis_buffers.proofs.Least.{in_none, least_held, lasting, named_normal, not_room, no_room_more}
 use Rattle.goqlanis_buffers.proofs.segments.least_version.Goals as goal
 
-pub returns-in-Ok-clause-least : goal.returns-in-Ok-clause-least
-returns-in-Ok-clause-least c =
+pub returns-in-Ok : goal.returns-in-Ok
+returns-in-Ok c =
     let number = c.loop-number.number in
     let named = ap Normal (to_z_pos w16 number (omega (arith, c.loop-number-test.true))) in
-    let held = c.in-Ok.ensures in (
-      c.in-Some.ec_level,
-      (
-        sym c.level_named.ensures.value ∙ c.in-Some.is,
-        least_held number _ c.in-Some.ec_level c.args.segments.now named (record { exists = held.exists; taken = held.taken; room = held.room }) c.loop-number.invariant.1,
-      ),
-    )
+    let held = c.in-Ok.ensures in
+    let least = least_held number _ c.in-Some.ec_level c.args.segments.now named (record { exists = held.exists; taken = held.taken; room = held.room }) c.loop-number.invariant.1 in
+    let by_number = named_normal number c.loop-number.invariant.0 (omega (arith, c.loop-number-test.true)) in record {
+      made = (c.in-Some.ec_level, (Normal (pos number), (sym c.level_named.ensures.value ∙ c.in-Some.is, (by_number, least))));
+      causes = tt;
+    }
 
-pub returns-in-Err-clause-causes : goal.returns-in-Err-clause-causes
-returns-in-Err-clause-causes c =
+pub returns-in-Err : goal.returns-in-Err
+returns-in-Err c =
     let number = c.loop-number.number in
     let named = ap Normal (to_z_pos w16 number (omega (arith, c.loop-number-test.true))) in
-    lasting number c.args.level _ c.in-Some.ec_level c.args.segments.now c.in-Err.refusal named c.loop-number.invariant.0 (omega (arith, c.loop-number-test.true))
-    (sym c.level_named.ensures.value ∙ c.in-Some.is) (not_room c.in-Err.refusal c.if-ne.ensures) c.in-Err.ensures.causes c.loop-number.invariant.1
+    let last = lasting number c.args.level _ c.in-Some.ec_level c.args.segments.now c.in-Err.refusal named c.loop-number.invariant.0 (omega (arith, c.loop-number-test.true))
+    (sym c.level_named.ensures.value ∙ c.in-Some.is) (not_room c.in-Err.refusal c.if-ne.ensures) c.in-Err.ensures.causes c.loop-number.invariant.1 in
+    record { made = tt; causes = last }
 
 pub loop-number-preserved : goal.loop-number-preserved
 loop-number-preserved c =
@@ -32,7 +32,8 @@ loop-number-preserved c =
           c.in-Err.ensures.causes c.loop-number.invariant.1,
     )
 
-pub returns-clause-causes : goal.returns-clause-causes
-returns-clause-causes c =
-    in_none c.args.level c.loop-number.number c.in-Some.ec_level c.args.segments.now (sym c.level_named.ensures.value ∙ c.in-Some.is)
-    (omega (arith, c.loop-number-test.false)) c.loop-number.invariant.1
+pub returns : goal.returns
+returns c =
+    let none = in_none c.args.level c.loop-number.number c.in-Some.ec_level c.args.segments.now (sym c.level_named.ensures.value ∙ c.in-Some.is)
+    (omega (arith, c.loop-number-test.false)) c.loop-number.invariant.1 in
+    record { made = tt; causes = none }

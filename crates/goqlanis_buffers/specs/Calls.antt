@@ -1,0 +1,86 @@
+-- What each call does, and what C is told of it.
+use Rattle.std.specs.Prelude.{◌≡◌, ◌≢◌, ℕ, List, length, Some, IsSomeAnd, Result, Ok, Err, IfOk, IfErr, OnErr}
+use Rattle.qrcode_bits.specs.Choice.{IsLeastHolding}
+use Rattle.qrcode_bits.specs.declared.bits.manner.Manner.{Manner}
+use Rattle.qrcode.specs.Reading.{ReadsOnly}
+use Rattle.goqlanis_buffers.specs.Answers.{refusal_of, IsAutomaticCause, IsCauseIn, IsDrawingCause, IsLeastCause, IsReadingCause, IsSegmentsCause, IsTextCause}
+use Rattle.qrcode_render.specs.Shades.{colors_of}
+use Rattle.goqlanis_buffers.specs.Outputs.{IsLengthOf, IsPictureOf, IsVersionAt, IsWrittenAs}
+use Rattle.goqlanis_buffers.specs.Readings.{IsReadInto}
+use Rattle.goqlanis_buffers.specs.Segments.{IsLeastHeld}
+use Rattle.goqlanis_buffers.specs.Symbols.{IsAutomaticSymbol, IsSegmentsSymbol, IsSymbolIn, IsTextSymbol}
+use Rattle.goqlanis_buffers.specs.declared.answers.Refusal.{Refusal}
+use Rattle.goqlanis_buffers.specs.declared.reading.Reading.{Reading}
+use Rattle.goqlanis_buffers.specs.declared.segments.Segment.{Segment}
+use Rattle.goqlanis_buffers.specs.declared.symbols.Symbol.{Symbol}
+
+-- what C is told of a result, whose value goes to an output: 0, and the value; or the number of the refusal, and the output as it was
+pub record IsAnswer {T : Type 0} (result : Result T Refusal) (number : ℕ) (old new : T) : Type 0 where
+  pub ok : IfOk result (λ value. (number ≡ 0) × (new ≡ value))
+  pub err : IfErr result (λ refusal. (refusal_of number ≡ Some refusal) × (new ≡ old))
+
+-- what a call does that answers C: by 0, and a value in an output; or by the number of a refusal, with the output as it was
+pub record IsTold {T : Type 0} (Does : Result T Refusal → Type 0) (number : ℕ) (old new : T) : Type 0 where
+  pub made : number ≡ 0 → Does (Ok new)
+  pub refused : number ≢ 0 → IsSomeAnd (refusal_of number) (λ refusal. Does (Err refusal))
+  pub unchanged : number ≢ 0 → new ≡ old
+
+-- a call that answers something, or refuses for a cause
+pub record Tells {T : Type 0} (Made : T → Type 0) (Cause : Refusal → Type 0) (result : Result T Refusal) : Type 0 where
+  pub made : IfOk result Made
+  pub causes : IfErr result Cause
+
+-- a call that also writes into a buffer, which is as it was where the call refuses
+pub record Writes {T : Type 0} (Made : List ℕ → T → Type 0) (Cause : Refusal → Type 0) (old new : List ℕ) (result : Result T Refusal) : Type 0 where
+  pub made : IfOk result (Made new)
+  pub unchanged : OnErr result (new ≡ old)
+  pub causes : IfErr result Cause
+
+-- it writes the symbol that is chosen for bytes at a level of a number
+abbrev pub WritesAutomatic : ℕ → List ℕ → List ℕ → List ℕ → Result Symbol Refusal → Type 0
+WritesAutomatic level bytes old new result =
+    Writes (IsWrittenAs (IsAutomaticSymbol level bytes) old) (IsAutomaticCause level bytes (length old)) old new result
+
+-- it writes the symbol of bytes, of a version and level of these numbers
+abbrev pub WritesIn : ℕ → ℕ → List ℕ → List ℕ → List ℕ → Result Symbol Refusal → Type 0
+WritesIn version level bytes old new result =
+    Writes (IsWrittenAs (IsSymbolIn version level bytes) old) (IsCauseIn version level bytes (length old)) old new result
+
+-- it writes the symbol that is chosen for a text at a level of a number
+abbrev pub WritesText : Manner → ℕ → List ℕ → List ℕ → List ℕ → Result Symbol Refusal → Type 0
+WritesText m level text old new result =
+    Writes (IsWrittenAs (IsTextSymbol m level text) old) (IsTextCause m level text (length old)) old new result
+
+-- it writes the symbol of segments, of a version and level of these numbers
+abbrev pub WritesSegments : ℕ → ℕ → List Segment → List ℕ → List ℕ → Result Symbol Refusal → Type 0
+WritesSegments version level segments old new result =
+    Writes (IsWrittenAs (IsSegmentsSymbol version level segments) old) (IsSegmentsCause version level segments (length old)) old new result
+
+-- it writes the picture of modules in a format of a number, and answers its length
+abbrev pub WritesPicture : List ℕ → ℕ → ℕ → ℕ → ℕ → List ℕ → List ℕ → Result ℕ Refusal → Type 0
+WritesPicture modules width zone scale format old new result =
+    Writes (IsPictureOf modules width zone scale format old) (IsDrawingCause modules width zone scale format (length old)) old new result
+
+-- it writes the bytes of the only reading of a square of modules, and answers what that is beside them
+abbrev pub WritesReading : List ℕ → List ℕ → List ℕ → Result Reading Refusal → Type 0
+WritesReading modules old new result = Writes (IsReadInto modules old) (IsReadingCause modules (length old)) old new result
+
+-- it answers the length of that picture, and refuses whatever room a buffer would have
+abbrev pub TellsLength : List ℕ → ℕ → ℕ → ℕ → ℕ → Result ℕ Refusal → Type 0
+TellsLength modules width zone scale format result =
+    Tells (IsLengthOf modules width zone scale format) (λ refusal. (room : ℕ) → IsDrawingCause modules width zone scale format room refusal) result
+
+-- it answers how many bytes a square of modules is read as, and refuses whatever room a buffer would have
+abbrev pub TellsReadLength : List ℕ → Result ℕ Refusal → Type 0
+TellsReadLength modules result =
+    Tells (λ count. (bytes : List ℕ) × (ReadsOnly (colors_of modules) bytes × (count ≡ length bytes)))
+    (λ refusal. (room : ℕ) → IsReadingCause modules room refusal) result
+
+-- it answers the number of the least Normal version that holds bytes at a level of a number, and refuses whatever room a buffer would have
+abbrev pub TellsLeast : ℕ → List ℕ → Result ℕ Refusal → Type 0
+TellsLeast level bytes result =
+    Tells (IsVersionAt (λ l v. IsLeastHolding l bytes v) level) (λ refusal. (room : ℕ) → IsAutomaticCause level bytes room refusal) result
+
+-- it answers the number of the least Normal version that holds segments at a level of a number
+abbrev pub TellsLeastOfSegments : ℕ → List Segment → Result ℕ Refusal → Type 0
+TellsLeastOfSegments level segments result = Tells (IsVersionAt (λ l v. IsLeastHeld l segments v) level) (IsLeastCause level segments) result

@@ -1,9 +1,0 @@
-use Rattle.std.proofs.Common.{length}
-use Rattle.goqlanis_buffers.specs.Answers.{IsReadingCause}
-use Rattle.goqlanis_buffers.proofs.Refused.{told}
-use Rattle.goqlanis_c.proofs.reading.goq_read.Goals as goal
-
-pub returns-in-Err-clause-causes : goal.returns-in-Err-clause-causes
-returns-in-Err-clause-causes c =
-    let room = length c.args.bytes.now in
-    told (IsReadingCause c.args.modules.now room) c.number.result c.in-Err.refusal c.number.ensures.value (c.in-Err.ensures.causes room)
