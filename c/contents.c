@@ -147,7 +147,7 @@ static void bills(void)
     printed[GOQ_BILL_REFERENCE] = other;
     refuses(GOQ_BILL, printed, GOQ_BILL_FIELDS, GOQ_FIELD_CHECK_DIGITS, GOQ_BILL_REFERENCE, "a wrong QR reference");
     printed[GOQ_BILL_REFERENCE] = none;
-    refuses(GOQ_BILL, printed, GOQ_BILL_FIELDS, GOQ_FIELD_UNUSED, GOQ_BILL_REFERENCE, "a QR-IBAN without a reference");
+    refuses(GOQ_BILL, printed, GOQ_BILL_FIELDS, GOQ_FIELD_EMPTY, GOQ_BILL_REFERENCE, "a QR-IBAN without a reference");
     printed[GOQ_BILL_REFERENCE] = reference;
     printed[GOQ_BILL_AMOUNT] = text;
     refuses(GOQ_BILL, printed, GOQ_BILL_FIELDS, GOQ_FIELD_CHARACTER, GOQ_BILL_AMOUNT, "an amount as a text");

@@ -231,10 +231,11 @@ creditor_checks b =
 unfoldable pub creditor_refusal : Invoice → Option ContentError
 creditor_refusal b = first_refusal (creditor_checks b)
 
--- a reference that does not belong to the account
+-- no reference to an account that wants a QR reference, and a reference that does not belong to the account
 abbrev pub belonging_checks : Invoice → List (Option ContentError)
 belonging_checks b =
-    refused_if (is_qr_account b.iban && not (is_qr_reference b.reference)) Reference Unused
+    refused_if (is_qr_account b.iban && is_empty b.reference) Reference Empty
+    ∷ refused_if (is_qr_account b.iban && not (is_qr_reference b.reference)) Reference Unused
     ∷ refused_if (not (is_qr_account b.iban) && is_qr_reference b.reference) Reference Unused
     ∷ []
 

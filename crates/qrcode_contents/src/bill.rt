@@ -371,14 +371,16 @@ impl Bill<'_> {
         ])
     }
 
-    // Refuses a reference that does not belong to the account.
+    // Refuses a QR-IBAN without a reference, and a reference that does not belong to the account.
     #[tactic(auto, unfolding(crate::specs::Bill::belonging_refusal))]
     fn check_belonging(&self) -> ContentResult<()>
         ensures { result ≡ checked (belonging_refusal (invoice_of self.now)) }
     {
         let qr = is_qr_reference(self.reference);
         let of_qr = is_qr_account(self.iban);
+        let missing = of_qr & self.reference.is_empty();
         refuse_first(&[
+            (missing, Field::Reference, Cause::Empty),
             (of_qr & !qr, Field::Reference, Cause::Unused),
             (!of_qr & qr, Field::Reference, Cause::Unused),
         ])

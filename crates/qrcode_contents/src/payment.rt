@@ -69,7 +69,7 @@ pub struct Payment<'a> {
     pub iban: &'a str,
     /// The amount in cents of a euro, 1 to 99,999,999,999.
     pub cents: u64,
-    /// The code of the purpose, up to 4 capitals.
+    /// The code of the purpose, up to 4 capitals and digits.
     pub purpose: &'a str,
     /// The creditor's reference of ISO 11649, without spaces: `RF`, two check digits, and 1 to 21
     /// capitals and digits.

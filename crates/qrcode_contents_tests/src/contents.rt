@@ -62,7 +62,7 @@ static ROWS: [Row; 44] = [
         Ok("SPC\n0200\n1\nCH5800791123000889012\nS\nRobert Schneider AG\nRue du Lac\n1268\n2501\nBiel\nCH\n\n\n\n\n\n\n\n\nEUR\n\n\n\n\n\n\n\nSCOR\nRF18539007547034\n\nEPD"),
     ),
     (Content::Bill(DEBTOR, "210000000003139471430009018"), Err((Field::Reference, CheckDigits))),
-    (Content::Bill(DEBTOR, ""), Err((Field::Reference, Unused))),
+    (Content::Bill(DEBTOR, ""), Err((Field::Reference, Empty))),
     (Content::Bill(DEBTOR, "21000000000313947143000901"), Err((Field::Reference, TooShort))),
     (Content::Bill(DEBTOR, "2100000000031394714300090178"), Err((Field::Reference, TooLong))),
     (Content::Bill(NOWHERE, "210000000003139471430009017"), Err((Field::DebtorCity, Empty))),
