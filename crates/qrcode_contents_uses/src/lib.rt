@@ -5,22 +5,27 @@
 pub mod examples;
 pub mod several;
 
-ghost use Rattle.std.specs.Prelude.{◌≤◌, ◌++◌, chars, codes, map, IfOk, IfErr, IsTrue};
+ghost use Rattle.std.specs.Prelude.{◌≡◌, ℕ, ◌≤◌, ◌++◌, pos, chars, codes, map, None, IfOk, IfErr, IsTrue};
 ghost use Rattle.qrcode_types.specs.Versions.{is_valid, side};
 ghost use Rattle.qrcode_types.specs.declared.types.EcLevel.TheVariants.{M};
+ghost use Rattle.qrcode_types.specs.declared.types.Version.TheVariants.{Normal};
+ghost use Rattle.qrcode_bits.specs.Manners.{HoldsAs};
+ghost use Rattle.qrcode_bits.specs.declared.bits.manner.Manner.TheVariants.{Text};
 ghost use Rattle.qrcode_contents.specs.Bill.{invoice_of, bill_text};
 ghost use Rattle.qrcode_contents.specs.Card.{contact_of, card_text};
 ghost use Rattle.qrcode_contents.specs.Contact.{person_of, mecard_text};
 ghost use Rattle.qrcode_contents.specs.Geo.{place_text};
 ghost use Rattle.qrcode_contents.specs.Mail.{letter_of, mail_text};
 ghost use Rattle.qrcode_contents.specs.OneTime.{key_of, key_text};
-ghost use Rattle.qrcode_contents.specs.Payment.{payment_fields, payment_text};
+ghost use Rattle.qrcode_contents.specs.Payment.{payment_fields, payment_refusal, payment_text};
 ghost use Rattle.qrcode_contents.specs.Phone.{message_text};
 ghost use Rattle.qrcode_contents.specs.Wifi.{wifi_fields, wifi_text};
 ghost use Rattle.qrcode_events.specs.Event.{happening_of, event_text};
 ghost use Rattle.qrcode_gs1.specs.Items.{item};
 ghost use Rattle.qrcode_gs1_symbol.specs.Elements.{IsGs1Symbol, IsGs1Refused};
 ghost use Rattle.qrcode.specs.Texts.{IsShownAs};
+ghost use Rattle.qrcode_contents_uses.specs.Wants.{IsWant};
+ghost use Rattle.qrcode_contents_uses.specs.declared.Unmade.TheVariants.{Content, Code};
 
 use qrcode::types::QrError;
 use qrcode::{EcLevel, QrCode, Version};
@@ -52,12 +57,16 @@ pub enum Unmade {
 }
 
 impl From<ContentError> for Unmade {
+    ghost from_gives = { λ error e. e ≡ Content error };
+
     fn from(error: ContentError) -> Unmade {
         Unmade::Content(error)
     }
 }
 
 impl From<QrError> for Unmade {
+    ghost from_gives = { λ error e. e ≡ Code error };
+
     fn from(error: QrError) -> Unmade {
         Unmade::Code(error)
     }
@@ -66,6 +75,8 @@ impl From<QrError> for Unmade {
 // The symbol of a text at a level, where its version is not above the largest.
 fn bounded(alloc: Global, text: &str, ec_level: EcLevel, largest: Version) -> Result<QrCode, Unmade>
     requires { IsTrue (is_valid largest) }
+    ensures accepts { (n : ℕ) → largest ≡ Normal (pos n) → HoldsAs Text largest ec_level text.now
+        → IfErr result IsWant }
     ensures shown { IfOk result (λ code.
         IsShownAs code.version ec_level (chars text.now) code.modules) }
     ensures at_most { IfOk result (λ code. side code.version ≤ side largest) }
@@ -86,8 +97,10 @@ pub fn network(alloc: Global, network: &Wifi) -> Result<QrCode, Unmade>
     Ok(QrCode::of_text(alloc, text.as_str(), EcLevel::M)?)
 }
 
-/// The symbol of a payment, at most Normal 13: 69 modules along a side.
+/// The symbol of a payment, at most Normal 13: 69 modules along a side. Each payment that its format
+/// does not refuse has one.
 pub fn payment(alloc: Global, payment: &Payment) -> Result<QrCode, Unmade>
+    ensures accepts { payment_refusal (payment_fields payment.now) ≡ None → IfErr result IsWant }
     ensures shown { IfOk result (λ code. IsShownAs code.version M
         (chars (payment_text (payment_fields payment.now))) code.modules) }
     ensures at_most { IfOk result (λ code. side code.version ≤ 69) }

@@ -1,4 +1,5 @@
-//! A text in several symbols, as the page on calls shows it.
+//! A text in several symbols, of one version or of the best of a range, as the pages on calls and on
+//! contents show it.
 
 ghost use Rattle.std.specs.Prelude.{◌≤◌, pos, length, IfOk};
 ghost use Rattle.qrcode_types.specs.declared.types.Version.TheVariants.{Normal};
