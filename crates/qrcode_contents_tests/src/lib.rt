@@ -10,6 +10,8 @@ mod elements;
 #[cfg(test)]
 mod joining;
 #[cfg(test)]
+mod refusals;
+#[cfg(test)]
 mod sequences;
 #[cfg(test)]
 mod symbols;

@@ -4,7 +4,11 @@
 
 use qrcode::types::{QrError, QrResult};
 use qrcode::{EcLevel, QrCode, Version};
-use qrcode_several::{Versions, encode_several, encode_several_within, encode_text_several};
+use qrcode_contents_uses::several::{leaflets, pages};
+use qrcode_several::{
+    Versions, encode_several, encode_several_within, encode_text_several,
+    encode_text_several_within,
+};
 use std::alloc::Global;
 use std::process::Abort;
 
@@ -96,4 +100,53 @@ fn the_fewest_of_some_versions(rt: HostRuntime) {
         let codes = encode_several_within(rt.alloc(), &bytes, versions, *level);
         assert!(rt; is_answer(codes, *answer), "{digits}");
     }
+}
+
+// A text, the numbers of the least and the greatest version, and a level; then how many symbols are the
+// fewest, and of which version.
+type TextRow = (
+    &'static str,
+    usize,
+    usize,
+    EcLevel,
+    Result<(usize, i16), QrError>,
+);
+
+// By the same tables, in bytes: a symbol alone holds the codewords less 12 bits, and one of several 20 bits
+// less. The even parts of the last text have 12 bytes, as many as Normal 1 at M holds behind a header; but
+// there a character stands across the border, so that the second would have 13.
+#[rattlefmt::skip]
+static TEXTS: [TextRow; 6] = [
+    (WORDS, 1, 2, EcLevel::L, Ok((1, 2))),
+    (WORDS, 1, 1, EcLevel::L, Ok((3, 1))),
+    (WORDS, 1, 1, EcLevel::H, Ok((7, 1))),
+    (WORDS, 0, 0, EcLevel::H, Err(QrError::InvalidVersion)),
+    ("aaaaaaaaaaaaaaaaaaaaaaaa", 1, 1, EcLevel::M, Ok((2, 1))),
+    ("aéééééééééééa", 1, 1, EcLevel::M, Ok((3, 1))),
+];
+
+#[test]
+fn the_fewest_of_some_versions_for_texts(rt: HostRuntime) {
+    for (text, least, greatest, level, answer) in &TEXTS {
+        let versions = Versions {
+            least: *least,
+            greatest: *greatest,
+        };
+        let codes = encode_text_several_within(rt.alloc(), *text, versions, *level);
+        assert!(rt; is_answer(codes, *answer), "{text}");
+    }
+}
+
+// Of 640 bytes eight parts have 80 each, and Normal 5 at M, of 86 codewords, holds 82 behind a header; seven
+// would have 91. Normal 10, of 216, holds 211 and Normal 9, of 182, 178: four parts have 160, for which
+// Normal 8, of 154, with room for 150, is too small, and three parts would have 213.
+#[test]
+fn pages_and_leaflets_are_few(rt: HostRuntime) {
+    let alloc = rt.alloc();
+    let mut text = String::new(alloc);
+    for _ in 0..20 {
+        text.push_str(WORDS).expect(&rt, "a text");
+    }
+    assert!(rt; is_answer(pages(alloc, text.as_str()), Ok((8, 5))));
+    assert!(rt; is_answer(leaflets(alloc, text.as_str()), Ok((4, 9))));
 }

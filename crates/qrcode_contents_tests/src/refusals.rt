@@ -1,0 +1,61 @@
+//! The texts of refusals.
+
+use qrcode::types::QrError;
+use qrcode_contents::errors::{Cause, ContentError, Field};
+use qrcode_gs1::errors::{Cause as ElementCause, Gs1Error};
+use qrcode_gs1_symbol::errors::SymbolError;
+use qrcode_several::errors::JoinError;
+use std::alloc::Global;
+use std::fmt::Display;
+
+// Whether a refusal is told so.
+fn tells<E: Display>(alloc: Global, error: &E, text: &str) -> bool {
+    match format!(in alloc; "{error}") {
+        Ok(told) => told.as_str() == text,
+        Err(_) => false,
+    }
+}
+
+#[test]
+fn contents_tell_field_and_cause(rt: HostRuntime) {
+    let alloc = rt.alloc();
+    let iban = ContentError::Refused(Field::Iban, Cause::CheckDigits);
+    let town = ContentError::Refused(Field::DebtorCity, Cause::Empty);
+    assert!(rt; tells(alloc, &iban, "Iban: CheckDigits"));
+    assert!(rt; tells(alloc, &town, "DebtorCity: Empty"));
+    assert!(rt; tells(alloc, &ContentError::OutOfMemory, "out of memory"));
+}
+
+#[test]
+fn elements_tell_index_and_cause(rt: HostRuntime) {
+    let alloc = rt.alloc();
+    let wrong = Gs1Error::Refused(2, ElementCause::CheckDigit);
+    assert!(rt; tells(alloc, &wrong, "element 2: CheckDigit"));
+    assert!(rt;
+        tells(
+            alloc,
+            &SymbolError::Elements(wrong),
+            "element 2: CheckDigit"
+        )
+    );
+    assert!(rt; tells(alloc, &Gs1Error::OutOfMemory, "out of memory"));
+    let long = SymbolError::Symbol(QrError::DataTooLong);
+    assert!(rt; tells(alloc, &long, "data too long"));
+}
+
+#[test]
+fn parts_tell_their_place(rt: HostRuntime) {
+    let alloc = rt.alloc();
+    for (error, text) in &[
+        (
+            JoinError::Stranger(1),
+            "part 1 is not of the same data as the first",
+        ),
+        (JoinError::Missing(0), "the part at place 0 is missing"),
+        (JoinError::Twice(15), "two parts have place 15"),
+        (JoinError::Parity, "the parity is that of other data"),
+        (JoinError::OutOfMemory, "out of memory"),
+    ] {
+        assert!(rt; tells(alloc, error, *text), "{text}");
+    }
+}
