@@ -145,26 +145,35 @@ fills b count zone scale margin s q is =
     let across : b.across ≡ (count + 2 * zone) * scale = ap (λ (p : Bitmap). p.across) q.shown in
     omega (arith, across, is)
 
+-- the dark module that the first row of a square has shows a dark pixel, inside
+framed_pixel : (b : Bitmap) (count zone scale column : ℕ) (s : List Color) → IsFramedIn b count zone scale column s
+    → (get_or b.marks ((zone * scale + 0 * scale) * b.across + (zone * scale + column * scale)) false ≡ true)
+    × (zone * scale + column * scale < pixels_across (layout count zone scale scale))
+framed_pixel b count zone scale column s q =
+    let top : 0 < count = some_count_of column count q.inside in
+    let place : 0 * count + column ≡ column = omega arith in
+    let right = mul-le-mul_right scale q.inside in (
+      shown_module b count zone scale column 0 s q.square q.inside top ∙ ap (λ k. is_dark (get_or s k Light)) place ∙ q.dark,
+      omega (arith, right, q.square.at_least),
+    )
+
 -- the first dark pixel stands in the first row of a square that has a dark module there
 pub first_row : (b : Bitmap) (count zone scale column first : ℕ) (s : List Color) → IsFramedIn b count zone scale column s → first < length b.marks
     → get_or b.marks first false ≡ true → ((k : ℕ) → k < first → get_or b.marks k false ≡ false) → zone * scale ≡ first / b.across
 first_row b count zone scale column first s q inside dark light =
     let at = layout count zone scale scale in
     let w = pixels_across at in
-    let some = q.square.at_least in
     let is = q.square.shown in
     let across : b.across ≡ w = ap (λ (p : Bitmap). p.across) is in
     let marks = ap (λ (p : Bitmap). p.marks) is in
     let within : first < w * pixels_down at = omega (arith, inside, ap length marks, length-map-range_with_len (λ i. is_dark_pixel at s (i % w) (i / w)) 0 (w * pixels_down at)) in
     let shown : is_dark_pixel at s (first % w) (first / w) ≡ true = sym (pixel_of at s first within) ∙ sym (ap (λ m. get_or m first false) marks) ∙ dark in
     let low : zone * scale ≤ first / w = behind_zone count zone scale s (first % w) (first / w) shown in
-    let top : 0 < count = some_count_of column count q.inside in
     let x = zone * scale + column * scale in
     let y = zone * scale + 0 * scale in
-    let place : 0 * count + column ≡ column = omega arith in
-    let lit : get_or b.marks (y * b.across + x) false ≡ true = shown_module b count zone scale column 0 s q.square q.inside top ∙ ap (λ k. is_dark (get_or s k Light)) place ∙ q.dark in
-    let right = mul-le-mul_right scale q.inside in
-    let room : x < w = omega (arith, right, some) in
+    let framed = framed_pixel b count zone scale column s q in
+    let lit : get_or b.marks (y * b.across + x) false ≡ true = framed.0 in
+    let room : x < w = framed.1 in
     let high : first ≤ y * b.across + x = not_before first (y * b.across + x) (λ before. let dim = light (y * b.across + x) before in cc) in
     let here : y * b.across + x ≡ y * w + x = ap (λ n. y * n + x) across in
     let up : first / w < y + 1 = div_below first w (y + 1) (omega (arith, room)) (omega (arith, high, here, room)) in
@@ -178,17 +187,14 @@ never_dark b count zone scale column s q light =
     let at = layout count zone scale scale in
     let w = pixels_across at in
     let is = q.square.shown in
-    let some = q.square.at_least in
     let across : b.across ≡ w = ap (λ (p : Bitmap). p.across) is in
-    let top : 0 < count = some_count_of column count q.inside in
     let x = zone * scale + column * scale in
     let y = zone * scale + 0 * scale in
-    let place : 0 * count + column ≡ column = omega arith in
-    let lit : get_or b.marks (y * b.across + x) false ≡ true = shown_module b count zone scale column 0 s q.square q.inside top ∙ ap (λ k. is_dark (get_or s k Light)) place ∙ q.dark in
-    let right = mul-le-mul_right scale q.inside in
-    let down = mul-le-mul_right scale top in
+    let framed = framed_pixel b count zone scale column s q in
+    let lit : get_or b.marks (y * b.across + x) false ≡ true = framed.0 in
+    let down = mul-le-mul_right scale (some_count_of column count q.inside) in
     let all : length b.marks ≡ w * pixels_down at = ap (λ (p : Bitmap). length p.marks) is ∙ length-map-range_with_len (λ i. is_dark_pixel at s (i % w) (i / w)) 0 (w * pixels_down at) in
-    let inside : y * w + x < w * pixels_down at = mul-add-lt y w x (pixels_down at) (omega (arith, down, some)) (omega (arith, right, some)) in
+    let inside : y * w + x < w * pixels_down at = mul-add-lt y w x (pixels_down at) (omega (arith, down, q.square.at_least)) framed.1 in
     let here : y * b.across + x ≡ y * w + x = ap (λ n. y * n + x) across in
     let dim = light (y * b.across + x) (omega (arith, inside, here, all)) in
     cc
