@@ -4,6 +4,7 @@
 
 mod drawing;
 mod elements;
+pub mod laws;
 mod refusal;
 mod request;
 mod scanning;
