@@ -3,7 +3,7 @@ use Rattle.std.proofs.Common.{◌≡◌, ◌↔◌, ℕ, ◌+◌, ◌<◌, ◌�
 use Rattle.std.proofs.Math.Nat.{eq-or-lt_of_le}
 use Rattle.std.proofs.lemmas.Bool.{false_from_ne_true, cases_Bool}
 use Rattle.std.proofs.lemmas.Grind.{common_steps}
-use Rattle.std.proofs.lemmas.Option.{get_or_from_slice_get, slice_get-get_or, slice_get_within}
+use Rattle.std.proofs.lemmas.Option.{get_or_from_slice_get, slice_get_within}
 use Rattle.std.proofs.lemmas.Str.{IsUtf8-from_is_utf8, is_utf8-from_IsUtf8}
 use Rattle.qrcode_fields.specs.declared.errors.Field.{Field}
 use Rattle.goqlanis_contents_buffers.specs.declared.answers.Refusal.TheVariants.{NotText}
@@ -15,7 +15,7 @@ use Rattle.std.specs.declared.alloc.Global.{Global}
 use Rattle.qrcode_fields.specs.Refusals.{Answers}
 use Rattle.qrcode_fields.specs.declared.errors.ContentError.{ContentError}
 use Rattle.goqlanis_contents_buffers.specs.Given.{AreTexts, signed_at}
-use Rattle.goqlanis_contents_buffers.specs.Forms.{form_refusal, field_refusal, passed, AreTaken, IsFirstWrong, IsNamed}
+use Rattle.goqlanis_contents_buffers.specs.Forms.{form_refusal, field_refusal, passed, AreTaken, IsNamed}
 use Rattle.goqlanis_contents_buffers.specs.declared.answers.Refusal.{Refusal}
 use Rattle.goqlanis_contents_buffers.specs.declared.forms.Form.{Form}
 use Rattle.goqlanis_contents_buffers.specs.declared.forms.Form.TheVariants.{Signed}
@@ -27,16 +27,6 @@ text_test bytes h = is_utf8-from_IsUtf8 bytes h
 
 pub no_text_test : (bytes : List ℕ) → ¬ IsUtf8 bytes → is_utf8 bytes ≡ false
 no_text_test bytes h = false_from_ne_true (is_utf8 bytes) (λ is. h (IsUtf8-from_is_utf8 bytes is))
-
--- a check that passes refuses nothing
-pub passed_none : (refusal : Option Refusal) (r : Result (Unit {0}) Refusal) (x : Unit {0}) → r ≡ passed refusal → r ≡ Ok x → refusal ≡ None
-passed_none None r x is ok = refl
-passed_none (Some e) r x is ok = cc
-
--- a check that refuses has this refusal
-pub passed_some : (refusal : Option Refusal) (r : Result (Unit {0}) Refusal) (e : Refusal) → r ≡ passed refusal → r ≡ Err e → refusal ≡ Some e
-passed_some None r e is err = cc
-passed_some (Some d) r e is err = cc
 
 -- one field more is taken, behind so many
 pub taken_more : (forms : List Form) (given : List Item) (i : ℕ) (d : Item)
@@ -50,12 +40,6 @@ taken_more forms given i d before none = λ n small g is.
           (subst (λ t. field_refusal (slice_get forms i) i t ≡ None) at none)
       | inr less ↦ before n less g is
     ]
-
--- the field that is refused behind so many that are taken
-pub first_wrong : (forms : List Form) (given : List Item) (i : ℕ) (d : Item) (refusal : Refusal) → i < length given
-    → AreTaken forms given i → field_refusal (slice_get forms i) i (get_or given i d) ≡ Some refusal → IsFirstWrong forms given refusal
-first_wrong forms given i d refusal inside before wrong =
-    record { place = i; field = get_or given i d; at = slice_get-get_or given i d inside; before = before; wrong = wrong }
 
 -- an error that a `?` hands on
 pub handed_on : {T R : Type 0} (result : Result T R) (r : R) (P : R → Type 0) → IsErr result × IsErrAnd result (λ x. x ≡ r) → P r → IfErr result P

@@ -1,9 +1,9 @@
 -- Elements that are looked at one behind the other.
-use Rattle.std.proofs.Common.{◌≡◌, ℕ, ◌+◌, ◌<◌, ◌≤◌, inl, inr, List, length, get_or, Some, subst, arith}
+use Rattle.std.proofs.Common.{◌≡◌, ℕ, ◌+◌, ◌≤◌, inl, inr, List, get_or, Some, subst, arith}
 use Rattle.std.proofs.Math.Nat.{eq-or-lt_of_le}
-use Rattle.std.proofs.lemmas.Option.{get_or_from_slice_get, slice_get-get_or}
+use Rattle.std.proofs.lemmas.Option.{get_or_from_slice_get}
 use Rattle.std.specs.Prelude.{slice_get}
-use Rattle.goqlanis_contents_buffers.specs.Elements.{IsText, AreTexts, IsFirstNoText}
+use Rattle.goqlanis_contents_buffers.specs.Elements.{IsText, AreTexts}
 use Rattle.goqlanis_contents_buffers.specs.declared.elements.Part.{Part}
 
 -- one element more is UTF-8
@@ -14,8 +14,3 @@ texts_more parts i d before here = λ n small p is.
       | inl equal ↦ subst IsText (get_or_from_slice_get parts i p d (subst (λ k. slice_get parts k ≡ Some p) equal is)) here
       | inr less ↦ before n less p is
     ]
-
--- the element behind so many that are UTF-8 is not
-pub first_no_text : (parts : List Part) (i : ℕ) (d : Part) → i < length parts → AreTexts parts i → ¬ IsText (get_or parts i d) → IsFirstNoText parts i
-first_no_text parts i d inside before wrong =
-    record { part = get_or parts i d; at = slice_get-get_or parts i d inside; before = before; wrong = wrong }
