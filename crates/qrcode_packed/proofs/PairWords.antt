@@ -39,7 +39,8 @@ longer_over h l b j k e = omega (arith, longer_up h l j k e)
 pub within : (n : ℕ) → n < 2 ^ 64 → n % 2 ^ 64 ≡ n
 within n h = omega (arith, h)
 
-zero_longer : (h l : ℕ) → (h * 2 ^ 64 + l == 0) ≡ ((l == 0) && (h == 0))
+-- a word and what is before it have no bit
+pub zero_longer : (h l : ℕ) → (h * 2 ^ 64 + l == 0) ≡ ((l == 0) && (h == 0))
 zero_longer zero zero = refl
 zero_longer zero (suc l) = ne_eqb (0 * 2 ^ 64 + suc l) 0 (λ e. absurd (omega arith)) ∙ sym (ap (λ t. t && (0 == 0)) (ne_eqb (suc l) 0 (λ e. absurd (omega arith))))
 zero_longer (suc h) zero = ne_eqb (suc h * 2 ^ 64 + 0) 0 (λ e. absurd (omega arith)) ∙ sym (ne_eqb (suc h) 0 (λ e. absurd (omega arith)))

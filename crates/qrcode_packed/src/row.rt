@@ -151,10 +151,28 @@ impl PackedRow for u64 {
     }
 }
 
-impl PackedRow for u128 {
+/// A row of up to 128 bits in two words, its first 64 bits as the upper row of a pair: what joins two rows then joins
+/// both words at once.
+#[derive(Copy, Clone)]
+pub struct Row128 {
+    words: WordPair,
+}
+
+// The row of two words.
+#[inline(always)]
+fn two_words(low: u64, high: u64) -> Row128
+    ensures low { result.words.upper ≡ low }
+    ensures high { result.words.lower ≡ high }
+{
+    Row128 {
+        words: low.beside(high),
+    }
+}
+
+impl PackedRow for Row128 {
     ghost room = { 128 };
 
-    ghost bits = { λ row. row };
+    ghost bits = { λ row. row.words.lower * 2 ^ 64 + row.words.upper };
 
     ghost room_at_most = { lit≤ tt };
 
@@ -163,66 +181,77 @@ impl PackedRow for u128 {
     ghost pair_room = { refl };
 
     #[inline(always)]
-    fn beside(self, lower: u128) -> Longer<WordPair> {
+    fn beside(self, lower: Row128) -> Longer<WordPair> {
         Longer {
-            low: self.first_word().beside(lower.first_word()),
-            high: ((self >> 64) as u64).beside((lower >> 64) as u64),
+            low: self.words.upper.beside(lower.words.upper),
+            high: self.words.lower.beside(lower.words.lower),
         }
     }
 
     #[inline(always)]
-    fn first(count: u32) -> u128 {
-        (1 << count) - 1
+    fn first(count: u32) -> Row128 {
+        if count < 64 {
+            return two_words((1 << count) - 1, 0);
+        }
+        two_words(u64::MAX, (1 << (count - 64)) - 1)
     }
 
     #[inline(always)]
-    fn and(self, other: u128) -> u128 {
-        self & other
+    fn and(self, other: Row128) -> Row128 {
+        Row128 {
+            words: self.words.and(other.words),
+        }
     }
 
     #[inline(always)]
-    fn or(self, other: u128) -> u128 {
-        self | other
+    fn or(self, other: Row128) -> Row128 {
+        Row128 {
+            words: self.words.or(other.words),
+        }
     }
 
     #[inline(always)]
-    fn xor(self, other: u128) -> u128 {
-        self ^ other
+    fn xor(self, other: Row128) -> Row128 {
+        Row128 {
+            words: self.words.xor(other.words),
+        }
     }
 
     #[inline(always)]
-    fn without(self, other: u128) -> u128 {
-        self ^ (self & other)
+    fn without(self, other: Row128) -> Row128 {
+        self.xor(self.and(other))
     }
 
     #[inline(always)]
-    fn down(self, count: u32) -> u128 {
-        self >> count
+    fn down(self, count: u32) -> Row128 {
+        let WordPair { upper, lower } = self.words;
+        two_words((lower << (64 - count)) | (upper >> count), lower >> count)
     }
 
     #[inline(always)]
-    fn up(self, count: u32) -> u128 {
-        self << count
+    fn up(self, count: u32) -> Row128 {
+        let WordPair { upper, lower } = self.words;
+        two_words(upper << count, (lower << count) | (upper >> (64 - count)))
     }
 
     #[inline(always)]
     fn count_ones(self) -> u32 {
-        u128::count_ones(self)
+        self.words.count_ones()
     }
 
     #[inline(always)]
     fn is_zero(self) -> bool {
-        self == 0
+        self.words.is_zero()
     }
 
     #[inline(always)]
-    fn of_words(low: u64, middle: u64, _high: u64) -> u128 {
-        (u128::from(middle) << 64) | u128::from(low)
+    fn of_words(low: u64, middle: u64, _high: u64) -> Row128 {
+        two_words(low, middle)
     }
 
     #[inline(always)]
     fn first_word(self) -> u64 {
-        (self & 0xffff_ffff_ffff_ffff) as u64
+        self.words.upper
     }
 }
 

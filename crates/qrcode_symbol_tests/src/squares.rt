@@ -3,7 +3,7 @@
 ghost use Rattle.std.specs.Prelude.{◌≡◌, ◌+◌, ◌<◌, ◌≤◌, length, map, IfOk};
 ghost use Rattle.qrcode_packed.specs.Rows.{FitsWidth, IsSquare};
 
-use qrcode_packed::row::{PackedRow, Row192};
+use qrcode_packed::row::{PackedRow, Row128, Row192};
 use qrcode_packed::square::PackedSquare;
 use qrcode_penalty::penalty::{micro_penalty, normal_penalty};
 use qrcode_types::types::QrResult;
@@ -128,7 +128,7 @@ fn packed_in<R: PackedRow>(alloc: Global, kind: Kind, width: u32) -> QrResult<(u
 // Whether a square has these penalties on packed rows of each type that has room for it.
 fn costs(alloc: Global, kind: Kind, width: u32, expected: (u32, u32)) -> QrResult<bool> {
     let one = !matches!(width, 7..=61) || packed_in::<u64>(alloc, kind, width)? == expected;
-    let two = !matches!(width, 7..=125) || packed_in::<u128>(alloc, kind, width)? == expected;
+    let two = !matches!(width, 7..=125) || packed_in::<Row128>(alloc, kind, width)? == expected;
     let three = matches!(width, 7..=177) && packed_in::<Row192>(alloc, kind, width)? == expected;
     Ok(one && two && three)
 }

@@ -16,7 +16,7 @@ use super::masked_rows::mask_rows;
 use super::packing::{PackedModules, pack_rows};
 use super::unpacking::{FromColor, unpack_rows};
 use super::{Module, side};
-use qrcode_packed::row::{PackedRow, Row192};
+use qrcode_packed::row::{PackedRow, Row128, Row192};
 use qrcode_packed::square::PackedSquare;
 use qrcode_penalty::penalty::{micro_penalty, normal_penalty};
 use qrcode_places::masks::{mask_count, nth_mask};
@@ -196,7 +196,7 @@ pub(super) fn best<S: FromColor>(
         return best_by::<u64, S>(alloc, version, ec_level, modules);
     }
     if width + 3 <= 128 {
-        return best_by::<u128, S>(alloc, version, ec_level, modules);
+        return best_by::<Row128, S>(alloc, version, ec_level, modules);
     }
     best_by::<Row192, S>(alloc, version, ec_level, modules)
 }
@@ -220,7 +220,7 @@ pub(super) fn into_best<C: Cell>(
         return into_best_by::<u64, C>(alloc, version, ec_level, modules);
     }
     if width + 3 <= 128 {
-        return into_best_by::<u128, C>(alloc, version, ec_level, modules);
+        return into_best_by::<Row128, C>(alloc, version, ec_level, modules);
     }
     into_best_by::<Row192, C>(alloc, version, ec_level, modules)
 }
