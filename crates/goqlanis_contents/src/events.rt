@@ -1,32 +1,43 @@
 //! An event of a calendar, from the options that are given.
 
+ghost use Rattle.std.specs.Prelude.{◌≡◌, IfOk};
+ghost use Rattle.qrcode_events.specs.Event.{happening_of};
+ghost use Rattle.goqlanis_contents.specs.Fields.{happening_in};
+
 use crate::refusals::{Refusal, wrong};
 use goqlanis_options::Given;
 use qrcode_events::event::{Event, Span};
 use qrcode_events::times::{Day, Moment};
 use std::alloc::Global;
 
-// An event: of whole days where its begin is a day, and else of moments.
-pub(crate) fn event<'a>(alloc: Global, given: &Given<'a>) -> Result<Event<'a>, Refusal> {
-    let span = if day_of(given.text("begin").as_bytes()).is_some() {
-        Span::Days(
-            day(alloc, given, "begin", "--begin")?,
-            day(alloc, given, "end", "--end")?,
-        )
-    } else {
-        Span::Times(
-            moment(alloc, given, "begin", "--begin")?,
-            moment(alloc, given, "end", "--end")?,
-        )
-    };
+// An event.
+pub(crate) fn event<'a>(alloc: Global, given: &Given<'a>) -> Result<Event<'a>, Refusal>
+    ensures { IfOk result (λ event. happening_of event
+        ≡ happening_in given.now.values.items event.stamp event.span) }
+{
     Ok(Event {
+        span: span(alloc, given)?,
         uid: given.text("uid"),
         stamp: moment(alloc, given, "stamp", "--stamp")?,
-        span,
         summary: given.text("summary"),
         location: given.text("location"),
         description: given.text("description"),
     })
+}
+
+// When it begins and ends: days where its begin is one, and else moments.
+fn span(alloc: Global, given: &Given<'_>) -> Result<Span, Refusal> {
+    if day_of(given.text("begin").as_bytes()).is_some() {
+        Ok(Span::Days(
+            day(alloc, given, "begin", "--begin")?,
+            day(alloc, given, "end", "--end")?,
+        ))
+    } else {
+        Ok(Span::Times(
+            moment(alloc, given, "begin", "--begin")?,
+            moment(alloc, given, "end", "--end")?,
+        ))
+    }
 }
 
 // The day that an option gives.

@@ -133,13 +133,14 @@ fn help_of(field: Field, cause: Cause) -> &'static str {
         }
         (Cause::Character, Field::Purpose) => "; write up to four capitals and digits",
         (Cause::Character, Field::Issuer | Field::Account) => "; write it without a colon",
+        (Cause::Empty, Field::Reference) => ": a QR-IBAN wants 27 digits",
         (Cause::Range, Field::Amount) => ": 0.01 to 999999999.99",
         (Cause::Range, Field::Latitude) => ": -90 to 90",
         (Cause::Range, Field::Longitude) => ": -180 to 180",
         (Cause::Range, Field::Period) => ": one second or more",
         (Cause::Unused, Field::Password) => ", or take another --security",
         (Cause::Unused, Field::Reference) => {
-            ": 27 digits go with a QR-IBAN alone, and RF.. or none with others"
+            ", or take another --iban: 27 digits go with a QR-IBAN alone, and RF.. or none with others"
         }
         (Cause::TooLong, _) => "; shorten it",
         _ => "",

@@ -1,5 +1,16 @@
 //! From the options that are given to a text.
 
+ghost use Rattle.std.specs.Prelude.{◌≡◌, Ok, codes, string_bytes, IfOk};
+ghost use Rattle.qrcode_contents.specs.Bill.{addressee_of, invoice_of};
+ghost use Rattle.qrcode_contents.specs.Card.{contact_of};
+ghost use Rattle.qrcode_contents.specs.Contact.{person_of};
+ghost use Rattle.qrcode_contents.specs.Mail.{letter_of};
+ghost use Rattle.qrcode_contents.specs.OneTime.{key_of};
+ghost use Rattle.qrcode_contents.specs.Payment.{payment_fields};
+ghost use Rattle.qrcode_contents.specs.Wifi.{wifi_fields};
+ghost use Rattle.goqlanis_options.specs.Words.{option_text, text_for};
+ghost use Rattle.goqlanis_contents.specs.Fields.{security_of, network_in, person_in, contact_in, version_of, transfer_in, creditor_in, debtor_in, currency_of, invoice_in, letter_in, sms_text, algorithm_of, digits_of, factor_of, key_in, IsTextOf};
+
 use crate::events::event;
 use crate::refusals::{Refusal, refusal_of, wrong};
 use goqlanis_options::{Given, Kind};
@@ -12,54 +23,81 @@ use qrcode_contents::one_time::{Algorithm, Digits, Factor, OneTime};
 use qrcode_contents::payment::{Payment, PaymentVersion};
 use qrcode_contents::phone::Phone;
 use qrcode_contents::wifi::{Security, Wifi};
+use qrcode_fields::errors::ContentResult;
 use std::alloc::Global;
 
 /// The text of a kind, of the options that are given. An option that is not given is an empty field.
 ///
 /// `Wrong`: the format refuses a field, or an option is no number. `OutOfMemory`: memory was refused.
-pub fn text_of(alloc: Global, kind: Kind, given: &Given<'_>) -> Result<String, Refusal> {
-    let text = match kind {
-        Kind::Wifi => network(given).text(alloc),
-        Kind::Mecard => contact(given).mecard(alloc),
-        Kind::Vcard => card(given).text(alloc),
-        Kind::Payment => payment(alloc, given)?.text(alloc),
-        Kind::Bill => bill(alloc, given)?.text(alloc),
-        Kind::Mail => mail(given).text(alloc),
-        Kind::Place => place(alloc, given)?.text(alloc),
-        Kind::Tel => phone(given).tel(alloc),
-        Kind::Sms => match given.get("message") {
-            Some(message) => phone(given).message(alloc, message),
-            None => phone(given).sms(alloc),
-        },
-        Kind::Otp => passwords(alloc, given)?.text(alloc),
-        Kind::Event => event(alloc, given)?.text(alloc),
-    };
-    match text {
+pub fn text_of(alloc: Global, kind: Kind, given: &Given<'_>) -> Result<String, Refusal>
+    ensures { IfOk result (λ text. IsTextOf kind given.now.values.items (string_bytes text)) }
+{
+    match kind {
+        Kind::Wifi => told(alloc, kind, network(given).text(alloc)),
+        Kind::Mecard => told(alloc, kind, contact(given).mecard(alloc)),
+        Kind::Vcard => told(alloc, kind, card(given).text(alloc)),
+        Kind::Payment => told(alloc, kind, payment(alloc, given)?.text(alloc)),
+        Kind::Bill => told(alloc, kind, bill(alloc, given)?.text(alloc)),
+        Kind::Mail => told(alloc, kind, mail(given).text(alloc)),
+        Kind::Place => told(alloc, kind, place(alloc, given)?.text(alloc)),
+        Kind::Tel => told(alloc, kind, phone(given).tel(alloc)),
+        Kind::Sms => told(alloc, kind, sms(alloc, phone(given), given.get("message"))),
+        Kind::Otp => told(alloc, kind, passwords(alloc, given)?.text(alloc)),
+        Kind::Event => told(alloc, kind, event(alloc, given)?.text(alloc)),
+    }
+}
+
+// The text that a format gives, or its refusal, told by the option of the kind.
+fn told(alloc: Global, kind: Kind, answer: ContentResult<String>) -> Result<String, Refusal>
+    ensures { IfOk result (λ text. answer ≡ Ok text) }
+{
+    match answer {
         Ok(text) => Ok(text),
         Err(error) => Err(refusal_of(alloc, kind, error)),
     }
 }
 
-// A network: with a password WPA, and without one open, unless it is said otherwise.
-fn network<'a>(given: &Given<'a>) -> Wifi<'a> {
-    let password = given.text("password");
-    let security = match given.text("security") {
+// The link that writes to a number, with a body where one is given.
+fn sms(alloc: Global, phone: Phone<'_>, body: Option<&str>) -> ContentResult<String>
+    ensures { IfOk result (λ text. string_bytes text
+        ≡ sms_text phone.entry.number.now (option_text body.entry)) }
+{
+    match body {
+        Some(body) => phone.message(alloc, body),
+        None => phone.sms(alloc),
+    }
+}
+
+// How a network is secured: as the word says, and without one by WPA with a password and not at all
+// without.
+fn security_of(word: &str, password: &str) -> Security
+    ensures { result ≡ security_of word.now password.now }
+{
+    match word {
         "WEP" | "wep" => Security::Wep,
         "WPA" | "wpa" => Security::Wpa,
         "WPA3" | "wpa3" => Security::Wpa3,
         "open" | "OPEN" => Security::Open,
         _ if password.is_empty() => Security::Open,
         _ => Security::Wpa,
-    };
+    }
+}
+
+fn network<'a>(given: &Given<'a>) -> Wifi<'a>
+    ensures { wifi_fields result ≡ network_in given.now.values.items }
+{
+    let password = given.text("password");
     Wifi {
-        security,
+        security: security_of(given.text("security"), password),
         ssid: given.text("ssid"),
         password,
         hidden: given.has_flag("hidden"),
     }
 }
 
-fn contact<'a>(given: &Given<'a>) -> Contact<'a> {
+fn contact<'a>(given: &Given<'a>) -> Contact<'a>
+    ensures { person_of result ≡ person_in given.now.values.items }
+{
     Contact {
         family: given.text("family"),
         given: given.text("given"),
@@ -76,7 +114,9 @@ fn contact<'a>(given: &Given<'a>) -> Contact<'a> {
     }
 }
 
-fn card<'a>(given: &Given<'a>) -> Card<'a> {
+fn card<'a>(given: &Given<'a>) -> Card<'a>
+    ensures { contact_of result ≡ contact_in given.now.values.items }
+{
     Card {
         name: given.text("name"),
         family: given.text("family"),
@@ -94,16 +134,24 @@ fn card<'a>(given: &Given<'a>) -> Card<'a> {
     }
 }
 
-// A payment: of version 001 with a BIC, and of 002 without.
-fn payment<'a>(alloc: Global, given: &Given<'a>) -> Result<Payment<'a>, Refusal> {
-    let bic = given.text("bic");
-    let version = if bic.is_empty() {
+// The version of a payment: 001 with a BIC, and 002 without.
+fn version_of(bic: &str) -> PaymentVersion
+    ensures { result ≡ version_of bic.now }
+{
+    if bic.is_empty() {
         PaymentVersion::Two
     } else {
         PaymentVersion::One
-    };
+    }
+}
+
+fn payment<'a>(alloc: Global, given: &Given<'a>) -> Result<Payment<'a>, Refusal>
+    ensures { IfOk result (λ payment. payment_fields payment
+        ≡ transfer_in given.now.values.items payment.cents) }
+{
+    let bic = given.text("bic");
     Ok(Payment {
-        version,
+        version: version_of(bic),
         bic,
         name: given.text("name"),
         iban: given.text("iban"),
@@ -115,37 +163,62 @@ fn payment<'a>(alloc: Global, given: &Given<'a>) -> Result<Payment<'a>, Refusal>
     })
 }
 
-fn bill<'a>(alloc: Global, given: &Given<'a>) -> Result<Bill<'a>, Refusal> {
-    let currency = match given.text("currency") {
+// Who is paid by a bill.
+fn creditor<'a>(given: &Given<'a>) -> Party<'a>
+    ensures { addressee_of result ≡ creditor_in given.now.values.items }
+{
+    Party {
+        name: given.text("name"),
+        street: given.text("street"),
+        number: given.text("number"),
+        code: given.text("code"),
+        city: given.text("city"),
+        country: given.text("country"),
+    }
+}
+
+// Who pays it.
+fn debtor<'a>(given: &Given<'a>) -> Party<'a>
+    ensures { addressee_of result ≡ debtor_in given.now.values.items }
+{
+    Party {
+        name: given.text("debtor-name"),
+        street: given.text("debtor-street"),
+        number: given.text("debtor-number"),
+        code: given.text("debtor-code"),
+        city: given.text("debtor-city"),
+        country: given.text("debtor-country"),
+    }
+}
+
+// The currency that a word says, francs without one.
+fn currency_of(word: &str) -> Currency
+    ensures { result ≡ currency_of word.now }
+{
+    match word {
         "EUR" | "eur" => Currency::Euro,
         _ => Currency::Franc,
-    };
+    }
+}
+
+fn bill<'a>(alloc: Global, given: &Given<'a>) -> Result<Bill<'a>, Refusal>
+    ensures { IfOk result (λ bill. invoice_of bill
+        ≡ invoice_in given.now.values.items bill.cents) }
+{
     Ok(Bill {
         iban: given.text("iban"),
-        creditor: Party {
-            name: given.text("name"),
-            street: given.text("street"),
-            number: given.text("number"),
-            code: given.text("code"),
-            city: given.text("city"),
-            country: given.text("country"),
-        },
+        creditor: creditor(given),
         cents: cents(alloc, given)?,
-        currency,
-        debtor: Party {
-            name: given.text("debtor-name"),
-            street: given.text("debtor-street"),
-            number: given.text("debtor-number"),
-            code: given.text("debtor-code"),
-            city: given.text("debtor-city"),
-            country: given.text("debtor-country"),
-        },
+        currency: currency_of(given.text("currency")),
+        debtor: debtor(given),
         reference: given.text("reference"),
         message: given.text("message"),
     })
 }
 
-fn mail<'a>(given: &Given<'a>) -> Mail<'a> {
+fn mail<'a>(given: &Given<'a>) -> Mail<'a>
+    ensures { letter_of result ≡ letter_in given.now.values.items }
+{
     Mail {
         address: given.text("email"),
         subject: given.text("subject"),
@@ -153,7 +226,9 @@ fn mail<'a>(given: &Given<'a>) -> Mail<'a> {
     }
 }
 
-fn phone<'a>(given: &Given<'a>) -> Phone<'a> {
+fn phone<'a>(given: &Given<'a>) -> Phone<'a>
+    ensures { result.number.now ≡ text_for given.now.values.items (codes "phone") }
+{
     Phone {
         number: given.text("phone"),
     }
@@ -166,34 +241,54 @@ fn place(alloc: Global, given: &Given<'_>) -> Result<Place, Refusal> {
     })
 }
 
-// One-time passwords, which change with a counter where one is given.
-fn passwords<'a>(alloc: Global, given: &Given<'a>) -> Result<OneTime<'a>, Refusal> {
-    let factor = match given.get("counter") {
+// What passwords change with: a counter where one is given, and else the time.
+fn factor_of(alloc: Global, counter: Option<&str>, period: &str) -> Result<Factor, Refusal>
+    ensures { IfOk result (λ factor. factor ≡ factor_of (option_text counter.entry) period.now) }
+{
+    match counter {
         Some(text) => match text.parse::<u64>() {
-            Ok(count) => Factor::Counter(count),
-            Err(_) => return Err(wrong(alloc, "--counter", "it is no whole number", "")),
+            Ok(count) => Ok(Factor::Counter(count)),
+            Err(_) => Err(wrong(alloc, "--counter", "it is no whole number", "")),
         },
-        None => match given.get("period").unwrap_or("30").parse::<u32>() {
-            Ok(seconds) => Factor::Time(seconds),
-            Err(_) => {
-                return Err(wrong(alloc, "--period", "it is no whole number of seconds", ""));
-            }
+        None => match period.parse::<u32>() {
+            Ok(seconds) => Ok(Factor::Time(seconds)),
+            Err(_) => Err(wrong(alloc, "--period", "it is no whole number of seconds", "")),
         },
-    };
+    }
+}
+
+// The hash that a word says, SHA1 without one.
+fn algorithm_of(word: &str) -> Algorithm
+    ensures { result ≡ algorithm_of word.now }
+{
+    match word {
+        "SHA256" | "sha256" => Algorithm::Sha256,
+        "SHA512" | "sha512" => Algorithm::Sha512,
+        _ => Algorithm::Sha1,
+    }
+}
+
+// How many digits a password has, six unless eight are said.
+fn digits_of(word: &str) -> Digits
+    ensures { result ≡ digits_of word.now }
+{
+    match word {
+        "8" => Digits::Eight,
+        _ => Digits::Six,
+    }
+}
+
+fn passwords<'a>(alloc: Global, given: &Given<'a>) -> Result<OneTime<'a>, Refusal>
+    ensures { IfOk result (λ passwords. key_of passwords ≡ key_in given.now.values.items) }
+{
+    let period = given.get("period").unwrap_or("30");
     Ok(OneTime {
-        factor,
+        factor: factor_of(alloc, given.get("counter"), period)?,
         issuer: given.text("issuer"),
         account: given.text("account"),
         secret: given.text("secret"),
-        algorithm: match given.text("algorithm") {
-            "SHA256" | "sha256" => Algorithm::Sha256,
-            "SHA512" | "sha512" => Algorithm::Sha512,
-            _ => Algorithm::Sha1,
-        },
-        digits: match given.text("digits") {
-            "8" => Digits::Eight,
-            _ => Digits::Six,
-        },
+        algorithm: algorithm_of(given.text("algorithm")),
+        digits: digits_of(given.text("digits")),
     })
 }
 

@@ -1,6 +1,7 @@
 -- What plain words of a command line give for options, and beside them.
-use Rattle.std.specs.Prelude.{◌≡◌, ◌≢◌, ◌⊎◌, ◌++◌, ◌<◌, ◌≤◌, ℕ, List, [], ◌∷◌, length, slice_get, get_or, codes, encode_utf8, Option, None, Some}
+use Rattle.std.specs.Prelude.{◌≡◌, ◌≢◌, ◌⊎◌, ◌++◌, ◌<◌, ◌≤◌, ℕ, List, [], ◌∷◌, length, slice_get, get_or, codes, encode_utf8, Option, None, Some, unwrap_or, if◌then◌else◌}
 use Rattle.std.specs.Borrow.{Bor}
+use Rattle.std.specs.Str.{bytes_eq}
 use Rattle.std.specs.Str.Parse.{IsNumeral, digits_value, without_leading_plus}
 use Rattle.goqlanis_options.specs.declared.entries.Entry.{Entry}
 use Rattle.goqlanis_options.specs.declared.entries.Takes.{Takes}
@@ -23,6 +24,15 @@ IsAmong word known = (k : ℕ) × ((each : Bor (List ℕ)) × ((slice_get known 
 -- an option is in a table
 abbrev pub IsListed : List (Bor Entry) → Bor Entry → Type 0
 IsListed options entry = (k : ℕ) × (slice_get options k ≡ Some entry)
+
+-- what is given for a name first, where something is
+abbrev pub given_for : List Pair → List ℕ → Option (List ℕ)
+given_for [] name = None
+given_for (pair ∷ pairs) name = if bytes_eq pair.0.now name then Some pair.1.now else given_for pairs name
+
+-- the same, or an empty text
+abbrev pub text_for : List Pair → List ℕ → List ℕ
+text_for pairs name = unwrap_or (given_for pairs name) []
 
 -- nothing is given for a name
 abbrev pub IsFree : List Pair → List ℕ → Type 0

@@ -1,7 +1,8 @@
 //! The options that are given.
 
-ghost use Rattle.std.specs.Prelude.{◌≡◌, ◌++◌, [], ◌∷◌, false, OnOk};
-ghost use Rattle.goqlanis_options.specs.Words.{IsFree};
+ghost use Rattle.std.specs.Prelude.{◌≡◌, ◌++◌, [], ◌∷◌, false, codes, OnOk};
+ghost use Rattle.std.specs.Str.{bytes_eq};
+ghost use Rattle.goqlanis_options.specs.Words.{IsFree, option_text, given_for, text_for};
 
 use std::alloc::{AllocError, Global};
 use std::str::FromStr;
@@ -44,7 +45,9 @@ impl<'a> Given<'a> {
     }
 
     /// What is given for an option first, where something is.
-    pub fn get(&self, name: &str) -> Option<&'a str> {
+    pub fn get(&self, name: &str) -> Option<&'a str>
+        ensures { option_text result ≡ given_for self.now.values.items name.now }
+    {
         for (known, value) in &self.values {
             if *known == name {
                 return Some(*value);
@@ -54,7 +57,9 @@ impl<'a> Given<'a> {
     }
 
     /// What is given for an option, or an empty text.
-    pub fn text(&self, name: &str) -> &'a str {
+    pub fn text(&self, name: &str) -> &'a str
+        ensures { result.now ≡ text_for self.now.values.items name.now }
+    {
         self.get(name).unwrap_or("")
     }
 
@@ -70,7 +75,9 @@ impl<'a> Given<'a> {
     }
 
     /// Whether a flag is given.
-    pub fn has_flag(&self, name: &str) -> bool {
+    pub fn has_flag(&self, name: &str) -> bool
+        ensures { result ≡ bytes_eq (text_for self.now.values.items name.now) (codes "true") }
+    {
         self.text(name) == "true"
     }
 
