@@ -1,5 +1,5 @@
 -- Packed lists, place by place.
-use Rattle.std.proofs.Common.{◌≡◌, ℕ, zero, suc, ◌+◌, ◌-◌, ◌*◌, ◌/◌, ◌%◌, ◌^◌, ◌<◌, ◌≤◌, Bool, true, false, ◌==◌, List, [], ◌∷◌, length, ◌++◌, take, drop, get_or, set, nat_lt, map, cond, replicate, below_more, refl, ap, ap₂, sym, inl, inr, ◌∙◌, arith, min, bit_and, mul_assoc, mul_comm, length-drop, drop-drop}
+use Rattle.std.proofs.Common.{◌≡◌, ℕ, zero, suc, ◌+◌, ◌-◌, ◌*◌, ◌/◌, ◌%◌, ◌^◌, ◌<◌, ◌≤◌, Bool, true, false, ◌==◌, List, [], ◌∷◌, length, ◌++◌, take, drop, get_or, set, nat_lt, map, cond, replicate, below_more, refl, ap, sym, ◌∙◌, arith, min, bit_and, mul_assoc, mul_comm, length-drop, length-take, take-take, drop-drop}
 use Rattle.std.proofs.lemmas.Nat.{pow_pos, mod_low, and_mask}
 use Rattle.std.specs.Int.{bit_at}
 use Rattle.std.proofs.lemmas.Nat.Bits.{bit_at_lowest, bit_at-suc}
@@ -94,12 +94,15 @@ packed_words f xs =
     let high : packed f (take (length xs - min (length xs) 128) (drop (min (length xs) 128) xs)) ≡ packed f (drop 64 (drop 64 xs)) = ap (packed f) (take_all (drop (min (length xs) 128) xs) (length xs - min (length xs) 128) (omega (arith, length-drop (min (length xs) 128) xs)) ∙ drop_same xs (min (length xs) 128) 128 (omega arith) ∙ sym (drop-drop 64 64 xs)) in
     omega (arith, low, middle, high, packed_cut f 64 xs, packed_cut f 64 (drop 64 xs))
 
--- the same numbers, cut to a room that has place for the list
+-- the same numbers of parts of what is left, cut to a room that has place for the list
 pub packed_in_room : {A : Type 0} (f : A → Bool) (xs : List A) (room : ℕ) → length xs ≤ room →
-    ((packed f (take (length xs - min (length xs) 128) (drop (min (length xs) 128) xs)) * 2 ^ 64 + packed f (take (min (length xs) 128 - min (length xs) 64) (drop (min (length xs) 64) xs))) * 2 ^ 64 + packed f (take (min (length xs) 64) xs)) % 2 ^ room ≡ packed f xs
+    ((packed f (take (length xs - min (length xs) 128) (take (length xs - min (length xs) 128) (drop (min (length xs) 128) xs))) * 2 ^ 64
+    + packed f (take (min (length xs) 128 - min (length xs) 64) (take (length xs - min (length xs) 64) (drop (min (length xs) 64) xs)))) * 2 ^ 64 + packed f (take (min (length xs) 64) xs)) % 2 ^ room ≡ packed f xs
 packed_in_room f xs room h =
     let e : packed f xs ≡ 0 * 2 ^ room + packed f xs = omega arith in
-    ap (λ n. n % 2 ^ room) (packed_words f xs ∙ e) ∙ mod_low 0 room (packed f xs) (packed_lt f xs room h)
+    let high = take-take (length xs - min (length xs) 128) (length xs - min (length xs) 128) (drop (min (length xs) 128) xs) (omega arith) in
+    let middle = take-take (min (length xs) 128 - min (length xs) 64) (length xs - min (length xs) 64) (drop (min (length xs) 64) xs) (omega arith) in
+    rw (high, middle) (ap (λ n. n % 2 ^ room) (packed_words f xs ∙ e) ∙ mod_low 0 room (packed f xs) (packed_lt f xs room h))
 
 -- a list of few answers in the lowest word
 pub packed_low : {A : Type 0} (f : A → Bool) (xs : List A) (room : ℕ) → length xs ≤ room → ((0 * 2 ^ 64 + 0) * 2 ^ 64 + packed f xs) % 2 ^ room ≡ packed f xs
@@ -173,6 +176,13 @@ pub packed_word : (f : ℕ → Bool) (bytes : List ℕ) (d : ℕ) → length byt
 packed_word f bytes d h e =
     let behind : post_of 0 (length bytes) (replicate 64 d) ≡ replicate (64 - length bytes) d = drop-replicate (length bytes) 64 d in
     ap (λ (l : List ℕ). packed f (bytes ++ l)) behind ∙ padded f bytes d (64 - length bytes) e
+
+-- the first of 64 answers
+pub packed_first : {A : Type 0} (f : A → Bool) (n : ℕ) (xs : List A) → n ≤ 64 → packed f (take 64 xs) % 2 ^ n ≡ packed f (take n xs)
+packed_first f n xs h =
+    let fewer : take n (take 64 xs) ≡ take n xs = take-take n 64 xs h in
+    ap (λ k. k % 2 ^ n) (packed_cut f n (take 64 xs)) ∙ mod_low (packed f (drop n (take 64 xs))) n (packed f (take n (take 64 xs))) (packed_lt f (take n (take 64 xs)) n (omega (arith, length-take n (take 64 xs))))
+    ∙ ap (packed f) fewer
 
 -- two tests that agree
 pub packed_same : {A : Type 0} (f g : A → Bool) (xs : List A) → ((x : A) → f x ≡ g x) → packed f xs ≡ packed g xs

@@ -25,9 +25,6 @@ pub packed_map : {A B : Type 0} (test : B → Bool) (shows : A → B) (xs : List
 packed_map test shows [] = refl
 packed_map test shows (x ∷ xs) = omega (arith, packed_map test shows xs)
 
-pub map-part : {A : Type 0} (shows : A → Module) (n m : ℕ) (xs : List A) → map shows (take n (drop m xs)) ≡ take n (drop m (map shows xs))
-map-part shows n m xs = sym (take-map shows n (drop m xs)) ∙ ap (take n) (sym (drop-map shows m xs))
-
 pub map-replicate : {A : Type 0} (shows : A → Module) (n : ℕ) (x : A) → map shows (replicate n x) ≡ replicate n (shows x)
 map-replicate shows zero x = refl
 map-replicate shows (suc n) x = ap (λ (l : List Module). shows x ∷ l) (map-replicate shows n x)

@@ -1,6 +1,6 @@
 //! How a module stands in memory: as it is, or as a byte, which takes half the room and is packed 64 at a time.
 
-ghost use Rattle.std.specs.Prelude.{◌≡◌, ◌≤◌, ◌&&◌, length, replicate, IfOk, IsOkUnless};
+ghost use Rattle.std.specs.Prelude.{◌≡◌, ◌≤◌, ◌&&◌, length, replicate, take, IfOk, IsOkUnless};
 ghost use Rattle.qrcode_types.specs.declared.types.QrError.TheVariants.{OutOfMemory};
 ghost use Rattle.qrcode_symbol.specs.Canvas.{is_empty};
 ghost use Rattle.qrcode_symbol.specs.Masking.{is_dark_module, is_free, packed};
@@ -30,11 +30,12 @@ pub(super) trait Cell: Copy {
     fn are_empty(first: Self, second: Self) -> bool
         ensures { result ≡ (is_empty (shows first) && is_empty (shows second)) };
 
-    /// Which of up to 64 modules are dark, and which a mask may turn.
-    fn pack(cells: &[Self]) -> (u64, u64)
-        requires { length cells.now ≤ 64 }
-        ensures dark { result.0 ≡ packed (λ c. is_dark_module (shows c)) cells.now }
-        ensures free { result.1 ≡ packed (λ c. is_free (shows c)) cells.now };
+    /// Which of the first modules, up to 64, are dark, and which a mask may turn.
+    fn pack(cells: &[Self], count: usize) -> (u64, u64)
+        requires at_most { count ≤ 64 }
+        requires inside { count ≤ length cells.now }
+        ensures dark { result.0 ≡ packed (λ c. is_dark_module (shows c)) (take count cells.now) }
+        ensures free { result.1 ≡ packed (λ c. is_free (shows c)) (take count cells.now) };
 }
 
 impl Cell for Module {
@@ -58,8 +59,8 @@ impl Cell for Module {
         }
     }
 
-    fn pack(cells: &[Module]) -> (u64, u64) {
-        pack_modules(cells)
+    fn pack(cells: &[Module], count: usize) -> (u64, u64) {
+        pack_modules(&cells[..count])
     }
 }
 
@@ -93,8 +94,8 @@ impl Cell for u8 {
         u16::from_le_bytes([first, second]) == 0x0202
     }
 
-    fn pack(cells: &[u8]) -> (u64, u64) {
-        pack_bytes(cells)
+    fn pack(cells: &[u8], count: usize) -> (u64, u64) {
+        pack_bytes(cells, count)
     }
 }
 

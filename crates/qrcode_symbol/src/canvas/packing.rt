@@ -1,6 +1,6 @@
 //! Modules packed into rows of places: which are dark, and which a mask may turn.
 
-ghost use Rattle.std.specs.Prelude.{◌≡◌, ◌==◌, ◌+◌, ◌*◌, ◌<◌, ◌≤◌, nat_lt, bit_and, length, map, IsTrue};
+ghost use Rattle.std.specs.Prelude.{◌≡◌, ◌==◌, ◌+◌, ◌*◌, ◌%◌, ◌<◌, ◌≤◌, ◌^◌, nat_lt, bit_and, length, map, take, IsTrue};
 ghost use Rattle.qrcode_types.specs.Versions.{is_valid, has_level, side};
 ghost use Rattle.qrcode_packed.specs.Rows.{IsSquare};
 ghost use Rattle.qrcode_symbol.specs.Cells.{module_of_byte};
@@ -95,36 +95,55 @@ fn pack_whole(bytes: &[u8]) -> (u64, u64)
     )
 }
 
-/// Which of up to 64 modules are dark, and which a mask may turn, by the bytes that show them.
-pub(super) fn pack_bytes(bytes: &[u8]) -> (u64, u64)
-    requires { length bytes.now ≤ 64 }
-    ensures dark { result.0 ≡ packed (λ n. is_dark_module (module_of_byte n)) bytes.now }
-    ensures free { result.1 ≡ packed (λ n. is_free (module_of_byte n)) bytes.now }
+// So many of the lowest bits of a number.
+#[inline(always)]
+fn lowest(word: u64, count: usize) -> u64
+    requires { count ≤ 64 }
+    ensures { result ≡ word % 2 ^ count }
 {
-    if bytes.len() == 64 {
-        return pack_whole(bytes);
+    if count == 64 {
+        return word;
+    }
+    word.and(u64::first(count as u32))
+}
+
+/// Which of the first modules, up to 64, are dark, and which a mask may turn, by the bytes that show them.
+pub(super) fn pack_bytes(bytes: &[u8], count: usize) -> (u64, u64)
+    requires at_most { count ≤ 64 }
+    requires inside { count ≤ length bytes.now }
+    ensures dark { result.0
+        ≡ packed (λ n. is_dark_module (module_of_byte n)) (take count bytes.now) }
+    ensures free { result.1 ≡ packed (λ n. is_free (module_of_byte n)) (take count bytes.now) }
+{
+    if bytes.len() >= 64 {
+        // Where they lie, what is behind them left out.
+        let (dark, free) = pack_whole(&bytes[..64]);
+        return (lowest(dark, count), lowest(free, count));
     }
     // A byte of 128 is a light module that no mask turns.
     let mut word = [128u8; 64];
-    word[..bytes.len()].copy_from_slice(bytes);
+    word[..count].copy_from_slice(&bytes[..count]);
     pack_whole(&word)
 }
 
-// Which modules of a row are dark, and which a mask may turn.
-fn pack_row<R: PackedRow, C: Cell>(row: &[C]) -> (R, R)
-    requires { length row.now ≤ R.room }
-    ensures dark { R.bits result.0 ≡ packed is_dark_module (map C.shows row.now) }
-    ensures free { R.bits result.1 ≡ packed is_free (map C.shows row.now) }
+// Which of the first modules, those of a row, are dark, and which a mask may turn.
+fn pack_row<R: PackedRow, C: Cell>(modules: &[C], width: usize) -> (R, R)
+    requires room { width ≤ R.room }
+    requires inside { width ≤ length modules.now }
+    ensures dark { R.bits result.0
+        ≡ packed is_dark_module (take width (map C.shows modules.now)) }
+    ensures free { R.bits result.1 ≡ packed is_free (take width (map C.shows modules.now)) }
 {
-    if row.len() <= 64 {
-        let word = C::pack(row);
+    if width <= 64 {
+        let word = C::pack(modules, width);
         return (R::of_words(word.0, 0, 0), R::of_words(word.1, 0, 0));
     }
+    let row = &modules[..width];
     let first = row.len().min(64);
     let second = row.len().min(128);
-    let low = C::pack(&row[..first]);
-    let middle = C::pack(&row[first..second]);
-    let high = C::pack(&row[second..]);
+    let low = C::pack(row, first);
+    let middle = C::pack(&row[first..], second - first);
+    let high = C::pack(&row[second..], row.len() - second);
     (
         R::of_words(low.0, middle.0, high.0),
         R::of_words(low.1, middle.1, high.1),
@@ -152,7 +171,7 @@ pub(super) fn pack_rows<R: PackedRow, C: Cell>(
     ensures free_square { IsSquare R.room (record { width = width; rows = map R.bits free.new }) }
 {
     for y in 0..width {
-        let packed = pack_row(&modules[y * width..(y + 1) * width]);
+        let packed = pack_row(&modules[y * width..], width);
         dark[y] = packed.0;
         free[y] = packed.1;
     }

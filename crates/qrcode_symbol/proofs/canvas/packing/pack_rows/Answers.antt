@@ -1,8 +1,7 @@
-use Rattle.std.proofs.Common.{◌≡◌, ℕ, length, ◌+◌, ◌-◌, ◌*◌, take, drop, map, ap, ◌∙◌, arith}
-use Rattle.std.proofs.lemmas.List.{length-map}
+use Rattle.std.proofs.Common.{◌≡◌, length, ◌-◌, ◌*◌, take, drop, map, ap, sym, ◌∙◌, arith, length-drop}
+use Rattle.std.proofs.lemmas.List.{length-map, drop-map, take_all}
 use Rattle.qrcode_symbol.specs.Masking.{is_dark_module, is_free, packed}
 use Rattle.qrcode_packed.proofs.RowLists.{rows_more}
-use Rattle.qrcode_symbol.proofs.Shown.{map-part}
 use Rattle.qrcode_symbol.proofs.RowLists.{shows_packed, fits_packed, modules_of_row}
 use Rattle.qrcode_symbol.proofs.canvas.packing.pack_rows.Goals as goal
 
@@ -11,14 +10,14 @@ loop-y-preserved g c =
     let bits = g.R.PackedRow.bits in
     let w = c.args.width in
     let y = c.loop-y.y in
-    let step : (y + 1) * w - y * w ≡ w = grind arith in
     let shows = g.C.Cell.shows in
     let modules = map shows c.args.modules.now in
-    let part = λ (n : ℕ). take n (drop (y * w) modules) in
-    let commutes = map-part shows ((y + 1) * w - y * w) (y * w) c.args.modules.now in
+    let all = c.args.modules.now in
+    let row : take w (map shows (take (length all - y * w) (drop (y * w) all))) ≡ modules_of_row w modules y =
+    ap (λ l. take w (map shows l)) (take_all (length all - y * w) (drop (y * w) all) (omega (arith, length-drop (y * w) all))) ∙ ap (take w) (sym (drop-map shows (y * w) all)) in
     record {
-      dark = rows_more bits (λ k n. n ≡ packed is_dark_module (modules_of_row w modules k)) c.loop-y.dark y c.pack_row-packed.result.0 (omega arith) c.loop-y.invariant.dark (c.pack_row-packed.ensures.dark ∙ ap (packed is_dark_module) commutes ∙ ap (λ n. packed is_dark_module (part n)) step);
-      free = rows_more bits (λ k n. n ≡ packed is_free (modules_of_row w modules k)) c.loop-y.free y c.pack_row-packed.result.1 (omega arith) c.loop-y.invariant.free (c.pack_row-packed.ensures.free ∙ ap (packed is_free) commutes ∙ ap (λ n. packed is_free (part n)) step);
+      dark = rows_more bits (λ k n. n ≡ packed is_dark_module (modules_of_row w modules k)) c.loop-y.dark y c.pack_row-packed.result.0 (omega arith) c.loop-y.invariant.dark (c.pack_row-packed.ensures.dark ∙ ap (packed is_dark_module) row);
+      free = rows_more bits (λ k n. n ≡ packed is_free (modules_of_row w modules k)) c.loop-y.free y c.pack_row-packed.result.1 (omega arith) c.loop-y.invariant.free (c.pack_row-packed.ensures.free ∙ ap (packed is_free) row);
     }
 
 pub returns-clause-dark : goal.returns-clause-dark
