@@ -1,7 +1,6 @@
 -- Texts of rectangles, put together of those of columns and rows.
 use Rattle.std.proofs.Common.{◌≡◌, ℕ, ◌<◌, ◌≤◌, ◌^◌, List, [], ◌∷◌, ◌++◌, length, arith, append_assoc}
 use Rattle.std.specs.Prelude.{codes, decimal}
-use Rattle.std.proofs.lemmas.List.{append-nil}
 use Rattle.std.specs.Str.{IsAscii, IsUtf8}
 use Rattle.std.proofs.lemmas.Fmt.{length-decimal-le, IsAscii-decimal}
 use Rattle.std.proofs.lemmas.Str.{IsAscii-append, IsUtf8-from_ascii}
@@ -17,8 +16,8 @@ svg_regroup text m a s b h c v d k q = simp append_assoc
 pub svg_rect-is : (left top width height : ℕ) (text : List ℕ) → svg_rect left top width height text ≡ text ++ rect_text (svg_column left) (svg_row top (svg_sides width height))
 svg_rect-is left top width height text = svg_regroup text (77 ∷ []) (decimal left) (32 ∷ []) (decimal top) (104 ∷ []) (decimal width) (118 ∷ []) (decimal height) (72 ∷ []) (86 ∷ [])
 
-pic_regroup : (text p a s b c d e : List ℕ) → text ++ (p ++ (a ++ (s ++ (b ++ (s ++ (c ++ (s ++ (d ++ e)))))))) ≡ text ++ ((p ++ (a ++ s)) ++ ((b ++ (s ++ (c ++ (s ++ d)))) ++ (e ++ [])))
-pic_regroup text p a s b c d e = simp (append_assoc, append-nil)
+pic_regroup : (text p a s b c d e : List ℕ) → text ++ (p ++ (a ++ (s ++ (b ++ (s ++ (c ++ (s ++ (d ++ e)))))))) ≡ text ++ ((p ++ (a ++ s)) ++ ((b ++ (s ++ (c ++ (s ++ d)))) ++ ([] ++ e)))
+pic_regroup text p a s b c d e = simp append_assoc
 
 -- a box is that of its column and its row
 pub pic_rect-is : (left top width height : ℕ) (text : List ℕ) → pic_rect left top width height text ≡ text ++ rect_text (pic_column left) (pic_row top (pic_sides width height))

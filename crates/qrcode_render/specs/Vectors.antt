@@ -54,13 +54,13 @@ pic_rect left top width height text =
 
 -- what the column of a rectangle determines of its box, what its sides, and what its row and the text of the sides
 abbrev pub pic_column : ℕ → List ℕ × List ℕ
-pic_column left = (codes "p(" ++ (decimal left ++ codes ","), codes ")\n")
+pic_column left = (codes "p(" ++ (decimal left ++ codes ","), [])
 
 abbrev pub pic_sides : ℕ → ℕ → List ℕ
 pic_sides width height = codes "," ++ (decimal width ++ (codes "," ++ decimal height))
 
 abbrev pub pic_row : ℕ → List ℕ → List ℕ × List ℕ
-pic_row top sides = (decimal top ++ sides, [])
+pic_row top sides = (decimal top ++ sides, codes ")\n")
 
 -- the picture of modules
 abbrev pub pic_text : Layout → List Color → List ℕ

@@ -101,6 +101,10 @@ impl Strokes for Boxes {
 
     ghost row_texts = { eps_row };
 
+    fn has_back() -> bool {
+        false
+    }
+
     #[tactic(auto, using(crate::proofs::Paths::number_short))]
     fn column(left: u32) -> Column {
         let mut front = Stamp::new(b"");

@@ -1,6 +1,6 @@
 //! Cells in rows and columns, of which each shows as a rectangle of pixels.
 
-ghost use Rattle.std.specs.Prelude.{◌≡◌, ◌+◌, ◌-◌, ◌*◌, ◌^◌, ◌<◌, ◌≤◌, length};
+ghost use Rattle.std.specs.Prelude.{◌≡◌, ◌+◌, ◌-◌, ◌*◌, ◌^◌, ◌<◌, ◌≤◌, length, IfSome};
 ghost use Rattle.std.specs.List.{slice_range};
 ghost use Rattle.qrcode_render.specs.Bitmap.{marked_line};
 ghost use Rattle.qrcode_render.specs.Grid.{cell_row, all_columns, all_rows};
@@ -37,6 +37,32 @@ fn set_in(bytes: &[u8]) -> u8
     count
 }
 
+// How many columns of a few have a dark cell in one of two rows at least.
+fn dark_in_either(upper: &[Color], lower: &[Color]) -> u8
+    requires lower { length lower.now ≡ length upper.now }
+    requires at_most { length upper.now ≤ 255 }
+    ensures { result ≤ length upper.now }
+{
+    let mut count = 0u8;
+    for i in 0..upper.len() {
+        count += u8::from(is_dark(upper[i]) | is_dark(lower[i]));
+    }
+    count
+}
+
+// The same of bytes that are not zero.
+fn set_in_either(upper: &[u8], lower: &[u8]) -> u8
+    requires lower { length lower.now ≡ length upper.now }
+    requires at_most { length upper.now ≤ 255 }
+    ensures { result ≤ length upper.now }
+{
+    let mut count = 0u8;
+    for i in 0..upper.len() {
+        count += u8::from((upper[i] | lower[i]) != 0);
+    }
+    count
+}
+
 // Cells as colours, or as bytes, of which those that are not zero are dark.
 #[derive(Copy, Clone)]
 enum Shades<'a> {
@@ -65,6 +91,21 @@ impl<'a> Shades<'a> {
         match *self {
             Shades::Colors(colors) => dark_in(&colors[first..end]),
             Shades::Bytes(bytes) => set_in(&bytes[first..end]),
+        }
+    }
+
+    // How many of a few columns have a dark cell in one of two rows at least, of which the first cells are told.
+    fn dark_in_either(&self, upper: usize, lower: usize, columns: usize) -> u8
+        requires upper { upper + columns ≤ length (shown self.now) }
+        requires lower { lower + columns ≤ length (shown self.now) }
+        requires fits { (upper + columns < 2 ^ 64) × (lower + columns < 2 ^ 64) }
+        requires at_most { columns ≤ 255 }
+        ensures { result ≤ columns }
+    {
+        let (first, last) = (upper + columns, lower + columns);
+        match *self {
+            Shades::Colors(colors) => dark_in_either(&colors[upper..first], &colors[lower..last]),
+            Shades::Bytes(bytes) => set_in_either(&bytes[upper..first], &bytes[lower..last]),
         }
     }
 
@@ -228,16 +269,82 @@ impl<'a> Grid<'a> {
         }
     }
 
-    // How many cells are dark.
-    pub(crate) fn dark_count(&self) -> usize {
-        let all = self.cells.len();
-        let parts = all / COUNTED;
+    // How many of the cells from a first one up to an end are dark.
+    fn dark_between(&self, first: usize, end: usize) -> usize
+        requires order { first ≤ end }
+        requires inside { end ≤ length self.now.cells }
+        ensures { result ≤ end - first }
+    {
+        let parts = (end - first) / COUNTED;
         let mut count = 0;
         for i in 0..parts {
-            let first = COUNTED * i;
-            count += usize::from(self.cells.dark_in(first, first + COUNTED));
+            let start = first + COUNTED * i;
+            count += usize::from(self.cells.dark_in(start, start + COUNTED));
         }
-        count + usize::from(self.cells.dark_in(COUNTED * parts, all))
+        count + usize::from(self.cells.dark_in(first + COUNTED * parts, end))
+    }
+
+    // How many cells are dark.
+    pub(crate) fn dark_count(&self) -> usize {
+        self.dark_between(0, self.cells.len())
+    }
+
+    // How many cells are dark in a row and in those below it.
+    pub(crate) fn dark_below(&self, row: usize) -> usize
+        requires { row ≤ self.now.rows }
+    {
+        self.dark_between(row * self.columns, self.cells.len())
+    }
+
+    // How many cells are dark in a column and in those to its right.
+    pub(crate) fn dark_beyond(&self, column: usize) -> usize {
+        let first = column.min(self.columns);
+        let mut count = 0usize;
+        for row in 0..self.rows {
+            let start = row * self.columns;
+            count = count.saturating_add(self.dark_between(start + first, start + self.columns));
+        }
+        count
+    }
+
+    // How many columns have a dark cell in one of two rows below each other at least, of which the upper one may be
+    // among the light ones around, and the lower one too, or below them all.
+    pub(crate) fn dark_in_two(&self, upper: usize, lower: usize) -> usize {
+        let (Some(first), Some(second)) = (self.start_of(upper), self.start_of(lower)) else {
+            return self
+                .dark_in_row(upper)
+                .saturating_add(self.dark_in_row(lower));
+        };
+        let parts = self.columns / COUNTED;
+        let mut count = 0usize;
+        for i in 0..parts {
+            let at = COUNTED * i;
+            let dark = self.cells.dark_in_either(first + at, second + at, COUNTED);
+            count = count.saturating_add(usize::from(dark));
+        }
+        let at = COUNTED * parts;
+        let rest = self.columns - at;
+        let dark = self.cells.dark_in_either(first + at, second + at, rest);
+        count.saturating_add(usize::from(dark))
+    }
+
+    // How many cells of a row are dark.
+    pub(crate) fn dark_in_row(&self, row: usize) -> usize {
+        match self.start_of(row) {
+            Some(start) => self.dark_between(start, start + self.columns),
+            None => 0,
+        }
+    }
+
+    // The first cell of a row that is not among the light ones around.
+    fn start_of(&self, row: usize) -> Option<usize>
+        ensures { IfSome result (λ start. start + self.now.columns ≤ length self.now.cells) }
+    {
+        if self.zone <= row && row < self.zone + self.rows {
+            Some((row - self.zone) * self.columns)
+        } else {
+            None
+        }
     }
 
     /// The bytes of all pixels, of which dark and light ones have so many and each row so many more,

@@ -1,6 +1,6 @@
 //! Texts of rectangles: what a column determines of them, what the sides, and what a row does.
 
-ghost use Rattle.std.specs.Prelude.{◌≡◌, ℕ, ◌+◌, ◌≤◌, ◌<◌, List, ◌∷◌, ◌++◌, length, decimal};
+ghost use Rattle.std.specs.Prelude.{◌≡◌, ℕ, ◌+◌, ◌≤◌, ◌<◌, List, [], ◌∷◌, ◌++◌, length, decimal, false};
 ghost use Rattle.std.specs.Str.{IsUtf8};
 ghost use Rattle.qrcode_render.specs.Strokes.{rect_text};
 
@@ -108,8 +108,9 @@ impl Sides {
 /// The most bytes of a rectangle.
 pub const MOST: usize = 3 * SHORT + LONGEST;
 
-/// Appends the text of a rectangle to a line.
-pub fn put_rect(line: &mut Line, column: &Column, row: &Row)
+/// Appends the text of a rectangle to a line. What stands behind the text of a column is left out where there is none.
+pub fn put_rect(line: &mut Line, column: &Column, row: &Row, has_back: bool)
+    requires none { has_back ≡ false → column.now.1 ≡ [] }
     requires room { length line.old.text + 80 ≤ line.old.room }
     ensures appends { line.new ≡ record line.old {
       text = line.old.text ++ rect_text column.now row.now;
@@ -119,6 +120,8 @@ pub fn put_rect(line: &mut Line, column: &Column, row: &Row)
 {
     line.put(&column.front);
     line.put(&row.front);
-    line.put(&column.back);
+    if has_back {
+        line.put(&column.back);
+    }
     line.put(&row.back);
 }

@@ -73,12 +73,16 @@ impl Strokes for Boxes {
 
     ghost row_texts = { pic_row };
 
+    fn has_back() -> bool {
+        false
+    }
+
     #[tactic(auto, using(crate::proofs::Paths::number_short))]
     fn column(left: u32) -> Column {
         let mut front = Stamp::new(b"p(");
         front.push_number(left);
         front.push(b",");
-        let back = Stamp::new(b")\n");
+        let back = Stamp::new(b"");
         Piece::new(front, back)
     }
 
@@ -88,7 +92,7 @@ impl Strokes for Boxes {
 
     fn row(top: u32, sides: &Sides) -> Row {
         let front = sides.behind(&number(top));
-        Piece::new(front, Stamp::new(b""))
+        Piece::new(front, Stamp::new(b")\n"))
     }
 }
 

@@ -1,7 +1,7 @@
 //! Texts of rectangles, put together of kept texts: those that a column determines, that of the sides,
 //! and those that a row and the text of the sides determine.
 
-ghost use Rattle.std.specs.Prelude.{◌≡◌, ℕ, ◌+◌, ◌*◌, ◌^◌, ◌<◌, ◌≤◌, List, [], ◌++◌, length, take, drop, string_bytes, IfOk, IfSome, IfNone, OnOk, OnErr, IsOkUnless};
+ghost use Rattle.std.specs.Prelude.{◌≡◌, ℕ, false, ◌+◌, ◌*◌, ◌^◌, ◌<◌, ◌≤◌, List, [], ◌++◌, length, take, drop, string_bytes, IfOk, IfSome, IfNone, OnOk, OnErr, IsOkUnless};
 ghost use Rattle.std.specs.Str.{IsUtf8};
 ghost use Rattle.qrcode_types.specs.declared.types.QrError.TheVariants.{OutOfMemory};
 ghost use Rattle.qrcode_render.specs.Drawn.{drawn, drawn_row};
@@ -10,6 +10,7 @@ ghost use Rattle.qrcode_render.specs.Put.{IsPutWhere};
 ghost use Rattle.qrcode_render.specs.Strokes.{stroke, columns_from};
 
 use crate::Modules;
+use crate::grid::Grid;
 use crate::ink::{Column, MOST, Row, Sides, put_rect};
 use crate::stamps::{Line, put_text};
 use qrcode_types::types::{Color, QrError, QrResult};
@@ -25,6 +26,10 @@ pub trait Strokes {
     ghost sides_text: { ℕ → ℕ → List ℕ };
 
     ghost row_texts: { ℕ → List ℕ → List ℕ × List ℕ };
+
+    /// Whether a column has a text behind that of the row, too.
+    fn has_back() -> bool
+        ensures none { result ≡ false → (left : ℕ) → (column_texts left).1 ≡ [] };
 
     /// The texts of a column.
     fn column(left: u32) -> Column
@@ -75,11 +80,12 @@ fn write_line<S: Strokes>(
     ensures is_text { ∥ IsUtf8 line.new.text ∥₁ }
 {
     let _ = (left, top, width, height);
+    let has_back = S::has_back();
     line.clear();
     for (i, color) in content.iter().enumerate() {
         match color {
             Color::Light => {}
-            Color::Dark => put_rect(line, &columns[i], row),
+            Color::Dark => put_rect(line, &columns[i], row, has_back),
         }
     }
 }
@@ -159,20 +165,67 @@ fn put_rows<S: Strokes>(
     end
 }
 
-// Room for the rectangles of the dark modules, of which none has longer texts than those of the last
-// column and of the last row.
+// How many bytes the text of a row of modules has.
+fn row_len<S: Strokes>(modules: &Modules, sides: &Sides, row: u32) -> usize {
+    let below = row.saturating_add(modules.zone);
+    S::row(below.saturating_mul(modules.height), sides).len()
+}
+
+// The first module behind the quiet zone whose first pixel has this number or a higher one.
+fn module_from(number: u32, pixels: u32, zone: u32) -> u32
+    requires { 1 ≤ pixels }
+{
+    number.div_ceil(pixels).saturating_sub(zone)
+}
+
+// How many bytes more the texts of the dark modules have in a column and to its right than they would have in
+// the column before.
+fn more_right(grid: &Grid, columns: &[Column], column: u32) -> usize {
+    let column = column as usize;
+    if column == 0 || columns.len() <= column {
+        return 0;
+    }
+    let more = columns[column]
+        .len()
+        .saturating_sub(columns[column - 1].len());
+    grid.dark_beyond(column).saturating_mul(more)
+}
+
+// The same in a row and below it.
+fn more_below<S: Strokes>(modules: &Modules, sides: &Sides, row: u32) -> usize {
+    if row == 0 || modules.count <= row {
+        return 0;
+    }
+    let last = row_len::<S>(modules, sides, row - 1);
+    let more = row_len::<S>(modules, sides, row).saturating_sub(last);
+    modules.grid().dark_below(row as usize).saturating_mul(more)
+}
+
+// The bytes of the rectangles of the dark modules: as many as if all stood in the first column and row, and
+// more from each column and row on whose number has one more digit than that before.
 fn room_of<S: Strokes>(columns: &[Column], modules: &Modules) -> usize {
-    let last = (modules.count + modules.zone) * modules.height;
-    let sides = S::sides(modules.width, modules.height);
-    let row = S::row(last, &sides).len();
-    let column = match columns.last() {
-        Some(column) => column.len(),
-        None => 0,
+    let Some(first) = columns.first() else {
+        return 0;
     };
-    modules
-        .grid()
-        .dark_count()
-        .saturating_mul(row.saturating_add(column))
+    let sides = S::sides(modules.width, modules.height);
+    let grid = modules.grid();
+    let least = first.len().saturating_add(row_len::<S>(modules, &sides, 0));
+    let mut room = grid.dark_count().saturating_mul(least);
+    let mut number = 1u32;
+    let mut last = (0, 0);
+    for _ in 0..9 {
+        number = number.saturating_mul(10);
+        let column = module_from(number, modules.width, modules.zone);
+        let row = module_from(number, modules.height, modules.zone);
+        if last.0 < column {
+            room = room.saturating_add(more_right(&grid, columns, column));
+        }
+        if last.1 < row {
+            room = room.saturating_add(more_below::<S>(modules, &sides, row));
+        }
+        last = (column, row);
+    }
+    room
 }
 
 // A line with room for the rectangles of a row.
@@ -183,7 +236,10 @@ fn row_line(alloc: Global, count: u32) -> QrResult<Line>
     Line::new(alloc, count as usize * MOST)
 }
 
-/// Appends the rectangles of the dark modules to a text. Refuses with `OutOfMemory` alone.
+// The most bytes of what stands behind the rectangles.
+const LONGEST_END: usize = 15;
+
+/// Appends the rectangles of the dark modules to a text, which then has room for an end, too. Refuses with `OutOfMemory` alone.
 pub fn push_modules<S: Strokes>(text: String, modules: &Modules) -> QrResult<String>
     ensures value { IfOk result (λ all. string_bytes all
         ≡ drawn (stroke S.column_texts S.sides_text S.row_texts)
@@ -196,7 +252,8 @@ pub fn push_modules<S: Strokes>(text: String, modules: &Modules) -> QrResult<Str
     let columns = columns::<S>(alloc, left, modules.width, modules.count)?;
     let mut line = row_line(alloc, modules.count)?;
     let mut text = text;
-    text.reserve(room_of::<S>(&columns, modules))?;
+    let room = room_of::<S>(&columns, modules);
+    text.reserve(room.saturating_add(LONGEST_END))?;
     push_rows::<S>(
         &mut text,
         &mut line,

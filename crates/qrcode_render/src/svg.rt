@@ -82,6 +82,10 @@ impl Strokes for Paths {
 
     ghost row_texts = { svg_row };
 
+    fn has_back() -> bool {
+        true
+    }
+
     #[tactic(auto, using(crate::proofs::Paths::number_short))]
     fn column(left: u32) -> Column {
         let mut front = Stamp::new(b"M");

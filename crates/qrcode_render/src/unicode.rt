@@ -18,7 +18,7 @@ use crate::grid::Grid;
 use crate::page::{Finish, Page};
 use crate::stamps::{LONGEST, Line, Stamp, put_text};
 use crate::strips::mark_pixels;
-use qrcode_types::types::{Color, QrError, QrResult};
+use qrcode_types::types::{Color, QrResult};
 use std::alloc::Global;
 
 /// A pixel that is half a character high.
@@ -247,6 +247,41 @@ fn room_of(width: u32, height: u32) -> Option<usize>
     (height.div_ceil(2) as usize).checked_mul(line)
 }
 
+// The bytes of the lines of cells: three for each column of pixels of which one is drawn, one for each other and
+// for each end of a line.
+fn bytes_of(grid: &Grid, marked: bool, other: bool) -> usize {
+    let (width, height) = grid.pixels();
+    let (across, down) = grid.cell();
+    let lines = height.div_ceil(2) as usize;
+    let mut drawn = 0usize;
+    for i in 0..lines {
+        let upper = 2 * i / down as usize;
+        let lower = (2 * i + 1) / down as usize;
+        drawn = drawn.saturating_add(drawn_in(grid, upper, lower, marked, other));
+    }
+    let more = drawn.saturating_mul(2 * across as usize);
+    lines
+        .saturating_mul(width as usize + 1)
+        .saturating_add(more)
+}
+
+// How many columns of two rows of cells show one that is drawn.
+fn drawn_in(grid: &Grid, upper: usize, lower: usize, marked: bool, other: bool) -> usize {
+    let (columns, _) = grid.sides();
+    let either = grid.dark_in_two(upper, lower);
+    match (marked, other) {
+        (true, true) => columns,
+        (true, false) => either,
+        (false, true) => {
+            let dark = grid
+                .dark_in_row(upper)
+                .saturating_add(grid.dark_in_row(lower));
+            columns.saturating_sub(dark.saturating_sub(either))
+        }
+        (false, false) => 0,
+    }
+}
+
 // The lines of cells, with a newline between two, in room that is taken once. Within its callers, as
 // `put_lines`.
 #[inline(always)]
@@ -258,8 +293,8 @@ fn made_lines(alloc: Global, grid: &Grid, halves: &Halves, strip: &mut Strip) ->
         (range_with_len 0 (((pixels_of grid.now).down + 1) / 2)))) }
     ensures memory { IsOkUnless result OutOfMemory }
 {
-    let (width, height) = grid.pixels();
-    let room = room_of(width, height).ok_or(QrError::OutOfMemory)?;
+    let (_, height) = grid.pixels();
+    let room = bytes_of(grid, halves.marked, halves.other);
     let mut lines = Vec::with_capacity(alloc, room)?;
     let last = (height - 1) / 2;
     for i in 0..last {

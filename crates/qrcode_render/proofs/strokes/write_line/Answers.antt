@@ -10,6 +10,17 @@ use Rattle.qrcode_render.proofs.Folds.{drawn_row-past}
 use Rattle.qrcode_render.proofs.strokes.write_line.Goals as goal
 use Rattle.qrcode_render.proofs.strokes.write_line.Goals.{in-Light, in-Dark}
 
+-- What stands behind the text of a column is what it determines.
+pub put_rect-requires-clause-none : goal.put_rect-requires-clause-none
+put_rect-requires-clause-none g c =
+    let i = c.loop-i.i in
+    let columns = c.args.columns.now in
+    let at = c.index-columns-i.result in
+    let column : ℕ → List ℕ × List ℕ = λ k. g.S.Strokes.column_texts (c.args.left + k * c.args.width) in
+    let inside : i < length columns = omega (arith, c.requires.at_most, c.loop-i-test.true) in
+    let here = c.index-columns-i.is ∙ ap (λ cs. get_or cs i at) c.requires.columns ∙ get_or-map-range_with_len column 0 (length columns) i i at inside (omega arith) in
+    λ none. ap (λ (p : List ℕ × List ℕ). p.1) here ∙ c.has_back-has_back.ensures.none none (c.args.left + i * c.args.width)
+
 -- The rectangle of a module, then those of the modules after it.
 pub loop-i-preserved : goal.loop-i-preserved
 loop-i-preserved g c =

@@ -30,8 +30,8 @@ returns-clause-value c =
     let i = c.loop-i.i in
     let line : ℕ → List ℕ = dense_line h.marked h.other b in
     let ended : ℕ → List ℕ = λ k. line k ++ 10 ∷ [] in
-    let same : (c.pixels-width.result.1 - 1) / 2 ≡ i = omega arith in
-    let count : i + 1 ≡ (b.down + 1) / 2 = omega (arith, same, c.pixels-width.ensures.down, c.requires.down) in
+    let same : (c.pixels-height.result.1 - 1) / 2 ≡ i = omega arith in
+    let count : i + 1 ≡ (b.down + 1) / 2 = omega (arith, same, c.pixels-height.ensures.down, c.requires.down) in
     let last : c.if-height-eq1.strip.line.text ≡ ended i = elim c.if-height-eq1.branch [
       | then-height-eq1 w ↦ ap (λ (s : Strip). s.line.text) w.strip-is ∙ w.write_last.ensures.value ∙ ap ended same
       | else-height-eq1 w ↦ ap (λ (s : Strip). s.line.text) w.strip-is ∙ w.write_two-else-height-eq1.ensures.value ∙ ap ended same

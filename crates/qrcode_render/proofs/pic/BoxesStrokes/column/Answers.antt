@@ -1,6 +1,6 @@
 use Rattle.std.proofs.Common.{rules, List, ℕ, [], ◌∷◌, ◌++◌, decimal, ap, ap₂, ◌∙◌, sym, subst, append_assoc}
 use Rattle.std.specs.Str.{IsUtf8}
-use Rattle.std.proofs.lemmas.Str.{IsUtf8-from_ascii}
+use Rattle.std.proofs.lemmas.Str.{IsUtf8-nil}
 use Rattle.qrcode_render.proofs.Paths.{number-IsUtf8}
 use Rattle.qrcode_render.proofs.pic.BoxesStrokes.column.Goals as goal
 
@@ -13,7 +13,7 @@ new-requires c =
         search rules,
         (
           ∣ subst IsUtf8 (sym front) (number-IsUtf8 (112 ∷ 40 ∷ []) (44 ∷ []) c.args.left c.ranges.left.fits (search rules) (search rules)) ∣₁,
-          ∣ subst IsUtf8 (sym c.new-back.ensures) (IsUtf8-from_ascii (41 ∷ 10 ∷ []) (search rules)) ∣₁,
+          ∣ subst IsUtf8 (sym c.new-back.ensures) IsUtf8-nil ∣₁,
         ),
       ),
     )
