@@ -1,5 +1,5 @@
 -- Texts of rectangles, put together of what their columns, their rows and their sides determine.
-use Rattle.std.specs.Prelude.{ℕ, ◌+◌, ◌*◌, List, ◌++◌, map}
+use Rattle.std.specs.Prelude.{ℕ, ◌+◌, ◌*◌, ◌<◌, ◌≤◌, List, [], ◌++◌, length, map, slice_index_or}
 use Rattle.std.specs.List.{range_with_len}
 
 -- the text of a rectangle, of the two texts of its column and the two of its row
@@ -13,3 +13,8 @@ stroke column sides row left top width height text = text ++ rect_text (column l
 -- the texts of columns of modules, each of so many pixels, from a first pixel on
 abbrev pub columns_from : (ℕ → List ℕ × List ℕ) → ℕ → ℕ → ℕ → List (List ℕ × List ℕ)
 columns_from column left width n = map (λ i. column (left + i * width)) (range_with_len 0 n)
+
+-- the two texts of each column have at most so many bytes
+abbrev pub AreShort : List (List ℕ × List ℕ) → ℕ → Type 0
+AreShort columns most =
+    (i : ℕ) → i < length columns → let c = slice_index_or columns i ([], []) in length c.0 + length c.1 ≤ most

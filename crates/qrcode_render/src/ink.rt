@@ -41,8 +41,12 @@ impl<const N: usize> Piece<N> {
     }
 
     /// How many bytes the two texts have.
-    pub fn len(&self) -> usize {
-        self.front.len().saturating_add(self.back.len())
+    pub fn len(&self) -> usize
+        requires { N ≤ 32 }
+        ensures value { result ≡ length self.now.0 + length self.now.1 }
+        ensures at_most { result ≤ N + 16 }
+    {
+        self.front.len() + self.back.len()
     }
 }
 

@@ -169,6 +169,18 @@ impl Line {
         self.end = 0;
     }
 
+    /// Empties the text, and has so much room at least. Refuses with `OutOfMemory` alone.
+    pub fn fit(&mut self, room: usize) -> QrResult<()>
+        ensures room { OnOk result (room ≤ self.new.room) }
+        ensures memory { IsOkUnless result OutOfMemory }
+    {
+        self.end = 0;
+        if self.bytes.len() < room {
+            self.bytes.resize(room, 0)?;
+        }
+        Ok(())
+    }
+
     /// Appends a stamp.
     pub fn put<const N: usize>(&mut self, stamp: &Stamp<N>)
         requires { length self.old.text + N ≤ self.old.room }

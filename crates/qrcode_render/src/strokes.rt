@@ -1,13 +1,13 @@
 //! Texts of rectangles, put together of kept texts: those that a column determines, that of the sides,
 //! and those that a row and the text of the sides determine.
 
-ghost use Rattle.std.specs.Prelude.{◌≡◌, ℕ, false, ◌+◌, ◌*◌, ◌^◌, ◌<◌, ◌≤◌, List, [], ◌++◌, length, take, drop, string_bytes, IfOk, IfSome, IfNone, OnOk, OnErr, IsOkUnless};
+ghost use Rattle.std.specs.Prelude.{◌≡◌, ℕ, false, ◌+◌, ◌-◌, ◌*◌, ◌^◌, ◌<◌, ◌≤◌, List, [], ◌++◌, length, take, drop, string_bytes, IfOk, IfSome, IfNone, OnOk, OnErr, IsOkUnless};
 ghost use Rattle.std.specs.Str.{IsUtf8};
 ghost use Rattle.qrcode_types.specs.declared.types.QrError.TheVariants.{OutOfMemory};
 ghost use Rattle.qrcode_render.specs.Drawn.{drawn, drawn_row};
 ghost use Rattle.qrcode_render.specs.Layout.{layout};
 ghost use Rattle.qrcode_render.specs.Put.{IsPutWhere};
-ghost use Rattle.qrcode_render.specs.Strokes.{stroke, columns_from};
+ghost use Rattle.qrcode_render.specs.Strokes.{stroke, columns_from, AreShort};
 
 use crate::Modules;
 use crate::grid::Grid;
@@ -57,7 +57,28 @@ fn columns<S: Strokes>(alloc: Global, left: u32, width: u32, count: u32) -> QrRe
     Ok(columns)
 }
 
-// Writes the rectangles of the dark modules of a row into a line.
+// The most bytes of the texts of a column.
+fn longest(columns: &[Column]) -> usize
+    ensures value { AreShort columns.now result }
+    ensures at_most { result ≤ 32 }
+{
+    let mut most = 0usize;
+    for column in columns {
+        most = most.max(column.len());
+    }
+    most
+}
+
+// Room for so many rectangles of so many bytes, and for what is written behind the last.
+fn room_for(count: usize, most: usize) -> QrResult<usize>
+    ensures value { IfOk result (λ room. room ≡ count * most + 80) }
+    ensures memory { IsOkUnless result OutOfMemory }
+{
+    let bytes = count.checked_mul(most).ok_or(QrError::OutOfMemory)?;
+    bytes.checked_add(MOST).ok_or(QrError::OutOfMemory)
+}
+
+// Writes the rectangles of the dark modules of a row into a line, of which each has at most so many bytes.
 fn write_line<S: Strokes>(
     line: &mut Line,
     columns: &[Column],
@@ -67,19 +88,22 @@ fn write_line<S: Strokes>(
     top: u32,
     width: u32,
     height: u32,
+    most: usize,
 )
     requires at_most { length content.now ≤ length columns.now }
+    requires row_at_most { length row.now.0 + length row.now.1 ≤ most }
+    requires short { AreShort columns.now (most - (length row.now.0 + length row.now.1)) }
     requires columns { columns.now
         ≡ columns_from S.column_texts left width (length columns.now) }
     requires row { row.now ≡ S.row_texts top (S.sides_text width height) }
-    requires room { length content.now * 80 ≤ line.old.room }
+    requires room { length content.now * most + 80 ≤ line.old.room }
     ensures value { line.new.text ≡ drawn_row (stroke S.column_texts S.sides_text S.row_texts)
         left top width height content.now [] }
-    ensures at_most { length line.new.text ≤ length content.now * 80 }
+    ensures at_most { length line.new.text ≤ length content.now * most }
     ensures room { line.new.room ≡ line.old.room }
     ensures is_text { ∥ IsUtf8 line.new.text ∥₁ }
 {
-    let _ = (left, top, width, height);
+    let _ = (left, top, width, height, most);
     let has_back = S::has_back();
     line.clear();
     for (i, color) in content.iter().enumerate() {
@@ -106,7 +130,6 @@ fn push_rows<S: Strokes>(
     requires across { (count + 2 * zone) * width < 2 ^ 32 }
     requires down { (count + 2 * zone) * height < 2 ^ 32 }
     requires columns { columns.now ≡ columns_from S.column_texts (zone * width) width count }
-    requires room { count * 80 ≤ line.old.room }
     ensures appends { OnOk result (string_bytes text.new
         ≡ drawn (stroke S.column_texts S.sides_text S.row_texts)
         (layout count zone width height) content.now (string_bytes text.old)) }
@@ -114,12 +137,15 @@ fn push_rows<S: Strokes>(
 {
     let left = zone * width;
     let sides = S::sides(width, height);
+    let longest = longest(columns);
     for row in 0..count {
         let start = row as usize * count as usize;
         let cells = &content[start..start + count as usize];
         let top = (row + zone) * height;
         let piece = S::row(top, &sides);
-        write_line::<S>(line, columns, &piece, cells, left, top, width, height);
+        let most = longest + piece.len();
+        line.fit(room_for(cells.len(), most)?)?;
+        write_line::<S>(line, columns, &piece, cells, left, top, width, height, most);
         text.push_str(unsafe { from_utf8_unchecked(line.as_slice()) })?;
     }
     Ok(())
@@ -142,7 +168,7 @@ fn put_rows<S: Strokes>(
     requires across { (count + 2 * zone) * width < 2 ^ 32 }
     requires down { (count + 2 * zone) * height < 2 ^ 32 }
     requires columns { columns.now ≡ columns_from S.column_texts (zone * width) width count }
-    requires line_room { count * 80 ≤ line.old.room }
+    requires line_room { count * 80 + 80 ≤ line.old.room }
     requires room { at + count * (count * 80) ≤ length bytes.old }
     ensures writes { take result bytes.new ≡ drawn (stroke S.column_texts S.sides_text S.row_texts)
         (layout count zone width height) content.now (take at bytes.old) }
@@ -153,13 +179,15 @@ fn put_rows<S: Strokes>(
 {
     let left = zone * width;
     let sides = S::sides(width, height);
+    let longest = longest(columns);
     let mut end = at;
     for row in 0..count {
         let start = row as usize * count as usize;
         let cells = &content[start..start + count as usize];
         let top = (row + zone) * height;
         let piece = S::row(top, &sides);
-        write_line::<S>(line, columns, &piece, cells, left, top, width, height);
+        let most = longest + piece.len();
+        write_line::<S>(line, columns, &piece, cells, left, top, width, height, most);
         end = put_text(bytes, end, line.as_slice());
     }
     end
@@ -178,27 +206,39 @@ fn module_from(number: u32, pixels: u32, zone: u32) -> u32
     number.div_ceil(pixels).saturating_sub(zone)
 }
 
+// Whether so few rows or columns stand before one that all are taken for those from it on.
+fn is_near_start(place: u32, count: u32) -> bool {
+    place <= count / 16
+}
+
 // How many bytes more the texts of the dark modules have in a column and to its right than they would have in
-// the column before.
-fn more_right(grid: &Grid, columns: &[Column], column: u32) -> usize {
-    let column = column as usize;
-    if column == 0 || columns.len() <= column {
+// the column before, of so many dark modules in all.
+fn more_right(grid: &Grid, columns: &[Column], column: u32, count: u32, all: usize) -> usize {
+    let place = column as usize;
+    if place == 0 || columns.len() <= place {
         return 0;
     }
-    let more = columns[column]
-        .len()
-        .saturating_sub(columns[column - 1].len());
-    grid.dark_beyond(column).saturating_mul(more)
+    let last = columns[place - 1].len();
+    let dark = if is_near_start(column, count) {
+        all
+    } else {
+        grid.dark_beyond(place)
+    };
+    dark.saturating_mul(columns[place].len().saturating_sub(last))
 }
 
 // The same in a row and below it.
-fn more_below<S: Strokes>(modules: &Modules, sides: &Sides, row: u32) -> usize {
+fn more_below<S: Strokes>(modules: &Modules, sides: &Sides, row: u32, all: usize) -> usize {
     if row == 0 || modules.count <= row {
         return 0;
     }
     let last = row_len::<S>(modules, sides, row - 1);
-    let more = row_len::<S>(modules, sides, row).saturating_sub(last);
-    modules.grid().dark_below(row as usize).saturating_mul(more)
+    let dark = if is_near_start(row, modules.count) {
+        all
+    } else {
+        modules.grid().dark_below(row as usize)
+    };
+    dark.saturating_mul(row_len::<S>(modules, sides, row).saturating_sub(last))
 }
 
 // The bytes of the rectangles of the dark modules: as many as if all stood in the first column and row, and
@@ -210,7 +250,8 @@ fn room_of<S: Strokes>(columns: &[Column], modules: &Modules) -> usize {
     let sides = S::sides(modules.width, modules.height);
     let grid = modules.grid();
     let least = first.len().saturating_add(row_len::<S>(modules, &sides, 0));
-    let mut room = grid.dark_count().saturating_mul(least);
+    let all = grid.dark_count();
+    let mut room = all.saturating_mul(least);
     let mut number = 1u32;
     let mut last = (0, 0);
     for _ in 0..9 {
@@ -218,22 +259,32 @@ fn room_of<S: Strokes>(columns: &[Column], modules: &Modules) -> usize {
         let column = module_from(number, modules.width, modules.zone);
         let row = module_from(number, modules.height, modules.zone);
         if last.0 < column {
-            room = room.saturating_add(more_right(&grid, columns, column));
+            room = room.saturating_add(more_right(&grid, columns, column, modules.count, all));
         }
         if last.1 < row {
-            room = room.saturating_add(more_below::<S>(modules, &sides, row));
+            room = room.saturating_add(more_below::<S>(modules, &sides, row, all));
         }
         last = (column, row);
     }
     room
 }
 
-// A line with room for the rectangles of a row.
+// A line with room for the rectangles of a row, whatever their texts are.
 fn row_line(alloc: Global, count: u32) -> QrResult<Line>
-    ensures room { IfOk result (λ line. count * 80 ≤ line.room) }
+    ensures room { IfOk result (λ line. count * 80 + 80 ≤ line.room) }
     ensures memory { IsOkUnless result OutOfMemory }
 {
-    Line::new(alloc, count as usize * MOST)
+    Line::new(alloc, room_for(count as usize, MOST)?)
+}
+
+// A line with room for the rectangles of the last row, which has the longest texts.
+fn last_line<S: Strokes>(alloc: Global, columns: &[Column], modules: &Modules) -> QrResult<Line>
+    ensures memory { IsOkUnless result OutOfMemory }
+{
+    let sides = S::sides(modules.width, modules.height);
+    let row = row_len::<S>(modules, &sides, modules.count);
+    let most = longest(columns).saturating_add(row);
+    Line::new(alloc, room_for(modules.count as usize, most)?)
 }
 
 // The most bytes of what stands behind the rectangles.
@@ -250,7 +301,7 @@ pub fn push_modules<S: Strokes>(text: String, modules: &Modules) -> QrResult<Str
     let alloc = *text.allocator();
     let left = modules.zone * modules.width;
     let columns = columns::<S>(alloc, left, modules.width, modules.count)?;
-    let mut line = row_line(alloc, modules.count)?;
+    let mut line = last_line::<S>(alloc, &columns, modules)?;
     let mut text = text;
     let room = room_of::<S>(&columns, modules);
     text.reserve(room.saturating_add(LONGEST_END))?;

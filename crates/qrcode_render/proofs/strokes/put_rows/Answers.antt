@@ -1,14 +1,18 @@
-use Rattle.std.proofs.Common.{◌≡◌, ◌+◌, ◌*◌, ◌-◌, ◌≤◌, ◌++◌, length, ap, sym, ◌∙◌, drop, take, arith}
+use Rattle.std.proofs.Common.{◌≡◌, ℕ, ◌+◌, ◌*◌, ◌-◌, ◌≤◌, ◌++◌, length, ap, sym, ◌∙◌, drop, take, arith, subst}
 use Rattle.std.proofs.Math.ListN.{length-take}
-use Rattle.std.proofs.Math.Nat.{mul-le-mul_right}
+use Rattle.std.proofs.Math.Nat.{mul-le-mul_left, mul-le-mul_right}
 use Rattle.std.proofs.lemmas.List.FromFn.{length-map-range_with_len}
 use Rattle.qrcode_render.specs.Layout.{layout}
-use Rattle.qrcode_render.specs.Strokes.{columns_from}
+use Rattle.qrcode_render.specs.Strokes.{columns_from, AreShort}
 use Rattle.qrcode_render.proofs.StrokedRows.{rows_more}
 use Rattle.qrcode_render.proofs.strokes.put_rows.Goals as goal
 use Rattle.qrcode_render.proofs.Beginnings.{drop-on}
 use Rattle.qrcode_render.specs.Drawn.{drawn_from}
 use Rattle.qrcode_render.specs.Strokes.{stroke}
+
+-- products of smaller numbers
+within : (a b c d : ℕ) → a ≤ b → c ≤ d → a * c ≤ b * d
+within a b c d h k = omega (arith, mul-le-mul_right c h, mul-le-mul_left b k)
 
 pub write_line-requires-clause-at_most : goal.write_line-requires-clause-at_most
 write_line-requires-clause-at_most g c =
@@ -23,11 +27,22 @@ write_line-requires-clause-columns g c =
     let columns : length c.args.columns.now ≡ n = ap length c.requires.columns ∙ length-map-range_with_len (λ k. g.S.Strokes.column_texts (c.args.zone * c.args.width + k * c.args.width)) 0 n in
     c.requires.columns ∙ ap (columns_from g.S.Strokes.column_texts (c.args.zone * c.args.width) c.args.width) (sym columns)
 
+pub write_line-requires-clause-row_at_most : goal.write_line-requires-clause-row_at_most
+write_line-requires-clause-row_at_most g c = omega (arith, c.len.ensures.value)
+
+pub write_line-requires-clause-short : goal.write_line-requires-clause-short
+write_line-requires-clause-short g c =
+    let size = length c.row-piece.result.0 + length c.row-piece.result.1 in
+    let same : c.longest-longest.result + c.len.result - size ≡ c.longest-longest.result = omega (arith, c.len.ensures.value) in
+    subst (AreShort c.args.columns.now) (sym same) c.longest-longest.ensures.value
+
 pub write_line-requires-clause-room : goal.write_line-requires-clause-room
 write_line-requires-clause-room g c =
     let n = c.args.count in
     let i = c.loop-row.row * n in
-    omega (arith, length-take (i + n - i) (drop i c.args.content.now), c.requires.line_room, c.loop-row.invariant.5)
+    let cells : length (take (i + n - i) (drop i c.args.content.now)) ≤ n = omega (arith, length-take (i + n - i) (drop i c.args.content.now)) in
+    let most : c.longest-longest.result + c.len.result ≤ 80 = omega (arith, c.longest-longest.ensures.at_most, c.len.ensures.at_most) in
+    omega (arith, within _ n _ 80 cells most, c.requires.line_room, c.loop-row.invariant.5)
 
 pub put_text-end-requires : goal.put_text-end-requires
 put_text-end-requires g c =
@@ -35,7 +50,9 @@ put_text-end-requires g c =
     let row = c.loop-row.row in
     let below : (row + 1) * (n * 80) ≤ n * (n * 80) = mul-le-mul_right (n * 80) (omega (arith, c.loop-row-test.true)) in
     let i = row * n in
-    omega (arith, below, length-take (i + n - i) (drop i c.args.content.now), ap length c.as_slice.ensures.value, c.write_line.ensures.at_most, c.loop-row.invariant.2, c.loop-row.invariant.4, c.requires.room)
+    let cells : length (take (i + n - i) (drop i c.args.content.now)) ≤ n = omega (arith, length-take (i + n - i) (drop i c.args.content.now)) in
+    let most : c.longest-longest.result + c.len.result ≤ 80 = omega (arith, c.longest-longest.ensures.at_most, c.len.ensures.at_most) in
+    omega (arith, below, within _ n _ 80 cells most, ap length c.as_slice.ensures.value, c.write_line.ensures.at_most, c.loop-row.invariant.2, c.loop-row.invariant.4, c.requires.room)
 
 -- The rectangles of a row behind those of the rows above it.
 pub loop-row-preserved : goal.loop-row-preserved
@@ -48,6 +65,8 @@ loop-row-preserved g c =
     let before = take c.loop-row.end c.loop-row.bytes in
     let written = c.as_slice.ensures.value ∙ c.write_line.ensures.value in
     let k = length c.as_slice.result.now in
+    let cells : length (take (i + n - i) (drop i c.args.content.now)) ≤ n = omega (arith, length-take (i + n - i) (drop i c.args.content.now)) in
+    let most : c.longest-longest.result + c.len.result ≤ 80 = omega (arith, c.longest-longest.ensures.at_most, c.len.ensures.at_most) in
     let end : c.put_text-end.result ≡ c.loop-row.end + k = c.put_text-end.ensures.end in (
       ap (λ t. drawn_from (stroke g.S.Strokes.column_texts g.S.Strokes.sides_text g.S.Strokes.row_texts) at ((row + 1) * n) (drop ((row + 1) * n) c.args.content.now) t)
           (c.put_text-end.ensures.writes ∙ ap (λ t. before ++ t) written)
@@ -55,7 +74,7 @@ loop-row-preserved g c =
           ∙ c.loop-row.invariant.0,
       c.put_text-end.ensures.unchanged
           ∙ drop-on c.loop-row.end c.put_text-end.result c.loop-row.bytes c.args.bytes.now (omega (arith, end)) c.loop-row.invariant.1,
-      omega (arith, end, length-take (i + n - i) (drop i c.args.content.now), ap length c.as_slice.ensures.value, c.write_line.ensures.at_most, c.loop-row.invariant.2),
+      omega (arith, end, within _ n _ 80 cells most, ap length c.as_slice.ensures.value, c.write_line.ensures.at_most, c.loop-row.invariant.2),
       omega (arith, end, c.loop-row.invariant.3),
       c.put_text-end.ensures.length ∙ c.loop-row.invariant.4,
       c.write_line.ensures.room ∙ c.loop-row.invariant.5,

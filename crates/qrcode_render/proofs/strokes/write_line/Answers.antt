@@ -1,4 +1,6 @@
-use Rattle.std.proofs.Common.{◌≡◌, ℕ, ◌+◌, ◌*◌, ◌++◌, ◌<◌, List, length, length-append, drop, get_or, ap, ap₂, ◌∙◌, sym, subst, arith}
+use Rattle.std.proofs.Common.{◌≡◌, ℕ, ◌+◌, ◌*◌, ◌++◌, ◌<◌, ◌≤◌, List, [], length, length-append, drop, get_or, ap, ap₂, ◌∙◌, sym, subst, arith}
+use Rattle.std.proofs.Math.Nat.{mul-le-mul_right}
+use Rattle.std.proofs.lemmas.List.{get_or_default}
 use Rattle.std.proofs.lemmas.List.FromFn.{get_or-map-range_with_len}
 use Rattle.std.proofs.lemmas.Str.{IsUtf8-append, IsUtf8-had}
 use Rattle.std.specs.Str.{IsUtf8}
@@ -9,6 +11,12 @@ use Rattle.qrcode_render.specs.Strokes.{rect_text, stroke}
 use Rattle.qrcode_render.proofs.Folds.{drawn_row-past}
 use Rattle.qrcode_render.proofs.strokes.write_line.Goals as goal
 use Rattle.qrcode_render.proofs.strokes.write_line.Goals.{in-Light, in-Dark}
+
+pub put_rect-requires-clause-room : goal.put_rect-requires-clause-room
+put_rect-requires-clause-room g c =
+    let most = c.args.most in
+    let below : (c.loop-i.i + 1) * most ≤ length c.args.content.now * most = mul-le-mul_right most (omega (arith, c.loop-i-test.true)) in
+    omega (arith, below, c.loop-i.invariant.1, c.loop-i.invariant.2, c.requires.room)
 
 -- What stands behind the text of a column is what it determines.
 pub put_rect-requires-clause-none : goal.put_rect-requires-clause-none
@@ -49,13 +57,15 @@ loop-i-preserved g c =
           let inside : i < length columns = omega (arith, c.requires.at_most, c.loop-i-test.true) in
           let here = w.index-columns-i.is ∙ ap (λ cs. get_or cs i at) c.requires.columns ∙ get_or-map-range_with_len column 0 (length columns) i i at inside (omega arith) in
           let text = rect_text at c.args.row.now in
+          let same = ap (λ (p : List ℕ × List ℕ). length p.0 + length p.1) (w.index-columns-i.is ∙ get_or_default columns i at ([], []) inside) in
+          let short : length text ≤ c.args.most = omega (arith, same, c.requires.row_at_most, c.requires.short i inside, length-append at.0 (c.args.row.now.0 ++ (at.1 ++ c.args.row.now.1)), length-append c.args.row.now.0 (at.1 ++ c.args.row.now.1), length-append at.1 c.args.row.now.1) in
           let put = w.line-is ∙ w.put_rect.ensures.appends in
           let written = ap (λ (l : Written). l.text) put in (
             start c.match-color.line
                 ∙ ap after (written ∙ ap₂ (λ p q. d ++ rect_text p q) here c.requires.row)
                 ∙ drawn_row-past rect x c.args.top c.args.width c.args.height i content _ Dark d c.loop-i-test.true w.in-Dark.is
                 ∙ c.loop-i.invariant.0,
-            omega (arith, ap length written, length-append d text, w.put_rect.ensures.at_most, c.loop-i.invariant.1),
+            omega (arith, ap length written, length-append d text, short, c.loop-i.invariant.1),
             ap (λ (l : Written). l.room) put ∙ c.loop-i.invariant.2,
             ∣ subst IsUtf8 (sym written) (IsUtf8-append d text (IsUtf8-had _ c.loop-i.invariant.3) (IsUtf8-had _ w.put_rect.ensures.is_text)) ∣₁,
           )

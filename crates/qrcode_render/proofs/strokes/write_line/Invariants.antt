@@ -8,6 +8,6 @@ abbrev pub invariant-loop-i : goal.invariant-loop-i
 invariant-loop-i g l =
     (drawn_row (stroke g.S.Strokes.column_texts g.S.Strokes.sides_text g.S.Strokes.row_texts) (l.left + l.i * l.width) l.top l.width l.height (drop l.i l.content) l.line.text
     ≡ drawn_row (stroke g.S.Strokes.column_texts g.S.Strokes.sides_text g.S.Strokes.row_texts) l.left l.top l.width l.height l.content [])
-    × (length l.line.text ≤ l.i * 80)
+    × (length l.line.text ≤ l.i * l.most)
     × (l.line.room ≡ l.fn.line.room)
     × (∥ IsUtf8 l.line.text ∥₁)
