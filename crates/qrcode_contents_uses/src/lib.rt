@@ -45,12 +45,12 @@ use qrcode_gs1_symbol::errors::SymbolResult;
 use qrcode_gs1_symbol::gs1;
 use std::alloc::Global;
 
-/// Why there is no symbol.
+/// Why there is no symbol. Where memory was refused it is `OutOfMemory` of either kind.
 #[derive(Debug, PartialEq, Eq, Copy, Clone)]
 pub enum Unmade {
-    /// The format cannot say the value, or memory was refused.
+    /// The format cannot say the value, or memory was refused for its text.
     Content(ContentError),
-    /// No symbol holds the text, or memory was refused.
+    /// No symbol holds the text, or memory was refused for the symbol.
     Code(QrError),
     /// The symbol is larger than the format allows.
     Large,
@@ -89,6 +89,9 @@ fn bounded(alloc: Global, text: &str, ec_level: EcLevel, largest: Version) -> Re
 }
 
 /// The symbol that joins a network.
+///
+/// `Content`: the format cannot say the network. `Code(DataTooLong)`: no symbol holds its text.
+/// `OutOfMemory`, in either: memory was refused.
 pub fn network(alloc: Global, network: &Wifi) -> Result<QrCode, Unmade>
     ensures shown { IfOk result (λ code. IsShownAs code.version M
         (chars (wifi_text (wifi_fields network.now))) code.modules) }
@@ -99,6 +102,8 @@ pub fn network(alloc: Global, network: &Wifi) -> Result<QrCode, Unmade>
 
 /// The symbol of a payment, at most Normal 13: 69 modules along a side. Each payment that its format
 /// does not refuse has one.
+///
+/// `Content`: the format cannot say the payment. `OutOfMemory`, in it or in `Code`: memory was refused.
 pub fn payment(alloc: Global, payment: &Payment) -> Result<QrCode, Unmade>
     ensures accepts { payment_refusal (payment_fields payment.now) ≡ None → IfErr result IsWant }
     ensures shown { IfOk result (λ code. IsShownAs code.version M
@@ -110,6 +115,10 @@ pub fn payment(alloc: Global, payment: &Payment) -> Result<QrCode, Unmade>
 }
 
 /// The symbol of a Swiss QR bill, at most Normal 25: 117 modules along a side.
+///
+/// `Content`: the format cannot say the bill. `Large`: the symbol would be larger.
+/// `Code(DataTooLong)`: no symbol holds its text. `OutOfMemory`, in it or in `Content`:
+/// memory was refused.
 pub fn bill(alloc: Global, bill: &Bill) -> Result<QrCode, Unmade>
     ensures shown { IfOk result (λ code. IsShownAs code.version M
         (chars (bill_text (invoice_of bill.now))) code.modules) }
@@ -120,6 +129,9 @@ pub fn bill(alloc: Global, bill: &Bill) -> Result<QrCode, Unmade>
 }
 
 /// The symbol that writes a mail.
+///
+/// `Content`: the format cannot say the mail. `Code(DataTooLong)`: no symbol holds its text.
+/// `OutOfMemory`, in either: memory was refused.
 pub fn mail(alloc: Global, mail: &Mail) -> Result<QrCode, Unmade>
     ensures shown { IfOk result (λ code. IsShownAs code.version M
         (chars (mail_text (letter_of mail.now))) code.modules) }
@@ -128,7 +140,10 @@ pub fn mail(alloc: Global, mail: &Mail) -> Result<QrCode, Unmade>
     Ok(QrCode::of_text(alloc, text.as_str(), EcLevel::M)?)
 }
 
-/// The symbol of a contact.
+/// The symbol of a contact, as a vCard.
+///
+/// `Content`: the format cannot say the contact. `Code(DataTooLong)`: no symbol holds its text.
+/// `OutOfMemory`, in either: memory was refused.
 pub fn card(alloc: Global, card: &Card) -> Result<QrCode, Unmade>
     ensures shown { IfOk result (λ code. IsShownAs code.version M
         (chars (card_text (contact_of card.now))) code.modules) }
@@ -138,6 +153,9 @@ pub fn card(alloc: Global, card: &Card) -> Result<QrCode, Unmade>
 }
 
 /// The symbol of a place.
+///
+/// `Content`: the format cannot say the place. `Code(DataTooLong)`: no symbol holds its text.
+/// `OutOfMemory`, in either: memory was refused.
 pub fn place(alloc: Global, place: &Place) -> Result<QrCode, Unmade>
     ensures shown { IfOk result (λ code. IsShownAs code.version M
         (chars (place_text place.now)) code.modules) }
@@ -147,6 +165,9 @@ pub fn place(alloc: Global, place: &Place) -> Result<QrCode, Unmade>
 }
 
 /// The symbol of one-time passwords.
+///
+/// `Content`: the format cannot say the passwords. `Code(DataTooLong)`: no symbol holds their text.
+/// `OutOfMemory`, in either: memory was refused.
 pub fn one_time(alloc: Global, passwords: &OneTime) -> Result<QrCode, Unmade>
     ensures shown { IfOk result (λ code. IsShownAs code.version M
         (chars (key_text (key_of passwords.now))) code.modules) }
@@ -156,6 +177,9 @@ pub fn one_time(alloc: Global, passwords: &OneTime) -> Result<QrCode, Unmade>
 }
 
 /// The symbol of a contact, as MECARD.
+///
+/// `Content`: the format cannot say the contact. `Code(DataTooLong)`: no symbol holds its text.
+/// `OutOfMemory`, in either: memory was refused.
 pub fn contact(alloc: Global, contact: &Contact) -> Result<QrCode, Unmade>
     ensures shown { IfOk result (λ code. IsShownAs code.version M
         (chars (mecard_text (person_of contact.now))) code.modules) }
@@ -165,6 +189,9 @@ pub fn contact(alloc: Global, contact: &Contact) -> Result<QrCode, Unmade>
 }
 
 /// The symbol that calls a number.
+///
+/// `Content`: the format cannot say the number. `Code(DataTooLong)`: no symbol holds its text.
+/// `OutOfMemory`, in either: memory was refused.
 pub fn call(alloc: Global, phone: &Phone) -> Result<QrCode, Unmade>
     ensures shown { IfOk result (λ code. IsShownAs code.version M
         (chars (codes "tel:" ++ phone.now.number.now)) code.modules) }
@@ -174,6 +201,9 @@ pub fn call(alloc: Global, phone: &Phone) -> Result<QrCode, Unmade>
 }
 
 /// The symbol that writes a message to a number.
+///
+/// `Content`: the format cannot say the message. `Code(DataTooLong)`: no symbol holds its text.
+/// `OutOfMemory`, in either: memory was refused.
 pub fn message(alloc: Global, phone: &Phone, body: &str) -> Result<QrCode, Unmade>
     ensures shown { IfOk result (λ code. IsShownAs code.version M
         (chars (message_text phone.now.number.now body.now)) code.modules) }
@@ -183,6 +213,9 @@ pub fn message(alloc: Global, phone: &Phone, body: &str) -> Result<QrCode, Unmad
 }
 
 /// The symbol of an event.
+///
+/// `Content`: the format cannot say the event. `Code(DataTooLong)`: no symbol holds its text.
+/// `OutOfMemory`, in either: memory was refused.
 pub fn event(alloc: Global, event: &Event) -> Result<QrCode, Unmade>
     ensures shown { IfOk result (λ code. IsShownAs code.version M
         (chars (event_text (happening_of event.now))) code.modules) }
@@ -191,7 +224,10 @@ pub fn event(alloc: Global, event: &Event) -> Result<QrCode, Unmade>
     Ok(QrCode::of_text(alloc, text.as_str(), EcLevel::M)?)
 }
 
-/// The symbol of elements of GS1.
+/// The symbol of elements of GS1, of the least version of Normal that holds them.
+///
+/// `Elements`: which element is refused first, and why. `Symbol(DataTooLong)`: no version of Normal
+/// holds them. `OutOfMemory`, in either: memory was refused.
 pub fn elements(alloc: Global, elements: &[Element]) -> SymbolResult<QrCode>
     ensures symbol { IfOk result (IsGs1Symbol 0 M (map item elements.now)) }
     ensures causes { IfErr result (IsGs1Refused 0 M (map item elements.now)) }

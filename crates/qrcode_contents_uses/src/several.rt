@@ -15,6 +15,8 @@ use std::alloc::Global;
 
 /// A long text in symbols of Normal 5, as few as hold its even parts, and 16 at most: the parts that
 /// readers find in them, in order, are the text.
+///
+/// `DataTooLong`: 16 symbols do not hold the text. `OutOfMemory`: memory was refused.
 pub fn pages(alloc: Global, text: &str) -> QrResult<Vec<QrCode>>
     ensures symbols { IfOk result (λ codes.
         AreSeveral Text (Normal (pos 5)) M text.now codes.items) }
@@ -25,6 +27,8 @@ pub fn pages(alloc: Global, text: &str) -> QrResult<Vec<QrCode>>
 
 /// The same in the fewest symbols of any of Normal 5 to 10, and of the least of these versions that
 /// takes as few.
+///
+/// `DataTooLong`: 16 symbols of Normal 10 do not hold the text. `OutOfMemory`: memory was refused.
 pub fn leaflets(alloc: Global, text: &str) -> QrResult<Vec<QrCode>>
     ensures symbols { IfOk result (λ codes.
         AreFewest Text (record { least = 5; greatest = 10 }) M text.now codes.items) }

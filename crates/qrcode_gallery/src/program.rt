@@ -84,6 +84,9 @@ fn drawing_of(alloc: Global, kind: Kind, code: &QrCode) -> QrResult<Vec<u8>>
 
 /// Writes the drawing of a text in the kind of a name. The whole drawing is made before the first
 /// write.
+///
+/// `Usage`: no kind has the name. `Qr(DataTooLong)`: no Normal version holds the text.
+/// `Qr(OutOfMemory)`: memory was refused. `CannotWrite`: the writer failed, and may have taken a part.
 pub fn run<W: Write>(alloc: Global, name: &str, text: &str, out: &mut W) -> Result<(), Fault>
     ensures usage { IsErrOf result Fault.Usage → (kind : Kind) → ¬ (name.now ≡ name_of kind) }
     ensures nothing { IfErr result (λ fault.

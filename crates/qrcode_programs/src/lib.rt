@@ -48,7 +48,8 @@ pub fn words<R: Env + AllocGlobal>(rt: &R) -> Result<Args, Fault>
 
 /// Writes what was made, or hands on why nothing was. All of it is made before the first write.
 ///
-/// `CannotWrite`: the writer failed, and may have taken a part.
+/// `Qr`: nothing was made, for this cause, `OutOfMemory` among them. `CannotWrite`: the writer failed, and
+/// may have taken a part.
 pub fn deliver<W: Write>(made: QrResult<Vec<u8>>, out: &mut W) -> Result<(), Fault>
     ensures { IsRun (λ bytes. IsOkAnd made (λ v. v.items ≡ bytes)) (IsErrOf made)
         (W.contents out.old) (W.contents out.new) result }

@@ -1,4 +1,5 @@
-//! Six ways to draw a symbol: texts of characters, pairs and half blocks, SVG, PIC and grey pixels.
+//! Six ways to draw a symbol: texts of characters, pairs and half blocks, SVG, PIC and grey pixels. Each
+//! refuses with `OutOfMemory` alone.
 
 ghost use Rattle.std.specs.Prelude.{◌≡◌, string_bytes, IfOk, IsOkUnless};
 ghost use Rattle.qrcode_types.specs.declared.types.QrError.TheVariants.{OutOfMemory};
@@ -12,7 +13,9 @@ use qrcode::render::{pic, svg};
 use qrcode::types::QrResult;
 use std::alloc::Global;
 
-/// A character for each module.
+/// A character for each module: `█` where it is dark, a space where it is light.
+///
+/// `OutOfMemory`: memory was refused.
 pub fn as_chars(alloc: Global, code: &QrCode) -> QrResult<String>
     ensures drawing { IfOk result (λ text.
         string_bytes text ≡ char_text code.now.version code.now.modules) }
@@ -22,6 +25,8 @@ pub fn as_chars(alloc: Global, code: &QrCode) -> QrResult<String>
 }
 
 /// Two characters for each module, so that it is about as wide as high.
+///
+/// `OutOfMemory`: memory was refused.
 pub fn as_pairs(alloc: Global, code: &QrCode) -> QrResult<String>
     ensures drawing { IfOk result (λ text.
         string_bytes text ≡ pair_text code.now.version code.now.modules) }
@@ -34,6 +39,8 @@ pub fn as_pairs(alloc: Global, code: &QrCode) -> QrResult<String>
 }
 
 /// A character for each two modules, one above the other.
+///
+/// `OutOfMemory`: memory was refused.
 pub fn as_half_blocks(alloc: Global, code: &QrCode) -> QrResult<String>
     ensures drawing { IfOk result (λ text.
         string_bytes text ≡ half_block_text code.now.version code.now.modules) }
@@ -43,6 +50,8 @@ pub fn as_half_blocks(alloc: Global, code: &QrCode) -> QrResult<String>
 }
 
 /// An SVG text, in modules of 8 pixels.
+///
+/// `OutOfMemory`: memory was refused.
 pub fn as_svg(alloc: Global, code: &QrCode) -> QrResult<String>
     ensures drawing { IfOk result (λ text.
         string_bytes text ≡ svg_text 8 code.now.version code.now.modules) }
@@ -52,6 +61,8 @@ pub fn as_svg(alloc: Global, code: &QrCode) -> QrResult<String>
 }
 
 /// A PIC text, whose unit is a module.
+///
+/// `OutOfMemory`: memory was refused.
 pub fn as_pic(alloc: Global, code: &QrCode) -> QrResult<String>
     ensures drawing { IfOk result (λ text.
         string_bytes text ≡ pic_text code.now.version code.now.modules) }
@@ -60,7 +71,9 @@ pub fn as_pic(alloc: Global, code: &QrCode) -> QrResult<String>
     code.render::<pic::Color>().module_size(1).build(alloc)
 }
 
-/// Rows of grey pixels, as a PGM file.
+/// Rows of grey pixels, as a PGM file, in modules of 8 pixels.
+///
+/// `OutOfMemory`: memory was refused.
 pub fn as_grey_map(alloc: Global, code: &QrCode) -> QrResult<Vec<u8>>
     ensures drawing { IfOk result (λ file.
         file.items ≡ grey_map code.now.version code.now.modules) }

@@ -16,9 +16,13 @@ use std::alloc::Global;
 /// A filled rectangle of printer dots.
 #[derive(Clone, Copy, Debug, PartialEq, Eq)]
 pub struct Bar {
+    /// The dots left of it.
     pub left: u32,
+    /// The dots above it.
     pub top: u32,
+    /// How many dots it is wide.
     pub width: u32,
+    /// How many dots it is high.
     pub height: u32,
 }
 
@@ -35,6 +39,8 @@ impl Bar {
 
 /// The bars of the symbol of data, each module being 4 dots across and down. Adjoining dark modules of
 /// a row are one bar.
+///
+/// `DataTooLong`: no Normal version holds the data. `OutOfMemory`: memory was refused.
 pub fn label_bars(alloc: Global, bytes: &[u8]) -> QrResult<Vec<Bar>>
     ensures bars { IfOk result (λ bars. IsLabel bytes.now bars.items) }
     ensures causes { IfErr result (IsRefused M bytes.now) }

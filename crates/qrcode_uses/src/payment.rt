@@ -21,15 +21,20 @@ use std::fmt::Write;
 pub struct Payment<'a> {
     /// The bank of the one who is paid.
     pub bic: &'a str,
+    /// The name of the one who is paid.
     pub name: &'a str,
+    /// The account that is paid.
     pub iban: &'a str,
+    /// The amount, in hundredths of a euro.
     pub cents: u64,
     /// What the payment is for.
     pub purpose: &'a str,
 }
 
 /// The picture of a payment, at least 200 pixels wide. A text of up to 331 bytes, which is what banks
-/// agreed on, is refused for want of memory at most, and stays within Normal 13.
+/// agreed on, can fail only with `OutOfMemory`, and stays within Normal 13.
+///
+/// `DataTooLong`: no Normal version holds the text. `OutOfMemory`: memory was refused.
 pub fn payment_picture(alloc: Global, payment: &Payment<'_>) -> QrResult<String>
     ensures picture { IfOk result (λ svg.
         IsPicture (payment_text payment.now) (string_bytes svg)) }

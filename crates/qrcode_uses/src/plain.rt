@@ -1,4 +1,5 @@
 //! Plain calls, as the README shows them, and others whose bodies are checked with no contract of the caller.
+//! All data is fixed and fits, so that each call can fail only with `OutOfMemory`.
 
 use qrcode::bits::Bits;
 use qrcode::render::image::{ImageBuffer, Luma, Rgb};
@@ -8,6 +9,8 @@ use qrcode::{EcLevel, QrCode, Version};
 use std::alloc::Global;
 
 /// A text, as SVG and in half blocks.
+///
+/// `OutOfMemory`: memory was refused.
 pub fn text(alloc: Global) -> QrResult<(String, String)> {
     let code = QrCode::of_text(alloc, "01234567", EcLevel::M)?;
     let svg = code
@@ -19,6 +22,8 @@ pub fn text(alloc: Global) -> QrResult<(String, String)> {
 }
 
 /// A payment text to SVG.
+///
+/// `OutOfMemory`: memory was refused.
 pub fn payment(alloc: Global) -> QrResult<String> {
     let code = QrCode::of_text(alloc, "BCD\n002\n1\nSCT\n..", EcLevel::M)?;
     code.render::<svg::Color>()
@@ -27,12 +32,16 @@ pub fn payment(alloc: Global) -> QrResult<String> {
 }
 
 /// A ticket number as a Micro symbol in half blocks.
+///
+/// `OutOfMemory`: memory was refused.
 pub fn ticket(alloc: Global) -> QrResult<String> {
     let code = QrCode::with_version(alloc, b"01234567", Version::Micro(2), EcLevel::L)?;
     code.render::<unicode::Dense1x2>().build(alloc)
 }
 
 /// Bits made by hand, with the number of a character set before the bytes.
+///
+/// `OutOfMemory`: memory was refused.
 pub fn greek(alloc: Global) -> QrResult<QrCode> {
     let mut bits = Bits::new(alloc, Version::Normal(1));
     bits.push_eci_designator(9)?;
@@ -42,6 +51,8 @@ pub fn greek(alloc: Global) -> QrResult<QrCode> {
 }
 
 /// Pixels in colours, at least 200 across.
+///
+/// `OutOfMemory`: memory was refused.
 pub fn colors(alloc: Global) -> QrResult<ImageBuffer<Rgb>> {
     let code = QrCode::new(alloc, b"01234567")?;
     code.render()
@@ -51,7 +62,9 @@ pub fn colors(alloc: Global) -> QrResult<ImageBuffer<Rgb>> {
         .build(alloc)
 }
 
-/// Modules of up to 4,096 pixels, without a quiet zone.
+/// Modules of 4,096 pixels, without a quiet zone.
+///
+/// `OutOfMemory`: memory was refused.
 pub fn wide(alloc: Global) -> QrResult<ImageBuffer<Luma>> {
     let code = QrCode::new(alloc, b"01234567")?;
     code.render::<Luma>()
@@ -61,6 +74,8 @@ pub fn wide(alloc: Global) -> QrResult<ImageBuffer<Luma>> {
 }
 
 /// Within 300 pixels, and the colours set after that.
+///
+/// `OutOfMemory`: memory was refused.
 pub fn within(alloc: Global) -> QrResult<String> {
     let code = QrCode::new(alloc, b"01234567")?;
     code.render()

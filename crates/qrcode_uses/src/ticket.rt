@@ -14,6 +14,8 @@ use std::alloc::Global;
 
 /// The number of a ticket as a Micro 2 symbol in half blocks: 9 lines of 17 characters, for light text
 /// on a dark ground. Each number fits.
+///
+/// `OutOfMemory`: memory was refused.
 pub fn ticket_blocks(alloc: Global, number: u32) -> QrResult<String>
     ensures picture { IfOk result (λ text. IsTicket number (string_bytes text)) }
     ensures accepts { IsOkUnless result OutOfMemory }

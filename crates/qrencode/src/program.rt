@@ -26,6 +26,9 @@ static LIGHT: &str = "\x1b[49m  \x1b[0m";
 /// Writes the symbol of a text at level M, of the least version that holds it, with its quiet zone:
 /// a line for each row of modules, without a newline at the end. The whole text is made before the
 /// first write.
+///
+/// `Usage`: there is no text. `Qr(DataTooLong)`: no Normal version holds it. `Qr(OutOfMemory)`: memory
+/// was refused. `CannotWrite`: the writer failed, and may have taken a part.
 pub fn run<W: Write>(alloc: Global, text: Option<&str>, out: &mut W) -> Result<(), Fault>
     ensures usage { IsErrOf result Fault.Usage ↔ (text.entry ≡ None) }
     ensures nothing { IfErr result (λ fault.
