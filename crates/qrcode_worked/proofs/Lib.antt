@@ -1,11 +1,6 @@
 mod Below
-mod BitRows
 mod CodeRows
 mod DamageRows
 mod LeastRows
-mod PenaltyRows
-mod PlaceRows
-mod SegmentRows
 mod SymbolRows
 mod Values
-mod WordRows

@@ -1,4 +1,5 @@
 //! Data as segments and as bits.
+#![tactic(auto, unfolding(qrcode_types::specs::Bits::number_bits, qrcode_types::specs::Bits::number_of, qrcode_types::specs::Bits::byte_at, qrcode_types::specs::Bits::bytes_of, qrcode_types::specs::Tables::block_table, qrcode_types::specs::Versions::blocks_entry, qrcode_types::specs::Versions::block_lengths, qrcode_types::specs::Versions::data_length, qrcode_types::specs::Versions::capacity, qrcode_types::specs::Characters::alphabet, qrcode_types::specs::Characters::is_alphanumeric, qrcode_types::specs::Characters::alphanumeric_number, qrcode_types::specs::Characters::is_kanji, qrcode_types::specs::Characters::kanji_number, qrcode_bits::specs::Written::padding, qrcode_bits::specs::Written::zeros_end, qrcode_bits::specs::Written::ending, qrcode_bits::specs::Written::terminated, qrcode_bits::specs::StructuredAppend::append_header))]
 
 ghost use Rattle.std.specs.Prelude.{◌≡◌, pos, [], ◌∷◌, ◌++◌, codes, map, replicate};
 ghost use Rattle.qrcode_types.specs.Bits.{bytes_of};

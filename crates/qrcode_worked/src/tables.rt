@@ -1,4 +1,5 @@
 //! Cells of tables that the standard prints (ISO/IEC 18004:2006).
+#![tactic(auto, unfolding(qrcode_types::specs::Bits::number_bits, qrcode_bits::specs::Written::eci_bits, qrcode_types::specs::Characters::alphabet, qrcode_types::specs::Characters::is_alphanumeric, qrcode_types::specs::Characters::alphanumeric_number, qrcode_types::specs::Characters::is_kanji, qrcode_types::specs::Characters::kanji_number, qrcode_types::specs::Tables::block_table, qrcode_types::specs::Versions::blocks_entry))]
 
 ghost use Rattle.std.specs.Prelude.{◌≡◌, ◌-◌, ◌/◌, ◌%◌, pos, true, false, [], ◌∷◌, codes, map, flat_map};
 ghost use Rattle.std.specs.List.{range_with_len};

@@ -1,4 +1,5 @@
 //! Format words and version words.
+#![tactic(auto, unfolding(qrcode_types::specs::Bits::number_bits, qrcode_places::specs::Words::format_word, qrcode_places::specs::Words::version_word, qrcode_places::specs::Words::with_check_bits, qrcode_types::specs::Polynomials::remainder_from, qrcode_types::specs::Polynomials::remainder))]
 
 ghost use Rattle.std.specs.Prelude.{◌≡◌, pos, map, flat_map, IsTrue};
 ghost use Rattle.std.specs.List.{range_with_len};

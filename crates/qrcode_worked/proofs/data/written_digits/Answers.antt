@@ -1,20 +1,23 @@
-use Rattle.qrcode_worked.proofs.BitRows as bits
+use Rattle.std.proofs.Common.{[], ◌∷◌, drop, lit<, refl}
+use Rattle.qrcode_types.specs.Bits.{number_bits}
+use Rattle.qrcode_types.specs.Tables.{block_table}
+use Rattle.qrcode_types.specs.Versions.{blocks_entry, block_lengths, data_length, capacity}
+use Rattle.qrcode_bits.specs.Written.{padding, zeros_end, ending, terminated}
+use Rattle.qrcode_worked.specs.Data.{digits, normal_bits, micro_bits}
 use Rattle.qrcode_worked.proofs.data.written_digits.Goals as goal
 
-pub returns-clause-written : goal.returns-clause-written
-returns-clause-written c = bits.written_digits
-
-pub returns-clause-ended : goal.returns-clause-ended
-returns-clause-ended c = bits.ended
-
 pub returns-clause-spelled : goal.returns-clause-spelled
-returns-clause-spelled c = bits.spelled
-
-pub returns-clause-micro : goal.returns-clause-micro
-returns-clause-micro c = bits.micro
+unfolding number_bits block_table blocks_entry block_lengths data_length capacity padding zeros_end ending terminated
+returns-clause-spelled c = record {
+  pieces = digits ∷ [];
+  read = (drop 41 normal_bits, (refl, (refl, (record { mode_exists = refl; writable = refl; nonempty = lit< tt; counted = lit< tt }, refl))));
+  joined = refl;
+}
 
 pub returns-clause-micro_spelled : goal.returns-clause-micro_spelled
-returns-clause-micro_spelled c = bits.micro_spelled
-
-pub returns-clause-nines : goal.returns-clause-nines
-returns-clause-nines c = bits.nines
+unfolding number_bits block_table blocks_entry block_lengths data_length capacity padding zeros_end ending terminated
+returns-clause-micro_spelled c = record {
+  pieces = digits ∷ [];
+  read = (drop 32 micro_bits, (refl, (refl, (record { mode_exists = refl; writable = refl; nonempty = lit< tt; counted = lit< tt }, refl))));
+  joined = refl;
+}

@@ -1,8 +1,12 @@
-use Rattle.qrcode_worked.proofs.PlaceRows as rows
+use Rattle.std.proofs.Common.{refl}
+use Rattle.qrcode_places.specs.Patterns.{finder, centres, alignment, timing, dark_module, version_pattern, pattern, format_copies, format_index, is_functional_place}
+use Rattle.qrcode_places.specs.Stream.{zigzag_place, zigzag, free_places}
 use Rattle.qrcode_worked.proofs.symbols.free_places.Goals as goal
 
 pub returns-clause-normal : goal.returns-clause-normal
-returns-clause-normal c = rows.normal
+unfolding finder centres alignment timing dark_module version_pattern pattern format_copies format_index is_functional_place zigzag_place zigzag free_places
+returns-clause-normal c = refl
 
 pub returns-clause-micro : goal.returns-clause-micro
-returns-clause-micro c = rows.micro
+unfolding finder centres alignment timing dark_module version_pattern pattern format_copies format_index is_functional_place zigzag_place zigzag free_places
+returns-clause-micro c = refl
