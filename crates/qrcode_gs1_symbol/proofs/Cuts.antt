@@ -1,9 +1,9 @@
 -- What is written of cuts, and a least one.
-use Rattle.std.proofs.Common.{◌≡◌, ℕ, zero, suc, ◌+◌, ◌-◌, ◌*◌, ◌<◌, ◌≤◌, false, true, true≢false, List, [], ◌∷◌, ◌++◌, length, drop, get_or, refl, sym, ap, ◌∙◌, arith, nat_abs, length-append, IsTrue, inl, inr}
+use Rattle.std.proofs.Common.{◌≡◌, ℕ, zero, suc, ◌+◌, ◌-◌, ◌*◌, ◌<◌, ◌≤◌, false, true, true≢false, List, [], ◌∷◌, ◌++◌, length, drop, get_or, refl, sym, ap, ◌∙◌, arith, nat_abs, length-append, IsTrue, inl, inr, subst}
 use Rattle.std.specs.Prelude.{slice_range}
 use Rattle.std.specs.List.{AllByRecursion}
 use Rattle.std.proofs.lemmas.Bool.{cases_lt}
-use Rattle.std.proofs.lemmas.List.{drop_all, drop_more}
+use Rattle.std.proofs.lemmas.List.{drop_all, drop_more, length-drop}
 use Rattle.std.proofs.lemmas.List.Folds.{drop_split}
 use Rattle.qrcode_types.specs.Bits.{AreBytes}
 use Rattle.qrcode_types.specs.Modes.{data_bits_count, by_band}
@@ -18,10 +18,11 @@ use Rattle.qrcode_bits.specs.Tokens.{first_byte}
 use Rattle.qrcode_bits.specs.Written.{Piece, written_piece, written}
 use Rattle.qrcode_bits.specs.declared.optimize.Segment.{Segment}
 use Rattle.qrcode_bits.proofs.Lengths.{length-piece}
-use Rattle.qrcode_bits.proofs.SegmentRanges.{length-range, tile_le}
+use Rattle.qrcode_bits.proofs.SegmentRanges.{length-range, tile_le, all-drop}
 use Rattle.qrcode_gs1_symbol.specs.Characters.{characters, marked_pieces, can_stand}
 use Rattle.qrcode_gs1_symbol.specs.Cuts.{IsMarkedCut, IsLeastMarkedCut, marked_cost}
 use Rattle.qrcode_gs1_symbol.specs.Fewest.{AreFew, AreAllFew, AreSmall, headers_of, step, costs_of}
+use Rattle.qrcode_gs1_symbol.specs.declared.costs.Costs.{Costs}
 use Rattle.qrcode_gs1_symbol.specs.declared.costs.Headers.{Headers}
 use Rattle.qrcode_gs1_symbol.specs.declared.costs.Start.{Start}
 use Rattle.qrcode_gs1_symbol.proofs.Steps.{left}
@@ -136,7 +137,7 @@ bytes_few h [] byte = omega arith
 bytes_few h (b ∷ bytes) byte = omega (arith, start_least h b (first_byte bytes) (costs_of h bytes) Byte refl, may_end h bytes Byte 0, bytes_few h bytes byte)
 
 -- so no rest is too great a number
-pub rest_few : (h : Headers) (bytes : List ℕ) → h.byte ≤ 20 → AreBytes bytes → length bytes ≤ data_limit → AreAllFew (costs_of h bytes)
+rest_few : (h : Headers) (bytes : List ℕ) → h.byte ≤ 20 → AreBytes bytes → length bytes ≤ data_limit → AreAllFew (costs_of h bytes)
 rest_few h bytes byte are limit =
     let few : (m : Mode) (n : ℕ) → AreFew (left (costs_of h bytes) m n) = λ m n.
     let p = parts_of h bytes are m n in
@@ -150,6 +151,11 @@ rest_few h bytes byte are limit =
       odd_letter = few Alphanumeric 1;
       bytes = few Byte 0;
     }
+
+-- nor are the costs of the data from a place on
+pub costs_few : (h : Headers) (bytes : List ℕ) (i : ℕ) (costs : Costs) → costs ≡ costs_of h (drop i bytes) → h.byte ≤ 20 → AreBytes bytes → length bytes ≤ data_limit → AreAllFew costs
+costs_few h bytes i costs is byte are limit =
+    subst AreAllFew (sym is) (rest_few h (drop i bytes) byte (all-drop (λ n. n < 256) i bytes are) (omega (arith, length-drop i bytes, limit)))
 
 -- what is counted from a place on, from what is counted behind the byte there
 pub counted_back : (h : Headers) (bytes : List ℕ) (i : ℕ) → 1 ≤ i → i ≤ length bytes

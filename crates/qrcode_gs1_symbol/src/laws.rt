@@ -2,10 +2,14 @@
 
 ghost use Rattle.std.specs.Prelude.{◌≡◌, ◌↔◌, IsTrue};
 ghost use Rattle.qrcode_gs1_symbol.specs.declared.Position.{Position};
+ghost use Rattle.qrcode_gs1_symbol.specs.declared.errors.SymbolError.{SymbolError};
 
 use crate::Position;
+use crate::errors::SymbolError;
 
 /// Two values are equal by `==` exactly when they are the same.
 pub fn equality()
-    ensures { (a b : Position) → IsTrue (⟦<Position as PartialEq>⟧.eq a b) ↔ (a ≡ b) }
+    ensures positions { (a b : Position) → IsTrue (⟦<Position as PartialEq>⟧.eq a b) ↔ (a ≡ b) }
+    ensures errors { (a b : SymbolError)
+        → IsTrue (⟦<SymbolError as PartialEq>⟧.eq a b) ↔ (a ≡ b) }
 {}

@@ -1,20 +1,16 @@
-use Rattle.std.proofs.Common.{◌≡◌, ◌<◌, drop, ap, sym, subst, ◌∙◌, arith}
+use Rattle.std.proofs.Common.{◌≡◌, drop, ap, ◌∙◌, arith}
 use Rattle.std.proofs.lemmas.List.{length-drop}
 use Rattle.qrcode_types.proofs.Writing.{are_bytes}
-use Rattle.qrcode_bits.proofs.SegmentRanges.{all-drop}
-use Rattle.qrcode_gs1_symbol.specs.Fewest.{AreAllFew, headers_of}
+use Rattle.qrcode_gs1_symbol.specs.Fewest.{headers_of}
 use Rattle.qrcode_gs1_symbol.specs.declared.costs.Costs.{Costs}
 use Rattle.qrcode_gs1_symbol.proofs.Bounds.{fewest}
-use Rattle.qrcode_gs1_symbol.proofs.Cuts.{bytes_few, headers_small, rest_few, some_least}
+use Rattle.qrcode_gs1_symbol.proofs.Cuts.{bytes_few, costs_few, headers_small, some_least}
 use Rattle.qrcode_gs1_symbol.proofs.least.fewest_bits.Goals as goal
 
 pub with_byte_before-costs-requires-clause-rest : goal.with_byte_before-costs-requires-clause-rest
 with_byte_before-costs-requires-clause-rest c =
-    let bytes = c.args.bytes.now in
-    let i = c.loop-i.i in
-    let are = are_bytes bytes (λ k. omega (arith, c.type_inv.bytes k)) in
-    subst AreAllFew (sym c.loop-i.invariant.rest)
-    (rest_few (headers_of c.args.version) (drop i bytes) (headers_small c.args.version c.requires.normal).byte (all-drop (λ n. n < 256) i bytes are) (omega (arith, length-drop i bytes, c.requires.length_at_most)))
+    let are = are_bytes c.args.bytes.now (λ k. omega (arith, c.type_inv.bytes k)) in
+    costs_few (headers_of c.args.version) c.args.bytes.now c.loop-i.i c.loop-i.costs c.loop-i.invariant.rest (headers_small c.args.version c.requires.normal).byte are c.requires.length_at_most
 
 pub returns-clause-least : goal.returns-clause-least
 returns-clause-least c =

@@ -1,19 +1,14 @@
-use Rattle.std.proofs.Common.{◌≡◌, ◌-◌, ◌<◌, drop, get_or, set, sym, ap, ap₂, ◌∙◌, arith, subst, inl, inr, get_or-set_other, get_or-set_same}
+use Rattle.std.proofs.Common.{◌≡◌, ◌-◌, drop, get_or, set, sym, ap, ap₂, ◌∙◌, arith, inl, inr, get_or-set_other, get_or-set_same}
 use Rattle.std.proofs.lemmas.Bool.{cases_lt}
-use Rattle.std.proofs.lemmas.List.{length-drop}
 use Rattle.qrcode_types.proofs.Writing.{are_bytes}
-use Rattle.qrcode_bits.proofs.SegmentRanges.{all-drop}
-use Rattle.qrcode_gs1_symbol.specs.Fewest.{AreAllFew, step, costs_of, past_end}
-use Rattle.qrcode_gs1_symbol.proofs.Cuts.{rest_few, counted_back, first_back}
+use Rattle.qrcode_gs1_symbol.specs.Fewest.{step, costs_of, past_end}
+use Rattle.qrcode_gs1_symbol.proofs.Cuts.{costs_few, counted_back, first_back}
 use Rattle.qrcode_gs1_symbol.proofs.least.least_starts.Goals as goal
 
 pub with_byte_before-costs-requires-clause-rest : goal.with_byte_before-costs-requires-clause-rest
 with_byte_before-costs-requires-clause-rest c =
-    let bytes = c.args.bytes.now in
-    let i = c.loop-i.i in
-    let are = are_bytes bytes (λ k. omega (arith, c.type_inv.bytes k)) in
-    subst AreAllFew (sym c.loop-i.invariant.rest)
-    (rest_few c.args.headers (drop i bytes) c.requires.headers.byte (all-drop (λ n. n < 256) i bytes are) (omega (arith, length-drop i bytes, c.requires.length_at_most)))
+    let are = are_bytes c.args.bytes.now (λ k. omega (arith, c.type_inv.bytes k)) in
+    costs_few c.args.headers c.args.bytes.now c.loop-i.i c.loop-i.costs c.loop-i.invariant.rest c.requires.headers.byte are c.requires.length_at_most
 
 pub loop-i-preserved : goal.loop-i-preserved
 loop-i-preserved c =
