@@ -24,12 +24,12 @@ struct Share {
     place: u8,
     last: u8,
     parity: u8,
+    ghost inside: { place ≤ last },
+    ghost last_at_most: { last ≤ 15 },
 }
 
 // Appends what stands in front of the segments: a header, unless the symbol is the only one.
 fn push_front(bits: &mut Bits, share: Share) -> QrResult<()>
-    requires inside { share.place ≤ share.last }
-    requires at_most { share.last ≤ 15 }
     requires normal { is_micro bits.old.version ≡ false }
     requires room { length bits.old.bits + 20 ≤ bit_limit }
     ensures appends { OnOk result (bits.new
@@ -47,8 +47,6 @@ fn part_bits(alloc: Global, bytes: &[u8], wanted: Wanted, share: Share) -> QrRes
     requires exists { IsTrue (has_level wanted.version wanted.ec_level) }
     requires normal { is_micro wanted.version ≡ false }
     requires length_at_most { length bytes.now ≤ data_limit }
-    requires inside { share.place ≤ share.last }
-    requires at_most { share.last ≤ 15 }
     requires room { PartFits wanted.manner wanted.version bytes.now (front_length share.last)
         (capacity wanted.version wanted.ec_level) }
     ensures bits { IfOk result (IsPartList wanted.manner wanted.version wanted.ec_level
@@ -67,8 +65,6 @@ fn part_symbol(alloc: Global, bytes: &[u8], wanted: Wanted, share: Share) -> QrR
     requires exists { IsTrue (has_level wanted.version wanted.ec_level) }
     requires normal { is_micro wanted.version ≡ false }
     requires length_at_most { length bytes.now ≤ data_limit }
-    requires inside { share.place ≤ share.last }
-    requires at_most { share.last ≤ 15 }
     requires room { PartFits wanted.manner wanted.version bytes.now (front_length share.last)
         (capacity wanted.version wanted.ec_level) }
     ensures symbol { IfOk result (IsPartSymbol wanted.manner wanted.version wanted.ec_level
