@@ -47,6 +47,10 @@ abbrev pub version_name : PaymentVersion → List ℕ
 version_name One = codes "001"
 version_name Two = codes "002"
 
+-- the version that a payment wants: 001 with a BIC, and 002 without
+abbrev pub version_for : List ℕ → PaymentVersion
+version_for bic = if is_empty bic then Two else One
+
 abbrev pub needs_bic : PaymentVersion → Bool
 needs_bic One = true
 needs_bic Two = false

@@ -1,22 +1,34 @@
 //! Laws of the types that no call stands for, on the contract of a function that does nothing.
 
 ghost use Rattle.std.specs.Prelude.{◌≡◌, ◌↔◌, IsTrue};
+ghost use Rattle.qrcode_contents.specs.Bill.{addressee_of};
+ghost use Rattle.qrcode_contents.specs.Mail.{letter_of};
+ghost use Rattle.qrcode_contents.specs.Payment.{payment_fields};
+ghost use Rattle.qrcode_contents.specs.Wifi.{wifi_fields};
 ghost use Rattle.qrcode_contents.specs.declared.bill.Currency.{Currency};
+ghost use Rattle.qrcode_contents.specs.declared.bill.Party.{Party};
 ghost use Rattle.qrcode_contents.specs.declared.geo.Place.{Place};
+ghost use Rattle.qrcode_contents.specs.declared.mail.Mail.{Mail};
 ghost use Rattle.qrcode_contents.specs.declared.one_time.Algorithm.{Algorithm};
 ghost use Rattle.qrcode_contents.specs.declared.one_time.Digits.{Digits};
 ghost use Rattle.qrcode_contents.specs.declared.one_time.Factor.{Factor};
+ghost use Rattle.qrcode_contents.specs.declared.payment.Payment.{Payment};
 ghost use Rattle.qrcode_contents.specs.declared.payment.PaymentVersion.{PaymentVersion};
+ghost use Rattle.qrcode_contents.specs.declared.phone.Phone.{Phone};
 ghost use Rattle.qrcode_contents.specs.declared.wifi.Security.{Security};
+ghost use Rattle.qrcode_contents.specs.declared.wifi.Wifi.{Wifi};
 
-use crate::bill::Currency;
+use crate::bill::{Currency, Party};
 use crate::geo::Place;
+use crate::mail::Mail;
 use crate::one_time::{Algorithm, Digits, Factor};
-use crate::payment::PaymentVersion;
-use crate::wifi::Security;
+use crate::payment::{Payment, PaymentVersion};
+use crate::phone::Phone;
+use crate::wifi::{Security, Wifi};
 
-/// Two values are equal by `==` exactly when they are the same.
-pub fn equality()
+/// Two values are equal by `==` exactly when they are the same; two contents of texts, when their fields
+/// are.
+pub fn equality<'a>()
     ensures currencies { (a b : Currency) → IsTrue (⟦<Currency as PartialEq>⟧.eq a b) ↔ (a ≡ b) }
     ensures securities { (a b : Security) → IsTrue (⟦<Security as PartialEq>⟧.eq a b) ↔ (a ≡ b) }
     ensures factors { (a b : Factor) → IsTrue (⟦<Factor as PartialEq>⟧.eq a b) ↔ (a ≡ b) }
@@ -26,4 +38,14 @@ pub fn equality()
     ensures versions { (a b : PaymentVersion)
         → IsTrue (⟦<PaymentVersion as PartialEq>⟧.eq a b) ↔ (a ≡ b) }
     ensures places { (a b : Place) → IsTrue (⟦<Place as PartialEq>⟧.eq a b) ↔ (a ≡ b) }
+    ensures parties { (a b : Party)
+        → IsTrue (⟦<Party<'a> as PartialEq>⟧.eq a b) ↔ (addressee_of a ≡ addressee_of b) }
+    ensures mails { (a b : Mail)
+        → IsTrue (⟦<Mail<'a> as PartialEq>⟧.eq a b) ↔ (letter_of a ≡ letter_of b) }
+    ensures payments { (a b : Payment)
+        → IsTrue (⟦<Payment<'a> as PartialEq>⟧.eq a b) ↔ (payment_fields a ≡ payment_fields b) }
+    ensures phones { (a b : Phone)
+        → IsTrue (⟦<Phone<'a> as PartialEq>⟧.eq a b) ↔ (a.number.now ≡ b.number.now) }
+    ensures networks { (a b : Wifi)
+        → IsTrue (⟦<Wifi<'a> as PartialEq>⟧.eq a b) ↔ (wifi_fields a ≡ wifi_fields b) }
 {}

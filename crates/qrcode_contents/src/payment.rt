@@ -6,7 +6,7 @@ ghost use Rattle.qrcode_fields.specs.declared.errors.Field.TheVariants.{Whole};
 ghost use Rattle.qrcode_fields.specs.declared.errors.Cause.TheVariants.{TooLong};
 ghost use Rattle.qrcode_fields.specs.Lines.{later_text};
 ghost use Rattle.qrcode_fields.specs.Refusals.{Answers, checked};
-ghost use Rattle.qrcode_contents.specs.Payment.{payment_fields, control_checks, needs_bic, bank_checks, account_checks, name_checks, message_checks, field_checks, payment_refusal, payment_text, later_count, later_lines, read_payment, version_name, is_bic, is_reference};
+ghost use Rattle.qrcode_contents.specs.Payment.{payment_fields, control_checks, needs_bic, bank_checks, account_checks, name_checks, message_checks, field_checks, payment_refusal, payment_text, later_count, later_lines, read_payment, version_for, version_name, is_bic, is_reference};
 
 use crate::accounts::{self, has_form, is_checked};
 use qrcode_fields::amounts::push_amount;
@@ -33,6 +33,17 @@ pub enum PaymentVersion {
 }
 
 impl PaymentVersion {
+    /// The version of a payment with this BIC: 001, and 002 where it is empty.
+    pub fn for_bic(bic: &str) -> PaymentVersion
+        ensures { result ≡ version_for bic.now }
+    {
+        if bic.is_empty() {
+            PaymentVersion::Two
+        } else {
+            PaymentVersion::One
+        }
+    }
+
     /// The line of the version.
     pub fn name(self) -> &'static str
         ensures { result.now ≡ version_name self }

@@ -2,11 +2,12 @@
 
 ghost use Rattle.std.specs.Prelude.{◌≡◌, ◌↔◌, IsTrue};
 ghost use Rattle.qrcode_fields.specs.declared.errors.Cause.{Cause};
+ghost use Rattle.qrcode_fields.specs.declared.errors.ContentError.{ContentError};
 ghost use Rattle.qrcode_fields.specs.declared.errors.Field.{Field};
 ghost use Rattle.qrcode_fields.specs.declared.escapes.Escapes.{Escapes};
 ghost use Rattle.qrcode_fields.specs.declared.links.Part.{Part};
 
-use crate::errors::{Cause, Field};
+use crate::errors::{Cause, ContentError, Field};
 use crate::escapes::Escapes;
 use crate::links::Part;
 
@@ -17,3 +18,10 @@ pub fn equality()
     ensures escapes { (a b : Escapes) → IsTrue (⟦<Escapes as PartialEq>⟧.eq a b) ↔ (a ≡ b) }
     ensures parts { (a b : Part) → IsTrue (⟦<Part as PartialEq>⟧.eq a b) ↔ (a ≡ b) }
 {}
+
+/// Two errors are equal by `==` exactly when they are the same.
+pub fn error_equality()
+    ensures { (a b : ContentError) → IsTrue (⟦<ContentError as PartialEq>⟧.eq a b) ↔ (a ≡ b) }
+{
+    equality();
+}
