@@ -9,7 +9,7 @@ use Rattle.qrcode_contents.specs.Contact.{Person, mecard_text}
 use Rattle.qrcode_contents.specs.Geo.{place_text}
 use Rattle.qrcode_contents.specs.Mail.{Letter, mail_text}
 use Rattle.qrcode_contents.specs.OneTime.{Key, key_text}
-use Rattle.qrcode_contents.specs.Payment.{Transfer, payment_text}
+use Rattle.qrcode_contents.specs.Payment.{Transfer, payment_text, version_for}
 use Rattle.qrcode_contents.specs.Phone.{message_text}
 use Rattle.qrcode_contents.specs.Wifi.{Network, wifi_text}
 use Rattle.qrcode_contents.specs.declared.bill.Currency.{Currency}
@@ -21,8 +21,6 @@ use Rattle.qrcode_contents.specs.declared.one_time.Digits.{Digits}
 use Rattle.qrcode_contents.specs.declared.one_time.Digits.TheVariants.{Six, Eight}
 use Rattle.qrcode_contents.specs.declared.one_time.Factor.{Factor}
 use Rattle.qrcode_contents.specs.declared.one_time.Factor.TheVariants.{Time, Counter}
-use Rattle.qrcode_contents.specs.declared.payment.PaymentVersion.{PaymentVersion}
-use Rattle.qrcode_contents.specs.declared.payment.PaymentVersion.TheVariants.{One, Two}
 use Rattle.qrcode_contents.specs.declared.wifi.Security.{Security}
 use Rattle.qrcode_contents.specs.declared.wifi.Security.TheVariants.{Open, Wep, Wpa, Wpa3}
 use Rattle.qrcode_events.specs.Event.{Happening, event_text}
@@ -88,14 +86,10 @@ contact_in given = record {
   note = text_for given (codes "note");
 }
 
--- the version of a payment: 001 with a BIC, and 002 without
-abbrev pub version_of : List ℕ → PaymentVersion
-version_of bic = if is_empty bic then Two else One
-
 -- a payment of so many cents
 abbrev pub transfer_in : List Pair → ℕ → Transfer
 transfer_in given cents = record {
-  version = version_of (text_for given (codes "bic"));
+  version = version_for (text_for given (codes "bic"));
   bic = text_for given (codes "bic");
   name = text_for given (codes "name");
   iban = text_for given (codes "iban");

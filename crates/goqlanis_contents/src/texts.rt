@@ -9,7 +9,7 @@ ghost use Rattle.qrcode_contents.specs.OneTime.{key_of};
 ghost use Rattle.qrcode_contents.specs.Payment.{payment_fields};
 ghost use Rattle.qrcode_contents.specs.Wifi.{wifi_fields};
 ghost use Rattle.goqlanis_options.specs.Words.{option_text, text_for};
-ghost use Rattle.goqlanis_contents.specs.Fields.{security_of, network_in, person_in, contact_in, version_of, transfer_in, creditor_in, debtor_in, currency_of, invoice_in, letter_in, sms_text, algorithm_of, digits_of, factor_of, key_in, IsTextOf};
+ghost use Rattle.goqlanis_contents.specs.Fields.{security_of, network_in, person_in, contact_in, transfer_in, creditor_in, debtor_in, currency_of, invoice_in, letter_in, sms_text, algorithm_of, digits_of, factor_of, key_in, IsTextOf};
 
 use crate::events::event;
 use crate::refusals::{Refusal, refusal_of, wrong};
@@ -134,24 +134,13 @@ fn card<'a>(given: &Given<'a>) -> Card<'a>
     }
 }
 
-// The version of a payment: 001 with a BIC, and 002 without.
-fn version_of(bic: &str) -> PaymentVersion
-    ensures { result ≡ version_of bic.now }
-{
-    if bic.is_empty() {
-        PaymentVersion::Two
-    } else {
-        PaymentVersion::One
-    }
-}
-
 fn payment<'a>(alloc: Global, given: &Given<'a>) -> Result<Payment<'a>, Refusal>
     ensures { IfOk result (λ payment. payment_fields payment
         ≡ transfer_in given.now.values.items payment.cents) }
 {
     let bic = given.text("bic");
     Ok(Payment {
-        version: version_of(bic),
+        version: PaymentVersion::for_bic(bic),
         bic,
         name: given.text("name"),
         iban: given.text("iban"),

@@ -6,7 +6,7 @@ use Rattle.qrcode_contents.specs.Card.{Contact}
 use Rattle.qrcode_contents.specs.Contact.{Person}
 use Rattle.qrcode_contents.specs.Mail.{Letter}
 use Rattle.qrcode_contents.specs.OneTime.{Key}
-use Rattle.qrcode_contents.specs.Payment.{Transfer}
+use Rattle.qrcode_contents.specs.Payment.{Transfer, version_for}
 use Rattle.qrcode_contents.specs.Wifi.{Network}
 use Rattle.qrcode_contents.specs.declared.bill.Currency.{Currency}
 use Rattle.qrcode_contents.specs.declared.bill.Currency.TheVariants.{Franc, Euro}
@@ -17,8 +17,6 @@ use Rattle.qrcode_contents.specs.declared.one_time.Digits.{Digits}
 use Rattle.qrcode_contents.specs.declared.one_time.Digits.TheVariants.{Six, Eight}
 use Rattle.qrcode_contents.specs.declared.one_time.Factor.{Factor}
 use Rattle.qrcode_contents.specs.declared.one_time.Factor.TheVariants.{Time, Counter}
-use Rattle.qrcode_contents.specs.declared.payment.PaymentVersion.{PaymentVersion}
-use Rattle.qrcode_contents.specs.declared.payment.PaymentVersion.TheVariants.{One, Two}
 use Rattle.qrcode_contents.specs.declared.wifi.Security.{Security}
 use Rattle.qrcode_contents.specs.declared.wifi.Security.TheVariants.{Open, Wep, Wpa, Wpa3}
 use Rattle.qrcode_events.specs.Event.{Happening}
@@ -79,14 +77,10 @@ contact_in given = record {
   note = text_at given 12;
 }
 
--- the version of a payment: 001 with a BIC, and 002 without
-abbrev pub version_of : List ℕ → PaymentVersion
-version_of bic = if is_empty bic then Two else One
-
 -- a payment, with its amount in cents
 abbrev pub transfer_in : List Item → Transfer
 transfer_in given = record {
-  version = version_of (text_at given 3);
+  version = version_for (text_at given 3);
   bic = text_at given 3;
   name = text_at given 0;
   iban = text_at given 1;

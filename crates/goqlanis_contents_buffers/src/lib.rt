@@ -7,5 +7,6 @@ pub mod contents;
 pub mod elements;
 pub mod forms;
 pub mod given;
+pub mod laws;
 mod texts;
 mod values;

@@ -10,7 +10,7 @@ ghost use Rattle.qrcode_contents.specs.Payment.{payment_fields};
 ghost use Rattle.qrcode_contents.specs.Wifi.{wifi_fields};
 ghost use Rattle.qrcode_events.specs.Event.{happening_of};
 ghost use Rattle.goqlanis_contents_buffers.specs.Given.{AreTexts, text_at, number_at, signed_at};
-ghost use Rattle.goqlanis_contents_buffers.specs.Values.{network_in, person_in, contact_in, transfer_in, addressee_in, invoice_in, letter_in, place_in, time_in, counter_in, key_in, security_of, version_of, algorithm_of, digits_of, currency_of, cents_of, day_of, moment_of, times_in, days_in, happening_in};
+ghost use Rattle.goqlanis_contents_buffers.specs.Values.{network_in, person_in, contact_in, transfer_in, addressee_in, invoice_in, letter_in, place_in, time_in, counter_in, key_in, security_of, algorithm_of, digits_of, currency_of, cents_of, day_of, moment_of, times_in, days_in, happening_in};
 
 use crate::given::{Item, number_at, small_at, text_at};
 use qrcode_contents::bill::{Bill, Currency, Party};
@@ -94,17 +94,6 @@ pub(crate) fn card<'a>(given: &[Item<'a>]) -> Card<'a>
     }
 }
 
-// The version of a payment's text: 001 with a BIC, and 002 without.
-fn version_of(bic: &str) -> PaymentVersion
-    ensures { result ≡ version_of bic.now }
-{
-    if bic.is_empty() {
-        PaymentVersion::Two
-    } else {
-        PaymentVersion::One
-    }
-}
-
 /// A payment.
 pub(crate) fn payment<'a>(given: &[Item<'a>]) -> Payment<'a>
     requires { AreTexts given.now }
@@ -112,7 +101,7 @@ pub(crate) fn payment<'a>(given: &[Item<'a>]) -> Payment<'a>
 {
     let bic = text_at(given, 3);
     Payment {
-        version: version_of(bic),
+        version: PaymentVersion::for_bic(bic),
         bic,
         name: text_at(given, 0),
         iban: text_at(given, 1),
