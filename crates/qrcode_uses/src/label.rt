@@ -14,7 +14,7 @@ use qrcode::types::{Color, QrResult};
 use std::alloc::Global;
 
 /// A filled rectangle of printer dots.
-#[derive(Clone, Copy, Debug, PartialEq, Eq)]
+#[derive(Clone, Copy, Debug)]
 pub struct Bar {
     /// The dots left of it.
     pub left: u32,
