@@ -206,7 +206,7 @@ fn push_character(text: &mut String, digits: usize, value: &str) -> Result<(), A
         if index < digits && !character.is_ascii_digit() {
             return write!(text, "{character} at place {place} is no digit");
         }
-        if !matches!(character, '!' | '"' | '%'..='?' | 'A'..='Z' | '_' | 'a'..='z') {
+        if !is_known(character) {
             return write!(
                 text,
                 "{character} at place {place} is not one of the digits, letters \
@@ -215,6 +215,11 @@ fn push_character(text: &mut String, digits: usize, value: &str) -> Result<(), A
         }
     }
     Ok(())
+}
+
+// Whether a character is one of the 82 of GS1.
+fn is_known(character: char) -> bool {
+    matches!(character, '!' | '"' | '%'..='?' | 'A'..='Z' | '_' | 'a'..='z')
 }
 
 // The check digit that would be right at a place, from 1.

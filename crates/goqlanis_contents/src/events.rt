@@ -1,6 +1,6 @@
 //! An event of a calendar, from the options that are given.
 
-ghost use Rattle.std.specs.Prelude.{◌≡◌, IfOk};
+ghost use Rattle.std.specs.Prelude.{◌≡◌, ◌≤◌, IfOk, IfSome};
 ghost use Rattle.qrcode_events.specs.Event.{happening_of};
 ghost use Rattle.goqlanis_contents.specs.Fields.{happening_in};
 
@@ -75,23 +75,35 @@ fn day_of(bytes: &[u8]) -> Option<Day> {
 
 // A moment: a day, T, six digits and Z.
 fn moment_of(bytes: &[u8]) -> Option<Moment> {
-    if bytes.len() != 16 || bytes[8] != b'T' || bytes[15] != b'Z' {
+    let (day, time) = bytes.split_at_checked(8)?;
+    let [b'T', clock @ .., b'Z'] = time else {
+        return None;
+    };
+    if clock.len() != 6 {
         return None;
     }
     Some(Moment {
-        day: day_of(&bytes[..8])?,
-        hour: pair_at(bytes, 9)?,
-        minute: pair_at(bytes, 11)?,
-        second: pair_at(bytes, 13)?,
+        day: day_of(day)?,
+        hour: pair_at(clock, 0)?,
+        minute: pair_at(clock, 2)?,
+        second: pair_at(clock, 4)?,
     })
 }
 
 // The number of two digits at a place.
 fn pair_at(bytes: &[u8], place: usize) -> Option<u8> {
-    let tens = *bytes.get(place)?;
-    let ones = *bytes.get(place.saturating_add(1))?;
-    if !tens.is_ascii_digit() || !ones.is_ascii_digit() {
+    let [tens, ones] = bytes.get(place..place.saturating_add(2))? else {
         return None;
+    };
+    Some(10 * digit(*tens)? + digit(*ones)?)
+}
+
+// The number of a digit.
+pub(crate) fn digit(byte: u8) -> Option<u8>
+    ensures at_most { IfSome result (λ digit. digit ≤ 9) }
+{
+    match byte {
+        b'0'..=b'9' => Some(byte - b'0'),
+        _ => None,
     }
-    Some(10 * (tens - b'0') + (ones - b'0'))
 }

@@ -9,9 +9,9 @@ ghost use Rattle.qrcode_contents.specs.OneTime.{key_of};
 ghost use Rattle.qrcode_contents.specs.Payment.{payment_fields};
 ghost use Rattle.qrcode_contents.specs.Wifi.{wifi_fields};
 ghost use Rattle.goqlanis_options.specs.Words.{option_text, text_for};
-ghost use Rattle.goqlanis_contents.specs.Fields.{security_of, network_in, person_in, contact_in, transfer_in, creditor_in, debtor_in, currency_of, invoice_in, letter_in, sms_text, algorithm_of, digits_of, factor_of, key_in, IsTextOf};
+ghost use Rattle.goqlanis_contents.specs.Fields.{is_either, security_of, network_in, person_in, contact_in, transfer_in, creditor_in, debtor_in, currency_of, invoice_in, letter_in, sms_text, algorithm_of, digits_of, factor_of, key_in, IsTextOf};
 
-use crate::events::event;
+use crate::events::{digit, event};
 use crate::refusals::{Refusal, refusal_of, wrong};
 use goqlanis_options::{Given, Kind};
 use qrcode_contents::bill::{Bill, Currency, Party};
@@ -73,14 +73,24 @@ fn sms(alloc: Global, phone: Phone<'_>, body: Option<&str>) -> ContentResult<Str
 fn security_of(word: &str, password: &str) -> Security
     ensures { result ≡ security_of word.now password.now }
 {
-    match word {
-        "WEP" | "wep" => Security::Wep,
-        "WPA" | "wpa" => Security::Wpa,
-        "WPA3" | "wpa3" => Security::Wpa3,
-        "open" | "OPEN" => Security::Open,
-        _ if password.is_empty() => Security::Open,
-        _ => Security::Wpa,
+    if is_either(word, "WEP", "wep") {
+        Security::Wep
+    } else if is_either(word, "WPA", "wpa") {
+        Security::Wpa
+    } else if is_either(word, "WPA3", "wpa3") {
+        Security::Wpa3
+    } else if is_either(word, "open", "OPEN") || password.is_empty() {
+        Security::Open
+    } else {
+        Security::Wpa
     }
+}
+
+// Whether a word is one of two spellings.
+fn is_either(word: &str, one: &str, other: &str) -> bool
+    ensures { result ≡ is_either word.now one.now other.now }
+{
+    word == one || word == other
 }
 
 fn network<'a>(given: &Given<'a>) -> Wifi<'a>
@@ -343,12 +353,8 @@ fn decimal(text: &str, places: usize) -> Option<u64> {
 fn with_digits(number: u64, digits: &str) -> Option<u64> {
     let mut number = number;
     for byte in digits.as_bytes() {
-        if !byte.is_ascii_digit() {
-            return None;
-        }
-        number = number
-            .saturating_mul(10)
-            .saturating_add((*byte - b'0') as u64);
+        let digit = u64::from(digit(*byte)?);
+        number = number.saturating_mul(10).saturating_add(digit);
     }
     Some(number)
 }
