@@ -1,41 +1,53 @@
--- Digits, six in twenty bits.
-use Rattle.std.proofs.Common.{◌≡◌, ℕ, zero, suc, ◌+◌, ◌-◌, ◌*◌, ◌^◌, ◌≤◌, Bool, List, [], ◌∷◌, ◌++◌, length, take, drop, get_or, ap, ap₂, sym, subst, ◌∙◌, arith, append_assoc, length-drop, IsTrue}
-use Rattle.std.specs.List.{list_all}
-use Rattle.std.proofs.lemmas.List.{take_all}
-use Rattle.std.proofs.lemmas.Bool.{and_parts}
-use Rattle.qrcode_types.specs.Characters.{is_digit}
+-- Digits, three in ten bits.
+use Rattle.std.proofs.Common.{◌≡◌, ℕ, zero, suc, ◌+◌, ◌-◌, ◌*◌, ◌^◌, ◌≤◌, Bool, List, [], ◌∷◌, ◌++◌, length, drop, get_or, refl, ap, ap₂, sym, ◌∙◌, arith, append_assoc, append-nil, length-drop}
+use Rattle.std.proofs.lemmas.List.{get_or-drop, drop-drop, drop_all}
 use Rattle.qrcode_types.specs.Bits.{number_bits}
 use Rattle.qrcode_bits.specs.Written.{numeric_bits}
 use Rattle.qrcode_bits.proofs.Packing.{number_bits-cat}
 
-all_behind : (n : ℕ) (digits : List ℕ) → IsTrue (list_all is_digit digits) → IsTrue (list_all is_digit (drop n digits))
-all_behind zero digits all = all
-all_behind (suc n) [] all = all
-all_behind (suc n) (a ∷ more) all = all_behind n more (and_parts (is_digit a) (list_all is_digit more) all).1
-
--- what stands behind so many digits are digits
-pub digits_behind : (n : ℕ) (digits : List ℕ) → IsTrue (list_all is_digit digits) → IsTrue (list_all is_digit (take (length digits - n) (drop n digits)))
-digits_behind n digits all =
-    subst (λ (rest : List ℕ). IsTrue (list_all is_digit rest)) (sym (take_all (length digits - n) (drop n digits) (omega (arith, length-drop n digits)))) (all_behind n digits all)
+-- digits in front of others, of which there are three so many times
+pub numeric_bits-append : (n : ℕ) (front behind : List ℕ) → length front ≡ 3 * n → numeric_bits (front ++ behind) ≡ numeric_bits front ++ numeric_bits behind
+numeric_bits-append zero [] behind long = refl
+numeric_bits-append zero (a ∷ front) behind long = absurd (omega (arith, long))
+numeric_bits-append (suc n) [] behind long = absurd (omega (arith, long))
+numeric_bits-append (suc n) (a ∷ []) behind long = absurd (omega (arith, long))
+numeric_bits-append (suc n) (a ∷ b ∷ []) behind long = absurd (omega (arith, long))
+numeric_bits-append (suc n) (a ∷ b ∷ c ∷ front) behind long =
+    let three = number_bits 10 (100 * (a - 48) + 10 * (b - 48) + (c - 48)) in
+    ap (λ r. three ++ r) (numeric_bits-append n front behind (omega (arith, long))) ∙ sym (append_assoc three (numeric_bits front) (numeric_bits behind))
 
 -- the number of three digits from a place on
-abbrev pub three_at : List ℕ → ℕ → ℕ
+abbrev three_at : List ℕ → ℕ → ℕ
 three_at digits i = 100 * (get_or digits i 0 - 48) + 10 * (get_or digits (i + 1) 0 - 48) + (get_or digits (i + 2) 0 - 48)
 
--- six digits in front of others, as one number of two groups
-pub six_digits : (bits : List Bool) (rest : List ℕ) (high low : ℕ) → 6 ≤ length rest → high ≡ three_at rest 0 → low ≡ three_at rest 3 → low ≤ 999
-    → (bits ++ number_bits 20 (1024 * high + low)) ++ numeric_bits (take (length rest - 6) (drop 6 rest)) ≡ bits ++ numeric_bits rest
-six_digits bits (a ∷ b ∷ c ∷ d ∷ e ∷ f ∷ more) high low long h l small =
-    let whole : take (length (a ∷ b ∷ c ∷ d ∷ e ∷ f ∷ more) - 6) more ≡ more = take_all _ more (omega arith) in
-    let groups : 1024 * high + low ≡ high * 2 ^ 10 + low = omega arith in
-    let cut = ap (λ n. number_bits 20 n) groups ∙ number_bits-cat 10 10 high low (omega (arith, small)) in
-    ap₂ (λ (front : List Bool) (digits : List ℕ). (bits ++ front) ++ numeric_bits digits) cut whole
-    ∙ append_assoc bits (number_bits 10 high ++ number_bits 10 low) (numeric_bits more)
-    ∙ ap (λ behind. bits ++ behind) (append_assoc (number_bits 10 high) (number_bits 10 low) (numeric_bits more))
-    ∙ ap₂ (λ (x y : ℕ). bits ++ (number_bits 10 x ++ (number_bits 10 y ++ numeric_bits more))) h l
-six_digits bits [] high low long h l small = absurd (omega (arith, long))
-six_digits bits (a ∷ []) high low long h l small = absurd (omega (arith, long))
-six_digits bits (a ∷ b ∷ []) high low long h l small = absurd (omega (arith, long))
-six_digits bits (a ∷ b ∷ c ∷ []) high low long h l small = absurd (omega (arith, long))
-six_digits bits (a ∷ b ∷ c ∷ d ∷ []) high low long h l small = absurd (omega (arith, long))
-six_digits bits (a ∷ b ∷ c ∷ d ∷ e ∷ []) high low long h l small = absurd (omega (arith, long))
+three_in_front : (digits : List ℕ) → 3 ≤ length digits → numeric_bits digits ≡ number_bits 10 (three_at digits 0) ++ numeric_bits (drop 3 digits)
+three_in_front [] long = absurd (omega arith)
+three_in_front (a ∷ []) long = absurd (omega arith)
+three_in_front (a ∷ b ∷ []) long = absurd (omega arith)
+three_in_front (a ∷ b ∷ c ∷ more) long = refl
+
+-- three digits behind others
+three_behind : (i : ℕ) (digits : List ℕ) → i + 3 ≤ length digits → numeric_bits (drop i digits) ≡ number_bits 10 (three_at digits i) ++ numeric_bits (drop (i + 3) digits)
+three_behind i digits long =
+    let here : i + 0 ≡ i = omega arith in
+    let same : three_at (drop i digits) 0 ≡ three_at digits i = rw (get_or-drop i digits 0 0, get_or-drop i digits 1 0, get_or-drop i digits 2 0, here) refl in
+    three_in_front (drop i digits) (omega (arith, length-drop i digits)) ∙ ap₂ (λ n more. number_bits 10 n ++ numeric_bits more) same (drop-drop 3 i digits)
+
+-- ten bits more
+ten_more : (n x y : ℕ) → y ≤ 999 → number_bits (n + 10) (1024 * x + y) ≡ number_bits n x ++ number_bits 10 y
+ten_more n x y small = let e : 1024 * x + y ≡ x * 2 ^ 10 + y = omega arith in ap (λ m. number_bits (n + 10) m) e ∙ number_bits-cat n 10 x y (omega (arith, small))
+
+joined : (x y z w : List Bool) → ((x ++ y) ++ z) ++ w ≡ x ++ (y ++ (z ++ (w ++ [])))
+joined x y z w = append_assoc (x ++ y) z w ∙ append_assoc x y (z ++ w) ∙ ap (λ r. x ++ (y ++ (z ++ r))) (sym (append-nil w))
+
+-- twelve digits as one number of four groups
+pub twelve_digits : (digits : List ℕ) (a b c d : ℕ) → length digits ≡ 12 → b ≤ 999 → c ≤ 999 → d ≤ 999 → a ≡ three_at digits 0 → b ≡ three_at digits 3 → c ≡ three_at digits 6 → d ≡ three_at digits 9
+    → number_bits 40 (1024 * (1024 * (1024 * a + b) + c) + d) ≡ numeric_bits digits
+twelve_digits digits a b c d long small_b small_c small_d is_a is_b is_c is_d =
+    let group = λ (i : ℕ). number_bits 10 (three_at digits i) in
+    let none : drop 12 digits ≡ [] = drop_all 12 digits (omega arith) in
+    let groups : numeric_bits digits ≡ group 0 ++ (group 3 ++ (group 6 ++ (group 9 ++ []))) = three_behind 0 digits (omega arith)
+    ∙ ap (λ r. group 0 ++ r) (three_behind 3 digits (omega arith) ∙ ap (λ r. group 3 ++ r) (three_behind 6 digits (omega arith)
+    ∙ ap (λ r. group 6 ++ r) (three_behind 9 digits (omega arith) ∙ ap (λ more. group 9 ++ numeric_bits more) none))) in
+    rw (ten_more 30 (1024 * (1024 * a + b) + c) d small_d, ten_more 20 (1024 * a + b) c small_c, ten_more 10 a b small_b, is_a, is_b, is_c, is_d, groups)
+    (joined (group 0) (group 3) (group 6) (group 9))

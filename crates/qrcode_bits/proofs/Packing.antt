@@ -1,9 +1,9 @@
 -- Bits of numbers that are joined, cut and packed into bytes.
-use Rattle.std.proofs.Common.{◌≡◌, ℕ, zero, suc, ◌+◌, ◌-◌, ◌*◌, ◌/◌, ◌%◌, ◌^◌, ◌<◌, ◌≤◌, Bool, false, ◌==◌, List, [], ◌∷◌, ◌++◌, length, take, drop, get_or, replicate, bit_and, refl, ap, ap₂, sym, ◌∙◌, arith, append_assoc, append-nil, length-append, add-zero}
-use Rattle.std.specs.Int.{bit_at}
-use Rattle.std.proofs.lemmas.List.{take_all}
+use Rattle.std.proofs.Common.{◌≡◌, ℕ, zero, suc, ◌+◌, ◌-◌, ◌*◌, ◌/◌, ◌%◌, ◌^◌, ◌<◌, Bool, false, ◌==◌, List, [], ◌∷◌, ◌++◌, length, get_or, replicate, bit_and, refl, ap, ap₂, sym, subst, ◌∙◌, arith, append_assoc, append-nil, length-append, add-zero}
+use Rattle.std.specs.Int.{bit_at, byte_at, bytes_high_first, to_be_bytes, from_be_bytes, w64}
 use Rattle.std.proofs.lemmas.Nat.Bits.{bit_at_cat_low, bit_at_cat_high, bit_at-zero}
-use Rattle.std.proofs.lemmas.Nat.{shr_split, mod_below, pow_pos, mul-add-lt, pow-add, shl_whole, one_shl, and_mask}
+use Rattle.std.proofs.lemmas.Nat.{shr_split, mod_below, pow_pos, mul-add-lt, pow-add, shr_below, shl_below, shl_whole, one_shl, and_mask, be_bytes_8}
+use Rattle.std.proofs.Math.Nat.{pow-suc}
 use Rattle.qrcode_types.specs.Bits.{number_bits, bits_of}
 use Rattle.qrcode_bits.proofs.Numbers.{length-number_bits}
 
@@ -34,14 +34,25 @@ number_bits-mod n number =
     same_bits n (number % 2 ^ n) number
     (λ i l. sym (bit_at_cat_low (number / 2 ^ n) n (number % 2 ^ n) i l) ∙ ap (λ x. bit_at x i) (shr_split number n))
 
+pub no_bits : (n : ℕ) → number_bits 0 n ≡ []
+unfolding number_bits
+no_bits n = refl
+
 pub number_bits-zero : (n : ℕ) → number_bits n 0 ≡ replicate n false
 unfolding number_bits
 number_bits-zero zero = refl
 number_bits-zero (suc n) = ap₂ (λ (x : ℕ) (bits : List Bool). (x == 1) ∷ bits) (bit_at-zero n) (number_bits-zero n)
 
-bits_of-append : (a b : List ℕ) → bits_of (a ++ b) ≡ bits_of a ++ bits_of b
+pub bits_of-append : (a b : List ℕ) → bits_of (a ++ b) ≡ bits_of a ++ bits_of b
 bits_of-append [] b = refl
 bits_of-append (x ∷ a) b = ap (λ r. number_bits 8 x ++ r) (bits_of-append a b) ∙ sym (append_assoc (number_bits 8 x) (bits_of a) (bits_of b))
+
+-- as many bytes as bits
+bytes_unit : (k : ℕ) → 256 ^ k ≡ 2 ^ (8 * k)
+bytes_unit zero = refl
+bytes_unit (suc k) =
+    let e : 8 * suc k ≡ 8 + 8 * k = omega arith in
+    pow-suc 256 k ∙ omega (arith, ap (λ n. n * 256) (bytes_unit k), ap (λ n. 2 ^ n) e, pow-add 2 8 (8 * k))
 
 pub bits_of-push : (a : List ℕ) (x : ℕ) → bits_of (a ++ x ∷ []) ≡ bits_of a ++ number_bits 8 x
 bits_of-push a x = bits_of-append a (x ∷ []) ∙ ap (λ r. bits_of a ++ r) (append-nil (number_bits 8 x))
@@ -63,41 +74,50 @@ length-packed bytes count rest =
 pub joined-lt : (r m v k : ℕ) → r < 2 ^ m → v < 2 ^ k → r * 2 ^ k + v < 2 ^ (m + k)
 joined-lt r m v k p q = omega (arith, mul-add-lt r (2 ^ k) v (2 ^ m) p q, pow-add 2 m k)
 
--- a shift by which no bit is lost
-pub joined_whole : (r m k : ℕ) → r < 2 ^ m → m < 8 → k ≤ 32 → r * 2 ^ k % 2 ^ 64 ≡ r * 2 ^ k
-joined_whole r m k p h l = shl_whole r m k 64 p (omega arith)
-
 -- the low bits of a number, by a mask
 pub low_bits : (n k : ℕ) → k < 64 → bit_and n (1 * 2 ^ k % 2 ^ 64 - 1) ≡ n % 2 ^ k
 low_bits n k h = rw (one_shl k 64 h) (and_mask n k)
 
--- a last byte, filled with zeros
-pub number_bits-filled : (rest count zeros : ℕ) → count + zeros ≡ 8 → number_bits 8 (rest * 2 ^ zeros % 2 ^ 8) ≡ number_bits count rest ++ replicate zeros false
-number_bits-filled rest count zeros e =
-    number_bits-mod 8 (rest * 2 ^ zeros)
-    ∙ ap₂ (λ (n x : ℕ). number_bits n x) (sym e) (sym (add-zero (rest * 2 ^ zeros)))
+-- 64 bits of two numbers, and what is left of the second one
+pub front_bits : (count left free rest number : ℕ) → count + free ≡ 64 → number < 2 ^ (free + left)
+    → number_bits 64 (rest * 2 ^ free + number / 2 ^ left) ++ number_bits left number ≡ number_bits count rest ++ number_bits (free + left) number
+front_bits count left free rest number whole fits =
+    rw (← whole, number_bits-cat count free rest (number / 2 ^ left) (shr_below number free left fits), append_assoc, number_bits-cut free left number, number_bits-mod left number) refl
+
+-- a shift by 64 places less some, in two steps
+pub shifted_twice : (rest count : ℕ) → count < 64 → rest < 2 ^ count → rest * 2 ^ (63 - count) % 2 ^ 64 * 2 % 2 ^ 64 ≡ rest * 2 ^ (64 - count)
+shifted_twice rest count less fits =
+    let most = 63 - count in
+    let once : rest * 2 ^ most % 2 ^ 64 ≡ rest * 2 ^ most = shl_whole rest count most 64 fits (omega arith) in
+    let below : rest * 2 ^ most < 2 ^ (count + most) = shl_below rest count most fits in
+    let all : count + most ≡ 63 = omega arith in
+    let one_more : 64 - count ≡ suc most = omega arith in
+    let small : rest * 2 ^ most * 2 < 2 ^ 64 = omega (arith, subst (λ n. rest * 2 ^ most < 2 ^ n) all below) in
+    rw (once, one_more, pow-suc 2 most) (omega (arith, small))
+
+-- zeros behind a number
+pub number_bits-filled : (rest count zeros : ℕ) → number_bits (count + zeros) (rest * 2 ^ zeros) ≡ number_bits count rest ++ replicate zeros false
+number_bits-filled rest count zeros =
+    ap (λ n. number_bits (count + zeros) n) (sym (add-zero (rest * 2 ^ zeros)))
     ∙ number_bits-cat count zeros rest 0 (pow_pos zeros)
     ∙ ap (λ r. number_bits count rest ++ r) (number_bits-zero zeros)
 
--- two bytes as one number
-pub two_bytes : (a b : ℕ) → b < 2 ^ 8 → number_bits 16 (256 * a + b) ≡ number_bits 8 a ++ number_bits 8 b
-two_bytes a b small = let e : 256 * a + b ≡ a * 2 ^ 8 + b = omega arith in ap (λ n. number_bits 16 n) e ∙ number_bits-cat 8 8 a b small
+-- a byte of a number, by its bits
+byte_at-is : (k n : ℕ) → byte_at k n ≡ n / 2 ^ (8 * k) % 2 ^ 8
+byte_at-is zero n = omega arith
+byte_at-is (suc k) n = ap (λ unit. n / unit % 2 ^ 8) (bytes_unit (suc k))
 
--- four bytes in front of others, as one number of two pairs
-pub four_bytes : (bits : List Bool) (rest : List ℕ) (high low : ℕ) → 4 ≤ length rest → low ≤ 65535
-    → number_bits 16 high ≡ number_bits 8 (get_or rest 0 0) ++ number_bits 8 (get_or rest 1 0) → number_bits 16 low ≡ number_bits 8 (get_or rest 2 0) ++ number_bits 8 (get_or rest 3 0)
-    → (bits ++ number_bits 32 (65536 * high + low)) ++ bits_of (take (length rest - 4) (drop 4 rest)) ≡ bits ++ bits_of rest
-four_bytes bits (a ∷ b ∷ c ∷ d ∷ more) high low long small front behind =
-    let whole : take (length (a ∷ b ∷ c ∷ d ∷ more) - 4) more ≡ more = take_all _ more (omega arith) in
-    let pairs : 65536 * high + low ≡ high * 2 ^ 16 + low = omega arith in
-    let cut = ap (λ n. number_bits 32 n) pairs ∙ number_bits-cat 16 16 high low (omega (arith, small)) ∙ ap₂ (λ (x y : List Bool). x ++ y) front behind in
-    let x = number_bits 8 a ++ number_bits 8 b in
-    let y = number_bits 8 c ++ number_bits 8 d in
-    ap₂ (λ (n : List Bool) (bytes : List ℕ). (bits ++ n) ++ bits_of bytes) cut whole
-    ∙ append_assoc bits (x ++ y) (bits_of more)
-    ∙ ap (λ r. bits ++ r) (append_assoc x y (bits_of more) ∙ append_assoc (number_bits 8 a) (number_bits 8 b) (y ++ bits_of more)
-    ∙ ap (λ r. number_bits 8 a ++ (number_bits 8 b ++ r)) (append_assoc (number_bits 8 c) (number_bits 8 d) (bits_of more)))
-four_bytes bits [] high low long small front behind = absurd (omega (arith, long))
-four_bytes bits (a ∷ []) high low long small front behind = absurd (omega (arith, long))
-four_bytes bits (a ∷ b ∷ []) high low long small front behind = absurd (omega (arith, long))
-four_bytes bits (a ∷ b ∷ c ∷ []) high low long small front behind = absurd (omega (arith, long))
+-- the bytes of a number, the highest first, have its bits
+bits_of-high : (k n : ℕ) → bits_of (bytes_high_first k n) ≡ number_bits (8 * k) n
+bits_of-high zero n = sym (no_bits n)
+bits_of-high (suc k) n =
+    let e : 8 * suc k ≡ 8 + 8 * k = omega arith in
+    rw (e, byte_at-is k n, bits_of-high k n, number_bits-mod 8 (n / 2 ^ (8 * k)), ← number_bits-mod (8 * k) n, ← number_bits-cut 8 (8 * k) n)
+
+-- the bits of the eight bytes of a number
+pub bits_of-word : (n : ℕ) → bits_of (to_be_bytes w64 n) ≡ number_bits 64 n
+bits_of-word n = bits_of-high 8 n
+
+-- the bits of the number that eight bytes are
+pub word-bits_of : (bytes : List ℕ) → length bytes ≡ 8 → ((i : ℕ) → get_or bytes i 0 < 256) → number_bits 64 (from_be_bytes w64 bytes) ≡ bits_of bytes
+word-bits_of bytes long small = sym (bits_of-word (from_be_bytes w64 bytes)) ∙ ap bits_of (be_bytes_8 bytes (from_be_bytes w64 bytes) long small refl)

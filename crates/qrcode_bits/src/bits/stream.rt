@@ -6,11 +6,11 @@ ghost use Rattle.qrcode_types.specs.Bits.{number_bits, bits_of};
 use std::alloc::{AllocError, Global};
 use std::marker::Model;
 
-// Bits, packed into bytes: the whole bytes, and the bits behind them as a number.
+// Bits, packed into bytes, eight at a time, and fewer than 64 bits behind them as a number.
 #[derive(Drop)]
 pub(super) struct Stream {
     bytes: Vec<u8>,
-    rest: u8,
+    rest: u64,
     rest_len: u32,
 }
 
@@ -26,7 +26,7 @@ impl Model for Stream {
       room = 8 * vec_capacity s.bytes - (8 * vec_len s.bytes + s.rest_len);
     } };
 
-    ghost invariant = { λ s. (s.rest_len < 8) × (s.rest < 2 ^ s.rest_len)
+    ghost invariant = { λ s. (s.rest_len < 64) × (s.rest < 2 ^ s.rest_len)
         × (8 * vec_len s.bytes + s.rest_len ≤ 8 * vec_capacity s.bytes) };
 }
 
@@ -49,7 +49,7 @@ impl Stream {
     pub(super) fn copied(&self) -> Result<Stream, AllocError>
         ensures { IfOk result (λ copy. copy.bits ≡ self.now.bits) }
     {
-        let mut bytes = Vec::with_capacity(self.allocator(), self.bytes.len() + 1)?;
+        let mut bytes = Vec::with_capacity(self.allocator(), self.bytes.len() + 8)?;
         bytes.extend_from_slice(&self.bytes)?;
         Ok(Stream {
             bytes,
@@ -76,6 +76,7 @@ impl Stream {
     }
 
     // Appends the `count` bits of a number, the highest first.
+    #[inline(always)]
     pub(super) fn push_number(&mut self, count: u32, number: u32)
         requires at_most { count ≤ 32 }
         requires fits { number < 2 ^ count }
@@ -83,10 +84,38 @@ impl Stream {
         ensures bits { self.new.bits ≡ self.old.bits ++ number_bits count number }
         ensures room { self.old.room ≤ self.new.room + count }
     {
-        let joined = (u64::from(self.rest) << count) + u64::from(number);
-        let left = push_whole_bytes(&mut self.bytes, joined, self.rest_len + count);
-        self.rest = (joined & ((1 << left) - 1)) as u8;
-        self.rest_len = left;
+        self.push_long_number(count, u64::from(number));
+    }
+
+    // The same of up to 64 bits. Where eight bytes are full, they are pushed.
+    #[inline(always)]
+    pub(super) fn push_long_number(&mut self, count: u32, number: u64)
+        requires at_most { count ≤ 64 }
+        requires fits { number < 2 ^ count }
+        requires room { count ≤ self.old.room }
+        ensures bits { self.new.bits ≡ self.old.bits ++ number_bits count number }
+        ensures room { self.old.room ≤ self.new.room + count }
+    {
+        let free = 64 - self.rest_len;
+        if count < free {
+            self.rest = (self.rest << count) + number;
+            self.rest_len += count;
+        } else {
+            let left = count - free;
+            self.rest = push_eight(&mut self.bytes, self.rest, self.rest_len, number, left);
+            self.rest_len = left;
+        }
+    }
+
+    // Appends eight bytes.
+    pub(super) fn push_word(&mut self, word: &[u8; 8])
+        requires { 64 ≤ self.old.room }
+        ensures bits { self.new.bits ≡ self.old.bits ++ bits_of word.now }
+        ensures room { self.old.room ≤ self.new.room + 64 }
+    {
+        let number = u64::from_be_bytes(*word);
+        let left = self.rest_len;
+        self.rest = push_eight(&mut self.bytes, self.rest, left, number, left);
     }
 
     // The bytes that the bits fill, the last one filled with zeros.
@@ -95,17 +124,37 @@ impl Stream {
             × (bits_of result.items ≡ self.bits ++ replicate zeros false) }
     {
         let mut bytes = self.bytes;
-        if self.rest_len > 0 {
-            bytes.push_reserved(self.rest << (8 - self.rest_len));
-        }
+        let zeros = (64 - self.rest_len) % 8;
+        push_whole_bytes(&mut bytes, self.rest << zeros, self.rest_len + zeros);
         bytes
     }
 }
 
+// Pushes the first 64 of the bits left over and those of a number behind them, as eight bytes, and
+// answers the rest of the number, of `left` bits.
+#[inline(always)]
+fn push_eight(bytes: &mut Vec<u8>, rest: u64, rest_len: u32, number: u64, left: u32) -> u64
+    requires rest_at_most { rest_len < 64 }
+    requires rest_fits { rest < 2 ^ rest_len }
+    requires left_at_most { left < 64 }
+    requires fits { number < 2 ^ (64 - rest_len + left) }
+    requires room { vec_len bytes.old + 8 ≤ vec_capacity bytes.old }
+    ensures bits { bits_of bytes.new.items ++ number_bits left result ≡ bits_of bytes.old.items
+        ++ (number_bits rest_len rest ++ number_bits (64 - rest_len + left) number) }
+    ensures fits { result < 2 ^ left }
+    ensures length { vec_len bytes.new ≡ vec_len bytes.old + 8 }
+    ensures capacity_at_least { vec_capacity bytes.old ≤ vec_capacity bytes.new }
+{
+    // Two shifts, since one of 64 bits is none.
+    let front = rest << (63 - rest_len) << 1;
+    let word = front + (number >> left);
+    bytes.extend_from_slice(&word.to_be_bytes()).unwrap();
+    number & ((1 << left) - 1)
+}
+
 // Pushes the whole bytes at the front of the bits of `number`, and answers how many bits are left.
 fn push_whole_bytes(bytes: &mut Vec<u8>, number: u64, length: u32) -> u32
-    requires fits { number < 2 ^ length }
-    requires at_most { length < 40 }
+    requires at_most { length ≤ 64 }
     requires room { 8 * vec_len bytes.old + length ≤ 8 * vec_capacity bytes.old }
     ensures bits { bits_of bytes.new.items ++ number_bits result number
         ≡ bits_of bytes.old.items ++ number_bits length number }

@@ -1,6 +1,6 @@
 //! How pieces are written: mode indicator, length field and data bits.
 
-ghost use Rattle.std.specs.Prelude.{◌≡◌, ◌+◌, ◌-◌, ◌*◌, ◌/◌, ◌<◌, ◌≤◌, ◌^◌, ◌++◌, ◌&&◌, not, false, length, IsTrue};
+ghost use Rattle.std.specs.Prelude.{◌≡◌, ◌+◌, ◌-◌, ◌*◌, ◌/◌, ◌<◌, ◌≤◌, ◌^◌, ◌++◌, ◌&&◌, not, false, length, slice_index, IsTrue};
 ghost use Rattle.std.specs.List.{list_all};
 ghost use Rattle.qrcode_types.specs.Bits.{number_bits, bits_of};
 ghost use Rattle.qrcode_types.specs.Versions.{is_valid};
@@ -69,20 +69,30 @@ fn push_header(stream: &mut Stream, version: Version, mode: Mode, count: usize)
     stream.push_number(mode.length_bits_count(version) as u32, count as u32);
 }
 
-// Appends digits, six in twenty bits while there are so many.
+// Appends digits, twelve in forty bits while there are so many.
 fn push_digits(stream: &mut Stream, digits: &[u8])
     requires digits { IsTrue (list_all characters.is_digit digits.now) }
     requires room { (10 * length digits.now + 2) / 3 ≤ stream.old.room }
     ensures { stream.new.bits ≡ stream.old.bits ++ numeric_bits digits.now }
 {
     let mut rest = digits;
-    while let [first, second, third, fourth, fifth, sixth, more @ ..] = rest {
-        let high = three_digits_number(*first, *second, *third);
-        let low = three_digits_number(*fourth, *fifth, *sixth);
-        stream.push_number(20, 1024 * high + low);
+    while let Some((twelve, more)) = rest.split_first_chunk::<12>() {
+        stream.push_long_number(40, twelve_digits_number(twelve));
         rest = more;
     }
     push_last_digits(stream, rest);
+}
+
+// The number that the bits of twelve digits are.
+#[inline(always)]
+fn twelve_digits_number(digits: &[u8; 12]) -> u64
+    requires { IsTrue (list_all characters.is_digit digits.now) }
+    ensures bits { number_bits 40 result ≡ numeric_bits digits.now }
+    ensures fits { result < 2 ^ 40 }
+{
+    let six = 1024 * three_digits_number(digits, 0) + three_digits_number(digits, 3);
+    let nine = 1024 * six + three_digits_number(digits, 6);
+    1024 * nine + three_digits_number(digits, 9)
 }
 
 // Appends digits, three in ten bits, two in seven, one in four.
@@ -92,8 +102,8 @@ fn push_last_digits(stream: &mut Stream, digits: &[u8])
     ensures { stream.new.bits ≡ stream.old.bits ++ numeric_bits digits.now }
 {
     let mut rest = digits;
-    while let [first, second, third, more @ ..] = rest {
-        stream.push_number(10, three_digits_number(*first, *second, *third));
+    while let Some((three, more)) = rest.split_first_chunk::<3>() {
+        stream.push_long_number(10, three_digits_number(three, 0));
         rest = more;
     }
     match rest {
@@ -105,15 +115,17 @@ fn push_last_digits(stream: &mut Stream, digits: &[u8])
     }
 }
 
-// The number that three digits write.
-fn three_digits_number(first: u8, second: u8, third: u8) -> u32
-    requires first { IsTrue (characters.is_digit first) }
-    requires second { IsTrue (characters.is_digit second) }
-    requires third { IsTrue (characters.is_digit third) }
-    ensures value { result ≡ 100 * (first - 48) + 10 * (second - 48) + (third - 48) }
+// The number that three digits write: what each byte is above its digit is taken off at the end.
+#[inline(always)]
+fn three_digits_number(digits: &[u8], at: usize) -> u64
+    requires digits { IsTrue (list_all characters.is_digit digits.now) }
+    requires inside { at + 3 ≤ length digits.now }
+    ensures value { result ≡ 100 * (slice_index digits.now at - 48)
+        + 10 * (slice_index digits.now (at + 1) - 48) + (slice_index digits.now (at + 2) - 48) }
     ensures at_most { result ≤ 999 }
 {
-    100 * digit_number(first) + 10 * digit_number(second) + digit_number(third)
+    let tens = 10 * u64::from(digits[at]) + u64::from(digits[at + 1]);
+    10 * tens + u64::from(digits[at + 2]) - 111 * 48
 }
 
 // Appends characters of the alphabet, two in eleven bits, one in six.
@@ -134,28 +146,17 @@ fn push_characters(stream: &mut Stream, text: &[u8])
     }
 }
 
-// Appends bytes: four as one number while there are as many.
+// Appends bytes, eight at a time while there are so many.
 fn push_bytes(stream: &mut Stream, bytes: &[u8])
     requires room { 8 * length bytes.now ≤ stream.old.room }
     ensures { stream.new.bits ≡ stream.old.bits ++ bits_of bytes.now }
 {
     let mut rest = bytes;
-    while let [first, second, third, fourth, more @ ..] = rest {
-        let high = two_bytes_number(*first, *second);
-        let low = two_bytes_number(*third, *fourth);
-        stream.push_number(32, 65536 * high + low);
+    while let Some((word, more)) = rest.split_first_chunk::<8>() {
+        stream.push_word(word);
         rest = more;
     }
     push_last_bytes(stream, rest);
-}
-
-// The number that two bytes write.
-#[inline(always)]
-fn two_bytes_number(first: u8, second: u8) -> u32
-    ensures bits { number_bits 16 result ≡ number_bits 8 first ++ number_bits 8 second }
-    ensures at_most { result ≤ 65535 }
-{
-    256 * u32::from(first) + u32::from(second)
 }
 
 // Appends bytes one by one.
