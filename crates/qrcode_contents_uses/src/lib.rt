@@ -46,7 +46,7 @@ use qrcode_gs1_symbol::gs1;
 use std::alloc::Global;
 
 /// Why there is no symbol. Where memory was refused it is `OutOfMemory` of either kind.
-#[derive(Debug, PartialEq, Eq, Copy, Clone)]
+#[derive(Debug, Copy, Clone)]
 pub enum Unmade {
     /// The format cannot say the value, or memory was refused for its text.
     Content(ContentError),
