@@ -11,7 +11,7 @@ use std::alloc::Global;
 // A picture of at least so many pixels across and down, in a quiet zone of any width.
 fn framed(alloc: Global, symbol: &[Color], side: usize, zone: u32, pixels: u32) -> QrResult<String>
     requires square { length symbol.now ≡ side * side }
-    requires some { 1 ≤ side }
+    requires at_least { 1 ≤ side }
     requires at_most { side ≤ 177 }
     requires zone { zone ≤ 4096 }
     requires pixels { pixels ≤ 4096 }
@@ -44,7 +44,7 @@ fn enlarged(
 // The middle of a picture, which has a column and a row of pixels.
 fn middle(alloc: Global, symbol: &[Color], side: usize) -> QrResult<(u32, u32)>
     requires square { length symbol.now ≡ side * side }
-    requires some { 1 ≤ side }
+    requires at_least { 1 ≤ side }
     requires at_most { side ≤ 177 }
 {
     let image = Renderer::<Luma>::new(symbol, side, 4).build(alloc)?;

@@ -97,7 +97,7 @@ fn renderer<'a, P: Pixel>(symbol: &'a [Color], side: usize, zone: Zone) -> Rende
 
 // Sets the pixels of a module.
 fn resize<P: Pixel>(renderer: &mut Renderer<P>, size: Size)
-    requires some { 1 ≤ side_of renderer.old }
+    requires at_least { 1 ≤ side_of renderer.old }
     requires at_most { side_of renderer.old ≤ 687 }
 {
     match size {
