@@ -1,9 +1,11 @@
 -- Bytes that stand one in each row of a list.
-use Rattle.std.proofs.Common.{◌≡◌, ◌≢◌, ℕ, ◌+◌, ◌*◌, ◌<◌, ◌≤◌, List, length, take, map, get_or, sym, ◌∙◌, arith}
+use Rattle.std.proofs.Common.{◌≡◌, ◌≢◌, ℕ, ◌+◌, ◌*◌, ◌<◌, ◌≤◌, List, length, take, ◌++◌, map, get_or, inl, inr, subst, sym, ◌∙◌, arith}
 use Rattle.std.specs.List.{range_with_len}
 use Rattle.std.proofs.lemmas.List.{length-take-le}
 use Rattle.std.proofs.lemmas.List.FromFn.{length-map-range_with_len, get_or-map-range_with_len, fill_by_all}
 use Rattle.qrcode_types.specs.Bits.{AreBytes}
+use Rattle.std.proofs.lemmas.Bool.{cases_lt}
+use Rattle.qrcode_ec.specs.Codes.{Vanishes}
 use Rattle.qrcode_ec.proofs.Bytes.{byte_at, map_bytes}
 
 -- the column at a place, of n rows, where a row has as many places as there are blocks
@@ -24,6 +26,19 @@ column_kept n count place other old new within apart kept =
     let before = λ (i : ℕ). get_or old (i * count + other) 0 in
     fill_by_all (λ i. get_or new (i * count + other) 0) (map before (range_with_len 0 n)) n 0 (length-map-range_with_len before 0 n)
     (λ i below. get_or-map-range_with_len before 0 n i i 0 below (omega arith) ∙ sym (kept i other within apart))
+
+-- one column more, of error correction bytes that make their block vanish
+pub vanishes_more : (n count at : ℕ) (block : ℕ → List ℕ) (ec old new : List ℕ) → n ≤ length ec → at < count → Vanishes (block at ++ take n ec) n
+    → ((i : ℕ) → i < length (take n ec) → get_or new (i * count + at) 0 ≡ get_or (take n ec) i 0)
+    → ((i k : ℕ) → k < count → k ≢ at → get_or new (i * count + k) 0 ≡ get_or old (i * count + k) 0)
+    → ((b : ℕ) → b < at → Vanishes (block b ++ column n count b old) n)
+    → (b : ℕ) → b < at + 1 → Vanishes (block b ++ column n count b new) n
+vanishes_more n count at block ec old new long within here written kept before b below = elim (cases_lt b at) [
+  | inl less ↦ subst (λ ec. Vanishes (block b ++ ec) n) (column_kept n count at b old new (omega (arith, less, within)) (omega (arith, less)) kept) (before b less)
+  | inr most ↦
+      let same : at ≡ b = omega arith in
+      subst (λ k. Vanishes (block k ++ column n count k new) n) same (subst (λ ec. Vanishes (block at ++ ec) n) (sym (column_written n count at ec new long written)) here)
+]
 
 pub column_bytes : (n count place : ℕ) (words : List ℕ) → AreBytes words → AreBytes (column n count place words)
 column_bytes n count place words all = map_bytes (λ i. get_or words (i * count + place) 0) (range_with_len 0 n) (λ i. byte_at words (i * count + place) all)

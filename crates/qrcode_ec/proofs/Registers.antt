@@ -5,7 +5,7 @@ use Rattle.std.proofs.lemmas.List.{get_or_past, get_or-take, length-take-le}
 use Rattle.std.specs.Int.Bits.{bit_xor, xor_lt}
 use Rattle.qrcode_ec.specs.Field.{product}
 use Rattle.qrcode_ec.specs.Codes.{Vanishes}
-use Rattle.qrcode_ec.specs.Dividing.{AreOfGenerator}
+use Rattle.qrcode_ec.specs.Dividing.{AreOfGenerator, IsGenerator}
 use Rattle.qrcode_ec.proofs.Divisions.{division_step}
 use Rattle.qrcode_ec.proofs.Products.{product_lt, product_zero_r, product_halves}
 use Rattle.qrcode_ec.proofs.Syndromes.{zeros_vanish, vanishes_cut}
@@ -44,12 +44,12 @@ step n f reach old new g reached zeros at kept ends j = elim (cases_lt j reach) 
 ]
 
 -- one more byte of the data, where the register has at least as many places as are moved
-pub next_register : (n room reach byte f : ℕ) (done old new g : List ℕ) (low high : List (List ℕ)) → AreOfGenerator n g low high → n ≤ reach → reach ≤ room → room ≤ 72 → 0 < room → byte < 256
+pub next_register : (n room reach byte f : ℕ) (done old new g : List ℕ) → IsGenerator n g → n ≤ reach → reach ≤ room → room ≤ 72 → 0 < room → byte < 256
     → f ≡ bit_xor byte (get_or old 0 0) → length new ≡ room
     → ((j : ℕ) → j < reach → get_or new j 0 ≡ bit_xor (get_or old (suc j) 0) (product f (get_or g j 0)))
     → ((j : ℕ) → reach ≤ j → get_or new j 0 ≡ get_or old j 0)
     → IsRegister n room done old → IsRegister n room (done ++ byte ∷ []) new
-next_register n room reach byte f done old new g low high are reached inside most some small sum long at kept before =
+next_register n room reach byte f done old new g are reached inside most some small sum long at kept before =
     let moved = step n f reach old new g reached are.ends at kept before.ends in
     let front : length (take room g) ≡ room = length-take-le room g (omega (arith, are.long)) in
     record {

@@ -7,11 +7,14 @@ use Rattle.qrcode_ec.specs.Codes.{Vanishes}
 pub record AreMultiples (coefficients : List ℕ) (unit : ℕ) (rows : List (List ℕ)) : Type 0 where
   pub at : (k j : ℕ) → k < 16 → j < 32 → slice_index (slice_index_or rows k []) j ≡ product (k * unit) (slice_index coefficients j)
 
--- A generator of this degree, which vanishes at as many powers of 2, without its leading one and with zeros behind it, and
--- rows that are multiples of it.
-pub record AreOfGenerator (degree : ℕ) (generator : List ℕ) (low high : List (List ℕ)) : Type 0 where
+-- a generator of this degree, which vanishes at as many powers of 2, without its leading one and with zeros behind it
+pub record IsGenerator (degree : ℕ) (generator : List ℕ) : Type 0 where
   pub long : length generator ≡ 72
   pub vanishes : Vanishes (1 ∷ generator) degree
   pub ends : (j : ℕ) → degree ≤ j → slice_index generator j ≡ 0
+
+-- a generator of this degree, and rows that are multiples of it
+pub record AreOfGenerator (degree : ℕ) (generator : List ℕ) (low high : List (List ℕ)) : Type 0 where
+  pub generates : IsGenerator degree generator
   pub units : AreMultiples generator 1 low
   pub sixteens : AreMultiples generator 16 high

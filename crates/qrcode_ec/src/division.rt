@@ -4,7 +4,7 @@ ghost use Rattle.std.specs.Prelude.{◌≡◌, ℕ, suc, ◌<◌, ◌≤◌, ◌
 ghost use Rattle.qrcode_types.specs.Bits.{AreBytes};
 ghost use Rattle.qrcode_ec.specs.Field.{product, power};
 ghost use Rattle.qrcode_ec.specs.Codes.{Vanishes};
-ghost use Rattle.qrcode_ec.specs.Dividing.{AreMultiples, AreOfGenerator};
+ghost use Rattle.qrcode_ec.specs.Dividing.{AreMultiples, AreOfGenerator, IsGenerator};
 
 use crate::field::{product, times_power};
 use std::simd::u8x32;
@@ -221,6 +221,31 @@ fn first_lanes(generator: &[u8; ROOM]) -> [u8; LANES]
     u8x32::from_slice(generator).to_array()
 }
 
+// The remainder by a generator of any degree, by products: the bytes that, put behind the others, make
+// the whole vanish where the generator does.
+fn divided(generator: &[u8; ROOM], degree: usize, bytes: &[u8]) -> [u8; ROOM]
+    requires at_most { degree ≤ 69 }
+    requires generator { IsGenerator degree generator.now }
+    ensures vanishes { Vanishes (bytes.now ++ take degree result) degree }
+    ensures bytes { AreBytes result }
+{
+    let mut register = [0; ROOM];
+    for byte in bytes {
+        let factor = *byte ^ register[0];
+        advance(&mut register, generator, degree, factor);
+    }
+    register
+}
+
+/// What `Divider::remainder` gives of these bytes, without multiples, which few bytes would not pay for.
+pub(crate) fn remainder_of_few(degree: usize, bytes: &[u8]) -> [u8; ROOM]
+    requires { degree ≤ 69 }
+    ensures vanishes { Vanishes (bytes.now ++ take degree result) degree }
+    ensures bytes { AreBytes result }
+{
+    divided(&generator(degree), degree, bytes)
+}
+
 /// A generator without its leading one, and multiples of what a vector has room for of it: those by
 /// the bytes below 16, and those by the multiples of 16. Any byte is the sum of one of the first and
 /// one of the second.
@@ -260,7 +285,7 @@ impl Divider {
         if self.degree <= LANES {
             self.short_remainder(bytes)
         } else {
-            self.long_remainder(bytes)
+            divided(&self.generator, self.degree, bytes)
         }
     }
 
@@ -276,18 +301,5 @@ impl Divider {
             register = advanced(register, &self.low[factor % 16], &self.high[factor / 16]);
         }
         in_room(register)
-    }
-
-    // The same of any degree, by products.
-    fn long_remainder(&self, bytes: &[u8]) -> [u8; ROOM]
-        ensures vanishes { Vanishes (bytes.now ++ take self.now.degree result) self.now.degree }
-        ensures bytes { AreBytes result }
-    {
-        let mut register = [0; ROOM];
-        for byte in bytes {
-            let factor = *byte ^ register[0];
-            advance(&mut register, &self.generator, self.degree, factor);
-        }
-        register
     }
 }

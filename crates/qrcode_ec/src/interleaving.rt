@@ -5,9 +5,13 @@ ghost use Rattle.qrcode_types.specs.Bits.{AreBytes};
 ghost use Rattle.qrcode_types.specs.Blocks.{count_of, data_length_of};
 ghost use Rattle.qrcode_ec.specs.Interleaving.{data_block, length_of, HasRows, HasEnds, MakeVanish};
 
-use crate::division::Divider;
+use crate::division::{Divider, remainder_of_few};
 use qrcode_types::tables::Blocks;
 use std::alloc::{AllocError, Global};
+
+// Where no more bytes than this are divided, by a generator of no higher degree, products are less work
+// than multiples of the generator.
+const FEW: usize = 11;
 
 /// The data bytes of a symbol, which stand block by block.
 #[derive(Drop)]
@@ -100,6 +104,19 @@ impl<'a> DataBlocks<'a> {
         }
     }
 
+    // The same, without multiples of the generator.
+    fn write_ec_of_few(&self, codewords: &mut [u8])
+        requires { length codewords.old ≡ self.now.blocks.ec_length * count_of self.now.blocks }
+        ensures bytes { AreBytes codewords.new }
+        ensures vanishes { MakeVanish self.now.blocks self.now.bytes.now codewords.new }
+    {
+        let count = self.blocks.count();
+        for b in 0..count {
+            let ec = remainder_of_few(self.blocks.ec_length, self.block(b));
+            spread(&ec[..self.blocks.ec_length], codewords, b, count);
+        }
+    }
+
     /// The error correction codewords of the symbol.
     pub(crate) fn ec_codewords(&self, alloc: Global) -> Result<Vec<u8>, AllocError>
         ensures length { IfOk result (λ words.
@@ -109,7 +126,11 @@ impl<'a> DataBlocks<'a> {
             MakeVanish self.now.blocks self.now.bytes.now words.items) }
     {
         let mut codewords = vec![in alloc; 0; self.blocks.total_ec_length()]?;
-        self.write_ec(&mut codewords);
+        if self.bytes.len() <= FEW && self.blocks.ec_length <= FEW {
+            self.write_ec_of_few(&mut codewords);
+        } else {
+            self.write_ec(&mut codewords);
+        }
         Ok(codewords)
     }
 }

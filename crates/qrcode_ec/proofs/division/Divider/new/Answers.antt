@@ -38,9 +38,7 @@ invariant_of-result-clause-multiples c =
     let front : AreMultiples (take 32 g) 1 low = subst (λ row. AreMultiples row 1 low) c.first_lanes.ensures c.multiples-low.ensures in
     let units = front_rows g 1 low front in
     record {
-      long = search rules;
-      vanishes = c.generator-generator.ensures.vanishes;
-      ends = c.generator-generator.ensures.ends;
+      generates = record { long = search rules; vanishes = c.generator-generator.ensures.vanishes; ends = c.generator-generator.ensures.ends };
       units = units;
       sixteens = high_rows g (get_or low 8 []) c.doubled.result low c.multiples.result units refl c.doubled.ensures c.multiples.ensures;
     }

@@ -22,7 +22,7 @@ loop-byte-preserved c =
     let long = c.advanced-register.ensures.length in
     let longer : take (i + 1) message ≡ take i message ++ byte ∷ [] = rw (add-one, take-suc message i 0 c.loop-byte-test.true) in
     subst (λ (done : List ℕ). IsRegister divider.degree 32 done new) (sym longer)
-    (next_register divider.degree 32 32 byte c.from-factor.result (take i message) old new divider.generator divider.low divider.high divider.multiples
+    (next_register divider.degree 32 32 byte c.from-factor.result (take i message) old new divider.generator divider.multiples.generates
     c.requires (omega arith) (omega arith) (omega arith) (omega (arith, c.type_inv.bytes i)) c.from-factor.ensures long
     (by_rows divider.degree 32 byte c.from-factor.result (take i message) old new divider.generator divider.low divider.high divider.multiples (omega (arith, c.type_inv.bytes i)) c.from-factor.ensures c.loop-byte.invariant c.advanced-register.ensures.value)
     (λ j past. get_or_past new j 0 (omega (arith, long)) ∙ sym (get_or_past old j 0 (omega (arith, c.loop-byte.invariant.long)))) c.loop-byte.invariant)

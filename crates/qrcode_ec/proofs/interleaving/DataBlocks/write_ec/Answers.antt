@@ -1,9 +1,8 @@
-use Rattle.std.proofs.Common.{◌≡◌, ◌≤◌, ◌++◌, length, take, inl, inr, subst, sym, arith}
-use Rattle.std.proofs.lemmas.Bool.{cases_lt}
+use Rattle.std.proofs.Common.{◌≤◌, ◌++◌, length, take, subst, arith}
 use Rattle.qrcode_ec.specs.Codes.{Vanishes}
 use Rattle.qrcode_ec.specs.Interleaving.{data_block}
 use Rattle.qrcode_ec.proofs.Bytes.{bytes_from}
-use Rattle.qrcode_ec.proofs.Columns.{column, column_written, column_kept}
+use Rattle.qrcode_ec.proofs.Columns.{column, vanishes_more}
 use Rattle.qrcode_ec.proofs.interleaving.DataBlocks.write_ec.Goals as goal
 
 pub loop-b-preserved : goal.loop-b-preserved
@@ -23,15 +22,7 @@ loop-b-preserved c =
     record {
       all = c.count-count.ensures.value;
       bytes = λ j. omega (arith, c.type_inv.codewords j);
-      vanishes = λ b below. elim (cases_lt b at) [
-        | inl less ↦ subst (λ ec. Vanishes (data_block blocks bytes b ++ ec) n)
-            (column_kept n count at b old new (omega (arith, less, c.loop-b-test.true)) (omega (arith, less)) c.spread.ensures.unchanged)
-            (c.loop-b.invariant.vanishes b less)
-        | inr most ↦
-            let same : at ≡ b = omega arith in
-            subst (λ k. Vanishes (data_block blocks bytes k ++ column n count k new) n) same
-            (subst (λ ec. Vanishes (data_block blocks bytes at ++ ec) n) (sym (column_written n count at ec new long c.spread.ensures.written)) here)
-      ];
+      vanishes = vanishes_more n count at (data_block blocks bytes) ec old new long c.loop-b-test.true here c.spread.ensures.written c.spread.ensures.unchanged c.loop-b.invariant.vanishes;
     }
 
 pub returns-clause-vanishes : goal.returns-clause-vanishes

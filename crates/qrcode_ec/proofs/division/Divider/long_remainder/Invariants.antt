@@ -1,6 +1,0 @@
-use Rattle.std.proofs.Common.{take}
-use Rattle.qrcode_ec.proofs.Registers.{IsRegister}
-use Rattle.qrcode_ec.proofs.division.Divider.long_remainder.Given as goal
-
-abbrev pub invariant-loop-byte : goal.invariant-loop-byte
-invariant-loop-byte l = IsRegister l.self.degree 72 (take l.byte-index l.bytes) l.register
