@@ -22,6 +22,10 @@ abbrev pub two_text : List (List ℕ) → Bool → Bool → List ℕ
 two_text twos a b = slice_index_or twos (pair_number a b) []
 
 -- the marks of a column of two rows stand one behind the other in a list of columns
-pub record AreMarksAt (upper lower columns : List Bool) (x : ℕ) : Type 0 where
-  pub first : slice_index_or columns (2 * x) false ≡ slice_index_or upper x false
-  pub second : slice_index_or columns (2 * x + 1) false ≡ slice_index_or lower x false
+pub record AreMarksAt (upper lower : ℕ → Bool) (columns : List Bool) (x : ℕ) : Type 0 where
+  pub first : slice_index_or columns (2 * x) false ≡ upper x
+  pub second : slice_index_or columns (2 * x + 1) false ≡ lower x
+
+-- the mark at a place
+abbrev pub mark_at : List Bool → ℕ → Bool
+mark_at marks x = slice_index_or marks x false

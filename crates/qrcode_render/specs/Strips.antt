@@ -1,14 +1,12 @@
 -- Room for two rows of pixels, and for all.
-use Rattle.std.specs.Prelude.{◌≡◌, ℕ, ◌+◌, ◌*◌, ◌/◌, vec_len}
+use Rattle.std.specs.Prelude.{◌≡◌, ◌⊎◌, ℕ, ◌+◌, ◌*◌, ◌/◌, vec_len}
 use Rattle.qrcode_render.specs.Bitmap.{Bitmap}
 use Rattle.qrcode_render.specs.Grid.{Grid, all_columns}
 use Rattle.qrcode_render.specs.declared.unicode.Strip.{Strip}
 
--- the marks of a row of cells, of two rows of pixels and of both, and room for a line of these with a newline
+-- the marks of two rows of cells, where a cell is wider than a pixel, and of two rows of pixels, and room for a line of these with a newline
 pub record IsStripOf (g : Grid) (s : Strip) : Type 0 where
-  pub cells : vec_len s.cells ≡ all_columns g
-  pub upper : vec_len s.upper ≡ all_columns g * g.across
-  pub lower : vec_len s.lower ≡ all_columns g * g.across
+  pub cells : (g.across ≡ 1) ⊎ (vec_len s.cells ≡ 2 * all_columns g)
   pub columns : vec_len s.columns ≡ 2 * (all_columns g * g.across)
   pub room : s.line.room ≡ 3 * (all_columns g * g.across) + 33
 

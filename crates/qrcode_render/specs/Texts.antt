@@ -31,6 +31,11 @@ abbrev pub columns_text : (Bool → Bool → List ℕ) → List Bool → List Bo
 columns_text text upper lower =
     flat_map (λ x. text (slice_index_or upper x false) (slice_index_or lower x false)) (range_with_len 0 (length upper))
 
+-- the characters of columns whose two marks stand one behind the other
+abbrev pub pairs_text : (Bool → Bool → List ℕ) → List Bool → List ℕ
+pairs_text text columns =
+    flat_map (λ x. text (slice_index_or columns (2 * x) false) (slice_index_or columns (2 * x + 1) false)) (range_with_len 0 (length columns / 2))
+
 -- a line of two rows, or of a last row alone, which stands over light pixels
 abbrev pub dense_line : Bool → Bool → Bitmap → ℕ → List ℕ
 dense_line marked other b i =

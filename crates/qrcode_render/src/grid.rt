@@ -1,12 +1,15 @@
 //! Cells in rows and columns, of which each shows as a rectangle of pixels.
 
-ghost use Rattle.std.specs.Prelude.{◌≡◌, ◌+◌, ◌-◌, ◌*◌, ◌^◌, ◌<◌, ◌≤◌, length, IfSome};
+ghost use Rattle.std.specs.Prelude.{◌≡◌, ℕ, ◌+◌, ◌-◌, ◌*◌, ◌^◌, ◌<◌, ◌≤◌, ◌⊎◌, length, map, slice_index_or, IfSome, IfNone};
 ghost use Rattle.std.specs.List.{slice_range};
+ghost use Rattle.qrcode_types.specs.Colors.{is_dark};
+ghost use Rattle.qrcode_types.specs.declared.types.Color.TheVariants.{Light};
 ghost use Rattle.qrcode_render.specs.Bitmap.{marked_line};
-ghost use Rattle.qrcode_render.specs.Grid.{cell_row, all_columns, all_rows};
+ghost use Rattle.qrcode_render.specs.Grid.{cell_row, is_dark_cell, all_columns, all_rows};
+ghost use Rattle.qrcode_render.specs.Lines.{AreMarksAt};
 ghost use Rattle.qrcode_render.specs.Shades.{colors_of, shown};
 
-use crate::marks::{is_dark, mark_bytes, mark_line};
+use crate::marks::{Shade, is_dark, mark_bytes, mark_columns, mark_line};
 use qrcode_types::types::Color;
 use std::marker::Model;
 
@@ -106,6 +109,39 @@ impl<'a> Shades<'a> {
         match *self {
             Shades::Colors(colors) => dark_in_either(&colors[upper..first], &colors[lower..last]),
             Shades::Bytes(bytes) => set_in_either(&bytes[upper..first], &bytes[lower..last]),
+        }
+    }
+
+    // Whether a cell is dark.
+    fn is_dark(&self, place: usize) -> bool
+        requires { place < length (shown self.now) }
+        ensures { result ≡ is_dark (slice_index_or (shown self.now) place Light) }
+    {
+        match *self {
+            Shades::Colors(colors) => is_dark(colors[place]),
+            Shades::Bytes(bytes) => bytes[place] != 0,
+        }
+    }
+
+    // Marks which cells of two rows of so many are dark, column by column. The first cells of the rows are told.
+    fn mark_columns(&self, upper: usize, lower: usize, columns: usize, marks: &mut [bool])
+        requires upper { upper + columns ≤ length (shown self.now) }
+        requires lower { lower + columns ≤ length (shown self.now) }
+        requires fits { (upper + columns < 2 ^ 64) × (lower + columns < 2 ^ 64) }
+        requires length { length marks.old ≡ 2 * columns }
+        ensures marks { (x : ℕ) → x < columns → AreMarksAt
+            (λ k. is_dark (slice_index_or (shown self.now) (upper + k) Light))
+            (λ k. is_dark (slice_index_or (shown self.now) (lower + k) Light)) marks.new x }
+        ensures length { length marks.new ≡ length marks.old }
+    {
+        let (first, last) = (upper + columns, lower + columns);
+        match *self {
+            Shades::Colors(colors) => {
+                mark_columns(marks, &colors[upper..first], &colors[lower..last]);
+            }
+            Shades::Bytes(bytes) => {
+                mark_columns(marks, &bytes[upper..first], &bytes[lower..last]);
+            }
         }
     }
 
@@ -224,6 +260,22 @@ impl<'a> Grid<'a> {
         }
     }
 
+    /// The same cells, each of so many pixels across, at most as many as it has.
+    pub(crate) fn with_across(&self, across: u32) -> Grid<'a>
+        requires at_least { 1 ≤ across }
+        requires at_most { across ≤ self.now.across }
+        ensures { result ≡ record self.now { across = across } }
+    {
+        Grid {
+            cells: self.cells,
+            columns: self.columns,
+            rows: self.rows,
+            zone: self.zone,
+            across,
+            down: self.down,
+        }
+    }
+
     /// The columns and the rows, with the light cells around.
     pub fn sides(&self) -> (usize, usize)
         ensures columns { result.0 ≡ all_columns self.now }
@@ -266,6 +318,52 @@ impl<'a> Grid<'a> {
             let start = (row - self.zone) * self.columns;
             self.cells
                 .mark(start, start + self.columns, marks, self.zone);
+        }
+    }
+
+    /// Marks the dark cells of two rows, column by column, the light ones around counted.
+    pub fn mark_columns(&self, upper: usize, lower: usize, columns: &mut [bool])
+        requires length { length columns.old ≡ 2 * all_columns self.now }
+        ensures marks { (x : ℕ) → x < all_columns self.now → AreMarksAt
+            (λ column. is_dark_cell self.now column upper)
+            (λ column. is_dark_cell self.now column lower) columns.new x }
+        ensures length { length columns.new ≡ length columns.old }
+    {
+        let (left, right) = (2 * self.zone, 2 * (self.zone + self.columns));
+        match (self.start_of(upper), self.start_of(lower)) {
+            (None, None) => columns.fill(false),
+            (Some(first), Some(second)) => {
+                columns.fill(false);
+                let inside = &mut columns[left..right];
+                self.cells.mark_columns(first, second, self.columns, inside);
+            }
+            _ => self.mark_each(upper, lower, columns),
+        }
+    }
+
+    // The same cell by cell, for a row beside light ones.
+    fn mark_each(&self, upper: usize, lower: usize, columns: &mut [bool])
+        requires length { length columns.old ≡ 2 * all_columns self.now }
+        ensures marks { (x : ℕ) → x < all_columns self.now → AreMarksAt
+            (λ column. is_dark_cell self.now column upper)
+            (λ column. is_dark_cell self.now column lower) columns.new x }
+        ensures length { length columns.new ≡ length columns.old }
+    {
+        for x in 0..self.columns + 2 * self.zone {
+            columns[2 * x] = self.is_dark(x, upper);
+            columns[2 * x + 1] = self.is_dark(x, lower);
+        }
+    }
+
+    // Whether a cell is dark, in a column and a row with the light ones around counted.
+    fn is_dark(&self, column: usize, row: usize) -> bool
+        ensures { result ≡ is_dark_cell self.now column row }
+    {
+        match self.start_of(row) {
+            Some(start) if self.zone <= column && column < self.zone + self.columns => {
+                self.cells.is_dark(start + (column - self.zone))
+            }
+            _ => false,
         }
     }
 
@@ -338,7 +436,10 @@ impl<'a> Grid<'a> {
 
     // The first cell of a row that is not among the light ones around.
     fn start_of(&self, row: usize) -> Option<usize>
-        ensures { IfSome result (λ start. start + self.now.columns ≤ length self.now.cells) }
+        ensures start { IfSome result (λ start. start ≡ (row - self.now.zone) * self.now.columns) }
+        ensures inside { IfSome result (λ start. start + self.now.columns ≤ length self.now.cells) }
+        ensures some { IfSome result (λ _. (self.now.zone ≤ row) × (row < self.now.zone + self.now.rows)) }
+        ensures none { IfNone result ((row < self.now.zone) ⊎ (self.now.zone + self.now.rows ≤ row)) }
     {
         if self.zone <= row && row < self.zone + self.rows {
             Some((row - self.zone) * self.columns)

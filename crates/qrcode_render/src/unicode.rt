@@ -17,7 +17,7 @@ use crate::fours::{Fours, push_columns, push_ones};
 use crate::grid::Grid;
 use crate::page::{Finish, Page};
 use crate::stamps::{LONGEST, Line, Stamp, put_text};
-use crate::strips::mark_pixels;
+use crate::strips::{mark_alone, mark_pixel_columns};
 use qrcode_types::types::{Color, QrResult};
 use std::alloc::Global;
 
@@ -136,12 +136,11 @@ impl Halves {
     }
 }
 
-// Room for the marks of a row of cells, of two rows of pixels and of both, and for the line of these.
+// Room for the marks of two rows of cells, where a cell is wider than a pixel, and of two rows of pixels, each
+// column by column, and for the line of these.
 #[derive(Drop)]
 struct Strip {
     cells: Vec<bool>,
-    upper: Vec<bool>,
-    lower: Vec<bool>,
     columns: Vec<bool>,
     line: Line,
 }
@@ -152,11 +151,11 @@ impl Strip {
         ensures memory { IsOkUnless result OutOfMemory }
     {
         let (columns, _) = grid.sides();
+        let (across, _) = grid.cell();
         let (width, _) = grid.pixels();
+        let cells = if across == 1 { 0 } else { 2 * columns };
         Ok(Strip {
-            cells: vec![in alloc; false; columns]?,
-            upper: vec![in alloc; false; width as usize]?,
-            lower: vec![in alloc; false; width as usize]?,
+            cells: vec![in alloc; false; cells]?,
             columns: vec![in alloc; false; 2 * width as usize]?,
             line: Line::new(alloc, LONGEST_HALF * width as usize + 1)?,
         })
@@ -172,16 +171,9 @@ impl Strip {
         ensures value { self.new.line.text
             ≡ dense_line halves.now.marked halves.now.other (pixels_of grid.now) i ++ 10 ∷ [] }
     {
-        mark_pixels(grid, 2 * i, &mut self.cells, &mut self.upper);
-        mark_pixels(grid, 2 * i + 1, &mut self.cells, &mut self.lower);
+        mark_pixel_columns(grid, i, &mut self.cells, &mut self.columns);
         self.line.clear();
-        push_columns(
-            &mut self.line,
-            &halves.palette,
-            &self.upper,
-            &self.lower,
-            &mut self.columns,
-        );
+        push_columns(&mut self.line, &halves.palette, &self.columns);
         self.line.push(b"\n");
     }
 
@@ -194,16 +186,12 @@ impl Strip {
         ensures value { self.new.line.text
             ≡ dense_line halves.now.marked halves.now.other (pixels_of grid.now) i ++ 10 ∷ [] }
     {
-        mark_pixels(grid, 2 * i, &mut self.cells, &mut self.upper);
+        mark_alone(grid, 2 * i, &mut self.cells, &mut self.columns);
+        let marks = &self.columns[..self.columns.len() / 2];
         let dark = half(halves.marked, false);
         let light = half(halves.other, false);
         self.line.clear();
-        push_ones(
-            &mut self.line,
-            dark.as_bytes(),
-            light.as_bytes(),
-            &self.upper,
-        );
+        push_ones(&mut self.line, dark.as_bytes(), light.as_bytes(), marks);
         self.line.push(b"\n");
     }
 }
