@@ -46,6 +46,14 @@ IsDrawnIn Pbm at modules bytes = bytes ≡ pbm_file true false (picture at modul
 abbrev pub IsDrawn : Format → List ℕ → ℕ → ℕ → ℕ → List ℕ → Type 0
 IsDrawn f modules width zone scale bytes = IsDrawnIn f (layout width zone scale scale) (colors_of modules) bytes
 
+-- what is asked for: bytes as modules, the modules along a side and of the quiet zone, the pixels of one, and the number of a format
+pub record AsksFor (bytes : List ℕ) (side around pixels number : ℕ) (a : Asked) : Type 0 where
+  pub modules : a.modules.now ≡ bytes
+  pub width : a.width ≡ side
+  pub zone : a.zone ≡ around
+  pub scale : a.scale ≡ pixels
+  pub format : format_named number ≡ Some a.format
+
 -- the square of modules that is asked to be drawn, as a renderer is set to it
 abbrev pub square_of : Asked → Square
 square_of a = record {

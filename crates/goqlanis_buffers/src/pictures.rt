@@ -1,9 +1,9 @@
 //! Pictures in buffers.
 
-ghost use Rattle.std.specs.Prelude.{◌≡◌, ◌+◌, ◌*◌, ◌^◌, ◌<◌, ◌≤◌, ℕ, length, Some, IfOk, IfErr, OnOk};
+ghost use Rattle.std.specs.Prelude.{ℕ, IfOk, IfErr};
 ghost use Rattle.goqlanis_buffers.specs.Answers.{IsDrawingCause};
 ghost use Rattle.goqlanis_buffers.specs.Calls.{TellsLength, WritesPicture};
-ghost use Rattle.goqlanis_buffers.specs.Drawings.{format_named};
+ghost use Rattle.goqlanis_buffers.specs.Drawings.{AsksFor};
 
 use crate::answers::Refusal;
 use crate::asked::Asked;
@@ -26,16 +26,9 @@ pub fn put_picture(
 ) -> Result<usize, Refusal>
     ensures { WritesPicture modules.now width zone scale format out.old out.new result }
 {
-    let format = match checked(modules, width, zone, scale, format) {
-        Ok(format) => format,
+    let asked = match asked(modules, width, zone, scale, format) {
+        Ok(asked) => asked,
         Err(refusal) => return Err(refusal),
-    };
-    let asked = Asked {
-        modules,
-        width,
-        zone,
-        scale,
-        format,
     };
     match draw_into(alloc, &asked, out) {
         Ok(Some(count)) => Ok(count),
@@ -57,16 +50,9 @@ pub fn length_of(
 ) -> Result<usize, Refusal>
     ensures { TellsLength modules.now width zone scale format result }
 {
-    let format = match checked(modules, width, zone, scale, format) {
-        Ok(format) => format,
+    let asked = match asked(modules, width, zone, scale, format) {
+        Ok(asked) => asked,
         Err(refusal) => return Err(refusal),
-    };
-    let asked = Asked {
-        modules,
-        width,
-        zone,
-        scale,
-        format,
     };
     match drawn_length(alloc, &asked) {
         Ok(length) => Ok(length),
@@ -74,19 +60,16 @@ pub fn length_of(
     }
 }
 
-// The format of a number, where modules are a square and the picture is within the limits.
-fn checked(
-    modules: &[u8],
+// What is asked for, where a format has the number, modules are a square and the picture is within the
+// limits.
+fn asked<'a>(
+    modules: &'a [u8],
     width: u32,
     zone: u32,
     scale: u32,
     format: u32,
-) -> Result<Format, Refusal>
-    ensures format { IfOk result (λ named. format_named format ≡ Some named) }
-    ensures square { OnOk result (length modules.now ≡ width * width) }
-    ensures side_at_most { OnOk result (width + 2 * zone < 2 ^ 16) }
-    ensures scale_at_most { OnOk result (scale < 2 ^ 16) }
-    ensures scale_at_least { OnOk result (1 ≤ scale) }
+) -> Result<Asked<'a>, Refusal>
+    ensures asked { IfOk result (AsksFor modules.now width zone scale format) }
     ensures causes { (room : ℕ) → IfErr result
         (IsDrawingCause modules.now width zone scale format room) }
 {
@@ -104,5 +87,11 @@ fn checked(
     if matches!(named, Format::Png) && (pixels == 0 || pixels > 65_535) {
         return Err(Refusal::NoSuchSize);
     }
-    Ok(named)
+    Ok(Asked {
+        modules,
+        width,
+        zone,
+        scale,
+        format: named,
+    })
 }
