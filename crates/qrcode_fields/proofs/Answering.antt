@@ -14,10 +14,10 @@ pub checked_none : (refusal : Option ContentError) (r : Result (Unit {0}) Conten
 checked_none None r x is ok = refl
 checked_none (Some e) r x is ok = cc
 
--- a text that is written where nothing is refused
-pub answered : (refusal : Option ContentError) (r : Result (String Global) ContentError) (text : List ℕ) (P : List ℕ → Type 0) → refusal ≡ None → IfOk r (λ t. string_bytes t ≡ text) → IsOkUnless r OutOfMemory → P text → Answers refusal r P
-answered refusal (Ok t) text P none is memory says = (none, subst P (sym is) says)
-answered refusal (Err e) text P none is memory says = inr memory
+-- a text that is written where a check passes
+pub answered : (refusal : Option ContentError) (check : Result (Unit {0}) ContentError) (x : Unit {0}) → check ≡ checked refusal → check ≡ Ok x → (r : Result (String Global) ContentError) (text : List ℕ) (P : List ℕ → Type 0) → IfOk r (λ t. string_bytes t ≡ text) → IsOkUnless r OutOfMemory → (refusal ≡ None → P text) → Answers refusal r P
+answered refusal check x is ok (Ok t) text P written memory says = let none = checked_none refusal check x is ok in (none, subst P (sym written) (says none))
+answered refusal check x is ok (Err e) text P written memory says = inr memory
 
 -- a text that is written where nothing is refused, and that may be too long
 pub limited : (checks : Option ContentError) (r : Result (String Global) ContentError) (t : String Global) (text : List ℕ) (field : Field) (cause : Cause) (P : List ℕ → Type 0) → checks ≡ None → string_bytes t ≡ text → r ≡ (if nat_lt 331 (length (string_bytes t)) then Err (Refused field cause) else Ok t) → P text → Answers (first_refusal (checks ∷ refused_if (nat_lt 331 (length text)) field cause ∷ [])) r P
@@ -30,7 +30,7 @@ limited checks r t text field cause P none is result says =
     by_test true t field cause r P is says = subst (λ x. Answers (Some (Refused field cause)) x P) (sym is) (inl refl)
     by_test false t field cause r P is says = subst (λ x. Answers None x P) (sym is) (refl, says)
 
--- the same, where the call says what the text's property needs
+-- a text that is written where nothing is refused, by a call that says what the text's property needs
 pub answered_by : (refusal : Option ContentError) (r : Result (String Global) ContentError) (text : List ℕ) (P : List ℕ → Type 0) (Q : Type 0) → refusal ≡ None → IfOk r (λ t. string_bytes t ≡ text) → IsOkUnless r OutOfMemory → OnOk r Q → (Q → P text) → Answers refusal r P
 answered_by refusal (Ok t) text P Q none is memory says follows = (none, subst P (sym is) (follows says))
 answered_by refusal (Err e) text P Q none is memory says follows = inr memory

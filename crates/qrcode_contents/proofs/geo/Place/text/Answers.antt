@@ -1,12 +1,11 @@
 use Rattle.std.proofs.Common.{◌≡◌, Some}
 use Rattle.qrcode_contents.specs.Geo.{place_refusal, place_text, read_place}
-use Rattle.qrcode_fields.proofs.Answering.{checked_none, answered}
+use Rattle.qrcode_fields.proofs.Answering.{answered}
 use Rattle.qrcode_contents.proofs.GeoReading.{place_read}
 use Rattle.qrcode_contents.proofs.geo.Place.text.Goals as goal
 
 pub returns-clause-reads : goal.returns-clause-reads
 returns-clause-reads c =
     let place = c.args.self.now in
-    let none = checked_none (place_refusal place) c.check.result c.in_ok-check.field-0 c.check.ensures c.in_ok-check.was in
-    answered (place_refusal place) c.written.result (place_text place) (λ text. read_place text ≡ Some place)
-    none c.written.ensures.value c.written.ensures.memory (place_read place none)
+    answered (place_refusal place) c.check.result c.in_ok-check.field-0 c.check.ensures c.in_ok-check.was c.written.result (place_text place) (λ text. read_place text ≡ Some place)
+    c.written.ensures.value c.written.ensures.memory (place_read place)

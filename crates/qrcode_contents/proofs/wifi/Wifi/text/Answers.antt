@@ -1,12 +1,11 @@
 use Rattle.std.proofs.Common.{◌≡◌, Some}
 use Rattle.qrcode_contents.specs.Wifi.{wifi_fields, wifi_refusal, wifi_text, read_wifi}
-use Rattle.qrcode_fields.proofs.Answering.{checked_none, answered}
+use Rattle.qrcode_fields.proofs.Answering.{answered}
 use Rattle.qrcode_contents.proofs.WifiReading.{wifi_read}
 use Rattle.qrcode_contents.proofs.wifi.Wifi.text.Goals as goal
 
 pub returns-clause-reads : goal.returns-clause-reads
 returns-clause-reads c =
     let fields = wifi_fields c.args.self.now in
-    answered (wifi_refusal fields) c.written.result (wifi_text fields) (λ text. read_wifi text ≡ Some fields)
-    (checked_none (wifi_refusal fields) c.check.result c.in_ok-check.field-0 c.check.ensures c.in_ok-check.was)
-    c.written.ensures.value c.written.ensures.memory (wifi_read fields)
+    answered (wifi_refusal fields) c.check.result c.in_ok-check.field-0 c.check.ensures c.in_ok-check.was c.written.result (wifi_text fields) (λ text. read_wifi text ≡ Some fields)
+    c.written.ensures.value c.written.ensures.memory (λ none. wifi_read fields)

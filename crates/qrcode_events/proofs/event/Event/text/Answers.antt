@@ -1,12 +1,11 @@
 use Rattle.std.proofs.Common.{◌≡◌, Some}
 use Rattle.qrcode_events.specs.Event.{happening_of, event_refusal, event_text, read_event}
-use Rattle.qrcode_fields.proofs.Answering.{checked_none, answered}
+use Rattle.qrcode_fields.proofs.Answering.{answered}
 use Rattle.qrcode_events.proofs.EventReading.{event_read}
 use Rattle.qrcode_events.proofs.event.Event.text.Goals as goal
 
 pub returns-clause-reads : goal.returns-clause-reads
 returns-clause-reads c =
     let fields = happening_of c.args.self.now in
-    let none = checked_none (event_refusal fields) c.check.result c.in_ok-check.field-0 c.check.ensures c.in_ok-check.was in
-    answered (event_refusal fields) c.written.result (event_text fields) (λ text. read_event text ≡ Some fields)
-    none c.written.ensures.value c.written.ensures.memory (event_read fields none)
+    answered (event_refusal fields) c.check.result c.in_ok-check.field-0 c.check.ensures c.in_ok-check.was c.written.result (event_text fields) (λ text. read_event text ≡ Some fields)
+    c.written.ensures.value c.written.ensures.memory (event_read fields)
