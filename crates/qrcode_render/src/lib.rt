@@ -24,6 +24,7 @@ pub mod image;
 mod ink;
 pub mod laws;
 mod marks;
+mod numbers;
 pub mod page;
 mod parts;
 pub mod pbm;

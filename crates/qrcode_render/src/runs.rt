@@ -1,20 +1,23 @@
 //! The runs of dark cells of the rows, as the subpaths of an SVG path.
 
-ghost use Rattle.std.specs.Prelude.{◌≡◌, ◌^◌, ◌<◌, ◌≤◌, ◌++◌, length, string_bytes, OnOk, IsOkUnless};
+ghost use Rattle.std.specs.Prelude.{◌≡◌, ◌+◌, ◌^◌, ◌<◌, ◌≤◌, [], ◌++◌, length, string_bytes, OnOk, IsOkUnless};
+ghost use Rattle.std.specs.Str.{IsUtf8};
 ghost use Rattle.qrcode_types.specs.declared.types.QrError.TheVariants.{OutOfMemory};
 ghost use Rattle.qrcode_render.specs.Grid.{all_columns};
-ghost use Rattle.qrcode_render.specs.Paths.{step_text, path_from, path_text, pen_after, ended, runs_from, runs_of};
+ghost use Rattle.qrcode_render.specs.Paths.{Pen, Run, step_text, run_text, path_from, path_text, pen_after, ended, runs_from, runs_of};
 
 use crate::grid::Grid;
+use crate::numbers::Numbers;
+use crate::stamps::Line;
 use qrcode_types::types::QrResult;
-use std::fmt::Write;
 use std::marker::Model;
+use std::str::from_utf8_unchecked;
 
 // Where the pen stands: the column and the row at whose upper left corner.
 #[derive(Drop)]
 struct Pen {
-    column: usize,
-    row: usize,
+    column: u32,
+    row: u32,
 }
 
 impl Model for Pen {
@@ -25,46 +28,136 @@ impl Model for Pen {
     ghost view = { λ p. record { column = p.column; row = p.row } };
 }
 
-// Appends how far it is from one number to another, forward behind one text, or back behind another.
-fn push_step(text: &mut String, forward: &str, back: &str, from: usize, to: usize) -> QrResult<()>
-    ensures appends { OnOk result
-        (string_bytes text.new ≡ string_bytes text.old ++ step_text forward.now back.now from to) }
-    ensures memory { IsOkUnless result OutOfMemory }
+// The most bytes of the subpath of a run, and of what is written behind it.
+const MOST: usize = 80;
+
+// Room for the subpaths that are appended together.
+const TOGETHER: usize = 1024;
+
+// Writes how far it is from one number to another, forward behind one text, or back behind another.
+#[inline(always)]
+fn put_step(line: &mut Line, numbers: &Numbers, forward: &[u8], back: &[u8], from: u32, to: u32)
+    requires forward { length forward.now ≤ 2 }
+    requires back { length back.now ≤ 2 }
+    requires room { length line.old.text + 44 ≤ line.old.room }
+    ensures appends { line.new ≡ record line.old {
+      text = line.old.text ++ step_text forward.now back.now from to;
+    } }
+    ensures at_most { length (step_text forward.now back.now from to) ≤ 12 }
 {
     if from <= to {
-        write!(text, "{forward}{}", to - from)?;
+        line.push(forward);
+        numbers.put(line, to - from);
     } else {
-        write!(text, "{back}{}", from - to)?;
+        line.push(back);
+        numbers.put(line, from - to);
     }
+}
+
+// Writes the subpath of a run, from where the pen stands.
+fn put_run(
+    line: &mut Line,
+    numbers: &Numbers,
+    column: u32,
+    row: u32,
+    left: u32,
+    top: u32,
+    width: u32,
+)
+    requires room { length line.old.text + 80 ≤ line.old.room }
+    ensures appends { line.new ≡ record line.old {
+      text = line.old.text ++ run_text
+          (record { column = column; row = row }) (record { left = left; top = top; width = width });
+    } }
+    ensures is_text { ∥ IsUtf8 (run_text (record { column = column; row = row })
+        (record { left = left; top = top; width = width })) ∥₁ }
+{
+    put_step(line, numbers, b"m", b"m-", column, left);
+    put_step(line, numbers, b" ", b"-", row, top);
+    line.push(b"h");
+    numbers.put(line, width);
+    line.push(b"v1h-");
+    numbers.put(line, width);
+}
+
+// Appends a line to a text, and empties it.
+fn push_line(text: &mut String, line: &mut Line) -> QrResult<()>
+    requires is_text { ∥ IsUtf8 line.old.text ∥₁ }
+    ensures appends { OnOk result (string_bytes text.new ≡ string_bytes text.old ++ line.old.text) }
+    ensures empties { OnOk result (line.new ≡ record line.old { text = [] }) }
+    ensures memory { IsOkUnless result OutOfMemory }
+{
+    text.push_str(unsafe { from_utf8_unchecked(line.as_slice()) })?;
+    line.clear();
     Ok(())
 }
 
-// Appends the run of so many cells that ends before a column, where there are some.
-fn push_run(text: &mut String, pen: &mut Pen, top: usize, end: usize, width: usize) -> QrResult<()>
-    requires width_at_most { width ≤ end }
-    requires row_at_most { top < 2 ^ 32 }
-    ensures appends { OnOk result (string_bytes text.new
-        ≡ string_bytes text.old ++ path_from pen.old (ended top end width)) }
-    ensures pen { OnOk result (pen.new ≡ pen_after pen.old (ended top end width)) }
+// Appends a line to a text where it has not room for one more run.
+fn make_room(text: &mut String, line: &mut Line) -> QrResult<()>
+    requires room { 80 ≤ line.old.room }
+    requires is_text { ∥ IsUtf8 line.old.text ∥₁ }
+    ensures appends { OnOk result (string_bytes text.new ++ line.new.text
+        ≡ string_bytes text.old ++ line.old.text) }
+    ensures room { OnOk result (length line.new.text + 80 ≤ line.new.room) }
+    ensures is_text { OnOk result (∥ IsUtf8 line.new.text ∥₁) }
     ensures memory { IsOkUnless result OutOfMemory }
 {
-    if width > 0 {
-        let left = end - width;
-        push_step(text, "m", "m-", pen.column, left)?;
-        push_step(text, " ", "-", pen.row, top)?;
-        write!(text, "h{width}v1h-{width}")?;
-        pen.column = left;
-        pen.row = top + 1;
+    if MOST <= line.free() {
+        return Ok(());
     }
-    Ok(())
+    push_line(text, line)
+}
+
+// Appends the run of so many cells that ends before a column, where there are some, by a line that stands
+// behind the text and always has room for one more.
+fn push_run(
+    text: &mut String,
+    line: &mut Line,
+    numbers: &Numbers,
+    pen: &mut Pen,
+    top: u32,
+    end: u32,
+    width: u32,
+) -> QrResult<()>
+    requires width_at_most { width ≤ end }
+    requires row_fits { top + 1 < 2 ^ 32 }
+    requires room { length line.old.text + 80 ≤ line.old.room }
+    requires is_text { ∥ IsUtf8 line.old.text ∥₁ }
+    ensures appends { OnOk result (string_bytes text.new ++ line.new.text
+        ≡ string_bytes text.old ++ line.old.text ++ path_from pen.old (ended top end width)) }
+    ensures pen { OnOk result (pen.new ≡ pen_after pen.old (ended top end width)) }
+    ensures room { OnOk result (length line.new.text + 80 ≤ line.new.room) }
+    ensures is_text { OnOk result (∥ IsUtf8 line.new.text ∥₁) }
+    ensures memory { IsOkUnless result OutOfMemory }
+{
+    if width == 0 {
+        return Ok(());
+    }
+    let left = end - width;
+    put_run(line, numbers, pen.column, pen.row, left, top, width);
+    pen.column = left;
+    pen.row = top + 1;
+    make_room(text, line)
 }
 
 // Appends the runs of the marks of a row.
-fn push_row(text: &mut String, pen: &mut Pen, marks: &[bool], top: usize) -> QrResult<()>
-    requires row_at_most { top < 2 ^ 32 }
-    ensures appends { OnOk result (string_bytes text.new
-        ≡ string_bytes text.old ++ path_from pen.old (runs_from top 0 0 marks.now)) }
+fn push_row(
+    text: &mut String,
+    line: &mut Line,
+    numbers: &Numbers,
+    pen: &mut Pen,
+    marks: &[bool],
+    top: u32,
+) -> QrResult<()>
+    requires columns_fit { length marks.now < 2 ^ 32 }
+    requires row_fits { top + 1 < 2 ^ 32 }
+    requires room { length line.old.text + 80 ≤ line.old.room }
+    requires is_text { ∥ IsUtf8 line.old.text ∥₁ }
+    ensures appends { OnOk result (string_bytes text.new ++ line.new.text
+        ≡ string_bytes text.old ++ line.old.text ++ path_from pen.old (runs_from top 0 0 marks.now)) }
     ensures pen { OnOk result (pen.new ≡ pen_after pen.old (runs_from top 0 0 marks.now)) }
+    ensures room { OnOk result (length line.new.text + 80 ≤ line.new.room) }
+    ensures is_text { OnOk result (∥ IsUtf8 line.new.text ∥₁) }
     ensures memory { IsOkUnless result OutOfMemory }
 {
     let mut width = 0;
@@ -72,12 +165,15 @@ fn push_row(text: &mut String, pen: &mut Pen, marks: &[bool], top: usize) -> QrR
         if marks[column] {
             width += 1;
         } else {
-            push_run(text, pen, top, column, width)?;
+            push_run(text, line, numbers, pen, top, column as u32, width)?;
             width = 0;
         }
     }
-    push_run(text, pen, top, marks.len(), width)
+    push_run(text, line, numbers, pen, top, marks.len() as u32, width)
 }
+
+// The most numbers that are kept.
+const KEPT: usize = 178;
 
 /// Appends the runs of all rows, by marks of a row to write into. Refuses with `OutOfMemory` alone.
 pub fn push_runs(text: &mut String, grid: &Grid, marks: &mut [bool]) -> QrResult<()>
@@ -86,11 +182,14 @@ pub fn push_runs(text: &mut String, grid: &Grid, marks: &mut [bool]) -> QrResult
         (string_bytes text.new ≡ string_bytes text.old ++ path_text (runs_of grid.now)) }
     ensures memory { IsOkUnless result OutOfMemory }
 {
+    let alloc = *text.allocator();
+    let (columns, rows) = grid.sides();
+    let numbers = Numbers::below(alloc, columns.min(KEPT) as u32)?;
+    let mut line = Line::new(alloc, TOGETHER)?;
     let mut pen = Pen { column: 0, row: 0 };
-    let (_, rows) = grid.sides();
     for row in 0..rows {
         grid.mark_row(row, marks);
-        push_row(text, &mut pen, marks, row)?;
+        push_row(text, &mut line, &numbers, &mut pen, marks, row as u32)?;
     }
-    Ok(())
+    push_line(text, &mut line)
 }
