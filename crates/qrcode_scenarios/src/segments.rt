@@ -134,7 +134,7 @@ pub fn runs() -> Digest {
 // The digest of segments: of each a number for the mode, and its ends.
 fn digest_of_segments<I: Iterator<Item = Segment> + Drop>(segments: I) -> Digest
     requires can { I.can_next segments }
-    requires ends { IsFinite (I.remaining segments) }
+    requires finite { IsFinite (I.remaining segments) }
 {
     let mut digest = Digest::of::<u8>(&[]);
     for segment in segments {
