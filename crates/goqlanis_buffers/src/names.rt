@@ -43,7 +43,7 @@ pub fn version_named(number: u32) -> Option<Version>
     }
 }
 
-/// The number of a version.
+/// The number of a version, which is one that exists.
 pub fn version_number(version: Version) -> u32
     requires { IsTrue (is_valid version) }
     ensures value { version_named result ≡ Some version }

@@ -24,6 +24,8 @@ pub struct Entry {
     pub long: &'static str,
     /// Its letter behind one.
     pub short: Option<char>,
+    /// What stands behind it.
     pub takes: Takes,
+    /// What help and the manual say of it.
     pub help: &'static str,
 }

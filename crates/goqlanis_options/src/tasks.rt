@@ -51,7 +51,9 @@ pub enum Purpose {
 /// What stands on the command line beside options.
 #[derive(Clone, Copy)]
 pub struct Operand {
+    /// What help calls it.
     pub name: &'static str,
+    /// What help and the manual say of it.
     pub help: &'static str,
 }
 
@@ -62,7 +64,9 @@ pub struct Task {
     pub word: &'static str,
     /// The program and the word.
     pub title: &'static str,
+    /// What the manual says of it.
     pub about: &'static str,
+    /// What is done.
     pub purpose: Purpose,
     /// Its options, without those of drawing that go with it.
     pub options: &'static [Entry],

@@ -8,8 +8,9 @@ ghost use Rattle.qrcode_fields.specs.Entries.{is_filled, single, parts_text, mar
 use crate::errors::ContentResult;
 use crate::escapes::{Escapes, push_escaped};
 
-/// Appends parts, escaped, with a separator between each two. After `OutOfMemory` a part of it is
-/// appended.
+/// Appends parts, escaped, with a separator of ASCII between each two.
+///
+/// `OutOfMemory`: memory was refused; then a part of it is appended.
 pub fn push_parts(
     text: &mut String,
     escapes: Escapes,

@@ -19,15 +19,25 @@ use std::io::Write;
 /// A way to draw.
 #[derive(Clone, Copy)]
 pub enum Kind {
+    /// A character for each module.
     Chars,
+    /// Two characters for each module.
     Pairs,
+    /// A character for each two modules.
     HalfBlocks,
+    /// An SVG text of rectangles.
     Svg,
+    /// An SVG text of one path.
     Path,
+    /// A PIC text.
     Pic,
+    /// An EPS file.
     Eps,
+    /// A PGM file.
     Pixels,
+    /// A PBM file.
     Pbm,
+    /// A PNG file.
     Png,
 }
 

@@ -62,7 +62,7 @@ fn normal_centres(number: usize) -> &'static [u8]
 
 /// The coordinates, in columns and in rows alike, of the alignment centres of a version, in rising
 /// order, the first where finder patterns are (ISO/IEC 18004:2006, annex E). A version without
-/// alignment patterns has none.
+/// alignment patterns has none. The version is one that exists.
 pub fn centres(version: Version) -> &'static [u8]
     requires { IsTrue (is_valid version) }
     ensures { result.now ≡ centres version }

@@ -64,7 +64,8 @@ pub fn near_centre(centres: &[u8], x: usize) -> Option<usize>
         .find(|centre| centre.abs_diff(x) <= 2)
 }
 
-/// Whether two coordinates of alignment centres meet in a corner where a finder pattern is.
+/// Whether two coordinates of alignment centres meet in a corner where a finder pattern is; `width` is
+/// the side of the version.
 pub fn is_corner_centre(width: usize, a: usize, b: usize) -> bool
     requires { 7 ≤ width }
     ensures { result ≡ is_corner_centre width a b }
@@ -91,7 +92,8 @@ fn alignment_between(
     color_if(!is_corner_centre(width, centre_x, centre_y), distance != 1)
 }
 
-/// The row and the column of timing modules; `width` is the side of the version.
+/// The row and the column of timing modules, at places whose coordinates are below 1,000 together;
+/// `width` is the side of the version, which exists.
 #[tactic(auto, unfolding(crate::specs::Patterns::timing))]
 pub fn timing(version: Version, width: usize, x: usize, y: usize) -> Option<Color>
     requires valid { IsTrue (is_valid version) }
@@ -109,7 +111,7 @@ pub fn timing(version: Version, width: usize, x: usize, y: usize) -> Option<Colo
     color_if(on_line, (x + y) % 2 == 0)
 }
 
-/// The module of Normal that is always dark.
+/// The module of Normal that is always dark; `width` is the side of the version, which exists.
 #[tactic(auto, unfolding(crate::specs::Patterns::dark_module))]
 pub fn dark_module(version: Version, width: usize, x: usize, y: usize) -> Option<Color>
     requires valid { IsTrue (is_valid version) }
@@ -155,7 +157,8 @@ fn version_pattern(version: Version, width: usize, x: usize, y: usize) -> Option
 }
 
 /// The colour of a place in the functional patterns, the format word aside. `near_x` and `near_y`
-/// are the coordinates of alignment centres that are near the place.
+/// are the coordinates of alignment centres that are near the place, which is in the square; `width` is
+/// the side of the version, which exists.
 #[tactic(auto, unfolding(crate::specs::Patterns::pattern, crate::specs::Patterns::alignment))]
 pub fn pattern(
     version: Version,
@@ -234,7 +237,8 @@ fn micro_format_index(version: Version, x: usize, y: usize) -> Option<usize>
     }
 }
 
-/// Which bit of the format word stands at a place, if any, the highest being 0.
+/// Which bit of the format word stands at a place, if any, the highest being 0; `width` is the side of
+/// the version, which exists.
 pub fn format_index(version: Version, width: usize, x: usize, y: usize) -> Option<usize>
     requires valid { IsTrue (is_valid version) }
     requires width { width ≡ side version }
@@ -249,7 +253,8 @@ pub fn format_index(version: Version, width: usize, x: usize, y: usize) -> Optio
     }
 }
 
-/// The bit of a place that no mask decides, of the format word or of the dark module, if it has one.
+/// The bit of a place that no mask decides, of the format word or of the dark module, if it has one;
+/// `width` is the side of the version, which exists.
 #[tactic(auto, unfolding(crate::specs::Patterns::decided_bit))]
 pub fn decided_bit(version: Version, width: usize, word: u16, x: usize, y: usize) -> Option<bool>
     requires valid { IsTrue (is_valid version) }

@@ -70,7 +70,8 @@ fn word_index(version: Version, ec_level: EcLevel, mask: MaskPattern) -> usize
     }
 }
 
-/// The format word: the fifteen bits that name level and mask (ISO/IEC 18004:2006, 6.9).
+/// The format word: the fifteen bits that name a level and a mask of a version that has both
+/// (ISO/IEC 18004:2006, 6.9).
 #[tactic(auto, using(crate::proofs::Formats::format_bits_small))]
 pub fn format_word(version: Version, ec_level: EcLevel, mask: MaskPattern) -> u16
     requires level { IsTrue (has_level version ec_level) }

@@ -62,7 +62,7 @@ pub fn is_digit(byte: u8) -> bool
     byte.is_ascii_digit()
 }
 
-/// The number of a digit.
+/// The number of a digit, which the byte is.
 pub fn digit_number(byte: u8) -> u32
     requires { IsTrue (characters.is_digit byte) }
     ensures value { result ≡ byte - 48 }
@@ -132,8 +132,8 @@ fn are_kanji(bytes: &[u8]) -> bool
     rest.is_empty()
 }
 
-/// The number of a pair: pairs from 0x8140 on are numbered in rows of 192, and behind them those
-/// from 0xe040 on (ISO/IEC 18004:2006, 6.4.6).
+/// The number of a pair, which the bytes are: pairs from 0x8140 on are numbered in rows of 192, and
+/// behind them those from 0xe040 on (ISO/IEC 18004:2006, 6.4.6).
 #[tactic(auto, using(crate::proofs::Pairs::least_pair), unfolding(crate::specs::Characters::kanji_number))]
 pub fn kanji_number(first: u8, second: u8) -> u32
     requires { IsTrue (characters.is_kanji first second) }

@@ -165,7 +165,7 @@ pub fn capacity(version: Version, ec_level: EcLevel) -> Option<usize>
     Some(8 * blocks.data_length() - half)
 }
 
-/// Whether the last data codeword of a symbol has four bits.
+/// Whether the last data codeword of a symbol has four bits. The version is one that exists.
 pub fn has_half_codeword(version: Version, ec_level: EcLevel) -> bool
     requires { IsTrue (is_valid version) }
     ensures { result ≡ has_half_codeword version ec_level }

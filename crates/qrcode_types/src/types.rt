@@ -184,7 +184,7 @@ impl Version {
         Blocks::of(self, ec_level).is_some()
     }
 
-    /// The modules along a side.
+    /// The modules along a side of a version that exists.
     pub fn width(self) -> i16
         requires { IsTrue (is_valid self) }
         ensures { result ≡ pos (side self) }
@@ -208,7 +208,7 @@ impl Version {
     }
 
     /// The entry of this version and a level in a table with a row for each version, Normal 1 to 40
-    /// and then Micro 1 to 4, and in each an entry for L, M, Q and H.
+    /// and then Micro 1 to 4, 44 in all, and in each an entry for L, M, Q and H.
     ///
     /// `InvalidVersion`: there is no such version, or the entry is the default.
     pub fn fetch<T: PartialEq + Default + Copy>(
@@ -232,7 +232,7 @@ impl Version {
         Ok(entry)
     }
 
-    /// The bits of a mode indicator.
+    /// The bits of a mode indicator in a version that exists.
     pub fn mode_bits_count(self) -> usize
         requires { IsTrue (is_valid self) }
         ensures { result ≡ mode_bits_count self }
@@ -258,7 +258,8 @@ pub enum Mode {
 }
 
 impl Mode {
-    /// The bits of the length field that stands before characters in this mode.
+    /// The bits of the length field that stands before characters in this mode, in a version that
+    /// exists.
     #[tactic(auto, using(crate::proofs::LengthFields::counts_fit))]
     pub fn length_bits_count(self, version: Version) -> usize
         requires { IsTrue (is_valid version) }
