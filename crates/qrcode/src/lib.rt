@@ -156,8 +156,7 @@ impl QrCode {
             return Err(QrError::DataTooLong);
         }
         let bytes = bits.into_bytes();
-        let (data, ec) = ec::construct_codewords(alloc, &bytes, version, ec_level)?;
-        drop(bytes);
+        let (data, ec) = ec::into_codewords(alloc, bytes, version, ec_level)?;
         let content = drawn_symbol(alloc, version, ec_level, &data, &ec)?;
         Ok(QrCode {
             content,

@@ -154,25 +154,49 @@ blocks_hold v l b bytes words ec is =
     flat_map_each (λ c. take (length c - n) c) (block v l (words ++ ec)) (data_block b bytes) 0 (length (block_lengths v l)) front
     ∙ ap (λ m. flat_map (data_block b bytes) (range_with_len 0 m)) count ∙ joined b bytes is.whole
 
--- a single block stands as it is
-pub one_block : (v : Version) (l : EcLevel) (b : Blocks) (bytes words : List ℕ) → IsInterleaved v l b bytes words
-    → length (block_lengths v l) ≡ 1 → words ≡ bytes
+-- a single block is all the data
+only_block : (b : Blocks) (bytes : List ℕ) → length bytes ≡ data_length_of b → count_of b ≡ 1 → (data_block b bytes 0 ≡ bytes) × (data_length_of b ≡ b.short_length)
 unfolding data_block
-one_block v l b bytes words is one =
-    let count = count_is v l b is.entry in
-    let single : count_of b ≡ 1 = omega (arith, count, one) in
+only_block b bytes whole single =
     let short : b.short_blocks ≡ 1 = omega (arith, single, b.some_blocks) in
     let long : b.long_blocks ≡ 0 = omega (arith, single, b.some_blocks) in
     let size : data_length_of b ≡ b.short_length = ap₂ (λ x y. x * b.short_length + y * (b.short_length + 1)) short long ∙ omega arith in
     let begin : start_of b 0 ≡ 0 = omega arith in
-    let none : more b.short_blocks 0 ≡ 0 = elim (leb_tells b.short_blocks 0) [ inl most ↦ absurd (omega (arith, most.1, short)) | inr less ↦ ap {B = ℕ} (λ t. cond t 1 0) less.0 ] in
-    let first : data_block b bytes 0 ≡ bytes =
-    ap₂ (λ p n. slice_range bytes p (p + n)) begin (ap (λ m. b.short_length + m) none ∙ (let z : b.short_length + 0 ≡ b.short_length = omega arith in z))
-    ∙ take_all (0 + b.short_length - 0) bytes (omega (arith, is.whole, size)) in
+    let none : more b.short_blocks 0 ≡ 0 = elim (leb_tells b.short_blocks 0) [ inl most ↦ absurd (omega (arith, most.1, short)) | inr less ↦ ap {B = ℕ} (λ t. cond t 1 0) less.0 ] in (
+      ap₂ (λ p n. slice_range bytes p (p + n)) begin (ap (λ m. b.short_length + m) none ∙ (let z : b.short_length + 0 ≡ b.short_length = omega arith in z))
+          ∙ take_all (0 + b.short_length - 0) bytes (omega (arith, whole, size)),
+      size,
+    )
+
+-- where a row has one place
+only_place : (b : Blocks) (i : ℕ) → count_of b ≡ 1 → i * (count_of b) + 0 ≡ i
+only_place b i single = ap (λ m. i * m + 0) single ∙ omega arith
+
+-- a single block stands as it is
+pub one_block : (v : Version) (l : EcLevel) (b : Blocks) (bytes words : List ℕ) → IsInterleaved v l b bytes words
+    → length (block_lengths v l) ≡ 1 → words ≡ bytes
+one_block v l b bytes words is one =
+    let count = count_is v l b is.entry in
+    let single : count_of b ≡ 1 = omega (arith, count, one) in
+    let only = only_block b bytes is.whole single in
     ext_get_or 0 words bytes (is.as_long ∙ sym is.whole)
     (λ i below.
-    let place : i * (count_of b) + 0 ≡ i = ap (λ m. i * m + 0) single ∙ omega arith in
-    ap (λ p. get_or words p 0) (sym place) ∙ is.rows i 0 (omega (arith, below, is.as_long, size)) (omega (arith, single)) ∙ ap (λ (xs : List ℕ). get_or xs i 0) first)
+    ap (λ p. get_or words p 0) (sym (only_place b i single)) ∙ is.rows i 0 (omega (arith, below, is.as_long, only.1)) (omega (arith, single)) ∙ ap (λ (xs : List ℕ). get_or xs i 0) only.0)
+
+-- and the data of a single block is interleaved
+pub is_interleaved : (v : Version) (l : EcLevel) (b : Blocks) (bytes : List ℕ) → AreBlocks v l b → length bytes ≡ data_length_of b → data_length v l ≡ data_length_of b → count_of b ≡ 1
+    → IsInterleaved v l b bytes bytes
+is_interleaved v l b bytes entry whole all single = record {
+  entry = entry;
+  whole = whole;
+  as_long = whole;
+  all = all;
+  rows = λ i k within exists.
+      let first : k ≡ 0 = omega (arith, single, exists) in
+      ap (λ n. get_or bytes (i * (count_of b) + n) 0) first ∙ ap (λ p. get_or bytes p 0) (only_place b i single)
+      ∙ ap (λ (xs : List ℕ). get_or xs i 0) (sym (only_block b bytes whole single).0) ∙ ap (λ n. get_or (data_block b bytes n) i 0) (sym first);
+  ends = λ k exists. absurd (omega (arith, exists, single, b.some_blocks));
+}
 
 -- a block is of bytes, and not too long for the law of distance
 block_bytes : (b : Blocks) (bytes : List ℕ) (k : ℕ) → AreBytes bytes → AreBytes (data_block b bytes k)
