@@ -349,17 +349,24 @@ impl<'a> Grid<'a> {
             (λ column. is_dark_cell self.now column lower) columns.new x }
         ensures length { length columns.new ≡ length columns.old }
     {
+        let (first, second) = (self.start_of(upper), self.start_of(lower));
         for x in 0..self.columns + 2 * self.zone {
-            columns[2 * x] = self.is_dark(x, upper);
-            columns[2 * x + 1] = self.is_dark(x, lower);
+            columns[2 * x] = self.is_dark(x, upper, first);
+            columns[2 * x + 1] = self.is_dark(x, lower, second);
         }
     }
 
-    // Whether a cell is dark, in a column and a row with the light ones around counted.
-    fn is_dark(&self, column: usize, row: usize) -> bool
+    // Whether a cell is dark, in a column and a row with the light ones around counted, of which the first cell is
+    // told, as `start_of` gives it.
+    fn is_dark(&self, column: usize, row: usize, start: Option<usize>) -> bool
+        requires start { IfSome start (λ place. place ≡ (row - self.now.zone) * self.now.columns) }
+        requires inside { IfSome start (λ place. place + self.now.columns ≤ length self.now.cells) }
+        requires some { IfSome start (λ _. (self.now.zone ≤ row) × (row < self.now.zone + self.now.rows)) }
+        requires none { IfNone start ((row < self.now.zone) ⊎ (self.now.zone + self.now.rows ≤ row)) }
         ensures { result ≡ is_dark_cell self.now column row }
     {
-        match self.start_of(row) {
+        let _ = row;
+        match start {
             Some(start) if self.zone <= column && column < self.zone + self.columns => {
                 self.cells.is_dark(start + (column - self.zone))
             }

@@ -108,9 +108,39 @@ fn make_room(text: &mut String, line: &mut Line) -> QrResult<()>
     push_line(text, line)
 }
 
-// Appends the run of so many cells that ends before a column, where there are some, by a line that stands
-// behind the text and always has room for one more.
+// Appends the run of so many cells that ends before a column, by a line that stands behind the text and always
+// has room for one more.
 fn push_run(
+    text: &mut String,
+    line: &mut Line,
+    numbers: &Numbers,
+    pen: &mut Pen,
+    top: u32,
+    end: u32,
+    width: u32,
+) -> QrResult<()>
+    requires some { 0 < width }
+    requires width_at_most { width ≤ end }
+    requires row_fits { top + 1 < 2 ^ 32 }
+    requires room { length line.old.text + 80 ≤ line.old.room }
+    requires is_text { ∥ IsUtf8 line.old.text ∥₁ }
+    ensures appends { OnOk result (string_bytes text.new ++ line.new.text
+        ≡ string_bytes text.old ++ line.old.text ++ path_from pen.old (ended top end width)) }
+    ensures pen { OnOk result (pen.new ≡ pen_after pen.old (ended top end width)) }
+    ensures room { OnOk result (length line.new.text + 80 ≤ line.new.room) }
+    ensures is_text { OnOk result (∥ IsUtf8 line.new.text ∥₁) }
+    ensures memory { IsOkUnless result OutOfMemory }
+{
+    let left = end - width;
+    put_run(line, numbers, pen.column, pen.row, left, top, width);
+    pen.column = left;
+    pen.row = top + 1;
+    make_room(text, line)
+}
+
+// The same where there may be no cells. Within its caller, since most modules end no run.
+#[inline(always)]
+fn end_run(
     text: &mut String,
     line: &mut Line,
     numbers: &Numbers,
@@ -133,11 +163,7 @@ fn push_run(
     if width == 0 {
         return Ok(());
     }
-    let left = end - width;
-    put_run(line, numbers, pen.column, pen.row, left, top, width);
-    pen.column = left;
-    pen.row = top + 1;
-    make_room(text, line)
+    push_run(text, line, numbers, pen, top, end, width)
 }
 
 // Appends the runs of the marks of a row.
@@ -165,15 +191,18 @@ fn push_row(
         if marks[column] {
             width += 1;
         } else {
-            push_run(text, line, numbers, pen, top, column as u32, width)?;
+            end_run(text, line, numbers, pen, top, column as u32, width)?;
             width = 0;
         }
     }
-    push_run(text, line, numbers, pen, top, marks.len() as u32, width)
+    end_run(text, line, numbers, pen, top, marks.len() as u32, width)
 }
 
 // The most numbers that are kept.
 const KEPT: usize = 178;
+
+// The bytes of the path for which room is taken at first: so many for each dark module, which are seldom passed.
+const USUAL: usize = 6;
 
 /// Appends the runs of all rows, by marks of a row to write into. Refuses with `OutOfMemory` alone.
 pub fn push_runs(text: &mut String, grid: &Grid, marks: &mut [bool]) -> QrResult<()>
@@ -186,6 +215,7 @@ pub fn push_runs(text: &mut String, grid: &Grid, marks: &mut [bool]) -> QrResult
     let (columns, rows) = grid.sides();
     let numbers = Numbers::below(alloc, columns.min(KEPT) as u32)?;
     let mut line = Line::new(alloc, TOGETHER)?;
+    text.reserve(grid.dark_count().saturating_mul(USUAL))?;
     let mut pen = Pen { column: 0, row: 0 };
     for row in 0..rows {
         grid.mark_row(row, marks);
