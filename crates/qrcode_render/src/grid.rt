@@ -361,8 +361,10 @@ impl<'a> Grid<'a> {
     fn is_dark(&self, column: usize, row: usize, start: Option<usize>) -> bool
         requires start { IfSome start (λ place. place ≡ (row - self.now.zone) * self.now.columns) }
         requires inside { IfSome start (λ place. place + self.now.columns ≤ length self.now.cells) }
-        requires some { IfSome start (λ _. (self.now.zone ≤ row) × (row < self.now.zone + self.now.rows)) }
-        requires none { IfNone start ((row < self.now.zone) ⊎ (self.now.zone + self.now.rows ≤ row)) }
+        requires some { IfSome start (λ _. (self.now.zone ≤ row)
+            × (row < self.now.zone + self.now.rows)) }
+        requires none { IfNone start ((row < self.now.zone)
+            ⊎ (self.now.zone + self.now.rows ≤ row)) }
         ensures { result ≡ is_dark_cell self.now column row }
     {
         let _ = row;
@@ -445,8 +447,10 @@ impl<'a> Grid<'a> {
     fn start_of(&self, row: usize) -> Option<usize>
         ensures start { IfSome result (λ start. start ≡ (row - self.now.zone) * self.now.columns) }
         ensures inside { IfSome result (λ start. start + self.now.columns ≤ length self.now.cells) }
-        ensures some { IfSome result (λ _. (self.now.zone ≤ row) × (row < self.now.zone + self.now.rows)) }
-        ensures none { IfNone result ((row < self.now.zone) ⊎ (self.now.zone + self.now.rows ≤ row)) }
+        ensures some { IfSome result (λ _. (self.now.zone ≤ row)
+            × (row < self.now.zone + self.now.rows)) }
+        ensures none { IfNone result ((row < self.now.zone)
+            ⊎ (self.now.zone + self.now.rows ≤ row)) }
     {
         if self.zone <= row && row < self.zone + self.rows {
             Some((row - self.zone) * self.columns)

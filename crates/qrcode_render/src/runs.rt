@@ -67,7 +67,8 @@ fn put_run(
     requires room { length line.old.text + 80 ≤ line.old.room }
     ensures appends { line.new ≡ record line.old {
       text = line.old.text ++ run_text
-          (record { column = column; row = row }) (record { left = left; top = top; width = width });
+          (record { column = column; row = row })
+          (record { left = left; top = top; width = width });
     } }
     ensures is_text { ∥ IsUtf8 (run_text (record { column = column; row = row })
         (record { left = left; top = top; width = width })) ∥₁ }
@@ -180,7 +181,8 @@ fn push_row(
     requires room { length line.old.text + 80 ≤ line.old.room }
     requires is_text { ∥ IsUtf8 line.old.text ∥₁ }
     ensures appends { OnOk result (string_bytes text.new ++ line.new.text
-        ≡ string_bytes text.old ++ line.old.text ++ path_from pen.old (runs_from top 0 0 marks.now)) }
+        ≡ string_bytes text.old ++ line.old.text
+        ++ path_from pen.old (runs_from top 0 0 marks.now)) }
     ensures pen { OnOk result (pen.new ≡ pen_after pen.old (runs_from top 0 0 marks.now)) }
     ensures room { OnOk result (length line.new.text + 80 ≤ line.new.room) }
     ensures is_text { OnOk result (∥ IsUtf8 line.new.text ∥₁) }
