@@ -1,4 +1,4 @@
-//! Data drawn column by column, up to 32 rows of a pair of columns at once.
+//! Data drawn column by column in packed words, up to 32 rows of a pair of columns at once.
 
 ghost use Rattle.std.specs.Prelude.{◌≡◌, ℕ, ◌+◌, ◌-◌, ◌*◌, ◌%◌, ◌==◌, ◌<◌, ◌≤◌, ◌^◌, length, map, slice_index_or, IsTrue};
 ghost use Rattle.qrcode_types.specs.Versions.{is_valid, side};
@@ -37,8 +37,8 @@ fn next_pair<R: PackedRow>(
         (is_set (R.bits left)) (is_set (R.bits right))
         (is_set (R.bits result.left)) (is_set (R.bits result.right)) width }
     ensures next { result.next ≡ from
-        + passing (is_free_step (number % 2 == 0) width (is_set (R.bits left)) (is_set (R.bits right)))
-        (2 * width) }
+        + passing (is_free_step (number % 2 == 0) width
+        (is_set (R.bits left)) (is_set (R.bits right))) (2 * width) }
     ensures new_left_fits { FitsWidth width (R.bits result.left) }
     ensures new_right_fits { FitsWidth width (R.bits result.right) }
 {

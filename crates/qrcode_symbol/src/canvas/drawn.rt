@@ -84,7 +84,8 @@ fn add_rows<R: PackedRow>(rows: &mut [R], others: &[R])
     requires { length others.now ≡ length rows.old }
     ensures length { length rows.new ≡ length rows.old }
     ensures added { (y : ℕ) → y < length rows.old → slice_index_or (map R.bits rows.new) y 0
-        ≡ bit_or (slice_index_or (map R.bits rows.old) y 0) (slice_index_or (map R.bits others.now) y 0) }
+        ≡ bit_or (slice_index_or (map R.bits rows.old) y 0)
+        (slice_index_or (map R.bits others.now) y 0) }
 {
     for y in 0..rows.len() {
         rows[y] = rows[y].or(others[y]);

@@ -27,8 +27,8 @@ pub(super) struct Placed {
 // run is placed again.
 fn bits_at_places(stream: Stream<'_>, from: usize, mask: u64) -> Placed
     requires { from < 2 ^ 32 }
-    ensures shown { (j : ℕ) → j < 64 → nth_bit result.word j
-        ≡ (nth_bit mask j && stream_bit stream.entry.bytes.now (from + passing (nth_bit mask) j)) }
+    ensures shown { (j : ℕ) → j < 64 → nth_bit result.word j ≡ (nth_bit mask j
+        && stream_bit stream.entry.bytes.now (from + passing (nth_bit mask) j)) }
     ensures next { result.next ≡ from + passing (nth_bit mask) 64 }
 {
     let mut word = 0;
@@ -48,9 +48,11 @@ fn bits_at_places(stream: Stream<'_>, from: usize, mask: u64) -> Placed
 #[inline(always)]
 pub(super) fn bits_in_rows(stream: Stream<'_>, from: usize, free: Rows) -> Placed
     requires { from < 2 ^ 32 }
-    ensures shown { (j : ℕ) → j < 64 → nth_bit result.word j
-        ≡ (is_free_step true 32 (is_set free.left) (is_set free.right) j && stream_bit stream.entry.bytes.now (from + passing (is_free_step true 32 (is_set free.left) (is_set free.right)) j)) }
-    ensures next { result.next ≡ from + passing (is_free_step true 32 (is_set free.left) (is_set free.right)) 64 }
+    ensures shown { let is_met = is_free_step true 32 (is_set free.left) (is_set free.right) in
+        (j : ℕ) → j < 64 → nth_bit result.word j
+        ≡ (is_met j && stream_bit stream.entry.bytes.now (from + passing is_met j)) }
+    ensures next { result.next ≡ from
+        + passing (is_free_step true 32 (is_set free.left) (is_set free.right)) 64 }
 {
     if free.left & free.right == u32::MAX {
         return Placed {
