@@ -7,3 +7,4 @@ pub mod Lines
 pub mod Runs
 pub mod Squares
 pub mod Sums
+mod StripSums

@@ -2,5 +2,7 @@
 #![tactic(auto)]
 
 mod columns;
+mod line_costs;
 pub mod penalty;
 mod rows;
+mod strips;

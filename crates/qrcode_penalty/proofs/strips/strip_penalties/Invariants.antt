@@ -1,0 +1,11 @@
+use Rattle.std.proofs.Common.{◌≡◌, ◌≤◌, ◌*◌, map}
+use Rattle.qrcode_packed.specs.Rows.{dark_in}
+use Rattle.qrcode_penalty.specs.Penalty.{sum_below, line_penalty}
+use Rattle.qrcode_penalty.specs.Padding.{strip_lines}
+use Rattle.qrcode_penalty.proofs.strips.strip_penalties.Given as goal
+
+abbrev pub invariant-loop-k : goal.invariant-loop-k
+invariant-loop-k g l = record {
+  value : l.total ≡ sum_below l.k (λ k. sum_below g.L.PackedRow.room (λ x. line_penalty l.width (dark_in (strip_lines l.width (map g.L.PackedRow.bits l.strips) k) x)));
+  at_most : l.total ≤ 1710000 * l.k;
+}
