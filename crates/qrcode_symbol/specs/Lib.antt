@@ -9,5 +9,6 @@ pub mod Masking
 pub mod Patterned
 pub mod Penalties
 pub mod Reading
+pub mod StripLines
 pub mod Symbol
 pub mod Unpacking
