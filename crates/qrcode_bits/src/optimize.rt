@@ -11,6 +11,7 @@ pub use self::groups::Optimizer;
 pub use self::least::{least_segments, least_segments_in};
 pub use self::mode_sets::Modes;
 pub use self::runs::Parser;
+pub(crate) use self::single::single_mode;
 use qrcode_types::characters::character_count;
 use qrcode_types::types::{Mode, Version};
 

@@ -1,6 +1,6 @@
 //! The segments of a cut in a list of bits.
 
-ghost use Rattle.std.specs.Prelude.{◌≡◌, ◌+◌, ◌≤◌, ◌++◌, length, IfErr, OnOk, IsOkUnless, IsTrue};
+ghost use Rattle.std.specs.Prelude.{◌≡◌, ◌+◌, ◌≤◌, [], ◌∷◌, ◌++◌, length, IfErr, OnOk, IsOkUnless, IsTrue};
 ghost use Rattle.qrcode_types.specs.Versions.{has_level, capacity};
 ghost use Rattle.qrcode_types.specs.declared.types.QrError.TheVariants.{OutOfMemory};
 ghost use Rattle.qrcode_bits.specs.Cuts.{IsCut};
@@ -11,7 +11,7 @@ ghost use Rattle.qrcode_bits.specs.Written.{pieces_of, written, terminated};
 
 use super::Bits;
 use crate::optimize::Segment;
-use qrcode_types::types::{EcLevel, QrResult};
+use qrcode_types::types::{EcLevel, Mode, QrResult};
 
 impl Bits {
     /// Appends data in the segments of a cut, for which the symbol has room, and ends the list: as
@@ -49,5 +49,22 @@ impl Bits {
         ensures version { self.new.version ≡ self.old.version }
     {
         self.push_segments(bytes, segments.into_iter())
+    }
+
+    // Appends all bytes in one mode, as `push_all` does with one segment.
+    pub(super) fn push_whole(&mut self, bytes: &[u8], mode: Mode) -> QrResult<()>
+        ensures pushed { OnOk result (PushesAll self.old.version self.old.bits bytes.now
+            (record { mode = mode; begin = 0; end = length bytes.now } ∷ []) self.new.bits) }
+        ensures stopped { IfErr result (λ e. StopsAt self.old.version self.old.bits
+            (pieces_of bytes.now (record { mode = mode; begin = 0; end = length bytes.now } ∷ []))
+            e self.new.bits) }
+        ensures version { self.new.version ≡ self.old.version }
+    {
+        let whole = Segment {
+            mode,
+            begin: 0,
+            end: bytes.len(),
+        };
+        self.push_segment(bytes, whole)
     }
 }

@@ -11,7 +11,7 @@ ghost use Rattle.qrcode_bits.specs.Optimal.{PushesLeast, StopsInLeast};
 ghost use Rattle.qrcode_bits.specs.declared.optimize.Segment.{Segment};
 
 use super::Bits;
-use crate::optimize::least_segments;
+use crate::optimize::{Modes, least_segments, single_mode};
 use qrcode_types::types::{QrError, QrResult};
 
 /// No more bytes of data than this are taken.
@@ -55,6 +55,9 @@ impl Bits {
         let version = self.version();
         if bytes.len() > DATA_LIMIT {
             return Err(QrError::DataTooLong);
+        }
+        if let Some(mode) = single_mode(bytes, version, Modes::ALL) {
+            return self.push_whole(bytes, mode);
         }
         let segments = least_segments(self.stream.allocator(), bytes, version)?;
         self.push_all(bytes, segments)

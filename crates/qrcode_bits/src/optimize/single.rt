@@ -14,7 +14,7 @@ const STRETCH: usize = 64;
 
 /// The mode in which one segment of all the data is a least cut, where no search is needed to tell: digits alone, or
 /// bytes of a version of Normal with few letters and digits together.
-pub(super) fn single_mode(bytes: &[u8], version: Version, modes: Modes) -> Option<Mode>
+pub(crate) fn single_mode(bytes: &[u8], version: Version, modes: Modes) -> Option<Mode>
     requires valid { IsTrue (is_valid version) }
     ensures { IfSome result (λ mode. IsLeastCutIn modes version bytes.now
         (record { mode = mode; begin = 0; end = length bytes.now } ∷ [])) }
