@@ -1,5 +1,5 @@
 -- The words of the code for columns, place by place.
-use Rattle.std.proofs.Common.{◌≡◌, ℕ, zero, suc, ◌+◌, ◌-◌, ◌*◌, ◌^◌, ◌<◌, ◌≤◌, Bool, true, false, not, ◌&&◌, ◌||◌, List, refl, ap, ap₂, sym, ◌∙◌, arith, count_ones, if◌then◌else◌, bit_and, bit_or, bit_xor, add_assoc, slice_index_or, length, le-leb}
+use Rattle.std.proofs.Common.{◌≡◌, ℕ, zero, suc, ◌+◌, ◌-◌, ◌*◌, ◌≤◌, Bool, true, false, not, ◌&&◌, ◌||◌, List, refl, ap, ap₂, sym, ◌∙◌, arith, count_ones, if◌then◌else◌, bit_and, bit_or, bit_xor, add_assoc, slice_index_or, length, le-leb}
 use Rattle.std.proofs.lemmas.List.{get_or_past}
 use Rattle.std.proofs.lemmas.Nat.{or_lt}
 use Rattle.qrcode_packed.specs.Rows.{is_set}
@@ -162,6 +162,10 @@ form_by rows y x a b p q =
 abbrev form_of : List ℕ → ℕ → ℕ → Bool
 form_of rows y x = (((((dark_in rows x y && dark_in rows x (y + 2)) && (dark_in rows x (y + 4) && dark_in rows x (y + 6))) && dark_in rows x (y + 3)) && not (dark_in rows x (y + 1) || dark_in rows x (y + 5))) && not (four (pad (dark_in rows x)) y && four (pad (dark_in rows x)) (y + 11)))
 
+beside : (rows : List ℕ) (y x n : ℕ) → FitsWidth n (row rows y) → n ≤ x → dark_in rows x y ≡ false
+unfolding dark_in
+beside rows y x n within h = has_above (row rows y) n x within h
+
 column_form_at : (rows : List ℕ) (x y : ℕ) → is_set (column_forms rows y) x ≡ form_of rows y x
 unfolding dark_in
 column_form_at rows x y = simp (has_without, has_and, has_or, padded_at)
@@ -173,13 +177,16 @@ outside_light rows x n e j h = ap (λ a. is_set a x) (get_or_past rows j 0 (omeg
 pub lone_form_at : (rows : List ℕ) (x y n : ℕ) → length rows ≡ n → is_set (column_forms rows y) x ≡ is_lone_form n (dark_in rows x) y
 lone_form_at rows x y n e = column_form_at rows x y ∙ finder_at (dark_in rows x) n (outside_light rows x n e) y
 
--- what the forms cost that a word shows
-pub lone_forms_of : (rows : List ℕ) (y n m a : ℕ) → ((x : ℕ) → is_set a x ≡ is_lone_form n (dark_in rows x) y) → a < 2 ^ m → 40 * count_ones a ≡ sum_below m (λ x. finder_penalty_at n (dark_in rows x) y)
+pub lone_form_beside : (rows : List ℕ) (x y n : ℕ) → FitsWidth n (row rows y) → n ≤ x → is_set (column_forms rows y) x ≡ false
+lone_form_beside rows x y n within h =
+    column_form_at rows x y ∙ ap (λ t. (((((t && dark_in rows x (y + 2)) && (dark_in rows x (y + 4) && dark_in rows x (y + 6))) && dark_in rows x (y + 3)) && not (dark_in rows x (y + 1) || dark_in rows x (y + 5))) && not (four (pad (dark_in rows x)) y && four (pad (dark_in rows x)) (y + 11)))) (beside rows y x n within h)
+
+pub column_finders_of : (rows : List ℕ) (y n : ℕ) → length rows ≡ n → FitsWidth n (row rows y) → 40 * count_ones (column_forms rows y) ≡ sum_below n (λ x. finder_penalty_at n (dark_in rows x) y)
 unfolding finder_penalty_at
-lone_forms_of rows y n m a shown fits =
-    weigh_places 40 a (λ x. is_lone_form n (dark_in rows x) y) m
-    (λ x h. shown x)
-    (λ x h. has_above a m x fits h)
+column_finders_of rows y n e within =
+    weigh_places 40 (column_forms rows y) (λ x. is_lone_form n (dark_in rows x) y) n
+    (λ x h. lone_form_at rows x y n e)
+    (λ x h. lone_form_beside rows x y n within h)
 
 -- two forms do not begin in places next to each other
 or_none : (b : Bool) → count_if (b || false) 40 ≡ count_if b 40 + 0
@@ -202,15 +209,16 @@ two_apart n line i =
     (not (line (i + 1 + 1))) (line (i + 1 + 2)) (line (i + 1 + 3)) (line (i + 1 + 4)) (not (line (i + 1 + 5))) (line (i + 1 + 6)) (is_light_from n line (i + 1 - 4) (i + 1 - (i + 1 - 4)) || is_light_from n line (i + 1 + 7) 4)
 
 -- the forms of two rows, counted as one
-pub two_forms_of : (rows : List ℕ) (y n m a b : ℕ) →
-    ((x : ℕ) → is_set a x ≡ is_lone_form n (dark_in rows x) y) → ((x : ℕ) → is_set b x ≡ is_lone_form n (dark_in rows x) (y + 1)) → bit_or a b < 2 ^ m →
-    40 * count_ones (bit_or a b) ≡ sum_below m (λ x. finder_penalty_at n (dark_in rows x) y) + sum_below m (λ x. finder_penalty_at n (dark_in rows x) (y + 1))
-two_forms_of rows y n m a b at_a at_b fits =
-    weigh_places 40 (bit_or a b) (λ x. is_lone_form n (dark_in rows x) y || is_lone_form n (dark_in rows x) (y + 1)) m
+pub two_forms_of : (rows : List ℕ) (y n a b : ℕ) →
+    ((x : ℕ) → is_set a x ≡ is_lone_form n (dark_in rows x) y) → ((x : ℕ) → n ≤ x → is_set a x ≡ false) →
+    ((x : ℕ) → is_set b x ≡ is_lone_form n (dark_in rows x) (y + 1)) → ((x : ℕ) → n ≤ x → is_set b x ≡ false) →
+    40 * count_ones (bit_or a b) ≡ sum_below n (λ x. finder_penalty_at n (dark_in rows x) y) + sum_below n (λ x. finder_penalty_at n (dark_in rows x) (y + 1))
+two_forms_of rows y n a b at_a beside_a at_b beside_b =
+    weigh_places 40 (bit_or a b) (λ x. is_lone_form n (dark_in rows x) y || is_lone_form n (dark_in rows x) (y + 1)) n
     (λ x h. has_or a b x ∙ ap₂ (λ (p q : Bool). p || q) (at_a x) (at_b x))
-    (λ x h. has_above (bit_or a b) m x fits h)
-    ∙ sum_same _ (λ x. finder_penalty_at n (dark_in rows x) y + finder_penalty_at n (dark_in rows x) (y + 1)) m (λ x h. two_apart n (dark_in rows x) y)
-    ∙ sum_plus (λ x. finder_penalty_at n (dark_in rows x) y) (λ x. finder_penalty_at n (dark_in rows x) (y + 1)) m
+    (λ x h. has_or a b x ∙ ap₂ (λ (p q : Bool). p || q) (beside_a x h) (beside_b x h))
+    ∙ sum_same _ (λ x. finder_penalty_at n (dark_in rows x) y + finder_penalty_at n (dark_in rows x) (y + 1)) n (λ x h. two_apart n (dark_in rows x) y)
+    ∙ sum_plus (λ x. finder_penalty_at n (dark_in rows x) y) (λ x. finder_penalty_at n (dark_in rows x) (y + 1)) n
 
 -- the blocks of two rows, by what the rows are
 pub blocks_shown : (rows : List ℕ) (y n m a b v : ℕ) → m ≡ n → a ≡ row rows y → b ≡ row rows (y + 1) →

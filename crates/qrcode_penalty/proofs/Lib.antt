@@ -7,4 +7,3 @@ pub mod Lines
 pub mod Runs
 pub mod Squares
 pub mod Sums
-mod StripSums

@@ -82,10 +82,6 @@ pub none_left : (a b : ℕ) → a ≡ 0 → count_ones (without a b) ≡ 0
 unfolding ones
 none_left a b h = ap (λ n. count_ones (without n b)) h
 
--- nothing is left of nothing
-pub nothing_without : (a b : ℕ) → a ≡ 0 → without a b ≡ 0
-nothing_without a b h = ap (λ n. without n b) h
-
 spread_at : (a k : ℕ) → not (is_set (spread a) k) ≡ is_run (is_set a) k 5
 spread_at a k = simp (has_or, has_xor, has_shr, add_assoc) (run_test (is_set a k) (is_set a (k + 1)) (is_set a (k + 2)) (is_set a (k + 3)) (is_set a (k + 4)))
 

@@ -1,5 +1,5 @@
 -- Rows of a square with light rows before them, forms with light modules beside them, and blocks by two rows.
-use Rattle.std.specs.Prelude.{ℕ, ◌+◌, ◌-◌, ◌*◌, nat_le, ◌&&◌, ◌||◌, Bool, List, slice_index_or, take, drop, bit_or, if◌then◌else◌}
+use Rattle.std.specs.Prelude.{ℕ, ◌+◌, ◌-◌, nat_le, ◌&&◌, ◌||◌, Bool, List, slice_index_or, bit_or, if◌then◌else◌}
 use Rattle.qrcode_penalty.specs.Penalty.{count_if, same, is_finder_like, is_light_from}
 
 -- the k-th row, with four rows without dark modules before the first
@@ -17,7 +17,3 @@ is_lone_form n line i = is_finder_like line i && (is_light_from n line (i - 4) (
 -- 3 where the two by two modules from x on of two rows are of one colour
 abbrev pub block_penalty_in : (ℕ → Bool) → (ℕ → Bool) → ℕ → ℕ
 block_penalty_in upper lower x = count_if (same (upper x) (upper (x + 1)) && same (upper x) (lower x) && same (upper x) (lower (x + 1))) 3
-
--- the lines of the k-th strip of a square
-abbrev pub strip_lines : ℕ → List ℕ → ℕ → List ℕ
-strip_lines width lines k = take width (drop (k * width) lines)

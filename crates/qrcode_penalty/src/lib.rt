@@ -2,7 +2,5 @@
 #![tactic(auto)]
 
 mod columns;
-mod line_costs;
 pub mod penalty;
 mod rows;
-mod strips;

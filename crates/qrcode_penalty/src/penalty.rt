@@ -5,9 +5,8 @@ ghost use Rattle.qrcode_packed.specs.Rows.{is_set, dark_in, inside, Shows};
 ghost use Rattle.qrcode_penalty.specs.Penalty.{normal_penalty, micro_penalty};
 
 pub use crate::columns::last_column;
-use crate::line_costs::column_penalties;
+use crate::columns::{column_finder_penalties, column_run_penalties};
 use crate::rows::{dark_count, light_count, row_and_block_penalties};
-pub use crate::strips::penalty_of_strips;
 use qrcode_packed::row::PackedRow;
 use qrcode_packed::square::PackedSquare;
 
@@ -21,11 +20,11 @@ pub fn normal_penalty<R: PackedRow>(square: &PackedSquare<'_, R>) -> u32
         → result ≡ normal_penalty square.now.width (inside square.now.width dark) }
 {
     let width = square.width();
-    // Behind the columns there are light ones, of which each costs 2 less than it has places.
-    let light = (R::size() - width) * (width - 2);
-    let columns = column_penalties(&square.lines()).saturating_sub(light);
+    let counted = row_and_block_penalties(square)
+        + column_run_penalties(square)
+        + column_finder_penalties(square);
     let balance = (200 * dark_count(square) / (width * width)).abs_diff(100);
-    row_and_block_penalties(square) + columns + balance
+    counted + balance
 }
 
 /// The penalty of a square of a Micro version by its dark modules (ISO/IEC 18004:2006, 6.8.3).

@@ -36,5 +36,3 @@ pub mod TwoRows
 pub mod Walk
 pub mod WalkSteps
 pub mod WrittenModules
-mod StripLines
-mod DecidedStrips

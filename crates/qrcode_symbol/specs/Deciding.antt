@@ -1,10 +1,8 @@
 -- Bits that no mask decides, written into packed rows.
-use Rattle.std.specs.Prelude.{◌≡◌, ◌≢◌, ℕ, ◌+◌, ◌-◌, ◌*◌, ◌<◌, ◌≤◌, ◌==◌, ◌&&◌, ◌||◌, not, nat_lt, nat_le, Bool, List, slice_index_or, Option, unwrap_or, if◌then◌else◌}
+use Rattle.std.specs.Prelude.{◌≡◌, ◌≢◌, ℕ, ◌+◌, ◌<◌, ◌≤◌, Bool, List, unwrap_or}
 use Rattle.qrcode_types.specs.declared.types.Version.{Version}
 use Rattle.qrcode_packed.specs.Rows.{is_set, dark_in}
 use Rattle.qrcode_places.specs.Patterns.{decided_bit}
-use Rattle.qrcode_places.specs.Masks.{turns, turned_if}
-use Rattle.qrcode_places.specs.declared.masks.MaskPattern.{MaskPattern}
 
 -- a row with so many bits from a place on
 pub record IsPutInRow (row first count : ℕ) (bit : ℕ → Bool) (new : ℕ) : Type 0 where
@@ -22,29 +20,3 @@ pub record IsPutInColumn (rows : List ℕ) (first count : ℕ) (bit : ℕ → Bo
 -- rows with the bits that no mask decides
 abbrev pub AreDecided : Version → ℕ → List ℕ → List ℕ → Type 0
 AreDecided v word rows new = (x y : ℕ) → dark_in new x y ≡ unwrap_or (decided_bit v word x y) (dark_in rows x y)
-
--- lines with so many bits of two others in their places 8 and 72, from a line on
-pub record IsPutInLines (lines : List ℕ) (first count upper lower : ℕ) (new : List ℕ) : Type 0 where
-  pub low : (y : ℕ) → first ≤ y → y < first + count → dark_in new 8 y ≡ is_set upper y
-  pub high : (y : ℕ) → first ≤ y → y < first + count → dark_in new 72 y ≡ is_set lower y
-  pub others : (x y : ℕ) → x < 128 → x ≢ 8 → x ≢ 72 → dark_in new x y ≡ dark_in lines x y
-  pub before : (x y : ℕ) → y < first → dark_in new x y ≡ dark_in lines x y
-  pub behind : (x y : ℕ) → first + count ≤ y → dark_in new x y ≡ dark_in lines x y
-
--- a place of row 8 of Normal that no mask decides, or of column 8
-abbrev pub is_format_place : ℕ → ℕ → Bool
-is_format_place w i = nat_lt i 6 || ((nat_le 7 i && nat_lt i 9) || (nat_le (w - 8) i && nat_lt i w))
-
--- the k-th strip as the lines from one on, by what its places show along the rows and along the columns, each by the
--- number of the line that they lie in and by the other one
-pub record AreLanes (width k first : ℕ) (lines : List ℕ) (rows columns : ℕ → ℕ → Bool) : Type 0 where
-  pub across : (x y : ℕ) → x < 64 → y < width → dark_in lines x (first + y) ≡ rows (64 * k + x) y
-  pub down : (x y : ℕ) → x < 64 → y < width → dark_in lines (64 + x) (first + y) ≡ columns (64 * k + x) y
-
--- a place of a square with the places turned that a mask turns
-abbrev pub turned_place : MaskPattern → (ℕ → ℕ → Bool) → (ℕ → ℕ → Bool) → ℕ → ℕ → Bool
-turned_place mask dark free x y = turned_if (free x y && turns mask x y) (dark x y)
-
--- a test in which line 8 has the bits of a row at some places
-abbrev pub with_line_eight : ℕ → ℕ → (ℕ → ℕ → Bool) → ℕ → ℕ → Bool
-with_line_eight places bits test x y = if y == 8 then ((test x y && not (is_set places x)) || is_set bits x) else test x y

@@ -9,6 +9,5 @@ pub mod Masking
 pub mod Patterned
 pub mod Penalties
 pub mod Reading
-pub mod StripLines
 pub mod Symbol
 pub mod Unpacking

@@ -29,7 +29,6 @@ mod edges;
 mod filling;
 mod layer;
 mod masked_rows;
-mod masked_strips;
 mod masking;
 mod packing;
 mod pattern_places;

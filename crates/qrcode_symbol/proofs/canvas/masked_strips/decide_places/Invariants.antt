@@ -1,9 +1,0 @@
-use Rattle.std.proofs.Common.{map}
-use Rattle.qrcode_symbol.specs.Deciding.{IsPutInLines}
-use Rattle.qrcode_symbol.proofs.canvas.masked_strips.decide_places.Given as goal
-
-abbrev pub invariant-loop-i : goal.invariant-loop-i
-invariant-loop-i g l =
-    let bits = g.L.PackedRow.bits in
-    let row = g.R.PackedRow.bits in
-    IsPutInLines (map bits l.initial.lines) l.first l.i (row l.fn.decided.down) (row l.fn.decided.across) (map bits l.lines)
