@@ -1,8 +1,7 @@
 -- Bits in groups with as many zeros behind each, joined to groups of twice as many and parted again.
-use Rattle.std.proofs.Common.{◌≡◌, ℕ, zero, suc, ◌+◌, ◌-◌, ◌*◌, ◌/◌, ◌%◌, ◌^◌, ◌<◌, ◌≤◌, Bool, true, false, ◌&&◌, ◌||◌, refl, ap, ap₂, subst, sym, ◌∙◌, arith, inl, inr, bit_and, bit_or, nat_lt}
+use Rattle.std.proofs.Common.{◌≡◌, ℕ, zero, suc, ◌+◌, ◌-◌, ◌*◌, ◌/◌, ◌%◌, ◌^◌, ◌<◌, ◌≤◌, Bool, true, false, ◌&&◌, ◌||◌, refl, ap, subst, sym, ◌∙◌, arith, inl, inr, bit_and, bit_or, nat_lt}
 use Rattle.std.proofs.lemmas.Bool.{cases_lt}
 use Rattle.std.proofs.lemmas.Nat.{mod-mul-add}
-use borrow.Author.Tests.{ltb-true}
 use Rattle.std.proofs.lemmas.Bool.Decides.{nat_tests}
 use Rattle.qrcode_packed.specs.Rows.{is_set}
 use Rattle.qrcode_packed.proofs.Places.{has_and, has_or, has_shr, has_shl, has_shl_below, has_above}
@@ -64,11 +63,11 @@ masks = (
   ),
 )
 
-or_l : (a b c : Bool) → b ≡ c → a ≡ false → (a || b) ≡ c
+pub or_l : (a b c : Bool) → b ≡ c → a ≡ false → (a || b) ≡ c
 or_l true b c e z = cc
 or_l false b c e z = e
 
-or_r : (a b c : Bool) → a ≡ c → b ≡ false → (a || b) ≡ c
+pub or_r : (a b c : Bool) → a ≡ c → b ≡ false → (a || b) ≡ c
 or_r true b c e z = e
 or_r false b c e z = z ∙ e
 
@@ -81,10 +80,10 @@ and_true true b c e t = t ∙ e
 and_true false b c e t = e
 
 -- a bit of what a mask has
-masked_out : (a m k : ℕ) → is_set m k ≡ false → is_set (bit_and a m) k ≡ false
+pub masked_out : (a m k : ℕ) → is_set m k ≡ false → is_set (bit_and a m) k ≡ false
 masked_out a m k e = has_and a m k ∙ and_false (is_set a k) (is_set m k) e
 
-masked_in : (a m k : ℕ) (c : Bool) → is_set a k ≡ c → is_set m k ≡ true → is_set (bit_and a m) k ≡ c
+pub masked_in : (a m k : ℕ) (c : Bool) → is_set a k ≡ c → is_set m k ≡ true → is_set (bit_and a m) k ≡ c
 masked_in a m k c e t = has_and a m k ∙ and_true (is_set a k) (is_set m k) c e t
 
 -- the even bits, by themselves
@@ -139,7 +138,7 @@ grouped_line x small = record {
 }
 
 -- a bit of a word that is shifted up
-shifted_up : (x g k : ℕ) (c : Bool) → k < 64 → (g ≤ k → is_set x (k - g) ≡ c) → (k < g → c ≡ false) → is_set (x * 2 ^ g % 2 ^ 64) k ≡ c
+pub shifted_up : (x g k : ℕ) (c : Bool) → k < 64 → (g ≤ k → is_set x (k - g) ≡ c) → (k < g → c ≡ false) → is_set (x * 2 ^ g % 2 ^ 64) k ≡ c
 shifted_up x g k c l above below = has_mod (x * 2 ^ g) 64 k l ∙ elim (cases_lt k g) [
   | inl h ↦ has_shl_below x g k h ∙ sym (below h)
   | inr h ↦ let e : k ≡ k - g + g = omega arith in ap (is_set (x * 2 ^ g)) e ∙ has_shl x g (k - g) ∙ above h

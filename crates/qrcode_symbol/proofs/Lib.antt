@@ -1,3 +1,4 @@
+pub mod Backwards
 pub mod BestMasks
 pub mod BitLists
 pub mod Blocks

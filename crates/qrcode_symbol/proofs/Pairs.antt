@@ -1,11 +1,10 @@
 -- The bits of a pair of columns, 32 rows after 32 rows.
 use Rattle.std.proofs.Common.{◌≡◌, ℕ, zero, suc, ◌+◌, ◌-◌, ◌*◌, ◌/◌, ◌%◌, ◌^◌, ◌<◌, ◌≤◌, ◌≢◌, Bool, true, false, ◌&&◌, ◌||◌, not, nat_eq, ◌==◌, if◌then◌else◌, List, [], ◌∷◌, length, get_or, set, refl, ap, ap₂, sym, subst, ◌∙◌, arith, inl, inr, bit_or}
-use Rattle.std.specs.Int.{reverse_bits_onto, bit_at}
 use Rattle.std.proofs.lemmas.Bool.{cases_lt, ne_eqb}
 use Rattle.std.proofs.lemmas.List.{get_or-set_other, get_or-set_same}
 use Rattle.qrcode_packed.specs.Rows.{is_set}
 use Rattle.qrcode_packed.proofs.Places.{below_from_places, has_or, has_mod, has_low, has_high, has_shr, has_shl, has_shl_below, has_above, has_zero}
-use Rattle.qrcode_symbol.proofs.Passing.{passing_add, passing_same, passing_none, passing_le}
+use Rattle.qrcode_symbol.proofs.Passing.{passing_add, passing_same, passing_none}
 use Rattle.qrcode_symbol.specs.Columns.{nth_bit, stream_bit, passing, row_at, is_set_in, is_free_step, HoldBits}
 
 -- the steps of a row
@@ -31,26 +30,6 @@ pub row_small : (up : Bool) (w s : ℕ) → s < w → row_at up w s < w
 row_small true w s h = omega arith
 row_small false w s h = h
 
--- a number with its bits in the other order
-pub reversed_at : (k n a i : ℕ) → (i < k → is_set (reverse_bits_onto k n a) i ≡ is_set n (k - 1 - i)) × (k ≤ i → is_set (reverse_bits_onto k n a) i ≡ is_set a (i - k))
-unfolding reverse_bits_onto
-reversed_at zero n a i = ((λ h. absurd (omega arith)), (λ h. let e : i ≡ i - 0 = omega arith in ap (is_set a) e))
-reversed_at (suc k) n a i =
-    let next = reversed_at k (n / 2) (a * 2 + n % 2) i in (
-      (λ h. elim (cases_lt i k) [
-        | inl l ↦
-            let e : k - 1 - i + 1 ≡ suc k - 1 - i = omega arith in
-            next.0 l ∙ has_shr n 1 (k - 1 - i) ∙ ap (is_set n) e
-        | inr l ↦
-            let z : i - k ≡ 0 = omega arith in
-            let e : suc k - 1 - i ≡ 0 = omega arith in
-            next.1 l ∙ ap (is_set (a * 2 + n % 2)) z ∙ has_low a (n % 2) 1 0 (omega arith) ∙ has_mod n 1 0 (omega arith) ∙ ap (is_set n) (sym e)
-      ]),
-      (λ h.
-          let e : i - k ≡ 1 + (i - suc k) = omega arith in
-          next.1 (omega arith) ∙ ap (is_set (a * 2 + n % 2)) e ∙ has_high a (n % 2) 1 (i - suc k) (omega arith)),
-    )
-
 or_no : (a b c : Bool) → a ≡ c → b ≡ false → (a || b) ≡ c
 or_no true b c e z = e
 or_no false b c e z = z ∙ e
@@ -70,17 +49,17 @@ high_half a b k small h =
     ∙ or_no (is_set (a * 2 ^ 32 % 2 ^ 64) (k + 32)) (is_set b (k + 32)) (is_set a k) (has_mod (a * 2 ^ 32) 64 (k + 32) (omega arith) ∙ has_shl a 32 k) (has_above b 32 (k + 32) small (omega arith))
 
 -- both parts in the other order
-pub reversed_low : (a b k : ℕ) → b < 2 ^ 32 → k < 32 → is_set (reverse_bits_onto 64 (bit_or (a * 2 ^ 32 % 2 ^ 64) b) 0 % 4294967296) k ≡ is_set a (31 - k)
-reversed_low a b k small h =
+pub reversed_low : (a b y k : ℕ) → b < 2 ^ 32 → ((i : ℕ) → i < 64 → is_set y i ≡ is_set (bit_or (a * 2 ^ 32 % 2 ^ 64) b) (63 - i)) → k < 32 → is_set (y % 4294967296) k ≡ is_set a (31 - k)
+reversed_low a b y k small turned h =
     let word = bit_or (a * 2 ^ 32 % 2 ^ 64) b in
-    let e : 64 - 1 - k ≡ 31 - k + 32 = omega arith in
-    has_mod (reverse_bits_onto 64 word 0) 32 k h ∙ (reversed_at 64 word 0 k).0 (omega arith) ∙ ap (is_set word) e ∙ high_half a b (31 - k) small (omega arith)
+    let e : 63 - k ≡ 31 - k + 32 = omega arith in
+    has_mod y 32 k h ∙ turned k (omega arith) ∙ ap (is_set word) e ∙ high_half a b (31 - k) small (omega arith)
 
-pub reversed_high : (a b k : ℕ) → k < 32 → is_set (reverse_bits_onto 64 (bit_or (a * 2 ^ 32 % 2 ^ 64) b) 0 / 2 ^ 32) k ≡ is_set b (31 - k)
-reversed_high a b k h =
+pub reversed_high : (a b y k : ℕ) → ((i : ℕ) → i < 64 → is_set y i ≡ is_set (bit_or (a * 2 ^ 32 % 2 ^ 64) b) (63 - i)) → k < 32 → is_set (y / 2 ^ 32) k ≡ is_set b (31 - k)
+reversed_high a b y k turned h =
     let word = bit_or (a * 2 ^ 32 % 2 ^ 64) b in
-    let e : 64 - 1 - (k + 32) ≡ 31 - k = omega arith in
-    has_shr (reverse_bits_onto 64 word 0) 32 k ∙ (reversed_at 64 word 0 (k + 32)).0 (omega arith) ∙ ap (is_set word) e ∙ low_half a b (31 - k) (omega arith)
+    let e : 63 - (k + 32) ≡ 31 - k = omega arith in
+    has_shr y 32 k ∙ turned (k + 32) (omega arith) ∙ ap (is_set word) e ∙ low_half a b (31 - k) (omega arith)
 
 turned_back : (up : Bool) (s : ℕ) → s < 32 → row_at up 32 (31 - row_at up 32 s) ≡ 31 - s
 turned_back true s h = omega arith

@@ -5,7 +5,7 @@ ghost use Rattle.qrcode_packed.specs.Rows.{is_set, FitsWidth};
 ghost use Rattle.qrcode_symbol.specs.Columns.{HoldBits, is_free_step, is_set_in, passing, row_at};
 
 use super::placing::{Rows, bits_in_rows};
-use super::shuffling::pressed;
+use super::shuffling::{backwards, pressed};
 use super::stream::Stream;
 use qrcode_packed::row::PackedRow;
 use qrcode_packed::turn::word_of;
@@ -16,7 +16,7 @@ fn reversed(rows: Rows) -> Rows
     ensures left { (k : ℕ) → k < 32 → is_set result.left k ≡ is_set rows.left (31 - k) }
     ensures right { (k : ℕ) → k < 32 → is_set result.right k ≡ is_set rows.right (31 - k) }
 {
-    let both = (((rows.left as u64) << 32) | rows.right as u64).reverse_bits();
+    let both = backwards(((rows.left as u64) << 32) | rows.right as u64);
     Rows {
         left: (both % (1 << 32)) as u32,
         right: (both >> 32) as u32,

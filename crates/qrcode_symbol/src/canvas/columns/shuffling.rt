@@ -1,6 +1,6 @@
-//! Bits that stand one beside the other, and the same at even places.
+//! Bits that stand one beside the other, the same at even places, and the same in the other order.
 
-ghost use Rattle.std.specs.Prelude.{◌≡◌, ℕ, ◌+◌, ◌*◌, ◌/◌, ◌%◌, ◌^◌, ◌<◌, false, bit_and, bit_or};
+ghost use Rattle.std.specs.Prelude.{◌≡◌, ℕ, ◌+◌, ◌-◌, ◌*◌, ◌/◌, ◌%◌, ◌^◌, ◌<◌, false, bit_and, bit_or};
 ghost use Rattle.qrcode_packed.specs.Rows.{is_set};
 
 // Groups of bits, each moved down to the one before it; the mask has what stays.
@@ -45,4 +45,27 @@ pub(super) fn spread(line: u32) -> u64
     let fours = parted(eights, 4, 0x0f0f_0f0f_0f0f_0f0f);
     let twos = parted(fours, 2, 0x3333_3333_3333_3333);
     parted(twos, 1, 0x5555_5555_5555_5555)
+}
+
+// Groups of bits, each in the place of its neighbour; the mask has the first of each two.
+#[inline(always)]
+fn exchanged(word: u64, across: u32, mask: u64) -> u64
+    requires { across < 64 }
+    ensures { result ≡ bit_or (bit_and word mask * 2 ^ across % 2 ^ 64)
+        (bit_and (word / 2 ^ across) mask) }
+{
+    ((word & mask) << across) | ((word >> across) & mask)
+}
+
+/// The bits of a number in the other order: in groups of twice as many at each step.
+#[inline(always)]
+pub(super) fn backwards(word: u64) -> u64
+    ensures { (k : ℕ) → k < 64 → is_set result k ≡ is_set word (63 - k) }
+{
+    let twos = exchanged(word, 1, 0x5555_5555_5555_5555);
+    let fours = exchanged(twos, 2, 0x3333_3333_3333_3333);
+    let eights = exchanged(fours, 4, 0x0f0f_0f0f_0f0f_0f0f);
+    let sixteens = exchanged(eights, 8, 0x00ff_00ff_00ff_00ff);
+    let halves = exchanged(sixteens, 16, 0x0000_ffff_0000_ffff);
+    exchanged(halves, 32, 0x0000_0000_ffff_ffff)
 }
