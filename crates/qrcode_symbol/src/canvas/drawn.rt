@@ -53,8 +53,8 @@ fn pattern_rows<R: PackedRow>(
     Ok(())
 }
 
-// Writes the data of a symbol as rows. It is drawn column by column; the free places of a symbol are the same with rows
-// and columns exchanged.
+// Writes the data of a symbol as rows. It is drawn in columns, for which there is room; the free places of a symbol are
+// the same with rows and columns exchanged.
 fn data_rows<R: PackedRow>(
     alloc: Global,
     version: Version,
@@ -62,11 +62,13 @@ fn data_rows<R: PackedRow>(
     bytes: &[u8],
     ec: &[u8],
     free: &[R],
+    columns: &mut [R],
     rows: &mut [R],
 ) -> QrResult<()>
     requires valid { IsTrue (is_valid version) }
     requires room { side version + 3 ≤ R.room }
     requires free { AreFreeColumns version (map R.bits free.now) }
+    requires columns_length { length columns.old ≡ side version }
     requires length { length rows.old ≡ side version }
     ensures shown { OnOk result (AreDataRows version
         (drawn_modules version ec_level bytes.now ec.now) (map R.bits rows.new)) }
@@ -76,9 +78,8 @@ fn data_rows<R: PackedRow>(
 {
     let width = side(version);
     let stream = stream_of(alloc, version, ec_level, bytes, ec)?;
-    let mut columns = vec![in alloc; R::first(0); width]?;
-    draw_columns(version, Stream::new(&stream), free, &mut columns);
-    turn(&PackedSquare::new(&columns, width as u32), rows);
+    draw_columns(version, Stream::new(&stream), free, columns);
+    turn(&PackedSquare::new(columns, width as u32), rows);
     Ok(())
 }
 
@@ -111,14 +112,15 @@ fn drawn_by<R: PackedRow>(
     ensures memory { IsOkUnless result OutOfMemory }
 {
     let width = side(version);
-    let mut patterns = vec![in alloc; R::first(0); width]?;
-    let mut free = vec![in alloc; R::first(0); width]?;
-    pattern_rows(alloc, version, &mut patterns, &mut free)?;
-    let mut dark = vec![in alloc; R::first(0); width]?;
-    data_rows(alloc, version, ec_level, bytes, ec, &free, &mut dark)?;
-    add_rows(&mut dark, &patterns);
-    drop(patterns);
-    best_from(alloc, version, ec_level, &dark, &free)
+    let mut rows = vec![in alloc; R::first(0); 2 * width]?;
+    let (dark, free) = rows.split_at_mut(width);
+    pattern_rows(alloc, version, dark, free)?;
+    let mut others = vec![in alloc; R::first(0); 2 * width]?;
+    let (columns, data) = others.split_at_mut(width);
+    data_rows(alloc, version, ec_level, bytes, ec, free, columns, data)?;
+    add_rows(dark, data);
+    drop(others);
+    best_from(alloc, version, ec_level, dark, free)
 }
 
 // The same, drawn in bytes module by module: a column of Micro is too short for a word to take much of it at once.

@@ -1,5 +1,5 @@
 use Rattle.std.proofs.Common.{◌≡◌, ℕ, ◌-◌, ◌*◌, ◌<◌, List, length, map, slice_index_or, ap, sym, subst, ◌∙◌, arith}
-use Rattle.std.proofs.lemmas.List.{take_at, length-map}
+use Rattle.std.proofs.lemmas.List.{length-map}
 use Rattle.qrcode_types.specs.Versions.{side}
 use Rattle.qrcode_packed.specs.Rows.{dark_in}
 use Rattle.qrcode_symbol.specs.Columns.{AreFilled}
@@ -12,9 +12,8 @@ new-requires-2 g c =
     let room = g.R.PackedRow.room in
     let v = c.args.version in
     let columns = c.draw_columns.new.columns in
-    let is : c.deref-2.result.now ≡ columns = c.deref-2.ensures.value ∙ take_at columns _ _ (omega arith) in
-    let size : length (map bits columns) ≡ side v = length-map columns bits ∙ omega (arith, ap length c.deref_mut.ensures.value, c.in_ok-columns.ensures.len) in
-    rw is (square_at room (side v) c.side-width.result (map bits columns) (sym c.side-width.ensures.value) (square_of room (side v) (map bits columns) (omega arith) c.requires.room size c.draw_columns.ensures.fits))
+    let size : length (map bits columns) ≡ side v = length-map columns bits ∙ omega arith in
+    square_at room (side v) c.side-width.result (map bits columns) (sym c.side-width.ensures.value) (square_of room (side v) (map bits columns) (omega arith) c.requires.room size c.draw_columns.ensures.fits)
 
 pub returns-clause-shown : goal.returns-clause-shown
 returns-clause-shown g c =
@@ -22,8 +21,7 @@ returns-clause-shown g c =
     let v = c.args.version in
     let columns = c.draw_columns.new.columns in
     let stream = c.in_ok-stream.stream.items in
-    let is : c.deref-2.result.now ≡ columns = c.deref-2.ensures.value ∙ take_at columns _ _ (omega arith) in
-    let rows : c.new-2.result.rows ≡ map bits columns = ap (λ r. r.rows) c.new-2.ensures ∙ ap (map bits) is in
+    let rows : c.new-2.result.rows ≡ map bits columns = ap (λ r. r.rows) c.new-2.ensures in
     let width : c.new-2.result.width ≡ side v = ap (λ r. r.width) c.new-2.ensures ∙ c.side-width.ensures.value in
     let filled = subst (λ (s : List ℕ). AreFilled v s (map bits columns) (side v * (side v - 1))) (c.new.ensures ∙ c.deref.ensures.value) c.draw_columns.ensures.filled in
     rows_show v c.args.ec_level c.args.bytes.now c.args.ec.now stream (map bits columns) (map bits c.turn.new.turned) c.requires.valid c.in_ok-stream.ensures.value filled c.draw_columns.ensures.left_out
