@@ -1,9 +1,12 @@
--- The bits of a number in the other order, in groups of twice as many at each step.
-use Rattle.std.proofs.Common.{◌≡◌, ℕ, zero, suc, ◌+◌, ◌-◌, ◌*◌, ◌/◌, ◌%◌, ◌^◌, ◌<◌, ◌≤◌, false, refl, ap, subst, sym, ◌∙◌, arith, inl, inr, bit_and, bit_or}
+-- The bits of a number in the other order: those of each byte in groups of twice as many at each step, and the bytes.
+use Rattle.std.proofs.Common.{◌≡◌, ℕ, zero, suc, ◌+◌, ◌-◌, ◌*◌, ◌/◌, ◌%◌, ◌^◌, ◌<◌, ◌≤◌, false, get_or, refl, ap, ap₂, subst, sym, ◌∙◌, arith, inl, inr, bit_and, bit_or}
+use Rattle.std.specs.Int.{w64, to_le_bytes, swap_bytes}
 use Rattle.std.proofs.lemmas.Bool.{cases_lt}
 use Rattle.qrcode_packed.specs.Rows.{is_set}
-use Rattle.qrcode_packed.proofs.Places.{has_or, has_shr}
+use Rattle.qrcode_packed.proofs.Places.{has_mod, has_or, has_shr}
 use Rattle.qrcode_symbol.proofs.Groups.{IsMask, masks, masked_in, masked_out, or_l, or_r, shifted_up}
+use Rattle.qrcode_symbol.proofs.Streams.{word_bits}
+use Rattle.qrcode_symbol.specs.Columns.{stream_bit}
 
 -- the bits of each of n groups of g in the other order
 pub record IsBackwards (g n x y : ℕ) : Type 0 where
@@ -60,22 +63,51 @@ twice_as_many g n x y m mask inside here = record {
 single : (x : ℕ) → IsBackwards 1 64 x x
 single x = record { shown = λ q r few h. let e : 1 * q + r ≡ 1 * q + (1 - 1 - r) = omega arith in ap (is_set x) e }
 
--- all 64 bits in the other order
-pub backwards_is : (x a b d e f y : ℕ)
+-- eight bits of a number
+part : (n p r : ℕ) → r < 8 → is_set (n / 2 ^ p % 256) r ≡ is_set n (p + r)
+part n p r h = let e : r + p ≡ p + r = omega arith in has_mod (n / 2 ^ p) 8 r h ∙ has_shr n p r ∙ ap (is_set n) e
+
+byte_bits : (n q r : ℕ) → q < 8 → r < 8 → is_set (get_or (to_le_bytes w64 n) q 0) r ≡ is_set n (8 * q + r)
+byte_bits n zero r h l = let e : r ≡ 8 * 0 + r = omega arith in has_mod n 8 r l ∙ ap (is_set n) e
+byte_bits n (suc zero) r h l = part n 8 r l
+byte_bits n (suc (suc zero)) r h l = part n 16 r l
+byte_bits n (suc (suc (suc zero))) r h l = part n 24 r l
+byte_bits n (suc (suc (suc (suc zero)))) r h l = part n 32 r l
+byte_bits n (suc (suc (suc (suc (suc zero))))) r h l = part n 40 r l
+byte_bits n (suc (suc (suc (suc (suc (suc zero)))))) r h l = part n 48 r l
+byte_bits n (suc (suc (suc (suc (suc (suc (suc zero))))))) r h l = part n 56 r l
+byte_bits n (suc (suc (suc (suc (suc (suc (suc (suc q)))))))) r h l = absurd (omega arith)
+
+bytes_small : (n i : ℕ) → get_or (to_le_bytes w64 n) i 0 < 256
+bytes_small n zero = omega arith
+bytes_small n (suc zero) = omega arith
+bytes_small n (suc (suc zero)) = omega arith
+bytes_small n (suc (suc (suc zero))) = omega arith
+bytes_small n (suc (suc (suc (suc zero)))) = omega arith
+bytes_small n (suc (suc (suc (suc (suc zero))))) = omega arith
+bytes_small n (suc (suc (suc (suc (suc (suc zero)))))) = omega arith
+bytes_small n (suc (suc (suc (suc (suc (suc (suc zero))))))) = omega arith
+bytes_small n (suc (suc (suc (suc (suc (suc (suc (suc i)))))))) = omega arith
+
+-- bytes in the other order
+swapped : (n y k : ℕ) → y ≡ swap_bytes w64 n → k < 64 → is_set y k ≡ is_set n (8 * (7 - k / 8) + k % 8)
+unfolding stream_bit is_set
+swapped n y k e h =
+    let s = to_le_bytes w64 n in
+    let j : 63 - (63 - k) ≡ k = omega arith in
+    let q : (8 * 0 + (63 - k)) / 8 ≡ 7 - k / 8 = omega arith in
+    let r : 7 - (8 * 0 + (63 - k)) % 8 ≡ k % 8 = omega arith in
+    ap (is_set y) (sym j) ∙ word_bits s 0 y (bytes_small n) e (63 - k) (omega arith) ∙ ap₂ (λ (a b : ℕ). is_set (get_or s a 0) b) q r ∙ byte_bits n (7 - k / 8) (k % 8) (omega arith) (omega arith)
+
+-- all 64 bits in the other order: those of each byte, and the bytes
+pub backwards_is : (x a b d y : ℕ)
     → a ≡ bit_or (bit_and x 0x5555555555555555 * 2 ^ 1 % 2 ^ 64) (bit_and (x / 2 ^ 1) 0x5555555555555555)
     → b ≡ bit_or (bit_and a 0x3333333333333333 * 2 ^ 2 % 2 ^ 64) (bit_and (a / 2 ^ 2) 0x3333333333333333)
     → d ≡ bit_or (bit_and b 0x0f0f0f0f0f0f0f0f * 2 ^ 4 % 2 ^ 64) (bit_and (b / 2 ^ 4) 0x0f0f0f0f0f0f0f0f)
-    → e ≡ bit_or (bit_and d 0x00ff00ff00ff00ff * 2 ^ 8 % 2 ^ 64) (bit_and (d / 2 ^ 8) 0x00ff00ff00ff00ff)
-    → f ≡ bit_or (bit_and e 0x0000ffff0000ffff * 2 ^ 16 % 2 ^ 64) (bit_and (e / 2 ^ 16) 0x0000ffff0000ffff)
-    → y ≡ bit_or (bit_and f 0x00000000ffffffff * 2 ^ 32 % 2 ^ 64) (bit_and (f / 2 ^ 32) 0x00000000ffffffff)
-    → (k : ℕ) → k < 64 → is_set y k ≡ is_set x (63 - k)
-backwards_is x a b d e f y ea eb ed ee ef ey k h =
+    → y ≡ swap_bytes w64 d → (k : ℕ) → k < 64 → is_set y k ≡ is_set x (63 - k)
+backwards_is x a b d y ea eb ed ey k h =
     let twos = subst (λ n. IsBackwards 2 32 x n) (sym ea) (twice_as_many 1 32 x x 0x5555555555555555 masks.0 (λ q l. omega arith) (single x)) in
     let fours = subst (λ n. IsBackwards 4 16 x n) (sym eb) (twice_as_many 2 16 x a 0x3333333333333333 masks.1.0 (λ q l. omega arith) twos) in
     let eights = subst (λ n. IsBackwards 8 8 x n) (sym ed) (twice_as_many 4 8 x b 0x0f0f0f0f0f0f0f0f masks.1.1.0 (λ q l. omega arith) fours) in
-    let sixteens = subst (λ n. IsBackwards 16 4 x n) (sym ee) (twice_as_many 8 4 x d 0x00ff00ff00ff00ff masks.1.1.1.0 (λ q l. omega arith) eights) in
-    let halves = subst (λ n. IsBackwards 32 2 x n) (sym ef) (twice_as_many 16 2 x e 0x0000ffff0000ffff masks.1.1.1.1.0 (λ q l. omega arith) sixteens) in
-    let whole = subst (λ n. IsBackwards 64 1 x n) (sym ey) (twice_as_many 32 1 x f 0x00000000ffffffff masks.1.1.1.1.1 (λ q l. omega arith) halves) in
-    let at : 64 * 0 + k ≡ k = omega arith in
-    let there : 64 * 0 + (64 - 1 - k) ≡ 63 - k = omega arith in
-    ap (is_set y) (sym at) ∙ whole.shown 0 k (omega arith) h ∙ ap (is_set x) there
+    let there : 8 * (7 - k / 8) + (8 - 1 - k % 8) ≡ 63 - k = omega arith in
+    swapped d y k ey h ∙ eights.shown (7 - k / 8) (k % 8) (omega arith) (omega arith) ∙ ap (is_set x) there

@@ -82,7 +82,7 @@ number_eight : (a b c d e f g h : ℕ) → number 0 (a ∷ b ∷ c ∷ d ∷ e �
 unfolding number
 number_eight a b c d e f g h = omega arith
 
-word_bits : (s : List ℕ) (at w : ℕ) → ((i : ℕ) → get_or s i 0 < 256) → w ≡ from_be_bytes w64 (eight s at) → (j : ℕ) → j < 64 → nth_bit w j ≡ stream_bit s (8 * at + j)
+pub word_bits : (s : List ℕ) (at w : ℕ) → ((i : ℕ) → get_or s i 0 < 256) → w ≡ from_be_bytes w64 (eight s at) → (j : ℕ) → j < 64 → nth_bit w j ≡ stream_bit s (8 * at + j)
 word_bits s at w small is j h =
     let bytes = get_or s at 0 ∷ get_or s (at + 1) 0 ∷ get_or s (at + 2) 0 ∷ get_or s (at + 3) 0 ∷ get_or s (at + 4) 0 ∷ get_or s (at + 5) 0 ∷ get_or s (at + 6) 0 ∷ get_or s (at + 7) 0 ∷ [] in
     let e : w ≡ number 0 bytes = is ∙ sym (number_eight (get_or s at 0) (get_or s (at + 1) 0) (get_or s (at + 2) 0) (get_or s (at + 3) 0) (get_or s (at + 4) 0) (get_or s (at + 5) 0) (get_or s (at + 6) 0) (get_or s (at + 7) 0)) in

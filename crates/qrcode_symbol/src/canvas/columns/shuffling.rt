@@ -57,7 +57,7 @@ fn exchanged(word: u64, across: u32, mask: u64) -> u64
     ((word & mask) << across) | ((word >> across) & mask)
 }
 
-/// The bits of a number in the other order: in groups of twice as many at each step.
+/// The bits of a number in the other order: those of each byte in groups of twice as many at each step, and the bytes.
 #[inline(always)]
 pub(super) fn backwards(word: u64) -> u64
     ensures { (k : ℕ) → k < 64 → is_set result k ≡ is_set word (63 - k) }
@@ -65,7 +65,5 @@ pub(super) fn backwards(word: u64) -> u64
     let twos = exchanged(word, 1, 0x5555_5555_5555_5555);
     let fours = exchanged(twos, 2, 0x3333_3333_3333_3333);
     let eights = exchanged(fours, 4, 0x0f0f_0f0f_0f0f_0f0f);
-    let sixteens = exchanged(eights, 8, 0x00ff_00ff_00ff_00ff);
-    let halves = exchanged(sixteens, 16, 0x0000_ffff_0000_ffff);
-    exchanged(halves, 32, 0x0000_0000_ffff_ffff)
+    eights.swap_bytes()
 }
