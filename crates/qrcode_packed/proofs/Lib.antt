@@ -1,5 +1,4 @@
 pub mod PairWords
 pub mod Places
 pub mod RowLists
-pub mod Turned
 pub mod Words

@@ -4,4 +4,3 @@
 pub mod pair;
 pub mod row;
 pub mod square;
-pub mod turn;
