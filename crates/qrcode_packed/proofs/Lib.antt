@@ -1,4 +1,5 @@
 pub mod PairWords
 pub mod Places
 pub mod RowLists
+pub mod Turned
 pub mod Words

@@ -33,3 +33,12 @@ inside width dark x y = nat_lt x width && nat_lt y width && dark x y
 -- the rows show which places of a square pass a test
 abbrev pub Shows : ℕ → List ℕ → (ℕ → ℕ → Bool) → Type 0
 Shows width rows dark = (x y : ℕ) → x < width → y < width → dark x y ≡ dark_in rows x y
+
+-- the number whose bit y tells whether the place in column x and row y is set, for as many rows as columns
+pub record IsColumn (width : ℕ) (rows : List ℕ) (x column : ℕ) : Type 0 where
+  pub shown : (y : ℕ) → y < width → is_set column y ≡ dark_in rows x y
+  pub fits : FitsWidth width column
+
+-- the first columns of a square, as rows
+abbrev pub AreColumns : ℕ → List ℕ → ℕ → List ℕ → Type 0
+AreColumns width rows count turned = (x : ℕ) → x < count → IsColumn width rows x (slice_index_or turned x 0)

@@ -4,3 +4,4 @@
 pub mod pair;
 pub mod row;
 pub mod square;
+pub mod turn;

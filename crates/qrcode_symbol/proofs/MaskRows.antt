@@ -26,17 +26,17 @@ and_r : (a b : Bool) → (a && b) ≡ true → b ≡ true
 and_r true b e = e
 and_r false b e = cc
 
-same_true : (a b : Bool) → same a b ≡ true → a ≡ b
+pub same_true : (a b : Bool) → same a b ≡ true → a ≡ b
 same_true true b e = sym e
 same_true false true e = cc
 same_true false false e = refl
 
 -- whether a test holds below n
-pub all_below : ℕ → (ℕ → Bool) → Bool
+unfoldable pub all_below : ℕ → (ℕ → Bool) → Bool
 all_below zero f = true
 all_below (suc n) f = all_below n f && f n
 
-all_holds : (n : ℕ) (f : ℕ → Bool) → all_below n f ≡ true → (k : ℕ) → k < n → f k ≡ true
+pub all_holds : (n : ℕ) (f : ℕ → Bool) → all_below n f ≡ true → (k : ℕ) → k < n → f k ≡ true
 unfolding all_below
 all_holds zero f e k h = absurd (omega arith)
 all_holds (suc n) f e k h = below_more (λ k. f k ≡ true) n (λ k l. all_holds n f (and_l (all_below n f) (f n) e) k l) (and_r (all_below n f) (f n) e) k (omega arith)

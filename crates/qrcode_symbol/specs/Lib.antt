@@ -1,6 +1,7 @@
 pub mod Canvas
 pub mod Carried
 pub mod Cells
+pub mod Columns
 pub mod Deciding
 pub mod Filling
 pub mod Lending

@@ -22,7 +22,9 @@ pub use qrcode_places::masks::MaskPattern;
 mod applying;
 mod cells;
 mod codewords;
+mod columns;
 mod drawing;
+mod drawn;
 mod edges;
 mod filling;
 mod layer;
@@ -33,7 +35,6 @@ mod pattern_places;
 mod unpacking;
 
 use applying::mask_modules;
-use cells::empty_bytes;
 use codewords::Codewords;
 use drawing::{draw_patterns, is_functional_place};
 use filling::draw_codewords;
@@ -349,12 +350,7 @@ pub fn drawn_colors(
     // They carry the codewords, under each mask.
     ensures carries { AreCarried version ec_level bytes.now ec.now }
 {
-    let width = side(version);
-    let mut cells = empty_bytes(alloc, width * width)?;
-    draw_patterns(version, &mut cells);
-    let codewords = Codewords::new(version, ec_level, bytes, ec);
-    draw_codewords(version, codewords, &mut cells);
-    masking::into_best(alloc, version, ec_level, cells)
+    drawn::symbol_colors(alloc, version, ec_level, bytes, ec)
 }
 
 /// Whether a functional pattern or the format word has the module in column `x` and row `y` of a

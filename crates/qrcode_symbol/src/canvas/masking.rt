@@ -105,8 +105,8 @@ fn best_of<R: PackedRow, S: FromColor>(
     Ok(answer)
 }
 
-// The square under the first mask of least penalty, by the rows of what is dark and of what a mask may turn.
-fn best_from<R: PackedRow, S: FromColor>(
+/// The square under the first mask of least penalty, by the rows of what is dark and of what a mask may turn.
+pub(super) fn best_from<R: PackedRow, S: FromColor>(
     alloc: Global,
     version: Version,
     ec_level: EcLevel,

@@ -1,0 +1,21 @@
+use Rattle.std.proofs.Common.{◌≡◌, ℕ, ◌==◌, ◌^◌, List, eqb, bit_and, length, map, take, replicate, slice_index_or, ap, sym, ◌∙◌, arith, w8}
+use Rattle.std.specs.Simd.Lanes.{mask_l}
+use Rattle.std.proofs.lemmas.List.{length-map, take_all, get_or-map}
+use Rattle.std.proofs.lemmas.Simd.{bitmask_splat, zip2_splat}
+use lib.Lanes.{zip2}
+use Rattle.qrcode_packed.specs.Rows.{is_set}
+use Rattle.qrcode_packed.proofs.Turned.{mask_at, tested}
+use Rattle.qrcode_packed.proofs.turn.set_in.Goals as goal
+
+pub returns : goal.returns
+returns c = λ y i h e.
+    let bytes = c.args.bytes.now in
+    let bit = c.args.bit in
+    let whole : take 64 bytes ≡ bytes = take_all 64 bytes (omega (arith, c.requires)) in
+    let ones : zip2 bit_and (take 64 bytes) (replicate 64 bit) ≡ map (λ n. bit_and n bit) bytes = ap (λ (l : List ℕ). zip2 bit_and l (replicate 64 bit)) whole ∙ zip2_splat bit_and bytes 64 bit c.requires in
+    let tests = λ (n : ℕ). n == bit in
+    ap (λ n. is_set n y) (bitmask_splat w8 eqb (zip2 bit_and (take 64 bytes) (replicate 64 bit)) 64 bit (ap length ones ∙ length-map bytes (λ n. bit_and n bit) ∙ c.requires) (omega arith))
+    ∙ ap (λ (l : List ℕ). is_set (mask_l (map tests l)) y) ones
+    ∙ mask_at tests (map (λ n. bit_and n bit) bytes) y (omega (arith, h, length-map bytes (λ n. bit_and n bit), c.requires))
+    ∙ ap tests (get_or-map (λ n. bit_and n bit) bytes y 0 0 (omega (arith, h, c.requires)))
+    ∙ ap (λ (b : ℕ). bit_and (slice_index_or bytes y 0) b == b) e ∙ tested (slice_index_or bytes y 0) i

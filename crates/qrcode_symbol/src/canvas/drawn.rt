@@ -1,0 +1,171 @@
+//! Symbols drawn for the constructors: those of Normal in packed rows, the data column by column and the patterns added;
+//! those of Micro in bytes.
+
+ghost use Rattle.std.specs.Prelude.{◌≡◌, ℕ, ◌+◌, ◌*◌, ◌<◌, ◌≤◌, ◌^◌, bit_or, length, map, slice_index_or, IsTrue, IfOk, IsOkUnless, OnOk};
+ghost use Rattle.qrcode_types.specs.Versions.{is_valid, has_level, side};
+ghost use Rattle.qrcode_types.specs.declared.types.QrError.TheVariants.{OutOfMemory};
+ghost use Rattle.qrcode_packed.specs.Rows.{IsSquare};
+ghost use Rattle.qrcode_symbol.specs.Canvas.{blank, drawn_bits, with_patterns};
+ghost use Rattle.qrcode_symbol.specs.Carried.{drawn_modules};
+ghost use Rattle.qrcode_symbol.specs.Columns.{AreFreeColumns, AreDataRows};
+ghost use Rattle.qrcode_symbol.specs.Masking.{is_dark_module, is_free, ShowsModules, AreBestColors};
+
+use super::cells::empty_bytes;
+use super::codewords::Codewords;
+use super::columns::draw_columns;
+use super::columns::stream::{Stream, stream_of};
+use super::drawing::draw_patterns;
+use super::filling::draw_codewords;
+use super::masking::{best_from, into_best};
+use super::packing::pack_rows;
+use super::side;
+use qrcode_packed::row::{PackedRow, Row128, Row192};
+use qrcode_packed::square::PackedSquare;
+use qrcode_packed::turn::turn;
+use qrcode_types::types::{Color, EcLevel, QrResult, Version};
+use std::alloc::Global;
+
+// Packs the functional patterns of a new canvas: which modules are dark, and which a mask may turn.
+fn pattern_rows<R: PackedRow>(
+    alloc: Global,
+    version: Version,
+    dark: &mut [R],
+    free: &mut [R],
+) -> QrResult<()>
+    requires valid { IsTrue (is_valid version) }
+    requires room { side version + 3 ≤ R.room }
+    requires dark_length { length dark.old ≡ side version }
+    requires free_length { length free.old ≡ side version }
+    ensures dark { OnOk result (ShowsModules is_dark_module (side version)
+        (with_patterns version (blank version)) (map R.bits dark.new)) }
+    ensures free { OnOk result (ShowsModules is_free (side version)
+        (with_patterns version (blank version)) (map R.bits free.new)) }
+    ensures dark_square { OnOk result (IsSquare R.room
+        (record { width = side version; rows = map R.bits dark.new })) }
+    ensures free_square { OnOk result (IsSquare R.room
+        (record { width = side version; rows = map R.bits free.new })) }
+    ensures memory { IsOkUnless result OutOfMemory }
+{
+    let width = side(version);
+    let mut cells = empty_bytes(alloc, width * width)?;
+    draw_patterns(version, &mut cells);
+    pack_rows(width, &cells, dark, free);
+    Ok(())
+}
+
+// Writes the data of a symbol as rows. It is drawn in columns, for which there is room; the free places of a symbol are
+// the same with rows and columns exchanged.
+fn data_rows<R: PackedRow>(
+    alloc: Global,
+    version: Version,
+    ec_level: EcLevel,
+    bytes: &[u8],
+    ec: &[u8],
+    free: &[R],
+    columns: &mut [R],
+    rows: &mut [R],
+) -> QrResult<()>
+    requires valid { IsTrue (is_valid version) }
+    requires room { side version + 3 ≤ R.room }
+    requires free { AreFreeColumns version (map R.bits free.now) }
+    requires columns_length { length columns.old ≡ side version }
+    requires length { length rows.old ≡ side version }
+    ensures shown { OnOk result (AreDataRows version
+        (drawn_modules version ec_level bytes.now ec.now) (map R.bits rows.new)) }
+    ensures square { OnOk result (IsSquare R.room
+        (record { width = side version; rows = map R.bits rows.new })) }
+    ensures memory { IsOkUnless result OutOfMemory }
+{
+    let width = side(version);
+    let stream = stream_of(alloc, version, ec_level, bytes, ec)?;
+    draw_columns(version, Stream::new(&stream), free, columns);
+    turn(&PackedSquare::new(columns, width as u32), rows);
+    Ok(())
+}
+
+// Adds the places of other rows to rows.
+fn add_rows<R: PackedRow>(rows: &mut [R], others: &[R])
+    requires { length others.now ≡ length rows.old }
+    ensures length { length rows.new ≡ length rows.old }
+    ensures added { (y : ℕ) → y < length rows.old → slice_index_or (map R.bits rows.new) y 0
+        ≡ bit_or (slice_index_or (map R.bits rows.old) y 0)
+        (slice_index_or (map R.bits others.now) y 0) }
+{
+    for y in 0..rows.len() {
+        rows[y] = rows[y].or(others[y]);
+    }
+}
+
+// The colours of the symbol of codewords under the first mask of least penalty, drawn in rows of one kind.
+fn drawn_by<R: PackedRow>(
+    alloc: Global,
+    version: Version,
+    ec_level: EcLevel,
+    bytes: &[u8],
+    ec: &[u8],
+) -> QrResult<Vec<Color>>
+    requires exists { IsTrue (has_level version ec_level) }
+    requires valid { IsTrue (is_valid version) }
+    requires room { side version + 3 ≤ R.room }
+    ensures best { IfOk result (λ colors. AreBestColors version ec_level
+        (drawn_modules version ec_level bytes.now ec.now) colors.items) }
+    ensures memory { IsOkUnless result OutOfMemory }
+{
+    let width = side(version);
+    let mut rows = vec![in alloc; R::first(0); 2 * width]?;
+    let (dark, free) = rows.split_at_mut(width);
+    pattern_rows(alloc, version, dark, free)?;
+    let mut others = vec![in alloc; R::first(0); 2 * width]?;
+    let (columns, data) = others.split_at_mut(width);
+    data_rows(alloc, version, ec_level, bytes, ec, free, columns, data)?;
+    add_rows(dark, data);
+    drop(others);
+    best_from(alloc, version, ec_level, dark, free)
+}
+
+// The same, drawn in bytes module by module: a column of Micro is too short for a word to take much of it at once.
+fn drawn_in_bytes(
+    alloc: Global,
+    version: Version,
+    ec_level: EcLevel,
+    bytes: &[u8],
+    ec: &[u8],
+) -> QrResult<Vec<Color>>
+    requires { IsTrue (has_level version ec_level) }
+    ensures best { IfOk result (λ colors. AreBestColors version ec_level
+        (drawn_modules version ec_level bytes.now ec.now) colors.items) }
+    ensures memory { IsOkUnless result OutOfMemory }
+{
+    let width = side(version);
+    let mut cells = empty_bytes(alloc, width * width)?;
+    draw_patterns(version, &mut cells);
+    let codewords = Codewords::new(version, ec_level, bytes, ec);
+    draw_codewords(version, codewords, &mut cells);
+    into_best(alloc, version, ec_level, cells)
+}
+
+/// The same: of Normal in the narrowest rows that hold the symbol.
+pub(super) fn symbol_colors(
+    alloc: Global,
+    version: Version,
+    ec_level: EcLevel,
+    bytes: &[u8],
+    ec: &[u8],
+) -> QrResult<Vec<Color>>
+    requires { IsTrue (has_level version ec_level) }
+    ensures best { IfOk result (λ colors. AreBestColors version ec_level
+        (drawn_modules version ec_level bytes.now ec.now) colors.items) }
+    ensures memory { IsOkUnless result OutOfMemory }
+{
+    if let Version::Micro(_) = version {
+        return drawn_in_bytes(alloc, version, ec_level, bytes, ec);
+    }
+    let width = side(version);
+    if width + 3 <= 64 {
+        return drawn_by::<u64>(alloc, version, ec_level, bytes, ec);
+    }
+    if width + 3 <= 128 {
+        return drawn_by::<Row128>(alloc, version, ec_level, bytes, ec);
+    }
+    drawn_by::<Row192>(alloc, version, ec_level, bytes, ec)
+}
