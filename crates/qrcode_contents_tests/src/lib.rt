@@ -1,12 +1,8 @@
-//! The tests of contents: printed examples of the formats, elements of GS1 and their symbols, data in several symbols, and refusals by field and cause.
+//! The tests of contents: symbols of contents and of elements of GS1, data in several symbols, and how refusals are told.
 #![tactic(auto)]
 
 #[cfg(test)]
-mod accounts;
-#[cfg(test)]
 mod contents;
-#[cfg(test)]
-mod elements;
 #[cfg(test)]
 mod joining;
 #[cfg(test)]
@@ -15,5 +11,3 @@ mod refusals;
 mod sequences;
 #[cfg(test)]
 mod symbols;
-#[cfg(test)]
-mod values;

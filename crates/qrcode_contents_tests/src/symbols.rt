@@ -1,13 +1,16 @@
 //! The symbols of elements.
 
-use crate::elements::{Pair, elements_of};
 use qrcode::QrCode;
 use qrcode::bits::Bits;
 use qrcode::types::{EcLevel, QrError, QrResult, Version};
+use qrcode_gs1::elements::Element;
 use qrcode_gs1::errors::{Cause, Gs1Error};
 use qrcode_gs1_symbol::errors::{SymbolError, SymbolResult};
 use qrcode_gs1_symbol::{are_apart, for_application, gs1};
 use std::alloc::Global;
+
+// An identifier and a value.
+type Pair = (&'static str, &'static str);
 
 const EXAMPLE: [Pair; 4] = [
     ("01", "04912345123459"),
@@ -38,6 +41,15 @@ static ROWS: [Row; 14] = [
     (&[("10", "ABC%"), ("21", "DEF")], EcLevel::Q, 1),
     (&[("10", "ABCDEFGH"), ("21", "%IJKLMNOP")], EcLevel::L, 1),
 ];
+
+// Elements of identifiers and values.
+fn elements_of(alloc: Global, pairs: &[Pair]) -> Result<Vec<Element<'static>>, Gs1Error> {
+    let mut elements = Vec::new(alloc);
+    for (identifier, value) in pairs {
+        elements.push(Element { identifier, value })?;
+    }
+    Ok(elements)
+}
 
 // The symbol of elements.
 fn symbol(alloc: Global, pairs: &[Pair], ec_level: EcLevel) -> SymbolResult<QrCode> {
