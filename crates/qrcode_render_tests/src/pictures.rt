@@ -70,6 +70,15 @@ pub struct File(pub &'static [u8], pub &'static [u8]);
 #[derive(Clone, Copy)]
 pub struct Pixels(pub (u32, u32), pub usize, pub &'static [u8]);
 
+// The modules of a quiet zone, as it is first set.
+fn first_of(zone: Zone) -> u8 {
+    match zone {
+        Zone::On(first) | Zone::Off(first) | Zone::OffAfter(first) | Zone::Changed(first, _) => {
+            first
+        }
+    }
+}
+
 // A renderer of modules behind a quiet zone.
 fn renderer<'a, P: Pixel>(symbol: &'a [Color], side: usize, zone: Zone) -> Renderer<'a, P>
     requires square { length symbol.now ≡ side * side }
@@ -77,20 +86,15 @@ fn renderer<'a, P: Pixel>(symbol: &'a [Color], side: usize, zone: Zone) -> Rende
     ensures count { result.count ≡ side }
     ensures at_most { side_of result ≤ 687 }
 {
-    let (Zone::On(first) | Zone::Off(first) | Zone::OffAfter(first) | Zone::Changed(first, _)) =
-        zone;
-    let mut renderer = Renderer::<P>::new(symbol, side, u32::from(first));
-    match zone {
-        Zone::Off(_) => {
-            renderer.quiet_zone(false);
-        }
-        Zone::Changed(_, zone) => {
-            renderer
-                .quiet_zone_modules(u32::from(zone))
-                .quiet_zone(false)
-                .quiet_zone(true);
-        }
-        Zone::On(_) | Zone::OffAfter(_) => {}
+    let mut renderer = Renderer::<P>::new(symbol, side, u32::from(first_of(zone)));
+    if let Zone::Off(_) = zone {
+        renderer.quiet_zone(false);
+    }
+    if let Zone::Changed(_, zone) = zone {
+        renderer
+            .quiet_zone_modules(u32::from(zone))
+            .quiet_zone(false)
+            .quiet_zone(true);
     }
     renderer
 }
