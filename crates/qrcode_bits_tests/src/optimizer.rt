@@ -1,6 +1,7 @@
 //! Data cut into segments, and segments joined.
 
-ghost use Rattle.std.specs.Prelude.{◌≡◌};
+ghost use Rattle.std.specs.Prelude.{◌≡◌, ◌≤◌, length, IsTrue};
+ghost use Rattle.qrcode_types.specs.Versions.{is_valid};
 ghost use Rattle.qrcode_bits.specs.Groups.{IsJoinable};
 
 use crate::cuts::{MICRO_3, NORMAL_1, total};
@@ -84,6 +85,21 @@ static CUTS: [Row; 28] = [
     (b"1a", Micro(2), Least, Err(UnsupportedCharacterSet), None),
 ];
 
+// The runs of data.
+fn runs(alloc: Global, data: &[u8]) -> QrResult<Vec<Segment>>
+    requires length { length data.now ≤ 1048576 }
+{
+    Ok(Parser::new(data).collect(alloc)?)
+}
+
+// The same, joined.
+fn joined(alloc: Global, data: &[u8], version: Version) -> QrResult<Vec<Segment>>
+    requires valid { IsTrue (is_valid version) }
+    requires length { length data.now ≤ 1048576 }
+{
+    Ok(Parser::new(data).optimize(version).collect(alloc)?)
+}
+
 // The segments of data.
 fn segments(alloc: Global, data: &[u8], version: Version, way: Way) -> QrResult<Vec<Segment>> {
     if !version.is_valid() {
@@ -93,8 +109,8 @@ fn segments(alloc: Global, data: &[u8], version: Version, way: Way) -> QrResult<
         return Err(DataTooLong);
     }
     match way {
-        Runs => Ok(Parser::new(data).collect(alloc)?),
-        Joined => Ok(Parser::new(data).optimize(version).collect(alloc)?),
+        Runs => runs(alloc, data),
+        Joined => joined(alloc, data, version),
         Least => least_segments(alloc, data, version),
     }
 }

@@ -107,15 +107,21 @@ static REFUSED: [Row; 24] = [
     (Normal(1), &[Byte(b">>>>>>>>")], Some((Terminator(EcLevel::H), DataTooLong)), b"\x40\x83\xe3\xe3\xe3\xe3\xe3\xe3\xe3\xe0", 76),
 ];
 
+// Makes all pushes.
+fn push_all(bits: &mut Bits, pushes: &[Push<'_>]) -> QrResult<()> {
+    for next in pushes {
+        make_push(bits, *next)?;
+    }
+    Ok(())
+}
+
 // A list of bits for a version, with these pushes.
 fn list(alloc: Global, version: Version, pushes: &[Push<'_>]) -> QrResult<Bits> {
     if !version.is_valid() {
         return Err(InvalidVersion);
     }
     let mut bits = Bits::new(alloc, version);
-    for next in pushes {
-        make_push(&mut bits, *next)?;
-    }
+    push_all(&mut bits, pushes)?;
     Ok(bits)
 }
 
