@@ -114,15 +114,21 @@ static ENDED_FOR_L: [Row; 2] = [
     (b"", 1, Pushed(GREEK, Normal(1), H), Refused(DataTooLong)),
 ];
 
+// Makes all pushes.
+fn push_all(bits: &mut Bits, pushes: &[Push<'_>]) -> QrResult<()> {
+    for push in pushes {
+        make_push(bits, *push)?;
+    }
+    Ok(())
+}
+
 // A list of bits for a version, with these pushes.
 fn list(alloc: Global, pushes: &[Push<'_>], version: Version) -> QrResult<Bits> {
     if !version.is_valid() {
         return Err(InvalidVersion);
     }
     let mut bits = Bits::new(alloc, version);
-    for push in pushes {
-        make_push(&mut bits, *push)?;
-    }
+    push_all(&mut bits, pushes)?;
     Ok(bits)
 }
 
