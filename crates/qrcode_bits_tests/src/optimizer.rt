@@ -117,12 +117,14 @@ fn segments(alloc: Global, data: &[u8], version: Version, way: Way) -> QrResult<
 
 // Whether segments are these cuts.
 fn are_cuts(segments: &[Segment], cuts: &[Cut]) -> bool {
-    for (segment, (mode, begin, end)) in segments.iter().zip(cuts) {
-        if segment.mode != *mode || segment.begin != *begin || segment.end != *end {
-            return false;
+    let mut given = segments.iter();
+    for (mode, begin, end) in cuts {
+        match given.next() {
+            Some(it) if it.mode == *mode && it.begin == *begin && it.end == *end => {}
+            _ => return false,
         }
     }
-    segments.len() == cuts.len()
+    given.next().is_none()
 }
 
 // Whether segments take so many bits in Normal 1, or in Micro 3.

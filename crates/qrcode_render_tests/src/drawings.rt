@@ -69,8 +69,19 @@ fn color(letter: u8) -> Color {
     }
 }
 
+// Appends the modules of a drawing.
+fn push_modules(modules: &mut Vec<Color>, letters: &str) -> QrResult<()> {
+    for letter in letters.bytes() {
+        if letter != b'\n' {
+            modules.push(color(letter))?;
+        }
+    }
+    Ok(())
+}
+
 /// The modules of a drawing.
 pub fn modules(alloc: Global, letters: &str) -> QrResult<Vec<Color>> {
-    let letters = letters.bytes().filter(|letter| *letter != b'\n');
-    Ok(letters.map(color).collect(alloc)?)
+    let mut modules = Vec::new(alloc);
+    push_modules(&mut modules, letters)?;
+    Ok(modules)
 }
