@@ -13,16 +13,22 @@ pub fn run(alloc: Global, version: Version, pushes: &[Push<'_>]) -> Outcome {
         return Err(Fault::Refused(QrError::InvalidVersion));
     }
     let mut bits = Bits::new(alloc, version);
-    let mut note = Note::Whole;
-    for push in pushes {
-        if push_again(&mut bits, *push)? {
-            note = Note::Unchanged;
-        }
-    }
+    let note = push_all(&mut bits, pushes)?;
     Ok(Answer {
         digest: digest_of(bits),
         note,
     })
+}
+
+// Makes all pushes, each again where memory was refused to it, and says whether it was to any.
+fn push_all(bits: &mut Bits, pushes: &[Push<'_>]) -> Result<Note, Fault> {
+    let mut note = Note::Whole;
+    for push in pushes {
+        if push_again(bits, *push)? {
+            note = Note::Unchanged;
+        }
+    }
+    Ok(note)
 }
 
 /// The digest of a list: how many bits it has, and the checksum of its bytes.

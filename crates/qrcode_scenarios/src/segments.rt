@@ -69,13 +69,19 @@ fn kept(pushed: QrResult<()>, length: usize) -> Result<Option<usize>, Fault> {
     }
 }
 
+// Pushes the segments behind so many of them.
+fn push_behind(bits: &mut Bits, count: usize) -> Result<(), Fault> {
+    for push in PUSHES.iter().skip(count) {
+        push_again(bits, *push)?;
+    }
+    Ok(())
+}
+
 // Pushes the segments that were not kept.
 fn finish(bits: Bits, kept: Option<usize>, is_again: bool) -> Outcome {
     let mut bits = bits;
     if let Some(count) = kept {
-        for push in PUSHES.iter().skip(count) {
-            push_again(&mut bits, *push)?;
-        }
+        push_behind(&mut bits, count)?;
     }
     Ok(Answer {
         digest: digest_of(bits),

@@ -57,6 +57,14 @@ pub fn construct(alloc: Global, constructor: Constructor) -> QrResult<Digest> {
     Ok(Digest::of(&code?.into_colors()))
 }
 
+// Makes all pushes.
+fn push_all(bits: &mut Bits, pushes: &[Push<'_>]) -> QrResult<()> {
+    for push in pushes {
+        make_push(bits, *push)?;
+    }
+    Ok(())
+}
+
 // The symbol of a list of bits with these pushes, which is not too short.
 fn with_bits(
     alloc: Global,
@@ -68,9 +76,7 @@ fn with_bits(
         return Err(QrError::InvalidVersion);
     }
     let mut bits = Bits::new(alloc, version);
-    for push in pushes {
-        make_push(&mut bits, *push)?;
-    }
+    push_all(&mut bits, pushes)?;
     if let Ok(room) = bits.max_len(ec_level)
         && bits.len() < room
     {
