@@ -23,28 +23,72 @@ static FISH_START: &str = "complete -c goqlanis -f
 complete -c goqlanis -n '__fish_seen_subcommand_from read' -F
 complete -c goqlanis -n __fish_use_subcommand -a '";
 
+// What a shell is told of what stands behind an option: a path, one of some words, which stand between
+// two texts, a text or a number.
+struct Values {
+    path: &'static str,
+    before_words: &'static str,
+    behind_words: &'static str,
+    text: &'static str,
+    number: &'static str,
+}
+
+static BASH_VALUES: Values = Values {
+    path: "COMPREPLY=($(compgen -f -- \"$word\"))",
+    before_words: "COMPREPLY=($(compgen -W '",
+    behind_words: "' -- \"$word\"))",
+    text: "COMPREPLY=()",
+    number: "COMPREPLY=()",
+};
+
+static ZSH_VALUES: Values = Values {
+    path: ":file:_files",
+    before_words: ":word:(",
+    behind_words: ")",
+    text: ":text:",
+    number: ":number:",
+};
+
+static FISH_VALUES: Values = Values {
+    path: " -r -F",
+    before_words: " -x -a '",
+    behind_words: "'",
+    text: " -x",
+    number: " -x",
+};
+
 /// The completions of `bash`, `zsh` or `fish`. It fails for want of memory alone.
 pub fn completions_of(alloc: Global, shell: &str) -> Result<String, AllocError> {
     let mut text = String::new(alloc);
-    match shell {
-        "zsh" => text.push_str(ZSH_START)?,
-        "fish" => {
-            text.push_str(FISH_START)?;
-            push_task_words(&mut text)?;
-            text.push_str("'\n")?;
-        }
-        _ => text.push_str(BASH_START)?,
-    }
+    push_start(&mut text, shell)?;
     for task in worded_tasks() {
         push_task(&mut text, shell, task)?;
     }
     push_task(&mut text, shell, drawing())?;
-    match shell {
-        "zsh" => text.push_str("esac\n")?,
-        "fish" => {}
-        _ => text.push_str(BASH_END)?,
-    }
+    text.push_str(end_of(shell))?;
     Ok(text)
+}
+
+// What stands before the tasks.
+fn push_start(text: &mut String, shell: &str) -> Result<(), AllocError> {
+    match shell {
+        "zsh" => text.push_str(ZSH_START),
+        "fish" => {
+            text.push_str(FISH_START)?;
+            push_task_words(text)?;
+            text.push_str("'\n")
+        }
+        _ => text.push_str(BASH_START),
+    }
+}
+
+// What stands behind the tasks.
+fn end_of(shell: &str) -> &'static str {
+    match shell {
+        "zsh" => "esac\n",
+        "fish" => "",
+        _ => BASH_END,
+    }
 }
 
 // What a shell completes of a task.
@@ -91,26 +135,21 @@ fn push_bash(text: &mut String, task: &Task, options: &[&Entry]) -> Result<(), A
 
 // What bash completes behind an option.
 fn push_bash_case(text: &mut String, entry: &Entry) -> Result<(), AllocError> {
-    let long = entry.long;
     if matches!(entry.takes, Takes::Nothing) {
         return Ok(());
     }
-    match entry.short {
-        Some(letter) => write!(text, "        --{long} | -{letter}) ")?,
-        None => write!(text, "        --{long}) ")?,
-    }
-    match entry.takes {
-        Takes::Path => text.push_str("COMPREPLY=($(compgen -f -- \"$word\"))")?,
-        Takes::Word(words) => {
-            text.push_str("COMPREPLY=($(compgen -W '")?;
-            push_words(text, words, " ")?;
-            text.push_str("' -- \"$word\"))")?;
-        }
-        Takes::Nothing | Takes::Text(_) | Takes::Texts(_) | Takes::Number(_, _) => text.push_str(
-            "COMPREPLY=()",
-        )?,
-    }
+    push_bash_name(text, entry)?;
+    push_value(text, entry.takes, &BASH_VALUES)?;
     text.push_str("; return ;;\n")
+}
+
+// An option as bash reads it.
+fn push_bash_name(text: &mut String, entry: &Entry) -> Result<(), AllocError> {
+    let long = entry.long;
+    match entry.short {
+        Some(letter) => write!(text, "        --{long} | -{letter}) "),
+        None => write!(text, "        --{long}) "),
+    }
 }
 
 // A case of zsh: a task's options, and what stands beside them.
@@ -136,24 +175,19 @@ fn push_zsh(text: &mut String, task: &Task, options: &[&Entry]) -> Result<(), Al
 
 // An option as zsh reads it.
 fn push_zsh_option(text: &mut String, entry: &Entry) -> Result<(), AllocError> {
+    push_zsh_name(text, entry)?;
+    push_value(text, entry.takes, &ZSH_VALUES)?;
+    text.push_str("' \\\n")
+}
+
+// The name of an option as zsh reads it, and what it does.
+fn push_zsh_name(text: &mut String, entry: &Entry) -> Result<(), AllocError> {
     let (long, help) = (entry.long, entry.help);
     match (entry.short, entry.takes) {
-        (Some(letter), _) => write!(text, "      {{-{letter},--{long}}}'[{help}]")?,
-        (None, Takes::Texts(_)) => write!(text, "      '*--{long}[{help}]")?,
-        (None, _) => write!(text, "      '--{long}[{help}]")?,
+        (Some(letter), _) => write!(text, "      {{-{letter},--{long}}}'[{help}]"),
+        (None, Takes::Texts(_)) => write!(text, "      '*--{long}[{help}]"),
+        (None, _) => write!(text, "      '--{long}[{help}]"),
     }
-    match entry.takes {
-        Takes::Nothing => {}
-        Takes::Path => text.push_str(":file:_files")?,
-        Takes::Word(words) => {
-            text.push_str(":word:(")?;
-            push_words(text, words, " ")?;
-            text.push_str(")")?;
-        }
-        Takes::Text(_) | Takes::Texts(_) => text.push_str(":text:")?,
-        Takes::Number(_, _) => text.push_str(":number:")?,
-    }
-    text.push_str("' \\\n")
 }
 
 // A task's options as fish reads them.
@@ -181,17 +215,23 @@ fn push_fish_option(text: &mut String, entry: &Entry) -> Result<(), AllocError> 
     if let Some(letter) = entry.short {
         write!(text, " -s {letter}")?;
     }
-    match entry.takes {
-        Takes::Nothing => {}
-        Takes::Path => text.push_str(" -r -F")?,
-        Takes::Word(words) => {
-            text.push_str(" -x -a '")?;
-            push_words(text, words, " ")?;
-            text.push_str("'")?;
-        }
-        Takes::Text(_) | Takes::Texts(_) | Takes::Number(_, _) => text.push_str(" -x")?,
-    }
+    push_value(text, entry.takes, &FISH_VALUES)?;
     write!(text, " -d '{help}'\n")
+}
+
+// What a shell is told of what stands behind an option.
+fn push_value(text: &mut String, takes: Takes, values: &Values) -> Result<(), AllocError> {
+    match takes {
+        Takes::Nothing => Ok(()),
+        Takes::Path => text.push_str(values.path),
+        Takes::Word(words) => {
+            text.push_str(values.before_words)?;
+            push_words(text, words, " ")?;
+            text.push_str(values.behind_words)
+        }
+        Takes::Text(_) | Takes::Texts(_) => text.push_str(values.text),
+        Takes::Number(_, _) => text.push_str(values.number),
+    }
 }
 
 /// Appends words with something between each two. It fails for want of memory alone.

@@ -85,28 +85,35 @@ fn push_option(text: &mut String, entry: &Entry) -> Result<(), AllocError> {
 
 // What an option takes, behind its name.
 fn push_value(text: &mut String, takes: Takes) -> Result<(), AllocError> {
-    if matches!(takes, Takes::Nothing) {
-        return Ok(());
-    }
-    text.push_str(" ")?;
     match takes {
         Takes::Nothing => Ok(()),
-        Takes::Text(name) | Takes::Texts(name) => text.push_str(name),
-        Takes::Path => text.push_str("FILE"),
-        Takes::Word(words) => push_words(text, words, "|"),
-        Takes::Number(least, most) => write!(text, "{least}..{most}"),
+        Takes::Text(name) | Takes::Texts(name) => write!(text, " {name}"),
+        Takes::Path => text.push_str(" FILE"),
+        Takes::Word(words) => {
+            text.push_str(" ")?;
+            push_words(text, words, "|")
+        }
+        Takes::Number(least, most) => write!(text, " {least}..{most}"),
     }
 }
 
 // Text whose hyphens are hyphens, and no line of which is a request.
 fn push_plain(text: &mut String, plain: &str) -> Result<(), AllocError> {
     for character in plain.chars() {
-        match character {
-            '-' => text.push_str("\\-")?,
-            '\\' => text.push_str("\\e")?,
-            '.' => text.push_str("\\&.")?,
-            other => text.push(other)?,
+        match escaped(character) {
+            Some(escaped) => text.push_str(escaped)?,
+            None => text.push(character)?,
         }
     }
     Ok(())
+}
+
+// What stands for a character that is not taken as it is.
+fn escaped(character: char) -> Option<&'static str> {
+    match character {
+        '-' => Some("\\-"),
+        '\\' => Some("\\e"),
+        '.' => Some("\\&."),
+        _ => None,
+    }
 }

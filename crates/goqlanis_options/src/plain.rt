@@ -192,8 +192,8 @@ fn is_value(takes: Takes, word: &str) -> bool
     }
 }
 
-// Whether a word is one of some.
-fn is_among(known: &[&'static str], word: &str) -> bool
+/// Whether a word is one of some.
+pub(crate) fn is_among(known: &[&'static str], word: &str) -> bool
     ensures { IsTrue result → IsAmong word.now known.now }
 {
     for each in known {

@@ -5,6 +5,7 @@ use crate::contents::{
 };
 use crate::drawing::DRAWING;
 use crate::entries::Entry;
+use crate::plain::is_among;
 use crate::reading::READING;
 use std::alloc::{AllocError, Global};
 
@@ -72,6 +73,24 @@ pub struct Task {
     pub options: &'static [Entry],
 }
 
+// The options of drawing that give the data, or have a text about the program printed.
+static DATA_OPTIONS: &[&str] = &[
+    "input",
+    "trim",
+    "lines",
+    "bytes",
+    "segment",
+    "completions",
+    "manual",
+    "release",
+];
+
+// Those that say the level and the version alone.
+static LEVEL_OPTIONS: &[&str] = &["level", "version", "least-version"];
+
+// Those that go with texts alone.
+static TEXT_OPTIONS: &[&str] = &["micro", "boost", "eci"];
+
 /// What words ask for, in the order of the manual.
 pub(crate) fn worded_tasks() -> [&'static Task; 13] {
     [
@@ -138,18 +157,12 @@ impl Task {
             Purpose::Content(kind) => (true, !matches!(kind, Kind::Payment | Kind::Bill)),
             Purpose::Elements => (false, true),
         };
-        match option {
-            "input"
-            | "trim"
-            | "lines"
-            | "bytes"
-            | "segment"
-            | "completions"
-            | "manual"
-            | "release" => false,
-            "level" | "version" | "least-version" => has_level,
-            "micro" | "boost" | "eci" => has_level && is_text,
-            _ => true,
+        if is_among(DATA_OPTIONS, option) {
+            false
+        } else if is_among(LEVEL_OPTIONS, option) {
+            has_level
+        } else {
+            has_level && is_text || !is_among(TEXT_OPTIONS, option)
         }
     }
 }
