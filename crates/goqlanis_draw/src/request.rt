@@ -7,7 +7,7 @@ use qrcode::bits::Manner;
 use qrcode::types::{EcLevel, Version};
 
 /// Which symbol is asked for. Versions are in the order M1 to M4, 1 to 40.
-#[derive(Clone, Copy, Debug, PartialEq, Eq)]
+#[derive(Clone, Copy, PartialEq, Eq)]
 pub enum Choice {
     /// That of the least version, from one on, that holds the data.
     From(Version),
@@ -19,7 +19,7 @@ pub enum Choice {
 }
 
 /// How a symbol is written.
-#[derive(Clone, Copy, Debug, PartialEq, Eq)]
+#[derive(Clone, Copy, PartialEq, Eq)]
 pub enum Format {
     /// A character for each two pixels, one above the other.
     HalfBlocks,
@@ -47,7 +47,7 @@ impl Format {
 }
 
 /// A colour: what SVG writes as it is, and red, green and blue from 0 to 255 for EPS and PNG.
-#[derive(Clone, Copy, Debug)]
+#[derive(Clone, Copy)]
 pub struct Ink<'a> {
     pub name: &'a str,
     pub red: u8,
@@ -56,7 +56,7 @@ pub struct Ink<'a> {
 }
 
 /// What is asked for.
-#[derive(Clone, Copy, Debug)]
+#[derive(Clone, Copy)]
 pub struct Request<'a> {
     /// How the data is written.
     pub manner: Manner,

@@ -12,7 +12,7 @@ use qrcode_types::characters::can_write;
 use std::alloc::Global;
 
 /// Bytes, and the mode in which they are written; of Kanji, pairs of bytes of Shift JIS.
-#[derive(Clone, Copy, Debug)]
+#[derive(Clone, Copy)]
 pub struct Segment<'a> {
     pub mode: Mode,
     pub bytes: &'a [u8],
