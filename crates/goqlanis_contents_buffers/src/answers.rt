@@ -7,7 +7,7 @@ use qrcode_fields::errors::Cause;
 use qrcode_gs1::errors::Cause as ElementCause;
 
 /// Why a call refuses, and at which place its fields are wrong.
-#[derive(Clone, Copy, Debug, Drop, PartialEq, Eq)]
+#[derive(Clone, Copy, Drop, PartialEq, Eq)]
 pub enum Refusal {
     /// The buffer is too small for the text.
     SmallBuffer,

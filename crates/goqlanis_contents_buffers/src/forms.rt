@@ -9,7 +9,7 @@ use qrcode_fields::errors::{Cause, Field};
 use qrcode_fields::laws;
 
 /// A kind of content.
-#[derive(Clone, Copy, Debug)]
+#[derive(Clone, Copy)]
 pub enum Kind {
     /// A network.
     Wifi,
@@ -62,7 +62,7 @@ pub(crate) fn kind_named(number: u32) -> Option<Kind>
 }
 
 /// What a field of a kind is: a text, or a number with its greatest value.
-#[derive(Clone, Copy, Debug)]
+#[derive(Clone, Copy)]
 pub enum Form {
     /// A text.
     Text(Field),
