@@ -128,7 +128,7 @@ rows_by_cells f g some_wide some_high =
     ∙ cell_rows (λ r. f (each g.across (cell_row g r))) g.down (all_rows g)
 
 -- where a range begins does not matter to a text that is repeated
-times_from : (text : List ℕ) (a b n : ℕ) → text ++ flat_map (λ (_ : ℕ). text) (range_with_len a n) ≡ text ++ flat_map (λ (_ : ℕ). text) (range_with_len b n)
+pub times_from : (text : List ℕ) (a b n : ℕ) → text ++ flat_map (λ (_ : ℕ). text) (range_with_len a n) ≡ text ++ flat_map (λ (_ : ℕ). text) (range_with_len b n)
 times_from text a b zero = refl
 times_from text a b (suc n) = ap (λ t. text ++ t) (times_from text (a + 1) (b + 1) n)
 

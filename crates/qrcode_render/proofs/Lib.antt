@@ -1,4 +1,5 @@
 pub mod Attributes
+pub mod EqualRows
 pub mod Beginnings
 pub mod FilledRuns
 pub mod Folds

@@ -1,6 +1,7 @@
 pub mod Bitmap
 pub mod Drawn
 pub mod Eps
+pub mod EqualRows
 pub mod Files
 pub mod Grid
 pub mod GridOf

@@ -1,6 +1,6 @@
 //! Cells in rows and columns, of which each shows as a rectangle of pixels.
 
-ghost use Rattle.std.specs.Prelude.{◌≡◌, ℕ, ◌+◌, ◌-◌, ◌*◌, ◌^◌, ◌<◌, ◌≤◌, ◌⊎◌, length, map, slice_index_or, IfSome, IfNone};
+ghost use Rattle.std.specs.Prelude.{◌≡◌, ℕ, ◌+◌, ◌-◌, ◌*◌, ◌^◌, ◌<◌, ◌≤◌, ◌⊎◌, length, map, slice_index_or, IsTrue, IfSome, IfNone};
 ghost use Rattle.std.specs.List.{slice_range};
 ghost use Rattle.qrcode_types.specs.Colors.{is_dark};
 ghost use Rattle.qrcode_types.specs.declared.types.Color.TheVariants.{Light};
@@ -441,6 +441,14 @@ impl<'a> Grid<'a> {
             Some(start) => self.dark_between(start, start + self.columns),
             None => 0,
         }
+    }
+
+    // Whether a row is among the light ones around, and the row above it, too.
+    pub(crate) fn is_still_around(&self, row: usize) -> bool
+        ensures above { IsTrue result → 1 ≤ row }
+        ensures same { IsTrue result → cell_row self.now row ≡ cell_row self.now (row - 1) }
+    {
+        row > 0 && self.start_of(row).is_none() && self.start_of(row - 1).is_none()
     }
 
     // The first cell of a row that is not among the light ones around.

@@ -107,6 +107,14 @@ impl<const N: usize> Stamp<N> {
         self.len
     }
 
+    // A text of as many bytes as there may be, as one vector.
+    pub(crate) fn lanes(&self) -> Simd<u8, N>
+        requires { length self.now ≡ N }
+        ensures { result ≡ self.now }
+    {
+        Simd::<u8, N>::from_slice(&self.start)
+    }
+
     // Writes the text and the bytes behind it, and answers where the text ends.
     fn write(&self, bytes: &mut [u8], at: usize) -> usize
         requires { at + N ≤ length bytes.old }
