@@ -8,7 +8,7 @@ ghost use Rattle.goqlanis_buffers.specs.Segments.{refusal_in};
 use qrcode::types::QrError;
 
 /// Why a call refuses. Each refusal has one cause.
-#[derive(Clone, Copy, Debug, Drop, PartialEq, Eq)]
+#[derive(Clone, Copy, Drop, PartialEq, Eq)]
 pub enum Refusal {
     /// No level has the number.
     NoSuchLevel,

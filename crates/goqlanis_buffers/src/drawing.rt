@@ -20,7 +20,7 @@ use qrcode::types::{Color, QrResult};
 use std::alloc::Global;
 
 /// How modules are drawn.
-#[derive(Clone, Copy, Debug)]
+#[derive(Clone, Copy)]
 pub enum Format {
     /// Text, two modules a character: blocks where modules are dark.
     HalfBlocks,

@@ -31,7 +31,7 @@ pub struct Segment<'a> {
 }
 
 /// What a segment is.
-#[derive(Clone, Copy, Debug)]
+#[derive(Clone, Copy)]
 pub enum Kind {
     /// Bytes in a mode.
     Data(Mode),
