@@ -1,11 +1,11 @@
 -- Texts of rectangles, put together of those of columns and rows.
-use Rattle.std.proofs.Common.{◌≡◌, ℕ, zero, suc, ◌+◌, ◌-◌, ◌<◌, ◌≤◌, ◌^◌, nat_le, Bool, true, false, List, [], ◌∷◌, ◌++◌, length, length-append, refl, rules, arith, append_assoc, if◌then◌else◌}
+use Rattle.std.proofs.Common.{◌≡◌, ℕ, zero, suc, ◌-◌, ◌<◌, ◌≤◌, ◌^◌, nat_le, Bool, true, false, List, [], ◌∷◌, ◌++◌, length, length-append, rules, arith, append_assoc, if◌then◌else◌}
 use Rattle.std.specs.Prelude.{codes, decimal}
 use Rattle.std.specs.Str.{IsAscii, IsUtf8}
 use Rattle.std.proofs.lemmas.Fmt.{length-decimal-le, IsAscii-decimal}
 use Rattle.std.proofs.lemmas.Str.{IsAscii-append, IsUtf8-from_ascii}
 use Rattle.std.proofs.lemmas.Str.Ascii.{IsAscii-cons, IsAscii-push}
-use Rattle.qrcode_render.specs.Paths.{Pen, Run, run_text, step_text, path_from, pen_after, ended}
+use Rattle.qrcode_render.specs.Paths.{Pen, Run, run_text, step_text, path_from, ended}
 use Rattle.std.proofs.lemmas.List.{append-nil}
 use Rattle.qrcode_render.specs.Eps.{eps_rect, eps_column, eps_sides, eps_row}
 use Rattle.qrcode_render.specs.Strokes.{rect_text, stroke}
@@ -80,14 +80,10 @@ step_short forward back from to a b f k =
     (omega (arith, length-append forward (decimal (to - from)), number_short (to - from) (omega arith)))
     (omega (arith, length-append back (decimal (from - to)), number_short (from - to) (omega arith)))
 
--- the path of one run, and where the pen stands behind it
+-- the path of one run
 pub one_run : (pen : Pen) (top end width : ℕ) → 0 < width → path_from pen (ended top end width) ≡ run_text pen (record { left = end - width; top = top; width = width })
 one_run pen top end zero some = absurd (omega arith)
 one_run pen top end (suc n) some = append-nil _
-
-pub pen_behind : (pen : Pen) (top end width : ℕ) → 0 < width → pen_after pen (ended top end width) ≡ record { column = end - width; row = top + 1 }
-pen_behind pen top end zero some = absurd (omega arith)
-pen_behind pen top end (suc n) some = refl
 
 -- what is written piece by piece is the subpath of a run
 pub run_regroup : (text a b h w v : List ℕ) → ((((text ++ a) ++ b) ++ h) ++ w) ++ v ++ w ≡ text ++ (a ++ (b ++ (h ++ (w ++ (v ++ w)))))

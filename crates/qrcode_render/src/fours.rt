@@ -115,6 +115,20 @@ pub fn push_ones(line: &mut Line, dark: &[u8], light: &[u8], marks: &[bool])
     }
 }
 
+/// The same by stamps of the two texts, which take no call where they have several bytes.
+pub fn push_stamps(line: &mut Line, dark: &Stamp<8>, light: &Stamp<8>, marks: &[bool])
+    requires room { length (line.old.text ++ marks_text dark.now light.now marks.now) + 32
+        ≤ line.old.room }
+    ensures { line.new ≡ record line.old {
+      text = line.old.text ++ marks_text dark.now light.now marks.now;
+    } }
+{
+    for mark in marks {
+        let text = if *mark { dark } else { light };
+        line.put(text);
+    }
+}
+
 /// Appends the text that stands for each mark, four at a time, by a palette of these texts. Within its
 /// callers, so that places of the line stay in registers.
 #[inline(always)]

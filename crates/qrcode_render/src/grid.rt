@@ -1,6 +1,6 @@
 //! Cells in rows and columns, of which each shows as a rectangle of pixels.
 
-ghost use Rattle.std.specs.Prelude.{◌≡◌, ℕ, ◌+◌, ◌-◌, ◌*◌, ◌^◌, ◌<◌, ◌≤◌, ◌⊎◌, length, map, slice_index_or, IsTrue, IfSome, IfNone};
+ghost use Rattle.std.specs.Prelude.{◌≡◌, ℕ, ◌+◌, ◌-◌, ◌*◌, ◌^◌, ◌<◌, ◌≤◌, ◌⊎◌, false, length, map, slice_index_or, IsTrue, IfSome, IfNone};
 ghost use Rattle.std.specs.List.{slice_range};
 ghost use Rattle.qrcode_types.specs.Colors.{is_dark};
 ghost use Rattle.qrcode_types.specs.declared.types.Color.TheVariants.{Light};
@@ -337,42 +337,29 @@ impl<'a> Grid<'a> {
                 let inside = &mut columns[left..right];
                 self.cells.mark_columns(first, second, self.columns, inside);
             }
-            _ => self.mark_each(upper, lower, columns),
+            (Some(first), None) => self.mark_beside(upper, first, 0, columns),
+            (None, Some(second)) => self.mark_beside(lower, second, 1, columns),
         }
     }
 
-    // The same cell by cell, for a row beside light ones.
-    fn mark_each(&self, upper: usize, lower: usize, columns: &mut [bool])
+    // Marks the dark cells of a row, of which the first place is told, beside a row among the light ones around: as
+    // the first marks of the columns, or as those behind.
+    fn mark_beside(&self, row: usize, start: usize, behind: usize, columns: &mut [bool])
+        requires start { start ≡ (row - self.now.zone) * self.now.columns }
+        requires inside { start + self.now.columns ≤ length self.now.cells }
+        requires some { (self.now.zone ≤ row) × (row < self.now.zone + self.now.rows) }
+        requires behind { behind ≤ 1 }
         requires length { length columns.old ≡ 2 * all_columns self.now }
-        ensures marks { (x : ℕ) → x < all_columns self.now → AreMarksAt
-            (λ column. is_dark_cell self.now column upper)
-            (λ column. is_dark_cell self.now column lower) columns.new x }
+        ensures row { (x : ℕ) → x < all_columns self.now →
+            slice_index_or columns.new (2 * x + behind) false ≡ is_dark_cell self.now x row }
+        ensures light { (x : ℕ) → x < all_columns self.now →
+            slice_index_or columns.new (2 * x + (1 - behind)) false ≡ false }
         ensures length { length columns.new ≡ length columns.old }
     {
-        let (first, second) = (self.start_of(upper), self.start_of(lower));
-        for x in 0..self.columns + 2 * self.zone {
-            columns[2 * x] = self.is_dark(x, upper, first);
-            columns[2 * x + 1] = self.is_dark(x, lower, second);
-        }
-    }
-
-    // Whether a cell is dark, in a column and a row with the light ones around counted, of which the first cell is
-    // told, as `start_of` gives it.
-    fn is_dark(&self, column: usize, row: usize, start: Option<usize>) -> bool
-        requires start { IfSome start (λ place. place ≡ (row - self.now.zone) * self.now.columns) }
-        requires inside { IfSome start (λ place. place + self.now.columns ≤ length self.now.cells) }
-        requires some { IfSome start (λ _. (self.now.zone ≤ row)
-            × (row < self.now.zone + self.now.rows)) }
-        requires none { IfNone start ((row < self.now.zone)
-            ⊎ (self.now.zone + self.now.rows ≤ row)) }
-        ensures { result ≡ is_dark_cell self.now column row }
-    {
         let _ = row;
-        match start {
-            Some(start) if self.zone <= column && column < self.zone + self.columns => {
-                self.cells.is_dark(start + (column - self.zone))
-            }
-            _ => false,
+        columns.fill(false);
+        for k in 0..self.columns {
+            columns[2 * (self.zone + k) + behind] = self.cells.is_dark(start + k);
         }
     }
 

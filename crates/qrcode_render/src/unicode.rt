@@ -13,7 +13,7 @@ ghost use Rattle.qrcode_render.specs.Strips.{IsStripOf, lines_room};
 ghost use Rattle.qrcode_render.specs.Texts.{half_blocks, column_text, columns_text, dense_line, dense_text};
 
 use crate::Pixel;
-use crate::fours::{Fours, push_columns, push_ones};
+use crate::fours::{Fours, push_columns, push_stamps};
 use crate::grid::Grid;
 use crate::page::{Finish, Page};
 use crate::stamps::{LONGEST, Line, Stamp, put_text};
@@ -188,10 +188,10 @@ impl Strip {
     {
         mark_alone(grid, 2 * i, &mut self.cells, &mut self.columns);
         let marks = &self.columns[..self.columns.len() / 2];
-        let dark = half(halves.marked, false);
-        let light = half(halves.other, false);
+        let dark = Stamp::new(half(halves.marked, false).as_bytes());
+        let light = Stamp::new(half(halves.other, false).as_bytes());
         self.line.clear();
-        push_ones(&mut self.line, dark.as_bytes(), light.as_bytes(), marks);
+        push_stamps(&mut self.line, &dark, &light, marks);
         self.line.push(b"\n");
     }
 }

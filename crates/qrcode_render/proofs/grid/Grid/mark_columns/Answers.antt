@@ -1,4 +1,4 @@
-use Rattle.std.proofs.Common.{◌≡◌, ℕ, ◌+◌, ◌-◌, ◌*◌, ◌<◌, ◌≤◌, inl, inr, List, Bool, false, length, replicate, ap, ◌∙◌, sym, subst, arith}
+use Rattle.std.proofs.Common.{rules, ◌≡◌, ℕ, ◌+◌, ◌-◌, ◌*◌, ◌<◌, ◌≤◌, ◌⊎◌, inl, inr, List, Bool, false, length, replicate, ap, ◌∙◌, sym, subst, arith}
 use Rattle.std.proofs.lemmas.Bool.{cases_lt}
 use Rattle.std.proofs.lemmas.List.{get_or-replicate, length-replicate}
 use Rattle.std.specs.Prelude.{slice_index_or}
@@ -73,3 +73,16 @@ returns-in-Some-Some-clause-marks c x below =
     let here = marks_between grid upper lower inside x n (omega arith) long (omega (arith, some.0, zone)) (omega (arith, some.1, zone, rows, ap (λ (v : Grid). v.zone + v.rows) is)) (omega (arith, some'.0, zone)) (omega (arith, some'.1, ap (λ (v : Grid). v.zone + v.rows) is)) marks (omega (arith, below, ap (λ (v : Grid). all_columns v) is)) in
     let written = subst (λ ms. AreMarksAt (λ column. is_dark_cell grid column upper) (λ column. is_dark_cell grid column lower) (put_mid (2 * g.zone) n ms inside) x) (sym light) here in
     subst (λ (v : Grid). AreMarksAt (λ column. is_dark_cell v column upper) (λ column. is_dark_cell v column lower) (put_mid (2 * g.zone) n c.fill-in-Some-Some.new.self inside) x) is written
+
+pub returns-in-None-Some-clause-marks : goal.returns-in-None-Some-clause-marks
+returns-in-None-Some-clause-marks c x below =
+    let g = c.args.self.now in
+    let upper = c.args.upper in
+    let none : (upper < g.zone) ⊎ (g.zone + g.rows ≤ upper) = search rules in
+    let place : 2 * x ≡ 2 * x + (1 - 1) = omega arith in
+    record {
+      first = ap (mark_at c.mark_beside.new.columns) place
+          ∙ c.mark_beside.ensures.light x below
+          ∙ sym (cell_outside g x upper (λ _ _ top bottom. elim none [ inl above ↦ omega arith | inr beyond ↦ omega arith ]));
+      second = c.mark_beside.ensures.row x below;
+    }
