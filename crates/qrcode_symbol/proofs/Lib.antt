@@ -22,6 +22,7 @@ pub mod Numbered
 pub mod Numbers
 pub mod OnePlace
 pub mod PackedLists
+pub mod PackedPatterns
 pub mod Pairs
 pub mod Passing
 pub mod Patterned

@@ -25,9 +25,9 @@ pub packed_map : {A B : Type 0} (test : B → Bool) (shows : A → B) (xs : List
 packed_map test shows [] = refl
 packed_map test shows (x ∷ xs) = omega (arith, packed_map test shows xs)
 
-pub map-replicate : {A : Type 0} (shows : A → Module) (n : ℕ) (x : A) → map shows (replicate n x) ≡ replicate n (shows x)
+pub map-replicate : {A B : Type 0} (shows : A → B) (n : ℕ) (x : A) → map shows (replicate n x) ≡ replicate n (shows x)
 map-replicate shows zero x = refl
-map-replicate shows (suc n) x = ap (λ (l : List Module). shows x ∷ l) (map-replicate shows n x)
+map-replicate {B = B} shows (suc n) x = ap (λ (l : List B). shows x ∷ l) (map-replicate shows n x)
 
 empty_at : (m : Module) → m ≡ Empty → is_empty m ≡ true
 empty_at m e = ap is_empty e

@@ -1,14 +1,13 @@
 //! Symbols drawn for the constructors: those of Normal in packed rows, the data column by column and the patterns added;
 //! those of Micro in bytes.
 
-ghost use Rattle.std.specs.Prelude.{◌≡◌, ℕ, ◌+◌, ◌*◌, ◌<◌, ◌≤◌, ◌^◌, bit_or, length, map, slice_index_or, IsTrue, IfOk, IsOkUnless, OnOk};
-ghost use Rattle.qrcode_types.specs.Versions.{is_valid, has_level, side};
+ghost use Rattle.std.specs.Prelude.{◌≡◌, ℕ, ◌+◌, ◌*◌, ◌<◌, ◌≤◌, ◌^◌, bit_or, length, map, replicate, slice_index_or, false, IsTrue, IfOk, IsOkUnless, OnOk};
+ghost use Rattle.qrcode_types.specs.Versions.{is_valid, has_level, is_micro, side};
 ghost use Rattle.qrcode_types.specs.declared.types.QrError.TheVariants.{OutOfMemory};
 ghost use Rattle.qrcode_packed.specs.Rows.{IsSquare};
-ghost use Rattle.qrcode_symbol.specs.Canvas.{blank, drawn_bits, with_patterns};
 ghost use Rattle.qrcode_symbol.specs.Carried.{drawn_modules};
 ghost use Rattle.qrcode_symbol.specs.Columns.{AreFreeColumns, AreDataRows};
-ghost use Rattle.qrcode_symbol.specs.Masking.{is_dark_module, is_free, ShowsModules, AreBestColors};
+ghost use Rattle.qrcode_symbol.specs.Masking.{AreBestColors};
 
 use super::cells::empty_bytes;
 use super::codewords::Codewords;
@@ -17,41 +16,13 @@ use super::columns::stream::{Stream, stream_of};
 use super::drawing::draw_patterns;
 use super::filling::draw_codewords;
 use super::masking::{best_from, into_best};
-use super::packing::pack_rows;
+use super::packed_patterns::draw_pattern_rows;
 use super::side;
 use qrcode_packed::row::{PackedRow, Row128, Row192};
 use qrcode_packed::square::PackedSquare;
 use qrcode_packed::turn::turn;
 use qrcode_types::types::{Color, EcLevel, QrResult, Version};
 use std::alloc::Global;
-
-// Packs the functional patterns of a new canvas: which modules are dark, and which a mask may turn.
-fn pattern_rows<R: PackedRow>(
-    alloc: Global,
-    version: Version,
-    dark: &mut [R],
-    free: &mut [R],
-) -> QrResult<()>
-    requires valid { IsTrue (is_valid version) }
-    requires room { side version + 3 ≤ R.room }
-    requires dark_length { length dark.old ≡ side version }
-    requires free_length { length free.old ≡ side version }
-    ensures dark { OnOk result (ShowsModules is_dark_module (side version)
-        (with_patterns version (blank version)) (map R.bits dark.new)) }
-    ensures free { OnOk result (ShowsModules is_free (side version)
-        (with_patterns version (blank version)) (map R.bits free.new)) }
-    ensures dark_square { OnOk result (IsSquare R.room
-        (record { width = side version; rows = map R.bits dark.new })) }
-    ensures free_square { OnOk result (IsSquare R.room
-        (record { width = side version; rows = map R.bits free.new })) }
-    ensures memory { IsOkUnless result OutOfMemory }
-{
-    let width = side(version);
-    let mut cells = empty_bytes(alloc, width * width)?;
-    draw_patterns(version, &mut cells);
-    pack_rows(width, &cells, dark, free);
-    Ok(())
-}
 
 // Writes the data of a symbol as rows. It is drawn in columns, for which there is room; the free places of a symbol are
 // the same with rows and columns exchanged.
@@ -83,6 +54,19 @@ fn data_rows<R: PackedRow>(
     Ok(())
 }
 
+// So many equal rows, pushed one by one: as many set at once are counted byte by byte.
+fn equal_rows<R: PackedRow>(alloc: Global, row: R, count: usize) -> QrResult<Vec<R>>
+    ensures value { IfOk result (λ rows.
+        map R.bits rows.items ≡ replicate count (R.bits row)) }
+    ensures memory { IsOkUnless result OutOfMemory }
+{
+    let mut rows = Vec::with_capacity(alloc, count)?;
+    for _ in 0..count {
+        rows.push(row)?;
+    }
+    Ok(rows)
+}
+
 // Adds the places of other rows to rows.
 fn add_rows<R: PackedRow>(rows: &mut [R], others: &[R])
     requires { length others.now ≡ length rows.old }
@@ -106,15 +90,18 @@ fn drawn_by<R: PackedRow>(
 ) -> QrResult<Vec<Color>>
     requires exists { IsTrue (has_level version ec_level) }
     requires valid { IsTrue (is_valid version) }
+    requires normal { is_micro version ≡ false }
     requires room { side version + 3 ≤ R.room }
     ensures best { IfOk result (λ colors. AreBestColors version ec_level
         (drawn_modules version ec_level bytes.now ec.now) colors.items) }
     ensures memory { IsOkUnless result OutOfMemory }
 {
     let width = side(version);
-    let mut rows = vec![in alloc; R::first(0); 2 * width]?;
-    let (dark, free) = rows.split_at_mut(width);
-    pattern_rows(alloc, version, dark, free)?;
+    let mut dark_rows = equal_rows(alloc, R::first(0), width)?;
+    let mut free_rows = equal_rows(alloc, R::first(width as u32), width)?;
+    let dark: &mut [R] = &mut dark_rows;
+    let free: &mut [R] = &mut free_rows;
+    draw_pattern_rows(version, dark, free);
     let mut others = vec![in alloc; R::first(0); 2 * width]?;
     let (columns, data) = others.split_at_mut(width);
     data_rows(alloc, version, ec_level, bytes, ec, free, columns, data)?;

@@ -106,9 +106,9 @@ fn turned_rows(mask: MaskPattern) -> TurnedRows
     TurnedRows { mask, words }
 }
 
-// The row with one place as given.
+/// The row with one place as given.
 #[inline(always)]
-fn put<R: PackedRow>(row: R, place: u32, set: bool) -> R
+pub(super) fn put<R: PackedRow>(row: R, place: u32, set: bool) -> R
     requires { place + 1 < R.room }
     ensures place { is_set (R.bits result) place ≡ set }
     ensures others { (k : ℕ) → k ≢ place → is_set (R.bits result) k ≡ is_set (R.bits row) k }

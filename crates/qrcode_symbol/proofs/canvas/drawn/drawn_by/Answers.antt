@@ -1,25 +1,35 @@
-use Rattle.std.proofs.Common.{◌≡◌, ℕ, length, map, slice_index_or, arith, ◌∙◌}
+use Rattle.std.proofs.Common.{◌≡◌, ℕ, ◌-◌, ◌^◌, length, map, replicate, slice_index_or, ap, ap₂, arith, ◌∙◌}
 use Rattle.std.proofs.lemmas.List.{length-map}
 use Rattle.std.proofs.lemmas.Nat.{or_comm}
 use Rattle.qrcode_types.specs.Versions.{side}
 use Rattle.qrcode_symbol.specs.Carried.{drawn_modules}
 use Rattle.qrcode_symbol.proofs.Drawn.{all_shown, still_free, free_columns, joined_square}
+use Rattle.qrcode_symbol.proofs.PackedPatterns.{blank_begun}
 use Rattle.qrcode_symbol.proofs.canvas.drawn.drawn_by.Goals as goal
+
+pub draw_pattern_rows-requires-clause-begun : goal.draw_pattern_rows-requires-clause-begun
+draw_pattern_rows-requires-clause-begun g c =
+    let bits = g.R.PackedRow.bits in
+    let v = c.args.version in
+    let wide = c.side-width.ensures.value in
+    blank_begun v (map bits c.deref_mut-dark.result.now) (map bits c.deref_mut-free.result.now)
+    (ap (map bits) c.deref_mut-dark.ensures.value ∙ c.in_ok-dark_rows.ensures.value ∙ ap₂ (λ (n r : ℕ). replicate n r) wide c.first.ensures)
+    (ap (map bits) c.deref_mut-free.ensures.value ∙ c.in_ok-free_rows.ensures.value ∙ ap₂ (λ (n r : ℕ). replicate n r) wide c.first-2.ensures ∙ ap (λ (n : ℕ). replicate (side v) (2 ^ n - 1)) wide)
 
 pub data_rows-requires-clause-free : goal.data_rows-requires-clause-free
 data_rows-requires-clause-free g c =
-    free_columns c.args.version g.R.PackedRow.room (map g.R.PackedRow.bits c.pattern_rows.new.free) c.requires.valid c.in_ok-pattern_rows.ensures.free c.in_ok-pattern_rows.ensures.free_square
+    free_columns c.args.version g.R.PackedRow.room (map g.R.PackedRow.bits c.draw_pattern_rows.new.free) c.requires.valid c.draw_pattern_rows.ensures.shown.free_shown c.draw_pattern_rows.ensures.free_square
 
 pub best_from-requires-clause-dark_square : goal.best_from-requires-clause-dark_square
 best_from-requires-clause-dark_square g c =
     let bits = g.R.PackedRow.bits in
     let w = side c.args.version in
     let rows = c.add_rows.new.rows in
-    let patterns = c.pattern_rows.new.dark in
+    let patterns = c.draw_pattern_rows.new.dark in
     let drawn = c.data_rows.new.rows in
-    let many : length patterns ≡ w = omega (arith, length-map patterns bits, c.in_ok-pattern_rows.ensures.dark_square.length) in
+    let many : length patterns ≡ w = omega (arith, length-map patterns bits, c.draw_pattern_rows.ensures.dark_square.length) in
     let size : length (map bits rows) ≡ w = length-map rows bits ∙ omega (arith, many, c.add_rows.ensures.length) in
-    joined_square g.R.PackedRow.room w (map bits rows) (map bits patterns) (map bits drawn) c.in_ok-pattern_rows.ensures.dark_square c.in_ok-data_rows.ensures.square size
+    joined_square g.R.PackedRow.room w (map bits rows) (map bits patterns) (map bits drawn) c.draw_pattern_rows.ensures.dark_square c.in_ok-data_rows.ensures.square size
     (λ y h. c.add_rows.ensures.added y (omega (arith, h, many)))
 
 pub returns-clause-best : goal.returns-clause-best
@@ -29,10 +39,10 @@ returns-clause-best g c =
     let w = side v in
     let m = drawn_modules v c.args.ec_level c.args.bytes.now c.args.ec.now in
     let rows = c.add_rows.new.rows in
-    let patterns = c.pattern_rows.new.dark in
+    let patterns = c.draw_pattern_rows.new.dark in
     let drawn = c.data_rows.new.rows in
-    let free = c.pattern_rows.new.free in
-    let many : length patterns ≡ w = omega (arith, length-map patterns bits, c.in_ok-pattern_rows.ensures.dark_square.length) in
-    let dark = all_shown v c.args.ec_level c.args.bytes.now c.args.ec.now (map bits drawn) (map bits patterns) (map bits rows) c.requires.valid c.in_ok-data_rows.ensures.shown c.in_ok-pattern_rows.ensures.dark
+    let free = c.draw_pattern_rows.new.free in
+    let many : length patterns ≡ w = omega (arith, length-map patterns bits, c.draw_pattern_rows.ensures.dark_square.length) in
+    let dark = all_shown v c.args.ec_level c.args.bytes.now c.args.ec.now (map bits drawn) (map bits patterns) (map bits rows) c.requires.valid c.in_ok-data_rows.ensures.shown c.draw_pattern_rows.ensures.shown.dark_shown
     (λ y h. c.add_rows.ensures.added y (omega (arith, h, many)) ∙ or_comm (slice_index_or (map bits patterns) y 0) (slice_index_or (map bits drawn) y 0)) in
-    c.best_from.ensures.best m dark (still_free v c.args.ec_level c.args.bytes.now c.args.ec.now (map bits free) c.requires.valid c.in_ok-pattern_rows.ensures.free)
+    c.best_from.ensures.best m dark (still_free v c.args.ec_level c.args.bytes.now c.args.ec.now (map bits free) c.requires.valid c.draw_pattern_rows.ensures.shown.free_shown)
