@@ -390,33 +390,21 @@ block_shown v block bits across left top e is i j p q =
     (ap (λ b. get_or (get_or b j []) i Light) e ∙ ap (λ (l : List Color). get_or l i Light) (get_or-map row bits j 0 [] q)
     ∙ get_or-map-range_with_len (λ i. color_of (is_set (get_or bits j 0) i)) 0 across i i Light p (omega arith))
 
-top_left_bits : NORMAL_TOP_LEFT ≡ colors_of_bits 9 TOP_LEFT
-unfolding colors_of_bits is_set
-top_left_bits = refl
-
-top_right_bits : NORMAL_TOP_RIGHT ≡ colors_of_bits 8 TOP_RIGHT
-unfolding colors_of_bits is_set
-top_right_bits = refl
-
-bottom_left_bits : NORMAL_BOTTOM_LEFT ≡ colors_of_bits 9 BOTTOM_LEFT
-unfolding colors_of_bits is_set
-bottom_left_bits = refl
-
-square_bits : ALIGNMENT ≡ colors_of_bits 5 SQUARE
-unfolding colors_of_bits is_set
-square_bits = refl
-
 pub top_left_block : (v : Version) → IsTrue (is_valid v) → is_micro v ≡ false → IsShownBlock v TOP_LEFT 9 0 0
-top_left_block v valid normal = block_shown v NORMAL_TOP_LEFT TOP_LEFT 9 0 0 top_left_bits (top_left_shown v valid normal)
+unfolding colors_of_bits is_set
+top_left_block v valid normal = block_shown v NORMAL_TOP_LEFT TOP_LEFT 9 0 0 refl (top_left_shown v valid normal)
 
 pub top_right_block : (v : Version) → IsTrue (is_valid v) → is_micro v ≡ false → IsShownBlock v TOP_RIGHT 8 (side v - 8) 0
-top_right_block v valid normal = block_shown v NORMAL_TOP_RIGHT TOP_RIGHT 8 (side v - 8) 0 top_right_bits (top_right_shown v valid normal)
+unfolding colors_of_bits is_set
+top_right_block v valid normal = block_shown v NORMAL_TOP_RIGHT TOP_RIGHT 8 (side v - 8) 0 refl (top_right_shown v valid normal)
 
 pub bottom_left_block : (v : Version) → IsTrue (is_valid v) → is_micro v ≡ false → IsShownBlock v BOTTOM_LEFT 9 0 (side v - 8)
-bottom_left_block v valid normal = block_shown v NORMAL_BOTTOM_LEFT BOTTOM_LEFT 9 0 (side v - 8) bottom_left_bits (bottom_left_shown v valid normal)
+unfolding colors_of_bits is_set
+bottom_left_block v valid normal = block_shown v NORMAL_BOTTOM_LEFT BOTTOM_LEFT 9 0 (side v - 8) refl (bottom_left_shown v valid normal)
 
 pub square_block : (v : Version) (a b : ℕ) → IsTrue (is_valid v) → IsCentre v a → IsCentre v b → is_corner_centre (side v) a b ≡ false → IsShownBlock v SQUARE 5 (a - 2) (b - 2)
-square_block v a b valid ca cb apart = block_shown v ALIGNMENT SQUARE 5 (a - 2) (b - 2) square_bits (alignment_shown v a b valid ca cb apart)
+unfolding colors_of_bits is_set
+square_block v a b valid ca cb apart = block_shown v ALIGNMENT SQUARE 5 (a - 2) (b - 2) refl (alignment_shown v a b valid ca cb apart)
 
 -- a place of some pattern
 patterned_color : (v : Version) (x y : ℕ) (c : Color) → pattern v x y ≡ Some c → pattern_module v x y Empty ≡ Masked c
@@ -495,9 +483,6 @@ words_shown (Normal (pos n)) word valid normal wide e =
 words_shown (Normal (negsuc n)) word valid normal wide e = absurd (true≢false (sym valid))
 words_shown (Micro n) word valid normal wide e = absurd (true≢false normal)
 
-full_row : (w x : ℕ) → x < w → is_set (2 ^ w - 1) x ≡ true
-full_row w x h = has_first w x h
-
 -- rows of nothing but free places
 pub blank_begun : (v : Version) (dark free : List ℕ) → dark ≡ replicate (side v) 0 → free ≡ replicate (side v) (2 ^ side v - 1) → AreBegun v dark free
 unfolding dark_in
@@ -510,5 +495,5 @@ blank_begun v dark free ed ef =
       free_fits = λ y. rows_fit (replicate (side v) (2 ^ side v - 1)) (side v) (length-replicate (side v) (2 ^ side v - 1))
           (λ k h. rw (get_or-replicate {A = ℕ} (side v) k (2 ^ side v - 1) 0 h) (omega (arith, pow_pos (side v)))) y;
       light = λ x y xl yl e. ap (λ n. is_set n x) (get_or-replicate {A = ℕ} (side v) y 0 0 yl) ∙ has_zero x;
-      shown = λ x y xl yl e. absurd (true≢false (sym (ap (λ n. is_set n x) (get_or-replicate {A = ℕ} (side v) y (2 ^ side v - 1) 0 yl) ∙ full_row (side v) x xl) ∙ e));
+      shown = λ x y xl yl e. absurd (true≢false (sym (ap (λ n. is_set n x) (get_or-replicate {A = ℕ} (side v) y (2 ^ side v - 1) 0 yl) ∙ has_first (side v) x xl) ∙ e));
     })

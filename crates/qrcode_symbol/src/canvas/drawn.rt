@@ -102,7 +102,8 @@ fn drawn_by<R: PackedRow>(
     let dark: &mut [R] = &mut dark_rows;
     let free: &mut [R] = &mut free_rows;
     draw_pattern_rows(version, dark, free);
-    let mut others = vec![in alloc; R::first(0); 2 * width]?;
+    // Not of zeros, which would be set byte by byte; all are written below.
+    let mut others = vec![in alloc; R::first(1); 2 * width]?;
     let (columns, data) = others.split_at_mut(width);
     data_rows(alloc, version, ec_level, bytes, ec, free, columns, data)?;
     add_rows(dark, data);

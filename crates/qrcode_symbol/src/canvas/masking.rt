@@ -97,7 +97,8 @@ fn best_of<R: PackedRow, S: FromColor>(
         IsBestShown packed.now.version packed.now.ec_level modules S.from_color new.items) }
     ensures memory { IsOkUnless result OutOfMemory }
 {
-    let mut masked = vec![in alloc; R::first(0); packed.width]?;
+    // Not of zeros, which would be set byte by byte; each mask writes all rows.
+    let mut masked = vec![in alloc; R::first(1); packed.width]?;
     let mut answer = Vec::with_capacity(alloc, packed.width * packed.width)?;
     let best = least_mask(packed, &mut masked);
     mask_rows(packed, nth_mask(packed.version, best), &mut masked);
