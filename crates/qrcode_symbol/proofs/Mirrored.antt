@@ -1,17 +1,17 @@
 -- A functional place is one with column and row exchanged too.
-use Rattle.std.proofs.Common.{◌≡◌, ℕ, ◌+◌, ◌-◌, ◌*◌, ◌%◌, ◌≤◌, ◌<◌, ◌==◌, nat_le, nat_lt, nat_abs, pos, negsuc, Bool, true, false, not, ◌&&◌, ◌||◌, List, [], Option, Some, None, is_some, refl, ap, ap₂, sym, ◌∙◌, arith, if◌then◌else◌, IsTrue}
+use Rattle.std.proofs.Common.{◌≡◌, ℕ, ◌+◌, ◌-◌, ◌*◌, ◌%◌, ◌≤◌, ◌==◌, nat_le, nat_lt, pos, negsuc, Bool, true, false, not, ◌&&◌, ◌||◌, Option, None, is_some, refl, ap, ap₂, sym, ◌∙◌, arith, if◌then◌else◌, IsTrue}
 use Rattle.std.specs.Int.{abs_diff}
 use Rattle.std.specs.List.{find}
 use Rattle.std.specs.Option.{option_or}
 use Rattle.std.proofs.Math.Bool.{or_comm, and_comm}
 use Rattle.std.proofs.lemmas.Bool.Decides.{nat_tests}
-use Rattle.qrcode_types.specs.Versions.{side, is_valid}
+use Rattle.qrcode_types.specs.Versions.{is_valid}
 use Rattle.qrcode_types.specs.declared.types.Version.{Version}
 use Rattle.qrcode_types.specs.declared.types.Version.TheVariants.{Normal, Micro}
 use Rattle.qrcode_types.specs.declared.types.Color.{Color}
-use Rattle.qrcode_places.specs.Patterns.{centres, is_near, finder, finder_at, alignment, alignment_between, timing, dark_module, version_copy, version_pattern, pattern, format_index, is_functional_place}
+use Rattle.qrcode_places.specs.Patterns.{centres, is_near, finder, finder_at, alignment, timing, dark_module, version_copy, version_pattern, pattern, format_index, is_functional_place}
 use Rattle.qrcode_places.proofs.FormatPlaces.{normal_index, micro_index, normal_cases, micro_cases}
-use Rattle.qrcode_places.proofs.Figures.{where_some, or_some, finder_some, is_it, alignment_some, version_some, format_some}
+use Rattle.qrcode_places.proofs.Figures.{where_some, or_some, finder_some, is_it, alignment_some, version_some}
 
 or_is : (a b : Option Color) (s t : Bool) → is_some a ≡ s → is_some b ≡ t → is_some (option_or a b) ≡ (s || t)
 or_is a b s t e f = or_some a b ∙ ap₂ (λ m n. m || n) e f

@@ -1,8 +1,8 @@
 -- The number of an item that a filter keeps.
-use Rattle.std.proofs.Common.{◌≡◌, ℕ, zero, suc, ◌+◌, ◌<◌, ◌≤◌, Bool, true, false, cond, List, [], ◌∷◌, length, get_or, map, refl, ap, sym, ◌∙◌, arith}
+use Rattle.std.proofs.Common.{◌≡◌, ℕ, zero, suc, ◌+◌, ◌<◌, Bool, true, false, cond, List, ◌∷◌, length, get_or, map, ap, sym, ◌∙◌, arith}
 use Rattle.std.specs.List.{range_with_len, filter}
 use Rattle.qrcode_symbol.specs.Columns.{passing}
-use Rattle.qrcode_symbol.proofs.Passing.{passing_add, passing_same}
+use Rattle.qrcode_symbol.proofs.Passing.{passing_same}
 
 passing_first : (f : ℕ → Bool) (n : ℕ) → passing f (suc n) ≡ cond (f 0) 1 0 + passing (λ i. f (suc i)) n
 unfolding passing

@@ -1,5 +1,5 @@
 -- Functional patterns drawn into packed rows, line by line.
-use Rattle.std.proofs.Common.{◌≡◌, ◌≢◌, ℕ, ◌+◌, ◌-◌, ◌*◌, ◌/◌, ◌%◌, ◌^◌, ◌<◌, ◌≤◌, ◌==◌, ◌||◌, ◌&&◌, ℤ, pos, negsuc, nat_le, IsTrue, not, Bool, true, false, List, [], length, map, replicate, get_or, slice_set, arith, sym, ap, ap₂, subst, refl, ◌∙◌, Option, Some, None, inl, inr, ◌⊎◌, bit_and, bit_or, bit_xor, true≢false}
+use Rattle.std.proofs.Common.{◌≡◌, ◌≢◌, ℕ, ◌+◌, ◌-◌, ◌*◌, ◌/◌, ◌%◌, ◌^◌, ◌<◌, ◌≤◌, ◌==◌, ◌||◌, ◌&&◌, pos, negsuc, nat_le, IsTrue, not, Bool, true, false, List, [], length, map, replicate, get_or, slice_set, arith, sym, ap, ap₂, subst, refl, ◌∙◌, Option, Some, inl, inr, bit_and, bit_or, bit_xor, true≢false}
 use Rattle.std.specs.List.{range_with_len}
 use Rattle.std.proofs.lemmas.Bool.{cases_eq, cases_lt}
 use Rattle.std.proofs.lemmas.Bool.Decides.{nat_tests}
@@ -10,13 +10,13 @@ use Rattle.std.proofs.lemmas.Nat.{or_lt, xor_lt, and_le_l, and_le_r, div-mul-add
 use Rattle.std.specs.Option.{option_or}
 use Rattle.std.proofs.Math.ListN.{length-set}
 use Rattle.qrcode_types.specs.Bits.{has_bit}
-use Rattle.qrcode_types.specs.Colors.{color_of, is_dark}
+use Rattle.qrcode_types.specs.Colors.{color_of}
 use Rattle.qrcode_types.specs.Versions.{side, is_micro, is_valid}
 use Rattle.qrcode_types.specs.declared.types.Version.{Version}
 use Rattle.qrcode_types.specs.declared.types.Version.TheVariants.{Normal, Micro}
 use Rattle.qrcode_types.specs.declared.types.Color.{Color}
 use Rattle.qrcode_types.specs.declared.types.Color.TheVariants.{Light}
-use Rattle.qrcode_packed.specs.Rows.{is_set, dark_in, FitsWidth, IsSquare}
+use Rattle.qrcode_packed.specs.Rows.{is_set, dark_in}
 use Rattle.qrcode_packed.proofs.Places.{has_and, has_or, has_without, has_zero, has_first, has_first_above, has_mod, has_low, has_high, has_shl, has_shr, below_from_places}
 use Rattle.qrcode_packed.proofs.RowLists.{rows_fit}
 use Rattle.qrcode_packed.proofs.Turned.{three_at}

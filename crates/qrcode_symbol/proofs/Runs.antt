@@ -1,6 +1,6 @@
 -- The zeros and the ones that a word begins with.
-use Rattle.std.proofs.Common.{◌≡◌, ℕ, zero, suc, ◌+◌, ◌-◌, ◌*◌, ◌/◌, ◌%◌, ◌^◌, ◌<◌, ◌≤◌, Bool, true, false, ◌==◌, refl, ap, sym, subst, ◌∙◌, arith, inl, inr, true≢false}
-use Rattle.std.specs.Int.{w64, bit_not, bit_at}
+use Rattle.std.proofs.Common.{◌≡◌, ℕ, suc, ◌+◌, ◌-◌, ◌*◌, ◌/◌, ◌%◌, ◌^◌, ◌<◌, ◌≤◌, true, false, ◌==◌, ap, sym, subst, ◌∙◌, arith, inl, inr, true≢false}
+use Rattle.std.specs.Int.{w64, bit_at}
 use Rattle.std.specs.Int.Count.{count_leading_zeros}
 use Rattle.std.proofs.Math.Nat.{pow-suc}
 use Rattle.std.proofs.lemmas.Bool.{cases_lt}

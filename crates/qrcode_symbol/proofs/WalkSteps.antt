@@ -1,12 +1,12 @@
 -- The bits of pairs of columns are those of the walk.
-use Rattle.std.proofs.Common.{◌≡◌, ℕ, zero, suc, ◌+◌, ◌-◌, ◌*◌, ◌/◌, ◌%◌, ◌^◌, ◌<◌, ◌≤◌, ◌≢◌, Bool, true, false, ◌&&◌, ◌==◌, if◌then◌else◌, List, length, get_or, set, refl, ap, ap₂, sym, subst, ◌∙◌, arith, inl, inr, IsTrue}
+use Rattle.std.proofs.Common.{◌≡◌, ℕ, ◌+◌, ◌-◌, ◌*◌, ◌/◌, ◌%◌, ◌<◌, ◌≤◌, ◌≢◌, Bool, ◌&&◌, ◌==◌, List, length, get_or, set, refl, ap, ap₂, sym, subst, ◌∙◌, arith, inl, inr}
 use Rattle.std.proofs.lemmas.Bool.{cases_lt}
 use Rattle.std.proofs.lemmas.Bool.Decides.{nat_tests, eqb_tells}
 use Rattle.std.proofs.lemmas.List.{get_or-set_other, get_or-set_same}
-use Rattle.std.proofs.lemmas.Nat.{div-mul-add, mod-mul-add, div-add-mod', pow_pos}
+use Rattle.std.proofs.lemmas.Nat.{div-mul-add, mod-mul-add, div-add-mod'}
 use Rattle.std.proofs.Math.ListN.{length-set}
 use Rattle.std.proofs.Math.Nat.{mul-le-mul_left}
-use Rattle.qrcode_types.specs.Versions.{side, is_valid}
+use Rattle.qrcode_types.specs.Versions.{side}
 use Rattle.qrcode_types.specs.declared.types.Version.{Version}
 use Rattle.qrcode_types.specs.declared.types.Version.TheVariants.{Normal, Micro}
 use Rattle.qrcode_packed.specs.Rows.{is_set, FitsWidth}
@@ -15,7 +15,7 @@ use Rattle.qrcode_places.specs.Stream.{zigzag_place, right_column}
 use Rattle.qrcode_places.proofs.Zigzag.{half, side_odd, steps_is}
 use Rattle.qrcode_symbol.specs.Columns.{stream_bit, passing, row_at, is_free_step, HoldBits, is_free_place, free_before, AreFilled, AreFreeColumns}
 use Rattle.qrcode_symbol.proofs.Passing.{passing_add, passing_same, passing_le}
-use Rattle.qrcode_symbol.proofs.Pairs.{step_right, step_left, row_small}
+use Rattle.qrcode_symbol.proofs.Pairs.{row_small}
 
 pair_of : (w pair r : ℕ) → r < 2 * w → (2 * w * pair + r) / (2 * w) ≡ pair
 pair_of w pair r lt = let e : 2 * w * pair + r ≡ pair * (2 * w) + r = omega arith in rw e (div-mul-add pair (2 * w) r lt)

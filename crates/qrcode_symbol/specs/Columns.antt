@@ -1,5 +1,5 @@
 -- Data drawn column by column: which bit of the stream stands where.
-use Rattle.std.specs.Prelude.{◌≡◌, ℕ, zero, suc, ◌+◌, ◌-◌, ◌*◌, ◌/◌, ◌%◌, ◌<◌, ◌==◌, ◌&&◌, not, Bool, false, List, [], ◌∷◌, ◌≤◌, length, slice_index_or, if◌then◌else◌}
+use Rattle.std.specs.Prelude.{◌≡◌, ℕ, zero, suc, ◌+◌, ◌-◌, ◌*◌, ◌/◌, ◌%◌, ◌<◌, ◌==◌, ◌&&◌, not, Bool, false, List, ◌≤◌, length, slice_index_or, if◌then◌else◌}
 use Rattle.qrcode_types.specs.Bits.{has_bit, bits_of}
 use Rattle.qrcode_types.specs.declared.types.Version.{Version}
 use Rattle.qrcode_types.specs.Versions.{side}
@@ -59,11 +59,6 @@ pub record AreFreeColumns (v : Version) (columns : List ℕ) : Type 0 where
   pub size : length columns ≡ side v
   pub shown : (x y : ℕ) → x < side v → y < side v → is_set (slice_index_or columns x 0) y ≡ is_free_place v x y
   pub fits : (x : ℕ) → FitsWidth (side v) (slice_index_or columns x 0)
-
--- the bytes of a begun byte's four lowest bits and of bytes behind them, the last one filled with zeros
-abbrev pub behind_half : ℕ → List ℕ → List ℕ
-behind_half begun [] = (16 * (begun % 16)) ∷ []
-behind_half begun (b ∷ bytes) = (16 * (begun % 16) + b / 16) ∷ behind_half b bytes
 
 -- the bits of bytes are these, and zeros behind them
 abbrev pub ShowBits : List Bool → List ℕ → Type 0

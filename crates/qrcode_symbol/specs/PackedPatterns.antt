@@ -1,5 +1,5 @@
 -- Functional patterns on the way into packed rows.
-use Rattle.std.specs.Prelude.{◌≡◌, ℕ, ◌+◌, ◌-◌, ◌*◌, ◌<◌, ◌≤◌, ◌%◌, ◌==◌, true, false, List, length, slice_index_or}
+use Rattle.std.specs.Prelude.{◌≡◌, ℕ, ◌+◌, ◌-◌, ◌*◌, ◌<◌, ◌≤◌, true, false, List, length, slice_index_or}
 use Rattle.qrcode_types.specs.Bits.{has_bit}
 use Rattle.qrcode_types.specs.Colors.{color_of}
 use Rattle.qrcode_types.specs.Versions.{side}

@@ -37,6 +37,7 @@ fn data_rows<R: PackedRow>(
     rows: &mut [R],
 ) -> QrResult<()>
     requires valid { IsTrue (is_valid version) }
+    requires normal { is_micro version ≡ false }
     requires room { side version + 3 ≤ R.room }
     requires free { AreFreeColumns version (map R.bits free.now) }
     requires columns_length { length columns.old ≡ side version }

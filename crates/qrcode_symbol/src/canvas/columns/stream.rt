@@ -1,13 +1,11 @@
 //! Codewords as a stream of bits.
 
-ghost use Rattle.std.specs.Prelude.{◌≡◌, ℕ, ◌+◌, ◌/◌, ◌<◌, ◌≤◌, ◌-◌, ◌*◌, ◌++◌, [], take, length, slice_index_or, IsTrue, IfOk, IsOkUnless, OnOk};
-ghost use Rattle.qrcode_types.specs.Bits.{bits_of};
-ghost use Rattle.qrcode_types.specs.Versions.{is_valid};
+ghost use Rattle.std.specs.Prelude.{◌≡◌, ℕ, ◌+◌, ◌/◌, ◌<◌, ◌≤◌, length, slice_index_or, false, IfOk, IsOkUnless};
+ghost use Rattle.qrcode_types.specs.Versions.{is_micro};
 ghost use Rattle.qrcode_types.specs.declared.types.QrError.TheVariants.{OutOfMemory};
 ghost use Rattle.qrcode_symbol.specs.Canvas.{drawn_bits};
-ghost use Rattle.qrcode_symbol.specs.Columns.{IsStream, ShowBits, behind_half, nth_bit, stream_bit};
+ghost use Rattle.qrcode_symbol.specs.Columns.{IsStream, nth_bit, stream_bit};
 
-use qrcode_types::tables::has_half_codeword;
 use qrcode_types::types::{EcLevel, QrResult, Version};
 use std::alloc::Global;
 
@@ -63,63 +61,7 @@ impl<'a> Stream<'a> {
     }
 }
 
-// Appends the four lowest bits of a byte, and bytes behind them.
-fn push_behind_half(stream: &mut Vec<u8>, half: u8, bytes: &[u8]) -> QrResult<()>
-    ensures appends { OnOk result (stream.new.items
-        ≡ stream.old.items ++ behind_half half bytes.now) }
-    ensures memory { IsOkUnless result OutOfMemory }
-{
-    let mut begun = half;
-    for byte in bytes {
-        stream.push(16 * (begun % 16) + *byte / 16)?;
-        begun = *byte;
-    }
-    stream.push(16 * (begun % 16))?;
-    Ok(())
-}
-
-// Appends bytes, of the last of which only the high half counts, and bytes behind them.
-fn push_half_codewords(stream: &mut Vec<u8>, bytes: &[u8], ec: &[u8]) -> QrResult<()>
-    requires { stream.old.items ≡ [] }
-    ensures appends { OnOk result (ShowBits
-        (take (8 * length bytes.now - 4) (bits_of bytes.now) ++ bits_of ec.now)
-        stream.new.items) }
-    ensures memory { IsOkUnless result OutOfMemory }
-{
-    if bytes.is_empty() {
-        stream.extend_from_slice(ec)?;
-        return Ok(());
-    }
-    let last = bytes.len() - 1;
-    stream.extend_from_slice(&bytes[..last])?;
-    push_behind_half(stream, bytes[last] / 16, ec)?;
-    Ok(())
-}
-
-// Appends the bytes of the bits that are drawn of codewords. Behind a half codeword each byte has bits of two.
-fn push_codewords(
-    stream: &mut Vec<u8>,
-    version: Version,
-    ec_level: EcLevel,
-    bytes: &[u8],
-    ec: &[u8],
-) -> QrResult<()>
-    requires valid { IsTrue (is_valid version) }
-    requires empty { stream.old.items ≡ [] }
-    ensures appends { OnOk result (ShowBits (drawn_bits version ec_level bytes.now ec.now)
-        stream.new.items) }
-    ensures memory { IsOkUnless result OutOfMemory }
-{
-    if has_half_codeword(version, ec_level) {
-        push_half_codewords(stream, bytes, ec)?;
-        return Ok(());
-    }
-    stream.extend_from_slice(bytes)?;
-    stream.extend_from_slice(ec)?;
-    Ok(())
-}
-
-/// The bytes of the bits that are drawn of codewords, as a stream.
+/// The bytes of the bits that are drawn of codewords of Normal, as a stream.
 pub(crate) fn stream_of(
     alloc: Global,
     version: Version,
@@ -127,14 +69,15 @@ pub(crate) fn stream_of(
     bytes: &[u8],
     ec: &[u8],
 ) -> QrResult<Vec<u8>>
-    requires { IsTrue (is_valid version) }
+    requires { is_micro version ≡ false }
     ensures value { IfOk result (λ stream.
         IsStream (drawn_bits version ec_level bytes.now ec.now) stream.items) }
     ensures memory { IsOkUnless result OutOfMemory }
 {
     let room = bytes.len().saturating_add(ec.len()).saturating_add(10);
     let mut stream = Vec::with_capacity(alloc, room)?;
-    push_codewords(&mut stream, version, ec_level, bytes, ec)?;
+    stream.extend_from_slice(bytes)?;
+    stream.extend_from_slice(ec)?;
     stream.extend_from_slice(&[0; 9])?;
     Ok(stream)
 }

@@ -1,4 +1,4 @@
-use Rattle.std.proofs.Common.{◌≡◌, ℕ, ◌<◌, length, map, slice_index_or}
+use Rattle.std.proofs.Common.{◌≡◌, ℕ, ◌<◌, map, slice_index_or}
 use Rattle.qrcode_symbol.proofs.canvas.columns.clear.Given as goal
 
 abbrev pub invariant-loop-x : goal.invariant-loop-x

@@ -1,4 +1,4 @@
-use Rattle.std.proofs.Common.{◌≡◌, ℕ, ◌+◌, ◌*◌, map, slice_index_or}
+use Rattle.std.proofs.Common.{◌≡◌, ℕ, ◌*◌, map, slice_index_or}
 use Rattle.qrcode_types.specs.Versions.{side}
 use Rattle.qrcode_packed.specs.Rows.{FitsWidth}
 use Rattle.qrcode_places.specs.Laws.{left_out}

@@ -1,6 +1,6 @@
-use Rattle.std.proofs.Common.{◌≡◌, ℕ, List, length, map, slice_index_or, slice_set, bit_or, ap, ap₂, ◌∙◌, arith, refl}
+use Rattle.std.proofs.Common.{◌≡◌, ℕ, List, map, slice_index_or, bit_or, ap, ap₂, ◌∙◌, arith}
 use Rattle.std.proofs.Math.ListN.{length-set}
-use Rattle.std.proofs.lemmas.List.{map-set, length-map, get_or-set_other}
+use Rattle.std.proofs.lemmas.List.{map-set, get_or-set_other}
 use Rattle.qrcode_packed.proofs.RowLists.{read, rows_more}
 use Rattle.qrcode_symbol.proofs.canvas.drawn.add_rows.Goals as goal
 

@@ -1,4 +1,4 @@
-use Rattle.std.proofs.Common.{◌≡◌, ℕ, ◌+◌, map, subst, arith, get_or, refl}
+use Rattle.std.proofs.Common.{ℕ, ◌+◌, map, subst, arith, get_or, refl}
 use Rattle.qrcode_symbol.specs.PackedPatterns.{IsTaken}
 use Rattle.qrcode_symbol.proofs.PackedPatterns.{block_line, taken_more}
 use Rattle.qrcode_symbol.proofs.canvas.packed_patterns.draw_block.Goals as goal

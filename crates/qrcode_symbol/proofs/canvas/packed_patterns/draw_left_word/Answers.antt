@@ -1,6 +1,6 @@
-use Rattle.std.proofs.Common.{◌≡◌, ℕ, ◌+◌, ◌-◌, map, subst, arith, ◌∙◌, sym}
+use Rattle.std.proofs.Common.{◌≡◌, ℕ, ◌+◌, ◌-◌, map, subst, arith}
 use Rattle.qrcode_types.specs.Versions.{side}
-use Rattle.qrcode_symbol.specs.PackedPatterns.{IsTaken, IsLineShown}
+use Rattle.qrcode_symbol.specs.PackedPatterns.{IsTaken}
 use Rattle.qrcode_symbol.proofs.PackedPatterns.{left_line, taken_more}
 use Rattle.qrcode_symbol.proofs.canvas.packed_patterns.draw_left_word.Goals as goal
 

@@ -1,4 +1,4 @@
-use Rattle.std.proofs.Common.{◌≡◌, ℕ, ◌∙◌, map, length, arith, ap, ap₂, bit_and, bit_or, bit_xor}
+use Rattle.std.proofs.Common.{ℕ, ◌∙◌, map, arith, ap, ap₂, bit_and, bit_or, bit_xor}
 use Rattle.std.proofs.lemmas.List.{map-set, length-map}
 use Rattle.qrcode_packed.proofs.RowLists.{read}
 use Rattle.qrcode_symbol.proofs.PackedPatterns.{line_drawn}

@@ -1,7 +1,7 @@
-use Rattle.std.proofs.Common.{◌≡◌, ℕ, ◌+◌, ◌-◌, ◌*◌, ◌/◌, ◌%◌, ◌^◌, ◌<◌, map, subst, arith, ◌∙◌, sym}
+use Rattle.std.proofs.Common.{◌≡◌, ℕ, ◌+◌, ◌-◌, ◌*◌, ◌/◌, ◌%◌, ◌^◌, ◌<◌, map, subst, arith}
 use Rattle.qrcode_types.specs.Versions.{side}
 use Rattle.qrcode_packed.specs.Rows.{is_set}
-use Rattle.qrcode_symbol.specs.PackedPatterns.{IsTaken, IsLineShown}
+use Rattle.qrcode_symbol.specs.PackedPatterns.{IsTaken}
 use Rattle.qrcode_symbol.proofs.PackedPatterns.{right_line, taken_more}
 use Rattle.qrcode_symbol.proofs.canvas.packed_patterns.draw_right_word.Goals as goal
 

@@ -1,5 +1,4 @@
-use Rattle.std.proofs.Common.{◌≡◌, ℕ, ◌+◌, map, subst, arith, ◌∙◌, sym}
-use Rattle.qrcode_types.specs.Versions.{side}
+use Rattle.std.proofs.Common.{ℕ, ◌+◌, map, subst, arith}
 use Rattle.qrcode_symbol.specs.PackedPatterns.{IsTaken}
 use Rattle.qrcode_symbol.proofs.Blocks.{normal_side}
 use Rattle.qrcode_symbol.proofs.PackedPatterns.{timing_place, taken_more}

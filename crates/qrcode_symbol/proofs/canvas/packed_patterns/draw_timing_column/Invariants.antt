@@ -1,5 +1,4 @@
-use Rattle.std.proofs.Common.{map, ◌-◌}
-use Rattle.qrcode_types.specs.Versions.{side}
+use Rattle.std.proofs.Common.{map}
 use Rattle.qrcode_symbol.specs.PackedPatterns.{AreBegun, StayTaken, IsTaken}
 use Rattle.qrcode_symbol.proofs.canvas.packed_patterns.draw_timing_column.Given as goal
 

@@ -1,5 +1,4 @@
-use Rattle.std.proofs.Common.{◌≡◌, ℕ, ◌-◌, ◌/◌, ◌∙◌, map, ap, arith}
-use Rattle.qrcode_types.specs.Versions.{side}
+use Rattle.std.proofs.Common.{ℕ, ◌-◌, ◌/◌, ◌∙◌, ap, arith}
 use Rattle.qrcode_places.specs.Words.{version_word}
 use Rattle.qrcode_symbol.proofs.PackedPatterns.{words_shown}
 use Rattle.qrcode_symbol.proofs.canvas.packed_patterns.draw_version_words.Goals as goal

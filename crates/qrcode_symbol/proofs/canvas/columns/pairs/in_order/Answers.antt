@@ -1,4 +1,4 @@
-use Rattle.std.proofs.Common.{◌≡◌, ℕ, ◌-◌, Bool, ap, sym, ◌∙◌, arith}
+use Rattle.std.proofs.Common.{◌≡◌, ◌-◌, Bool, ap, sym, ◌∙◌, arith}
 use Rattle.qrcode_packed.specs.Rows.{is_set}
 use Rattle.qrcode_symbol.specs.Columns.{row_at}
 use Rattle.qrcode_symbol.proofs.Pairs.{up_is, down_is}

@@ -1,6 +1,5 @@
-use Rattle.std.proofs.Common.{◌≡◌, ℕ, arith, subst}
+use Rattle.std.proofs.Common.{ℕ, arith, subst}
 use Rattle.qrcode_symbol.specs.Columns.{stream_bit}
-use Rattle.qrcode_symbol.proofs.Runs.{BeginsWithZeros, BeginsWithOnes}
 use Rattle.qrcode_symbol.proofs.Placed.{IsPlaced, none_placed, next_small, run_inside, run_some, run_placed, rest_smaller, all_placed}
 use Rattle.qrcode_symbol.proofs.canvas.columns.placing.bits_at_places.Goals as goal
 

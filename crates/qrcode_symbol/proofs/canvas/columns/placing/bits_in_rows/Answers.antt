@@ -1,6 +1,6 @@
-use Rattle.std.proofs.Common.{◌≡◌, ℕ, ◌+◌, ◌<◌, true, ap, sym, ◌∙◌, arith}
+use Rattle.std.proofs.Common.{ℕ, ◌+◌, true, ap, sym, ◌∙◌}
 use Rattle.qrcode_packed.specs.Rows.{is_set}
-use Rattle.qrcode_symbol.specs.Columns.{stream_bit, nth_bit, passing, is_free_step}
+use Rattle.qrcode_symbol.specs.Columns.{stream_bit, nth_bit, is_free_step}
 use Rattle.qrcode_symbol.proofs.Passing.{passing_same, passing_all}
 use Rattle.qrcode_symbol.proofs.Steps.{both_spread, all_free, same_places, all_places}
 use Rattle.qrcode_symbol.proofs.canvas.columns.placing.bits_in_rows.Goals as goal
