@@ -49,6 +49,10 @@ next_places word = bit_or (word / 2 ^ 4) (word * 2 ^ 56 % 2 ^ 64)
 abbrev pub three_words : ℕ → ℕ
 three_words word = (next_places (next_places word) * 2 ^ 64 + next_places word) * 2 ^ 64 + word
 
+-- the number of three words, the lowest first
+abbrev pub number_of_words : List ℕ → ℕ
+number_of_words words = (slice_index_or words 2 0 * 2 ^ 64 + slice_index_or words 1 0) * 2 ^ 64 + slice_index_or words 0 0
+
 -- row k with the places turned that the mask turns
 pub record IsTurnedRow (w : ℕ) (mask : MaskPattern) (dark free : List ℕ) (k row : ℕ) : Type 0 where
   pub shows : (x : ℕ) → x < w → is_set row x ≡ turned_if (dark_in free x k && turns mask x k) (dark_in dark x k)

@@ -6,7 +6,7 @@ ghost use Rattle.qrcode_types.specs.Versions.{is_micro};
 ghost use Rattle.qrcode_packed.specs.Rows.{FitsWidth, IsSquare, is_set, dark_in, Shows};
 ghost use Rattle.qrcode_places.specs.Masks.{turns, turned_if, exists_in};
 ghost use Rattle.qrcode_places.specs.Words.{format_word};
-ghost use Rattle.qrcode_symbol.specs.Masking.{masked_dark, next_places, three_words, AreTurned};
+ghost use Rattle.qrcode_symbol.specs.Masking.{masked_dark, next_places, number_of_words, three_words, AreTurned};
 ghost use Rattle.qrcode_symbol.specs.Deciding.{IsPutInRow, IsPutInColumn, AreDecided};
 
 use super::layer::Layer;
@@ -60,13 +60,22 @@ fn next_places(word: u64) -> u64
     word >> 4 | word << 56
 }
 
+// The three words of a line in which six or twelve places stand again and again, by its first 64 places.
+#[inline(always)]
+fn long_words(word: u64) -> [u64; 3]
+    ensures { number_of_words result ≡ three_words word }
+{
+    let middle = next_places(word);
+    [word, middle, next_places(middle)]
+}
+
 /// A line in which six or twelve places stand again and again, by its first 64 places.
 #[inline(always)]
 pub(super) fn long_row<R: PackedRow>(word: u64) -> R
     ensures { R.bits result ≡ three_words word % 2 ^ R.room }
 {
-    let middle = next_places(word);
-    R::of_words(word, middle, next_places(middle))
+    let words = long_words(word);
+    R::of_words(words[0], words[1], words[2])
 }
 
 /// The places that the mask turns in the first 64 columns of row y, each of which goes on so.
@@ -85,23 +94,23 @@ pub(super) fn turned_column(mask: MaskPattern, x: usize) -> u64
     (TURNED_COLUMNS[mask.number()][x % 6] as u64).wrapping_mul(0x1001_0010_0100_1001)
 }
 
-// The places that a mask turns in the first 64 columns of twelve rows, which stand for all, since each mask goes on so
-// every twelve rows.
+// The places that a mask turns in twelve rows, which stand for all, since each mask goes on so every twelve rows: the
+// three words of each, found once for all rows that have them.
 #[derive(Drop)]
 struct TurnedRows {
     mask: MaskPattern,
-    words: [u64; 12],
+    words: [[u64; 3]; 12],
     ghost length: { length words ≡ 12 },
     ghost value: { (x y : ℕ) → x < 192
-        → is_set (slice_index_or (map three_words words) (y % 12) 0) x ≡ turns mask x y },
+        → is_set (slice_index_or (map number_of_words words) (y % 12) 0) x ≡ turns mask x y },
 }
 
 fn turned_rows(mask: MaskPattern) -> TurnedRows
     ensures { result.mask ≡ mask }
 {
-    let mut words = [0u64; 12];
+    let mut words = [[0u64; 3]; 12];
     for y in 0..12 {
-        words[y] = turned_row(mask, y);
+        words[y] = long_words(turned_row(mask, y));
     }
     TurnedRows { mask, words }
 }
@@ -215,7 +224,11 @@ fn turn_some_rows<R: PackedRow>(
 {
     for k in 0..count {
         let y = first + k;
-        let places = modules.free.row(y).and(long_row(turned.words[k]));
+        let words = turned.words[k];
+        let places = modules
+            .free
+            .row(y)
+            .and(R::of_words(words[0], words[1], words[2]));
         rows[y] = modules.dark.row(y).xor(places);
     }
 }

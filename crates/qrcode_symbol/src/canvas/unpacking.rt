@@ -1,6 +1,6 @@
 //! Rows of places written as modules or as colours.
 
-ghost use Rattle.std.specs.Prelude.{◌≡◌, ℕ, ◌+◌, ◌*◌, ◌<◌, ◌≤◌, [], length, map, slice_index_or, IfOk, IsOkUnless};
+ghost use Rattle.std.specs.Prelude.{◌≡◌, ℕ, ◌+◌, ◌*◌, ◌%◌, ◌^◌, ◌==◌, ◌<◌, ◌≤◌, [], length, map, slice_index_or, IfOk, IsOkUnless};
 ghost use Rattle.qrcode_types.specs.Colors.{color_of};
 ghost use Rattle.qrcode_types.specs.declared.types.Color.{Color};
 ghost use Rattle.qrcode_types.specs.declared.types.Color.TheVariants.{Light};
@@ -14,6 +14,7 @@ use qrcode_packed::row::PackedRow;
 use qrcode_places::patterns::color_of;
 use qrcode_types::types::{Color, QrResult};
 use std::alloc::AllocError;
+use std::simd::prelude::*;
 
 /// An item that a colour is written as.
 pub(super) trait FromColor: Copy {
@@ -47,17 +48,46 @@ impl FromColor for Module {
     }
 }
 
-// The colours of the places of a word. From the bits of its bytes LLVM makes sixteen at a time.
+// Each of eight bytes eight times.
+#[rattlefmt::skip]
+const EIGHT_TIMES: [usize; 64] = [
+    0, 0, 0, 0, 0, 0, 0, 0, 1, 1, 1, 1, 1, 1, 1, 1,
+    2, 2, 2, 2, 2, 2, 2, 2, 3, 3, 3, 3, 3, 3, 3, 3,
+    4, 4, 4, 4, 4, 4, 4, 4, 5, 5, 5, 5, 5, 5, 5, 5,
+    6, 6, 6, 6, 6, 6, 6, 6, 7, 7, 7, 7, 7, 7, 7, 7,
+];
+
+// The bits of a byte, one by one, eight times.
+#[rattlefmt::skip]
+static BITS: [u8; 64] = [
+    1, 2, 4, 8, 16, 32, 64, 128, 1, 2, 4, 8, 16, 32, 64, 128,
+    1, 2, 4, 8, 16, 32, 64, 128, 1, 2, 4, 8, 16, 32, 64, 128,
+    1, 2, 4, 8, 16, 32, 64, 128, 1, 2, 4, 8, 16, 32, 64, 128,
+    1, 2, 4, 8, 16, 32, 64, 128, 1, 2, 4, 8, 16, 32, 64, 128,
+];
+
+// Each byte of a word eight times, with another of its bits each time, so that LLVM tests sixteen places at once.
+#[inline(always)]
+fn bits_apart(word: u64) -> [u8; 64]
+    ensures length { length result ≡ 64 }
+    ensures shown { (x : ℕ) → x < 64
+        → (slice_index_or result x 0 == 2 ^ (x % 8)) ≡ is_set word x }
+{
+    let bytes = u8x8::from_array(word.to_le_bytes());
+    (bytes.swizzle(EIGHT_TIMES) & u8x64::from_array(BITS)).to_array()
+}
+
+// The colours of the places of a word.
 #[inline(always)]
 fn colors_of(word: u64) -> [Color; 64]
     ensures length { length result ≡ 64 }
     ensures shown { (x : ℕ) → x < 64
         → slice_index_or result x Light ≡ color_of (is_set word x) }
 {
-    let bytes = word.to_le_bytes();
+    let bits = bits_apart(word);
     let mut colors = [Color::Light; 64];
     for x in 0..64 {
-        colors[x] = color_of((bytes[x / 8] >> (x % 8)) % 2 == 1);
+        colors[x] = color_of(bits[x] == 1 << (x % 8));
     }
     colors
 }

@@ -5,7 +5,7 @@ ghost use Rattle.qrcode_packed.specs.Rows.{is_set, FitsWidth};
 ghost use Rattle.qrcode_symbol.specs.Columns.{HoldBits, is_free_step, is_set_in, passing, row_at};
 
 use super::placing::{Rows, bits_in_rows};
-use super::shuffling::{backwards, pressed};
+use super::shuffling::{TwoWords, backwards, pressed};
 use super::stream::Stream;
 use qrcode_packed::row::PackedRow;
 use qrcode_packed::turn::word_of;
@@ -55,12 +55,12 @@ fn drawn_rows<const UP: bool>(stream: Stream<'_>, from: usize, free: Rows) -> Dr
         ≡ from + passing (is_free_step UP 32 (is_set free.left) (is_set free.right)) 64 }
 {
     let bits = bits_in_rows(stream, from, in_order::<UP>(free));
-    let rows = Rows {
-        left: pressed(bits.word),
-        right: pressed(bits.word >> 1),
-    };
+    let (left, right) = pressed(TwoWords {
+        first: bits.word,
+        second: bits.word >> 1,
+    });
     DrawnRows {
-        rows: in_order::<UP>(rows),
+        rows: in_order::<UP>(Rows { left, right }),
         next: bits.next,
     }
 }

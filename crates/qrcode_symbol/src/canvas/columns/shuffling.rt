@@ -1,15 +1,41 @@
 //! Bits that stand one beside the other, the same at even places, and the same in the other order.
 
-ghost use Rattle.std.specs.Prelude.{◌≡◌, ℕ, ◌+◌, ◌-◌, ◌*◌, ◌/◌, ◌%◌, ◌^◌, ◌<◌, false, bit_and, bit_or};
+ghost use Rattle.std.specs.Prelude.{◌≡◌, ℕ, ◌+◌, ◌-◌, ◌*◌, ◌/◌, ◌%◌, ◌^◌, ◌<◌, ◌∷◌, [], false, bit_and, bit_or};
 ghost use Rattle.qrcode_packed.specs.Rows.{is_set};
 
-// Groups of bits, each moved down to the one before it; the mask has what stays.
+use std::simd::u64x2;
+
+/// Two numbers, side by side in a vector: what is done, is done to both.
+#[derive(Copy, Clone)]
+pub(super) struct TwoWords {
+    pub(super) first: u64,
+    pub(super) second: u64,
+}
+
+// The numbers as a vector.
 #[inline(always)]
-fn joined(word: u64, across: u32, mask: u64) -> u64
-    requires { across < 64 }
-    ensures { result ≡ bit_and (bit_or word (word / 2 ^ across)) mask }
+fn lanes(words: TwoWords) -> u64x2
+    ensures { result ≡ words.first ∷ words.second ∷ [] }
 {
-    (word | (word >> across)) & mask
+    u64x2::from_array([words.first, words.second])
+}
+
+// Groups of bits of two numbers, each moved down to the one before it; the mask has what stays.
+#[inline(always)]
+fn joined(words: TwoWords, across: u32, mask: u64) -> TwoWords
+    requires { across < 64 }
+    ensures first { result.first
+        ≡ bit_and (bit_or words.first (words.first / 2 ^ across)) mask }
+    ensures second { result.second
+        ≡ bit_and (bit_or words.second (words.second / 2 ^ across)) mask }
+{
+    let groups = lanes(words);
+    let moved = groups >> u64x2::splat(u64::from(across));
+    let rest = ((groups | moved) & u64x2::splat(mask)).to_array();
+    TwoWords {
+        first: rest[0],
+        second: rest[1],
+    }
 }
 
 // The upper half of each group of bits moved up; the mask has what stays.
@@ -21,17 +47,22 @@ fn parted(word: u64, across: u32, mask: u64) -> u64
     (word | (word << across)) & mask
 }
 
-/// The bits at the even places of a number, one beside the other: groups of twice as many bits at each step.
+/// The bits at the even places of two numbers, one beside the other: groups of twice as many bits at each step.
 #[inline(always)]
-pub(super) fn pressed(word: u64) -> u32
-    ensures { (k : ℕ) → k < 32 → is_set result k ≡ is_set word (2 * k) }
+pub(super) fn pressed(words: TwoWords) -> (u32, u32)
+    ensures first { (k : ℕ) → k < 32 → is_set result.0 k ≡ is_set words.first (2 * k) }
+    ensures second { (k : ℕ) → k < 32 → is_set result.1 k ≡ is_set words.second (2 * k) }
 {
-    let ones = word & 0x5555_5555_5555_5555;
+    let ones = TwoWords {
+        first: words.first & 0x5555_5555_5555_5555,
+        second: words.second & 0x5555_5555_5555_5555,
+    };
     let twos = joined(ones, 1, 0x3333_3333_3333_3333);
     let fours = joined(twos, 2, 0x0f0f_0f0f_0f0f_0f0f);
     let eights = joined(fours, 4, 0x00ff_00ff_00ff_00ff);
     let sixteens = joined(eights, 8, 0x0000_ffff_0000_ffff);
-    joined(sixteens, 16, 0x0000_0000_ffff_ffff) as u32
+    let all = joined(sixteens, 16, 0x0000_0000_ffff_ffff);
+    (all.first as u32, all.second as u32)
 }
 
 /// The bits of a number at even places, zeros between them: groups of half as many bits at each step.

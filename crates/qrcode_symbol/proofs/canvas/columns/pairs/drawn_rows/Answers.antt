@@ -7,8 +7,8 @@ returns-clause-shown g c =
     let free = c.args.free in
     let met = c.in_order.result in
     let drawn = c.in_order-2.result in
-    rows_hold c.args.stream.bytes.now c.args.from c.bits_in_rows-bits.result.word (up_of g.row.UP) free.left free.right met.left met.right drawn.left drawn.right c.pressed.result c.pressed-2.result
-    c.in_order.ensures.left c.in_order.ensures.right c.bits_in_rows-bits.ensures.shown c.pressed.ensures c.pressed-2.ensures c.in_order-2.ensures.left c.in_order-2.ensures.right
+    rows_hold c.args.stream.bytes.now c.args.from c.bits_in_rows-bits.result.word (up_of g.row.UP) free.left free.right met.left met.right drawn.left drawn.right c.pressed-left.result.0 c.pressed-left.result.1
+    c.in_order.ensures.left c.in_order.ensures.right c.bits_in_rows-bits.ensures.shown c.pressed-left.ensures.first c.pressed-left.ensures.second c.in_order-2.ensures.left c.in_order-2.ensures.right
 
 pub returns-clause-next : goal.returns-clause-next
 returns-clause-next g c =
