@@ -178,43 +178,63 @@ fn push_cause(
 ) -> Result<(), AllocError> {
     match cause {
         Cause::UnknownIdentifier => Ok(()),
-        Cause::Length => {
-            let ((least, most), count) = (rule.1, value.len());
-            write!(text, "its value has {count} characters; it wants {least}")?;
-            if least < most {
-                write!(text, " to {most}")?;
-            }
-            Ok(())
-        }
+        Cause::Length => push_length(text, rule.1, value.len()),
         Cause::Character => push_character(text, rule.2, value),
-        Cause::CheckDigit => {
-            let place = rule.3;
-            let digit = right_digit(*text.allocator(), identifier, value, place)?;
-            write!(
-                text,
-                "its check digit, at place {place}, would be {digit}; \
-                look for a digit that is wrong or exchanged"
-            )
-        }
+        Cause::CheckDigit => push_digit(text, identifier, value, rule.3),
     }
+}
+
+// Appends how many characters a value has, and the least and the most that it may have.
+fn push_length(
+    text: &mut String,
+    (least, most): (usize, usize),
+    count: usize,
+) -> Result<(), AllocError> {
+    if least < most {
+        write!(
+            text,
+            "its value has {count} characters; it wants {least} to {most}"
+        )
+    } else {
+        write!(text, "its value has {count} characters; it wants {least}")
+    }
+}
+
+// Appends the check digit that would be right at a place, from 1.
+fn push_digit(
+    text: &mut String,
+    identifier: &str,
+    value: &str,
+    place: usize,
+) -> Result<(), AllocError> {
+    let digit = right_digit(*text.allocator(), identifier, value, place)?;
+    write!(
+        text,
+        "its check digit, at place {place}, would be {digit}; \
+        look for a digit that is wrong or exchanged"
+    )
 }
 
 // Appends the first character of a value that may not stand there, of which so many are digits.
 fn push_character(text: &mut String, digits: usize, value: &str) -> Result<(), AllocError> {
     for (index, character) in value.chars().enumerate() {
-        let place = index.saturating_add(1);
-        if index < digits && !character.is_ascii_digit() {
-            return write!(text, "{character} at place {place} is no digit");
-        }
-        if !is_known(character) {
-            return write!(
-                text,
-                "{character} at place {place} is not one of the digits, letters \
-                and !\"%&'()*+,-./:;<=>?_"
-            );
+        if let Some(what) = wrong_with(character, index < digits) {
+            let place = index.saturating_add(1);
+            return write!(text, "{character} at place {place} is {what}");
         }
     }
     Ok(())
+}
+
+// What is wrong with a character that may be a digit alone, or any of GS1.
+fn wrong_with(character: char, is_digit: bool) -> Option<&'static str> {
+    if is_digit && !character.is_ascii_digit() {
+        Some("no digit")
+    } else if !is_known(character) {
+        Some("not one of the digits, letters and !\"%&'()*+,-./:;<=>?_")
+    } else {
+        None
+    }
 }
 
 // Whether a character is one of the 82 of GS1.

@@ -15,10 +15,14 @@ pub(crate) fn event<'a>(alloc: Global, given: &Given<'a>) -> Result<Event<'a>, R
     ensures { IfOk result (λ event. happening_of event
         ≡ happening_in given.now.values.items event.stamp event.span) }
 {
+    let span = span(alloc, given)?;
+    let Some(stamp) = moment_of(given.text("stamp").as_bytes()) else {
+        return Err(no_moment(alloc, "--stamp"));
+    };
     Ok(Event {
-        span: span(alloc, given)?,
+        span,
         uid: given.text("uid"),
-        stamp: moment(alloc, given, "stamp", "--stamp")?,
+        stamp,
         summary: given.text("summary"),
         location: given.text("location"),
         description: given.text("description"),
@@ -27,75 +31,76 @@ pub(crate) fn event<'a>(alloc: Global, given: &Given<'a>) -> Result<Event<'a>, R
 
 // When it begins and ends: days where its begin is one, and else moments.
 fn span(alloc: Global, given: &Given<'_>) -> Result<Span, Refusal> {
-    if day_of(given.text("begin").as_bytes()).is_some() {
-        Ok(Span::Days(
-            day(alloc, given, "begin", "--begin")?,
-            day(alloc, given, "end", "--end")?,
-        ))
-    } else {
-        Ok(Span::Times(
-            moment(alloc, given, "begin", "--begin")?,
-            moment(alloc, given, "end", "--end")?,
-        ))
+    let (begin, end) = (given.text("begin").as_bytes(), given.text("end").as_bytes());
+    match (day_of(begin), day_of(end)) {
+        (Some(first), Some(last)) => Ok(Span::Days(first, last)),
+        (Some(_), None) => Err(no_day(alloc, "--end")),
+        (None, _) => times(alloc, begin, end),
     }
 }
 
-// The day that an option gives.
-fn day(alloc: Global, given: &Given<'_>, name: &str, option: &str) -> Result<Day, Refusal> {
-    match day_of(given.text(name).as_bytes()) {
-        Some(day) => Ok(day),
-        None => Err(wrong(alloc, option, "it is no day", "; write it as 19970714")),
+// The moments when it begins and ends.
+fn times(alloc: Global, begin: &[u8], end: &[u8]) -> Result<Span, Refusal> {
+    match (moment_of(begin), moment_of(end)) {
+        (Some(first), Some(last)) => Ok(Span::Times(first, last)),
+        (Some(_), None) => Err(no_moment(alloc, "--end")),
+        (None, _) => Err(no_moment(alloc, "--begin")),
     }
 }
 
-// The moment that an option gives.
-fn moment(alloc: Global, given: &Given<'_>, name: &str, option: &str) -> Result<Moment, Refusal> {
-    match moment_of(given.text(name).as_bytes()) {
-        Some(moment) => Ok(moment),
-        None => Err(wrong(
-            alloc,
-            option,
-            "it is no moment",
-            "; write it in UTC as 19970714T170000Z, or begin and end both as days",
-        )),
-    }
+// The refusal of an option that gives no day.
+fn no_day(alloc: Global, option: &str) -> Refusal {
+    wrong(alloc, option, "it is no day", "; write it as 19970714")
+}
+
+// The refusal of an option that gives no moment.
+fn no_moment(alloc: Global, option: &str) -> Refusal {
+    wrong(
+        alloc,
+        option,
+        "it is no moment",
+        "; write it in UTC as 19970714T170000Z, or begin and end both as days",
+    )
 }
 
 // A day of eight digits.
 fn day_of(bytes: &[u8]) -> Option<Day> {
-    if bytes.len() != 8 {
+    let [a, b, c, d, e, f, g, h] = bytes else {
         return None;
+    };
+    match (pair(*a, *b), pair(*c, *d), pair(*e, *f), pair(*g, *h)) {
+        (Some(century), Some(year), Some(month), Some(day)) => Some(Day {
+            year: u16::from(century) * 100 + u16::from(year),
+            month,
+            day,
+        }),
+        _ => None,
     }
-    Some(Day {
-        year: u16::from(pair_at(bytes, 0)?) * 100 + u16::from(pair_at(bytes, 2)?),
-        month: pair_at(bytes, 4)?,
-        day: pair_at(bytes, 6)?,
-    })
 }
 
 // A moment: a day, T, six digits and Z.
 fn moment_of(bytes: &[u8]) -> Option<Moment> {
     let (day, time) = bytes.split_at_checked(8)?;
-    let [b'T', clock @ .., b'Z'] = time else {
+    let [b'T', a, b, c, d, e, f, b'Z'] = time else {
         return None;
     };
-    if clock.len() != 6 {
-        return None;
+    match (day_of(day), pair(*a, *b), pair(*c, *d), pair(*e, *f)) {
+        (Some(day), Some(hour), Some(minute), Some(second)) => Some(Moment {
+            day,
+            hour,
+            minute,
+            second,
+        }),
+        _ => None,
     }
-    Some(Moment {
-        day: day_of(day)?,
-        hour: pair_at(clock, 0)?,
-        minute: pair_at(clock, 2)?,
-        second: pair_at(clock, 4)?,
-    })
 }
 
-// The number of two digits at a place.
-fn pair_at(bytes: &[u8], place: usize) -> Option<u8> {
-    let [tens, ones] = bytes.get(place..place.saturating_add(2))? else {
-        return None;
-    };
-    Some(10 * digit(*tens)? + digit(*ones)?)
+// The number of two digits.
+fn pair(tens: u8, ones: u8) -> Option<u8> {
+    match (digit(tens), digit(ones)) {
+        (Some(tens), Some(ones)) => Some(10 * tens + ones),
+        _ => None,
+    }
 }
 
 // The number of a digit.

@@ -5,7 +5,7 @@ use qrcode_fields::errors::{Cause, ContentError, Field};
 use std::alloc::{AllocError, AllocFailed, Global};
 
 /// Why there is no text.
-#[derive(Debug, Drop)]
+#[derive(Drop)]
 pub enum Refusal {
     /// An option is wrong: which, and what would help.
     Wrong(String),

@@ -1,4 +1,3 @@
-use Rattle.std.proofs.Common.{rules}
 use Rattle.std.specs.Prelude.{string_bytes, string_len}
 use Rattle.goqlanis_contents.proofs.Labelling.{value_joined}
 use Rattle.goqlanis_contents.proofs.elements.with_bracket.Goals as goal
