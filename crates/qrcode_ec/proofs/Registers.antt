@@ -1,21 +1,14 @@
 -- What a register of a division has after each byte.
-use Rattle.std.proofs.Common.{◌≡◌, ℕ, zero, suc, ◌/◌, ◌%◌, ◌<◌, ◌≤◌, ◌∷◌, [], ◌++◌, List, take, length, get_or, inl, inr, subst, sym, ap, ap₂, ◌∙◌, arith}
+use Rattle.std.proofs.Common.{◌≡◌, ℕ, zero, suc, ◌/◌, ◌%◌, ◌<◌, ◌≤◌, ◌∷◌, [], ◌++◌, List, take, length, get_or, replicate, inl, inr, subst, sym, ap, ap₂, ◌∙◌, arith}
 use Rattle.std.proofs.lemmas.Bool.{cases_lt}
-use Rattle.std.proofs.lemmas.List.{get_or_past, get_or-take, length-take-le}
+use Rattle.std.proofs.lemmas.List.{get_or_past, get_or-take, length-take-le, take-append-le}
 use Rattle.std.specs.Int.Bits.{bit_xor, xor_lt}
 use Rattle.qrcode_ec.specs.Field.{product}
 use Rattle.qrcode_ec.specs.Codes.{Vanishes}
-use Rattle.qrcode_ec.specs.Dividing.{AreOfGenerator, IsGenerator}
+use Rattle.qrcode_ec.specs.Dividing.{AreOfGenerator, IsGenerator, IsRegister}
 use Rattle.qrcode_ec.proofs.Divisions.{division_step}
 use Rattle.qrcode_ec.proofs.Products.{product_lt, product_zero_r, product_halves}
-use Rattle.qrcode_ec.proofs.Syndromes.{zeros_vanish, vanishes_cut}
-
--- a register of so many places has the remainder of what is done by the generator of a degree, and zeros behind it
-pub record IsRegister (n room : ℕ) (done register : List ℕ) : Type 0 where
-  pub long : length register ≡ room
-  pub bytes : (j : ℕ) → get_or register j 0 < 256
-  pub vanishes : Vanishes (done ++ register) n
-  pub ends : (j : ℕ) → n ≤ j → get_or register j 0 ≡ 0
+use Rattle.qrcode_ec.proofs.Syndromes.{zeros_vanish, vanishes_cut, vanishes_behind}
 
 pub first_register : (n room : ℕ) (register : List ℕ) → length register ≡ room → ((j : ℕ) → get_or register j 0 ≡ 0) → IsRegister n room [] register
 first_register n room register long zeros = record {
@@ -72,3 +65,10 @@ next_register n room reach byte f done old new g are reached inside most some sm
     behind : (g : List ℕ) → ((j : ℕ) → n ≤ j → get_or g j 0 ≡ 0) → (j : ℕ) → suc room ≤ j → get_or (1 ∷ g) j 0 ≡ 0
     behind g ends zero over = absurd (omega arith)
     behind g ends (suc j) over = ends j (omega arith)
+
+-- the remainder that a register of 32 places has, with zeros behind it
+pub vanishes_in_room : (n : ℕ) (done register row : List ℕ) → n ≤ 32 → IsRegister n 32 done register → row ≡ register ++ replicate 40 0 → Vanishes (done ++ take n row) n
+vanishes_in_room n done register row few is same =
+    let within : n ≤ length register = omega (arith, is.long, few) in
+    subst (λ (remainder : List ℕ). Vanishes (done ++ remainder) n) (sym (ap (take n) same ∙ take-append-le n register (replicate 40 0) within))
+    (vanishes_behind n done register within is.ends is.vanishes)

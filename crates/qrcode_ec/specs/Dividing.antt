@@ -1,5 +1,5 @@
 -- What division by a generator looks up.
-use Rattle.std.specs.Prelude.{◌≡◌, ℕ, ◌*◌, ◌<◌, ◌≤◌, List, [], ◌∷◌, length, slice_index, slice_index_or}
+use Rattle.std.specs.Prelude.{◌≡◌, ℕ, ◌*◌, ◌<◌, ◌≤◌, List, [], ◌∷◌, ◌++◌, length, slice_index, slice_index_or}
 use Rattle.qrcode_ec.specs.Field.{product}
 use Rattle.qrcode_ec.specs.Codes.{Vanishes}
 
@@ -18,3 +18,15 @@ pub record AreOfGenerator (degree : ℕ) (generator : List ℕ) (low high : List
   pub generates : IsGenerator degree generator
   pub units : AreMultiples generator 1 low
   pub sixteens : AreMultiples generator 16 high
+
+-- row k has the first 32 coefficients times k, for each byte k
+pub record AreAllMultiples (coefficients : List ℕ) (rows : List (List ℕ)) : Type 0 where
+  pub all : length rows ≡ 256
+  pub at : (k j : ℕ) → k < 256 → j < 32 → slice_index (slice_index_or rows k []) j ≡ product k (slice_index coefficients j)
+
+-- a register of so many places has the remainder of what is done by the generator of a degree, and zeros behind it
+pub record IsRegister (degree room : ℕ) (done register : List ℕ) : Type 0 where
+  pub long : length register ≡ room
+  pub bytes : (j : ℕ) → slice_index register j < 256
+  pub vanishes : Vanishes (done ++ register) degree
+  pub ends : (j : ℕ) → degree ≤ j → slice_index register j ≡ 0

@@ -1,7 +1,8 @@
 -- The blocks of data bytes, and the codewords in which they stand interleaved.
-use Rattle.std.specs.Prelude.{◌≡◌, ℕ, ◌+◌, ◌-◌, ◌*◌, ◌<◌, ◌++◌, nat_le, List, map, slice_index, slice_range, if◌then◌else◌}
+use Rattle.std.specs.Prelude.{◌≡◌, ℕ, ◌+◌, ◌-◌, ◌*◌, ◌<◌, ◌++◌, nat_le, List, length, map, slice_index, slice_range, if◌then◌else◌}
 use Rattle.std.specs.List.{range_with_len}
-use Rattle.qrcode_types.specs.Blocks.{count_of}
+use Rattle.qrcode_types.specs.Bits.{AreBytes}
+use Rattle.qrcode_types.specs.Blocks.{count_of, data_length_of}
 use Rattle.qrcode_types.specs.declared.tables.Blocks.{Blocks}
 use Rattle.qrcode_ec.specs.Codes.{Vanishes}
 
@@ -35,3 +36,13 @@ ec_block blocks words b = map (λ i. slice_index words (i * count_of blocks + b)
 -- the error correction bytes of each block make it vanish
 abbrev pub MakeVanish : Blocks → List ℕ → List ℕ → Type 0
 MakeVanish blocks bytes words = (b : ℕ) → b < count_of blocks → Vanishes (data_block blocks bytes b ++ ec_block blocks words b) blocks.ec_length
+
+-- the data codewords of blocks and their error correction codewords
+pub record AreWordsOf (blocks : Blocks) (bytes data_words ec_words : List ℕ) : Type 0 where
+  pub data_long : length data_words ≡ data_length_of blocks
+  pub data_bytes : AreBytes data_words
+  pub rows : HasRows blocks bytes data_words
+  pub ends : HasEnds blocks bytes data_words
+  pub ec_long : length ec_words ≡ blocks.ec_length * count_of blocks
+  pub ec_bytes : AreBytes ec_words
+  pub vanishes : MakeVanish blocks bytes ec_words

@@ -1,5 +1,7 @@
 //! Division by generators, whose remainders are the error correction bytes.
 
+pub(crate) mod table;
+
 ghost use Rattle.std.specs.Prelude.{◌≡◌, ℕ, suc, ◌<◌, ◌≤◌, ◌++◌, ◌*◌, ◌∷◌, [], length, take, replicate, slice_index, slice_index_or, bit_xor};
 ghost use Rattle.qrcode_types.specs.Bits.{AreBytes};
 ghost use Rattle.qrcode_ec.specs.Field.{product, power};
@@ -133,15 +135,13 @@ fn doubled(row: &[u8; LANES]) -> [u8; LANES]
 }
 
 // The sum of two rows.
-fn sum(first: &[u8; LANES], second: &[u8; LANES]) -> [u8; LANES]
-    ensures { (j : ℕ) → j < 32
+#[inline(always)]
+fn sum(first: &[u8; LANES], second: &[u8; LANES]) -> u8x32
+    ensures length { length result ≡ 32 }
+    ensures value { (j : ℕ) → j < 32
         → slice_index result j ≡ bit_xor (slice_index first.now j) (slice_index second.now j) }
 {
-    let mut row = [0; LANES];
-    for j in 0..LANES {
-        row[j] = first[j] ^ second[j];
-    }
-    row
+    u8x32::from_slice(first) ^ u8x32::from_slice(second)
 }
 
 // Row k, where the rows before have the lesser multiples of row 1. A multiple by a power of two is
@@ -158,7 +158,7 @@ fn next_multiple(rows: &[[u8; LANES]; 16], k: usize) -> [u8; LANES]
     if rest == 0 {
         return doubled(&rows[k / 2]);
     }
-    sum(&rows[rest], &rows[k - rest])
+    sum(&rows[rest], &rows[k - rest]).to_array()
 }
 
 // The multiples of a row by 0, 1, 2 and so on. It is not inlined, since LLVM would then set the room
@@ -189,17 +189,16 @@ fn advance(register: &mut [u8; ROOM], generator: &[u8; ROOM], degree: usize, fac
     }
 }
 
-// The same in a vector, which has the first `LANES` coefficients, by the multiple's two parts.
+// The same in a vector, which has the first `LANES` coefficients.
 #[inline(always)]
-fn advanced(register: u8x32, low: &[u8; LANES], high: &[u8; LANES]) -> u8x32
-    requires { length register ≡ 32 }
+fn advanced(register: u8x32, multiple: u8x32) -> u8x32
+    requires register { length register ≡ 32 }
+    requires multiple { length multiple ≡ 32 }
     ensures length { length result ≡ 32 }
     ensures value { (j : ℕ) → j < 32 → slice_index result j
-        ≡ bit_xor (slice_index register (suc j))
-        (bit_xor (slice_index low.now j) (slice_index high.now j)) }
+        ≡ bit_xor (slice_index register (suc j)) (slice_index multiple j) }
 {
-    let moved = register.shuffle(u8x32::splat(0), NEXT_LANES);
-    moved ^ (u8x32::from_slice(low) ^ u8x32::from_slice(high))
+    register.shuffle(u8x32::splat(0), NEXT_LANES) ^ multiple
 }
 
 // The lanes of a vector, with zeros behind them.
@@ -262,6 +261,7 @@ pub struct Divider {
 
 impl Divider {
     /// Divides by the generator of this degree.
+    #[inline(always)]
     pub fn new(degree: usize) -> Divider
         requires { degree ≤ 69 }
         ensures { result.degree ≡ degree }
@@ -298,7 +298,10 @@ impl Divider {
         let mut register = u8x32::splat(0);
         for byte in bytes {
             let factor = usize::from(*byte ^ register.to_array()[0]);
-            register = advanced(register, &self.low[factor % 16], &self.high[factor / 16]);
+            register = advanced(
+                register,
+                sum(&self.low[factor % 16], &self.high[factor / 16]),
+            );
         }
         in_room(register)
     }

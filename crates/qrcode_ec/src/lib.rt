@@ -72,10 +72,8 @@ pub fn construct_codewords(
     let Some(blocks) = Blocks::of(version, ec_level) else {
         return Err(QrError::InvalidVersion);
     };
-    let blocks = DataBlocks { blocks, bytes };
-    let data = blocks.data_codewords(alloc)?;
-    let ec = blocks.ec_codewords(alloc)?;
-    Ok((data, ec))
+    let words = DataBlocks { blocks, bytes }.codewords(alloc)?;
+    Ok(words)
 }
 
 /// The same of bytes that are given away: where they are one block, they are the data codewords.

@@ -1,4 +1,4 @@
-use Rattle.std.proofs.Common.{◌≡◌, ℕ, List, length, subst, sym, ap, ◌∙◌, arith}
+use Rattle.std.proofs.Common.{ℕ, List, length, subst, sym, ap, ◌∙◌}
 use Rattle.qrcode_types.proofs.BlockTable.{data_length-is, data_of}
 use Rattle.qrcode_ec.specs.Blocks.{AreCodewords}
 use Rattle.qrcode_ec.proofs.into_codewords.Goals as goal

@@ -1,4 +1,4 @@
-use Rattle.std.proofs.Common.{◌≡◌, sym, ap, ◌∙◌, arith}
+use Rattle.std.proofs.Common.{sym, ap, ◌∙◌, arith}
 use Rattle.qrcode_types.proofs.BlockTable.{data_length-is, data_of}
 use Rattle.qrcode_ec.proofs.Bytes.{bytes_from}
 use Rattle.qrcode_ec.proofs.Interleavings.{are_codewords, is_interleaved}

@@ -3,7 +3,8 @@ use Rattle.std.proofs.Math.Seq.{take-suc}
 use Rattle.std.proofs.lemmas.List.{take_all}
 use Rattle.qrcode_ec.specs.Codes.{Vanishes}
 use Rattle.qrcode_ec.proofs.Bytes.{bytes_from}
-use Rattle.qrcode_ec.proofs.Registers.{IsRegister, first_register, next_register}
+use Rattle.qrcode_ec.specs.Dividing.{IsRegister}
+use Rattle.qrcode_ec.proofs.Registers.{first_register, next_register}
 use Rattle.qrcode_ec.proofs.Syndromes.{zeros_at, vanishes_behind}
 use Rattle.qrcode_ec.proofs.division.divided.Goals as goal
 

@@ -1,5 +1,5 @@
 use Rattle.std.proofs.Common.{take}
-use Rattle.qrcode_ec.proofs.Registers.{IsRegister}
+use Rattle.qrcode_ec.specs.Dividing.{IsRegister}
 use Rattle.qrcode_ec.proofs.division.divided.Given as goal
 
 abbrev pub invariant-loop-byte : goal.invariant-loop-byte

@@ -32,5 +32,5 @@ returns c = λ j within.
     let k = c.args.k in
     let rest = bit_and k (k - 1) in
     let first = get_or (get_or c.args.rows.now 1 []) j 0 in
-    c.sum.ensures j within ∙ ap₂ bit_xor (c.requires.earlier rest j (omega (arith, and_le_r k (k - 1))) within) (c.requires.earlier (k - rest) j (omega arith) within)
+    c.sum.ensures.value j within ∙ ap₂ bit_xor (c.requires.earlier rest j (omega (arith, and_le_r k (k - 1))) within) (c.requires.earlier (k - rest) j (omega arith) within)
     ∙ sym (product_xor_l rest (k - rest) first) ∙ ap (λ n. product n first) (lowest_one k (omega arith))

@@ -1,6 +1,6 @@
-use Rattle.std.proofs.Common.{◌≡◌, ◌+◌, ◌*◌, length, set, get_or, get_or-set_other, get_or-set_same, inl, inr, ap, sym, ◌∙◌, arith}
-use Rattle.std.proofs.lemmas.Bool.{cases_lt}
-use Rattle.std.proofs.lemmas.Nat.{mul-add-lt, same_from_place}
+use Rattle.std.proofs.Common.{length, get_or, ◌∙◌, arith}
+use Rattle.std.proofs.lemmas.Nat.{mul-add-lt}
+use Rattle.qrcode_ec.proofs.Columns.{spread_written, spread_kept}
 use Rattle.qrcode_ec.proofs.interleaving.spread.Goals as goal
 
 pub bounds-codewords-place : goal.bounds-codewords-place
@@ -16,17 +16,8 @@ loop-byte-preserved c =
     let place = c.loop-byte.place in
     let byte = get_or c.args.bytes.now row 0 in
     let before = c.loop-byte.invariant in
-    let inside = bounds-codewords-place c in
     record {
       at = omega (arith, before.at);
-      written = λ i below. elim (cases_lt i row) [
-        | inl less ↦ get_or-set_other old place (i * step + first) byte 0
-            (λ same. absurd (omega (arith, less, (same_from_place i first row first step c.requires.begins c.requires.begins (same ∙ before.at)).0))) ∙ before.written i less
-        | inr most ↦
-            let last : i ≡ row = omega arith in
-            ap (λ k. get_or (set old place byte) (k * step + first) 0) last ∙ ap (λ p. get_or (set old place byte) p 0) (sym before.at) ∙ get_or-set_same old place byte 0 inside
-            ∙ ap (λ k. get_or c.args.bytes.now k 0) (sym last)
-      ];
-      unchanged = λ i k within other. get_or-set_other old place (i * step + k) byte 0
-          (λ same. absurd (other (same_from_place i k row first step within c.requires.begins (same ∙ before.at)).1)) ∙ before.unchanged i k within other;
+      written = spread_written step first row place c.args.bytes.now old c.requires.begins before.at (bounds-codewords-place c) before.written;
+      unchanged = λ i k within other. spread_kept step first row place byte old c.requires.begins before.at i k within other ∙ before.unchanged i k within other;
     }
