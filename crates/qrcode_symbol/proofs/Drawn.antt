@@ -29,6 +29,7 @@ use Rattle.qrcode_symbol.proofs.Functional.{length_patterned, patterned_place, e
 use Rattle.qrcode_symbol.proofs.Mirrored.{mirrored}
 use Rattle.qrcode_symbol.proofs.Numbered.{numbered}
 use Rattle.qrcode_symbol.proofs.Passing.{passing_same}
+use Rattle.qrcode_symbol.proofs.WalkSteps.{free_before_le}
 
 -- which places of a new canvas with the patterns are empty
 pub empty_there : (v : Version) (x y : ℕ) → x < side v → y < side v → is_empty (get_or (with_patterns v (blank v)) (y * side v + x) Empty) ≡ is_free_place v x y
@@ -106,32 +107,39 @@ not_free : (a b c : Bool) → a ≡ false → c ≡ false → c ≡ (a && b)
 not_free true b c e h = cc
 not_free false b c e h = h
 
--- the columns show the data
-pub column_shows : (v : Version) (bits : List Bool) (stream columns : List ℕ) (x y : ℕ) → IsTrue (is_valid v) → IsStream bits stream → AreFilled v stream columns (side v * (side v - 1)) → get_or columns (left_out v) 0 ≡ 0
-    → x < side v → y < side v
-    → is_set (get_or columns x 0) y ≡ (is_free_place v x y && is_dark_module (get_or (with_bits_drawn v bits (with_patterns v (blank v))) (y * side v + x) Empty))
-column_shows v bits stream columns x y valid is filled empty xl yl = elim (eqb_tells x (left_out v)) [
+-- places that hold the bits of a stream at the steps of the walk show the data
+pub places_show : (v : Version) (bits : List Bool) (stream : List ℕ) (dark : ℕ → ℕ → Bool) (x y : ℕ) → IsTrue (is_valid v) → ((i : ℕ) → i < side v * (side v - 1) → stream_bit stream i ≡ get_or bits i false)
+    → ((t : ℕ) → t < side v * (side v - 1) → let p = zigzag_place v t in dark p.0 p.1 ≡ (is_free_place v p.0 p.1 && stream_bit stream (free_before v t))) → ((y : ℕ) → dark (left_out v) y ≡ false)
+    → x < side v → y < side v → dark x y ≡ (is_free_place v x y && is_dark_module (get_or (with_bits_drawn v bits (with_patterns v (blank v))) (y * side v + x) Empty))
+places_show v bits stream dark x y valid bits_are filled empty xl yl = elim (eqb_tells x (left_out v)) [
   | inl p ↦
-      not_free (is_free_place v x y) (is_dark_module (get_or (with_bits_drawn v bits (with_patterns v (blank v))) (y * side v + x) Empty)) (is_set (get_or columns x 0) y)
+      not_free (is_free_place v x y) (is_dark_module (get_or (with_bits_drawn v bits (with_patterns v (blank v))) (y * side v + x) Empty)) (dark x y)
       (ap (λ (k : ℕ). not (is_functional_place v k y)) p.1 ∙ ap not (is_true (is_functional_place v (left_out v) y) (left_out_is_functional v y valid yl)))
-      (ap (λ (k : ℕ). is_set (get_or columns k 0) y) p.1 ∙ ap (λ (n : ℕ). is_set n y) empty ∙ has_zero y)
+      (ap (λ (k : ℕ). dark k y) p.1 ∙ empty y)
   | inr p ↦ at_step (walk_is_whole v x y valid (xl, yl) p.1)
 ] where
   is_true : (b : Bool) → IsTrue b → b ≡ true
   is_true b h = h
 
   shown : (t : ℕ) → t < side v * (side v - 1) → let p = zigzag_place v t in
-      is_set (get_or columns p.0 0) p.1 ≡ (is_free_place v p.0 p.1 && is_dark_module (get_or (with_bits_drawn v bits (with_patterns v (blank v))) (p.1 * side v + p.0) Empty))
+      dark p.0 p.1 ≡ (is_free_place v p.0 p.1 && is_dark_module (get_or (with_bits_drawn v bits (with_patterns v (blank v))) (p.1 * side v + p.0) Empty))
   shown t lt =
       let p = zigzag_place v t in
-      filled.met t lt ∙ free_or_not (is_free_place v p.0 p.1) ((is_free_place v p.0 p.1 && stream_bit stream (free_before v t)) ≡ (is_free_place v p.0 p.1 && is_dark_module (get_or (with_bits_drawn v bits (with_patterns v (blank v))) (p.1 * side v + p.0) Empty)))
+      filled t lt ∙ free_or_not (is_free_place v p.0 p.1) ((is_free_place v p.0 p.1 && stream_bit stream (free_before v t)) ≡ (is_free_place v p.0 p.1 && is_dark_module (get_or (with_bits_drawn v bits (with_patterns v (blank v))) (p.1 * side v + p.0) Empty)))
       (λ f. and_of_true (is_free_place v p.0 p.1) (stream_bit stream (free_before v t)) (is_dark_module (get_or (with_bits_drawn v bits (with_patterns v (blank v))) (p.1 * side v + p.0) Empty)) f
-      (is.bits_are (free_before v t) ∙ sym (unwrap_or-slice_get bits (free_before v t) false) ∙ sym (dark_drawn (slice_get bits (free_before v t))) ∙ ap is_dark_module (sym (module_at v bits t valid lt f))))
+      (bits_are (free_before v t) (omega (arith, lt, free_before_le v t)) ∙ sym (unwrap_or-slice_get bits (free_before v t) false) ∙ sym (dark_drawn (slice_get bits (free_before v t))) ∙ ap is_dark_module (sym (module_at v bits t valid lt f))))
       (λ f. rw f refl)
 
-  at_step : ((t : ℕ) × ((t < side v * (side v - 1)) × (zigzag_place v t ≡ (x, y)))) → is_set (get_or columns x 0) y ≡ (is_free_place v x y && is_dark_module (get_or (with_bits_drawn v bits (with_patterns v (blank v))) (y * side v + x) Empty))
+  at_step : ((t : ℕ) × ((t < side v * (side v - 1)) × (zigzag_place v t ≡ (x, y)))) → dark x y ≡ (is_free_place v x y && is_dark_module (get_or (with_bits_drawn v bits (with_patterns v (blank v))) (y * side v + x) Empty))
   at_step (t, (lt, e)) =
-      subst (λ (p : ℕ × ℕ). is_set (get_or columns p.0 0) p.1 ≡ (is_free_place v p.0 p.1 && is_dark_module (get_or (with_bits_drawn v bits (with_patterns v (blank v))) (p.1 * side v + p.0) Empty))) e (shown t lt)
+      subst (λ (p : ℕ × ℕ). dark p.0 p.1 ≡ (is_free_place v p.0 p.1 && is_dark_module (get_or (with_bits_drawn v bits (with_patterns v (blank v))) (p.1 * side v + p.0) Empty))) e (shown t lt)
+
+-- the columns show the data
+pub column_shows : (v : Version) (bits : List Bool) (stream columns : List ℕ) (x y : ℕ) → IsTrue (is_valid v) → IsStream bits stream → AreFilled v stream columns (side v * (side v - 1)) → get_or columns (left_out v) 0 ≡ 0
+    → x < side v → y < side v
+    → is_set (get_or columns x 0) y ≡ (is_free_place v x y && is_dark_module (get_or (with_bits_drawn v bits (with_patterns v (blank v))) (y * side v + x) Empty))
+column_shows v bits stream columns x y valid is filled empty =
+    places_show v bits stream (λ x y. is_set (get_or columns x 0) y) x y valid (λ i h. is.bits_are i) filled.met (λ y. ap (λ (n : ℕ). is_set n y) empty ∙ has_zero y)
 
 -- rows turned over from the columns
 pub rows_show : (v : Version) (l : EcLevel) (bytes ec stream columns rows : List ℕ) → IsTrue (is_valid v) → IsStream (drawn_bits v l bytes ec) stream → AreFilled v stream columns (side v * (side v - 1))

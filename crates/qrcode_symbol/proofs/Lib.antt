@@ -16,6 +16,10 @@ pub mod Groups
 pub mod Mapped
 pub mod MaskRows
 pub mod MaskedSquares
+pub mod MicroPairs
+pub mod MicroPatterns
+pub mod MicroStream
+pub mod MicroWalk
 pub mod Mirrored
 pub mod NextBits
 pub mod Numbered

@@ -119,7 +119,7 @@ normal_tests n x y =
     ∙ ap (λ b. nat_le 7 n && b) (or_is (version_copy n late x y) (version_copy n late y x) (word_test late x y) (word_test late y x) (version_some n late x y) (version_some n late y x)))
     (ap is_some (normal_index v x y refl)) (format_or_dark w x y (omega arith))
 
-micro_tests : (v x y : ℕ) → is_functional_place (Micro (pos v)) x y
+pub micro_tests : (v x y : ℕ) → is_functional_place (Micro (pos v)) x y
     ≡ ((nat_le (abs_diff 3 x) 4 && nat_le (abs_diff 3 y) 4)
     || (false || (((y == 0 && nat_le 8 x) || (x == 0 && nat_le 8 y)) || (false || ((y == 8 && (nat_le 1 x && nat_le x 8)) || (x == 8 && (nat_le 1 y && nat_le y 8)))))))
 unfolding is_functional_place pattern finder alignment timing dark_module version_pattern centres

@@ -19,7 +19,7 @@ unfolding is_set
 no_bit i = has_zero i
 
 -- a stream has the bits of its bytes
-bit_is : (bytes : List ℕ) (i : ℕ) → stream_bit bytes i ≡ get_or (bits_of bytes) i false
+pub bit_is : (bytes : List ℕ) (i : ℕ) → stream_bit bytes i ≡ get_or (bits_of bytes) i false
 unfolding stream_bit
 bit_is bytes i = elim (cases_lt i (8 * length bytes)) [
   | inl h ↦ sym (bits_of_at bytes i h)

@@ -24,12 +24,12 @@ step_of : (w pair r : ℕ) → r < 2 * w → (2 * w * pair + r) % (2 * w) ≡ r
 step_of w pair r lt = let e : 2 * w * pair + r ≡ pair * (2 * w) + r = omega arith in rw e (mod-mul-add pair (2 * w) r lt)
 
 -- the place of a step of a pair
-place_at : (v : Version) (pair r : ℕ) → r < 2 * side v → zigzag_place v (2 * side v * pair + r) ≡ (right_column v pair - r % 2, row_at (pair % 2 == 0) (side v) (r / 2))
+pub place_at : (v : Version) (pair r : ℕ) → r < 2 * side v → zigzag_place v (2 * side v * pair + r) ≡ (right_column v pair - r % 2, row_at (pair % 2 == 0) (side v) (r / 2))
 unfolding zigzag_place
 place_at v pair r lt = rw (pair_of (side v) pair r lt, step_of (side v) pair r lt) refl
 
 -- pairs do not touch
-pairs_apart : (v : Version) (h q p : ℕ) → side v ≡ 2 * h + 1 → q < p → 2 * p + 3 ≤ side v → right_column v p + 2 ≤ right_column v q
+pub pairs_apart : (v : Version) (h q p : ℕ) → side v ≡ 2 * h + 1 → q < p → 2 * p + 3 ≤ side v → right_column v p + 2 ≤ right_column v q
 pairs_apart (Normal v) h q p odd lt inside = grind (arith, nat_tests)
 pairs_apart (Micro v) h q p odd lt inside = omega arith
 
@@ -82,7 +82,7 @@ none_before v = refl
 pub other_column : (columns : List ℕ) (right x l r : ℕ) → x ≢ right → x ≢ right - 1 → get_or (set (set columns (right - 1) l) right r) x 0 ≡ get_or columns x 0
 other_column columns right x l r a b = get_or-set_other (set columns (right - 1) l) right x r 0 a ∙ get_or-set_other columns (right - 1) x l 0 b
 
-below : (w q pair r t : ℕ) → 2 * w * q + r ≡ t → t < 2 * w * pair → q < pair
+pub below : (w q pair r t : ℕ) → 2 * w * q + r ≡ t → t < 2 * w * pair → q < pair
 below w q pair r t e h = elim (cases_lt q pair) [
   | inl l ↦ l
   | inr l ↦

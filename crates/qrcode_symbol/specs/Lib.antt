@@ -6,6 +6,7 @@ pub mod Deciding
 pub mod Filling
 pub mod Lending
 pub mod Masking
+pub mod Micro
 pub mod PackedPatterns
 pub mod Patterned
 pub mod Penalties

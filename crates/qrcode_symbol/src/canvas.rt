@@ -30,6 +30,7 @@ mod filling;
 mod layer;
 mod masked_rows;
 mod masking;
+mod micro;
 mod packed_patterns;
 mod packing;
 mod pattern_places;

@@ -1,5 +1,4 @@
-//! Symbols drawn for the constructors: those of Normal in packed rows, the data column by column and the patterns added;
-//! those of Micro in bytes.
+//! Symbols drawn for the constructors in packed rows: those of Normal column by column, with the patterns added.
 
 ghost use Rattle.std.specs.Prelude.{◌≡◌, ℕ, ◌+◌, ◌*◌, ◌<◌, ◌≤◌, ◌^◌, bit_or, length, map, replicate, slice_index_or, false, IsTrue, IfOk, IsOkUnless, OnOk};
 ghost use Rattle.qrcode_types.specs.Versions.{is_valid, has_level, is_micro, side};
@@ -9,13 +8,10 @@ ghost use Rattle.qrcode_symbol.specs.Carried.{drawn_modules};
 ghost use Rattle.qrcode_symbol.specs.Columns.{AreFreeColumns, AreDataRows};
 ghost use Rattle.qrcode_symbol.specs.Masking.{AreBestColors};
 
-use super::cells::empty_bytes;
-use super::codewords::Codewords;
 use super::columns::draw_columns;
 use super::columns::stream::{Stream, stream_of};
-use super::drawing::draw_patterns;
-use super::filling::draw_codewords;
-use super::masking::{best_from, into_best};
+use super::masking::best_from;
+use super::micro::micro_colors;
 use super::packed_patterns::draw_pattern_rows;
 use super::side;
 use qrcode_packed::row::{PackedRow, Row128, Row192};
@@ -112,27 +108,6 @@ fn drawn_by<R: PackedRow>(
     best_from(alloc, version, ec_level, dark, free)
 }
 
-// The same, drawn in bytes module by module: a column of Micro is too short for a word to take much of it at once.
-fn drawn_in_bytes(
-    alloc: Global,
-    version: Version,
-    ec_level: EcLevel,
-    bytes: &[u8],
-    ec: &[u8],
-) -> QrResult<Vec<Color>>
-    requires { IsTrue (has_level version ec_level) }
-    ensures best { IfOk result (λ colors. AreBestColors version ec_level
-        (drawn_modules version ec_level bytes.now ec.now) colors.items) }
-    ensures memory { IsOkUnless result OutOfMemory }
-{
-    let width = side(version);
-    let mut cells = empty_bytes(alloc, width * width)?;
-    draw_patterns(version, &mut cells);
-    let codewords = Codewords::new(version, ec_level, bytes, ec);
-    draw_codewords(version, codewords, &mut cells);
-    into_best(alloc, version, ec_level, cells)
-}
-
 /// The same: of Normal in the narrowest rows that hold the symbol.
 pub(super) fn symbol_colors(
     alloc: Global,
@@ -147,7 +122,7 @@ pub(super) fn symbol_colors(
     ensures memory { IsOkUnless result OutOfMemory }
 {
     if let Version::Micro(_) = version {
-        return drawn_in_bytes(alloc, version, ec_level, bytes, ec);
+        return micro_colors(alloc, version, ec_level, bytes, ec);
     }
     let width = side(version);
     if width + 3 <= 64 {

@@ -50,7 +50,7 @@ impl<'a> Stream<'a> {
 
     /// The next 64 bits from one on, the first highest.
     #[inline(always)]
-    pub(super) fn word(self, from: usize) -> u64
+    pub(crate) fn word(self, from: usize) -> u64
         ensures { (j : ℕ) → j < 64
             → nth_bit result j ≡ stream_bit self.entry.bytes.now (from + j) }
     {
