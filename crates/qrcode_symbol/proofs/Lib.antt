@@ -13,6 +13,7 @@ pub mod Edges
 pub mod Filled
 pub mod Functional
 pub mod Groups
+pub mod JoinedRows
 pub mod Mapped
 pub mod MaskRows
 pub mod MaskedSquares

@@ -126,6 +126,38 @@ fn unpack_row<R: PackedRow, S: FromColor>(
     Ok(())
 }
 
+// Appends the rows of a square of less than 64 columns in whole words, each row behind the one before.
+fn unpack_joined_rows<R: PackedRow, S: FromColor>(
+    width: usize,
+    rows: &[R],
+    square: &mut Vec<S>,
+) -> QrResult<()>
+    requires short { width < 64 }
+    requires length { length rows.now ≡ width }
+    requires empty { square.old.items ≡ [] }
+    ensures length { IfOk result (λ _. length square.new.items ≡ width * width) }
+    ensures shown { IfOk result (λ _. (x y : ℕ) → x < width → y < width
+        → slice_index_or square.new.items (y * width + x) (S.from_color Light)
+        ≡ S.from_color (color_of (dark_in (map R.bits rows.now) x y))) }
+    ensures memory { IsOkUnless result OutOfMemory }
+{
+    let whole = u64::first(width as u32);
+    let mut word = 0;
+    let mut count = 0;
+    for y in 0..width {
+        let row = rows[y].first_word() & whole;
+        word |= row << count;
+        count += width;
+        if count >= 64 {
+            S::append(square, word, 64)?;
+            count -= 64;
+            word = row >> (width - count);
+        }
+    }
+    S::append(square, word, count)?;
+    Ok(())
+}
+
 /// Appends the rows of a square by their places, of which the dark ones are set.
 #[tactic(auto, using(std::proofs::lemmas::Nat::rows))]
 pub(super) fn unpack_rows<R: PackedRow, S: FromColor>(
@@ -141,6 +173,9 @@ pub(super) fn unpack_rows<R: PackedRow, S: FromColor>(
         ≡ S.from_color (color_of (dark_in (map R.bits rows.now) x y))) }
     ensures memory { IsOkUnless result OutOfMemory }
 {
+    if width < 64 {
+        return unpack_joined_rows(width, rows, square);
+    }
     for y in 0..width {
         unpack_row(rows[y], width, square)?;
     }
