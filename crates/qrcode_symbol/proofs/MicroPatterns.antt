@@ -104,16 +104,16 @@ dark_shown (Micro (pos n)) l bytes ec stream data_rows rows w valid micro wide b
 
 -- the first rows are a square
 pub square_of_rows : (v : Version) (w : ℕ) (rows : List ℕ) → IsTrue (is_valid v) → IsTrue (is_micro v) → w ≡ side v → length rows ≡ 17 → ((y : ℕ) → y < 17 → FitsWidth w (get_or rows y 0))
-    → IsSquare 64 (record { width = side v; rows = take w rows })
+    → IsSquare 64 (record { width = w; rows = take w rows })
 square_of_rows v w rows valid micro wide size fits =
     let few = narrow v valid micro in
-    let long : length (take w rows) ≡ w = length-take-le w rows (omega arith) in
     let least : 9 ≤ side v = side_least v in
+    let long : length (take w rows) ≡ w = length-take-le w rows (omega arith) in
     record {
       at_least = omega arith;
       spare = omega arith;
-      length = long ∙ wide;
-      fits = λ y. subst (λ (k : ℕ). FitsWidth k (get_or (take w rows) y 0)) wide (rows_fit (take w rows) w long (λ y h. subst (FitsWidth w) (sym (get_or-take w rows y 0 h)) (fits y (omega arith))) y);
+      length = long;
+      fits = rows_fit (take w rows) w long (λ y h. subst (FitsWidth w) (sym (get_or-take w rows y 0 h)) (fits y (omega arith)));
     } where
       side_least : (v : Version) → 9 ≤ side v
       side_least (Normal n) = omega arith

@@ -1,23 +1,52 @@
 //! Symbols of Micro drawn in rows of one word, with no room from the allocator but that of the colours.
 
-ghost use Rattle.std.specs.Prelude.{◌≡◌, ℕ, IsTrue, IfOk, IsOkUnless};
+ghost use Rattle.std.specs.Prelude.{◌≡◌, List, length, true, IsTrue, IfOk, IsOkUnless};
 ghost use Rattle.qrcode_types.specs.Versions.{is_valid, has_level, is_micro};
 ghost use Rattle.qrcode_types.specs.declared.types.QrError.TheVariants.{OutOfMemory};
 ghost use Rattle.qrcode_symbol.specs.Carried.{drawn_modules};
-ghost use Rattle.qrcode_symbol.specs.Masking.{AreBestColors};
+ghost use Rattle.qrcode_symbol.specs.Masking.{is_dark_module, is_free, ShowsModules, AreBestColors};
+ghost use Rattle.qrcode_symbol.specs.declared.canvas.Module.{Module};
 
 mod codewords;
 mod data;
 mod patterns;
 
 use super::columns::stream::Stream;
-use super::masking::best_from;
+use super::edges::least_micro_mask;
+use super::masked_rows::mask_rows;
+use super::packing::PackedModules;
 use super::side;
+use super::unpacking::unpack_rows;
 use codewords::stream_of;
 use data::draw_data;
 use patterns::{add_patterns, free_rows};
+use qrcode_packed::square::PackedSquare;
+use qrcode_places::masks::nth_mask;
 use qrcode_types::types::{Color, EcLevel, QrResult, Version};
 use std::alloc::Global;
+
+// The colours of a square under the first mask of least penalty, by its packed rows; `masked` is a place to work in.
+#[inline(always)]
+fn best_colors(
+    alloc: Global,
+    packed: &PackedModules<'_, u64>,
+    masked: &mut [u64],
+) -> QrResult<Vec<Color>>
+    requires micro { is_micro packed.now.version ≡ true }
+    requires length { length masked.old ≡ packed.now.width }
+    ensures best { (modules : List Module)
+        → ShowsModules is_dark_module packed.now.width modules packed.now.dark.rows
+        → ShowsModules is_free packed.now.width modules packed.now.free.rows
+        → IfOk result (λ colors.
+        AreBestColors packed.now.version packed.now.ec_level modules colors.items) }
+    ensures memory { IsOkUnless result OutOfMemory }
+{
+    let best = least_micro_mask(packed);
+    mask_rows(packed, nth_mask(packed.version, best), masked);
+    let mut colors = Vec::with_capacity(alloc, packed.width * packed.width)?;
+    unpack_rows(packed.width, masked, &mut colors)?;
+    Ok(colors)
+}
 
 /// The colours of the symbol of codewords under the first mask of least penalty.
 pub(super) fn micro_colors(
@@ -40,5 +69,13 @@ pub(super) fn micro_colors(
     draw_data(version, Stream::new(&stream), &mut dark);
     add_patterns(width, &mut dark);
     let free = free_rows(width);
-    best_from::<u64, Color>(alloc, version, ec_level, &dark[..width], &free[..width])
+    let packed = PackedModules {
+        version,
+        ec_level,
+        width,
+        dark: PackedSquare::new(&dark[..width], width as u32),
+        free: PackedSquare::new(&free[..width], width as u32),
+    };
+    let mut masked = [0u64; 17];
+    best_colors(alloc, &packed, &mut masked[..width])
 }
