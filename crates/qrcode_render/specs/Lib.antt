@@ -17,6 +17,7 @@ pub mod Raster
 pub mod Setting
 pub mod Shades
 pub mod Shown
+pub mod Sides
 pub mod Strips
 pub mod Strokes
 pub mod Texts

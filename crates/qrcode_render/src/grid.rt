@@ -8,6 +8,7 @@ ghost use Rattle.qrcode_render.specs.Bitmap.{marked_line};
 ghost use Rattle.qrcode_render.specs.Grid.{cell_row, is_dark_cell, all_columns, all_rows};
 ghost use Rattle.qrcode_render.specs.Lines.{AreMarksAt};
 ghost use Rattle.qrcode_render.specs.Shades.{colors_of, shown};
+ghost use Rattle.qrcode_render.specs.Sides.{AreLightAtSides};
 
 use crate::marks::{Shade, is_dark, mark_bytes, mark_columns, mark_line};
 use qrcode_types::types::Color;
@@ -15,6 +16,12 @@ use std::marker::Model;
 
 // Cells whose dark ones a byte counts: the most that are seven times the 32 that are taken at once.
 const COUNTED: usize = 224;
+
+// The light cells around a symbol at each side, as they mostly are.
+const ZONE: usize = 4;
+
+// The marks of two rows of so many cells.
+const SIDE: usize = 2 * ZONE;
 
 // How many of a few cells are dark.
 fn dark_in(cells: &[Color]) -> u8
@@ -333,12 +340,28 @@ impl<'a> Grid<'a> {
         match (self.start_of(upper), self.start_of(lower)) {
             (None, None) => columns.fill(false),
             (Some(first), Some(second)) => {
-                columns.fill(false);
+                self.unmark_sides(columns);
                 let inside = &mut columns[left..right];
                 self.cells.mark_columns(first, second, self.columns, inside);
             }
             (Some(first), None) => self.mark_beside(upper, first, 0, columns),
             (None, Some(second)) => self.mark_beside(lower, second, 1, columns),
+        }
+    }
+
+    // Unmarks the light cells at the sides of two rows, and maybe others: where they are as many as mostly, by a
+    // store at each side, which takes no call.
+    fn unmark_sides(&self, columns: &mut [bool])
+        requires { length columns.old ≡ 2 * all_columns self.now }
+        ensures light { AreLightAtSides self.now columns.new }
+        ensures length { length columns.new ≡ length columns.old }
+    {
+        if self.zone == ZONE {
+            let right = columns.len() - SIDE;
+            columns[..SIDE].copy_from_slice(&[false; SIDE]);
+            columns[right..].copy_from_slice(&[false; SIDE]);
+        } else {
+            columns.fill(false);
         }
     }
 

@@ -1,31 +1,28 @@
-use Rattle.std.proofs.Common.{rules, ◌≡◌, ℕ, ◌+◌, ◌-◌, ◌*◌, ◌<◌, ◌≤◌, ◌⊎◌, inl, inr, List, Bool, false, length, replicate, ap, ◌∙◌, sym, subst, arith}
+use Rattle.std.proofs.Common.{rules, ◌≡◌, ℕ, ◌+◌, ◌-◌, ◌*◌, ◌<◌, ◌≤◌, ◌⊎◌, inl, inr, List, Bool, false, length, ap, ◌∙◌, sym, subst, arith}
 use Rattle.std.proofs.lemmas.Bool.{cases_lt}
-use Rattle.std.proofs.lemmas.List.{get_or-replicate, length-replicate}
 use Rattle.std.specs.Prelude.{slice_index_or}
 use Rattle.qrcode_types.specs.Colors.{is_dark}
 use Rattle.qrcode_types.specs.declared.types.Color.TheVariants.{Light}
 use Rattle.qrcode_render.specs.Grid.{Grid, all_columns, is_dark_cell}
 use Rattle.qrcode_render.specs.Shades.{shown}
 use Rattle.qrcode_render.specs.Lines.{mark_at, AreMarksAt}
+use Rattle.qrcode_render.specs.Sides.{AreLightAtSides}
 use Rattle.qrcode_render.proofs.Grids.{cell_inside, cell_outside}
 use Rattle.qrcode_render.proofs.Palettes.{part_before, part_inside, part_behind}
 use borrow.Rule.Slice.PartMut.{put_mid}
 use Rattle.qrcode_render.proofs.grid.Grid.mark_columns.Goals as goal
 
 -- the marks of two rows inside, written between light ones
-marks_between : (g : Grid) (upper lower : ℕ) (inside : List Bool) (x n : ℕ) → n ≡ 2 * (g.zone + g.columns) - 2 * g.zone → length inside ≡ 2 * g.columns
+marks_between : (g : Grid) (upper lower : ℕ) (light inside : List Bool) (x n : ℕ) → length light ≡ 2 * all_columns g → AreLightAtSides g light → n ≡ 2 * (g.zone + g.columns) - 2 * g.zone → length inside ≡ 2 * g.columns
     → g.zone ≤ upper → upper < g.zone + g.rows → g.zone ≤ lower → lower < g.zone + g.rows
     → ((k : ℕ) → k < g.columns → AreMarksAt (λ j. is_dark (slice_index_or g.cells ((upper - g.zone) * g.columns + j) Light)) (λ j. is_dark (slice_index_or g.cells ((lower - g.zone) * g.columns + j) Light)) inside k)
-    → x < all_columns g → AreMarksAt (λ column. is_dark_cell g column upper) (λ column. is_dark_cell g column lower) (put_mid (2 * g.zone) n (replicate (2 * all_columns g) false) inside) x
-marks_between g upper lower inside x n parts long u_from u_to l_from l_to marks below =
+    → x < all_columns g → AreMarksAt (λ column. is_dark_cell g column upper) (λ column. is_dark_cell g column lower) (put_mid (2 * g.zone) n light inside) x
+marks_between g upper lower light inside x n wide sides parts long u_from u_to l_from l_to marks below =
     let z = g.zone in
-    let all = 2 * all_columns g in
-    let light = replicate all false in
-    let wide : length light ≡ all = length-replicate all false in
     elim (cases_lt x z) [
       | inl before ↦ record {
-        first = part_before false (2 * z) n light inside (2 * x) (omega arith) (omega (arith, wide)) ∙ get_or-replicate all (2 * x) false false (omega arith) ∙ sym (cell_outside g x upper (λ left _ _ _. omega arith));
-        second = part_before false (2 * z) n light inside (2 * x + 1) (omega arith) (omega (arith, wide)) ∙ get_or-replicate all (2 * x + 1) false false (omega arith) ∙ sym (cell_outside g x lower (λ left _ _ _. omega arith));
+        first = part_before false (2 * z) n light inside (2 * x) (omega arith) (omega (arith, wide)) ∙ (sides x below (inl before)).first ∙ sym (cell_outside g x upper (λ left _ _ _. omega arith));
+        second = part_before false (2 * z) n light inside (2 * x + 1) (omega arith) (omega (arith, wide)) ∙ (sides x below (inl before)).second ∙ sym (cell_outside g x lower (λ left _ _ _. omega arith));
       }
       | inr from ↦ elim (cases_lt x (z + g.columns)) [
         | inl within ↦
@@ -38,11 +35,10 @@ marks_between g upper lower inside x n parts long u_from u_to l_from l_to marks 
               second = ap (mark_at part) b ∙ part_inside false (2 * z) n light inside (2 * (x - z) + 1) (omega (arith, wide)) (omega (arith, long)) ∙ here.second ∙ sym (cell_inside g x lower from within l_from l_to);
             }
         | inr after ↦
-            let light_at : (k : ℕ) → 2 * (z + g.columns) ≤ k → k < all → mark_at (put_mid (2 * z) n light inside) k ≡ false = λ k past end.
-            part_behind false (2 * z) n light inside k (omega (arith, wide)) (omega (arith, parts, long)) (omega (arith, parts)) ∙ get_or-replicate all k false false end in
+            let kept = sides x below (inr after) in
             record {
-              first = light_at (2 * x) (omega arith) (omega arith) ∙ sym (cell_outside g x upper (λ _ right _ _. omega arith));
-              second = light_at (2 * x + 1) (omega arith) (omega arith) ∙ sym (cell_outside g x lower (λ _ right _ _. omega arith));
+              first = part_behind false (2 * z) n light inside (2 * x) (omega (arith, wide)) (omega (arith, parts, long)) (omega (arith, parts)) ∙ kept.first ∙ sym (cell_outside g x upper (λ _ right _ _. omega arith));
+              second = part_behind false (2 * z) n light inside (2 * x + 1) (omega (arith, wide)) (omega (arith, parts, long)) (omega (arith, parts)) ∙ kept.second ∙ sym (cell_outside g x lower (λ _ right _ _. omega arith));
             }
       ]
     ]
@@ -58,7 +54,9 @@ returns-in-Some-Some-clause-marks c x below =
     let rows = ap (λ (v : Grid). v.rows) is in
     let n = 2 * (g.zone + g.columns) - 2 * g.zone in
     let inside = c.mark_columns.new.marks in
-    let light : c.fill-in-Some-Some.new.self ≡ replicate (2 * all_columns grid) false = c.fill-in-Some-Some.ensures.after (λ y h. h) ∙ ap (λ k. replicate k false) (c.requires.length ∙ sym (ap (λ (v : Grid). 2 * all_columns v) is)) in
+    let light = c.unmark_sides.new.columns in
+    let wide : length light ≡ 2 * all_columns grid = omega (arith, c.unmark_sides.ensures.length, c.requires.length, ap (λ (v : Grid). all_columns v) is) in
+    let sides : AreLightAtSides grid light = subst (λ (v : Grid). AreLightAtSides v light) (sym is) c.unmark_sides.ensures.light in
     let first : c.in-Some-Some.first ≡ (upper - g.zone) * g.columns = c.in-Some-Some.ensures.start ∙ sym (ap (λ (v : Grid). (upper - v.zone) * v.columns) is) in
     let second : c.in-Some-Some.second ≡ (lower - g.zone) * g.columns = c.in-Some-Some.ensures'.start ∙ sym (ap (λ (v : Grid). (lower - v.zone) * v.columns) is) in
     let some = c.in-Some-Some.ensures.some in
@@ -70,9 +68,8 @@ returns-in-Some-Some-clause-marks c x below =
       second = here.second ∙ ap (λ f. is_dark (slice_index_or (shown g.cells) (f + k) Light)) second;
     } in
     let long : length inside ≡ 2 * g.columns = omega (arith, c.mark_columns.ensures.length) in
-    let here = marks_between grid upper lower inside x n (omega arith) long (omega (arith, some.0, zone)) (omega (arith, some.1, zone, rows, ap (λ (v : Grid). v.zone + v.rows) is)) (omega (arith, some'.0, zone)) (omega (arith, some'.1, ap (λ (v : Grid). v.zone + v.rows) is)) marks (omega (arith, below, ap (λ (v : Grid). all_columns v) is)) in
-    let written = subst (λ ms. AreMarksAt (λ column. is_dark_cell grid column upper) (λ column. is_dark_cell grid column lower) (put_mid (2 * g.zone) n ms inside) x) (sym light) here in
-    subst (λ (v : Grid). AreMarksAt (λ column. is_dark_cell v column upper) (λ column. is_dark_cell v column lower) (put_mid (2 * g.zone) n c.fill-in-Some-Some.new.self inside) x) is written
+    let here = marks_between grid upper lower light inside x n wide sides (omega arith) long (omega (arith, some.0, zone)) (omega (arith, some.1, zone, rows, ap (λ (v : Grid). v.zone + v.rows) is)) (omega (arith, some'.0, zone)) (omega (arith, some'.1, ap (λ (v : Grid). v.zone + v.rows) is)) marks (omega (arith, below, ap (λ (v : Grid). all_columns v) is)) in
+    subst (λ (v : Grid). AreMarksAt (λ column. is_dark_cell v column upper) (λ column. is_dark_cell v column lower) (put_mid (2 * g.zone) n light inside) x) is here
 
 pub returns-in-None-Some-clause-marks : goal.returns-in-None-Some-clause-marks
 returns-in-None-Some-clause-marks c x below =
