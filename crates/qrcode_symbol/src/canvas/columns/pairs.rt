@@ -37,6 +37,20 @@ fn in_order<const UP: bool>(rows: Rows) -> Rows
     reversed(rows)
 }
 
+// The same of places that are free, mostly all of them.
+#[inline(always)]
+fn free_in_order<const UP: bool>(free: Rows) -> Rows
+    ensures left { (k : ℕ) → k < 32
+        → is_set result.left k ≡ is_set free.left (row_at UP 32 (31 - k)) }
+    ensures right { (k : ℕ) → k < 32
+        → is_set result.right k ≡ is_set free.right (row_at UP 32 (31 - k)) }
+{
+    if free.left & free.right == u32::MAX {
+        return free;
+    }
+    in_order::<UP>(free)
+}
+
 // The bits of 32 rows, and how many lie before the next one.
 #[derive(Copy, Clone)]
 struct DrawnRows {
@@ -54,7 +68,7 @@ fn drawn_rows<const UP: bool>(stream: Stream<'_>, from: usize, free: Rows) -> Dr
     ensures next { result.next
         ≡ from + passing (is_free_step UP 32 (is_set free.left) (is_set free.right)) 64 }
 {
-    let bits = bits_in_rows(stream, from, in_order::<UP>(free));
+    let bits = bits_in_rows(stream, from, free_in_order::<UP>(free));
     let (left, right) = pressed(TwoWords {
         first: bits.word,
         second: bits.word >> 1,

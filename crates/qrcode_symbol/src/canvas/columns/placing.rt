@@ -44,6 +44,19 @@ fn bits_at_places(stream: Stream<'_>, from: usize, mask: u64) -> Placed
     Placed { word, next }
 }
 
+// The free places of 32 rows of a pair of columns in one word, as they are met. Mostly both columns have the same.
+#[inline(always)]
+fn places_of(free: Rows) -> u64
+    ensures { (j : ℕ) → j < 64 → nth_bit result j
+        ≡ is_free_step true 32 (is_set free.left) (is_set free.right) j }
+{
+    let left = spread(free.left);
+    if free.left == free.right {
+        return left | (left << 1);
+    }
+    left | (spread(free.right) << 1)
+}
+
 /// The bits of a stream, from one on, at the free places of 32 rows of a pair of columns.
 #[inline(always)]
 pub(super) fn bits_in_rows(stream: Stream<'_>, from: usize, free: Rows) -> Placed
@@ -60,5 +73,5 @@ pub(super) fn bits_in_rows(stream: Stream<'_>, from: usize, free: Rows) -> Place
             next: from + 64,
         };
     }
-    bits_at_places(stream, from, spread(free.left) | (spread(free.right) << 1))
+    bits_at_places(stream, from, places_of(free))
 }

@@ -2,7 +2,7 @@ use Rattle.std.proofs.Common.{ℕ, ◌+◌, true, ap, sym, ◌∙◌}
 use Rattle.qrcode_packed.specs.Rows.{is_set}
 use Rattle.qrcode_symbol.specs.Columns.{stream_bit, nth_bit, is_free_step}
 use Rattle.qrcode_symbol.proofs.Passing.{passing_same, passing_all}
-use Rattle.qrcode_symbol.proofs.Steps.{both_spread, all_free, same_places, all_places}
+use Rattle.qrcode_symbol.proofs.Steps.{all_free, same_places, all_places}
 use Rattle.qrcode_symbol.proofs.canvas.columns.placing.bits_in_rows.Goals as goal
 
 pub returns-then-free-clause-shown : goal.returns-then-free-clause-shown
@@ -18,11 +18,9 @@ returns-then-free-clause-next c =
 pub returns-clause-shown : goal.returns-clause-shown
 returns-clause-shown c = λ j h.
     let f = c.args.free in
-    let same = both_spread f.left f.right c.spread.result c.spread-2.result c.spread.ensures.even c.spread.ensures.odd c.spread-2.ensures.even c.spread-2.ensures.odd in
-    c.bits_at_places.ensures.shown j h ∙ same_places (stream_bit c.args.stream.bytes.now) _ (is_free_step true 32 (is_set f.left) (is_set f.right)) c.args.from j same h
+    c.bits_at_places.ensures.shown j h ∙ same_places (stream_bit c.args.stream.bytes.now) _ (is_free_step true 32 (is_set f.left) (is_set f.right)) c.args.from j c.places_of.ensures h
 
 pub returns-clause-next : goal.returns-clause-next
 returns-clause-next c =
     let f = c.args.free in
-    let same = both_spread f.left f.right c.spread.result c.spread-2.result c.spread.ensures.even c.spread.ensures.odd c.spread-2.ensures.even c.spread-2.ensures.odd in
-    c.bits_at_places.ensures.next ∙ ap (λ (n : ℕ). c.args.from + n) (passing_same _ (is_free_step true 32 (is_set f.left) (is_set f.right)) 64 same)
+    c.bits_at_places.ensures.next ∙ ap (λ (n : ℕ). c.args.from + n) (passing_same _ (is_free_step true 32 (is_set f.left) (is_set f.right)) 64 c.places_of.ensures)
