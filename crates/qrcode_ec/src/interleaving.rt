@@ -17,7 +17,7 @@ const FEW: usize = 11;
 
 // From so many bytes on, a table of all multiples of the generator is less work than those of which
 // each other one is a sum.
-const MANY: usize = 700;
+const MANY: usize = 560;
 
 /// The data bytes of a symbol, which stand block by block.
 #[derive(Drop)]

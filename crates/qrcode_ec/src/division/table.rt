@@ -57,7 +57,7 @@ impl TableDivider {
     }
 
     // The remainder of these bytes, which are also written at every `step`-th place, beginning with
-    // `first`.
+    // `first`. They are taken two at a time, so that the loop itself costs less.
     fn divide_and_spread(
         &self,
         bytes: &[u8],
@@ -75,12 +75,19 @@ impl TableDivider {
     {
         let mut register = u8x32::splat(0);
         let mut place = first;
-        for byte in bytes {
-            register = self.divide(register, *byte);
-            codewords[place] = *byte;
-            place += step;
+        for i in 0..bytes.len() / 2 {
+            let (even, odd) = (bytes[2 * i], bytes[2 * i + 1]);
+            register = self.divide(self.divide(register, even), odd);
+            codewords[place] = even;
+            codewords[place + step] = odd;
+            place += 2 * step;
         }
-        register
+        if bytes.len() % 2 == 0 {
+            return register;
+        }
+        let last = bytes[bytes.len() - 1];
+        codewords[place] = last;
+        self.divide(register, last)
     }
 
     /// The remainder of bytes in two parts, as `Divider::remainder` gives it. Those of the first part
