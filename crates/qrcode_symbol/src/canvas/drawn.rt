@@ -1,6 +1,6 @@
 //! Symbols drawn for the constructors in packed rows: those of Normal column by column, with the patterns added.
 
-ghost use Rattle.std.specs.Prelude.{◌≡◌, ℕ, ◌+◌, ◌*◌, ◌<◌, ◌≤◌, ◌^◌, bit_or, length, map, replicate, slice_index_or, false, IsTrue, IfOk, IsOkUnless, OnOk};
+ghost use Rattle.std.specs.Prelude.{◌≡◌, ℕ, ◌+◌, ◌*◌, ◌<◌, ◌≤◌, ◌^◌, bit_or, ◌++◌, length, map, replicate, slice_index_or, false, IsTrue, IfOk, IsOkUnless, OnOk};
 ghost use Rattle.qrcode_types.specs.Versions.{is_valid, has_level, is_micro, side};
 ghost use Rattle.qrcode_types.specs.declared.types.QrError.TheVariants.{OutOfMemory};
 ghost use Rattle.qrcode_packed.specs.Rows.{IsSquare};
@@ -51,17 +51,15 @@ fn data_rows<R: PackedRow>(
     Ok(())
 }
 
-// So many equal rows, pushed one by one: as many set at once are counted byte by byte.
-fn equal_rows<R: PackedRow>(alloc: Global, row: R, count: usize) -> QrResult<Vec<R>>
-    ensures value { IfOk result (λ rows.
-        map R.bits rows.items ≡ replicate count (R.bits row)) }
+// Appends so many equal rows one by one: as many set at once are counted byte by byte.
+fn push_equal<R: PackedRow>(rows: &mut Vec<R>, row: R, count: usize) -> QrResult<()>
+    ensures value { OnOk result (rows.new.items ≡ rows.old.items ++ replicate count row) }
     ensures memory { IsOkUnless result OutOfMemory }
 {
-    let mut rows = Vec::with_capacity(alloc, count)?;
     for _ in 0..count {
         rows.push(row)?;
     }
-    Ok(rows)
+    Ok(())
 }
 
 // Adds the places of other rows to rows.
@@ -94,18 +92,21 @@ fn drawn_by<R: PackedRow>(
     ensures memory { IsOkUnless result OutOfMemory }
 {
     let width = side(version);
-    let mut dark_rows = equal_rows(alloc, R::first(0), width)?;
-    let mut free_rows = equal_rows(alloc, R::first(width as u32), width)?;
-    let dark: &mut [R] = &mut dark_rows;
-    let free: &mut [R] = &mut free_rows;
+    // The rows of what is dark and of what is free, and a place for columns, in one piece of memory.
+    let mut lists = Vec::with_capacity(alloc, 3 * width)?;
+    push_equal(&mut lists, R::first(0), width)?;
+    push_equal(&mut lists, R::first(width as u32), 2 * width)?;
+    let (dark, further) = lists.split_at_mut(width);
+    let (free, columns) = further.split_at_mut(width);
     draw_pattern_rows(version, dark, free);
     // Not of zeros, which would be set byte by byte; all are written below.
-    let mut others = vec![in alloc; R::first(1); 2 * width]?;
-    let (columns, data) = others.split_at_mut(width);
+    let mut others = vec![in alloc; R::first(1); width]?;
+    let data: &mut [R] = &mut others;
     data_rows(alloc, version, ec_level, bytes, ec, free, columns, data)?;
     add_rows(dark, data);
     drop(others);
-    best_from(alloc, version, ec_level, dark, free)
+    // The columns are a place to work in for the masks.
+    best_from(alloc, version, ec_level, dark, free, columns)
 }
 
 /// The same: of Normal in the narrowest rows that hold the symbol.

@@ -85,11 +85,13 @@ fn least_mask_by_rows<R: PackedRow>(modules: &PackedModules<'_, R>, masked: &mut
     best
 }
 
-// The square under the first mask of least penalty, by its packed rows.
+// The square under the first mask of least penalty, by its packed rows; `masked` is a place to work in.
 fn best_of<R: PackedRow, S: FromColor>(
     alloc: Global,
     packed: &PackedModules<'_, R>,
+    masked: &mut [R],
 ) -> QrResult<Vec<S>>
+    requires { length masked.old ≡ packed.now.width }
     ensures best { (modules : List Module)
         → ShowsModules is_dark_module packed.now.width modules packed.now.dark.rows
         → ShowsModules is_free packed.now.width modules packed.now.free.rows
@@ -97,28 +99,29 @@ fn best_of<R: PackedRow, S: FromColor>(
         IsBestShown packed.now.version packed.now.ec_level modules S.from_color new.items) }
     ensures memory { IsOkUnless result OutOfMemory }
 {
-    // Not of zeros, which would be set byte by byte; each mask writes all rows.
-    let mut masked = vec![in alloc; R::first(1); packed.width]?;
     let mut answer = Vec::with_capacity(alloc, packed.width * packed.width)?;
-    let best = least_mask(packed, &mut masked);
-    mask_rows(packed, nth_mask(packed.version, best), &mut masked);
-    unpack_rows(packed.width, &masked, &mut answer)?;
+    let best = least_mask(packed, masked);
+    mask_rows(packed, nth_mask(packed.version, best), masked);
+    unpack_rows(packed.width, masked, &mut answer)?;
     Ok(answer)
 }
 
-/// The square under the first mask of least penalty, by the rows of what is dark and of what a mask may turn.
+/// The square under the first mask of least penalty, by the rows of what is dark and of what a mask may turn; `masked` is a
+/// place to work in.
 pub(super) fn best_from<R: PackedRow, S: FromColor>(
     alloc: Global,
     version: Version,
     ec_level: EcLevel,
     dark: &[R],
     free: &[R],
+    masked: &mut [R],
 ) -> QrResult<Vec<S>>
     requires exists { IsTrue (has_level version ec_level) }
     requires dark_square { IsSquare R.room
         (record { width = side version; rows = map R.bits dark.now }) }
     requires free_square { IsSquare R.room
         (record { width = side version; rows = map R.bits free.now }) }
+    requires masked_length { length masked.old ≡ side version }
     ensures best { (modules : List Module)
         → ShowsModules is_dark_module (side version) modules (map R.bits dark.now)
         → ShowsModules is_free (side version) modules (map R.bits free.now)
@@ -133,7 +136,7 @@ pub(super) fn best_from<R: PackedRow, S: FromColor>(
         dark: PackedSquare::new(dark, width as u32),
         free: PackedSquare::new(free, width as u32),
     };
-    best_of(alloc, &packed)
+    best_of(alloc, &packed, masked)
 }
 
 // The square under the first mask of least penalty, chosen on rows of one kind.
@@ -154,7 +157,8 @@ fn best_by<R: PackedRow, S: FromColor>(
     let mut dark = vec![in alloc; R::first(0); width]?;
     let mut free = vec![in alloc; R::first(0); width]?;
     pack_rows(width, modules, &mut dark, &mut free);
-    best_from(alloc, version, ec_level, &dark, &free)
+    let mut masked = vec![in alloc; R::first(1); width]?;
+    best_from(alloc, version, ec_level, &dark, &free, &mut masked)
 }
 
 // The same as colours, where the modules are freed before the colours are written.
@@ -176,7 +180,8 @@ fn into_best_by<R: PackedRow, C: Cell>(
     let mut free = vec![in alloc; R::first(0); width]?;
     pack_rows(width, &modules, &mut dark, &mut free);
     drop(modules);
-    best_from(alloc, version, ec_level, &dark, &free)
+    let mut masked = vec![in alloc; R::first(1); width]?;
+    best_from(alloc, version, ec_level, &dark, &free, &mut masked)
 }
 
 /// The square, in row order, under the first mask of least penalty, with its format word.
