@@ -1,5 +1,5 @@
 -- Rows written as colours in whole words, each row behind the one before.
-use Rattle.std.proofs.Common.{◌≡◌, ℕ, suc, ◌+◌, ◌-◌, ◌*◌, ◌/◌, ◌%◌, ◌^◌, ◌<◌, ◌≤◌, ◌||◌, ◌&&◌, Bool, true, false, List, bit_or, bit_and, length, slice_index_or, refl, ap, sym, subst, ◌∙◌, inl, inr, arith, add-mul}
+use Rattle.std.proofs.Common.{◌≡◌, ℕ, ◌+◌, ◌-◌, ◌*◌, ◌/◌, ◌%◌, ◌^◌, ◌<◌, ◌≤◌, ◌||◌, ◌&&◌, Bool, true, false, List, bit_or, bit_and, length, slice_index_or, refl, ap, sym, ◌∙◌, inl, inr, arith, add-mul}
 use Rattle.std.proofs.lemmas.Bool.{cases_lt}
 use Rattle.std.proofs.lemmas.Nat.{mod_below, pow_pos, mul-add-lt}
 use Rattle.qrcode_types.specs.Colors.{color_of}

@@ -1,5 +1,5 @@
 -- Patterns and data of Micro together in rows of one word.
-use Rattle.std.proofs.Common.{◌≡◌, ℕ, ◌+◌, ◌-◌, ◌*◌, ◌^◌, ◌<◌, ◌≤◌, zero, suc, pos, negsuc, nat_le, Bool, true, false, not, ◌&&◌, ◌||◌, List, length, take, map, get_or, refl, ap, sym, subst, ◌∙◌, arith, IsTrue, bit_and, bit_or}
+use Rattle.std.proofs.Common.{◌≡◌, ℕ, ◌+◌, ◌-◌, ◌*◌, ◌^◌, ◌<◌, ◌≤◌, zero, suc, pos, negsuc, nat_le, Bool, true, false, ◌&&◌, ◌||◌, List, length, take, map, get_or, refl, ap, sym, subst, ◌∙◌, arith, IsTrue, bit_and, bit_or}
 use Rattle.std.proofs.lemmas.List.{get_or-take, length-take-le, get_or-map}
 use Rattle.std.proofs.lemmas.Nat.{or_lt}
 use Rattle.qrcode_types.specs.Versions.{side, is_micro, is_valid}
@@ -16,7 +16,6 @@ use Rattle.qrcode_symbol.specs.Carried.{drawn_modules}
 use Rattle.qrcode_symbol.specs.Columns.{stream_bit, is_free_place, AreDataRows}
 use Rattle.qrcode_symbol.specs.Masking.{is_dark_module, is_free, ShowsModules}
 use Rattle.qrcode_symbol.specs.Micro.{IsClearTo, AllFit, AreRowsFilled}
-use Rattle.qrcode_symbol.specs.declared.canvas.Module.{Module}
 use Rattle.qrcode_symbol.specs.declared.canvas.Module.TheVariants.{Empty}
 use Rattle.qrcode_symbol.specs.declared.canvas.micro.patterns.TheConstants.{DARK, FREE}
 use Rattle.qrcode_symbol.proofs.Drawn.{places_show, free_there, all_shown, still_free}

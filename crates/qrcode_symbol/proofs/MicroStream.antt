@@ -1,6 +1,6 @@
 -- Codewords of Micro put together as a stream, by places that need not be those of bytes.
-use Rattle.std.proofs.Common.{◌≡◌, ◌≢◌, ℕ, zero, suc, ◌+◌, ◌-◌, ◌*◌, ◌/◌, ◌%◌, ◌^◌, ◌<◌, ◌≤◌, ◌||◌, Bool, true, false, List, [], ◌∷◌, ◌++◌, min, replicate, take, length, get_or, set, refl, ap, sym, subst, ◌∙◌, arith, inl, inr, bit_or, below_more, if◌then◌else◌, ◌⊎◌}
-use Rattle.std.proofs.lemmas.Bool.{cases_lt, cases_eq}
+use Rattle.std.proofs.Common.{◌≡◌, ◌≢◌, ℕ, zero, suc, ◌+◌, ◌-◌, ◌*◌, ◌/◌, ◌%◌, ◌^◌, ◌<◌, ◌≤◌, ◌||◌, Bool, true, false, List, min, replicate, take, length, get_or, set, refl, ap, sym, ◌∙◌, arith, inl, inr, bit_or, if◌then◌else◌, ◌⊎◌}
+use Rattle.std.proofs.lemmas.Bool.{cases_lt}
 use Rattle.std.proofs.lemmas.Bool.Decides.{eqb_tells}
 use Rattle.std.proofs.lemmas.List.{get_or-set_other, get_or-set_same, get_or_past, get_or-take, get_or_append_left, get_or-append_right, length-take-le}
 use Rattle.std.proofs.Math.ListN.{length-set}

@@ -1,5 +1,5 @@
 -- The bits of pairs of columns of Micro are those of the walk.
-use Rattle.std.proofs.Common.{◌≡◌, ◌≢◌, ℕ, ◌+◌, ◌-◌, ◌*◌, ◌/◌, ◌%◌, ◌<◌, ◌≤◌, ◌==◌, pos, negsuc, nat_le, Bool, true, false, not, zero, suc, ◌&&◌, ◌||◌, List, refl, ap, ap₂, sym, subst, ◌∙◌, arith, inl, inr, IsTrue, get_or}
+use Rattle.std.proofs.Common.{◌≡◌, ℕ, ◌+◌, ◌-◌, ◌*◌, ◌/◌, ◌%◌, ◌<◌, ◌≤◌, ◌==◌, pos, negsuc, nat_le, Bool, true, false, not, zero, suc, ◌&&◌, ◌||◌, List, refl, ap, sym, subst, ◌∙◌, arith, inl, inr, IsTrue}
 use Rattle.std.proofs.lemmas.Bool.{cases_lt}
 use Rattle.std.proofs.lemmas.Bool.Decides.{nat_tests}
 use Rattle.std.proofs.lemmas.Nat.{div-add-mod'}
@@ -13,7 +13,6 @@ use Rattle.qrcode_symbol.specs.Columns.{stream_bit, nth_bit, passing, row_at, is
 use Rattle.qrcode_symbol.specs.Micro.{first_free, row_from, IsPairDrawn, IsClearTo, AreRowsFilled}
 use Rattle.qrcode_symbol.proofs.MicroPairs.{row_least}
 use Rattle.qrcode_symbol.proofs.Mirrored.{micro_tests}
-use Rattle.qrcode_symbol.proofs.Pairs.{row_small}
 use Rattle.qrcode_symbol.proofs.Passing.{passing_add, passing_same, passing_all, passing_none, passing_run}
 use Rattle.qrcode_symbol.proofs.WalkSteps.{place_at, pairs_apart, below}
 

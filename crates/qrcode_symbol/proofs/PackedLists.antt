@@ -1,5 +1,5 @@
 -- Packed lists, place by place.
-use Rattle.std.proofs.Common.{◌≡◌, ℕ, zero, suc, ◌+◌, ◌-◌, ◌*◌, ◌/◌, ◌%◌, ◌^◌, ◌<◌, ◌≤◌, Bool, true, false, ◌==◌, List, [], ◌∷◌, length, ◌++◌, take, drop, get_or, set, map, cond, replicate, below_more, refl, ap, sym, ◌∙◌, arith, min, mul_assoc, mul_comm, length-drop, length-take, take-take, drop-drop}
+use Rattle.std.proofs.Common.{◌≡◌, ℕ, zero, suc, ◌+◌, ◌-◌, ◌*◌, ◌/◌, ◌%◌, ◌^◌, ◌<◌, ◌≤◌, Bool, true, false, ◌==◌, List, [], ◌∷◌, length, take, drop, get_or, set, map, cond, replicate, below_more, refl, ap, sym, ◌∙◌, arith, min, mul_assoc, mul_comm, length-drop, take-take, drop-drop}
 use Rattle.std.proofs.lemmas.Nat.{pow_pos, mod_low}
 use Rattle.std.specs.Int.{bit_at}
 use Rattle.std.proofs.lemmas.Nat.Bits.{bit_at_lowest, bit_at-suc}

@@ -1,7 +1,7 @@
 -- Symbols of Micro in rows of one word.
-use Rattle.std.specs.Prelude.{◌≡◌, ◌≢◌, ℕ, ◌+◌, ◌-◌, ◌*◌, ◌<◌, ◌≤◌, ◌^◌, nat_le, ◌&&◌, Bool, false, List, length, slice_index_or, if◌then◌else◌}
+use Rattle.std.specs.Prelude.{◌≡◌, ◌≢◌, ℕ, ◌+◌, ◌-◌, ◌*◌, ◌<◌, ◌≤◌, nat_le, ◌&&◌, Bool, false, List, length, slice_index_or, if◌then◌else◌}
 use Rattle.qrcode_types.specs.declared.types.Version.{Version}
-use Rattle.qrcode_packed.specs.Rows.{is_set, dark_in, FitsWidth}
+use Rattle.qrcode_packed.specs.Rows.{dark_in, FitsWidth}
 use Rattle.qrcode_places.specs.Stream.{zigzag_place}
 use Rattle.qrcode_symbol.specs.Columns.{free_before, is_free_place, nth_bit, stream_bit}
 

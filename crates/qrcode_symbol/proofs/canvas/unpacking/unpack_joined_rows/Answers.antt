@@ -1,4 +1,4 @@
-use Rattle.std.proofs.Common.{◌≡◌, ℕ, ◌+◌, ◌-◌, ◌*◌, ◌/◌, ◌^◌, ◌<◌, map, length, bit_and, ap, sym, subst, ◌∙◌, arith}
+use Rattle.std.proofs.Common.{◌≡◌, ℕ, ◌+◌, ◌-◌, ◌/◌, ◌^◌, ◌<◌, map, length, bit_and, ap, sym, subst, ◌∙◌, arith}
 use Rattle.qrcode_packed.specs.Rows.{is_set, dark_in}
 use Rattle.qrcode_packed.proofs.Places.{has_mod}
 use Rattle.qrcode_packed.proofs.RowLists.{read, cut_fits}

@@ -1,4 +1,4 @@
-use Rattle.std.proofs.Common.{◌≡◌, ℕ, ◌-◌, ◌*◌, ◌/◌, ◌≤◌, Bool, length, replicate, ap₂, ◌∙◌, arith, inl, inr, if◌then◌else◌}
+use Rattle.std.proofs.Common.{ℕ, ◌-◌, ◌*◌, ◌/◌, ◌≤◌, Bool, length, replicate, ap₂, ◌∙◌, arith, inl, inr, if◌then◌else◌}
 use Rattle.std.proofs.lemmas.List.{length-take-le}
 use Rattle.qrcode_symbol.proofs.MicroStream.{nothing_put, bits_put, least_of}
 use Rattle.qrcode_symbol.proofs.canvas.micro.codewords.stream_of.Goals as goal

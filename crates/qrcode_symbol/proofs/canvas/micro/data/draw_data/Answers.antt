@@ -1,7 +1,7 @@
-use Rattle.std.proofs.Common.{◌≡◌, ℕ, ◌-◌, ◌*◌, refl, ap, sym, ◌∙◌, arith}
+use Rattle.std.proofs.Common.{◌≡◌, ◌-◌, ◌*◌, refl, ap, sym, ◌∙◌, arith}
 use Rattle.qrcode_types.specs.Versions.{side}
 use Rattle.qrcode_symbol.specs.Columns.{free_before}
-use Rattle.qrcode_symbol.proofs.MicroWalk.{next_pair, all_pairs, no_pair, narrow}
+use Rattle.qrcode_symbol.proofs.MicroWalk.{next_pair, all_pairs, no_pair}
 use Rattle.qrcode_symbol.proofs.WalkSteps.{none_before, free_before_le, steps_small}
 use Rattle.qrcode_symbol.proofs.canvas.micro.data.draw_data.Goals as goal
 

@@ -1,4 +1,4 @@
-use Rattle.std.proofs.Common.{◌≡◌, ℕ, ◌-◌, ◌^◌, slice_index_or, slice_set, bit_and, refl, ap₂, ◌∙◌, arith, below_more}
+use Rattle.std.proofs.Common.{◌≡◌, ◌-◌, ◌^◌, slice_index_or, slice_set, bit_and, refl, ap₂, ◌∙◌, arith, below_more}
 use Rattle.std.proofs.Math.ListN.{length-set}
 use Rattle.std.proofs.lemmas.List.{get_or-set_same, get_or-set_other}
 use Rattle.qrcode_symbol.specs.declared.canvas.micro.patterns.TheConstants.{FREE}
