@@ -7,6 +7,7 @@ pub mod Grid
 pub mod GridOf
 pub mod Half
 pub mod Ink
+pub mod Inlays
 pub mod Layout
 pub mod LineOf
 pub mod Lines

@@ -17,12 +17,17 @@ use qrcode_types::types::QrResult;
 // The bytes of a cell.
 const CELL: usize = 8;
 
-// Stores a text of 32 bytes at a place of each of some rows of so many bytes. Within its callers, so that the text
+// Stores a text of so many bytes at a place of each of some rows of so many bytes. Within its callers, so that the text
 // stays in registers.
 #[inline(always)]
-fn stamp_rows<const ROWS: usize>(band: &mut [u8], width: usize, at: usize, text: &Stamp<LONGEST>)
-    requires text { length text.now ≡ 32 }
-    requires inside { at + 32 ≤ width }
+pub(crate) fn stamp_rows<const ROWS: usize, const N: usize>(
+    band: &mut [u8],
+    width: usize,
+    at: usize,
+    text: &Stamp<N>,
+)
+    requires text { length text.now ≡ N }
+    requires inside { at + N ≤ width }
     requires length { length band.old ≡ ROWS * width }
     ensures rows { (row : List ℕ) → length row ≡ width → band.old ≡ repeated ROWS row
         → band.new ≡ repeated ROWS (put_at at row text.now) }
@@ -58,7 +63,7 @@ fn stamp_four<const ROWS: usize>(
     ensures length { length band.new ≡ length band.old }
 {
     let four = palette.four(marks[at], marks[at + 1], marks[at + 2], marks[at + 3]);
-    stamp_rows::<ROWS>(band, CELL * marks.len(), CELL * at, four);
+    stamp_rows::<ROWS, LONGEST>(band, CELL * marks.len(), CELL * at, four);
 }
 
 // Writes the text that stands for each mark, of four at least, into each of some equal rows, by a palette of these

@@ -42,7 +42,7 @@ fn pairs<const N: usize>(alloc: Global, texts: &[Stamp<N>]) -> QrResult<Vec<Stam
 }
 
 // The number of two marks among the four pairs of marks.
-fn pair_number(first: bool, second: bool) -> usize
+pub(crate) fn pair_number(first: bool, second: bool) -> usize
     ensures { result ≡ pair_number first second }
 {
     2 * usize::from(first) + usize::from(second)

@@ -14,6 +14,8 @@ use crate::marks::{Shade, is_dark, mark_bytes, mark_columns, mark_line};
 use qrcode_types::types::Color;
 use std::marker::Model;
 
+mod inside;
+
 // Cells whose dark ones a byte counts: the most that are seven times the 32 that are taken at once.
 const COUNTED: usize = 224;
 

@@ -23,6 +23,7 @@ mod fours;
 pub mod grid;
 pub mod image;
 mod ink;
+mod inlays;
 pub mod laws;
 mod marks;
 mod numbers;

@@ -11,6 +11,7 @@ ghost use Rattle.qrcode_render.specs.Texts.{marks_text};
 use crate::bands::push_bands;
 use crate::fours::{Fours, push_marks, push_ones};
 use crate::grid::Grid;
+use crate::inlays::{inlaid_bytes, push_inlaid};
 use crate::stamps::{Line, Stamp};
 use qrcode_types::types::{QrError, QrResult};
 use std::alloc::Global;
@@ -270,6 +271,9 @@ pub fn push_rows(
         (raw.new.items ≡ raw.old.items ++ rows_text dark.now light.now end.now grid.now) }
     ensures memory { IsOkUnless result OutOfMemory }
 {
+    if let Some((dark, light)) = inlaid_bytes(grid, dark, light, end) {
+        return push_inlaid(raw, grid, dark, light);
+    }
     let alloc = *raw.allocator();
     let (across, _) = grid.cell();
     let (columns, _) = grid.sides();
