@@ -1,4 +1,4 @@
-use Rattle.std.proofs.Common.{◌≡◌, ◌-◌, ◌++◌, false, length, drop, take, map, ap, ◌∙◌, sym, arith}
+use Rattle.std.proofs.Common.{◌≡◌, ◌-◌, length, drop, take, map, ap, ◌∙◌, sym, arith}
 use Rattle.std.proofs.lemmas.List.{append-nil, length-map, take_all, take_at}
 use Rattle.std.specs.List.{slice_range}
 use Rattle.qrcode_types.specs.Colors.{is_dark}
