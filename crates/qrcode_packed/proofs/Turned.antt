@@ -1,5 +1,5 @@
 -- Rows turned over into columns: the words of a row, and a bit of each byte.
-use Rattle.std.proofs.Common.{◌≡◌, ℕ, zero, suc, ◌+◌, ◌*◌, ◌/◌, ◌%◌, ◌^◌, ◌<◌, ◌≤◌, ◌-◌, inl, inr, Bool, true, false, ◌==◌, List, length, map, take, replicate, slice_index_or, bit_and, eqb, refl, ap, sym, ◌∙◌, arith, cond}
+use Rattle.std.proofs.Common.{◌≡◌, ℕ, zero, suc, ◌+◌, ◌*◌, ◌/◌, ◌%◌, ◌^◌, ◌<◌, ◌≤◌, ◌-◌, inl, inr, Bool, true, false, ◌==◌, List, length, map, replicate, slice_index_or, bit_and, refl, ap, sym, ◌∙◌, arith, cond}
 use Rattle.std.specs.Int.{bit_at}
 use Rattle.std.specs.Simd.Lanes.{mask_l}
 use Rattle.std.proofs.lemmas.Bool.{ne_eqb, eq-eqb}
@@ -65,3 +65,11 @@ pub none_at : (n i : ℕ) → slice_index_or (replicate n zero) i zero ≡ zero
 none_at zero i = refl
 none_at (suc n) zero = refl
 none_at (suc n) (suc i) = none_at n i
+
+-- the places of two words, where there is room for both
+pub pair_low : (h m l room x : ℕ) → room ≡ 128 → x < 64 → is_set (((h * 2 ^ 64 + m) * 2 ^ 64 + l) % 2 ^ room) x ≡ is_set l x
+pair_low h m l room x two inside = has_mod ((h * 2 ^ 64 + m) * 2 ^ 64 + l) room x (omega (arith, two, inside)) ∙ has_low (h * 2 ^ 64 + m) l 64 x inside
+
+pub pair_high : (h m l room x : ℕ) → room ≡ 128 → l < 2 ^ 64 → x < 64 → is_set (((h * 2 ^ 64 + m) * 2 ^ 64 + l) % 2 ^ room) (64 + x) ≡ is_set m x
+pair_high h m l room x two fits inside =
+    has_mod ((h * 2 ^ 64 + m) * 2 ^ 64 + l) room (64 + x) (omega (arith, two, inside)) ∙ has_high (h * 2 ^ 64 + m) l 64 x fits ∙ has_low h m 64 x inside

@@ -42,3 +42,8 @@ pub record IsColumn (width : ℕ) (rows : List ℕ) (x column : ℕ) : Type 0 wh
 -- the first columns of a square, as rows
 abbrev pub AreColumns : ℕ → List ℕ → ℕ → List ℕ → Type 0
 AreColumns width rows count turned = (x : ℕ) → x < count → IsColumn width rows x (slice_index_or turned x 0)
+
+-- from 7 to 189 lines
+pub record IsLines (lines : List ℕ) : Type 0 where
+  pub at_least : 7 ≤ length lines
+  pub at_most : length lines ≤ 189

@@ -1,4 +1,4 @@
-use Rattle.std.proofs.Common.{◌≡◌, ℕ, ◌+◌, ◌-◌, ◌<◌, ap, sym, ◌∙◌, arith, ◌*◌, ◌^◌, slice_index_or, take, drop, subst}
+use Rattle.std.proofs.Common.{ℕ, ◌+◌, ◌<◌, ap, sym, ◌∙◌, arith, ◌*◌, ◌^◌, slice_index_or, drop, subst}
 use Rattle.std.proofs.lemmas.Nat.{mod_below, pow_pos}
 use Rattle.std.proofs.lemmas.List.{get_or-take, get_or-drop}
 use Rattle.qrcode_packed.specs.Rows.{is_set}

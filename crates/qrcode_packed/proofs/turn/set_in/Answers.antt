@@ -1,4 +1,4 @@
-use Rattle.std.proofs.Common.{◌≡◌, ℕ, ◌==◌, ◌^◌, List, eqb, bit_and, length, map, take, replicate, slice_index_or, ap, sym, ◌∙◌, arith, w8}
+use Rattle.std.proofs.Common.{◌≡◌, ℕ, ◌==◌, List, eqb, bit_and, length, map, take, replicate, slice_index_or, ap, ◌∙◌, arith, w8}
 use Rattle.std.specs.Simd.Lanes.{mask_l}
 use Rattle.std.proofs.lemmas.List.{length-map, take_all, get_or-map}
 use Rattle.std.proofs.lemmas.Simd.{bitmask_splat, zip2_splat}

@@ -1,8 +1,7 @@
-use Rattle.std.proofs.Common.{◌≡◌, ◌<◌, ℕ, map, ◌∙◌, arith}
+use Rattle.std.proofs.Common.{map, ◌∙◌, arith}
 use Rattle.std.proofs.lemmas.List.{length-map}
-use Rattle.qrcode_packed.specs.Rows.{dark_in, AreColumns}
+use Rattle.qrcode_packed.specs.Rows.{dark_in}
 use Rattle.qrcode_packed.proofs.RowLists.{rows_fit}
-use Rattle.qrcode_packed.proofs.turn.turn.Given.{Over}
 use Rattle.qrcode_packed.proofs.turn.turn.Goals as goal
 
 pub turn_words-requires-clause-before : goal.turn_words-requires-clause-before

@@ -1,4 +1,4 @@
-use Rattle.std.proofs.Common.{◌≡◌, ◌+◌, length, map}
+use Rattle.std.proofs.Common.{◌+◌, map}
 use Rattle.qrcode_packed.specs.Rows.{AreColumns}
 use Rattle.qrcode_packed.proofs.turn.turn_eight.Given as goal
 

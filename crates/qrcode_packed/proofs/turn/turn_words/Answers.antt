@@ -1,4 +1,4 @@
-use Rattle.std.proofs.Common.{◌≡◌, ◌+◌, ◌-◌, ◌*◌, arith}
+use Rattle.std.proofs.Common.{arith}
 use Rattle.qrcode_packed.proofs.turn.turn_words.Goals as goal
 
 pub loop-c-init : goal.loop-c-init

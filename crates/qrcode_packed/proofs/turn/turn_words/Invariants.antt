@@ -1,4 +1,4 @@
-use Rattle.std.proofs.Common.{◌≡◌, ◌+◌, ◌*◌, map, min}
+use Rattle.std.proofs.Common.{◌+◌, ◌*◌, map, min}
 use Rattle.qrcode_packed.specs.Rows.{AreColumns}
 use Rattle.qrcode_packed.proofs.turn.turn_words.Given as goal
 
