@@ -4,6 +4,9 @@ pub mod Finders
 pub mod Inside
 pub mod LastColumn
 pub mod Lines
+pub mod PaddedForms
+pub mod RowWords
 pub mod Runs
 pub mod Squares
+pub mod StripSums
 pub mod Sums

@@ -2,5 +2,8 @@
 #![tactic(auto)]
 
 mod columns;
+mod forms;
 pub mod penalty;
-mod rows;
+mod row_halves;
+mod run_costs;
+mod strips;
