@@ -204,6 +204,11 @@ free_columns v room rows valid shown square = record {
   fits = square.fits;
 }
 
+-- they are the same with rows and columns exchanged
+pub free_mirrored : (v : Version) (rows : List ℕ) → IsTrue (is_valid v) → ShowsModules is_free (side v) (with_patterns v (blank v)) rows → (x y : ℕ) → x < side v → y < side v → dark_in rows y x ≡ dark_in rows x y
+free_mirrored v rows valid shown x y xl yl =
+    sym (shown y x yl xl) ∙ free_there v y x yl xl ∙ ap not (mirrored v y x valid) ∙ sym (free_there v x y xl yl) ∙ shown x y xl yl
+
 -- rows without a place behind the width
 pub square_of : (room w : ℕ) (rows : List ℕ) → 7 ≤ w → w + 3 ≤ room → length rows ≡ w → ((y : ℕ) → FitsWidth w (get_or rows y 0)) → IsSquare room (record { width = w; rows = rows })
 square_of room w rows least spare size fits = record { at_least = least; spare = spare; length = size; fits = fits }

@@ -43,3 +43,5 @@ pub mod TwoRows
 pub mod Walk
 pub mod WalkSteps
 pub mod WrittenModules
+mod StripLines
+mod DecidedStrips

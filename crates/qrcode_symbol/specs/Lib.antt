@@ -10,5 +10,6 @@ pub mod PackedPatterns
 pub mod Patterned
 pub mod Penalties
 pub mod Reading
+pub mod StripLines
 pub mod Symbol
 pub mod Unpacking

@@ -29,6 +29,7 @@ mod edges;
 mod filling;
 mod layer;
 mod masked_rows;
+mod masked_strips;
 mod masking;
 mod micro;
 mod packed_patterns;

@@ -1,11 +1,12 @@
 //! Squares that are no symbols of the library, packed into rows of each type, and what they cost.
 
-ghost use Rattle.std.specs.Prelude.{◌≡◌, ◌+◌, ◌<◌, ◌≤◌, length, map, IfOk};
+ghost use Rattle.std.specs.Prelude.{◌≡◌, ◌+◌, ◌*◌, ◌/◌, ◌<◌, ◌≤◌, length, map, IfOk};
 ghost use Rattle.qrcode_packed.specs.Rows.{FitsWidth, IsSquare};
+ghost use Rattle.qrcode_penalty.specs.RowHalves.{HasHalves};
 
 use qrcode_packed::row::{PackedRow, Row128, Row192};
 use qrcode_packed::square::PackedSquare;
-use qrcode_penalty::penalty::{micro_penalty, normal_penalty};
+use qrcode_penalty::penalty::{micro_penalty, penalty_of_strips};
 use qrcode_types::types::QrResult;
 use std::alloc::Global;
 
@@ -115,22 +116,90 @@ fn rows_of<R: PackedRow>(alloc: Global, kind: Kind, width: u32) -> QrResult<Vec<
     Ok(rows)
 }
 
-// The penalties of Normal and of Micro, on packed rows.
-fn packed_in<R: PackedRow>(alloc: Global, kind: Kind, width: u32) -> QrResult<(u32, u32)>
+// The penalty of Micro, on packed rows.
+fn micro_in<R: PackedRow>(alloc: Global, kind: Kind, width: u32) -> QrResult<u32>
     requires at_least { 7 ≤ width }
     requires room { width + 3 ≤ R.room }
 {
     let rows = rows_of::<R>(alloc, kind, width)?;
-    let packed = PackedSquare::new(&rows, width);
-    Ok((normal_penalty(&packed), micro_penalty(&packed)))
+    Ok(micro_penalty(&PackedSquare::new(&rows, width)))
 }
 
-// Whether a square has these penalties on packed rows of each type that has room for it.
+// As many places of row y as a strip has in its half, from `first` on, or of column y.
+fn places_of(kind: Kind, across: bool, first: usize, half: u32, y: usize, width: usize) -> u64 {
+    let mut word = 0u64;
+    for x in 0..half.min(64) {
+        let i = first.wrapping_add(x as usize);
+        let is_dark = if across {
+            kind.is_dark(i, y)
+        } else {
+            kind.is_dark(y, i)
+        };
+        if i < width && is_dark {
+            word |= 1 << x;
+        }
+    }
+    word
+}
+
+// Line y of the k-th strip.
+fn line_of<L: PackedRow>(kind: Kind, k: usize, y: usize, width: usize) -> L {
+    let half = L::size() / 2;
+    let first = k.wrapping_mul(half as usize);
+    let row = places_of(kind, true, first, half, y, width);
+    let column = places_of(kind, false, first, half, y, width);
+    if half == 32 {
+        return L::of_words(row | column << 32, 0, 0);
+    }
+    L::of_words(row, column, 0)
+}
+
+// Writes the strips of a square between light lines.
+fn fill_strips<L: PackedRow>(kind: Kind, count: usize, width: usize, strips: &mut [L])
+    requires { width ≤ 189 }
+    ensures { length strips.new ≡ length strips.old }
+{
+    for n in 0..strips.len() {
+        let y = n % (width + 4);
+        if n / (width + 4) < count && y >= 4 {
+            strips[n] = line_of(kind, n / (width + 4), y - 4, width);
+        }
+    }
+}
+
+// The penalty of Normal, by strips.
+fn normal_in<L: PackedRow>(alloc: Global, kind: Kind, count: usize, width: u32) -> QrResult<u32>
+    requires halves { HasHalves L.room }
+    requires at_least { 7 ≤ width }
+    requires at_most { width ≤ 189 }
+    requires few { count ≤ 3 }
+    requires covered { width ≤ count * (L.room / 2) }
+{
+    let size = width as usize;
+    let mut strips = vec![in alloc; L::first(0); count * (size + 4) + 8]?;
+    fill_strips(kind, count, size, &mut strips);
+    Ok(penalty_of_strips(&strips, count, width))
+}
+
+// Whether a square has this penalty of Normal by strips of each type of lines of which three have room for it.
+fn normal_costs(alloc: Global, kind: Kind, width: u32, expected: u32) -> QrResult<bool>
+    requires at_least { 7 ≤ width }
+    requires at_most { width ≤ 177 }
+{
+    let narrow = width > 96
+        || normal_in::<u64>(alloc, kind, (width as usize + 31) / 32, width)? == expected;
+    let wide = normal_in::<Row128>(alloc, kind, (width as usize + 63) / 64, width)? == expected;
+    Ok(narrow && wide)
+}
+
+// Whether a square has these penalties, that of Micro on packed rows of each type that has room for it.
 fn costs(alloc: Global, kind: Kind, width: u32, expected: (u32, u32)) -> QrResult<bool> {
-    let one = !matches!(width, 7..=61) || packed_in::<u64>(alloc, kind, width)? == expected;
-    let two = !matches!(width, 7..=125) || packed_in::<Row128>(alloc, kind, width)? == expected;
-    let three = matches!(width, 7..=177) && packed_in::<Row192>(alloc, kind, width)? == expected;
-    Ok(one && two && three)
+    let (normal, micro) = expected;
+    let one = !matches!(width, 7..=61) || micro_in::<u64>(alloc, kind, width)? == micro;
+    let two = !matches!(width, 7..=125) || micro_in::<Row128>(alloc, kind, width)? == micro;
+    let three = matches!(width, 7..=177) && micro_in::<Row192>(alloc, kind, width)? == micro;
+    let strips = matches!(width, 7..=177) && normal_costs(alloc, kind, width, normal)?;
+    Ok(one && two && three && strips)
 }
 
 // A symbol whose penalty is published, in parts: runs 88 and 92, blocks 90, finder forms 360 and 400,

@@ -10,7 +10,7 @@ ghost use Rattle.qrcode_symbol.specs.Masking.{AreBestColors};
 
 use super::columns::draw_columns;
 use super::columns::stream::{Stream, stream_of};
-use super::masking::best_from;
+use super::masking::best_mirrored;
 use super::micro::micro_colors;
 use super::packed_patterns::draw_pattern_rows;
 use super::side;
@@ -106,7 +106,7 @@ fn drawn_by<R: PackedRow>(
     add_rows(dark, data);
     drop(others);
     // The columns are a place to work in for the masks.
-    best_from(alloc, version, ec_level, dark, free, columns)
+    best_mirrored(alloc, version, ec_level, dark, free, columns)
 }
 
 /// The same: of Normal in the narrowest rows that hold the symbol.

@@ -52,9 +52,9 @@ fn repeat(six: u64) -> u64
     six.wrapping_mul(0x1041_0410_4104_1041)
 }
 
-// The next 64 places, where six or twelve stand again and again: 64 is 4 more than a multiple of both, and 60 is one.
+/// The next 64 places, where six or twelve stand again and again: 64 is 4 more than a multiple of both, and 60 is one.
 #[inline(always)]
-fn next_places(word: u64) -> u64
+pub(super) fn next_places(word: u64) -> u64
     ensures { result ≡ next_places word }
 {
     word >> 4 | word << 56
@@ -129,9 +129,9 @@ pub(super) fn put<R: PackedRow>(row: R, place: u32, set: bool) -> R
     row.without(one)
 }
 
-// A row with the lowest bits of a number at so many places from one on, the highest of them first.
+/// A row with the lowest bits of a number at so many places from one on, the highest of them first.
 #[inline(always)]
-fn put_bits<R: PackedRow>(row: R, first: usize, count: usize, bits: u16) -> R
+pub(super) fn put_bits<R: PackedRow>(row: R, first: usize, count: usize, bits: u16) -> R
     requires at_most { count ≤ 16 }
     requires inside { first + count < R.room }
     ensures { IsPutInRow (R.bits row) first count (λ i. has_bit bits (count - 1 - i))

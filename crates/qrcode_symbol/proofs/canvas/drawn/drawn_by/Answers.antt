@@ -3,7 +3,7 @@ use Rattle.std.proofs.lemmas.List.{length-map}
 use Rattle.std.proofs.lemmas.Nat.{or_comm}
 use Rattle.qrcode_types.specs.Versions.{side}
 use Rattle.qrcode_symbol.specs.Carried.{drawn_modules}
-use Rattle.qrcode_symbol.proofs.Drawn.{all_shown, still_free, free_columns, joined_square}
+use Rattle.qrcode_symbol.proofs.Drawn.{all_shown, still_free, free_columns, free_mirrored, joined_square}
 use Rattle.qrcode_symbol.proofs.PackedPatterns.{blank_begun}
 use Rattle.qrcode_symbol.proofs.Shown.{map-replicate, first_equal, others_behind, some_equal}
 use Rattle.qrcode_symbol.proofs.canvas.drawn.drawn_by.Goals as goal
@@ -29,8 +29,8 @@ pub data_rows-requires-clause-free : goal.data_rows-requires-clause-free
 data_rows-requires-clause-free g c =
     free_columns c.args.version g.R.PackedRow.room (map g.R.PackedRow.bits c.draw_pattern_rows.new.free) c.requires.valid c.draw_pattern_rows.ensures.shown.free_shown c.draw_pattern_rows.ensures.free_square
 
-pub best_from-requires-clause-dark_square : goal.best_from-requires-clause-dark_square
-best_from-requires-clause-dark_square g c =
+pub best_mirrored-requires-clause-dark_square : goal.best_mirrored-requires-clause-dark_square
+best_mirrored-requires-clause-dark_square g c =
     let bits = g.R.PackedRow.bits in
     let w = side c.args.version in
     let rows = c.add_rows.new.rows in
@@ -54,4 +54,7 @@ returns-clause-best g c =
     let many : length patterns ≡ w = omega (arith, length-map patterns bits, c.draw_pattern_rows.ensures.dark_square.length) in
     let dark = all_shown v c.args.ec_level c.args.bytes.now c.args.ec.now (map bits drawn) (map bits patterns) (map bits rows) c.requires.valid c.in_ok-data_rows.ensures.shown c.draw_pattern_rows.ensures.shown.dark_shown
     (λ y h. c.add_rows.ensures.added y (omega (arith, h, many)) ∙ or_comm (slice_index_or (map bits patterns) y 0) (slice_index_or (map bits drawn) y 0)) in
-    c.best_from.ensures.best m dark (still_free v c.args.ec_level c.args.bytes.now c.args.ec.now (map bits free) c.requires.valid c.draw_pattern_rows.ensures.shown.free_shown)
+    c.best_mirrored.ensures.best m dark (still_free v c.args.ec_level c.args.bytes.now c.args.ec.now (map bits free) c.requires.valid c.draw_pattern_rows.ensures.shown.free_shown)
+
+pub best_mirrored-requires-clause-mirrored : goal.best_mirrored-requires-clause-mirrored
+best_mirrored-requires-clause-mirrored g c = free_mirrored c.args.version (map g.R.PackedRow.bits c.draw_pattern_rows.new.free) c.requires.valid c.draw_pattern_rows.ensures.shown.free_shown

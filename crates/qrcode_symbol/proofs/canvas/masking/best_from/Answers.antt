@@ -1,14 +1,18 @@
-use Rattle.std.proofs.Common.{◌≡◌, ap, subst, sym, map}
-use Rattle.qrcode_packed.specs.Rows.{PackedRows}
-use Rattle.qrcode_symbol.specs.Masking.{is_dark_module, is_free, ShowsModules}
+use Rattle.std.proofs.Common.{ℕ, subst, sym, IfOk}
+use Rattle.qrcode_types.specs.declared.types.Version.{Version}
+use Rattle.qrcode_types.specs.declared.types.EcLevel.{EcLevel}
+use Rattle.qrcode_types.specs.Versions.{side}
+use Rattle.qrcode_symbol.specs.Masking.{is_dark_module, is_free, ShowsModules, IsBestShown}
 use Rattle.qrcode_symbol.proofs.canvas.masking.best_from.Goals as goal
 
 pub returns-clause-best : goal.returns-clause-best
 returns-clause-best g c = λ modules dark free.
     let bits = g.R.PackedRow.bits in
-    let w = c.side-width.result in
-    let dark_rows : c.new.result.rows ≡ map bits c.args.dark.now = ap (λ (s : PackedRows). s.rows) c.new.ensures in
-    let free_rows : c.new-2.result.rows ≡ map bits c.args.free.now = ap (λ (s : PackedRows). s.rows) c.new-2.ensures in
-    c.best_of.ensures.best modules
-    (subst (ShowsModules is_dark_module w modules) (sym dark_rows) (rw c.side-width.ensures.value dark))
-    (subst (ShowsModules is_free w modules) (sym free_rows) (rw c.side-width.ensures.value free))
+    let p = c.packed_of.result in
+    let is = c.packed_of.ensures in
+    let darks : ShowsModules is_dark_module p.width modules p.dark.rows =
+    subst (λ (n : ℕ). ShowsModules is_dark_module n modules p.dark.rows) (sym is.width) (subst (ShowsModules is_dark_module (side c.args.version) modules) (sym is.dark) dark) in
+    let frees : ShowsModules is_free p.width modules p.free.rows =
+    subst (λ (n : ℕ). ShowsModules is_free n modules p.free.rows) (sym is.width) (subst (ShowsModules is_free (side c.args.version) modules) (sym is.free) free) in
+    subst (λ (v : Version). IfOk c.best_of.result (λ new. IsBestShown v c.args.ec_level modules g.S.FromColor.from_color new.items)) is.version
+    (subst (λ (l : EcLevel). IfOk c.best_of.result (λ new. IsBestShown p.version l modules g.S.FromColor.from_color new.items)) is.level (c.best_of.ensures.best modules darks frees))
