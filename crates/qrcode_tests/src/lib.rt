@@ -1,6 +1,9 @@
-//! The tests of calls that make symbols and pictures, each with what other encoders or the standard's examples have.
+//! The tests of the library's public calls, each with what other encoders or the standard's examples have: those that make symbols and pictures of them, and
+//! below those the calls of bits, of what symbols are made of, and of pictures of modules.
 #![tactic(auto)]
 
+#[cfg(test)]
+mod bits;
 #[cfg(test)]
 mod calls;
 #[cfg(test)]
@@ -8,7 +11,11 @@ mod canvases;
 #[cfg(test)]
 mod pictures;
 #[cfg(test)]
+mod render;
+#[cfg(test)]
 mod squares;
+#[cfg(test)]
+mod symbol;
 #[cfg(test)]
 mod symbols;
 #[cfg(test)]

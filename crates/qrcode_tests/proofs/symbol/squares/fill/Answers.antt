@@ -1,7 +1,7 @@
 use Rattle.std.proofs.Common.{◌≡◌, length, ◌^◌, ◌<◌, map, ◌∙◌, arith}
 use Rattle.std.proofs.lemmas.List.{length-map}
 use Rattle.qrcode_packed.proofs.RowLists.{rows_more, rows_fit}
-use Rattle.qrcode_symbol_tests.proofs.squares.fill.Goals as goal
+use Rattle.qrcode_tests.proofs.symbol.squares.fill.Goals as goal
 
 pub loop-y-preserved : goal.loop-y-preserved
 loop-y-preserved g c = rows_more g.R.PackedRow.bits (λ k n. n < 2 ^ c.args.width) c.loop-y.rows c.loop-y.y c.row_of.result (omega arith) c.loop-y.invariant c.row_of.ensures

@@ -3,7 +3,7 @@
 ghost use Rattle.std.specs.Prelude.{◌≡◌, ◌*◌, ◌≤◌, length};
 ghost use Rattle.qrcode_render.specs.Setting.{side_of};
 
-use crate::drawings::{Drawing, modules};
+use crate::render::drawings::{Drawing, modules};
 use qrcode_render::image::{Channels, ImageBuffer};
 use qrcode_render::{Pixel, Renderer};
 use qrcode_types::types::Color;

@@ -1,11 +1,11 @@
 //! Pictures as files: PBM, PGM, EPS, and SVG of one path.
 
-use crate::drawings::{DIAGONAL, Drawing, MICRO_2};
-use crate::pictures::Colors::{Both, Dark, Usual};
-use crate::pictures::Size::{Default, Of, Same};
-use crate::pictures::Text::{Is, Starts};
-use crate::pictures::Zone::{Changed, On};
-use crate::pictures::{File, Row, Text, makes, writes};
+use crate::render::drawings::{DIAGONAL, Drawing, MICRO_2};
+use crate::render::pictures::Colors::{Both, Dark, Usual};
+use crate::render::pictures::Size::{Default, Of, Same};
+use crate::render::pictures::Text::{Is, Starts};
+use crate::render::pictures::Zone::{Changed, On};
+use crate::render::pictures::{File, Row, Text, makes, writes};
 use qrcode_render::{Pixel, eps, pbm, pgm, svg};
 use qrcode_types::types::Color;
 

@@ -1,11 +1,11 @@
 //! Pictures in SVG and PIC.
 
-use crate::drawings::{DARK, DIAGONAL, MICRO_2, NONE, NORMAL_1};
-use crate::pictures::Colors::{Both, Usual};
-use crate::pictures::Size::{AtLeast, Default, Of};
-use crate::pictures::Text::{Is, Starts};
-use crate::pictures::Zone::On;
-use crate::pictures::{Row, Text, writes};
+use crate::render::drawings::{DARK, DIAGONAL, MICRO_2, NONE, NORMAL_1};
+use crate::render::pictures::Colors::{Both, Usual};
+use crate::render::pictures::Size::{AtLeast, Default, Of};
+use crate::render::pictures::Text::{Is, Starts};
+use crate::render::pictures::Zone::On;
+use crate::render::pictures::{Row, Text, writes};
 use qrcode_render::{Canvas, pic, svg};
 use qrcode_types::types::QrResult;
 use std::alloc::Global;

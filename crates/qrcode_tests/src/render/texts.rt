@@ -1,11 +1,11 @@
 //! Pictures of characters, texts and half blocks.
 
-use crate::drawings::{DARK, DIAGONAL, MICRO_2, NONE, NORMAL_1, NORMAL_1_LETTERS};
-use crate::pictures::Colors::{Both, Usual};
-use crate::pictures::Size::{AtLeast, AtLeastSame, Default, Of, Same};
-use crate::pictures::Text::Is;
-use crate::pictures::Zone::{Off, OffAfter, On};
-use crate::pictures::{Row, Text, writes};
+use crate::render::drawings::{DARK, DIAGONAL, MICRO_2, NONE, NORMAL_1, NORMAL_1_LETTERS};
+use crate::render::pictures::Colors::{Both, Usual};
+use crate::render::pictures::Size::{AtLeast, AtLeastSame, Default, Of, Same};
+use crate::render::pictures::Text::Is;
+use crate::render::pictures::Zone::{Off, OffAfter, On};
+use crate::render::pictures::{Row, Text, writes};
 use qrcode_render::Pixel;
 use qrcode_render::string::{Canvas, Element, Str};
 use qrcode_render::unicode::Dense1x2;

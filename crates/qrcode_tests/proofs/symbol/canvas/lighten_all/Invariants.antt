@@ -1,5 +1,5 @@
 use Rattle.std.proofs.Common.{◌≡◌}
-use Rattle.qrcode_symbol_tests.proofs.canvas.lighten_all.Given as goal
+use Rattle.qrcode_tests.proofs.symbol.canvas.lighten_all.Given as goal
 
 abbrev pub invariant-loop-y : goal.invariant-loop-y
 invariant-loop-y l = (l.canvas.version ≡ l.version) × (l.canvas.level ≡ l.fn.canvas.level)

@@ -2,7 +2,7 @@
 
 ghost use Rattle.std.specs.Prelude.{◌≡◌, ◌*◌, ◌≤◌, length};
 
-use crate::drawings::{MICRO_2, modules};
+use crate::render::drawings::{MICRO_2, modules};
 use qrcode_render::image::Luma;
 use qrcode_render::{Renderer, pbm, svg};
 use qrcode_types::types::{Color, QrResult};

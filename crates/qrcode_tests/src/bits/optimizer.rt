@@ -4,7 +4,7 @@ ghost use Rattle.std.specs.Prelude.{◌≡◌, ◌≤◌, length, IsTrue};
 ghost use Rattle.qrcode_types.specs.Versions.{is_valid};
 ghost use Rattle.qrcode_bits.specs.Groups.{IsJoinable};
 
-use crate::cuts::{MICRO_3, NORMAL_1, total};
+use crate::bits::cuts::{MICRO_3, NORMAL_1, total};
 use qrcode_bits::optimize::{Optimizer, Parser, Segment, least_segments, total_encoded_len};
 use qrcode_types::types::Mode::{self, Alphanumeric, Byte, Kanji, Numeric};
 use qrcode_types::types::QrError::{self, DataTooLong, InvalidVersion, UnsupportedCharacterSet};

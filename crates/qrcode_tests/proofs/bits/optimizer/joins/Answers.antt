@@ -7,7 +7,7 @@ use Rattle.std.specs.declared.iter.Copied.{Copied}
 use Rattle.qrcode_bits.specs.declared.optimize.Segment.{Segment}
 use Rattle.qrcode_bits.specs.Segments.{AdjoinFrom}
 use Rattle.qrcode_bits.specs.Groups.{IsJoinable}
-use Rattle.qrcode_bits_tests.proofs.optimizer.joins.Goals as goal
+use Rattle.qrcode_tests.proofs.bits.optimizer.joins.Goals as goal
 
 adjoin_front : (from : ℕ) (xs ys : List Segment) → AdjoinFrom from (xs ++ ys) → AdjoinFrom from xs
 adjoin_front from [] ys h = tt

@@ -1,10 +1,10 @@
 //! Pictures as rows of pixels, and their sides.
 
-use crate::drawings::{DIAGONAL, Drawing, MICRO_2, NONE, NORMAL_1};
-use crate::pictures::Colors::Usual;
-use crate::pictures::Size::{AtLeast, AtMost, Default, Of, Same};
-use crate::pictures::Zone::{Off, On};
-use crate::pictures::{Pixels, Row, paints};
+use crate::render::drawings::{DIAGONAL, Drawing, MICRO_2, NONE, NORMAL_1};
+use crate::render::pictures::Colors::Usual;
+use crate::render::pictures::Size::{AtLeast, AtMost, Default, Of, Same};
+use crate::render::pictures::Zone::{Off, On};
+use crate::render::pictures::{Pixels, Row, paints};
 use qrcode_render::image::{Channels, Luma, LumaA, Rgb, Rgba};
 use qrcode_render::{Pixel, Renderer};
 use qrcode_types::types::Color;

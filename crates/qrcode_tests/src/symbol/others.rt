@@ -3,7 +3,7 @@
 ghost use Rattle.std.specs.Prelude.{◌≡◌, IsTrue};
 ghost use Rattle.qrcode_types.specs.Versions.{is_valid};
 
-use crate::segno::{CODEWORDS, MASKED};
+use crate::symbol::segno::{CODEWORDS, MASKED};
 use qrcode_symbol::canvas::{Canvas, MaskPattern};
 use qrcode_types::tables::Blocks;
 use qrcode_types::types::{EcLevel, QrError, QrResult, Version};

@@ -3,7 +3,7 @@
 ghost use Rattle.std.specs.Prelude.{◌≡◌, IsTrue};
 ghost use Rattle.qrcode_types.specs.Versions.{is_valid, has_level};
 
-use crate::drawings::{
+use crate::symbol::drawings::{
     DATA_OF_MICRO_1, DATA_OF_NORMAL_2, HALF_CODEWORD_OF_MICRO_3, LIGHT_MICRO_1, MOST_OF_NORMAL_2,
     NORMAL_1_UNDER_CHECKERBOARD, NORMAL_1_UNDER_VERTICAL_LINES, PATTERNS_OF_MICRO_1,
     PATTERNS_OF_NORMAL_2, PATTERNS_OF_NORMAL_7, SYMBOL_OF_MICRO_2, SYMBOL_OF_NORMAL_1,
