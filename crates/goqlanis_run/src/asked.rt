@@ -88,16 +88,13 @@ fn source_of<'a>(alloc: Global, given: &Given<'a>) -> Result<Source<'a>, Failure
     }
 }
 
-// The flags that do not go with segments by hand.
-static OF_OTHER_DATA: &[&str] = &["trim", "lines", "bytes", "eci", "boost"];
-
 // Refuses what does not go with segments by hand.
 fn check_segments(alloc: Global, given: &Given<'_>) -> Result<(), Failure> {
     if given.get("TEXT").is_some() || given.get("input").is_some() {
         return usage(alloc, "--segment is the data: leave out TEXT and --input");
     }
-    for name in OF_OTHER_DATA {
-        if given.has_flag(*name) {
+    for name in ["trim", "lines", "bytes", "eci", "boost"] {
+        if given.has_flag(name) {
             let text = format!(in alloc; "--segment and --{name}: one of them is enough")?;
             return Err(Failure::Usage(text));
         }
@@ -116,46 +113,42 @@ fn writing_of(alloc: Global, given: &Given<'_>) -> Result<Writing, Failure> {
 
 // Which version is taken: the one that is asked for, or the least from one on.
 fn choice_of(alloc: Global, given: &Given<'_>) -> Result<Choice, Failure> {
-    if let Some(text) = wrong_versions(given) {
-        return usage(alloc, text);
-    }
-    if let Some(name) = given.get("version") {
-        return Ok(Choice::At(version(alloc, "version", name)?));
-    }
-    let from = least_version(alloc, given)?;
-    if given.has_flag("boost") {
+    let (only, least) = (given.get("version"), given.get("least-version"));
+    let (is_micro, is_boosted) = (given.has_flag("micro"), given.has_flag("boost"));
+    let from = match (only, least) {
+        (Some(_), Some(_)) => {
+            return usage(
+                alloc,
+                "--version and --least-version: one of them is enough",
+            );
+        }
+        (Some(_), None) if is_micro => {
+            return usage(
+                alloc,
+                "--version and --micro: --version M1 to M4 is Micro QR",
+            );
+        }
+        (Some(_), None) if is_boosted => {
+            return usage(
+                alloc,
+                "--version and --boost: take --least-version in place of --version",
+            );
+        }
+        (Some(name), None) => return Ok(Choice::At(version(alloc, "version", name)?)),
+        (None, Some(_)) if is_micro => {
+            return usage(
+                alloc,
+                "--least-version and --micro: --micro is --least-version M1",
+            );
+        }
+        (None, Some(name)) => version(alloc, "least-version", name)?,
+        (None, None) if is_micro => Version::Micro(1),
+        (None, None) => Version::Normal(1),
+    };
+    if is_boosted {
         Ok(Choice::Boosted(from))
     } else {
         Ok(Choice::From(from))
-    }
-}
-
-// The version from which on versions are taken.
-fn least_version(alloc: Global, given: &Given<'_>) -> Result<Version, Failure> {
-    match given.get("least-version") {
-        Some(name) => version(alloc, "least-version", name),
-        None if given.has_flag("micro") => Ok(Version::Micro(1)),
-        None => Ok(Version::Normal(1)),
-    }
-}
-
-// What is said of options of the version that do not go together.
-fn wrong_versions(given: &Given<'_>) -> Option<&'static str> {
-    let (only, least) = (
-        given.get("version").is_some(),
-        given.get("least-version").is_some(),
-    );
-    let is_micro = given.has_flag("micro");
-    if only && least {
-        Some("--version and --least-version: one of them is enough")
-    } else if only && is_micro {
-        Some("--version and --micro: --version M1 to M4 is Micro QR")
-    } else if only && given.has_flag("boost") {
-        Some("--version and --boost: take --least-version in place of --version")
-    } else if least && is_micro {
-        Some("--least-version and --micro: --micro is --least-version M1")
-    } else {
-        None
     }
 }
 
@@ -167,9 +160,7 @@ fn request_of<'a>(
 ) -> Result<Request<'a>, Failure> {
     let choice = choice_of(alloc, given)?;
     let format = format(alloc, given.get("format"), target, has_colours)?;
-    if let Some(text) = wrong_for(given, format) {
-        return usage(alloc, text);
-    }
+    check_format(alloc, given, format)?;
     let (scale, size) = sizes(alloc, given, format)?;
     let (dark, light) = inks(alloc, given, format)?;
     Ok(Request {
@@ -198,20 +189,31 @@ fn inks<'a>(
     Ok((dark, light))
 }
 
-// What is said of options that a format does not have.
-fn wrong_for(given: &Given<'_>, format: Format) -> Option<&'static str> {
-    let has_colours = matches!(format, Format::Svg | Format::Eps | Format::Png);
-    if !has_colours && given.get("colour").is_some() {
-        Some("--colour: PNG, SVG and EPS alone have colours; add --format png, svg or eps")
-    } else if !has_colours && given.get("background").is_some() {
-        Some("--background: PNG, SVG and EPS alone have colours; add --format png, svg or eps")
-    } else if format != Format::Png && given.get("dpi").is_some() {
-        Some("--dpi: PNG alone names its dots per inch; EPS has a point for a pixel, 72 to an inch")
-    } else if format == Format::Pic && given.has_flag("invert") {
-        Some("--invert: PIC draws no light modules; take another --format")
-    } else {
-        None
+// Refuses options that a format does not have.
+fn check_format(alloc: Global, given: &Given<'_>, format: Format) -> Result<(), Failure> {
+    if !matches!(format, Format::Svg | Format::Eps | Format::Png) {
+        for name in ["colour", "background"] {
+            if given.get(name).is_some() {
+                let text = format!(in alloc;
+                    "--{name}: PNG, SVG and EPS alone have colours; add --format png, svg or eps"
+                )?;
+                return Err(Failure::Usage(text));
+            }
+        }
     }
+    if format != Format::Png && given.get("dpi").is_some() {
+        return usage(
+            alloc,
+            "--dpi: PNG alone names its dots per inch; EPS has a point for a pixel, 72 to an inch",
+        );
+    }
+    if format == Format::Pic && given.has_flag("invert") {
+        return usage(
+            alloc,
+            "--invert: PIC draws no light modules; take another --format",
+        );
+    }
+    Ok(())
 }
 
 // The pixels of a module, and those of a side where they are asked for.
@@ -285,25 +287,23 @@ fn format(
     }
 }
 
-// Names of formats, and endings of files.
-static FORMATS: &[(&str, Format)] = &[
-    ("half-blocks", Format::HalfBlocks),
-    ("txt", Format::HalfBlocks),
-    ("terminal", Format::Terminal),
-    ("text", Format::Chars),
-    ("png", Format::Png),
-    ("svg", Format::Svg),
-    ("eps", Format::Eps),
-    ("pic", Format::Pic),
-    ("pbm", Format::Pbm),
-    ("pgm", Format::Pgm),
-];
-
 // The format of a name, or of a file's ending, in capitals or not.
 fn named_format(name: &str) -> Option<Format> {
-    for (known, format) in FORMATS {
+    let names = [
+        ("half-blocks", Format::HalfBlocks),
+        ("txt", Format::HalfBlocks),
+        ("terminal", Format::Terminal),
+        ("text", Format::Chars),
+        ("png", Format::Png),
+        ("svg", Format::Svg),
+        ("eps", Format::Eps),
+        ("pic", Format::Pic),
+        ("pbm", Format::Pbm),
+        ("pgm", Format::Pgm),
+    ];
+    for (known, format) in names {
         if known.eq_ignore_ascii_case(name) {
-            return Some(*format);
+            return Some(format);
         }
     }
     None
@@ -340,27 +340,16 @@ fn ink<'a>(
 
 // The colour of # and three or six digits to the base 16.
 fn ink_of(name: &str) -> Option<Ink<'_>> {
-    match name.strip_prefix('#')?.as_bytes() {
-        [r, g, b] => ink_with(name, [*r, *r], [*g, *g], [*b, *b]),
-        [r, s, g, h, b, c] => ink_with(name, [*r, *s], [*g, *h], [*b, *c]),
-        _ => None,
-    }
-}
-
-// The colour of two digits each of red, green and blue.
-fn ink_with(name: &str, red: [u8; 2], green: [u8; 2], blue: [u8; 2]) -> Option<Ink<'_>> {
-    match (pair(red), pair(green), pair(blue)) {
-        (Some(red), Some(green), Some(blue)) => Some(Ink {
-            name,
-            red,
-            green,
-            blue,
-        }),
-        _ => None,
-    }
-}
-
-// The number of two digits to the base 16.
-fn pair([high, low]: [u8; 2]) -> Option<u8> {
-    two_digits(high, low)
+    let digits = name.strip_prefix('#')?.as_bytes();
+    let [high, low] = match digits {
+        [r, g, b] => [[*r, *g, *b], [*r, *g, *b]],
+        [r, s, g, h, b, c] => [[*r, *g, *b], [*s, *h, *c]],
+        _ => return None,
+    };
+    Some(Ink {
+        name,
+        red: two_digits(high[0], low[0])?,
+        green: two_digits(high[1], low[1])?,
+        blue: two_digits(high[2], low[2])?,
+    })
 }

@@ -2,31 +2,24 @@
 
 use goqlanis_contents::Refusal;
 use std::alloc::{AllocError, AllocFailed, Global};
-use std::fmt;
 use std::process::ExitCode;
+use thiserror::Error;
 
 /// Why the program does not do what it is asked.
-#[derive(Drop)]
+#[derive(Drop, Debug, Error)]
 pub enum Failure {
     /// The command line is wrong: status 2.
+    #[error("{0}")]
     Usage(String),
     /// The data, a file or the terminal does not serve: status 1.
+    #[error("{0}")]
     Refused(String),
     /// Standard output takes no more: status 1.
+    #[error("{0}")]
     Closed(String),
     /// Memory was refused: status 1.
+    #[error("out of memory")]
     OutOfMemory,
-}
-
-impl fmt::Display for Failure {
-    fn fmt<W: fmt::Write>(&self, f: &mut fmt::Formatter<W>) -> fmt::Result {
-        match self {
-            Failure::Usage(text) | Failure::Refused(text) | Failure::Closed(text) => {
-                f.write_str(text.as_str())
-            }
-            Failure::OutOfMemory => f.write_str("out of memory"),
-        }
-    }
 }
 
 impl From<AllocError> for Failure {
@@ -66,14 +59,6 @@ pub fn status(rt: &HostRuntime, run: Result<ExitCode, Failure>) -> ExitCode {
 /// A wrong command line, by a text.
 pub(crate) fn usage<T>(alloc: Global, text: &str) -> Result<T, Failure> {
     Err(Failure::Usage(String::from_str(alloc, text)?))
-}
-
-/// A refusal by a text, which may want memory itself.
-pub(crate) fn refusal(text: Result<String, AllocError>) -> Failure {
-    match text {
-        Ok(text) => Failure::Refused(text),
-        Err(_) => Failure::OutOfMemory,
-    }
 }
 
 /// A refusal, by its reason.

@@ -53,20 +53,18 @@ impl Pieces {
     }
 }
 
-// Names of modes.
-static MODES: &[(&str, Mode)] = &[
-    ("numeric", Mode::Numeric),
-    ("alphanumeric", Mode::Alphanumeric),
-    ("byte", Mode::Byte),
-    ("kanji", Mode::Kanji),
-];
-
 // The mode of a word MODE:TEXT, and its text.
 fn parts(word: &str) -> Option<(Mode, &str)> {
     let (name, text) = word.split_once(':')?;
-    for (known, mode) in MODES {
+    let modes = [
+        ("numeric", Mode::Numeric),
+        ("alphanumeric", Mode::Alphanumeric),
+        ("byte", Mode::Byte),
+        ("kanji", Mode::Kanji),
+    ];
+    for (known, mode) in modes {
         if known.eq_ignore_ascii_case(name) {
-            return Some((*mode, text));
+            return Some((mode, text));
         }
     }
     None
