@@ -20,7 +20,7 @@ ghost use Rattle.qrcode_bits.specs.Pushes.{Changes, Appends, PushesPiece, Pushes
 use crate::optimize::Segment;
 use qrcode_types::characters::character_count;
 use qrcode_types::modes::{has_mode, indicator};
-use qrcode_types::tables;
+use qrcode_types::tables::{self, Blocks};
 use qrcode_types::types::{EcLevel, Mode, QrError, QrResult, Version};
 use std::alloc::Global;
 use std::marker::Model;
@@ -93,7 +93,7 @@ impl Bits {
     {
         Bits {
             version,
-            stream: Stream::new(alloc),
+            stream: Stream::new(alloc, symbol_room(version)),
         }
     }
 
@@ -368,6 +368,17 @@ impl Bits {
         }
         Ok(length)
     }
+}
+
+// The bytes that a list takes at first: those of the codewords of a symbol and some more, so that it grows once.
+fn symbol_room(version: Version) -> usize {
+    let Some(blocks) = Blocks::of(version, EcLevel::L) else {
+        return 0;
+    };
+    blocks
+        .data_length()
+        .saturating_add(blocks.total_ec_length())
+        .saturating_add(10)
 }
 
 // The number of a mode indicator.

@@ -6,12 +6,14 @@ ghost use Rattle.qrcode_types.specs.Bits.{number_bits, bits_of};
 use std::alloc::{AllocError, Global};
 use std::marker::Model;
 
-// Bits, packed into bytes, eight at a time, and fewer than 64 bits behind them as a number.
+// Bits, packed into bytes, eight at a time, and fewer than 64 bits behind them as a number. Memory for so many bytes at
+// least is asked for at first.
 #[derive(Drop)]
 pub(super) struct Stream {
     bytes: Vec<u8>,
     rest: u64,
     rest_len: u32,
+    first_room: usize,
 }
 
 impl Model for Stream {
@@ -31,13 +33,15 @@ impl Model for Stream {
 }
 
 impl Stream {
-    pub(super) fn new(alloc: Global) -> Stream
+    // No bits yet, and no memory; so many bytes are asked for at first.
+    pub(super) fn new(alloc: Global, first_room: usize) -> Stream
         ensures { result.bits ≡ [] }
     {
         Stream {
             bytes: Vec::new(alloc),
             rest: 0,
             rest_len: 0,
+            first_room,
         }
     }
 
@@ -55,6 +59,7 @@ impl Stream {
             bytes,
             rest: self.rest,
             rest_len: self.rest_len,
+            first_room: self.first_room,
         })
     }
 
@@ -72,7 +77,11 @@ impl Stream {
         ensures bits { self.new.bits ≡ self.old.bits }
         ensures room { OnOk result (count ≤ self.new.room) }
     {
-        self.bytes.reserve((self.rest_len as usize + count + 7) / 8)
+        let wanted = (self.rest_len as usize + count + 7) / 8;
+        if self.bytes.capacity() == 0 {
+            return self.bytes.reserve(wanted.max(self.first_room));
+        }
+        self.bytes.reserve(wanted)
     }
 
     // Appends the `count` bits of a number, the highest first.
