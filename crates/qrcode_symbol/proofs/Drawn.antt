@@ -3,6 +3,7 @@ use Rattle.std.proofs.Common.{◌≡◌, ℕ, ◌+◌, ◌-◌, ◌*◌, ◌^◌
 use Rattle.std.specs.List.{range_with_len, filter}
 use Rattle.std.proofs.lemmas.Bool.Decides.{eqb_tells}
 use Rattle.std.proofs.lemmas.Option.{unwrap_or-slice_get}
+use Rattle.std.proofs.lemmas.List.{length-map}
 use Rattle.std.proofs.lemmas.Simd.{map-map}
 use Rattle.qrcode_types.specs.Versions.{side, is_valid}
 use Rattle.qrcode_types.specs.declared.types.Version.{Version}
@@ -20,6 +21,7 @@ use Rattle.qrcode_places.proofs.LeftOut.{left_out_is_functional}
 use Rattle.qrcode_symbol.specs.Canvas.{is_empty, empty_places, blank, drawn_bits, with_bits_drawn, with_patterns, pattern_module}
 use Rattle.qrcode_symbol.specs.Carried.{drawn_modules}
 use Rattle.qrcode_symbol.specs.Columns.{passing, stream_bit, IsStream, AreFilled, AreFreeColumns, AreDataRows, is_free_place, free_before}
+use Rattle.qrcode_symbol.specs.DrawnLines.{AreDataColumns}
 use Rattle.qrcode_symbol.specs.Filling.{place_index}
 use Rattle.qrcode_symbol.specs.Masking.{is_dark_module, is_free, ShowsModules}
 use Rattle.qrcode_symbol.specs.declared.canvas.Module.{Module}
@@ -141,11 +143,11 @@ pub column_shows : (v : Version) (bits : List Bool) (stream columns : List ℕ) 
 column_shows v bits stream columns x y valid is filled empty =
     places_show v bits stream (λ x y. is_set (get_or columns x 0) y) x y valid (λ i h. is.bits_are i) filled.met (λ y. ap (λ (n : ℕ). is_set n y) empty ∙ has_zero y)
 
--- rows turned over from the columns
-pub rows_show : (v : Version) (l : EcLevel) (bytes ec stream columns rows : List ℕ) → IsTrue (is_valid v) → IsStream (drawn_bits v l bytes ec) stream → AreFilled v stream columns (side v * (side v - 1))
-    → get_or columns (left_out v) 0 ≡ 0 → ((x y : ℕ) → x < side v → y < side v → dark_in rows y x ≡ dark_in columns x y) → AreDataRows v (drawn_modules v l bytes ec) rows
+-- the same of all of them
+pub columns_show : (v : Version) (l : EcLevel) (bytes ec stream columns : List ℕ) → IsTrue (is_valid v) → IsStream (drawn_bits v l bytes ec) stream → AreFilled v stream columns (side v * (side v - 1))
+    → get_or columns (left_out v) 0 ≡ 0 → AreDataColumns v (drawn_modules v l bytes ec) columns
 unfolding dark_in
-rows_show v l bytes ec stream columns rows valid is filled empty turned x y xl yl = turned y x yl xl ∙ column_shows v (drawn_bits v l bytes ec) stream columns x y valid is filled empty xl yl
+columns_show v l bytes ec stream columns valid is filled empty x y xl yl = column_shows v (drawn_bits v l bytes ec) stream columns x y valid is filled empty xl yl
 
 full_there : (b : Bool) → not b ≡ false → b ≡ true
 full_there true e = refl
@@ -162,22 +164,38 @@ is_empty_one (Masked c) e = cc
 is_empty_one (Unmasked c) e = cc
 
 -- data and patterns together
-pub all_shown : (v : Version) (l : EcLevel) (bytes ec data_rows patterns rows : List ℕ) → IsTrue (is_valid v) → AreDataRows v (drawn_modules v l bytes ec) data_rows
-    → ShowsModules is_dark_module (side v) (with_patterns v (blank v)) patterns → ((y : ℕ) → y < side v → get_or rows y 0 ≡ bit_or (get_or data_rows y 0) (get_or patterns y 0))
+pub both_shown : (v : Version) (l : EcLevel) (bytes ec patterns rows : List ℕ) → IsTrue (is_valid v) → ShowsModules is_dark_module (side v) (with_patterns v (blank v)) patterns
+    → ((x y : ℕ) → x < side v → y < side v → dark_in rows x y ≡ (is_free_place v x y && is_dark_module (get_or (drawn_modules v l bytes ec) (y * side v + x) Empty) || dark_in patterns x y))
     → ShowsModules is_dark_module (side v) (drawn_modules v l bytes ec) rows
-unfolding dark_in
-all_shown v l bytes ec data_rows patterns rows valid dark pattern_dark joined x y xl yl =
+both_shown v l bytes ec patterns rows valid pattern_dark joined x y xl yl =
     let i = y * side v + x in
     let new = with_patterns v (blank v) in
     let m = drawn_modules v l bytes ec in
-    let there : is_set (get_or rows y 0) x ≡ (is_free_place v x y && is_dark_module (get_or m i Empty) || is_dark_module (get_or new i Empty)) =
-    ap (λ (n : ℕ). is_set n x) (joined y yl) ∙ has_or (get_or data_rows y 0) (get_or patterns y 0) x ∙ ap₂ (λ a b. a || b) (dark x y xl yl) (sym (pattern_dark x y xl yl)) in
+    let there : dark_in rows x y ≡ (is_free_place v x y && is_dark_module (get_or m i Empty) || is_dark_module (get_or new i Empty)) =
+    joined x y xl yl ∙ ap (λ b. is_free_place v x y && is_dark_module (get_or m i Empty) || b) (sym (pattern_dark x y xl yl)) in
     sym (there ∙ free_or_not (is_free_place v x y) ((is_free_place v x y && is_dark_module (get_or m i Empty) || is_dark_module (get_or new i Empty)) ≡ is_dark_module (get_or m i Empty))
     (λ f. rw (f, is_empty_one (get_or new i Empty) (empty_there v x y xl yl ∙ f)) (or_none (is_dark_module (get_or m i Empty))))
     (λ f. rw f (ap is_dark_module (sym (stays v (drawn_bits v l bytes ec) x y xl yl f))))) where
       or_none : (b : Bool) → (b || false) ≡ b
       or_none true = refl
       or_none false = refl
+
+-- the same by rows
+pub all_shown : (v : Version) (l : EcLevel) (bytes ec data_rows patterns rows : List ℕ) → IsTrue (is_valid v) → AreDataRows v (drawn_modules v l bytes ec) data_rows
+    → ShowsModules is_dark_module (side v) (with_patterns v (blank v)) patterns → ((y : ℕ) → y < side v → get_or rows y 0 ≡ bit_or (get_or data_rows y 0) (get_or patterns y 0))
+    → ShowsModules is_dark_module (side v) (drawn_modules v l bytes ec) rows
+unfolding dark_in
+all_shown v l bytes ec data_rows patterns rows valid dark pattern_dark joined = both_shown v l bytes ec patterns rows valid pattern_dark
+    (λ x y xl yl. ap (λ (n : ℕ). is_set n x) (joined y yl) ∙ has_or (get_or data_rows y 0) (get_or patterns y 0) x ∙ ap (λ b. b || is_set (get_or patterns y 0) x) (dark x y xl yl))
+
+-- the same by columns, those of the patterns being turned from rows, and by the rows turned from them
+pub turned_shown : (v : Version) (l : EcLevel) (bytes ec columns patterns pattern_columns lines rows : List ℕ) → IsTrue (is_valid v) → AreDataColumns v (drawn_modules v l bytes ec) columns
+    → ShowsModules is_dark_module (side v) (with_patterns v (blank v)) patterns → ((x y : ℕ) → x < side v → y < side v → dark_in pattern_columns y x ≡ dark_in patterns x y)
+    → ((x : ℕ) → x < side v → get_or lines x 0 ≡ bit_or (get_or columns x 0) (get_or pattern_columns x 0)) → ((x y : ℕ) → x < side v → y < side v → dark_in rows x y ≡ dark_in lines y x)
+    → ShowsModules is_dark_module (side v) (drawn_modules v l bytes ec) rows
+unfolding dark_in
+turned_shown v l bytes ec columns patterns pattern_columns lines rows valid drawn pattern_dark turned joined rows_turned = both_shown v l bytes ec patterns rows valid pattern_dark
+    (λ x y xl yl. rows_turned x y xl yl ∙ ap (λ (n : ℕ). is_set n y) (joined x xl) ∙ has_or (get_or columns x 0) (get_or pattern_columns x 0) y ∙ ap₂ (λ a b. a || b) (drawn x y xl yl) (turned x y xl yl))
 
 -- a mask may turn the free places, whatever is drawn there
 pub still_free : (v : Version) (l : EcLevel) (bytes ec free : List ℕ) → IsTrue (is_valid v) → ShowsModules is_free (side v) (with_patterns v (blank v)) free → ShowsModules is_free (side v) (drawn_modules v l bytes ec) free
@@ -221,12 +239,16 @@ shows_at test w u modules others rows ew em shown =
 pub square_at : (room w u : ℕ) (rows : List ℕ) → w ≡ u → IsSquare room (record { width = w; rows = rows }) → IsSquare room (record { width = u; rows = rows })
 square_at room w u rows e square = subst (λ (k : ℕ). IsSquare room (record { width = k; rows = rows })) e square
 
--- rows that are joined stay inside the width
-pub joined_square : (room w : ℕ) (rows first second : List ℕ) → IsSquare room (record { width = w; rows = first }) → IsSquare room (record { width = w; rows = second }) → length rows ≡ w
-    → ((y : ℕ) → y < w → get_or rows y 0 ≡ bit_or (get_or first y 0) (get_or second y 0)) → IsSquare room (record { width = w; rows = rows })
-joined_square room w rows first second a b size joined = record {
-  at_least = a.at_least;
-  spare = a.spare;
-  length = size;
-  fits = rows_fit rows w size (λ y h. subst (λ (n : ℕ). n < 2 ^ w) (sym (joined y h)) (or_lt w (get_or first y 0) (get_or second y 0) (a.fits y) (b.fits y)));
-}
+-- lines that are joined stay inside the width
+pub joined_square : {A : Type 0} (bits : A → ℕ) (room w : ℕ) (lines first second : List A) → IsSquare room (record { width = w; rows = map bits first }) → IsSquare room (record { width = w; rows = map bits second })
+    → length lines ≡ length first → ((y : ℕ) → y < length first → get_or (map bits lines) y 0 ≡ bit_or (get_or (map bits first) y 0) (get_or (map bits second) y 0)) → IsSquare room (record { width = w; rows = map bits lines })
+joined_square bits room w lines first second a b same joined =
+    let many : length first ≡ w = sym (length-map first bits) ∙ a.length in
+    let size : length (map bits lines) ≡ w = length-map lines bits ∙ same ∙ many in
+    record {
+      at_least = a.at_least;
+      spare = a.spare;
+      length = size;
+      fits = rows_fit (map bits lines) w size
+          (λ y h. subst (λ (n : ℕ). n < 2 ^ w) (sym (joined y (omega (arith, h, many)))) (or_lt w (get_or (map bits first) y 0) (get_or (map bits second) y 0) (a.fits y) (b.fits y)));
+    }

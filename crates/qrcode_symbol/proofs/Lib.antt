@@ -22,6 +22,7 @@ pub mod MicroPatterns
 pub mod MicroStream
 pub mod MicroWalk
 pub mod Mirrored
+pub mod MirroredPatterns
 pub mod NextBits
 pub mod Numbered
 pub mod Numbers

@@ -2,6 +2,7 @@ pub mod Canvas
 pub mod Carried
 pub mod Columns
 pub mod Deciding
+pub mod DrawnLines
 pub mod Filling
 pub mod Lending
 pub mod Masking

@@ -3,13 +3,17 @@
 ghost use Rattle.std.specs.Prelude.{◌≡◌, ℕ, ◌+◌, ◌*◌, ◌<◌, ◌≤◌, ◌^◌, bit_or, ◌++◌, length, map, replicate, slice_index_or, false, IsTrue, IfOk, IsOkUnless, OnOk};
 ghost use Rattle.qrcode_types.specs.Versions.{is_valid, has_level, is_micro, side};
 ghost use Rattle.qrcode_types.specs.declared.types.QrError.TheVariants.{OutOfMemory};
-ghost use Rattle.qrcode_packed.specs.Rows.{IsSquare};
+ghost use Rattle.qrcode_packed.specs.Rows.{IsSquare, dark_in};
+ghost use Rattle.qrcode_symbol.specs.Canvas.{blank, with_patterns};
 ghost use Rattle.qrcode_symbol.specs.Carried.{drawn_modules};
-ghost use Rattle.qrcode_symbol.specs.Columns.{AreFreeColumns, AreDataRows};
-ghost use Rattle.qrcode_symbol.specs.Masking.{AreBestColors};
+ghost use Rattle.qrcode_symbol.specs.Columns.{AreFreeColumns};
+ghost use Rattle.qrcode_symbol.specs.DrawnLines.{AreDataColumns, AreDrawnLines};
+ghost use Rattle.qrcode_symbol.specs.Masking.{is_dark_module, ShowsModules, AreBestColors};
+ghost use Rattle.qrcode_symbol.specs.PackedPatterns.{AreBegun};
 
 use super::columns::draw_columns;
 use super::columns::stream::{Stream, stream_of};
+use super::masked_rows::put;
 use super::masking::best_mirrored;
 use super::micro::micro_colors;
 use super::packed_patterns::draw_pattern_rows;
@@ -20,9 +24,8 @@ use qrcode_packed::turn::turn;
 use qrcode_types::types::{Color, EcLevel, QrResult, Version};
 use std::alloc::Global;
 
-// Writes the data of a symbol as rows. It is drawn in columns, for which there is room; the free places of a symbol are
-// the same with rows and columns exchanged.
-fn data_rows<R: PackedRow>(
+// Draws the data of a symbol in columns. Its free places are the same with rows and columns exchanged.
+fn data_columns<R: PackedRow>(
     alloc: Global,
     version: Version,
     ec_level: EcLevel,
@@ -30,24 +33,21 @@ fn data_rows<R: PackedRow>(
     ec: &[u8],
     free: &[R],
     columns: &mut [R],
-    rows: &mut [R],
 ) -> QrResult<()>
     requires valid { IsTrue (is_valid version) }
     requires normal { is_micro version ≡ false }
     requires room { side version + 3 ≤ R.room }
     requires free { AreFreeColumns version (map R.bits free.now) }
-    requires columns_length { length columns.old ≡ side version }
-    requires length { length rows.old ≡ side version }
-    ensures shown { OnOk result (AreDataRows version
-        (drawn_modules version ec_level bytes.now ec.now) (map R.bits rows.new)) }
+    requires length { length columns.old ≡ side version }
+    ensures shown { OnOk result (AreDataColumns version
+        (drawn_modules version ec_level bytes.now ec.now) (map R.bits columns.new)) }
     ensures square { OnOk result (IsSquare R.room
-        (record { width = side version; rows = map R.bits rows.new })) }
+        (record { width = side version; rows = map R.bits columns.new })) }
     ensures memory { IsOkUnless result OutOfMemory }
 {
-    let width = side(version);
+    let _width = side(version);
     let stream = stream_of(alloc, version, ec_level, bytes, ec)?;
     draw_columns(version, Stream::new(&stream), free, columns);
-    turn(&PackedSquare::new(columns, width as u32), rows);
     Ok(())
 }
 
@@ -62,17 +62,65 @@ fn push_equal<R: PackedRow>(rows: &mut Vec<R>, row: R, count: usize) -> QrResult
     Ok(())
 }
 
-// Adds the places of other rows to rows.
-fn add_rows<R: PackedRow>(rows: &mut [R], others: &[R])
-    requires { length others.now ≡ length rows.old }
-    ensures length { length rows.new ≡ length rows.old }
-    ensures added { (y : ℕ) → y < length rows.old → slice_index_or (map R.bits rows.new) y 0
-        ≡ bit_or (slice_index_or (map R.bits rows.old) y 0)
+// Turns the rows of the patterns into columns: both are the same but for the dark module.
+fn turn_patterns<R: PackedRow>(version: Version, rows: &mut [R])
+    requires valid { IsTrue (is_valid version) }
+    requires normal { is_micro version ≡ false }
+    requires shown { ShowsModules is_dark_module (side version)
+        (with_patterns version (blank version)) (map R.bits rows.old) }
+    requires square { IsSquare R.room
+        (record { width = side version; rows = map R.bits rows.old }) }
+    ensures turned { (x y : ℕ) → x < side version → y < side version
+        → dark_in (map R.bits rows.new) y x ≡ dark_in (map R.bits rows.old) x y }
+    ensures square { IsSquare R.room
+        (record { width = side version; rows = map R.bits rows.new }) }
+{
+    let far = side(version) - 8;
+    rows[far] = put(rows[far], 8, false);
+    rows[8] = put(rows[8], far as u32, true);
+}
+
+// Adds the places of other lines to lines.
+fn add_lines<R: PackedRow>(lines: &mut [R], others: &[R])
+    requires { length others.now ≡ length lines.old }
+    ensures length { length lines.new ≡ length lines.old }
+    ensures added { (y : ℕ) → y < length lines.old → slice_index_or (map R.bits lines.new) y 0
+        ≡ bit_or (slice_index_or (map R.bits lines.old) y 0)
         (slice_index_or (map R.bits others.now) y 0) }
 {
-    for y in 0..rows.len() {
-        rows[y] = rows[y].or(others[y]);
+    for y in 0..lines.len() {
+        lines[y] = lines[y].or(others[y]);
     }
+}
+
+// Draws a symbol in rows of what is dark and of what is free, and in columns of what is dark: these come first, since
+// data is drawn in columns, and are turned once.
+fn draw_lines<R: PackedRow>(
+    alloc: Global,
+    version: Version,
+    ec_level: EcLevel,
+    bytes: &[u8],
+    ec: &[u8],
+    dark: &mut [R],
+    free: &mut [R],
+    columns: &mut [R],
+) -> QrResult<()>
+    requires valid { IsTrue (is_valid version) }
+    requires normal { is_micro version ≡ false }
+    requires room { side version + 3 ≤ R.room }
+    requires begun { AreBegun version (map R.bits dark.old) (map R.bits free.old) }
+    requires length { length columns.old ≡ side version }
+    ensures drawn { OnOk result (AreDrawnLines R.room version
+        (drawn_modules version ec_level bytes.now ec.now)
+        (map R.bits dark.new) (map R.bits free.new) (map R.bits columns.new)) }
+    ensures memory { IsOkUnless result OutOfMemory }
+{
+    draw_pattern_rows(version, dark, free);
+    data_columns(alloc, version, ec_level, bytes, ec, free, columns)?;
+    turn_patterns(version, dark);
+    add_lines(columns, dark);
+    turn(&PackedSquare::new(columns, side(version) as u32), dark);
+    Ok(())
 }
 
 // The colours of the symbol of codewords under the first mask of least penalty, drawn in rows of one kind.
@@ -92,20 +140,13 @@ fn drawn_by<R: PackedRow>(
     ensures memory { IsOkUnless result OutOfMemory }
 {
     let width = side(version);
-    // The rows of what is dark and of what is free, and a place for columns, in one piece of memory.
+    // The rows of what is dark and of what is free, and the columns, in one piece of memory.
     let mut lists = Vec::with_capacity(alloc, 3 * width)?;
     push_equal(&mut lists, R::first(0), width)?;
     push_equal(&mut lists, R::first(width as u32), 2 * width)?;
     let (dark, further) = lists.split_at_mut(width);
     let (free, columns) = further.split_at_mut(width);
-    draw_pattern_rows(version, dark, free);
-    // Not of zeros, which would be set byte by byte; all are written below.
-    let mut others = vec![in alloc; R::first(1); width]?;
-    let data: &mut [R] = &mut others;
-    data_rows(alloc, version, ec_level, bytes, ec, free, columns, data)?;
-    add_rows(dark, data);
-    drop(others);
-    // The columns are a place to work in for the masks.
+    draw_lines(alloc, version, ec_level, bytes, ec, dark, free, columns)?;
     best_mirrored(alloc, version, ec_level, dark, free, columns)
 }
 

@@ -272,17 +272,20 @@ fn best_of<R: PackedRow, S: FromColor>(
     shown_under(alloc, packed, best, masked)
 }
 
-// The same of Normal, where the free places are the same with rows and columns exchanged: `lines` are the columns first,
-// and then the rows under the mask.
+// The same of Normal by the columns too of what is dark, where the free places are the same with rows and columns
+// exchanged. The columns become a place to work in.
 fn best_mirrored_of<R: PackedRow, S: FromColor>(
     alloc: Global,
     packed: &PackedModules<'_, R>,
-    lines: &mut [R],
+    columns: &mut [R],
 ) -> QrResult<Vec<S>>
-    requires length { length lines.old ≡ packed.now.width }
     requires normal { is_micro packed.now.version ≡ false }
     requires mirrored { (x y : ℕ) → x < packed.now.width → y < packed.now.width
         → dark_in packed.now.free.rows y x ≡ dark_in packed.now.free.rows x y }
+    requires columns_square { IsSquare R.room
+        (record { width = packed.now.width; rows = map R.bits columns.old }) }
+    requires turned { (x y : ℕ) → x < packed.now.width → y < packed.now.width
+        → dark_in (map R.bits columns.old) y x ≡ dark_in packed.now.dark.rows x y }
     ensures best { (modules : List Module)
         → ShowsModules is_dark_module packed.now.width modules packed.now.dark.rows
         → ShowsModules is_free packed.now.width modules packed.now.free.rows
@@ -290,11 +293,9 @@ fn best_mirrored_of<R: PackedRow, S: FromColor>(
         IsBestShown packed.now.version packed.now.ec_level modules S.from_color new.items) }
     ensures memory { IsOkUnless result OutOfMemory }
 {
-    let width = packed.width;
-    turn(&packed.dark, lines);
-    let columns = PackedSquare::new(lines, width as u32);
-    let best = least_normal_mask(alloc, packed, &columns, &packed.free)?;
-    shown_under(alloc, packed, best, lines)
+    let dark_columns = PackedSquare::new(columns, packed.width as u32);
+    let best = least_normal_mask(alloc, packed, &dark_columns, &packed.free)?;
+    shown_under(alloc, packed, best, columns)
 }
 
 // Modules by the rows of what is dark and of what a mask may turn.
@@ -351,15 +352,15 @@ pub(super) fn best_from<R: PackedRow, S: FromColor>(
     best_of(alloc, &packed_of(version, ec_level, dark, free), masked)
 }
 
-/// The square of Normal under the first mask of least penalty, by the rows of what is dark and of what a mask may turn,
-/// where the latter are the same with rows and columns exchanged; `lines` is a place to work in.
+/// The square of Normal under the first mask of least penalty, by the rows and the columns of what is dark and by the rows
+/// of what a mask may turn, which are the same with rows and columns exchanged. The columns become a place to work in.
 pub(super) fn best_mirrored<R: PackedRow, S: FromColor>(
     alloc: Global,
     version: Version,
     ec_level: EcLevel,
     dark: &[R],
     free: &[R],
-    lines: &mut [R],
+    columns: &mut [R],
 ) -> QrResult<Vec<S>>
     requires exists { IsTrue (has_level version ec_level) }
     requires normal { is_micro version ≡ false }
@@ -369,14 +370,17 @@ pub(super) fn best_mirrored<R: PackedRow, S: FromColor>(
         (record { width = side version; rows = map R.bits free.now }) }
     requires mirrored { (x y : ℕ) → x < side version → y < side version
         → dark_in (map R.bits free.now) y x ≡ dark_in (map R.bits free.now) x y }
-    requires lines_length { length lines.old ≡ side version }
+    requires columns_square { IsSquare R.room
+        (record { width = side version; rows = map R.bits columns.old }) }
+    requires turned { (x y : ℕ) → x < side version → y < side version
+        → dark_in (map R.bits columns.old) y x ≡ dark_in (map R.bits dark.now) x y }
     ensures best { (modules : List Module)
         → ShowsModules is_dark_module (side version) modules (map R.bits dark.now)
         → ShowsModules is_free (side version) modules (map R.bits free.now)
         → IfOk result (λ new. IsBestShown version ec_level modules S.from_color new.items) }
     ensures memory { IsOkUnless result OutOfMemory }
 {
-    best_mirrored_of(alloc, &packed_of(version, ec_level, dark, free), lines)
+    best_mirrored_of(alloc, &packed_of(version, ec_level, dark, free), columns)
 }
 
 // The square under the first mask of least penalty, chosen on rows of one kind.

@@ -1,9 +1,10 @@
-use Rattle.std.proofs.Common.{◌≡◌, ◌<◌, ℕ, List, ap, subst, sym, ◌∙◌, arith, IfOk}
+use Rattle.std.proofs.Common.{◌≡◌, ◌<◌, ℕ, List, map, ap, subst, sym, ◌∙◌, arith, IfOk}
 use Rattle.qrcode_types.specs.declared.types.Version.{Version}
 use Rattle.qrcode_types.specs.declared.types.EcLevel.{EcLevel}
 use Rattle.qrcode_types.specs.Versions.{side, is_micro}
 use Rattle.qrcode_packed.specs.Rows.{dark_in}
 use Rattle.qrcode_symbol.specs.Masking.{is_dark_module, is_free, ShowsModules, IsBestShown}
+use Rattle.qrcode_symbol.proofs.Drawn.{square_at}
 use Rattle.qrcode_symbol.proofs.canvas.masking.best_mirrored.Goals as goal
 
 pub returns-clause-best : goal.returns-clause-best
@@ -26,3 +27,13 @@ best_mirrored_of-requires-clause-mirrored g c =
     let is = c.packed_of.ensures in
     subst (λ (rows : List ℕ). (x y : ℕ) → x < c.packed_of.result.width → y < c.packed_of.result.width → dark_in rows y x ≡ dark_in rows x y) (sym is.free)
     (λ x y h l. c.requires.mirrored x y (omega (arith, h, is.width)) (omega (arith, l, is.width)))
+
+pub best_mirrored_of-requires-clause-columns_square : goal.best_mirrored_of-requires-clause-columns_square
+best_mirrored_of-requires-clause-columns_square g c = square_at g.R.PackedRow.room (side c.args.version) c.packed_of.result.width (map g.R.PackedRow.bits c.args.columns.now) (sym c.packed_of.ensures.width) c.requires.columns_square
+
+pub best_mirrored_of-requires-clause-turned : goal.best_mirrored_of-requires-clause-turned
+best_mirrored_of-requires-clause-turned g c =
+    let is = c.packed_of.ensures in
+    let columns = map g.R.PackedRow.bits c.args.columns.now in
+    subst (λ (rows : List ℕ). (x y : ℕ) → x < c.packed_of.result.width → y < c.packed_of.result.width → dark_in columns y x ≡ dark_in rows x y) (sym is.dark)
+    (λ x y h l. c.requires.turned x y (omega (arith, h, is.width)) (omega (arith, l, is.width)))
