@@ -1,6 +1,7 @@
 pub mod BitList
 pub mod Choice
 pub mod Chosen
+pub mod CutView
 pub mod Cuts
 pub mod Encoded
 pub mod GroupSteps

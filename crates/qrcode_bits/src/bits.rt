@@ -27,6 +27,7 @@ use std::marker::Model;
 
 mod automatic;
 mod choice;
+mod cut;
 mod cuts;
 mod ending;
 mod manner;

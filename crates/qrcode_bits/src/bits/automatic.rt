@@ -175,7 +175,7 @@ fn encode_chosen(
 {
     let mut bits = Bits::new(alloc, chosen.version);
     bits.push_front(manner)?;
-    bits.end_with(bytes, chosen.segments, ec_level)?;
+    bits.end_with_cut(bytes, chosen.segments, ec_level)?;
     Ok(bits)
 }
 

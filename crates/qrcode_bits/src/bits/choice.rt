@@ -14,9 +14,9 @@ ghost use Rattle.qrcode_bits.specs.Manners.{modes_of, HoldsAs, NoneHolds, rank};
 ghost use Rattle.qrcode_bits.specs.Refusals.{data_limit};
 ghost use Rattle.qrcode_bits.specs.declared.optimize.Segment.{Segment};
 
+use super::cut::{Cut, least_cut};
 use super::{DATA_LIMIT, Manner};
 use crate::digits::count_digits;
-use crate::optimize::{Segment, least_segments_in, total_encoded_len};
 use qrcode_types::tables;
 use qrcode_types::types::{EcLevel, QrError, QrResult, Version};
 use std::alloc::Global;
@@ -26,7 +26,7 @@ use std::alloc::Global;
 #[derive(Drop)]
 pub(super) struct Chosen {
     pub(super) version: Version,
-    pub(super) segments: Vec<Segment>,
+    pub(super) segments: Cut,
     pub(super) used: usize,
 }
 
@@ -220,8 +220,8 @@ pub(super) fn measure(
         → IsCutIn (modes_of manner) version bytes.now segments → IsOkUnless result OutOfMemory }
     ensures causes { IfErr result (λ e. (e ≡ UnsupportedCharacterSet) ⊎ (e ≡ OutOfMemory)) }
 {
-    let segments = least_segments_in(alloc, bytes, version, manner.modes())?;
-    let used = manner.front_length() + total_encoded_len(&segments, version);
+    let segments = least_cut(alloc, bytes, version, manner.modes())?;
+    let used = manner.front_length() + segments.encoded_len(version);
     Ok(Chosen {
         version,
         segments,

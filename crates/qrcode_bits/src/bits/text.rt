@@ -52,7 +52,7 @@ impl Bits {
         }
         let mut longer = self.copy()?;
         longer.push_front(manner)?;
-        longer.push_all(text, chosen.segments)?;
+        longer.push_cut(text, chosen.segments)?;
         *self = longer;
         Ok(())
     }

@@ -23,6 +23,9 @@ use qrcode_types::characters::bytes_each;
 use qrcode_types::types::{Mode, QrError, QrResult, Version};
 use std::alloc::{AllocError, Global};
 
+// Few cuts have more segments, so that their list does not grow.
+const USUALLY_ENOUGH: usize = 16;
+
 /// A segmentation of the data in the fewest bits: of all cuts of the data into nonempty ranges, each
 /// in a mode that the version has and that can write its bytes, one of least total length. In Kanji
 /// a range may begin wherever its bytes pair up.
@@ -94,8 +97,8 @@ pub fn least_segments_in(
     searched_segments(alloc, bytes, version, modes)
 }
 
-// The same by a search from the end of the data.
-fn searched_segments(
+/// The same by a search from the end of the data.
+pub(crate) fn searched_segments(
     alloc: Global,
     bytes: &[u8],
     version: Version,
@@ -116,7 +119,7 @@ fn searched_segments(
     }
     let headers = HeaderBits::of(version, modes);
     let starts = least_starts(alloc, bytes, headers)?;
-    let mut segments = Vec::new(alloc);
+    let mut segments = Vec::with_capacity(alloc, USUALLY_ENOUGH)?;
     let mut begin = 0;
     while begin < bytes.len() {
         let segment = first_segment(bytes, &starts, headers, begin);

@@ -33,6 +33,11 @@ returns-in_err-starts-clause-no_cut c = λ none.
     let some = some_cut (goal.at.returns-in_err-starts-clause-no_cut c).Else-not-can_be_cut in
     absurd (none some.0 some.1)
 
+pub returns-in_err-segments-clause-no_cut : goal.returns-in_err-segments-clause-no_cut
+returns-in_err-segments-clause-no_cut c = λ none.
+    let some = some_cut (goal.at.returns-in_err-segments-clause-no_cut c).Else-not-can_be_cut in
+    absurd (none some.0 some.1)
+
 pub returns-in_err-push-clause-no_cut : goal.returns-in_err-push-clause-no_cut
 returns-in_err-push-clause-no_cut c = λ none.
     let some = some_cut (goal.at.returns-in_err-push-clause-no_cut c).Else-not-can_be_cut in

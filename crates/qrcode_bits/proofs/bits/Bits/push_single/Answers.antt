@@ -1,6 +1,6 @@
 use Rattle.std.proofs.Common.{arith}
 use Rattle.qrcode_bits.proofs.Several.{only_pushed, only_stopped}
-use Rattle.qrcode_bits.proofs.bits.Bits.push_whole.Goals as goal
+use Rattle.qrcode_bits.proofs.bits.Bits.push_single.Goals as goal
 
 pub returns-clause-pushed : goal.returns-clause-pushed
 returns-clause-pushed c = only_pushed c.args.bytes.now _ c.args.self.now c.push_segment.new.self c.push_segment.result (omega arith, omega arith) c.push_segment.ensures.appends

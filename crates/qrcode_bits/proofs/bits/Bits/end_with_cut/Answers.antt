@@ -1,0 +1,19 @@
+use Rattle.std.proofs.Common.{◌≡◌, arith}
+use Rattle.qrcode_types.specs.declared.types.QrError.TheVariants.{OutOfMemory}
+use Rattle.qrcode_types.proofs.BlockTable.{capacity-le}
+use Rattle.qrcode_bits.proofs.CutPieces.{cut_inside}
+use Rattle.qrcode_bits.proofs.Fitting.{fitting_stop}
+use Rattle.qrcode_bits.proofs.Manners.{valid_of}
+use Rattle.qrcode_bits.proofs.Several.{handed_on}
+use Rattle.qrcode_bits.proofs.bits.Bits.end_with_cut.Goals as goal
+
+pub push_cut-requires : goal.push_cut-requires
+push_cut-requires c = cut_inside c.args.self.now.version c.args.bytes.now c.args.cut.items c.requires.cut
+
+pub returns-in_err-push_cut-clause-memory : goal.returns-in_err-push_cut-clause-memory
+returns-in_err-push_cut-clause-memory c =
+    let v = c.args.self.now.version in
+    let l = c.args.ec_level in
+    handed_on c.from_residual.result c.in_err-push_cut.field-0.0 (λ e. e ≡ OutOfMemory) c.from_residual.ensures
+    (fitting_stop v l c.args.self.now.bits c.args.bytes.now c.args.cut.items c.in_err-push_cut.field-0.0 c.push_cut.new.self.bits (valid_of v l c.requires.exists) c.requires.cut
+    (omega (arith, c.requires.room)) (omega (arith, c.requires.room, capacity-le v l c.requires.exists)) c.in_err-push_cut.ensures.stopped)
