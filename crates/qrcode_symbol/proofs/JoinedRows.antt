@@ -1,11 +1,11 @@
 -- Rows written as colours in whole words, each row behind the one before.
-use Rattle.std.proofs.Common.{◌≡◌, ℕ, ◌+◌, ◌-◌, ◌*◌, ◌/◌, ◌%◌, ◌^◌, ◌<◌, ◌≤◌, ◌||◌, ◌&&◌, Bool, true, false, List, bit_or, bit_and, length, slice_index_or, refl, ap, sym, ◌∙◌, inl, inr, arith, add-mul}
+use Rattle.std.proofs.Common.{◌≡◌, ℕ, ◌+◌, ◌-◌, ◌*◌, ◌/◌, ◌%◌, ◌^◌, ◌<◌, ◌≤◌, ◌||◌, ◌&&◌, Bool, true, false, List, bit_or, bit_and, length, slice_index_or, refl, ap, sym, ◌∙◌, inl, inr, arith}
 use Rattle.std.proofs.lemmas.Bool.{cases_lt}
-use Rattle.std.proofs.lemmas.Nat.{mod_below, pow_pos, mul-add-lt}
+use Rattle.std.proofs.lemmas.Nat.{mod_below, pow_pos}
 use Rattle.qrcode_types.specs.Colors.{color_of}
 use Rattle.qrcode_types.specs.declared.types.Color.{Color}
 use Rattle.qrcode_types.specs.declared.types.Color.TheVariants.{Light}
-use Rattle.qrcode_packed.specs.Rows.{is_set, dark_in}
+use Rattle.qrcode_packed.specs.Rows.{is_set}
 use Rattle.qrcode_packed.proofs.Places.{has_or, has_and, has_shr, has_shl, has_shl_below, has_above, has_mod, has_first, below_from_places}
 use Rattle.qrcode_symbol.specs.Unpacking.{IsRowWritten, AreJoined}
 
@@ -33,109 +33,86 @@ behind_high word row waiting x ends low =
     has_or word (row * 2 ^ waiting % 2 ^ 64) p ∙ false_or (is_set word p) (is_set (row * 2 ^ waiting % 2 ^ 64) p) (has_above word waiting p ends (omega arith))
     ∙ has_mod (row * 2 ^ waiting) 64 p low ∙ ap (is_set (row * 2 ^ waiting)) e ∙ has_shl row waiting x
 
-next_row : (count w : ℕ) → (count + 1) * w ≡ count * w + w
-next_row count w = let e : 1 * w ≡ w = omega arith in add-mul count 1 w ∙ ap (λ n. count * w + n) e
-
 -- before the first row
-pub none_joined : {S : Type 0} (of : Color → S) (w : ℕ) (rows : List ℕ) (items : List S) → length items ≡ 0 → AreJoined of w rows 0 items 0 0
-none_joined of w rows items none =
-    let z : 0 * w ≡ 0 = omega arith in
-    record {
-      size = omega arith;
-      written = λ x y h l. absurd (omega arith);
-      wait = λ x y h l. absurd (omega arith);
-      ends = omega arith;
-      less = omega arith;
-    }
+pub none_joined : {S : Type 0} (of : Color → S) (dark : ℕ → Bool) (items : List S) → length items ≡ 0 → AreJoined of dark 0 items 0 0
+none_joined of dark items none = record {
+  size = omega arith;
+  written = λ i h. absurd (omega arith);
+  wait = λ i h. absurd (omega arith);
+  ends = omega arith;
+  less = omega arith;
+}
 
--- one row more
-module _ {S : Type 0} (of : Color → S) (w : ℕ) (rows : List ℕ) (count : ℕ) (items : List S) (word waiting row : ℕ) (joined : AreJoined of w rows count items word waiting) (fits : row < 2 ^ w)
-    (shows : (x : ℕ) → x < w → is_set row x ≡ dark_in rows x count) where
-  -- a place of the rows before lies before those of this row
-  before_row : (x y : ℕ) → x < w → y < count → y * w + x < count * w
-  before_row x y h l = omega (arith, mul-add-lt y w x count l h)
-
-  last : (y : ℕ) → y < count + 1 → count ≤ y → y ≡ count
-  last y h l = omega arith
-
-  -- a place that waits, when this row is behind the others
-  now_waiting : (x y : ℕ) → x < w → y < count + 1 → length items ≤ y * w + x → y * w + x - length items < 64 → is_set (behind word row waiting) (y * w + x - length items) ≡ dark_in rows x y
-  now_waiting x y h l from low = elim (cases_lt y count) [
-    | inl b ↦ behind_low word row waiting (y * w + x - length items) (omega (arith, joined.size, before_row x y h b)) joined.less ∙ joined.wait x y h b from
+-- some places more
+module _ {S : Type 0} (of : Color → S) (dark : ℕ → Bool) (before : ℕ) (items : List S) (word waiting places count : ℕ) (joined : AreJoined of dark before items word waiting) (fits : places < 2 ^ count)
+    (shows : (x : ℕ) → x < count → is_set places x ≡ dark (before + x)) where
+  -- a place that waits, when these are behind the others
+  now_waiting : (i : ℕ) → i < waiting + count → i < 64 → is_set (behind word places waiting) i ≡ dark (length items + i)
+  now_waiting i h low = elim (cases_lt i waiting) [
+    | inl b ↦ behind_low word places waiting i b joined.less ∙ joined.wait i b
     | inr b ↦
-        let e = last y l b in
-        let p : y * w + x - length items ≡ waiting + x = omega (arith, joined.size, ap (λ n. n * w) e) in
-        ap (is_set (behind word row waiting)) p ∙ behind_high word row waiting x joined.ends (omega arith) ∙ shows x h ∙ ap (dark_in rows x) (sym e)
+        let e : i ≡ waiting + (i - waiting) = omega arith in
+        let there : before + (i - waiting) ≡ length items + i = omega (arith, joined.size) in
+        ap (is_set (behind word places waiting)) e ∙ behind_high word places waiting (i - waiting) joined.ends (omega arith) ∙ shows (i - waiting) (omega arith) ∙ ap dark there
   ]
 
-  pub row_waits : waiting + w < 64 → AreJoined of w rows (count + 1) items (behind word row waiting) (waiting + w)
-  row_waits less = record {
-    size = omega (arith, joined.size, next_row count w);
-    written = λ x y h l i. elim (cases_lt y count) [
-      | inl b ↦ joined.written x y h b i
-      | inr b ↦ absurd (omega (arith, joined.size, ap (λ n. n * w) (last y l b)))
-    ];
-    wait = λ x y h l i. now_waiting x y h l i (elim (cases_lt y count) [
-      | inl b ↦ omega (arith, joined.size, before_row x y h b)
-      | inr b ↦ omega (arith, joined.size, ap (λ n. n * w) (last y l b))
-    ]);
-    ends = below_from_places (behind word row waiting) (waiting + w) (λ k h.
-        has_or word (row * 2 ^ waiting % 2 ^ 64) k ∙ false_or (is_set word k) (is_set (row * 2 ^ waiting % 2 ^ 64) k) (has_above word waiting k joined.ends (omega arith))
+  pub places_wait : waiting + count < 64 → AreJoined of dark (before + count) items (behind word places waiting) (waiting + count)
+  places_wait less = record {
+    size = omega (arith, joined.size);
+    written = joined.written;
+    wait = λ i h. now_waiting i h (omega arith);
+    ends = below_from_places (behind word places waiting) (waiting + count) (λ k h.
+        has_or word (places * 2 ^ waiting % 2 ^ 64) k ∙ false_or (is_set word k) (is_set (places * 2 ^ waiting % 2 ^ 64) k) (has_above word waiting k joined.ends (omega arith))
         ∙ elim (cases_lt k 64) [
           | inl l ↦
               let e : k ≡ k - waiting + waiting = omega arith in
-              has_mod (row * 2 ^ waiting) 64 k l ∙ ap (is_set (row * 2 ^ waiting)) e ∙ has_shl row waiting (k - waiting) ∙ has_above row w (k - waiting) fits (omega arith)
-          | inr l ↦ has_above (row * 2 ^ waiting % 2 ^ 64) 64 k (mod_below (row * 2 ^ waiting) (2 ^ 64) (pow_pos 64)) l
+              has_mod (places * 2 ^ waiting) 64 k l ∙ ap (is_set (places * 2 ^ waiting)) e ∙ has_shl places waiting (k - waiting) ∙ has_above places count (k - waiting) fits (omega arith)
+          | inr l ↦ has_above (places * 2 ^ waiting % 2 ^ 64) 64 k (mod_below (places * 2 ^ waiting) (2 ^ 64) (pow_pos 64)) l
         ]);
     less = less;
   }
 
-  pub word_written : (new : List S) → 64 ≤ waiting + w → w < 64 → IsRowWritten of (behind word row waiting) 64 items new → AreJoined of w rows (count + 1) new (row / 2 ^ (w - (waiting + w - 64))) (waiting + w - 64)
+  pub word_written : (new : List S) → 64 ≤ waiting + count → count < 64 → IsRowWritten of (behind word places waiting) 64 items new
+      → AreJoined of dark (before + count) new (places / 2 ^ (count - (waiting + count - 64))) (waiting + count - 64)
   word_written new most short written =
-      let s = w - (waiting + w - 64) in
+      let s = count - (waiting + count - 64) in
       record {
-        size = omega (arith, joined.size, next_row count w, written.size);
-        written = λ x y h l i. elim (cases_lt (y * w + x) (length items)) [
-          | inl b ↦ written.before (y * w + x) b ∙ joined.written x y h (elim (cases_lt y count) [
-            | inl c ↦ c
-            | inr c ↦ absurd (omega (arith, joined.size, ap (λ n. n * w) (last y l c)))
-          ]) b
+        size = omega (arith, joined.size, written.size);
+        written = λ i h. elim (cases_lt i (length items)) [
+          | inl b ↦ written.before i b ∙ joined.written i b
           | inr b ↦
-              let e : length items + (y * w + x - length items) ≡ y * w + x = omega arith in
-              let low : y * w + x - length items < 64 = omega (arith, written.size) in
-              ap (λ n. slice_index_or new n (of Light)) (sym e) ∙ written.shown (y * w + x - length items) low ∙ ap (λ b. of (color_of b)) (now_waiting x y h l b low)
+              let e : length items + (i - length items) ≡ i = omega arith in
+              let low : i - length items < 64 = omega (arith, written.size) in
+              ap (λ n. slice_index_or new n (of Light)) (sym e) ∙ written.shown (i - length items) low
+              ∙ ap (λ b. of (color_of b)) (now_waiting (i - length items) (omega (arith, most, low)) low ∙ ap dark e)
         ];
-        wait = λ x y h l i. elim (cases_lt y count) [
-          | inl b ↦ absurd (omega (arith, joined.size, joined.less, written.size, before_row x y h b))
-          | inr b ↦
-              let e = last y l b in
-              let p : y * w + x - length new + s ≡ x = omega (arith, joined.size, joined.less, written.size, ap (λ n. n * w) e) in
-              has_shr row s (y * w + x - length new) ∙ ap (is_set row) p ∙ shows x h ∙ ap (dark_in rows x) (sym e)
-        ];
-        ends = below_from_places (row / 2 ^ s) (waiting + w - 64) (λ k h. has_shr row s k ∙ has_above row w (k + s) fits (omega arith));
+        wait = λ i h.
+            let there : before + (i + s) ≡ length new + i = omega (arith, joined.size, joined.less, written.size) in
+            has_shr places s i ∙ shows (i + s) (omega (arith, joined.less)) ∙ ap dark there;
+        ends = below_from_places (places / 2 ^ s) (waiting + count - 64) (λ k h. has_shr places s k ∙ has_above places count (k + s) fits (omega arith));
         less = omega (arith, joined.less);
       }
 
--- all rows
-module _ {S : Type 0} (of : Color → S) (w : ℕ) (rows : List ℕ) (items new : List S) (word waiting : ℕ) (joined : AreJoined of w rows w items word waiting) (written : IsRowWritten of word waiting items new) where
-  pub all_length : length new ≡ w * w
-  all_length = omega (arith, joined.size, written.size)
-
-  pub all_shown : (x y : ℕ) → x < w → y < w → slice_index_or new (y * w + x) (of Light) ≡ of (color_of (dark_in rows x y))
-  all_shown x y h l = elim (cases_lt (y * w + x) (length items)) [
-    | inl b ↦ written.before (y * w + x) b ∙ joined.written x y h l b
-    | inr b ↦
-        let e : length items + (y * w + x - length items) ≡ y * w + x = omega arith in
-        ap (λ n. slice_index_or new n (of Light)) (sym e) ∙ written.shown (y * w + x - length items) (omega (arith, joined.size, mul-add-lt y w x w l h)) ∙ ap (λ b. of (color_of b)) (joined.wait x y h l b)
-  ]
+-- all places
+pub all_written : {S : Type 0} (of : Color → S) (dark : ℕ → Bool) (joined : ℕ) (items new : List S) (word waiting i : ℕ) → AreJoined of dark joined items word waiting → IsRowWritten of word waiting items new → i < joined
+    → slice_index_or new i (of Light) ≡ of (color_of (dark i))
+all_written of dark joined items new word waiting i are written inside = elim (cases_lt i (length items)) [
+  | inl b ↦ written.before i b ∙ are.written i b
+  | inr b ↦
+      let e : length items + (i - length items) ≡ i = omega arith in
+      let low : i - length items < waiting = omega (arith, are.size) in
+      ap (λ n. slice_index_or new n (of Light)) (sym e) ∙ written.shown (i - length items) low ∙ ap (λ b. of (color_of b)) (are.wait (i - length items) low ∙ ap dark e)
+]
 
 -- the first places of a row
-pub cut_bit : (row w x : ℕ) → x < w → is_set (bit_and row (2 ^ w - 1)) x ≡ is_set row x
+cut_bit : (row w x : ℕ) → x < w → is_set (bit_and row (2 ^ w - 1)) x ≡ is_set row x
 cut_bit row w x h = has_and row (2 ^ w - 1) x ∙ ap (λ b. is_set row x && b) (has_first w x h) ∙ and_true (is_set row x) where
   and_true : (b : Bool) → (b && true) ≡ b
   and_true true = refl
   and_true false = refl
 
-pub joined_at : {S : Type 0} (of : Color → S) (w : ℕ) (rows : List ℕ) (count : ℕ) (items others : List S) (word m waiting n : ℕ) → items ≡ others → word ≡ m → waiting ≡ n → AreJoined of w rows count others m n
-    → AreJoined of w rows count items word waiting
-joined_at of w rows count items others word m waiting n ei ew en joined = rw (ei, ew, en) joined
+-- places of a row from one on
+pub places_from : (line rest word first a n x : ℕ) → rest ≡ line / 2 ^ a → word ≡ rest % 2 ^ 64 → first ≡ 2 ^ n - 1 → n ≤ 64 → x < n → is_set (bit_and word first) x ≡ is_set line (a + x)
+places_from line rest word first a n x er ew ef le h =
+    let e : x + a ≡ a + x = omega arith in
+    ap (λ (k : ℕ). is_set (bit_and word k) x) ef ∙ cut_bit word n x h ∙ ap (λ (k : ℕ). is_set k x) ew ∙ has_mod rest 64 x (omega arith) ∙ ap (λ (k : ℕ). is_set k x) er ∙ has_shr line a x ∙ ap (is_set line) e

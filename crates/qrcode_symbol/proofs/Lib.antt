@@ -27,6 +27,7 @@ pub mod NextBits
 pub mod Numbered
 pub mod Numbers
 pub mod OnePlace
+pub mod OneRow
 pub mod PackedLists
 pub mod PackedPatterns
 pub mod Pairs

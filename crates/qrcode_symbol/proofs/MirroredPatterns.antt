@@ -9,7 +9,6 @@ use Rattle.std.proofs.lemmas.Bool.{cases_eq}
 use Rattle.std.proofs.lemmas.Bool.Decides.{nat_tests}
 use Rattle.std.proofs.lemmas.List.{get_or-set_other, get_or-set_same}
 use Rattle.std.proofs.Math.ListN.{length-set}
-use Rattle.qrcode_types.specs.Colors.{color_of}
 use Rattle.qrcode_types.specs.Versions.{is_valid, is_micro, side}
 use Rattle.qrcode_types.specs.declared.types.Version.{Version}
 use Rattle.qrcode_types.specs.declared.types.Version.TheVariants.{Normal, Micro}
@@ -21,7 +20,6 @@ use Rattle.qrcode_packed.proofs.RowLists.{rows_fit}
 use Rattle.qrcode_places.specs.Patterns.{centres, is_near, color_if, is_corner_centre, finder, finder_at, alignment, alignment_between, timing, dark_module, version_copy, version_pattern, pattern, format_index}
 use Rattle.qrcode_places.proofs.Figures.{finder_some, version_some}
 use Rattle.qrcode_places.proofs.FormatPlaces.{normal_cases, normal_index}
-use Rattle.qrcode_places.proofs.Formats.{within}
 use Rattle.qrcode_places.proofs.PatternsApart.{dark_module_is_in_the_pattern, format_places_are_no_patterns}
 use Rattle.qrcode_symbol.specs.Canvas.{pattern_module, with_patterns, blank}
 use Rattle.qrcode_symbol.specs.Masking.{is_dark_module, ShowsModules}

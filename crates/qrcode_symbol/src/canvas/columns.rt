@@ -48,17 +48,8 @@ fn next_pair<R: PackedRow>(
     drawn_pair::<R, false>(stream, from, width, left, right)
 }
 
-// Clears columns.
-fn clear<R: PackedRow>(columns: &mut [R])
-    requires { 0 < R.room }
-    ensures { (x : ℕ) → slice_index_or (map R.bits columns.new) x 0 ≡ 0 }
-{
-    for x in 0..columns.len() {
-        columns[x] = R::first(0);
-    }
-}
-
-/// Draws a stream of bits in columns, bit y of each standing for row y, by which places of each column are free.
+/// Draws a stream of bits in columns that are light, bit y of each standing for row y, by which places of each column are
+/// free.
 pub(super) fn draw_columns<R: PackedRow>(
     version: Version,
     stream: Stream<'_>,
@@ -69,14 +60,13 @@ pub(super) fn draw_columns<R: PackedRow>(
     requires room { side version + 3 ≤ R.room }
     requires free { AreFreeColumns version (map R.bits free.now) }
     requires length { length columns.old ≡ side version }
+    requires light { (x : ℕ) → slice_index_or (map R.bits columns.old) x 0 ≡ 0 }
     ensures filled { AreFilled version stream.entry.bytes.now (map R.bits columns.new)
         (side version * (side version - 1)) }
     ensures left_out { slice_index_or (map R.bits columns.new) (left_out version) 0 ≡ 0 }
     ensures fits { (x : ℕ)
         → FitsWidth (side version) (slice_index_or (map R.bits columns.new) x 0) }
 {
-    // The walk leaves one column out.
-    clear(columns);
     let width = side(version);
     let mut next = 0;
     for number in 0..width / 2 {

@@ -24,7 +24,7 @@ use qrcode_packed::turn::turn;
 use qrcode_types::types::{Color, EcLevel, QrResult, Version};
 use std::alloc::Global;
 
-// Draws the data of a symbol in columns. Its free places are the same with rows and columns exchanged.
+// Draws the data of a symbol in columns that are light. Its free places are the same with rows and columns exchanged.
 fn data_columns<R: PackedRow>(
     alloc: Global,
     version: Version,
@@ -39,6 +39,7 @@ fn data_columns<R: PackedRow>(
     requires room { side version + 3 ≤ R.room }
     requires free { AreFreeColumns version (map R.bits free.now) }
     requires length { length columns.old ≡ side version }
+    requires light { (x : ℕ) → slice_index_or (map R.bits columns.old) x 0 ≡ 0 }
     ensures shown { OnOk result (AreDataColumns version
         (drawn_modules version ec_level bytes.now ec.now) (map R.bits columns.new)) }
     ensures square { OnOk result (IsSquare R.room
@@ -110,6 +111,7 @@ fn draw_lines<R: PackedRow>(
     requires room { side version + 3 ≤ R.room }
     requires begun { AreBegun version (map R.bits dark.old) (map R.bits free.old) }
     requires length { length columns.old ≡ side version }
+    requires light { (x : ℕ) → slice_index_or (map R.bits columns.old) x 0 ≡ 0 }
     ensures drawn { OnOk result (AreDrawnLines R.room version
         (drawn_modules version ec_level bytes.now ec.now)
         (map R.bits dark.new) (map R.bits free.new) (map R.bits columns.new)) }
@@ -140,12 +142,12 @@ fn drawn_by<R: PackedRow>(
     ensures memory { IsOkUnless result OutOfMemory }
 {
     let width = side(version);
-    // The rows of what is dark and of what is free, and the columns, in one piece of memory.
+    // The rows and the columns of what is dark, and the rows of what is free, in one piece of memory.
     let mut lists = Vec::with_capacity(alloc, 3 * width)?;
-    push_equal(&mut lists, R::first(0), width)?;
-    push_equal(&mut lists, R::first(width as u32), 2 * width)?;
+    push_equal(&mut lists, R::first(0), 2 * width)?;
+    push_equal(&mut lists, R::first(width as u32), width)?;
     let (dark, further) = lists.split_at_mut(width);
-    let (free, columns) = further.split_at_mut(width);
+    let (columns, free) = further.split_at_mut(width);
     draw_lines(alloc, version, ec_level, bytes, ec, dark, free, columns)?;
     best_mirrored(alloc, version, ec_level, dark, free, columns)
 }

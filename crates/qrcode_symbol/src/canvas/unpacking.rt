@@ -1,13 +1,13 @@
 //! Rows of places written as modules or as colours.
 
-ghost use Rattle.std.specs.Prelude.{◌≡◌, ℕ, ◌+◌, ◌*◌, ◌%◌, ◌^◌, ◌==◌, ◌<◌, ◌≤◌, [], length, map, slice_index_or, IfOk, IsOkUnless};
+ghost use Rattle.std.specs.Prelude.{◌≡◌, ℕ, ◌+◌, ◌*◌, ◌%◌, ◌^◌, ◌==◌, ◌<◌, ◌≤◌, [], Bool, length, map, slice_index_or, IfOk, IsOkUnless};
 ghost use Rattle.qrcode_types.specs.Colors.{color_of};
 ghost use Rattle.qrcode_types.specs.declared.types.Color.{Color};
 ghost use Rattle.qrcode_types.specs.declared.types.Color.TheVariants.{Light};
 ghost use Rattle.qrcode_types.specs.declared.types.QrError.TheVariants.{OutOfMemory};
 ghost use Rattle.qrcode_packed.specs.Rows.{is_set, dark_in};
 ghost use Rattle.qrcode_symbol.specs.declared.canvas.Module.TheVariants.{Masked};
-ghost use Rattle.qrcode_symbol.specs.Unpacking.{IsRowWritten};
+ghost use Rattle.qrcode_symbol.specs.Unpacking.{IsRowWritten, AreJoined};
 
 use super::Module;
 use qrcode_packed::row::PackedRow;
@@ -107,59 +107,79 @@ fn modules_of(word: u64) -> [Module; 64]
     modules
 }
 
-// Appends a row by its places, of which the dark ones are set: word by word, so that the room needs no first values.
-fn unpack_row<R: PackedRow, S: FromColor>(
+// Places of a square, in row order, that wait in a word until it is full.
+#[derive(Copy, Clone)]
+struct Waiting {
+    word: u64,
+    count: usize,
+}
+
+// Puts places behind those that wait, and appends the items of a word that is full.
+#[inline(always)]
+fn join<S: FromColor>(
+    waiting: Waiting,
+    places: u64,
+    count: usize,
+    square: &mut Vec<S>,
+) -> QrResult<Waiting>
+    requires fits { places < 2 ^ count }
+    requires short { count < 64 }
+    requires less { waiting.count < 64 }
+    ensures joined { (dark : ℕ → Bool) → (joined : ℕ)
+        → AreJoined S.from_color dark joined square.old.items waiting.word waiting.count
+        → ((x : ℕ) → x < count → is_set places x ≡ dark (joined + x))
+        → IfOk result (λ new. AreJoined S.from_color dark (joined + count) square.new.items
+        new.word new.count) }
+    ensures less { IfOk result (λ new. new.count < 64) }
+    ensures memory { IsOkUnless result OutOfMemory }
+{
+    let word = waiting.word | (places << waiting.count);
+    let filled = waiting.count + count;
+    if filled < 64 {
+        return Ok(Waiting {
+            word,
+            count: filled,
+        });
+    }
+    S::append(square, word, 64)?;
+    let left = filled - 64;
+    Ok(Waiting {
+        word: places >> (count - left),
+        count: left,
+    })
+}
+
+// Puts a row behind the places that wait, 63 places at once.
+#[inline(always)]
+fn join_row<R: PackedRow, S: FromColor>(
     line: R,
     width: usize,
+    waiting: Waiting,
     square: &mut Vec<S>,
-) -> QrResult<()>
-    ensures written { IfOk result (λ _.
-        IsRowWritten S.from_color (R.bits line) width square.old.items square.new.items) }
+) -> QrResult<Waiting>
+    requires less { waiting.count < 64 }
+    ensures joined { (dark : ℕ → Bool) → (joined : ℕ)
+        → AreJoined S.from_color dark joined square.old.items waiting.word waiting.count
+        → ((x : ℕ) → x < width → is_set (R.bits line) x ≡ dark (joined + x))
+        → IfOk result (λ new. AreJoined S.from_color dark (joined + width) square.new.items
+        new.word new.count) }
+    ensures less { IfOk result (λ new. new.count < 64) }
     ensures memory { IsOkUnless result OutOfMemory }
 {
+    let mut now = waiting;
     let mut rest = line;
-    for _ in 0..width / 64 {
-        S::append(square, rest.first_word(), 64)?;
-        rest = rest.down(63).down(1);
+    for _ in 0..width / 63 {
+        let places = rest.first_word() & u64::first(63);
+        now = join(now, places, 63, square)?;
+        rest = rest.down(63);
     }
-    S::append(square, rest.first_word(), width % 64)?;
-    Ok(())
+    let left = width % 63;
+    let last = rest.first_word() & u64::first(left as u32);
+    join(now, last, left, square)
 }
 
-// Appends the rows of a square of less than 64 columns in whole words, each row behind the one before.
-fn unpack_joined_rows<R: PackedRow, S: FromColor>(
-    width: usize,
-    rows: &[R],
-    square: &mut Vec<S>,
-) -> QrResult<()>
-    requires short { width < 64 }
-    requires length { length rows.now ≡ width }
-    requires empty { square.old.items ≡ [] }
-    ensures length { IfOk result (λ _. length square.new.items ≡ width * width) }
-    ensures shown { IfOk result (λ _. (x y : ℕ) → x < width → y < width
-        → slice_index_or square.new.items (y * width + x) (S.from_color Light)
-        ≡ S.from_color (color_of (dark_in (map R.bits rows.now) x y))) }
-    ensures memory { IsOkUnless result OutOfMemory }
-{
-    let whole = u64::first(width as u32);
-    let mut word = 0;
-    let mut count = 0;
-    for y in 0..width {
-        let row = rows[y].first_word() & whole;
-        word |= row << count;
-        count += width;
-        if count >= 64 {
-            S::append(square, word, 64)?;
-            count -= 64;
-            word = row >> (width - count);
-        }
-    }
-    S::append(square, word, count)?;
-    Ok(())
-}
-
-/// Appends the rows of a square by their places, of which the dark ones are set.
-#[tactic(auto, using(std::proofs::lemmas::Nat::rows))]
+/// Appends the rows of a square by their places, of which the dark ones are set: in whole words, each row behind the one
+/// before.
 pub(super) fn unpack_rows<R: PackedRow, S: FromColor>(
     width: usize,
     rows: &[R],
@@ -173,11 +193,10 @@ pub(super) fn unpack_rows<R: PackedRow, S: FromColor>(
         ≡ S.from_color (color_of (dark_in (map R.bits rows.now) x y))) }
     ensures memory { IsOkUnless result OutOfMemory }
 {
-    if width < 64 {
-        return unpack_joined_rows(width, rows, square);
-    }
+    let mut waiting = Waiting { word: 0, count: 0 };
     for y in 0..width {
-        unpack_row(rows[y], width, square)?;
+        waiting = join_row(rows[y], width, waiting, square)?;
     }
+    S::append(square, waiting.word, waiting.count)?;
     Ok(())
 }

@@ -58,6 +58,27 @@ struct DrawnRows {
     next: usize,
 }
 
+// The bits of a stream, from one on, in 32 rows of which only the first may be free: the right place is met first.
+#[inline(always)]
+fn drawn_row<const UP: bool>(stream: Stream<'_>, from: usize, free: Rows) -> DrawnRows
+    requires small { from < 2 ^ 32 }
+    requires left { free.left ≤ 1 }
+    requires right { free.right ≤ 1 }
+    ensures shown { HoldBits stream.entry.bytes.now from UP 32
+        (is_set free.left) (is_set free.right)
+        (is_set result.rows.left) (is_set result.rows.right) 32 }
+    ensures next { result.next
+        ≡ from + passing (is_free_step UP 32 (is_set free.left) (is_set free.right)) 64 }
+{
+    let word = stream.word(from);
+    let right = free.right & (word >> 63) as u32;
+    let left = free.left & ((word >> (63 - free.right)) % 2) as u32;
+    DrawnRows {
+        rows: Rows { left, right },
+        next: from + (free.right + free.left) as usize,
+    }
+}
+
 // The bits of a stream, from one on, in 32 rows of a pair of columns.
 #[inline(always)]
 fn drawn_rows<const UP: bool>(stream: Stream<'_>, from: usize, free: Rows) -> DrawnRows
@@ -68,6 +89,10 @@ fn drawn_rows<const UP: bool>(stream: Stream<'_>, from: usize, free: Rows) -> Dr
     ensures next { result.next
         ≡ from + passing (is_free_step UP 32 (is_set free.left) (is_set free.right)) 64 }
 {
+    // As in the last part of columns of 65 or 129 rows.
+    if free.left | free.right <= 1 {
+        return drawn_row::<UP>(stream, from, free);
+    }
     let bits = bits_in_rows(stream, from, free_in_order::<UP>(free));
     let (left, right) = pressed(TwoWords {
         first: bits.word,

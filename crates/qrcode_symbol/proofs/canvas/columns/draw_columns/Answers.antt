@@ -15,9 +15,9 @@ loop-number-init g c =
     let none : 2 * side v * 0 ≡ 0 = omega arith in
     record {
       next = sym (ap (free_before v) none ∙ none_before v);
-      filled = nothing_filled v c.args.stream.bytes.now (map g.R.PackedRow.bits c.clear.new.columns) (2 * side v * 0) none;
-      left_out = c.clear.ensures (left_out v);
-      fits = λ x. subst (λ (n : ℕ). n < 2 ^ side v) (sym (c.clear.ensures x)) (pow_pos (side v));
+      filled = nothing_filled v c.args.stream.bytes.now (map g.R.PackedRow.bits c.args.columns.now) (2 * side v * 0) none;
+      left_out = c.requires.light (left_out v);
+      fits = λ x. subst (λ (n : ℕ). n < 2 ^ side v) (sym (c.requires.light x)) (pow_pos (side v));
     }
 
 pub next_pair-drawn-requires-clause-small : goal.next_pair-drawn-requires-clause-small

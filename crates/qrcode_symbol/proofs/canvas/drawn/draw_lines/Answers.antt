@@ -1,7 +1,7 @@
 use Rattle.std.proofs.Common.{◌≡◌, ℕ, ◌<◌, length, map, ap, sym, ◌∙◌, arith}
 use Rattle.std.proofs.lemmas.List.{length-map}
 use Rattle.qrcode_types.specs.Versions.{side}
-use Rattle.qrcode_packed.specs.Rows.{dark_in, IsSquare}
+use Rattle.qrcode_packed.specs.Rows.{dark_in}
 use Rattle.qrcode_symbol.proofs.Drawn.{turned_shown, still_free, free_columns, free_mirrored, joined_square, square_at}
 use Rattle.qrcode_symbol.proofs.canvas.drawn.draw_lines.Goals as goal
 

@@ -1,4 +1,5 @@
-use Rattle.std.proofs.Common.{◌+◌, ℕ, ap, ◌∙◌}
+use Rattle.std.proofs.Common.{◌+◌, ℕ, ap, arith, ◌∙◌}
+use Rattle.std.proofs.lemmas.Nat.{le_or_l, le_or_r}
 use Rattle.qrcode_symbol.proofs.Pairs.{rows_hold, rows_passed, up_of}
 use Rattle.qrcode_symbol.proofs.canvas.columns.pairs.drawn_rows.Goals as goal
 
@@ -15,3 +16,9 @@ returns-clause-next g c =
     let free = c.args.free in
     let met = c.free_in_order.result in
     c.bits_in_rows-bits.ensures.next ∙ ap (λ (n : ℕ). c.args.from + n) (rows_passed (up_of g.row.UP) free.left free.right met.left met.right c.free_in_order.ensures.left c.free_in_order.ensures.right)
+
+pub drawn_row-requires-clause-left : goal.drawn_row-requires-clause-left
+drawn_row-requires-clause-left g c = omega (arith, le_or_l c.args.free.left c.args.free.right)
+
+pub drawn_row-requires-clause-right : goal.drawn_row-requires-clause-right
+drawn_row-requires-clause-right g c = omega (arith, le_or_r c.args.free.left c.args.free.right)
