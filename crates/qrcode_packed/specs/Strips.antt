@@ -27,3 +27,8 @@ AreWords half count = (k : ℕ) → k < count → half * k ≡ 64 * k
 -- a line that is in none of so many strips
 abbrev pub IsApart : ℕ → ℕ → ℕ → Type 0
 IsApart count width n = (k y : ℕ) → k < count → y < width → n ≢ k * (width + 4) + 4 + y
+
+-- the last rows and columns of a square, line j of each being the one of number first + j, show the places that pass a test
+pub record ShowsLastLines (first width : ℕ) (rows columns : List ℕ) (dark : ℕ → ℕ → Bool) : Type 0 where
+  pub across : (x j : ℕ) → x < width → first + j < width → dark_in rows x j ≡ dark x (first + j)
+  pub down : (y j : ℕ) → y < width → first + j < width → dark_in columns y j ≡ dark (first + j) y

@@ -3,6 +3,9 @@ pub mod ColumnWords
 pub mod Finders
 pub mod Inside
 pub mod LastColumn
+pub mod LastLines
+pub mod LineForms
+pub mod LineRuns
 pub mod Lines
 pub mod PaddedForms
 pub mod RowWords

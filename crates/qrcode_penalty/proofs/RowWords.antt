@@ -6,7 +6,7 @@ use Rattle.qrcode_packed.specs.Rows.{is_set, dark_in}
 use Rattle.qrcode_packed.specs.Strips.{ShowsStrips}
 use Rattle.qrcode_packed.proofs.Places.{differ, has_and, has_or, has_xor, has_shr, has_shl, has_shl_below, has_mod, has_first, has_first_above, has_above, below_from_places}
 use Rattle.qrcode_penalty.specs.Penalty.{sum_below, count_if, same}
-use Rattle.qrcode_penalty.specs.RowHalves.{blocks_in_row, darks_in_row, ArePast, AreEdges, AreRowsBefore}
+use Rattle.qrcode_penalty.specs.RowHalves.{columns_in, blocks_in_row, darks_in_row, ArePast, AreEdges, AreRowsBefore}
 use Rattle.qrcode_penalty.proofs.ColumnRuns.{ones_and_others}
 use Rattle.qrcode_penalty.proofs.Lines.{and_false}
 use Rattle.qrcode_penalty.proofs.Sums.{sum_same, sum_zero, sum_step, sum_parts, count_places}
@@ -75,9 +75,9 @@ edge_at row next past x c e =
 pub edge_past : (row next past x : ℕ) → is_set past x ≡ true → is_set (bit_or (bit_xor row next) past) x ≡ true
 edge_past row next past x e = has_or (bit_xor row next) past x ∙ ap (λ t. is_set (bit_xor row next) x || t) e ∙ or_true (is_set (bit_xor row next) x)
 
-pub past_of : (half width k n past : ℕ) → half ≤ 64 → n ≡ min (width - 1 - k * half) half →
-    ((x : ℕ) → x < n → is_set past x ≡ false) → ((x : ℕ) → n ≤ x → x < 64 → is_set past x ≡ true) → ArePast half width k past
-past_of half width k n past h e before behind =
+pub past_of : (half columns k n past : ℕ) → half ≤ 64 → n ≡ min (columns - 1 - k * half) half →
+    ((x : ℕ) → x < n → is_set past x ≡ false) → ((x : ℕ) → n ≤ x → x < 64 → is_set past x ≡ true) → ArePast half columns k past
+past_of half columns k n past h e before behind =
     let turned : half * k ≡ k * half = grind arith in
     record {
       inner = λ x l i. before x (omega (arith, l, i, e, turned));
@@ -94,19 +94,19 @@ more_strips half k count h =
     elim (leb_tells count (k + 1)) [ inl p ↦ absurd (omega (arith, h, turned, mul-le count half (k + 1) half p.1 (omega arith))) | inr p ↦ p.1 ]
 
 -- the edges of a row by its word and the first place of the next strip's
-pub edges_of : (half width count k right y : ℕ) (lines : List ℕ) (dark : ℕ → ℕ → Bool) (row past word : ℕ) → half ≤ 64 → k < count → width ≤ count * half → y < width →
+pub edges_of : (half width columns count k right y : ℕ) (lines : List ℕ) (dark : ℕ → ℕ → Bool) (row past word : ℕ) → half ≤ 64 → k < count → columns ≤ count * half → y < width →
     ShowsStrips half count width lines dark → (k + 1 < count → right ≡ (k + 1) * (width + 4) + 4) →
     ((x : ℕ) → x < half → is_set row x ≡ dark_in lines x (k * (width + 4) + 4 + y)) →
-    ArePast half width k past →
+    ArePast half columns k past →
     ((x : ℕ) → x + 1 < half → is_set word x ≡ (not (same (is_set row x) (is_set row (x + 1))) || is_set past x)) →
     is_set word (half - 1) ≡ (not (same (is_set row (half - 1)) (dark_in lines 0 (right + y))) || is_set past (half - 1)) →
     ((x : ℕ) → is_set past x ≡ true → is_set word x ≡ true) →
-    AreEdges half width k dark y word
-edges_of half width count k right y lines dark row past word h inside covered here shows next row_is are inner last over = record {
+    AreEdges half columns k dark y word
+edges_of half width columns count k right y lines dark row past word h inside covered here shows next row_is are inner last over = record {
   shown = λ x l.
       let strip = shows.strips k inside in
       let now : is_set row x ≡ dark (half * k + x) y = row_is x l ∙ strip.across x y l here in
-      elim (leb_tells width (half * k + x + 1)) [
+      elim (leb_tells columns (half * k + x + 1)) [
         | inl p ↦ over x (are.outer x l p.1) ∙ sym (ap (λ t. t || not (same (dark (half * k + x) y) (dark (half * k + x + 1) y))) p.0)
         | inr p ↦ elim (leb_tells half (x + 1)) [
           | inl q ↦
@@ -164,23 +164,23 @@ mixed_fits row next edges next_edges a b c d = or_lt 64 (bit_or (bit_xor row nex
 pub ones_at_most : (word : ℕ) → word < 2 ^ 64 → count_ones word ≤ 64
 ones_at_most word fits = omega (arith, ones_and_others 64 word fits)
 
-pub mixed_of : (half width k : ℕ) (dark : ℕ → ℕ → Bool) (y row next edges next_edges : ℕ) → half ≤ 64 →
+pub mixed_of : (half columns k : ℕ) (dark : ℕ → ℕ → Bool) (y row next edges next_edges : ℕ) → half ≤ 64 →
     ((x : ℕ) → x < half → is_set row x ≡ dark (half * k + x) y) → ((x : ℕ) → x < half → is_set next x ≡ dark (half * k + x) (y + 1)) →
-    AreEdges half width k dark y edges → AreEdges half width k dark (y + 1) next_edges → mixed_word row next edges next_edges < 2 ^ 64 →
-    count_ones (mixed_word row next edges next_edges) + blocks_in_row half width k dark y ≡ 64
-mixed_of half width k dark y row next edges next_edges h here there up low fits =
+    AreEdges half columns k dark y edges → AreEdges half columns k dark (y + 1) next_edges → mixed_word row next edges next_edges < 2 ^ 64 →
+    count_ones (mixed_word row next edges next_edges) + blocks_in_row half columns k dark y ≡ 64
+mixed_of half columns k dark y row next edges next_edges h here there up low fits =
     let word = mixed_word row next edges next_edges in
     let at : (x : ℕ) → is_set word x ≡ ((differ (is_set row x) (is_set next x) || is_set edges x) || is_set next_edges x) = λ x. simp (has_or, has_xor) refl in
     let e : 64 ≡ half + (64 - half) = omega (arith, h) in
-    let first : sum_below half (λ x. count_if (not (is_set word x)) 1) ≡ blocks_in_row half width k dark y =
+    let first : sum_below half (λ x. count_if (not (is_set word x)) 1) ≡ blocks_in_row half columns k dark y =
     sum_same _ _ half (λ x l.
     let i = half * k + x in
     ap (λ t. count_if (not t) 1) (at x ∙ ap₂ (λ (a b : Bool). a || b) (ap₂ (λ (a b : Bool). a || b) (ap₂ differ (here x l) (there x l)) (up.shown x l)) (low.shown x l))
-    ∙ ap (λ t. count_if t 1) (block_test (nat_le width (i + 1)) (dark i y) (dark (i + 1) y) (dark i (y + 1)) (dark (i + 1) (y + 1)))) in
+    ∙ ap (λ t. count_if t 1) (block_test (nat_le columns (i + 1)) (dark i y) (dark (i + 1) y) (dark i (y + 1)) (dark (i + 1) (y + 1)))) in
     let rest : sum_below (64 - half) (λ x. count_if (not (is_set word (half + x))) 1) ≡ 0 =
     sum_zero _ (64 - half) (λ x l.
     ap (λ t. count_if (not t) 1) (at (half + x) ∙ ap (λ t. (differ (is_set row (half + x)) (is_set next (half + x)) || is_set edges (half + x)) || t) (low.behind (half + x) (omega arith) (omega (arith, l, h))) ∙ or_true (differ (is_set row (half + x)) (is_set next (half + x)) || is_set edges (half + x)))) in
-    let all : sum_below 64 (λ x. count_if (not (is_set word x)) 1) ≡ blocks_in_row half width k dark y =
+    let all : sum_below 64 (λ x. count_if (not (is_set word x)) 1) ≡ blocks_in_row half columns k dark y =
     ap (λ n. sum_below n (λ x. count_if (not (is_set word x)) 1)) e ∙ sum_parts (λ x. count_if (not (is_set word x)) 1) half (64 - half) ∙ omega (arith, first, rest) in
     omega (arith, all, ones_and_others 64 word fits)
 
@@ -190,7 +190,7 @@ darks_of half k dark y row fits here = count_places row (λ x. dark (half * k + 
 -- the first row of a strip
 pub first_row : (half count width k row edges : ℕ) (lines : List ℕ) → half ≤ 64 → k < count → 1 ≤ width → row < 2 ^ half → row < 2 ^ 64 → edges < 2 ^ 64 →
     ((x : ℕ) → x < half → is_set row x ≡ dark_in lines x (k * (width + 4) + 4 + 0)) →
-    ((dark : ℕ → ℕ → Bool) → ShowsStrips half count width lines dark → AreEdges half width k dark 0 edges) →
+    ((dark : ℕ → ℕ → Bool) → ShowsStrips half count width lines dark → AreEdges half (columns_in half count width) k dark 0 edges) →
     AreRowsBefore half count width k lines 1 row edges (count_ones row) 0
 unfolding sum_below
 first_row half count width k row edges lines short inside some fits row_fits edges_fit row_is edges_are = record {
@@ -208,11 +208,12 @@ first_row half count width k row edges lines short inside some fits row_fits edg
 pub next_row : (half count width k y row edges darks mixed next next_edges : ℕ) (lines : List ℕ) → half ≤ 64 → k < count → 1 ≤ y → y < width →
     AreRowsBefore half count width k lines y row edges darks mixed → next < 2 ^ half → next < 2 ^ 64 → next_edges < 2 ^ 64 →
     ((x : ℕ) → x < half → is_set next x ≡ dark_in lines x (k * (width + 4) + 4 + y)) →
-    ((dark : ℕ → ℕ → Bool) → ShowsStrips half count width lines dark → AreEdges half width k dark y next_edges) →
+    ((dark : ℕ → ℕ → Bool) → ShowsStrips half count width lines dark → AreEdges half (columns_in half count width) k dark y next_edges) →
     AreRowsBefore half count width k lines (y + 1) next next_edges (darks + count_ones next) (mixed + count_ones (mixed_word row next edges next_edges))
 next_row half count width k y row edges darks mixed next next_edges lines short inside some here l fits next_fits edges_fit next_is edges_are =
     let word = mixed_word row next edges next_edges in
     let word_fits : word < 2 ^ 64 = mixed_fits row next edges next_edges l.row_fits next_fits l.edges_fit edges_fit in
+    let columns = columns_in half count width in
     let now : y ≡ y + 1 - 1 = omega arith in
     let again : y - 1 + 1 ≡ y = omega (arith, some) in
     let there : (dark : ℕ → ℕ → Bool) → ShowsStrips half count width lines dark → (x : ℕ) → x < half → is_set next x ≡ dark (half * k + x) y = λ dark shows x h.
@@ -221,12 +222,12 @@ next_row half count width k y row edges darks mixed next next_edges lines short 
       row_is = λ x h. next_is x h ∙ ap (λ i. dark_in lines x (k * (width + 4) + 4 + i)) now;
       row_fits = next_fits;
       edges_fit = edges_fit;
-      edges_are = λ dark shows. let P : ℕ → Type 0 = λ i. AreEdges half width k dark i next_edges in subst P now (edges_are dark shows);
+      edges_are = λ dark shows. let P : ℕ → Type 0 = λ i. AreEdges half columns k dark i next_edges in subst P now (edges_are dark shows);
       mixed_is = λ dark shows.
-          let f = blocks_in_row half width k dark in
-          let Q : ℕ → Type 0 = λ i. AreEdges half width k dark i next_edges in
+          let f = blocks_in_row half columns k dark in
+          let Q : ℕ → Type 0 = λ i. AreEdges half columns k dark i next_edges in
           let one : count_ones word + f (y - 1) ≡ 64 =
-          mixed_of half width k dark (y - 1) row next edges next_edges short
+          mixed_of half columns k dark (y - 1) row next edges next_edges short
           (λ x h. l.row_is x h ∙ (shows.strips k inside).across x (y - 1) h (omega (arith, here)))
           (λ x h. there dark shows x h ∙ ap (dark (half * k + x)) (sym again))
           (l.edges_are dark shows) (subst Q (sym again) (edges_are dark shows)) word_fits in

@@ -9,7 +9,8 @@ use Rattle.qrcode_packed.specs.Strips.{ShowsStrips}
 use Rattle.qrcode_packed.proofs.Places.{has_zero}
 use Rattle.qrcode_penalty.specs.Penalty.{sum_below, count_if, same, run_penalty, run_penalty_at, finder_penalty, finder_penalty_at, is_finder_like, line_penalty, block_penalty, block_penalty_at, dark_count, dark_count_in}
 use Rattle.qrcode_penalty.specs.Padded.{IsPadded, padded_strip, strip_lines}
-use Rattle.qrcode_penalty.specs.RowHalves.{is_block, blocks_in_strips, darks_in_strips}
+use Rattle.qrcode_penalty.specs.LastLines.{cost_behind}
+use Rattle.qrcode_penalty.specs.RowHalves.{columns_in, is_block, blocks_in_strips, darks_in_strips}
 use Rattle.qrcode_penalty.proofs.Runs.{run_penalty-windows}
 use Rattle.qrcode_penalty.proofs.Sums.{sum_same, sum_plus, sum_zero, sum_times, sum_swap, sum_front, sum_parts, sum_cut, times_if}
 
@@ -51,18 +52,18 @@ pub light_line : (n : ℕ) → 7 ≤ n → line_penalty n (λ i. false) ≡ n - 
 light_line n h = omega (arith, light_runs n h, light_forms n)
 
 -- no place outside a square is dark
-column_past : (w : ℕ) (dark : ℕ → ℕ → Bool) (x y : ℕ) → w ≤ x → inside w dark x y ≡ false
+pub column_past : (w : ℕ) (dark : ℕ → ℕ → Bool) (x y : ℕ) → w ≤ x → inside w dark x y ≡ false
 column_past w dark x y h = elim (leb_tells (suc x) w) [ inl p ↦ absurd (omega (arith, p.1, h)) | inr p ↦ ap (λ b. b && nat_lt y w && dark x y) p.0 ]
 
 and_false : (a b : Bool) → (a && false && b) ≡ false
 and_false true b = refl
 and_false false b = refl
 
-row_past : (w : ℕ) (dark : ℕ → ℕ → Bool) (x y : ℕ) → w ≤ y → inside w dark x y ≡ false
+pub row_past : (w : ℕ) (dark : ℕ → ℕ → Bool) (x y : ℕ) → w ≤ y → inside w dark x y ≡ false
 row_past w dark x y h = elim (leb_tells (suc y) w) [ inl p ↦ absurd (omega (arith, p.1, h)) | inr p ↦ ap (λ b. nat_lt x w && b && dark x y) p.0 ∙ and_false (nat_lt x w) (dark x y) ]
 
 -- a sum of what lines cost, with light lines behind them
-pub with_light : (w n : ℕ) (line : ℕ → ℕ → Bool) → 7 ≤ w → w ≤ n → ((x y : ℕ) → w ≤ x → line x y ≡ false) →
+with_light : (w n : ℕ) (line : ℕ → ℕ → Bool) → 7 ≤ w → w ≤ n → ((x y : ℕ) → w ≤ x → line x y ≡ false) →
     sum_below n (λ x. line_penalty w (line x)) ≡ sum_below w (λ x. line_penalty w (line x)) + (n - w) * (w - 2)
 with_light w n line h l past =
     let e : n ≡ w + (n - w) = omega (arith, l) in
@@ -114,18 +115,32 @@ strip_padded w half count lines dark shows k inside =
           ];
     }
 
--- what the lines of all strips cost
-pub strips_cost : (w half count room : ℕ) (lines : List ℕ) (dark : ℕ → ℕ → Bool) → 7 ≤ w → w ≤ count * half → room ≡ 2 * half → ShowsStrips half count w lines (inside w dark) →
-    sum_below count (λ k. sum_below room (λ x. line_penalty w (dark_in (strip_lines w lines k) x)))
-    ≡ sum_below w (λ y. line_penalty w (λ x. inside w dark x y)) + sum_below w (λ x. line_penalty w (inside w dark x)) + 2 * ((count * half - w) * (w - 2))
-strips_cost w half count room lines dark h l two shows =
+-- a sum over the first w numbers by those before n and those from n on, where it has no others
+split : (f : ℕ → ℕ) (w n : ℕ) → ((i : ℕ) → w ≤ i → f i ≡ 0) → sum_below n f + sum_below (w - n) (λ j. f (n + j)) ≡ sum_below w f
+unfolding sum_below
+split f w n none =
+    elim (leb_tells w n) [
+      | inl p ↦ let e : w - n ≡ 0 = omega (arith, p.1) in let rest = ap (λ m. sum_below m (λ j. f (n + j))) e in omega (arith, sum_cut f w n p.1 none, rest)
+      | inr p ↦ let e : w ≡ n + (w - n) = omega (arith, p.1) in sym (ap (λ m. sum_below m f) e ∙ sum_parts f n (w - n))
+    ]
+
+-- what the lines from the n-th on cost
+abbrev pub lines_from : ℕ → ℕ → (ℕ → ℕ → Bool) → ℕ
+lines_from w n line = sum_below (w - n) (λ j. line_penalty w (line (n + j)))
+
+-- what the lines of all strips cost, without light lines behind those of the square, and the lines that stand in no strip
+pub strips_cost : (w half count room : ℕ) (lines : List ℕ) (dark : ℕ → ℕ → Bool) → 7 ≤ w → room ≡ 2 * half → ShowsStrips half count w lines (inside w dark) →
+    sum_below count (λ k. sum_below room (λ x. line_penalty w (dark_in (strip_lines w lines k) x))) - 2 * ((count * half - w) * (w - 2))
+    + (lines_from w (count * half) (λ y x. inside w dark x y) + lines_from w (count * half) (inside w dark))
+    ≡ sum_below w (λ y. line_penalty w (λ x. inside w dark x y)) + sum_below w (λ x. line_penalty w (inside w dark x))
+unfolding sum_below
+strips_cost w half count room lines dark h two shows =
     let square = inside w dark in
     let across : ℕ → ℕ = λ x. line_penalty w (square x) in
     let down : ℕ → ℕ = λ y. line_penalty w (λ x. square x y) in
+    let n = count * half in
     let e : room ≡ half + half = omega (arith, two) in
-    let turned : half * count ≡ count * half = grind arith in
-    let wide : w ≤ half * count = omega (arith, l, turned) in
-    let past : (half * count - w) * (w - 2) ≡ (count * half - w) * (w - 2) = ap (λ n. (n - w) * (w - 2)) turned in
+    let turned : half * count ≡ n = grind arith in
     let each : (k : ℕ) → k < count → sum_below room (λ x. line_penalty w (dark_in (strip_lines w lines k) x)) ≡ sum_below half (λ x. across (half * k + x)) + sum_below half (λ x. down (half * k + x)) = λ k below.
     let strip = shows.strips k below in
     ap (λ n. sum_below n (λ x. line_penalty w (dark_in (strip_lines w lines k) x))) e
@@ -133,40 +148,80 @@ strips_cost w half count room lines dark h l two shows =
     ∙ ap₂ (λ (a b : ℕ). a + b)
     (sum_same _ _ half (λ x inner. ap (line_penalty w) (strip_line w k lines x (square (half * k + x)) (λ y j. strip.across x y inner j) (λ y j. row_past w dark (half * k + x) y j))))
     (sum_same _ _ half (λ x inner. ap (line_penalty w) (strip_line w k lines (half + x) (λ y. square y (half * k + x)) (λ y j. strip.down x y inner j) (λ y j. column_past w dark y (half * k + x) j)))) in
-    let all = sum_same _ _ count each ∙ sum_plus (λ k. sum_below half (λ x. across (half * k + x))) (λ k. sum_below half (λ x. down (half * k + x))) count ∙ ap₂ (λ (a b : ℕ). a + b) (sum_words half across count) (sum_words half down count) in
-    omega (arith, all, past, with_light w (half * count) square h wide (λ x y j. column_past w dark x y j), with_light w (half * count) (λ y x. square x y) h wide (λ y x j. row_past w dark x y j))
+    let all : sum_below count (λ k. sum_below room (λ x. line_penalty w (dark_in (strip_lines w lines k) x))) ≡ sum_below n across + sum_below n down =
+    sum_same _ _ count each ∙ sum_plus (λ k. sum_below half (λ x. across (half * k + x))) (λ k. sum_below half (λ x. down (half * k + x))) count
+    ∙ ap₂ (λ (a b : ℕ). a + b) (sum_words half across count ∙ ap (λ m. sum_below m across) turned) (sum_words half down count ∙ ap (λ m. sum_below m down) turned) in
+    elim (leb_tells w n) [
+      | inl p ↦
+          let none : w - n ≡ 0 = omega (arith, p.1) in
+          omega (arith, all, ap (λ m. sum_below m (λ j. across (n + j))) none, ap (λ m. sum_below m (λ j. down (n + j))) none, with_light w n square h p.1 (λ x y j. column_past w dark x y j), with_light w n (λ y x. square x y) h p.1 (λ y x j. row_past w dark x y j))
+      | inr p ↦
+          let none : n - w ≡ 0 = omega (arith, p.1) in
+          let parts : w ≡ n + (w - n) = omega (arith, p.1) in
+          omega (arith, all, ap (λ m. m * (w - 2)) none, ap (λ m. sum_below m across) parts ∙ sum_parts across n (w - n), ap (λ m. sum_below m down) parts ∙ sum_parts down n (w - n))
+    ]
 
 -- a sum over the rows and the places of strips is one over rows and places
-by_rows : (half count rows n : ℕ) (f : ℕ → ℕ → ℕ) → n ≤ count * half → ((y i : ℕ) → n ≤ i → f y i ≡ 0) →
-    sum_below count (λ k. sum_below rows (λ y. sum_below half (λ x. f y (half * k + x)))) ≡ sum_below rows (λ y. sum_below n (f y))
-by_rows half count rows n f wide none =
+by_places : (half count rows : ℕ) (f : ℕ → ℕ → ℕ) →
+    sum_below count (λ k. sum_below rows (λ y. sum_below half (λ x. f y (half * k + x)))) ≡ sum_below rows (λ y. sum_below (count * half) (f y))
+by_places half count rows f =
     let turned : half * count ≡ count * half = grind arith in
     sum_swap (λ y k. sum_below half (λ x. f y (half * k + x))) count rows
-    ∙ sum_same _ _ rows (λ y h. sum_words half (f y) count ∙ sum_cut (f y) n (half * count) (omega (arith, wide, turned)) (λ i l. none y i l))
+    ∙ sum_same _ _ rows (λ y h. sum_words half (f y) count ∙ ap (λ m. sum_below m (f y)) turned)
 
-not_block : (w : ℕ) (dark : ℕ → ℕ → Bool) (y i : ℕ) → w - 1 ≤ i → 1 ≤ w → count_if (is_block w dark y i) 1 ≡ 0
-not_block w dark y i h some =
-    ap (λ t. count_if (not t && (same (dark i y) (dark (i + 1) y) && same (dark i y) (dark i (y + 1)) && same (dark i y) (dark (i + 1) (y + 1)))) 1) (le-leb w (i + 1) (omega (arith, h, some)))
+not_block : (columns : ℕ) (dark : ℕ → ℕ → Bool) (y i : ℕ) → columns - 1 ≤ i → 1 ≤ columns → count_if (is_block columns dark y i) 1 ≡ 0
+not_block columns dark y i h some =
+    ap (λ t. count_if (not t && (same (dark i y) (dark (i + 1) y) && same (dark i y) (dark i (y + 1)) && same (dark i y) (dark (i + 1) (y + 1)))) 1) (le-leb columns (i + 1) (omega (arith, h, some)))
 
-one_block : (w : ℕ) (dark : ℕ → ℕ → Bool) (y i : ℕ) → i < w - 1 → 3 * count_if (is_block w dark y i) 1 ≡ block_penalty_at dark y i
+one_block : (columns : ℕ) (dark : ℕ → ℕ → Bool) (y i : ℕ) → i < columns - 1 → 3 * count_if (is_block columns dark y i) 1 ≡ block_penalty_at dark y i
 unfolding block_penalty_at
-one_block w dark y i h =
-    times_if 3 (is_block w dark y i) ∙ elim (leb_tells w (i + 1)) [
+one_block columns dark y i h =
+    times_if 3 (is_block columns dark y i) ∙ elim (leb_tells columns (i + 1)) [
       | inl p ↦ absurd (omega (arith, p.1, h))
       | inr p ↦ ap (λ t. count_if (not t && (same (dark i y) (dark (i + 1) y) && same (dark i y) (dark i (y + 1)) && same (dark i y) (dark (i + 1) (y + 1)))) 3) p.0
     ]
 
--- the blocks of all strips are those of the square
-pub blocks_of_strips : (half count w : ℕ) (dark : ℕ → ℕ → Bool) → 1 ≤ w → w ≤ count * half → 3 * blocks_in_strips half count w dark ≡ block_penalty w dark
-unfolding block_penalty
-blocks_of_strips half count w dark some wide =
-    let f : ℕ → ℕ → ℕ = λ y i. count_if (is_block w dark y i) 1 in
-    ap (λ n. 3 * n) (by_rows half count (w - 1) (w - 1) f (omega (arith, wide)) (λ y i h. not_block w dark y i h some))
-    ∙ sym (sum_times 3 (λ y. sum_below (w - 1) (f y)) (w - 1))
-    ∙ sum_same _ _ (w - 1) (λ y h. sym (sum_times 3 (f y) (w - 1)) ∙ sum_same _ _ (w - 1) (λ i l. one_block w dark y i l))
+-- what the blocks between the columns from the n-th on and those before each cost
+abbrev pub blocks_from : ℕ → ℕ → (ℕ → ℕ → Bool) → ℕ
+blocks_from w n dark = sum_below (w - n) (λ j. sum_below (w - 1) (λ y. block_penalty_at dark y (n - 1 + j)))
 
--- and so are the dark modules, where none is dark outside
-pub darks_of_strips : (half count w : ℕ) (dark : ℕ → ℕ → Bool) → w ≤ count * half → darks_in_strips half count w (inside w dark) ≡ dark_count w (inside w dark)
+-- the blocks of all strips, and those of the columns behind
+pub blocks_of_strips : (half count w : ℕ) (dark : ℕ → ℕ → Bool) → 1 ≤ w → 1 ≤ count * half → 3 * blocks_in_strips half count w dark + blocks_from w (count * half) dark ≡ block_penalty w dark
+unfolding block_penalty
+blocks_of_strips half count w dark some strip =
+    let n = count * half in
+    let c = columns_in half count w in
+    let f : ℕ → ℕ → ℕ = λ y i. count_if (is_block c dark y i) 1 in
+    let g : ℕ → ℕ → ℕ = block_penalty_at dark in
+    let first : 3 * blocks_in_strips half count w dark ≡ sum_below (w - 1) (λ y. sum_below (c - 1) (g y)) =
+    ap (λ m. 3 * m) (by_places half count (w - 1) f ∙ sum_same _ _ (w - 1) (λ y h. sum_cut (f y) (c - 1) n (omega arith) (λ i l. not_block c dark y i l (omega (arith, some, strip)))))
+    ∙ sym (sum_times 3 (λ y. sum_below (c - 1) (f y)) (w - 1))
+    ∙ sum_same _ _ (w - 1) (λ y h. sym (sum_times 3 (f y) (c - 1)) ∙ sum_same _ _ (c - 1) (λ i l. one_block c dark y i l)) in
+    let rest_length : w - n ≡ w - 1 - (c - 1) = omega (arith, some, strip) in
+    let rest : blocks_from w n dark ≡ sum_below (w - 1) (λ y. sum_below (w - 1 - (c - 1)) (λ j. g y (c - 1 + j))) =
+    sum_swap (λ y j. g y (n - 1 + j)) (w - n) (w - 1)
+    ∙ sum_same _ _ (w - 1) (λ y h. sum_same _ _ (w - n) (λ j l. ap (g y) (omega (arith, l, strip))) ∙ ap (λ m. sum_below m (λ j. g y (c - 1 + j))) rest_length) in
+    let whole : c - 1 + (w - 1 - (c - 1)) ≡ w - 1 = omega arith in
+    ap₂ (λ (a b : ℕ). a + b) first rest
+    ∙ sym (sum_plus (λ y. sum_below (c - 1) (g y)) (λ y. sum_below (w - 1 - (c - 1)) (λ j. g y (c - 1 + j))) (w - 1))
+    ∙ sum_same _ _ (w - 1) (λ y h. sym (sum_parts (g y) (c - 1) (w - 1 - (c - 1))) ∙ ap (λ m. sum_below m (g y)) whole)
+
+-- the dark modules of all strips, and those of the columns behind, where none is dark outside
+pub darks_of_strips : (half count w : ℕ) (dark : ℕ → ℕ → Bool) →
+    darks_in_strips half count w (inside w dark) + sum_below (w - count * half) (λ j. dark_count_in w (inside w dark (count * half + j))) ≡ dark_count w (inside w dark)
 unfolding dark_count dark_count_in
-darks_of_strips half count w dark wide =
-    by_rows half count w w (λ y i. count_if (inside w dark i y) 1) wide (λ y i h. ap (λ t. count_if t 1) (column_past w dark i y h))
+darks_of_strips half count w dark =
+    let n = count * half in
+    let f : ℕ → ℕ → ℕ = λ y i. count_if (inside w dark i y) 1 in
+    ap₂ (λ (a b : ℕ). a + b) (by_places half count w f) (sum_swap (λ y j. f y (n + j)) (w - n) w)
+    ∙ sym (sum_plus (λ y. sum_below n (f y)) (λ y. sum_below (w - n) (λ j. f y (n + j))) w)
+    ∙ sum_same _ _ w (λ y h. split (f y) w n (λ i l. ap (λ t. count_if t 1) (column_past w dark i y l)))
+
+-- what the last lines cost, each with the blocks before its column
+pub last_cost : (w n : ℕ) (dark : ℕ → ℕ → Bool) → 1 ≤ n → sum_below (w - n) (λ j. cost_behind w dark (n - 1 + j)) ≡ lines_from w n (λ y x. dark x y) + lines_from w n dark + blocks_from w n dark
+last_cost w n dark some =
+    let across : ℕ → ℕ = λ j. line_penalty w (λ x. dark x (n + j)) in
+    let down : ℕ → ℕ = λ j. line_penalty w (dark (n + j)) in
+    let blocks : ℕ → ℕ = λ j. sum_below (w - 1) (λ y. block_penalty_at dark y (n - 1 + j)) in
+    sum_same _ (λ j. across j + down j + blocks j) (w - n) (λ j h. let e : n - 1 + j + 1 ≡ n + j = omega (arith, some) in ap (λ i. line_penalty w (λ x. dark x i) + line_penalty w (dark i) + blocks j) e)
+    ∙ sum_plus (λ j. across j + down j) blocks (w - n) ∙ ap (λ m. m + sum_below (w - n) blocks) (sum_plus across down (w - n))

@@ -3,6 +3,8 @@
 
 mod columns;
 mod forms;
+mod last_lines;
+mod pairs;
 pub mod penalty;
 mod row_halves;
 mod run_costs;

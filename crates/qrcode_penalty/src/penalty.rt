@@ -5,7 +5,7 @@ ghost use Rattle.qrcode_packed.specs.Rows.{is_set, dark_in, inside, Shows};
 ghost use Rattle.qrcode_penalty.specs.Penalty.{light_count, micro_penalty};
 
 pub use crate::columns::last_column;
-pub use crate::strips::penalty_of_strips;
+pub use crate::strips::penalty_of_parts;
 use qrcode_packed::row::PackedRow;
 use qrcode_packed::square::PackedSquare;
 

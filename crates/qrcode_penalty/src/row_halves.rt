@@ -4,7 +4,7 @@ ghost use Rattle.std.specs.Prelude.{◌≡◌, ℕ, ◌+◌, ◌-◌, ◌*◌, �
 ghost use Rattle.qrcode_packed.specs.Rows.{is_set, dark_in};
 ghost use Rattle.qrcode_packed.specs.Strips.{ShowsStrips};
 ghost use Rattle.qrcode_penalty.specs.Penalty.{same};
-ghost use Rattle.qrcode_penalty.specs.RowHalves.{HasHalves, ArePast, AreEdges, AreRowsBefore, blocks_in_strip, darks_in_strip};
+ghost use Rattle.qrcode_penalty.specs.RowHalves.{HasHalves, columns_in, ArePast, AreEdges, AreRowsBefore, blocks_in_strip, darks_in_strip};
 
 use qrcode_packed::row::PackedRow;
 
@@ -86,17 +86,19 @@ fn row_edges<L: PackedRow>(strips: &[L], row: u64, n: usize, past: u64) -> u64
     (row ^ right_of(row, half_row(strips, n), L::size() / 2)) | past
 }
 
-// The places of a word behind the blocks of the k-th strip.
+// The places of a word behind the blocks of the k-th strip, which has columns of the square.
 #[inline(always)]
-fn places_past<L: PackedRow>(k: usize, width: usize) -> u64
+fn places_past<L: PackedRow>(count: usize, k: usize, width: usize) -> u64
     requires halves { HasHalves L.room }
     requires at_least { 7 ≤ width }
     requires at_most { width ≤ 189 }
-    requires few { k < 3 }
-    ensures { ArePast (L.room / 2) width k result }
+    requires few { count ≤ 3 }
+    requires strip { k < count }
+    ensures { ArePast (L.room / 2) (columns_in (L.room / 2) count width) k result }
 {
     let half = L::size() / 2;
-    all_from((width as u32 - 1).saturating_sub(k as u32 * half).min(half))
+    let columns = (width as u32).min(count as u32 * half);
+    all_from((columns - 1).saturating_sub(k as u32 * half).min(half))
 }
 
 // Row y of the k-th strip.
@@ -107,7 +109,6 @@ fn row_of<L: PackedRow>(strips: &[L], count: usize, k: usize, width: usize, y: u
     requires at_most { width ≤ 189 }
     requires few { count ≤ 3 }
     requires strip { k < count }
-    requires covered { width ≤ count * (L.room / 2) }
     requires length { length strips.now ≡ count * (width + 4) + 8 }
     requires inside { y < width }
     ensures places { (x : ℕ) → x < L.room / 2 → is_set result.places x
@@ -115,14 +116,14 @@ fn row_of<L: PackedRow>(strips: &[L], count: usize, k: usize, width: usize, y: u
     ensures fits { result.places < 2 ^ (L.room / 2) }
     ensures edges { (dark : ℕ → ℕ → Bool)
         → ShowsStrips (L.room / 2) count width (map L.bits strips.now) dark
-        → AreEdges (L.room / 2) width k dark y result.edges }
+        → AreEdges (L.room / 2) (columns_in (L.room / 2) count width) k dark y result.edges }
 {
     let first = k * (width + 4) + 4;
     let right = (k + 1).min(count - 1) * (width + 4) + 4;
     let places = half_row(strips, first + y);
     EdgedRow {
         places,
-        edges: row_edges(strips, places, right + y, places_past::<L>(k, width)),
+        edges: row_edges(strips, places, right + y, places_past::<L>(count, k, width)),
     }
 }
 
@@ -141,7 +142,6 @@ fn with_row<L: PackedRow>(
     requires at_most { width ≤ 189 }
     requires few { count ≤ 3 }
     requires strip { k < count }
-    requires covered { width ≤ count * (L.room / 2) }
     requires length { length strips.now ≡ count * (width + 4) + 8 }
     requires some { 0 < y }
     requires inside { y < width }
@@ -172,11 +172,11 @@ pub(crate) fn count_rows<L: PackedRow>(
     requires at_most { width ≤ 189 }
     requires few { count ≤ 3 }
     requires strip { k < count }
-    requires covered { width ≤ count * (L.room / 2) }
     requires length { length strips.now ≡ count * (width + 4) + 8 }
     ensures mixed { (dark : ℕ → ℕ → Bool)
         → ShowsStrips (L.room / 2) count width (map L.bits strips.now) dark
-        → result.mixed + blocks_in_strip (L.room / 2) width dark k ≡ 64 * (width - 1) }
+        → result.mixed + blocks_in_strip (L.room / 2) (columns_in (L.room / 2) count width) width
+        dark k ≡ 64 * (width - 1) }
     ensures dark { (dark : ℕ → ℕ → Bool)
         → ShowsStrips (L.room / 2) count width (map L.bits strips.now) dark
         → result.dark ≡ darks_in_strip (L.room / 2) width dark k }

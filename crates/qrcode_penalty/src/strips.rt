@@ -2,12 +2,13 @@
 
 ghost use Rattle.std.specs.Prelude.{◌≡◌, ℕ, ◌+◌, ◌-◌, ◌*◌, ◌/◌, ◌<◌, ◌≤◌, ◌^◌, Bool, length, map};
 ghost use Rattle.qrcode_packed.specs.Rows.{is_set, dark_in, inside};
-ghost use Rattle.qrcode_packed.specs.Strips.{ShowsStrips};
+ghost use Rattle.qrcode_packed.specs.Strips.{ShowsStrips, ShowsLastLines};
 ghost use Rattle.qrcode_penalty.specs.Penalty.{line_penalty, normal_penalty, sum_below};
 ghost use Rattle.qrcode_penalty.specs.Padded.{IsPadded, inner_lines, padded_strip, strip_lines};
 ghost use Rattle.qrcode_penalty.specs.RowHalves.{HasHalves, blocks_in_strips, darks_in_strips};
 
 use crate::forms::finder_penalties;
+use crate::last_lines::count_last;
 use crate::row_halves::{RowCounts, count_rows};
 use crate::run_costs::run_penalties;
 use qrcode_packed::lines::PackedLines;
@@ -52,7 +53,6 @@ fn strip_rows<L: PackedRow>(strips: &[L], count: usize, width: usize) -> RowCoun
     requires at_least { 7 ≤ width }
     requires at_most { width ≤ 189 }
     requires few { count ≤ 3 }
-    requires covered { width ≤ count * (L.room / 2) }
     requires length { length strips.now ≡ count * (width + 4) + 8 }
     ensures mixed { (dark : ℕ → ℕ → Bool)
         → ShowsStrips (L.room / 2) count width (map L.bits strips.now) dark
@@ -73,26 +73,41 @@ fn strip_rows<L: PackedRow>(strips: &[L], count: usize, width: usize) -> RowCoun
     total
 }
 
-/// The penalty of a square of a Normal version by its strips (ISO/IEC 18004:2006, 6.8.3): `count` of them, from one to
-/// three, each of `width` lines, with four light lines before each and eight behind the last. They have room for more
-/// columns than there are: these are light lines, in both directions, of which each costs 2 less than it has places.
-pub fn penalty_of_strips<L: PackedRow>(strips: &[L], count: usize, width: u32) -> u32
+/// The penalty of a square of a Normal version by its strips (ISO/IEC 18004:2006, 6.8.3), of which there are `count`, from
+/// one to three, and by the rows and columns that stand in none. A strip has `width` lines, with four light lines before
+/// each and eight behind the last. Where strips have room for more columns than there are, these are light lines, in both
+/// directions, of which each costs 2 less than it has places. Where they have room for less, `rows` and `columns` are the
+/// last row and the last column that they have, and those behind.
+pub fn penalty_of_parts<L: PackedRow, R: PackedRow>(
+    strips: &[L],
+    count: usize,
+    rows: &[R],
+    columns: &[R],
+    width: u32,
+) -> u32
     requires halves { HasHalves L.room }
     requires at_least { 7 ≤ width }
     requires at_most { width ≤ 189 }
+    requires some { 0 < count }
     requires few { count ≤ 3 }
-    requires covered { width ≤ count * (L.room / 2) }
+    requires room { width + 3 ≤ R.room }
     requires length { length strips.now ≡ count * (width + 4) + 8 }
+    requires rows { width ≤ count * (L.room / 2) + (length rows.now - 1) }
+    requires columns { width ≤ count * (L.room / 2) + (length columns.now - 1) }
     ensures value { (dark : ℕ → ℕ → Bool)
         → ShowsStrips (L.room / 2) count width (map L.bits strips.now) (inside width dark)
+        → ShowsLastLines (count * (L.room / 2) - 1) width (map R.bits rows.now)
+        (map R.bits columns.now) (inside width dark)
         → result ≡ normal_penalty width (inside width dark) }
     ensures at_most { result < 2 ^ 24 }
 {
     let words = count as u32;
-    let past = words * (L::size() / 2) - width;
+    let room = words * (L::size() / 2);
     let lines = strip_penalties(strips, count, width as usize);
     let counts = strip_rows(strips, count, width as usize);
+    let last = count_last(rows, columns, room as usize, width);
+    let light = 2 * (room.saturating_sub(width) * (width - 2));
     let blocks = 3 * (words * (64 * (width - 1)) - counts.mixed);
-    let balance = (200 * counts.dark / (width * width)).abs_diff(100);
-    lines.saturating_sub(2 * (past * (width - 2))) + blocks + balance
+    let balance = (200 * (counts.dark + last.dark) / (width * width)).abs_diff(100);
+    lines.saturating_sub(light) + last.cost + blocks + balance
 }

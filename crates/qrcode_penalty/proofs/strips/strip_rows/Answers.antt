@@ -1,6 +1,6 @@
 use Rattle.std.proofs.Common.{◌≡◌, ℕ, ◌+◌, ◌-◌, ◌*◌, ◌/◌, refl, arith}
 use Rattle.qrcode_penalty.specs.Penalty.{sum_below}
-use Rattle.qrcode_penalty.specs.RowHalves.{blocks_in_strip, darks_in_strip}
+use Rattle.qrcode_penalty.specs.RowHalves.{columns_in, blocks_in_strip, darks_in_strip}
 use Rattle.qrcode_penalty.proofs.Sums.{sum_step}
 use Rattle.qrcode_penalty.proofs.strips.strip_rows.Goals as goal
 
@@ -17,7 +17,7 @@ loop-k-preserved g c =
     let e : (m : ℕ) → (k + 1) * m ≡ k * m + m = λ m. grind arith in
     record {
       mixed = λ dark shows.
-          let f = blocks_in_strip half w dark in
+          let f = blocks_in_strip half (columns_in half c.args.count w) w dark in
           let sum : sum_below k f + f k ≡ sum_below (k + 1) f = sum_step f k (sum_below k f) (f k) refl refl in
           omega (arith, sum, e (64 * (w - 1)), l.mixed dark shows, c.count_rows-counts.ensures.mixed dark shows);
       dark = λ dark shows. sum_step (darks_in_strip half w dark) k c.loop-k.total.dark c.count_rows-counts.result.dark (l.dark dark shows) (c.count_rows-counts.ensures.dark dark shows);
