@@ -1,12 +1,12 @@
 //! Squares that are no symbols of the library, packed into rows of each type, and what they cost.
 
-ghost use Rattle.std.specs.Prelude.{◌≡◌, ◌+◌, ◌*◌, ◌/◌, ◌<◌, ◌≤◌, length, map, IfOk};
+ghost use Rattle.std.specs.Prelude.{◌≡◌, ◌+◌, ◌-◌, ◌*◌, ◌/◌, ◌<◌, ◌≤◌, length, map, IfOk};
 ghost use Rattle.qrcode_packed.specs.Rows.{FitsWidth, IsSquare};
 ghost use Rattle.qrcode_penalty.specs.RowHalves.{HasHalves};
 
 use qrcode_packed::row::{PackedRow, Row128, Row192};
 use qrcode_packed::square::PackedSquare;
-use qrcode_penalty::penalty::{micro_penalty, penalty_of_strips};
+use qrcode_penalty::penalty::{micro_penalty, penalty_of_parts};
 use qrcode_types::types::QrResult;
 use std::alloc::Global;
 
@@ -167,29 +167,73 @@ fn fill_strips<L: PackedRow>(kind: Kind, count: usize, width: usize, strips: &mu
     }
 }
 
-// The penalty of Normal, by strips.
+// The first `width` places of row y, or of column y.
+fn whole_line<R: PackedRow>(kind: Kind, across: bool, y: usize, width: u32) -> R
+    requires { width < R.room }
+{
+    let mut line = R::first(0);
+    for x in 0..width {
+        let (column, row) = if across {
+            (x as usize, y)
+        } else {
+            (y, x as usize)
+        };
+        if kind.is_dark(column, row) {
+            line = changed(line, x, x + 1);
+        }
+    }
+    line
+}
+
+// The rows or columns of a square from one on.
+fn last_lines<R: PackedRow>(
+    alloc: Global,
+    kind: Kind,
+    across: bool,
+    first: usize,
+    width: u32,
+) -> QrResult<Vec<R>>
+    requires { width < R.room }
+    ensures { IfOk result (λ lines. length lines.items ≡ width - first) }
+{
+    let count = (width as usize).saturating_sub(first);
+    let mut lines = vec![in alloc; R::first(0); count]?;
+    for j in 0..count {
+        lines[j] = whole_line(kind, across, first.wrapping_add(j), width);
+    }
+    Ok(lines)
+}
+
+// The penalty of Normal, by so many strips, and by the rows and columns that stand in none.
 fn normal_in<L: PackedRow>(alloc: Global, kind: Kind, count: usize, width: u32) -> QrResult<u32>
     requires halves { HasHalves L.room }
     requires at_least { 7 ≤ width }
     requires at_most { width ≤ 189 }
+    requires some { 0 < count }
     requires few { count ≤ 3 }
-    requires covered { width ≤ count * (L.room / 2) }
 {
     let size = width as usize;
     let mut strips = vec![in alloc; L::first(0); count * (size + 4) + 8]?;
     fill_strips(kind, count, size, &mut strips);
-    Ok(penalty_of_strips(&strips, count, width))
+    let first = count * (L::size() as usize / 2) - 1;
+    let rows = last_lines::<Row192>(alloc, kind, true, first, width)?;
+    let columns = last_lines::<Row192>(alloc, kind, false, first, width)?;
+    Ok(penalty_of_parts(&strips, count, &rows, &columns, width))
 }
 
-// Whether a square has this penalty of Normal by strips of each type of lines of which three have room for it.
+// Whether a square has this penalty of Normal by one to three strips of each type of lines.
 fn normal_costs(alloc: Global, kind: Kind, width: u32, expected: u32) -> QrResult<bool>
     requires at_least { 7 ≤ width }
     requires at_most { width ≤ 177 }
 {
-    let narrow = width > 96
-        || normal_in::<u64>(alloc, kind, (width as usize + 31) / 32, width)? == expected;
-    let wide = normal_in::<Row128>(alloc, kind, (width as usize + 63) / 64, width)? == expected;
-    Ok(narrow && wide)
+    for count in 1..4 {
+        let narrow = normal_in::<u64>(alloc, kind, count, width)? == expected;
+        let wide = normal_in::<Row128>(alloc, kind, count, width)? == expected;
+        if !(narrow && wide) {
+            return Ok(false);
+        }
+    }
+    Ok(true)
 }
 
 // Whether a square has these penalties, that of Micro on packed rows of each type that has room for it.
