@@ -20,6 +20,7 @@ pub use qrcode_places::mask_functions;
 pub use qrcode_places::masks::MaskPattern;
 
 mod applying;
+mod both_ways;
 mod cells;
 mod codewords;
 mod columns;

@@ -10,6 +10,7 @@ ghost use Rattle.qrcode_places.specs.Masks.{mask_count};
 ghost use Rattle.qrcode_symbol.specs.Masking.{is_dark_module, is_free, ShowsModules, nth_cost, IsFirstLeastCost, IsBestShown, AreBestColors};
 ghost use Rattle.qrcode_symbol.specs.declared.canvas.Module.{Module};
 
+use super::both_ways::BothWays;
 use super::cells::Cell;
 use super::edges::least_micro_mask;
 use super::masked_rows::mask_rows;
@@ -91,9 +92,7 @@ fn least_mask_by_strips<R: PackedRow, L: StripLine>(
 
 // The same by rows and columns, where there is room for strips: of what is dark, of what is free, and under a mask.
 fn least_mask_by_columns<R: PackedRow, L: StripLine>(
-    modules: &PackedModules<'_, R>,
-    dark_columns: &PackedSquare<'_, R>,
-    free_columns: &PackedSquare<'_, R>,
+    both: &BothWays<'_, R>,
     count: usize,
     dark: &mut [L],
     free: &mut [L],
@@ -101,96 +100,64 @@ fn least_mask_by_columns<R: PackedRow, L: StripLine>(
 ) -> usize
     requires few { count ≤ 3 }
     requires words { AreWords (L.room / 2) count }
-    requires covered { modules.now.width ≤ count * (L.room / 2) }
-    requires normal { is_micro modules.now.version ≡ false }
-    requires dark_width { dark_columns.now.width ≡ modules.now.width }
-    requires free_width { free_columns.now.width ≡ modules.now.width }
-    requires dark_turned { (x y : ℕ) → x < modules.now.width → y < modules.now.width
-        → dark_in dark_columns.now.rows y x ≡ dark_in modules.now.dark.rows x y }
-    requires free_turned { (x y : ℕ) → x < modules.now.width → y < modules.now.width
-        → dark_in free_columns.now.rows y x ≡ dark_in modules.now.free.rows x y }
-    requires dark_length { length dark.old ≡ count * (modules.now.width + 4) + 8 }
-    requires free_length { length free.old ≡ count * (modules.now.width + 4) + 8 }
-    requires length { length masked.old ≡ count * (modules.now.width + 4) + 8 }
+    requires covered { both.now.modules.now.width ≤ count * (L.room / 2) }
+    requires normal { is_micro both.now.modules.now.version ≡ false }
+    requires dark_length { length dark.old ≡ count * (both.now.modules.now.width + 4) + 8 }
+    requires free_length { length free.old ≡ count * (both.now.modules.now.width + 4) + 8 }
+    requires length { length masked.old ≡ count * (both.now.modules.now.width + 4) + 8 }
     ensures { IsFirstLeastCost
-        (nth_cost modules.now.version modules.now.ec_level modules.now.width
-        modules.now.dark.rows modules.now.free.rows)
-        (mask_count modules.now.version) result }
+        (nth_cost both.now.modules.now.version both.now.modules.now.ec_level
+        both.now.modules.now.width both.now.modules.now.dark.rows both.now.modules.now.free.rows)
+        (mask_count both.now.modules.now.version) result }
 {
+    let modules = both.modules;
     let width = modules.width;
     lighten_between(dark, count, width);
     lighten_between(free, count, width);
     lighten_between(masked, count, width);
-    join(&modules.dark, dark_columns, count, dark);
-    join(&modules.free, free_columns, count, free);
+    join(&modules.dark, both.dark_columns, count, dark);
+    join(&modules.free, both.free_columns, count, free);
     least_mask_by_strips(modules, count, dark, free, masked)
 }
 
 // The same with room made for lines of one kind.
 fn least_mask_in<R: PackedRow, L: StripLine>(
     alloc: Global,
-    modules: &PackedModules<'_, R>,
-    dark_columns: &PackedSquare<'_, R>,
-    free_columns: &PackedSquare<'_, R>,
+    both: &BothWays<'_, R>,
     count: usize,
 ) -> QrResult<usize>
     requires few { count ≤ 3 }
     requires words { AreWords (L.room / 2) count }
-    requires covered { modules.now.width ≤ count * (L.room / 2) }
-    requires normal { is_micro modules.now.version ≡ false }
-    requires dark_width { dark_columns.now.width ≡ modules.now.width }
-    requires free_width { free_columns.now.width ≡ modules.now.width }
-    requires dark_turned { (x y : ℕ) → x < modules.now.width → y < modules.now.width
-        → dark_in dark_columns.now.rows y x ≡ dark_in modules.now.dark.rows x y }
-    requires free_turned { (x y : ℕ) → x < modules.now.width → y < modules.now.width
-        → dark_in free_columns.now.rows y x ≡ dark_in modules.now.free.rows x y }
+    requires covered { both.now.modules.now.width ≤ count * (L.room / 2) }
+    requires normal { is_micro both.now.modules.now.version ≡ false }
     ensures least { IfOk result (λ best. IsFirstLeastCost
-        (nth_cost modules.now.version modules.now.ec_level modules.now.width
-        modules.now.dark.rows modules.now.free.rows)
-        (mask_count modules.now.version) best) }
+        (nth_cost both.now.modules.now.version both.now.modules.now.ec_level
+        both.now.modules.now.width both.now.modules.now.dark.rows both.now.modules.now.free.rows)
+        (mask_count both.now.modules.now.version) best) }
     ensures memory { IsOkUnless result OutOfMemory }
 {
-    let size = count * (modules.width + 4) + 8;
+    let size = count * (both.modules.width + 4) + 8;
     // Not of zeros, which would be set byte by byte: what is light is written later.
     let mut room = vec![in alloc; L::of_parts(1, 0); 3 * size]?;
     let (dark, rest) = room.split_at_mut(size);
     let (free, masked) = rest.split_at_mut(size);
-    Ok(least_mask_by_columns(
-        modules,
-        dark_columns,
-        free_columns,
-        count,
-        dark,
-        free,
-        masked,
-    ))
+    Ok(least_mask_by_columns(both, count, dark, free, masked))
 }
 
 // The same in strips of the shortest lines that hold rows and columns.
-fn least_normal_mask<R: PackedRow>(
-    alloc: Global,
-    modules: &PackedModules<'_, R>,
-    dark_columns: &PackedSquare<'_, R>,
-    free_columns: &PackedSquare<'_, R>,
-) -> QrResult<usize>
-    requires normal { is_micro modules.now.version ≡ false }
-    requires dark_width { dark_columns.now.width ≡ modules.now.width }
-    requires free_width { free_columns.now.width ≡ modules.now.width }
-    requires dark_turned { (x y : ℕ) → x < modules.now.width → y < modules.now.width
-        → dark_in dark_columns.now.rows y x ≡ dark_in modules.now.dark.rows x y }
-    requires free_turned { (x y : ℕ) → x < modules.now.width → y < modules.now.width
-        → dark_in free_columns.now.rows y x ≡ dark_in modules.now.free.rows x y }
+fn least_normal_mask<R: PackedRow>(alloc: Global, both: &BothWays<'_, R>) -> QrResult<usize>
+    requires normal { is_micro both.now.modules.now.version ≡ false }
     ensures least { IfOk result (λ best. IsFirstLeastCost
-        (nth_cost modules.now.version modules.now.ec_level modules.now.width
-        modules.now.dark.rows modules.now.free.rows)
-        (mask_count modules.now.version) best) }
+        (nth_cost both.now.modules.now.version both.now.modules.now.ec_level
+        both.now.modules.now.width both.now.modules.now.dark.rows both.now.modules.now.free.rows)
+        (mask_count both.now.modules.now.version) best) }
     ensures memory { IsOkUnless result OutOfMemory }
 {
-    if R::size() == 64 && modules.width <= 32 {
-        return least_mask_in::<R, u64>(alloc, modules, dark_columns, free_columns, 1);
+    if R::size() == 64 && both.modules.width <= 32 {
+        return least_mask_in::<R, u64>(alloc, both, 1);
     }
     let count = (R::size() as usize + 63) / 64;
-    least_mask_in::<R, Row128>(alloc, modules, dark_columns, free_columns, count)
+    least_mask_in::<R, Row128>(alloc, both, count)
 }
 
 // The same where the rows alone are there.
@@ -207,12 +174,12 @@ fn least_turned_mask<R: PackedRow>(alloc: Global, modules: &PackedModules<'_, R>
     let (dark, free) = columns.split_at_mut(width);
     turn(&modules.dark, dark);
     turn(&modules.free, free);
-    least_normal_mask(
-        alloc,
-        modules,
-        &PackedSquare::new(dark, width as u32),
-        &PackedSquare::new(free, width as u32),
-    )
+    let both = BothWays {
+        modules: &*modules,
+        dark_columns: &PackedSquare::new(dark, width as u32),
+        free_columns: &PackedSquare::new(free, width as u32),
+    };
+    least_normal_mask(alloc, &both)
 }
 
 // The number of the first mask under which the rows cost least.
@@ -294,7 +261,12 @@ fn best_mirrored_of<R: PackedRow, S: FromColor>(
     ensures memory { IsOkUnless result OutOfMemory }
 {
     let dark_columns = PackedSquare::new(columns, packed.width as u32);
-    let best = least_normal_mask(alloc, packed, &dark_columns, &packed.free)?;
+    let both = BothWays {
+        modules: &*packed,
+        dark_columns: &dark_columns,
+        free_columns: &packed.free,
+    };
+    let best = least_normal_mask(alloc, &both)?;
     shown_under(alloc, packed, best, columns)
 }
 

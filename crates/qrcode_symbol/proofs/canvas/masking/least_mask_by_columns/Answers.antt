@@ -4,25 +4,25 @@ use Rattle.qrcode_packed.specs.Strips.{IsStripRoom, ShowsStrips}
 use Rattle.qrcode_symbol.proofs.canvas.masking.least_mask_by_columns.Goals as goal
 
 pub join-requires-clause-turned : goal.join-requires-clause-turned
-join-requires-clause-turned g c = λ x y h l. let w = c.args.modules.now.dark_width in c.requires.dark_turned x y (omega (arith, h, w)) (omega (arith, l, w))
+join-requires-clause-turned g c = λ x y h l. let w = c.args.both.now.modules.now.dark_width in c.args.both.now.dark_turned x y (omega (arith, h, w)) (omega (arith, l, w))
 
 pub join-requires-clause-room : goal.join-requires-clause-room
-join-requires-clause-room g c = subst (λ (n : ℕ). IsStripRoom c.args.count n (map g.L.PackedRow.bits c.lighten_between.new.lines)) (sym c.args.modules.now.dark_width) c.lighten_between.ensures
+join-requires-clause-room g c = subst (λ (n : ℕ). IsStripRoom c.args.count n (map g.L.PackedRow.bits c.lighten_between.new.lines)) (sym c.args.both.now.modules.now.dark_width) c.lighten_between.ensures
 
 pub join-requires-2-clause-turned : goal.join-requires-2-clause-turned
-join-requires-2-clause-turned g c = λ x y h l. let w = c.args.modules.now.free_width in c.requires.free_turned x y (omega (arith, h, w)) (omega (arith, l, w))
+join-requires-2-clause-turned g c = λ x y h l. let w = c.args.both.now.modules.now.free_width in c.args.both.now.free_turned x y (omega (arith, h, w)) (omega (arith, l, w))
 
 pub join-requires-2-clause-room : goal.join-requires-2-clause-room
-join-requires-2-clause-room g c = subst (λ (n : ℕ). IsStripRoom c.args.count n (map g.L.PackedRow.bits c.lighten_between-2.new.lines)) (sym c.args.modules.now.free_width) c.lighten_between-2.ensures
+join-requires-2-clause-room g c = subst (λ (n : ℕ). IsStripRoom c.args.count n (map g.L.PackedRow.bits c.lighten_between-2.new.lines)) (sym c.args.both.now.modules.now.free_width) c.lighten_between-2.ensures
 
 pub least_mask_by_strips-requires-clause-dark_shown : goal.least_mask_by_strips-requires-clause-dark_shown
 least_mask_by_strips-requires-clause-dark_shown g c =
-    let m = c.args.modules.now in
+    let m = c.args.both.now.modules.now in
     subst (λ (n : ℕ). ShowsStrips (g.L.PackedRow.room / 2) c.args.count n (map g.L.PackedRow.bits c.join.new.strips) (dark_in m.dark.rows)) m.dark_width c.join.ensures.shown
 
 pub least_mask_by_strips-requires-clause-free_shown : goal.least_mask_by_strips-requires-clause-free_shown
 least_mask_by_strips-requires-clause-free_shown g c =
-    let m = c.args.modules.now in
+    let m = c.args.both.now.modules.now in
     subst (λ (n : ℕ). ShowsStrips (g.L.PackedRow.room / 2) c.args.count n (map g.L.PackedRow.bits c.join-2.new.strips) (dark_in m.free.rows)) m.free_width c.join-2.ensures.shown
 
 pub least_mask_by_strips-requires-clause-room : goal.least_mask_by_strips-requires-clause-room
