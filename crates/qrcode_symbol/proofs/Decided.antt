@@ -101,7 +101,7 @@ column_none (Normal v) word y n apart low e = rw (normal_index (Normal v) 8 y re
 column_none (Micro v) word y n apart low e = absurd (true≢false n)
 
 -- the dark module
-dark_some : (v : Version) (word y : ℕ) → is_micro v ≡ false → y ≡ side v - 8 → decided_bit v word 8 y ≡ Some true
+pub dark_some : (v : Version) (word y : ℕ) → is_micro v ≡ false → y ≡ side v - 8 → decided_bit v word 8 y ≡ Some true
 unfolding decided_bit dark_module
 dark_some (Normal v) word y n e = rw (normal_index (Normal v) 8 y refl, decided_bit) (grind (arith, nat_tests))
 dark_some (Micro v) word y n e = absurd (true≢false n)
@@ -215,6 +215,24 @@ module _ (v : Version) (word : ℕ) (normal : is_micro v ≡ false) where
                 (put_at row 0 6 (has_bit word) a y y first (omega (arith, q.1)) (omega arith) ∙ (let e : y ≡ 14 - (14 - y) = omega (arith, q.1) in ap (has_bit word) e))
           ]
         ]
+
+  -- behind the ninth place and before the last eight none has a bit that no mask decides
+  pub none_in_row : (x : ℕ) → 9 ≤ x → x < side v - 8 → decided_bit v word x 8 ≡ None
+  none_in_row x h l = row_none v word x normal (λ e. absurd (omega (arith, e, h))) (grind (arith, nat_tests, l, h))
+
+  pub none_in_column : (y : ℕ) → 9 ≤ y → y < side v - 8 → decided_bit v word 8 y ≡ None
+  none_in_column y h l = column_none v word y normal (λ e. absurd (omega (arith, e, h))) (λ e. absurd (omega (arith, e, l, wide))) (grind (arith, nat_tests, l, h, wide))
+
+  -- the bits of the last eight places of row 8, and of the last seven of column 8
+  pub last_in_row : (x : ℕ) → side v - 8 ≤ x → x < side v → decided_bit v word x 8 ≡ Some (has_bit word (side v - 1 - x))
+  last_in_row x h l =
+      let e : 14 - (x + 15 - side v) ≡ side v - 1 - x = omega (arith, h, l, wide) in
+      row_index x (x + 15 - side v) (grind (arith, nat_tests, h, l, wide)) ∙ ap (λ i. Some (has_bit word i)) e
+
+  pub last_in_column : (y : ℕ) → side v - 7 ≤ y → y < side v → decided_bit v word 8 y ≡ Some (has_bit word (y + 15 - side v))
+  last_in_column y h l =
+      let e : 14 - (side v - 1 - y) ≡ y + 15 - side v = omega (arith, h, l, wide) in
+      column_index y (side v - 1 - y) (grind (arith, nat_tests, h, l, wide)) ∙ ap (λ i. Some (has_bit word i)) e
 
   -- what holds of places with a bit that no mask decides and of the others, in row 8 and in column 8
   pub row_cases : (P : Bool → Option Bool → Type 0) → ((b : Bool) → P true (Some b)) → P false None → (x : ℕ) → P (is_format_place (side v) x) (decided_bit v word x 8)

@@ -16,7 +16,7 @@ use Rattle.qrcode_symbol.proofs.Decided.{micro_none}
 use Rattle.qrcode_symbol.proofs.RowLists.{turned_at}
 
 -- a place inside passes the test that no place outside passes, where it passes the test
-inside_here : (w : ℕ) (dark : ℕ → ℕ → Bool) (x y : ℕ) → x < w → y < w → inside w dark x y ≡ dark x y
+pub inside_here : (w : ℕ) (dark : ℕ → ℕ → Bool) (x y : ℕ) → x < w → y < w → inside w dark x y ≡ dark x y
 inside_here w dark x y h l = ap₂ (λ (a b : Bool). a && b && dark x y) (le-leb (suc x) w h) (le-leb (suc y) w l)
 
 -- what a square of Micro costs

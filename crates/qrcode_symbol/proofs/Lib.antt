@@ -14,6 +14,7 @@ pub mod Filled
 pub mod Functional
 pub mod Groups
 pub mod JoinedRows
+pub mod LastLines
 pub mod Mapped
 pub mod MaskRows
 pub mod MaskedSquares

@@ -4,6 +4,7 @@ pub mod Columns
 pub mod Deciding
 pub mod DrawnLines
 pub mod Filling
+pub mod LastLines
 pub mod Lending
 pub mod Masking
 pub mod Micro

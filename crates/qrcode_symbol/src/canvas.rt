@@ -29,6 +29,8 @@ mod drawn;
 mod edges;
 mod filling;
 mod layer;
+mod least_mask;
+mod masked_lines;
 mod masked_rows;
 mod masked_strips;
 mod masking;

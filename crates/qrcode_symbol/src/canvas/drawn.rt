@@ -13,6 +13,7 @@ ghost use Rattle.qrcode_symbol.specs.PackedPatterns.{AreBegun};
 
 use super::columns::draw_columns;
 use super::columns::stream::{Stream, stream_of};
+use super::least_mask::last_lines;
 use super::masked_rows::put;
 use super::masking::best_mirrored;
 use super::micro::micro_colors;
@@ -142,14 +143,17 @@ fn drawn_by<R: PackedRow>(
     ensures memory { IsOkUnless result OutOfMemory }
 {
     let width = side(version);
-    // The rows and the columns of what is dark, and the rows of what is free, in one piece of memory.
-    let mut lists = Vec::with_capacity(alloc, 3 * width)?;
+    let lines = last_lines(width);
+    // The rows and the columns of what is dark, the rows of what is free, and a place for the last lines, in one piece of
+    // memory.
+    let mut lists = Vec::with_capacity(alloc, 3 * width + 2 * lines)?;
     push_equal(&mut lists, R::first(0), 2 * width)?;
-    push_equal(&mut lists, R::first(width as u32), width)?;
+    push_equal(&mut lists, R::first(width as u32), width + 2 * lines)?;
     let (dark, further) = lists.split_at_mut(width);
-    let (columns, free) = further.split_at_mut(width);
+    let (columns, others) = further.split_at_mut(width);
+    let (free, last) = others.split_at_mut(width);
     draw_lines(alloc, version, ec_level, bytes, ec, dark, free, columns)?;
-    best_mirrored(alloc, version, ec_level, dark, free, columns)
+    best_mirrored(alloc, version, ec_level, dark, free, columns, last)
 }
 
 /// The same: of Normal in the narrowest rows that hold the symbol.

@@ -1,11 +1,11 @@
 //! The choice of the mask in Micro, by the last row and the last column, which alone count in its penalty.
 
-ghost use Rattle.std.specs.Prelude.{◌≡◌, ◌-◌, ◌%◌, ◌<◌, ◌^◌, bit_and, bit_xor, true};
+ghost use Rattle.std.specs.Prelude.{◌≡◌, ◌-◌, ◌<◌, ◌^◌, true};
 ghost use Rattle.qrcode_types.specs.Versions.{is_micro};
 ghost use Rattle.qrcode_places.specs.Masks.{mask_count};
-ghost use Rattle.qrcode_symbol.specs.Masking.{three_words, nth_cost, IsLastColumn, IsFirstLeastCost};
+ghost use Rattle.qrcode_symbol.specs.Masking.{nth_cost, IsLastColumn, IsFirstLeastCost};
 
-use super::masked_rows::{long_row, turned_column, turned_row};
+use super::masked_rows::{turn_line, turned_column, turned_row};
 use super::packing::PackedModules;
 use qrcode_packed::row::PackedRow;
 use qrcode_penalty::penalty::{last_column, micro_penalty_by_edges};
@@ -16,15 +16,6 @@ use qrcode_places::masks::{mask_count, nth_mask};
 struct LastColumn<R: PackedRow> {
     dark: R,
     free: R,
-}
-
-// A row or a column in which the free places are turned that the mask turns, by the first 64 of these.
-#[inline(always)]
-fn turn_line<R: PackedRow>(dark: R, free: R, turned: u64) -> R
-    ensures { R.bits result
-        ≡ bit_xor (R.bits dark) (bit_and (R.bits free) (three_words turned % 2 ^ R.room)) }
-{
-    dark.xor(free.and(long_row(turned)))
 }
 
 // What the square costs under the k-th mask of Micro.

@@ -1,6 +1,6 @@
 //! The rows of a square under a mask, with the format word.
 
-ghost use Rattle.std.specs.Prelude.{◌≡◌, ◌≢◌, ℕ, ◌+◌, ◌-◌, ◌%◌, ◌<◌, ◌≤◌, ◌^◌, ◌&&◌, length, map, slice_index_or, true, false, IsTrue};
+ghost use Rattle.std.specs.Prelude.{◌≡◌, ◌≢◌, ℕ, ◌+◌, ◌-◌, ◌%◌, ◌<◌, ◌≤◌, ◌^◌, ◌&&◌, bit_and, bit_xor, length, map, slice_index_or, true, false, IsTrue};
 ghost use Rattle.qrcode_types.specs.Bits.{has_bit};
 ghost use Rattle.qrcode_types.specs.Versions.{is_micro};
 ghost use Rattle.qrcode_packed.specs.Rows.{FitsWidth, IsSquare, is_set, dark_in, Shows};
@@ -69,13 +69,22 @@ fn long_words(word: u64) -> [u64; 3]
     [word, middle, next_places(middle)]
 }
 
-/// A line in which six or twelve places stand again and again, by its first 64 places.
+// A line in which six or twelve places stand again and again, by its first 64 places.
 #[inline(always)]
-pub(super) fn long_row<R: PackedRow>(word: u64) -> R
+fn long_row<R: PackedRow>(word: u64) -> R
     ensures { R.bits result ≡ three_words word % 2 ^ R.room }
 {
     let words = long_words(word);
     R::of_words(words[0], words[1], words[2])
+}
+
+/// A row or a column in which the free places are turned that the mask turns, by the first 64 of these.
+#[inline(always)]
+pub(super) fn turn_line<R: PackedRow>(dark: R, free: R, turned: u64) -> R
+    ensures { R.bits result
+        ≡ bit_xor (R.bits dark) (bit_and (R.bits free) (three_words turned % 2 ^ R.room)) }
+{
+    dark.xor(free.and(long_row(turned)))
 }
 
 /// The places that the mask turns in the first 64 columns of row y, each of which goes on so.

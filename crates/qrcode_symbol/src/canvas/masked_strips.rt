@@ -332,9 +332,9 @@ pub(super) fn mask_strips<R: PackedRow, L: StripLine>(
     free: &[L],
     masked: &mut [L],
 )
+    requires some { 0 < count }
     requires few { count ≤ 3 }
     requires words { AreWords (L.room / 2) count }
-    requires covered { modules.now.width ≤ count * (L.room / 2) }
     requires normal { is_micro modules.now.version ≡ false }
     requires mask_exists { IsTrue (exists_in modules.now.version mask) }
     requires room { IsStripRoom count modules.now.width (map L.bits masked.old) }

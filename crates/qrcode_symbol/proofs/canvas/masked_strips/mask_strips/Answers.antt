@@ -1,4 +1,4 @@
-use Rattle.std.proofs.Common.{◌≡◌, ◌+◌, ◌*◌, ◌/◌, ◌^◌, ◌<◌, ◌≤◌, ℕ, zero, suc, Bool, true, false, unwrap_or, map, slice_index_or, refl, ap, sym, subst, ◌∙◌, arith, true≢false}
+use Rattle.std.proofs.Common.{◌≡◌, ◌+◌, ◌*◌, ◌/◌, ◌^◌, ◌<◌, ◌≤◌, ℕ, Bool, true, false, unwrap_or, map, slice_index_or, refl, ap, sym, subst, ◌∙◌, arith, true≢false}
 use Rattle.std.proofs.lemmas.List.{length-map}
 use Rattle.qrcode_packed.specs.Rows.{is_set, dark_in, inside}
 use Rattle.qrcode_packed.proofs.Places.{has_above}
@@ -13,10 +13,6 @@ use Rattle.qrcode_symbol.proofs.DecidedStrips.{put_at, beside_kept, above_kept, 
 use Rattle.qrcode_symbol.proofs.StripLines.{ends_places}
 use Rattle.qrcode_symbol.proofs.Decided.{row_cases, column_cases, elsewhere, normal_wide, beside, beneath}
 use Rattle.qrcode_symbol.proofs.canvas.masked_strips.mask_strips.Goals as goal
-
-positive : (n m : ℕ) → 0 < n * m → 0 < n
-positive zero m h = absurd (omega (arith, h))
-positive (suc n) m h = omega arith
 
 pub turn_strips-requires-clause-least : goal.turn_strips-requires-clause-least
 turn_strips-requires-clause-least g c = omega (arith, c.args.modules.now.side, normal_wide c.args.modules.now.version c.requires.normal)
@@ -80,9 +76,8 @@ returns g c =
     let all : (x y : ℕ) → masked x y ≡ inside w (masked_dark v (format_word v m.ec_level mask) mask m.dark.rows m.free.rows) x y = λ x y.
     inside_of w masked x y (right x y) (below x y) ∙ ap (λ (n : ℕ). inside w (masked_dark v n mask m.dark.rows m.free.rows) x y) c.format_word.ensures in
     let lanes = c.turn_strips.ensures.lanes places places_is in
-    let some : 0 < count = positive count half (omega (arith, c.requires.covered, wide)) in
     let room = room_kept count w (map bits c.args.masked.now) d (length-map c.decide_places-3.new.lines bits ∙ omega arith ∙ sym (length-map c.args.masked.now bits))
-    (λ n h. line_same n (λ y j e. absurd (h 0 y some j (omega (arith, e)))) ∙ c.turn_strips.ensures.others n h) c.requires.room in
+    (λ n h. line_same n (λ y j e. absurd (h 0 y c.requires.some j (omega (arith, e)))) ∙ c.turn_strips.ensures.others n h) c.requires.room in
     record {
       shown = record {
         length = room.length;

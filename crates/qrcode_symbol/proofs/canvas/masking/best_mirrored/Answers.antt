@@ -1,8 +1,9 @@
-use Rattle.std.proofs.Common.{◌≡◌, ◌<◌, ℕ, List, map, ap, subst, sym, ◌∙◌, arith, IfOk}
+use Rattle.std.proofs.Common.{◌≡◌, ◌*◌, ◌<◌, ℕ, List, map, ap, subst, sym, ◌∙◌, arith, IfOk}
 use Rattle.qrcode_types.specs.declared.types.Version.{Version}
 use Rattle.qrcode_types.specs.declared.types.EcLevel.{EcLevel}
 use Rattle.qrcode_types.specs.Versions.{side, is_micro}
 use Rattle.qrcode_packed.specs.Rows.{dark_in}
+use Rattle.qrcode_symbol.specs.LastLines.{last_lines}
 use Rattle.qrcode_symbol.specs.Masking.{is_dark_module, is_free, ShowsModules, IsBestShown}
 use Rattle.qrcode_symbol.proofs.Drawn.{square_at}
 use Rattle.qrcode_symbol.proofs.canvas.masking.best_mirrored.Goals as goal
@@ -37,3 +38,6 @@ best_mirrored_of-requires-clause-turned g c =
     let columns = map g.R.PackedRow.bits c.args.columns.now in
     subst (λ (rows : List ℕ). (x y : ℕ) → x < c.packed_of.result.width → y < c.packed_of.result.width → dark_in columns y x ≡ dark_in rows x y) (sym is.dark)
     (λ x y h l. c.requires.turned x y (omega (arith, h, is.width)) (omega (arith, l, is.width)))
+
+pub best_mirrored_of-requires-clause-last : goal.best_mirrored_of-requires-clause-last
+best_mirrored_of-requires-clause-last g c = c.requires.last ∙ ap (λ n. 2 * last_lines n) (sym c.packed_of.ensures.width)
