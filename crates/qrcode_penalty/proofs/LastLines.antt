@@ -10,18 +10,15 @@ use Rattle.qrcode_penalty.specs.Penalty.{sum_below, count_if, same, line_penalty
 use Rattle.qrcode_penalty.specs.LastLines.{within, block_between, cost_behind}
 use Rattle.qrcode_penalty.proofs.Lines.{without, without_at, without_above, and_false}
 use Rattle.qrcode_penalty.proofs.LineRuns.{edges}
+use Rattle.qrcode_penalty.proofs.RowWords.{and_true}
 use Rattle.qrcode_penalty.proofs.StripSums.{column_past, row_past}
 use Rattle.qrcode_penalty.proofs.Sums.{sum_same, count_places, weigh_places}
-
-true_and : (a : Bool) → (a && true) ≡ a
-true_and true = refl
-true_and false = refl
 
 -- the first places of a line, and no others
 pub first_places : (a n : ℕ) → is_set (bit_and a (2 ^ n - 1)) ≡ within n (is_set a)
 first_places a n = fun_ext (λ x.
     has_and a (2 ^ n - 1) x ∙ elim (leb_tells (suc x) n) [
-      | inl p ↦ ap (λ t. is_set a x && t) (has_first n x p.1) ∙ true_and (is_set a x) ∙ sym (ap (λ t. t && is_set a x) p.0)
+      | inl p ↦ ap (λ t. is_set a x && t) (has_first n x p.1) ∙ and_true (is_set a x) ∙ sym (ap (λ t. t && is_set a x) p.0)
       | inr p ↦ ap (λ t. is_set a x && t) (has_first_above n x (omega (arith, p.1))) ∙ and_false (is_set a x) ∙ sym (ap (λ t. t && is_set a x) p.0)
     ])
 

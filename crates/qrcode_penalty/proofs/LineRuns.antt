@@ -25,14 +25,14 @@ run_test false false true d e = refl
 run_test false true c d e = refl
 
 -- a number with itself, shifted by one place
-pub shifted_at : (a b k : ℕ) → is_set (bit_or a (b * 2 ^ 1)) k ≡ (is_set a k || before (is_set b) k)
+shifted_at : (a b k : ℕ) → is_set (bit_or a (b * 2 ^ 1)) k ≡ (is_set a k || before (is_set b) k)
 shifted_at a b zero = has_or a (b * 2 ^ 1) 0 ∙ ap (λ t. is_set a 0 || t) (has_shl_below b 1 0 (omega arith))
 shifted_at a b (suc k) =
     let e : suc k ≡ k + 1 = omega arith in
     has_or a (b * 2 ^ 1) (suc k) ∙ ap (λ t. is_set a (suc k) || t) (ap (λ i. is_set (b * 2 ^ 1) i) e ∙ has_shl b 1 k)
 
 -- the windows that begin in the first n places, where the test holds of no place from n on
-pub inside_sum : (line v : ℕ → Bool) (n : ℕ) → ((k : ℕ) → k < n → v k ≡ is_run line k 5) → ((k : ℕ) → n ≤ k → v k ≡ false) → sum_below (n + 2) (λ k. count_if (three v k) 1) ≡ sum_below n (run_penalty_at line)
+inside_sum : (line v : ℕ → Bool) (n : ℕ) → ((k : ℕ) → k < n → v k ≡ is_run line k 5) → ((k : ℕ) → n ≤ k → v k ≡ false) → sum_below (n + 2) (λ k. count_if (three v k) 1) ≡ sum_below n (run_penalty_at line)
 unfolding sum_below
 inside_sum line v n h none =
     let e : n + 2 ≡ suc (suc n) = omega arith in
@@ -86,7 +86,7 @@ fits_up a w j room h k =
     let below : a * 2 ^ j < 2 ^ w * 2 ^ j = mul-lt-mul_of_pos_right h (pow_pos j) in
     omega (arith, below, pow-add 2 w j, pow_mono k)
 
-pub windows_below : (a n : ℕ) → windows a n < 2 ^ (n - 4)
+windows_below : (a n : ℕ) → windows a n < 2 ^ (n - 4)
 windows_below a n = below_from_places (windows a n) (n - 4) (without_above (n - 4) (spread a))
 
 pub windows_room : (a n room : ℕ) → 7 ≤ n → n + 3 ≤ room → windows a n * 2 ^ 1 < 2 ^ room

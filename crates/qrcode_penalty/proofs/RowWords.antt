@@ -11,7 +11,7 @@ use Rattle.qrcode_penalty.proofs.ColumnRuns.{ones_and_others}
 use Rattle.qrcode_penalty.proofs.Lines.{and_false}
 use Rattle.qrcode_penalty.proofs.Sums.{sum_same, sum_zero, sum_step, sum_parts, count_places}
 
-and_true : (a : Bool) → (a && true) ≡ a
+pub and_true : (a : Bool) → (a && true) ≡ a
 and_true true = refl
 and_true false = refl
 
