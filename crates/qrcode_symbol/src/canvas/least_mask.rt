@@ -152,7 +152,8 @@ fn least_mask_by_columns<R: PackedRow, L: StripLine>(
     least_mask_by_strips(both, count, dark, free, masked, rows, columns)
 }
 
-// The same with room made for strips of lines of one kind.
+// The same with room made for strips of lines of one kind. A function of its own, whose loops LLVM then knows better.
+#[inline(never)]
 fn least_mask_in<R: PackedRow, L: StripLine>(
     alloc: Global,
     both: &BothWays<'_, R>,
