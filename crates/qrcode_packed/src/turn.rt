@@ -1,6 +1,6 @@
 //! Squares turned over: rows and columns exchanged.
 
-ghost use Rattle.std.specs.Prelude.{◌≡◌, ℕ, ◌+◌, ◌-◌, ◌*◌, ◌^◌, ◌<◌, ◌≤◌, length, map, slice_index_or, min};
+ghost use Rattle.std.specs.Prelude.{◌≡◌, ℕ, ◌+◌, ◌-◌, ◌*◌, ◌^◌, ◌<◌, ◌≤◌, true, length, map, slice_index_or, min};
 ghost use Rattle.qrcode_packed.specs.Rows.{IsSquare, is_set, dark_in, IsColumn, AreColumns};
 
 use crate::row::PackedRow;
@@ -31,6 +31,7 @@ fn bytes_of<R: PackedRow>(square: &PackedSquare<'_, R>, k: usize, c: usize) -> [
     ensures length { length result ≡ 192 }
     ensures shown { (y i : ℕ) → i < 8
         → is_set (slice_index_or result y 0) i ≡ dark_in square.now.rows (64 * k + 8 * c + i) y }
+    ensures behind { (y : ℕ) → square.now.width ≤ y → slice_index_or result y 0 ≡ 0 }
 {
     let mut bytes = [0u8; 192];
     for y in 0..square.width() as usize {
@@ -59,10 +60,38 @@ fn set_in(bytes: &[u8], bit: u8) -> u64
     (u8x64::from_slice(bytes) & bits).simd_eq(bits).to_bitmask()
 }
 
-// The column that has the i-th bit of each byte.
+// In which of sixteen bytes it is set.
 #[inline(always)]
-fn column_of<R: PackedRow>(bytes: &[u8; 192], i: usize) -> R
+fn set_in_sixteen(bytes: &[u8], bit: u8) -> u64
+    requires { length bytes.now ≡ 16 }
+    ensures shown { (y i : ℕ) → y < 16 → bit ≡ 2 ^ i
+        → is_set result y ≡ is_set (slice_index_or bytes.now y 0) i }
+    ensures fits { result < 2 ^ 16 }
+{
+    let bits = u8x16::splat(bit);
+    (u8x16::from_slice(bytes) & bits).simd_eq(bits).to_bitmask()
+}
+
+// The same of 64 bytes, all but the first sixteen of which may be zeros, as at the end of columns that are little longer
+// than their whole words.
+#[inline(always)]
+fn set_in_few(bytes: &[u8], bit: u8, are_few: bool) -> u64
+    requires length { length bytes.now ≡ 64 }
+    requires few { are_few ≡ true → (y : ℕ) → 16 ≤ y → slice_index_or bytes.now y 0 ≡ 0 }
+    ensures { (y i : ℕ) → y < 64 → bit ≡ 2 ^ i
+        → is_set result y ≡ is_set (slice_index_or bytes.now y 0) i }
+{
+    if are_few {
+        return set_in_sixteen(&bytes[..16], bit);
+    }
+    set_in(bytes, bit)
+}
+
+// The column of so many rows that has the i-th bit of each byte.
+#[inline(always)]
+fn column_of<R: PackedRow>(bytes: &[u8; 192], count: usize, i: usize) -> R
     requires length { length bytes.now ≡ 192 }
+    requires behind { (y : ℕ) → count ≤ y → slice_index_or bytes.now y 0 ≡ 0 }
     requires bit { i < 8 }
     ensures shown { (y : ℕ) → y < R.room
         → is_set (R.bits result) y ≡ is_set (slice_index_or bytes.now y 0) i }
@@ -71,8 +100,8 @@ fn column_of<R: PackedRow>(bytes: &[u8; 192], i: usize) -> R
     let bit = bit(i);
     R::of_words(
         set_in(&bytes[..64], bit),
-        set_in(&bytes[64..128], bit),
-        set_in(&bytes[128..], bit),
+        set_in_few(&bytes[64..128], bit, count <= 64 + 16),
+        set_in_few(&bytes[128..], bit, count <= 128 + 16),
     )
 }
 
@@ -90,9 +119,9 @@ fn turn_eight<R: PackedRow>(square: &PackedSquare<'_, R>, k: usize, c: usize, tu
 {
     let first = 64 * k + 8 * c;
     let bytes = bytes_of(square, k, c);
-    let count = (square.width() as usize - first).min(8);
-    for i in 0..count {
-        turned[first + i] = column_of(&bytes, i);
+    let width = square.width() as usize;
+    for i in 0..(width - first).min(8) {
+        turned[first + i] = column_of(&bytes, width, i);
     }
 }
 

@@ -45,3 +45,6 @@ returns-clause-shown g c = λ y i h.
           ∙ sym (ap (λ n. is_set n place) (get_or_past rows y 0 p.1) ∙ has_zero place)
       | inr p ↦ c.loop-y.invariant.shown y (omega (arith, p.1, c.width-y-end.ensures.square.length, c.width-y-end.ensures.value, c.loop-y-test.false, c.loop-y.auto.y-end)) i h
     ]
+
+pub returns-clause-behind : goal.returns-clause-behind
+returns-clause-behind g c = λ y h. c.loop-y.invariant.behind y (omega (arith, h, c.width-y-end.ensures.value, c.loop-y.auto.y-end))

@@ -10,7 +10,7 @@ pub loop-i-preserved : goal.loop-i-preserved
 unfolding dark_in
 loop-i-preserved g c =
     let bits = g.R.PackedRow.bits in
-    let square = c.width.ensures.square in
+    let square = c.width-width.ensures.square in
     let w = c.args.square.now.width in
     let rows = c.args.square.now.rows in
     let i = c.loop-i.i in
