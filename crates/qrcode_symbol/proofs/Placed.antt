@@ -89,8 +89,8 @@ yes_and m b w e f = rw e f
 
 -- one run more
 pub run_placed : (bit : ℕ → Bool) (mask from word next rest above run taken : ℕ) → IsPlaced bit mask from word next rest
-    → BeginsWithZeros rest above → BeginsWithOnes (rest * 2 ^ above % 2 ^ 64) run → ((j : ℕ) → j < 64 → nth_bit taken j ≡ bit (next + j))
-    → IsPlaced bit mask from (bit_or (bit_xor word (bit_and word rest)) (bit_and (taken / 2 ^ above) rest)) (next + run) (bit_and rest (2 ^ (64 - above - run) - 1))
+    → BeginsWithZeros rest above → BeginsWithOnes (rest * 2 ^ above % 2 ^ 64) run → ((i : ℕ) → above + i < 64 → nth_bit taken (above + i) ≡ bit (next + i))
+    → IsPlaced bit mask from (bit_or (bit_xor word (bit_and word rest)) (bit_and taken rest)) (next + run) (bit_and rest (2 ^ (64 - above - run) - 1))
 run_placed bit mask from word next rest above run taken p z o is = record {
   done = above + run;
   at_most = inside;
@@ -98,13 +98,13 @@ run_placed bit mask from word next rest above run taken p z o is = record {
   shown = λ j h. elim (cases_lt j above) [
     | inl l ↦ no_bit j h l
     | inr l ↦
-        let e : 63 - j + above ≡ 63 - (j - above) = omega (arith, inside) in
+        let e : j ≡ above + (j - above) = omega arith in
         let at : next + (j - above) ≡ from + passing (nth_bit mask) j = let back : above + (j - above) ≡ j = omega arith in rw back at (at_step (j - above) (omega arith)) in
-        yes_and (nth_bit mask j) (bit (from + passing (nth_bit mask) j)) (nth_bit (bit_or (bit_xor word (bit_and word rest)) (bit_and (taken / 2 ^ above) rest)) j) (in_mask j l h)
-        (new_bit word (taken / 2 ^ above) rest j ∙ renewed (nth_bit word j) (nth_bit (taken / 2 ^ above) j) (nth_bit rest j) (in_run rest above run z o j l h)
-        ∙ has_shr taken above (63 - j) ∙ ap (is_set taken) e ∙ is (j - above) (omega (arith, inside)) ∙ ap bit at)
+        yes_and (nth_bit mask j) (bit (from + passing (nth_bit mask) j)) (nth_bit (bit_or (bit_xor word (bit_and word rest)) (bit_and taken rest)) j) (in_mask j l h)
+        (new_bit word taken rest j ∙ renewed (nth_bit word j) (nth_bit taken j) (nth_bit rest j) (in_run rest above run z o j l h)
+        ∙ ap (nth_bit taken) e ∙ is (j - above) (omega (arith, inside)) ∙ ap bit at)
   ];
-  masked = λ j h e. new_bit word (taken / 2 ^ above) rest j ∙ kept (nth_bit word j) (nth_bit (taken / 2 ^ above) j) (nth_bit rest j) (not_rest j h e) ∙ p.masked j h e;
+  masked = λ j h e. new_bit word taken rest j ∙ kept (nth_bit word j) (nth_bit taken j) (nth_bit rest j) (not_rest j h e) ∙ p.masked j h e;
   before = λ j h. has_and rest (2 ^ (64 - above - run) - 1) (63 - j) ∙ no_second (nth_bit rest j) (is_set (2 ^ (64 - above - run) - 1) (63 - j)) (has_first_above (64 - above - run) (63 - j) (omega arith));
   behind = λ j l h. has_and rest (2 ^ (64 - above - run) - 1) (63 - j) ∙ yes_second (nth_bit rest j) (is_set (2 ^ (64 - above - run) - 1) (63 - j)) (has_first (64 - above - run) (63 - j) (omega arith)) ∙ p.behind j (omega (arith, order)) h;
 } where
@@ -143,13 +143,30 @@ run_placed bit mask from word next rest above run taken p z o is = record {
     | inr l ↦ p.behind j l h ∙ e
   ]
 
-  no_bit : (j : ℕ) → j < above + run → j < above → nth_bit (bit_or (bit_xor word (bit_and word rest)) (bit_and (taken / 2 ^ above) rest)) j ≡ (nth_bit mask j && bit (from + passing (nth_bit mask) j))
+  no_bit : (j : ℕ) → j < above + run → j < above → nth_bit (bit_or (bit_xor word (bit_and word rest)) (bit_and taken rest)) j ≡ (nth_bit mask j && bit (from + passing (nth_bit mask) j))
   no_bit j h l =
-      let same = new_bit word (taken / 2 ^ above) rest j ∙ kept (nth_bit word j) (nth_bit (taken / 2 ^ above) j) (nth_bit rest j) (z.before j l) in
+      let same = new_bit word taken rest j ∙ kept (nth_bit word j) (nth_bit taken j) (nth_bit rest j) (z.before j l) in
       same ∙ elim (cases_lt j p.done) [
         | inl d ↦ p.shown j d
         | inr d ↦ no_and (nth_bit mask j) (bit (from + passing (nth_bit mask) j)) (nth_bit word j) (between j d l) (p.masked j (omega (arith, z.inside)) (between j d l))
       ]
+
+-- no more bits are placed than there are places above the next run
+pub placed_above : (bit : ℕ → Bool) (mask from word placed rest above : ℕ) → IsPlaced bit mask from word (from + placed) rest → BeginsWithZeros rest above → placed ≤ above
+placed_above bit mask from word placed rest above p z = omega (arith, p.next_is, passing_le (nth_bit mask) p.done, order) where
+  order : p.done ≤ above
+  order = elim (cases_lt above p.done) [
+    | inl h ↦ absurd (true≢false (sym z.there ∙ p.before above h))
+    | inr h ↦ h
+  ]
+
+-- the next bits stand in the run
+pub bits_in_run : (bit : ℕ → Bool) (bits from placed above i : ℕ) → ((j : ℕ) → j < 64 → nth_bit bits j ≡ bit (from + j)) → placed ≤ above → above + i < 64
+    → nth_bit (bits / 2 ^ (above - placed)) (above + i) ≡ bit (from + placed + i)
+bits_in_run bit bits from placed above i are le h =
+    let e : 63 - (above + i) + (above - placed) ≡ 63 - (placed + i) = omega arith in
+    let at : from + (placed + i) ≡ from + placed + i = omega arith in
+    has_shr bits (above - placed) (63 - (above + i)) ∙ ap (is_set bits) e ∙ are (placed + i) (omega arith) ∙ ap bit at
 
 -- what is left becomes less
 pub rest_smaller : (rest above run : ℕ) → BeginsWithZeros rest above → BeginsWithOnes (rest * 2 ^ above % 2 ^ 64) run → bit_and rest (2 ^ (64 - above - run) - 1) < rest

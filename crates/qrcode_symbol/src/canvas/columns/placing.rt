@@ -31,17 +31,22 @@ fn bits_at_places(stream: Stream<'_>, from: usize, mask: u64) -> Placed
         && stream_bit stream.entry.bytes.now (from + passing (nth_bit mask) j)) }
     ensures next { result.next ≡ from + passing (nth_bit mask) 64 }
 {
+    let bits = stream.word(from);
     let mut word = 0;
-    let mut next = from;
+    let mut placed = 0;
     let mut rest = mask;
     while rest != 0 {
         let above = first_zeros(rest);
         let run = first_ones(rest << above);
-        word = word.without(rest) | (stream.word(next) >> above).and(rest);
-        next += run as usize;
+        // No more bits are placed than there are places above.
+        word = word.without(rest) | (bits >> (above - placed)).and(rest);
+        placed += run;
         rest = rest.and(u64::first(64 - above - run));
     }
-    Placed { word, next }
+    Placed {
+        word,
+        next: from + placed as usize,
+    }
 }
 
 // The free places of 32 rows of a pair of columns in one word, as they are met. Mostly both columns have the same.
