@@ -1,4 +1,4 @@
-use Rattle.std.proofs.Common.{◌≡◌, ◌+◌, ◌-◌, ◌*◌, ◌/◌, ◌%◌, ◌^◌, ◌≤◌, ℕ, arith, subst, bit_and, bit_or, bit_xor}
+use Rattle.std.proofs.Common.{◌≡◌, ◌+◌, ◌-◌, ◌*◌, ◌/◌, ◌%◌, ◌^◌, ℕ, arith, subst, bit_and, bit_or, bit_xor}
 use Rattle.qrcode_symbol.specs.Columns.{stream_bit}
 use Rattle.qrcode_symbol.proofs.Placed.{IsPlaced, none_placed, placed_above, bits_in_run, run_inside, run_some, run_placed, rest_smaller, all_placed}
 use Rattle.qrcode_symbol.proofs.Runs.{BeginsWithZeros, BeginsWithOnes}
