@@ -231,11 +231,6 @@ free_mirrored v rows valid shown x y xl yl =
 pub square_of : (room w : ℕ) (rows : List ℕ) → 7 ≤ w → w + 3 ≤ room → length rows ≡ w → ((y : ℕ) → FitsWidth w (get_or rows y 0)) → IsSquare room (record { width = w; rows = rows })
 square_of room w rows least spare size fits = record { at_least = least; spare = spare; length = size; fits = fits }
 
--- the same rows show equal modules
-pub shows_at : (test : Module → Bool) (w u : ℕ) (modules others : List Module) (rows : List ℕ) → w ≡ u → modules ≡ others → ShowsModules test w modules rows → ShowsModules test u others rows
-shows_at test w u modules others rows ew em shown =
-    subst (λ (k : ℕ). ShowsModules test k others rows) ew (subst (λ (m : List Module). ShowsModules test w m rows) em shown)
-
 pub square_at : (room w u : ℕ) (rows : List ℕ) → w ≡ u → IsSquare room (record { width = w; rows = rows }) → IsSquare room (record { width = u; rows = rows })
 square_at room w u rows e square = subst (λ (k : ℕ). IsSquare room (record { width = k; rows = rows })) e square
 

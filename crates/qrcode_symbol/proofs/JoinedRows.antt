@@ -8,6 +8,7 @@ use Rattle.qrcode_types.specs.declared.types.Color.TheVariants.{Light}
 use Rattle.qrcode_packed.specs.Rows.{is_set}
 use Rattle.qrcode_packed.proofs.Places.{has_or, has_and, has_shr, has_shl, has_shl_below, has_above, has_mod, has_first, below_from_places}
 use Rattle.qrcode_symbol.specs.Unpacking.{IsRowWritten, AreJoined}
+use Rattle.qrcode_symbol.proofs.WrittenModules.{word_at}
 
 false_or : (a b : Bool) → a ≡ false → (a || b) ≡ b
 false_or true b e = cc
@@ -32,16 +33,6 @@ behind_high word row waiting x ends low =
     let e : p ≡ x + waiting = omega arith in
     has_or word (row * 2 ^ waiting % 2 ^ 64) p ∙ false_or (is_set word p) (is_set (row * 2 ^ waiting % 2 ^ 64) p) (has_above word waiting p ends (omega arith))
     ∙ has_mod (row * 2 ^ waiting) 64 p low ∙ ap (is_set (row * 2 ^ waiting)) e ∙ has_shl row waiting x
-
--- before the first row
-pub none_joined : {S : Type 0} (of : Color → S) (dark : ℕ → Bool) (items : List S) → length items ≡ 0 → AreJoined of dark 0 items 0 0
-none_joined of dark items none = record {
-  size = omega arith;
-  written = λ i h. absurd (omega arith);
-  wait = λ i h. absurd (omega arith);
-  ends = omega arith;
-  less = omega arith;
-}
 
 -- some places more
 module _ {S : Type 0} (of : Color → S) (dark : ℕ → Bool) (before : ℕ) (items : List S) (word waiting places count : ℕ) (joined : AreJoined of dark before items word waiting) (fits : places < 2 ^ count)
@@ -113,6 +104,4 @@ cut_bit row w x h = has_and row (2 ^ w - 1) x ∙ ap (λ b. is_set row x && b) (
 
 -- places of a row from one on
 pub places_from : (line rest word first a n x : ℕ) → rest ≡ line / 2 ^ a → word ≡ rest % 2 ^ 64 → first ≡ 2 ^ n - 1 → n ≤ 64 → x < n → is_set (bit_and word first) x ≡ is_set line (a + x)
-places_from line rest word first a n x er ew ef le h =
-    let e : x + a ≡ a + x = omega arith in
-    ap (λ (k : ℕ). is_set (bit_and word k) x) ef ∙ cut_bit word n x h ∙ ap (λ (k : ℕ). is_set k x) ew ∙ has_mod rest 64 x (omega arith) ∙ ap (λ (k : ℕ). is_set k x) er ∙ has_shr line a x ∙ ap (is_set line) e
+places_from line rest word first a n x er ew ef le h = ap (λ (k : ℕ). is_set (bit_and word k) x) ef ∙ cut_bit word n x h ∙ word_at rest word line a x (omega arith) ew er

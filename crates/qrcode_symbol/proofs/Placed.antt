@@ -32,9 +32,6 @@ none_placed bit mask from = record {
   behind = λ j h l. refl;
 }
 
-pub next_small : (bit : ℕ → Bool) (mask from word next rest : ℕ) → IsPlaced bit mask from word next rest → next ≤ from + 64
-next_small bit mask from word next rest p = omega (arith, p.next_is, p.at_most, passing_le (nth_bit mask) p.done)
-
 shifted : (rest above j : ℕ) → j + above < 64 → nth_bit (rest * 2 ^ above % 2 ^ 64) j ≡ nth_bit rest (j + above)
 shifted rest above j h =
     let e : 63 - j ≡ 63 - (j + above) + above = omega arith in

@@ -1,8 +1,7 @@
 -- Rows that are written as colours.
-use Rattle.std.proofs.Common.{◌≡◌, ℕ, zero, suc, ◌+◌, ◌-◌, ◌*◌, ◌/◌, ◌%◌, ◌^◌, ◌==◌, ◌<◌, ◌≤◌, List, ◌++◌, bit_and, length, map, take, length-take, slice_index_or, refl, ap, ap₂, ◌∙◌, inl, inr, arith, true}
+use Rattle.std.proofs.Common.{◌≡◌, ℕ, zero, suc, ◌+◌, ◌*◌, ◌/◌, ◌%◌, ◌^◌, ◌==◌, ◌<◌, ◌≤◌, List, ◌++◌, bit_and, length, map, take, length-take, slice_index_or, refl, ap, ap₂, ◌∙◌, arith, true}
 use Rattle.std.specs.Int.{w64, to_le_bytes}
 use Rattle.std.proofs.lemmas.Bool.{eqb-true}
-use Rattle.std.proofs.lemmas.Bool.Decides.{leb_tells}
 use Rattle.std.proofs.lemmas.List.{length-append, get_or_append_left, get_or-append-add, get_or-map, get_or-take}
 use Rattle.std.proofs.lemmas.Simd.{get_or-zip2}
 use lib.Lanes.{pick_l, zip2}
@@ -79,20 +78,3 @@ chunk_written {S = S} of word count old chunk new is small long are =
       shown = λ x h.
           ap (λ l. slice_index_or l (length old + x) (of Light)) is ∙ get_or-append-add old part x (of Light) ∙ get_or-take count chunk x (of Light) h ∙ are x (omega (arith, h, small));
     }
-
--- the next places of a line
-pub row_more : {S : Type 0} (of : Color → S) (line word a b : ℕ) (old mid new : List S) → IsRowWritten of line a old mid → IsRowWritten of word b mid new
-    → ((x : ℕ) → x < b → is_set word x ≡ is_set line (a + x)) → IsRowWritten of line (a + b) old new
-row_more of line word a b old mid new first next same = record {
-  size = omega (arith, first.size, next.size);
-  before = λ i h. next.before i (omega (arith, h, first.size)) ∙ first.before i h;
-  shown = λ x h. elim (leb_tells (suc x) a) [
-    | inl p ↦ next.before (length old + x) (omega (arith, p.1, first.size)) ∙ first.shown x (omega (arith, p.1))
-    | inr p ↦
-        let i = x - a in
-        let e : length old + x ≡ length mid + i = omega (arith, p.1, first.size) in
-        let turn : a + i ≡ x = omega (arith, p.1) in
-        let low : i < b = omega (arith, h, p.1) in
-        ap (λ n. slice_index_or new n (of Light)) e ∙ next.shown i low ∙ ap (λ t. of (color_of t)) (same i low ∙ ap (is_set line) turn)
-  ];
-}
