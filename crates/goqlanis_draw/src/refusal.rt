@@ -208,24 +208,22 @@ static LEVELS: [EcLevel; 4] = [EcLevel::H, EcLevel::Q, EcLevel::M, EcLevel::L];
 
 // Which levels hold so many bytes, at Normal 40.
 fn push_levels(text: &mut String, manner: Manner, count: usize) -> Result<(), AllocError> {
-    let mut start = "; level ";
-    for level in LEVELS {
-        let room = byte_room(manner, Version::Normal(40), level);
+    let (mut start, mut holds, mut is_held) = ("; level ", " holds", false);
+    for level in &LEVELS {
+        let room = byte_room(manner, Version::Normal(40), *level);
         if room >= count {
             let room = Grouped(room);
-            if start == ", " {
-                write!(text, ", {level:?} {room}")?;
-            } else {
-                write!(text, "; level {level:?} holds {room}")?;
-            }
+            write!(text, "{start}{level:?}{holds} {room}")?;
             start = ", ";
+            holds = "";
+            is_held = true;
         }
     }
-    if start != ", " {
-        let most = Grouped(byte_room(manner, Version::Normal(40), EcLevel::L));
-        write!(text, "; no level holds more than {most}")?;
+    if is_held {
+        return Ok(());
     }
-    Ok(())
+    let most = Grouped(byte_room(manner, Version::Normal(40), EcLevel::L));
+    write!(text, "; no level holds more than {most}")
 }
 
 // The least Normal version that holds so many bytes at a level.

@@ -7,7 +7,7 @@ use qrcode::bits::Manner;
 use qrcode::types::{EcLevel, Version};
 
 /// Which symbol is asked for. Versions are in the order M1 to M4, 1 to 40.
-#[derive(Clone, Copy, PartialEq, Eq)]
+#[derive(Clone, Copy)]
 pub enum Choice {
     /// That of the least version, from one on, that holds the data.
     From(Version),

@@ -27,7 +27,7 @@ pub struct Scan {
 }
 
 /// Why a picture is not read.
-#[derive(Clone, Copy, PartialEq, Eq)]
+#[derive(Clone, Copy)]
 pub enum Unread {
     /// There are no pixels.
     Unscanned(Unscanned),
