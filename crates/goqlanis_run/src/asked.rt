@@ -1,6 +1,6 @@
 //! From the command line to what is asked for.
 
-use crate::failure::{Failure, usage};
+use crate::failure::{Failure, usage, wrong};
 use crate::segments::two_digits;
 use goqlanis_draw::{Choice, Format, Ink, Request};
 use goqlanis_options::Given;
@@ -58,48 +58,79 @@ pub(crate) fn asked_for<'a>(
     given: &Given<'a>,
     has_colours: bool,
 ) -> Result<Asked<'a>, Failure> {
-    let source = source_of(alloc, given)?;
-    let target = match given.get("output") {
-        None => Target::Terminal,
-        Some("-") => Target::StandardOutput,
-        Some(path) => Target::File(path),
-    };
+    if let Some(text) = not_together(given).or(not_with_flag(given)) {
+        return usage(alloc, text);
+    }
+    let target = target_of(given);
     let request = request_of(alloc, given, target, has_colours)?;
+    let writing = writing_of(alloc, given)?;
     Ok(Asked {
         request,
-        writing: writing_of(alloc, given)?,
-        source,
+        writing,
+        source: source_of(given),
         target,
         trims: given.has_flag("trim"),
         is_by_line: given.has_flag("lines"),
     })
 }
 
-fn source_of<'a>(alloc: Global, given: &Given<'a>) -> Result<Source<'a>, Failure> {
-    if given.get("segment").is_some() {
-        check_segments(alloc, given)?;
+// Options that do not go together, and what is said of them.
+#[rattlefmt::skip]
+static NOT_TOGETHER: &[(&str, &str, &str)] = &[
+    ("segment", "TEXT", "--segment is the data: leave out TEXT and --input"),
+    ("segment", "input", "--segment is the data: leave out TEXT and --input"),
+    ("TEXT", "input", "TEXT and --input: one of them is enough"),
+    ("version", "least-version", "--version and --least-version: one of them is enough"),
+    ("scale", "size", "--scale and --size: one of them is enough"),
+];
+
+// Options and flags that do not go together, and what is said of them.
+#[rattlefmt::skip]
+static NOT_WITH_FLAG: &[(&str, &str, &str)] = &[
+    ("segment", "trim", "--segment and --trim: one of them is enough"),
+    ("segment", "lines", "--segment and --lines: one of them is enough"),
+    ("segment", "bytes", "--segment and --bytes: one of them is enough"),
+    ("segment", "eci", "--segment and --eci: one of them is enough"),
+    ("segment", "boost", "--segment and --boost: one of them is enough"),
+    ("version", "micro", "--version and --micro: --version M1 to M4 is Micro QR"),
+    ("version", "boost", "--version and --boost: take --least-version in place of --version"),
+    ("least-version", "micro", "--least-version and --micro: --micro is --least-version M1"),
+];
+
+// What is said of options that do not go together.
+fn not_together(given: &Given<'_>) -> Option<&'static str> {
+    for (one, other, text) in NOT_TOGETHER {
+        if given.has(*one) && given.has(*other) {
+            return Some(*text);
+        }
     }
+    None
+}
+
+// What is said of an option and a flag that do not go together.
+fn not_with_flag(given: &Given<'_>) -> Option<&'static str> {
+    for (option, flag, text) in NOT_WITH_FLAG {
+        if given.has(*option) && given.has_flag(*flag) {
+            return Some(*text);
+        }
+    }
+    None
+}
+
+fn source_of<'a>(given: &Given<'a>) -> Source<'a> {
     match (given.get("TEXT"), given.get("input")) {
-        (Some(_), Some(_)) => usage(alloc, "TEXT and --input: one of them is enough"),
-        (Some(text), None) => Ok(Source::Text(text)),
-        (None, Some("-")) => Ok(Source::StandardInput),
-        (None, Some(path)) => Ok(Source::File(path)),
-        (None, None) => Ok(Source::StandardInput),
+        (Some(text), _) => Source::Text(text),
+        (None, None | Some("-")) => Source::StandardInput,
+        (None, Some(path)) => Source::File(path),
     }
 }
 
-// Refuses what does not go with segments by hand.
-fn check_segments(alloc: Global, given: &Given<'_>) -> Result<(), Failure> {
-    if given.get("TEXT").is_some() || given.get("input").is_some() {
-        return usage(alloc, "--segment is the data: leave out TEXT and --input");
+fn target_of<'a>(given: &Given<'a>) -> Target<'a> {
+    match given.get("output") {
+        None => Target::Terminal,
+        Some("-") => Target::StandardOutput,
+        Some(path) => Target::File(path),
     }
-    for name in ["trim", "lines", "bytes", "eci", "boost"] {
-        if given.has_flag(name) {
-            let text = format!(in alloc; "--segment and --{name}: one of them is enough")?;
-            return Err(Failure::Usage(text));
-        }
-    }
-    Ok(())
 }
 
 fn writing_of(alloc: Global, given: &Given<'_>) -> Result<Writing, Failure> {
@@ -113,43 +144,24 @@ fn writing_of(alloc: Global, given: &Given<'_>) -> Result<Writing, Failure> {
 
 // Which version is taken: the one that is asked for, or the least from one on.
 fn choice_of(alloc: Global, given: &Given<'_>) -> Result<Choice, Failure> {
-    let (only, least) = (given.get("version"), given.get("least-version"));
-    let (is_micro, is_boosted) = (given.has_flag("micro"), given.has_flag("boost"));
-    let from = match (only, least) {
-        (Some(_), Some(_)) => {
-            return usage(
-                alloc,
-                "--version and --least-version: one of them is enough",
-            );
-        }
-        (Some(_), None) if is_micro => {
-            return usage(
-                alloc,
-                "--version and --micro: --version M1 to M4 is Micro QR",
-            );
-        }
-        (Some(_), None) if is_boosted => {
-            return usage(
-                alloc,
-                "--version and --boost: take --least-version in place of --version",
-            );
-        }
-        (Some(name), None) => return Ok(Choice::At(version(alloc, "version", name)?)),
-        (None, Some(_)) if is_micro => {
-            return usage(
-                alloc,
-                "--least-version and --micro: --micro is --least-version M1",
-            );
-        }
-        (None, Some(name)) => version(alloc, "least-version", name)?,
-        (None, None) if is_micro => Version::Micro(1),
-        (None, None) => Version::Normal(1),
-    };
-    if is_boosted {
-        Ok(Choice::Boosted(from))
-    } else {
-        Ok(Choice::From(from))
+    if let Some(name) = given.get("version") {
+        return match version(name) {
+            Some(version) => Ok(Choice::At(version)),
+            None => Err(no_version(alloc, "version", name)),
+        };
     }
+    let first = if given.has_flag("micro") { "M1" } else { "1" };
+    let name = given.get("least-version").unwrap_or(first);
+    match version(name) {
+        Some(version) if given.has_flag("boost") => Ok(Choice::Boosted(version)),
+        Some(version) => Ok(Choice::From(version)),
+        None => Err(no_version(alloc, "least-version", name)),
+    }
+}
+
+// The refusal of a name that is no version's.
+fn no_version(alloc: Global, option: &str, name: &str) -> Failure {
+    wrong(format!(in alloc; "--{option} {name}: there are 1 to 40, and M1 to M4"))
 }
 
 fn request_of<'a>(
@@ -160,7 +172,9 @@ fn request_of<'a>(
 ) -> Result<Request<'a>, Failure> {
     let choice = choice_of(alloc, given)?;
     let format = format(alloc, given.get("format"), target, has_colours)?;
-    check_format(alloc, given, format)?;
+    if let Some(text) = wrong_for(given, format) {
+        return usage(alloc, text);
+    }
     let (scale, size) = sizes(alloc, given, format)?;
     let (dark, light) = inks(alloc, given, format)?;
     Ok(Request {
@@ -189,39 +203,25 @@ fn inks<'a>(
     Ok((dark, light))
 }
 
-// Refuses options that a format does not have.
-fn check_format(alloc: Global, given: &Given<'_>, format: Format) -> Result<(), Failure> {
-    if !matches!(format, Format::Svg | Format::Eps | Format::Png) {
-        for name in ["colour", "background"] {
-            if given.get(name).is_some() {
-                let text = format!(in alloc;
-                    "--{name}: PNG, SVG and EPS alone have colours; add --format png, svg or eps"
-                )?;
-                return Err(Failure::Usage(text));
-            }
-        }
+// What is said of options that a format does not have.
+fn wrong_for(given: &Given<'_>, format: Format) -> Option<&'static str> {
+    let has_colours = matches!(format, Format::Svg | Format::Eps | Format::Png);
+    if !has_colours && given.get("colour").is_some() {
+        Some("--colour: PNG, SVG and EPS alone have colours; add --format png, svg or eps")
+    } else if !has_colours && given.get("background").is_some() {
+        Some("--background: PNG, SVG and EPS alone have colours; add --format png, svg or eps")
+    } else if format != Format::Png && given.get("dpi").is_some() {
+        Some("--dpi: PNG alone names its dots per inch; EPS has a point for a pixel, 72 to an inch")
+    } else if format == Format::Pic && given.has_flag("invert") {
+        Some("--invert: PIC draws no light modules; take another --format")
+    } else {
+        None
     }
-    if format != Format::Png && given.get("dpi").is_some() {
-        return usage(
-            alloc,
-            "--dpi: PNG alone names its dots per inch; EPS has a point for a pixel, 72 to an inch",
-        );
-    }
-    if format == Format::Pic && given.has_flag("invert") {
-        return usage(
-            alloc,
-            "--invert: PIC draws no light modules; take another --format",
-        );
-    }
-    Ok(())
 }
 
 // The pixels of a module, and those of a side where they are asked for.
 fn sizes(alloc: Global, given: &Given<'_>, format: Format) -> Result<(u16, Option<u16>), Failure> {
     let (scale, size) = (given.number::<u16>("scale"), given.number::<u16>("size"));
-    if scale.is_some() && size.is_some() {
-        return usage(alloc, "--scale and --size: one of them is enough");
-    }
     let scale = scale.unwrap_or(match format {
         Format::HalfBlocks | Format::Terminal | Format::Chars | Format::Pic => 1,
         _ => 8,
@@ -229,10 +229,9 @@ fn sizes(alloc: Global, given: &Given<'_>, format: Format) -> Result<(u16, Optio
     let zone = given.number::<u8>("quiet-zone").unwrap_or(4);
     let most = GREATEST_SIDE / (177 + 2 * zone as u32);
     if format == Format::Png && scale as u32 > most {
-        let text = format!(in alloc;
+        return Err(wrong(format!(in alloc;
             "--scale {scale}: a PNG file has at most 65,535 pixels a side; take --scale {most} or less"
-        )?;
-        return Err(Failure::Usage(text));
+        )));
     }
     Ok((scale, size))
 }
@@ -247,18 +246,15 @@ fn level(name: Option<&str>) -> EcLevel {
 }
 
 // The version of a name: 1 to 40, or M1 to M4.
-fn version(alloc: Global, option: &str, name: &str) -> Result<Version, Failure> {
+fn version(name: &str) -> Option<Version> {
     let number = name.strip_prefix('M').or(name.strip_prefix('m'));
     let version = match number {
         Some(number) => number.parse::<i16>().map(Version::Micro),
         None => name.parse::<i16>().map(Version::Normal),
     };
     match version {
-        Ok(version) if version.is_valid() => Ok(version),
-        _ => {
-            let text = format!(in alloc; "--{option} {name}: there are 1 to 40, and M1 to M4")?;
-            Err(Failure::Usage(text))
-        }
+        Ok(version) if version.is_valid() => Some(version),
+        _ => None,
     }
 }
 
@@ -276,34 +272,39 @@ fn format(
         Target::Terminal if has_colours => Ok(Format::Terminal),
         Target::Terminal | Target::StandardOutput => Ok(Format::HalfBlocks),
         Target::File(path) => {
-            let ending = match path.rsplit_once('.') {
-                Some((_, ending)) => ending,
-                None => "",
+            let named = match path.rsplit_once('.') {
+                Some((_, ending)) => named_format(ending),
+                None => None,
             };
-            named_format(ending).ok_or(Failure::Usage(format!(in alloc;
-                "--output {path}: its ending is none of .txt .png .svg .eps .pic .pbm .pgm; add --format"
-            )?))
+            match named {
+                Some(format) => Ok(format),
+                None => Err(wrong(format!(in alloc;
+                    "--output {path}: its ending is none of .txt .png .svg .eps .pic .pbm .pgm; add --format"
+                ))),
+            }
         }
     }
 }
 
+// Names of formats, and endings of files.
+static FORMATS: &[(&str, Format)] = &[
+    ("half-blocks", Format::HalfBlocks),
+    ("txt", Format::HalfBlocks),
+    ("terminal", Format::Terminal),
+    ("text", Format::Chars),
+    ("png", Format::Png),
+    ("svg", Format::Svg),
+    ("eps", Format::Eps),
+    ("pic", Format::Pic),
+    ("pbm", Format::Pbm),
+    ("pgm", Format::Pgm),
+];
+
 // The format of a name, or of a file's ending, in capitals or not.
 fn named_format(name: &str) -> Option<Format> {
-    let names = [
-        ("half-blocks", Format::HalfBlocks),
-        ("txt", Format::HalfBlocks),
-        ("terminal", Format::Terminal),
-        ("text", Format::Chars),
-        ("png", Format::Png),
-        ("svg", Format::Svg),
-        ("eps", Format::Eps),
-        ("pic", Format::Pic),
-        ("pbm", Format::Pbm),
-        ("pgm", Format::Pgm),
-    ];
-    for (known, format) in names {
+    for (known, format) in FORMATS {
         if known.eq_ignore_ascii_case(name) {
-            return Some(format);
+            return Some(*format);
         }
     }
     None
@@ -334,22 +335,37 @@ fn ink<'a>(
     } else {
         "; names are for SVG"
     };
-    let text = format!(in alloc; "{name} is no colour: # and three or six digits 0 to f{names}")?;
-    Err(Failure::Usage(text))
+    Err(wrong(format!(in alloc; "{name} is no colour: # and three or six digits 0 to f{names}")))
 }
 
 // The colour of # and three or six digits to the base 16.
 fn ink_of(name: &str) -> Option<Ink<'_>> {
-    let digits = name.strip_prefix('#')?.as_bytes();
-    let [high, low] = match digits {
-        [r, g, b] => [[*r, *g, *b], [*r, *g, *b]],
-        [r, s, g, h, b, c] => [[*r, *g, *b], [*s, *h, *c]],
-        _ => return None,
-    };
-    Some(Ink {
-        name,
-        red: two_digits(high[0], low[0])?,
-        green: two_digits(high[1], low[1])?,
-        blue: two_digits(high[2], low[2])?,
-    })
+    match name.strip_prefix('#')?.as_bytes() {
+        [r, g, b] => ink_with(
+            name,
+            two_digits(*r, *r),
+            two_digits(*g, *g),
+            two_digits(*b, *b),
+        ),
+        [r, s, g, h, b, c] => ink_with(
+            name,
+            two_digits(*r, *s),
+            two_digits(*g, *h),
+            two_digits(*b, *c),
+        ),
+        _ => None,
+    }
+}
+
+// The colour of red, green and blue, where each is a number.
+fn ink_with(name: &str, red: Option<u8>, green: Option<u8>, blue: Option<u8>) -> Option<Ink<'_>> {
+    match (red, green, blue) {
+        (Some(red), Some(green), Some(blue)) => Some(Ink {
+            name,
+            red,
+            green,
+            blue,
+        }),
+        _ => None,
+    }
 }

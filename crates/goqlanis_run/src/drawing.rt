@@ -1,7 +1,7 @@
 //! Drawings, made and written.
 
 use crate::asked::{Asked, Target, Writing};
-use crate::failure::{Failure, refused};
+use crate::failure::{Failure, refusal, refused, wrong};
 use crate::segments::{Pieces, characters_of};
 use crate::streams::{print, write_file};
 use goqlanis_contents::Elements;
@@ -34,10 +34,7 @@ pub(crate) fn draw_one(
     let drawing = match draw(alloc, &request, bytes) {
         Ok(drawing) => drawing,
         Err(QrError::OutOfMemory) => return Err(Failure::OutOfMemory),
-        Err(error) => {
-            let text = refusal_text(alloc, &request, bytes.len(), error)?;
-            return Err(Failure::Refused(text));
-        }
+        Err(error) => return Err(refusal(refusal_text(alloc, &request, bytes.len(), error))),
     };
     write_drawing(rt, asked, &drawing, number)
 }
@@ -56,15 +53,12 @@ pub(crate) fn segments_drawing(
             None => "",
         };
         let number = place.saturating_add(1);
-        return Err(Failure::Refused(format!(in alloc; "segment {number}: {why}")?));
+        return Err(refusal(format!(in alloc; "segment {number}: {why}")));
     }
     match draw_segments(alloc, request, &segments) {
         Ok(drawing) => Ok(drawing),
         Err(QrError::OutOfMemory) => Err(Failure::OutOfMemory),
-        Err(error) => {
-            let text = segments_refusal_text(alloc, request, &segments, error)?;
-            Err(Failure::Refused(text))
-        }
+        Err(error) => Err(refusal(segments_refusal_text(alloc, request, &segments, error))),
     }
 }
 
@@ -79,11 +73,10 @@ pub(crate) fn elements_drawing(
     match draw_elements(alloc, request, &elements) {
         Ok(drawing) => Ok(drawing),
         Err(SymbolError::Elements(Gs1Error::Refused(index, cause))) => {
-            Err(Failure::Refused(read.refusal(alloc, index, cause)?))
+            Err(refusal(read.refusal(alloc, index, cause)))
         }
         Err(SymbolError::Symbol(QrError::DataTooLong)) => {
-            let text = elements_refusal_text(alloc, request, &elements)?;
-            Err(Failure::Refused(text))
+            Err(refusal(elements_refusal_text(alloc, request, &elements)))
         }
         Err(SymbolError::Elements(_) | SymbolError::Symbol(_)) => Err(Failure::OutOfMemory),
     }
@@ -97,10 +90,9 @@ pub(crate) fn application_drawing(
     data: &str,
 ) -> Result<Vec<u8>, Failure> {
     let Some(application) = indicator_of(indicator.as_bytes()) else {
-        let text = format!(in alloc;
+        return Err(wrong(format!(in alloc;
             "--application {indicator}: an indicator is two digits or one letter, as 37 or a"
-        )?;
-        return Err(Failure::Usage(text));
+        )));
     };
     if data.is_empty() {
         return refused(
@@ -112,10 +104,7 @@ pub(crate) fn application_drawing(
     match draw_for_application(alloc, request, application, bytes) {
         Ok(drawing) => Ok(drawing),
         Err(QrError::OutOfMemory) => Err(Failure::OutOfMemory),
-        Err(_) => {
-            let text = application_refusal_text(alloc, request, application, bytes)?;
-            Err(Failure::Refused(text))
-        }
+        Err(_) => Err(refusal(application_refusal_text(alloc, request, application, bytes))),
     }
 }
 

@@ -61,6 +61,22 @@ pub(crate) fn usage<T>(alloc: Global, text: &str) -> Result<T, Failure> {
     Err(Failure::Usage(String::from_str(alloc, text)?))
 }
 
+/// A wrong command line, by a text that may have wanted memory itself.
+pub(crate) fn wrong(text: Result<String, AllocError>) -> Failure {
+    match text {
+        Ok(text) => Failure::Usage(text),
+        Err(_) => Failure::OutOfMemory,
+    }
+}
+
+/// A refusal by a text that may have wanted memory itself.
+pub(crate) fn refusal(text: Result<String, AllocError>) -> Failure {
+    match text {
+        Ok(text) => Failure::Refused(text),
+        Err(_) => Failure::OutOfMemory,
+    }
+}
+
 /// A refusal, by its reason.
 pub(crate) fn refused<T>(alloc: Global, why: &str) -> Result<T, Failure> {
     Err(Failure::Refused(String::from_str(alloc, why)?))

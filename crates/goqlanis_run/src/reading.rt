@@ -1,6 +1,6 @@
 //! `goqlanis read`: a picture, read back.
 
-use crate::failure::Failure;
+use crate::failure::{Failure, refusal};
 use crate::streams::{print, read_file, read_standard_input, write_file};
 use goqlanis_draw::{Scan, Unread, read_picture};
 use goqlanis_options::Given;
@@ -21,7 +21,7 @@ pub(crate) fn read(rt: &HostRuntime, given: &Given<'_>) -> Result<ExitCode, Fail
         Ok(scan) => scan,
         Err(Unread::OutOfMemory) => return Err(Failure::OutOfMemory),
         Err(error) => {
-            return Err(Failure::Refused(format!(in alloc; "cannot read {name}: {error}")?));
+            return Err(refusal(format!(in alloc; "cannot read {name}: {error}")));
         }
     };
     if given.has_flag("verbose") {

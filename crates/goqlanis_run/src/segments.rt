@@ -2,7 +2,7 @@
 
 ghost use Rattle.std.specs.Prelude.{◌≤◌, IfSome};
 
-use crate::failure::Failure;
+use crate::failure::{Failure, wrong};
 use goqlanis_draw::Segment;
 use qrcode::types::Mode;
 use std::alloc::{AllocError, Global};
@@ -21,16 +21,16 @@ impl Pieces {
         let mut ends = Vec::with_capacity(alloc, words.len())?;
         for word in words {
             let Some((mode, text)) = parts(word) else {
-                return Err(Failure::Usage(format!(in alloc;
+                return Err(wrong(format!(in alloc;
                     "--segment {word}: it wants MODE:TEXT, of the modes numeric, alphanumeric, byte and kanji"
-                )?));
+                )));
             };
             if mode != Mode::Kanji {
                 bytes.extend_from_slice(text.as_bytes())?;
             } else if !push_digits(&mut bytes, text.as_bytes())? {
-                return Err(Failure::Usage(format!(in alloc;
+                return Err(wrong(format!(in alloc;
                     "--segment {word}: the text of kanji is Shift JIS in pairs of digits 0 to f, as 935f"
-                )?));
+                )));
             }
             ends.push((mode, bytes.len()))?;
         }
@@ -53,18 +53,20 @@ impl Pieces {
     }
 }
 
+// Names of modes.
+static MODES: &[(&str, Mode)] = &[
+    ("numeric", Mode::Numeric),
+    ("alphanumeric", Mode::Alphanumeric),
+    ("byte", Mode::Byte),
+    ("kanji", Mode::Kanji),
+];
+
 // The mode of a word MODE:TEXT, and its text.
 fn parts(word: &str) -> Option<(Mode, &str)> {
     let (name, text) = word.split_once(':')?;
-    let modes = [
-        ("numeric", Mode::Numeric),
-        ("alphanumeric", Mode::Alphanumeric),
-        ("byte", Mode::Byte),
-        ("kanji", Mode::Kanji),
-    ];
-    for (known, mode) in modes {
+    for (known, mode) in MODES {
         if known.eq_ignore_ascii_case(name) {
-            return Some((mode, text));
+            return Some((*mode, text));
         }
     }
     None

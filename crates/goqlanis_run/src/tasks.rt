@@ -4,7 +4,7 @@ use crate::asked::{Asked, Source, asked_for};
 use crate::drawing::{
     application_drawing, draw_one, elements_drawing, segments_drawing, write_drawing,
 };
-use crate::failure::{Failure, refused};
+use crate::failure::{Failure, refusal, refused};
 use crate::lines::draw_lines;
 use crate::reading::read;
 use crate::streams::{has_colours, print, read_file, read_standard_input};
@@ -103,9 +103,9 @@ fn check_bill(alloc: Global, text: &str) -> Result<(), Failure> {
         Err(QrError::OutOfMemory) => Err(Failure::OutOfMemory),
         Err(_) => {
             let more = text.len() - BILL_ROOM;
-            Err(Failure::Refused(format!(in alloc;
+            Err(refusal(format!(in alloc;
                 "the whole text: a bill has at most version 25, of {BILL_ROOM} bytes; shorten fields by {more} bytes (a letter with an accent takes two)"
-            )?))
+            )))
         }
     }
 }
