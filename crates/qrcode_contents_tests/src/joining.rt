@@ -2,86 +2,116 @@
 
 use qrcode_several::errors::JoinError;
 use qrcode_several::{Part, join};
+use std::alloc::Global;
 
 const DIGITS: &[u8] = b"31415926535897932";
 
 // The exclusive or of these digits.
 const PARITY: u8 = 0x32;
 
-// A part of the digits.
-fn part(place: u8) -> Part<'static> {
-    let bytes: &[u8] = match place {
-        0 => b"3141592",
-        1 => b"65358",
-        _ => b"97932",
-    };
-    Part {
-        place,
-        last: 2,
-        parity: PARITY,
-        bytes,
+// The parts of the digits.
+const FIRST: Part<'static> = Part {
+    place: 0,
+    last: 2,
+    parity: PARITY,
+    bytes: b"3141592",
+};
+
+const SECOND: Part<'static> = Part {
+    place: 1,
+    last: 2,
+    parity: PARITY,
+    bytes: b"65358",
+};
+
+const THIRD: Part<'static> = Part {
+    place: 2,
+    last: 2,
+    parity: PARITY,
+    bytes: b"97932",
+};
+
+static ORDERS: [[Part<'static>; 3]; 6] = [
+    [FIRST, SECOND, THIRD],
+    [FIRST, THIRD, SECOND],
+    [SECOND, FIRST, THIRD],
+    [SECOND, THIRD, FIRST],
+    [THIRD, FIRST, SECOND],
+    [THIRD, SECOND, FIRST],
+];
+
+// Whether parts are joined to these bytes.
+fn are_joined(alloc: Global, parts: &[Part<'_>], bytes: &[u8]) -> bool {
+    match join(alloc, parts) {
+        Ok(joined) => joined.as_slice() == bytes,
+        Err(_) => false,
     }
 }
 
 #[test]
 fn parts_are_joined_in_each_order(rt: HostRuntime) {
-    for (a, b, c) in [
-        (0, 1, 2),
-        (0, 2, 1),
-        (1, 0, 2),
-        (1, 2, 0),
-        (2, 0, 1),
-        (2, 1, 0),
-    ] {
-        let joined = match join(rt.alloc(), &[part(a), part(b), part(c)]) {
-            Ok(bytes) => bytes.as_slice() == DIGITS,
-            Err(_) => false,
-        };
-        assert!(rt; joined, "{a}{b}{c}");
+    for (i, parts) in ORDERS.iter().enumerate() {
+        assert!(rt; are_joined(rt.alloc(), parts, DIGITS), "row {i}");
     }
 }
 
+static ALONE: [Part<'static>; 1] = [Part {
+    place: 0,
+    last: 0,
+    parity: 0x39,
+    bytes: b"3141592",
+}];
+
 #[test]
 fn a_single_part_is_the_data(rt: HostRuntime) {
-    let alone = Part {
-        last: 0,
-        parity: 0x39,
-        ..part(0)
-    };
-    let joined = match join(rt.alloc(), &[alone]) {
-        Ok(bytes) => bytes.as_slice() == alone.bytes,
-        Err(_) => false,
-    };
-    assert!(rt; joined);
+    assert!(rt; are_joined(rt.alloc(), &ALONE, b"3141592"));
 }
+
+const OTHER_LAST: Part<'static> = Part {
+    place: 1,
+    last: 3,
+    parity: PARITY,
+    bytes: b"65358",
+};
+
+const OTHER_PARITY: Part<'static> = Part {
+    place: 2,
+    last: 2,
+    parity: 0,
+    bytes: b"97932",
+};
+
+const BEHIND: Part<'static> = Part {
+    place: 3,
+    last: 2,
+    parity: PARITY,
+    bytes: b"97932",
+};
+
+const CHANGED: Part<'static> = Part {
+    place: 2,
+    last: 2,
+    parity: PARITY,
+    bytes: b"97933",
+};
+
+// Parts, and why they are not joined.
+#[rattlefmt::skip]
+static REFUSED: [(&[Part<'static>], JoinError); 9] = [
+    (&[FIRST, OTHER_LAST, THIRD], JoinError::Stranger(1)),
+    (&[FIRST, SECOND, OTHER_PARITY], JoinError::Stranger(2)),
+    (&[BEHIND, FIRST, SECOND], JoinError::Stranger(0)),
+    (&[SECOND, THIRD], JoinError::Missing(0)),
+    (&[THIRD, FIRST], JoinError::Missing(1)),
+    (&[FIRST, SECOND], JoinError::Missing(2)),
+    (&[SECOND, FIRST, THIRD, SECOND], JoinError::Twice(1)),
+    (&[FIRST, SECOND, CHANGED], JoinError::Parity),
+    (&[], JoinError::Missing(0)),
+];
 
 #[test]
 fn others_are_refused_by_cause(rt: HostRuntime) {
-    let other_last = Part { last: 3, ..part(1) };
-    let other_parity = Part {
-        parity: 0,
-        ..part(2)
-    };
-    let behind = Part {
-        place: 3,
-        ..part(2)
-    };
-    let changed = Part {
-        bytes: b"97933",
-        ..part(2)
-    };
-    let rows: [(&[Part<'_>], JoinError); 9] = [
-        (&[part(0), other_last, part(2)], JoinError::Stranger(1)),
-        (&[part(0), part(1), other_parity], JoinError::Stranger(2)),
-        (&[behind, part(0), part(1)], JoinError::Stranger(0)),
-        (&[part(1), part(2)], JoinError::Missing(0)),
-        (&[part(2), part(0)], JoinError::Missing(1)),
-        (&[part(0), part(1)], JoinError::Missing(2)),
-        (&[part(1), part(0), part(2), part(1)], JoinError::Twice(1)),
-        (&[part(0), part(1), changed], JoinError::Parity),
-        (&[], JoinError::Missing(0)),
-    ];
-    for (i, (parts, error)) in rows.iter().enumerate() {
+    for (i, (parts, error)) in REFUSED.iter().enumerate() {
         let refused = join(rt.alloc(), parts).err();
         assert!(rt; refused == Some(*error), "row {i}");
     }

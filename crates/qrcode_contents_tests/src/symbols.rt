@@ -87,6 +87,14 @@ fn in_two(alloc: Global, first: &[u8], behind: &[u8]) -> QrResult<QrCode> {
     QrCode::with_bits(alloc, bits, EcLevel::L)
 }
 
+// Whether two symbols are made, and the same.
+fn are_same(code: Option<QrCode>, expected: QrResult<QrCode>) -> bool {
+    match (code, expected) {
+        (Some(code), Ok(expected)) => code.colors() == expected.colors(),
+        _ => false,
+    }
+}
+
 #[test]
 fn symbols_have_the_versions_of_zint(rt: HostRuntime) {
     for (i, (pairs, ec_level, number)) in ROWS.iter().enumerate() {
@@ -102,11 +110,8 @@ fn symbols_have_the_versions_of_zint(rt: HostRuntime) {
 #[test]
 fn the_example_of_the_standard_is_divided_as_there(rt: HostRuntime) {
     let alloc = rt.alloc();
-    let same = match (symbol(alloc, &EXAMPLE, EcLevel::M), divided(alloc)) {
-        (Ok(code), Ok(expected)) => code.colors() == expected.colors(),
-        _ => false,
-    };
-    assert!(rt; same);
+    let code = symbol(alloc, &EXAMPLE, EcLevel::M).ok();
+    assert!(rt; are_same(code, divided(alloc)));
 }
 
 // ISO/IEC 18004:2006, 6.4.8.2.
@@ -115,32 +120,23 @@ fn the_example_of_an_application_is_divided_as_there(rt: HostRuntime) {
     let alloc = rt.alloc();
     let bytes = b"AA1234BBB112text text text text\r";
     assert!(rt; are_apart(bytes));
-    let code = for_application(alloc, 37, bytes, EcLevel::M);
-    let same = match (code, divided_for_application(alloc)) {
-        (Ok(code), Ok(expected)) => code.colors() == expected.colors(),
-        _ => false,
-    };
-    assert!(rt; same);
+    let code = for_application(alloc, 37, bytes, EcLevel::M).ok();
+    assert!(rt; are_same(code, divided_for_application(alloc)));
 }
+
+// Data of an application, and the two segments of capitals that it is divided into.
+static SEPARATED: [(&[u8], &[u8], &[u8]); 2] = [
+    (b"AAAAAAAA\x1d%BBBBBBBB", b"AAAAAAAA%", b"%%BBBBBBBB"),
+    (b"AAAAAAAA\x1d\x1dBBBBBBBB", b"AAAAAAAA%", b"%BBBBBBBB"),
+];
 
 // Three percent signs would be read as a percent sign and a separator, and two as a percent sign.
 #[test]
 fn a_separator_ends_its_segment_before_another_and_before_a_percent_sign(rt: HostRuntime) {
     let alloc = rt.alloc();
-    for (bytes, first, behind) in [
-        (
-            &b"AAAAAAAA\x1d%BBBBBBBB"[..],
-            &b"AAAAAAAA%"[..],
-            &b"%%BBBBBBBB"[..],
-        ),
-        (b"AAAAAAAA\x1d\x1dBBBBBBBB", b"AAAAAAAA%", b"%BBBBBBBB"),
-    ] {
-        let code = for_application(alloc, 37, bytes, EcLevel::L);
-        let same = match (code, in_two(alloc, first, behind)) {
-            (Ok(code), Ok(expected)) => code.colors() == expected.colors(),
-            _ => false,
-        };
-        assert!(rt; same);
+    for (i, (bytes, first, behind)) in SEPARATED.iter().enumerate() {
+        let code = for_application(alloc, 37, bytes, EcLevel::L).ok();
+        assert!(rt; are_same(code, in_two(alloc, first, behind)), "row {i}");
     }
 }
 
