@@ -1,8 +1,11 @@
 //! The symbols of elements.
 
+ghost use Rattle.std.specs.Prelude.{IsTrue};
+ghost use Rattle.qrcode_types.specs.Versions.{is_valid};
+
 use qrcode::QrCode;
 use qrcode::bits::Bits;
-use qrcode::types::{EcLevel, QrError, QrResult, Version};
+use qrcode::types::{EcLevel, Mode, QrError, QrResult, Version};
 use qrcode_gs1::elements::Element;
 use qrcode_gs1::errors::{Cause, Gs1Error};
 use qrcode_gs1_symbol::errors::{SymbolError, SymbolResult};
@@ -57,34 +60,35 @@ fn symbol(alloc: Global, pairs: &[Pair], ec_level: EcLevel) -> SymbolResult<QrCo
     gs1(alloc, &elements, ec_level)
 }
 
-// The symbol of the standard's example, divided as the standard divides it.
-fn divided(alloc: Global) -> QrResult<QrCode> {
-    let mut bits = Bits::new(alloc, Version::Normal(2));
-    bits.push_fnc1_first_position()?;
-    bits.push_numeric_data(b"01049123451234591597033130128")?;
-    bits.push_alphanumeric_data(b"%10ABC123")?;
-    bits.push_terminator(EcLevel::M)?;
-    QrCode::with_bits(alloc, bits, EcLevel::M)
+// Appends a segment.
+fn push(bits: &mut Bits, (mode, bytes): (Mode, &[u8])) -> QrResult<()> {
+    match mode {
+        Mode::Numeric => bits.push_numeric_data(bytes),
+        Mode::Alphanumeric => bits.push_alphanumeric_data(bytes),
+        Mode::Byte | Mode::Kanji => bits.push_byte_data(bytes),
+    }
 }
 
-// The symbol of the standard's example of an application, divided as the standard divides it.
-fn divided_for_application(alloc: Global) -> QrResult<QrCode> {
-    let mut bits = Bits::new(alloc, Version::Normal(3));
-    bits.push_fnc1_second_position(37)?;
-    bits.push_alphanumeric_data(b"AA1234BBB112")?;
-    bits.push_byte_data(b"text text text text\r")?;
-    bits.push_terminator(EcLevel::M)?;
-    QrCode::with_bits(alloc, bits, EcLevel::M)
-}
-
-// The symbol of data of an application in two segments of capitals.
-fn in_two(alloc: Global, first: &[u8], behind: &[u8]) -> QrResult<QrCode> {
-    let mut bits = Bits::new(alloc, Version::Normal(1));
-    bits.push_fnc1_second_position(37)?;
-    bits.push_alphanumeric_data(first)?;
-    bits.push_alphanumeric_data(behind)?;
-    bits.push_terminator(EcLevel::L)?;
-    QrCode::with_bits(alloc, bits, EcLevel::L)
+// The symbol of two segments behind FNC1: in second position, where there is an application.
+fn divided(
+    alloc: Global,
+    version: Version,
+    ec_level: EcLevel,
+    application: Option<u8>,
+    first: (Mode, &[u8]),
+    second: (Mode, &[u8]),
+) -> QrResult<QrCode>
+    requires { IsTrue (is_valid version) }
+{
+    let mut bits = Bits::new(alloc, version);
+    match application {
+        None => bits.push_fnc1_first_position()?,
+        Some(application) => bits.push_fnc1_second_position(application)?,
+    }
+    push(&mut bits, first)?;
+    push(&mut bits, second)?;
+    bits.push_terminator(ec_level)?;
+    QrCode::with_bits(alloc, bits, ec_level)
 }
 
 // Whether two symbols are made, and the same.
@@ -111,7 +115,10 @@ fn symbols_have_the_versions_of_zint(rt: HostRuntime) {
 fn the_example_of_the_standard_is_divided_as_there(rt: HostRuntime) {
     let alloc = rt.alloc();
     let code = symbol(alloc, &EXAMPLE, EcLevel::M).ok();
-    assert!(rt; are_same(code, divided(alloc)));
+    let first: (Mode, &[u8]) = (Mode::Numeric, b"01049123451234591597033130128");
+    let second: (Mode, &[u8]) = (Mode::Alphanumeric, b"%10ABC123");
+    let expected = divided(alloc, Version::Normal(2), EcLevel::M, None, first, second);
+    assert!(rt; are_same(code, expected));
 }
 
 // ISO/IEC 18004:2006, 6.4.8.2.
@@ -121,7 +128,17 @@ fn the_example_of_an_application_is_divided_as_there(rt: HostRuntime) {
     let bytes = b"AA1234BBB112text text text text\r";
     assert!(rt; are_apart(bytes));
     let code = for_application(alloc, 37, bytes, EcLevel::M).ok();
-    assert!(rt; are_same(code, divided_for_application(alloc)));
+    let first: (Mode, &[u8]) = (Mode::Alphanumeric, b"AA1234BBB112");
+    let second: (Mode, &[u8]) = (Mode::Byte, b"text text text text\r");
+    let expected = divided(
+        alloc,
+        Version::Normal(3),
+        EcLevel::M,
+        Some(37),
+        first,
+        second,
+    );
+    assert!(rt; are_same(code, expected));
 }
 
 // Data of an application, and the two segments of capitals that it is divided into.
@@ -136,7 +153,16 @@ fn a_separator_ends_its_segment_before_another_and_before_a_percent_sign(rt: Hos
     let alloc = rt.alloc();
     for (i, (bytes, first, behind)) in SEPARATED.iter().enumerate() {
         let code = for_application(alloc, 37, bytes, EcLevel::L).ok();
-        assert!(rt; are_same(code, in_two(alloc, first, behind)), "row {i}");
+        let (first, behind) = ((Mode::Alphanumeric, *first), (Mode::Alphanumeric, *behind));
+        let expected = divided(
+            alloc,
+            Version::Normal(1),
+            EcLevel::L,
+            Some(37),
+            first,
+            behind,
+        );
+        assert!(rt; are_same(code, expected), "row {i}");
     }
 }
 
