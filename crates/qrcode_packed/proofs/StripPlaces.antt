@@ -1,5 +1,5 @@
 -- The places of strips, and those of the square that they show.
-use Rattle.std.proofs.Common.{◌≡◌, ◌≢◌, ℕ, zero, suc, ◌+◌, ◌-◌, ◌*◌, ◌^◌, ◌<◌, ◌≤◌, Bool, false, List, length, map, slice_index_or, slice_set, add-mul, below_more, ap, sym, subst, ◌∙◌, arith, inl, inr}
+use Rattle.std.proofs.Common.{◌≡◌, ◌≢◌, ℕ, suc, ◌+◌, ◌-◌, ◌*◌, ◌^◌, ◌<◌, ◌≤◌, Bool, false, List, length, map, slice_index_or, slice_set, add-mul, below_more, ap, sym, subst, ◌∙◌, arith, inl, inr}
 use Rattle.std.proofs.lemmas.Bool.Decides.{leb_tells}
 use Rattle.std.proofs.lemmas.List.{get_or_past, length-map, map-set, get_or-set_same, get_or-set_other}
 use Rattle.qrcode_packed.specs.Rows.{is_set, dark_in, IsSquare, PackedRows}

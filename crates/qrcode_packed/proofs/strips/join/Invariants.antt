@@ -1,4 +1,4 @@
-use Rattle.std.proofs.Common.{◌≡◌, ℕ, ◌+◌, ◌*◌, ◌/◌, ◌<◌, map}
+use Rattle.std.proofs.Common.{ℕ, ◌+◌, ◌*◌, ◌/◌, ◌<◌, map}
 use Rattle.qrcode_packed.specs.Rows.{dark_in}
 use Rattle.qrcode_packed.specs.Strips.{IsStrip, IsStripRoom}
 use Rattle.qrcode_packed.proofs.strips.join.Given as goal

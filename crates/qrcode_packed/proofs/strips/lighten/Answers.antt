@@ -1,4 +1,4 @@
-use Rattle.std.proofs.Common.{◌≡◌, ◌+◌, ◌-◌, ◌^◌, ℕ, map, refl, ◌∙◌, arith}
+use Rattle.std.proofs.Common.{◌≡◌, map, refl, ◌∙◌, arith}
 use Rattle.qrcode_packed.proofs.StripPlaces.{lines_more, apart_more}
 use Rattle.qrcode_packed.proofs.strips.lighten.Goals as goal
 

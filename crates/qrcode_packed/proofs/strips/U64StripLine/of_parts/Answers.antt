@@ -1,4 +1,4 @@
-use Rattle.std.proofs.Common.{◌≡◌, ℕ, Bool, true, false, ◌||◌, ◌*◌, ◌%◌, ◌^◌, refl, ap, ap₂, ◌∙◌, ◌+◌, arith}
+use Rattle.std.proofs.Common.{◌≡◌, Bool, true, false, ◌||◌, ◌*◌, ◌%◌, ◌^◌, refl, ap, ap₂, ◌∙◌, ◌+◌, arith}
 use Rattle.std.proofs.lemmas.Nat.{mod_below, pow_pos}
 use Rattle.qrcode_packed.specs.Rows.{is_set}
 use Rattle.qrcode_packed.proofs.Places.{has_or, has_mod, has_shl, has_shl_below, has_above}

@@ -1,6 +1,6 @@
 use Rattle.std.proofs.Common.{◌≡◌, ◌≢◌, ℕ, ◌+◌, ◌/◌, ◌<◌, map, slice_index_or}
 use Rattle.qrcode_packed.proofs.StripPlaces.{IsJoined}
-use Rattle.qrcode_packed.proofs.strips.join_strip.Given as goal
+use Rattle.qrcode_packed.proofs.strips.join_words.Given as goal
 
 abbrev pub invariant-loop-y : goal.invariant-loop-y
 invariant-loop-y g l =
