@@ -7,8 +7,10 @@ ghost use Rattle.qrcode_types.specs.declared.types.QrError.TheVariants.{OutOfMem
 ghost use Rattle.qrcode_types.specs.Colors.{is_dark};
 ghost use Rattle.qrcode_types.specs.declared.types.EcLevel.TheVariants.{M};
 ghost use Rattle.qrcode_ec.specs.Allowed.{misdecode_protection};
+ghost use Rattle.qrcode_ec.specs.Lists.{data_in, ec_in, IsList};
 ghost use Rattle.qrcode_places.specs.Masks.{exists_in};
 ghost use Rattle.qrcode_places.specs.Patterns.{is_functional_place};
+ghost use Rattle.qrcode_symbol.specs.Carried.{HasZeroHalf};
 ghost use Rattle.qrcode_symbol.specs.Patterned.{IsDrawn};
 ghost use Rattle.qrcode_symbol.specs.Symbol.{IsSymbol};
 ghost use Rattle.qrcode_bits.specs.Choice.{Holds};
@@ -156,8 +158,8 @@ impl QrCode {
             return Err(QrError::DataTooLong);
         }
         let bytes = bits.into_bytes();
-        let (data, ec) = ec::into_codewords(alloc, bytes, version, ec_level)?;
-        let content = drawn_symbol(alloc, version, ec_level, &data, &ec)?;
+        let list = ec::into_list(alloc, bytes, version, ec_level)?;
+        let content = drawn_symbol(alloc, version, ec_level, &list)?;
         Ok(QrCode {
             content,
             version,
@@ -341,17 +343,14 @@ fn drawn_symbol(
     alloc: Global,
     version: Version,
     ec_level: EcLevel,
-    data_codewords: &[u8],
-    ec_codewords: &[u8],
+    list: &[u8],
 ) -> QrResult<Vec<Color>>
     requires exists { IsTrue (has_level version ec_level) }
-    requires data_length { length data_codewords.now ≡ data_length version ec_level }
-    requires ec_length { length ec_codewords.now ≡ total_ec_length version ec_level }
-    requires half { IsTrue (has_half_codeword version ec_level)
-        → slice_index data_codewords.now (length data_codewords.now - 1) % 16 ≡ 0 }
+    requires listed { IsList version ec_level list.now }
+    requires half { HasZeroHalf version ec_level (data_in version ec_level list.now) }
     ensures drawn { IfOk result (λ colors. IsBestDrawing version ec_level
-        (data_codewords.now ++ ec_codewords.now) colors.items) }
+        (data_in version ec_level list.now ++ ec_in version ec_level list.now) colors.items) }
     ensures memory { IsOkUnless result OutOfMemory }
 {
-    canvas::drawn_colors(alloc, version, ec_level, data_codewords, ec_codewords)
+    canvas::list_colors(alloc, version, ec_level, list)
 }

@@ -14,3 +14,4 @@ pub mod Products
 pub mod Registers
 pub mod Syndromes
 pub mod Xor
+pub mod Lists

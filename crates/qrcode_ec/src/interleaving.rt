@@ -1,6 +1,6 @@
 //! The order of the codewords: the first bytes of all blocks, then the second ones, and so on.
 
-ghost use Rattle.std.specs.Prelude.{◌≡◌, ◌≢◌, ℕ, ◌+◌, ◌*◌, ◌<◌, ◌≤◌, ◌++◌, length, vec_len, slice_index, IfOk};
+ghost use Rattle.std.specs.Prelude.{◌≡◌, ◌≢◌, ℕ, ◌+◌, ◌*◌, ◌<◌, ◌≤◌, ◌++◌, length, vec_len, slice_index, IfOk, OnOk};
 ghost use Rattle.qrcode_types.specs.Bits.{AreBytes};
 ghost use Rattle.qrcode_types.specs.Blocks.{count_of, data_length_of};
 ghost use Rattle.qrcode_ec.specs.Codes.{Vanishes};
@@ -82,20 +82,6 @@ impl<'a> DataBlocks<'a> {
         self.write_ends(codewords);
     }
 
-    // The data codewords of the symbol.
-    fn data_codewords(&self, alloc: Global) -> Result<Vec<u8>, AllocError>
-        ensures length { IfOk result (λ words. vec_len words ≡ data_length_of self.now.blocks) }
-        ensures bytes { IfOk result (λ words. AreBytes words.items) }
-        ensures rows { IfOk result (λ words.
-            HasRows self.now.blocks self.now.bytes.now words.items) }
-        ensures ends { IfOk result (λ words.
-            HasEnds self.now.blocks self.now.bytes.now words.items) }
-    {
-        let mut codewords = vec![in alloc; 0; self.bytes.len()]?;
-        self.write_data(&mut codewords);
-        Ok(codewords)
-    }
-
     // Writes the error correction bytes of each block.
     fn write_ec(&self, codewords: &mut [u8])
         requires { length codewords.old ≡ self.now.blocks.ec_length * count_of self.now.blocks }
@@ -123,6 +109,19 @@ impl<'a> DataBlocks<'a> {
         }
     }
 
+    /// Writes the error correction codewords of the symbol.
+    pub(crate) fn write_correction(&self, codewords: &mut [u8])
+        requires { length codewords.old ≡ self.now.blocks.ec_length * count_of self.now.blocks }
+        ensures bytes { AreBytes codewords.new }
+        ensures vanishes { MakeVanish self.now.blocks self.now.bytes.now codewords.new }
+    {
+        if self.bytes.len() <= FEW && self.blocks.ec_length <= FEW {
+            self.write_ec_of_few(codewords);
+        } else {
+            self.write_ec(codewords);
+        }
+    }
+
     /// The error correction codewords of the symbol.
     pub(crate) fn ec_codewords(&self, alloc: Global) -> Result<Vec<u8>, AllocError>
         ensures length { IfOk result (λ words.
@@ -132,11 +131,7 @@ impl<'a> DataBlocks<'a> {
             MakeVanish self.now.blocks self.now.bytes.now words.items) }
     {
         let mut codewords = vec![in alloc; 0; self.blocks.total_ec_length()]?;
-        if self.bytes.len() <= FEW && self.blocks.ec_length <= FEW {
-            self.write_ec_of_few(&mut codewords);
-        } else {
-            self.write_ec(&mut codewords);
-        }
+        self.write_correction(&mut codewords);
         Ok(codewords)
     }
 
@@ -181,19 +176,37 @@ impl<'a> DataBlocks<'a> {
         self.write_ends(codewords);
     }
 
+    /// Writes the data codewords of the symbol and its error correction codewords.
+    pub(crate) fn write_all(
+        &self,
+        alloc: Global,
+        codewords: &mut [u8],
+        ec: &mut [u8],
+    ) -> Result<(), AllocError>
+        requires codewords { length codewords.old ≡ data_length_of self.now.blocks }
+        requires ec { length ec.old ≡ self.now.blocks.ec_length * count_of self.now.blocks }
+        ensures { OnOk result
+            (AreWordsOf self.now.blocks self.now.bytes.now codewords.new ec.new) }
+    {
+        if self.bytes.len() < MANY {
+            self.write_data(codewords);
+            self.write_correction(ec);
+            return Ok(());
+        }
+        let table = TableDivider::new(alloc, self.blocks.ec_length)?;
+        self.write_blocks(&table, codewords, ec);
+        Ok(())
+    }
+
     /// The data codewords of the symbol and its error correction codewords.
     pub(crate) fn codewords(&self, alloc: Global) -> Result<(Vec<u8>, Vec<u8>), AllocError>
         ensures { IfOk result (λ words.
             AreWordsOf self.now.blocks self.now.bytes.now words.0.items words.1.items) }
     {
-        if self.bytes.len() < MANY {
-            return Ok((self.data_codewords(alloc)?, self.ec_codewords(alloc)?));
-        }
         // Not of zeros, which would be set byte by byte; all are written below.
         let mut data = Vec::from_slice(alloc, self.bytes)?;
         let mut ec = vec![in alloc; 0; self.blocks.total_ec_length()]?;
-        let table = TableDivider::new(alloc, self.blocks.ec_length)?;
-        self.write_blocks(&table, &mut data, &mut ec);
+        self.write_all(alloc, &mut data, &mut ec)?;
         Ok((data, ec))
     }
 }

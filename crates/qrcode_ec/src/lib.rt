@@ -4,6 +4,7 @@
 mod division;
 mod field;
 mod interleaving;
+mod listing;
 
 ghost use Rattle.std.specs.Prelude.{◌≡◌, ℕ, ◌+◌, ◌-◌, ◌/◌, ◌≤◌, ◌++◌, List, false, length, vec_len, IfOk, IsTrue, is_ok};
 ghost use Rattle.std.specs.Result.{IsOkUnless};
@@ -13,11 +14,13 @@ ghost use Rattle.qrcode_types.specs.Versions.{is_valid, has_level, block_lengths
 ghost use Rattle.qrcode_types.specs.declared.types.QrError.TheVariants.{InvalidVersion, OutOfMemory};
 ghost use Rattle.qrcode_ec.specs.Allowed.{misdecode_protection};
 ghost use Rattle.qrcode_ec.specs.Blocks.{AreCodewords};
+ghost use Rattle.qrcode_ec.specs.Lists.{AreListed};
 ghost use Rattle.qrcode_ec.specs.Codes.{Vanishes, HasDistanceAbove};
 
 pub use division::{Divider, ROOM};
 pub use field::{power, product, quotient};
 use interleaving::DataBlocks;
+use listing::{listed, listed_whole};
 use qrcode_types::tables::Blocks;
 use qrcode_types::types::{EcLevel, QrError, QrResult, Version};
 use std::alloc::{AllocError, Global};
@@ -103,6 +106,32 @@ pub fn into_codewords(
     }
     let ec = one_block_ec(alloc, blocks, &bytes)?;
     Ok((bytes, ec))
+}
+
+/// The codewords that `into_codewords` gives in one list, the data codewords first, and nine zeros
+/// behind them.
+///
+/// `InvalidVersion`: there is no such version, or it lacks the level. `OutOfMemory` is the only
+/// other error.
+pub fn into_list(
+    alloc: Global,
+    bytes: Vec<u8>,
+    version: Version,
+    ec_level: EcLevel,
+) -> QrResult<Vec<u8>>
+    requires { IsTrue (has_level version ec_level)
+        → vec_len bytes ≡ data_length version ec_level }
+    ensures no_level { has_level version ec_level ≡ false → result ≡ Err InvalidVersion }
+    ensures memory { IsTrue (has_level version ec_level) → IsOkUnless result OutOfMemory }
+    ensures value { IfOk result (λ list. AreListed version ec_level bytes.items list.items) }
+{
+    let Some(blocks) = Blocks::of(version, ec_level) else {
+        return Err(QrError::InvalidVersion);
+    };
+    if blocks.count() == 1 {
+        return Ok(listed_whole(blocks, bytes)?);
+    }
+    Ok(listed(alloc, blocks, &bytes)?)
 }
 
 // The error correction codewords of data that is one block.

@@ -2,12 +2,14 @@
 use Rattle.std.proofs.Common.{◌≡◌, ℕ, zero, suc, ◌+◌, ◌-◌, ◌*◌, ◌/◌, ◌%◌, ◌≤◌, Bool, false, List, [], ◌∷◌, ◌++◌, length, get_or, take, refl, ap, sym, ◌∙◌, arith, inl, inr, length-append}
 use Rattle.std.proofs.lemmas.Bool.{cases_lt}
 use Rattle.std.proofs.lemmas.Grind.{flat_map-append}
-use Rattle.std.proofs.lemmas.List.{get_or_past}
+use Rattle.std.proofs.Math.Seq.{take-add}
+use Rattle.std.proofs.lemmas.List.{get_or_past, get_or-take, length-take-le}
 use Rattle.qrcode_types.specs.Bits.{number_bits, bits_of, has_bit}
-use Rattle.qrcode_types.specs.Versions.{has_half_codeword, is_micro}
+use Rattle.qrcode_types.specs.Versions.{has_half_codeword, is_micro, data_length, total_ec_length}
 use Rattle.qrcode_types.specs.declared.types.Version.{Version}
 use Rattle.qrcode_types.specs.declared.types.Version.TheVariants.{Normal, Micro}
 use Rattle.qrcode_types.specs.declared.types.EcLevel.{EcLevel}
+use Rattle.qrcode_ec.specs.Lists.{data_in, ec_in, IsList}
 use Rattle.qrcode_packed.specs.Rows.{is_set}
 use Rattle.qrcode_packed.proofs.Places.{has_zero}
 use Rattle.qrcode_symbol.specs.Columns.{stream_bit, IsStream, ShowBits}
@@ -81,3 +83,23 @@ no_half (Micro n) l e = cc
 
 pub normal_bits : (v : Version) (l : EcLevel) (bytes ec : List ℕ) → is_micro v ≡ false → ShowBits (drawn_bits v l bytes ec) (bytes ++ ec)
 normal_bits v l bytes ec normal = whole_bits v l bytes ec (no_half v l normal)
+
+-- a list of codewords is a stream of their bits
+pub list_stream : (v : Version) (l : EcLevel) (list : List ℕ) → is_micro v ≡ false → IsList v l list → IsStream (drawn_bits v l (data_in v l list) (ec_in v l list)) list
+unfolding stream_bit
+list_stream v l list normal is =
+    let n = data_length v l in
+    let m = total_ec_length v l in
+    let words = data_in v l list ++ ec_in v l list in
+    let front : take (n + m) list ≡ words = take-add n m list in
+    let long : length words ≡ n + m = ap length (sym front) ∙ length-take-le (n + m) list (omega (arith, is.long)) in
+    let same : (k : ℕ) → get_or list k 0 ≡ get_or words k 0 =
+    λ k. elim (cases_lt k (n + m)) [
+      | inl h ↦ sym (ap (λ (xs : List ℕ). get_or xs k 0) (sym front) ∙ get_or-take (n + m) list k 0 h)
+      | inr h ↦ is.zeros k (omega (arith, h, is.long)) ∙ sym (get_or_past words k 0 (omega (arith, h, long)))
+    ] in
+    record {
+      at_least = omega (arith, is.long);
+      zeros = is.zeros;
+      bits_are = λ i. ap (λ (b : ℕ). has_bit b (7 - i % 8)) (same (i / 8)) ∙ bit_is words i ∙ normal_bits v l (data_in v l list) (ec_in v l list) normal i;
+    }

@@ -2,7 +2,8 @@
 
 ghost use Rattle.std.specs.Prelude.{◌≡◌, ◌+◌, ◌*◌, ◌%◌, ◌<◌, ◌≤◌, pos, neg_ℤ, ◌≤ℤ◌, ◌<ℤ◌, nat_abs, length, map, slice_index_or, slice_set, ◌↔◌, IsTrue, IfOk, IsOkUnless};
 ghost use Rattle.std.specs.Borrow.{sem};
-ghost use Rattle.qrcode_types.specs.Versions.{is_valid, has_level, side};
+ghost use Rattle.qrcode_types.specs.Versions.{is_valid, has_level, side, data_length, total_ec_length};
+ghost use Rattle.qrcode_ec.specs.Lists.{data_in, ec_in, IsList};
 ghost use Rattle.qrcode_places.specs.Masks.{exists_in};
 ghost use Rattle.qrcode_places.specs.Patterns.{is_functional_place};
 ghost use Rattle.qrcode_places.specs.Stream.{FreePlacesAreFilled};
@@ -357,6 +358,33 @@ pub fn drawn_colors(
     ensures carries { AreCarried version ec_level bytes.now ec.now }
 {
     drawn::symbol_colors(alloc, version, ec_level, bytes, ec)
+}
+
+/// The same of codewords in a list, as `ec::into_list` gives it.
+///
+/// `OutOfMemory`: memory was refused.
+pub fn list_colors(
+    alloc: Global,
+    version: Version,
+    ec_level: EcLevel,
+    list: &[u8],
+) -> QrResult<Vec<Color>>
+    requires exists { IsTrue (has_level version ec_level) }
+    requires listed { IsList version ec_level list.now }
+    ensures best { IfOk result (λ colors. AreBestColors version ec_level
+        (drawn_modules version ec_level
+        (data_in version ec_level list.now) (ec_in version ec_level list.now)) colors.items) }
+    ensures memory { IsOkUnless result OutOfMemory }
+
+    // They carry the codewords, under each mask.
+    ensures carries { AreCarried version ec_level
+        (data_in version ec_level list.now) (ec_in version ec_level list.now) }
+    ensures data_length { length (data_in version ec_level list.now)
+        ≡ data_length version ec_level }
+    ensures ec_length { length (ec_in version ec_level list.now)
+        ≡ total_ec_length version ec_level }
+{
+    drawn::list_colors(alloc, version, ec_level, list)
 }
 
 /// Whether a functional pattern or the format word has the module in column `x` and row `y` of a

@@ -3,6 +3,7 @@
 ghost use Rattle.std.specs.Prelude.{◌≡◌, List, length, true, IsTrue, IfOk, IsOkUnless};
 ghost use Rattle.qrcode_types.specs.Versions.{is_valid, has_level, is_micro};
 ghost use Rattle.qrcode_types.specs.declared.types.QrError.TheVariants.{OutOfMemory};
+ghost use Rattle.qrcode_ec.specs.Lists.{data_in, ec_in, IsList};
 ghost use Rattle.qrcode_symbol.specs.Carried.{drawn_modules};
 ghost use Rattle.qrcode_symbol.specs.Masking.{is_dark_module, is_free, ShowsModules, AreBestColors};
 ghost use Rattle.qrcode_symbol.specs.declared.canvas.Module.{Module};
@@ -22,6 +23,7 @@ use data::draw_data;
 use patterns::{add_patterns, free_rows};
 use qrcode_packed::square::PackedSquare;
 use qrcode_places::masks::nth_mask;
+use qrcode_types::tables::Blocks;
 use qrcode_types::types::{Color, EcLevel, QrResult, Version};
 use std::alloc::Global;
 
@@ -78,4 +80,26 @@ pub(super) fn micro_colors(
     };
     let mut masked = [0u64; 17];
     best_colors(alloc, &packed, &mut masked[..width])
+}
+
+/// The same of codewords in a list.
+pub(super) fn micro_list_colors(
+    alloc: Global,
+    version: Version,
+    ec_level: EcLevel,
+    list: &[u8],
+) -> QrResult<Vec<Color>>
+    requires exists { IsTrue (has_level version ec_level) }
+    requires valid { IsTrue (is_valid version) }
+    requires micro { IsTrue (is_micro version) }
+    requires listed { IsList version ec_level list.now }
+    ensures best { IfOk result (λ colors. AreBestColors version ec_level
+        (drawn_modules version ec_level
+        (data_in version ec_level list.now) (ec_in version ec_level list.now)) colors.items) }
+    ensures memory { IsOkUnless result OutOfMemory }
+{
+    let blocks = Blocks::of(version, ec_level).unwrap();
+    let (bytes, behind) = list.split_at(blocks.data_length());
+    let ec = &behind[..blocks.total_ec_length()];
+    micro_colors(alloc, version, ec_level, bytes, ec)
 }

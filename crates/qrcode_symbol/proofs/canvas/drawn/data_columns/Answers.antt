@@ -1,7 +1,6 @@
-use Rattle.std.proofs.Common.{ℕ, ◌-◌, ◌*◌, List, map, subst, ◌∙◌, arith}
+use Rattle.std.proofs.Common.{map, ◌∙◌, arith}
 use Rattle.std.proofs.lemmas.List.{length-map}
 use Rattle.qrcode_types.specs.Versions.{side}
-use Rattle.qrcode_symbol.specs.Columns.{AreFilled}
 use Rattle.qrcode_symbol.proofs.Drawn.{columns_show, square_of}
 use Rattle.qrcode_symbol.proofs.canvas.drawn.data_columns.Goals as goal
 
@@ -10,9 +9,7 @@ returns-clause-shown g c =
     let bits = g.R.PackedRow.bits in
     let v = c.args.version in
     let columns = map bits c.draw_columns.new.columns in
-    let stream = c.in_ok-stream.stream.items in
-    let filled = subst (λ (s : List ℕ). AreFilled v s columns (side v * (side v - 1))) (c.new.ensures ∙ c.deref.ensures.value) c.draw_columns.ensures.filled in
-    columns_show v c.args.ec_level c.args.bytes.now c.args.ec.now stream columns c.requires.valid c.in_ok-stream.ensures.value filled c.draw_columns.ensures.left_out
+    λ l bytes ec is. columns_show v l bytes ec c.args.stream.bytes.now columns c.requires.valid is c.draw_columns.ensures.filled c.draw_columns.ensures.left_out
 
 pub returns-clause-square : goal.returns-clause-square
 returns-clause-square g c =

@@ -16,16 +16,13 @@ new-requires g c =
     let w = side c.args.version in
     let lines = c.add_lines.new.lines in
     square_at room w c.side.result (map bits lines) (sym c.side.ensures.value)
-    (joined_square bits room w lines c.data_columns.new.columns c.turn_patterns.new.rows c.in_ok-data_columns.ensures.square c.turn_patterns.ensures.square c.add_lines.ensures.length c.add_lines.ensures.added)
+    (joined_square bits room w lines c.data_columns.new.columns c.turn_patterns.new.rows c.data_columns.ensures.square c.turn_patterns.ensures.square c.add_lines.ensures.length c.add_lines.ensures.added)
 
-pub returns-clause-drawn : goal.returns-clause-drawn
-returns-clause-drawn g c =
+pub returns : goal.returns
+returns g c =
     let bits = g.R.PackedRow.bits in
     let room = g.R.PackedRow.room in
     let v = c.args.version in
-    let l = c.args.ec_level in
-    let bytes = c.args.bytes.now in
-    let ec = c.args.ec.now in
     let w = side v in
     let data_drawn = c.data_columns.new.columns in
     let patterns = c.draw_pattern_rows.new.dark in
@@ -34,7 +31,7 @@ returns-clause-drawn g c =
     let dark = c.turn.new.turned in
     let free = c.draw_pattern_rows.new.free in
     let free_shown = c.draw_pattern_rows.ensures.shown.free_shown in
-    let many : length data_drawn ≡ w = sym (length-map data_drawn bits) ∙ c.in_ok-data_columns.ensures.square.length in
+    let many : length data_drawn ≡ w = sym (length-map data_drawn bits) ∙ c.data_columns.ensures.square.length in
     let rows : c.new.result.rows ≡ map bits lines = ap (λ s. s.rows) c.new.ensures in
     let width : c.new.result.width ≡ w = ap (λ s. s.width) c.new.ensures ∙ c.side.ensures.value in
     let rows_turned : (x y : ℕ) → x < w → y < w → dark_in (map bits dark) x y ≡ dark_in (map bits lines) y x =
@@ -42,10 +39,10 @@ returns-clause-drawn g c =
     record {
       dark_square = square_at room c.new.result.width w (map bits dark) width c.turn.ensures.square;
       free_square = c.draw_pattern_rows.ensures.free_square;
-      columns_square = joined_square bits room w lines data_drawn turned c.in_ok-data_columns.ensures.square c.turn_patterns.ensures.square c.add_lines.ensures.length c.add_lines.ensures.added;
-      dark_shown = turned_shown v l bytes ec (map bits data_drawn) (map bits patterns) (map bits turned) (map bits lines) (map bits dark) c.requires.valid c.in_ok-data_columns.ensures.shown c.draw_pattern_rows.ensures.shown.dark_shown
+      columns_square = joined_square bits room w lines data_drawn turned c.data_columns.ensures.square c.turn_patterns.ensures.square c.add_lines.ensures.length c.add_lines.ensures.added;
+      dark_shown = λ l bytes ec is. turned_shown v l bytes ec (map bits data_drawn) (map bits patterns) (map bits turned) (map bits lines) (map bits dark) c.requires.valid (c.data_columns.ensures.shown l bytes ec is) c.draw_pattern_rows.ensures.shown.dark_shown
           c.turn_patterns.ensures.turned (λ x h. c.add_lines.ensures.added x (omega (arith, h, many))) rows_turned;
-      free_shown = still_free v l bytes ec (map bits free) c.requires.valid free_shown;
+      free_shown = λ l bytes ec. still_free v l bytes ec (map bits free) c.requires.valid free_shown;
       mirrored = free_mirrored v (map bits free) c.requires.valid free_shown;
       turned = λ x y xl yl. sym (rows_turned x y xl yl);
     }

@@ -59,6 +59,7 @@ draw_lines-requires-clause-light g c = λ x.
     ap (λ (l : List ℕ). get_or l x 0) (ap (map bits) columns ∙ map-replicate bits w none ∙ ap (λ (r : ℕ). replicate w r) c.first.ensures) ∙ zeros_at w x
 
 pub returns-clause-best : goal.returns-clause-best
-returns-clause-best g c =
-    let drawn = c.in_ok-draw_lines.ensures.drawn in
-    c.best_mirrored.ensures.best (drawn_modules c.args.version c.args.ec_level c.args.bytes.now c.args.ec.now) drawn.dark_shown drawn.free_shown
+returns-clause-best g c = λ bytes ec is.
+    let l = c.args.ec_level in
+    let drawn = c.draw_lines.ensures in
+    c.best_mirrored.ensures.best (drawn_modules c.args.version l bytes ec) (drawn.dark_shown l bytes ec is) (drawn.free_shown l bytes ec)

@@ -1,0 +1,15 @@
+use Rattle.std.proofs.Common.{rules, sym, subst}
+use Rattle.qrcode_ec.specs.Lists.{data_in, ec_in}
+use Rattle.qrcode_symbol.specs.Canvas.{drawn_bits}
+use Rattle.qrcode_symbol.specs.Columns.{IsStream}
+use Rattle.qrcode_symbol.proofs.StreamBytes.{list_stream}
+use Rattle.qrcode_symbol.proofs.canvas.drawn.list_colors.Goals as goal
+
+pub returns-clause-best : goal.returns-clause-best
+returns-clause-best c =
+    let v = c.args.version in
+    let l = c.args.ec_level in
+    let list = c.args.list.now in
+    let data_words = data_in v l list in
+    let ec_words = ec_in v l list in
+    c.stream_colors.ensures.best data_words ec_words (subst (IsStream (drawn_bits v l data_words ec_words)) (sym c.new.ensures) (list_stream v l list (search rules) c.requires.listed))
