@@ -1,6 +1,9 @@
 //! The files, and the line of each: its name, and its bytes or how many there are and their check.
 
-use qrcode::types::{EcLevel, QrError, Version};
+ghost use Rattle.std.specs.Prelude.{◌≡◌, ◌*◌, length};
+
+use qrcode::render::Renderer;
+use qrcode::types::{Color as Module, EcLevel, QrError, Version};
 use qrcode::{QrCode, QrResult};
 use qrcode_deflate::sums::crc;
 use qrcode_png::Color;
@@ -50,7 +53,8 @@ const BLACK: Color = Color([0, 0, 0, 255]);
 const WHITE: Color = Color([255, 255, 255, 255]);
 
 /// Writes the lines of files: one of each pair of a version and a level that there is, with three pixels
-/// a module, and those of one symbol in other sizes and in other colours, and of bytes by chance.
+/// a module, and those of one symbol in other sizes and in other colours, of bytes by chance, and of the
+/// greatest sides and one pixel more.
 pub fn write_all(rt: &impl Print, alloc: Global, wants_bytes: bool) -> Result<(), Fault> {
     for number in 1..=40 {
         write_version(
@@ -74,7 +78,9 @@ pub fn write_all(rt: &impl Print, alloc: Global, wants_bytes: bool) -> Result<()
     }
     write_sizes(rt, alloc, wants_bytes)?;
     write_colors(rt, alloc, wants_bytes)?;
-    write_chance(rt, alloc, wants_bytes)
+    write_chance(rt, alloc, wants_bytes)?;
+    write_greatest(rt, alloc, wants_bytes)?;
+    write_past(rt, alloc)
 }
 
 // Writes the end of a line: the bytes, or how many there are and their check.
@@ -123,6 +129,28 @@ static COLORS: [(Color, Color); 5] = [
 // What is drawn of bytes by chance: how many they are, and the pixels of a module.
 static BYTES: [(usize, u16); 4] = [(100, 8), (2331, 3), (2331, 8), (2331, 10)];
 
+// What is drawn with 65,535 pixels along a side: the pixels of one of three modules across and down.
+static GREATEST: [(u16, u16); 3] = [(21845, 1), (1, 21845), (21845, 21845)];
+
+// What has 65,536 pixels along a side: the pixels of one of two modules.
+static PAST: [(u16, u16); 2] = [(32768, 1), (1, 32768)];
+
+// Three rows of three modules.
+static THREE: [Module; 9] = [
+    Module::Dark,
+    Module::Light,
+    Module::Dark,
+    Module::Light,
+    Module::Light,
+    Module::Dark,
+    Module::Dark,
+    Module::Dark,
+    Module::Light,
+];
+
+// Two rows of two.
+static TWO: [Module; 4] = [Module::Dark, Module::Light, Module::Light, Module::Dark];
+
 // Bytes by chance: the powers of 75 modulo 65,537, each modulo 256.
 fn chance(alloc: Global, count: usize) -> Result<Vec<u8>, AllocError> {
     let mut bytes = Vec::new(alloc);
@@ -162,6 +190,42 @@ fn write_chance(rt: &impl Print, alloc: Global, wants_bytes: bool) -> Result<(),
         write_bytes(rt, &file, wants_bytes)?;
     }
     Ok(())
+}
+
+// Writes the lines of the greatest sides.
+fn write_greatest(rt: &impl Print, alloc: Global, wants_bytes: bool) -> Result<(), Fault> {
+    for (across, down) in &GREATEST {
+        let file = file_of_modules(alloc, &THREE, 3, *across, *down)?;
+        print!(rt; "greatest-{across}-{down}")?;
+        write_bytes(rt, &file, wants_bytes)?;
+    }
+    Ok(())
+}
+
+// Writes whether one pixel more is refused.
+fn write_past(rt: &impl Print, alloc: Global) -> Result<(), Fault> {
+    for (across, down) in &PAST {
+        match file_of_modules(alloc, &TWO, 2, *across, *down) {
+            Ok(_) => println!(rt; "past-{across}-{down} drawn")?,
+            Err(_) => println!(rt; "past-{across}-{down} refused")?,
+        }
+    }
+    Ok(())
+}
+
+// The file of a square of modules with no quiet zone.
+fn file_of_modules(
+    alloc: Global,
+    modules: &[Module],
+    side: u16,
+    across: u16,
+    down: u16,
+) -> QrResult<Vec<u8>>
+    requires { length modules.now ≡ side * side }
+{
+    Renderer::<Color>::new(modules, usize::from(side), 0)
+        .module_dimensions(u32::from(across), u32::from(down))
+        .build(alloc)
 }
 
 // The file of bytes, at level M.
