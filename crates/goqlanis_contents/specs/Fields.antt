@@ -1,5 +1,6 @@
 -- What options give: the values of the formats, and their texts.
 use Rattle.std.specs.Prelude.{◌≡◌, ℕ, ◌||◌, Bool, List, ◌++◌, codes, Option, Some, None, unwrap_or, if◌then◌else◌}
+use Rattle.std.specs.Option.{option_and_then}
 use Rattle.std.specs.Str.{bytes_eq}
 use Rattle.std.specs.Str.Parse.{digits_value, without_leading_plus}
 use Rattle.qrcode_fields.specs.Entries.{is_empty}
@@ -24,11 +25,14 @@ use Rattle.qrcode_contents.specs.declared.one_time.Factor.TheVariants.{Time, Cou
 use Rattle.qrcode_contents.specs.declared.wifi.Security.{Security}
 use Rattle.qrcode_contents.specs.declared.wifi.Security.TheVariants.{Open, Wep, Wpa, Wpa3}
 use Rattle.qrcode_events.specs.Event.{Happening, event_text}
+use Rattle.qrcode_events.specs.Times.{read_day, read_moment}
 use Rattle.qrcode_events.specs.declared.event.Span.{Span}
+use Rattle.qrcode_events.specs.declared.event.Span.TheVariants.{Days, Times}
 use Rattle.qrcode_events.specs.declared.times.Moment.{Moment}
 use Rattle.goqlanis_options.specs.Words.{Pair, given_for, text_for}
 use Rattle.goqlanis_options.specs.declared.tasks.Kind.{Kind}
 use Rattle.goqlanis_options.specs.declared.tasks.Kind.TheVariants.{Wifi, Mecard, Vcard, Payment, Bill, Mail, Place, Tel, Sms, Otp, Event}
+use Rattle.goqlanis_contents.specs.Numbers.{scaled_value, degrees_of}
 
 -- a word, in capitals or in small letters
 abbrev pub is_either : List ℕ → List ℕ → List ℕ → Bool
@@ -86,14 +90,18 @@ contact_in given = record {
   note = text_for given (codes "note");
 }
 
--- a payment of so many cents
-abbrev pub transfer_in : List Pair → ℕ → Transfer
-transfer_in given cents = record {
+-- the hundredths of an amount, where one is given
+abbrev pub hundredths_of : Option (List ℕ) → Option ℕ
+hundredths_of amount = option_and_then (scaled_value 2) amount
+
+-- a payment
+abbrev pub transfer_in : List Pair → Transfer
+transfer_in given = record {
   version = version_for (text_for given (codes "bic"));
   bic = text_for given (codes "bic");
   name = text_for given (codes "name");
   iban = text_for given (codes "iban");
-  cents = cents;
+  cents = unwrap_or (hundredths_of (given_for given (codes "amount"))) 0;
   purpose = text_for given (codes "purpose");
   reference = text_for given (codes "reference");
   message = text_for given (codes "message");
@@ -126,12 +134,12 @@ debtor_in given = record {
 abbrev pub currency_of : List ℕ → Currency
 currency_of word = if is_either word (codes "EUR") (codes "eur") then Euro else Franc
 
--- a bill of so many hundredths
-abbrev pub invoice_in : List Pair → Option ℕ → Invoice
-invoice_in given cents = record {
+-- a bill
+abbrev pub invoice_in : List Pair → Invoice
+invoice_in given = record {
   iban = text_for given (codes "iban");
   creditor = creditor_in given;
-  cents = cents;
+  cents = hundredths_of (given_for given (codes "amount"));
   currency = currency_of (text_for given (codes "currency"));
   debtor = debtor_in given;
   reference = text_for given (codes "reference");
@@ -145,6 +153,12 @@ letter_in given = record {
   subject = text_for given (codes "subject");
   body = text_for given (codes "message");
 }
+
+-- a place is where options say
+abbrev pub IsPlaceIn : List Pair → geo.Place → Type 0
+IsPlaceIn given place =
+    (degrees_of (text_for given (codes "latitude")) ≡ Some place.latitude)
+    × (degrees_of (text_for given (codes "longitude")) ≡ Some place.longitude)
 
 -- the link that writes to a number, with a body where one is given
 abbrev pub sms_text : List ℕ → Option (List ℕ) → List ℕ
@@ -177,6 +191,17 @@ key_in given = record {
   digits = digits_of (text_for given (codes "digits"));
 }
 
+-- an event lasts from one text to another, which both are days or both are moments
+abbrev pub IsSpanOf : List ℕ → List ℕ → Span → Type 0
+IsSpanOf begin end (Days first last) = (read_day begin ≡ Some first) × (read_day end ≡ Some last)
+IsSpanOf begin end (Times first last) = (read_moment begin ≡ Some first) × (read_moment end ≡ Some last)
+
+-- when an event was written, and when it begins and ends
+abbrev pub IsWhen : List Pair → Moment → Span → Type 0
+IsWhen given stamp span =
+    (read_moment (text_for given (codes "stamp")) ≡ Some stamp)
+    × IsSpanOf (text_for given (codes "begin")) (text_for given (codes "end")) span
+
 -- an event that was written at a moment and has a span
 abbrev pub happening_in : List Pair → Moment → Span → Happening
 happening_in given stamp span = record {
@@ -188,16 +213,16 @@ happening_in given stamp span = record {
   description = text_for given (codes "description");
 }
 
--- A text is that of the fields that options give; which amount, place, stamp and span they say is left open.
+-- a text is that of the fields that options give
 abbrev pub IsTextOf : Kind → List Pair → List ℕ → Type 0
 IsTextOf Wifi given text = text ≡ wifi_text (network_in given)
 IsTextOf Mecard given text = text ≡ mecard_text (person_in given)
 IsTextOf Vcard given text = text ≡ card_text (contact_in given)
-IsTextOf Payment given text = (cents : ℕ) × (text ≡ payment_text (transfer_in given cents))
-IsTextOf Bill given text = (cents : Option ℕ) × (text ≡ bill_text (invoice_in given cents))
+IsTextOf Payment given text = text ≡ payment_text (transfer_in given)
+IsTextOf Bill given text = text ≡ bill_text (invoice_in given)
 IsTextOf Mail given text = text ≡ mail_text (letter_in given)
-IsTextOf Place given text = (place : geo.Place) × (text ≡ place_text place)
+IsTextOf Place given text = (place : geo.Place) × (IsPlaceIn given place × (text ≡ place_text place))
 IsTextOf Tel given text = text ≡ codes "tel:" ++ text_for given (codes "phone")
 IsTextOf Sms given text = text ≡ sms_text (text_for given (codes "phone")) (given_for given (codes "message"))
 IsTextOf Otp given text = text ≡ key_text (key_in given)
-IsTextOf Event given text = (stamp : Moment) × ((span : Span) × (text ≡ event_text (happening_in given stamp span)))
+IsTextOf Event given text = (stamp : Moment) × ((span : Span) × (IsWhen given stamp span × (text ≡ event_text (happening_in given stamp span))))

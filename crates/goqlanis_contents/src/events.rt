@@ -1,9 +1,13 @@
 //! An event of a calendar, from the options that are given.
 
-ghost use Rattle.std.specs.Prelude.{◌≡◌, ◌≤◌, IfOk, IfSome};
+ghost use Rattle.std.specs.Prelude.{◌≡◌, [], ◌∷◌, Some, codes, IfOk, IfSome};
+ghost use Rattle.std.specs.Str.Parse.{digits_value};
 ghost use Rattle.qrcode_events.specs.Event.{happening_of};
-ghost use Rattle.goqlanis_contents.specs.Fields.{happening_in};
+ghost use Rattle.qrcode_events.specs.Times.{read_day, read_moment};
+ghost use Rattle.goqlanis_options.specs.Words.{text_for};
+ghost use Rattle.goqlanis_contents.specs.Fields.{IsSpanOf, IsWhen, happening_in};
 
+use crate::numbers::digit;
 use crate::refusals::{Refusal, wrong};
 use goqlanis_options::Given;
 use qrcode_events::event::{Event, Span};
@@ -12,8 +16,10 @@ use std::alloc::Global;
 
 // An event.
 pub(crate) fn event<'a>(alloc: Global, given: &Given<'a>) -> Result<Event<'a>, Refusal>
-    ensures { IfOk result (λ event. happening_of event
+    ensures fields { IfOk result (λ event. happening_of event
         ≡ happening_in given.now.values.items event.stamp event.span) }
+    ensures times { IfOk result (λ event.
+        IsWhen given.now.values.items event.stamp event.span) }
 {
     let span = span(alloc, given)?;
     let Some(stamp) = moment_of(given.text("stamp").as_bytes()) else {
@@ -30,7 +36,10 @@ pub(crate) fn event<'a>(alloc: Global, given: &Given<'a>) -> Result<Event<'a>, R
 }
 
 // When it begins and ends: days where its begin is one, and else moments.
-fn span(alloc: Global, given: &Given<'_>) -> Result<Span, Refusal> {
+fn span(alloc: Global, given: &Given<'_>) -> Result<Span, Refusal>
+    ensures { IfOk result (λ span. IsSpanOf (text_for given.now.values.items (codes "begin"))
+        (text_for given.now.values.items (codes "end")) span) }
+{
     let (begin, end) = (given.text("begin").as_bytes(), given.text("end").as_bytes());
     match (day_of(begin), day_of(end)) {
         (Some(first), Some(last)) => Ok(Span::Days(first, last)),
@@ -40,7 +49,9 @@ fn span(alloc: Global, given: &Given<'_>) -> Result<Span, Refusal> {
 }
 
 // The moments when it begins and ends.
-fn times(alloc: Global, begin: &[u8], end: &[u8]) -> Result<Span, Refusal> {
+fn times(alloc: Global, begin: &[u8], end: &[u8]) -> Result<Span, Refusal>
+    ensures { IfOk result (λ span. IsSpanOf begin.now end.now span) }
+{
     match (moment_of(begin), moment_of(end)) {
         (Some(first), Some(last)) => Ok(Span::Times(first, last)),
         (Some(_), None) => Err(no_moment(alloc, "--end")),
@@ -64,7 +75,9 @@ fn no_moment(alloc: Global, option: &str) -> Refusal {
 }
 
 // A day of eight digits.
-fn day_of(bytes: &[u8]) -> Option<Day> {
+fn day_of(bytes: &[u8]) -> Option<Day>
+    ensures { IfSome result (λ day. read_day bytes.now ≡ Some day) }
+{
     let [a, b, c, d, e, f, g, h] = bytes else {
         return None;
     };
@@ -79,12 +92,18 @@ fn day_of(bytes: &[u8]) -> Option<Day> {
 }
 
 // A moment: a day, T, six digits and Z.
-fn moment_of(bytes: &[u8]) -> Option<Moment> {
-    let (day, time) = bytes.split_at_checked(8)?;
-    let [b'T', a, b, c, d, e, f, b'Z'] = time else {
+fn moment_of(bytes: &[u8]) -> Option<Moment>
+    ensures { IfSome result (λ moment. read_moment bytes.now ≡ Some moment) }
+{
+    let [_, _, _, _, _, _, _, _, b'T', a, b, c, d, e, f, b'Z'] = bytes else {
         return None;
     };
-    match (day_of(day), pair(*a, *b), pair(*c, *d), pair(*e, *f)) {
+    match (
+        day_of(&bytes[..8]),
+        pair(*a, *b),
+        pair(*c, *d),
+        pair(*e, *f),
+    ) {
         (Some(day), Some(hour), Some(minute), Some(second)) => Some(Moment {
             day,
             hour,
@@ -96,19 +115,11 @@ fn moment_of(bytes: &[u8]) -> Option<Moment> {
 }
 
 // The number of two digits.
-fn pair(tens: u8, ones: u8) -> Option<u8> {
+fn pair(tens: u8, ones: u8) -> Option<u8>
+    ensures { IfSome result (λ number. number ≡ digits_value 10 (tens ∷ ones ∷ [])) }
+{
     match (digit(tens), digit(ones)) {
         (Some(tens), Some(ones)) => Some(10 * tens + ones),
-        _ => None,
-    }
-}
-
-// The number of a digit.
-pub(crate) fn digit(byte: u8) -> Option<u8>
-    ensures at_most { IfSome result (λ digit. digit ≤ 9) }
-{
-    match byte {
-        b'0'..=b'9' => Some(byte - b'0'),
         _ => None,
     }
 }

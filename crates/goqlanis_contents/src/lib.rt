@@ -3,6 +3,7 @@
 
 mod elements;
 mod events;
+mod numbers;
 mod refusals;
 mod texts;
 

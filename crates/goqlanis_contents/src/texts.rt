@@ -1,6 +1,6 @@
 //! From the options that are given to a text.
 
-ghost use Rattle.std.specs.Prelude.{◌≡◌, Ok, codes, string_bytes, IfOk};
+ghost use Rattle.std.specs.Prelude.{◌≡◌, Ok, Some, codes, string_bytes, IfOk};
 ghost use Rattle.qrcode_contents.specs.Bill.{addressee_of, invoice_of};
 ghost use Rattle.qrcode_contents.specs.Card.{contact_of};
 ghost use Rattle.qrcode_contents.specs.Contact.{person_of};
@@ -9,9 +9,11 @@ ghost use Rattle.qrcode_contents.specs.OneTime.{key_of};
 ghost use Rattle.qrcode_contents.specs.Payment.{payment_fields};
 ghost use Rattle.qrcode_contents.specs.Wifi.{wifi_fields};
 ghost use Rattle.goqlanis_options.specs.Words.{option_text, text_for};
-ghost use Rattle.goqlanis_contents.specs.Fields.{is_either, security_of, network_in, person_in, contact_in, transfer_in, creditor_in, debtor_in, currency_of, invoice_in, letter_in, sms_text, algorithm_of, digits_of, factor_of, key_in, IsTextOf};
+ghost use Rattle.goqlanis_contents.specs.Numbers.{degrees_of};
+ghost use Rattle.goqlanis_contents.specs.Fields.{is_either, security_of, network_in, person_in, contact_in, hundredths_of, transfer_in, creditor_in, debtor_in, currency_of, invoice_in, letter_in, IsPlaceIn, sms_text, algorithm_of, digits_of, factor_of, key_in, IsTextOf};
 
-use crate::events::{digit, event};
+use crate::events::event;
+use crate::numbers::{decimal, degrees};
 use crate::refusals::{Refusal, refusal_of, wrong};
 use goqlanis_options::{Given, Kind};
 use qrcode_contents::bill::{Bill, Currency, Party};
@@ -146,7 +148,7 @@ fn card<'a>(given: &Given<'a>) -> Card<'a>
 
 fn payment<'a>(alloc: Global, given: &Given<'a>) -> Result<Payment<'a>, Refusal>
     ensures { IfOk result (λ payment. payment_fields payment
-        ≡ transfer_in given.now.values.items payment.cents) }
+        ≡ transfer_in given.now.values.items) }
 {
     let bic = given.text("bic");
     Ok(Payment {
@@ -154,7 +156,7 @@ fn payment<'a>(alloc: Global, given: &Given<'a>) -> Result<Payment<'a>, Refusal>
         bic,
         name: given.text("name"),
         iban: given.text("iban"),
-        cents: cents(alloc, given)?.unwrap_or(0),
+        cents: cents(alloc, given.get("amount"))?.unwrap_or(0),
         purpose: given.text("purpose"),
         reference: given.text("reference"),
         message: given.text("message"),
@@ -202,12 +204,12 @@ fn currency_of(word: &str) -> Currency
 
 fn bill<'a>(alloc: Global, given: &Given<'a>) -> Result<Bill<'a>, Refusal>
     ensures { IfOk result (λ bill. invoice_of bill
-        ≡ invoice_in given.now.values.items bill.cents) }
+        ≡ invoice_in given.now.values.items) }
 {
     Ok(Bill {
         iban: given.text("iban"),
         creditor: creditor(given),
-        cents: cents(alloc, given)?,
+        cents: cents(alloc, given.get("amount"))?,
         currency: currency_of(given.text("currency")),
         debtor: debtor(given),
         reference: given.text("reference"),
@@ -233,10 +235,12 @@ fn phone<'a>(given: &Given<'a>) -> Phone<'a>
     }
 }
 
-fn place(alloc: Global, given: &Given<'_>) -> Result<Place, Refusal> {
+fn place(alloc: Global, given: &Given<'_>) -> Result<Place, Refusal>
+    ensures { IfOk result (λ place. IsPlaceIn given.now.values.items place) }
+{
     Ok(Place {
-        latitude: degrees(alloc, given, "latitude")?,
-        longitude: degrees(alloc, given, "longitude")?,
+        latitude: coordinate(alloc, "--latitude", given.text("latitude"))?,
+        longitude: coordinate(alloc, "--longitude", given.text("longitude"))?,
     })
 }
 
@@ -292,69 +296,34 @@ fn passwords<'a>(alloc: Global, given: &Given<'a>) -> Result<OneTime<'a>, Refusa
 }
 
 // The amount in hundredths, where one is given.
-fn cents(alloc: Global, given: &Given<'_>) -> Result<Option<u64>, Refusal> {
-    let Some(text) = given.get("amount") else {
-        return Ok(None);
-    };
-    match decimal(text, 2) {
-        Some(cents) => Ok(Some(cents)),
-        None => Err(wrong(
-            alloc,
-            "--amount",
-            "it is no number",
-            "; write it as 12 or 12.30",
-        )),
+fn cents(alloc: Global, amount: Option<&str>) -> Result<Option<u64>, Refusal>
+    ensures { IfOk result (λ cents. cents ≡ hundredths_of (option_text amount.entry)) }
+{
+    match amount {
+        Some(text) => match decimal(text, 2) {
+            Some(cents) => Ok(Some(cents)),
+            None => Err(wrong(
+                alloc,
+                "--amount",
+                "it is no number",
+                "; write it as 12 or 12.30",
+            )),
+        },
+        None => Ok(None),
     }
 }
 
-// Degrees in millionths, as an option gives them.
-fn degrees(alloc: Global, given: &Given<'_>, name: &str) -> Result<i32, Refusal> {
-    let text = given.text(name);
-    let (is_negative, digits) = match text.strip_prefix('-') {
-        Some(digits) => (true, digits),
-        None => (false, text),
-    };
-    let Some(millionths) = decimal(digits, 6) else {
-        let option = if name == "latitude" {
-            "--latitude"
-        } else {
-            "--longitude"
-        };
-        return Err(wrong(
+// The millionths of the degrees that an option gives.
+fn coordinate(alloc: Global, option: &str, text: &str) -> Result<i32, Refusal>
+    ensures { IfOk result (λ millionths. degrees_of text.now ≡ Some millionths) }
+{
+    match degrees(text) {
+        Some(millionths) => Ok(millionths),
+        None => Err(wrong(
             alloc,
             option,
             "it is no number of degrees",
             "; write it as --latitude=-33.8568, with at most six digits behind the point",
-        ));
-    };
-    let millionths = millionths.min(2_000_000_000) as i32;
-    Ok(if is_negative {
-        0i32.saturating_sub(millionths)
-    } else {
-        millionths
-    })
-}
-
-// A number with at most so many digits behind its point, counted in the last of them: 12.5 of two is
-// 1250. A number that is too large stays at the largest.
-fn decimal(text: &str, places: usize) -> Option<u64> {
-    let (whole, part) = text.split_once('.').unwrap_or((text, ""));
-    if whole.is_empty() || part.len() > places {
-        return None;
+        )),
     }
-    let mut number = with_digits(with_digits(0, whole)?, part)?;
-    for _ in part.len()..places {
-        number = number.saturating_mul(10);
-    }
-    Some(number)
-}
-
-// A number with more digits behind it.
-fn with_digits(number: u64, digits: &str) -> Option<u64> {
-    let mut number = number;
-    for byte in digits.as_bytes() {
-        let digit = u64::from(digit(*byte)?);
-        number = number.saturating_mul(10).saturating_add(digit);
-    }
-    Some(number)
 }
