@@ -41,12 +41,12 @@ fn put_number(bytes: &mut [u8], at: usize, n: u32) -> usize
     place + 1
 }
 
-/// A text of at most `N` bytes, with bytes behind it that are written too, so that all are copied at
-/// once.
+/// A text of at most `N` bytes, 255 or less, with bytes behind it that are written too, so that all are
+/// copied at once.
 #[derive(Drop)]
 pub struct Stamp<const N: usize> {
     start: [u8; N],
-    len: usize,
+    len: u8,
 }
 
 impl<const N: usize> Model for Stamp<N> {
@@ -56,20 +56,21 @@ impl<const N: usize> Model for Stamp<N> {
 
     ghost view = { λ s. take s.len s.start };
 
-    ghost invariant = { λ s. s.len ≤ N };
+    ghost invariant = { λ s. (s.len ≤ N) × (N ≤ 255) };
 }
 
 impl<const N: usize> Stamp<N> {
     /// The stamp of a text.
     pub fn new(text: &[u8]) -> Stamp<N>
-        requires { length text.now ≤ N }
+        requires short { N ≤ 255 }
+        requires fits { length text.now ≤ N }
         ensures { result ≡ text.now }
     {
         let mut start = [0; N];
         start[..text.len()].copy_from_slice(text);
         Stamp {
             start,
-            len: text.len(),
+            len: text.len() as u8,
         }
     }
 
@@ -79,8 +80,11 @@ impl<const N: usize> Stamp<N> {
         ensures { result ≡ self.now ++ other.now }
     {
         let mut start = self.start;
-        let end = put_text(&mut start, self.len, &other.start[..other.len]);
-        Stamp { start, len: end }
+        let end = put_text(&mut start, self.len(), &other.start[..other.len()]);
+        Stamp {
+            start,
+            len: end as u8,
+        }
     }
 
     /// Appends a text.
@@ -88,7 +92,7 @@ impl<const N: usize> Stamp<N> {
         requires { length self.old + length text.now ≤ N }
         ensures { self.new ≡ self.old ++ text.now }
     {
-        self.len = put_text(&mut self.start, self.len, text);
+        self.len = put_text(&mut self.start, self.len as usize, text) as u8;
     }
 
     /// Appends a number in decimal digits.
@@ -96,7 +100,7 @@ impl<const N: usize> Stamp<N> {
         requires { length self.old + length (decimal n) ≤ N }
         ensures { self.new ≡ self.old ++ decimal n }
     {
-        self.len = put_number(&mut self.start, self.len, n);
+        self.len = put_number(&mut self.start, self.len as usize, n) as u8;
     }
 
     /// How many bytes the text has.
@@ -104,7 +108,7 @@ impl<const N: usize> Stamp<N> {
         ensures value { result ≡ length self.now }
         ensures at_most { result ≤ N }
     {
-        self.len
+        self.len as usize
     }
 
     // A text of as many bytes as there may be, as one vector.
@@ -123,7 +127,7 @@ impl<const N: usize> Stamp<N> {
         ensures length { length bytes.new ≡ length bytes.old }
     {
         Simd::<u8, N>::from_slice(&self.start).copy_to_slice(&mut bytes[at..]);
-        at + self.len
+        at + self.len as usize
     }
 }
 
@@ -137,7 +141,10 @@ pub fn joined(first: &Stamp<16>, second: &Stamp<LONGEST>) -> Stamp<LONGEST>
     let end = second.write(&mut wide, end);
     let mut start = [0; LONGEST];
     start.copy_from_slice(&wide[..LONGEST]);
-    Stamp { start, len: end }
+    Stamp {
+        start,
+        len: end as u8,
+    }
 }
 
 /// A text that is written into room taken before. The room is kept for the next text.
