@@ -28,19 +28,6 @@ text_test bytes h = is_utf8-from_IsUtf8 bytes h
 pub no_text_test : (bytes : List ℕ) → ¬ IsUtf8 bytes → is_utf8 bytes ≡ false
 no_text_test bytes h = false_from_ne_true (is_utf8 bytes) (λ is. h (IsUtf8-from_is_utf8 bytes is))
 
--- one field more is taken, behind so many
-pub taken_more : (forms : List Form) (given : List Item) (i : ℕ) (d : Item)
-    → AreTaken forms given i → field_refusal (slice_get forms i) i (get_or given i d) ≡ None → AreTaken forms given (i + 1)
-taken_more forms given i d before none = λ n small g is.
-    let last : n ≤ i = omega (arith, small) in
-    elim (eq-or-lt_of_le last) [
-      | inl equal ↦
-          let at = get_or_from_slice_get given i g d (subst (λ k. slice_get given k ≡ Some g) equal is) in
-          subst (λ k. field_refusal (slice_get forms k) k g ≡ None) (sym equal)
-          (subst (λ t. field_refusal (slice_get forms i) i t ≡ None) at none)
-      | inr less ↦ before n less g is
-    ]
-
 -- an error that a `?` hands on
 pub handed_on : {T R : Type 0} (result : Result T R) (r : R) (P : R → Type 0) → IsErr result × IsErrAnd result (λ x. x ≡ r) → P r → IfErr result P
 handed_on (Ok u) r P h p = tt
