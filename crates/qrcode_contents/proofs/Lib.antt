@@ -1,3 +1,4 @@
+mod OpenAmounts
 pub mod BillReading
 pub mod CardReading
 pub mod ContactReading

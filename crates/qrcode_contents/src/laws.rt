@@ -1,27 +1,36 @@
 //! Laws of the types that no call stands for, on the contract of a function that does nothing.
 
 ghost use Rattle.std.specs.Prelude.{◌≡◌, ◌↔◌, IsTrue};
-ghost use Rattle.qrcode_contents.specs.Bill.{addressee_of};
+ghost use Rattle.qrcode_contents.specs.Bill.{addressee_of, invoice_of};
+ghost use Rattle.qrcode_contents.specs.Card.{contact_of};
+ghost use Rattle.qrcode_contents.specs.Contact.{person_of};
 ghost use Rattle.qrcode_contents.specs.Mail.{letter_of};
+ghost use Rattle.qrcode_contents.specs.OneTime.{key_of};
 ghost use Rattle.qrcode_contents.specs.Payment.{payment_fields};
 ghost use Rattle.qrcode_contents.specs.Wifi.{wifi_fields};
+ghost use Rattle.qrcode_contents.specs.declared.bill.Bill.{Bill};
 ghost use Rattle.qrcode_contents.specs.declared.bill.Currency.{Currency};
 ghost use Rattle.qrcode_contents.specs.declared.bill.Party.{Party};
+ghost use Rattle.qrcode_contents.specs.declared.card.Card.{Card};
+ghost use Rattle.qrcode_contents.specs.declared.contact.Contact.{Contact};
 ghost use Rattle.qrcode_contents.specs.declared.geo.Place.{Place};
 ghost use Rattle.qrcode_contents.specs.declared.mail.Mail.{Mail};
 ghost use Rattle.qrcode_contents.specs.declared.one_time.Algorithm.{Algorithm};
 ghost use Rattle.qrcode_contents.specs.declared.one_time.Digits.{Digits};
 ghost use Rattle.qrcode_contents.specs.declared.one_time.Factor.{Factor};
+ghost use Rattle.qrcode_contents.specs.declared.one_time.OneTime.{OneTime};
 ghost use Rattle.qrcode_contents.specs.declared.payment.Payment.{Payment};
 ghost use Rattle.qrcode_contents.specs.declared.payment.PaymentVersion.{PaymentVersion};
 ghost use Rattle.qrcode_contents.specs.declared.phone.Phone.{Phone};
 ghost use Rattle.qrcode_contents.specs.declared.wifi.Security.{Security};
 ghost use Rattle.qrcode_contents.specs.declared.wifi.Wifi.{Wifi};
 
-use crate::bill::{Currency, Party};
+use crate::bill::{Bill, Currency, Party};
+use crate::card::Card;
+use crate::contact::Contact;
 use crate::geo::Place;
 use crate::mail::Mail;
-use crate::one_time::{Algorithm, Digits, Factor};
+use crate::one_time::{Algorithm, Digits, Factor, OneTime};
 use crate::payment::{Payment, PaymentVersion};
 use crate::phone::Phone;
 use crate::wifi::{Security, Wifi};
@@ -49,3 +58,31 @@ pub fn equality<'a>()
     ensures networks { (a b : Wifi)
         → IsTrue (⟦<Wifi<'a> as PartialEq>⟧.eq a b) ↔ (wifi_fields a ≡ wifi_fields b) }
 {}
+
+/// Two cards are equal by `==` exactly when their fields are.
+pub fn card_equality<'a>()
+    ensures { (a b : Card)
+        → IsTrue (⟦<Card<'a> as PartialEq>⟧.eq a b) ↔ (contact_of a ≡ contact_of b) }
+{}
+
+/// Two contacts are equal by `==` exactly when their fields are.
+pub fn contact_equality<'a>()
+    ensures { (a b : Contact)
+        → IsTrue (⟦<Contact<'a> as PartialEq>⟧.eq a b) ↔ (person_of a ≡ person_of b) }
+{}
+
+/// Two values of one-time passwords are equal by `==` exactly when their fields are.
+pub fn one_time_equality<'a>()
+    ensures { (a b : OneTime)
+        → IsTrue (⟦<OneTime<'a> as PartialEq>⟧.eq a b) ↔ (key_of a ≡ key_of b) }
+{
+    equality();
+}
+
+/// Two bills are equal by `==` exactly when their fields are.
+pub fn bill_equality<'a>()
+    ensures { (a b : Bill)
+        → IsTrue (⟦<Bill<'a> as PartialEq>⟧.eq a b) ↔ (invoice_of a ≡ invoice_of b) }
+{
+    equality();
+}

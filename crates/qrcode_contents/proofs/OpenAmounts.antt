@@ -1,0 +1,11 @@
+-- Amounts that may be left open.
+use Rattle.std.proofs.Common.{◌≡◌, ℕ, Option, Some, None, Decides, nat_eq, refl, ap}
+use Rattle.std.specs.Option.{option_eq}
+use Rattle.std.proofs.lemmas.Bool.Decides.{Decides-eqb}
+
+-- two of them are equal where both are left open, or both are the same
+pub amounts_equal : (a b : Option ℕ) → Decides (option_eq nat_eq a b) (a ≡ b)
+amounts_equal None None = ((λ is. refl), (λ e. refl))
+amounts_equal None (Some y) = ((λ is. cc), (λ e. cc))
+amounts_equal (Some x) None = ((λ is. cc), (λ e. cc))
+amounts_equal (Some x) (Some y) = ((λ is. ap Some ((Decides-eqb x y).0 is)), (λ e. (Decides-eqb x y).1 (let same : x ≡ y = cc in same)))
