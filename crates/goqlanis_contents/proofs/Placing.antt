@@ -1,6 +1,6 @@
 -- Digits behind a number, and where they stand.
-use Rattle.std.proofs.Common.{◌≡◌, ◌≢◌, ℕ, ◌+◌, ◌-◌, ◌*◌, ◌^◌, ◌<◌, ◌≤◌, ◌==◌, ◌&&◌, Bool, true, false, List, [], ◌∷◌, ◌++◌, length, take, get_or, replicate, Option, Some, None, if◌then◌else◌, refl, ap, ap₂, ◌∙◌, sym, arith, rules, append_assoc}
-use Rattle.std.specs.Prelude.{min, nat_le, not}
+use Rattle.std.proofs.Common.{◌≡◌, ◌≢◌, ℕ, ◌+◌, ◌-◌, ◌*◌, ◌^◌, ◌<◌, ◌≤◌, ◌==◌, ◌&&◌, Bool, true, false, List, [], ◌∷◌, ◌++◌, length, take, get_or, replicate, Option, Some, None, if◌then◌else◌, refl, ap, ap₂, ◌∙◌, sym, arith, append_assoc}
+use Rattle.std.specs.Prelude.{min, nat_le}
 use Rattle.std.specs.Char.{digit_value}
 use Rattle.std.specs.List.{list_all}
 use Rattle.std.specs.Str.Parse.{digits_value}
@@ -11,7 +11,7 @@ use Rattle.std.proofs.lemmas.List.{take_more}
 use Rattle.std.proofs.lemmas.List.Folds.{list_all_more}
 use Rattle.std.proofs.lemmas.Str.{digit_value_digit}
 use Rattle.qrcode_fields.specs.Characters.{is_digit}
-use Rattle.goqlanis_contents.specs.Numbers.{at_most_u64, placed_digits, is_number, placed_value, has_minus}
+use Rattle.goqlanis_contents.specs.Numbers.{at_most_u64, is_number, placed_value, has_minus}
 
 -- the value of a digit
 value_of_digit : (digit : ℕ) → digit ≤ 9 → digit_value (digit + 48) ≡ digit

@@ -1,5 +1,5 @@
 -- Numbers as options give them: digits, and perhaps a point with more of them behind it.
-use Rattle.std.specs.Prelude.{◌≡◌, ℕ, ◌-◌, ◌^◌, ◌==◌, nat_le, ◌&&◌, min, Bool, List, [], ◌∷◌, ◌++◌, ℤ, pos, negsuc, length, replicate, drop, slice_index_or, Option, Some, None, if◌then◌else◌, refl, codes}
+use Rattle.std.specs.Prelude.{◌≡◌, ℕ, ◌-◌, ◌^◌, ◌==◌, nat_le, ◌&&◌, min, Bool, List, ◌++◌, ℤ, pos, negsuc, length, replicate, drop, slice_index_or, Option, Some, None, if◌then◌else◌, refl, codes}
 use Rattle.std.specs.List.{after_first, before_first, list_all}
 use Rattle.std.specs.Option.{option_map}
 use Rattle.std.specs.Str.Parse.{digits_value}

@@ -1,4 +1,4 @@
-use Rattle.std.proofs.Common.{◌+◌, ◌*◌, ap₂, ◌∙◌, Some, arith, ◌≡◌, length}
+use Rattle.std.proofs.Common.{arith, ◌≡◌, length}
 use Rattle.goqlanis_contents.proofs.Dating.{pair_is, day_is}
 use Rattle.goqlanis_contents.proofs.events.day_of.Goals as goal
 
