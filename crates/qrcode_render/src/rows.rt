@@ -47,7 +47,6 @@ fn palette_of<const N: usize>(
     light: &[u8],
     past: usize,
 ) -> QrResult<Option<Fours<N>>>
-    requires { N ≤ 255 }
     ensures twos { IfOk result (λ palette. ForSome palette (λ p. (a b : Bool) →
         two_text p a b ≡ marks_text dark.now light.now (a ∷ b ∷ []))) }
     ensures memory { IsOkUnless result OutOfMemory }

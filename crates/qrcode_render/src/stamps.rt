@@ -41,12 +41,12 @@ fn put_number(bytes: &mut [u8], at: usize, n: u32) -> usize
     place + 1
 }
 
-/// A text of at most `N` bytes, 255 or less, with bytes behind it that are written too, so that all are
-/// copied at once.
+/// A text of at most `N` bytes, with bytes behind it that are written too, so that all are copied at
+/// once.
 #[derive(Drop)]
 pub struct Stamp<const N: usize> {
     start: [u8; N],
-    len: u8,
+    len: usize,
 }
 
 impl<const N: usize> Model for Stamp<N> {
@@ -56,21 +56,20 @@ impl<const N: usize> Model for Stamp<N> {
 
     ghost view = { λ s. take s.len s.start };
 
-    ghost invariant = { λ s. (s.len ≤ N) × (N ≤ 255) };
+    ghost invariant = { λ s. s.len ≤ N };
 }
 
 impl<const N: usize> Stamp<N> {
     /// The stamp of a text.
     pub fn new(text: &[u8]) -> Stamp<N>
-        requires short { N ≤ 255 }
-        requires fits { length text.now ≤ N }
+        requires { length text.now ≤ N }
         ensures { result ≡ text.now }
     {
         let mut start = [0; N];
         start[..text.len()].copy_from_slice(text);
         Stamp {
             start,
-            len: text.len() as u8,
+            len: text.len(),
         }
     }
 
@@ -80,11 +79,8 @@ impl<const N: usize> Stamp<N> {
         ensures { result ≡ self.now ++ other.now }
     {
         let mut start = self.start;
-        let end = put_text(&mut start, self.len(), &other.start[..other.len()]);
-        Stamp {
-            start,
-            len: end as u8,
-        }
+        let end = put_text(&mut start, self.len, &other.start[..other.len]);
+        Stamp { start, len: end }
     }
 
     /// Appends a text.
@@ -92,7 +88,7 @@ impl<const N: usize> Stamp<N> {
         requires { length self.old + length text.now ≤ N }
         ensures { self.new ≡ self.old ++ text.now }
     {
-        self.len = put_text(&mut self.start, self.len as usize, text) as u8;
+        self.len = put_text(&mut self.start, self.len, text);
     }
 
     /// Appends a number in decimal digits.
@@ -100,7 +96,7 @@ impl<const N: usize> Stamp<N> {
         requires { length self.old + length (decimal n) ≤ N }
         ensures { self.new ≡ self.old ++ decimal n }
     {
-        self.len = put_number(&mut self.start, self.len as usize, n) as u8;
+        self.len = put_number(&mut self.start, self.len, n);
     }
 
     /// How many bytes the text has.
@@ -108,7 +104,7 @@ impl<const N: usize> Stamp<N> {
         ensures value { result ≡ length self.now }
         ensures at_most { result ≤ N }
     {
-        self.len as usize
+        self.len
     }
 
     // A text of as many bytes as there may be, as one vector.
@@ -127,7 +123,7 @@ impl<const N: usize> Stamp<N> {
         ensures length { length bytes.new ≡ length bytes.old }
     {
         Simd::<u8, N>::from_slice(&self.start).copy_to_slice(&mut bytes[at..]);
-        at + self.len as usize
+        at + self.len
     }
 }
 
@@ -141,10 +137,7 @@ pub fn joined(first: &Stamp<16>, second: &Stamp<LONGEST>) -> Stamp<LONGEST>
     let end = second.write(&mut wide, end);
     let mut start = [0; LONGEST];
     start.copy_from_slice(&wide[..LONGEST]);
-    Stamp {
-        start,
-        len: end as u8,
-    }
+    Stamp { start, len: end }
 }
 
 /// A text that is written into room taken before. The room is kept for the next text.

@@ -27,4 +27,4 @@ returns-clause-writes g c =
     let block = chunk 0 N start in
     let whole : length block ≡ N = length-chunk 0 N start (omega arith) in
     let written = take_more_put_chunk at old block (at + N) (omega arith) c.requires in
-    first_of _ old start at n N (omega arith) c.self.invariant.0 written ∙ ap (λ xs. take at old ++ xs) c.self.view_is
+    first_of _ old start at n N (omega arith) c.self.invariant written ∙ ap (λ xs. take at old ++ xs) c.self.view_is
