@@ -25,3 +25,20 @@ loop-row-preserved g c =
       c.in_ok-draw_dark_modules.ensures.across ∙ c.loop-row.invariant.1,
       c.in_ok-draw_dark_modules.ensures.down ∙ c.loop-row.invariant.2,
     )
+
+-- The modules of a row are inside.
+pub slice_bounds-line-end : goal.slice_bounds-line-end
+slice_bounds-line-end g c = omega (arith, mul-le-mul_right c.args.count c.loop-row-test.true, c.requires.square)
+
+pub draw_dark_modules-requires-clause-inside_across : goal.draw_dark_modules-requires-clause-inside_across
+draw_dark_modules-requires-clause-inside_across g c =
+    let n = c.args.count in
+    let i = c.loop-row.row * n in
+    let line = take (i + n - i) (drop i c.args.content.now) in
+    let cells : length line ≤ n = omega (arith, length-take (i + n - i) (drop i c.args.content.now)) in
+    omega (arith, mul-le-mul_right c.args.width cells, c.requires.across, c.loop-row.invariant.1)
+
+pub draw_dark_modules-requires-clause-inside_down : goal.draw_dark_modules-requires-clause-inside_down
+draw_dark_modules-requires-clause-inside_down g c =
+    let below : (c.loop-row.row + 1) * c.args.height ≤ c.args.count * c.args.height = mul-le-mul_right c.args.height (omega (arith, c.loop-row-test.true)) in
+    omega (arith, below, c.requires.down, c.loop-row.invariant.2)

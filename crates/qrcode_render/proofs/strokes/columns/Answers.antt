@@ -1,4 +1,5 @@
 use Rattle.std.proofs.Common.{ℕ, ◌+◌, ◌*◌, List, [], ◌∷◌, ◌++◌, ap₂, ◌∙◌, sym, arith}
+use Rattle.std.proofs.Math.Nat.{mul-le-mul_right}
 use Rattle.std.proofs.lemmas.List.FromFn.{map-range_with_len_more}
 use Rattle.qrcode_render.proofs.strokes.columns.Goals as goal
 
@@ -9,3 +10,6 @@ loop-i-preserved g c =
     c.in_ok-push.ensures.items
     ∙ ap₂ (λ xs x. xs ++ x ∷ []) c.loop-i.invariant c.column.ensures
     ∙ sym (map-range_with_len_more column 0 i i (omega arith))
+
+pub overflow_mul-i : goal.overflow_mul-i
+overflow_mul-i g c = omega (arith, mul-le-mul_right c.args.width c.loop-i-test.true, c.requires)

@@ -83,3 +83,15 @@ returns-in-None-Some-clause-marks c x below =
           ∙ sym (cell_outside g x upper (λ _ _ top bottom. elim none [ inl above ↦ omega arith | inr beyond ↦ omega arith ]));
       second = c.mark_beside.ensures.row x below;
     }
+
+pub returns-in-Some-None-clause-marks : goal.returns-in-Some-None-clause-marks
+returns-in-Some-None-clause-marks c x below =
+    let g = c.args.self.now in
+    let lower = c.args.lower in
+    let none : (lower < g.zone) ⊎ (g.zone + g.rows ≤ lower) = c.in-Some-None.ensures'.none in
+    let place : 2 * x ≡ 2 * x + 0 = omega arith in
+    record {
+      first = ap (mark_at c.mark_beside-in-Some-None.new.columns) place ∙ c.mark_beside-in-Some-None.ensures.row x below;
+      second = c.mark_beside-in-Some-None.ensures.light x below
+          ∙ sym (cell_outside g x lower (λ _ _ top bottom. elim none [ inl above ↦ omega arith | inr beyond ↦ omega arith ]));
+    }
