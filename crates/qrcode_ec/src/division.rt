@@ -124,6 +124,7 @@ fn double(byte: u8) -> u8
 }
 
 // A row times 2.
+#[inline(always)]
 fn doubled(row: &[u8; LANES]) -> [u8; LANES]
     ensures { (j : ℕ) → j < 32 → slice_index result j ≡ product 2 (slice_index row.now j) }
 {
@@ -144,35 +145,19 @@ fn sum(first: &[u8; LANES], second: &[u8; LANES]) -> u8x32
     u8x32::from_slice(first) ^ u8x32::from_slice(second)
 }
 
-// Row k, where the rows before have the lesser multiples of row 1. A multiple by a power of two is
-// twice another, and each other one is the sum of two rows before it.
-fn next_multiple(rows: &[[u8; LANES]; 16], k: usize) -> [u8; LANES]
-    requires at_least { 2 ≤ k }
-    requires at_most { k < 16 }
-    requires earlier { (i j : ℕ) → i < k → j < 32 → slice_index (slice_index_or rows.now i []) j
-        ≡ product i (slice_index (slice_index_or rows.now 1 []) j) }
-    ensures { (j : ℕ) → j < 32
-        → slice_index result j ≡ product k (slice_index (slice_index_or rows.now 1 []) j) }
-{
-    let rest = k & (k - 1);
-    if rest == 0 {
-        return doubled(&rows[k / 2]);
-    }
-    sum(&rows[rest], &rows[k - rest]).to_array()
-}
-
-// The multiples of a row by 0, 1, 2 and so on. It is not inlined, since LLVM would then set the room
-// of a divider to zeros before it writes to it.
+// Writes the multiples of a row by 0, 1, 2 and so on over zeros: row 2k is twice row k, and row 2k + 1 that and row 1. It is
+// not inlined, since LLVM would then set the room of a divider to zeros before it writes to it.
 #[inline(never)]
-fn multiples(first: &[u8; LANES]) -> [[u8; LANES]; 16]
-    ensures { AreMultiples first.now 1 result }
+fn write_multiples(first: &[u8; LANES], rows: &mut [[u8; LANES]; 16])
+    requires { rows.old ≡ replicate 16 (replicate 32 0) }
+    ensures { AreMultiples first.now 1 rows.new }
 {
-    let mut rows = [[0; LANES]; 16];
     rows[1] = *first;
-    for k in 2..16 {
-        rows[k] = next_multiple(&rows, k);
+    for k in 1..8 {
+        let twice = doubled(&rows[k]);
+        rows[2 * k] = twice;
+        rows[2 * k + 1] = sum(&twice, first).to_array();
     }
-    rows
 }
 
 // Moves a remainder on by one byte, and subtracts a multiple of the generator from it.
@@ -267,12 +252,15 @@ impl Divider {
         ensures { result.degree ≡ degree }
     {
         let generator = generator(degree);
-        let low = multiples(&first_lanes(&generator));
+        let mut low = [[0; LANES]; 16];
+        write_multiples(&first_lanes(&generator), &mut low);
+        let mut high = [[0; LANES]; 16];
+        write_multiples(&doubled(&low[8]), &mut high);
         Divider {
             degree,
             generator,
             low,
-            high: multiples(&doubled(&low[8])),
+            high,
         }
     }
 

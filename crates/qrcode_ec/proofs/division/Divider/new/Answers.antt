@@ -34,11 +34,11 @@ front_rows g unit rows are = record { at = λ k j small within. are.at k j small
 pub invariant_of-result-clause-multiples : goal.invariant_of-result-clause-multiples
 invariant_of-result-clause-multiples c =
     let g = c.generator-generator.result in
-    let low = c.multiples-low.result in
-    let front : AreMultiples (take 32 g) 1 low = subst (λ row. AreMultiples row 1 low) c.first_lanes.ensures c.multiples-low.ensures in
+    let low = c.write_multiples.new.rows in
+    let front : AreMultiples (take 32 g) 1 low = subst (λ row. AreMultiples row 1 low) c.first_lanes.ensures c.write_multiples.ensures in
     let units = front_rows g 1 low front in
     record {
       generates = record { long = search rules; vanishes = c.generator-generator.ensures.vanishes; ends = c.generator-generator.ensures.ends };
       units = units;
-      sixteens = high_rows g (get_or low 8 []) c.doubled.result low c.multiples.result units refl c.doubled.ensures c.multiples.ensures;
+      sixteens = high_rows g (get_or low 8 []) c.doubled.result low c.write_multiples-2.new.rows units refl c.doubled.ensures c.write_multiples-2.ensures;
     }
