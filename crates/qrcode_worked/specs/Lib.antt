@@ -1,3 +1,4 @@
 pub mod Data
+pub mod Files
 pub mod Printed
 pub mod Squares

@@ -2,6 +2,7 @@
 #![tactic(auto)]
 
 pub mod data;
+pub mod files;
 pub mod symbols;
 pub mod tables;
 pub mod words;

@@ -1,0 +1,209 @@
+//! PNG files of symbols, a line for each: its name, how many bytes it has and their CRC-32, or the bytes
+//! themselves as hexadecimal digits, for other programs to open (`pictures/look`).
+
+use qrcode::QrCode;
+use qrcode::render::Renderer;
+use qrcode::types::{Color as Module, EcLevel, QrError, QrResult, Version};
+use qrcode_deflate::sums::crc;
+use qrcode_png::Color;
+use std::alloc::Global;
+use std::io;
+
+/// Prints the lines: of each pair of a version and a level that there is, with three pixels a module; of
+/// one symbol in other sizes and in other colours; of many bytes; and of the greatest sides and one pixel more.
+pub fn print_all(rt: &HostRuntime, wants_bytes: bool) -> io::Result<bool> {
+    for number in 1..=40 {
+        print_levels(rt, "normal", Version::Normal(number), number, wants_bytes)?;
+    }
+    for number in 1..=4 {
+        print_levels(rt, "micro", Version::Micro(number), number, wants_bytes)?;
+    }
+    print_others(rt, wants_bytes)?;
+    print_long(rt, wants_bytes)?;
+    print_great(rt, wants_bytes)?;
+    Ok(true)
+}
+
+static LEVELS: [(EcLevel, char); 4] = [
+    (EcLevel::L, 'L'),
+    (EcLevel::M, 'M'),
+    (EcLevel::Q, 'Q'),
+    (EcLevel::H, 'H'),
+];
+
+const BLACK: Color = Color([0, 0, 0, 255]);
+
+const WHITE: Color = Color([255, 255, 255, 255]);
+
+// Prints the lines of a version's levels.
+fn print_levels(
+    rt: &HostRuntime,
+    kind: &str,
+    version: Version,
+    number: i16,
+    wants_bytes: bool,
+) -> io::Result<()> {
+    for (level, letter) in &LEVELS {
+        if version.has_level(*level) {
+            print!(rt; "{kind}-{number}-{letter}")?;
+            let file = file(rt.alloc(), version, *level, 3, BLACK, WHITE);
+            print_file(rt, file, wants_bytes)?;
+        }
+    }
+    Ok(())
+}
+
+// Prints the end of a line: the bytes of a file, or how many there are and their check, or that it is refused.
+fn print_file(rt: &HostRuntime, file: QrResult<Vec<u8>>, wants_bytes: bool) -> io::Result<()> {
+    match file {
+        Ok(bytes) => print_made(rt, &bytes, wants_bytes),
+        Err(_) => println!(rt; " refused"),
+    }
+}
+
+// The same of a file that is made.
+fn print_made(rt: &HostRuntime, bytes: &[u8], wants_bytes: bool) -> io::Result<()> {
+    if !wants_bytes {
+        return println!(rt; " {} {:08x}", bytes.len(), crc(bytes));
+    }
+    print!(rt; " ")?;
+    for byte in bytes {
+        print!(rt; "{byte:02x}")?;
+    }
+    println!(rt; "")
+}
+
+// The same symbol in other sizes and colours: a name, the pixels of a module, and the colours of dark modules
+// and of light ones.
+#[rattlefmt::skip]
+static OTHERS: [(&str, u16, Color, Color); 15] = [
+    ("size-1", 1, BLACK, WHITE),
+    ("size-2", 2, BLACK, WHITE),
+    ("size-4", 4, BLACK, WHITE),
+    ("size-5", 5, BLACK, WHITE),
+    ("size-7", 7, BLACK, WHITE),
+    ("size-8", 8, BLACK, WHITE),
+    ("size-9", 9, BLACK, WHITE),
+    ("size-10", 10, BLACK, WHITE),
+    ("size-16", 16, BLACK, WHITE),
+    ("size-33", 33, BLACK, WHITE),
+    ("colors-0", 3, Color([0, 0, 128, 255]), Color([255, 240, 200, 255])),
+    ("colors-1", 3, BLACK, Color([255, 255, 255, 0])),
+    ("colors-2", 3, Color([120, 0, 0, 200]), Color([1, 2, 3, 4])),
+    ("colors-3", 3, WHITE, BLACK),
+    ("colors-4", 3, Color([0, 0, 0, 0]), WHITE),
+];
+
+// Prints the lines of one symbol in other sizes and colours.
+fn print_others(rt: &HostRuntime, wants_bytes: bool) -> io::Result<()> {
+    for (name, size, dark, light) in &OTHERS {
+        print!(rt; "{name}")?;
+        let file = file(
+            rt.alloc(),
+            Version::Normal(2),
+            EcLevel::M,
+            *size,
+            *dark,
+            *light,
+        );
+        print_file(rt, file, wants_bytes)?;
+    }
+    Ok(())
+}
+
+// The file of five digits.
+fn file(
+    alloc: Global,
+    version: Version,
+    level: EcLevel,
+    size: u16,
+    dark: Color,
+    light: Color,
+) -> QrResult<Vec<u8>> {
+    let code = QrCode::with_version(alloc, b"12345", version, level)?;
+    code.render::<Color>()
+        .dark_color(dark)
+        .light_color(light)
+        .module_size(u32::from(size))
+        .build(alloc)
+}
+
+// How many bytes by chance, and the pixels of a module.
+static LONG: [(usize, u16); 4] = [(100, 8), (2331, 3), (2331, 8), (2331, 10)];
+
+// Prints the lines of bytes by chance.
+fn print_long(rt: &HostRuntime, wants_bytes: bool) -> io::Result<()> {
+    for (count, size) in &LONG {
+        print!(rt; "bytes-{count}-{size}")?;
+        print_file(rt, file_of_chance(rt.alloc(), *count, *size), wants_bytes)?;
+    }
+    Ok(())
+}
+
+// The file of bytes by chance, at level M: the powers of 75 modulo 65,537, each modulo 256.
+fn file_of_chance(alloc: Global, count: usize, size: u16) -> QrResult<Vec<u8>> {
+    let mut bytes = Vec::new(alloc);
+    let mut power = 1u32;
+    for _ in 0..count {
+        power = power.wrapping_mul(75) % 65537;
+        bytes.push((power % 256) as u8)?;
+    }
+    let code = QrCode::with_error_correction_level(alloc, &bytes, EcLevel::M)?;
+    code.render::<Color>()
+        .module_size(u32::from(size))
+        .build(alloc)
+}
+
+// Three rows of three modules.
+const THREE: &[Module] = &[
+    Module::Dark,
+    Module::Light,
+    Module::Dark,
+    Module::Light,
+    Module::Light,
+    Module::Dark,
+    Module::Dark,
+    Module::Dark,
+    Module::Light,
+];
+
+// Two rows of two.
+const TWO: &[Module] = &[Module::Dark, Module::Light, Module::Light, Module::Dark];
+
+// Squares with 65,535 pixels along a side, and with one more: a name, the modules, how many stand along a side,
+// and the pixels of one across and down.
+#[rattlefmt::skip]
+static GREAT: [(&str, &[Module], u16, u16, u16); 5] = [
+    ("greatest-21845-1", THREE, 3, 21845, 1),
+    ("greatest-1-21845", THREE, 3, 1, 21845),
+    ("greatest-21845-21845", THREE, 3, 21845, 21845),
+    ("past-32768-1", TWO, 2, 32768, 1),
+    ("past-1-32768", TWO, 2, 1, 32768),
+];
+
+// Prints the lines of the greatest sides and of one pixel more.
+fn print_great(rt: &HostRuntime, wants_bytes: bool) -> io::Result<()> {
+    for (name, modules, side, across, down) in &GREAT {
+        print!(rt; "{name}")?;
+        let file = file_of_modules(rt.alloc(), *modules, *side, *across, *down);
+        print_file(rt, file, wants_bytes)?;
+    }
+    Ok(())
+}
+
+// The file of a square of modules with no quiet zone.
+fn file_of_modules(
+    alloc: Global,
+    modules: &[Module],
+    side: u16,
+    across: u16,
+    down: u16,
+) -> QrResult<Vec<u8>> {
+    let side = usize::from(side);
+    if modules.len() != side * side {
+        return Err(QrError::InvalidCharacter);
+    }
+    Renderer::<Color>::new(modules, side, 0)
+        .module_dimensions(u32::from(across), u32::from(down))
+        .build(alloc)
+}

@@ -1,0 +1,80 @@
+//! Readings of squares.
+
+use crate::digest::Digest;
+use crate::scenarios::symbols::of_digits;
+use qrcode::types::{Color, QrError, QrResult, Version};
+use qrcode_reader::{
+    Reading, Unread, UnreadText, WrongCodeword, read, read_any, read_bits, read_text,
+};
+use std::alloc::Global;
+
+/// A call that reads a square.
+pub enum ReadCall {
+    /// `read`.
+    Bytes,
+    /// `read_bits`.
+    Bits,
+    /// `read_text`.
+    Text,
+    /// `read_any`.
+    Any,
+}
+
+/// Reads the symbol of digits of a version, its last module turned over.
+pub fn run(alloc: Global, version: Version, call: &ReadCall) -> QrResult<Digest> {
+    let mut colors = of_digits(alloc, version)?.into_colors();
+    if let Some(last) = colors.last_mut() {
+        *last = !*last;
+    }
+    match call {
+        ReadCall::Bytes => read(alloc, &colors).map_err(refusal).map(of_reading),
+        ReadCall::Bits => of_bits(alloc, &colors),
+        ReadCall::Text => of_text(alloc, &colors),
+        ReadCall::Any => match read_any(alloc, &colors)? {
+            Some(found) => Ok(of_reading(found.reading)),
+            None => Err(QrError::InvalidCharacter),
+        },
+    }
+}
+
+// What was read as bits.
+fn of_bits(alloc: Global, colors: &[Color]) -> QrResult<Digest> {
+    match read_bits(alloc, colors) {
+        Ok(read) => Ok(Digest::of(&read.bits).and(of_wrong(&read.wrong))),
+        Err(unread) => Err(refusal(unread)),
+    }
+}
+
+// What was read as a text.
+fn of_text(alloc: Global, colors: &[Color]) -> QrResult<Digest> {
+    match read_text(alloc, colors) {
+        Ok(read) => Ok(Digest::of(read.text.as_bytes()).and(of_wrong(&read.wrong))),
+        Err(unread) => Err(text_refusal(unread)),
+    }
+}
+
+// What was read as bytes.
+fn of_reading(reading: Reading) -> Digest {
+    Digest::of(&reading.data).and(of_wrong(&reading.wrong))
+}
+
+// How many codewords were wrong.
+fn of_wrong(wrong: &[WrongCodeword]) -> Digest {
+    Digest::of_one(wrong.len(), true)
+}
+
+// The refusal in the words of scenarios.
+fn refusal(unread: Unread) -> QrError {
+    match unread {
+        Unread::OutOfMemory => QrError::OutOfMemory,
+        _ => QrError::InvalidCharacter,
+    }
+}
+
+// The same of texts.
+fn text_refusal(unread: UnreadText) -> QrError {
+    match unread {
+        UnreadText::NoBits(cause) => refusal(cause),
+        UnreadText::NotShown => QrError::InvalidCharacter,
+    }
+}

@@ -1,0 +1,111 @@
+//! What a scenario is, and what it answers.
+
+use crate::digest::Digest;
+use crate::scenarios::canvas::CanvasCall;
+use crate::scenarios::data::Data;
+use crate::scenarios::pictures::{Frame, Kind};
+use crate::scenarios::readings::ReadCall;
+use crate::scenarios::symbols::{Constructor, SymbolCall};
+use crate::scenarios::texts::{MannerCall, TextCall};
+use qrcode::types::{EcLevel, QrError, QrResult, Version};
+use qrcode_pushes::{Fault, Push};
+
+/// A scenario: its name, what it asks of memory, the cause that it is refused by, where it is to be
+/// refused, and the call that it makes.
+pub struct Scenario(pub &'static str, pub Memory, pub Option<QrError>, pub Call);
+
+/// What a scenario asks of memory.
+pub enum Memory {
+    /// It takes memory, and where memory is refused it answers so.
+    Takes,
+    /// It takes memory, and makes a call that was refused memory once more.
+    Repeats,
+    /// It takes no more than another scenario does.
+    NoMoreThan(&'static str),
+}
+
+/// What a scenario calls.
+pub enum Call {
+    /// Pushes to the empty list of a version, each again where memory was refused to it.
+    Pushes(Version, &'static [Push<'static>]),
+    /// `push_segments` to a list of Normal 1 with a few bits, and the segments that were refused one by
+    /// one.
+    Segments,
+    /// `push_optimal_data` of the same.
+    Optimal,
+    /// A call that is not made again.
+    Once(Single),
+}
+
+/// A call that is made once.
+pub enum Single {
+    /// Nothing but the data is made.
+    Data(Data),
+    /// `push_byte_data` to the empty list of Normal 40.
+    Push(Data),
+    /// `push_optimal_data` to the empty list of a version.
+    Optimal(Version, Data),
+    /// `encode_auto`.
+    Automatic(Data, EcLevel),
+    /// `least_segments`.
+    Least(Version, Data),
+    /// `Parser`, joined by its `optimize` in Normal 1.
+    Runs,
+    /// What a list of bits is asked.
+    BitsAsked,
+    /// `create_error_correction_code` of so many bytes.
+    Correction(Data, usize),
+    /// `construct_codewords`.
+    Codewords(Version, EcLevel, Data),
+    /// `product`, `power` and `max_allowed_errors`.
+    Products,
+    /// A call of a canvas of a version and level.
+    Canvas(Version, EcLevel, CanvasCall),
+    /// `is_functional`.
+    Functional,
+    /// A constructor.
+    Code(Data, Constructor),
+    /// A call of the symbol of a version at level L.
+    Symbol(Version, SymbolCall),
+    /// A symbol of a text.
+    Text(TextCall),
+    /// A symbol of data in a manner, and its bits.
+    InManner(Data, MannerCall),
+    /// A picture of a kind in a frame.
+    Picture(Kind, Frame),
+    /// `to_image` of a small symbol in grey pixels.
+    Image,
+    /// `build_into` of the symbol of a version at level L.
+    Filled(Version),
+    /// A reading of the symbol of a version at level L.
+    Reading(Version, ReadCall),
+}
+
+/// What became of a list of bits after a refusal.
+#[derive(Clone, Copy)]
+pub enum Note {
+    /// Nothing was refused.
+    Whole,
+    /// The list was what it was before the refused call.
+    Unchanged,
+    /// So many segments of a call were kept.
+    Kept(usize),
+}
+
+/// What a scenario made.
+#[derive(Clone, Copy)]
+pub struct Answer {
+    pub digest: Digest,
+    pub note: Note,
+}
+
+/// The answer of a scenario.
+pub type Outcome = Result<Answer, Fault>;
+
+/// The answer of a scenario that repeats no call.
+pub fn outcome_of(digest: QrResult<Digest>) -> Outcome {
+    Ok(Answer {
+        digest: digest?,
+        note: Note::Whole,
+    })
+}
