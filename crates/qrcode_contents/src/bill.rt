@@ -435,7 +435,6 @@ impl Bill<'_> {
     }
 
     // The text of a bill that is not refused.
-    #[tactic(auto, unfolding(crate::specs::Bill::bill_text))]
     fn written(&self, alloc: Global) -> ContentResult<String>
         ensures value { IfOk result (λ text. string_bytes text ≡ bill_text (invoice_of self.now)) }
         ensures memory { IsOkUnless result OutOfMemory }

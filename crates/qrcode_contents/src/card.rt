@@ -87,18 +87,13 @@ impl Card<'_> {
     }
 
     // The text of a card that is not refused.
-    #[tactic(auto, unfolding(crate::specs::Card::card_text))]
     fn written(&self, alloc: Global) -> ContentResult<String>
         ensures value { IfOk result (λ text. string_bytes text ≡ card_text (contact_of self.now)) }
         ensures memory { IsOkUnless result OutOfMemory }
     {
         let mut text = String::from_str(alloc, "BEGIN:VCARD\r\nVERSION:3.0\r\n")?;
-        push_content(
-            alloc,
-            &mut text,
-            "N",
-            &[self.family, self.given, "", "", ""],
-        )?;
+        let name = [self.family, self.given, "", "", ""];
+        push_content(alloc, &mut text, "N", &name)?;
         let texts = [
             ("FN", self.name),
             ("ORG", self.organisation),
@@ -117,7 +112,8 @@ impl Card<'_> {
             self.country,
         ];
         push_content(alloc, &mut text, "ADR", &address)?;
-        push_content(alloc, &mut text, "NOTE", &[self.note])?;
+        let note = [self.note];
+        push_content(alloc, &mut text, "NOTE", &note)?;
         text.push_str("END:VCARD\r\n")?;
         Ok(text)
     }

@@ -85,12 +85,13 @@ impl Contact<'_> {
     }
 
     // The text of a contact that is not refused.
-    #[tactic(auto, unfolding(crate::specs::Contact::mecard_text))]
     fn written(&self, alloc: Global) -> ContentResult<String>
         ensures value { IfOk result (λ text. string_bytes text ≡ mecard_text (person_of self.now)) }
         ensures memory { IsOkUnless result OutOfMemory }
     {
         let mut text = String::from_str(alloc, "MECARD:")?;
+        let name = [self.family, self.given];
+        push_entry(&mut text, "N", &name)?;
         let texts = [
             ("TEL", self.phone),
             ("EMAIL", self.email),
@@ -98,6 +99,7 @@ impl Contact<'_> {
             ("BDAY", self.birthday),
             ("NOTE", self.note),
         ];
+        push_texts(&mut text, &texts)?;
         let address = [
             "",
             "",
@@ -107,8 +109,6 @@ impl Contact<'_> {
             self.code,
             self.country,
         ];
-        push_entry(&mut text, "N", &[self.family, self.given])?;
-        push_texts(&mut text, &texts)?;
         push_entry(&mut text, "ADR", &address)?;
         text.push_str(";")?;
         Ok(text)

@@ -62,7 +62,6 @@ fn sign(number: i32) -> &'static str
 }
 
 // Appends degrees that are given in millionths.
-#[tactic(auto, unfolding(crate::specs::Geo::coordinate_text))]
 fn push_coordinate(text: &mut String, millionths: i32) -> ContentResult<()>
     ensures appends { OnOk result (string_bytes text.new
         ≡ string_bytes text.old ++ coordinate_text millionths) }
@@ -89,7 +88,6 @@ impl Place {
     }
 
     // The link to a place that is not refused.
-    #[tactic(auto, unfolding(crate::specs::Geo::place_text))]
     fn written(&self, alloc: Global) -> ContentResult<String>
         ensures value { IfOk result (λ text. string_bytes text ≡ place_text self.now) }
         ensures memory { IsOkUnless result OutOfMemory }

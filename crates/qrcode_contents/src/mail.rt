@@ -43,7 +43,8 @@ impl Mail<'_> {
     {
         let mut text = String::from_str(alloc, "mailto:")?;
         push_part(&mut text, Part::Path, self.address)?;
-        push_query(&mut text, &[("subject", self.subject), ("body", self.body)])?;
+        let query = [("subject", self.subject), ("body", self.body)];
+        push_query(&mut text, &query)?;
         Ok(text)
     }
 

@@ -9,3 +9,6 @@ returns-clause-reads c =
     let place = c.args.self.now in
     answered (place_refusal place) c.check.result c.in_ok-check.field-0 c.check.ensures c.in_ok-check.was c.written.result (place_text place) (λ text. read_place text ≡ Some place)
     c.written.ensures.value c.written.ensures.memory (place_read place)
+
+pub returns-clause-value : goal.returns-clause-value
+returns-clause-value c = c.written.ensures.value

@@ -9,3 +9,6 @@ returns-clause-reads c =
     let fields = wifi_fields c.args.self.now in
     answered (wifi_refusal fields) c.check.result c.in_ok-check.field-0 c.check.ensures c.in_ok-check.was c.written.result (wifi_text fields) (λ text. read_wifi text ≡ Some fields)
     c.written.ensures.value c.written.ensures.memory (λ none. wifi_read fields)
+
+pub returns-clause-value : goal.returns-clause-value
+returns-clause-value c = c.written.ensures.value
