@@ -7,14 +7,11 @@ use Rattle.qrcode_types.specs.declared.types.Version.{Version}
 use Rattle.qrcode_types.specs.declared.types.EcLevel.{EcLevel}
 use Rattle.qrcode_ec.specs.Codes.{Vanishes, HasDistanceAbove}
 
--- the codewords of a stream of bits: the data codewords, the last of four bits and four zeros where there is a half one,
--- and then the error correction codewords
+-- the codewords of a stream of bits: those of data, a half one with four zeros behind its four bits, then those of error correction
 unfoldable pub codewords : Version → EcLevel → List Bool → List ℕ
 codewords v l bits = bytes_of (take (capacity v l) bits) ++ bytes_of (take (8 * total_ec_length v l) (drop (capacity v l) bits))
 
--- The place of the i-th byte of block b, where blocks of these lengths are interleaved: the first bytes of all blocks come
--- first, then the second ones, and so on. Before it stand the bytes nearer to the beginning of their blocks, and the i-th
--- bytes of earlier blocks.
+-- where byte i of block b stands in blocks that are interleaved: behind the first i bytes of each block, and byte i of each block before b
 unfoldable pub interleaved_place : List ℕ → ℕ → ℕ → ℕ
 interleaved_place lengths i b = sum_by (λ len. min len i) lengths + count_by (nat_lt i) (take b lengths)
 
@@ -33,7 +30,7 @@ blocks v l words = map (block v l words) (range_with_len 0 (length (block_length
 unfoldable pub data_bytes : Version → EcLevel → List (List ℕ) → List ℕ
 data_bytes v l bs = flat_map (λ b. take (length b - ec_length v l) b) bs
 
--- the same as bits, without the four zeros of a half codeword
+-- the same as bits, a half codeword as four
 unfoldable pub data_bits : Version → EcLevel → List (List ℕ) → List Bool
 data_bits v l bs = take (capacity v l) (bits_of (data_bytes v l bs))
 

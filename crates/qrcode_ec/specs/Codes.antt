@@ -4,7 +4,7 @@ use Rattle.qrcode_types.specs.Bits.{AreBytes}
 use Rattle.qrcode_types.specs.Polynomials.{xor_sum}
 use Rattle.qrcode_ec.specs.Field.{product, power}
 
--- the value of a polynomial at the i-th power of 2, its first coefficient being that of the highest power
+-- a polynomial's value at the i-th power of 2, the highest coefficient first
 unfoldable pub syndrome : ℕ → List ℕ → ℕ
 syndrome i c = xor_sum (length c) (λ j. product (slice_index c j) (power (i * (length c - 1 - j))))
 

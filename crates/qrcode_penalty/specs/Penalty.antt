@@ -1,4 +1,5 @@
--- What a square of modules costs, by which of its places are dark.
+-- What a square of modules costs, by which of its places are dark. A line is given by which of its places are dark, and by how many it has; a
+-- square by which places, by column and row, are dark, and by how many a side has.
 use Rattle.std.specs.Prelude.{ℕ, zero, suc, ◌+◌, ◌-◌, ◌*◌, ◌/◌, nat_le, ◌==◌, ◌&&◌, ◌||◌, not, max, Bool, true, false, if◌then◌else◌}
 use Rattle.std.specs.Int.{abs_diff}
 use Rattle.std.specs.List.{range_with_len, list_all}
@@ -17,8 +18,6 @@ count_if false n = 0
 abbrev pub same : Bool → Bool → Bool
 same true b = b
 same false b = not b
-
--- A line is given by which of its places are dark, and by how many places it has.
 
 -- the `count` places from i on are of the colour of place i
 abbrev pub is_run : (ℕ → Bool) → ℕ → ℕ → Bool
@@ -42,7 +41,7 @@ run_length line (suc i) = if same (line i) (line (suc i)) then suc (run_length l
 abbrev pub run_cost : ℕ → ℕ
 run_cost length = if nat_le 5 length then 3 + (length - 5) else 0
 
--- what the runs of a line of n places cost, each counted where it ends
+-- what the runs of a line cost, each at the last of its places
 unfoldable pub run_penalty : ℕ → (ℕ → Bool) → ℕ
 run_penalty n line = sum_below n (λ i. count_if (ends_run n line i) (run_cost (run_length line i)))
 
@@ -50,7 +49,7 @@ run_penalty n line = sum_below n (λ i. count_if (ends_run n line i) (run_cost (
 unfoldable pub run_penalty_at : (ℕ → Bool) → ℕ → ℕ
 run_penalty_at line i = count_if (is_run line i 5) (if begins_run line i then 3 else 1)
 
--- the `count` places from i on are light, where they are inside
+-- the `count` places from i on are light, where inside
 abbrev pub is_light_from : ℕ → (ℕ → Bool) → ℕ → ℕ → Bool
 is_light_from n line i count = list_all (λ j. nat_le n j || not (line j)) (range_with_len i count)
 
@@ -58,7 +57,7 @@ is_light_from n line i count = list_all (λ j. nat_le n j || not (line j)) (rang
 unfoldable pub is_finder_like : (ℕ → Bool) → ℕ → Bool
 is_finder_like line i = line i && not (line (i + 1)) && line (i + 2) && line (i + 3) && line (i + 4) && not (line (i + 5)) && line (i + 6)
 
--- 40 for each such form with four light places before it or after it, places outside being taken as light
+-- 40 for a form beside four light places; outside is light
 unfoldable pub finder_penalty_at : ℕ → (ℕ → Bool) → ℕ → ℕ
 finder_penalty_at n line i = count_if (is_finder_like line i && (is_light_from n line (i - 4) (i - (i - 4)) || is_light_from n line (i + 7) 4)) 40
 
@@ -69,8 +68,6 @@ finder_penalty n line = sum_below (n - 6) (finder_penalty_at n line)
 -- what a line of n places costs
 abbrev pub line_penalty : ℕ → (ℕ → Bool) → ℕ
 line_penalty n line = run_penalty n line + finder_penalty n line
-
--- A square is given by which of its places, by column and row, are dark, and by how many places a side has.
 
 -- 3 for each two by two modules of one colour
 unfoldable pub block_penalty_at : (ℕ → ℕ → Bool) → ℕ → ℕ → ℕ
@@ -88,11 +85,11 @@ dark_count_in n line = sum_below n (λ x. count_if (line x) 1)
 unfoldable pub dark_count : ℕ → (ℕ → ℕ → Bool) → ℕ
 dark_count w dark = sum_below w (λ y. dark_count_in w (λ x. dark x y))
 
--- how far the share of dark modules is from half, in steps of half a hundredth, the share being rounded down
+-- how far the dark share is from half, in 200ths rounded down
 unfoldable pub balance_penalty : ℕ → (ℕ → ℕ → Bool) → ℕ
 balance_penalty w dark = abs_diff (200 * dark_count w dark / (w * w)) 100
 
--- the penalty of a square of Normal: its rows, its columns, its blocks and its balance
+-- the penalty of Normal: rows, columns, blocks and balance
 unfoldable pub normal_penalty : ℕ → (ℕ → ℕ → Bool) → ℕ
 normal_penalty w dark =
     sum_below w (λ y. line_penalty w (λ x. dark x y)) + sum_below w (λ x. line_penalty w (λ y. dark x y)) + block_penalty w dark + balance_penalty w dark
@@ -101,9 +98,8 @@ normal_penalty w dark =
 unfoldable pub light_count : ℕ → (ℕ → Bool) → ℕ
 light_count w line = sum_below (w - 1) (λ i. count_if (not (line (i + 1))) 1)
 
--- the penalty of a square of Micro: the light modules of the last row and of the last column, and 15 times the greater
+-- of Micro: by the light modules of the last row and column
 unfoldable pub micro_penalty : ℕ → (ℕ → ℕ → Bool) → ℕ
 micro_penalty w dark =
-    let row = light_count w (λ x. dark x (w - 1)) in
-    let column = light_count w (λ y. dark (w - 1) y) in
+    let row = light_count w (λ x. dark x (w - 1)) in let column = light_count w (λ y. dark (w - 1) y) in
     row + column + 15 * max row column

@@ -1,4 +1,4 @@
--- The masks.
+-- The masks (ISO/IEC 18004:2006, table 10).
 use Rattle.std.specs.Prelude.{ℕ, ℤ, pos, List, [], ◌∷◌, length, slice_index_or, ◌+ℤ◌, nat_abs, ◌+◌, ◌*◌, ◌/◌, ◌%◌, ◌==◌, nat_lt, ◌&&◌, ◌||◌, not, Bool, true, false}
 use Rattle.std.specs.List.{position_or_len}
 use Rattle.qrcode_types.specs.Versions.{is_valid, is_micro}
@@ -7,7 +7,7 @@ use Rattle.qrcode_types.specs.declared.types.Version.TheVariants.{Normal, Micro}
 use Rattle.qrcode_places.specs.declared.masks.MaskPattern.{MaskPattern}
 use Rattle.qrcode_places.specs.declared.masks.MaskPattern.TheVariants.{Checkerboard, HorizontalLines, VerticalLines, DiagonalLines, LargeCheckerboard, Fields, Diamonds, Meadow}
 
--- the mask turns the module in column x and row y (ISO/IEC 18004:2006, table 10)
+-- the mask turns the module in column x and row y
 abbrev pub turns : MaskPattern → ℕ → ℕ → Bool
 turns Checkerboard x y = (x + y) % 2 == 0
 turns HorizontalLines x y = y % 2 == 0
@@ -34,11 +34,9 @@ mask_number Fields = 5
 mask_number Diamonds = 6
 mask_number Meadow = 7
 
--- the masks of a version, in the order of their numbers (ISO/IEC 18004:2006, table 10)
+-- the masks of a version, in the order of their numbers
 abbrev pub masks_of : Version → List MaskPattern
-masks_of (Normal v) =
-    Checkerboard ∷ HorizontalLines ∷ VerticalLines ∷ DiagonalLines ∷
-    LargeCheckerboard ∷ Fields ∷ Diamonds ∷ Meadow ∷ []
+masks_of (Normal v) = Checkerboard ∷ HorizontalLines ∷ VerticalLines ∷ DiagonalLines ∷ LargeCheckerboard ∷ Fields ∷ Diamonds ∷ Meadow ∷ []
 masks_of (Micro v) = HorizontalLines ∷ LargeCheckerboard ∷ Diamonds ∷ Meadow ∷ []
 
 -- how many masks a version has
@@ -49,10 +47,9 @@ mask_count v = length (masks_of v)
 abbrev pub nth_mask : Version → ℕ → MaskPattern
 nth_mask v number = slice_index_or (masks_of v) number Checkerboard
 
--- the number of a mask in Micro, which is its place in the list, and 4 for a mask that Micro lacks
+-- a mask's place in the list of Micro, and 4 where Micro lacks it
 abbrev pub micro_mask_number : MaskPattern → ℕ
-micro_mask_number mask =
-    position_or_len (λ other. mask_number other == mask_number mask) (masks_of (Micro (pos 1)))
+micro_mask_number mask = position_or_len (λ other. mask_number other == mask_number mask) (masks_of (Micro (pos 1)))
 
 -- the version has the mask: Normal has all, Micro four
 abbrev pub exists_in : Version → MaskPattern → Bool

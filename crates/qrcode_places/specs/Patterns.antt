@@ -17,25 +17,20 @@ abbrev pub color_if : Bool → Bool → Option Color
 color_if true dark = Some (color_of dark)
 color_if false dark = None
 
--- a finder pattern round its centre, by the greater of the two distances: dark to 1, light at 2, dark at 3, and light at
--- 4, which is the separator
+-- a finder pattern round its centre, by the greater of the two distances: dark to 1, light at 2, dark at 3, and light at 4, which is the separator
 abbrev pub finder_at : ℕ → ℕ → ℕ → ℕ → Option Color
 finder_at a b x y = let d = max (abs_diff a x) (abs_diff b y) in color_if (nat_le d 4) (nat_le d 1 || d == 3)
 
--- finder patterns in three corners of Normal and in one of Micro
+-- finder patterns in three corners of Normal, in one of Micro
 unfoldable pub finder : Version → ℕ → ℕ → Option Color
-finder (Normal v) x y =
-    let far = 4 * nat_abs v + 13 in
-    option_or (finder_at 3 3 x y) (option_or (finder_at far 3 x y) (finder_at 3 far x y))
+finder (Normal v) x y = let far = 4 * nat_abs v + 13 in option_or (finder_at 3 3 x y) (option_or (finder_at far 3 x y) (finder_at 3 far x y))
 finder (Micro v) x y = finder_at 3 3 x y
 
--- The coordinates of the alignment centres. Normal 2 to 6 have one centre; the first coordinate serves only the corners
--- where finder patterns are.
+-- the coordinates of the alignment centres; Normal 2 to 6 have one centre, and the first coordinate serves only the corners where finder patterns are
 unfoldable pub centres : Version → List ℕ
 centres (Normal v) =
     let n = nat_abs v in
-    if nat_le 7 n then slice_index_or centre_table (n - 7) []
-    else (if nat_le 2 n then 6 ∷ (4 * n + 10) ∷ [] else [])
+    if nat_le 7 n then slice_index_or centre_table (n - 7) [] else (if nat_le 2 n then 6 ∷ (4 * n + 10) ∷ [] else [])
 centres (Micro v) = []
 
 -- an alignment pattern reaches two modules from its centre
@@ -46,8 +41,7 @@ is_near x a = nat_le (abs_diff a x) 2
 abbrev pub is_corner_centre : ℕ → ℕ → ℕ → Bool
 is_corner_centre w a b = (a == 6 && (b == 6 || b == w - 7)) || (a == w - 7 && b == 6)
 
--- the alignment pattern whose centre has the coordinates a and b, but for the corners where finder patterns are: dark in
--- the centre and at distance 2
+-- the alignment pattern whose centre has the coordinates a and b, dark there and at distance 2, but for the corners where finder patterns are
 abbrev pub alignment_between : ℕ → Option ℕ → Option ℕ → ℕ → ℕ → Option Color
 alignment_between w None b x y = None
 alignment_between w (Some a) None x y = None
@@ -58,7 +52,7 @@ alignment_between w (Some a) (Some b) x y =
 unfoldable pub alignment : Version → ℕ → ℕ → Option Color
 alignment v x y = let cs = centres v in alignment_between (side v) (find (is_near x) cs) (find (is_near y) cs) x y
 
--- the row and the column of timing modules, dark and light by turns
+-- row and column of timing modules, dark and light by turns
 unfoldable pub timing : Version → ℕ → ℕ → Option Color
 timing (Normal v) x y =
     let last = 4 * nat_abs v + 8 in
@@ -77,7 +71,7 @@ abbrev pub version_copy : ℕ → ℕ → ℕ → ℕ → Option Color
 version_copy v far x y =
     color_if (nat_le x 5 && nat_le far y && nat_le y (far + 2)) (has_bit (version_word v) (3 * x + (y - far)))
 
--- both copies of the version word, from Normal 7 on; they mirror each other
+-- both copies from Normal 7 on; they mirror each other
 unfoldable pub version_pattern : Version → ℕ → ℕ → Option Color
 version_pattern (Normal v) x y =
     let n = nat_abs v in
@@ -85,29 +79,27 @@ version_pattern (Normal v) x y =
     if nat_le 7 n then option_or (version_copy n far x y) (version_copy n far y x) else None
 version_pattern (Micro v) x y = None
 
--- the colour of a place in the functional patterns, the format word aside
+-- what these patterns have at a place, the format word aside
 unfoldable pub pattern : Version → ℕ → ℕ → Option Color
 pattern v x y =
     option_or (finder v x y) (option_or (alignment v x y)
     (option_or (timing v x y) (option_or (dark_module v x y) (version_pattern v x y))))
 
--- Where bit i of a copy of the format word stands, bit 0 being the highest.
-
--- in the copy of Normal at the top left
+-- where bit i of the copy at the top left of Normal stands, 0 the highest
 abbrev pub first_format_place : ℕ → ℕ × ℕ
 first_format_place i =
     if nat_le i 5 then (i, 8)
     else (if i == 6 then (7, 8) else (if i == 7 then (8, 8) else (if i == 8 then (8, 7) else (8, 14 - i))))
 
--- in the copy of Normal at the bottom left and at the top right
+-- of the copy at the bottom left and at the top right
 abbrev pub second_format_place : ℕ → ℕ → ℕ × ℕ
 second_format_place w i = if nat_le i 6 then (8, w - 1 - i) else (w - 15 + i, 8)
 
--- in the copy of Micro
+-- of the copy of Micro
 abbrev pub micro_format_place : ℕ → ℕ × ℕ
 micro_format_place i = if nat_le i 7 then (i + 1, 8) else (8, 15 - i)
 
--- the places of each copy of the format word, the highest bit first: two copies in Normal, one in Micro
+-- the places of each copy, the highest bit first
 unfoldable pub format_copies : Version → List (List (ℕ × ℕ))
 format_copies (Normal v) =
     let second = second_format_place (4 * nat_abs v + 17) in
@@ -118,7 +110,7 @@ format_copies (Micro v) = map micro_format_place (range_with_len 0 15) ∷ []
 abbrev pub is_at : ℕ → ℕ → ℕ × ℕ → Bool
 is_at x y place = place.0 == x && place.1 == y
 
--- which bit of the format word stands at a place, if any, the highest being 0: the position of the place in a copy
+-- which bit, counted from the highest, stands at a place
 unfoldable pub format_index : Version → ℕ → ℕ → Option ℕ
 format_index v x y = slice_get (filter_map (position_from (is_at x y) 0) (format_copies v)) 0
 

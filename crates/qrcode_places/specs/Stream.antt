@@ -15,19 +15,14 @@ use Rattle.qrcode_places.specs.declared.masks.MaskPattern.{MaskPattern}
 abbrev pub color_at : Version → List Color → ℕ → ℕ → Color
 color_at v s x y = slice_index_or s (y * side v + x) Light
 
--- the right column of a pair of columns; Normal leaves out column 6
+-- a pair's right column; timing columns, 6 and in Micro 0, are left out
 abbrev pub right_column : Version → ℕ → ℕ
-right_column v pair =
-    let column = side v - 1 - 2 * pair in
-    if not (is_micro v) && nat_le column 6 then column - 1 else column
+right_column v pair = let column = side v - 1 - 2 * pair in if not (is_micro v) && nat_le column 6 then column - 1 else column
 
--- The t-th place, column and row, of the walk through pairs of columns, from the right, up and down by turns, the right
--- module of each row first. Normal leaves out its column of timing modules, 6, and Micro its own, 0.
+-- the t-th place, column and row, of the walk through pairs of columns from the right, up and down by turns, the right module of each row first
 unfoldable pub zigzag_place : Version → ℕ → ℕ × ℕ
 zigzag_place v t =
-    let w = side v in
-    let pair = t / (2 * w) in
-    let step = t % (2 * w) in
+    let w = side v in let pair = t / (2 * w) in let step = t % (2 * w) in
     (right_column v pair - step % 2, if pair % 2 == 0 then w - 1 - step / 2 else step / 2)
 
 -- all places but those of the column that is left out
@@ -40,8 +35,7 @@ free_places v = filter (λ p. not (is_functional_place v p.0 p.1)) (zigzag v)
 
 -- the bits at the free places: a dark module is a one, turned where the mask turns
 unfoldable pub stream : Version → MaskPattern → List Color → List Bool
-stream v mask s =
-    map (λ p. turned_if (turns mask p.0 p.1) (is_dark (color_at v s p.0 p.1))) (free_places v)
+stream v mask s = map (λ p. turned_if (turns mask p.0 p.1) (is_dark (color_at v s p.0 p.1))) (free_places v)
 
 -- the free places of each version number its data bits, its error correction bits and its remainder, at each of its levels
 abbrev pub FreePlacesAreFilled : Type 0

@@ -10,7 +10,7 @@ use Rattle.qrcode_types.specs.declared.types.EcLevel.TheVariants.{L, M, Q, H}
 use Rattle.qrcode_places.specs.Masks.{mask_number, micro_mask_number, exists_in}
 use Rattle.qrcode_places.specs.declared.masks.MaskPattern.{MaskPattern}
 
--- A message with `count` check bits behind it, by a divisor of that degree: the remainder of the message times x^count.
+-- a message with `count` check bits behind it, by a divisor of that degree: the remainder of the message times x^count
 unfoldable pub with_check_bits : ℕ → ℕ → ℕ → ℕ
 with_check_bits divisor count message = message * 2 ^ count + remainder divisor (message * 2 ^ count)
 
@@ -32,7 +32,7 @@ abbrev pub format_mask : Version → ℕ
 format_mask (Normal v) = 0x5412
 format_mask (Micro v) = 0x4445
 
--- the fifteen bits that name level and mask; the divisor is x^10 + x^8 + x^5 + x^4 + x^2 + x + 1
+-- the fifteen bits that name level and mask, with a fixed word added by exclusive or; the divisor is x^10 + x^8 + x^5 + x^4 + x^2 + x + 1
 unfoldable pub format_word : Version → EcLevel → MaskPattern → ℕ
 format_word v l k = bit_xor (with_check_bits 0x537 10 (format_bits v l k)) (format_mask v)
 

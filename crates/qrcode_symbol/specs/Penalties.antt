@@ -20,7 +20,7 @@ use Rattle.qrcode_places.specs.declared.masks.MaskPattern.{MaskPattern}
 abbrev pub is_dark_at : Version → List Color → ℕ → ℕ → Bool
 is_dark_at v s = inside (side v) (λ x y. is_dark (color_at v s x y))
 
--- the penalty of a square of a version, given by which of its places are dark
+-- what a square costs, by which of its places are dark
 abbrev pub penalty_of : Version → (ℕ → ℕ → Bool) → ℕ
 penalty_of (Normal v) dark = normal_penalty (side (Normal v)) dark
 penalty_of (Micro v) dark = micro_penalty (side (Micro v)) dark
@@ -31,16 +31,13 @@ penalty v s = penalty_of v (is_dark_at v s)
 
 -- the module in column x and row y, if the mask were j in place of k; `word` is the format word of j
 unfoldable pub remasked_at : Version → ℕ → MaskPattern → MaskPattern → List Color → ℕ → ℕ → Color
-remasked_at v word k j s x y =
-    elim (format_index v x y) [
-      | Some i ↦ color_of (has_bit word (14 - i))
-      | None ↦
-          elim (pattern v x y) [
-            | Some c ↦ color_at v s x y
-            | None ↦
-                color_of (turned_if (not (same (turns k x y) (turns j x y))) (is_dark (color_at v s x y)))
-          ]
-    ]
+remasked_at v word k j s x y = elim (format_index v x y) [
+  | Some i ↦ color_of (has_bit word (14 - i))
+  | None ↦ elim (pattern v x y) [
+    | Some c ↦ color_at v s x y
+    | None ↦ color_of (turned_if (not (same (turns k x y) (turns j x y))) (is_dark (color_at v s x y)))
+  ]
+]
 
 -- the colours, if the mask were j in place of k
 unfoldable pub remasked : Version → EcLevel → MaskPattern → MaskPattern → List Color → List Color

@@ -18,7 +18,7 @@ use Rattle.qrcode_places.specs.declared.masks.MaskPattern.{MaskPattern}
 abbrev pub bits_at : Version → List Color → List (ℕ × ℕ) → List Bool
 bits_at v s places = map (λ p. is_dark (color_at v s p.0 p.1)) places
 
--- the blocks that colours hold under a mask
+-- the blocks held under a mask
 abbrev pub blocks_in : Version → EcLevel → MaskPattern → List Color → List (List ℕ)
 blocks_in v l k s = blocks v l (codewords v l (stream v k s))
 
@@ -45,8 +45,7 @@ pub record IsSymbol (v : Version) (l : EcLevel) (bits : List Bool) (k : MaskPatt
   pub vanishes : AllByRecursion (λ b. Vanishes b (ec_length v l)) (blocks_in v l k s)
   pub remainder : HasZeroRemainder v l k s
 
--- a square of the same side, with at most three wrong bits in each copy of the format word, and in each block at most
--- half as many wrong codewords as it has error correction codewords
+-- a square as large, with at most three wrong bits in each copy of the format word, and in each block at most half as many wrong as error correction codewords
 pub record IsDamaged (v : Version) (l : EcLevel) (k : MaskPattern) (s other : List Color) : Type 0 where
   pub square : length other ≡ length s
   pub format : AllByRecursion (λ places. bit_distance (bits_at v s places) (bits_at v other places) ≤ 3) (format_copies v)
