@@ -1,5 +1,6 @@
 -- Lists of bytes as polynomials, which vanish at powers of 2.
 use Rattle.std.specs.Prelude.{◌≡◌, ℕ, ◌+◌, ◌-◌, ◌*◌, ◌/◌, ◌<◌, ◌≤◌, ◌==◌, List, [], ◌∷◌, length, slice_index, if◌then◌else◌}
+use Rattle.std.specs.List.{AllByRecursion}
 use Rattle.qrcode_types.specs.Bits.{AreBytes}
 use Rattle.qrcode_types.specs.Polynomials.{xor_sum}
 use Rattle.qrcode_ec.specs.Field.{product, power}
@@ -25,6 +26,6 @@ HasDistanceAbove n c = (other : List ℕ) → AreBytes other → length other �
 -- c is a list of bytes that vanishes at n points, as long as r, and differs from r in at most half as many places
 pub record Corrects (r : List ℕ) (n : ℕ) (c : List ℕ) : Type 0 where
   pub equal_length : length r ≡ length c
-  pub bytes : AreBytes c
+  pub bytes : AllByRecursion (λ n. n < 256) c
   pub vanishes : Vanishes c n
   pub near : distance r c ≤ n / 2

@@ -2,7 +2,7 @@
 use Rattle.std.specs.Prelude.{◌≡◌, ℕ, zero, suc, ◌<◌, bit_xor}
 use Rattle.qrcode_types.specs.Polynomials.{carryless, remainder}
 
--- x^8 + x^4 + x^3 + x^2 + 1
+-- what products are divided by
 abbrev pub modulus : ℕ
 modulus = 0x11d
 
@@ -12,9 +12,9 @@ pub record IsProduct (a b p : ℕ) : Type 0 where
   pub quotient : ℕ
   pub differs : bit_xor (carryless a b) p ≡ carryless quotient modulus
 
--- the product, which `IsProduct` describes
+-- the product, which `IsProduct` describes; 0x11d is x^8 + x^4 + x^3 + x^2 + 1
 unfoldable pub product : ℕ → ℕ → ℕ
-product a b = remainder modulus (carryless a b)
+product a b = remainder 0x11d (carryless a b)
 
 -- the powers of 2, which is x
 unfoldable pub power : ℕ → ℕ

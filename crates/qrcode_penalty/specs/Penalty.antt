@@ -28,10 +28,6 @@ abbrev pub begins_run : (ℕ → Bool) → ℕ → Bool
 begins_run line zero = true
 begins_run line (suc i) = not (same (line i) (line (suc i)))
 
--- a run ends at place i of the first n: it is the last of them, or the next is of the other colour
-abbrev pub ends_run : ℕ → (ℕ → Bool) → ℕ → Bool
-ends_run n line i = suc i == n || not (same (line i) (line (suc i)))
-
 -- how many places the run has up to place i
 unfoldable pub run_length : (ℕ → Bool) → ℕ → ℕ
 run_length line zero = 1
@@ -43,7 +39,7 @@ run_cost length = if nat_le 5 length then 3 + (length - 5) else 0
 
 -- what the runs of a line cost, each at the last of its places
 unfoldable pub run_penalty : ℕ → (ℕ → Bool) → ℕ
-run_penalty n line = sum_below n (λ i. count_if (ends_run n line i) (run_cost (run_length line i)))
+run_penalty n line = sum_below n (λ i. count_if (suc i == n || not (same (line i) (line (suc i)))) (run_cost (run_length line i)))
 
 -- the same by windows: five equal places from i on count 1, and 3 where their run begins
 unfoldable pub run_penalty_at : (ℕ → Bool) → ℕ → ℕ

@@ -8,9 +8,13 @@ use Rattle.std.proofs.lemmas.List.FromFn.{length-map-range_with_len, get_or-map-
 use Rattle.qrcode_types.specs.Versions.{side, is_micro}
 use Rattle.qrcode_types.specs.declared.types.Version.{Version}
 use Rattle.qrcode_types.specs.declared.types.Version.TheVariants.{Normal, Micro}
-use Rattle.qrcode_places.specs.Patterns.{is_at, first_format_place, second_format_place, micro_format_place, format_copies, format_index}
+use Rattle.qrcode_places.specs.Patterns.{first_format_place, second_format_place, micro_format_place, format_copies, format_index}
 use Rattle.qrcode_places.specs.Laws.{IsInside, IsFormatCopy, FormatCopiesAreIndexed, FormatPlacesAreInCopies}
 use Rattle.qrcode_places.proofs.Formats.{within}
+
+-- the place is in column x and row y
+abbrev is_at : ℕ → ℕ → ℕ × ℕ → Bool
+is_at x y place = place.0 == x && place.1 == y
 
 -- which bit stands at a place of Normal with w modules along a side, by cases of the row and the column
 abbrev pub normal_cases : ℕ → ℕ → ℕ → Option ℕ

@@ -37,16 +37,13 @@ centres (Micro v) = []
 abbrev pub is_near : ℕ → ℕ → Bool
 is_near x a = nat_le (abs_diff a x) 2
 
--- two coordinates of alignment centres meet in a corner where a finder pattern is
-abbrev pub is_corner_centre : ℕ → ℕ → ℕ → Bool
-is_corner_centre w a b = (a == 6 && (b == 6 || b == w - 7)) || (a == w - 7 && b == 6)
-
 -- the alignment pattern whose centre has the coordinates a and b, dark there and at distance 2, but for the corners where finder patterns are
 abbrev pub alignment_between : ℕ → Option ℕ → Option ℕ → ℕ → ℕ → Option Color
 alignment_between w None b x y = None
 alignment_between w (Some a) None x y = None
 alignment_between w (Some a) (Some b) x y =
-    color_if (not (is_corner_centre w a b)) (not (max (abs_diff a x) (abs_diff b y) == 1))
+    let is_in_corner = (a == 6 && (b == 6 || b == w - 7)) || (a == w - 7 && b == 6) in
+    color_if (not is_in_corner) (not (max (abs_diff a x) (abs_diff b y) == 1))
 
 -- alignment patterns at all pairs of the coordinates; those near a place are at most one in columns and one in rows
 unfoldable pub alignment : Version → ℕ → ℕ → Option Color
@@ -106,13 +103,9 @@ format_copies (Normal v) =
     map first_format_place (range_with_len 0 15) ∷ map second (range_with_len 0 15) ∷ []
 format_copies (Micro v) = map micro_format_place (range_with_len 0 15) ∷ []
 
--- the place is in column x and row y
-abbrev pub is_at : ℕ → ℕ → ℕ × ℕ → Bool
-is_at x y place = place.0 == x && place.1 == y
-
 -- which bit, counted from the highest, stands at a place
 unfoldable pub format_index : Version → ℕ → ℕ → Option ℕ
-format_index v x y = slice_get (filter_map (position_from (is_at x y) 0) (format_copies v)) 0
+format_index v x y = slice_get (filter_map (position_from (λ p. p.0 == x && p.1 == y) 0) (format_copies v)) 0
 
 -- the place belongs to a pattern or to the format word
 unfoldable pub is_functional_place : Version → ℕ → ℕ → Bool
@@ -123,3 +116,7 @@ unfoldable pub decided_bit : Version → ℕ → ℕ → ℕ → Option Bool
 decided_bit v word x y =
     option_or (option_map (λ i. has_bit word (14 - i)) (format_index v x y))
     (option_map is_dark (dark_module v x y))
+
+-- two coordinates of alignment centres meet in a corner where a finder pattern is
+abbrev pub is_corner_centre : ℕ → ℕ → ℕ → Bool
+is_corner_centre w a b = (a == 6 && (b == 6 || b == w - 7)) || (a == w - 7 && b == 6)

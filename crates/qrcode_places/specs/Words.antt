@@ -1,5 +1,5 @@
 -- The format and version words.
-use Rattle.std.specs.Prelude.{◌≡◌, ℕ, ◌+◌, ◌-◌, ◌*◌, ◌^◌, ◌<◌, ◌≤◌, bit_xor, nat_abs, IsTrue}
+use Rattle.std.specs.Prelude.{◌≡◌, ℕ, ◌+◌, ◌-◌, ◌*◌, ◌^◌, ◌<◌, ◌≤◌, bit_xor, nat_abs, IsTrue, if◌then◌else◌}
 use Rattle.qrcode_types.specs.Bits.{number_bits, bit_distance}
 use Rattle.qrcode_types.specs.Polynomials.{remainder}
 use Rattle.qrcode_types.specs.Versions.{is_micro, has_level, level_number}
@@ -27,14 +27,9 @@ abbrev pub format_bits : Version → EcLevel → MaskPattern → ℕ
 format_bits (Normal v) l k = 8 * level_bits l + mask_number k
 format_bits (Micro v) l k = 4 * (2 * nat_abs v - 3 + level_number l) + micro_mask_number k
 
--- what is added to a format word by exclusive or
-abbrev pub format_mask : Version → ℕ
-format_mask (Normal v) = 0x5412
-format_mask (Micro v) = 0x4445
-
 -- the fifteen bits that name level and mask, with a fixed word added by exclusive or; the divisor is x^10 + x^8 + x^5 + x^4 + x^2 + x + 1
 unfoldable pub format_word : Version → EcLevel → MaskPattern → ℕ
-format_word v l k = bit_xor (with_check_bits 0x537 10 (format_bits v l k)) (format_mask v)
+format_word v l k = bit_xor (with_check_bits 0x537 10 (format_bits v l k)) (if is_micro v then 0x4445 else 0x5412)
 
 -- the eighteen bits that name a version, from Normal 7 on; the divisor is x^12 + x^11 + x^10 + x^9 + x^8 + x^5 + x^2 + 1
 unfoldable pub version_word : ℕ → ℕ
