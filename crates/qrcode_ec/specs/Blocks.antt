@@ -22,16 +22,13 @@ block v l words b =
     map (λ i. slice_index words (interleaved_place lengths i b)) (range_with_len 0 (slice_index lengths b))
     ++ map (λ i. slice_index words (data_length v l + i * length lengths + b)) (range_with_len 0 (ec_length v l))
 
--- all blocks of the codewords
-unfoldable pub blocks : Version → EcLevel → List ℕ → List (List ℕ)
+unfoldable pub blocks : Version → EcLevel → List ℕ → List (List ℕ)  -- all blocks of the codewords
 blocks v l words = map (block v l words) (range_with_len 0 (length (block_lengths v l)))
 
--- the data bytes of blocks, in block order
-unfoldable pub data_bytes : Version → EcLevel → List (List ℕ) → List ℕ
+unfoldable pub data_bytes : Version → EcLevel → List (List ℕ) → List ℕ  -- the data bytes of blocks, in block order
 data_bytes v l bs = flat_map (λ b. take (length b - ec_length v l) b) bs
 
--- the same as bits, a half codeword as four
-unfoldable pub data_bits : Version → EcLevel → List (List ℕ) → List Bool
+unfoldable pub data_bits : Version → EcLevel → List (List ℕ) → List Bool  -- the same as bits, a half codeword as four
 data_bits v l bs = take (capacity v l) (bits_of (data_bytes v l bs))
 
 -- The data codewords and the error correction codewords of bytes: their blocks hold the bytes in order, each of them is a

@@ -5,16 +5,13 @@ use Rattle.qrcode_types.specs.Bits.{AreBytes}
 use Rattle.qrcode_types.specs.Polynomials.{xor_sum}
 use Rattle.qrcode_ec.specs.Field.{product, power}
 
--- a polynomial's value at the i-th power of 2, the highest coefficient first
-unfoldable pub syndrome : ℕ → List ℕ → ℕ
+unfoldable pub syndrome : ℕ → List ℕ → ℕ  -- a polynomial's value at the i-th power of 2, the highest coefficient first
 syndrome i c = xor_sum (length c) (λ j. product (slice_index c j) (power (i * (length c - 1 - j))))
 
--- the polynomial is zero at the first n powers of 2
-abbrev pub Vanishes : List ℕ → ℕ → Type 0
+abbrev pub Vanishes : List ℕ → ℕ → Type 0  -- the polynomial is zero at the first n powers of 2
 Vanishes c n = (i : ℕ) → i < n → syndrome i c ≡ 0
 
--- in how many places two lists of one length differ
-abbrev pub distance : List ℕ → List ℕ → ℕ
+abbrev pub distance : List ℕ → List ℕ → ℕ  -- in how many places two lists of one length differ
 distance [] ys = 0
 distance (x ∷ xs) [] = 0
 distance (x ∷ xs) (y ∷ ys) = (if x == y then 0 else 1) + distance xs ys

@@ -2,8 +2,7 @@
 use Rattle.std.specs.Prelude.{◌≡◌, ℕ, zero, suc, ◌<◌, bit_xor}
 use Rattle.qrcode_types.specs.Polynomials.{carryless, remainder}
 
--- what products are divided by
-abbrev pub modulus : ℕ
+abbrev pub modulus : ℕ  -- what products are divided by
 modulus = 0x11d
 
 -- p is the product of a and b: the byte that differs from their carryless product by a carryless multiple of the modulus
@@ -12,12 +11,10 @@ pub record IsProduct (a b p : ℕ) : Type 0 where
   pub quotient : ℕ
   pub differs : bit_xor (carryless a b) p ≡ carryless quotient modulus
 
--- the product, which `IsProduct` describes; 0x11d is x^8 + x^4 + x^3 + x^2 + 1
-unfoldable pub product : ℕ → ℕ → ℕ
+unfoldable pub product : ℕ → ℕ → ℕ  -- the product, which `IsProduct` describes; 0x11d is x^8 + x^4 + x^3 + x^2 + 1
 product a b = remainder 0x11d (carryless a b)
 
--- the powers of 2, which is x
-unfoldable pub power : ℕ → ℕ
+unfoldable pub power : ℕ → ℕ  -- the powers of 2, which is x
 power zero = 1
 power (suc e) = product 2 (power e)
 

@@ -4,98 +4,77 @@ use Rattle.std.specs.Prelude.{ℕ, zero, suc, ◌+◌, ◌-◌, ◌*◌, ◌/◌
 use Rattle.std.specs.Int.{abs_diff}
 use Rattle.std.specs.List.{range_with_len, list_all}
 
--- f 0 + f 1 + .. + f (n - 1)
-unfoldable pub sum_below : ℕ → (ℕ → ℕ) → ℕ
+unfoldable pub sum_below : ℕ → (ℕ → ℕ) → ℕ  -- f 0 + f 1 + .. + f (n - 1)
 sum_below zero f = 0
 sum_below (suc n) f = sum_below n f + f n
 
--- a number where a test holds
-abbrev pub count_if : Bool → ℕ → ℕ
+abbrev pub count_if : Bool → ℕ → ℕ  -- a number where a test holds
 count_if true n = n
 count_if false n = 0
 
--- two modules are both dark or both light
-abbrev pub same : Bool → Bool → Bool
+abbrev pub same : Bool → Bool → Bool  -- two modules are both dark or both light
 same true b = b
 same false b = not b
 
--- the `count` places from i on are of the colour of place i
-abbrev pub is_run : (ℕ → Bool) → ℕ → ℕ → Bool
+abbrev pub is_run : (ℕ → Bool) → ℕ → ℕ → Bool  -- the `count` places from i on are of the colour of place i
 is_run line i count = list_all (λ j. same (line i) (line j)) (range_with_len i count)
 
--- no place of the same colour stands right before i
-abbrev pub begins_run : (ℕ → Bool) → ℕ → Bool
+abbrev pub begins_run : (ℕ → Bool) → ℕ → Bool  -- no place of the same colour stands right before i
 begins_run line zero = true
 begins_run line (suc i) = not (same (line i) (line (suc i)))
 
--- how many places the run has up to place i
-unfoldable pub run_length : (ℕ → Bool) → ℕ → ℕ
+unfoldable pub run_length : (ℕ → Bool) → ℕ → ℕ  -- how many places the run has up to place i
 run_length line zero = 1
 run_length line (suc i) = if same (line i) (line (suc i)) then suc (run_length line i) else 1
 
--- a run of 5 + i places costs 3 + i
-abbrev pub run_cost : ℕ → ℕ
+abbrev pub run_cost : ℕ → ℕ  -- a run of 5 + i places costs 3 + i
 run_cost length = if nat_le 5 length then 3 + (length - 5) else 0
 
--- what the runs of a line cost, each at the last of its places
-unfoldable pub run_penalty : ℕ → (ℕ → Bool) → ℕ
+unfoldable pub run_penalty : ℕ → (ℕ → Bool) → ℕ  -- what the runs of a line cost, each at the last of its places
 run_penalty n line = sum_below n (λ i. count_if (suc i == n || not (same (line i) (line (suc i)))) (run_cost (run_length line i)))
 
 -- the same by windows: five equal places from i on count 1, and 3 where their run begins
 unfoldable pub run_penalty_at : (ℕ → Bool) → ℕ → ℕ
 run_penalty_at line i = count_if (is_run line i 5) (if begins_run line i then 3 else 1)
 
--- the `count` places from i on are light, where inside
-abbrev pub is_light_from : ℕ → (ℕ → Bool) → ℕ → ℕ → Bool
+abbrev pub is_light_from : ℕ → (ℕ → Bool) → ℕ → ℕ → Bool  -- the `count` places from i on are light, where inside
 is_light_from n line i count = list_all (λ j. nat_le n j || not (line j)) (range_with_len i count)
 
--- dark, light, three dark, light, dark from i on
-unfoldable pub is_finder_like : (ℕ → Bool) → ℕ → Bool
+unfoldable pub is_finder_like : (ℕ → Bool) → ℕ → Bool  -- dark, light, three dark, light, dark from i on
 is_finder_like line i = line i && not (line (i + 1)) && line (i + 2) && line (i + 3) && line (i + 4) && not (line (i + 5)) && line (i + 6)
 
--- 40 for a form beside four light places; outside is light
-unfoldable pub finder_penalty_at : ℕ → (ℕ → Bool) → ℕ → ℕ
+unfoldable pub finder_penalty_at : ℕ → (ℕ → Bool) → ℕ → ℕ  -- 40 for a form beside four light places; outside is light
 finder_penalty_at n line i = count_if (is_finder_like line i && (is_light_from n line (i - 4) (i - (i - 4)) || is_light_from n line (i + 7) 4)) 40
 
--- what the finder forms of a line of n places cost
-unfoldable pub finder_penalty : ℕ → (ℕ → Bool) → ℕ
+unfoldable pub finder_penalty : ℕ → (ℕ → Bool) → ℕ  -- what the finder forms of a line of n places cost
 finder_penalty n line = sum_below (n - 6) (finder_penalty_at n line)
 
--- what a line of n places costs
-abbrev pub line_penalty : ℕ → (ℕ → Bool) → ℕ
+abbrev pub line_penalty : ℕ → (ℕ → Bool) → ℕ  -- what a line of n places costs
 line_penalty n line = run_penalty n line + finder_penalty n line
 
--- 3 for each two by two modules of one colour
-unfoldable pub block_penalty_at : (ℕ → ℕ → Bool) → ℕ → ℕ → ℕ
+unfoldable pub block_penalty_at : (ℕ → ℕ → Bool) → ℕ → ℕ → ℕ  -- 3 for each two by two modules of one colour
 block_penalty_at dark y x = count_if (same (dark x y) (dark (x + 1) y) && same (dark x y) (dark x (y + 1)) && same (dark x y) (dark (x + 1) (y + 1))) 3
 
--- what all two by two modules of one colour cost
-unfoldable pub block_penalty : ℕ → (ℕ → ℕ → Bool) → ℕ
+unfoldable pub block_penalty : ℕ → (ℕ → ℕ → Bool) → ℕ  -- what all two by two modules of one colour cost
 block_penalty w dark = sum_below (w - 1) (λ y. sum_below (w - 1) (block_penalty_at dark y))
 
--- how many places of a line are dark
-unfoldable pub dark_count_in : ℕ → (ℕ → Bool) → ℕ
+unfoldable pub dark_count_in : ℕ → (ℕ → Bool) → ℕ  -- how many places of a line are dark
 dark_count_in n line = sum_below n (λ x. count_if (line x) 1)
 
--- how many places of a square are dark
-unfoldable pub dark_count : ℕ → (ℕ → ℕ → Bool) → ℕ
+unfoldable pub dark_count : ℕ → (ℕ → ℕ → Bool) → ℕ  -- how many places of a square are dark
 dark_count w dark = sum_below w (λ y. dark_count_in w (λ x. dark x y))
 
--- how far the dark share is from half, in 200ths rounded down
-unfoldable pub balance_penalty : ℕ → (ℕ → ℕ → Bool) → ℕ
+unfoldable pub balance_penalty : ℕ → (ℕ → ℕ → Bool) → ℕ  -- how far the dark share is from half, in 200ths rounded down
 balance_penalty w dark = abs_diff (200 * dark_count w dark / (w * w)) 100
 
--- the penalty of Normal: rows, columns, blocks and balance
-unfoldable pub normal_penalty : ℕ → (ℕ → ℕ → Bool) → ℕ
+unfoldable pub normal_penalty : ℕ → (ℕ → ℕ → Bool) → ℕ  -- the penalty of Normal: rows, columns, blocks and balance
 normal_penalty w dark =
     sum_below w (λ y. line_penalty w (λ x. dark x y)) + sum_below w (λ x. line_penalty w (λ y. dark x y)) + block_penalty w dark + balance_penalty w dark
 
--- the light places of a line but the first
-unfoldable pub light_count : ℕ → (ℕ → Bool) → ℕ
+unfoldable pub light_count : ℕ → (ℕ → Bool) → ℕ  -- the light places of a line but the first
 light_count w line = sum_below (w - 1) (λ i. count_if (not (line (i + 1))) 1)
 
--- of Micro: by the light modules of the last row and column
-unfoldable pub micro_penalty : ℕ → (ℕ → ℕ → Bool) → ℕ
+unfoldable pub micro_penalty : ℕ → (ℕ → ℕ → Bool) → ℕ  -- of Micro: by the light modules of the last row and column
 micro_penalty w dark =
     let row = light_count w (λ x. dark x (w - 1)) in let column = light_count w (λ y. dark (w - 1) y) in
     row + column + 15 * max row column

@@ -11,12 +11,10 @@ use Rattle.qrcode_places.specs.Masks.{turns, turned_if}
 use Rattle.qrcode_places.specs.Patterns.{is_functional_place}
 use Rattle.qrcode_places.specs.declared.masks.MaskPattern.{MaskPattern}
 
--- the colour in column x and row y of colours in row order
-abbrev pub color_at : Version → List Color → ℕ → ℕ → Color
+abbrev pub color_at : Version → List Color → ℕ → ℕ → Color  -- the colour in column x and row y of colours in row order
 color_at v s x y = slice_index_or s (y * side v + x) Light
 
--- a pair's right column; timing columns, 6 and in Micro 0, are left out
-abbrev pub right_column : Version → ℕ → ℕ
+abbrev pub right_column : Version → ℕ → ℕ  -- a pair's right column; timing columns, 6 and in Micro 0, are left out
 right_column v pair = let column = side v - 1 - 2 * pair in if not (is_micro v) && nat_le column 6 then column - 1 else column
 
 -- the t-th place, column and row, of the walk through pairs of columns from the right, up and down by turns, the right module of each row first
@@ -25,12 +23,10 @@ zigzag_place v t =
     let w = side v in let pair = t / (2 * w) in let step = t % (2 * w) in
     (right_column v pair - step % 2, if pair % 2 == 0 then w - 1 - step / 2 else step / 2)
 
--- all places but those of the column that is left out
-unfoldable pub zigzag : Version → List (ℕ × ℕ)
+unfoldable pub zigzag : Version → List (ℕ × ℕ)  -- all places but those of the column that is left out
 zigzag v = map (zigzag_place v) (range_with_len 0 (side v * (side v - 1)))
 
--- the places that no pattern and no format word has, in that order
-unfoldable pub free_places : Version → List (ℕ × ℕ)
+unfoldable pub free_places : Version → List (ℕ × ℕ)  -- the places that no pattern and no format word has, in that order
 free_places v = filter (λ p. not (is_functional_place v p.0 p.1)) (zigzag v)
 
 -- the bits at the free places: a dark module is a one, turned where the mask turns

@@ -14,8 +14,7 @@ use Rattle.qrcode_places.specs.declared.masks.MaskPattern.{MaskPattern}
 unfoldable pub with_check_bits : ℕ → ℕ → ℕ → ℕ
 with_check_bits divisor count message = message * 2 ^ count + remainder divisor (message * 2 ^ count)
 
--- the two bits of a level in Normal
-abbrev pub level_bits : EcLevel → ℕ
+abbrev pub level_bits : EcLevel → ℕ  -- the two bits of a level in Normal
 level_bits L = 1
 level_bits M = 0
 level_bits Q = 3
@@ -35,8 +34,7 @@ format_word v l k = bit_xor (with_check_bits 0x537 10 (format_bits v l k)) (if i
 unfoldable pub version_word : ℕ → ℕ
 version_word v = with_check_bits 0x1f25 12 v
 
--- two version words differ in at least eight bits
-abbrev pub VersionWordsAreApart : Type 0
+abbrev pub VersionWordsAreApart : Type 0  -- two version words differ in at least eight bits
 VersionWordsAreApart = (a b : ℕ) → 7 ≤ a → a < b → b ≤ 40 → 8 ≤ bit_distance (number_bits 18 (version_word a)) (number_bits 18 (version_word b))
 
 -- two format words name the same level and mask, and those of Micro the same version

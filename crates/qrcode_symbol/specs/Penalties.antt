@@ -15,13 +15,11 @@ use Rattle.qrcode_places.specs.Patterns.{format_index, pattern}
 use Rattle.qrcode_places.specs.Stream.{color_at}
 use Rattle.qrcode_places.specs.declared.masks.MaskPattern.{MaskPattern}
 
--- what a square costs, by which of its places are dark
-abbrev pub penalty_of : Version → (ℕ → ℕ → Bool) → ℕ
+abbrev pub penalty_of : Version → (ℕ → ℕ → Bool) → ℕ  -- what a square costs, by which of its places are dark
 penalty_of (Normal v) dark = normal_penalty (side (Normal v)) dark
 penalty_of (Micro v) dark = micro_penalty (side (Micro v)) dark
 
--- the penalty of colours in row order; no place outside is dark
-unfoldable pub penalty : Version → List Color → ℕ
+unfoldable pub penalty : Version → List Color → ℕ  -- the penalty of colours in row order; no place outside is dark
 penalty v s = penalty_of v (λ x y. nat_lt x (side v) && nat_lt y (side v) && is_dark (color_at v s x y))
 
 -- the module in column x and row y, if the mask were j in place of k; `word` is the format word of j

@@ -14,12 +14,10 @@ use Rattle.qrcode_places.specs.Patterns.{pattern, format_copies}
 use Rattle.qrcode_places.specs.Stream.{color_at, stream}
 use Rattle.qrcode_places.specs.declared.masks.MaskPattern.{MaskPattern}
 
--- the bits of colours at places
-abbrev pub bits_at : Version → List Color → List (ℕ × ℕ) → List Bool
+abbrev pub bits_at : Version → List Color → List (ℕ × ℕ) → List Bool  -- the bits of colours at places
 bits_at v s places = map (λ p. is_dark (color_at v s p.0 p.1)) places
 
--- the blocks held under a mask
-abbrev pub blocks_in : Version → EcLevel → MaskPattern → List Color → List (List ℕ)
+abbrev pub blocks_in : Version → EcLevel → MaskPattern → List Color → List (List ℕ)  -- the blocks held under a mask
 blocks_in v l k s = blocks v l (codewords v l (stream v k s))
 
 -- a square with the functional patterns, and with the format word in each copy of its places
