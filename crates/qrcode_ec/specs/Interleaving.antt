@@ -6,16 +6,13 @@ use Rattle.qrcode_types.specs.Blocks.{count_of, data_length_of}
 use Rattle.qrcode_types.specs.declared.tables.Blocks.{Blocks}
 use Rattle.qrcode_ec.specs.Codes.{Vanishes}
 
--- the data bytes of block b
-abbrev pub length_of : Blocks → ℕ → ℕ
+abbrev pub length_of : Blocks → ℕ → ℕ  -- the data bytes of block b
 length_of blocks b = blocks.short_length + (if nat_le blocks.short_blocks b then 1 else 0)
 
--- the data bytes before block b; each of the long blocks before it has one more
-abbrev pub start_of : Blocks → ℕ → ℕ
+abbrev pub start_of : Blocks → ℕ → ℕ  -- the data bytes before block b; each of the long blocks before it has one more
 start_of blocks b = b * blocks.short_length + (b - blocks.short_blocks)
 
--- block b of the data
-unfoldable pub data_block : Blocks → List ℕ → ℕ → List ℕ
+unfoldable pub data_block : Blocks → List ℕ → ℕ → List ℕ  -- block b of the data
 data_block blocks bytes b = slice_range bytes (start_of blocks b) (start_of blocks b + length_of blocks b)
 
 -- the i-th bytes of all blocks stand in a row, for each i below the length of a short block
@@ -23,18 +20,15 @@ abbrev pub HasRows : Blocks → List ℕ → List ℕ → Type 0
 HasRows blocks bytes words =
     (i b : ℕ) → i < blocks.short_length → b < count_of blocks → slice_index words (i * count_of blocks + b) ≡ slice_index (data_block blocks bytes b) i
 
--- the last bytes of the long blocks stand behind the rows
-abbrev pub HasEnds : Blocks → List ℕ → List ℕ → Type 0
+abbrev pub HasEnds : Blocks → List ℕ → List ℕ → Type 0  -- the last bytes of the long blocks stand behind the rows
 HasEnds blocks bytes words =
     (b : ℕ) → b < blocks.long_blocks
     → slice_index words (blocks.short_length * count_of blocks + b) ≡ slice_index (data_block blocks bytes (blocks.short_blocks + b)) blocks.short_length
 
--- the error correction bytes of block b, of which each row has one
-abbrev pub ec_block : Blocks → List ℕ → ℕ → List ℕ
+abbrev pub ec_block : Blocks → List ℕ → ℕ → List ℕ  -- the error correction bytes of block b, of which each row has one
 ec_block blocks words b = map (λ i. slice_index words (i * count_of blocks + b)) (range_with_len 0 blocks.ec_length)
 
--- the error correction bytes of each block make it vanish
-abbrev pub MakeVanish : Blocks → List ℕ → List ℕ → Type 0
+abbrev pub MakeVanish : Blocks → List ℕ → List ℕ → Type 0  -- the error correction bytes of each block make it vanish
 MakeVanish blocks bytes words = (b : ℕ) → b < count_of blocks → Vanishes (data_block blocks bytes b ++ ec_block blocks words b) blocks.ec_length
 
 -- the data codewords of blocks and their error correction codewords

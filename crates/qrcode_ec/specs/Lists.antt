@@ -5,12 +5,10 @@ use Rattle.qrcode_types.specs.declared.types.Version.{Version}
 use Rattle.qrcode_types.specs.declared.types.EcLevel.{EcLevel}
 use Rattle.qrcode_ec.specs.Blocks.{AreCodewords}
 
--- the data codewords, which come first
-abbrev pub data_in : Version → EcLevel → List ℕ → List ℕ
+abbrev pub data_in : Version → EcLevel → List ℕ → List ℕ  -- the data codewords, which come first
 data_in v l list = take (data_length v l) list
 
--- the error correction codewords behind them
-abbrev pub ec_in : Version → EcLevel → List ℕ → List ℕ
+abbrev pub ec_in : Version → EcLevel → List ℕ → List ℕ  -- the error correction codewords behind them
 ec_in v l list = take (total_ec_length v l) (drop (data_length v l) list)
 
 -- as many codewords as a symbol has, and nine zeros behind them

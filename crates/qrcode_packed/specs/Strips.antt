@@ -20,12 +20,10 @@ pub record IsStripRoom (count width : ℕ) (lines : List ℕ) : Type 0 where
   pub before : (k j : ℕ) → k < count → j < 4 → slice_index_or lines (k * (width + 4) + j) 0 ≡ 0
   pub behind : (j : ℕ) → j < 8 → slice_index_or lines (count * (width + 4) + j) 0 ≡ 0
 
--- each strip begins with a word of the rows
-abbrev pub AreWords : ℕ → ℕ → Type 0
+abbrev pub AreWords : ℕ → ℕ → Type 0  -- each strip begins with a word of the rows
 AreWords half count = (k : ℕ) → k < count → half * k ≡ 64 * k
 
--- a line that is in none of so many strips
-abbrev pub IsApart : ℕ → ℕ → ℕ → Type 0
+abbrev pub IsApart : ℕ → ℕ → ℕ → Type 0  -- a line that is in none of so many strips
 IsApart count width n = (k y : ℕ) → k < count → y < width → n ≢ k * (width + 4) + 4 + y
 
 -- the last rows and columns of a square, line j of each being the one of number first + j, show the places that pass a test

@@ -3,21 +3,17 @@ use Rattle.std.specs.Prelude.{◌≡◌, ℕ, zero, suc, ◌+◌, ◌*◌, ◌<�
 use Rattle.qrcode_packed.specs.Rows.{is_set}
 use Rattle.qrcode_penalty.specs.Penalty.{sum_below, count_if, is_run}
 
--- the test holds of the place before, which is there
-abbrev pub before : (ℕ → Bool) → ℕ → Bool
+abbrev pub before : (ℕ → Bool) → ℕ → Bool  -- the test holds of the place before, which is there
 before v zero = false
 before v (suc k) = v k
 
--- the test holds of the place or the one before
-abbrev pub two : (ℕ → Bool) → ℕ → Bool
+abbrev pub two : (ℕ → Bool) → ℕ → Bool  -- the test holds of the place or the one before
 two v k = v k || before v k
 
--- the test holds of the place or one of the two before
-abbrev pub three : (ℕ → Bool) → ℕ → Bool
+abbrev pub three : (ℕ → Bool) → ℕ → Bool  -- the test holds of the place or one of the two before
 three v k = v k || before (two v) k
 
--- five equal modules begin in column x and row y
-abbrev pub run_from : (ℕ → ℕ → Bool) → ℕ → ℕ → Bool
+abbrev pub run_from : (ℕ → ℕ → Bool) → ℕ → ℕ → Bool  -- five equal modules begin in column x and row y
 run_from dark x y = is_run (dark x) y 5
 
 -- how many of m columns have a window that begins in row y or one of the two before

@@ -2,8 +2,7 @@
 use Rattle.std.specs.Prelude.{ℕ, ◌+◌, ◌-◌, nat_lt, ◌&&◌, Bool}
 use Rattle.qrcode_penalty.specs.Penalty.{count_if, same, sum_below, line_penalty, block_penalty_at}
 
--- a test of the first n places of a line, which no other place passes
-abbrev pub within : ℕ → (ℕ → Bool) → ℕ → Bool
+abbrev pub within : ℕ → (ℕ → Bool) → ℕ → Bool  -- a test of the first n places of a line, which no other place passes
 within n line i = nat_lt i n && line i
 
 -- 3 where two by two modules of one colour begin in row y of a column, with the next column

@@ -9,8 +9,7 @@ pub record IsPadded (count : ℕ) (lines : List ℕ) : Type 0 where
   pub before : (j : ℕ) → j < 4 → slice_index_or lines j 0 ≡ 0
   pub behind : (j : ℕ) → j < 4 → slice_index_or lines (count + 4 + j) 0 ≡ 0
 
--- the lines without those around
-abbrev pub inner_lines : ℕ → List ℕ → List ℕ
+abbrev pub inner_lines : ℕ → List ℕ → List ℕ  -- the lines without those around
 inner_lines count lines = take count (drop 4 lines)
 
 -- the lines of the k-th strip of a square with those around, and without
@@ -20,8 +19,7 @@ padded_strip width lines k = take (width + 12) (drop (k * (width + 4)) lines)
 abbrev pub strip_lines : ℕ → List ℕ → ℕ → List ℕ
 strip_lines width lines k = inner_lines width (padded_strip width lines k)
 
--- dark, light and dark from place k on
-abbrev pub is_mark : (ℕ → Bool) → ℕ → Bool
+abbrev pub is_mark : (ℕ → Bool) → ℕ → Bool  -- dark, light and dark from place k on
 is_mark line k = (line k && line (k + 2)) && not (line (k + 1))
 
 -- words that show where such marks begin in a line and the next
@@ -29,15 +27,13 @@ pub record AreTwoMarks (lines : List ℕ) (k first second : ℕ) : Type 0 where
   pub first_at : (x : ℕ) → is_set first x ≡ is_mark (dark_in lines x) k
   pub second_at : (x : ℕ) → is_set second x ≡ is_mark (dark_in lines x) (k + 1)
 
--- and in four lines
-pub record AreFourMarks (lines : List ℕ) (k first second third fourth : ℕ) : Type 0 where
+pub record AreFourMarks (lines : List ℕ) (k first second third fourth : ℕ) : Type 0 where  -- and in four lines
   pub first_at : (x : ℕ) → is_set first x ≡ is_mark (dark_in lines x) k
   pub second_at : (x : ℕ) → is_set second x ≡ is_mark (dark_in lines x) (k + 1)
   pub third_at : (x : ℕ) → is_set third x ≡ is_mark (dark_in lines x) (k + 2)
   pub fourth_at : (x : ℕ) → is_set fourth x ≡ is_mark (dark_in lines x) (k + 3)
 
--- one of the four places from k on is dark
-abbrev pub is_any_of_four : (ℕ → Bool) → ℕ → Bool
+abbrev pub is_any_of_four : (ℕ → Bool) → ℕ → Bool  -- one of the four places from k on is dark
 is_any_of_four line k = (line k || line (k + 1)) || (line (k + 2) || line (k + 3))
 
 -- a finder form that begins four places behind place k has light places alone before it or behind it

@@ -4,14 +4,12 @@ use Rattle.qrcode_packed.specs.Rows.{is_set, dark_in}
 use Rattle.qrcode_packed.specs.Strips.{ShowsStrips}
 use Rattle.qrcode_penalty.specs.Penalty.{count_if, same, sum_below}
 
--- so many places in two halves, of which one fits a word
-pub record HasHalves (room : ℕ) : Type 0 where
+pub record HasHalves (room : ℕ) : Type 0 where  -- so many places in two halves, of which one fits a word
   pub at_least : 2 ≤ room
   pub at_most : room ≤ 128
   pub even : room ≡ 2 * (room / 2)
 
--- how many columns of a square stand in so many strips
-abbrev pub columns_in : ℕ → ℕ → ℕ → ℕ
+abbrev pub columns_in : ℕ → ℕ → ℕ → ℕ  -- how many columns of a square stand in so many strips
 columns_in half count width = min width (count * half)
 
 -- the colour changes from place i of row y to the next, or there is no next among so many columns
@@ -26,19 +24,16 @@ is_block columns dark y i = not (nat_le columns (i + 1)) && (same (dark i y) (da
 abbrev pub blocks_in_row : ℕ → ℕ → ℕ → (ℕ → ℕ → Bool) → ℕ → ℕ
 blocks_in_row half columns k dark y = sum_below half (λ x. count_if (is_block columns dark y (half * k + x)) 1)
 
--- how many of these places of row y are dark
-abbrev pub darks_in_row : ℕ → ℕ → (ℕ → ℕ → Bool) → ℕ → ℕ
+abbrev pub darks_in_row : ℕ → ℕ → (ℕ → ℕ → Bool) → ℕ → ℕ  -- how many of these places of row y are dark
 darks_in_row half k dark y = sum_below half (λ x. count_if (dark (half * k + x) y) 1)
 
--- the same in all rows of the k-th strip
-abbrev pub blocks_in_strip : ℕ → ℕ → ℕ → (ℕ → ℕ → Bool) → ℕ → ℕ
+abbrev pub blocks_in_strip : ℕ → ℕ → ℕ → (ℕ → ℕ → Bool) → ℕ → ℕ  -- the same in all rows of the k-th strip
 blocks_in_strip half columns width dark k = sum_below (width - 1) (blocks_in_row half columns k dark)
 
 abbrev pub darks_in_strip : ℕ → ℕ → (ℕ → ℕ → Bool) → ℕ → ℕ
 darks_in_strip half width dark k = sum_below width (darks_in_row half k dark)
 
--- and in all strips
-abbrev pub blocks_in_strips : ℕ → ℕ → ℕ → (ℕ → ℕ → Bool) → ℕ
+abbrev pub blocks_in_strips : ℕ → ℕ → ℕ → (ℕ → ℕ → Bool) → ℕ  -- and in all strips
 blocks_in_strips half count width dark = sum_below count (blocks_in_strip half (columns_in half count width) width dark)
 
 abbrev pub darks_in_strips : ℕ → ℕ → ℕ → (ℕ → ℕ → Bool) → ℕ

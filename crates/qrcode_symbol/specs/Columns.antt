@@ -10,12 +10,10 @@ use Rattle.qrcode_symbol.specs.declared.canvas.Module.TheVariants.{Empty}
 use Rattle.qrcode_places.specs.Patterns.{is_functional_place}
 use Rattle.qrcode_places.specs.Stream.{zigzag_place}
 
--- the row of a step in a pair of columns, upwards or downwards
-abbrev pub row_at : Bool → ℕ → ℕ → ℕ
+abbrev pub row_at : Bool → ℕ → ℕ → ℕ  -- the row of a step in a pair of columns, upwards or downwards
 row_at up width step = if up then width - 1 - step else step
 
--- how many of the numbers below a bound pass a test
-unfoldable pub passing : (ℕ → Bool) → ℕ → ℕ
+unfoldable pub passing : (ℕ → Bool) → ℕ → ℕ  -- how many of the numbers below a bound pass a test
 passing test zero = 0
 passing test (suc n) = passing test n + (if test n then 1 else 0)
 
@@ -23,12 +21,10 @@ passing test (suc n) = passing test n + (if test n then 1 else 0)
 unfoldable pub stream_bit : List ℕ → ℕ → Bool
 stream_bit bytes n = has_bit (slice_index_or bytes (n / 8) 0) (7 - n % 8)
 
--- bit j of a word, its highest bit being the first
-abbrev pub nth_bit : ℕ → ℕ → Bool
+abbrev pub nth_bit : ℕ → ℕ → Bool  -- bit j of a word, its highest bit being the first
 nth_bit word j = is_set word (63 - j)
 
--- bit y of a line in parts of 32 bits
-abbrev pub is_set_in : List ℕ → ℕ → Bool
+abbrev pub is_set_in : List ℕ → ℕ → Bool  -- bit y of a line in parts of 32 bits
 is_set_in parts y = is_set (slice_index_or parts (y / 32) 0) (y % 32)
 
 -- the j-th place that is met in a pair of columns is free, by the free rows of both; of each row the right place is first
@@ -42,12 +38,10 @@ pub record HoldBits (bytes : List ℕ) (from : ℕ) (up : Bool) (width : ℕ) (l
   pub right_hold : (s : ℕ) → s < steps → let y = row_at up width s in new_right y ≡ (right y && stream_bit bytes (from + passing (is_free_step up width left right) (2 * s)))
   pub left_hold : (s : ℕ) → s < steps → let y = row_at up width s in new_left y ≡ (left y && stream_bit bytes (from + passing (is_free_step up width left right) (2 * s + 1)))
 
--- a place is free
-abbrev pub is_free_place : Version → ℕ → ℕ → Bool
+abbrev pub is_free_place : Version → ℕ → ℕ → Bool  -- a place is free
 is_free_place v x y = not (is_functional_place v x y)
 
--- how many free places the walk meets in so many steps
-unfoldable pub free_before : Version → ℕ → ℕ
+unfoldable pub free_before : Version → ℕ → ℕ  -- how many free places the walk meets in so many steps
 free_before v t = passing (λ i. is_free_place v (zigzag_place v i).0 (zigzag_place v i).1) t
 
 -- columns, bit y of each standing for row y, with the bits of a stream in the free places of so many steps of the walk
@@ -60,8 +54,7 @@ pub record AreFreeColumns (v : Version) (columns : List ℕ) : Type 0 where
   pub shown : (x y : ℕ) → x < side v → y < side v → is_set (slice_index_or columns x 0) y ≡ is_free_place v x y
   pub fits : (x : ℕ) → FitsWidth (side v) (slice_index_or columns x 0)
 
--- the bits of bytes are these, and zeros behind them
-abbrev pub ShowBits : List Bool → List ℕ → Type 0
+abbrev pub ShowBits : List Bool → List ℕ → Type 0  -- the bits of bytes are these, and zeros behind them
 ShowBits bits bytes = (i : ℕ) → slice_index_or (bits_of bytes) i false ≡ slice_index_or bits i false
 
 -- bytes, the last nine of which are zeros, whose bits are these and zeros behind them

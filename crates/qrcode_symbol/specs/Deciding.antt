@@ -19,8 +19,7 @@ pub record IsPutInColumn (rows : List ℕ) (first count : ℕ) (bit : ℕ → Bo
   pub behind : (y : ℕ) → first + count ≤ y → dark_in new 8 y ≡ dark_in rows 8 y
   pub others : (x y : ℕ) → x ≢ 8 → dark_in new x y ≡ dark_in rows x y
 
--- rows with the bits that no mask decides
-abbrev pub AreDecided : Version → ℕ → List ℕ → List ℕ → Type 0
+abbrev pub AreDecided : Version → ℕ → List ℕ → List ℕ → Type 0  -- rows with the bits that no mask decides
 AreDecided v word rows new = (x y : ℕ) → dark_in new x y ≡ unwrap_or (decided_bit v word x y) (dark_in rows x y)
 
 -- lines with the lowest bits of two numbers in their eighth places and in those of their upper halves, from a line on
@@ -31,8 +30,7 @@ pub record IsPutInLines (half : ℕ) (lines : List ℕ) (first count low high : 
   pub above : (x n : ℕ) → x < half → x ≢ 8 → dark_in new (half + x) n ≡ dark_in lines (half + x) n
   pub apart : (n : ℕ) → ((i : ℕ) → i < count → n ≢ first + i) → slice_index_or new n 0 ≡ slice_index_or lines n 0
 
--- a place of row 8 of Normal that no mask decides, or of column 8
-abbrev pub is_format_place : ℕ → ℕ → Bool
+abbrev pub is_format_place : ℕ → ℕ → Bool  -- a place of row 8 of Normal that no mask decides, or of column 8
 is_format_place w i = nat_lt i 6 || ((nat_le 7 i && nat_lt i 9) || (nat_le (w - 8) i && nat_lt i w))
 
 -- the k-th strip, by what its places show along the rows and along the columns, each by the number of the line that they

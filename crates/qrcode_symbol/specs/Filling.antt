@@ -14,12 +14,10 @@ use Rattle.qrcode_symbol.specs.declared.canvas.Module.TheVariants.{Empty, Unmask
 abbrev pub row_of_step : ℕ → ℕ → ℕ → ℕ
 row_of_step width pair step = if pair % 2 == 0 then width - 1 - step else step
 
--- where the t-th place of the walk is, in row order
-abbrev pub place_index : Version → ℕ → ℕ
+abbrev pub place_index : Version → ℕ → ℕ  -- where the t-th place of the walk is, in row order
 place_index v t = (zigzag_place v t).1 * side v + (zigzag_place v t).0
 
--- the empty places from step t of the walk on
-abbrev pub empty_from : Version → List Module → ℕ → List ℕ
+abbrev pub empty_from : Version → List Module → ℕ → List ℕ  -- the empty places from step t of the walk on
 empty_from v modules t = filter (λ i. is_empty (slice_index_or modules i Empty)) (map (place_index v) (range_with_len t (side v * (side v - 1) - t)))
 
 -- the modules when bits are drawn in the empty places from step t on
@@ -32,25 +30,20 @@ drawn_if false bit modules index = modules
 drawn_if true None modules index = modules
 drawn_if true (Some b) modules index = slice_set modules index (Unmasked (color_of b))
 
--- the bits that are left when one is drawn where the module is empty
-abbrev pub left_if : Bool → List Bool → List Bool
+abbrev pub left_if : Bool → List Bool → List Bool  -- the bits that are left when one is drawn where the module is empty
 left_if false bits = bits
 left_if true bits = drop 1 bits
 
--- the module at an index is empty
-abbrev pub is_empty_at : List Module → ℕ → Bool
+abbrev pub is_empty_at : List Module → ℕ → Bool  -- the module at an index is empty
 is_empty_at modules index = is_empty (slice_index_or modules index Empty)
 
--- the index of the right module of a pair of columns in the row of a step
-abbrev pub row_index : Version → ℕ → ℕ → ℕ
+abbrev pub row_index : Version → ℕ → ℕ → ℕ  -- the index of the right module of a pair of columns in the row of a step
 row_index v pair step = row_of_step (side v) pair step * side v + right_column v pair
 
--- both modules of rows of a pair of columns, by the indices of the right ones
-abbrev pub row_places : List ℕ → List ℕ
+abbrev pub row_places : List ℕ → List ℕ  -- both modules of rows of a pair of columns, by the indices of the right ones
 row_places [] = []
 row_places (i ∷ rows) = i ∷ (i - 1) ∷ row_places rows
 
--- the lowest eight bits of a number, if there is one
-abbrev pub eight_of : Option ℕ → List Bool
+abbrev pub eight_of : Option ℕ → List Bool  -- the lowest eight bits of a number, if there is one
 eight_of (Some n) = number_bits 8 n
 eight_of None = []

@@ -14,18 +14,15 @@ use Rattle.qrcode_symbol.specs.declared.canvas.Module.TheVariants.{Empty, Masked
 use Rattle.qrcode_symbol.specs.Canvas.{color_of_module, colors_of, with_mask, with_patterns, with_bits_drawn, blank, IsBestMask}
 use Rattle.qrcode_symbol.specs.Penalties.{penalty_of, IsFirstLeast}
 
--- the module is dark
-abbrev pub is_dark_module : Module → Bool
+abbrev pub is_dark_module : Module → Bool  -- the module is dark
 is_dark_module m = is_dark (color_of_module m)
 
--- a mask may turn the module
-abbrev pub is_free : Module → Bool
+abbrev pub is_free : Module → Bool  -- a mask may turn the module
 is_free Empty = true
 is_free (Masked c) = false
 is_free (Unmasked c) = true
 
--- 1 where a test holds
-abbrev pub digit : Bool → ℕ
+abbrev pub digit : Bool → ℕ  -- 1 where a test holds
 digit b = if b then 1 else 0
 
 -- the number whose bit i is the answer of a test for the i-th item
@@ -41,16 +38,13 @@ ShowsModules test w modules rows = Shows w rows (λ x y. test (slice_index_or mo
 unfoldable pub masked_dark : Version → ℕ → MaskPattern → List ℕ → List ℕ → ℕ → ℕ → Bool
 masked_dark v word k dark free x y = unwrap_or (decided_bit v word x y) (turned_if (dark_in free x y && turns k x y) (dark_in dark x y))
 
--- the 64 places behind those of a word in which six places stand again and again
-abbrev pub next_places : ℕ → ℕ
+abbrev pub next_places : ℕ → ℕ  -- the 64 places behind those of a word in which six places stand again and again
 next_places word = bit_or (word / 2 ^ 4) (word * 2 ^ 56 % 2 ^ 64)
 
--- 192 such places, by the first 64
-abbrev pub three_words : ℕ → ℕ
+abbrev pub three_words : ℕ → ℕ  -- 192 such places, by the first 64
 three_words word = (next_places (next_places word) * 2 ^ 64 + next_places word) * 2 ^ 64 + word
 
--- the number of three words, the lowest first
-abbrev pub number_of_words : List ℕ → ℕ
+abbrev pub number_of_words : List ℕ → ℕ  -- the number of three words, the lowest first
 number_of_words words = (slice_index_or words 2 0 * 2 ^ 64 + slice_index_or words 1 0) * 2 ^ 64 + slice_index_or words 0 0
 
 -- row k with the places turned that the mask turns
@@ -66,8 +60,7 @@ AreTurned w mask dark free count rows = (y : ℕ) → y < count → IsTurnedRow 
 abbrev pub IsLastColumn : ℕ → List ℕ → ℕ → Type 0
 IsLastColumn w rows column = (y : ℕ) → y < w → is_set column y ≡ dark_in rows (w - 1) y
 
--- what such rows cost under the k-th mask
-unfoldable pub nth_cost : Version → EcLevel → ℕ → List ℕ → List ℕ → ℕ → ℕ
+unfoldable pub nth_cost : Version → EcLevel → ℕ → List ℕ → List ℕ → ℕ → ℕ  -- what such rows cost under the k-th mask
 nth_cost v l w dark free k = let mask = nth_mask v k in penalty_of v (inside w (masked_dark v (format_word v l mask) mask dark free))
 
 -- no number below the count costs less than k, and none before k as little

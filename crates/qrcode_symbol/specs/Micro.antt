@@ -9,8 +9,7 @@ use Rattle.qrcode_symbol.specs.Columns.{free_before, is_free_place, nth_bit, str
 abbrev pub first_free : ℕ → ℕ
 first_free right = if nat_le 10 right then 1 else 9
 
--- the k-th row of a pair of columns from row `top` on, upwards or downwards
-abbrev pub row_from : Bool → ℕ → ℕ → ℕ → ℕ
+abbrev pub row_from : Bool → ℕ → ℕ → ℕ → ℕ  -- the k-th row of a pair of columns from row `top` on, upwards or downwards
 row_from up width top k = if up then width - 1 - k else top + k
 
 -- rows with the first bits of a word in so many rows of a pair of columns, of each row the right place first
@@ -20,12 +19,10 @@ pub record IsPairDrawn (word : ℕ) (up : Bool) (width right top count : ℕ) (o
   pub same : (y : ℕ) → ((k : ℕ) → k < count → y ≢ row_from up width top k) → slice_index_or new y 0 ≡ slice_index_or old y 0
   pub others : (x y : ℕ) → x ≢ right → x ≢ right - 1 → dark_in new x y ≡ dark_in old x y
 
--- nothing is drawn in the columns up to one
-abbrev pub IsClearTo : ℕ → List ℕ → Type 0
+abbrev pub IsClearTo : ℕ → List ℕ → Type 0  -- nothing is drawn in the columns up to one
 IsClearTo right rows = (x y : ℕ) → x ≤ right → dark_in rows x y ≡ false
 
--- no row has a bit from `width` on
-abbrev pub AllFit : ℕ → List ℕ → Type 0
+abbrev pub AllFit : ℕ → List ℕ → Type 0  -- no row has a bit from `width` on
 AllFit width rows = (y : ℕ) → FitsWidth width (slice_index_or rows y 0)
 
 -- rows with the bits of a stream in the free places of so many steps of the walk

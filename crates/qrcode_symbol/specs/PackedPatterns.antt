@@ -23,12 +23,10 @@ pub record AreBegun (v : Version) (dark free : List ℕ) : Type 0 where
 abbrev pub IsTaken : List ℕ → ℕ → ℕ → ℕ → ℕ → Type 0
 IsTaken free left top across down = (x y : ℕ) → left ≤ x → x < left + across → top ≤ y → y < top + down → dark_in free x y ≡ false
 
--- no place becomes free
-abbrev pub StayTaken : List ℕ → List ℕ → Type 0
+abbrev pub StayTaken : List ℕ → List ℕ → Type 0  -- no place becomes free
 StayTaken old new = (x y : ℕ) → dark_in old x y ≡ false → dark_in new x y ≡ false
 
--- the places of so many columns of a row, from a column on
-pub record IsSpan (left across places : ℕ) : Type 0 where
+pub record IsSpan (left across places : ℕ) : Type 0 where  -- the places of so many columns of a row, from a column on
   pub inside : (x : ℕ) → left ≤ x → x < left + across → is_set places x ≡ true
   pub before : (x : ℕ) → x < left → is_set places x ≡ false
   pub behind : (x : ℕ) → left + across ≤ x → is_set places x ≡ false
