@@ -10,16 +10,14 @@ use Rattle.qrcode_symbol.specs.Penalties.{IsFirstLeast}
 use Rattle.qrcode_symbol.specs.Reading.{ReadsBits, ReadsBitsOnly}
 use Rattle.qrcode_bits.specs.Spelling.{Spells}
 
--- a reader finds these bytes
-pub record Reads (s : List Color) (bytes : List ℕ) : Type 0 where
+pub record Reads (s : List Color) (bytes : List ℕ) : Type 0 where  -- a reader finds these bytes
   pub version : Version
   pub level : EcLevel
   pub bits : List Bool
   pub read : ReadsBits s version level bits
   pub spelled : Spells version bits bytes
 
--- these bytes are found, and no others
-pub record ReadsOnly (s : List Color) (bytes : List ℕ) : Type 0 where
+pub record ReadsOnly (s : List Color) (bytes : List ℕ) : Type 0 where  -- these bytes are found, and no others
   pub found : Reads s bytes
   pub only : (others : List ℕ) → Reads s others → others ≡ bytes
 
@@ -29,8 +27,7 @@ BitsAreReadOneWay =
     (s : List Color) (v u : Version) (l m : EcLevel) (bits others : List Bool) → ReadsBits s v l bits → ReadsBits s u m others
     → (u ≡ v) × (m ≡ l) × (others ≡ bits)
 
--- nor as other bytes
-abbrev pub BytesAreReadOneWay : Type 0
+abbrev pub BytesAreReadOneWay : Type 0  -- nor as other bytes
 BytesAreReadOneWay = (s : List Color) (bytes others : List ℕ) → Reads s bytes → Reads s others → others ≡ bytes
 
 -- the symbol of bits under the first mask of least penalty, of which every damaged symbol is read as these bits and no others

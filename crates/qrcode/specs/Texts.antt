@@ -21,16 +21,14 @@ use Rattle.qrcode.specs.Code.{Code}
 use Rattle.qrcode.specs.Drawing.{IsMaskOf}
 use Rattle.qrcode.specs.Reading.{ReadsOnly, EncodesBits}
 
--- a reader shows these characters
-pub record ShowsText (s : List Color) (text : List ℕ) : Type 0 where
+pub record ShowsText (s : List Color) (text : List ℕ) : Type 0 where  -- a reader shows these characters
   pub version : Version
   pub level : EcLevel
   pub bits : List Bool
   pub read : ReadsBits s version level bits
   pub shown : Shows version bits text
 
--- these characters are shown, and no others
-pub record ShowsTextOnly (s : List Color) (text : List ℕ) : Type 0 where
+pub record ShowsTextOnly (s : List Color) (text : List ℕ) : Type 0 where  -- these characters are shown, and no others
   pub found : ShowsText s text
   pub only : (others : List ℕ) → ShowsText s others → others ≡ text
 
@@ -40,8 +38,7 @@ pub record IsShownAs (v : Version) (l : EcLevel) (text : List ℕ) (s : List Col
   pub is_mask : IsMaskOf v l mask s
   pub shown : (other : List Color) → IsDamaged v l mask s other → ShowsTextOnly other text
 
--- the symbol of bits that a reader shows as a text is shown so, damaged too
-abbrev pub TextsAreShown : Type 0
+abbrev pub TextsAreShown : Type 0  -- the symbol of bits that a reader shows as a text is shown so, damaged too
 TextsAreShown = (v : Version) (l : EcLevel) (bits : List Bool) (text : List ℕ) (s : List Color) → EncodesBits v l bits s → ShowsOnly v bits text → IsShownAs v l text s
 
 -- The symbol of the bits in front and a least cut of the data in the modes of the manner. Of each damaged symbol a reader shows

@@ -2,7 +2,6 @@
 use Rattle.std.specs.Prelude.{Bool, List}
 use Rattle.qrcode_types.specs.declared.types.Version.{Version}
 
--- a version and a list of bits
-pub record BitList : Type 0 where
+pub record BitList : Type 0 where  -- a version and a list of bits
   pub version : Version
   pub bits : List Bool

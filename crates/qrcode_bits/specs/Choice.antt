@@ -32,8 +32,7 @@ IsRefused l bytes e = (e ≡ OutOfMemory) ⊎ ((e ≡ DataTooLong) × ((n : ℕ)
 abbrev pub IsRefusedFrom : Manner → Version → EcLevel → List ℕ → QrError → Type 0
 IsRefusedFrom m from l bytes e = (e ≡ OutOfMemory) ⊎ ((e ≡ DataTooLong) × ((v : Version) → rank from ≤ rank v → ¬ HoldsAs m v l bytes))
 
--- this where a cause applies, and that where it does not
-abbrev pub IfCause : Type 0 → Type 0 → Type 0 → Type 0
+abbrev pub IfCause : Type 0 → Type 0 → Type 0 → Type 0  -- this where a cause applies, and that where it does not
 IfCause Cause this that = (Cause × this) ⊎ ((¬ Cause) × that)
 
 -- why data is refused in a manner at a version and level: the first of these causes that applies; memory may be refused behind the fourth

@@ -20,8 +20,7 @@ pub record IsLeastCut (v : Version) (bytes : List ℕ) (segments : List Segment)
   pub reached : IsCut v bytes segments
   pub least : (others : List Segment) → IsCut v bytes others → total_cost v segments ≤ total_cost v others
 
--- the data can be cut into segments that take at most so many bits
-abbrev pub FitsIn : Version → List ℕ → ℕ → Type 0
+abbrev pub FitsIn : Version → List ℕ → ℕ → Type 0  -- the data can be cut into segments that take at most so many bits
 FitsIn v bytes most = (segments : List Segment) × (IsCut v bytes segments × (total_cost v segments ≤ most))
 
 -- a cut with modes of a set alone

@@ -8,13 +8,11 @@ use Rattle.qrcode_bits.specs.Groups.{IsJoinable}
 use Rattle.qrcode_bits.specs.declared.optimize.Segment.{Segment}
 use Rattle.qrcode_bits.specs.declared.optimize.groups.Optimizer.{Optimizer}
 
--- two segments as one, where they are joined
-abbrev pub joint_if : Bool → Segment → Segment → Option Segment
+abbrev pub joint_if : Bool → Segment → Segment → Option Segment  -- two segments as one, where they are joined
 joint_if true a b = Some (joint a b)
 joint_if false a b = None
 
--- a group that is begun counts as one more than what is left
-abbrev pub left_after : Option Segment → Count → Count
+abbrev pub left_after : Option Segment → Count → Count  -- a group that is begun counts as one more than what is left
 left_after None c = at_most 0
 left_after (Some s) c = count_map (λ n. n + 1) c
 
@@ -22,8 +20,7 @@ left_after (Some s) c = count_map (λ n. n + 1) c
 abbrev pub groups_left : {S : Type 0} → (S → Count) → Optimizer S → Count
 groups_left left o = left_after o.last (left o.segments)
 
--- the next segment does not join the group
-abbrev pub StopsBefore : Version → Segment → Option Segment → Type 0
+abbrev pub StopsBefore : Version → Segment → Option Segment → Type 0  -- the next segment does not join the group
 StopsBefore v g None = ⊤
 StopsBefore v g (Some s) = is_joined v g s ≡ false
 

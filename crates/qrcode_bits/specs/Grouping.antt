@@ -5,31 +5,25 @@ use Rattle.qrcode_types.specs.declared.types.Version.{Version}
 use Rattle.qrcode_bits.specs.Segments.{cost}
 use Rattle.qrcode_bits.specs.declared.optimize.Segment.{Segment}
 
--- two adjoining segments as one
-abbrev pub joint : Segment → Segment → Segment
+abbrev pub joint : Segment → Segment → Segment  -- two adjoining segments as one
 joint a b = record { mode = mode_max a.mode b.mode; begin = a.begin; end = b.end }
 
--- joining two segments costs at most the sum of both
-abbrev pub is_joined : Version → Segment → Segment → Bool
+abbrev pub is_joined : Version → Segment → Segment → Bool  -- joining two segments costs at most the sum of both
 is_joined v a b = nat_le (cost v (joint a b)) (cost v a + cost v b)
 
--- a segment, and those that were joined to it in turn
-pub record Group : Type 0 where
+pub record Group : Type 0 where  -- a segment, and those that were joined to it in turn
   pub first : Segment
   pub further : List Segment
 
--- a segment and further ones as one
-abbrev pub joint_of : Segment → List Segment → Segment
+abbrev pub joint_of : Segment → List Segment → Segment  -- a segment and further ones as one
 joint_of a [] = a
 joint_of a (s ∷ further) = joint_of (joint a s) further
 
--- each further segment joined the part before it
-abbrev pub is_group : Version → Segment → List Segment → Bool
+abbrev pub is_group : Version → Segment → List Segment → Bool  -- each further segment joined the part before it
 is_group v a [] = true
 is_group v a (s ∷ further) = is_joined v a s && is_group v (joint a s) further
 
--- the first segment of the next group did not join
-abbrev pub ends_before : Version → Segment → List Group → Bool
+abbrev pub ends_before : Version → Segment → List Group → Bool  -- the first segment of the next group did not join
 ends_before v a [] = true
 ends_before v a (g ∷ groups) = not (is_joined v a g.first)
 

@@ -6,8 +6,7 @@ use Rattle.qrcode_bits.specs.Segments.{Tile, AdjoinFrom, total_cost}
 use Rattle.qrcode_bits.specs.Grouping.{IsGrouping, grouping}
 use Rattle.qrcode_bits.specs.declared.optimize.Segment.{Segment}
 
--- the bytes of a range at most
-abbrev pub range_limit : ℕ
+abbrev pub range_limit : ℕ  -- the bytes of a range at most
 range_limit = 134217728
 
 -- the segments adjoin, none ends before it begins, and the range of all is within the limit
@@ -15,8 +14,7 @@ abbrev pub IsJoinable : List Segment → Type 0
 IsJoinable [] = ⊤
 IsJoinable (s ∷ segments) = AdjoinFrom s.begin (s ∷ segments) × AllByRecursion (λ x. x.end ≤ s.begin + range_limit) (s ∷ segments)
 
--- the segments adjoin from one place to another
-abbrev pub Reach : ℕ → List Segment → ℕ → Type 0
+abbrev pub Reach : ℕ → List Segment → ℕ → Type 0  -- the segments adjoin from one place to another
 Reach from [] to = from ≡ to
 Reach from (s ∷ segments) to = (s.begin ≡ from) × ((s.begin ≤ s.end) × Reach s.end segments to)
 

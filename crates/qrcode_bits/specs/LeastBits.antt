@@ -15,19 +15,16 @@ use Rattle.qrcode_bits.specs.declared.optimize.costs.BestStart.{BestStart}
 use Rattle.qrcode_bits.specs.declared.optimize.costs.Costs.{Costs}
 use Rattle.qrcode_bits.specs.declared.optimize.costs.HeaderBits.{HeaderBits}
 
--- the headers of a version, in the modes of a set
-abbrev pub headers_of : Modes → Version → HeaderBits
+abbrev pub headers_of : Modes → Version → HeaderBits  -- the headers of a version, in the modes of a set
 headers_of set v = record { numeric = header set v Numeric; alphanumeric = header set v Alphanumeric; byte = header set v Byte; kanji = header set v Kanji }
 
--- the header of a mode
-abbrev pub header_in : HeaderBits → Mode → ℕ
+abbrev pub header_in : HeaderBits → Mode → ℕ  -- the header of a mode
 header_in h Numeric = h.numeric
 header_in h Alphanumeric = h.alphanumeric
 header_in h Byte = h.byte
 header_in h Kanji = h.kanji
 
--- each header is at most more_than_any
-pub record AreSmall (h : HeaderBits) : Type 0 where
+pub record AreSmall (h : HeaderBits) : Type 0 where  -- each header is at most more_than_any
   pub numeric : h.numeric ≤ more_than_any
   pub alphanumeric : h.alphanumeric ≤ more_than_any
   pub byte : h.byte ≤ more_than_any
@@ -37,8 +34,7 @@ pub record AreSmall (h : HeaderBits) : Type 0 where
 abbrev pub cost_limit : ℕ
 cost_limit = 2147483648
 
--- each of the costs is at most that
-pub record IsSmall (r : Costs) : Type 0 where
+pub record IsSmall (r : Costs) : Type 0 where  -- each of the costs is at most that
   pub start : r.start.bits ≤ cost_limit
   pub digits : r.digits ≤ cost_limit
   pub one_digit : r.one_digit ≤ cost_limit
@@ -65,17 +61,14 @@ begun h Alphanumeric next = h.alphanumeric + 6 + next.odd_letter
 begun h Byte next = h.byte + 8 + next.bytes
 begun h Kanji next = h.kanji + 13 + next.half_pair
 
--- the better of a start and one in another mode
-abbrev pub better : BestStart → Mode → ℕ → BestStart
+abbrev pub better : BestStart → Mode → ℕ → BestStart  -- the better of a start and one in another mode
 better s m bits = if nat_lt bits s.bits then record { bits = bits; mode = m } else s
 
--- the same, where the other mode can write the byte
-abbrev pub better_if : Bool → BestStart → Mode → ℕ → BestStart
+abbrev pub better_if : Bool → BestStart → Mode → ℕ → BestStart  -- the same, where the other mode can write the byte
 better_if true s m bits = better s m bits
 better_if false s m bits = s
 
--- the best start of all modes that can write the byte
-abbrev pub best_start : HeaderBits → Kind → Costs → BestStart
+abbrev pub best_start : HeaderBits → Kind → Costs → BestStart  -- the best start of all modes that can write the byte
 best_start h k next =
     let bytes : BestStart = record { bits = begun h Byte next; mode = Byte } in
     let letters = better_if (takes Alphanumeric k) bytes Alphanumeric (begun h Alphanumeric next) in
@@ -102,12 +95,10 @@ costs_before k s next = record {
   half_pair = next.pairs;
 }
 
--- the same with the best start
-abbrev pub step : HeaderBits → Kind → Costs → Costs
+abbrev pub step : HeaderBits → Kind → Costs → Costs  -- the same with the best start
 step h k next = costs_before k (best_start h k next) next
 
--- the end of the data
-abbrev pub at_end : Costs
+abbrev pub at_end : Costs  -- the end of the data
 at_end = record {
   start = record { bits = 0; mode = Byte };
   digits = 0;
@@ -120,13 +111,11 @@ at_end = record {
   half_pair = 0;
 }
 
--- what the rest takes, byte by byte from its end
-abbrev pub costs_of : HeaderBits → List ℕ → Costs
+abbrev pub costs_of : HeaderBits → List ℕ → Costs  -- what the rest takes, byte by byte from its end
 costs_of h [] = at_end
 costs_of h (b ∷ bytes) = step h (kind_at b (first_byte bytes)) (costs_of h bytes)
 
--- what is read past the end of a list of starts
-abbrev pub past_end : BestStart
+abbrev pub past_end : BestStart  -- what is read past the end of a list of starts
 past_end = record { bits = 0; mode = Numeric }
 
 -- a start for each place of the data, and one for its end
@@ -134,8 +123,7 @@ pub record AreStarts (h : HeaderBits) (bytes : List ℕ) (starts : List BestStar
   pub count : length starts ≡ length bytes + 1
   pub least : (place : ℕ) → place ≤ length bytes → slice_index_or starts place past_end ≡ (costs_of h (drop place bytes)).start
 
--- the bits of so many bytes in a mode, without a header
-abbrev pub data_bits : Mode → ℕ → ℕ
+abbrev pub data_bits : Mode → ℕ → ℕ  -- the bits of so many bytes in a mode, without a header
 data_bits m count = data_bits_count m (character_count m count)
 
 -- a segment that begins at a place, with which a rest takes the fewest bits

@@ -14,14 +14,12 @@ use Rattle.qrcode_bits.specs.declared.optimize.Segment.{Segment}
 use Rattle.qrcode_bits.specs.declared.bits.manner.Manner.{Manner}
 use Rattle.qrcode_bits.specs.declared.bits.manner.Manner.TheVariants.{Bytes, Text, MarkedText}
 
--- the modes of the segments
-abbrev pub modes_of : Manner → Modes
+abbrev pub modes_of : Manner → Modes  -- the modes of the segments
 modes_of Bytes = all_modes
 modes_of Text = text_modes
 modes_of MarkedText = text_modes
 
--- the manner is one of texts
-abbrev pub is_text : Manner → Bool
+abbrev pub is_text : Manner → Bool  -- the manner is one of texts
 is_text Bytes = false
 is_text Text = true
 is_text MarkedText = true
@@ -38,8 +36,7 @@ has_front v Bytes = true
 has_front v Text = true
 has_front v MarkedText = not (is_micro v)
 
--- the bits in front and a cut take at most so many bits
-abbrev pub FitsAs : Manner → Version → List ℕ → ℕ → Type 0
+abbrev pub FitsAs : Manner → Version → List ℕ → ℕ → Type 0  -- the bits in front and a cut take at most so many bits
 FitsAs m v bytes most = (segments : List Segment) × (IsCutIn (modes_of m) v bytes segments × (length (front m) + total_cost v segments ≤ most))
 
 -- the version has the level and may have the bits in front, and its symbol has room for them and some cut of the data
@@ -48,8 +45,7 @@ pub record HoldsAs (m : Manner) (v : Version) (l : EcLevel) (bytes : List ℕ) :
   pub front_exists : IsTrue (has_front v m)
   pub room : FitsAs m v bytes (capacity v l)
 
--- the place of a version in the order Micro 1 to 4, Normal 1 to 40
-abbrev pub rank : Version → ℕ
+abbrev pub rank : Version → ℕ  -- the place of a version in the order Micro 1 to 4, Normal 1 to 40
 rank (Micro v) = nat_abs v
 rank (Normal v) = 4 + nat_abs v
 

@@ -6,8 +6,7 @@ use Rattle.qrcode_types.specs.declared.types.Mode.{Mode}
 use Rattle.qrcode_bits.specs.ModeSets.{is_among}
 use Rattle.qrcode_bits.specs.declared.optimize.mode_sets.Modes.{Modes}
 
--- more bits than any data takes
-abbrev pub more_than_any : ℕ
+abbrev pub more_than_any : ℕ  -- more bits than any data takes
 more_than_any = 1073741824
 
 -- mode indicator and length field, where the version has the mode and it is in the set

@@ -4,15 +4,13 @@ use Rattle.qrcode_types.specs.declared.types.Mode.{Mode}
 use Rattle.qrcode_types.specs.declared.types.Mode.TheVariants.{Numeric, Alphanumeric, Byte, Kanji}
 use Rattle.qrcode_bits.specs.declared.optimize.mode_sets.Modes.{Modes}
 
--- the mode is in the set
-abbrev pub is_among : Modes → Mode → Bool
+abbrev pub is_among : Modes → Mode → Bool  -- the mode is in the set
 is_among set Numeric = set.numeric
 is_among set Alphanumeric = set.alphanumeric
 is_among set Byte = set.byte
 is_among set Kanji = set.kanji
 
--- all four modes
-abbrev pub all_modes : Modes
+abbrev pub all_modes : Modes  -- all four modes
 all_modes = record { numeric = true; alphanumeric = true; byte = true; kanji = true }
 
 -- The modes that a text is written in. A reader takes the bytes of a Kanji segment for Shift JIS, and so would show others.

@@ -19,8 +19,7 @@ pub record Changes (refusal : Option QrError) (old after new : BitList) (result 
   pub changed : OnOk result (new ≡ after)
   pub unchanged : OnErr result (new ≡ old)
 
--- the list with bits behind it
-abbrev pub with_bits : BitList → List Bool → BitList
+abbrev pub with_bits : BitList → List Bool → BitList  -- the list with bits behind it
 with_bits list bits = record list { bits = list.bits ++ bits }
 
 -- bits are appended, or the list is refused

@@ -17,12 +17,10 @@ use Rattle.qrcode_bits.specs.Written.{Piece, written, eci_bits}
 use Rattle.qrcode_bits.specs.declared.bits.ExtendedMode.{ExtendedMode}
 use Rattle.qrcode_bits.specs.declared.bits.ExtendedMode.TheVariants.{Eci, Data, Fnc1First, Fnc1Second, StructuredAppend}
 
--- the bytes of data that are taken at most
-abbrev pub data_limit : ℕ
+abbrev pub data_limit : ℕ  -- the bytes of data that are taken at most
 data_limit = 1048576
 
--- the bits of a list at most
-abbrev pub bit_limit : ℕ
+abbrev pub bit_limit : ℕ  -- the bits of a list at most
 bit_limit = 16777216
 
 -- a push refuses bytes that its mode cannot write; but the mode Alphanumeric writes them as 0

@@ -8,47 +8,40 @@ use Rattle.qrcode_bits.specs.declared.optimize.Segment.{Segment}
 use Rattle.qrcode_bits.specs.declared.optimize.Kind.{Kind}
 use Rattle.qrcode_bits.specs.declared.optimize.Kind.TheVariants.{Pair, LoneLead, Digit, Letter, Other}
 
--- the mode in which a token is written
-abbrev pub mode_of : Kind → Mode
+abbrev pub mode_of : Kind → Mode  -- the mode in which a token is written
 mode_of Pair = Kanji
 mode_of LoneLead = Byte
 mode_of Digit = Numeric
 mode_of Letter = Alphanumeric
 mode_of Other = Byte
 
--- the bytes of a token
-abbrev pub width : Kind → ℕ
+abbrev pub width : Kind → ℕ  -- the bytes of a token
 width Pair = 2
 width LoneLead = 1
 width Digit = 1
 width Letter = 1
 width Other = 1
 
--- the kind of a byte that begins no pair
-abbrev pub single_kind : ℕ → Kind
+abbrev pub single_kind : ℕ → Kind  -- the kind of a byte that begins no pair
 single_kind b = if is_lead b then LoneLead else (if is_digit b then Digit else (if is_alphanumeric b then Letter else Other))
 
--- the kinds of the tokens, from the left
-abbrev pub kinds : List ℕ → List Kind
+abbrev pub kinds : List ℕ → List Kind  -- the kinds of the tokens, from the left
 kinds [] = []
 kinds (b ∷ []) = single_kind b ∷ []
 kinds (b ∷ c ∷ more) = elim (is_kanji b c) [ true ↦ Pair ∷ kinds more | false ↦ single_kind b ∷ kinds (c ∷ more) ]
 
--- two neighbours belong to one run; a lone lead stands alone
-abbrev pub go_together : Kind → Kind → Bool
+abbrev pub go_together : Kind → Kind → Bool  -- two neighbours belong to one run; a lone lead stands alone
 go_together Pair Pair = true
 go_together Digit Digit = true
 go_together Letter Letter = true
 go_together Other Other = true
 go_together _ _ = false
 
--- the run of a token goes on with the tokens after it
-abbrev pub goes_on : Kind → List Kind → Bool
+abbrev pub goes_on : Kind → List Kind → Bool  -- the run of a token goes on with the tokens after it
 goes_on k [] = false
 goes_on k (j ∷ js) = go_together k j
 
--- the first segment, begun earlier
-abbrev pub first_from : ℕ → List Segment → List Segment
+abbrev pub first_from : ℕ → List Segment → List Segment  -- the first segment, begun earlier
 first_from place [] = []
 first_from place (s ∷ ss) = (record s { begin = place }) ∷ ss
 
@@ -59,38 +52,31 @@ runs_from place (k ∷ ks) =
     let end = place + width k in
     if goes_on k ks then first_from place (runs_from end ks) else (record { mode = mode_of k; begin = place; end = end }) ∷ runs_from end ks
 
--- the runs of the data
-abbrev pub runs : List ℕ → List Segment
+abbrev pub runs : List ℕ → List Segment  -- the runs of the data
 runs bytes = runs_from 0 (kinds bytes)
 
 -- The same as a relation.
 
--- a token and so many further ones of its kind
-pub record Row : Type 0 where
+pub record Row : Type 0 where  -- a token and so many further ones of its kind
   pub kind : Kind
   pub further : ℕ
 
--- the tokens of rows
-abbrev pub spelled : List Row → List Kind
+abbrev pub spelled : List Row → List Kind  -- the tokens of rows
 spelled [] = []
 spelled (r ∷ rows) = r.kind ∷ (replicate r.further r.kind ++ spelled rows)
 
--- only lone leads have a neighbour of their own kind
-abbrev pub IsApart : Row → List Row → Type 0
+abbrev pub IsApart : Row → List Row → Type 0  -- only lone leads have a neighbour of their own kind
 IsApart r [] = ⊤
 IsApart r (q ∷ rows) = r.kind ≡ q.kind → r.kind ≡ LoneLead
 
--- rows are as long as can be, and each lone lead is a row of its own
-abbrev pub AreMaximal : List Row → Type 0
+abbrev pub AreMaximal : List Row → Type 0  -- rows are as long as can be, and each lone lead is a row of its own
 AreMaximal [] = ⊤
 AreMaximal (r ∷ rows) = (r.kind ≡ LoneLead → r.further ≡ 0) × (IsApart r rows × AreMaximal rows)
 
--- where a row ends that begins at a place
-abbrev pub row_end : ℕ → Row → ℕ
+abbrev pub row_end : ℕ → Row → ℕ  -- where a row ends that begins at a place
 row_end place r = place + (r.further + 1) * width r.kind
 
--- rows that begin at a place, as segments
-abbrev pub row_segments : ℕ → List Row → List Segment
+abbrev pub row_segments : ℕ → List Row → List Segment  -- rows that begin at a place, as segments
 row_segments place [] = []
 row_segments place (r ∷ rows) = (record { mode = mode_of r.kind; begin = place; end = row_end place r }) ∷ row_segments (row_end place r) rows
 

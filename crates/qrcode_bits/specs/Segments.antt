@@ -11,12 +11,10 @@ use Rattle.qrcode_bits.specs.declared.optimize.Segment.{Segment}
 abbrev pub cost_of : Version → Mode → ℕ → ℕ
 cost_of v m count = mode_bits_count v + length_bits_count m v + data_bits_count m count
 
--- the bits that a segment takes
-abbrev pub cost : Version → Segment → ℕ
+abbrev pub cost : Version → Segment → ℕ  -- the bits that a segment takes
 cost v s = cost_of v s.mode (character_count s.mode (s.end - s.begin))
 
--- the bits that all segments take
-abbrev pub total_cost : Version → List Segment → ℕ
+abbrev pub total_cost : Version → List Segment → ℕ  -- the bits that all segments take
 total_cost v segments = sum_by (cost v) segments
 
 -- the segments follow one another without gaps from one place to another, and none is empty
@@ -24,11 +22,9 @@ abbrev pub Tile : ℕ → List Segment → ℕ → Type 0
 Tile from [] to = from ≡ to
 Tile from (s ∷ segments) to = (s.begin ≡ from) × ((s.begin < s.end) × Tile s.end segments to)
 
--- each range begins where the one before ends; it may be empty
-abbrev pub AdjoinFrom : ℕ → List Segment → Type 0
+abbrev pub AdjoinFrom : ℕ → List Segment → Type 0  -- each range begins where the one before ends; it may be empty
 AdjoinFrom from [] = ⊤
 AdjoinFrom from (s ∷ segments) = (s.begin ≡ from) × ((s.begin ≤ s.end) × AdjoinFrom s.end segments)
 
--- ranges in data of n bytes
-abbrev pub AreInside : ℕ → List Segment → Type 0
+abbrev pub AreInside : ℕ → List Segment → Type 0  -- ranges in data of n bytes
 AreInside n segments = AllByRecursion (λ s. (s.begin ≤ s.end) × (s.end ≤ n)) segments

@@ -15,13 +15,11 @@ pub record IsPieceShown (p : Piece) (text : List ℕ) : Type 0 where
   pub characters : IsTrue (all_scalars text)
   pub utf8 : encode_utf8_all text ≡ p.chunk
 
--- each segment is shown by itself, one after the other
-abbrev pub ArePiecesShown : List Piece → List ℕ → Type 0
+abbrev pub ArePiecesShown : List Piece → List ℕ → Type 0  -- each segment is shown by itself, one after the other
 ArePiecesShown [] text = text ≡ []
 ArePiecesShown (p ∷ pieces) text = (first rest : List ℕ) × ((text ≡ first ++ rest) × (IsPieceShown p first × ArePiecesShown pieces rest))
 
--- in front of the segments stands nothing, or the number 26 of UTF-8
-abbrev pub IsFront : Version → List Bool → Type 0
+abbrev pub IsFront : Version → List Bool → Type 0  -- in front of the segments stands nothing, or the number 26 of UTF-8
 IsFront v bits = (bits ≡ []) ⊎ (IsTrue (has_front v MarkedText) × (bits ≡ front MarkedText))
 
 -- a reader shows these characters of the bits

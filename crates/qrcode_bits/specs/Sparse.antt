@@ -5,8 +5,7 @@ use Rattle.std.specs.Prelude.{◌≡◌, ℕ, ◌+◌, ◌<◌, nat_le, ◌&&◌
 abbrev pub is_dense : ℕ → ℕ → ℕ → ℕ → Bool
 is_dense a b c d = nat_le 129 a || nat_le a 90 && nat_le b 90 && nat_le c 90 && nat_le d 90
 
--- the four bytes from a place on are so
-abbrev pub is_dense_at : List ℕ → ℕ → Bool
+abbrev pub is_dense_at : List ℕ → ℕ → Bool  -- the four bytes from a place on are so
 is_dense_at bytes i = is_dense (slice_index_or bytes i 0) (slice_index_or bytes (i + 1) 0) (slice_index_or bytes (i + 2) 0) (slice_index_or bytes (i + 3) 0)
 
 -- no byte may begin a pair, and no four neighbours are all at most `Z`

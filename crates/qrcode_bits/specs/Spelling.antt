@@ -8,12 +8,10 @@ use Rattle.qrcode_types.specs.declared.types.EcLevel.{EcLevel}
 use Rattle.qrcode_types.specs.Characters.{can_write, character_count}
 use Rattle.qrcode_bits.specs.Written.{Piece, written_piece, terminator_length}
 
--- the pieces end here: the terminator, or as much of it as is left
-abbrev pub is_end : Version → List Bool → Bool
+abbrev pub is_end : Version → List Bool → Bool  -- the pieces end here: the terminator, or as much of it as is left
 is_end v bits = list_all not (take (terminator_length v) bits)
 
--- a piece that a reader of the version takes
-pub record IsReadable (v : Version) (p : Piece) : Type 0 where
+pub record IsReadable (v : Version) (p : Piece) : Type 0 where  -- a piece that a reader of the version takes
   pub mode_exists : IsTrue (has_mode v p.mode)
   pub writable : IsTrue (can_write p.mode p.chunk)
   pub nonempty : 0 < character_count p.mode (length p.chunk)
@@ -30,8 +28,7 @@ pub record Spells (v : Version) (bits : List Bool) (bytes : List ℕ) : Type 0 w
   pub read : IsReadAs v bits pieces
   pub joined : flat_map (λ p. p.chunk) pieces ≡ bytes
 
--- some bits that fill a symbol spell the data
-abbrev pub IsSpelled : Version → EcLevel → List ℕ → Type 0
+abbrev pub IsSpelled : Version → EcLevel → List ℕ → Type 0  -- some bits that fill a symbol spell the data
 IsSpelled v l bytes = (bits : List Bool) × ((length bits ≡ capacity v l) × Spells v bits bytes)
 
 -- a reader finds these bytes in the bits, and no others

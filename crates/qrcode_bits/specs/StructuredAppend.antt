@@ -5,8 +5,7 @@ use Rattle.qrcode_types.specs.Versions.{is_micro}
 use Rattle.qrcode_types.specs.declared.types.Version.{Version}
 use Rattle.qrcode_bits.specs.Spelling.{Spells}
 
--- the exclusive or of all bytes
-abbrev pub parity : List ℕ → ℕ
+abbrev pub parity : List ℕ → ℕ  -- the exclusive or of all bytes
 parity [] = 0
 parity (b ∷ bytes) = bit_xor b (parity bytes)
 

@@ -12,57 +12,47 @@ use Rattle.qrcode_types.specs.declared.types.Mode.TheVariants.{Numeric, Alphanum
 use Rattle.qrcode_types.specs.Characters.{alphanumeric_number, kanji_number, character_count}
 use Rattle.qrcode_bits.specs.declared.optimize.Segment.{Segment}
 
--- three digits in ten bits, two in seven, one in four
-abbrev pub numeric_bits : List ℕ → List Bool
+abbrev pub numeric_bits : List ℕ → List Bool  -- three digits in ten bits, two in seven, one in four
 numeric_bits [] = []
 numeric_bits (a ∷ []) = number_bits 4 (a - 48)
 numeric_bits (a ∷ b ∷ []) = number_bits 7 (10 * (a - 48) + (b - 48))
 numeric_bits (a ∷ b ∷ c ∷ more) = number_bits 10 (100 * (a - 48) + 10 * (b - 48) + (c - 48)) ++ numeric_bits more
 
--- two characters in eleven bits, one in six
-abbrev pub alphanumeric_bits : List ℕ → List Bool
+abbrev pub alphanumeric_bits : List ℕ → List Bool  -- two characters in eleven bits, one in six
 alphanumeric_bits [] = []
 alphanumeric_bits (a ∷ []) = number_bits 6 (alphanumeric_number a)
 alphanumeric_bits (a ∷ b ∷ more) = number_bits 11 (45 * alphanumeric_number a + alphanumeric_number b) ++ alphanumeric_bits more
 
--- each pair in thirteen bits; a last byte without another is left out
-abbrev pub kanji_bits : List ℕ → List Bool
+abbrev pub kanji_bits : List ℕ → List Bool  -- each pair in thirteen bits; a last byte without another is left out
 kanji_bits [] = []
 kanji_bits (a ∷ []) = []
 kanji_bits (a ∷ b ∷ more) = number_bits 13 (kanji_number a b) ++ kanji_bits more
 
--- the data bits of bytes in a mode
-abbrev pub data_bits_in : Mode → List ℕ → List Bool
+abbrev pub data_bits_in : Mode → List ℕ → List Bool  -- the data bits of bytes in a mode
 data_bits_in Numeric bytes = numeric_bits bytes
 data_bits_in Alphanumeric bytes = alphanumeric_bits bytes
 data_bits_in Byte bytes = bits_of bytes
 data_bits_in Kanji bytes = kanji_bits bytes
 
--- bytes, and the mode in which they are written
-pub record Piece : Type 0 where
+pub record Piece : Type 0 where  -- bytes, and the mode in which they are written
   pub mode : Mode
   pub chunk : List ℕ
 
--- mode indicator, character count and data bits
-abbrev pub written_piece : Version → Piece → List Bool
+abbrev pub written_piece : Version → Piece → List Bool  -- mode indicator, character count and data bits
 written_piece v p =
     number_bits (mode_bits_count v) (indicator v p.mode) ++ (number_bits (length_bits_count p.mode v) (character_count p.mode (length p.chunk)) ++ data_bits_in p.mode p.chunk)
 
--- the pieces one after the other
-abbrev pub written : Version → List Piece → List Bool
+abbrev pub written : Version → List Piece → List Bool  -- the pieces one after the other
 written v pieces = flat_map (written_piece v) pieces
 
--- what segments have of the data
-abbrev pub pieces_of : List ℕ → List Segment → List Piece
+abbrev pub pieces_of : List ℕ → List Segment → List Piece  -- what segments have of the data
 pieces_of bytes segments = map (λ s. record { mode = s.mode; chunk = slice_range bytes s.begin s.end }) segments
 
--- the zeros that end the pieces, where there is room
-abbrev pub terminator_length : Version → ℕ
+abbrev pub terminator_length : Version → ℕ  -- the zeros that end the pieces, where there is room
 terminator_length (Normal v) = 4
 terminator_length (Micro v) = 2 * nat_abs v + 1
 
--- the bytes 0xEC and 0x11 by turns, and zeros where no whole byte fits
-unfoldable pub padding : ℕ → List Bool
+unfoldable pub padding : ℕ → List Bool  -- the bytes 0xEC and 0x11 by turns, and zeros where no whole byte fits
 padding n = flat_map (λ i. number_bits 8 (if i % 2 == 0 then 0xEC else 0x11)) (range_with_len 0 (n / 8)) ++ replicate (n % 8) false
 
 -- the end of the zeros behind so many bits, with a terminator of so many, where so many have room
@@ -78,6 +68,5 @@ ending terminator used room = replicate (zeros_end terminator used room - used) 
 unfoldable pub terminated : Version → EcLevel → List Bool → List Bool
 terminated v l bits = bits ++ ending (terminator_length v) (length bits) (capacity v l)
 
--- the number of a character set, below 1,000,000, in one, two or three bytes
-unfoldable pub eci_bits : ℕ → List Bool
+unfoldable pub eci_bits : ℕ → List Bool  -- the number of a character set, below 1,000,000, in one, two or three bytes
 eci_bits n = if nat_le n 127 then number_bits 8 n else (if nat_le n 16383 then number_bits 2 2 ++ number_bits 14 n else number_bits 3 6 ++ number_bits 21 n)

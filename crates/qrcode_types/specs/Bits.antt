@@ -3,8 +3,7 @@ use Rattle.std.specs.Prelude.{ℕ, zero, suc, ◌+◌, ◌*◌, ◌/◌, ◌<◌
 use Rattle.std.specs.Int.{bit_at}
 use Rattle.std.specs.List.{range_with_len, AllByRecursion}
 
--- bit i of n is a one; bit 0 is the lowest
-abbrev pub has_bit : ℕ → ℕ → Bool
+abbrev pub has_bit : ℕ → ℕ → Bool  -- bit i of n is a one; bit 0 is the lowest
 has_bit n i = bit_at n i == 1
 
 -- the lowest bits of a number, as many as are asked for, the highest of them first
@@ -12,28 +11,22 @@ unfoldable pub number_bits : ℕ → ℕ → List Bool
 number_bits zero n = []
 number_bits (suc count) n = has_bit n count ∷ number_bits count n
 
--- the number with these bits
-unfoldable pub number_of : List Bool → ℕ
+unfoldable pub number_of : List Bool → ℕ  -- the number with these bits
 number_of bits = fold (λ n bit. 2 * n + (if bit then 1 else 0)) 0 bits
 
--- a list of bytes is a list of numbers below 256
-abbrev pub AreBytes : List ℕ → Type 0
+abbrev pub AreBytes : List ℕ → Type 0  -- a list of bytes is a list of numbers below 256
 AreBytes numbers = AllByRecursion (λ n. n < 256) numbers
 
--- the bits of bytes, one byte after the other
-abbrev pub bits_of : List ℕ → List Bool
+abbrev pub bits_of : List ℕ → List Bool  -- the bits of bytes, one byte after the other
 bits_of bytes = flat_map (number_bits 8) bytes
 
--- the i-th byte of a list of bits, with zeros behind its end
-unfoldable pub byte_at : List Bool → ℕ → ℕ
+unfoldable pub byte_at : List Bool → ℕ → ℕ  -- the i-th byte of a list of bits, with zeros behind its end
 byte_at bits i = number_of (map (λ j. slice_index_or bits (8 * i + j) false) (range_with_len 0 8))
 
--- eight bits a byte, the last byte filled with zeros
-unfoldable pub bytes_of : List Bool → List ℕ
+unfoldable pub bytes_of : List Bool → List ℕ  -- eight bits a byte, the last byte filled with zeros
 bytes_of bits = map (byte_at bits) (range_with_len 0 ((length bits + 7) / 8))
 
--- in how many places two lists of bits, of one length, differ
-abbrev pub bit_distance : List Bool → List Bool → ℕ
+abbrev pub bit_distance : List Bool → List Bool → ℕ  -- in how many places two lists of bits, of one length, differ
 bit_distance [] cs = 0
 bit_distance (b ∷ bs) [] = 0
 bit_distance (true ∷ bs) (c ∷ cs) = (if c then 0 else 1) + bit_distance bs cs

@@ -9,25 +9,23 @@ use Rattle.qrcode_types.specs.declared.types.Version.TheVariants.{Normal, Micro}
 use Rattle.qrcode_types.specs.declared.types.Mode.{Mode}
 use Rattle.qrcode_types.specs.declared.types.Mode.TheVariants.{Numeric, Alphanumeric, Byte, Kanji}
 
--- the bits of a mode indicator
-abbrev pub mode_bits_count : Version → ℕ
+abbrev pub mode_bits_count : Version → ℕ  -- the bits of a mode indicator
 mode_bits_count (Normal v) = 4
 mode_bits_count (Micro v) = nat_abs v - 1
 
-abbrev pub normal_indicator : Mode → ℕ
+abbrev pub normal_indicator : Mode → ℕ  -- the number that a mode indicator of Normal writes
 normal_indicator Numeric = 1
 normal_indicator Alphanumeric = 2
 normal_indicator Byte = 4
 normal_indicator Kanji = 8
 
-abbrev pub micro_indicator : Mode → ℕ
+abbrev pub micro_indicator : Mode → ℕ  -- the number that a mode indicator of Micro writes
 micro_indicator Numeric = 0
 micro_indicator Alphanumeric = 1
 micro_indicator Byte = 2
 micro_indicator Kanji = 3
 
--- the number that a mode indicator writes
-abbrev pub indicator : Version → Mode → ℕ
+abbrev pub indicator : Version → Mode → ℕ  -- the number that a mode indicator writes
 indicator (Normal v) m = normal_indicator m
 indicator (Micro v) m = micro_indicator m
 
@@ -40,12 +38,10 @@ has_mode (Micro v) m = nat_lt (micro_indicator m) (2 ^ (nat_abs v - 1))
 abbrev pub widest_mode : Version → Mode
 widest_mode v = if mode_bits_count v == 0 then Numeric else (if mode_bits_count v == 1 then Alphanumeric else Byte)
 
--- one of three numbers, for Normal 1 to 9, 10 to 26 and 27 to 40
-abbrev pub by_band : ℕ → ℕ → ℕ → ℕ → ℕ
+abbrev pub by_band : ℕ → ℕ → ℕ → ℕ → ℕ  -- one of three numbers, for Normal 1 to 9, 10 to 26 and 27 to 40
 by_band v small middle large = if nat_le v 9 then small else (if nat_le v 26 then middle else large)
 
--- the bits of a length field
-abbrev pub length_bits_count : Mode → Version → ℕ
+abbrev pub length_bits_count : Mode → Version → ℕ  -- the bits of a length field
 length_bits_count Numeric (Normal v) = by_band (nat_abs v) 10 12 14
 length_bits_count Alphanumeric (Normal v) = by_band (nat_abs v) 9 11 13
 length_bits_count Byte (Normal v) = by_band (nat_abs v) 8 16 16
@@ -55,8 +51,7 @@ length_bits_count Alphanumeric (Micro v) = nat_abs v + 1
 length_bits_count Byte (Micro v) = nat_abs v + 1
 length_bits_count Kanji (Micro v) = nat_abs v
 
--- the data bits of `count` characters
-abbrev pub data_bits_count : Mode → ℕ → ℕ
+abbrev pub data_bits_count : Mode → ℕ → ℕ  -- the data bits of `count` characters
 data_bits_count Numeric count = (10 * count + 2) / 3
 data_bits_count Alphanumeric count = (11 * count + 1) / 2
 data_bits_count Byte count = 8 * count
@@ -66,8 +61,7 @@ data_bits_count Kanji count = 13 * count
 pub record CountsFit (m : Mode) (v : Version) : Type 0 where
   pub fits : (l : EcLevel) (count : ℕ) → mode_bits_count v + length_bits_count m v + data_bits_count m count ≤ capacity v l → count < 2 ^ length_bits_count m v
 
--- all that the first mode can write, the second can write too
-abbrev pub is_at_most : Mode → Mode → Bool
+abbrev pub is_at_most : Mode → Mode → Bool  -- all that the first mode can write, the second can write too
 is_at_most Numeric Numeric = true
 is_at_most Numeric Alphanumeric = true
 is_at_most Numeric Byte = true
@@ -85,8 +79,7 @@ is_at_most Kanji Alphanumeric = false
 is_at_most Kanji Byte = true
 is_at_most Kanji Kanji = true
 
--- the least mode that is at least either of two
-pub record IsLeastUpperBound (a b m : Mode) : Type 0 where
+pub record IsLeastUpperBound (a b m : Mode) : Type 0 where  -- the least mode that is at least either of two
   pub above_first : IsTrue (is_at_most a m)
   pub above_second : IsTrue (is_at_most b m)
   pub least : (bound : Mode) → IsTrue (is_at_most a bound) → IsTrue (is_at_most b bound) → IsTrue (is_at_most m bound)
@@ -98,8 +91,7 @@ order_by true false = Some Less
 order_by false true = Some Greater
 order_by false false = None
 
--- how two modes stand in the order of what they can write
-abbrev pub mode_order : Mode → Mode → Option Ordering
+abbrev pub mode_order : Mode → Mode → Option Ordering  -- how two modes stand in the order of what they can write
 mode_order a b = order_by (is_at_most a b) (is_at_most b a)
 
 -- the greater of two modes in that order, and Byte where neither is
@@ -109,6 +101,5 @@ greater_mode (Some Equal) a b = b
 greater_mode (Some Greater) a b = a
 greater_mode None a b = Byte
 
--- the least mode that can write what either can
-abbrev pub mode_max : Mode → Mode → Mode
+abbrev pub mode_max : Mode → Mode → Mode  -- the least mode that can write what either can
 mode_max a b = greater_mode (mode_order a b) a b

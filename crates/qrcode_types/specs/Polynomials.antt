@@ -3,8 +3,7 @@
 use Rattle.std.specs.Prelude.{ℕ, zero, suc, ◌+◌, ◌*◌, ◌/◌, ◌%◌, ◌^◌, min, bit_xor}
 use Rattle.std.specs.Int.{bit_at}
 
--- f 0 xor f 1 xor .. xor f (n - 1)
-unfoldable pub xor_sum : ℕ → (ℕ → ℕ) → ℕ
+unfoldable pub xor_sum : ℕ → (ℕ → ℕ) → ℕ  -- f 0 xor f 1 xor .. xor f (n - 1)
 xor_sum zero f = 0
 xor_sum (suc n) f = bit_xor (f 0) (xor_sum n (λ i. f (suc i)))
 
@@ -24,6 +23,5 @@ remainder_from zero divisor n = 0
 remainder_from (suc count) divisor zero = 0
 remainder_from (suc count) divisor (suc m) = reduced divisor (2 * remainder_from count divisor (suc m / 2) + suc m % 2)
 
--- the remainder of n after division by the divisor; a number n has at most n bits
-unfoldable pub remainder : ℕ → ℕ → ℕ
+unfoldable pub remainder : ℕ → ℕ → ℕ  -- the remainder of n after division by the divisor; a number n has at most n bits
 remainder divisor n = remainder_from n divisor n

@@ -7,85 +7,69 @@ use Rattle.qrcode_types.specs.declared.types.Version.TheVariants.{Normal, Micro}
 use Rattle.qrcode_types.specs.declared.types.EcLevel.{EcLevel}
 use Rattle.qrcode_types.specs.declared.types.EcLevel.TheVariants.{L, M, Q, H}
 
--- from 1 to `most`
-abbrev pub is_up_to : ℕ → ℤ → Bool
+abbrev pub is_up_to : ℕ → ℤ → Bool  -- from 1 to `most`
 is_up_to most (pos n) = nat_le 1 n && nat_le n most
 is_up_to most (negsuc n) = false
 
--- Normal 1 to 40, Micro 1 to 4
-abbrev pub is_valid : Version → Bool
+abbrev pub is_valid : Version → Bool  -- Normal 1 to 40, Micro 1 to 4
 is_valid (Normal v) = is_up_to 40 v
 is_valid (Micro v) = is_up_to 4 v
 
-abbrev pub is_micro : Version → Bool
+abbrev pub is_micro : Version → Bool  -- a version of Micro
 is_micro (Normal v) = false
 is_micro (Micro v) = true
 
 -- What follows takes the number of a version without its sign: whoever speaks of any version asks `is_valid` first.
 
--- the modules along a side
-abbrev pub side : Version → ℕ
+abbrev pub side : Version → ℕ  -- the modules along a side
 side (Normal v) = 4 * nat_abs v + 17
 side (Micro v) = 2 * nat_abs v + 9
 
--- the row of a version in a table of 44 rows
-abbrev pub row_of : Version → ℕ
+abbrev pub row_of : Version → ℕ  -- the row of a version in a table of 44 rows
 row_of (Normal v) = nat_abs v - 1
 row_of (Micro v) = nat_abs v + 39
 
--- the place of a level in a row, and in the order of the levels
-abbrev pub level_number : EcLevel → ℕ
+abbrev pub level_number : EcLevel → ℕ  -- the place of a level in a row, and in the order of the levels
 level_number L = 0
 level_number M = 1
 level_number Q = 2
 level_number H = 3
 
--- what the table has for a version at a level
-unfoldable pub blocks_entry : Version → EcLevel → ℕ × ℕ × ℕ × ℕ
+unfoldable pub blocks_entry : Version → EcLevel → ℕ × ℕ × ℕ × ℕ  -- what the table has for a version at a level
 blocks_entry v l = slice_index_or (slice_index_or block_table (row_of v) []) (level_number l) (0, 0, 0, 0)
 
--- the version is valid, and the level exists in it
-abbrev pub has_level : Version → EcLevel → Bool
+abbrev pub has_level : Version → EcLevel → Bool  -- the version is valid, and the level exists in it
 has_level v l = is_valid v && not ((blocks_entry v l).0 == 0)
 
--- how many pairs of a version and a level exist
-unfoldable pub level_count : ℕ
+unfoldable pub level_count : ℕ  -- how many pairs of a version and a level exist
 level_count =
     let versions = map (λ n. Normal (pos n)) (range_with_len 1 40) ++ map (λ n. Micro (pos n)) (range_with_len 1 4) in
     sum_by (λ v. count_by (has_level v) (L ∷ M ∷ Q ∷ H ∷ [])) versions
 
--- the error correction bytes of each block
-abbrev pub ec_length : Version → EcLevel → ℕ
+abbrev pub ec_length : Version → EcLevel → ℕ  -- the error correction bytes of each block
 ec_length v l = (blocks_entry v l).0
 
--- the data bytes of each block, the shorter blocks first
-unfoldable pub block_lengths : Version → EcLevel → List ℕ
+unfoldable pub block_lengths : Version → EcLevel → List ℕ  -- the data bytes of each block, the shorter blocks first
 block_lengths v l = let b = blocks_entry v l in replicate b.1 b.2 ++ replicate b.3 (b.2 + 1)
 
--- the last data codeword has four bits
-abbrev pub has_half_codeword : Version → EcLevel → Bool
+abbrev pub has_half_codeword : Version → EcLevel → Bool  -- the last data codeword has four bits
 has_half_codeword (Normal v) l = false
 has_half_codeword (Micro v) L = nat_abs v == 1 || nat_abs v == 3
 has_half_codeword (Micro v) M = nat_abs v == 3
 has_half_codeword (Micro v) Q = false
 has_half_codeword (Micro v) H = false
 
--- the data bytes of all blocks
-unfoldable pub data_length : Version → EcLevel → ℕ
+unfoldable pub data_length : Version → EcLevel → ℕ  -- the data bytes of all blocks
 data_length v l = sum (block_lengths v l)
 
--- the data bits that a symbol holds
-unfoldable pub capacity : Version → EcLevel → ℕ
+unfoldable pub capacity : Version → EcLevel → ℕ  -- the data bits that a symbol holds
 capacity v l = 8 * data_length v l - (if has_half_codeword v l then 4 else 0)
 
--- the error correction bytes of all blocks
-unfoldable pub total_ec_length : Version → EcLevel → ℕ
+unfoldable pub total_ec_length : Version → EcLevel → ℕ  -- the error correction bytes of all blocks
 total_ec_length v l = ec_length v l * length (block_lengths v l)
 
--- the codewords of a version, data and error correction together
-unfoldable pub codeword_count : Version → ℕ
+unfoldable pub codeword_count : Version → ℕ  -- the codewords of a version, data and error correction together
 codeword_count v = slice_index codeword_table (row_of v)
 
--- the free modules behind the last codeword
-abbrev pub remainder_bits : Version → ℕ
+abbrev pub remainder_bits : Version → ℕ  -- the free modules behind the last codeword
 remainder_bits v = slice_index remainder_table (row_of v)
