@@ -1,8 +1,8 @@
 -- The side names the version.
-use Rattle.std.proofs.Common.{◌≡◌, ℕ, ◌*◌, ◌≤◌, ◌==◌, nat_le, not, pos, negsuc, IsTrue, sym, ap, arith, true≢false, inl, inr}
+use Rattle.std.proofs.Common.{◌≡◌, ℕ, ◌*◌, ◌≤◌, ◌==◌, nat_le, ◌&&◌, not, pos, negsuc, IsTrue, sym, ap, arith, true≢false, inl, inr}
 use Rattle.std.proofs.lemmas.Bool.{and_parts, leb-true, cases_order}
 use Rattle.std.proofs.lemmas.Nat.{mul-lt}
-use Rattle.qrcode_types.specs.Versions.{is_valid, is_up_to, side, has_level, blocks_entry}
+use Rattle.qrcode_types.specs.Versions.{is_valid, side, has_level, blocks_entry}
 use Rattle.qrcode_types.specs.declared.types.Version.{Version}
 use Rattle.qrcode_types.specs.declared.types.Version.TheVariants.{Normal, Micro}
 use Rattle.qrcode_types.specs.declared.types.EcLevel.{EcLevel}
@@ -11,7 +11,7 @@ use Rattle.qrcode_types.specs.declared.types.EcLevel.{EcLevel}
 pub valid_of : (v : Version) (l : EcLevel) → IsTrue (has_level v l) → IsTrue (is_valid v)
 valid_of v l h = (and_parts (is_valid v) (not ((blocks_entry v l).0 == 0)) h).0
 
-up_to : (most n : ℕ) → IsTrue (is_up_to most (pos n)) → (1 ≤ n) × (n ≤ most)
+up_to : (most n : ℕ) → IsTrue (nat_le 1 n && nat_le n most) → (1 ≤ n) × (n ≤ most)
 up_to most n h = let p = and_parts (nat_le 1 n) (nat_le n most) h in (leb-true 1 n p.0, leb-true n most p.1)
 
 -- versions of one side are one

@@ -1,12 +1,12 @@
 -- Pieces that are written and ended spell their bytes.
-use Rattle.std.proofs.Common.{◌≡◌, ℕ, zero, suc, ◌+◌, ◌-◌, ◌*◌, ◌/◌, ◌<◌, ◌≤◌, min, Bool, true, false, not, List, [], ◌∷◌, ◌++◌, length, take, get_or, replicate, refl, sym, ap, ◌∙◌, arith, subst, true≢false, append_assoc, length-append, ◌⊎◌, inl, inr, pos, negsuc}
+use Rattle.std.proofs.Common.{◌≡◌, ◌^◌, ℕ, zero, suc, ◌+◌, ◌-◌, ◌*◌, ◌/◌, ◌<◌, ◌≤◌, min, Bool, true, false, not, List, [], ◌∷◌, ◌++◌, length, take, get_or, replicate, refl, sym, ap, ◌∙◌, arith, subst, true≢false, append_assoc, length-append, ◌⊎◌, inl, inr, pos, negsuc}
 use Rattle.std.specs.Prelude.{IsTrue, flat_map, nat_le}
 use Rattle.std.specs.List.{list_all, AllByRecursion}
 use Rattle.std.proofs.lemmas.Bool.{and_parts, leb-true, cases_lt}
 use Rattle.std.proofs.lemmas.List.{length-replicate, get_or_append_left, get_or-append-add}
 use Rattle.qrcode_types.specs.Bits.{number_bits}
 use Rattle.qrcode_types.specs.Versions.{is_valid, capacity}
-use Rattle.qrcode_types.specs.Modes.{indicator, normal_indicator, length_bits_count}
+use Rattle.qrcode_types.specs.Modes.{mode_number, indicator, length_bits_count}
 use Rattle.qrcode_types.specs.declared.types.Version.{Version}
 use Rattle.qrcode_types.specs.declared.types.Version.TheVariants.{Normal, Micro}
 use Rattle.qrcode_types.specs.declared.types.EcLevel.{EcLevel}
@@ -27,7 +27,7 @@ not_zeros (suc t) (true ∷ bits) i l h = refl
 not_zeros (suc t) (false ∷ bits) zero l h = absurd (true≢false (sym h))
 not_zeros (suc t) (false ∷ bits) (suc i) l h = not_zeros t bits i (omega arith) h
 
-normal_positive : (m : Mode) → 0 < normal_indicator m
+normal_positive : (m : Mode) → 0 < 2 ^ mode_number m
 normal_positive Numeric = omega arith
 normal_positive Alphanumeric = omega arith
 normal_positive Byte = omega arith
@@ -43,13 +43,13 @@ micro_width n Kanji h = omega arith
 begins : (v : Version) (p : Piece) (x : List Bool) → IsTrue (is_valid v) → IsReadable v p → is_end v (written_piece v p ++ x) ≡ false
 begins (Micro (negsuc n)) p x a h = absurd (true≢false (sym a))
 begins (Normal v) p x a h =
-    let i = number_bits 4 (normal_indicator p.mode) in
+    let i = number_bits 4 (2 ^ mode_number p.mode) in
     let n = number_bits (length_bits_count p.mode (Normal v)) (character_count p.mode (length p.chunk)) in
     let d = data_bits_in p.mode p.chunk in
-    let one = has_one 4 (normal_indicator p.mode) (normal_small p.mode) (normal_positive p.mode) in
+    let one = has_one 4 (2 ^ mode_number p.mode) (normal_small p.mode) (normal_positive p.mode) in
     let e : (i ++ (n ++ d)) ++ x ≡ i ++ (n ++ (d ++ x)) = append_assoc i (n ++ d) x ∙ ap (λ r. i ++ r) (append_assoc n d x) in
     ap (λ bits. list_all not (take 4 bits)) e
-    ∙ not_zeros 4 (i ++ (n ++ (d ++ x))) one.0 one.1 (get_or_append_left i (n ++ (d ++ x)) false one.0 (omega (arith, length-number_bits 4 (normal_indicator p.mode), one.1)) ∙ one.2)
+    ∙ not_zeros 4 (i ++ (n ++ (d ++ x))) one.0 one.1 (get_or_append_left i (n ++ (d ++ x)) false one.0 (omega (arith, length-number_bits 4 (2 ^ mode_number p.mode), one.1)) ∙ one.2)
 begins (Micro (pos v)) p x a h =
     let w = length_bits_count p.mode (Micro (pos v)) in
     let c = character_count p.mode (length p.chunk) in

@@ -1,12 +1,12 @@
 -- Bits are shown as one text at most.
-use Rattle.std.proofs.Common.{◌≡◌, ℕ, Bool, true, List, [], ◌∷◌, ◌++◌, sym, ap, ap₂, ◌∙◌, arith, subst, true≢false, append_assoc, inl, inr, IsTrue}
+use Rattle.std.proofs.Common.{◌≡◌, ◌^◌, ℕ, Bool, true, List, [], ◌∷◌, ◌++◌, sym, ap, ap₂, ◌∙◌, arith, subst, true≢false, append_assoc, inl, inr, IsTrue}
 use Rattle.std.specs.Prelude.{flat_map, encode_utf8_all, chars}
 use Rattle.std.specs.Str.{all_scalars}
 use Rattle.std.proofs.lemmas.Bool.{and_parts, and_from}
 use Rattle.std.proofs.lemmas.List.{append_cancel_left}
 use Rattle.std.proofs.lemmas.Str.{chars-encodes, encodes-append}
 use Rattle.qrcode_types.specs.Bits.{number_bits}
-use Rattle.qrcode_types.specs.Modes.{normal_indicator}
+use Rattle.qrcode_types.specs.Modes.{mode_number}
 use Rattle.qrcode_types.specs.declared.types.Version.{Version}
 use Rattle.qrcode_types.specs.declared.types.Version.TheVariants.{Normal, Micro}
 use Rattle.qrcode_types.specs.declared.types.Mode.{Mode}
@@ -40,7 +40,7 @@ shown_scalars (p ∷ ps) text h =
 pub shown_chars : (ps : List Piece) (text : List ℕ) → ArePiecesShown ps text → text ≡ chars (flat_map (λ p. p.chunk) ps)
 shown_chars ps text h = sym (chars-encodes text (shown_scalars ps text h)) ∙ ap chars (shown_bytes ps text h)
 
-no_indicator : (m : Mode) → 7 ≡ normal_indicator m → ⊥
+no_indicator : (m : Mode) → 7 ≡ 2 ^ mode_number m → ⊥
 no_indicator Numeric e = omega arith
 no_indicator Alphanumeric e = omega arith
 no_indicator Byte e = omega arith
@@ -55,9 +55,9 @@ no_piece : (v : Version) (rest : List Bool) (ps : List Piece) → IsTrue (has_fr
 no_piece (Micro n) rest ps has read = cc
 no_piece (Normal n) rest [] has read = no_end n rest read
 no_piece (Normal n) rest (p ∷ ps) has read =
-    let i = number_bits 4 (normal_indicator p.mode) in
+    let i = number_bits 4 (2 ^ mode_number p.mode) in
     let e : number_bits 4 7 ++ (eci_bits 26 ++ rest) ≡ _ = sym (append_assoc (number_bits 4 7) (eci_bits 26) rest) ∙ read.1.0 ∙ append_assoc i _ read.0 in
-    no_indicator p.mode (same_number 4 7 (normal_indicator p.mode) (eci_bits 26 ++ rest) _ (omega arith) (normal_small p.mode) e).0
+    no_indicator p.mode (same_number 4 7 (2 ^ mode_number p.mode) (eci_bits 26 ++ rest) _ (omega arith) (normal_small p.mode) e).0
 
 -- one text for the same bits in front
 same_rest : (v : Version) (bits before r s : List Bool) (ps qs : List Piece) (a b : List ℕ) → bits ≡ before ++ r → bits ≡ before ++ s → IsReadAs v r ps → IsReadAs v s qs

@@ -3,7 +3,7 @@ use Rattle.std.proofs.Common.{◌≡◌, ℕ, zero, suc, ◌-◌, ◌^◌, ◌<�
 use Rattle.std.specs.Prelude.{IsTrue, nat_abs, flat_map}
 use Rattle.std.proofs.lemmas.Bool.{ltb-true}
 use Rattle.qrcode_types.specs.Bits.{number_bits}
-use Rattle.qrcode_types.specs.Modes.{has_mode, indicator, normal_indicator, micro_indicator, mode_bits_count, length_bits_count}
+use Rattle.qrcode_types.specs.Modes.{has_mode, mode_number, indicator, mode_bits_count, length_bits_count}
 use Rattle.qrcode_types.specs.declared.types.Version.{Version}
 use Rattle.qrcode_types.specs.declared.types.Version.TheVariants.{Normal, Micro}
 use Rattle.qrcode_types.specs.declared.types.Mode.{Mode}
@@ -14,7 +14,7 @@ use Rattle.qrcode_bits.specs.Spelling.{IsReadable, IsReadAs, Spells}
 use Rattle.qrcode_bits.proofs.Numbers.{same_number}
 use Rattle.qrcode_bits.proofs.Chunks.{same_data}
 
-pub normal_small : (m : Mode) → normal_indicator m < 2 ^ 4
+pub normal_small : (m : Mode) → 2 ^ mode_number m < 2 ^ 4
 normal_small Numeric = omega arith
 normal_small Alphanumeric = omega arith
 normal_small Byte = omega arith
@@ -22,7 +22,7 @@ normal_small Kanji = omega arith
 
 pub indicator-small : (v : Version) (m : Mode) → IsTrue (has_mode v m) → indicator v m < 2 ^ mode_bits_count v
 indicator-small (Normal v) m h = normal_small m
-indicator-small (Micro v) m h = ltb-true (micro_indicator m) (2 ^ (nat_abs v - 1)) h
+indicator-small (Micro v) m h = ltb-true (mode_number m) (2 ^ (nat_abs v - 1)) h
 
 mode_of_normal : ℕ → Mode
 mode_of_normal zero = Numeric
@@ -31,7 +31,7 @@ mode_of_normal (suc (suc zero)) = Alphanumeric
 mode_of_normal (suc (suc (suc (suc zero)))) = Byte
 mode_of_normal _ = Kanji
 
-mode_of_normal-is : (m : Mode) → mode_of_normal (normal_indicator m) ≡ m
+mode_of_normal-is : (m : Mode) → mode_of_normal (2 ^ mode_number m) ≡ m
 unfolding mode_of_normal
 mode_of_normal-is Numeric = refl
 mode_of_normal-is Alphanumeric = refl
@@ -44,7 +44,7 @@ mode_of_micro (suc zero) = Alphanumeric
 mode_of_micro (suc (suc zero)) = Byte
 mode_of_micro _ = Kanji
 
-mode_of_micro-is : (m : Mode) → mode_of_micro (micro_indicator m) ≡ m
+mode_of_micro-is : (m : Mode) → mode_of_micro (mode_number m) ≡ m
 unfolding mode_of_micro
 mode_of_micro-is Numeric = refl
 mode_of_micro-is Alphanumeric = refl

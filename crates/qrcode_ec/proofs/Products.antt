@@ -1,9 +1,9 @@
 -- The remainder of a polynomial, and the laws of the product in the field.
-use Rattle.std.proofs.Common.{◌≡◌, ℕ, zero, suc, ◌+◌, ◌-◌, ◌*◌, ◌/◌, ◌%◌, ◌^◌, ◌<◌, ◌≤◌, refl, sym, ap, ap₂, ◌∙◌, arith, subst, inl, inr}
+use Rattle.std.proofs.Common.{◌≡◌, ℕ, zero, suc, ◌+◌, ◌-◌, ◌*◌, ◌/◌, ◌%◌, ◌^◌, ◌<◌, ◌≤◌, min, refl, sym, ap, ap₂, ◌∙◌, arith, subst, inl, inr}
 use Rattle.std.proofs.lemmas.Bool.{cases_lt}
 use Rattle.std.proofs.Math.Arith.{bin_ind}
 use Rattle.std.specs.Int.Bits.{bit_xor, xor_assoc, xor_comm, xor_self, xor_zero_r, xor_block, xor_shr, xor_lt}
-use Rattle.qrcode_types.specs.Polynomials.{carryless, reduced, remainder_from, remainder}
+use Rattle.qrcode_types.specs.Polynomials.{carryless, remainder_from, remainder}
 use Rattle.qrcode_ec.specs.Field.{modulus, IsProduct, HasFieldLaws, product}
 use Rattle.qrcode_ec.proofs.Xor.{xor_four, xor_twice, xor_half, xor_odd, xor_split}
 use Rattle.qrcode_ec.proofs.Carryless.{zero_times, one_times, even, half, bit_mul, carryless_step, carryless_twice, carryless_zero_r, carryless_zero_l, carryless_xor_r, carryless_xor_l, carryless_comm, carryless_assoc}
@@ -53,6 +53,10 @@ with_bit p c l =
     let a : p * 2 ≡ p * 2 ^ 1 + 0 = omega arith in
     let b : c ≡ 0 * 2 ^ 1 + c = omega arith in
     ap₂ bit_xor a b ∙ xor_block 1 p 0 0 c (omega arith) (omega arith) ∙ ap (λ x. x * 2 ^ 1 + c) (xor_zero_r p) ∙ omega arith
+
+-- a number, less the divisor where that makes it less
+abbrev reduced : ℕ → ℕ → ℕ
+reduced divisor n = min n (bit_xor n divisor)
 
 -- one step of long division: a byte times x, and the next bit
 reduced_is : (p c : ℕ) → p < 256 → c < 2 → reduced modulus (2 * p + c) ≡ bit_xor (times_x p) c

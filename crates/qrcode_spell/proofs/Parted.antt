@@ -1,9 +1,9 @@
 -- The parts of bits begin with their first part.
-use Rattle.std.proofs.Common.{◌≡◌, ◌<◌, ℕ, ◌++◌, List, [], ◌∷◌, Bool, true, false, length, refl, sym, ap, ap₂, subst, ◌∙◌, arith, append_assoc, append-nil, length-append, true≢false}
+use Rattle.std.proofs.Common.{◌≡◌, ◌^◌, ◌<◌, ℕ, ◌++◌, List, [], ◌∷◌, Bool, true, false, length, refl, sym, ap, ap₂, subst, ◌∙◌, arith, append_assoc, append-nil, length-append, true≢false}
 use Rattle.std.specs.Prelude.{flat_map, map}
 use Rattle.std.specs.List.{AllByRecursion}
 use Rattle.qrcode_types.specs.Bits.{number_bits}
-use Rattle.qrcode_types.specs.Modes.{normal_indicator}
+use Rattle.qrcode_types.specs.Modes.{mode_number}
 use Rattle.qrcode_types.specs.declared.types.Version.{Version}
 use Rattle.qrcode_types.specs.declared.types.Version.TheVariants.{Normal, Micro}
 use Rattle.qrcode_types.specs.declared.types.Mode.{Mode}
@@ -22,27 +22,27 @@ use Rattle.qrcode_spell.proofs.Headings.{one_header, small}
 use Rattle.qrcode_spell.proofs.Spelled.{piece_shortens}
 
 -- no mode has the indicator of a header
-no_mode : (h : Header) (m : Mode) → header_indicator h ≡ normal_indicator m → ⊥
+no_mode : (h : Header) (m : Mode) → header_indicator h ≡ 2 ^ mode_number m → ⊥
 no_mode (Eci n) m e = of_seven m e where
-  of_seven : (m : Mode) → 7 ≡ normal_indicator m → ⊥
+  of_seven : (m : Mode) → 7 ≡ 2 ^ mode_number m → ⊥
   of_seven Numeric e = omega arith
   of_seven Alphanumeric e = omega arith
   of_seven Byte e = omega arith
   of_seven Kanji e = omega arith
 no_mode Fnc1First m e = of_five m e where
-  of_five : (m : Mode) → 5 ≡ normal_indicator m → ⊥
+  of_five : (m : Mode) → 5 ≡ 2 ^ mode_number m → ⊥
   of_five Numeric e = omega arith
   of_five Alphanumeric e = omega arith
   of_five Byte e = omega arith
   of_five Kanji e = omega arith
 no_mode (Fnc1Second n) m e = of_nine m e where
-  of_nine : (m : Mode) → 9 ≡ normal_indicator m → ⊥
+  of_nine : (m : Mode) → 9 ≡ 2 ^ mode_number m → ⊥
   of_nine Numeric e = omega arith
   of_nine Alphanumeric e = omega arith
   of_nine Byte e = omega arith
   of_nine Kanji e = omega arith
 no_mode (StructuredAppend n l k) m e = of_three m e where
-  of_three : (m : Mode) → 3 ≡ normal_indicator m → ⊥
+  of_three : (m : Mode) → 3 ≡ 2 ^ mode_number m → ⊥
   of_three Numeric e = omega arith
   of_three Alphanumeric e = omega arith
   of_three Byte e = omega arith
@@ -52,9 +52,9 @@ no_mode (StructuredAppend n l k) m e = of_three m e where
 pub header_or_piece : (v : Version) (h : Header) (p : Piece) (bits x y : List Bool) → BeginsWithHeader v h bits x → BeginsWithPiece v bits p y → ⊥
 header_or_piece (Micro n) h p bits x y b d = absurd (true≢false b.exists)
 header_or_piece (Normal n) h p bits x y b d =
-    let i = number_bits 4 (normal_indicator p.mode) in
+    let i = number_bits 4 (2 ^ mode_number p.mode) in
     let e = sym b.whole ∙ d.whole ∙ append_assoc i _ y in
-    no_mode h p.mode (same_number 4 (header_indicator h) (normal_indicator p.mode) b.behind _ (small h) (normal_small p.mode) e).0
+    no_mode h p.mode (same_number 4 (header_indicator h) (2 ^ mode_number p.mode) b.behind _ (small h) (normal_small p.mode) e).0
 
 -- one part at most stands in front of bits
 pub one_part : (v : Version) (p q : Part) (bits : List Bool) (a b : List ℕ) (x y : List Bool) → BeginsWithPart v p bits a x → BeginsWithPart v q bits b y → (p ≡ q) × (a ≡ b) × (x ≡ y)

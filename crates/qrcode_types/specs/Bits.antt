@@ -1,13 +1,12 @@
 -- Numbers as bits, the highest bit first, and bytes.
-use Rattle.std.specs.Prelude.{ℕ, zero, suc, ◌+◌, ◌*◌, ◌/◌, ◌<◌, ◌==◌, Bool, true, false, List, [], ◌∷◌, length, map, fold, flat_map, slice_index_or, if◌then◌else◌}
+use Rattle.std.specs.Prelude.{ℕ, zero, suc, ◌+◌, ◌*◌, ◌/◌, ◌<◌, ◌==◌, Bool, false, List, [], ◌∷◌, length, map, fold, flat_map, slice_index_or, if◌then◌else◌}
 use Rattle.std.specs.Int.{bit_at}
 use Rattle.std.specs.List.{range_with_len, AllByRecursion}
 
 abbrev pub has_bit : ℕ → ℕ → Bool  -- bit i of n is a one; bit 0 is the lowest
 has_bit n i = bit_at n i == 1
 
--- the lowest bits of a number, as many as are asked for, the highest of them first
-unfoldable pub number_bits : ℕ → ℕ → List Bool
+unfoldable pub number_bits : ℕ → ℕ → List Bool  -- the `count` lowest bits of n, the highest of them first
 number_bits zero n = []
 number_bits (suc count) n = has_bit n count ∷ number_bits count n
 
@@ -27,7 +26,5 @@ unfoldable pub bytes_of : List Bool → List ℕ  -- eight bits a byte, the last
 bytes_of bits = map (byte_at bits) (range_with_len 0 ((length bits + 7) / 8))
 
 abbrev pub bit_distance : List Bool → List Bool → ℕ  -- in how many places two lists of bits, of one length, differ
-bit_distance [] cs = 0
-bit_distance (b ∷ bs) [] = 0
-bit_distance (true ∷ bs) (c ∷ cs) = (if c then 0 else 1) + bit_distance bs cs
-bit_distance (false ∷ bs) (c ∷ cs) = (if c then 1 else 0) + bit_distance bs cs
+bit_distance (b ∷ bs) (c ∷ cs) = (if b then (if c then 0 else 1) else (if c then 1 else 0)) + bit_distance bs cs
+bit_distance bs cs = 0

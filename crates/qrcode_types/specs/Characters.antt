@@ -29,9 +29,7 @@ is_kanji b c =
 
 unfoldable pub kanji_number : ℕ → ℕ → ℕ  -- the number of a pair, below 8192
 kanji_number b c =
-    let pair = 256 * b + c in
-    let n = pair - (if nat_lt pair 0xe040 then 0x8140 else 0xc140) in
-    n / 256 * 0xc0 + n % 256
+    let n = 256 * b + c - (if nat_lt (256 * b + c) 0xe040 then 0x8140 else 0xc140) in n / 256 * 0xc0 + n % 256
 
 abbrev pub are_kanji : List ℕ → Bool  -- bytes that are pairs, one after the other
 are_kanji [] = true
@@ -50,8 +48,6 @@ bytes_each Alphanumeric = 1
 bytes_each Byte = 1
 bytes_each Kanji = 2
 
-abbrev pub character_count : Mode → ℕ → ℕ  -- the characters in so many bytes
-character_count Numeric n = n
-character_count Alphanumeric n = n
-character_count Byte n = n
-character_count Kanji n = n / bytes_each Kanji
+abbrev pub character_count : Mode → ℕ → ℕ  -- the characters in so many bytes: in Kanji a pair of bytes is one
+character_count Kanji n = n / 2
+character_count m n = n

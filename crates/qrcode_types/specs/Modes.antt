@@ -13,26 +13,19 @@ abbrev pub mode_bits_count : Version → ℕ  -- the bits of a mode indicator
 mode_bits_count (Normal v) = 4
 mode_bits_count (Micro v) = nat_abs v - 1
 
-abbrev pub normal_indicator : Mode → ℕ  -- the number that a mode indicator of Normal writes
-normal_indicator Numeric = 1
-normal_indicator Alphanumeric = 2
-normal_indicator Byte = 4
-normal_indicator Kanji = 8
-
-abbrev pub micro_indicator : Mode → ℕ  -- the number that a mode indicator of Micro writes
-micro_indicator Numeric = 0
-micro_indicator Alphanumeric = 1
-micro_indicator Byte = 2
-micro_indicator Kanji = 3
+abbrev pub mode_number : Mode → ℕ  -- the number of a mode: what its indicator writes in Micro, and which bit in Normal
+mode_number Numeric = 0
+mode_number Alphanumeric = 1
+mode_number Byte = 2
+mode_number Kanji = 3
 
 abbrev pub indicator : Version → Mode → ℕ  -- the number that a mode indicator writes
-indicator (Normal v) m = normal_indicator m
-indicator (Micro v) m = micro_indicator m
+indicator (Normal v) m = 2 ^ mode_number m
+indicator (Micro v) m = mode_number m
 
--- the version has the mode: all are in Normal, and in Micro those whose number fits the indicator
-abbrev pub has_mode : Version → Mode → Bool
+abbrev pub has_mode : Version → Mode → Bool  -- all are in Normal, and in Micro those whose number fits the indicator
 has_mode (Normal v) m = true
-has_mode (Micro v) m = nat_lt (micro_indicator m) (2 ^ (nat_abs v - 1))
+has_mode (Micro v) m = nat_lt (mode_number m) (2 ^ (nat_abs v - 1))
 
 -- the mode of a version that can write all that its other modes can: in Micro 1 there are digits alone, in Micro 2 no bytes
 abbrev pub widest_mode : Version → Mode

@@ -1,5 +1,6 @@
--- Versions and levels, and what the tables have for them.
-use Rattle.std.specs.Prelude.{ℕ, ◌+◌, ◌-◌, ◌*◌, ◌==◌, nat_le, ◌&&◌, ◌||◌, not, ℤ, pos, negsuc, nat_abs, Bool, true, false, List, [], ◌∷◌, ◌++◌, length, map, sum, sum_by, count_by, replicate, slice_index, slice_index_or, if◌then◌else◌}
+-- Versions and levels, and what the tables have for them. The number of a version is taken without its sign: whoever speaks of any version asks
+-- `is_valid` first.
+use Rattle.std.specs.Prelude.{ℕ, ◌+◌, ◌-◌, ◌*◌, ◌==◌, ◌&&◌, ◌||◌, not, pos, nat_abs, int_le, Bool, true, false, List, [], ◌∷◌, ◌++◌, length, map, sum, sum_by, count_by, replicate, slice_index, slice_index_or, if◌then◌else◌}
 use Rattle.std.specs.List.{range_with_len}
 use Rattle.qrcode_types.specs.Tables.{block_table, codeword_table, remainder_table}
 use Rattle.qrcode_types.specs.declared.types.Version.{Version}
@@ -7,19 +8,13 @@ use Rattle.qrcode_types.specs.declared.types.Version.TheVariants.{Normal, Micro}
 use Rattle.qrcode_types.specs.declared.types.EcLevel.{EcLevel}
 use Rattle.qrcode_types.specs.declared.types.EcLevel.TheVariants.{L, M, Q, H}
 
-abbrev pub is_up_to : ℕ → ℤ → Bool  -- from 1 to `most`
-is_up_to most (pos n) = nat_le 1 n && nat_le n most
-is_up_to most (negsuc n) = false
-
 abbrev pub is_valid : Version → Bool  -- Normal 1 to 40, Micro 1 to 4
-is_valid (Normal v) = is_up_to 40 v
-is_valid (Micro v) = is_up_to 4 v
+is_valid (Normal v) = int_le (pos 1) v && int_le v (pos 40)
+is_valid (Micro v) = int_le (pos 1) v && int_le v (pos 4)
 
 abbrev pub is_micro : Version → Bool  -- a version of Micro
 is_micro (Normal v) = false
 is_micro (Micro v) = true
-
--- What follows takes the number of a version without its sign: whoever speaks of any version asks `is_valid` first.
 
 abbrev pub side : Version → ℕ  -- the modules along a side
 side (Normal v) = 4 * nat_abs v + 17
@@ -54,10 +49,7 @@ block_lengths v l = let b = blocks_entry v l in replicate b.1 b.2 ++ replicate b
 
 abbrev pub has_half_codeword : Version → EcLevel → Bool  -- the last data codeword has four bits
 has_half_codeword (Normal v) l = false
-has_half_codeword (Micro v) L = nat_abs v == 1 || nat_abs v == 3
-has_half_codeword (Micro v) M = nat_abs v == 3
-has_half_codeword (Micro v) Q = false
-has_half_codeword (Micro v) H = false
+has_half_codeword (Micro v) l = nat_abs v == 1 || nat_abs v == 3
 
 unfoldable pub data_length : Version → EcLevel → ℕ  -- the data bytes of all blocks
 data_length v l = sum (block_lengths v l)
