@@ -1,5 +1,5 @@
 -- What a constructor accepts, what it makes of it, and why it refuses the rest.
-use Rattle.std.specs.Prelude.{◌≡◌, ◌⊎◌, ℕ, ◌<◌, pos, false, List, length, Result, Err, IfOk, IfErr, IsOkUnless}
+use Rattle.std.specs.Prelude.{◌≡◌, ◌⊎◌, ℕ, ◌<◌, pos, false, List, length, flat_map, Result, Err, IfOk, IfErr, IsOkUnless}
 use Rattle.qrcode_types.specs.Versions.{is_valid, has_level}
 use Rattle.qrcode_types.specs.declared.types.Version.{Version}
 use Rattle.qrcode_types.specs.declared.types.Version.TheVariants.{Normal}
@@ -10,7 +10,7 @@ use Rattle.qrcode_types.specs.declared.types.Color.{Color}
 use Rattle.qrcode_bits.specs.Cuts.{IsCut, IsLeastCut}
 use Rattle.qrcode_bits.specs.Choice.{Holds, IsLeastHolding, IsRefused, IfCause}
 use Rattle.qrcode_bits.specs.Refusals.{data_limit}
-use Rattle.qrcode_bits.specs.Written.{written, terminated, pieces_of}
+use Rattle.qrcode_bits.specs.Written.{written_piece, terminated, pieces_of}
 use Rattle.qrcode_bits.specs.declared.optimize.Segment.{Segment}
 use Rattle.qrcode.specs.Code.{Code}
 use Rattle.qrcode.specs.Reading.{EncodesBytes}
@@ -19,7 +19,7 @@ use Rattle.qrcode.specs.Reading.{EncodesBytes}
 pub record IsLeastSymbol (v : Version) (l : EcLevel) (bytes : List ℕ) (s : List Color) : Type 0 where
   pub segments : List Segment
   pub least : IsLeastCut v bytes segments
-  pub encodes : EncodesBytes v l (terminated v l (written v (pieces_of bytes segments))) bytes s
+  pub encodes : EncodesBytes v l (terminated v l (flat_map (written_piece v) (pieces_of bytes segments))) bytes s
 
 -- such a symbol of the least Normal version that holds the data
 pub record IsChosenSymbol (v : Version) (l : EcLevel) (bytes : List ℕ) (s : List Color) : Type 0 where
@@ -40,6 +40,4 @@ IsRefusedAt v l bytes e =
     IfCause (is_valid v ≡ false) (e ≡ InvalidVersion) (
     IfCause (data_limit < length bytes) (e ≡ DataTooLong) (
     IfCause ((segments : List Segment) → ¬ IsCut v bytes segments) (e ≡ UnsupportedCharacterSet) (
-    (e ≡ OutOfMemory) ⊎
-    IfCause (has_level v l ≡ false) (e ≡ InvalidVersion) (
-    (¬ Holds v l bytes) × (e ≡ DataTooLong)))))
+    (e ≡ OutOfMemory) ⊎ IfCause (has_level v l ≡ false) (e ≡ InvalidVersion) ((¬ Holds v l bytes) × (e ≡ DataTooLong)))))

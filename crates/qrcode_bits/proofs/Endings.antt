@@ -13,7 +13,7 @@ use Rattle.qrcode_types.specs.declared.types.EcLevel.{EcLevel}
 use Rattle.qrcode_types.specs.declared.types.Mode.{Mode}
 use Rattle.qrcode_types.specs.declared.types.Mode.TheVariants.{Numeric, Alphanumeric, Byte, Kanji}
 use Rattle.qrcode_types.specs.Characters.{character_count}
-use Rattle.qrcode_bits.specs.Written.{Piece, written_piece, written, data_bits_in, terminator_length, terminated, ending, zeros_end, padding}
+use Rattle.qrcode_bits.specs.Written.{Piece, written_piece, written, data_bits_in, terminator_length, terminated, ending, padding}
 use Rattle.qrcode_bits.specs.Spelling.{is_end, IsReadable, IsReadAs, Spells, SpellsOnly}
 use Rattle.qrcode_bits.proofs.Paddings.{length-padding, padding-nil}
 use Rattle.qrcode_bits.proofs.Numbers.{has_one, length-number_bits}
@@ -79,7 +79,7 @@ zeros (suc t) (suc n) x h = zeros t n x (elim h [ inl l ↦ inl (omega arith) | 
 
 -- an ending is an end
 pub ending-is_end : (t used room : ℕ) → used ≤ room → list_all not (take t (ending t used room)) ≡ true
-unfolding ending zeros_end
+unfolding ending
 ending-is_end t used room h =
     let z = min (8 * ((min (used + t) room + 7) / 8)) room in
     zeros t (z - used) (padding (room - z)) (elim (cases_lt z room) [
@@ -88,7 +88,7 @@ ending-is_end t used room h =
     ])
 
 pub length-ending : (t used room : ℕ) → used ≤ room → length (ending t used room) ≡ room - used
-unfolding ending zeros_end
+unfolding ending
 length-ending t used room h =
     let z = min (8 * ((min (used + t) room + 7) / 8)) room in
     omega (arith, length-append (replicate (z - used) false) (padding (room - z)), length-replicate (z - used) false, length-padding (room - z))

@@ -1,31 +1,29 @@
 -- Which data a symbol holds, and which version is the least that does.
-use Rattle.std.specs.Prelude.{◌≡◌, ◌⊎◌, ℕ, ◌<◌, ◌≤◌, pos, false, List, length, IsTrue}
+use Rattle.std.specs.Prelude.{◌≡◌, ◌⊎◌, ℕ, ◌<◌, ◌≤◌, pos, false, List, length, sum_by, IsTrue}
 use Rattle.qrcode_types.specs.Versions.{is_valid, has_level, capacity}
 use Rattle.qrcode_types.specs.declared.types.Version.{Version}
 use Rattle.qrcode_types.specs.declared.types.Version.TheVariants.{Normal}
 use Rattle.qrcode_types.specs.declared.types.EcLevel.{EcLevel}
 use Rattle.qrcode_types.specs.declared.types.QrError.{QrError}
 use Rattle.qrcode_types.specs.declared.types.QrError.TheVariants.{InvalidVersion, DataTooLong, UnsupportedCharacterSet, OutOfMemory}
-use Rattle.qrcode_bits.specs.Cuts.{FitsIn, IsCutIn}
+use Rattle.qrcode_bits.specs.Cuts.{IsCut, IsCutIn}
+use Rattle.qrcode_bits.specs.Segments.{cost}
 use Rattle.qrcode_bits.specs.Manners.{modes_of, has_front, HoldsAs, rank}
 use Rattle.qrcode_bits.specs.Refusals.{data_limit}
 use Rattle.qrcode_bits.specs.declared.optimize.Segment.{Segment}
 use Rattle.qrcode_bits.specs.declared.bits.manner.Manner.{Manner}
 
--- the version has the level, and its symbol has room for the bits of some cut of the data
-pub record Holds (v : Version) (l : EcLevel) (bytes : List ℕ) : Type 0 where
+pub record Holds (v : Version) (l : EcLevel) (bytes : List ℕ) : Type 0 where  -- a symbol has room for a cut of the data
   pub exists : IsTrue (has_level v l)
-  pub room : FitsIn v bytes (capacity v l)
+  pub room : (segments : List Segment) × (IsCut v bytes segments × (sum_by (cost v) segments ≤ capacity v l))
 
--- the least Normal version that holds the data
-pub record IsLeastHolding (l : EcLevel) (bytes : List ℕ) (v : Version) : Type 0 where
+pub record IsLeastHolding (l : EcLevel) (bytes : List ℕ) (v : Version) : Type 0 where  -- the least Normal to hold them
   pub number : ℕ
   pub is : v ≡ Normal (pos number)
   pub holds : Holds v l bytes
   pub least : (n : ℕ) → Holds (Normal (pos n)) l bytes → number ≤ n
 
--- why no version is chosen: memory was refused, or no Normal version holds the data
-abbrev pub IsRefused : EcLevel → List ℕ → QrError → Type 0
+abbrev pub IsRefused : EcLevel → List ℕ → QrError → Type 0  -- memory was refused, or no Normal version holds the data
 IsRefused l bytes e = (e ≡ OutOfMemory) ⊎ ((e ≡ DataTooLong) × ((n : ℕ) → ¬ Holds (Normal (pos n)) l bytes))
 
 -- why no version from one on is chosen, which exists: more bytes than are taken or that any such version holds, or memory was refused

@@ -1,24 +1,22 @@
 -- All cuts of the data, and a least one.
-use Rattle.std.specs.Prelude.{ℕ, ◌≤◌, List, length, slice_range, IsTrue}
+use Rattle.std.specs.Prelude.{ℕ, ◌≤◌, List, length, slice_range, sum_by, IsTrue}
 use Rattle.std.specs.List.{AllByRecursion}
 use Rattle.qrcode_types.specs.Modes.{has_mode}
 use Rattle.qrcode_types.specs.declared.types.Version.{Version}
 use Rattle.qrcode_types.specs.Characters.{can_write}
 use Rattle.qrcode_bits.specs.ModeSets.{is_among}
-use Rattle.qrcode_bits.specs.Segments.{Tile, total_cost}
+use Rattle.qrcode_bits.specs.Segments.{Tile, cost, total_cost}
 use Rattle.qrcode_bits.specs.declared.optimize.mode_sets.Modes.{Modes}
 use Rattle.qrcode_bits.specs.declared.optimize.Segment.{Segment}
 
--- the segments cover the data, each in a mode that the version has and that can write its bytes
-pub record IsCut (v : Version) (bytes : List ℕ) (segments : List Segment) : Type 0 where
+pub record IsCut (v : Version) (bytes : List ℕ) (segments : List Segment) : Type 0 where  -- segments covering the data
   pub tiles : Tile 0 segments (length bytes)
   pub modes : AllByRecursion (λ s. IsTrue (has_mode v s.mode)) segments
   pub writable : AllByRecursion (λ s. IsTrue (can_write s.mode (slice_range bytes s.begin s.end))) segments
 
--- a cut that no cut is shorter than
-pub record IsLeastCut (v : Version) (bytes : List ℕ) (segments : List Segment) : Type 0 where
+pub record IsLeastCut (v : Version) (bytes : List ℕ) (segments : List Segment) : Type 0 where  -- no cut is shorter
   pub reached : IsCut v bytes segments
-  pub least : (others : List Segment) → IsCut v bytes others → total_cost v segments ≤ total_cost v others
+  pub least : (others : List Segment) → IsCut v bytes others → sum_by (cost v) segments ≤ sum_by (cost v) others
 
 abbrev pub FitsIn : Version → List ℕ → ℕ → Type 0  -- the data can be cut into segments that take at most so many bits
 FitsIn v bytes most = (segments : List Segment) × (IsCut v bytes segments × (total_cost v segments ≤ most))

@@ -7,12 +7,11 @@ use Rattle.qrcode_types.specs.declared.types.Mode.{Mode}
 use Rattle.qrcode_types.specs.Characters.{character_count}
 use Rattle.qrcode_bits.specs.declared.optimize.Segment.{Segment}
 
--- the bits that so many characters take, with mode indicator and length field
-abbrev pub cost_of : Version → Mode → ℕ → ℕ
-cost_of v m count = mode_bits_count v + length_bits_count m v + data_bits_count m count
+abbrev pub cost : Version → Segment → ℕ  -- the bits that a segment takes: mode indicator, length field, data bits
+cost v s = mode_bits_count v + length_bits_count s.mode v + data_bits_count s.mode (character_count s.mode (s.end - s.begin))
 
-abbrev pub cost : Version → Segment → ℕ  -- the bits that a segment takes
-cost v s = cost_of v s.mode (character_count s.mode (s.end - s.begin))
+abbrev pub cost_of : Version → Mode → ℕ → ℕ  -- the bits that a segment of so many characters takes
+cost_of v m count = mode_bits_count v + length_bits_count m v + data_bits_count m count
 
 abbrev pub total_cost : Version → List Segment → ℕ  -- the bits that all segments take
 total_cost v segments = sum_by (cost v) segments

@@ -17,13 +17,11 @@ pub record IsReadable (v : Version) (p : Piece) : Type 0 where  -- a piece that 
   pub nonempty : 0 < character_count p.mode (length p.chunk)
   pub counted : character_count p.mode (length p.chunk) < 2 ^ length_bits_count p.mode v
 
--- the bits are the pieces one after the other, none of which begins like an end, and then an end
-abbrev pub IsReadAs : Version → List Bool → List Piece → Type 0
+abbrev pub IsReadAs : Version → List Bool → List Piece → Type 0  -- pieces, none beginning like an end, and an end
 IsReadAs v bits [] = IsTrue (is_end v bits)
 IsReadAs v bits (p ∷ pieces) = (rest : List Bool) × ((bits ≡ written_piece v p ++ rest) × (IsFalse (is_end v bits) × (IsReadable v p × IsReadAs v rest pieces)))
 
--- a reader finds these bytes in the bits
-pub record Spells (v : Version) (bits : List Bool) (bytes : List ℕ) : Type 0 where
+pub record Spells (v : Version) (bits : List Bool) (bytes : List ℕ) : Type 0 where  -- a reader finds these bytes in them
   pub pieces : List Piece
   pub read : IsReadAs v bits pieces
   pub joined : flat_map (λ p. p.chunk) pieces ≡ bytes

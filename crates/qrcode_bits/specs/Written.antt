@@ -24,9 +24,8 @@ alphanumeric_bits (a ∷ []) = number_bits 6 (alphanumeric_number a)
 alphanumeric_bits (a ∷ b ∷ more) = number_bits 11 (45 * alphanumeric_number a + alphanumeric_number b) ++ alphanumeric_bits more
 
 abbrev pub kanji_bits : List ℕ → List Bool  -- each pair in thirteen bits; a last byte without another is left out
-kanji_bits [] = []
-kanji_bits (a ∷ []) = []
 kanji_bits (a ∷ b ∷ more) = number_bits 13 (kanji_number a b) ++ kanji_bits more
+kanji_bits bytes = []
 
 abbrev pub data_bits_in : Mode → List ℕ → List Bool  -- the data bits of bytes in a mode
 data_bits_in Numeric bytes = numeric_bits bytes
@@ -55,17 +54,12 @@ terminator_length (Micro v) = 2 * nat_abs v + 1
 unfoldable pub padding : ℕ → List Bool  -- the bytes 0xEC and 0x11 by turns, and zeros where no whole byte fits
 padding n = flat_map (λ i. number_bits 8 (if i % 2 == 0 then 0xEC else 0x11)) (range_with_len 0 (n / 8)) ++ replicate (n % 8) false
 
--- the end of the zeros behind so many bits, with a terminator of so many, where so many have room
-unfoldable pub zeros_end : ℕ → ℕ → ℕ → ℕ
-zeros_end terminator used room = min (8 * ((min (used + terminator) room + 7) / 8)) room
-
--- Zeros for the terminator and on to a whole byte, all cut at the room, then the bytes of the padding, and zeros where a
--- half codeword is left.
+-- behind so many bits, zeros for a terminator of so many bits and on to a whole byte, all cut at the room, and then the padding up to the room
 unfoldable pub ending : ℕ → ℕ → ℕ → List Bool
-ending terminator used room = replicate (zeros_end terminator used room - used) false ++ padding (room - zeros_end terminator used room)
+ending terminator used room =
+    let end = min (8 * ((min (used + terminator) room + 7) / 8)) room in replicate (end - used) false ++ padding (room - end)
 
--- Bits with terminator and padding, as many as the capacity. It says nothing of bits that are more than the capacity.
-unfoldable pub terminated : Version → EcLevel → List Bool → List Bool
+unfoldable pub terminated : Version → EcLevel → List Bool → List Bool  -- with terminator and padding up to the capacity
 terminated v l bits = bits ++ ending (terminator_length v) (length bits) (capacity v l)
 
 unfoldable pub eci_bits : ℕ → List Bool  -- the number of a character set, below 1,000,000, in one, two or three bytes

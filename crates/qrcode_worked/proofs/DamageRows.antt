@@ -13,7 +13,7 @@ use Rattle.qrcode_places.specs.Words.{with_check_bits, format_word}
 use Rattle.qrcode_places.specs.Patterns.{finder, centres, alignment, timing, dark_module, version_pattern, pattern, format_copies, format_index, is_functional_place}
 use Rattle.qrcode_places.specs.Stream.{zigzag_place, zigzag, free_places, stream}
 use Rattle.qrcode_places.specs.declared.masks.MaskPattern.TheVariants.{VerticalLines}
-use Rattle.qrcode_bits.specs.Written.{padding, zeros_end, ending, terminated}
+use Rattle.qrcode_bits.specs.Written.{padding, ending, terminated}
 use Rattle.qrcode_symbol.specs.Symbol.{IsDamaged}
 use Rattle.qrcode_symbol.specs.Reading.{ReadsBits}
 use Rattle.qrcode_worked.specs.Data.{normal_bits, normal_block}
@@ -21,19 +21,19 @@ use Rattle.qrcode_worked.specs.Squares.{normal_square, damaged_square, too_damag
 use Rattle.qrcode_worked.proofs.CodeRows.{normal_bytes, normal_vanishes}
 
 pub damaged : IsDamaged (Normal (pos 1)) M VerticalLines normal_square damaged_square
-unfolding number_bits number_of byte_at bytes_of carryless xor_sum block_table blocks_entry block_lengths data_length capacity total_ec_length remainder_from remainder product power syndrome codewords interleaved_place block blocks data_bytes data_bits with_check_bits format_word finder centres alignment timing dark_module version_pattern pattern format_copies format_index is_functional_place zigzag_place zigzag free_places stream padding zeros_end ending terminated
+unfolding number_bits number_of byte_at bytes_of carryless xor_sum block_table blocks_entry block_lengths data_length capacity total_ec_length remainder_from remainder product power syndrome codewords interleaved_place block blocks data_bytes data_bits with_check_bits format_word finder centres alignment timing dark_module version_pattern pattern format_copies format_index is_functional_place zigzag_place zigzag free_places stream padding ending terminated
 damaged = record { square = refl; format = (lit≤ tt, (lit≤ tt, tt)); blocks = (lit≤ tt, tt) }
 
 pub too_damaged : ¬ IsDamaged (Normal (pos 1)) M VerticalLines normal_square too_damaged_square
-unfolding number_bits number_of byte_at bytes_of carryless xor_sum block_table blocks_entry block_lengths data_length capacity total_ec_length remainder_from remainder product power syndrome codewords interleaved_place block blocks data_bytes data_bits with_check_bits format_word finder centres alignment timing dark_module version_pattern pattern format_copies format_index is_functional_place zigzag_place zigzag free_places stream padding zeros_end ending terminated
+unfolding number_bits number_of byte_at bytes_of carryless xor_sum block_table blocks_entry block_lengths data_length capacity total_ec_length remainder_from remainder product power syndrome codewords interleaved_place block blocks data_bytes data_bits with_check_bits format_word finder centres alignment timing dark_module version_pattern pattern format_copies format_index is_functional_place zigzag_place zigzag free_places stream padding ending terminated
 too_damaged = λ h. let more : 6 ≤ 5 = h.blocks.0 in absurd (omega (arith, more))
 
 pub wrong_format : ¬ IsDamaged (Normal (pos 1)) M VerticalLines normal_square wrong_format_square
-unfolding number_bits number_of byte_at bytes_of carryless xor_sum block_table blocks_entry block_lengths data_length capacity total_ec_length remainder_from remainder product power syndrome codewords interleaved_place block blocks data_bytes data_bits with_check_bits format_word finder centres alignment timing dark_module version_pattern pattern format_copies format_index is_functional_place zigzag_place zigzag free_places stream padding zeros_end ending terminated
+unfolding number_bits number_of byte_at bytes_of carryless xor_sum block_table blocks_entry block_lengths data_length capacity total_ec_length remainder_from remainder product power syndrome codewords interleaved_place block blocks data_bytes data_bits with_check_bits format_word finder centres alignment timing dark_module version_pattern pattern format_copies format_index is_functional_place zigzag_place zigzag free_places stream padding ending terminated
 wrong_format = λ h. let more : 4 ≤ 3 = h.format.0 in absurd (omega (arith, more))
 
 pub read : ReadsBits damaged_square (Normal (pos 1)) M normal_bits
-unfolding number_bits number_of byte_at bytes_of carryless xor_sum block_table blocks_entry block_lengths data_length capacity total_ec_length remainder_from remainder product power syndrome codewords interleaved_place block blocks data_bytes data_bits with_check_bits format_word finder centres alignment timing dark_module version_pattern pattern format_copies format_index is_functional_place zigzag_place zigzag free_places stream padding zeros_end ending terminated
+unfolding number_bits number_of byte_at bytes_of carryless xor_sum block_table blocks_entry block_lengths data_length capacity total_ec_length remainder_from remainder product power syndrome codewords interleaved_place block blocks data_bytes data_bits with_check_bits format_word finder centres alignment timing dark_module version_pattern pattern format_copies format_index is_functional_place zigzag_place zigzag free_places stream padding ending terminated
 read = record {
   exists = refl;
   square = refl;
