@@ -9,7 +9,7 @@ ghost use Rattle.qrcode_render.specs.Layout.{pixels_across, pixels_down};
 ghost use Rattle.qrcode_render.specs.Put.{IsPutWhere};
 ghost use Rattle.qrcode_render.specs.Setting.{fits, layout_of};
 
-use crate::ink::{Column, Piece, Row, Sides, number};
+use crate::ink::{Front, Piece, Row, Sides, number};
 use crate::stamps::Stamp;
 use crate::strokes::{Strokes, push_modules, put_modules};
 use crate::{Modules, Pixel, Renderer};
@@ -95,23 +95,20 @@ const LONGEST_START: usize = 264;
 struct Boxes;
 
 impl Strokes for Boxes {
+    type Column = Front;
+
     ghost column_texts = { eps_column };
 
     ghost sides_text = { eps_sides };
 
     ghost row_texts = { eps_row };
 
-    fn has_back() -> bool {
-        false
-    }
-
     #[tactic(auto, using(crate::proofs::Paths::number_short))]
-    fn column(left: u32) -> Column {
+    fn column(left: u32) -> Front {
         let mut front = Stamp::new(b"");
         front.push_number(left);
         front.push(b" ");
-        let back = Stamp::new(b"");
-        Piece::new(front, back)
+        Front::new(front)
     }
 
     fn sides(width: u32, height: u32) -> Sides {

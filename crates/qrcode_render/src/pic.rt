@@ -8,7 +8,7 @@ ghost use Rattle.qrcode_render.specs.Put.{IsPutWhere};
 ghost use Rattle.qrcode_render.specs.Setting.{fits, layout_of};
 ghost use Rattle.qrcode_render.specs.Vectors.{pic_start, pic_rect, pic_column, pic_sides, pic_row, pic_text};
 
-use crate::ink::{Column, Piece, Row, Sides, number};
+use crate::ink::{Front, Piece, Row, Sides, number};
 use crate::stamps::Stamp;
 use crate::strokes::{Strokes, push_modules, put_modules};
 use crate::{Modules, Pixel, Renderer};
@@ -67,23 +67,20 @@ const LONGEST_START: usize = 176;
 struct Boxes;
 
 impl Strokes for Boxes {
+    type Column = Front;
+
     ghost column_texts = { pic_column };
 
     ghost sides_text = { pic_sides };
 
     ghost row_texts = { pic_row };
 
-    fn has_back() -> bool {
-        false
-    }
-
     #[tactic(auto, using(crate::proofs::Paths::number_short))]
-    fn column(left: u32) -> Column {
+    fn column(left: u32) -> Front {
         let mut front = Stamp::new(b"p(");
         front.push_number(left);
         front.push(b",");
-        let back = Stamp::new(b"");
-        Piece::new(front, back)
+        Front::new(front)
     }
 
     fn sides(width: u32, height: u32) -> Sides {

@@ -1,7 +1,7 @@
 //! Texts of rectangles, put together of kept texts: those that a column determines, that of the sides,
 //! and those that a row and the text of the sides determine.
 
-ghost use Rattle.std.specs.Prelude.{◌≡◌, ℕ, false, ◌+◌, ◌-◌, ◌*◌, ◌^◌, ◌<◌, ◌≤◌, List, [], ◌++◌, length, take, drop, string_bytes, IfOk, IfSome, IfNone, OnOk, OnErr, IsOkUnless};
+ghost use Rattle.std.specs.Prelude.{◌≡◌, ℕ, ◌+◌, ◌-◌, ◌*◌, ◌^◌, ◌<◌, ◌≤◌, List, [], ◌++◌, length, map, take, drop, string_bytes, IfOk, IfSome, IfNone, OnOk, OnErr, IsOkUnless};
 ghost use Rattle.std.specs.Str.{IsUtf8};
 ghost use Rattle.qrcode_types.specs.declared.types.QrError.TheVariants.{OutOfMemory};
 ghost use Rattle.qrcode_render.specs.Drawn.{drawn, drawn_row};
@@ -11,7 +11,7 @@ ghost use Rattle.qrcode_render.specs.Strokes.{stroke, columns_from, AreShort};
 
 use crate::Modules;
 use crate::grid::Grid;
-use crate::ink::{Column, MOST, Row, Sides, put_rect};
+use crate::ink::{Column, MOST, Row, Sides};
 use crate::stamps::{Line, put_text};
 use qrcode_types::types::{Color, QrError, QrResult};
 use std::alloc::Global;
@@ -19,6 +19,9 @@ use std::str::from_utf8_unchecked;
 
 /// How a vector format writes rectangles.
 pub trait Strokes {
+    /// How the texts of a column are kept.
+    type Column: Column;
+
     // What the column of a rectangle determines, what its sides, and what its row and the text of the
     // sides.
     ghost column_texts: { ℕ → List ℕ × List ℕ };
@@ -27,13 +30,9 @@ pub trait Strokes {
 
     ghost row_texts: { ℕ → List ℕ → List ℕ × List ℕ };
 
-    /// Whether a column has a text behind that of the row, too.
-    fn has_back() -> bool
-        ensures none { result ≡ false → (left : ℕ) → (column_texts left).1 ≡ [] };
-
     /// The texts of a column.
-    fn column(left: u32) -> Column
-        ensures { result ≡ column_texts left };
+    fn column(left: u32) -> Self::Column
+        ensures { Self.Column.texts result ≡ column_texts left };
 
     /// The text of sides.
     fn sides(width: u32, height: u32) -> Sides
@@ -45,9 +44,10 @@ pub trait Strokes {
 }
 
 // The texts of columns of modules of so many pixels, from a first pixel on.
-fn columns<S: Strokes>(alloc: Global, left: u32, width: u32, count: u32) -> QrResult<Vec<Column>>
+fn columns<S: Strokes>(alloc: Global, left: u32, width: u32, count: u32) -> QrResult<Vec<S::Column>>
     requires { left + count * width < 2 ^ 32 }
-    ensures value { IfOk result (λ v. v.items ≡ columns_from S.column_texts left width count) }
+    ensures value { IfOk result (λ v. map S.Column.texts v.items
+        ≡ columns_from S.column_texts left width count) }
     ensures memory { IsOkUnless result OutOfMemory }
 {
     let mut columns = Vec::with_capacity(alloc, count as usize)?;
@@ -58,8 +58,8 @@ fn columns<S: Strokes>(alloc: Global, left: u32, width: u32, count: u32) -> QrRe
 }
 
 // The most bytes of the texts of a column.
-fn longest(columns: &[Column]) -> usize
-    ensures value { AreShort columns.now result }
+fn longest<C: Column>(columns: &[C]) -> usize
+    ensures value { AreShort (map C.texts columns.now) result }
     ensures at_most { result ≤ 32 }
 {
     let mut most = 0usize;
@@ -81,7 +81,7 @@ fn room_for(count: usize, most: usize) -> QrResult<usize>
 // Writes the rectangles of the dark modules of a row into a line, of which each has at most so many bytes.
 fn write_line<S: Strokes>(
     line: &mut Line,
-    columns: &[Column],
+    columns: &[S::Column],
     row: &Row,
     content: &[Color],
     left: u32,
@@ -92,8 +92,9 @@ fn write_line<S: Strokes>(
 )
     requires at_most { length content.now ≤ length columns.now }
     requires row_at_most { length row.now.0 + length row.now.1 ≤ most }
-    requires short { AreShort columns.now (most - (length row.now.0 + length row.now.1)) }
-    requires columns { columns.now
+    requires short { AreShort (map S.Column.texts columns.now)
+        (most - (length row.now.0 + length row.now.1)) }
+    requires columns { map S.Column.texts columns.now
         ≡ columns_from S.column_texts left width (length columns.now) }
     requires row { row.now ≡ S.row_texts top (S.sides_text width height) }
     requires room { length content.now * most + 80 ≤ line.old.room }
@@ -104,12 +105,11 @@ fn write_line<S: Strokes>(
     ensures is_text { ∥ IsUtf8 line.new.text ∥₁ }
 {
     let _ = (left, top, width, height, most);
-    let has_back = S::has_back();
     line.clear();
     for (i, color) in content.iter().enumerate() {
         match color {
             Color::Light => {}
-            Color::Dark => put_rect(line, &columns[i], row, has_back),
+            Color::Dark => columns[i].put(line, row),
         }
     }
 }
@@ -118,7 +118,7 @@ fn write_line<S: Strokes>(
 fn push_rows<S: Strokes>(
     text: &mut String,
     line: &mut Line,
-    columns: &[Column],
+    columns: &[S::Column],
     content: &[Color],
     count: u32,
     zone: u32,
@@ -129,7 +129,8 @@ fn push_rows<S: Strokes>(
     requires side_fits { count + 2 * zone < 2 ^ 32 }
     requires across { (count + 2 * zone) * width < 2 ^ 32 }
     requires down { (count + 2 * zone) * height < 2 ^ 32 }
-    requires columns { columns.now ≡ columns_from S.column_texts (zone * width) width count }
+    requires columns { map S.Column.texts columns.now
+        ≡ columns_from S.column_texts (zone * width) width count }
     ensures appends { OnOk result (string_bytes text.new
         ≡ drawn (stroke S.column_texts S.sides_text S.row_texts)
         (layout count zone width height) content.now (string_bytes text.old)) }
@@ -156,7 +157,7 @@ fn put_rows<S: Strokes>(
     bytes: &mut [u8],
     at: usize,
     line: &mut Line,
-    columns: &[Column],
+    columns: &[S::Column],
     content: &[Color],
     count: u32,
     zone: u32,
@@ -167,7 +168,8 @@ fn put_rows<S: Strokes>(
     requires side_fits { count + 2 * zone < 2 ^ 32 }
     requires across { (count + 2 * zone) * width < 2 ^ 32 }
     requires down { (count + 2 * zone) * height < 2 ^ 32 }
-    requires columns { columns.now ≡ columns_from S.column_texts (zone * width) width count }
+    requires columns { map S.Column.texts columns.now
+        ≡ columns_from S.column_texts (zone * width) width count }
     requires line_room { count * 80 + 80 ≤ line.old.room }
     requires room { at + count * (count * 80) ≤ length bytes.old }
     ensures writes { take result bytes.new ≡ drawn (stroke S.column_texts S.sides_text S.row_texts)
@@ -213,7 +215,7 @@ fn is_near_start(place: u32, count: u32) -> bool {
 
 // How many bytes more the texts of the dark modules have in a column and to its right than they would have in
 // the column before, of so many dark modules in all.
-fn more_right(grid: &Grid, columns: &[Column], column: u32, count: u32, all: usize) -> usize {
+fn more_right<C: Column>(grid: &Grid, columns: &[C], column: u32, count: u32, all: usize) -> usize {
     let place = column as usize;
     if place == 0 || columns.len() <= place {
         return 0;
@@ -243,7 +245,7 @@ fn more_below<S: Strokes>(modules: &Modules, sides: &Sides, row: u32, all: usize
 
 // The bytes of the rectangles of the dark modules: as many as if all stood in the first column and row, and
 // more from each column and row on whose number has one more digit than that before.
-fn room_of<S: Strokes>(columns: &[Column], modules: &Modules) -> usize {
+fn room_of<S: Strokes>(columns: &[S::Column], modules: &Modules) -> usize {
     let Some(first) = columns.first() else {
         return 0;
     };
@@ -278,7 +280,7 @@ fn row_line(alloc: Global, count: u32) -> QrResult<Line>
 }
 
 // A line with room for the rectangles of the last row, which has the longest texts.
-fn last_line<S: Strokes>(alloc: Global, columns: &[Column], modules: &Modules) -> QrResult<Line>
+fn last_line<S: Strokes>(alloc: Global, columns: &[S::Column], modules: &Modules) -> QrResult<Line>
     ensures memory { IsOkUnless result OutOfMemory }
 {
     let sides = S::sides(modules.width, modules.height);

@@ -9,7 +9,7 @@ ghost use Rattle.qrcode_render.specs.Put.{IsPutWhere};
 ghost use Rattle.qrcode_render.specs.Setting.{fits, layout_of};
 ghost use Rattle.qrcode_render.specs.Vectors.{svg_start, svg_rect, svg_column, svg_sides, svg_row, svg_end, svg_text};
 
-use crate::ink::{Column, Piece, Row, Sides, number};
+use crate::ink::{Piece, Row, SHORT, Sides, number};
 use crate::stamps::Stamp;
 use crate::strokes::{Strokes, push_modules, put_modules};
 pub use crate::svg_path::{Path, PathElement};
@@ -76,18 +76,16 @@ const LONGEST_START: usize = 280;
 struct Paths;
 
 impl Strokes for Paths {
+    type Column = Piece<SHORT>;
+
     ghost column_texts = { svg_column };
 
     ghost sides_text = { svg_sides };
 
     ghost row_texts = { svg_row };
 
-    fn has_back() -> bool {
-        true
-    }
-
     #[tactic(auto, using(crate::proofs::Paths::number_short))]
-    fn column(left: u32) -> Column {
+    fn column(left: u32) -> Piece<SHORT> {
         let mut front = Stamp::new(b"M");
         front.push_number(left);
         front.push(b" ");

@@ -1,6 +1,7 @@
-use Rattle.std.proofs.Common.{◌≡◌, ℕ, ◌+◌, ◌*◌, ◌-◌, ◌≤◌, ◌++◌, length, ap, sym, ◌∙◌, drop, take, arith, subst}
+use Rattle.std.proofs.Common.{◌≡◌, ℕ, ◌+◌, ◌*◌, ◌-◌, ◌≤◌, ◌++◌, length, map, ap, sym, ◌∙◌, drop, take, arith, subst}
 use Rattle.std.proofs.Math.ListN.{length-take}
 use Rattle.std.proofs.Math.Nat.{mul-le-mul_left, mul-le-mul_right}
+use Rattle.std.proofs.lemmas.List.{length-map}
 use Rattle.std.proofs.lemmas.List.FromFn.{length-map-range_with_len}
 use Rattle.qrcode_render.specs.Layout.{layout}
 use Rattle.qrcode_render.specs.Strokes.{columns_from, AreShort}
@@ -18,13 +19,13 @@ pub write_line-requires-clause-at_most : goal.write_line-requires-clause-at_most
 write_line-requires-clause-at_most g c =
     let n = c.args.count in
     let i = c.loop-row.row * n in
-    let columns : length c.args.columns.now ≡ n = ap length c.requires.columns ∙ length-map-range_with_len (λ k. g.S.Strokes.column_texts (c.args.zone * c.args.width + k * c.args.width)) 0 n in
+    let columns : length c.args.columns.now ≡ n = sym (length-map c.args.columns.now g.S.Column.Column.texts) ∙ ap length c.requires.columns ∙ length-map-range_with_len (λ k. g.S.Strokes.column_texts (c.args.zone * c.args.width + k * c.args.width)) 0 n in
     omega (arith, columns, length-take (i + n - i) (drop i c.args.content.now))
 
 pub write_line-requires-clause-columns : goal.write_line-requires-clause-columns
 write_line-requires-clause-columns g c =
     let n = c.args.count in
-    let columns : length c.args.columns.now ≡ n = ap length c.requires.columns ∙ length-map-range_with_len (λ k. g.S.Strokes.column_texts (c.args.zone * c.args.width + k * c.args.width)) 0 n in
+    let columns : length c.args.columns.now ≡ n = sym (length-map c.args.columns.now g.S.Column.Column.texts) ∙ ap length c.requires.columns ∙ length-map-range_with_len (λ k. g.S.Strokes.column_texts (c.args.zone * c.args.width + k * c.args.width)) 0 n in
     c.requires.columns ∙ ap (columns_from g.S.Strokes.column_texts (c.args.zone * c.args.width) c.args.width) (sym columns)
 
 pub write_line-requires-clause-row_at_most : goal.write_line-requires-clause-row_at_most
@@ -34,7 +35,7 @@ pub write_line-requires-clause-short : goal.write_line-requires-clause-short
 write_line-requires-clause-short g c =
     let size = length c.row-piece.result.0 + length c.row-piece.result.1 in
     let same : c.longest-longest.result + c.len.result - size ≡ c.longest-longest.result = omega (arith, c.len.ensures.value) in
-    subst (AreShort c.args.columns.now) (sym same) c.longest-longest.ensures.value
+    subst (AreShort (map g.S.Column.Column.texts c.args.columns.now)) (sym same) c.longest-longest.ensures.value
 
 pub write_line-requires-clause-room : goal.write_line-requires-clause-room
 write_line-requires-clause-room g c =
