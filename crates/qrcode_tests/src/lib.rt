@@ -1,5 +1,5 @@
-//! The tests of the library's public calls, each with what other encoders or the standard's examples have: those that make symbols and pictures of them, and
-//! below those the calls of bits, of what symbols are made of, and of pictures of modules.
+//! The tests of the library's public calls, each with what other encoders or the standard's examples have: those that make symbols and pictures of them,
+//! below those the calls of bits, of what symbols are made of, and of pictures of modules, and above those the calls of contents.
 #![tactic(auto)]
 
 #[cfg(test)]
@@ -8,6 +8,8 @@ mod bits;
 mod calls;
 #[cfg(test)]
 mod canvases;
+#[cfg(test)]
+mod contents;
 #[cfg(test)]
 mod pictures;
 #[cfg(test)]
