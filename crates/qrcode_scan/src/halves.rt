@@ -74,11 +74,10 @@ fn next_half(text: &[u8]) -> Result<(Half, &[u8]), Unscanned>
 fn behind_colour(text: &[u8]) -> Result<&[u8], Unscanned>
     ensures at_most { IfOk result (λ rest. length rest.now ≤ length text.now) }
 {
-    let mut rest = text;
-    while let [first, more @ ..] = rest {
-        match *first {
-            b'm' => return Ok(more),
-            b'0'..=b'9' | b';' => rest = more,
+    for at in 0..text.len() {
+        match text[at] {
+            b'm' => return Ok(&text[at + 1..]),
+            b'0'..=b'9' | b';' => {}
             _ => return Err(Unscanned::NotPicture),
         }
     }
