@@ -1,10 +1,11 @@
 //! What the library makes is tried: calls with memory refused (`refused`), builds to be counted (`built`), and PNG
-//! files (`files`). Without a word all three are listed.
+//! files (`files`); and symbols are drawn in ten ways (`drawn`). Without a word all are listed, and one is drawn.
 #![tactic(auto)]
 
 mod builds;
 mod digest;
 mod files;
+mod gallery;
 mod scenarios;
 
 use std::process::ExitCode;
@@ -24,24 +25,44 @@ fn obey(rt: &HostRuntime) -> io::Result<bool> {
         return Ok(true);
     };
     let part = words.nth(1);
-    let name = words.next();
-    match text_of(&part) {
-        None => list_all(rt),
-        Some("refused") => scenarios::obey(rt, text_of(&name)),
-        Some("built") => {
-            let count = words.next();
-            let pixels = words.next();
-            builds::obey(rt, text_of(&name), text_of(&count), text_of(&pixels))
-        }
-        Some("files") => files::print_all(rt, name.is_some()),
-        Some(_) => Ok(false),
+    let first = words.next();
+    let second = words.next();
+    let third = words.next();
+    obey_words(
+        rt,
+        text_of(&part),
+        text_of(&first),
+        text_of(&second),
+        text_of(&third),
+    )
+}
+
+// The same of up to four words.
+fn obey_words(
+    rt: &HostRuntime,
+    part: Option<&str>,
+    first: Option<&str>,
+    second: Option<&str>,
+    third: Option<&str>,
+) -> io::Result<bool> {
+    let Some(part) = part else {
+        return list_all(rt);
+    };
+    match part {
+        "refused" => scenarios::obey(rt, first),
+        "built" => builds::obey(rt, first, second, third),
+        "drawn" => gallery::obey(rt, first, second),
+        "files" => files::print_all(rt, first.is_some()),
+        _ => Ok(false),
     }
 }
 
-// Lists the scenarios, the builds and the files.
+// Lists the scenarios and the builds, draws a symbol, and lists the files.
 fn list_all(rt: &HostRuntime) -> io::Result<bool> {
     scenarios::obey(rt, None)?;
     builds::obey(rt, None, None, None)?;
+    gallery::obey(rt, Some("half-blocks"), Some("01234567"))?;
+    println!(rt; "")?;
     files::print_all(rt, false)
 }
 

@@ -14,8 +14,8 @@ use Rattle.qrcode_png.specs.Shown.{shown}
 use Rattle.qrcode.specs.Acceptance.{IsChosenSymbol}
 use Rattle.qrcode.specs.Pictures.{layout_in}
 use Rattle.qrcode_uses.specs.Drawings.{char_text, pair_text, half_block_text, svg_text, pic_text, grey_map}
-use Rattle.qrcode_gallery.specs.declared.program.Kind.{Kind}
-use Rattle.qrcode_gallery.specs.declared.program.Kind.TheVariants.{Chars, Pairs, HalfBlocks, Svg, Path, Pic, Eps, Pixels, Pbm, Png}
+use Rattle.qrcode_trials.specs.declared.gallery.Kind.{Kind}
+use Rattle.qrcode_trials.specs.declared.gallery.Kind.TheVariants.{Chars, Pairs, HalfBlocks, Svg, Path, Pic, Eps, Pixels, Pbm, Png}
 
 abbrev pub name_of : Kind → List ℕ
 name_of Chars = codes "char"

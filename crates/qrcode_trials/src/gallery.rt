@@ -1,12 +1,12 @@
-//! The program, over any writer.
+//! The symbol of a text in one of the ten ways to draw, over any writer.
 
 ghost use Rattle.std.specs.Prelude.{◌≡◌, ◌⊎◌, IfOk, IfErr, IfSome, IfNone, IsErrOf, IsOkUnless};
 ghost use Rattle.qrcode_types.specs.declared.types.EcLevel.TheVariants.{M};
 ghost use Rattle.qrcode_types.specs.declared.types.QrError.TheVariants.{OutOfMemory};
 ghost use Rattle.qrcode_bits.specs.Choice.{IsRefused};
 ghost use Rattle.qrcode_programs.specs.Runs.{IsRun, IsCannotWrite};
-ghost use Rattle.qrcode_gallery.specs.Kinds.{name_of, is_drawing, IsDrawnIn};
-ghost use Rattle.qrcode_gallery.specs.declared.program.Kind.{Kind};
+ghost use Rattle.qrcode_trials.specs.Kinds.{name_of, is_drawing, IsDrawnIn};
+ghost use Rattle.qrcode_trials.specs.declared.gallery.Kind.{Kind};
 
 use qrcode::QrCode;
 use qrcode::render::{eps, pbm, svg};
@@ -14,7 +14,23 @@ use qrcode::types::QrResult;
 use qrcode_programs::{Fault, deliver};
 use qrcode_uses::drawings;
 use std::alloc::Global;
+use std::io;
 use std::io::Write;
+
+/// Draws a text on standard output in the kind of a name, or tells why not; whether it is drawn.
+pub fn obey(rt: &HostRuntime, kind: Option<&str>, text: Option<&str>) -> io::Result<bool> {
+    let drawn = match (kind, text) {
+        (Some(kind), Some(text)) => run(rt.alloc(), kind, text, &mut rt.stdout()),
+        _ => Err(Fault::Usage),
+    };
+    match drawn {
+        Ok(()) => Ok(true),
+        Err(fault) => {
+            eprintln!(rt; "qrcode_trials: {fault}")?;
+            Ok(false)
+        }
+    }
+}
 
 /// A way to draw.
 #[derive(Clone, Copy)]

@@ -1,4 +1,4 @@
-use Rattle.qrcode_gallery.proofs.program.draw.Goals as goal
+use Rattle.qrcode_trials.proofs.gallery.draw.Goals as goal
 
 -- The drawing is that of the symbol that was made.
 pub returns-clause-drawing : goal.returns-clause-drawing

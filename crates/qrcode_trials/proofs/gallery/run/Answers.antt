@@ -2,8 +2,8 @@ use Rattle.std.proofs.Common.{inr, IfOk, IfErr, subst}
 use Rattle.qrcode_types.specs.declared.types.EcLevel.TheVariants.{M}
 use Rattle.qrcode_bits.specs.Choice.{IsRefused}
 use Rattle.qrcode_programs.proofs.Runs.{is_run-made}
-use Rattle.qrcode_gallery.specs.Kinds.{IsDrawnIn}
-use Rattle.qrcode_gallery.proofs.program.run.Goals as goal
+use Rattle.qrcode_trials.specs.Kinds.{IsDrawnIn}
+use Rattle.qrcode_trials.proofs.gallery.run.Goals as goal
 
 pub returns-clause-runs : goal.returns-clause-runs
 returns-clause-runs g c =
