@@ -26,7 +26,6 @@ mod ink;
 mod inlays;
 pub mod laws;
 mod marks;
-mod numbers;
 pub mod page;
 mod parts;
 pub mod pbm;

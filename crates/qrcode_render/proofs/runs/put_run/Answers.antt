@@ -15,8 +15,8 @@ returns-clause-appends c =
     let down = step_text (codes " ") (codes "-") pen.row r.top in
     let width = decimal r.width in
     let with : List ℕ → Written → Written = λ t l. record l { text = l.text ++ t } in
-    c.put-2.ensures.appends
-    ∙ ap (with width) (c.push-2.ensures ∙ ap (with (codes "v1h-")) (c.put.ensures.appends ∙ ap (with width) (c.push.ensures ∙ ap (with (codes "h")) (c.put_step-2.ensures.appends ∙ ap (with down) c.put_step.ensures.appends))))
+    c.put_number-2.ensures.appends
+    ∙ ap (with width) (c.push-2.ensures ∙ ap (with (codes "v1h-")) (c.put_number.ensures.appends ∙ ap (with width) (c.push.ensures ∙ ap (with (codes "h")) (c.put_step-2.ensures.appends ∙ ap (with down) c.put_step.ensures.appends))))
     ∙ ap (λ t. record old { text = t }) (run_regroup old.text across down (codes "h") width (codes "v1h-"))
 
 pub returns-clause-is_text : goal.returns-clause-is_text

@@ -13,7 +13,7 @@ returns-then-from-to-clause-appends c =
     let forward = c.args.forward.now in
     let back = c.args.back.now in
     let is : nat_le from to ≡ true = grind (arith, nat_tests, c.if-from-to.true) in
-    c.put.ensures.appends
+    c.put_number.ensures.appends
     ∙ ap (λ (l : Written). record l { text = l.text ++ decimal (to - from) }) c.push.ensures
     ∙ ap (λ t. record old { text = t }) (append_assoc old.text forward (decimal (to - from)) ∙ ap (λ b. old.text ++ (if b then forward ++ decimal (to - from) else back ++ decimal (from - to))) (sym is))
 
