@@ -1,14 +1,12 @@
 -- Labels, character by character.
 use Rattle.std.proofs.Common.{◌≡◌, ℕ, zero, suc, ◌+◌, ◌-◌, ◌<◌, ◌≤◌, ◌==◌, List, [], ◌∷◌, ◌++◌, length, take, get_or, true, false, ◌≢◌, encode_utf8, encode_utf8_all, All, ⊎_elim, refl, ap, ◌∙◌, sym, subst, arith, append-nil, append_assoc}
-use Rattle.std.specs.Prelude.{string_bytes, slice_index}
-use Rattle.std.specs.declared.string.String.{String}
-use Rattle.std.specs.declared.alloc.Global.{Global}
+use Rattle.std.specs.Prelude.{slice_index}
 use Rattle.std.proofs.lemmas.Bool.{cases_lt, false_from_ne_true}
 use Rattle.std.proofs.lemmas.Bool.Decides.{nat_tests}
 use Rattle.std.proofs.lemmas.List.Concat.{flat_map-append}
 use Rattle.std.proofs.lemmas.List.Elements.{All-head, All-tail, All-from_get_or}
 use Rattle.std.proofs.lemmas.Str.{encode_ascii, encodes-append, inside_one}
-use Rattle.goqlanis_contents.specs.Labels.{value_byte, value_text, item_text, label_text, items_of}
+use Rattle.goqlanis_contents.specs.Labels.{value_byte, value_text, item_text}
 
 -- one value after another
 pub value_text-append : (xs ys : List ℕ) → value_text (xs ++ ys) ≡ value_text xs ++ value_text ys
@@ -47,14 +45,6 @@ alone_bracket = refl
 alone_backslash : value_text (92 ∷ []) ≡ 92 ∷ []
 unfolding value_text
 alone_backslash = refl
-
--- one element more
-pub label_more : (elements : List (String Global × String Global)) (element : String Global × String Global)
-    → label_text (items_of (elements ++ element ∷ [])) ≡ label_text (items_of elements) ++ item_text (string_bytes element.0, string_bytes element.1)
-label_more [] element = append-nil _
-label_more (e ∷ elements) element =
-    ap (λ l. item_text (string_bytes e.0, string_bytes e.1) ++ l) (label_more elements element)
-    ∙ sym (append_assoc (item_text (string_bytes e.0, string_bytes e.1)) (label_text (items_of elements)) (item_text (string_bytes element.0, string_bytes element.1)))
 
 -- a test of two numbers that holds says that they are the same
 same_from : (a b : ℕ) → (a == b) ≡ true → a ≡ b
@@ -95,13 +85,6 @@ pub identifier_closed : (label identifier value : List ℕ) → value ≡ [] →
 unfolding value_text
 identifier_closed label identifier [] is = sym (append_assoc label (40 ∷ identifier) (41 ∷ []))
 identifier_closed label identifier (b ∷ value) is = cc
-
--- a longer value of an element
-pub element_more : (label identifier v w more : List ℕ) → value_text w ≡ value_text v ++ more → label ++ item_text (identifier, w) ≡ (label ++ item_text (identifier, v)) ++ more
-element_more label identifier v w more is =
-    ap (λ l. label ++ 40 ∷ (identifier ++ 41 ∷ l)) is
-    ∙ ap (λ l. label ++ 40 ∷ l) (sym (append_assoc identifier (41 ∷ value_text v) more))
-    ∙ sym (append_assoc label (item_text (identifier, v)) more)
 
 -- one character more
 pub encoded_more : (cs : List ℕ) (c : ℕ) → encode_utf8_all (cs ++ c ∷ []) ≡ encode_utf8_all cs ++ encode_utf8 c

@@ -33,7 +33,6 @@ impl Elements {
     /// stands for `(`. Whether there is such an identifier, with such a value, is not looked at.
     ///
     /// `Wrong`: there is no element, or something else. `OutOfMemory`: memory was refused.
-    #[tactic(auto, using(crate::proofs::Labelling::label_more))]
     pub fn read(alloc: Global, text: &str) -> Result<Elements, Refusal>
         ensures written { IfOk result (λ elements.
             label_text (items_of elements.items.items) ≡ text.now) }
@@ -87,7 +86,6 @@ impl Elements {
 }
 
 // The beginning of an element with one more character of the text, which may end it and begin another.
-#[tactic(auto, using(crate::proofs::Labelling::identifier_closed, crate::proofs::Labelling::element_more, crate::proofs::Labelling::label_more))]
 fn next(
     alloc: Global,
     items: &mut Vec<(String, String)>,
@@ -190,14 +188,11 @@ fn push_length(
     (least, most): (usize, usize),
     count: usize,
 ) -> Result<(), AllocError> {
+    write!(text, "its value has {count} characters; it wants {least}")?;
     if least < most {
-        write!(
-            text,
-            "its value has {count} characters; it wants {least} to {most}"
-        )
-    } else {
-        write!(text, "its value has {count} characters; it wants {least}")
+        write!(text, " to {most}")?;
     }
+    Ok(())
 }
 
 // Appends the check digit that would be right at a place, from 1.
