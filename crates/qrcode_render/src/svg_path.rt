@@ -143,8 +143,7 @@ fn with_element(alloc: Global, head: &str, grid: &Grid, dark: &str, light: &str)
         .saturating_add(attribute_len(light));
     let mut text = String::with_capacity(alloc, room)?;
     text.push_str(head)?;
-    push_frame(&mut text, width, height, columns, rows)?;
-    push_ground(&mut text, columns, rows)?;
+    push_head(&mut text, width, height, columns, rows)?;
     push_attribute(&mut text, light)?;
     text.push_str("\"/><path fill=\"")?;
     push_attribute(&mut text, dark)?;
@@ -154,32 +153,22 @@ fn with_element(alloc: Global, head: &str, grid: &Grid, dark: &str, light: &str)
     Ok(text)
 }
 
-// Appends the head of the element.
-fn push_frame(
+// Appends the head of the element and the light ground, up to its colour.
+fn push_head(
     text: &mut String,
     width: u32,
     height: u32,
     columns: usize,
     rows: usize,
 ) -> QrResult<()>
-    ensures appends { OnOk result (string_bytes text.new
-        ≡ string_bytes text.old ++ path_frame width height columns rows) }
+    ensures appends { OnOk result (string_bytes text.new ≡ string_bytes text.old
+        ++ (path_frame width height columns rows ++ path_ground columns rows)) }
     ensures memory { IsOkUnless result OutOfMemory }
 {
     write!(
         text,
-        "<svg xmlns=\"http://www.w3.org/2000/svg\" version=\"1.1\" width=\"{width}\" height=\"{height}\" viewBox=\"0 0 {columns} {rows}\" preserveAspectRatio=\"none\" shape-rendering=\"crispEdges\">"
+        "<svg xmlns=\"http://www.w3.org/2000/svg\" version=\"1.1\" width=\"{width}\" height=\"{height}\" viewBox=\"0 0 {columns} {rows}\" preserveAspectRatio=\"none\" shape-rendering=\"crispEdges\"><rect width=\"{columns}\" height=\"{rows}\" fill=\""
     )?;
-    Ok(())
-}
-
-// Appends the light ground, up to its colour.
-fn push_ground(text: &mut String, columns: usize, rows: usize) -> QrResult<()>
-    ensures appends { OnOk result
-        (string_bytes text.new ≡ string_bytes text.old ++ path_ground columns rows) }
-    ensures memory { IsOkUnless result OutOfMemory }
-{
-    write!(text, "<rect width=\"{columns}\" height=\"{rows}\" fill=\"")?;
     Ok(())
 }
 

@@ -31,17 +31,18 @@ returns-clause-value c =
     let path = codes "\" d=\"" in
     let end = codes "\"/></svg>" in
     let headed = c.in_ok-push_str.ensures.bytes ∙ ap (λ t. t ++ head) c.in_ok-text.ensures.bytes in
-    let framed : string_bytes c.push_frame.new.text ≡ head ++ frame =
-    c.in_ok-push_frame.ensures.appends
-    ∙ ap (λ t. t ++ path_frame c.pixels-width.result.0 c.pixels-width.result.1 c.sides-columns.result.0 c.sides-columns.result.1) headed
-    ∙ ap₂ (λ x y. head ++ path_frame x y c.sides-columns.result.0 c.sides-columns.result.1) c.pixels-width.ensures.across c.pixels-width.ensures.down
-    ∙ ap₂ (λ x y. head ++ path_frame w h x y) c.sides-columns.ensures.columns c.sides-columns.ensures.rows in
-    let start = c.in_ok-push_ground.ensures.appends ∙ ap₂ (λ t s. t ++ s) framed (ap₂ (λ x y. path_ground x y) c.sides-columns.ensures.columns c.sides-columns.ensures.rows) in
+    let pieces : ℕ → ℕ → ℕ → ℕ → List ℕ = λ x y m n. path_frame x y m n ++ path_ground m n in
+    let begun : string_bytes c.push_head.new.text ≡ head ++ (frame ++ path_ground (all_columns grid) (all_rows grid)) =
+    c.in_ok-push_head.ensures.appends
+    ∙ ap (λ t. t ++ pieces c.pixels-width.result.0 c.pixels-width.result.1 c.sides-columns.result.0 c.sides-columns.result.1) headed
+    ∙ ap₂ (λ x y. head ++ pieces x y c.sides-columns.result.0 c.sides-columns.result.1) c.pixels-width.ensures.across c.pixels-width.ensures.down
+    ∙ ap₂ (λ m n. head ++ pieces w h m n) c.sides-columns.ensures.columns c.sides-columns.ensures.rows in
+    let start = begun ∙ sym (append_assoc head frame (path_ground (all_columns grid) (all_rows grid))) in
     let lit = c.in_ok-push_attribute.ensures.appends ∙ ap (λ t. t ++ light) start in
     let grounded = c.in_ok-push_str-2.ensures.bytes ∙ ap (λ t. t ++ ground) lit in
     let inked = c.in_ok-push_attribute-2.ensures.appends ∙ ap (λ t. t ++ dark) grounded in
-    let begun = c.in_ok-push_str-3.ensures.bytes ∙ ap (λ t. t ++ path) inked in
-    let drawn = c.in_ok-push_runs.ensures.appends ∙ ap (λ t. t ++ runs) begun in
+    let opened = c.in_ok-push_str-3.ensures.bytes ∙ ap (λ t. t ++ path) inked in
+    let drawn = c.in_ok-push_runs.ensures.appends ∙ ap (λ t. t ++ runs) opened in
     record {
       columns = all_columns grid;
       rows = all_rows grid;
