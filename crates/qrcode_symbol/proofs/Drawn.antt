@@ -149,10 +149,6 @@ pub columns_show : (v : Version) (l : EcLevel) (bytes ec stream columns : List �
 unfolding dark_in
 columns_show v l bytes ec stream columns valid is filled empty x y xl yl = column_shows v (drawn_bits v l bytes ec) stream columns x y valid is filled empty xl yl
 
-full_there : (b : Bool) → not b ≡ false → b ≡ true
-full_there true e = refl
-full_there false e = cc
-
 -- a functional place is as the patterns left it
 stays : (v : Version) (bits : List Bool) (x y : ℕ) → x < side v → y < side v → is_free_place v x y ≡ false
     → get_or (with_bits_drawn v bits (with_patterns v (blank v))) (y * side v + x) Empty ≡ get_or (with_patterns v (blank v)) (y * side v + x) Empty

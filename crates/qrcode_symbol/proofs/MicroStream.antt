@@ -33,10 +33,6 @@ or_false a true e = cc
 or_false true false e = refl
 or_false false false e = refl
 
--- before the first byte
-pub none_put : (from k : ℕ) (bytes stream : List ℕ) → k ≡ 0 → (p : ℕ) → p < 8 * k → stream_bit stream (from + p) ≡ stream_bit bytes p
-none_put from k bytes stream none p h = absurd (omega arith)
-
 -- a stream on the way: k bytes are put
 pub record IsOnTheWay (from k : ℕ) (bytes old new : List ℕ) : Type 0 where
   pub put : (p : ℕ) → p < 8 * k → stream_bit new (from + p) ≡ stream_bit bytes p

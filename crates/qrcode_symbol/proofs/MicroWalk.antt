@@ -82,9 +82,6 @@ pub record IsPair (n pair right top : ℕ) : Type 0 where
   pub right_is : right ≡ side (Micro (pos n)) - 1 - 2 * pair
   pub top_is : top ≡ first_free right
 
-top_least : (right : ℕ) → 1 ≤ first_free right
-top_least right = grind (arith, nat_tests)
-
 top_most : (right : ℕ) → first_free right ≤ 9
 top_most right = grind (arith, nat_tests)
 

@@ -116,42 +116,6 @@ fn least_mask_by_strips<R: PackedRow, L: StripLine>(
     best
 }
 
-// The same where there is room for strips: of what is dark, of what is free, and under a mask.
-fn least_mask_by_columns<R: PackedRow, L: StripLine>(
-    both: &BothWays<'_, R>,
-    count: usize,
-    dark: &mut [L],
-    free: &mut [L],
-    masked: &mut [L],
-    rows: &mut [R],
-    columns: &mut [R],
-) -> usize
-    requires some { 0 < count }
-    requires few { count ≤ 3 }
-    requires words { AreWords (L.room / 2) count }
-    requires normal { is_micro both.now.modules.now.version ≡ false }
-    requires dark_length { length dark.old ≡ count * (both.now.modules.now.width + 4) + 8 }
-    requires free_length { length free.old ≡ count * (both.now.modules.now.width + 4) + 8 }
-    requires length { length masked.old ≡ count * (both.now.modules.now.width + 4) + 8 }
-    requires rows_length { both.now.modules.now.width
-        ≤ count * (L.room / 2) - 1 + length rows.old }
-    requires columns_length { both.now.modules.now.width
-        ≤ count * (L.room / 2) - 1 + length columns.old }
-    ensures { IsFirstLeastCost
-        (nth_cost both.now.modules.now.version both.now.modules.now.ec_level
-        both.now.modules.now.width both.now.modules.now.dark.rows both.now.modules.now.free.rows)
-        (mask_count both.now.modules.now.version) result }
-{
-    let modules = both.modules;
-    let width = modules.width;
-    lighten_between(dark, count, width);
-    lighten_between(free, count, width);
-    lighten_between(masked, count, width);
-    join(&modules.dark, both.dark_columns, count, dark);
-    join(&modules.free, both.free_columns, count, free);
-    least_mask_by_strips(both, count, dark, free, masked, rows, columns)
-}
-
 // The same with room made for strips of lines of one kind. A function of its own, whose loops LLVM then knows better.
 #[inline(never)]
 fn least_mask_in<R: PackedRow, L: StripLine>(
@@ -175,12 +139,19 @@ fn least_mask_in<R: PackedRow, L: StripLine>(
         (mask_count both.now.modules.now.version) best) }
     ensures memory { IsOkUnless result OutOfMemory }
 {
-    let size = count * (both.modules.width + 4) + 8;
+    let modules = both.modules;
+    let width = modules.width;
+    let size = count * (width + 4) + 8;
     // Not of zeros, which would be set byte by byte: what is light is written later.
     let mut room = vec![in alloc; L::of_parts(1, 0); 3 * size]?;
     let (dark, rest) = room.split_at_mut(size);
     let (free, masked) = rest.split_at_mut(size);
-    Ok(least_mask_by_columns(both, count, dark, free, masked, rows, columns))
+    lighten_between(dark, count, width);
+    lighten_between(free, count, width);
+    lighten_between(masked, count, width);
+    join(&modules.dark, both.dark_columns, count, dark);
+    join(&modules.free, both.free_columns, count, free);
+    Ok(least_mask_by_strips(both, count, dark, free, masked, rows, columns))
 }
 
 /// The number of the first mask of Normal under which a square costs least, in strips of the shortest lines that hold rows

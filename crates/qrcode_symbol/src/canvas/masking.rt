@@ -63,57 +63,6 @@ fn shown_under<R: PackedRow, S: FromColor>(
     Ok(answer)
 }
 
-// The same by its packed rows.
-fn best_of<R: PackedRow, S: FromColor>(
-    alloc: Global,
-    packed: &PackedModules<'_, R>,
-    masked: &mut [R],
-) -> QrResult<Vec<S>>
-    requires { length masked.old ≡ packed.now.width }
-    ensures best { (modules : List Module)
-        → ShowsModules is_dark_module packed.now.width modules packed.now.dark.rows
-        → ShowsModules is_free packed.now.width modules packed.now.free.rows
-        → IfOk result (λ new.
-        IsBestShown packed.now.version packed.now.ec_level modules S.from_color new.items) }
-    ensures memory { IsOkUnless result OutOfMemory }
-{
-    let best = least_mask(alloc, packed)?;
-    shown_under(alloc, packed, best, masked)
-}
-
-// The same of Normal by the columns too of what is dark, where the free places are the same with rows and columns
-// exchanged. The columns become a place to work in, as `last` is.
-fn best_mirrored_of<R: PackedRow, S: FromColor>(
-    alloc: Global,
-    packed: &PackedModules<'_, R>,
-    columns: &mut [R],
-    last: &mut [R],
-) -> QrResult<Vec<S>>
-    requires normal { is_micro packed.now.version ≡ false }
-    requires mirrored { (x y : ℕ) → x < packed.now.width → y < packed.now.width
-        → dark_in packed.now.free.rows y x ≡ dark_in packed.now.free.rows x y }
-    requires columns_square { IsSquare R.room
-        (record { width = packed.now.width; rows = map R.bits columns.old }) }
-    requires turned { (x y : ℕ) → x < packed.now.width → y < packed.now.width
-        → dark_in (map R.bits columns.old) y x ≡ dark_in packed.now.dark.rows x y }
-    requires last { length last.old ≡ 2 * last_lines packed.now.width }
-    ensures best { (modules : List Module)
-        → ShowsModules is_dark_module packed.now.width modules packed.now.dark.rows
-        → ShowsModules is_free packed.now.width modules packed.now.free.rows
-        → IfOk result (λ new.
-        IsBestShown packed.now.version packed.now.ec_level modules S.from_color new.items) }
-    ensures memory { IsOkUnless result OutOfMemory }
-{
-    let dark_columns = PackedSquare::new(columns, packed.width as u32);
-    let both = BothWays {
-        modules: &*packed,
-        dark_columns: &dark_columns,
-        free_columns: &packed.free,
-    };
-    let best = least_normal_mask(alloc, &both, last)?;
-    shown_under(alloc, packed, best, columns)
-}
-
 // Modules by the rows of what is dark and of what a mask may turn.
 #[inline(always)]
 fn packed_of<'a, R: PackedRow>(
@@ -165,7 +114,9 @@ pub(super) fn best_from<R: PackedRow, S: FromColor>(
         → IfOk result (λ new. IsBestShown version ec_level modules S.from_color new.items) }
     ensures memory { IsOkUnless result OutOfMemory }
 {
-    best_of(alloc, &packed_of(version, ec_level, dark, free), masked)
+    let packed = packed_of(version, ec_level, dark, free);
+    let best = least_mask(alloc, &packed)?;
+    shown_under(alloc, &packed, best, masked)
 }
 
 /// The square of Normal under the first mask of least penalty, by the rows and the columns of what is dark and by the rows
@@ -199,12 +150,15 @@ pub(super) fn best_mirrored<R: PackedRow, S: FromColor>(
         → IfOk result (λ new. IsBestShown version ec_level modules S.from_color new.items) }
     ensures memory { IsOkUnless result OutOfMemory }
 {
-    best_mirrored_of(
-        alloc,
-        &packed_of(version, ec_level, dark, free),
-        columns,
-        last,
-    )
+    let packed = packed_of(version, ec_level, dark, free);
+    let dark_columns = PackedSquare::new(columns, packed.width as u32);
+    let both = BothWays {
+        modules: &packed,
+        dark_columns: &dark_columns,
+        free_columns: &packed.free,
+    };
+    let best = least_normal_mask(alloc, &both, last)?;
+    shown_under(alloc, &packed, best, columns)
 }
 
 // The square under the first mask of least penalty, chosen on rows of one kind.
@@ -222,11 +176,12 @@ fn best_by<R: PackedRow, S: FromColor>(
     ensures memory { IsOkUnless result OutOfMemory }
 {
     let width = side(version);
-    let mut dark = vec![in alloc; R::first(0); width]?;
-    let mut free = vec![in alloc; R::first(0); width]?;
-    pack_rows(width, modules, &mut dark, &mut free);
-    let mut masked = vec![in alloc; R::first(1); width]?;
-    best_from(alloc, version, ec_level, &dark, &free, &mut masked)
+    // Not of zeros, which would be set byte by byte: all are written later.
+    let mut rows = vec![in alloc; R::first(1); 3 * width]?;
+    let (dark, rest) = rows.split_at_mut(width);
+    let (free, masked) = rest.split_at_mut(width);
+    pack_rows(width, modules, dark, free);
+    best_from(alloc, version, ec_level, dark, free, masked)
 }
 
 // The same as colours, where the modules are freed before the colours are written.
@@ -244,12 +199,13 @@ fn into_best_by<R: PackedRow, C: Cell>(
     ensures memory { IsOkUnless result OutOfMemory }
 {
     let width = side(version);
-    let mut dark = vec![in alloc; R::first(0); width]?;
-    let mut free = vec![in alloc; R::first(0); width]?;
-    pack_rows(width, &modules, &mut dark, &mut free);
+    // Not of zeros, which would be set byte by byte: all are written later.
+    let mut rows = vec![in alloc; R::first(1); 3 * width]?;
+    let (dark, rest) = rows.split_at_mut(width);
+    let (free, masked) = rest.split_at_mut(width);
+    pack_rows(width, &modules, dark, free);
     drop(modules);
-    let mut masked = vec![in alloc; R::first(1); width]?;
-    best_from(alloc, version, ec_level, &dark, &free, &mut masked)
+    best_from(alloc, version, ec_level, dark, free, masked)
 }
 
 /// The square, in row order, under the first mask of least penalty, with its format word.

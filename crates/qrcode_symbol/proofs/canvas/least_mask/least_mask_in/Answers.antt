@@ -1,7 +1,7 @@
 use Rattle.std.proofs.Common.{ℕ, ◌/◌, map, subst, sym, arith}
 use Rattle.qrcode_packed.specs.Rows.{dark_in}
 use Rattle.qrcode_packed.specs.Strips.{IsStripRoom, ShowsStrips}
-use Rattle.qrcode_symbol.proofs.canvas.least_mask.least_mask_by_columns.Goals as goal
+use Rattle.qrcode_symbol.proofs.canvas.least_mask.least_mask_in.Goals as goal
 
 pub join-requires-clause-turned : goal.join-requires-clause-turned
 join-requires-clause-turned g c = λ x y h l. let w = c.args.both.now.modules.now.dark_width in c.args.both.now.dark_turned x y (omega (arith, h, w)) (omega (arith, l, w))
