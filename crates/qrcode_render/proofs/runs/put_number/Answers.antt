@@ -1,4 +1,4 @@
-use Rattle.std.proofs.Common.{◌++◌, decimal, ap, ◌∙◌, sym, arith}
+use Rattle.std.proofs.Common.{◌++◌, ap, ◌∙◌, sym, arith}
 use Rattle.std.proofs.lemmas.Fmt.{decimal_digit}
 use Rattle.qrcode_render.proofs.Paths.{number_short}
 use Rattle.qrcode_render.proofs.runs.put_number.Goals as goal
