@@ -9,12 +9,13 @@ use Rattle.qrcode_bits.specs.Segments.{Tile, cost, total_cost}
 use Rattle.qrcode_bits.specs.declared.optimize.mode_sets.Modes.{Modes}
 use Rattle.qrcode_bits.specs.declared.optimize.Segment.{Segment}
 
-pub record IsCut (v : Version) (bytes : List ℕ) (segments : List Segment) : Type 0 where  -- segments covering the data
+-- the segments cover the data, each in a mode that the version has and that can write its bytes
+pub record IsCut (v : Version) (bytes : List ℕ) (segments : List Segment) : Type 0 where
   pub tiles : Tile 0 segments (length bytes)
   pub modes : AllByRecursion (λ s. IsTrue (has_mode v s.mode)) segments
   pub writable : AllByRecursion (λ s. IsTrue (can_write s.mode (slice_range bytes s.begin s.end))) segments
 
-pub record IsLeastCut (v : Version) (bytes : List ℕ) (segments : List Segment) : Type 0 where  -- no cut is shorter
+pub record IsLeastCut (v : Version) (bytes : List ℕ) (segments : List Segment) : Type 0 where  -- a cut; none is shorter
   pub reached : IsCut v bytes segments
   pub least : (others : List Segment) → IsCut v bytes others → sum_by (cost v) segments ≤ sum_by (cost v) others
 

@@ -1,4 +1,4 @@
--- What the pushes of a list of bits refuse, and how far they come. Where nothing refuses, want of memory still may.
+-- How much data and how many bits are taken, what the pushes of a list of bits refuse, and how far they come.
 use Rattle.std.specs.Prelude.{◌≡◌, ℕ, ◌+◌, ◌^◌, ◌<◌, nat_le, nat_lt, ◌&&◌, ◌++◌, not, Bool, true, false, List, [], ◌∷◌, length, take, slice_get, IfSome, Option, Some, None, if◌then◌else◌}
 use Rattle.std.specs.Option.{option_or}
 use Rattle.qrcode_types.specs.Bits.{number_bits}
@@ -30,7 +30,7 @@ is_checked Kanji = true
 is_checked Alphanumeric = false
 is_checked Byte = false
 
--- What refuses so many characters behind so many bits, whatever they are.
+-- What refuses so many characters behind so many bits, whatever they are. Where nothing refuses, want of memory still may.
 abbrev pub count_refusal : Version → ℕ → Mode → ℕ → Option QrError
 count_refusal v used m count =
     if not (has_mode v m) then Some UnsupportedCharacterSet else

@@ -17,7 +17,8 @@ pub record IsReadable (v : Version) (p : Piece) : Type 0 where  -- a piece that 
   pub nonempty : 0 < character_count p.mode (length p.chunk)
   pub counted : character_count p.mode (length p.chunk) < 2 ^ length_bits_count p.mode v
 
-abbrev pub IsReadAs : Version → List Bool → List Piece → Type 0  -- pieces, none beginning like an end, and an end
+-- the bits are the pieces one after the other, none of which begins like an end, and then an end
+abbrev pub IsReadAs : Version → List Bool → List Piece → Type 0
 IsReadAs v bits [] = IsTrue (is_end v bits)
 IsReadAs v bits (p ∷ pieces) = (rest : List Bool) × ((bits ≡ written_piece v p ++ rest) × (IsFalse (is_end v bits) × (IsReadable v p × IsReadAs v rest pieces)))
 

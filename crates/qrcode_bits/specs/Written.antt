@@ -39,7 +39,8 @@ pub record Piece : Type 0 where  -- bytes, and the mode in which they are writte
 
 abbrev pub written_piece : Version → Piece → List Bool  -- mode indicator, character count and data bits
 written_piece v p =
-    number_bits (mode_bits_count v) (indicator v p.mode) ++ (number_bits (length_bits_count p.mode v) (character_count p.mode (length p.chunk)) ++ data_bits_in p.mode p.chunk)
+    number_bits (mode_bits_count v) (indicator v p.mode)
+    ++ (number_bits (length_bits_count p.mode v) (character_count p.mode (length p.chunk)) ++ data_bits_in p.mode p.chunk)
 
 abbrev pub written : Version → List Piece → List Bool  -- the pieces one after the other
 written v pieces = flat_map (written_piece v) pieces
@@ -54,7 +55,7 @@ terminator_length (Micro v) = 2 * nat_abs v + 1
 unfoldable pub padding : ℕ → List Bool  -- the bytes 0xEC and 0x11 by turns, and zeros where no whole byte fits
 padding n = flat_map (λ i. number_bits 8 (if i % 2 == 0 then 0xEC else 0x11)) (range_with_len 0 (n / 8)) ++ replicate (n % 8) false
 
--- behind so many bits, zeros for a terminator of so many bits and on to a whole byte, all cut at the room, and then the padding up to the room
+-- behind `used` bits, zeros for a terminator of that many and on to a whole byte, all cut at the room, and then the padding up to the room
 unfoldable pub ending : ℕ → ℕ → ℕ → List Bool
 ending terminator used room =
     let end = min (8 * ((min (used + terminator) room + 7) / 8)) room in replicate (end - used) false ++ padding (room - end)

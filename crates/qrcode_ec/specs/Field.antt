@@ -11,7 +11,7 @@ pub record IsProduct (a b p : ℕ) : Type 0 where
   pub quotient : ℕ
   pub differs : bit_xor (carryless a b) p ≡ carryless quotient modulus
 
-unfoldable pub product : ℕ → ℕ → ℕ  -- the product, which `IsProduct` describes; 0x11d is x^8 + x^4 + x^3 + x^2 + 1
+unfoldable pub product : ℕ → ℕ → ℕ  -- the product of two bytes; 0x11d is x^8 + x^4 + x^3 + x^2 + 1
 product a b = remainder 0x11d (carryless a b)
 
 unfoldable pub power : ℕ → ℕ  -- the powers of 2, which is x

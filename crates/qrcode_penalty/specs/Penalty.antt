@@ -8,7 +8,7 @@ unfoldable pub sum_below : ℕ → (ℕ → ℕ) → ℕ  -- f 0 + f 1 + .. + f 
 sum_below zero f = 0
 sum_below (suc n) f = sum_below n f + f n
 
-abbrev pub count_if : Bool → ℕ → ℕ  -- a number where a test holds
+abbrev pub count_if : Bool → ℕ → ℕ  -- n where a test holds, and 0 elsewhere
 count_if true n = n
 count_if false n = 0
 
@@ -30,7 +30,7 @@ run_length line (suc i) = if same (line i) (line (suc i)) then suc (run_length l
 abbrev pub run_cost : ℕ → ℕ  -- a run of 5 + i places costs 3 + i
 run_cost length = if nat_le 5 length then 3 + (length - 5) else 0
 
-unfoldable pub run_penalty : ℕ → (ℕ → Bool) → ℕ  -- what the runs of a line cost, each at the last of its places
+unfoldable pub run_penalty : ℕ → (ℕ → Bool) → ℕ  -- what a line's runs cost, each counted at its last place
 run_penalty n line = sum_below n (λ i. count_if (suc i == n || not (same (line i) (line (suc i)))) (run_cost (run_length line i)))
 
 -- the same by windows: five equal places from i on count 1, and 3 where their run begins
@@ -43,7 +43,8 @@ is_light_from n line i count = list_all (λ j. nat_le n j || not (line j)) (rang
 unfoldable pub is_finder_like : (ℕ → Bool) → ℕ → Bool  -- dark, light, three dark, light, dark from i on
 is_finder_like line i = line i && not (line (i + 1)) && line (i + 2) && line (i + 3) && line (i + 4) && not (line (i + 5)) && line (i + 6)
 
-unfoldable pub finder_penalty_at : ℕ → (ℕ → Bool) → ℕ → ℕ  -- 40 for a form beside four light places; outside is light
+-- 40 where such a form begins that has four light places before it or behind it, places outside being taken as light
+unfoldable pub finder_penalty_at : ℕ → (ℕ → Bool) → ℕ → ℕ
 finder_penalty_at n line i = count_if (is_finder_like line i && (is_light_from n line (i - 4) (i - (i - 4)) || is_light_from n line (i + 7) 4)) 40
 
 unfoldable pub finder_penalty : ℕ → (ℕ → Bool) → ℕ  -- what the finder forms of a line of n places cost
@@ -74,7 +75,8 @@ normal_penalty w dark =
 unfoldable pub light_count : ℕ → (ℕ → Bool) → ℕ  -- the light places of a line but the first
 light_count w line = sum_below (w - 1) (λ i. count_if (not (line (i + 1))) 1)
 
-unfoldable pub micro_penalty : ℕ → (ℕ → ℕ → Bool) → ℕ  -- of Micro: by the light modules of the last row and column
+-- the penalty of Micro, by the light modules of the last row and column: 17 * (w - 1) less the score of the standard, which counts the dark ones
+unfoldable pub micro_penalty : ℕ → (ℕ → ℕ → Bool) → ℕ
 micro_penalty w dark =
     let row = light_count w (λ x. dark x (w - 1)) in let column = light_count w (λ y. dark (w - 1) y) in
     row + column + 15 * max row column

@@ -12,7 +12,7 @@ use Rattle.qrcode_types.specs.declared.types.Color.{Color}
 use Rattle.qrcode_places.specs.Centres.{centre_table}
 use Rattle.qrcode_places.specs.Words.{version_word}
 
-abbrev pub color_if : Bool → Bool → Option Color  -- the colour that a test gives, at the places of a pattern
+abbrev pub color_if : Bool → Bool → Option Color  -- where the first test holds, dark or light by the second
 color_if true dark = Some (color_of dark)
 color_if false dark = None
 
@@ -92,7 +92,7 @@ format_copies (Normal v) =
     map first_format_place (range_with_len 0 15) ∷ map second (range_with_len 0 15) ∷ []
 format_copies (Micro v) = map micro_format_place (range_with_len 0 15) ∷ []
 
-unfoldable pub format_index : Version → ℕ → ℕ → Option ℕ  -- which bit, counted from the highest, stands at a place
+unfoldable pub format_index : Version → ℕ → ℕ → Option ℕ  -- the format word's bit at a place, 0 being the highest
 format_index v x y = slice_get (filter_map (position_from (λ p. p.0 == x && p.1 == y) 0) (format_copies v)) 0
 
 unfoldable pub is_functional_place : Version → ℕ → ℕ → Bool  -- the place belongs to a pattern or to the format word

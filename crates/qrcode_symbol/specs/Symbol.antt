@@ -39,7 +39,7 @@ pub record IsSymbol (v : Version) (l : EcLevel) (bits : List Bool) (k : MaskPatt
   pub vanishes : AllByRecursion (λ b. Vanishes b (ec_length v l)) (blocks_in v l k s)
   pub remainder : IsTrue (list_all not (drop (capacity v l + 8 * total_ec_length v l) (stream v k s)))
 
--- a square as large, with at most three wrong bits in each copy of the format word, and in each block at most half as many wrong as error correction codewords
+-- a square as large: at most three wrong bits in each copy of the format word, and in each block at most half as many wrong codewords as of error correction
 pub record IsDamaged (v : Version) (l : EcLevel) (k : MaskPattern) (s other : List Color) : Type 0 where
   pub square : length other ≡ length s
   pub format : AllByRecursion (λ places. bit_distance (bits_at v s places) (bits_at v other places) ≤ 3) (format_copies v)

@@ -13,7 +13,7 @@ abbrev pub mode_bits_count : Version → ℕ  -- the bits of a mode indicator
 mode_bits_count (Normal v) = 4
 mode_bits_count (Micro v) = nat_abs v - 1
 
-abbrev pub mode_number : Mode → ℕ  -- the number of a mode: what its indicator writes in Micro, and which bit in Normal
+abbrev pub mode_number : Mode → ℕ  -- what the indicator of a mode writes in Micro, and the bit that it sets in Normal
 mode_number Numeric = 0
 mode_number Alphanumeric = 1
 mode_number Byte = 2

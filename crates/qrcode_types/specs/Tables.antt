@@ -1,12 +1,11 @@
--- How the codewords of each version and level are parted into blocks, how many codewords a version has, and how many
--- remainder bits.
+-- How the codewords of each version and level are parted into blocks, and other tables by version.
 use Rattle.std.specs.Prelude.{ℕ, List, [], ◌∷◌}
 
-abbrev pub levels : (l m q h : ℕ × ℕ × ℕ × ℕ) → List (ℕ × ℕ × ℕ × ℕ)  -- a row: what it has for each level
+abbrev pub levels : (l m q h : ℕ × ℕ × ℕ × ℕ) → List (ℕ × ℕ × ℕ × ℕ)  -- a row: a version at each of the four levels
 levels l m q h = l ∷ m ∷ q ∷ h ∷ []
 
--- A row for each version, Normal 1 to 40 and then Micro 1 to 4, two a line, and in it of each level, or zeros where the version lacks it: the error correction
--- bytes of each block, the number of short blocks, the data bytes of a short block, and the number of long blocks, which have one data byte more.
+-- A row for each version, Normal 1 to 40 and then Micro 1 to 4, two rows a line, and in it for each of the levels L, M, Q, H: the error correction bytes of
+-- each block, the short blocks, the data bytes of each of them, and the long blocks, which have one data byte more; four zeros where the level is lacking.
 unfoldable pub block_table : List (List (ℕ × ℕ × ℕ × ℕ))
 block_table =
     levels (7, 1, 19, 0) (10, 1, 16, 0) (13, 1, 13, 0) (17, 1, 9, 0) ∷ levels (10, 1, 34, 0) (16, 1, 28, 0) (22, 1, 22, 0) (28, 1, 16, 0) ∷

@@ -47,7 +47,7 @@ ec_length v l = (blocks_entry v l).0
 unfoldable pub block_lengths : Version → EcLevel → List ℕ  -- the data bytes of each block, the shorter blocks first
 block_lengths v l = let b = blocks_entry v l in replicate b.1 b.2 ++ replicate b.3 (b.2 + 1)
 
-abbrev pub has_half_codeword : Version → EcLevel → Bool  -- the last data codeword has four bits
+abbrev pub has_half_codeword : Version → EcLevel → Bool  -- in Micro 1 and 3: the last data codeword has four bits
 has_half_codeword (Normal v) l = false
 has_half_codeword (Micro v) l = nat_abs v == 1 || nat_abs v == 3
 
