@@ -49,7 +49,10 @@ block_lengths v l = let b = blocks_entry v l in replicate b.1 b.2 ++ replicate b
 
 abbrev pub has_half_codeword : Version → EcLevel → Bool  -- in Micro 1 and 3: the last data codeword has four bits
 has_half_codeword (Normal v) l = false
-has_half_codeword (Micro v) l = nat_abs v == 1 || nat_abs v == 3
+has_half_codeword (Micro v) L = nat_abs v == 1 || nat_abs v == 3
+has_half_codeword (Micro v) M = nat_abs v == 3
+has_half_codeword (Micro v) Q = false
+has_half_codeword (Micro v) H = false
 
 unfoldable pub data_length : Version → EcLevel → ℕ  -- the data bytes of all blocks
 data_length v l = sum (block_lengths v l)

@@ -172,6 +172,10 @@ pub fn has_half_codeword(version: Version, ec_level: EcLevel) -> bool
 {
     match version {
         Version::Normal(_) => false,
-        Version::Micro(v) => v == 1 || v == 3,
+        Version::Micro(v) => match ec_level {
+            EcLevel::L => v == 1 || v == 3,
+            EcLevel::M => v == 3,
+            EcLevel::Q | EcLevel::H => false,
+        },
     }
 }
