@@ -23,15 +23,13 @@ use Rattle.goqlanis_buffers.specs.declared.segments.Segment as by_hand
 use Rattle.goqlanis_buffers.specs.declared.answers.Refusal.{Refusal}
 use Rattle.goqlanis_buffers.specs.declared.answers.Refusal.TheVariants.{NoSuchLevel, NoSuchVersion, LevelNotInVersion, TooLong, NoMode, NoRoom, SmallBuffer, OutOfMemory, NoSuchFormat, NotSquare, NoSuchSize, NotText, NoSuchKind, NotInMode, NoSuchNumber, NoSuchSide, NoFormat, Damaged, NotSpelled}
 
--- the refusals in the order of their numbers, from 1 on
-abbrev pub refusals : List Refusal
+abbrev pub refusals : List Refusal  -- the refusals in the order of their numbers, from 1 on
 refusals =
     NoSuchLevel ∷ NoSuchVersion ∷ LevelNotInVersion ∷ TooLong ∷ NoMode ∷ NoRoom ∷ SmallBuffer ∷ OutOfMemory ∷
     NoSuchFormat ∷ NotSquare ∷ NoSuchSize ∷ NotText ∷ NoSuchKind ∷ NotInMode ∷ NoSuchNumber ∷
     NoSuchSide ∷ NoFormat ∷ Damaged ∷ NotSpelled ∷ []
 
--- the refusal of an answer, where it is one
-abbrev pub refusal_of : ℕ → Option Refusal
+abbrev pub refusal_of : ℕ → Option Refusal  -- the refusal of an answer, where it is one
 refusal_of n = if n == 0 then None else slice_get refusals (n - 1)
 
 -- why bytes are refused at a level, where the least Normal version is chosen and the buffer has so much room
@@ -104,8 +102,7 @@ IsTextCause m level bytes room SmallBuffer = ExceedsRoom (IsTextSymbol m level b
 IsTextCause m level bytes room OutOfMemory = ⊤
 IsTextCause m level bytes room refusal = ⊥
 
--- a PNG file has no side of so many pixels
-abbrev pub IsNoPngSide : ℕ → Type 0
+abbrev pub IsNoPngSide : ℕ → Type 0  -- a PNG file has no side of so many pixels
 IsNoPngSide side = (side ≡ 0) ⊎ (2 ^ 16 ≤ side)
 
 -- why modules of a width are not drawn in a format, with a quiet zone and a scale, where the buffer has so much room
@@ -119,8 +116,7 @@ IsDrawingCause modules width zone scale format room SmallBuffer =
 IsDrawingCause modules width zone scale format room OutOfMemory = ⊤
 IsDrawingCause modules width zone scale format room refusal = ⊥
 
--- why modules are not read into a buffer of so much room
-abbrev pub IsReadingCause : List ℕ → ℕ → Refusal → Type 0
+abbrev pub IsReadingCause : List ℕ → ℕ → Refusal → Type 0  -- why modules are not read into a buffer of so much room
 IsReadingCause modules room NoSuchSide = HasNoVersion (colors_of modules)
 IsReadingCause modules room NoFormat = HasNoFormat (colors_of modules)
 IsReadingCause modules room Damaged = (block : ℕ) × HasDamagedBlock (colors_of modules) block

@@ -16,19 +16,16 @@ use Rattle.goqlanis_buffers.specs.declared.asked.Asked.{Asked}
 use Rattle.goqlanis_buffers.specs.declared.drawing.Format.{Format}
 use Rattle.goqlanis_buffers.specs.declared.drawing.Format.TheVariants.{HalfBlocks, LightHalfBlocks, Svg, Pic, Grey, Png, Eps, Pbm}
 
--- the format of a number, in this order from 0 on
-abbrev pub format_named : ℕ → Option Format
+abbrev pub format_named : ℕ → Option Format  -- the format of a number, in this order from 0 on
 format_named n = slice_get (HalfBlocks ∷ LightHalfBlocks ∷ Svg ∷ Pic ∷ Grey ∷ Png ∷ Eps ∷ Pbm ∷ []) n
 
--- black and white, opaque
-abbrev pub black : png.Color
+abbrev pub black : png.Color  -- black and white, opaque
 black = record { 0 = 0 ∷ 0 ∷ 0 ∷ 255 ∷ [] }
 
 abbrev pub white : png.Color
 white = record { 0 = 255 ∷ 255 ∷ 255 ∷ 255 ∷ [] }
 
--- a grey of EPS
-abbrev pub eps_grey : ℕ → eps.Color
+abbrev pub eps_grey : ℕ → eps.Color  -- a grey of EPS
 eps_grey n = record { red = n; green = n; blue = n }
 
 -- bytes are the text of modules in a format, or their pixels, or a file that shows these
@@ -54,8 +51,7 @@ pub record AsksFor (bytes : List ℕ) (side around pixels number : ℕ) (a : Ask
   pub scale : a.scale ≡ pixels
   pub format : format_named number ≡ Some a.format
 
--- the square of modules that is asked to be drawn, as a renderer is set to it
-abbrev pub square_of : Asked → Square
+abbrev pub square_of : Asked → Square  -- the square of modules that is asked to be drawn, as a renderer is set to it
 square_of a = record {
   content = colors_of a.modules.now;
   count = a.width;
@@ -64,12 +60,10 @@ square_of a = record {
   down = a.scale;
 }
 
--- the picture that is asked for
-abbrev pub IsPictureFor : Asked → List ℕ → Type 0
+abbrev pub IsPictureFor : Asked → List ℕ → Type 0  -- the picture that is asked for
 IsPictureFor a bytes = IsDrawn a.format a.modules.now a.width a.zone a.scale bytes
 
--- its length
-abbrev pub IsLengthFor : Asked → ℕ → Type 0
+abbrev pub IsLengthFor : Asked → ℕ → Type 0  -- its length
 IsLengthFor a count = (bytes : List ℕ) × (IsPictureFor a bytes × (count ≡ length bytes))
 
 -- the picture at the beginning of a buffer that is otherwise as it was, and its length
@@ -82,7 +76,6 @@ abbrev pub IsDrawnInto : Asked → List ℕ → List ℕ → Option ℕ → Type
 IsDrawnInto a old new (Some count) = IsDrawnTo a old new count
 IsDrawnInto a old new None = (new ≡ old) × ((bytes : List ℕ) × (IsPictureFor a bytes × (length old < length bytes)))
 
--- the same; or the buffer is as it was
-abbrev pub IsTriedInto : Asked → List ℕ → List ℕ → Option ℕ → Type 0
+abbrev pub IsTriedInto : Asked → List ℕ → List ℕ → Option ℕ → Type 0  -- the same; or the buffer is as it was
 IsTriedInto a old new (Some count) = IsDrawnTo a old new count
 IsTriedInto a old new None = new ≡ old

@@ -5,12 +5,10 @@ use Rattle.qrcode_types.specs.declared.types.EcLevel.TheVariants.{L, M, Q, H}
 use Rattle.qrcode_types.specs.declared.types.Version.{Version}
 use Rattle.qrcode_types.specs.declared.types.Version.TheVariants.{Normal, Micro}
 
--- the level of a number: 0 for L, 1 for M, 2 for Q, 3 for H
-abbrev pub level_named : ℕ → Option EcLevel
+abbrev pub level_named : ℕ → Option EcLevel  -- the level of a number: 0 for L, 1 for M, 2 for Q, 3 for H
 level_named n = if n == 0 then Some L else (if n == 1 then Some M else (if n == 2 then Some Q else (if n == 3 then Some H else None)))
 
--- the version of a number: 1 to 40 for Normal, 41 to 44 for Micro
-abbrev pub version_named : ℕ → Option Version
+abbrev pub version_named : ℕ → Option Version  -- the version of a number: 1 to 40 for Normal, 41 to 44 for Micro
 version_named n =
     if nat_le 1 n && nat_le n 40 then Some (Normal (pos n))
     else (if nat_le 41 n && nat_le n 44 then Some (Micro (pos (n - 40))) else None)

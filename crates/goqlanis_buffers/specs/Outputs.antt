@@ -11,12 +11,10 @@ use Rattle.goqlanis_buffers.specs.declared.drawing.Format.{Format}
 use Rattle.goqlanis_buffers.specs.Names.{level_named, version_named}
 use Rattle.goqlanis_buffers.specs.declared.symbols.Symbol.{Symbol}
 
--- modules as bytes, a one for a dark one
-abbrev pub module_bytes : List Color → List ℕ
+abbrev pub module_bytes : List Color → List ℕ  -- modules as bytes, a one for a dark one
 module_bytes modules = map (λ c. select_of c 1 0) modules
 
--- a buffer begins with some bytes, and is otherwise as it was
-abbrev pub IsFilled : List ℕ → List ℕ → List ℕ → Type 0
+abbrev pub IsFilled : List ℕ → List ℕ → List ℕ → Type 0  -- a buffer begins with some bytes, and is otherwise as it was
 IsFilled old new bytes = new ≡ bytes ++ drop (length bytes) old
 
 -- a symbol in buffers: its modules row by row at the beginning of one, and what it is beside them

@@ -12,8 +12,7 @@ use Rattle.goqlanis_buffers.specs.Names.{level_named, version_named}
 use Rattle.goqlanis_buffers.specs.Outputs.{IsFilled}
 use Rattle.goqlanis_buffers.specs.declared.reading.Reading.{Reading}
 
--- the number that a mask has in versions of its kind
-abbrev pub mask_number_in : Version → MaskPattern → ℕ
+abbrev pub mask_number_in : Version → MaskPattern → ℕ  -- the number that a mask has in versions of its kind
 mask_number_in (Normal v) mask = mask_number mask
 mask_number_in (Micro v) mask = micro_mask_number mask
 

@@ -24,12 +24,10 @@ use Rattle.goqlanis_buffers.specs.declared.segments.Kind.{Kind}
 use Rattle.goqlanis_buffers.specs.declared.segments.Kind.TheVariants.{Data, CharacterSet, FirstPosition, SecondPosition}
 use Rattle.goqlanis_buffers.specs.declared.segments.Segment.{Segment}
 
--- the kind of a number, in this order from 0 on
-abbrev pub kind_named : ℕ → Option Kind
+abbrev pub kind_named : ℕ → Option Kind  -- the kind of a number, in this order from 0 on
 kind_named n = slice_get (Data Numeric ∷ Data Alphanumeric ∷ Data Byte ∷ Data Kanji ∷ CharacterSet ∷ FirstPosition ∷ SecondPosition ∷ []) n
 
--- the bits of bytes or a number in a kind
-abbrev pub bits_in : Version → List ℕ → ℕ → Kind → List Bool
+abbrev pub bits_in : Version → List ℕ → ℕ → Kind → List Bool  -- the bits of bytes or a number in a kind
 bits_in v bytes n (Data m) = written_piece v (record { mode = m; chunk = bytes })
 bits_in v bytes n CharacterSet = number_bits 4 7 ++ eci_bits n
 bits_in v bytes n FirstPosition = number_bits 4 5
@@ -54,24 +52,20 @@ kind_refusal v used bytes n SecondPosition =
     if nat_lt 255 n then Some NoSuchNumber
     else option_map refusal_in (append_refusal used (option_map (λ bits. bits ++ number_bits 8 n) (indicator_bits v Fnc1Second)))
 
--- the bits of a segment
-abbrev pub segment_bits : Version → Segment → List Bool
+abbrev pub segment_bits : Version → Segment → List Bool  -- the bits of a segment
 segment_bits v s = unwrap_or (option_map (bits_in v s.bytes.now s.number) (kind_named s.kind)) []
 
--- what refuses a segment behind so many bits
-abbrev pub segment_refusal : Version → ℕ → Segment → Option Refusal
+abbrev pub segment_refusal : Version → ℕ → Segment → Option Refusal  -- what refuses a segment behind so many bits
 segment_refusal v used s = unwrap_or (option_map (kind_refusal v used s.bytes.now s.number) (kind_named s.kind)) (Some NoSuchKind)
 
--- the bits of segments, one behind the other
-abbrev pub written_segments : Version → List Segment → List Bool
+abbrev pub written_segments : Version → List Segment → List Bool  -- the bits of segments, one behind the other
 written_segments v segments = flat_map (segment_bits v) segments
 
 -- nothing refuses the segment at a place behind those before it
 abbrev pub IsTaken : Version → List Segment → ℕ → Type 0
 IsTaken v segments i = (s : Segment) → slice_get segments i ≡ Some s → segment_refusal v (length (written_segments v (take i segments))) s ≡ None
 
--- nothing refuses so many segments
-abbrev pub AreTaken : Version → List Segment → ℕ → Type 0
+abbrev pub AreTaken : Version → List Segment → ℕ → Type 0  -- nothing refuses so many segments
 AreTaken v segments count = (i : ℕ) → i < count → IsTaken v segments i
 
 -- the first segment that is refused, and by what
@@ -82,8 +76,7 @@ pub record IsFirstRefused (v : Version) (segments : List Segment) (r : Refusal) 
   pub before : AreTaken v segments place
   pub refused : segment_refusal v (length (written_segments v (take place segments))) segment ≡ Some r
 
--- the bits that a symbol of segments holds
-abbrev pub bits_of_segments : Version → EcLevel → List Segment → List Bool
+abbrev pub bits_of_segments : Version → EcLevel → List Segment → List Bool  -- the bits that a symbol of segments holds
 bits_of_segments v l segments = terminated v l (written_segments v segments)
 
 -- the symbol of segments, none of which is refused; where they are pieces that a reader takes, it is read as their bytes and as no others

@@ -34,8 +34,7 @@ use Rattle.goqlanis_options.specs.declared.tasks.Kind.{Kind}
 use Rattle.goqlanis_options.specs.declared.tasks.Kind.TheVariants.{Wifi, Mecard, Vcard, Payment, Bill, Mail, Place, Tel, Sms, Otp, Event}
 use Rattle.goqlanis_contents.specs.Numbers.{scaled_value, degrees_of}
 
--- a word, in capitals or in small letters
-abbrev pub is_either : List ℕ → List ℕ → List ℕ → Bool
+abbrev pub is_either : List ℕ → List ℕ → List ℕ → Bool  -- a word, in capitals or in small letters
 is_either word one other = bytes_eq word one || bytes_eq word other
 
 -- how a network is secured: as a word says, and without one by WPA with a password and not at all without
@@ -46,8 +45,7 @@ security_of word password =
     else (if is_either word (codes "WPA3") (codes "wpa3") then Wpa3
     else (if is_either word (codes "open") (codes "OPEN") || is_empty password then Open else Wpa)))
 
--- a network
-abbrev pub network_in : List Pair → Network
+abbrev pub network_in : List Pair → Network  -- a network
 network_in given = record {
   security = security_of (text_for given (codes "security")) (text_for given (codes "password"));
   ssid = text_for given (codes "ssid");
@@ -55,8 +53,7 @@ network_in given = record {
   hidden = bytes_eq (text_for given (codes "hidden")) (codes "true");
 }
 
--- a contact, as MECARD has it
-abbrev pub person_in : List Pair → Person
+abbrev pub person_in : List Pair → Person  -- a contact, as MECARD has it
 person_in given = record {
   family = text_for given (codes "family");
   given = text_for given (codes "given");
@@ -72,8 +69,7 @@ person_in given = record {
   country = text_for given (codes "country");
 }
 
--- a contact, as vCard has it
-abbrev pub contact_in : List Pair → Contact
+abbrev pub contact_in : List Pair → Contact  -- a contact, as vCard has it
 contact_in given = record {
   name = text_for given (codes "name");
   family = text_for given (codes "family");
@@ -90,12 +86,10 @@ contact_in given = record {
   note = text_for given (codes "note");
 }
 
--- the hundredths of an amount, where one is given
-abbrev pub hundredths_of : Option (List ℕ) → Option ℕ
+abbrev pub hundredths_of : Option (List ℕ) → Option ℕ  -- the hundredths of an amount, where one is given
 hundredths_of amount = option_and_then (scaled_value 2) amount
 
--- a payment
-abbrev pub transfer_in : List Pair → Transfer
+abbrev pub transfer_in : List Pair → Transfer  -- a payment
 transfer_in given = record {
   version = version_for (text_for given (codes "bic"));
   bic = text_for given (codes "bic");
@@ -108,8 +102,7 @@ transfer_in given = record {
   information = text_for given (codes "information");
 }
 
--- who is paid by a bill
-abbrev pub creditor_in : List Pair → Addressee
+abbrev pub creditor_in : List Pair → Addressee  -- who is paid by a bill
 creditor_in given = record {
   name = text_for given (codes "name");
   street = text_for given (codes "street");
@@ -119,8 +112,7 @@ creditor_in given = record {
   country = text_for given (codes "country");
 }
 
--- who pays it
-abbrev pub debtor_in : List Pair → Addressee
+abbrev pub debtor_in : List Pair → Addressee  -- who pays it
 debtor_in given = record {
   name = text_for given (codes "debtor-name");
   street = text_for given (codes "debtor-street");
@@ -130,12 +122,10 @@ debtor_in given = record {
   country = text_for given (codes "debtor-country");
 }
 
--- euros where the word says so, and else Swiss francs
-abbrev pub currency_of : List ℕ → Currency
+abbrev pub currency_of : List ℕ → Currency  -- euros where the word says so, and else Swiss francs
 currency_of word = if is_either word (codes "EUR") (codes "eur") then Euro else Franc
 
--- a bill
-abbrev pub invoice_in : List Pair → Invoice
+abbrev pub invoice_in : List Pair → Invoice  -- a bill
 invoice_in given = record {
   iban = text_for given (codes "iban");
   creditor = creditor_in given;
@@ -146,16 +136,14 @@ invoice_in given = record {
   message = text_for given (codes "message");
 }
 
--- a mail
-abbrev pub letter_in : List Pair → Letter
+abbrev pub letter_in : List Pair → Letter  -- a mail
 letter_in given = record {
   address = text_for given (codes "email");
   subject = text_for given (codes "subject");
   body = text_for given (codes "message");
 }
 
--- a place is where options say
-abbrev pub IsPlaceIn : List Pair → geo.Place → Type 0
+abbrev pub IsPlaceIn : List Pair → geo.Place → Type 0  -- a place is where options say
 IsPlaceIn given place =
     (degrees_of (text_for given (codes "latitude")) ≡ Some place.latitude)
     × (degrees_of (text_for given (codes "longitude")) ≡ Some place.longitude)
@@ -165,14 +153,12 @@ abbrev pub sms_text : List ℕ → Option (List ℕ) → List ℕ
 sms_text number None = codes "sms:" ++ number
 sms_text number (Some body) = message_text number body
 
--- the hash of passwords: as a word says, and else SHA1
-abbrev pub algorithm_of : List ℕ → Algorithm
+abbrev pub algorithm_of : List ℕ → Algorithm  -- the hash of passwords: as a word says, and else SHA1
 algorithm_of word =
     if is_either word (codes "SHA256") (codes "sha256") then Sha256
     else (if is_either word (codes "SHA512") (codes "sha512") then Sha512 else Sha1)
 
--- how many digits a password has
-abbrev pub digits_of : List ℕ → Digits
+abbrev pub digits_of : List ℕ → Digits  -- how many digits a password has
 digits_of word = if bytes_eq word (codes "8") then Eight else Six
 
 -- what passwords change with: a counter where one is given, and else the time, in so many seconds
@@ -196,14 +182,12 @@ abbrev pub IsSpanOf : List ℕ → List ℕ → Span → Type 0
 IsSpanOf begin end (Days first last) = (read_day begin ≡ Some first) × (read_day end ≡ Some last)
 IsSpanOf begin end (Times first last) = (read_moment begin ≡ Some first) × (read_moment end ≡ Some last)
 
--- when an event was written, and when it begins and ends
-abbrev pub IsWhen : List Pair → Moment → Span → Type 0
+abbrev pub IsWhen : List Pair → Moment → Span → Type 0  -- when an event was written, and when it begins and ends
 IsWhen given stamp span =
     (read_moment (text_for given (codes "stamp")) ≡ Some stamp)
     × IsSpanOf (text_for given (codes "begin")) (text_for given (codes "end")) span
 
--- an event that was written at a moment and has a span
-abbrev pub happening_in : List Pair → Moment → Span → Happening
+abbrev pub happening_in : List Pair → Moment → Span → Happening  -- an event that was written at a moment and has a span
 happening_in given stamp span = record {
   uid = text_for given (codes "uid");
   stamp = stamp;
@@ -213,8 +197,7 @@ happening_in given stamp span = record {
   description = text_for given (codes "description");
 }
 
--- a text is that of the fields that options give
-abbrev pub IsTextOf : Kind → List Pair → List ℕ → Type 0
+abbrev pub IsTextOf : Kind → List Pair → List ℕ → Type 0  -- a text is that of the fields that options give
 IsTextOf Wifi given text = text ≡ wifi_text (network_in given)
 IsTextOf Mecard given text = text ≡ mecard_text (person_in given)
 IsTextOf Vcard given text = text ≡ card_text (contact_in given)

@@ -6,28 +6,22 @@ use Rattle.qrcode_gs1.specs.Elements.{Item}
 use Rattle.goqlanis_contents.specs.declared.elements.Part.{Part}
 use Rattle.goqlanis_contents.specs.declared.elements.Part.TheVariants.{Nothing, Identifier, Value}
 
--- a byte of a value
-abbrev pub value_byte : ℕ → List ℕ
+abbrev pub value_byte : ℕ → List ℕ  -- a byte of a value
 value_byte b = if b == 40 then 92 ∷ 40 ∷ [] else b ∷ []
 
--- a value
-unfoldable pub value_text : List ℕ → List ℕ
+unfoldable pub value_text : List ℕ → List ℕ  -- a value
 value_text value = flat_map value_byte value
 
--- an identifier in brackets, and its value
-abbrev pub item_text : Item → List ℕ
+abbrev pub item_text : Item → List ℕ  -- an identifier in brackets, and its value
 item_text item = 40 ∷ item.0 ++ 41 ∷ value_text item.1
 
--- elements, one behind the other
-abbrev pub label_text : List Item → List ℕ
+abbrev pub label_text : List Item → List ℕ  -- elements, one behind the other
 label_text items = flat_map item_text items
 
--- the bytes of identifiers and values
-abbrev pub items_of : List (String Global × String Global) → List Item
+abbrev pub items_of : List (String Global × String Global) → List Item  -- the bytes of identifiers and values
 items_of elements = map (λ element. (string_bytes element.0, string_bytes element.1)) elements
 
--- the beginning of an element
-abbrev pub part_text : Part → List ℕ
+abbrev pub part_text : Part → List ℕ  -- the beginning of an element
 part_text Nothing = []
 part_text (Identifier identifier) = 40 ∷ string_bytes identifier
 part_text (Value identifier value) = item_text (string_bytes identifier, string_bytes value)
@@ -36,6 +30,5 @@ part_text (Value identifier value) = item_text (string_bytes identifier, string_
 abbrev pub read_text : List (String Global × String Global) → Part → List ℕ
 read_text elements part = label_text (items_of elements) ++ part_text part
 
--- the last byte is a backslash
-abbrev pub ends_with_backslash : List ℕ → Bool
+abbrev pub ends_with_backslash : List ℕ → Bool  -- the last byte is a backslash
 ends_with_backslash bytes = slice_index bytes (length bytes - 1) == 92

@@ -7,25 +7,21 @@ use Rattle.qrcode_contents.specs.Geo.{negative}
 use Rattle.qrcode_fields.specs.Characters.{is_digit}
 use Rattle.qrcode_fields.specs.Entries.{is_filled}
 
--- a point
-abbrev pub is_point : ℕ → Bool
+abbrev pub is_point : ℕ → Bool  -- a point
 is_point b = b == 46
 
--- a number, or the largest of 64 bits where it is above that
-abbrev pub at_most_u64 : ℕ → ℕ
+abbrev pub at_most_u64 : ℕ → ℕ  -- a number, or the largest of 64 bits where it is above that
 at_most_u64 n = min n (2 ^ 64 - 1)
 
 -- the digits before the point, and as many behind it as there are places, zeros in those that are not written
 abbrev pub placed_digits : ℕ → List ℕ → List ℕ → List ℕ
 placed_digits places whole part = whole ++ (part ++ replicate (places - length part) 48)
 
--- a number of digits, with at most so many behind the point
-abbrev pub is_number : ℕ → List ℕ → List ℕ → Bool
+abbrev pub is_number : ℕ → List ℕ → List ℕ → Bool  -- a number of digits, with at most so many behind the point
 is_number places whole part =
     (is_filled whole && nat_le (length part) places && list_all is_digit whole) && list_all is_digit part
 
--- the number that such digits say, counted in the last place
-abbrev pub placed_value : ℕ → List ℕ → List ℕ → Option ℕ
+abbrev pub placed_value : ℕ → List ℕ → List ℕ → Option ℕ  -- the number that such digits say, counted in the last place
 placed_value places whole part =
     if is_number places whole part then Some (at_most_u64 (digits_value 10 (placed_digits places whole part))) else None
 
@@ -42,16 +38,13 @@ long_row = refl
 bare_row : scaled_value 2 (codes ".34") ≡ None
 bare_row = refl
 
--- a minus sign stands before a number
-abbrev pub has_minus : List ℕ → Bool
+abbrev pub has_minus : List ℕ → Bool  -- a minus sign stands before a number
 has_minus text = slice_index_or text 0 0 == 45
 
--- a number without its sign
-abbrev pub unsigned : List ℕ → List ℕ
+abbrev pub unsigned : List ℕ → List ℕ  -- a number without its sign
 unsigned text = if has_minus text then drop 1 text else text
 
--- millionths of degrees with their sign, and of 2,000 degrees where they are more
-abbrev pub signed : Bool → ℕ → ℤ
+abbrev pub signed : Bool → ℕ → ℤ  -- millionths of degrees with their sign, and of 2,000 degrees where they are more
 signed minus millionths = if minus then negative (min millionths 2000000000) else pos (min millionths 2000000000)
 
 -- the millionths of a number of degrees, which may have a minus sign before it

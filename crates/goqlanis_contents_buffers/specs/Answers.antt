@@ -7,8 +7,7 @@ use Rattle.qrcode_gs1.specs.declared.errors.Cause.TheVariants as element
 use Rattle.goqlanis_contents_buffers.specs.declared.answers.Refusal.{Refusal}
 use Rattle.goqlanis_contents_buffers.specs.declared.answers.Refusal.TheVariants.{SmallBuffer, OutOfMemory, NotText, NoSuchContent, NoSuchField, Wrong, NotElement}
 
--- the number of a cause
-abbrev pub cause_number : Cause → ℕ
+abbrev pub cause_number : Cause → ℕ  -- the number of a cause
 cause_number Empty = 34
 cause_number TooLong = 35
 cause_number TooShort = 36
@@ -18,15 +17,13 @@ cause_number CheckDigits = 39
 cause_number Range = 40
 cause_number Unused = 41
 
--- the number of a cause of an element
-abbrev pub element_number : of_elements.Cause → ℕ
+abbrev pub element_number : of_elements.Cause → ℕ  -- the number of a cause of an element
 element_number element.Character = 38
 element_number element.CheckDigit = 39
 element_number element.UnknownIdentifier = 42
 element_number element.Length = 43
 
--- the number of a refusal
-abbrev pub number_of : Refusal → ℕ
+abbrev pub number_of : Refusal → ℕ  -- the number of a refusal
 number_of SmallBuffer = 7
 number_of OutOfMemory = 8
 number_of (NotText place) = 12

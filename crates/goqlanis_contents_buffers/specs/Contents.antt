@@ -25,8 +25,7 @@ use Rattle.goqlanis_contents_buffers.specs.declared.forms.Kind.{Kind}
 use Rattle.goqlanis_contents_buffers.specs.declared.forms.Kind.TheVariants.{Wifi, Mecard, Vcard, Payment, Bill, Mail, Geo, Tel, Sms, Totp, Hotp, Event, Days}
 use Rattle.goqlanis_contents_buffers.specs.declared.given.Item.{Item}
 
--- what the format of a kind cannot say of fields
-abbrev pub format_refusal : Kind → List Item → Option ContentError
+abbrev pub format_refusal : Kind → List Item → Option ContentError  -- what the format of a kind cannot say of fields
 format_refusal Wifi given = wifi_refusal (network_in given)
 format_refusal Mecard given = contact_refusal (person_in given)
 format_refusal Vcard given = card_refusal (contact_in given)
@@ -41,12 +40,10 @@ format_refusal Hotp given = key_refusal (key_in given (counter_in given))
 format_refusal Event given = event_refusal (happening_in given (times_in given))
 format_refusal Days given = event_refusal (happening_in given (days_in given))
 
--- the text of a message, which is left out where it is empty
-abbrev pub sms_text : List ℕ → List ℕ → List ℕ
+abbrev pub sms_text : List ℕ → List ℕ → List ℕ  -- the text of a message, which is left out where it is empty
 sms_text number body = if is_empty body then codes "sms:" ++ number else message_text number body
 
--- the text of fields
-abbrev pub content_text : Kind → List Item → List ℕ
+abbrev pub content_text : Kind → List Item → List ℕ  -- the text of fields
 content_text Wifi given = wifi_text (network_in given)
 content_text Mecard given = mecard_text (person_in given)
 content_text Vcard given = card_text (contact_in given)
@@ -66,8 +63,7 @@ pub record IsReadAsSms (number body text : List ℕ) : Type 0 where
   pub alone : length body ≡ 0 → behind (codes "sms:") text ≡ Some number
   pub message : length body ≢ 0 → read_message text ≡ Some (number, body)
 
--- a text is read as exactly these fields
-abbrev pub IsReadAs : Kind → List Item → List ℕ → Type 0
+abbrev pub IsReadAs : Kind → List Item → List ℕ → Type 0  -- a text is read as exactly these fields
 IsReadAs Wifi given text = read_wifi text ≡ Some (network_in given)
 IsReadAs Mecard given text = read_mecard text ≡ Some (person_in given)
 IsReadAs Vcard given text = read_card text ≡ Some (contact_in given)

@@ -9,20 +9,16 @@ use Rattle.goqlanis_contents_buffers.specs.declared.answers.Refusal.{Refusal}
 use Rattle.goqlanis_contents_buffers.specs.declared.answers.Refusal.TheVariants.{SmallBuffer, OutOfMemory, NotText, NotElement}
 use Rattle.goqlanis_contents_buffers.specs.declared.elements.Part.{Part}
 
--- the identifier and the value of an element
-abbrev pub item_of : Part → Item
+abbrev pub item_of : Part → Item  -- the identifier and the value of an element
 item_of p = (p.identifier.now, p.value.now)
 
--- what is said of elements
-abbrev pub items_of : List Part → List Item
+abbrev pub items_of : List Part → List Item  -- what is said of elements
 items_of parts = map item_of parts
 
--- both are UTF-8
-abbrev pub IsText : Part → Type 0
+abbrev pub IsText : Part → Type 0  -- both are UTF-8
 IsText p = IsUtf8 p.identifier.now × IsUtf8 p.value.now
 
--- so many elements are UTF-8
-abbrev pub AreTexts : List Part → ℕ → Type 0
+abbrev pub AreTexts : List Part → ℕ → Type 0  -- so many elements are UTF-8
 AreTexts parts count = (i : ℕ) → i < count → (p : Part) → slice_get parts i ≡ Some p → IsText p
 
 -- the element at a place is the first that is not UTF-8

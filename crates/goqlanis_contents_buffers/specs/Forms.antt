@@ -14,12 +14,10 @@ use Rattle.goqlanis_contents_buffers.specs.declared.forms.Kind.{Kind}
 use Rattle.goqlanis_contents_buffers.specs.declared.forms.Kind.TheVariants.{Wifi, Mecard, Vcard, Payment, Bill, Mail, Geo, Tel, Sms, Totp, Hotp, Event, Days}
 use Rattle.goqlanis_contents_buffers.specs.declared.given.Item.{Item}
 
--- the kind of a number, in this order from 0 on
-abbrev pub kind_named : ℕ → Option Kind
+abbrev pub kind_named : ℕ → Option Kind  -- the kind of a number, in this order from 0 on
 kind_named n = slice_get (Wifi ∷ Mecard ∷ Vcard ∷ Payment ∷ Bill ∷ Mail ∷ Geo ∷ Tel ∷ Sms ∷ Totp ∷ Hotp ∷ Event ∷ Days ∷ []) n
 
--- the fields of a kind, in order
-abbrev pub forms_of : Kind → List Form
+abbrev pub forms_of : Kind → List Form  -- the fields of a kind, in order
 forms_of Wifi =
     Text Ssid ∷ Text Password ∷ Plain 4 ∷ Plain 1 ∷ []
 forms_of Mecard =
@@ -47,15 +45,13 @@ forms_of Event =
 forms_of Days =
     Text Uid ∷ Number Stamp 99999999999999 ∷ Number Begin 99999999 ∷ Number End 99999999 ∷ Text Summary ∷ Text Location ∷ Text Description ∷ []
 
--- the greatest value of a number; that of a text is 0
-abbrev pub most_of : Form → ℕ
+abbrev pub most_of : Form → ℕ  -- the greatest value of a number; that of a text is 0
 most_of (Text field) = 0
 most_of (Number field most) = most
 most_of (Signed field most) = most
 most_of (Plain most) = most
 
--- a number that may be below zero
-abbrev pub is_signed : Form → Bool
+abbrev pub is_signed : Form → Bool  -- a number that may be below zero
 is_signed (Signed field most) = true
 is_signed (Text field) = false
 is_signed (Number field most) = false
@@ -78,13 +74,11 @@ abbrev pub field_refusal : Option Form → ℕ → Item → Option Refusal
 field_refusal None place g = Some (NoSuchField place)
 field_refusal (Some form) place g = if not (is_utf8 g.bytes.now) then Some (NotText place) else form_refusal form place g
 
--- the answer of a check that refuses so
-abbrev pub passed : Option Refusal → Result (Unit {0}) Refusal
+abbrev pub passed : Option Refusal → Result (Unit {0}) Refusal  -- the answer of a check that refuses so
 passed None = Ok tt
 passed (Some refusal) = Err refusal
 
--- nothing refuses so many fields by themselves
-abbrev pub AreTaken : List Form → List Item → ℕ → Type 0
+abbrev pub AreTaken : List Form → List Item → ℕ → Type 0  -- nothing refuses so many fields by themselves
 AreTaken forms given count = (i : ℕ) → i < count → (g : Item) → slice_get given i ≡ Some g → field_refusal (slice_get forms i) i g ≡ None
 
 -- the first field that is wrong by itself, and how
@@ -95,8 +89,7 @@ pub record IsFirstWrong (forms : List Form) (given : List Item) (refusal : Refus
   pub before : AreTaken forms given place
   pub wrong : field_refusal (slice_get forms place) place field ≡ Some refusal
 
--- a form is that of a field that a format names so
-abbrev pub IsNamed : Field → Form → Type 0
+abbrev pub IsNamed : Field → Form → Type 0  -- a form is that of a field that a format names so
 IsNamed field (Text named) = named ≡ field
 IsNamed field (Number named most) = named ≡ field
 IsNamed field (Signed named most) = named ≡ field

@@ -42,8 +42,7 @@ network_in given = record {
   hidden = number_at given 3 == 1;
 }
 
--- a contact, as MECARD has it
-abbrev pub person_in : List Item → Person
+abbrev pub person_in : List Item → Person  -- a contact, as MECARD has it
 person_in given = record {
   family = text_at given 0;
   given = text_at given 1;
@@ -59,8 +58,7 @@ person_in given = record {
   country = text_at given 11;
 }
 
--- a contact, as vCard has it
-abbrev pub contact_in : List Item → Contact
+abbrev pub contact_in : List Item → Contact  -- a contact, as vCard has it
 contact_in given = record {
   name = text_at given 0;
   family = text_at given 1;
@@ -77,8 +75,7 @@ contact_in given = record {
   note = text_at given 12;
 }
 
--- a payment, with its amount in cents
-abbrev pub transfer_in : List Item → Transfer
+abbrev pub transfer_in : List Item → Transfer  -- a payment, with its amount in cents
 transfer_in given = record {
   version = version_for (text_at given 3);
   bic = text_at given 3;
@@ -91,8 +88,7 @@ transfer_in given = record {
   information = text_at given 7;
 }
 
--- a name with its address, from a place on
-abbrev pub addressee_in : List Item → ℕ → Addressee
+abbrev pub addressee_in : List Item → ℕ → Addressee  -- a name with its address, from a place on
 addressee_in given first = record {
   name = text_at given first;
   street = text_at given (first + 1);
@@ -102,16 +98,13 @@ addressee_in given first = record {
   country = text_at given (first + 5);
 }
 
--- an amount, left open where it is 0
-abbrev pub cents_of : ℕ → Option ℕ
+abbrev pub cents_of : ℕ → Option ℕ  -- an amount, left open where it is 0
 cents_of n = if n == 0 then None else Some n
 
--- 0 for Swiss francs and 1 for euros
-abbrev pub currency_of : ℕ → Currency
+abbrev pub currency_of : ℕ → Currency  -- 0 for Swiss francs and 1 for euros
 currency_of n = if n == 0 then Franc else Euro
 
--- a bill
-abbrev pub invoice_in : List Item → Invoice
+abbrev pub invoice_in : List Item → Invoice  -- a bill
 invoice_in given = record {
   iban = text_at given 0;
   creditor = addressee_in given 1;
@@ -122,32 +115,25 @@ invoice_in given = record {
   message = text_at given 10;
 }
 
--- a mail
-abbrev pub letter_in : List Item → Letter
+abbrev pub letter_in : List Item → Letter  -- a mail
 letter_in given = record { address = text_at given 0; subject = text_at given 1; body = text_at given 2 }
 
--- a place, in millionths of a degree
-abbrev pub place_in : List Item → Place
+abbrev pub place_in : List Item → Place  -- a place, in millionths of a degree
 place_in given = record { latitude = signed_at given 0; longitude = signed_at given 1 }
 
--- 0 for SHA1, 1 for SHA256 and 2 for SHA512
-abbrev pub algorithm_of : ℕ → Algorithm
+abbrev pub algorithm_of : ℕ → Algorithm  -- 0 for SHA1, 1 for SHA256 and 2 for SHA512
 algorithm_of n = if n == 0 then Sha1 else (if n == 1 then Sha256 else Sha512)
 
--- 0 for six digits and 1 for eight
-abbrev pub digits_of : ℕ → Digits
+abbrev pub digits_of : ℕ → Digits  -- 0 for six digits and 1 for eight
 digits_of n = if n == 0 then Six else Eight
 
--- how many seconds a password holds, 30 where it is 0
-abbrev pub time_in : List Item → Factor
+abbrev pub time_in : List Item → Factor  -- how many seconds a password holds, 30 where it is 0
 time_in given = if number_at given 5 == 0 then Time 30 else Time (min (number_at given 5) 4294967295)
 
--- the counter of passwords
-abbrev pub counter_in : List Item → Factor
+abbrev pub counter_in : List Item → Factor  -- the counter of passwords
 counter_in given = Counter (number_at given 5)
 
--- one-time passwords
-abbrev pub key_in : List Item → Factor → Key
+abbrev pub key_in : List Item → Factor → Key  -- one-time passwords
 key_in given factor = record {
   factor = factor;
   issuer = text_at given 2;
@@ -157,24 +143,19 @@ key_in given factor = record {
   digits = digits_of (number_at given 4);
 }
 
--- the day of a number of eight digits, as 19970714
-abbrev pub day_of : ℕ → Day
+abbrev pub day_of : ℕ → Day  -- the day of a number of eight digits, as 19970714
 day_of n = record { year = n / 10000 % 10000; month = n / 100 % 100; day = n % 100 }
 
--- the moment of a number of fourteen digits, as 19970714170000
-abbrev pub moment_of : ℕ → Moment
+abbrev pub moment_of : ℕ → Moment  -- the moment of a number of fourteen digits, as 19970714170000
 moment_of n = record { day = day_of (n / 1000000); hour = n / 10000 % 100; minute = n / 100 % 100; second = n % 100 }
 
--- from one moment to another
-abbrev pub times_in : List Item → Span
+abbrev pub times_in : List Item → Span  -- from one moment to another
 times_in given = Times (moment_of (number_at given 2)) (moment_of (number_at given 3))
 
--- from one day until before another
-abbrev pub days_in : List Item → Span
+abbrev pub days_in : List Item → Span  -- from one day until before another
 days_in given = Days (day_of (number_at given 2)) (day_of (number_at given 3))
 
--- an event
-abbrev pub happening_in : List Item → Span → Happening
+abbrev pub happening_in : List Item → Span → Happening  -- an event
 happening_in given span = record {
   uid = text_at given 0;
   stamp = moment_of (number_at given 1);

@@ -22,8 +22,7 @@ use Rattle.goqlanis_draw.specs.declared.request.Format.TheVariants.{HalfBlocks, 
 use Rattle.goqlanis_draw.specs.declared.request.Ink.{Ink}
 use Rattle.goqlanis_draw.specs.declared.request.Request.{Request}
 
--- the quiet zone: what is asked for, or the standard's
-abbrev pub zone_for : Request → Version → ℕ
+abbrev pub zone_for : Request → Version → ℕ  -- the quiet zone: what is asked for, or the standard's
 zone_for r v = unwrap_or r.zone (quiet_zone v)
 
 -- the pixels of a module: as many as a side of so many pixels has room for, where that is asked for
@@ -38,8 +37,7 @@ layout_for r v = layout (side v) (zone_for r v) (max (scale_for r v) 1) (max (sc
 abbrev pub dark_of : {A : Type 0} → Request → A → A → A
 dark_of r dark light = if r.is_inverted then light else dark
 
--- what stands for light modules
-abbrev pub light_of : {A : Type 0} → Request → A → A → A
+abbrev pub light_of : {A : Type 0} → Request → A → A → A  -- what stands for light modules
 light_of r dark light = if r.is_inverted then dark else light
 
 -- what the renderer of a symbol is set to
@@ -55,36 +53,30 @@ setting_for r v s dark light = record {
   whole_zone = zone_for r v;
 }
 
--- a colour of EPS
-abbrev pub eps_ink : Ink → eps.Color
+abbrev pub eps_ink : Ink → eps.Color  -- a colour of EPS
 eps_ink c = record { red = c.red; green = c.green; blue = c.blue }
 
--- an opaque colour of PNG
-abbrev pub png_ink : Ink → png.Color
+abbrev pub png_ink : Ink → png.Color  -- an opaque colour of PNG
 png_ink c = record { 0 = c.red ∷ c.green ∷ c.blue ∷ 255 ∷ [] }
 
 -- half blocks, of which those of dark modules are drawn unless dark and light are exchanged
 abbrev pub half_block_text : Request → Layout → List Color → List ℕ
 half_block_text r at s = dense_text (dark_of r true false) (light_of r true false) (picture at s)
 
--- black on white, by the colours of a terminal of 256
-abbrev pub black_on_white : List ℕ
+abbrev pub black_on_white : List ℕ  -- black on white, by the colours of a terminal of 256
 black_on_white = 27 ∷ codes "[38;5;16;48;5;231m"
 
--- the colours that the terminal had, and a newline
-abbrev pub colours_back : List ℕ
+abbrev pub colours_back : List ℕ  -- the colours that the terminal had, and a newline
 colours_back = 27 ∷ codes "[0m\n"
 
 -- a byte of lines in black on white: at a newline the colours are taken back and set anew
 abbrev pub coloured_byte : ℕ → List ℕ
 coloured_byte byte = if byte == 10 then colours_back ++ black_on_white else byte ∷ []
 
--- lines in black on white
-abbrev pub coloured_text : List ℕ → List ℕ
+abbrev pub coloured_text : List ℕ → List ℕ  -- lines in black on white
 coloured_text text = black_on_white ++ flat_map coloured_byte text ++ colours_back
 
--- dots per inch as dots per metre, to the nearest: an inch is 0.0254 metres
-abbrev pub per_metre : ℕ → ℕ
+abbrev pub per_metre : ℕ → ℕ  -- dots per inch as dots per metre, to the nearest: an inch is 0.0254 metres
 per_metre dpi = (10000 * dpi + 127) / 254
 
 -- a PNG file of two colours, which names the dots per metre where dots per inch are asked for
@@ -105,8 +97,7 @@ IsShownIn Png r at s bytes = IsPngOf r at s bytes
 IsShownIn Pgm r at s bytes = bytes ≡ pgm_file (dark_of r 0 255) (light_of r 0 255) (picture at s)
 IsShownIn Pbm r at s bytes = bytes ≡ pbm_file (dark_of r true false) (light_of r true false) (picture at s)
 
--- what shows a symbol as a request asks for it
-abbrev pub IsShownBy : Request → Version → List Color → List ℕ → Type 0
+abbrev pub IsShownBy : Request → Version → List Color → List ℕ → Type 0  -- what shows a symbol as a request asks for it
 IsShownBy r v s bytes = IsShownIn r.format r (layout_for r v) s bytes
 
 -- the drawing that a request asks for, of data

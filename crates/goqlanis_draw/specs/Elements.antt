@@ -21,8 +21,7 @@ use Rattle.goqlanis_draw.specs.declared.request.Choice.{Choice}
 use Rattle.goqlanis_draw.specs.declared.request.Choice.TheVariants.{From, Boosted, At}
 use Rattle.goqlanis_draw.specs.declared.request.Request.{Request}
 
--- the number of a version of Normal; 0 for Micro, which has no FNC1
-abbrev pub number_of : Version → ℕ
+abbrev pub number_of : Version → ℕ  -- the number of a version of Normal; 0 for Micro, which has no FNC1
 number_of (Normal (pos n)) = n
 number_of (Normal (negsuc n)) = 0
 number_of (Micro n) = 0

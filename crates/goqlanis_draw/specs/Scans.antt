@@ -17,17 +17,14 @@ use Rattle.qrcode_reader.specs.declared.correction.WrongCodeword.{WrongCodeword}
 use Rattle.qrcode_reader.specs.declared.positions.Position.TheVariants.{Upright}
 use Rattle.goqlanis_draw.specs.declared.scanning.Scan.{Scan}
 
--- the square of modules that pixels show
-abbrev pub IsSquareOf : Scan → Bitmap → Type 0
+abbrev pub IsSquareOf : Scan → Bitmap → Type 0  -- the square of modules that pixels show
 IsSquareOf scan b = IsSquareIn b scan.square.count scan.square.zone scan.square.scale scan.square.modules.items
 
--- the header that a part is
-abbrev pub header_in : Part → List Header
+abbrev pub header_in : Part → List Header  -- the header that a part is
 header_in (Front h) = h ∷ []
 header_in (Bytes m n) = []
 
--- the headers among parts
-abbrev pub headers_in : List Part → List Header
+abbrev pub headers_in : List Part → List Header  -- the headers among parts
 headers_in parts = flat_map header_in parts
 
 -- the square is read as bits that are headers, these and no others, and segments; this is its mask, and these codewords were wrong

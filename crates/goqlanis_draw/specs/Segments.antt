@@ -10,12 +10,10 @@ use Rattle.goqlanis_draw.specs.Drawings.{IsShownBy}
 use Rattle.goqlanis_draw.specs.declared.request.Request.{Request}
 use Rattle.goqlanis_draw.specs.declared.segments.Segment.{Segment}
 
--- the piece that a segment is
-abbrev pub piece_of : Segment → Piece
+abbrev pub piece_of : Segment → Piece  -- the piece that a segment is
 piece_of s = record { mode = s.mode; chunk = s.bytes.now }
 
--- the pieces that segments are
-abbrev pub pieces_of : List Segment → List Piece
+abbrev pub pieces_of : List Segment → List Piece  -- the pieces that segments are
 pieces_of segments = map piece_of segments
 
 -- the symbol of pieces one after the other, which are read as their bytes and as no others where a reader takes each

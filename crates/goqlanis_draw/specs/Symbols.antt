@@ -20,8 +20,7 @@ IsSymbolIn (From from) m l bytes code = IsLeastFrom m from l bytes code.version 
 IsSymbolIn (Boosted from) m l bytes code = IsBoostedAs m from l bytes code
 IsSymbolIn (At version) m l bytes code = (code.version ≡ version) × ((code.level ≡ l) × IsSymbolAs m version l bytes code.modules)
 
--- the symbol that a request asks for
-abbrev pub IsSymbolOf : Request → List ℕ → Code → Type 0
+abbrev pub IsSymbolOf : Request → List ℕ → Code → Type 0  -- the symbol that a request asks for
 IsSymbolOf r bytes code = IsSymbolIn r.choice r.manner r.level bytes code
 
 -- why no version from one on is taken: there is no such version, or none from it on holds the data, or memory was refused

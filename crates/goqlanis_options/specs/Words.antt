@@ -8,42 +8,33 @@ use Rattle.goqlanis_options.specs.declared.entries.Takes.{Takes}
 use Rattle.goqlanis_options.specs.declared.entries.Takes.TheVariants.{Nothing, Text, Texts, Path, Word, Number}
 use Rattle.goqlanis_options.specs.declared.tasks.Operand.{Operand}
 
--- a name, and the value that is given for it
-abbrev pub Pair : Type 0
+abbrev pub Pair : Type 0  -- a name, and the value that is given for it
 Pair = Bor (List ℕ) × Bor (List ℕ)
 
--- the bytes of a text, where there is one
-abbrev pub option_text : Option (Bor (List ℕ)) → Option (List ℕ)
+abbrev pub option_text : Option (Bor (List ℕ)) → Option (List ℕ)  -- the bytes of a text, where there is one
 option_text None = None
 option_text (Some text) = Some text.now
 
--- a word is one of some
-abbrev pub IsAmong : List ℕ → List (Bor (List ℕ)) → Type 0
+abbrev pub IsAmong : List ℕ → List (Bor (List ℕ)) → Type 0  -- a word is one of some
 IsAmong word known = (k : ℕ) × ((each : Bor (List ℕ)) × ((slice_get known k ≡ Some each) × (each.now ≡ word)))
 
--- an option is in a table
-abbrev pub IsListed : List (Bor Entry) → Bor Entry → Type 0
+abbrev pub IsListed : List (Bor Entry) → Bor Entry → Type 0  -- an option is in a table
 IsListed options entry = (k : ℕ) × (slice_get options k ≡ Some entry)
 
--- what is given for a name first, where something is
-abbrev pub given_for : List Pair → List ℕ → Option (List ℕ)
+abbrev pub given_for : List Pair → List ℕ → Option (List ℕ)  -- what is given for a name first, where something is
 given_for [] name = None
 given_for (pair ∷ pairs) name = if bytes_eq pair.0.now name then Some pair.1.now else given_for pairs name
 
--- the same, or an empty text
-abbrev pub text_for : List Pair → List ℕ → List ℕ
+abbrev pub text_for : List Pair → List ℕ → List ℕ  -- the same, or an empty text
 text_for pairs name = unwrap_or (given_for pairs name) []
 
--- nothing is given for a name
-abbrev pub IsFree : List Pair → List ℕ → Type 0
+abbrev pub IsFree : List Pair → List ℕ → Type 0  -- nothing is given for a name
 IsFree pairs name = (k : ℕ) → (pair : Pair) → slice_get pairs k ≡ Some pair → pair.0.now ≢ name
 
--- a word is no option: it is a hyphen, or begins with none
-abbrev pub IsPlain : List ℕ → Type 0
+abbrev pub IsPlain : List ℕ → Type 0  -- a word is no option: it is a hyphen, or begins with none
 IsPlain word = (word ≡ codes "-") ⊎ ((0 < length word) × (get_or word 0 0 ≢ 45))
 
--- a value that an option takes
-abbrev pub IsValue : Takes → List ℕ → Type 0
+abbrev pub IsValue : Takes → List ℕ → Type 0  -- a value that an option takes
 IsValue Nothing value = ⊥
 IsValue (Text name) value = IsPlain value
 IsValue (Texts name) value = IsPlain value
@@ -74,8 +65,7 @@ IsValued takes None words value rest =
     ((takes ≡ Nothing) × ((value ≡ codes "true") × (words ≡ rest))) ⊎ (IsValue takes value × (words ≡ value ∷ rest))
 IsValued takes (Some joined) words value rest = IsValue takes value × ((value ≡ joined) × (words ≡ rest))
 
--- what stands beside options
-abbrev pub IsOperand : Option Operand → List ℕ → Type 0
+abbrev pub IsOperand : Option Operand → List ℕ → Type 0  -- what stands beside options
 IsOperand None name = ⊥
 IsOperand (Some operand) name = name ≡ operand.name.now
 

@@ -20,8 +20,7 @@ use Rattle.qrcode_fields.specs.Lines.{lines_text, read_lines, line_at}
 use Rattle.qrcode_fields.specs.Numbers.{carry_of}
 use Rattle.qrcode_fields.specs.Refusals.{refused_if, first_refusal}
 
--- a name with its address
-pub record Addressee : Type 0 where
+pub record Addressee : Type 0 where  -- a name with its address
   pub name : List ℕ
   pub street : List ℕ
   pub number : List ℕ
@@ -29,8 +28,7 @@ pub record Addressee : Type 0 where
   pub city : List ℕ
   pub country : List ℕ
 
--- a bill as its text says it
-pub record Invoice : Type 0 where
+pub record Invoice : Type 0 where  -- a bill as its text says it
   pub iban : List ℕ
   pub creditor : Addressee
   pub cents : Option ℕ
@@ -49,8 +47,7 @@ addressee_of p = record {
   country = p.country.now;
 }
 
--- what is said of a bill
-abbrev pub invoice_of : Bill → Invoice
+abbrev pub invoice_of : Bill → Invoice  -- what is said of a bill
 invoice_of b = record {
   iban = b.iban.now;
   creditor = addressee_of b.creditor;
@@ -65,20 +62,16 @@ invoice_of b = record {
 abbrev pub is_latin : ℕ → Bool
 is_latin c = (nat_lt 31 c && nat_lt c 127) || (nat_lt 159 c && nat_lt c 384) || (nat_lt 535 c && nat_lt c 540) || c == 8364
 
--- how many characters are others
-abbrev pub foreign_count : List ℕ → ℕ
+abbrev pub foreign_count : List ℕ → ℕ  -- how many characters are others
 foreign_count text = count_by (λ c. not (is_latin c)) (chars text)
 
--- what no line says: a line break, or a character that the guidelines do not have
-abbrev pub is_unsaid : List ℕ → Bool
+abbrev pub is_unsaid : List ℕ → Bool  -- what no line says: a line break, or a character that the guidelines do not have
 is_unsaid text = list_any is_control text || not (foreign_count text == 0)
 
--- a code of ISO 3166-1
-abbrev pub is_country : List ℕ → Bool
+abbrev pub is_country : List ℕ → Bool  -- a code of ISO 3166-1
 is_country text = length text == 2 && list_all is_capital text
 
--- a text with this beginning
-abbrev pub begins_with : List ℕ → List ℕ → Bool
+abbrev pub begins_with : List ℕ → List ℕ → Bool  -- a text with this beginning
 begins_with start text = starts_with (λ a b. a == b) text start
 
 -- an account of Switzerland or Liechtenstein: behind the check digits five digits of the institution and twelve letters and digits
@@ -90,8 +83,7 @@ is_account text =
 abbrev pub is_qr_account : List ℕ → Bool
 is_qr_account text = nat_lt 5 (length text) && slice_index_or text 4 0 == 51 && (slice_index_or text 5 0 == 48 || slice_index_or text 5 0 == 49)
 
--- the kinds of references: none, one of ISO 11649, and a QR reference
-abbrev pub is_creditor_reference : List ℕ → Bool
+abbrev pub is_creditor_reference : List ℕ → Bool  -- the kinds of references: none, one of ISO 11649, and a QR reference
 is_creditor_reference text = begins_with (codes "RF") text
 
 abbrev pub is_qr_reference : List ℕ → Bool
@@ -101,8 +93,7 @@ abbrev pub reference_kind : List ℕ → List ℕ
 reference_kind text =
     if not (is_filled text) then codes "NON" else (if is_creditor_reference text then codes "SCOR" else codes "QRR")
 
--- texts with what no line says
-abbrev pub text_checks : Addressee → List (Option ContentError)
+abbrev pub text_checks : Addressee → List (Option ContentError)  -- texts with what no line says
 text_checks p =
     refused_if (is_unsaid p.name) Name Character
     ∷ refused_if (is_unsaid p.street) Street Character
@@ -112,8 +103,7 @@ text_checks p =
     ∷ refused_if (is_unsaid p.country) Country Character
     ∷ []
 
--- what is too long
-abbrev pub length_checks : Addressee → List (Option ContentError)
+abbrev pub length_checks : Addressee → List (Option ContentError)  -- what is too long
 length_checks p =
     refused_if (nat_lt 70 (length (chars p.name))) Name TooLong
     ∷ refused_if (nat_lt 70 (length (chars p.street))) Street TooLong
@@ -122,8 +112,7 @@ length_checks p =
     ∷ refused_if (nat_lt 35 (length (chars p.city))) City TooLong
     ∷ []
 
--- what is missing, and what is no country
-abbrev pub form_checks : Addressee → List (Option ContentError)
+abbrev pub form_checks : Addressee → List (Option ContentError)  -- what is missing, and what is no country
 form_checks p =
     refused_if (is_empty p.name) Name Empty
     ∷ refused_if (is_empty p.code) PostalCode Empty
@@ -143,18 +132,15 @@ length_refusal p = first_refusal (length_checks p)
 unfoldable pub form_refusal : Addressee → Option ContentError
 form_refusal p = first_refusal (form_checks p)
 
--- what is refused of somebody who is named
-unfoldable pub named_refusal : Addressee → Option ContentError
+unfoldable pub named_refusal : Addressee → Option ContentError  -- what is refused of somebody who is named
 named_refusal p = first_refusal (form_refusal p ∷ length_refusal p ∷ [])
 
--- nobody is named
-abbrev pub is_nobody : Addressee → Bool
+abbrev pub is_nobody : Addressee → Bool  -- nobody is named
 is_nobody p =
     not (is_filled p.name) && not (is_filled p.street) && not (is_filled p.number) && not (is_filled p.code)
     && not (is_filled p.city) && not (is_filled p.country)
 
--- the debtor's field that this one of an address is
-abbrev pub debtor_field : Field → Field
+abbrev pub debtor_field : Field → Field  -- the debtor's field that this one of an address is
 debtor_field Name = DebtorName
 debtor_field Street = DebtorStreet
 debtor_field Number = DebtorNumber
@@ -163,26 +149,21 @@ debtor_field City = DebtorCity
 debtor_field Country = DebtorCountry
 debtor_field field = field
 
--- the same refusal, of the debtor's field
-abbrev pub of_debtor : ContentError → ContentError
+abbrev pub of_debtor : ContentError → ContentError  -- the same refusal, of the debtor's field
 of_debtor (Refused field cause) = Refused (debtor_field field) cause
 of_debtor OutOfMemory = OutOfMemory
 
--- what is refused of somebody, or of nobody
-unfoldable pub party_refusal : Addressee → Option ContentError
+unfoldable pub party_refusal : Addressee → Option ContentError  -- what is refused of somebody, or of nobody
 party_refusal p = first_refusal (text_refusal p ∷ (if is_nobody p then None else named_refusal p) ∷ [])
 
--- the same of the debtor
-unfoldable pub debtor_refusal : Addressee → Option ContentError
+unfoldable pub debtor_refusal : Addressee → Option ContentError  -- the same of the debtor
 debtor_refusal p = option_map of_debtor (party_refusal p)
 
--- an amount that is no amount of a bill
-abbrev pub is_out_of_range : Option ℕ → Bool
+abbrev pub is_out_of_range : Option ℕ → Bool  -- an amount that is no amount of a bill
 is_out_of_range None = false
 is_out_of_range (Some cents) = nat_lt cents 1 || nat_lt 99999999999 cents
 
--- what is no account, and an amount out of range
-abbrev pub account_checks : Invoice → List (Option ContentError)
+abbrev pub account_checks : Invoice → List (Option ContentError)  -- what is no account, and an amount out of range
 account_checks b =
     refused_if (is_unsaid b.iban) Iban Character
     ∷ refused_if (is_empty b.iban) Iban Empty
@@ -196,8 +177,7 @@ account_checks b =
 unfoldable pub account_refusal : Invoice → Option ContentError
 account_refusal b = first_refusal (account_checks b)
 
--- a message with what no line says, or a long one
-abbrev pub message_checks : Invoice → List (Option ContentError)
+abbrev pub message_checks : Invoice → List (Option ContentError)  -- a message with what no line says, or a long one
 message_checks b =
     refused_if (is_unsaid b.reference) Reference Character
     ∷ refused_if (is_unsaid b.message) Message Character
@@ -242,12 +222,10 @@ belonging_checks b =
 unfoldable pub belonging_refusal : Invoice → Option ContentError
 belonging_refusal b = first_refusal (belonging_checks b)
 
--- what is wrong with a reference
-unfoldable pub reference_refusal : Invoice → Option ContentError
+unfoldable pub reference_refusal : Invoice → Option ContentError  -- what is wrong with a reference
 reference_refusal b = first_refusal (qr_refusal b ∷ creditor_refusal b ∷ belonging_refusal b ∷ [])
 
--- what the text cannot say
-abbrev pub bill_checks : Invoice → List (Option ContentError)
+abbrev pub bill_checks : Invoice → List (Option ContentError)  -- what the text cannot say
 bill_checks b =
     account_refusal b ∷ text_refusal b.creditor ∷ named_refusal b.creditor ∷ debtor_refusal b.debtor ∷ message_refusal b
     ∷ reference_refusal b ∷ []
@@ -255,30 +233,24 @@ bill_checks b =
 unfoldable pub bill_refusal : Invoice → Option ContentError
 bill_refusal b = first_refusal (bill_checks b)
 
--- the line of a currency
-abbrev pub currency_name : Currency → List ℕ
+abbrev pub currency_name : Currency → List ℕ  -- the line of a currency
 currency_name Franc = codes "CHF"
 currency_name Euro = codes "EUR"
 
--- the kind of an address: structured, or none
-abbrev pub address_kind : Addressee → List ℕ
+abbrev pub address_kind : Addressee → List ℕ  -- the kind of an address: structured, or none
 address_kind p = if is_nobody p then [] else codes "S"
 
--- the lines of an address
-abbrev pub address_lines : Addressee → List (List ℕ)
+abbrev pub address_lines : Addressee → List (List ℕ)  -- the lines of an address
 address_lines p = address_kind p ∷ p.name ∷ p.street ∷ p.number ∷ p.code ∷ p.city ∷ p.country ∷ []
 
--- the lines of somebody who is never named: the ultimate creditor
-abbrev pub unused_lines : List (List ℕ)
+abbrev pub unused_lines : List (List ℕ)  -- the lines of somebody who is never named: the ultimate creditor
 unused_lines = [] ∷ [] ∷ [] ∷ [] ∷ [] ∷ [] ∷ [] ∷ []
 
--- the line of an amount, which may be left open
-abbrev pub amount_line : Option ℕ → List ℕ
+abbrev pub amount_line : Option ℕ → List ℕ  -- the line of an amount, which may be left open
 amount_line None = []
 amount_line (Some cents) = amount_text cents
 
--- the lines of the reference, the message, and the end
-abbrev pub end_lines : Invoice → List (List ℕ)
+abbrev pub end_lines : Invoice → List (List ℕ)  -- the lines of the reference, the message, and the end
 end_lines b = reference_kind b.reference ∷ b.reference ∷ b.message ∷ codes "EPD" ∷ []
 
 -- the lines: kind of text, version, character set (UTF-8), and the fields
@@ -288,21 +260,17 @@ bill_lines b =
     ∷ (address_lines b.creditor ++ (unused_lines ++ amount_line b.cents ∷ currency_name b.currency
     ∷ (address_lines b.debtor ++ end_lines b)))
 
--- the text of a bill
-unfoldable pub bill_text : Invoice → List ℕ
+unfoldable pub bill_text : Invoice → List ℕ  -- the text of a bill
 bill_text b = lines_text (bill_lines b)
 
--- the amount that a line says
-abbrev pub read_cents : List ℕ → Option ℕ
+abbrev pub read_cents : List ℕ → Option ℕ  -- the amount that a line says
 read_cents line = if is_filled line then Some (read_amount line) else None
 
--- the currency that a line says
-abbrev pub read_currency : List ℕ → Option Currency
+abbrev pub read_currency : List ℕ → Option Currency  -- the currency that a line says
 read_currency line =
     if bytes_eq line (codes "CHF") then Some Franc else (if bytes_eq line (codes "EUR") then Some Euro else None)
 
--- the address that lines say
-abbrev pub addressee_at : (ℕ → List ℕ) → ℕ → Addressee
+abbrev pub addressee_at : (ℕ → List ℕ) → ℕ → Addressee  -- the address that lines say
 addressee_at line first = record {
   name = line first;
   street = line (first + 1);
@@ -312,12 +280,10 @@ addressee_at line first = record {
   country = line (first + 5);
 }
 
--- the line before an address says its kind
-abbrev pub has_kind : (ℕ → List ℕ) → ℕ → Bool
+abbrev pub has_kind : (ℕ → List ℕ) → ℕ → Bool  -- the line before an address says its kind
 has_kind line kind = bytes_eq (line kind) (address_kind (addressee_at line (kind + 1)))
 
--- the bill that lines say
-abbrev pub invoice_in : (ℕ → List ℕ) → Option Invoice
+abbrev pub invoice_in : (ℕ → List ℕ) → Option Invoice  -- the bill that lines say
 invoice_in line =
     if bytes_eq (line 0) (codes "SPC") && bytes_eq (line 1) (codes "0200") && bytes_eq (line 2) (codes "1") && has_kind line 4 && has_kind line 20 && bytes_eq (line 27) (reference_kind (line 28)) && bytes_eq (line 30) (codes "EPD")
     then option_map (λ currency. record {
@@ -331,6 +297,5 @@ invoice_in line =
     }) (read_currency (line 19))
     else None
 
--- the bill that a text says
-unfoldable pub read_bill : List ℕ → Option Invoice
+unfoldable pub read_bill : List ℕ → Option Invoice  -- the bill that a text says
 read_bill text = invoice_in (line_at (read_lines text))

@@ -12,8 +12,7 @@ use Rattle.qrcode_fields.specs.Entries.{Entry, is_empty, value_of}
 use Rattle.qrcode_fields.specs.Links.{Parameter}
 use Rattle.qrcode_fields.specs.Refusals.{refused_if, first_refusal}
 
--- a contact as its card says it
-pub record Contact : Type 0 where
+pub record Contact : Type 0 where  -- a contact as its card says it
   pub name : List ℕ
   pub family : List ℕ
   pub given : List ℕ
@@ -28,8 +27,7 @@ pub record Contact : Type 0 where
   pub country : List ℕ
   pub note : List ℕ
 
--- what is said of a contact
-abbrev pub contact_of : Card → Contact
+abbrev pub contact_of : Card → Contact  -- what is said of a contact
 contact_of c = record {
   name = c.name.now;
   family = c.family.now;
@@ -61,8 +59,7 @@ card_checks c =
     ∷ refused_if (list_any is_stray c.note) Note ControlCharacter
     ∷ []
 
--- the same of the address
-abbrev pub place_checks : Contact → List (Option ContentError)
+abbrev pub place_checks : Contact → List (Option ContentError)  -- the same of the address
 place_checks c =
     refused_if (list_any is_stray c.street) Street ControlCharacter
     ∷ refused_if (list_any is_stray c.city) City ControlCharacter
@@ -77,12 +74,10 @@ text_refusal c = first_refusal (card_checks c)
 unfoldable pub place_refusal : Contact → Option ContentError
 place_refusal c = first_refusal (place_checks c)
 
--- what the card cannot say
-abbrev pub card_refusal : Contact → Option ContentError
+abbrev pub card_refusal : Contact → Option ContentError  -- what the card cannot say
 card_refusal c = first_refusal (text_refusal c ∷ place_refusal c ∷ [])
 
--- the lines of the card
-abbrev pub card_lines : Contact → List Parameter
+abbrev pub card_lines : Contact → List Parameter  -- the lines of the card
 card_lines c =
     (codes "BEGIN", codes "VCARD") ∷ (codes "VERSION", codes "3.0")
     ∷ (codes "N", structured (c.family ∷ c.given ∷ [] ∷ [] ∷ [] ∷ []))
@@ -91,12 +86,10 @@ card_lines c =
     ∷ (codes "ADR", structured ([] ∷ [] ∷ c.street ∷ c.city ∷ c.region ∷ c.code ∷ c.country ∷ []))
     ∷ (codes "NOTE", structured (c.note ∷ [])) ∷ (codes "END", codes "VCARD") ∷ []
 
--- the text of a card
-unfoldable pub card_text : Contact → List ℕ
+unfoldable pub card_text : Contact → List ℕ  -- the text of a card
 card_text c = content_text (card_lines c)
 
--- the contact that lines say
-abbrev pub contact_in : List Entry → Option Contact
+abbrev pub contact_in : List Entry → Option Contact  -- the contact that lines say
 contact_in lines =
     if bytes_eq (value_of (codes "BEGIN") lines) (codes "VCARD") && bytes_eq (value_of (codes "VERSION") lines) (codes "3.0") && bytes_eq (value_of (codes "END") lines) (codes "VCARD")
     then Some (record {
@@ -116,6 +109,5 @@ contact_in lines =
     })
     else None
 
--- the contact that a text says
-unfoldable pub read_card : List ℕ → Option Contact
+unfoldable pub read_card : List ℕ → Option Contact  -- the contact that a text says
 read_card text = contact_in (read_content text)

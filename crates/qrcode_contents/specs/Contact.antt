@@ -12,8 +12,7 @@ use Rattle.qrcode_fields.specs.Entries.{Entry, single, is_empty, is_filled, mark
 use Rattle.qrcode_fields.specs.Escapes.{unescaped_from, pieces_from}
 use Rattle.qrcode_fields.specs.Refusals.{refused_if, first_refusal}
 
--- a contact as its text says it
-pub record Person : Type 0 where
+pub record Person : Type 0 where  -- a contact as its text says it
   pub family : List ℕ
   pub given : List ℕ
   pub phone : List ℕ
@@ -27,8 +26,7 @@ pub record Person : Type 0 where
   pub code : List ℕ
   pub country : List ℕ
 
--- what is said of a contact
-abbrev pub person_of : Contact → Person
+abbrev pub person_of : Contact → Person  -- what is said of a contact
 person_of c = record {
   family = c.family.now;
   given = c.given.now;
@@ -44,14 +42,12 @@ person_of c = record {
   country = c.country.now;
 }
 
--- line breaks and other control characters
-unfoldable pub person_controls : Person → Option ContentError
+unfoldable pub person_controls : Person → Option ContentError  -- line breaks and other control characters
 person_controls p = control_refusal (
     (Name, p.family) ∷ (Given, p.given) ∷ (Phone, p.phone) ∷ (Email, p.email) ∷ (Url, p.url) ∷ (Note, p.note)
     ∷ (Street, p.street) ∷ (City, p.city) ∷ (Region, p.region) ∷ (PostalCode, p.code) ∷ (Country, p.country) ∷ [])
 
--- a missing name, and what is no birthday
-unfoldable pub person_checks : Person → Option ContentError
+unfoldable pub person_checks : Person → Option ContentError  -- a missing name, and what is no birthday
 person_checks p = first_refusal (
     refused_if (is_empty p.family) Name Empty
     ∷ refused_if (not (list_all is_digit p.birthday)) Birthday Character
@@ -59,8 +55,7 @@ person_checks p = first_refusal (
     ∷ refused_if (nat_lt 8 (length (chars p.birthday))) Birthday TooLong
     ∷ [])
 
--- what the text cannot say
-abbrev pub contact_refusal : Person → Option ContentError
+abbrev pub contact_refusal : Person → Option ContentError  -- what the text cannot say
 contact_refusal p = first_refusal (person_controls p ∷ person_checks p ∷ [])
 
 -- the entries of the text; an address has a box and a room before the street
@@ -70,12 +65,10 @@ mecard_entries p =
     ∷ single (codes "URL") p.url ∷ single (codes "BDAY") p.birthday ∷ single (codes "NOTE") p.note
     ∷ (codes "ADR", [] ∷ [] ∷ p.street ∷ p.city ∷ p.region ∷ p.code ∷ p.country ∷ []) ∷ []
 
--- the text of a contact
-unfoldable pub mecard_text : Person → List ℕ
+unfoldable pub mecard_text : Person → List ℕ  -- the text of a contact
 mecard_text p = codes "MECARD:" ++ (flat_map marked_text (mecard_entries p) ++ 59 ∷ [])
 
--- the contact that entries say
-abbrev pub contact_from : List Entry → Person
+abbrev pub contact_from : List Entry → Person  -- the contact that entries say
 contact_from entries = record {
   family = part_of (codes "N") 0 entries;
   given = part_of (codes "N") 1 entries;
@@ -91,8 +84,7 @@ contact_from entries = record {
   country = part_of (codes "ADR") 6 entries;
 }
 
--- the contact that a text says
-unfoldable pub read_mecard : List ℕ → Option Person
+unfoldable pub read_mecard : List ℕ → Option Person  -- the contact that a text says
 read_mecard text = option_map contact_from (read_entries (codes "MECARD:") text)
 
 -- the example that the page "Barcode Contents" of the ZXing project prints; its address has four parts, which are read in the order of MECARD's

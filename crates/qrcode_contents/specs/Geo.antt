@@ -11,19 +11,16 @@ use Rattle.qrcode_fields.specs.Entries.{behind}
 use Rattle.qrcode_fields.specs.Links.{before, after}
 use Rattle.qrcode_fields.specs.Refusals.{refused_if, first_refusal}
 
--- what the link cannot say
-abbrev pub place_checks : Place → List (Option ContentError)
+abbrev pub place_checks : Place → List (Option ContentError)  -- what the link cannot say
 place_checks p =
     refused_if (nat_lt 90000000 (unsigned_abs p.latitude)) Latitude Range
     ∷ refused_if (nat_lt 180000000 (unsigned_abs p.longitude)) Longitude Range
     ∷ []
 
--- the first of these refusals
-abbrev pub place_refusal : Place → Option ContentError
+abbrev pub place_refusal : Place → Option ContentError  -- the first of these refusals
 place_refusal p = first_refusal (place_checks p)
 
--- the digit before a place, and nothing where the number is zero
-abbrev pub first_digit : ℕ → ℕ → List ℕ
+abbrev pub first_digit : ℕ → ℕ → List ℕ  -- the digit before a place, and nothing where the number is zero
 first_digit n place = if n == 0 then [] else (48 + n / place) ∷ []
 
 -- the digits of a fraction, of which this many may have to be written; zeros at the end are left out
@@ -31,48 +28,38 @@ abbrev pub fraction_digits : ℕ → ℕ → List ℕ
 fraction_digits zero n = []
 fraction_digits (suc k) n = first_digit n (10 ^ k) ++ fraction_digits k (n % 10 ^ k)
 
--- a fraction in millionths with a point before it, and nothing where it is zero
-abbrev pub fraction_text : ℕ → List ℕ
+abbrev pub fraction_text : ℕ → List ℕ  -- a fraction in millionths with a point before it, and nothing where it is zero
 fraction_text n = if n == 0 then [] else 46 ∷ fraction_digits 6 n
 
--- degrees that are given in millionths
-abbrev pub degrees_text : ℕ → List ℕ
+abbrev pub degrees_text : ℕ → List ℕ  -- degrees that are given in millionths
 degrees_text n = decimal (n / 1000000) ++ fraction_text (n % 1000000)
 
--- the sign of a number below zero
-abbrev pub sign_text : ℤ → List ℕ
+abbrev pub sign_text : ℤ → List ℕ  -- the sign of a number below zero
 sign_text z = if is_negative z then codes "-" else []
 
--- degrees with their sign
-unfoldable pub coordinate_text : ℤ → List ℕ
+unfoldable pub coordinate_text : ℤ → List ℕ  -- degrees with their sign
 coordinate_text z = sign_text z ++ degrees_text (unsigned_abs z)
 
--- the text of a place
-unfoldable pub place_text : Place → List ℕ
+unfoldable pub place_text : Place → List ℕ  -- the text of a place
 place_text p = codes "geo:" ++ (coordinate_text p.latitude ++ 44 ∷ coordinate_text p.longitude)
 
--- what this many digits behind a point say, where the last counts one
-abbrev pub fraction_value : ℕ → List ℕ → ℕ
+abbrev pub fraction_value : ℕ → List ℕ → ℕ  -- what this many digits behind a point say, where the last counts one
 fraction_value zero ds = 0
 fraction_value (suc k) [] = 0
 fraction_value (suc k) (d ∷ ds) = (d - 48) * 10 ^ k + fraction_value k ds
 
--- the millionths that degrees say
-unfoldable pub read_degrees : List ℕ → ℕ
+unfoldable pub read_degrees : List ℕ → ℕ  -- the millionths that degrees say
 read_degrees text = digits_value 10 (before 46 text) * 1000000 + fraction_value 6 (after 46 text)
 
--- a number below zero
-abbrev pub negative : ℕ → ℤ
+abbrev pub negative : ℕ → ℤ  -- a number below zero
 negative zero = pos zero
 negative (suc n) = negsuc n
 
--- the millionths that degrees with their sign say
-unfoldable pub read_coordinate : List ℕ → ℤ
+unfoldable pub read_coordinate : List ℕ → ℤ  -- the millionths that degrees with their sign say
 read_coordinate [] = pos 0
 read_coordinate (b ∷ rest) = if b == 45 then negative (read_degrees rest) else pos (read_degrees (b ∷ rest))
 
--- the place that a text says
-unfoldable pub read_place : List ℕ → Option Place
+unfoldable pub read_place : List ℕ → Option Place  -- the place that a text says
 read_place text = option_map (λ rest. record { latitude = read_coordinate (before 44 rest); longitude = read_coordinate (after 44 rest) }) (behind (codes "geo:") text)
 
 -- printed examples of RFC 5870, sections 6.1 and 6.4, and one with a sign

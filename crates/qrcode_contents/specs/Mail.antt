@@ -13,14 +13,12 @@ use Rattle.qrcode_fields.specs.Links.{Parameter, before, part_text, query_text, 
 use Rattle.qrcode_fields.specs.Percents.{decoded}
 use Rattle.qrcode_fields.specs.Refusals.{refused_if, first_refusal}
 
--- a mail as its text says it
-pub record Letter : Type 0 where
+pub record Letter : Type 0 where  -- a mail as its text says it
   pub address : List ℕ
   pub subject : List ℕ
   pub body : List ℕ
 
--- what is said of a mail
-abbrev pub letter_of : Mail → Letter
+abbrev pub letter_of : Mail → Letter  -- what is said of a mail
 letter_of m = record { address = m.address.now; subject = m.subject.now; body = m.body.now }
 
 -- what the link cannot say: an address has one `@`, and a body no control character but tabs and line feeds
@@ -32,28 +30,23 @@ mail_checks m =
     ∷ refused_if (list_any is_stray m.body) Message ControlCharacter
     ∷ []
 
--- the first of these refusals
-unfoldable pub mail_refusal : Letter → Option ContentError
+unfoldable pub mail_refusal : Letter → Option ContentError  -- the first of these refusals
 mail_refusal m = first_refusal (mail_checks m)
 
--- the parameters of the link
-abbrev pub mail_parameters : Letter → List Parameter
+abbrev pub mail_parameters : Letter → List Parameter  -- the parameters of the link
 mail_parameters m = (codes "subject", m.subject) ∷ (codes "body", m.body) ∷ []
 
--- the text of a mail
-abbrev pub mail_text : Letter → List ℕ
+abbrev pub mail_text : Letter → List ℕ  -- the text of a mail
 mail_text m = codes "mailto:" ++ (part_text Path m.address ++ query_text (codes "?") (mail_parameters m))
 
--- the mail that a link says behind its scheme
-abbrev pub letter_in : List ℕ → Letter
+abbrev pub letter_in : List ℕ → Letter  -- the mail that a link says behind its scheme
 letter_in link = record {
   address = decoded (before 63 link);
   subject = value_in (codes "subject") link;
   body = value_in (codes "body") link;
 }
 
--- the mail that a text says
-abbrev pub read_mail : List ℕ → Option Letter
+abbrev pub read_mail : List ℕ → Option Letter  -- the mail that a text says
 read_mail text = option_map letter_in (behind (codes "mailto:") text)
 
 -- a printed example of RFC 6068, section 6.1

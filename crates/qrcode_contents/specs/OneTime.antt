@@ -21,8 +21,7 @@ use Rattle.qrcode_fields.specs.Links.{Parameter, before, after, part_text, query
 use Rattle.qrcode_fields.specs.Percents.{decoded}
 use Rattle.qrcode_fields.specs.Refusals.{refused_if, first_refusal}
 
--- one-time passwords as their text says them
-pub record Key : Type 0 where
+pub record Key : Type 0 where  -- one-time passwords as their text says them
   pub factor : Factor
   pub issuer : List ℕ
   pub account : List ℕ
@@ -30,8 +29,7 @@ pub record Key : Type 0 where
   pub algorithm : Algorithm
   pub digits : Digits
 
--- what is said of one-time passwords
-abbrev pub key_of : OneTime → Key
+abbrev pub key_of : OneTime → Key  -- what is said of one-time passwords
 key_of o = record {
   factor = o.factor;
   issuer = o.issuer.now;
@@ -41,21 +39,17 @@ key_of o = record {
   digits = o.digits;
 }
 
--- a colon ends the issuer
-abbrev pub is_colon : ℕ → Bool
+abbrev pub is_colon : ℕ → Bool  -- a colon ends the issuer
 is_colon b = b == 58
 
--- the text begins with a space, which readers leave out
-abbrev pub begins_with_space : List ℕ → Bool
+abbrev pub begins_with_space : List ℕ → Bool  -- the text begins with a space, which readers leave out
 begins_with_space text = starts_with (λ a b. a == b) text (32 ∷ [])
 
--- a time that no password holds
-abbrev pub has_no_period : Factor → Bool
+abbrev pub has_no_period : Factor → Bool  -- a time that no password holds
 has_no_period (Time period) = period == 0
 has_no_period (Counter count) = false
 
--- what the link cannot say
-abbrev pub key_checks : Key → List (Option ContentError)
+abbrev pub key_checks : Key → List (Option ContentError)  -- what the link cannot say
 key_checks k =
     refused_if (list_any is_control k.issuer) Issuer ControlCharacter
     ∷ refused_if (list_any is_colon k.issuer) Issuer Character
@@ -67,80 +61,65 @@ key_checks k =
     ∷ refused_if (has_no_period k.factor) Period Range
     ∷ []
 
--- the first of these refusals
-unfoldable pub key_refusal : Key → Option ContentError
+unfoldable pub key_refusal : Key → Option ContentError  -- the first of these refusals
 key_refusal k = first_refusal (key_checks k)
 
--- what the passwords change with
-abbrev pub factor_name : Factor → List ℕ
+abbrev pub factor_name : Factor → List ℕ  -- what the passwords change with
 factor_name (Time period) = codes "totp"
 factor_name (Counter count) = codes "hotp"
 
--- the period, left out where it is 30 seconds, or the counter
-abbrev pub factor_parameter : Factor → Parameter
+abbrev pub factor_parameter : Factor → Parameter  -- the period, left out where it is 30 seconds, or the counter
 factor_parameter (Time period) = (codes "period", if period == 30 then [] else decimal period)
 factor_parameter (Counter count) = (codes "counter", decimal count)
 
--- the period or counter fits its type
-abbrev pub is_a_word : Factor → Type 0
+abbrev pub is_a_word : Factor → Type 0  -- the period or counter fits its type
 is_a_word (Time period) = period < 2 ^ 64
 is_a_word (Counter count) = count < 2 ^ 64
 
--- the algorithm, left out where it is SHA1
-abbrev pub algorithm_value : Algorithm → List ℕ
+abbrev pub algorithm_value : Algorithm → List ℕ  -- the algorithm, left out where it is SHA1
 algorithm_value Sha1 = []
 algorithm_value Sha256 = codes "SHA256"
 algorithm_value Sha512 = codes "SHA512"
 
--- the number of digits, left out where it is 6
-abbrev pub digits_text : Digits → List ℕ
+abbrev pub digits_text : Digits → List ℕ  -- the number of digits, left out where it is 6
 digits_text Six = []
 digits_text Eight = codes "8"
 
--- the issuer, if any, with a colon behind it, and the account
-abbrev pub label_text : Key → List ℕ
+abbrev pub label_text : Key → List ℕ  -- the issuer, if any, with a colon behind it, and the account
 label_text k = (if is_filled k.issuer then part_text Path k.issuer ++ codes ":" else []) ++ part_text Path k.account
 
--- the parameters of the link
-abbrev pub key_parameters : Key → List Parameter
+abbrev pub key_parameters : Key → List Parameter  -- the parameters of the link
 key_parameters k =
     (codes "secret", k.secret) ∷ (codes "issuer", k.issuer) ∷ (codes "algorithm", algorithm_value k.algorithm)
     ∷ (codes "digits", digits_text k.digits) ∷ factor_parameter k.factor ∷ []
 
--- the text of one-time passwords
-abbrev pub key_text : Key → List ℕ
+abbrev pub key_text : Key → List ℕ  -- the text of one-time passwords
 key_text k = codes "otpauth://" ++ (factor_name k.factor ++ 47 ∷ (label_text k ++ query_text (codes "?") (key_parameters k)))
 
--- the algorithm of a link
-abbrev pub read_algorithm : List ℕ → Option Algorithm
+abbrev pub read_algorithm : List ℕ → Option Algorithm  -- the algorithm of a link
 read_algorithm value =
     if not (is_filled value) || bytes_eq value (codes "SHA1") then Some Sha1
     else (if bytes_eq value (codes "SHA256") then Some Sha256
     else (if bytes_eq value (codes "SHA512") then Some Sha512 else None))
 
--- the number of digits of a link
-abbrev pub read_digits : List ℕ → Option Digits
+abbrev pub read_digits : List ℕ → Option Digits  -- the number of digits of a link
 read_digits value =
     if not (is_filled value) || bytes_eq value (codes "6") then Some Six
     else (if bytes_eq value (codes "8") then Some Eight else None)
 
--- what the passwords of a link change with
-abbrev pub read_factor : List ℕ → List ℕ → Option Factor
+abbrev pub read_factor : List ℕ → List ℕ → Option Factor  -- what the passwords of a link change with
 read_factor name link =
     if bytes_eq name (codes "totp") then Some (Time (if is_filled (value_in (codes "period") link) then digits_value 10 (value_in (codes "period") link) else 30))
     else (if bytes_eq name (codes "hotp") then Some (Counter (digits_value 10 (value_in (codes "counter") link))) else None)
 
--- without spaces at the beginning
-abbrev pub without_spaces : List ℕ → List ℕ
+abbrev pub without_spaces : List ℕ → List ℕ  -- without spaces at the beginning
 without_spaces [] = []
 without_spaces (b ∷ rest) = if b == 32 then without_spaces rest else b ∷ rest
 
--- the account of a label
-abbrev pub read_account : List ℕ → List ℕ
+abbrev pub read_account : List ℕ → List ℕ  -- the account of a label
 read_account label = without_spaces (if list_any is_colon label then after 58 label else label)
 
--- the one-time passwords that a link says behind its name
-abbrev pub key_in : List ℕ → List ℕ → Option Key
+abbrev pub key_in : List ℕ → List ℕ → Option Key  -- the one-time passwords that a link says behind its name
 key_in name link =
     option_and_then (λ factor. option_and_then (λ algorithm. option_map (λ digits. record {
       factor = factor;
@@ -151,8 +130,7 @@ key_in name link =
       digits = digits;
     }) (read_digits (value_in (codes "digits") link))) (read_algorithm (value_in (codes "algorithm") link))) (read_factor name link)
 
--- the one-time passwords that a text says
-abbrev pub read_key : List ℕ → Option Key
+abbrev pub read_key : List ℕ → Option Key  -- the one-time passwords that a text says
 read_key text = option_and_then (λ rest. key_in (before 47 rest) (after 47 rest)) (behind (codes "otpauth://") text)
 
 -- the printed example

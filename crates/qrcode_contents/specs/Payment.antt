@@ -16,8 +16,7 @@ use Rattle.qrcode_fields.specs.Entries.{is_empty, is_filled, behind}
 use Rattle.qrcode_fields.specs.Lines.{lines_text, read_lines, line_at}
 use Rattle.qrcode_fields.specs.Refusals.{refused_if, first_refusal}
 
--- a transfer as its text says it
-pub record Transfer : Type 0 where
+pub record Transfer : Type 0 where  -- a transfer as its text says it
   pub version : PaymentVersion
   pub bic : List ℕ
   pub name : List ℕ
@@ -28,8 +27,7 @@ pub record Transfer : Type 0 where
   pub message : List ℕ
   pub information : List ℕ
 
--- what is said of a payment
-abbrev pub payment_fields : Payment → Transfer
+abbrev pub payment_fields : Payment → Transfer  -- what is said of a payment
 payment_fields p = record {
   version = p.version;
   bic = p.bic.now;
@@ -42,35 +40,29 @@ payment_fields p = record {
   information = p.information.now;
 }
 
--- the line of a version
-abbrev pub version_name : PaymentVersion → List ℕ
+abbrev pub version_name : PaymentVersion → List ℕ  -- the line of a version
 version_name One = codes "001"
 version_name Two = codes "002"
 
--- the version that a payment wants: 001 with a BIC, and 002 without
-abbrev pub version_for : List ℕ → PaymentVersion
+abbrev pub version_for : List ℕ → PaymentVersion  -- the version that a payment wants: 001 with a BIC, and 002 without
 version_for bic = if is_empty bic then Two else One
 
 abbrev pub needs_bic : PaymentVersion → Bool
 needs_bic One = true
 needs_bic Two = false
 
--- a bank's identifier of ISO 9362
-abbrev pub is_bic : List ℕ → Bool
+abbrev pub is_bic : List ℕ → Bool  -- a bank's identifier of ISO 9362
 is_bic text = (length text == 8 || length text == 11) && list_all is_capital_or_digit text
 
--- the form of a creditor's reference of ISO 11649
-abbrev pub is_reference : List ℕ → Bool
+abbrev pub is_reference : List ℕ → Bool  -- the form of a creditor's reference of ISO 11649
 is_reference text = has_form text && starts_with (λ a b. a == b) text (codes "RF")
 
--- line breaks and other control characters
-unfoldable pub control_checks : Transfer → Option ContentError
+unfoldable pub control_checks : Transfer → Option ContentError  -- line breaks and other control characters
 control_checks t = control_refusal (
     (Bic, t.bic) ∷ (Name, t.name) ∷ (Iban, t.iban) ∷ (Purpose, t.purpose) ∷ (Reference, t.reference)
     ∷ (Message, t.message) ∷ (Information, t.information) ∷ [])
 
--- what is no BIC, and where it lacks
-unfoldable pub bank_checks : Transfer → Option ContentError
+unfoldable pub bank_checks : Transfer → Option ContentError  -- what is no BIC, and where it lacks
 bank_checks t = first_refusal (
     refused_if (needs_bic t.version && is_empty t.bic) Bic Empty
     ∷ refused_if (is_filled t.bic && nat_lt (length (chars t.bic)) 8) Bic TooShort
@@ -78,8 +70,7 @@ bank_checks t = first_refusal (
     ∷ refused_if (is_filled t.bic && not (is_bic t.bic)) Bic Character
     ∷ [])
 
--- what is no account
-unfoldable pub account_checks : Transfer → Option ContentError
+unfoldable pub account_checks : Transfer → Option ContentError  -- what is no account
 account_checks t = first_refusal (
     refused_if (is_empty t.iban) Iban Empty
     ∷ refused_if (nat_lt (length (chars t.iban)) 5) Iban TooShort
@@ -118,8 +109,7 @@ later_count t =
     else (if is_filled t.reference then 2
     else (if is_filled t.purpose then 1 else 0)))
 
--- the lines behind the amount
-abbrev pub later_lines : Transfer → List (List ℕ)
+abbrev pub later_lines : Transfer → List (List ℕ)  -- the lines behind the amount
 later_lines t = take (later_count t) (t.purpose ∷ t.reference ∷ t.message ∷ t.information ∷ [])
 
 -- the lines: service, version, character set (UTF-8), kind of transfer, and the fields
@@ -128,12 +118,10 @@ payment_lines t =
     codes "BCD" ∷ version_name t.version ∷ codes "1" ∷ codes "SCT" ∷ t.bic ∷ t.name ∷ t.iban
     ∷ (codes "EUR" ++ amount_text t.cents) ∷ later_lines t
 
--- the text of a transfer
-unfoldable pub payment_text : Transfer → List ℕ
+unfoldable pub payment_text : Transfer → List ℕ  -- the text of a transfer
 payment_text t = lines_text (payment_lines t)
 
--- what the fields refuse
-unfoldable pub field_checks : Transfer → Option ContentError
+unfoldable pub field_checks : Transfer → Option ContentError  -- what the fields refuse
 field_checks t =
     first_refusal (control_checks t ∷ bank_checks t ∷ account_checks t ∷ name_checks t ∷ message_checks t ∷ [])
 
@@ -141,8 +129,7 @@ field_checks t =
 abbrev pub payment_refusal : Transfer → Option ContentError
 payment_refusal t = first_refusal (field_checks t ∷ refused_if (nat_lt 331 (length (payment_text t))) Whole TooLong ∷ [])
 
--- the version that this line says
-abbrev pub named_version : List ℕ → Option PaymentVersion
+abbrev pub named_version : List ℕ → Option PaymentVersion  -- the version that this line says
 named_version line =
     if bytes_eq line (codes "001") then Some One else (if bytes_eq line (codes "002") then Some Two else None)
 
@@ -160,13 +147,11 @@ transfer_from line version amount = record {
   information = line 11;
 }
 
--- the transfer that lines say; a line behind the last is empty
-abbrev pub transfer_of : (ℕ → List ℕ) → Option Transfer
+abbrev pub transfer_of : (ℕ → List ℕ) → Option Transfer  -- the transfer that lines say; a line behind the last is empty
 transfer_of line =
     if bytes_eq (line 0) (codes "BCD") && bytes_eq (line 2) (codes "1") && bytes_eq (line 3) (codes "SCT")
     then option_and_then (λ version. option_map (transfer_from line version) (behind (codes "EUR") (line 7))) (named_version (line 1))
     else None
 
--- the transfer that a text says
-unfoldable pub read_payment : List ℕ → Option Transfer
+unfoldable pub read_payment : List ℕ → Option Transfer  -- the transfer that a text says
 read_payment text = transfer_of (line_at (read_lines text))

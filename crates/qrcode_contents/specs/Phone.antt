@@ -22,22 +22,18 @@ phone_checks number =
 unfoldable pub phone_refusal : List ℕ → Option ContentError
 phone_refusal number = first_refusal (phone_checks number)
 
--- the text of a message to a number
-abbrev pub message_text : List ℕ → List ℕ → List ℕ
+abbrev pub message_text : List ℕ → List ℕ → List ℕ  -- the text of a message to a number
 message_text number body = codes "sms:" ++ (number ++ (codes "?body=" ++ encoded body))
 
--- the bytes before the first question mark
-abbrev pub before_query : List ℕ → List ℕ
+abbrev pub before_query : List ℕ → List ℕ  -- the bytes before the first question mark
 before_query [] = []
 before_query (b ∷ rest) = if b == 63 then [] else b ∷ before_query rest
 
--- the bytes from the first question mark on
-abbrev pub from_query : List ℕ → List ℕ
+abbrev pub from_query : List ℕ → List ℕ  -- the bytes from the first question mark on
 from_query [] = []
 from_query (b ∷ rest) = if b == 63 then b ∷ rest else from_query rest
 
--- the number and the body that a text says
-abbrev pub read_message : List ℕ → Option (List ℕ × List ℕ)
+abbrev pub read_message : List ℕ → Option (List ℕ × List ℕ)  -- the number and the body that a text says
 read_message text =
     option_and_then (λ rest. option_map (λ body. (before_query rest, decoded body)) (behind (codes "?body=") (from_query rest)))
     (behind (codes "sms:") text)

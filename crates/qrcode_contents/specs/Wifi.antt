@@ -11,19 +11,16 @@ use Rattle.qrcode_contents.specs.declared.wifi.Wifi.{Wifi}
 use Rattle.qrcode_fields.specs.Refusals.{refused_if, first_refusal}
 use Rattle.qrcode_fields.specs.Entries.{Entry, single, is_empty, is_filled, marked_text, read_entries, value_of}
 
--- a network as its text says it
-pub record Network : Type 0 where
+pub record Network : Type 0 where  -- a network as its text says it
   pub security : Security
   pub ssid : List ℕ
   pub password : List ℕ
   pub hidden : Bool
 
--- what is said of a network
-abbrev pub wifi_fields : Wifi → Network
+abbrev pub wifi_fields : Wifi → Network  -- what is said of a network
 wifi_fields w = record { security = w.security; ssid = w.ssid.now; password = w.password.now; hidden = w.hidden }
 
--- the name of a way to secure a network
-abbrev pub security_name : Security → List ℕ
+abbrev pub security_name : Security → List ℕ  -- the name of a way to secure a network
 security_name Open = codes "nopass"
 security_name Wep = codes "WEP"
 security_name Wpa = codes "WPA"
@@ -35,8 +32,7 @@ is_open Wep = false
 is_open Wpa = false
 is_open Wpa3 = false
 
--- what the text cannot say
-abbrev pub wifi_refusal : Network → Option ContentError
+abbrev pub wifi_refusal : Network → Option ContentError  -- what the text cannot say
 wifi_refusal n = first_refusal (
     refused_if (is_empty n.ssid) Ssid Empty
     ∷ refused_if (nat_lt 32 (length n.ssid)) Ssid TooLong
@@ -44,26 +40,22 @@ wifi_refusal n = first_refusal (
     ∷ refused_if (not (is_open n.security) && is_empty n.password) Password Empty
     ∷ [])
 
--- the entries of the text
-abbrev pub wifi_entries : Network → List Entry
+abbrev pub wifi_entries : Network → List Entry  -- the entries of the text
 wifi_entries n =
     single (codes "T") (security_name n.security) ∷ single (codes "S") n.ssid ∷ single (codes "P") n.password
     ∷ single (codes "H") (if n.hidden then codes "true" else []) ∷ []
 
--- the text of a network
-abbrev pub wifi_text : Network → List ℕ
+abbrev pub wifi_text : Network → List ℕ  -- the text of a network
 wifi_text n = codes "WIFI:" ++ (flat_map marked_text (wifi_entries n) ++ 59 ∷ [])
 
--- the way to secure a network that has this name
-abbrev pub named_security : List ℕ → Option Security
+abbrev pub named_security : List ℕ → Option Security  -- the way to secure a network that has this name
 named_security name =
     if bytes_eq name (codes "nopass") then Some Open
     else (if bytes_eq name (codes "WEP") then Some Wep
     else (if bytes_eq name (codes "WPA") then Some Wpa
     else (if bytes_eq name (codes "SAE") then Some Wpa3 else None)))
 
--- the network that entries say
-abbrev pub network_of : List Entry → Option Network
+abbrev pub network_of : List Entry → Option Network  -- the network that entries say
 network_of entries = option_map (λ security. record {
   security = security;
   ssid = value_of (codes "S") entries;
@@ -71,6 +63,5 @@ network_of entries = option_map (λ security. record {
   hidden = bytes_eq (value_of (codes "H") entries) (codes "true");
 }) (named_security (value_of (codes "T") entries))
 
--- the network that a text says
-abbrev pub read_wifi : List ℕ → Option Network
+abbrev pub read_wifi : List ℕ → Option Network  -- the network that a text says
 read_wifi text = option_and_then network_of (read_entries (codes "WIFI:") text)

@@ -5,6 +5,5 @@ use Rattle.qrcode_fields.specs.declared.errors.ContentError.TheVariants as conte
 use Rattle.qrcode_contents_uses.specs.declared.Unmade.{Unmade}
 use Rattle.qrcode_contents_uses.specs.declared.Unmade.TheVariants.{Content, Code}
 
--- memory was refused, for the text or for the symbol
-abbrev pub IsWant : Unmade → Type 0
+abbrev pub IsWant : Unmade → Type 0  -- memory was refused, for the text or for the symbol
 IsWant e = (e ≡ Content content.OutOfMemory) ⊎ (e ≡ Code code.OutOfMemory)

@@ -4,12 +4,10 @@ use Rattle.qrcode_types.specs.Bits.{AreBytes}
 use Rattle.qrcode_ec.specs.Codes.{syndrome}
 use Rattle.qrcode_correct.specs.Recurrences.{FollowShortest}
 
--- by what the byte at a place is wrong
-abbrev pub error_at : List ℕ → List ℕ → ℕ → ℕ
+abbrev pub error_at : List ℕ → List ℕ → ℕ → ℕ  -- by what the byte at a place is wrong
 error_at block corrected place = bit_xor (slice_index block (length block - 1 - place)) (slice_index corrected (length block - 1 - place))
 
--- the values are the first n syndromes of the block
-abbrev pub AreSyndromes : (ℕ → ℕ) → ℕ → List ℕ → Type 0
+abbrev pub AreSyndromes : (ℕ → ℕ) → ℕ → List ℕ → Type 0  -- the values are the first n syndromes of the block
 AreSyndromes values n block = (i : ℕ) → i < n → values i ≡ syndrome i block
 
 -- f is the polynomial of the lowest degree that the first n syndromes of the block follow

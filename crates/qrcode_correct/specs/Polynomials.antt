@@ -3,16 +3,13 @@ use Rattle.std.specs.Prelude.{◌≡◌, ℕ, ◌+◌, ◌*◌, ◌≤◌, List,
 use Rattle.qrcode_types.specs.Polynomials.{xor_sum}
 use Rattle.qrcode_ec.specs.Field.{product, power}
 
--- the coefficients of f times values from the i-th on, summed up
-unfoldable pub combined : List ℕ → (ℕ → ℕ) → ℕ → ℕ
+unfoldable pub combined : List ℕ → (ℕ → ℕ) → ℕ → ℕ  -- the coefficients of f times values from the i-th on, summed up
 combined f values i = xor_sum (length f) (λ j. product (slice_index f j) (values (i + j)))
 
--- the value of f at the l-th power of 2
-abbrev pub value_at : List ℕ → ℕ → ℕ
+abbrev pub value_at : List ℕ → ℕ → ℕ  -- the value of f at the l-th power of 2
 value_at f l = combined f (λ j. power (l * j)) 0
 
--- f has no more than n coefficients that are not zero
-abbrev pub EndsAt : List ℕ → ℕ → Type 0
+abbrev pub EndsAt : List ℕ → ℕ → Type 0  -- f has no more than n coefficients that are not zero
 EndsAt f n = (j : ℕ) → n ≤ j → slice_index f j ≡ 0
 
 -- f is the quotient times (x - point), and the rest

@@ -23,6 +23,6 @@ HasDistanceAbove n c = (other : List ℕ) → AreBytes other → length other �
 -- c is a list of bytes that vanishes at n points, as long as r, and differs from r in at most half as many places
 pub record Corrects (r : List ℕ) (n : ℕ) (c : List ℕ) : Type 0 where
   pub equal_length : length r ≡ length c
-  pub bytes : AllByRecursion (λ n. n < 256) c
+  pub bytes : AllByRecursion (λ byte. byte < 256) c
   pub vanishes : Vanishes c n
   pub near : distance r c ≤ n / 2

@@ -18,8 +18,7 @@ use Rattle.qrcode_events.specs.declared.event.Span.TheVariants.{Days, Times}
 use Rattle.qrcode_events.specs.declared.event.Event.{Event}
 use Rattle.qrcode_events.specs.Times.{is_day, is_moment, day_number, moment_number, day_text, moment_text, read_day, read_moment}
 
--- an event as its text says it
-pub record Happening : Type 0 where
+pub record Happening : Type 0 where  -- an event as its text says it
   pub uid : List ℕ
   pub stamp : Moment
   pub span : Span
@@ -27,8 +26,7 @@ pub record Happening : Type 0 where
   pub location : List ℕ
   pub description : List ℕ
 
--- what is said of an event
-abbrev pub happening_of : Event → Happening
+abbrev pub happening_of : Event → Happening  -- what is said of an event
 happening_of e = record {
   uid = e.uid.now;
   stamp = e.stamp;
@@ -38,18 +36,15 @@ happening_of e = record {
   description = e.description.now;
 }
 
--- the calendar has no such beginning
-abbrev pub begins_never : Span → Bool
+abbrev pub begins_never : Span → Bool  -- the calendar has no such beginning
 begins_never (Days first end) = not (is_day first)
 begins_never (Times begin end) = not (is_moment begin)
 
--- the calendar has no such end
-abbrev pub ends_never : Span → Bool
+abbrev pub ends_never : Span → Bool  -- the calendar has no such end
 ends_never (Days first end) = not (is_day end)
 ends_never (Times begin end) = not (is_moment end)
 
--- the end is not behind the beginning
-abbrev pub ends_early : Span → Bool
+abbrev pub ends_early : Span → Bool  -- the end is not behind the beginning
 ends_early (Days first end) = nat_le (day_number end) (day_number first)
 ends_early (Times begin end) = nat_le (moment_number end) (moment_number begin)
 
@@ -67,40 +62,33 @@ event_checks h =
     ∷ refused_if (list_any is_stray h.description) Description ControlCharacter
     ∷ []
 
--- the first of these refusals
-unfoldable pub event_refusal : Happening → Option ContentError
+unfoldable pub event_refusal : Happening → Option ContentError  -- the first of these refusals
 event_refusal h = first_refusal (event_checks h)
 
--- the lines of beginning and end
-abbrev pub span_lines : Span → List Parameter
+abbrev pub span_lines : Span → List Parameter  -- the lines of beginning and end
 span_lines (Days first end) =
     (codes "DTSTART;VALUE=DATE", day_text first) ∷ (codes "DTEND;VALUE=DATE", day_text end) ∷ []
 span_lines (Times begin end) = (codes "DTSTART", moment_text begin) ∷ (codes "DTEND", moment_text end) ∷ []
 
--- the lines of the event
-abbrev pub event_lines : Happening → List Parameter
+abbrev pub event_lines : Happening → List Parameter  -- the lines of the event
 event_lines h =
     (codes "UID", structured (h.uid ∷ [])) ∷ (codes "DTSTAMP", moment_text h.stamp)
     ∷ (span_lines h.span
     ++ ((codes "SUMMARY", structured (h.summary ∷ [])) ∷ (codes "LOCATION", structured (h.location ∷ []))
     ∷ (codes "DESCRIPTION", structured (h.description ∷ [])) ∷ []))
 
--- the lines before those of the event
-abbrev pub first_lines : List Parameter
+abbrev pub first_lines : List Parameter  -- the lines before those of the event
 first_lines =
     (codes "BEGIN", codes "VCALENDAR") ∷ (codes "VERSION", codes "2.0")
     ∷ (codes "PRODID", codes "-//Goqlanis//Contents//EN") ∷ (codes "BEGIN", codes "VEVENT") ∷ []
 
--- the lines behind them
-abbrev pub last_lines : List Parameter
+abbrev pub last_lines : List Parameter  -- the lines behind them
 last_lines = (codes "END", codes "VEVENT") ∷ (codes "END", codes "VCALENDAR") ∷ []
 
--- the text of an event
-unfoldable pub event_text : Happening → List ℕ
+unfoldable pub event_text : Happening → List ℕ  -- the text of an event
 event_text h = content_text (first_lines ++ (event_lines h ++ last_lines))
 
--- a line of this key and this value
-abbrev pub is_line : List ℕ → List ℕ → Entry → Bool
+abbrev pub is_line : List ℕ → List ℕ → Entry → Bool  -- a line of this key and this value
 is_line key value line = bytes_eq key line.0 && bytes_eq value (slice_index_or line.1 0 [])
 
 -- the lines before the end of a component; none where it has no end
@@ -109,13 +97,11 @@ before_end name [] = None
 before_end name (line ∷ lines) =
     if is_line (codes "END") name line then Some [] else option_map (λ later. line ∷ later) (before_end name lines)
 
--- the lines of the first component of this name
-abbrev pub component : List ℕ → List Entry → Option (List Entry)
+abbrev pub component : List ℕ → List Entry → Option (List Entry)  -- the lines of the first component of this name
 component name [] = None
 component name (line ∷ lines) = if is_line (codes "BEGIN") name line then before_end name lines else component name lines
 
--- beginning and end, which both are days or both moments
-abbrev pub span_in : List Entry → Option Span
+abbrev pub span_in : List Entry → Option Span  -- beginning and end, which both are days or both moments
 span_in lines =
     if is_filled (value_of (codes "DTSTART;VALUE=DATE") lines)
     then option_and_then (λ first. option_map (λ end. Days first end) (read_day (value_of (codes "DTEND;VALUE=DATE") lines)))
@@ -123,8 +109,7 @@ span_in lines =
     else option_and_then (λ begin. option_map (λ end. Times begin end) (read_moment (value_of (codes "DTEND") lines)))
     (read_moment (value_of (codes "DTSTART") lines))
 
--- the event that lines say
-abbrev pub happening_in : List Entry → Option Happening
+abbrev pub happening_in : List Entry → Option Happening  -- the event that lines say
 happening_in lines =
     option_and_then (λ stamp. option_map (λ span. record {
       uid = part_in 0 (value_of (codes "UID") lines);
@@ -135,15 +120,13 @@ happening_in lines =
       description = part_in 0 (value_of (codes "DESCRIPTION") lines);
     }) (span_in lines)) (read_moment (value_of (codes "DTSTAMP") lines))
 
--- the event of a calendar of version 2.0
-abbrev pub calendar_event : List Entry → Option Happening
+abbrev pub calendar_event : List Entry → Option Happening  -- the event of a calendar of version 2.0
 calendar_event calendar =
     if bytes_eq (value_of (codes "VERSION") calendar) (codes "2.0")
     then option_and_then happening_in (component (codes "VEVENT") calendar)
     else None
 
--- the event that a text says
-unfoldable pub read_event : List ℕ → Option Happening
+unfoldable pub read_event : List ℕ → Option Happening  -- the event that a text says
 read_event text = option_and_then calendar_event (component (codes "VCALENDAR") (read_content text))
 
 -- the first example of RFC 5545, section 4, a Bastille Day party, in UTC

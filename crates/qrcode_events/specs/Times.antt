@@ -5,59 +5,46 @@ use Rattle.std.specs.Str.Parse.{digits_value}
 use Rattle.qrcode_events.specs.declared.times.Day.{Day}
 use Rattle.qrcode_events.specs.declared.times.Moment.{Moment}
 
--- a year of the Gregorian calendar with a 29th of February
-abbrev pub is_leap : ℕ → Bool
+abbrev pub is_leap : ℕ → Bool  -- a year of the Gregorian calendar with a 29th of February
 is_leap year = year % 4 == 0 && (not (year % 100 == 0) || year % 400 == 0)
 
--- how many days the month of a year has
-abbrev pub days_in : ℕ → ℕ → ℕ
+abbrev pub days_in : ℕ → ℕ → ℕ  -- how many days the month of a year has
 days_in year month =
     if month == 2 then (if is_leap year then 29 else 28)
     else (if month == 4 || month == 6 || month == 9 || month == 11 then 30 else 31)
 
--- a day that the calendar has, in a year of four digits
-abbrev pub is_day : Day → Bool
+abbrev pub is_day : Day → Bool  -- a day that the calendar has, in a year of four digits
 is_day d =
     nat_lt d.year 10000 && nat_lt 0 d.month && nat_lt d.month 13 && nat_lt 0 d.day && nat_le d.day (days_in d.year d.month)
 
--- a time of day on such a day; a minute may have a leap second at its end
-abbrev pub is_moment : Moment → Bool
+abbrev pub is_moment : Moment → Bool  -- a time of day on such a day; a minute may have a leap second at its end
 is_moment m = is_day m.day && nat_lt m.hour 24 && nat_lt m.minute 60 && nat_lt m.second 61
 
--- a number that grows from day to day
-abbrev pub day_number : Day → ℕ
+abbrev pub day_number : Day → ℕ  -- a number that grows from day to day
 day_number d = (d.year * 100 + d.month) * 100 + d.day
 
--- a number that grows from second to second
-abbrev pub moment_number : Moment → ℕ
+abbrev pub moment_number : Moment → ℕ  -- a number that grows from second to second
 moment_number m = ((day_number m.day * 100 + m.hour) * 100 + m.minute) * 100 + m.second
 
--- two digits
-abbrev pub pair_text : ℕ → List ℕ
+abbrev pub pair_text : ℕ → List ℕ  -- two digits
 pair_text n = decimal (n / 10) ++ decimal (n % 10)
 
--- numbers, each with two digits
-abbrev pub pairs_text : List ℕ → List ℕ
+abbrev pub pairs_text : List ℕ → List ℕ  -- numbers, each with two digits
 pairs_text numbers = flat_map pair_text numbers
 
--- the text of a day
-unfoldable pub day_text : Day → List ℕ
+unfoldable pub day_text : Day → List ℕ  -- the text of a day
 day_text d = pairs_text (d.year / 100 ∷ d.year % 100 ∷ d.month ∷ d.day ∷ [])
 
--- the text of a moment in UTC
-unfoldable pub moment_text : Moment → List ℕ
+unfoldable pub moment_text : Moment → List ℕ  -- the text of a moment in UTC
 moment_text m = day_text m.day ++ (codes "T" ++ (pairs_text (m.hour ∷ m.minute ∷ m.second ∷ []) ++ codes "Z"))
 
--- the number of the two digits at a place
-abbrev pub pair_at : ℕ → List ℕ → ℕ
+abbrev pub pair_at : ℕ → List ℕ → ℕ  -- the number of the two digits at a place
 pair_at i text = digits_value 10 (take 2 (drop i text))
 
--- the day that a text begins with
-abbrev pub day_in : List ℕ → Day
+abbrev pub day_in : List ℕ → Day  -- the day that a text begins with
 day_in text = record { year = pair_at 0 text * 100 + pair_at 2 text; month = pair_at 4 text; day = pair_at 6 text }
 
--- the day that a text of eight digits says
-unfoldable pub read_day : List ℕ → Option Day
+unfoldable pub read_day : List ℕ → Option Day  -- the day that a text of eight digits says
 read_day text = if length text == 8 then Some (day_in text) else None
 
 -- the moment that a text says, with a T between day and time, and a Z for UTC at its end

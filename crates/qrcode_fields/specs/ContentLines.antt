@@ -11,8 +11,7 @@ use Rattle.qrcode_fields.specs.Links.{Parameter, before, after}
 abbrev pub fold_break : ℕ → ℕ → List ℕ
 fold_break column width = if nat_lt 75 (column + width) then 13 ∷ 10 ∷ 32 ∷ [] else []
 
--- the octets of the line behind such a character
-abbrev pub next_column : ℕ → ℕ → ℕ
+abbrev pub next_column : ℕ → ℕ → ℕ  -- the octets of the line behind such a character
 next_column column width = if nat_lt 75 (column + width) then 1 + width else column + width
 
 -- a line, folded, of which so many octets of a character are still to come, and so many octets stand before them
@@ -22,16 +21,13 @@ folded_from (suc left) column (b ∷ rest) = b ∷ folded_from left column rest
 folded_from zero column (b ∷ rest) =
     fold_break column (1 + continuation_len b) ++ b ∷ folded_from (continuation_len b) (next_column column (1 + continuation_len b)) rest
 
--- a line, folded, with its end
-abbrev pub line_text : List ℕ → List ℕ
+abbrev pub line_text : List ℕ → List ℕ  -- a line, folded, with its end
 line_text line = folded_from 0 0 line ++ 13 ∷ 10 ∷ []
 
--- a key and its value as a line, and nothing where there is no value
-abbrev pub content_line : Parameter → List ℕ
+abbrev pub content_line : Parameter → List ℕ  -- a key and its value as a line, and nothing where there is no value
 content_line (key, value) = if is_filled value then line_text (key ++ 58 ∷ value) else []
 
--- the lines of keys and values
-abbrev pub content_text : List Parameter → List ℕ
+abbrev pub content_text : List Parameter → List ℕ  -- the lines of keys and values
 content_text lines = flat_map content_line lines
 
 -- the value of parts, escaped, with semicolons between them, and nothing where no part has bytes
@@ -46,13 +42,11 @@ unfolded (a ∷ b ∷ []) = a ∷ b ∷ []
 unfolded (a ∷ b ∷ c ∷ rest) =
     if a == 13 && b == 10 && (c == 32 || c == 9) then unfolded rest else a ∷ unfolded (b ∷ c ∷ rest)
 
--- the keys and values of lines
-unfoldable pub read_content : List ℕ → List Entry
+unfoldable pub read_content : List ℕ → List Entry  -- the keys and values of lines
 read_content text =
     map (λ line. single (before 58 line) (after 58 line)) (slice_split (λ b. b == 10) (filter (λ b. not (b == 13)) (unfolded text)))
 
--- the i-th part of a value
-abbrev pub part_in : ℕ → List ℕ → List ℕ
+abbrev pub part_in : ℕ → List ℕ → List ℕ  -- the i-th part of a value
 part_in i value = slice_index_or (map (unescaped Lines) (pieces 59 value)) i []
 
 -- the printed examples of RFC 2426, section 2.6, and RFC 5545, section 3.1

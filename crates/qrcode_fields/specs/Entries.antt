@@ -7,48 +7,38 @@ use Rattle.qrcode_fields.specs.declared.escapes.Escapes.{Escapes}
 use Rattle.qrcode_fields.specs.declared.escapes.Escapes.TheVariants.{Marks}
 use Rattle.qrcode_fields.specs.Escapes.{escaped, unescaped, pieces}
 
--- a key and the parts of its value
-abbrev pub Entry : Type 0
+abbrev pub Entry : Type 0  -- a key and the parts of its value
 Entry = List ℕ × List (List ℕ)
 
--- an entry with one part
-abbrev pub single : List ℕ → List ℕ → Entry
+abbrev pub single : List ℕ → List ℕ → Entry  -- an entry with one part
 single key value = (key, value ∷ [])
 
--- there are no bytes
-abbrev pub is_empty : List ℕ → Bool
+abbrev pub is_empty : List ℕ → Bool  -- there are no bytes
 is_empty bytes = length bytes == 0
 
--- there are bytes
-abbrev pub is_filled : List ℕ → Bool
+abbrev pub is_filled : List ℕ → Bool  -- there are bytes
 is_filled bytes = not (is_empty bytes)
 
--- the entries that say something: a part of their value has bytes
-abbrev pub filled : List Entry → List Entry
+abbrev pub filled : List Entry → List Entry  -- the entries that say something: a part of their value has bytes
 filled entries = filter (λ entry. list_any is_filled entry.1) entries
 
--- parts, escaped, with a separator between each two
-abbrev pub parts_text : Escapes → ℕ → List (List ℕ) → List ℕ
+abbrev pub parts_text : Escapes → ℕ → List (List ℕ) → List ℕ  -- parts, escaped, with a separator between each two
 parts_text escapes separator [] = []
 parts_text escapes separator (part ∷ parts) =
     escaped escapes part ++ flat_map (λ later. separator ∷ escaped escapes later) parts
 
--- a key, a colon and the parts of the value
-abbrev pub entry_text : Escapes → ℕ → Entry → List ℕ
+abbrev pub entry_text : Escapes → ℕ → Entry → List ℕ  -- a key, a colon and the parts of the value
 entry_text escapes separator (key, parts) = key ++ 58 ∷ parts_text escapes separator parts
 
--- an entry with a semicolon behind it, and nothing where it says nothing
-abbrev pub marked_text : Entry → List ℕ
+abbrev pub marked_text : Entry → List ℕ  -- an entry with a semicolon behind it, and nothing where it says nothing
 marked_text entry =
     if list_any is_filled entry.1 then entry_text Marks 44 entry ++ 59 ∷ [] else []
 
--- the bytes before the first colon
-unfoldable pub key_of : List ℕ → List ℕ
+unfoldable pub key_of : List ℕ → List ℕ  -- the bytes before the first colon
 key_of [] = []
 key_of (b ∷ rest) = if b == 58 then [] else b ∷ key_of rest
 
--- the bytes behind the first colon
-unfoldable pub behind_key : List ℕ → List ℕ
+unfoldable pub behind_key : List ℕ → List ℕ  -- the bytes behind the first colon
 behind_key [] = []
 behind_key (b ∷ rest) = if b == 58 then rest else behind_key rest
 

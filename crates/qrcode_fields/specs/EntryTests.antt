@@ -4,20 +4,16 @@ use Rattle.std.specs.Str.{bytes_eq}
 use Rattle.std.specs.List.{list_all, list_any}
 use Rattle.qrcode_fields.specs.Entries.{Entry}
 
--- no byte of the key is a backslash, a colon or a semicolon
-abbrev pub is_key : List ℕ → Bool
+abbrev pub is_key : List ℕ → Bool  -- no byte of the key is a backslash, a colon or a semicolon
 is_key key = list_all (λ b. not (b == 92) && not (b == 58) && not (b == 59)) key
 
--- no two entries have one key
-abbrev pub are_distinct : List Entry → Bool
+abbrev pub are_distinct : List Entry → Bool  -- no two entries have one key
 are_distinct [] = true
 are_distinct (entry ∷ entries) = not (list_any (λ later. bytes_eq entry.0 later.0) entries) && are_distinct entries
 
--- there is a part
-abbrev pub has_part : List (List ℕ) → Bool
+abbrev pub has_part : List (List ℕ) → Bool  -- there is a part
 has_part [] = false
 has_part (part ∷ parts) = true
 
--- each entry has a key and a part
-abbrev pub are_entries : List Entry → Bool
+abbrev pub are_entries : List Entry → Bool  -- each entry has a key and a part
 are_entries entries = list_all (λ entry. is_key entry.0 && has_part entry.1) entries

@@ -11,18 +11,15 @@ letter_of Marks b =
 letter_of Lines b =
     if b == 10 then Some 110 else (if b == 92 || b == 59 || b == 44 then Some b else None)
 
--- what a byte behind a backslash stands for
-abbrev pub meant_by : Escapes → ℕ → ℕ
+abbrev pub meant_by : Escapes → ℕ → ℕ  -- what a byte behind a backslash stands for
 meant_by Marks b = b
 meant_by Lines b = if b == 110 || b == 78 then 10 else b
 
--- a byte with its letter, if it has one
-abbrev pub with_letter : ℕ → Option ℕ → List ℕ
+abbrev pub with_letter : ℕ → Option ℕ → List ℕ  -- a byte with its letter, if it has one
 with_letter b None = b ∷ []
 with_letter b (Some letter) = 92 ∷ letter ∷ []
 
--- the bytes, escaped
-unfoldable pub escaped : Escapes → List ℕ → List ℕ
+unfoldable pub escaped : Escapes → List ℕ → List ℕ  -- the bytes, escaped
 escaped escapes bytes = flat_map (λ b. with_letter b (letter_of escapes b)) bytes
 
 -- what escaped bytes stand for, of which the first stands behind a backslash or not
@@ -32,8 +29,7 @@ unescaped_from true escapes (b ∷ rest) = meant_by escapes b ∷ unescaped_from
 unescaped_from false escapes (b ∷ rest) =
     if b == 92 then unescaped_from true escapes rest else b ∷ unescaped_from false escapes rest
 
--- what escaped bytes stand for
-abbrev pub unescaped : Escapes → List ℕ → List ℕ
+abbrev pub unescaped : Escapes → List ℕ → List ℕ  -- what escaped bytes stand for
 unescaped escapes bytes = unescaped_from false escapes bytes
 
 -- the pieces between separators, where one behind a backslash separates nothing; the first byte stands behind a backslash or not
@@ -44,6 +40,5 @@ pieces_from false separator (b ∷ rest) =
     if b == 92 then onto_first b (pieces_from true separator rest)
     else (if b == separator then [] ∷ pieces_from false separator rest else onto_first b (pieces_from false separator rest))
 
--- the pieces between the separators that no backslash stands before
-abbrev pub pieces : ℕ → List ℕ → List (List ℕ)
+abbrev pub pieces : ℕ → List ℕ → List (List ℕ)  -- the pieces between the separators that no backslash stands before
 pieces separator bytes = pieces_from false separator bytes

@@ -2,19 +2,15 @@
 use Rattle.std.specs.Prelude.{ℕ, ◌==◌, List, [], ◌∷◌, ◌++◌, flat_map, slice_index_or}
 use Rattle.std.specs.List.{slice_split}
 
--- lines, each with a line feed before it
-abbrev pub later_text : List (List ℕ) → List ℕ
+abbrev pub later_text : List (List ℕ) → List ℕ  -- lines, each with a line feed before it
 later_text lines = flat_map (λ line. 10 ∷ line) lines
 
--- lines with a line feed between each two
-abbrev pub lines_text : List (List ℕ) → List ℕ
+abbrev pub lines_text : List (List ℕ) → List ℕ  -- lines with a line feed between each two
 lines_text [] = []
 lines_text (line ∷ lines) = line ++ later_text lines
 
--- the lines of a text
-abbrev pub read_lines : List ℕ → List (List ℕ)
+abbrev pub read_lines : List ℕ → List (List ℕ)  -- the lines of a text
 read_lines text = slice_split (λ b. b == 10) text
 
--- the i-th line, and nothing behind the last
-abbrev pub line_at : List (List ℕ) → ℕ → List ℕ
+abbrev pub line_at : List (List ℕ) → ℕ → List ℕ  -- the i-th line, and nothing behind the last
 line_at lines i = slice_index_or lines i []

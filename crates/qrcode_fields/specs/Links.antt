@@ -6,13 +6,11 @@ use Rattle.qrcode_fields.specs.declared.links.Part.TheVariants.{Path, Value}
 use Rattle.qrcode_fields.specs.Entries.{Entry, single, is_filled, value_of}
 use Rattle.qrcode_fields.specs.Percents.{encoded_byte, decoded}
 
--- the bytes before the first byte c
-abbrev pub before : ℕ → List ℕ → List ℕ
+abbrev pub before : ℕ → List ℕ → List ℕ  -- the bytes before the first byte c
 before c [] = []
 before c (b ∷ rest) = if b == c then [] else b ∷ before c rest
 
--- the bytes behind the first byte c
-abbrev pub after : ℕ → List ℕ → List ℕ
+abbrev pub after : ℕ → List ℕ → List ℕ  -- the bytes behind the first byte c
 after c [] = []
 after c (b ∷ rest) = if b == c then rest else after c rest
 
@@ -21,16 +19,13 @@ abbrev pub part_byte : Part → ℕ → List ℕ
 part_byte Path b = if b == 64 then 64 ∷ [] else encoded_byte b
 part_byte Value b = if b == 10 then codes "%0D%0A" else encoded_byte b
 
--- a part of a link, percent-encoded
-unfoldable pub part_text : Part → List ℕ → List ℕ
+unfoldable pub part_text : Part → List ℕ → List ℕ  -- a part of a link, percent-encoded
 part_text part bytes = flat_map (part_byte part) bytes
 
--- a key and a value
-abbrev pub Parameter : Type 0
+abbrev pub Parameter : Type 0  -- a key and a value
 Parameter = List ℕ × List ℕ
 
--- a key, `=` and the value
-abbrev pub parameter_text : Parameter → List ℕ
+abbrev pub parameter_text : Parameter → List ℕ  -- a key, `=` and the value
 parameter_text (key, value) = key ++ 61 ∷ part_text Value value
 
 -- parameters of which the first has this mark before it; those with no value are left out
@@ -39,8 +34,7 @@ query_text mark [] = []
 query_text mark ((key, value) ∷ later) =
     if is_filled value then mark ++ (parameter_text (key, value) ++ query_text (codes "&") later) else query_text mark later
 
--- the mark before a parameter: another before the first than before later ones
-abbrev pub mark_text : Bool → List ℕ
+abbrev pub mark_text : Bool → List ℕ  -- the mark before a parameter: another before the first than before later ones
 mark_text false = codes "?"
 mark_text true = codes "&"
 
@@ -48,8 +42,7 @@ mark_text true = codes "&"
 unfoldable pub read_parameter : List ℕ → Entry
 read_parameter piece = single (before 61 piece) (filter (λ b. not (b == 13)) (decoded (after 61 piece)))
 
--- the value of this parameter of a link, and nothing where it has none
-abbrev pub value_in : List ℕ → List ℕ → List ℕ
+abbrev pub value_in : List ℕ → List ℕ → List ℕ  -- the value of this parameter of a link, and nothing where it has none
 value_in key link = value_of key (map read_parameter (slice_split (λ b. b == 38) (after 63 link)))
 
 -- a printed example of RFC 6068, section 6.1

@@ -22,15 +22,13 @@ reference_row = refl
 wrong_row : checked_number (codes "DE88370400440532013000") % 97 ≡ 0
 wrong_row = refl
 
--- the carry behind a digit (modulo 10, recursive)
-abbrev pub carry_table : List ℕ
+abbrev pub carry_table : List ℕ  -- the carry behind a digit (modulo 10, recursive)
 carry_table = 0 ∷ 9 ∷ 4 ∷ 6 ∷ 8 ∷ 2 ∷ 7 ∷ 1 ∷ 3 ∷ 5 ∷ []
 
 abbrev pub next_carry : ℕ → ℕ → ℕ
 next_carry carry digit = slice_index_or carry_table ((carry + (digit - 48)) % 10) 0
 
--- what the check digit at the end leaves: zero where it is right
-abbrev pub carry_of : List ℕ → ℕ
+abbrev pub carry_of : List ℕ → ℕ  -- what the check digit at the end leaves: zero where it is right
 carry_of digits = fold next_carry 0 digits
 
 -- the reference that the guidelines of the Swiss QR bill print, and one with another last digit

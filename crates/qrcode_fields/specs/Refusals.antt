@@ -12,14 +12,12 @@ abbrev pub refused_if : Bool → Field → Cause → Option ContentError
 refused_if true field cause = Some (Refused field cause)
 refused_if false field cause = None
 
--- the first refusal, if any
-abbrev pub first_refusal : List (Option ContentError) → Option ContentError
+abbrev pub first_refusal : List (Option ContentError) → Option ContentError  -- the first refusal, if any
 first_refusal [] = None
 first_refusal (None ∷ later) = first_refusal later
 first_refusal (Some e ∷ later) = Some e
 
--- the answer of a check that refuses so
-abbrev pub checked : Option ContentError → Result (Unit {0}) ContentError
+abbrev pub checked : Option ContentError → Result (Unit {0}) ContentError  -- the answer of a check that refuses so
 checked None = Ok tt
 checked (Some e) = Err e
 

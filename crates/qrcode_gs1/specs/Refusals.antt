@@ -13,8 +13,7 @@ use Rattle.qrcode_gs1.specs.Elements.{Item, is_within, number_of, prefix_of, dig
 abbrev pub Rule : Type 0
 Rule = (ℕ × ℕ) × (ℕ × ℕ) × ℕ × ℕ
 
--- a digit
-abbrev pub is_digit : ℕ → Bool
+abbrev pub is_digit : ℕ → Bool  -- a digit
 is_digit b = is_within 48 57 b
 
 -- one of the 82 characters: digits, letters, and ! " % & ' ( ) * + , - . / : ; < = > ? _
@@ -22,8 +21,7 @@ unfoldable pub is_character : ℕ → Bool
 is_character b =
     is_within 33 34 b || is_within 37 63 b || is_within 65 90 b || b == 95 || is_within 97 122 b
 
--- the first rule for this number
-abbrev pub first_rule : List Rule → ℕ → Option Rule
+abbrev pub first_rule : List Rule → ℕ → Option Rule  -- the first rule for this number
 first_rule [] n = None
 first_rule (rule ∷ rules) n = if is_within rule.0.0 rule.0.1 n then Some rule else first_rule rules n
 
@@ -31,21 +29,17 @@ first_rule (rule ∷ rules) n = if is_within rule.0.0 rule.0.1 n then Some rule 
 unfoldable pub numbered_rule : List Rule → ℕ → Option Rule
 numbered_rule rules n = if is_within 3100 3699 n && nat_lt 5 (n % 10) then None else first_rule rules n
 
--- an identifier is digits, as many as its first two say
-abbrev pub is_identifier : List ℕ → Bool
+abbrev pub is_identifier : List ℕ → Bool  -- an identifier is digits, as many as its first two say
 is_identifier bytes = (length bytes == digit_count (prefix_of bytes)) && list_all is_digit bytes
 
--- the rule of an identifier
-abbrev pub rule_of : List Rule → List ℕ → Option Rule
+abbrev pub rule_of : List Rule → List ℕ → Option Rule  -- the rule of an identifier
 rule_of rules bytes = if is_identifier bytes then numbered_rule rules (number_of bytes) else None
 
--- digits, the last by 1, the one before it by 3, and so on in turn
-abbrev pub weighted_sum : List ℕ → ℕ
+abbrev pub weighted_sum : List ℕ → ℕ  -- digits, the last by 1, the one before it by 3, and so on in turn
 weighted_sum [] = 0
 weighted_sum (digit ∷ digits) = (1 + 2 * (length digits % 2)) * (digit - 48) + weighted_sum digits
 
--- the last digit makes the sum a multiple of ten
-abbrev pub is_checked : List ℕ → Bool
+abbrev pub is_checked : List ℕ → Bool  -- the last digit makes the sum a multiple of ten
 is_checked digits = weighted_sum digits % 10 == 0
 
 -- printed examples of a GTIN, a GLN and an SSCC, and one with a wrong digit
@@ -64,19 +58,16 @@ is_long_enough rule item =
     is_within rule.1.0 rule.1.1 (length item.1)
     && (not (is_fixed item.0) || (length item.0 + length item.1 == fixed_length (prefix_of item.0)))
 
--- the value has characters that may stand there
-abbrev pub is_written : Rule → List ℕ → Bool
+abbrev pub is_written : Rule → List ℕ → Bool  -- the value has characters that may stand there
 is_written rule value = list_all is_character value && list_all is_digit (take rule.2 value)
 
--- what is wrong with an element for which there is this rule
-abbrev pub cause_by : Rule → Item → Option Cause
+abbrev pub cause_by : Rule → Item → Option Cause  -- what is wrong with an element for which there is this rule
 cause_by rule item =
     if not (is_long_enough rule item) then Some Length
     else (if not (is_written rule item.1) then Some Character
     else (if not (is_checked (take rule.3 item.1)) then Some CheckDigit else None))
 
--- what is wrong with an element
-abbrev pub cause_found : Option Rule → Item → Option Cause
+abbrev pub cause_found : Option Rule → Item → Option Cause  -- what is wrong with an element
 cause_found None item = Some UnknownIdentifier
 cause_found (Some rule) item = cause_by rule item
 
@@ -94,8 +85,7 @@ refusal_from rules index [] = None
 refusal_from rules index (item ∷ items) =
     refusal_or (cause_of rules item) index (refusal_from rules (index + 1) items)
 
--- the answer of a check that refuses so
-abbrev pub checked : Option Gs1Error → Result (Unit {0}) Gs1Error
+abbrev pub checked : Option Gs1Error → Result (Unit {0}) Gs1Error  -- the answer of a check that refuses so
 checked None = Ok tt
 checked (Some e) = Err e
 

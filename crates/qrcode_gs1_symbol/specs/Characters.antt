@@ -15,15 +15,13 @@ abbrev pub mark : Position → List Bool
 mark First = number_bits 4 5
 mark (Second application) = number_bits 4 9 ++ number_bits 8 application
 
--- what a reader takes alphanumeric characters for
-abbrev pub undoubled : List ℕ → List ℕ
+abbrev pub undoubled : List ℕ → List ℕ  -- what a reader takes alphanumeric characters for
 undoubled [] = []
 undoubled (b ∷ []) = (if b == 37 then 29 else b) ∷ []
 undoubled (b ∷ c ∷ rest) =
     if b == 37 then (if c == 37 then 37 ∷ undoubled rest else 29 ∷ undoubled (c ∷ rest)) else b ∷ undoubled (c ∷ rest)
 
--- what a reader takes the characters of a segment for
-abbrev pub shown_in : Mode → List ℕ → List ℕ
+abbrev pub shown_in : Mode → List ℕ → List ℕ  -- what a reader takes the characters of a segment for
 shown_in Numeric chunk = chunk
 shown_in Alphanumeric chunk = undoubled chunk
 shown_in Byte chunk = chunk
@@ -32,19 +30,16 @@ shown_in Kanji chunk = chunk
 abbrev pub shown : Piece → List ℕ
 shown p = shown_in p.mode p.chunk
 
--- what a segment in a mode has for a byte
-abbrev pub characters_for : Mode → ℕ → List ℕ
+abbrev pub characters_for : Mode → ℕ → List ℕ  -- what a segment in a mode has for a byte
 characters_for Numeric b = b ∷ []
 characters_for Alphanumeric b = if b == 29 then 37 ∷ [] else (if b == 37 then 37 ∷ 37 ∷ [] else b ∷ [])
 characters_for Byte b = b ∷ []
 characters_for Kanji b = b ∷ []
 
--- what it has for bytes
-abbrev pub characters : Mode → List ℕ → List ℕ
+abbrev pub characters : Mode → List ℕ → List ℕ  -- what it has for bytes
 characters m bytes = flat_map (characters_for m) bytes
 
--- the pieces of segments
-abbrev pub marked_pieces : List ℕ → List Segment → List Piece
+abbrev pub marked_pieces : List ℕ → List Segment → List Piece  -- the pieces of segments
 marked_pieces bytes segments = map (λ s. record { mode = s.mode; chunk = characters s.mode (slice_range bytes s.begin s.end) }) segments
 
 -- a mode can write what it has for the byte; pairs of Kanji are not looked for

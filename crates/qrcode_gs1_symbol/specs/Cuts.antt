@@ -12,8 +12,7 @@ pub record IsMarkedCut (bytes : List ℕ) (segments : List Segment) : Type 0 whe
   pub tiles : Tile 0 segments (length bytes)
   pub standing : AllByRecursion (λ s. IsTrue (can_stand s.mode (slice_range bytes s.begin s.end))) segments
 
--- the bits that are written of segments
-abbrev pub marked_cost : Version → List ℕ → List Segment → ℕ
+abbrev pub marked_cost : Version → List ℕ → List Segment → ℕ  -- the bits that are written of segments
 marked_cost v bytes segments = length (written v (marked_pieces bytes segments))
 
 -- a cut of which no more bits are written than of any other

@@ -11,27 +11,22 @@ use Rattle.qrcode_gs1_symbol.specs.declared.costs.Headers.{Headers}
 use Rattle.qrcode_gs1_symbol.specs.declared.costs.Start.{Start}
 use Rattle.qrcode_gs1_symbol.specs.declared.costs.Way.{Way}
 
--- the headers of a version
-abbrev pub headers_of : Version → Headers
+abbrev pub headers_of : Version → Headers  -- the headers of a version
 headers_of v = record { numeric = mode_bits_count v + length_bits_count Numeric v; alphanumeric = mode_bits_count v + length_bits_count Alphanumeric v; byte = mode_bits_count v + length_bits_count Byte v }
 
--- each header is at most 20 bits
-pub record AreSmall (h : Headers) : Type 0 where
+pub record AreSmall (h : Headers) : Type 0 where  -- each header is at most 20 bits
   pub numeric : h.numeric ≤ 20
   pub alphanumeric : h.alphanumeric ≤ 20
   pub byte : h.byte ≤ 20
 
--- so few that with a few more they do not wrap
-pub record AreFew (w : Way) : Type 0 where
+pub record AreFew (w : Way) : Type 0 where  -- so few that with a few more they do not wrap
   pub bits : w.bits ≤ 2147483648
   pub taken : w.taken ≤ 2147483648
 
--- an open segment ends, and the best start follows
-abbrev pub ends : Start → Way
+abbrev pub ends : Start → Way  -- an open segment ends, and the best start follows
 ends s = record { bits = s.bits; taken = 0 }
 
--- each of the costs is so few
-pub record AreAllFew (r : Costs) : Type 0 where
+pub record AreAllFew (r : Costs) : Type 0 where  -- each of the costs is so few
   pub start : AreFew (ends r.start)
   pub digits : AreFew r.digits
   pub one_digit : AreFew r.one_digit
@@ -40,20 +35,16 @@ pub record AreAllFew (r : Costs) : Type 0 where
   pub odd_letter : AreFew r.odd_letter
   pub bytes : AreFew r.bytes
 
--- a way behind a byte of so many bits
-abbrev pub behind : ℕ → Way → Way
+abbrev pub behind : ℕ → Way → Way  -- a way behind a byte of so many bits
 behind bits w = record { bits = w.bits + bits; taken = w.taken + 1 }
 
--- the better of two ways, where the second can be gone
-abbrev pub goes_or : Way → Bool → Way → Way
+abbrev pub goes_or : Way → Bool → Way → Way  -- the better of two ways, where the second can be gone
 goes_or w can other = if can && nat_lt other.bits w.bits then other else w
 
--- a segment that begins, by its header and how it goes on
-abbrev pub with_header : Mode → ℕ → Way → Start
+abbrev pub with_header : Mode → ℕ → Way → Start  -- a segment that begins, by its header and how it goes on
 with_header m header w = record { bits = header + w.bits; mode = m; taken = w.taken }
 
--- the better of two starts, where the second can be made
-abbrev pub better : Start → Bool → Start → Start
+abbrev pub better : Start → Bool → Start → Start  -- the better of two starts, where the second can be made
 better s can other = if can && nat_lt other.bits s.bits then other else s
 
 -- how letters go on with a byte, where pairs of them are open, and where a letter is behind these
@@ -65,8 +56,7 @@ abbrev pub odd_on : ℕ → ℕ → Costs → Way
 odd_on b follows next =
     if must_end Alphanumeric b follows then behind 5 (ends next.start) else (if b == 37 then behind 11 next.odd_letter else behind 5 next.letters)
 
--- the best segment to begin with
-abbrev pub best_start : Headers → ℕ → ℕ → Costs → Start
+abbrev pub best_start : Headers → ℕ → ℕ → Costs → Start  -- the best segment to begin with
 best_start h b follows next =
     better (better (with_header Byte h.byte (behind 8 next.bytes))
     (has_characters Alphanumeric b) (with_header Alphanumeric h.alphanumeric (even_on b follows next)))
@@ -87,20 +77,17 @@ costs_before b follows s next = record {
 abbrev pub step : Headers → ℕ → ℕ → Costs → Costs
 step h b follows next = costs_before b follows (best_start h b follows next) next
 
--- the end of the bytes
-abbrev pub end_start : Start
+abbrev pub end_start : Start  -- the end of the bytes
 end_start = record { bits = 0; mode = Byte; taken = 0 }
 
 abbrev pub at_end : Costs
 at_end = record { start = end_start; digits = ends end_start; one_digit = ends end_start; two_digits = ends end_start; letters = ends end_start; odd_letter = ends end_start; bytes = ends end_start }
 
--- what the rest takes, byte by byte from its end
-abbrev pub costs_of : Headers → List ℕ → Costs
+abbrev pub costs_of : Headers → List ℕ → Costs  -- what the rest takes, byte by byte from its end
 costs_of h [] = at_end
 costs_of h (b ∷ bytes) = step h b (first_byte bytes) (costs_of h bytes)
 
--- what is read past the end of a list of starts
-abbrev pub past_end : Start
+abbrev pub past_end : Start  -- what is read past the end of a list of starts
 past_end = record { bits = 0; mode = Numeric; taken = 0 }
 
 -- a start for each place of the bytes

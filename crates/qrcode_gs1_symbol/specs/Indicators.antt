@@ -2,8 +2,7 @@
 use Rattle.std.specs.Prelude.{ℕ, ◌+◌, ◌-◌, ◌*◌, nat_le, ◌&&◌, ◌||◌, Bool, List, [], ◌∷◌, Option, None, Some, if◌then◌else◌}
 use Rattle.qrcode_types.specs.Characters.{is_digit}
 
--- a letter from A to Z or from a to z
-abbrev pub is_letter : ℕ → Bool
+abbrev pub is_letter : ℕ → Bool  -- a letter from A to Z or from a to z
 is_letter b = (nat_le 65 b && nat_le b 90) || (nat_le 97 b && nat_le b 122)
 
 -- the number of an indicator: of a letter its byte and 100, and of two digits the one that they write

@@ -27,7 +27,6 @@ pub record ReadsMarked (s : List Color) (p : Position) (bytes : List ℕ) : Type
   pub read : ReadsBits s version level bits
   pub spelled : SpellsMarked version bits p bytes
 
--- and no others
-pub record ReadsMarkedOnly (s : List Color) (p : Position) (bytes : List ℕ) : Type 0 where
+pub record ReadsMarkedOnly (s : List Color) (p : Position) (bytes : List ℕ) : Type 0 where  -- and no others
   pub found : ReadsMarked s p bytes
   pub only : (others : List ℕ) → ReadsMarked s p others → others ≡ bytes

@@ -5,8 +5,7 @@ use Rattle.qrcode_types.specs.declared.types.QrError.{QrError}
 use Rattle.qrcode_programs.specs.declared.Fault.{Fault}
 use Rattle.qrcode_programs.specs.declared.Fault.TheVariants.{Usage, NotText, Qr, CannotWrite}
 
--- the writer failed
-abbrev pub IsCannotWrite : Fault → Type 0
+abbrev pub IsCannotWrite : Fault → Type 0  -- the writer failed
 IsCannotWrite CannotWrite = ⊤
 IsCannotWrite Usage = ⊥
 IsCannotWrite NotText = ⊥

@@ -12,8 +12,7 @@ use Rattle.qrcode_reader.specs.declared.correction.WrongCodeword.{WrongCodeword}
 abbrev pub wrong_at : ℕ → List ℕ → List ℕ → ℕ → List WrongCodeword
 wrong_at b r c i = if slice_index r i == slice_index c i then [] else record { block = b; place = i } ∷ []
 
--- all of the block
-unfoldable pub wrong_in : ℕ → List ℕ → List ℕ → List WrongCodeword
+unfoldable pub wrong_in : ℕ → List ℕ → List ℕ → List WrongCodeword  -- all of the block
 wrong_in b r c = flat_map (wrong_at b r c) (range_with_len 0 (length r))
 
 -- the same of all blocks from block b on
@@ -22,8 +21,7 @@ wrong_from b [] cs = []
 wrong_from b (r ∷ rs) [] = []
 wrong_from b (r ∷ rs) (c ∷ cs) = wrong_in b r c ++ wrong_from (b + 1) rs cs
 
--- the first blocks, so many
-abbrev pub first_blocks : Version → EcLevel → List ℕ → ℕ → List (List ℕ)
+abbrev pub first_blocks : Version → EcLevel → List ℕ → ℕ → List (List ℕ)  -- the first blocks, so many
 first_blocks v l words count = map (block v l words) (range_with_len 0 count)
 
 -- the data bytes of the first blocks once they are corrected, and which of their codewords were wrong

@@ -28,17 +28,14 @@ pub record HasFormat (v : Version) (s : List Color) (l : EcLevel) (k : MaskPatte
   pub mask_exists : IsTrue (exists_in v k)
   pub near : AllByRecursion (λ places. bit_distance (bits_at v s places) (number_bits 15 (format_word v l k)) ≤ 3) (format_copies v)
 
--- the places of the first copy of the format word
-abbrev pub first_copy : Version → ℕ → ℕ × ℕ
+abbrev pub first_copy : Version → ℕ → ℕ × ℕ  -- the places of the first copy of the format word
 first_copy (Normal v) i = first_format_place i
 first_copy (Micro v) i = micro_format_place i
 
--- the places of the last copy
-abbrev pub last_copy : Version → ℕ → ℕ × ℕ
+abbrev pub last_copy : Version → ℕ → ℕ × ℕ  -- the places of the last copy
 last_copy (Normal v) i = second_format_place (4 * nat_abs v + 17) i
 last_copy (Micro v) i = micro_format_place i
 
--- those of either
-abbrev pub copy_place : FormatCopy → Version → ℕ → ℕ × ℕ
+abbrev pub copy_place : FormatCopy → Version → ℕ → ℕ × ℕ  -- those of either
 copy_place First = first_copy
 copy_place Last = last_copy

@@ -10,6 +10,5 @@ data_part blocks words b =
     map (λ i. slice_index words (i * count_of blocks + b)) (range_with_len 0 blocks.short_length)
     ++ (if nat_le blocks.short_blocks b then slice_index words (blocks.short_length * count_of blocks + (b - blocks.short_blocks)) ∷ [] else [])
 
--- its error correction bytes, one of each row behind all data bytes
-abbrev pub ec_part : Blocks → List ℕ → ℕ → List ℕ
+abbrev pub ec_part : Blocks → List ℕ → ℕ → List ℕ  -- its error correction bytes, one of each row behind all data bytes
 ec_part blocks words b = map (λ i. slice_index words (data_length_of blocks + i * count_of blocks + b)) (range_with_len 0 blocks.ec_length)

@@ -23,13 +23,11 @@ standing Flipped w x y = (x, w - 1 - y)
 standing Transposed w x y = (y, x)
 standing Antitransposed w x y = (w - 1 - y, w - 1 - x)
 
--- the other colour, where colours are exchanged
-abbrev pub seen_color : Bool → Color → Color
+abbrev pub seen_color : Bool → Color → Color  -- the other colour, where colours are exchanged
 seen_color is_inverted Light = if is_inverted then Dark else Light
 seen_color is_inverted Dark = if is_inverted then Light else Dark
 
--- the colour at place i of the square that stands so
-abbrev pub seen_at : ℕ → Position → Bool → List Color → ℕ → Color
+abbrev pub seen_at : ℕ → Position → Bool → List Color → ℕ → Color  -- the colour at place i of the square that stands so
 seen_at w p is_inverted s i = let at = standing p w (i % w) (i / w) in seen_color is_inverted (slice_index_or s (at.1 * w + at.0) Light)
 
 -- the square of side w that stands so in these modules
@@ -40,8 +38,7 @@ seen w p is_inverted s = map (seen_at w p is_inverted s) (range_with_len 0 (w * 
 abbrev pub tried : ℕ → Position × Bool
 tried n = (slice_index_or (Upright ∷ TurnedLeft ∷ UpsideDown ∷ TurnedRight ∷ Mirrored ∷ Flipped ∷ Transposed ∷ Antitransposed ∷ []) (n % 8) Upright, nat_le 8 n)
 
--- nothing is read in the n-th of these positions
-abbrev pub IsUnreadIn : ℕ → List Color → ℕ → Type 0
+abbrev pub IsUnreadIn : ℕ → List Color → ℕ → Type 0  -- nothing is read in the n-th of these positions
 IsUnreadIn w s n = (bytes : List ℕ) → ¬ Reads (seen w (tried n).0 (tried n).1 s) bytes
 
 -- the first position in which a square of side w is read, and its reading there

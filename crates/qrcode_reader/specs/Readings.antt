@@ -41,8 +41,7 @@ pub record IsTextReading (s : List Color) (v : Version) (l : EcLevel) (k : MaskP
   pub read : IsBitReading s v l k bits wrong
   pub shown : Shows v bits text
 
--- no version has a square of so many modules
-abbrev pub HasNoVersion : List Color → Type 0
+abbrev pub HasNoVersion : List Color → Type 0  -- no version has a square of so many modules
 HasNoVersion s = (v : Version) → IsTrue (is_valid v) → length s ≢ side v * side v
 
 -- a version has, and there are no level and mask whose format word is near each of its copies
@@ -61,8 +60,7 @@ pub record HasDamagedBlock (s : List Color) (b : ℕ) : Type 0 where
   pub format : HasFormat version s level mask
   pub first : IsFirstDamaged version level (codewords version level (stream version mask s)) b
 
--- all blocks can be corrected, and the bits spell no bytes
-pub record SpellsNothing (s : List Color) : Type 0 where
+pub record SpellsNothing (s : List Color) : Type 0 where  -- all blocks can be corrected, and the bits spell no bytes
   pub version : Version
   pub level : EcLevel
   pub bits : List Bool
@@ -77,23 +75,20 @@ pub record ShowsNothing (s : List Color) : Type 0 where
   pub only : ReadsBitsOnly s version level bits
   pub none : (text : List ℕ) → ¬ Shows version bits text
 
--- why a square is not read as bits
-abbrev pub IsBitCause : List Color → Unread → Type 0
+abbrev pub IsBitCause : List Color → Unread → Type 0  -- why a square is not read as bits
 IsBitCause s NoSuchSide = HasNoVersion s
 IsBitCause s NoFormat = HasNoFormat s
 IsBitCause s (Damaged b) = HasDamagedBlock s b
 IsBitCause s NotSpelled = ⊥
 IsBitCause s OutOfMemory = Unit
 
--- why a square is not read as bytes
-abbrev pub IsCause : List Color → Unread → Type 0
+abbrev pub IsCause : List Color → Unread → Type 0  -- why a square is not read as bytes
 IsCause s NoSuchSide = HasNoVersion s
 IsCause s NoFormat = HasNoFormat s
 IsCause s (Damaged b) = HasDamagedBlock s b
 IsCause s NotSpelled = SpellsNothing s
 IsCause s OutOfMemory = Unit
 
--- why a square is shown as no text
-abbrev pub IsTextCause : List Color → UnreadText → Type 0
+abbrev pub IsTextCause : List Color → UnreadText → Type 0  -- why a square is shown as no text
 IsTextCause s (NoBits e) = IsBitCause s e
 IsTextCause s NotShown = ShowsNothing s

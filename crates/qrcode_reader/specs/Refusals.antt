@@ -14,8 +14,7 @@ refusal_text (Damaged block) = codes "too many errors in block " ++ decimal bloc
 refusal_text NotSpelled = codes "the bits spell no bytes"
 refusal_text OutOfMemory = codes "out of memory"
 
--- the refusal of a square whose bits are refused
-abbrev pub unread_of : spelling.Unspelled → Unread
+abbrev pub unread_of : spelling.Unspelled → Unread  -- the refusal of a square whose bits are refused
 unread_of spelling.TheVariants.NotSpelled = NotSpelled
 unread_of spelling.TheVariants.OutOfMemory = OutOfMemory
 
@@ -23,7 +22,6 @@ abbrev pub text_refusal : UnreadText → List ℕ
 text_refusal (NoBits e) = refusal_text e
 text_refusal NotShown = codes "the bits are no text in UTF-8"
 
--- the refusal of a square whose bits are shown as no text
-abbrev pub unread_text_of : showing.Unshown → UnreadText
+abbrev pub unread_text_of : showing.Unshown → UnreadText  -- the refusal of a square whose bits are shown as no text
 unread_text_of showing.TheVariants.NotShown = NotShown
 unread_text_of showing.TheVariants.OutOfMemory = NoBits OutOfMemory

@@ -11,16 +11,14 @@ use Rattle.qrcode_places.specs.Stream.{color_at, zigzag_place}
 use Rattle.qrcode_places.specs.declared.masks.MaskPattern.{MaskPattern}
 use Rattle.qrcode_symbol.specs.Canvas.{Drawing, blank, with_patterns}
 
--- a canvas on which the patterns alone are drawn
-abbrev pub patterned_canvas : Version → Drawing
+abbrev pub patterned_canvas : Version → Drawing  -- a canvas on which the patterns alone are drawn
 patterned_canvas v = record { version = v; level = L; modules = with_patterns v (blank v) }
 
 -- the bit at a place that a mask turns or not, where it is free
 abbrev pub bits_turned : Version → Bool → List Color → ℕ × ℕ → List Bool
 bits_turned v is_turned s p = if not (is_functional_place v p.0 p.1) then turned_if is_turned (is_dark (color_at v s p.0 p.1)) ∷ [] else []
 
--- the same under a mask
-abbrev pub bits_of_place : Version → MaskPattern → List Color → ℕ × ℕ → List Bool
+abbrev pub bits_of_place : Version → MaskPattern → List Color → ℕ × ℕ → List Bool  -- the same under a mask
 bits_of_place v mask s p = bits_turned v (turns mask p.0 p.1) s p
 
 -- the bits of the first places of the walk

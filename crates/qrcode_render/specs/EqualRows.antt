@@ -2,8 +2,7 @@
 use Rattle.std.specs.Prelude.{◌≡◌, ℕ, ◌+◌, List, ◌++◌, length, take, drop}
 use Rattle.qrcode_render.specs.Grid.{repeated}
 
--- bytes after a text was written at a place
-abbrev pub put_at : ℕ → List ℕ → List ℕ → List ℕ
+abbrev pub put_at : ℕ → List ℕ → List ℕ → List ℕ  -- bytes after a text was written at a place
 put_at at bytes text = take at bytes ++ (text ++ drop (at + length text) bytes)
 
 -- so many equal rows of so many bytes, which begin with a text

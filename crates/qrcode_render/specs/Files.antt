@@ -23,8 +23,7 @@ unfoldable pub bits_from : List Bool → ℕ → ℕ → ℕ
 bits_from blacks start zero = 0
 bits_from blacks start (suc count) = 2 * bits_from blacks start count + black_bit blacks (start + count)
 
--- a row of pixels, eight in a byte
-unfoldable pub packed : List Bool → List ℕ
+unfoldable pub packed : List Bool → List ℕ  -- a row of pixels, eight in a byte
 packed blacks = map (λ i. bits_from blacks (8 * i) 8) (range_with_len 0 ((length blacks + 7) / 8))
 
 -- a PBM file: its kind, its sides, and the rows of pixels, each in bytes of its own

@@ -16,12 +16,10 @@ pub record Grid : Type 0 where
   pub across : ℕ
   pub down : ℕ
 
--- the columns, with the light cells around
-abbrev pub all_columns : Grid → ℕ
+abbrev pub all_columns : Grid → ℕ  -- the columns, with the light cells around
 all_columns g = g.columns + 2 * g.zone
 
--- the rows, with the light cells around
-abbrev pub all_rows : Grid → ℕ
+abbrev pub all_rows : Grid → ℕ  -- the rows, with the light cells around
 all_rows g = g.rows + 2 * g.zone
 
 -- the cell in a column and a row, counted with the light ones around, is inside and dark
@@ -30,23 +28,19 @@ is_dark_cell g column row =
     nat_le g.zone column && nat_lt column (g.zone + g.columns) && nat_le g.zone row && nat_lt row (g.zone + g.rows)
     && is_dark (slice_index_or g.cells ((row - g.zone) * g.columns + (column - g.zone)) Light)
 
--- which cells of a row are dark
-abbrev pub cell_row : Grid → ℕ → List Bool
+abbrev pub cell_row : Grid → ℕ → List Bool  -- which cells of a row are dark
 cell_row g row = map (λ column. is_dark_cell g column row) (range_with_len 0 (all_columns g))
 
--- the pixels of the dark cells are dark, and all others light
-abbrev pub pixels_of : Grid → Bitmap
+abbrev pub pixels_of : Grid → Bitmap  -- the pixels of the dark cells are dark, and all others light
 pixels_of g =
     let w = all_columns g * g.across in
     let h = all_rows g * g.down in
     record { across = w; down = h; marks = map (λ i. is_dark_cell g (i % w / g.across) (i / w / g.down)) (range_with_len 0 (w * h)) }
 
--- each element so many times
-abbrev pub each : {A : Type 0} → ℕ → List A → List A
+abbrev pub each : {A : Type 0} → ℕ → List A → List A  -- each element so many times
 each n xs = flat_map (λ x. replicate n x) xs
 
--- a text so many times
-abbrev pub repeated : ℕ → List ℕ → List ℕ
+abbrev pub repeated : ℕ → List ℕ → List ℕ  -- a text so many times
 repeated n text = flat_map (λ _. text) (range_with_len 0 n)
 
 -- the text of a row of cells: what stands for a dark or a light pixel, as often as a cell has pixels across

@@ -2,8 +2,7 @@
 use Rattle.qrcode_render.specs.Grid.{Grid}
 use Rattle.qrcode_render.specs.Setting.{Square}
 
--- the modules as cells
-abbrev pub grid_of : Square → Grid
+abbrev pub grid_of : Square → Grid  -- the modules as cells
 grid_of m = record {
   cells = m.content;
   columns = m.count;

@@ -2,8 +2,7 @@
 use Rattle.std.specs.Prelude.{ℕ, ◌+◌, ◌-◌, ◌*◌, Bool, List, ◌++◌, length, take, replicate}
 use Rattle.qrcode_render.specs.Texts.{marks_text}
 
--- the bytes of cells of eight pixels of one byte each
-abbrev pub eights_text : ℕ → ℕ → List Bool → List ℕ
+abbrev pub eights_text : ℕ → ℕ → List Bool → List ℕ  -- the bytes of cells of eight pixels of one byte each
 eights_text dark light cells = marks_text (replicate 8 dark) (replicate 8 light) cells
 
 -- a row of pixels of cells between light ones, of which so many stand at each side: the first cells are shown, and those behind them are still light

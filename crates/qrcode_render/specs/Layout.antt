@@ -11,14 +11,11 @@ pub record Layout : Type 0 where
 abbrev pub layout : ℕ → ℕ → ℕ → ℕ → Layout
 layout count zone across down = record { count = count; zone = zone; across = across; down = down }
 
--- the modules along a side, with the quiet zone
-abbrev pub modules_across : Layout → ℕ
+abbrev pub modules_across : Layout → ℕ  -- the modules along a side, with the quiet zone
 modules_across at = at.count + 2 * at.zone
 
--- the pixels of a picture across
-abbrev pub pixels_across : Layout → ℕ
+abbrev pub pixels_across : Layout → ℕ  -- the pixels of a picture across
 pixels_across at = modules_across at * at.across
 
--- the pixels of a picture down
-abbrev pub pixels_down : Layout → ℕ
+abbrev pub pixels_down : Layout → ℕ  -- the pixels of a picture down
 pixels_down at = modules_across at * at.down

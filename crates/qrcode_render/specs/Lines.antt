@@ -1,17 +1,14 @@
 -- How texts of pictures are put together.
 use Rattle.std.specs.Prelude.{◌≡◌, ℕ, zero, suc, ◌+◌, ◌*◌, Bool, true, false, List, [], ◌∷◌, ◌++◌, map, flat_map, slice_index_or}
 
--- what a line begins with: a newline, but for the first line
-abbrev pub line_start : ℕ → List ℕ
+abbrev pub line_start : ℕ → List ℕ  -- what a line begins with: a newline, but for the first line
 line_start zero = []
 line_start (suc y) = 10 ∷ []
 
--- each text followed by each, the second changing first
-abbrev pub paired : List (List ℕ) → List (List ℕ)
+abbrev pub paired : List (List ℕ) → List (List ℕ)  -- each text followed by each, the second changing first
 paired texts = flat_map (λ a. map (λ b. a ++ b) texts) texts
 
--- the number of two marks among the four pairs of marks
-abbrev pub pair_number : Bool → Bool → ℕ
+abbrev pub pair_number : Bool → Bool → ℕ  -- the number of two marks among the four pairs of marks
 pair_number false false = 0
 pair_number false true = 1
 pair_number true false = 2
@@ -26,6 +23,5 @@ pub record AreMarksAt (upper lower : ℕ → Bool) (columns : List Bool) (x : �
   pub first : slice_index_or columns (2 * x) false ≡ upper x
   pub second : slice_index_or columns (2 * x + 1) false ≡ lower x
 
--- the mark at a place
-abbrev pub mark_at : List Bool → ℕ → Bool
+abbrev pub mark_at : List Bool → ℕ → Bool  -- the mark at a place
 mark_at marks x = slice_index_or marks x false

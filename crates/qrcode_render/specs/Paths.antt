@@ -4,14 +4,12 @@ use Rattle.std.specs.List.{range_with_len}
 use Rattle.qrcode_render.specs.Bitmap.{Bitmap}
 use Rattle.qrcode_render.specs.Grid.{Grid, all_rows, cell_row}
 
--- cells of a row beside each other: the first column, the row, and how many
-pub record Run : Type 0 where
+pub record Run : Type 0 where  -- cells of a row beside each other: the first column, the row, and how many
   pub left : ℕ
   pub top : ℕ
   pub width : ℕ
 
--- where the pen stands: the column and the row at whose upper left corner
-pub record Pen : Type 0 where
+pub record Pen : Type 0 where  -- where the pen stands: the column and the row at whose upper left corner
   pub column : ℕ
   pub row : ℕ
 
@@ -30,30 +28,24 @@ run_text pen r =
 abbrev pub behind : Run → Pen
 behind r = record { column = r.left; row = r.top + 1 }
 
--- the path of runs, from where the pen stands
-abbrev pub path_from : Pen → List Run → List ℕ
+abbrev pub path_from : Pen → List Run → List ℕ  -- the path of runs, from where the pen stands
 path_from pen [] = []
 path_from pen (r ∷ runs) = run_text pen r ++ path_from (behind r) runs
 
--- where the pen stands behind the path of runs
-abbrev pub pen_after : Pen → List Run → Pen
+abbrev pub pen_after : Pen → List Run → Pen  -- where the pen stands behind the path of runs
 pen_after pen [] = pen
 pen_after pen (r ∷ runs) = pen_after (behind r) runs
 
--- where the pen stands at the start
-abbrev pub start : Pen
+abbrev pub start : Pen  -- where the pen stands at the start
 start = record { column = 0; row = 0 }
 
--- the path of runs
-abbrev pub path_text : List Run → List ℕ
+abbrev pub path_text : List Run → List ℕ  -- the path of runs
 path_text runs = path_from start runs
 
--- a subpath fills the cell in a column and a row
-abbrev pub covers : Run → ℕ → ℕ → Bool
+abbrev pub covers : Run → ℕ → ℕ → Bool  -- a subpath fills the cell in a column and a row
 covers r column row = nat_le r.left column && nat_lt column (r.left + r.width) && (r.top == row)
 
--- a path fills the cell in a column and a row: one of its subpaths does
-abbrev pub is_filled : List Run → ℕ → ℕ → Bool
+abbrev pub is_filled : List Run → ℕ → ℕ → Bool  -- a path fills the cell in a column and a row: one of its subpaths does
 is_filled [] column row = false
 is_filled (r ∷ runs) column row = covers r column row || is_filled runs column row
 
@@ -61,8 +53,7 @@ is_filled (r ∷ runs) column row = covers r column row || is_filled runs column
 abbrev pub attribute_byte : ℕ → List ℕ
 attribute_byte b = if b == 34 then codes "&quot;" else (if b == 60 then codes "&lt;" else (if b == 38 then codes "&amp;" else b ∷ []))
 
--- a text as the value of an attribute
-unfoldable pub attribute : List ℕ → List ℕ
+unfoldable pub attribute : List ℕ → List ℕ  -- a text as the value of an attribute
 attribute text = flat_map attribute_byte text
 
 -- the head of the element: its sides in pixels, and its box in cells, which fills these sides
@@ -72,8 +63,7 @@ path_frame w h columns rows =
     ++ (codes "\" viewBox=\"0 0 " ++ (decimal columns ++ (codes " " ++ (decimal rows
     ++ codes "\" preserveAspectRatio=\"none\" shape-rendering=\"crispEdges\">")))))))
 
--- the ground, up to its colour
-abbrev pub path_ground : ℕ → ℕ → List ℕ
+abbrev pub path_ground : ℕ → ℕ → List ℕ  -- the ground, up to its colour
 path_ground columns rows =
     codes "<rect width=\"" ++ (decimal columns ++ (codes "\" height=\"" ++ (decimal rows ++ codes "\" fill=\"")))
 
@@ -83,8 +73,7 @@ path_element w h columns rows dark light runs =
     path_frame w h columns rows
     ++ (path_ground columns rows ++ (light ++ (codes "\"/><path fill=\"" ++ (dark ++ (codes "\" d=\"" ++ (path_text runs ++ codes "\"/></svg>"))))))
 
--- what stands before the element in a file of its own
-abbrev pub xml_head : List ℕ
+abbrev pub xml_head : List ℕ  -- what stands before the element in a file of its own
 xml_head = codes "<?xml version=\"1.0\" standalone=\"yes\"?>"
 
 -- a text whose path, read so, shows the picture: each cell of its box is so many pixels across and down, and the pixels of the filled ones are dark
@@ -99,8 +88,7 @@ pub record IsPathOf (head dark light : List ℕ) (b : Bitmap) (svg : List ℕ) :
   pub written : svg ≡ head ++ path_element b.across b.down columns rows (attribute dark) (attribute light) runs
   pub shown : b.marks ≡ map (λ i. is_filled runs (i % b.across / across) (i / b.across / down)) (range_with_len 0 (b.across * b.down))
 
--- the run of so many cells that ends before a column
-abbrev pub ended : ℕ → ℕ → ℕ → List Run
+abbrev pub ended : ℕ → ℕ → ℕ → List Run  -- the run of so many cells that ends before a column
 ended top end zero = []
 ended top end (suc n) = (record { left = end - suc n; top = top; width = suc n }) ∷ []
 
@@ -110,6 +98,5 @@ runs_from top column width [] = ended top column width
 runs_from top column width (true ∷ marks) = runs_from top (column + 1) (width + 1) marks
 runs_from top column width (false ∷ marks) = ended top column width ++ runs_from top (column + 1) 0 marks
 
--- the runs of all rows
-abbrev pub runs_of : Grid → List Run
+abbrev pub runs_of : Grid → List Run  -- the runs of all rows
 runs_of g = flat_map (λ row. runs_from row 0 0 (cell_row g row)) (range_with_len 0 (all_rows g))

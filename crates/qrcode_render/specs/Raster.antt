@@ -8,14 +8,11 @@ pub record Raster (P : Type 0) : Type 0 where
   pub dark : P
   pub light : P
 
--- all pixels light
-abbrev pub light_raster : {P : Type 0} → ℕ → ℕ → P → P → Raster P
+abbrev pub light_raster : {P : Type 0} → ℕ → ℕ → P → P → Raster P  -- all pixels light
 light_raster across down dark light = record { bitmap = blank across down; dark = dark; light = light }
 
--- a pixel dark
-abbrev pub dark_pixel_step : {P : Type 0} → ℕ → ℕ → Raster P → Raster P
+abbrev pub dark_pixel_step : {P : Type 0} → ℕ → ℕ → Raster P → Raster P  -- a pixel dark
 dark_pixel_step x y r = record r { bitmap = with_dark x y r.bitmap }
 
--- a rectangle dark
-abbrev pub dark_rect_step : {P : Type 0} → ℕ → ℕ → ℕ → ℕ → Raster P → Raster P
+abbrev pub dark_rect_step : {P : Type 0} → ℕ → ℕ → ℕ → ℕ → Raster P → Raster P  -- a rectangle dark
 dark_rect_step left top width height r = record r { bitmap = with_dark_rect left top width height r.bitmap }

@@ -31,8 +31,7 @@ pub record IsSquare (m : Square) : Type 0 where
   pub across : 1 ≤ m.across
   pub down : 1 ≤ m.down
 
--- the square of a renderer's setting
-abbrev pub square_of : {P : Type 0} → Setting P → Square
+abbrev pub square_of : {P : Type 0} → Setting P → Square  -- the square of a renderer's setting
 square_of s = record {
   content = s.content;
   count = s.count;
@@ -60,25 +59,20 @@ pub record IsWhole {P : Type 0} (s : Setting P) : Type 0 where
   pub across : 1 ≤ s.across
   pub down : 1 ≤ s.down
 
--- where modules stand
-abbrev pub layout_of : {P : Type 0} → Setting P → Layout
+abbrev pub layout_of : {P : Type 0} → Setting P → Layout  -- where modules stand
 layout_of s = layout s.count s.zone s.across s.down
 
--- the modules along a side of the picture
-abbrev pub side_of : {P : Type 0} → Setting P → ℕ
+abbrev pub side_of : {P : Type 0} → Setting P → ℕ  -- the modules along a side of the picture
 side_of s = modules_across (layout_of s)
 
--- the picture has a column and a row of pixels
-pub record HasPixels {P : Type 0} (s : Setting P) : Type 0 where
+pub record HasPixels {P : Type 0} (s : Setting P) : Type 0 where  -- the picture has a column and a row of pixels
   pub across : 1 ≤ pixels_across (layout_of s)
   pub down : 1 ≤ pixels_down (layout_of s)
 
--- the modules and the pixels along each side are below 2^32
-abbrev pub fits : {P : Type 0} → Setting P → Bool
+abbrev pub fits : {P : Type 0} → Setting P → Bool  -- the modules and the pixels along each side are below 2^32
 fits s = nat_lt (side_of s) (2 ^ 32) && nat_lt (side_of s * s.across) (2 ^ 32) && nat_lt (side_of s * s.down) (2 ^ 32)
 
--- which pixels of the picture are dark
-abbrev pub picture_of : {P : Type 0} → Setting P → Bitmap
+abbrev pub picture_of : {P : Type 0} → Setting P → Bitmap  -- which pixels of the picture are dark
 picture_of s = picture (layout_of s) s.content
 
 -- what a canvas shows in the end: its start, and the rectangles of the dark modules in row order
@@ -86,16 +80,13 @@ abbrev pub drawing_of : {P D : Type 0} → (ℕ → ℕ → P → P → D) → (
 drawing_of start rect s =
     drawn rect (layout_of s) s.content (start (pixels_across (layout_of s)) (pixels_down (layout_of s)) s.dark s.light)
 
--- the pixels of a module of which `side` modules reach `pixels`
-abbrev pub least_size : ℕ → ℕ → ℕ
+abbrev pub least_size : ℕ → ℕ → ℕ  -- the pixels of a module of which `side` modules reach `pixels`
 least_size side pixels = max ((pixels + side - 1) / side) 1
 
--- the pixels of a module of which `side` modules stay within `pixels`, or 1
-abbrev pub greatest_size : ℕ → ℕ → ℕ
+abbrev pub greatest_size : ℕ → ℕ → ℕ  -- the pixels of a module of which `side` modules stay within `pixels`, or 1
 greatest_size side pixels = max (pixels / side) 1
 
--- the least size of at least 1 that reaches the request
-pub record IsLeastSize (side pixels size : ℕ) : Type 0 where
+pub record IsLeastSize (side pixels size : ℕ) : Type 0 where  -- the least size of at least 1 that reaches the request
   pub positive : 1 ≤ size
   pub reaches : pixels ≤ side * size
   pub least : (k : ℕ) → 1 ≤ k → pixels ≤ side * k → size ≤ k

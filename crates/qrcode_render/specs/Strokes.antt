@@ -14,7 +14,6 @@ stroke column sides row left top width height text = text ++ rect_text (column l
 abbrev pub columns_from : (ℕ → List ℕ × List ℕ) → ℕ → ℕ → ℕ → List (List ℕ × List ℕ)
 columns_from column left width n = map (λ i. column (left + i * width)) (range_with_len 0 n)
 
--- the two texts of each column have at most so many bytes
-abbrev pub AreShort : List (List ℕ × List ℕ) → ℕ → Type 0
+abbrev pub AreShort : List (List ℕ × List ℕ) → ℕ → Type 0  -- the two texts of each column have at most so many bytes
 AreShort columns most =
     (i : ℕ) → i < length columns → let c = slice_index_or columns i ([], []) in length c.0 + length c.1 ≤ most

@@ -15,8 +15,7 @@ lines_text across lines = if across == 0 then [] else join_with_byte 10 lines
 unfoldable pub text_of : List ℕ → List ℕ → Bitmap → List ℕ
 text_of dark light b = lines_text b.across (map (λ y. marks_text dark light (row_of b y)) (range_with_len 0 b.down))
 
--- a space, the lower half, the upper half or the whole block
-abbrev pub half_blocks : Bool → Bool → List ℕ
+abbrev pub half_blocks : Bool → Bool → List ℕ  -- a space, the lower half, the upper half or the whole block
 half_blocks false false = 32 ∷ []
 half_blocks false true = 0xe2 ∷ 0x96 ∷ 0x84 ∷ []
 half_blocks true false = 0xe2 ∷ 0x96 ∷ 0x80 ∷ []
@@ -43,10 +42,8 @@ dense_line marked other b i =
     then columns_text (column_text marked other) (row_of b (2 * i)) (row_of b (2 * i + 1))
     else marks_text (half_blocks marked false) (half_blocks other false) (row_of b (2 * i))
 
--- a line for every two rows
-unfoldable pub dense_text : Bool → Bool → Bitmap → List ℕ
+unfoldable pub dense_text : Bool → Bool → Bitmap → List ℕ  -- a line for every two rows
 dense_text marked other b = lines_text b.across (map (dense_line marked other b) (range_with_len 0 ((b.down + 1) / 2)))
 
--- the bytes of the pixels, row by row
-abbrev pub raw_bytes : List ℕ → List ℕ → Bitmap → List ℕ
+abbrev pub raw_bytes : List ℕ → List ℕ → Bitmap → List ℕ  -- the bytes of the pixels, row by row
 raw_bytes dark light b = marks_text dark light b.marks

@@ -10,21 +10,17 @@ use Rattle.qrcode_scan.specs.declared.pixels.Unscanned.TheVariants.{NotPicture, 
 abbrev pub is_black_bit : List ℕ → ℕ → ℕ → ℕ → Bool
 is_black_bit bytes stride x y = slice_index bytes (y * stride + x / 8) / 2 ^ (7 - x % 8) % 2 == 1
 
--- the marks of so many rows of pixels, eight in a byte
-abbrev pub packed_marks : List ℕ → ℕ → ℕ → List Bool
+abbrev pub packed_marks : List ℕ → ℕ → ℕ → List Bool  -- the marks of so many rows of pixels, eight in a byte
 packed_marks bytes across down =
     map (λ i. is_black_bit bytes ((across + 7) / 8) (i % across) (i / across)) (range_with_len 0 (across * down))
 
--- a figure of a pixel, or white space
-abbrev pub is_plain : ℕ → Bool
+abbrev pub is_plain : ℕ → Bool  -- a figure of a pixel, or white space
 is_plain c = c == 48 || c == 49 || is_white c
 
--- the mark of a figure: 1 is black and 0 white; white space is none
-abbrev pub figure_marks : ℕ → List Bool
+abbrev pub figure_marks : ℕ → List Bool  -- the mark of a figure: 1 is black and 0 white; white space is none
 figure_marks c = if c == 49 then true ∷ [] else if c == 48 then false ∷ [] else []
 
--- the marks of figures
-abbrev pub plain_marks : List ℕ → List Bool
+abbrev pub plain_marks : List ℕ → List Bool  -- the marks of figures
 plain_marks bytes = flat_map figure_marks bytes
 
 -- the marks of the figures that stand before anything but figures and white space
@@ -39,8 +35,7 @@ grey_marks greatest bytes count = map (λ grey. nat_lt (2 * grey) greatest) (tak
 abbrev pub bits_file : List ℕ → Bitmap
 bits_file file = let s = sides_of file in record { across = s.0; down = s.1; marks = packed_marks (drop 1 s.2) s.0 s.1 }
 
--- the picture of a PBM file of figures, as many as it has pixels
-abbrev pub figures_file : List ℕ → Bitmap
+abbrev pub figures_file : List ℕ → Bitmap  -- the picture of a PBM file of figures, as many as it has pixels
 figures_file file = let s = sides_of file in record { across = s.0; down = s.1; marks = take (s.0 * s.1) (figures_of s.2) }
 
 -- the picture of a PGM file of bytes: behind the sides stands the greatest grey, and behind that one byte
@@ -50,12 +45,10 @@ greys_file file =
     let greatest = greatest_of file in
     record { across = s.0; down = s.1; marks = grey_marks greatest.0 (drop 1 greatest.1) (s.0 * s.1) }
 
--- the bytes of the rows of a PBM file of bits, of which a row begins a byte anew
-abbrev pub bits_length : List ℕ → ℕ
+abbrev pub bits_length : List ℕ → ℕ  -- the bytes of the rows of a PBM file of bits, of which a row begins a byte anew
 bits_length file = let s = sides_of file in (s.0 + 7) / 8 * s.1
 
--- a file is a PBM file of bits: sides, white space, and behind it all rows
-abbrev pub IsBitsFile : List ℕ → Type 0
+abbrev pub IsBitsFile : List ℕ → Type 0  -- a file is a PBM file of bits: sides, white space, and behind it all rows
 IsBitsFile file = let s = sides_of file in HasSides file × (is_ended s.2 ≡ true) × (bits_length file ≤ length (drop 1 s.2))
 
 -- a file is a PBM file of figures: sides, and behind them a figure for each pixel
@@ -78,8 +71,7 @@ IsBitsRefusal file OutOfMemory = Unit
 IsBitsRefusal file NotPicture = ⊥
 IsBitsRefusal file NoGrey = ⊥
 
--- why a file of figures is refused
-abbrev pub IsFiguresRefusal : List ℕ → Unscanned → Type 0
+abbrev pub IsFiguresRefusal : List ℕ → Unscanned → Type 0  -- why a file of figures is refused
 IsFiguresRefusal file NoSide = ¬ HasSides file
 IsFiguresRefusal file NotPixel =
     let s = sides_of file in HasSides file × (length (figures_of s.2) < s.0 * s.1) × (length (take_while is_plain s.2) < length s.2)
@@ -88,8 +80,7 @@ IsFiguresRefusal file OutOfMemory = Unit
 IsFiguresRefusal file NotPicture = ⊥
 IsFiguresRefusal file NoGrey = ⊥
 
--- why a file of greys is refused
-abbrev pub IsGreysRefusal : List ℕ → Unscanned → Type 0
+abbrev pub IsGreysRefusal : List ℕ → Unscanned → Type 0  -- why a file of greys is refused
 IsGreysRefusal file NoSide = ¬ HasSides file
 IsGreysRefusal file NoGrey = HasSides file × ¬ HasGrey file
 IsGreysRefusal file NotPixel = HasSides file × HasGrey file × (is_ended (greatest_of file).1 ≡ false)

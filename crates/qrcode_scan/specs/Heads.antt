@@ -1,12 +1,10 @@
 -- Heads of picture files: numbers behind white space and comments.
 use Rattle.std.specs.Prelude.{ℕ, ◌+◌, ◌-◌, ◌*◌, ◌==◌, ◌≤◌, nat_le, Bool, true, false, not, ◌||◌, ◌&&◌, List, [], ◌∷◌, drop, if◌then◌else◌}
 
--- white space
-abbrev pub is_white : ℕ → Bool
+abbrev pub is_white : ℕ → Bool  -- white space
 is_white c = c == 32 || (nat_le 9 c && nat_le c 13)
 
--- a decimal digit
-abbrev pub is_digit : ℕ → Bool
+abbrev pub is_digit : ℕ → Bool  -- a decimal digit
 is_digit c = nat_le 48 c && nat_le c 57
 
 -- what follows white space and comments, of which each goes from # to the end of its line; whether the bytes begin within one is told
@@ -27,8 +25,7 @@ sides_of file =
     let down = digits_from 0 (after_space false across.1) in
     (across.0, down.0, down.1)
 
--- both sides that a head names have from 1 to 65,535 pixels
-abbrev pub HasSides : List ℕ → Type 0
+abbrev pub HasSides : List ℕ → Type 0  -- both sides that a head names have from 1 to 65,535 pixels
 HasSides file =
     let s = sides_of file in
     ((1 ≤ s.0) × (s.0 ≤ 65535)) × ((1 ≤ s.1) × (s.1 ≤ 65535))
@@ -37,11 +34,9 @@ HasSides file =
 abbrev pub greatest_of : List ℕ → ℕ × List ℕ
 greatest_of file = digits_from 0 (after_space false (sides_of file).2)
 
--- the greatest grey is one of bytes
-abbrev pub HasGrey : List ℕ → Type 0
+abbrev pub HasGrey : List ℕ → Type 0  -- the greatest grey is one of bytes
 HasGrey file = (1 ≤ (greatest_of file).0) × ((greatest_of file).0 ≤ 255)
 
--- whether white space ends a head, or the file does
-abbrev pub is_ended : List ℕ → Bool
+abbrev pub is_ended : List ℕ → Bool  -- whether white space ends a head, or the file does
 is_ended [] = true
 is_ended (c ∷ rest) = is_white c

@@ -8,16 +8,14 @@ use Rattle.qrcode_render.specs.Bitmap.{Bitmap}
 use Rattle.qrcode_render.specs.Layout.{Layout, layout, pixels_across}
 use Rattle.qrcode_render.specs.Picture.{picture, is_dark_pixel}
 
--- the pixels with dark and light exchanged
-abbrev pub inverted : Bitmap → Bitmap
+abbrev pub inverted : Bitmap → Bitmap  -- the pixels with dark and light exchanged
 inverted b = record b { marks = map not b.marks }
 
 -- whether each pixel of the first row is dark, as of a margin where dark and light are exchanged
 abbrev pub has_dark_edge : Bitmap → Bool
 has_dark_edge b = list_all (λ mark. mark) (take b.across b.marks)
 
--- whether the pixel in a column and row is dark
-abbrev pub mark_at : Bitmap → ℕ → ℕ → Bool
+abbrev pub mark_at : Bitmap → ℕ → ℕ → Bool  -- whether the pixel in a column and row is dark
 mark_at b x y = slice_index_or b.marks (y * b.across + x) false
 
 -- the modules of a square of so many a side whose first pixels stand behind a margin, one every so many pixels
@@ -25,8 +23,7 @@ abbrev pub sampled : Bitmap → ℕ → ℕ → ℕ → List Color
 sampled b count margin scale =
     map (λ i. color_of (mark_at b (margin + i % count * scale) (margin + i / count * scale))) (range_with_len 0 (count * count))
 
--- a row of marks is that of the picture of modules
-abbrev pub IsRowOf : List Bool → Layout → List Color → ℕ → Type 0
+abbrev pub IsRowOf : List Bool → Layout → List Color → ℕ → Type 0  -- a row of marks is that of the picture of modules
 IsRowOf marks at modules y =
     (x : ℕ) → x < pixels_across at → slice_index_or marks (y * pixels_across at + x) false ≡ is_dark_pixel at modules x y
 

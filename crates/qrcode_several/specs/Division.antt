@@ -7,8 +7,7 @@ use Rattle.qrcode_bits.specs.declared.bits.manner.Manner.{Manner}
 abbrev pub is_border : List ℕ → ℕ → Bool
 is_border bytes place = nat_le (length bytes) place || (nat_lt (slice_index bytes place) 128 || nat_le 192 (slice_index bytes place))
 
--- the last such place up to one
-abbrev pub floor_border : List ℕ → ℕ → ℕ
+abbrev pub floor_border : List ℕ → ℕ → ℕ  -- the last such place up to one
 floor_border bytes zero = 0
 floor_border bytes (suc place) = if is_border bytes (suc place) then suc place else floor_border bytes place
 
@@ -17,6 +16,5 @@ floor_border bytes (suc place) = if is_border bytes (suc place) then suc place e
 unfoldable pub part_begin : Manner → List ℕ → ℕ → ℕ → ℕ
 part_begin m bytes count place = if is_text m then floor_border bytes ((length bytes * place) / count) else ((length bytes * place) / count)
 
--- the part at a place
-abbrev pub part : Manner → List ℕ → ℕ → ℕ → List ℕ
+abbrev pub part : Manner → List ℕ → ℕ → ℕ → List ℕ  -- the part at a place
 part m bytes count place = slice_range bytes (part_begin m bytes count place) (part_begin m bytes count (place + 1))

@@ -10,8 +10,7 @@ use Rattle.qrcode.specs.Code.{Code}
 use Rattle.qrcode_several.specs.Symbols.{HoldSeveral, AreSeveral}
 use Rattle.qrcode_several.specs.declared.choice.Versions.{Versions}
 
--- the version of Normal of this number is among some
-abbrev pub IsAmong : Versions → ℕ → Type 0
+abbrev pub IsAmong : Versions → ℕ → Type 0  -- the version of Normal of this number is among some
 IsAmong vs n = (vs.least ≤ n) × (n ≤ vs.greatest)
 
 -- the least of some versions of which so many symbols hold the data

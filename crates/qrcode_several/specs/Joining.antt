@@ -6,55 +6,44 @@ use Rattle.qrcode_several.specs.declared.errors.JoinError.{JoinError}
 use Rattle.qrcode_several.specs.declared.errors.JoinError.TheVariants.{Stranger, Missing, Twice, Parity, OutOfMemory}
 use Rattle.qrcode_several.specs.declared.joining.Part.{Part}
 
--- the last place that the first part names
-abbrev pub last_told : List Part → ℕ
+abbrev pub last_told : List Part → ℕ  -- the last place that the first part names
 last_told [] = 0
 last_told (p ∷ parts) = p.last
 
--- the parity that it names
-abbrev pub parity_told : List Part → ℕ
+abbrev pub parity_told : List Part → ℕ  -- the parity that it names
 parity_told [] = 0
 parity_told (p ∷ parts) = p.parity
 
--- a part names this last place and parity, and a place up to it
-abbrev pub belongs : ℕ → ℕ → Part → Bool
+abbrev pub belongs : ℕ → ℕ → Part → Bool  -- a part names this last place and parity, and a place up to it
 belongs last parity p = (p.last == last) && (p.parity == parity) && nat_le p.place last
 
--- the first part that does not, of those from an index on
-abbrev pub first_stranger : ℕ → ℕ → ℕ → List Part → Option ℕ
+abbrev pub first_stranger : ℕ → ℕ → ℕ → List Part → Option ℕ  -- the first part that does not, of those from an index on
 first_stranger last parity index [] = None
 first_stranger last parity index (p ∷ parts) = if belongs last parity p then first_stranger last parity (index + 1) parts else Some index
 
--- the first part of other data than the first
-abbrev pub stranger_in : List Part → Option ℕ
+abbrev pub stranger_in : List Part → Option ℕ  -- the first part of other data than the first
 stranger_in parts = first_stranger (last_told parts) (parity_told parts) 0 parts
 
--- the parts that have a place
-abbrev pub parts_at : List Part → ℕ → List Part
+abbrev pub parts_at : List Part → ℕ → List Part  -- the parts that have a place
 parts_at parts place = filter (λ p. p.place == place) parts
 
--- their bytes
-abbrev pub bytes_at : List Part → ℕ → List ℕ
+abbrev pub bytes_at : List Part → ℕ → List ℕ  -- their bytes
 bytes_at parts place = flat_map (λ p. p.bytes.now) (parts_at parts place)
 
--- one part has the place, and these are its bytes
-abbrev pub IsPartAt : List Part → ℕ → List ℕ → Type 0
+abbrev pub IsPartAt : List Part → ℕ → List ℕ → Type 0  -- one part has the place, and these are its bytes
 IsPartAt parts place bytes = (length (parts_at parts place) ≡ 1) × (bytes ≡ bytes_at parts place)
 
--- no part has the place, or more than one has
-abbrev pub IsNoPartAt : List Part → ℕ → JoinError → Type 0
+abbrev pub IsNoPartAt : List Part → ℕ → JoinError → Type 0  -- no part has the place, or more than one has
 IsNoPartAt parts place (Missing k) = (k ≡ place) × (parts_at parts place ≡ [])
 IsNoPartAt parts place (Twice k) = (k ≡ place) × (1 < length (parts_at parts place))
 IsNoPartAt parts place (Stranger k) = ⊥
 IsNoPartAt parts place Parity = ⊥
 IsNoPartAt parts place OutOfMemory = ⊥
 
--- one part has each place below one
-abbrev pub IsOnceBelow : List Part → ℕ → Type 0
+abbrev pub IsOnceBelow : List Part → ℕ → Type 0  -- one part has each place below one
 IsOnceBelow parts end = (place : ℕ) → place < end → length (parts_at parts place) ≡ 1
 
--- the bytes of the parts of all places up to one
-abbrev pub joined_to : List Part → ℕ → List ℕ
+abbrev pub joined_to : List Part → ℕ → List ℕ  -- the bytes of the parts of all places up to one
 joined_to parts last = flat_map (bytes_at parts) (range_with_len 0 (last + 1))
 
 -- the first place up to one of which there is no part, or more than one; or memory was refused

@@ -8,8 +8,7 @@ use Rattle.qrcode_symbol.specs.Reading.{ReadsBits}
 use Rattle.qrcode_bits.specs.Shown.{Shows}
 use Rattle.qrcode_bits.specs.StructuredAppend.{parity, append_front, SpellsPart}
 
--- a fact of each item and its place
-abbrev pub EachAt : {X : Type 0} → (ℕ → X → Type 0) → List X → Type 0
+abbrev pub EachAt : {X : Type 0} → (ℕ → X → Type 0) → List X → Type 0  -- a fact of each item and its place
 EachAt P [] = Unit {0}
 EachAt P (x ∷ xs) = P 0 x × EachAt (λ place. P (suc place)) xs
 

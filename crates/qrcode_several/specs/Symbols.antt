@@ -22,12 +22,10 @@ use Rattle.qrcode.specs.Reading.{EncodesBits}
 use Rattle.qrcode_several.specs.Division.{part}
 use Rattle.qrcode_several.specs.Reading.{EachAt, ReadsPart, ShowsPartOnly, ReadsSeveralOnly}
 
--- the bits of a least cut
-abbrev pub IsLeastLength : Manner → Version → List ℕ → ℕ → Type 0
+abbrev pub IsLeastLength : Manner → Version → List ℕ → ℕ → Type 0  -- the bits of a least cut
 IsLeastLength m v bytes bits = (segments : List Segment) × (IsLeastCutIn (modes_of m) v bytes segments × (bits ≡ total_cost v segments))
 
--- the bits of the header, by the place of the last symbol
-abbrev pub front_length : ℕ → ℕ
+abbrev pub front_length : ℕ → ℕ  -- the bits of the header, by the place of the last symbol
 front_length last = if last == 0 then 0 else 20
 
 -- some cut of a part takes no more bits than are left behind those in front

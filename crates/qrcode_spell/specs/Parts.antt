@@ -22,8 +22,7 @@ pub record IsPrefixed (width prefix count n : ℕ) (bits : List Bool) : Type 0 w
 abbrev pub IsDesignator : ℕ → List Bool → Type 0
 IsDesignator n bits = IsPrefixed 1 0 7 n bits ⊎ (IsPrefixed 2 2 14 n bits ⊎ ((n < 1000000) × IsPrefixed 3 6 21 n bits))
 
--- the mode indicator of a header
-abbrev pub header_indicator : Header → ℕ
+abbrev pub header_indicator : Header → ℕ  -- the mode indicator of a header
 header_indicator (Eci n) = 7
 header_indicator Fnc1First = 5
 header_indicator (Fnc1Second n) = 9
@@ -62,12 +61,10 @@ AreParts v bits bytes [] = IsTrue (is_end v bits) × (bytes ≡ [])
 AreParts v bits bytes (p ∷ parts) =
     (rest : List Bool) × ((chunk more : List ℕ) × ((bytes ≡ chunk ++ more) × (IsFalse (is_end v bits) × (BeginsWithPart v p bits chunk rest × AreParts v rest more parts))))
 
--- no bytes and parts are those of the bits
-abbrev pub HaveNoParts : Version → List Bool → Type 0
+abbrev pub HaveNoParts : Version → List Bool → Type 0  -- no bytes and parts are those of the bits
 HaveNoParts v bits = (bytes : List ℕ) (parts : List Part) → ¬ AreParts v bits bytes parts
 
--- a segment
-abbrev pub IsSegment : Part → Type 0
+abbrev pub IsSegment : Part → Type 0  -- a segment
 IsSegment (Front h) = ⊥
 IsSegment (Bytes m n) = Unit {0}
 

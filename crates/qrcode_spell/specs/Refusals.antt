@@ -9,8 +9,7 @@ abbrev pub refusal_text : Unspelled → List ℕ
 refusal_text NotSpelled = codes "the bits spell no bytes"
 refusal_text OutOfMemory = codes "out of memory"
 
--- bits that spell nothing show nothing
-abbrev pub unshown_of : Unspelled → Unshown
+abbrev pub unshown_of : Unspelled → Unshown  -- bits that spell nothing show nothing
 unshown_of NotSpelled = NotShown
 unshown_of OutOfMemory = NoMemory
 

@@ -29,12 +29,10 @@ name_of Pixels = codes "pixels"
 name_of Pbm = codes "pbm"
 name_of Png = codes "png"
 
--- a colour of EPS that is as bright in red, green and blue
-abbrev pub eps_grey : ℕ → eps.Color
+abbrev pub eps_grey : ℕ → eps.Color  -- a colour of EPS that is as bright in red, green and blue
 eps_grey n = record { red = n; green = n; blue = n }
 
--- the pixels of a symbol, 8 by 8 for each module
-abbrev pub pixels_of : Version → List Color → Bitmap
+abbrev pub pixels_of : Version → List Color → Bitmap  -- the pixels of a symbol, 8 by 8 for each module
 pixels_of v s = picture (layout_in 8 v) s
 
 -- a drawing of a kind shows a symbol, black on white

@@ -9,12 +9,10 @@ use Rattle.qrcode.specs.Acceptance.{IsChosenSymbol}
 use Rattle.qrcode.specs.Pictures.{layout_in}
 use Rattle.qrcode_uses.specs.declared.label.Bar.{Bar}
 
--- the second bar begins where the first one ends
-abbrev pub goes_on : Bar → Bar → Bool
+abbrev pub goes_on : Bar → Bar → Bool  -- the second bar begins where the first one ends
 goes_on a b = a.top == b.top && a.height == b.height && a.left + a.width == b.left
 
--- a bar of a first column and row, a width and a height
-abbrev pub bar : ℕ → ℕ → ℕ → ℕ → Bar
+abbrev pub bar : ℕ → ℕ → ℕ → ℕ → Bar  -- a bar of a first column and row, a width and a height
 bar left top width height = record { left = left; top = top; width = width; height = height }
 
 -- bars, the last one first, and one more before them; where it goes on from the last one, that one is wider instead
@@ -23,8 +21,7 @@ with_bar left top width height [] = bar left top width height ∷ []
 with_bar left top width height (a ∷ bars) =
     if goes_on a (bar left top width height) then bar a.left a.top (a.width + width) a.height ∷ bars else bar left top width height ∷ a ∷ bars
 
--- a bar for each run of dark modules of a row
-abbrev pub bars_of : Layout → List Color → List Bar
+abbrev pub bars_of : Layout → List Color → List Bar  -- a bar for each run of dark modules of a row
 bars_of at content = reverse (drawn with_bar at content [])
 
 -- the bars of the symbol that is chosen for data at level M, in modules of 4 dots

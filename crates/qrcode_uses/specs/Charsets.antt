@@ -9,8 +9,7 @@ use Rattle.qrcode_bits.specs.Written.{written_piece, terminated, eci_bits}
 use Rattle.qrcode.specs.Pictures.{debug_text}
 use Rattle.qrcode.specs.Reading.{EncodesBits}
 
--- the number of the character set, the bytes, and the end
-abbrev pub greek_bits : List ℕ → List Bool
+abbrev pub greek_bits : List ℕ → List Bool  -- the number of the character set, the bytes, and the end
 greek_bits text =
     terminated (Normal (pos 1)) L (number_bits 4 7 ++ eci_bits 9 ++ written_piece (Normal (pos 1)) (record { mode = Byte; chunk = text }))
 

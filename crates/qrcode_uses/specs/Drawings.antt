@@ -8,24 +8,19 @@ use Rattle.qrcode_render.specs.Texts.{dense_text, raw_bytes}
 use Rattle.qrcode_render.specs.Vectors as vectors
 use Rattle.qrcode.specs.Pictures.{layout_in, cells_text}
 
--- whole blocks and spaces
-abbrev pub char_text : Version → List Color → List ℕ
+abbrev pub char_text : Version → List Color → List ℕ  -- whole blocks and spaces
 char_text v s = cells_text v s (encode_utf8 0x2588) (encode_utf8 32)
 
--- a pair of characters for each module
-abbrev pub pair_text : Version → List Color → List ℕ
+abbrev pub pair_text : Version → List Color → List ℕ  -- a pair of characters for each module
 pair_text v s = cells_text v s (codes "##") (codes "  ")
 
--- half blocks where modules are dark
-abbrev pub half_block_text : Version → List Color → List ℕ
+abbrev pub half_block_text : Version → List Color → List ℕ  -- half blocks where modules are dark
 half_block_text v s = dense_text true false (picture (layout_in 1 v) s)
 
--- black on white
-abbrev pub svg_text : ℕ → Version → List Color → List ℕ
+abbrev pub svg_text : ℕ → Version → List Color → List ℕ  -- black on white
 svg_text pixels v s = vectors.svg_text (layout_in pixels v) s (codes "#000") (codes "#fff")
 
--- a box for each dark module
-abbrev pub pic_text : Version → List Color → List ℕ
+abbrev pub pic_text : Version → List Color → List ℕ  -- a box for each dark module
 pic_text v s = vectors.pic_text (layout_in 1 v) s
 
 -- a PGM file: its head, and a byte for each pixel, 0 where it is dark and 255 where it is not

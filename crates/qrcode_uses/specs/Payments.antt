@@ -11,22 +11,18 @@ use Rattle.qrcode.specs.Pictures.{layout_in}
 use Rattle.qrcode_uses.specs.Drawings.{svg_text}
 use Rattle.qrcode_uses.specs.declared.payment.Payment.{Payment}
 
--- an amount in euros
-abbrev pub amount_text : ℕ → List ℕ
+abbrev pub amount_text : ℕ → List ℕ  -- an amount in euros
 amount_text cents = codes "EUR" ++ (decimal (cents / 100) ++ (codes "." ++ (decimal (cents / 10 % 10) ++ decimal (cents % 10))))
 
--- the lines of a credit transfer
-unfoldable pub payment_text : Payment → List ℕ
+unfoldable pub payment_text : Payment → List ℕ  -- the lines of a credit transfer
 payment_text p =
     codes "BCD\n002\n1\nSCT\n" ++ (p.bic.now ++ (codes "\n" ++ (p.name.now ++ (codes "\n" ++ (p.iban.now ++ codes "\n")))))
     ++ amount_text p.cents ++ (codes "\n\n\n" ++ p.purpose.now)
 
--- a Normal version of at most a number
-abbrev pub IsNormalUpTo : ℕ → Version → Type 0
+abbrev pub IsNormalUpTo : ℕ → Version → Type 0  -- a Normal version of at most a number
 IsNormalUpTo most v = (n : ℕ) × ((v ≡ Normal (pos n)) × (n ≤ most))
 
--- the pixels of a module in a picture that is 200 pixels wide or a little more
-abbrev pub picture_size : Version → ℕ
+abbrev pub picture_size : Version → ℕ  -- the pixels of a module in a picture that is 200 pixels wide or a little more
 picture_size v = least_size (modules_across (layout_in 1 v)) 200
 
 -- the symbol that is chosen for a text at level M, in modules of the least size that makes it 200 pixels wide

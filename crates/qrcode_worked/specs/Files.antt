@@ -3,8 +3,7 @@ use Rattle.std.specs.Prelude.{ℕ, ◌*◌, ◌==◌, List, [], ◌∷◌, Optio
 use Rattle.std.specs.List.{range_with_len}
 use Rattle.qrcode_png.specs.Image.{Image, grey_shade}
 
--- the rows of the symbol Micro 1 of the digit 1, a # for each dark module
-abbrev pub drawn : List (List ℕ)
+abbrev pub drawn : List (List ℕ)  -- the rows of the symbol Micro 1 of the digit 1, a # for each dark module
 drawn =
     codes "#######.#.#" ∷ codes "#.....#.#.." ∷ codes "#.###.#..##" ∷ codes "#.###.#.#.." ∷
     codes "#.###.#..##" ∷ codes "#.....#...." ∷ codes "#######..##" ∷ codes "........#.#" ∷
@@ -20,8 +19,7 @@ symbol scale density = record {
   density = density;
 }
 
--- zint 2.11.1: a block of its own codes, and a palette of white and black
-abbrev pub zint_file : List ℕ
+abbrev pub zint_file : List ℕ  -- zint 2.11.1: a block of its own codes, and a palette of white and black
 zint_file =
     137 ∷ 80 ∷ 78 ∷ 71 ∷ 13 ∷ 10 ∷ 26 ∷ 10 ∷ 0 ∷ 0 ∷ 0 ∷ 13 ∷ 73 ∷ 72 ∷ 68 ∷ 82 ∷ 0 ∷ 0 ∷ 0 ∷ 11 ∷
     0 ∷ 0 ∷ 0 ∷ 11 ∷ 1 ∷ 3 ∷ 0 ∷ 0 ∷ 0 ∷ 147 ∷ 98 ∷ 229 ∷ 101 ∷ 0 ∷ 0 ∷ 0 ∷ 6 ∷ 80 ∷ 76 ∷ 84 ∷
@@ -44,8 +42,7 @@ qrencode_file =
     155 ∷ 27 ∷ 9 ∷ 219 ∷ 25 ∷ 49 ∷ 217 ∷ 20 ∷ 0 ∷ 0 ∷ 0 ∷ 0 ∷ 73 ∷ 69 ∷ 78 ∷ 68 ∷ 174 ∷ 66 ∷ 96 ∷
     130 ∷ []
 
--- segno 1.4.1, four pixels for each module: a block of its own codes with copies, grey
-abbrev pub segno_file : List ℕ
+abbrev pub segno_file : List ℕ  -- segno 1.4.1, four pixels for each module: a block of its own codes with copies, grey
 segno_file =
     137 ∷ 80 ∷ 78 ∷ 71 ∷ 13 ∷ 10 ∷ 26 ∷ 10 ∷ 0 ∷ 0 ∷ 0 ∷ 13 ∷ 73 ∷ 72 ∷ 68 ∷ 82 ∷ 0 ∷ 0 ∷ 0 ∷ 44 ∷
     0 ∷ 0 ∷ 0 ∷ 44 ∷ 1 ∷ 0 ∷ 0 ∷ 0 ∷ 0 ∷ 54 ∷ 255 ∷ 103 ∷ 172 ∷ 0 ∷ 0 ∷ 0 ∷ 63 ∷ 73 ∷ 68 ∷ 65 ∷
@@ -55,8 +52,7 @@ segno_file =
     196 ∷ 105 ∷ 158 ∷ 125 ∷ 238 ∷ 169 ∷ 123 ∷ 20 ∷ 111 ∷ 3 ∷ 30 ∷ 169 ∷ 22 ∷ 180 ∷ 114 ∷ 3 ∷ 252 ∷
     245 ∷ 0 ∷ 0 ∷ 0 ∷ 0 ∷ 73 ∷ 69 ∷ 78 ∷ 68 ∷ 174 ∷ 66 ∷ 96 ∷ 130 ∷ []
 
--- segno 1.4.1 over a zlib that does not compress: a stored block, grey
-abbrev pub stored_file : List ℕ
+abbrev pub stored_file : List ℕ  -- segno 1.4.1 over a zlib that does not compress: a stored block, grey
 stored_file =
     137 ∷ 80 ∷ 78 ∷ 71 ∷ 13 ∷ 10 ∷ 26 ∷ 10 ∷ 0 ∷ 0 ∷ 0 ∷ 13 ∷ 73 ∷ 72 ∷ 68 ∷ 82 ∷ 0 ∷ 0 ∷ 0 ∷ 11 ∷
     0 ∷ 0 ∷ 0 ∷ 11 ∷ 1 ∷ 0 ∷ 0 ∷ 0 ∷ 0 ∷ 129 ∷ 215 ∷ 74 ∷ 139 ∷ 0 ∷ 0 ∷ 0 ∷ 44 ∷ 73 ∷ 68 ∷ 65 ∷

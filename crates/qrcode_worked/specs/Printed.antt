@@ -31,8 +31,7 @@ micro_words =
     0x2508 ∷ 0x203f ∷ 0x2f66 ∷ 0x2a51 ∷
     0x34e3 ∷ 0x31d4 ∷ 0x3e8d ∷ 0x3bba ∷ []
 
--- the version words of Normal 7 to Normal 40
-abbrev pub version_words : List ℕ
+abbrev pub version_words : List ℕ  -- the version words of Normal 7 to Normal 40
 version_words =
     0x07c94 ∷ 0x085bc ∷ 0x09a99 ∷ 0x0a4d3 ∷ 0x0bbf6 ∷ 0x0c762 ∷ 0x0d847 ∷ 0x0e60d ∷
     0x0f928 ∷ 0x10b78 ∷ 0x1145d ∷ 0x12a17 ∷ 0x13532 ∷ 0x149a6 ∷ 0x15683 ∷ 0x168c9 ∷
@@ -40,16 +39,13 @@ version_words =
     0x1f250 ∷ 0x209d5 ∷ 0x216f0 ∷ 0x228ba ∷ 0x2379f ∷ 0x24b0b ∷ 0x2542e ∷ 0x26a64 ∷
     0x27541 ∷ 0x28c69 ∷ []
 
--- the masks by their numbers
-abbrev pub masks : List MaskPattern
+abbrev pub masks : List MaskPattern  -- the masks by their numbers
 masks = Checkerboard ∷ HorizontalLines ∷ VerticalLines ∷ DiagonalLines ∷ LargeCheckerboard ∷ Fields ∷ Diamonds ∷ Meadow ∷ []
 
--- the masks of Micro by their numbers there
-abbrev pub micro_masks : List MaskPattern
+abbrev pub micro_masks : List MaskPattern  -- the masks of Micro by their numbers there
 micro_masks = HorizontalLines ∷ LargeCheckerboard ∷ Diamonds ∷ Meadow ∷ []
 
--- the levels in the order of their two bits
-abbrev pub levels : List EcLevel
+abbrev pub levels : List EcLevel  -- the levels in the order of their two bits
 levels = M ∷ L ∷ H ∷ Q ∷ []
 
 -- the pairs of a Micro version and a level, in the order of their three bits
@@ -61,22 +57,17 @@ abbrev pub are_apart : ℕ → List ℕ → Bool
 are_apart least [] = true
 are_apart least (w ∷ ws) = list_all (λ u. nat_le least (bit_distance (number_bits 18 w) (number_bits 18 u))) ws && are_apart least ws
 
--- the modes in the order of the standard's tables
-abbrev pub modes : List Mode
+abbrev pub modes : List Mode  -- the modes in the order of the standard's tables
 modes = Numeric ∷ Alphanumeric ∷ Byte ∷ Kanji ∷ []
 
--- the first and the last version of each band
-abbrev pub band_ends : List Version
+abbrev pub band_ends : List Version  -- the first and the last version of each band
 band_ends = Normal (pos 1) ∷ Normal (pos 9) ∷ Normal (pos 10) ∷ Normal (pos 26) ∷ Normal (pos 27) ∷ Normal (pos 40) ∷ []
 
--- the versions of Micro
-abbrev pub micro_versions : List Version
+abbrev pub micro_versions : List Version  -- the versions of Micro
 micro_versions = Micro (pos 1) ∷ Micro (pos 2) ∷ Micro (pos 3) ∷ Micro (pos 4) ∷ []
 
--- the pairs of Shift JIS bytes at the ends of the ranges of first and second bytes
-abbrev pub ends_of_pairs : List ℕ
+abbrev pub ends_of_pairs : List ℕ  -- the pairs of Shift JIS bytes at the ends of the ranges of first and second bytes
 ends_of_pairs = 0x8140 ∷ 0x817e ∷ 0x8180 ∷ 0x81fc ∷ 0x9f40 ∷ 0x9ffc ∷ 0xe040 ∷ 0xe07e ∷ 0xea80 ∷ 0xeafc ∷ 0xeb40 ∷ 0xeb7e ∷ 0xeb80 ∷ 0xebbf ∷ []
 
--- two bytes beside these, which are none
-abbrev pub beside_pairs : List ℕ
+abbrev pub beside_pairs : List ℕ  -- two bytes beside these, which are none
 beside_pairs = 0x8040 ∷ 0x80fc ∷ 0x813f ∷ 0x817f ∷ 0x81fd ∷ 0x9ffd ∷ 0xa040 ∷ 0xdffc ∷ 0xe03f ∷ 0xea7f ∷ 0xeafd ∷ 0xeb3f ∷ 0xeb7f ∷ 0xebc0 ∷ 0xec40 ∷ []

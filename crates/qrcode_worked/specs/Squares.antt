@@ -4,12 +4,10 @@ use Rattle.qrcode_types.specs.Colors.{color_of}
 use Rattle.qrcode_types.specs.declared.types.Color.{Color}
 use Rattle.qrcode_types.specs.declared.types.Color.TheVariants.{Light}
 
--- the colours of printed rows, in which # is dark
-abbrev pub colors_in : List (List ℕ) → List Color
+abbrev pub colors_in : List (List ℕ) → List Color  -- the colours of printed rows, in which # is dark
 colors_in rows = flat_map (λ row. map (λ c. color_of (c == 35)) row) rows
 
--- the digits 01234567 in Normal 1 at M
-abbrev pub normal_square : List Color
+abbrev pub normal_square : List Color  -- the digits 01234567 in Normal 1 at M
 normal_square = colors_in (
     codes "#######..#.##.#######" ∷
     codes "#.....#..####.#.....#" ∷
@@ -33,8 +31,7 @@ normal_square = colors_in (
     codes "#.....#........##.##." ∷
     codes "#######.####.#..#.#.." ∷ [])
 
--- the digits 01234567 in Micro 2 at L
-abbrev pub micro_square : List Color
+abbrev pub micro_square : List Color  -- the digits 01234567 in Micro 2 at L
 micro_square = colors_in (
     codes "#######.#.#.#" ∷
     codes "#.....#.###.#" ∷
@@ -75,8 +72,7 @@ damaged_square = colors_in (
     codes "........#......##.##." ∷
     codes "........####.#..#.#.#" ∷ [])
 
--- the same with a wrong module in a sixth codeword, in column 9 of row 14
-abbrev pub too_damaged_square : List Color
+abbrev pub too_damaged_square : List Color  -- the same with a wrong module in a sixth codeword, in column 9 of row 14
 too_damaged_square = take 303 damaged_square ++ (Light ∷ drop 304 damaged_square)
 
 -- the damaged square with a fourth wrong bit in the first copy of the format word, in column 0 of row 8
