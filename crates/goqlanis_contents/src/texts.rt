@@ -34,19 +34,20 @@ use std::alloc::Global;
 pub fn text_of(alloc: Global, kind: Kind, given: &Given<'_>) -> Result<String, Refusal>
     ensures { IfOk result (λ text. IsTextOf kind given.now.values.items (string_bytes text)) }
 {
-    match kind {
-        Kind::Wifi => told(alloc, kind, network(given).text(alloc)),
-        Kind::Mecard => told(alloc, kind, contact(given).mecard(alloc)),
-        Kind::Vcard => told(alloc, kind, card(given).text(alloc)),
-        Kind::Payment => told(alloc, kind, payment(alloc, given)?.text(alloc)),
-        Kind::Bill => told(alloc, kind, bill(alloc, given)?.text(alloc)),
-        Kind::Mail => told(alloc, kind, mail(given).text(alloc)),
-        Kind::Place => told(alloc, kind, place(alloc, given)?.text(alloc)),
-        Kind::Tel => told(alloc, kind, phone(given).tel(alloc)),
-        Kind::Sms => told(alloc, kind, sms(alloc, phone(given), given.get("message"))),
-        Kind::Otp => told(alloc, kind, passwords(alloc, given)?.text(alloc)),
-        Kind::Event => told(alloc, kind, event(alloc, given)?.text(alloc)),
-    }
+    let answer = match kind {
+        Kind::Wifi => network(given).text(alloc),
+        Kind::Mecard => contact(given).mecard(alloc),
+        Kind::Vcard => card(given).text(alloc),
+        Kind::Payment => payment(alloc, given)?.text(alloc),
+        Kind::Bill => bill(alloc, given)?.text(alloc),
+        Kind::Mail => mail(given).text(alloc),
+        Kind::Place => place(alloc, given)?.text(alloc),
+        Kind::Tel => phone(given).tel(alloc),
+        Kind::Sms => sms(alloc, phone(given), given.get("message")),
+        Kind::Otp => passwords(alloc, given)?.text(alloc),
+        Kind::Event => event(alloc, given)?.text(alloc),
+    };
+    told(alloc, kind, answer)
 }
 
 // The text that a format gives, or its refusal, told by the option of the kind.
