@@ -7,15 +7,6 @@ ghost use Rattle.qrcode_penalty.specs.Padded.{IsPadded, inner_lines, is_mark, is
 
 use qrcode_packed::row::PackedRow;
 
-// What four lines show, one after the other.
-#[derive(Copy, Clone)]
-struct FourLines<L: PackedRow> {
-    first: L,
-    second: L,
-    third: L,
-    fourth: L,
-}
-
 // Where dark, light and dark follow from the k-th line on: a finder form begins and ends so.
 #[inline(always)]
 fn marks<L: PackedRow>(lines: &[L], k: usize) -> L
@@ -26,20 +17,18 @@ fn marks<L: PackedRow>(lines: &[L], k: usize) -> L
     lines[k].and(lines[k + 2]).without(lines[k + 1])
 }
 
-// The same from each of four lines on.
+// The same from each of four lines on, two and two.
 #[inline(always)]
-fn four_marks<L: PackedRow>(lines: &[L], k: usize) -> FourLines<L>
+fn four_marks<L: PackedRow>(lines: &[L], k: usize) -> ((L, L), (L, L))
     requires at_most { length lines.now ≤ 201 }
     requires inside { k + 5 < length lines.now }
-    ensures { AreFourMarks (map L.bits lines.now) k (L.bits result.first)
-        (L.bits result.second) (L.bits result.third) (L.bits result.fourth) }
+    ensures { AreFourMarks (map L.bits lines.now) k (L.bits result.0.0)
+        (L.bits result.0.1) (L.bits result.1.0) (L.bits result.1.1) }
 {
-    FourLines {
-        first: marks(lines, k),
-        second: marks(lines, k + 1),
-        third: marks(lines, k + 2),
-        fourth: marks(lines, k + 3),
-    }
+    (
+        (marks(lines, k), marks(lines, k + 1)),
+        (marks(lines, k + 2), marks(lines, k + 3)),
+    )
 }
 
 // Where one of the four lines from the k-th on is dark, and where one of the four from the next on is: three are common.
@@ -92,34 +81,24 @@ fn four_forms<L: PackedRow>(
     lines: &[L],
     width: usize,
     k: usize,
-    begins: FourLines<L>,
-    ends: FourLines<L>,
+    begins: ((L, L), (L, L)),
+    ends: ((L, L), (L, L)),
 ) -> u32
     requires at_least { 7 ≤ width }
     requires at_most { width ≤ 189 }
     requires length { length lines.now ≡ width + 12 }
     requires inside { k + 7 ≤ width }
-    requires begins { AreFourMarks (map L.bits lines.now) (k + 4) (L.bits begins.first)
-        (L.bits begins.second) (L.bits begins.third) (L.bits begins.fourth) }
-    requires ends { AreFourMarks (map L.bits lines.now) (k + 8) (L.bits ends.first)
-        (L.bits ends.second) (L.bits ends.third) (L.bits ends.fourth) }
+    requires begins { AreFourMarks (map L.bits lines.now) (k + 4) (L.bits begins.0.0)
+        (L.bits begins.0.1) (L.bits begins.1.0) (L.bits begins.1.1) }
+    requires ends { AreFourMarks (map L.bits lines.now) (k + 8) (L.bits ends.0.0)
+        (L.bits ends.0.1) (L.bits ends.1.0) (L.bits ends.1.1) }
     ensures value { let lines = map L.bits lines.now in IsPadded width lines → 40 * result
         ≡ sum_below 4 (λ i. sum_below L.room
         (λ x. finder_penalty_at width (dark_in (inner_lines width lines) x) (k + i))) }
     ensures at_most { result ≤ 192 }
 {
-    let upper = two_forms(
-        lines,
-        k,
-        (begins.first, begins.second),
-        (ends.first, ends.second),
-    );
-    let lower = two_forms(
-        lines,
-        k + 2,
-        (begins.third, begins.fourth),
-        (ends.third, ends.fourth),
-    );
+    let upper = two_forms(lines, k, begins.0, ends.0);
+    let lower = two_forms(lines, k + 2, begins.1, ends.1);
     upper.or(lower).count_ones()
 }
 

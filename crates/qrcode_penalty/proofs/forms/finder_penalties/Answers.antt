@@ -20,7 +20,7 @@ loop-k-preserved g c =
     let f : ℕ → ℕ = λ y. sum_below room (λ x. finder_penalty_at w (dark_in (inner_lines w lines) x) y) in
     let e : 4 * (k + 1) ≡ 4 * k + 4 = omega arith in
     let next : 4 * k + 8 ≡ 4 * (k + 1) + 4 = omega arith in
-    let M : ℕ → Type 0 = λ n. AreFourMarks lines n (bits c.four_marks-ends.result.first) (bits c.four_marks-ends.result.second) (bits c.four_marks-ends.result.third) (bits c.four_marks-ends.result.fourth) in
+    let M : ℕ → Type 0 = λ n. AreFourMarks lines n (bits c.four_marks-ends.result.0.0) (bits c.four_marks-ends.result.0.1) (bits c.four_marks-ends.result.1.0) (bits c.four_marks-ends.result.1.1) in
     record {
       value = λ padded.
           let sum : sum_below (4 * (k + 1)) f ≡ sum_below (4 * k) f + sum_below 4 (λ i. f (4 * k + i)) = ap (λ n. sum_below n f) e ∙ sum_parts f (4 * k) 4 in

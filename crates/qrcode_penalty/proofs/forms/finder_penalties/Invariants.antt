@@ -11,5 +11,5 @@ invariant-loop-k g l =
     record {
       value : IsPadded l.width lines → 40 * l.total ≡ sum_below (4 * l.k) (λ y. sum_below g.L.PackedRow.room (λ x. finder_penalty_at l.width (dark_in (inner_lines l.width lines) x) y));
       at_most : l.total ≤ 192 * l.k;
-      begins_are : AreFourMarks lines (4 * l.k + 4) (bits l.begins.first) (bits l.begins.second) (bits l.begins.third) (bits l.begins.fourth);
+      begins_are : AreFourMarks lines (4 * l.k + 4) (bits l.begins.0.0) (bits l.begins.0.1) (bits l.begins.1.0) (bits l.begins.1.1);
     }
