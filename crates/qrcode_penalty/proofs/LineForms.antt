@@ -1,5 +1,5 @@
 -- The words of finder forms along a line, place by place.
-use Rattle.std.proofs.Common.{◌≡◌, ℕ, zero, suc, ◌+◌, ◌-◌, ◌*◌, ◌/◌, ◌^◌, ◌<◌, ◌≤◌, Bool, true, false, not, ◌&&◌, ◌||◌, refl, ap, ap₂, sym, ◌∙◌, arith, count_ones, bit_and, bit_or, add_assoc}
+use Rattle.std.proofs.Common.{◌≡◌, ℕ, zero, suc, ◌+◌, ◌-◌, ◌*◌, ◌/◌, ◌^◌, ◌<◌, ◌≤◌, Bool, true, false, not, ◌&&◌, ◌||◌, refl, ap, ap₂, sym, ◌∙◌, arith, count_ones, bit_and, bit_or, bit_xor, add_assoc}
 use Rattle.std.proofs.lemmas.Nat.{or_lt, and_le_r, pow_below}
 use Rattle.std.proofs.Math.Pow.{pow_mono}
 use Rattle.std.specs.Int.Count.{ones}
@@ -53,6 +53,15 @@ shapes a = bit_and (bit_and (turns a) (turns a / 2 ^ 4)) (middles a)
 
 abbrev pub forms : ℕ → ℕ
 forms a = without (shapes a) (crowded a)
+
+-- the same, each by a word that was made before it
+pub shapes_from : (a down edge next turn either behind middle far both shape : ℕ) → down ≡ a / 2 ^ 1 → edge ≡ bit_xor a down → next ≡ edge / 2 ^ 1 → turn ≡ bit_and edge next → either ≡ bit_or edge next
+    → behind ≡ either / 2 ^ 2 → middle ≡ without a behind → far ≡ turn / 2 ^ 4 → both ≡ bit_and turn far → shape ≡ bit_and both middle → shape ≡ shapes a
+shapes_from a down edge next turn either behind middle far both shape p q r s t u v w x y = rw (y, x, w, v, u, t, s, r, q, p) refl
+
+pub crowded_from : (a up two further four down both : ℕ) → up ≡ a * 2 ^ 1 → two ≡ bit_or a up → further ≡ two * 2 ^ 2 → four ≡ bit_or two further → down ≡ four / 2 ^ 11 → both ≡ bit_and four down
+    → both ≡ bit_and (fours a) (fours a / 2 ^ 11)
+crowded_from a up two further four down both p q r s t u = rw (u, t, s, r, q, p) refl
 
 or_turn : (a b c d : Bool) → ((a || b) || (c || d)) ≡ ((d || c) || (b || a))
 or_turn true b c true = refl
