@@ -9,6 +9,39 @@ use Rattle.qrcode_penalty.proofs.Squares.{balance_of}
 use Rattle.qrcode_penalty.proofs.StripSums.{strip_padded, strips_cost, blocks_of_strips, darks_of_strips, lines_from, blocks_from, last_cost}
 use Rattle.qrcode_penalty.proofs.strips.penalty_of_parts.Goals as goal
 
+-- how many places strips have blocks at, and modules
+few_blocks : (count w : ℕ) → count ≤ 3 → w ≤ 189 → count * (64 * (w - 1)) ≤ 3 * (64 * 188)
+few_blocks count w few narrow = mul-le count (64 * (w - 1)) 3 (64 * 188) few (omega (arith, narrow))
+
+few_modules : (count w : ℕ) → count ≤ 3 → w ≤ 189 → count * (64 * w) ≤ 3 * (64 * 189)
+few_modules count w few narrow = mul-le count (64 * w) 3 (64 * 189) few (omega (arith, narrow))
+
+pub count_last-last-requires-clause-rows : goal.count_last-last-requires-clause-rows
+count_last-last-requires-clause-rows g c = omega (arith, c.requires.rows, ap (λ (s : ℕ). c.args.count * (s / 2)) c.size.ensures)
+
+pub count_last-last-requires-clause-columns : goal.count_last-last-requires-clause-columns
+count_last-last-requires-clause-columns g c = omega (arith, c.requires.columns, ap (λ (s : ℕ). c.args.count * (s / 2)) c.size.ensures)
+
+pub overflow_mul-blocks-2 : goal.overflow_mul-blocks-2
+overflow_mul-blocks-2 g c = omega (arith, few_blocks c.args.count c.args.width c.requires.few c.requires.at_most)
+
+pub overflow_sub-blocks-2 : goal.overflow_sub-blocks-2
+overflow_sub-blocks-2 g c = omega (arith, c.strip_rows-counts.ensures.mixed_at_most)
+
+pub overflow_mul-blocks-3 : goal.overflow_mul-blocks-3
+overflow_mul-blocks-3 g c = omega (arith, few_blocks c.args.count c.args.width c.requires.few c.requires.at_most)
+
+pub overflow_mul-counts : goal.overflow_mul-counts
+overflow_mul-counts g c =
+    omega (arith, few_modules c.args.count c.args.width c.requires.few c.requires.at_most, c.strip_rows-counts.ensures.dark_at_most, c.count_last-last.ensures.dark_at_most)
+
+pub overflow_add-result : goal.overflow_add-result
+overflow_add-result g c = omega (arith, c.strip_penalties-lines.ensures.at_most, c.count_last-last.ensures.cost_at_most, c.saturating_sub-2.ensures)
+
+pub overflow_add-result-2 : goal.overflow_add-result-2
+overflow_add-result-2 g c =
+    omega (arith, few_blocks c.args.count c.args.width c.requires.few c.requires.at_most, c.strip_penalties-lines.ensures.at_most, c.count_last-last.ensures.cost_at_most, c.saturating_sub-2.ensures)
+
 pub returns-clause-value : goal.returns-clause-value
 unfolding normal_penalty
 returns-clause-value g c = λ dark shows last_shown.
@@ -51,8 +84,8 @@ returns-clause-at_most g c =
     let share = darks / (w * w) in
     let square : 7 * 7 ≤ w * w = mul-le 7 7 w w c.requires.at_least c.requires.at_least in
     let few : share * 49 ≤ share * (w * w) = mul-le share 49 share (w * w) (omega arith) square in
-    let blocks : count * (64 * (w - 1)) ≤ 3 * (64 * 188) = mul-le count (64 * (w - 1)) 3 (64 * 188) c.requires.few (omega (arith, c.requires.at_most)) in
-    let places : count * (64 * w) ≤ 3 * (64 * 189) = mul-le count (64 * w) 3 (64 * 189) c.requires.few (omega (arith, c.requires.at_most)) in
+    let blocks = few_blocks count w c.requires.few c.requires.at_most in
+    let places = few_modules count w c.requires.few c.requires.at_most in
     omega (
       arith,
       few,
