@@ -128,28 +128,43 @@ fn drawing_of(alloc: Global, request: &Request<'_>, code: &QrCode) -> QrResult<V
     ensures memory { IsOkUnless result OutOfMemory }
 {
     let modules = code.to_colors(alloc)?;
+    shown(alloc, request, code, &modules)
+}
+
+// A symbol of these modules, drawn as a request asks for.
+fn shown(
+    alloc: Global,
+    request: &Request<'_>,
+    code: &QrCode,
+    modules: &[Color],
+) -> QrResult<Vec<u8>>
+    requires modules { modules.now ≡ code.now.modules }
+    ensures drawing { IfOk result (λ drawing.
+        IsShownBy request.now code.now.version code.now.modules drawing.items) }
+    ensures memory { IsOkUnless result OutOfMemory }
+{
     let text = match request.format {
-        Format::HalfBlocks => with_newline(half_blocks(alloc, request, code, &modules)?)?,
+        Format::HalfBlocks => with_newline(half_blocks(alloc, request, code, modules)?)?,
         Format::Terminal => {
-            let lines = half_blocks(alloc, request, code, &modules)?;
+            let lines = half_blocks(alloc, request, code, modules)?;
             return coloured(alloc, &lines);
         }
-        Format::Chars => with_newline(picture(alloc, request, code, &modules, '\u{2588}', ' ')?)?,
+        Format::Chars => with_newline(picture(alloc, request, code, modules, '\u{2588}', ' ')?)?,
         Format::Svg => {
             let (dark, light) = (
                 svg::Color(request.dark.name),
                 svg::Color(request.light.name),
             );
-            picture(alloc, request, code, &modules, dark, light)?
+            picture(alloc, request, code, modules, dark, light)?
         }
-        Format::Pic => picture(alloc, request, code, &modules, pic::Color, pic::Color)?,
+        Format::Pic => picture(alloc, request, code, modules, pic::Color, pic::Color)?,
         Format::Eps => {
             let (dark, light) = (eps_ink(request.dark), eps_ink(request.light));
-            picture(alloc, request, code, &modules, dark, light)?
+            picture(alloc, request, code, modules, dark, light)?
         }
-        Format::Png => return png(alloc, request, code, &modules),
-        Format::Pgm => return picture(alloc, request, code, &modules, Grey(0), Grey(255)),
-        Format::Pbm => return picture(alloc, request, code, &modules, Bit::Black, Bit::White),
+        Format::Png => return png(alloc, request, code, modules),
+        Format::Pgm => return picture(alloc, request, code, modules, Grey(0), Grey(255)),
+        Format::Pbm => return picture(alloc, request, code, modules, Bit::Black, Bit::White),
     };
     Ok(text.into_bytes())
 }

@@ -3,6 +3,7 @@
 use crate::elements::{symbol_for_application, symbol_of_elements};
 use crate::request::{Choice, Request};
 use crate::segments::{Segment, symbol_of};
+use qrcode::QrCode;
 use qrcode::bits::Manner;
 use qrcode::types::{EcLevel, Mode, QrError, Version};
 use qrcode_gs1::elements::Element;
@@ -28,13 +29,7 @@ pub fn refusal_text(
             no_mode_text(alloc, request.manner, version)
         }
         (QrError::InvalidVersion, Choice::At(version)) => {
-            let (name, level) = (Name(version), request.level);
-            let levels = match version {
-                Version::Micro(1) => "L alone",
-                Version::Micro(4) => "L, M and Q",
-                _ => "L and M",
-            };
-            format!(in alloc; "version {name} has no level {level:?}; it has {levels}")
+            no_level_text(alloc, version, request.level)
         }
         (error, _) => format!(in alloc; "{error}"),
     }
@@ -51,10 +46,7 @@ pub fn segments_refusal_text(
     match (error, request.choice) {
         (QrError::DataTooLong, choice) => {
             let from = Choice::From(least_version(choice));
-            let least = match symbol_of(alloc, from, request.level, segments) {
-                Ok(code) => Some(code.version()),
-                Err(_) => None,
-            };
+            let least = version_of(symbol_of(alloc, from, request.level, segments));
             room_refusal_text(alloc, request, "segments", least)
         }
         (QrError::UnsupportedCharacterSet, Choice::At(version)) => {
@@ -73,11 +65,8 @@ pub fn elements_refusal_text(
     request: &Request<'_>,
     elements: &[Element<'_>],
 ) -> Result<String, AllocError> {
-    let (from, level) = (least_version(request.choice), request.level);
-    let least = match symbol_of_elements(alloc, Choice::From(from), level, elements) {
-        Ok(code) => Some(code.version()),
-        Err(_) => None,
-    };
+    let from = Choice::From(least_version(request.choice));
+    let least = version_of(symbol_of_elements(alloc, from, request.level, elements));
     marked_refusal_text(alloc, request, "elements", least)
 }
 
@@ -88,11 +77,8 @@ pub fn application_refusal_text(
     application: u8,
     bytes: &[u8],
 ) -> Result<String, AllocError> {
-    let (from, level) = (least_version(request.choice), request.level);
-    let least = match symbol_for_application(alloc, Choice::From(from), level, application, bytes) {
-        Ok(code) => Some(code.version()),
-        Err(_) => None,
-    };
+    let (from, level) = (Choice::From(least_version(request.choice)), request.level);
+    let least = version_of(symbol_for_application(alloc, from, level, application, bytes));
     marked_refusal_text(alloc, request, "data", least)
 }
 
@@ -100,6 +86,14 @@ pub fn application_refusal_text(
 fn least_version(choice: Choice) -> Version {
     let (Choice::From(version) | Choice::Boosted(version) | Choice::At(version)) = choice;
     version
+}
+
+// The version of a symbol that is made.
+fn version_of<E: Drop>(made: Result<QrCode, E>) -> Option<Version> {
+    match made {
+        Ok(code) => Some(code.version()),
+        Err(_) => None,
+    }
 }
 
 // The text of a refusal of what stands behind FNC1, by the least version that holds it from the one that
@@ -175,6 +169,17 @@ fn no_room_text(
     }
     push_version(&mut text, manner, count, level)?;
     Ok(text)
+}
+
+// The version that is asked for lacks the level.
+fn no_level_text(alloc: Global, version: Version, level: EcLevel) -> Result<String, AllocError> {
+    let name = Name(version);
+    let levels = match version {
+        Version::Micro(1) => "L alone",
+        Version::Micro(4) => "L, M and Q",
+        _ => "L and M",
+    };
+    format!(in alloc; "version {name} has no level {level:?}; it has {levels}")
 }
 
 // The version that is asked for cannot write the data.

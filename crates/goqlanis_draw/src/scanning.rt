@@ -48,29 +48,28 @@ impl From<AllocError> for Unread {
 impl fmt::Display for Unread {
     fn fmt<W: fmt::Write>(&self, f: &mut fmt::Formatter<W>) -> fmt::Result {
         match self {
-            Unread::Unscanned(Unscanned::NotPicture) => {
-                f.write_str("it is neither a PBM or PGM file nor half blocks; convert it to PBM")
-            }
-            Unread::Unscanned(Unscanned::NoSide) => {
-                f.write_str("it has no pixels, or more than 65,535 along a side")
-            }
-            Unread::Unscanned(Unscanned::NoGrey) => {
-                f.write_str("its greatest grey is not one of 1 to 255; convert it to PBM")
-            }
-            Unread::Unscanned(Unscanned::NotPixel) => {
-                f.write_str("something that is no pixel stands before its last pixel")
-            }
-            Unread::Unscanned(Unscanned::TooShort) => f.write_str("it ends before its last pixel"),
+            Unread::Unscanned(cause) => f.write_str(told(*cause)),
             Unread::NoSquare => f.write_str(
                 "its pixels are no square of modules of one size in a margin that is as wide at each side",
             ),
             Unread::NoSymbol(count, error) => {
                 write!(f, "{count} by {count} modules are no symbol: {error}")
             }
-            Unread::OutOfMemory | Unread::Unscanned(Unscanned::OutOfMemory) => {
-                f.write_str("out of memory")
-            }
+            Unread::OutOfMemory => f.write_str("out of memory"),
         }
+    }
+}
+
+// Why there are no pixels.
+fn told(cause: Unscanned) -> &'static str {
+    match cause {
+        Unscanned::NotPicture =>
+            "it is neither a PBM or PGM file nor half blocks; convert it to PBM",
+        Unscanned::NoSide => "it has no pixels, or more than 65,535 along a side",
+        Unscanned::NoGrey => "its greatest grey is not one of 1 to 255; convert it to PBM",
+        Unscanned::NotPixel => "something that is no pixel stands before its last pixel",
+        Unscanned::TooShort => "it ends before its last pixel",
+        Unscanned::OutOfMemory => "out of memory",
     }
 }
 
