@@ -1,17 +1,21 @@
 -- The bytes' own manner is that of cuts in all modes with nothing in front.
-use Rattle.std.proofs.Common.{◌≡◌, ℕ, ◌+◌, ◌≤◌, pos, List, length, refl, sym, ap, subst, arith}
-use Rattle.qrcode_types.specs.Versions.{capacity}
+use Rattle.std.proofs.Common.{◌≡◌, ℕ, ◌+◌, ◌≤◌, pos, false, List, length, refl, sym, ap, subst, ◌∙◌, arith, IsTrue, ◌⊎◌, inl, inr, true≢false}
+use Rattle.qrcode_types.specs.Versions.{is_valid, has_level, capacity}
 use Rattle.qrcode_types.specs.declared.types.Version.{Version}
 use Rattle.qrcode_types.specs.declared.types.Version.TheVariants.{Normal}
 use Rattle.qrcode_types.specs.declared.types.EcLevel.{EcLevel}
+use Rattle.qrcode_types.specs.declared.types.QrError.{QrError}
+use Rattle.qrcode_types.specs.declared.types.QrError.TheVariants.{DataTooLong, InvalidVersion, UnsupportedCharacterSet, OutOfMemory}
 use Rattle.qrcode_bits.specs.BitList.{BitList}
-use Rattle.qrcode_bits.specs.Choice.{Holds}
-use Rattle.qrcode_bits.specs.Cuts.{FitsIn}
+use Rattle.qrcode_bits.specs.Choice.{Holds, IfCause, IsRefusedIn}
+use Rattle.qrcode_bits.specs.Cuts.{IsCutIn, FitsIn}
 use Rattle.qrcode_bits.specs.Encoded.{IsChosenList, IsListFrom}
-use Rattle.qrcode_bits.specs.Manners.{FitsAs, HoldsAs, rank}
+use Rattle.qrcode_bits.specs.Manners.{modes_of, has_front, FitsAs, HoldsAs, rank}
+use Rattle.qrcode_bits.specs.Refusals.{data_limit}
 use Rattle.qrcode_bits.specs.Segments.{total_cost}
 use Rattle.qrcode_bits.specs.Spelling.{SpellsOnly}
 use Rattle.qrcode_bits.specs.Written.{written, pieces_of, terminated}
+use Rattle.qrcode_bits.specs.declared.optimize.Segment.{Segment}
 use Rattle.qrcode_bits.specs.declared.bits.manner.Manner.{Manner}
 use Rattle.qrcode_bits.specs.declared.bits.manner.Manner.TheVariants.{Bytes}
 use Rattle.qrcode_bits.proofs.Bands.{normal_number}
@@ -74,3 +78,22 @@ plain_list l bytes list from =
         spelled = subst (λ b. SpellsOnly v b bytes) (sym made.bits) (subst (SpellsOnly v (terminated v l (written v (pieces_of bytes ss)))) pieces.2 only);
       };
     }
+
+module _ (m : Manner) (v : Version) (l : EcLevel) (bytes : List ℕ) where
+  -- what refuses data behind the first three causes
+  abbrev pub IsRefusedBehind : QrError → Type 0
+  IsRefusedBehind e =
+      IfCause ((ss : List Segment) → ¬ IsCutIn (modes_of m) v bytes ss) (e ≡ UnsupportedCharacterSet)
+      ((e ≡ OutOfMemory) ⊎ IfCause (has_level v l ≡ false) (e ≡ InvalidVersion) ((¬ HoldsAs m v l bytes) × (e ≡ DataTooLong)))
+
+  -- the first three causes do not apply
+  pub refused_behind : (e : QrError) → IsTrue (is_valid v) → length bytes ≤ data_limit → IsTrue (has_front v m) → IsRefusedBehind e → IsRefusedIn m v l bytes e
+  refused_behind e valid short has cause = inr (λ no. true≢false (sym valid ∙ no), inr (λ long. omega (arith, short, long), inr (λ no. true≢false (sym has ∙ no), cause)))
+
+  -- the search for a cut refuses the data
+  pub refused_search : (e : QrError) → (e ≡ UnsupportedCharacterSet) ⊎ (e ≡ OutOfMemory) → (((ss : List Segment) → ¬ IsCutIn (modes_of m) v bytes ss) → e ≡ UnsupportedCharacterSet)
+      → ((ss : List Segment) → IsCutIn (modes_of m) v bytes ss → e ≡ OutOfMemory) → IsRefusedBehind e
+  refused_search e either no_cut memory = elim either [
+    | inl lacks ↦ inl (λ ss cut. (let h : UnsupportedCharacterSet ≡ OutOfMemory = sym lacks ∙ memory ss cut in cc), lacks)
+    | inr refused ↦ inr (λ none. (let h : UnsupportedCharacterSet ≡ OutOfMemory = sym (no_cut none) ∙ refused in cc), inl refused)
+  ]

@@ -59,9 +59,6 @@ module _ {S : Type 0} (steps : S → Option Segment → S → Type 0) where
     pub joined : is_group v first further ≡ true
     pub is : last ≡ joint_of first further
 
-  pub joined-none : (v : Version) (first : Segment) (start : S) → Joined v first start first start
-  joined-none v first start = record { further = []; came = refl; joined = refl; is = refl }
-
   pub joined-next : (v w : Version) (first last x j : Segment) (start now next : S) → w ≡ v → Joined v first start last now → steps now (Some x) next → Some j ≡ joint_if (is_joined w last x) last x → Joined v first start j next
   joined-next v w first last x j start now next same h st e =
       let p = joint-cases (is_joined w last x) last x j (sym e) in

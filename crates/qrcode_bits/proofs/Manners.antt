@@ -1,6 +1,6 @@
 -- Versions in their order, and which hold data in a manner.
-use Rattle.std.proofs.Common.{◌≡◌, ℕ, ◌+◌, ◌≤◌, ◌<◌, nat_le, pos, negsuc, List, length, refl, sym, ap, subst, arith, IsTrue, inl, inr}
-use Rattle.std.proofs.lemmas.Bool.{and_parts, leb-true, cases_lt}
+use Rattle.std.proofs.Common.{◌≡◌, ℕ, ◌+◌, ◌≤◌, ◌<◌, nat_le, pos, negsuc, List, length, refl, sym, ap, subst, arith, IsTrue}
+use Rattle.std.proofs.lemmas.Bool.{and_parts, leb-true}
 use Rattle.qrcode_types.specs.Versions.{is_valid, has_level, capacity}
 use Rattle.qrcode_types.specs.declared.types.Version.{Version}
 use Rattle.qrcode_types.specs.declared.types.Version.TheVariants.{Normal, Micro}
@@ -28,12 +28,6 @@ normal_at (Normal (negsuc n)) valid high = cc
 normal_at (Micro (pos n)) valid high = absurd (omega (arith, high, leb-true n 4 (and_parts (nat_le 1 n) (nat_le n 4) valid).1))
 normal_at (Micro (negsuc n)) valid high = cc
 
-pub micro_at : (v : Version) (n : ℕ) → IsTrue (is_valid v) → rank v ≡ n → n ≤ 4 → v ≡ Micro (pos n)
-micro_at (Normal (pos k)) n valid is low = absurd (omega (arith, leb-true 1 k (and_parts (nat_le 1 k) (nat_le k 40) valid).0, is, low))
-micro_at (Normal (negsuc k)) n valid is low = cc
-micro_at (Micro (pos k)) n valid is low = ap (λ k. Micro (pos k)) is
-micro_at (Micro (negsuc k)) n valid is low = cc
-
 pub valid_of : (v : Version) (l : EcLevel) → IsTrue (has_level v l) → IsTrue (is_valid v)
 valid_of v l has = (and_parts (is_valid v) _ has).0
 
@@ -46,13 +40,6 @@ pub cut_as : (m : Manner) (i j : ℕ) (bytes : List ℕ) (ss : List Segment) →
 cut_as m i j bytes ss cut = record { cut = cut_in i j bytes ss cut.cut; among = cut.among }
 
 module _ (m : Manner) (l : EcLevel) (bytes : List ℕ) where
-  -- nothing holds the data up to a place, and then up to another
-  pub none_through : (a b c : ℕ) → NoneHolds m l bytes a b → NoneHolds m l bytes b c → NoneHolds m l bytes a c
-  none_through a b c low high v from to holds = elim (cases_lt (rank v) b) [
-    | inl below ↦ low v from below holds
-    | inr above ↦ high v above to holds
-  ]
-
   -- the versions of a band take the same bits
   same_costs : (first k : ℕ) (ss : List Segment) → first ≤ k → k ≤ last_of first → total_cost (Normal (pos (last_of first))) ss ≡ total_cost (Normal (pos k)) ss
   same_costs first k ss low high =

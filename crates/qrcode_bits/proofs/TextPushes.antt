@@ -1,27 +1,28 @@
 -- How a push of a text ends.
 use Rattle.std.proofs.lemmas.Bool.{false≢true}
-use Rattle.std.proofs.Common.{◌≡◌, ℕ, zero, suc, ◌+◌, ◌<◌, ◌≤◌, ◌++◌, Bool, List, [], ◌∷◌, length, take, refl, sym, ap, ap₂, subst, ◌∙◌, arith, ◌⊎◌, inl, inr, Option, Some, None, IsTrue, true≢false, length-append, append_assoc}
+use Rattle.std.proofs.Common.{◌≡◌, ℕ, zero, suc, ◌+◌, ◌<◌, ◌≤◌, ◌++◌, Bool, List, [], ◌∷◌, length, take, refl, sym, ap, ap₂, subst, ◌∙◌, arith, ◌⊎◌, inl, inr, Option, Some, None, IsTrue, false, true≢false, length-append, append_assoc}
 use Rattle.std.specs.Prelude.{IsUtf8, chars, slice_get, IfSome, Result, Ok, Err, IsErr, IsErrAnd}
 use Rattle.std.specs.Option.{option_or}
 use Rattle.qrcode_types.specs.Versions.{is_valid, capacity}
 use Rattle.qrcode_types.specs.declared.types.Version.{Version}
 use Rattle.qrcode_types.specs.declared.types.EcLevel.{EcLevel}
 use Rattle.qrcode_types.specs.declared.types.QrError.{QrError}
-use Rattle.qrcode_types.specs.declared.types.QrError.TheVariants.{DataTooLong, OutOfMemory}
+use Rattle.qrcode_types.specs.declared.types.QrError.TheVariants.{DataTooLong, UnsupportedCharacterSet, OutOfMemory}
 use Rattle.qrcode_types.specs.Characters.{character_count}
 use Rattle.qrcode_bits.specs.BitList.{BitList}
-use Rattle.qrcode_bits.specs.Cuts.{IsLeastCutIn}
+use Rattle.qrcode_bits.specs.Cuts.{IsCutIn, IsLeastCutIn}
 use Rattle.qrcode_bits.specs.Manners.{is_text, modes_of, front, has_front, HoldsAs}
 use Rattle.qrcode_bits.specs.Pushes.{PushesAll}
 use Rattle.qrcode_bits.specs.Refusals.{data_limit, bit_limit, piece_refusal, pieces_refusal, IsCause, StopsAt}
 use Rattle.qrcode_bits.specs.Segments.{cost_of, total_cost}
 use Rattle.qrcode_bits.specs.Shown.{ShowsOnly}
-use Rattle.qrcode_bits.specs.TextPushes.{HasNoRoom, PushesText}
+use Rattle.qrcode_bits.specs.Choice.{IfCause}
+use Rattle.qrcode_bits.specs.TextPushes.{HasNoRoom, IsRefusedText, PushesText}
 use Rattle.qrcode_bits.specs.Written.{Piece, written, written_piece, pieces_of, terminated}
 use Rattle.qrcode_bits.specs.declared.bits.manner.Manner.{Manner}
 use Rattle.qrcode_bits.specs.declared.optimize.Segment.{Segment}
 use Rattle.qrcode_bits.proofs.Automatic.{held_short}
-use Rattle.qrcode_bits.proofs.Changed.{list_of, append_fits}
+use Rattle.qrcode_bits.proofs.Changed.{list_of, append_fits, append_long}
 use Rattle.qrcode_bits.proofs.CutPieces.{cut_pieces, length-written}
 use Rattle.qrcode_bits.proofs.Fitting.{cut_stop, readable_stop}
 use Rattle.qrcode_bits.proofs.Lengths.{length-piece}
@@ -81,20 +82,77 @@ held_stop m l bytes list ss e new valid least holds room stop =
     let long = length-written v bytes 0 ss (length bytes) least.reached.cut.tiles (omega arith) in
     readable_stop v (list.bits ++ front m) (pieces_of bytes ss) e new pieces.0 (omega (arith, length-append list.bits (front m), long, short, room)) stop
 
--- the list stays as it was where a piece is refused
+-- the list stays as it was where a text is refused
+kept : (m : Manner) (bytes : List ℕ) (list : BitList) (e : QrError) (result : Result (Unit {0}) QrError) → IsErr result × IsErrAnd result (λ x. x ≡ e)
+    → ((l : EcLevel) → HoldsAs m list.version l bytes → length list.bits + capacity list.version l ≤ bit_limit → e ≡ OutOfMemory) → IsRefusedText m bytes list e → PushesText m bytes list list result
+kept m bytes list e (Ok u) is memory cause = absurd (false≢true is.0)
+kept m bytes list e (Err x) is memory cause = subst (λ x. PushesText m bytes list list (Err x)) (sym is.1) (record { appends = tt; unchanged = refl; accepts = memory; causes = cause })
+
+-- a text of too many bytes fits no symbol
+pub long_text : (m : Manner) (bytes : List ℕ) (list : BitList) → data_limit < length bytes → PushesText m bytes list list (Err DataTooLong)
+long_text m bytes list long = record {
+  appends = tt;
+  unchanged = refl;
+  accepts = λ l holds fits. absurd (omega (arith, long, held_short m list.version l bytes holds));
+  causes = inl (long, refl);
+}
+
+-- a version that cannot have the bits in front holds no text in the manner
+pub unmarked_text : (m : Manner) (bytes : List ℕ) (list : BitList) (v : Version) → v ≡ list.version → length bytes ≤ data_limit → has_front v m ≡ false → PushesText m bytes list list (Err UnsupportedCharacterSet)
+unmarked_text m bytes list v same short not_there =
+    let no : has_front list.version m ≡ false = subst (λ w. has_front w m ≡ false) same not_there in
+    record {
+      appends = tt;
+      unchanged = refl;
+      accepts = λ l holds fits. absurd (true≢false (sym holds.front_exists ∙ no));
+      causes = inr (λ long. omega (arith, short, long), inl (no, refl));
+    }
+
+-- what refuses a text of few bytes in a version that can have the bits in front
+behind_front : (m : Manner) (bytes : List ℕ) (list : BitList) (e : QrError) → length bytes ≤ data_limit → IsTrue (has_front list.version m)
+    → IfCause ((ss : List Segment) → ¬ IsCutIn (modes_of m) list.version bytes ss) (e ≡ UnsupportedCharacterSet) ((e ≡ OutOfMemory) ⊎ ((e ≡ DataTooLong) × HasNoRoom m bytes list)) → IsRefusedText m bytes list e
+behind_front m bytes list e short has cause = inr (λ long. omega (arith, short, long), inr (λ no. true≢false (sym has ∙ no), cause))
+
+-- a text that the search for a cut refuses
+pub uncut_text : (m : Manner) (bytes : List ℕ) (list : BitList) (v : Version) (e : QrError) (result : Result (Unit {0}) QrError) → v ≡ list.version → length bytes ≤ data_limit → IsTrue (has_front v m)
+    → (e ≡ UnsupportedCharacterSet) ⊎ (e ≡ OutOfMemory) → (((ss : List Segment) → ¬ IsCutIn (modes_of m) v bytes ss) → e ≡ UnsupportedCharacterSet)
+    → ((ss : List Segment) → IsCutIn (modes_of m) v bytes ss → e ≡ OutOfMemory) → IsErr result × IsErrAnd result (λ x. x ≡ e) → PushesText m bytes list list result
+uncut_text m bytes list v e result same short has either no_cut memory is =
+    let starved = λ (ss : List Segment) (cut : IsCutIn (modes_of m) list.version bytes ss). memory ss (subst (λ w. IsCutIn (modes_of m) w bytes ss) (sym same) cut) in
+    let lacking = λ (none : (ss : List Segment) → ¬ IsCutIn (modes_of m) list.version bytes ss). no_cut (λ ss cut. none ss (subst (λ w. IsCutIn (modes_of m) w bytes ss) same cut)) in
+    kept m bytes list e result is (λ l holds fits. starved holds.room.0 holds.room.1.0) (behind_front m bytes list e short (subst (λ w. IsTrue (has_front w m)) same has) (elim either [
+      | inl lacks ↦ inl (λ ss cut. (let h : UnsupportedCharacterSet ≡ OutOfMemory = sym lacks ∙ starved ss cut in cc), lacks)
+      | inr refused ↦ inr (λ none. (let h : UnsupportedCharacterSet ≡ OutOfMemory = sym (lacking none) ∙ refused in cc), inl refused)
+    ]))
+
+-- a text for which memory is refused behind the search
+pub starved_text : (m : Manner) (bytes : List ℕ) (list : BitList) (ss : List Segment) (e : QrError) (result : Result (Unit {0}) QrError) → length bytes ≤ data_limit → IsTrue (has_front list.version m)
+    → IsLeastCutIn (modes_of m) list.version bytes ss → e ≡ OutOfMemory → IsErr result × IsErrAnd result (λ x. x ≡ e) → PushesText m bytes list list result
+starved_text m bytes list ss e result short has least memory is =
+    kept m bytes list e result is (λ l holds fits. memory) (behind_front m bytes list e short has (inr (λ none. none ss least.reached, inl memory)))
+
+-- a list that has no room for the bits in front
+pub full_list : (m : Manner) (bytes : List ℕ) (list : BitList) (ss : List Segment) → length bytes ≤ data_limit → IsTrue (has_front list.version m) → IsLeastCutIn (modes_of m) list.version bytes ss
+    → bit_limit < length list.bits + length (front m) → PushesText m bytes list list (Err DataTooLong)
+full_list m bytes list ss short has least over =
+    let refusal = ap (λ o. option_or o (pieces_refusal list.version (length list.bits + length (front m)) (pieces_of bytes ss))) (append_long (length list.bits) (front m) over) in
+    record {
+      appends = tt;
+      unchanged = refl;
+      accepts = λ l holds fits. absurd (omega (arith, holds.room.1.1, fits, over));
+      causes = behind_front m bytes list DataTooLong short has (inr (λ none. none ss least.reached, inr (refl, (ss, (least, refusal)))));
+    }
+
+-- a text of which a piece is refused
 pub refused_text : (m : Manner) (bytes : List ℕ) (list : BitList) (ss : List Segment) (new : List Bool) (e : QrError) (result : Result (Unit {0}) QrError)
     → IsTrue (is_valid list.version) → length bytes ≤ data_limit → IsTrue (has_front list.version m) → IsLeastCutIn (modes_of m) list.version bytes ss → length list.bits + length (front m) ≤ bit_limit
     → StopsAt list.version (list.bits ++ front m) (pieces_of bytes ss) e new → IsErr result × IsErrAnd result (λ x. x ≡ e) → PushesText m bytes list list result
-refused_text m bytes list ss new e (Ok u) valid short has least room stop is = absurd (false≢true is.0)
-refused_text m bytes list ss new e (Err x) valid short has least room stop is = subst (λ x. PushesText m bytes list list (Err x)) (sym is.1) (record {
-  appends = tt;
-  unchanged = refl;
-  accepts = λ l holds fits. held_stop m l bytes list ss e new valid least holds fits stop;
-  causes = inr (λ long. omega (arith, short, long), inr (λ no. true≢false (sym has ∙ no), inr (λ none. none ss least.reached, cause (cut_stop list.version (list.bits ++ front m) bytes ss e new least.reached.cut stop))));
-}) where
-  cause : (e ≡ DataTooLong) ⊎ (e ≡ OutOfMemory) → (e ≡ OutOfMemory) ⊎ ((e ≡ DataTooLong) × HasNoRoom m bytes list)
-  cause (inl long) = inr (long, piece_long m bytes list ss new least room (subst (λ e. StopsAt list.version (list.bits ++ front m) (pieces_of bytes ss) e new) long stop))
-  cause (inr memory) = inl memory
+refused_text m bytes list ss new e result valid short has least room stop is =
+    kept m bytes list e result is (λ l holds fits. held_stop m l bytes list ss e new valid least holds fits stop)
+    (behind_front m bytes list e short has (inr (λ none. none ss least.reached, cause (cut_stop list.version (list.bits ++ front m) bytes ss e new least.reached.cut stop)))) where
+      cause : (e ≡ DataTooLong) ⊎ (e ≡ OutOfMemory) → (e ≡ OutOfMemory) ⊎ ((e ≡ DataTooLong) × HasNoRoom m bytes list)
+      cause (inl long) = inr (long, piece_long m bytes list ss new least room (subst (λ e. StopsAt list.version (list.bits ++ front m) (pieces_of bytes ss) e new) long stop))
+      cause (inr memory) = inl memory
 
 -- the bits in front and all pieces are written
 pub appended_text : (m : Manner) (bytes : List ℕ) (old new : BitList) (ss : List Segment) → IsTrue (is_valid old.version) → IsTrue (has_front old.version m) → IsTrue (is_text m) → IsUtf8 bytes
@@ -120,12 +178,3 @@ appended_text m bytes old new ss valid has text utf8 least pushed version =
       accepts = λ l holds fits. tt;
       causes = tt;
     }
-
--- a text of too many bytes fits no symbol
-pub long_text : (m : Manner) (bytes : List ℕ) (list : BitList) → data_limit < length bytes → PushesText m bytes list list (Err DataTooLong)
-long_text m bytes list long = record {
-  appends = tt;
-  unchanged = refl;
-  accepts = λ l holds fits. absurd (omega (arith, long, held_short m list.version l bytes holds));
-  causes = inl (long, refl);
-}
