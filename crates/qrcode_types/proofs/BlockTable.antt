@@ -45,7 +45,7 @@ row_of-lt (Normal (negsuc n)) e = cc
 row_of-lt (Micro (pos n)) e = omega (arith, and_parts (nat_le 1 n) (nat_le n 4) e, leb-true)
 row_of-lt (Micro (negsuc n)) e = cc
 
-level_number-lt : (l : EcLevel) → level_number l < 4
+pub level_number-lt : (l : EcLevel) → level_number l < 4
 level_number-lt L = omega arith
 level_number-lt M = omega arith
 level_number-lt Q = omega arith

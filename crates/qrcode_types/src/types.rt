@@ -1,18 +1,19 @@
 //! Refusals, colours, error correction levels, versions and modes.
 
-ghost use Rattle.std.specs.Prelude.{◌≡◌, ℕ, ◌<◌, ◌≤◌, ◌↔◌, pos, false, length, List, Some, IsTrue, IfOk, refl};
+ghost use Rattle.std.specs.Prelude.{◌≡◌, ℕ, ◌<◌, ◌≤◌, ◌↔◌, pos, nat_abs, false, length, List, Some, IsTrue, IfOk, refl};
 ghost use Rattle.std.specs.Cmp.{partial_order_from_own_ties};
 ghost use Rattle.std.specs.Ordering.{nat_cmp};
 ghost use Rattle.qrcode_types.specs.Errors.{error_text};
 ghost use Rattle.qrcode_types.specs.Colors.{opposite, select_of};
 ghost use Rattle.qrcode_types.specs.Versions.{is_valid, is_micro, side, row_of, level_number, has_level, level_count};
 ghost use Rattle.qrcode_types.specs.Fetching.{IsEntry, IsFetched};
-ghost use Rattle.qrcode_types.specs.Modes.{mode_bits_count, length_bits_count, data_bits_count, CountsFit, mode_order, mode_max, IsLeastUpperBound};
+ghost use Rattle.qrcode_types.specs.Modes.{by_band, mode_bits_count, length_bits_count, data_bits_count, CountsFit, mode_order, mode_max, IsLeastUpperBound};
 ghost use Rattle.qrcode_types.specs.ModeLaws.{mode_laws, mode_ties};
 ghost use Rattle.qrcode_types.specs.Bits.{AreBytes};
 ghost use Rattle.qrcode_types.specs.Characters.{can_write};
 ghost use Rattle.qrcode_types.specs.declared.types.QrError.TheVariants.{OutOfMemory};
 ghost use Rattle.qrcode_types.specs.declared.types.EcLevel.{EcLevel};
+ghost use Rattle.qrcode_types.specs.declared.types.Version.TheVariants.{Normal, Micro};
 ghost use Rattle.qrcode_types.specs.declared.types.Mode.{Mode};
 
 use crate::tables::Blocks;
@@ -40,6 +41,22 @@ pub enum QrError {
     OutOfMemory,
 }
 
+impl QrError {
+    // What is printed.
+    fn text(&self) -> &'static str
+        ensures { result.now ≡ error_text self.now }
+    {
+        match self {
+            QrError::DataTooLong => "data too long",
+            QrError::InvalidVersion => "invalid version",
+            QrError::UnsupportedCharacterSet => "unsupported character set",
+            QrError::InvalidEciDesignator => "invalid ECI designator",
+            QrError::InvalidCharacter => "invalid character",
+            QrError::OutOfMemory => "out of memory",
+        }
+    }
+}
+
 /// The answer of a call that may refuse its input.
 pub type QrResult<T> = Result<T, QrError>;
 
@@ -50,14 +67,7 @@ impl fmt::Display for QrError {
     ghost styled_output = { λ e _. Some (error_text e) };
 
     fn fmt<W: fmt::Write>(&self, f: &mut fmt::Formatter<W>) -> fmt::Result {
-        match self {
-            QrError::DataTooLong => f.write_str("data too long"),
-            QrError::InvalidVersion => f.write_str("invalid version"),
-            QrError::UnsupportedCharacterSet => f.write_str("unsupported character set"),
-            QrError::InvalidEciDesignator => f.write_str("invalid ECI designator"),
-            QrError::InvalidCharacter => f.write_str("invalid character"),
-            QrError::OutOfMemory => f.write_str("out of memory"),
-        }
+        f.write_str(self.text())
     }
 }
 
@@ -260,38 +270,40 @@ pub enum Mode {
 impl Mode {
     /// The bits of the length field that stands before characters in this mode, in a version that
     /// exists.
-    #[tactic(auto, using(crate::proofs::LengthFields::counts_fit))]
     pub fn length_bits_count(self, version: Version) -> usize
         requires { IsTrue (is_valid version) }
         ensures value { result ≡ length_bits_count self version }
         ensures counts { (mode : Mode) → CountsFit mode version }
     {
         match version {
-            Version::Micro(v) => {
-                let v = v as usize;
-                match self {
-                    Mode::Numeric => v + 2,
-                    Mode::Alphanumeric | Mode::Byte => v + 1,
-                    Mode::Kanji => v,
-                }
-            }
-            Version::Normal(v) if v <= 9 => match self {
-                Mode::Numeric => 10,
-                Mode::Alphanumeric => 9,
-                Mode::Byte | Mode::Kanji => 8,
-            },
-            Version::Normal(v) if v <= 26 => match self {
-                Mode::Numeric => 12,
-                Mode::Alphanumeric => 11,
-                Mode::Byte => 16,
-                Mode::Kanji => 10,
-            },
-            Version::Normal(_) => match self {
-                Mode::Numeric => 14,
-                Mode::Alphanumeric => 13,
-                Mode::Byte => 16,
-                Mode::Kanji => 12,
-            },
+            Version::Normal(number) => self.normal_length_bits(number),
+            Version::Micro(number) => self.micro_length_bits(number),
+        }
+    }
+
+    // The same of a version of Normal.
+    fn normal_length_bits(self, number: i16) -> usize
+        requires { IsTrue (is_valid (Normal number)) }
+        ensures { result ≡ length_bits_count self (Normal number) }
+    {
+        match self {
+            Mode::Numeric => by_band(number, 10, 12, 14),
+            Mode::Alphanumeric => by_band(number, 9, 11, 13),
+            Mode::Byte => by_band(number, 8, 16, 16),
+            Mode::Kanji => by_band(number, 8, 10, 12),
+        }
+    }
+
+    // The same of a version of Micro.
+    fn micro_length_bits(self, number: i16) -> usize
+        requires { IsTrue (is_valid (Micro number)) }
+        ensures { result ≡ length_bits_count self (Micro number) }
+    {
+        let number = number as usize;
+        match self {
+            Mode::Numeric => number + 2,
+            Mode::Alphanumeric | Mode::Byte => number + 1,
+            Mode::Kanji => number,
         }
     }
 
@@ -348,5 +360,19 @@ impl PartialOrd for Mode {
             (Mode::Byte, _) | (Mode::Alphanumeric, Mode::Numeric) => Some(Ordering::Greater),
             _ => None,
         }
+    }
+}
+
+// One of three numbers, for Normal 1 to 9, 10 to 26 and 27 to 40.
+fn by_band(number: i16, small: usize, middle: usize, large: usize) -> usize
+    requires { IsTrue (is_valid (Normal number)) }
+    ensures { result ≡ by_band (nat_abs number) small middle large }
+{
+    if number <= 9 {
+        small
+    } else if number <= 26 {
+        middle
+    } else {
+        large
     }
 }
