@@ -1,7 +1,11 @@
 -- Digits, three in ten bits.
-use Rattle.std.proofs.Common.{◌≡◌, ℕ, zero, suc, ◌+◌, ◌-◌, ◌*◌, ◌^◌, ◌≤◌, Bool, List, [], ◌∷◌, ◌++◌, length, drop, get_or, refl, ap, ap₂, sym, ◌∙◌, arith, append_assoc, append-nil, length-drop}
+use Rattle.std.proofs.Common.{◌≡◌, ℕ, zero, suc, ◌+◌, ◌-◌, ◌*◌, ◌^◌, ◌≤◌, Bool, List, [], ◌∷◌, ◌++◌, length, take, drop, get_or, refl, ap, ap₂, sym, ◌∙◌, arith, append_assoc, append-nil, length-drop, IsTrue}
+use Rattle.std.specs.List.{list_all}
+use Rattle.std.proofs.lemmas.Bool.{and_parts}
 use Rattle.std.proofs.lemmas.List.{get_or-drop, drop-drop, drop_all}
+use Rattle.std.proofs.lemmas.List.Folds.{list_all-append}
 use Rattle.qrcode_types.specs.Bits.{number_bits}
+use Rattle.qrcode_types.specs.Characters.{is_digit}
 use Rattle.qrcode_bits.specs.Written.{numeric_bits}
 use Rattle.qrcode_bits.proofs.Packing.{number_bits-cat}
 
@@ -25,6 +29,17 @@ three_in_front [] long = absurd (omega arith)
 three_in_front (a ∷ []) long = absurd (omega arith)
 three_in_front (a ∷ b ∷ []) long = absurd (omega arith)
 three_in_front (a ∷ b ∷ c ∷ more) long = refl
+
+-- a group of three and the digits behind it
+pub group_and_rest : (digits three more : List ℕ) → three ≡ take 3 digits → more ≡ drop 3 digits → 3 ≤ length digits → number_bits 10 (three_at three 0) ++ numeric_bits more ≡ numeric_bits digits
+group_and_rest [] three more front behind long = absurd (omega (arith, long))
+group_and_rest (a ∷ []) three more front behind long = absurd (omega (arith, long))
+group_and_rest (a ∷ b ∷ []) three more front behind long = absurd (omega (arith, long))
+group_and_rest (a ∷ b ∷ c ∷ rest) three more front behind long = ap₂ (λ xs ys. number_bits 10 (three_at xs 0) ++ numeric_bits ys) front behind
+
+-- bytes behind others are digits where all are
+pub digits_behind : (digits front more : List ℕ) → front ++ more ≡ digits → IsTrue (list_all is_digit digits) → IsTrue (list_all is_digit more)
+digits_behind digits front more whole all = (and_parts _ _ (sym (list_all-append is_digit front more) ∙ ap (list_all is_digit) whole ∙ all)).1
 
 -- three digits behind others
 three_behind : (i : ℕ) (digits : List ℕ) → i + 3 ≤ length digits → numeric_bits (drop i digits) ≡ number_bits 10 (three_at digits i) ++ numeric_bits (drop (i + 3) digits)

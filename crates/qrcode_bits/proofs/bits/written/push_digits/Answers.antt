@@ -1,7 +1,6 @@
 use Rattle.std.proofs.Common.{rules, ◌≡◌, ◌++◌, length, ap₂, ◌∙◌, arith, append_assoc}
 use Rattle.std.proofs.lemmas.List.{take-append-drop}
-use Rattle.std.proofs.lemmas.Grind.{common_steps}
-use Rattle.qrcode_bits.proofs.DigitGroups.{numeric_bits-append}
+use Rattle.qrcode_bits.proofs.DigitGroups.{numeric_bits-append, digits_behind}
 use Rattle.qrcode_bits.proofs.bits.written.push_digits.Goals as goal
 
 pub loop-twelve-preserved : goal.loop-twelve-preserved
@@ -13,7 +12,7 @@ loop-twelve-preserved c =
     let whole : front ++ more ≡ rest = ap₂ (λ xs ys. xs ++ ys) split.0 split.1 ∙ take-append-drop 12 rest in
     let long : length front ≡ 12 = search rules in
     record {
-      digits = grind (arith, common_steps);
+      digits = digits_behind rest front more whole c.loop-twelve.invariant.digits;
       bits = rw (c.push_long_number.ensures.bits, c.twelve_digits_number.ensures.bits, append_assoc, ← numeric_bits-append 4 front more long, whole) c.loop-twelve.invariant.bits;
       room = omega (arith, split.2);
     }
