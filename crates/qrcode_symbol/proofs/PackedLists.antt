@@ -77,27 +77,23 @@ take_all [] (suc n) h = refl
 take_all (x ∷ xs) zero h = absurd (omega arith)
 take_all (x ∷ xs) (suc n) h = ap (λ ys. x ∷ ys) (take_all xs n (omega arith))
 
--- a list of up to 192 answers in three words
-pub packed_words : {A : Type 0} (f : A → Bool) (xs : List A) →
-    (packed f (take (length xs - min (length xs) 128) (drop (min (length xs) 128) xs)) * 2 ^ 64 + packed f (take (min (length xs) 128 - min (length xs) 64) (drop (min (length xs) 64) xs))) * 2 ^ 64 + packed f (take (min (length xs) 64) xs) ≡ packed f xs
-packed_words f xs =
-    let low : packed f (take (min (length xs) 64) xs) ≡ packed f (take 64 xs) = ap (packed f) (take_same xs (min (length xs) 64) 64 (omega arith)) in
-    let behind : drop (min (length xs) 64) xs ≡ drop 64 xs = drop_same xs (min (length xs) 64) 64 (omega arith) in
-    let middle : packed f (take (min (length xs) 128 - min (length xs) 64) (drop (min (length xs) 64) xs)) ≡ packed f (take 64 (drop 64 xs)) =
-    ap (λ ys. packed f (take (min (length xs) 128 - min (length xs) 64) ys)) behind
-    ∙ ap (packed f) (take_same (drop 64 xs) (min (length xs) 128 - min (length xs) 64) 64 (omega (arith, length-drop 64 xs))) in
-    let high : packed f (take (length xs - min (length xs) 128) (drop (min (length xs) 128) xs)) ≡ packed f (drop 64 (drop 64 xs)) = ap (packed f) (take_all (drop (min (length xs) 128) xs) (length xs - min (length xs) 128) (omega (arith, length-drop (min (length xs) 128) xs)) ∙ drop_same xs (min (length xs) 128) 128 (omega arith) ∙ sym (drop-drop 64 64 xs)) in
-    omega (arith, low, middle, high, packed_cut f 64 xs, packed_cut f 64 (drop 64 xs))
+-- a list of 64 to 192 answers in three words, the last of which may be cut to nothing
+packed_words : {A : Type 0} (f : A → Bool) (xs : List A) (n : ℕ) → 64 ≤ length xs → n ≡ min (length xs) 128 →
+    (packed f (drop n xs) * 2 ^ 64 + packed f (take (n - 64) (drop 64 xs))) * 2 ^ 64 + packed f (take 64 xs) ≡ packed f xs
+packed_words f xs n long cut =
+    let middle : packed f (take (n - 64) (drop 64 xs)) ≡ packed f (take 64 (drop 64 xs)) = ap (packed f) (take_same (drop 64 xs) (n - 64) 64 (omega (arith, length-drop 64 xs))) in
+    let high : packed f (drop n xs) ≡ packed f (drop 64 (drop 64 xs)) = ap (packed f) (drop_same xs n 128 (omega arith) ∙ sym (drop-drop 64 64 xs)) in
+    omega (arith, middle, high, packed_cut f 64 xs, packed_cut f 64 (drop 64 xs))
 
 -- the same numbers of parts of what is left, cut to a room that has place for the list
-pub packed_in_room : {A : Type 0} (f : A → Bool) (xs : List A) (room : ℕ) → length xs ≤ room →
-    ((packed f (take (length xs - min (length xs) 128) (take (length xs - min (length xs) 128) (drop (min (length xs) 128) xs))) * 2 ^ 64
-    + packed f (take (min (length xs) 128 - min (length xs) 64) (take (length xs - min (length xs) 64) (drop (min (length xs) 64) xs)))) * 2 ^ 64 + packed f (take (min (length xs) 64) xs)) % 2 ^ room ≡ packed f xs
-packed_in_room f xs room h =
+pub packed_in_room : {A : Type 0} (f : A → Bool) (xs : List A) (w n room : ℕ) → length xs ≡ w → 64 ≤ w → n ≡ min w 128 → w ≤ room →
+    ((packed f (take (w - n) (take (length xs - n) (drop n xs))) * 2 ^ 64 + packed f (take (n - 64) (take (length xs - 64) (drop 64 xs)))) * 2 ^ 64 + packed f (take 64 xs)) % 2 ^ room ≡ packed f xs
+packed_in_room f xs w n room size long cut h =
+    let whole = length-drop n xs in
+    let high : take (w - n) (take (length xs - n) (drop n xs)) ≡ drop n xs = take-take (w - n) (length xs - n) (drop n xs) (omega arith) ∙ take_all (drop n xs) (w - n) (omega arith) in
+    let middle = take-take (n - 64) (length xs - 64) (drop 64 xs) (omega arith) in
     let e : packed f xs ≡ 0 * 2 ^ room + packed f xs = omega arith in
-    let high = take-take (length xs - min (length xs) 128) (length xs - min (length xs) 128) (drop (min (length xs) 128) xs) (omega arith) in
-    let middle = take-take (min (length xs) 128 - min (length xs) 64) (length xs - min (length xs) 64) (drop (min (length xs) 64) xs) (omega arith) in
-    rw (high, middle) (ap (λ n. n % 2 ^ room) (packed_words f xs ∙ e) ∙ mod_low 0 room (packed f xs) (packed_lt f xs room h))
+    rw (high, middle) (ap (λ n. n % 2 ^ room) (packed_words f xs n (omega arith) (omega arith) ∙ e) ∙ mod_low 0 room (packed f xs) (packed_lt f xs room (omega arith)))
 
 -- a list of few answers in the lowest word
 pub packed_low : {A : Type 0} (f : A → Bool) (xs : List A) (room : ℕ) → length xs ≤ room → ((0 * 2 ^ 64 + 0) * 2 ^ 64 + packed f xs) % 2 ^ room ≡ packed f xs

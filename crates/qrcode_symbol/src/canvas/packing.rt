@@ -92,11 +92,10 @@ fn pack_row<R: PackedRow, C: Cell>(modules: &[C], width: usize) -> (R, R)
         return (R::of_words(word.0, 0, 0), R::of_words(word.1, 0, 0));
     }
     let row = &modules[..width];
-    let first = row.len().min(64);
-    let second = row.len().min(128);
-    let low = C::pack(row, first);
-    let middle = C::pack(&row[first..], second - first);
-    let high = C::pack(&row[second..], row.len() - second);
+    let second = width.min(128);
+    let low = C::pack(row, 64);
+    let middle = C::pack(&row[64..], second - 64);
+    let high = C::pack(&row[second..], width - second);
     (
         R::of_words(low.0, middle.0, high.0),
         R::of_words(low.1, middle.1, high.1),
