@@ -1,4 +1,4 @@
-use Rattle.std.proofs.Common.{◌≡◌, ℕ, ◌+◌, ◌-◌, ◌*◌, ◌%◌, ◌==◌, ◌<◌, ◌≤◌, ◌^◌, List, length, map, slice_index_or, slice_set, ap, sym, subst, ◌∙◌, arith}
+use Rattle.std.proofs.Common.{◌≡◌, rules, ℕ, ◌+◌, ◌-◌, ◌*◌, ◌%◌, ◌==◌, ◌<◌, ◌≤◌, ◌^◌, List, length, map, slice_index_or, slice_set, ap, sym, subst, ◌∙◌, arith}
 use Rattle.std.proofs.lemmas.List.{map-set, length-map}
 use Rattle.std.proofs.lemmas.Nat.{pow_pos}
 use Rattle.qrcode_types.specs.Versions.{side}
@@ -19,6 +19,22 @@ loop-number-init g c =
       left_out = c.requires.light (left_out v);
       fits = λ x. subst (λ (n : ℕ). n < 2 ^ side v) (sym (c.requires.light x)) (pow_pos (side v));
     }
+
+pub offset_bounds-free-right : goal.offset_bounds-free-right
+offset_bounds-free-right g c =
+    let inside : c.right_column-right.result - 1 < length c.args.free.now = omega (arith, length-map c.args.free.now g.R.PackedRow.bits, c.requires.free.size) in
+    search rules
+
+pub bounds-free-right : goal.bounds-free-right
+bounds-free-right g c = omega (arith, length-map c.args.free.now g.R.PackedRow.bits, c.requires.free.size)
+
+pub offset_bounds-free-right-in-loop-number : goal.offset_bounds-free-right-in-loop-number
+offset_bounds-free-right-in-loop-number g c =
+    let inside : c.right_column-right.result < length c.args.free.now = omega (arith, length-map c.args.free.now g.R.PackedRow.bits, c.requires.free.size) in
+    search rules
+
+pub bounds-free-right-in-loop-number : goal.bounds-free-right-in-loop-number
+bounds-free-right-in-loop-number g c = omega (arith, length-map c.args.free.now g.R.PackedRow.bits, c.requires.free.size)
 
 pub next_pair-drawn-requires-clause-small : goal.next_pair-drawn-requires-clause-small
 next_pair-drawn-requires-clause-small g c =

@@ -1,7 +1,23 @@
-use Rattle.std.proofs.Common.{ℕ, ◌/◌, map, subst, sym, arith}
+use Rattle.std.proofs.Common.{ℕ, ◌+◌, ◌*◌, ◌/◌, ◌≤◌, map, subst, sym, arith}
+use Rattle.std.proofs.Math.Nat.{mul-le-mul_left}
 use Rattle.qrcode_packed.specs.Rows.{dark_in}
 use Rattle.qrcode_packed.specs.Strips.{IsStripRoom, ShowsStrips}
 use Rattle.qrcode_symbol.proofs.canvas.least_mask.least_mask_in.Goals as goal
+
+-- strips have few lines
+few_lines : (count w : ℕ) → count ≤ 3 → w ≤ 177 → count * (w + 4) ≤ 543
+few_lines count w few narrow =
+    let small : w + 4 ≤ 181 = omega arith in
+    omega (arith, mul-le-mul_left count small)
+
+pub overflow_mul-size : goal.overflow_mul-size
+overflow_mul-size g c = omega (arith, few_lines c.args.count c.args.both.now.modules.now.width c.requires.few c.args.both.now.modules.now.at_most)
+
+pub overflow_add-size-2 : goal.overflow_add-size-2
+overflow_add-size-2 g c = omega (arith, few_lines c.args.count c.args.both.now.modules.now.width c.requires.few c.args.both.now.modules.now.at_most)
+
+pub overflow_mul-size-2 : goal.overflow_mul-size-2
+overflow_mul-size-2 g c = omega (arith, few_lines c.args.count c.args.both.now.modules.now.width c.requires.few c.args.both.now.modules.now.at_most)
 
 pub join-requires-clause-turned : goal.join-requires-clause-turned
 join-requires-clause-turned g c = λ x y h l. let w = c.args.both.now.modules.now.dark_width in c.args.both.now.dark_turned x y (omega (arith, h, w)) (omega (arith, l, w))

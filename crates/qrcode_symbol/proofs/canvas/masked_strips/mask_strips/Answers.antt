@@ -2,7 +2,7 @@ use Rattle.std.proofs.Common.{◌≡◌, ◌+◌, ◌*◌, ◌/◌, ◌^◌, ◌
 use Rattle.std.proofs.lemmas.List.{length-map}
 use Rattle.qrcode_packed.specs.Rows.{is_set, dark_in, inside}
 use Rattle.qrcode_packed.proofs.Places.{has_above}
-use Rattle.qrcode_packed.proofs.StripPlaces.{past_rows, room_kept}
+use Rattle.qrcode_packed.proofs.StripPlaces.{past_rows, room_kept, strip_before}
 use Rattle.qrcode_places.specs.Masks.{turns}
 use Rattle.qrcode_places.specs.Words.{format_word}
 use Rattle.qrcode_places.specs.Patterns.{decided_bit}
@@ -19,6 +19,22 @@ turn_strips-requires-clause-least g c = omega (arith, c.args.modules.now.side, n
 
 pub turn_strips-requires-clause-length : goal.turn_strips-requires-clause-length
 turn_strips-requires-clause-length g c = omega (arith, length-map c.args.masked.now g.L.PackedRow.bits, c.requires.room.length)
+
+-- the lines of the first strip, those before and those behind
+first_strip : (count w long : ℕ) → 0 < count → long ≡ count * (w + 4) + 8 → w + 12 ≤ long
+first_strip count w long some e = omega (arith, e, strip_before 0 count (w + 4) some)
+
+pub decide_places-requires-clause-inside : goal.decide_places-requires-clause-inside
+decide_places-requires-clause-inside g c =
+    omega (arith, length-map c.args.masked.now g.L.PackedRow.bits, first_strip c.args.count c.args.modules.now.width _ c.requires.some c.requires.room.length, c.args.modules.now.at_least, c.turn_strips.auto.lines)
+
+pub decide_places-requires-2-clause-inside : goal.decide_places-requires-2-clause-inside
+decide_places-requires-2-clause-inside g c =
+    omega (arith, length-map c.args.masked.now g.L.PackedRow.bits, first_strip c.args.count c.args.modules.now.width _ c.requires.some c.requires.room.length, c.args.modules.now.at_least, c.turn_strips.auto.lines, c.decide_places.auto.lines)
+
+pub decide_places-requires-3-clause-inside : goal.decide_places-requires-3-clause-inside
+decide_places-requires-3-clause-inside g c =
+    omega (arith, length-map c.args.masked.now g.L.PackedRow.bits, first_strip c.args.count c.args.modules.now.width _ c.requires.some c.requires.room.length, c.args.modules.now.at_least, c.turn_strips.auto.lines, c.decide_places.auto.lines, c.decide_places-2.auto.lines)
 
 pub returns : goal.returns
 unfolding masked_dark dark_in
