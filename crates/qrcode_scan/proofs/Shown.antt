@@ -5,7 +5,7 @@ use Rattle.std.specs.List.{range_with_len}
 use Rattle.std.proofs.lemmas.List.{get_or-take, get_or-drop, ext_get_or, length-take-le, length-drop}
 use Rattle.std.proofs.lemmas.Nat.{div-mul-add, div-add-mod', mod_below}
 use Rattle.std.proofs.Math.Nat.{mod-le}
-use Rattle.std.proofs.lemmas.List.FromFn.{fill_by_all, get_or-map-range_with_len, length-map-range_with_len}
+use Rattle.std.proofs.lemmas.List.FromFn.{fill_by_all, length-map-range_with_len}
 use Rattle.qrcode_types.specs.Colors.{is_dark}
 use Rattle.qrcode_types.specs.declared.types.Color.{Color}
 use Rattle.qrcode_types.specs.declared.types.Color.TheVariants.{Light}
@@ -26,14 +26,6 @@ shown_by_all b at s across down count each =
     let marks : b.marks ≡ map pixel (range_with_len 0 (w * h)) = fill_by_all pixel b.marks (w * h) false all (λ k inside. each k (omega (arith, all, inside))) in
     ap (λ (m : List Bool). record b { marks = m }) marks
     ∙ ap₂ (λ (x y : ℕ). record { across = x; down = y; marks = map pixel (range_with_len 0 (w * h)) }) across down
-
--- a pixel of pixels that are a picture
-pub shown_at : (b : Bitmap) (at : Layout) (s : List Color) (k : ℕ) → b ≡ picture at s → k < length b.marks → get_or b.marks k false ≡ is_dark_pixel at s (k % pixels_across at) (k / pixels_across at)
-shown_at b at s k is inside =
-    let w = pixels_across at in
-    let pixel : ℕ → Bool = λ i. is_dark_pixel at s (i % w) (i / w) in
-    let all : length b.marks ≡ w * pixels_down at = ap (λ (p : Bitmap). length p.marks) is ∙ length-map-range_with_len pixel 0 (w * pixels_down at) in
-    ap (λ (p : Bitmap). get_or p.marks k false) is ∙ get_or-map-range_with_len pixel 0 (w * pixels_down at) k k false (omega (arith, inside, all)) (omega arith)
 
 -- whether a pixel is dark, by the module that it is of
 abbrev dark_by : Layout → List Color → ℕ → ℕ → Bool
