@@ -78,7 +78,10 @@ fn told(cause: Unscanned) -> &'static str {
 pub fn read_picture(alloc: Global, bytes: &[u8]) -> Result<Scan, Unread>
     ensures value { IfOk result (IsScanOf bytes.now) }
 {
-    let pixels = pixels_of(alloc, bytes).map_err(Unread::Unscanned)?;
+    let pixels = match pixels_of(alloc, bytes) {
+        Ok(pixels) => pixels,
+        Err(cause) => return Err(Unread::Unscanned(cause)),
+    };
     if pixels.has_dark_edge() {
         read_inverted(alloc, &pixels)
     } else {
@@ -133,12 +136,14 @@ fn read_with_headers(alloc: Global, square: &Square) -> Result<(Reading, Vec<Hea
     ensures { IfOk result (λ read. IsHeaderReading square.now.modules.items
         read.0.version read.0.ec_level read.0.mask read.0.wrong.items read.1.items) }
 {
-    let unread = |error| match error {
-        qrcode_reader::Unread::OutOfMemory => Unread::OutOfMemory,
-        error => Unread::NoSymbol(square.count, error),
+    let bits = match read_bits(alloc, &square.modules) {
+        Ok(bits) => bits,
+        Err(error) => return Err(no_symbol(square.count, error)),
     };
-    let bits = read_bits(alloc, &square.modules).map_err(unread)?;
-    let found = pieces(alloc, &bits.bits, bits.version).map_err(|error| unread(error.into()))?;
+    let found = match pieces(alloc, &bits.bits, bits.version) {
+        Ok(found) => found,
+        Err(error) => return Err(no_symbol(square.count, error.into())),
+    };
     let headers = headers_of(alloc, &found.parts)?;
     let reading = Reading {
         version: bits.version,
@@ -148,6 +153,14 @@ fn read_with_headers(alloc: Global, square: &Square) -> Result<(Reading, Vec<Hea
         wrong: bits.wrong,
     };
     Ok((reading, headers))
+}
+
+// Why a square of so many modules a side is not read.
+fn no_symbol(count: usize, error: qrcode_reader::Unread) -> Unread {
+    match error {
+        qrcode_reader::Unread::OutOfMemory => Unread::OutOfMemory,
+        error => Unread::NoSymbol(count, error),
+    }
 }
 
 // The headers among parts.

@@ -20,9 +20,12 @@ pub struct Segment<'a> {
 
 /// The first segment, counted from 0, that its mode cannot write.
 pub fn unwritable(segments: &[Segment<'_>]) -> Option<usize> {
-    segments
-        .iter()
-        .position(|segment| !can_write(segment.mode, segment.bytes))
+    for (place, segment) in segments.iter().enumerate() {
+        if !can_write(segment.mode, segment.bytes) {
+            return Some(place);
+        }
+    }
+    None
 }
 
 /// The symbol of segments, one after the other, of the least version that may be taken and holds them.
