@@ -122,12 +122,22 @@ fn shell_of(name: &str) -> &'static Shell {
 // What a shell completes of a task.
 fn push_task(text: &mut String, shell: &Shell, task: &Task) -> Result<(), AllocError> {
     let options = task.all_options(*text.allocator())?;
+    push_options(text, shell, task, &options)
+}
+
+// What a shell completes of a task with these options.
+fn push_options(
+    text: &mut String,
+    shell: &Shell,
+    task: &Task,
+    options: &[&'static Entry],
+) -> Result<(), AllocError> {
     push_filled(text, shell.task, shell, task, &NO_OPTION)?;
-    for entry in &options {
+    for entry in options {
         push_filled(text, shell.name, shell, task, entry)?;
     }
     text.push_str(shell.names_end)?;
-    for entry in &options {
+    for entry in options {
         push_filled(text, option_of(shell, entry), shell, task, entry)?;
     }
     push_filled(text, shell.task_end, shell, task, &NO_OPTION)
