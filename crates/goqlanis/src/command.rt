@@ -11,20 +11,32 @@ pub fn command_of<'a>(
     task: &Task,
     options: &[&'static Entry],
 ) -> Result<Command<'a>, AllocError> {
-    let mut command = Command::new(alloc, task.title).about(task.about);
-    if let Some(operand) = task.operand() {
-        let arg = Arg::new(alloc, operand.name)
-            .value_name(operand.name)
-            .help(operand.help);
-        command = command.arg(arg)?;
-    }
-    for entry in options {
-        command = command.arg(argument(alloc, entry))?;
-    }
+    let command = Command::new(alloc, task.title)
+        .about(task.about)
+        .args(arguments(alloc, task, options)?)?;
     match task.purpose {
         Purpose::Draw => Ok(command.after_help(EXAMPLES)),
         Purpose::Read | Purpose::Content(_) | Purpose::Elements => Ok(command),
     }
+}
+
+// What it takes: a word beside options, and these.
+fn arguments<'a>(
+    alloc: Global,
+    task: &Task,
+    options: &[&'static Entry],
+) -> Result<Vec<Arg<'a>>, AllocError> {
+    let mut arguments = Vec::new(alloc);
+    if let Some(operand) = task.operand() {
+        let arg = Arg::new(alloc, operand.name)
+            .value_name(operand.name)
+            .help(operand.help);
+        arguments.push(arg)?;
+    }
+    for entry in options {
+        arguments.push(argument(alloc, entry))?;
+    }
+    Ok(arguments)
 }
 
 // An option.
