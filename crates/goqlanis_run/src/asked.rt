@@ -175,6 +175,16 @@ fn request_of<'a>(
     if let Some(text) = wrong_for(given, format) {
         return usage(alloc, text);
     }
+    request_in(alloc, given, choice, format)
+}
+
+// The request in a format, by which version is taken.
+fn request_in<'a>(
+    alloc: Global,
+    given: &Given<'a>,
+    choice: Choice,
+    format: Format,
+) -> Result<Request<'a>, Failure> {
     let (scale, size) = sizes(alloc, given, format)?;
     let (dark, light) = inks(alloc, given, format)?;
     Ok(Request {
@@ -206,11 +216,11 @@ fn inks<'a>(
 // What is said of options that a format does not have.
 fn wrong_for(given: &Given<'_>, format: Format) -> Option<&'static str> {
     let has_colours = matches!(format, Format::Svg | Format::Eps | Format::Png);
-    if !has_colours && given.get("colour").is_some() {
+    if !has_colours && given.has("colour") {
         Some("--colour: PNG, SVG and EPS alone have colours; add --format png, svg or eps")
-    } else if !has_colours && given.get("background").is_some() {
+    } else if !has_colours && given.has("background") {
         Some("--background: PNG, SVG and EPS alone have colours; add --format png, svg or eps")
-    } else if format != Format::Png && given.get("dpi").is_some() {
+    } else if format != Format::Png && given.has("dpi") {
         Some("--dpi: PNG alone names its dots per inch; EPS has a point for a pixel, 72 to an inch")
     } else if format == Format::Pic && given.has_flag("invert") {
         Some("--invert: PIC draws no light modules; take another --format")
@@ -271,19 +281,19 @@ fn format(
     match target {
         Target::Terminal if has_colours => Ok(Format::Terminal),
         Target::Terminal | Target::StandardOutput => Ok(Format::HalfBlocks),
-        Target::File(path) => {
-            let named = match path.rsplit_once('.') {
-                Some((_, ending)) => named_format(ending),
-                None => None,
-            };
-            match named {
-                Some(format) => Ok(format),
-                None => Err(wrong(format!(in alloc;
-                    "--output {path}: its ending is none of .txt .png .svg .eps .pic .pbm .pgm; add --format"
-                ))),
-            }
-        }
+        Target::File(path) => match ending_format(path) {
+            Some(format) => Ok(format),
+            None => Err(wrong(format!(in alloc;
+                "--output {path}: its ending is none of .txt .png .svg .eps .pic .pbm .pgm; add --format"
+            ))),
+        },
     }
+}
+
+// The format of the ending of a file's name.
+fn ending_format(path: &str) -> Option<Format> {
+    let (_, ending) = path.rsplit_once('.')?;
+    named_format(ending)
 }
 
 // Names of formats, and endings of files.

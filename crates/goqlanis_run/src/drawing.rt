@@ -6,12 +6,14 @@ use crate::segments::{Pieces, characters_of};
 use crate::streams::{print, write_file};
 use goqlanis_contents::Elements;
 use goqlanis_draw::{
-    Request, application_refusal_text, draw, draw_elements, draw_for_application, draw_segments,
-    elements_refusal_text, manner_of, refusal_text, segments_refusal_text, unwritable,
+    Request, Segment, application_refusal_text, draw, draw_elements, draw_for_application,
+    draw_segments, elements_refusal_text, manner_of, refusal_text, segments_refusal_text,
+    unwritable,
 };
 use goqlanis_options::Given;
 use qrcode::bits::Manner;
 use qrcode::types::QrError;
+use qrcode_gs1::elements::Element;
 use qrcode_gs1::errors::Gs1Error;
 use qrcode_gs1_symbol::errors::SymbolError;
 use qrcode_gs1_symbol::indicator_of;
@@ -46,8 +48,16 @@ pub(crate) fn segments_drawing(
     given: &Given<'_>,
 ) -> Result<Vec<u8>, Failure> {
     let pieces = Pieces::read(alloc, &given.all(alloc, "segment")?)?;
-    let segments = pieces.segments(alloc)?;
-    if let Some(place) = unwritable(&segments) {
+    drawing_of_segments(alloc, request, &pieces.segments(alloc)?)
+}
+
+// The drawing of segments, unless the mode of one cannot write it.
+fn drawing_of_segments(
+    alloc: Global,
+    request: &Request<'_>,
+    segments: &[Segment<'_>],
+) -> Result<Vec<u8>, Failure> {
+    if let Some(place) = unwritable(segments) {
         let why = match segments.get(place) {
             Some(segment) => characters_of(segment.mode),
             None => "",
@@ -55,10 +65,10 @@ pub(crate) fn segments_drawing(
         let number = place.saturating_add(1);
         return Err(refusal(format!(in alloc; "segment {number}: {why}")));
     }
-    match draw_segments(alloc, request, &segments) {
+    match draw_segments(alloc, request, segments) {
         Ok(drawing) => Ok(drawing),
         Err(QrError::OutOfMemory) => Err(Failure::OutOfMemory),
-        Err(error) => Err(refusal(segments_refusal_text(alloc, request, &segments, error))),
+        Err(error) => Err(refusal(segments_refusal_text(alloc, request, segments, error))),
     }
 }
 
@@ -69,14 +79,23 @@ pub(crate) fn elements_drawing(
     text: &str,
 ) -> Result<Vec<u8>, Failure> {
     let read = Elements::read(alloc, text)?;
-    let elements = read.elements(alloc)?;
-    match draw_elements(alloc, request, &elements) {
+    drawing_of_elements(alloc, request, &read, &read.elements(alloc)?)
+}
+
+// The drawing of elements, which were read.
+fn drawing_of_elements(
+    alloc: Global,
+    request: &Request<'_>,
+    read: &Elements,
+    elements: &[Element<'_>],
+) -> Result<Vec<u8>, Failure> {
+    match draw_elements(alloc, request, elements) {
         Ok(drawing) => Ok(drawing),
         Err(SymbolError::Elements(Gs1Error::Refused(index, cause))) => {
             Err(refusal(read.refusal(alloc, index, cause)))
         }
         Err(SymbolError::Symbol(QrError::DataTooLong)) => {
-            Err(refusal(elements_refusal_text(alloc, request, &elements)))
+            Err(refusal(elements_refusal_text(alloc, request, elements)))
         }
         Err(SymbolError::Elements(_) | SymbolError::Symbol(_)) => Err(Failure::OutOfMemory),
     }

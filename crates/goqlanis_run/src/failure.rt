@@ -3,22 +3,17 @@
 use goqlanis_contents::Refusal;
 use std::alloc::{AllocError, AllocFailed, Global};
 use std::process::ExitCode;
-use thiserror::Error;
 
 /// Why the program does not do what it is asked.
-#[derive(Drop, Debug, Error)]
+#[derive(Drop)]
 pub enum Failure {
     /// The command line is wrong: status 2.
-    #[error("{0}")]
     Usage(String),
     /// The data, a file or the terminal does not serve: status 1.
-    #[error("{0}")]
     Refused(String),
     /// Standard output takes no more: status 1.
-    #[error("{0}")]
     Closed(String),
     /// Memory was refused: status 1.
-    #[error("out of memory")]
     OutOfMemory,
 }
 
@@ -49,11 +44,13 @@ pub fn status(rt: &HostRuntime, run: Result<ExitCode, Failure>) -> ExitCode {
         Ok(code) => return code,
         Err(failure) => failure,
     };
-    let _ = eprintln!(rt; "goqlanis: {failure}");
-    match failure {
-        Failure::Usage(_) => ExitCode::from(2),
-        Failure::Refused(_) | Failure::Closed(_) | Failure::OutOfMemory => ExitCode::FAILURE,
-    }
+    let (code, why) = match &failure {
+        Failure::Usage(why) => (ExitCode::from(2), why.as_str()),
+        Failure::Refused(why) | Failure::Closed(why) => (ExitCode::FAILURE, why.as_str()),
+        Failure::OutOfMemory => (ExitCode::FAILURE, "out of memory"),
+    };
+    let _ = eprintln!(rt; "goqlanis: {why}");
+    code
 }
 
 /// A wrong command line, by a text.

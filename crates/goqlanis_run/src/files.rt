@@ -57,27 +57,33 @@ fn replace<R: Files + AllocGlobal>(
 ) -> io::Result<()> {
     for number in 0..TRIES {
         let beside = format!(in rt.alloc(); "{path}.{number}.new")?;
-        let mut file = match OpenOptions::new()
+        let opened = OpenOptions::new()
             .write(true)
             .create_new(true)
-            .open(rt, beside.as_str())
-        {
-            Ok(file) => file,
-            Err(error) if error.kind() == ErrorKind::AlreadyExists => continue,
+            .open(rt, beside.as_str());
+        match opened {
+            Ok(mut file) => {
+                let written = fill(&mut file, permissions, bytes);
+                drop(file);
+                return settle(rt, written, beside.as_str(), path);
+            }
+            Err(error) if error.kind() == ErrorKind::AlreadyExists => {}
             Err(error) => return Err(error),
-        };
-        let written = fill(&mut file, permissions, bytes);
-        drop(file);
-        let done = match written {
-            Ok(()) => fs::rename(rt, beside.as_str(), path),
-            Err(error) => Err(error),
-        };
-        if done.is_err() {
-            let _ = fs::remove_file(rt, beside.as_str());
         }
-        return done;
     }
     Err(io::Error::from(ErrorKind::AlreadyExists))
+}
+
+// Renames a file beside a path there, where it is written, and else takes it away.
+fn settle<R: Files>(rt: &R, written: io::Result<()>, beside: &str, path: &str) -> io::Result<()> {
+    let done = match written {
+        Ok(()) => fs::rename(rt, beside, path),
+        Err(error) => Err(error),
+    };
+    if done.is_err() {
+        let _ = fs::remove_file(rt, beside);
+    }
+    done
 }
 
 // Writes all of a new file, and waits until it lies on the disk.

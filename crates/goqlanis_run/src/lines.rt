@@ -16,6 +16,18 @@ pub(crate) fn draw_lines(
     let bytes = bytes.strip_suffix(b"\n").unwrap_or(bytes);
     let total = bytes.split(is_newline).count();
     let mut progress = Progress::new(rt, total, is_drawn_to_terminal(rt, asked));
+    let drawn = draw_each(rt, asked, bytes, &mut progress);
+    progress.clear(rt);
+    drawn
+}
+
+// Draws each line, and tells of those that are refused.
+fn draw_each(
+    rt: &HostRuntime,
+    asked: &Asked<'_>,
+    bytes: &[u8],
+    progress: &mut Progress,
+) -> Result<ExitCode, Failure> {
     let mut number = 0usize;
     let mut code = ExitCode::SUCCESS;
     for line in bytes.split(is_newline) {
@@ -28,13 +40,9 @@ pub(crate) fn draw_lines(
                 let _ = eprintln!(rt; "goqlanis: line {number}: {why}");
                 code = ExitCode::FAILURE;
             }
-            Err(failure) => {
-                progress.clear(rt);
-                return Err(failure);
-            }
+            Err(failure) => return Err(failure),
         }
     }
-    progress.clear(rt);
     Ok(code)
 }
 

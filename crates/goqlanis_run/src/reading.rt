@@ -5,27 +5,20 @@ use crate::streams::{print, read_file, read_standard_input, write_file};
 use goqlanis_draw::{Scan, Unread, read_picture};
 use goqlanis_options::Given;
 use qrcode::types::Version;
-use qrcode_reader::{Position, WrongCodeword};
+use qrcode_reader::{Position, Reading, WrongCodeword};
 use qrcode_spell::Header;
 use std::alloc::{AllocError, Global};
 use std::process::ExitCode;
 
 /// Reads the picture that the command line names, and writes its data.
 pub(crate) fn read(rt: &HostRuntime, given: &Given<'_>) -> Result<ExitCode, Failure> {
-    let alloc = rt.alloc();
     let (name, bytes) = match given.get("PICTURE") {
         None | Some("-") => ("standard input", read_standard_input(rt, "a picture")?),
         Some(path) => (path, read_file(rt, path)?),
     };
-    let scan = match read_picture(alloc, &bytes) {
-        Ok(scan) => scan,
-        Err(Unread::OutOfMemory) => return Err(Failure::OutOfMemory),
-        Err(error) => {
-            return Err(refusal(format!(in alloc; "cannot read {name}: {error}")));
-        }
-    };
+    let scan = scan_of(rt.alloc(), name, &bytes)?;
     if given.has_flag("verbose") {
-        let text = description(alloc, &scan)?;
+        let text = description(rt.alloc(), &scan)?;
         let _ = eprint!(rt; "{text}");
     }
     let data = scan.any.reading.data.as_slice();
@@ -35,29 +28,54 @@ pub(crate) fn read(rt: &HostRuntime, given: &Given<'_>) -> Result<ExitCode, Fail
     }
 }
 
+// What is read of a picture of a name.
+fn scan_of(alloc: Global, name: &str, bytes: &[u8]) -> Result<Scan, Failure> {
+    match read_picture(alloc, bytes) {
+        Ok(scan) => Ok(scan),
+        Err(Unread::OutOfMemory) => Err(Failure::OutOfMemory),
+        Err(error) => Err(refusal(format!(in alloc; "cannot read {name}: {error}"))),
+    }
+}
+
 // What was read, in lines.
 fn description(alloc: Global, scan: &Scan) -> Result<String, AllocError> {
-    let (square, reading) = (&scan.square, &scan.any.reading);
+    let mut text = String::new(alloc);
+    push_symbol(&mut text, &scan.any.reading)?;
+    push_square(&mut text, scan)?;
+    push_wrong(&mut text, &scan.any.reading.wrong)?;
+    for header in &scan.headers {
+        push_header(&mut text, *header)?;
+    }
+    Ok(text)
+}
+
+// What a symbol is, in a line.
+fn push_symbol(text: &mut String, reading: &Reading) -> Result<(), AllocError> {
     let level = reading.ec_level;
     let (kind, number, mask) = match reading.version {
         Version::Normal(number) => ("", number, reading.mask.number()),
         Version::Micro(number) => ("M", number, reading.mask.micro_number()),
     };
-    let (count, zone, scale) = (square.count, square.zone, square.scale);
+    write!(
+        text,
+        "version {kind}{number}, level {level:?}, mask {mask}\n"
+    )
+}
+
+// The square of modules, and how it stands in its picture, in two lines.
+fn push_square(text: &mut String, scan: &Scan) -> Result<(), AllocError> {
+    let (count, zone, scale) = (scan.square.count, scan.square.zone, scan.square.scale);
     let place = position_text(scan.any.position);
-    let mut text = format!(in alloc;
-        "version {kind}{number}, level {level:?}, mask {mask}
-modules: {count} by {count}; pixels of a module: {scale}; quiet zone: {zone}
-position: {place}"
-    )?;
-    if scan.is_inverted != scan.any.is_inverted {
-        text.push_str(", dark and light exchanged")?;
-    }
-    push_wrong(&mut text, &reading.wrong)?;
-    for header in &scan.headers {
-        push_header(&mut text, *header)?;
-    }
-    Ok(text)
+    let shades = if scan.is_inverted != scan.any.is_inverted {
+        ", dark and light exchanged"
+    } else {
+        ""
+    };
+    write!(
+        text,
+        "modules: {count} by {count}; pixels of a module: {scale}; quiet zone: {zone}
+position: {place}{shades}\n"
+    )
 }
 
 // What a header says, in a line.
@@ -112,7 +130,7 @@ fn position_text(position: Position) -> &'static str {
 // How many codewords are wrong, and which.
 fn push_wrong(text: &mut String, wrong: &[WrongCodeword]) -> Result<(), AllocError> {
     let count = wrong.len();
-    write!(text, "\nwrong codewords: {count}")?;
+    write!(text, "wrong codewords: {count}")?;
     let mut sign = ", by block and place from 0: ";
     for each in wrong {
         let (block, place) = (each.block, each.place);

@@ -17,24 +17,32 @@ pub(crate) struct Pieces {
 impl Pieces {
     /// The segments of words MODE:TEXT, of which the text of Kanji is Shift JIS in digits to the base 16.
     pub(crate) fn read(alloc: Global, words: &[&str]) -> Result<Pieces, Failure> {
-        let mut bytes = Vec::new(alloc);
-        let mut ends = Vec::with_capacity(alloc, words.len())?;
+        let mut pieces = Pieces {
+            bytes: Vec::new(alloc),
+            ends: Vec::new(alloc),
+        };
         for word in words {
-            let Some((mode, text)) = parts(word) else {
-                return Err(wrong(format!(in alloc;
-                    "--segment {word}: it wants MODE:TEXT, of the modes numeric, alphanumeric, byte and kanji"
-                )));
-            };
-            if mode != Mode::Kanji {
-                bytes.extend_from_slice(text.as_bytes())?;
-            } else if !push_digits(&mut bytes, text.as_bytes())? {
-                return Err(wrong(format!(in alloc;
-                    "--segment {word}: the text of kanji is Shift JIS in pairs of digits 0 to f, as 935f"
-                )));
-            }
-            ends.push((mode, bytes.len()))?;
+            pieces.push(alloc, word)?;
         }
-        Ok(Pieces { bytes, ends })
+        Ok(pieces)
+    }
+
+    // Appends the segment of a word.
+    fn push(&mut self, alloc: Global, word: &str) -> Result<(), Failure> {
+        let Some((mode, text)) = parts(word) else {
+            return Err(wrong(format!(in alloc;
+                "--segment {word}: it wants MODE:TEXT, of the modes numeric, alphanumeric, byte and kanji"
+            )));
+        };
+        if mode != Mode::Kanji {
+            self.bytes.extend_from_slice(text.as_bytes())?;
+        } else if !push_digits(&mut self.bytes, text.as_bytes())? {
+            return Err(wrong(format!(in alloc;
+                "--segment {word}: the text of kanji is Shift JIS in pairs of digits 0 to f, as 935f"
+            )));
+        }
+        self.ends.push((mode, self.bytes.len()))?;
+        Ok(())
     }
 
     /// The segments.

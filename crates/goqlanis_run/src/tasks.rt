@@ -14,7 +14,7 @@ use qrcode::QrCode;
 use qrcode::types::QrError;
 use qrcode_contents::bill;
 use qrcode_programs::Fault;
-use std::alloc::Global;
+use std::alloc::{AllocError, Global};
 use std::process::ExitCode;
 
 /// What the command line asks for, and its words: the title of the task, and what stands behind the word
@@ -22,26 +22,28 @@ use std::process::ExitCode;
 ///
 /// `Refused`: a word is not UTF-8. `OutOfMemory`: memory was refused.
 pub fn words(rt: &HostRuntime) -> Result<(&'static Task, Vec<String>), Failure> {
-    let alloc = rt.alloc();
-    let mut words: Vec<String> = match qrcode_programs::words(rt) {
-        Ok(words) => words.collect(alloc)?,
-        Err(Fault::NotText) => {
-            return refused(
-                alloc,
-                "an argument is not UTF-8: put the data into a file, and name it by --input",
-            );
-        }
-        Err(_) => return Err(Failure::OutOfMemory),
-    };
+    let mut words = all_words(rt)?;
     let task = match words.get(1) {
         Some(word) => task_of(word.as_str()),
         None => task_of(""),
     };
     if words.len() > 1 && !task.word.is_empty() {
         words.remove(0);
-        words[0] = String::from_str(alloc, task.title)?;
+        words[0] = String::from_str(rt.alloc(), task.title)?;
     }
     Ok((task, words))
+}
+
+// The words of the command line.
+fn all_words(rt: &HostRuntime) -> Result<Vec<String>, Failure> {
+    match qrcode_programs::words(rt) {
+        Ok(words) => Ok(words.collect(rt.alloc())?),
+        Err(Fault::NotText) => refused(
+            rt.alloc(),
+            "an argument is not UTF-8: put the data into a file, and name it by --input",
+        ),
+        Err(_) => Err(Failure::OutOfMemory),
+    }
 }
 
 /// Does a task with the options that are given, and returns the exit status.
@@ -56,26 +58,36 @@ pub fn obey(rt: &HostRuntime, task: &Task, given: &Given<'_>) -> Result<ExitCode
 
 // Draws data, unless a text about the program is asked for.
 fn draw_data(rt: &HostRuntime, given: &Given<'_>) -> Result<ExitCode, Failure> {
-    let alloc = rt.alloc();
+    match text_about(rt.alloc(), given)? {
+        Some(text) => print(rt, text.as_bytes()),
+        None => draw_asked(rt, given, &asked_for(rt.alloc(), given, has_colours(rt))?),
+    }
+}
+
+// The text about the program that is asked for, where one is.
+fn text_about(alloc: Global, given: &Given<'_>) -> Result<Option<String>, AllocError> {
     if let Some(shell) = given.get("completions") {
-        return print(rt, completions_of(alloc, shell)?.as_bytes());
-    }
-    if given.has_flag("manual") {
-        return print(rt, manual_page(alloc)?.as_bytes());
-    }
-    if given.has_flag("release") {
-        return print(rt, b"goqlanis 1\n");
-    }
-    let asked = asked_for(alloc, given, has_colours(rt))?;
-    if given.get("segment").is_some() {
-        let drawing = segments_drawing(alloc, &asked.request, given)?;
-        return write_drawing(rt, &asked, &drawing, None);
-    }
-    let bytes = data(rt, &asked)?;
-    if asked.is_by_line {
-        draw_lines(rt, &asked, &bytes)
+        Ok(Some(completions_of(alloc, shell)?))
+    } else if given.has_flag("manual") {
+        Ok(Some(manual_page(alloc)?))
+    } else if given.has_flag("release") {
+        Ok(Some(String::from_str(alloc, "goqlanis 1\n")?))
     } else {
-        draw_one(rt, &asked, &bytes, None)
+        Ok(None)
+    }
+}
+
+// Draws data as it is asked for.
+fn draw_asked(rt: &HostRuntime, given: &Given<'_>, asked: &Asked<'_>) -> Result<ExitCode, Failure> {
+    if given.has("segment") {
+        let drawing = segments_drawing(rt.alloc(), &asked.request, given)?;
+        return write_drawing(rt, asked, &drawing, None);
+    }
+    let bytes = data(rt, asked)?;
+    if asked.is_by_line {
+        draw_lines(rt, asked, &bytes)
+    } else {
+        draw_one(rt, asked, &bytes, None)
     }
 }
 
