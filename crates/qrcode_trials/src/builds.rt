@@ -6,7 +6,7 @@ mod contents;
 mod glances;
 
 ghost use Rattle.std.specs.Prelude.{◌≡◌, ◌≤◌, IfOk, IsTrue};
-ghost use Rattle.qrcode_types.specs.Versions.{is_valid, has_level};
+ghost use Rattle.qrcode_types.specs.Versions.{is_valid};
 
 use crate::digest::{Digest, print_digest};
 use cases::{Build, CASES, Case, Format};
@@ -74,23 +74,30 @@ fn number(word: Option<&str>) -> Option<u32> {
 }
 
 // Builds a case so many times, and gives the digest of what was built.
-#[tactic(auto, unfolding(qrcode_types::specs::Tables::block_table, qrcode_types::specs::Versions::blocks_entry))]
 fn build(alloc: Global, case: &Case, count: u32, told: Option<u32>) -> QrResult<Digest> {
     let data = case.1.repeated(alloc, case.2)?;
-    match &case.3 {
-        Build::InVersion(version, level) => in_version(alloc, &data, *version, *level, count),
-        Build::AtLevel(level) => at_level(alloc, &data, *level, count),
-        Build::Push => push(alloc, &data, count),
-        Build::Automatic => automatic(alloc, &data, count),
-        Build::Least => least(alloc, &data, count),
-        Build::Codewords => codewords(alloc, &data, count),
-        Build::PatternsAndData => patterns_and_data(alloc, &data, count),
-        Build::BestMask1 => best_mask(alloc, &data, Version::Normal(1), EcLevel::L, count),
-        Build::BestMask40 => best_mask(alloc, &data, Version::Normal(40), EcLevel::L, count),
-        Build::Picture(format, pixels) => {
-            pictures(alloc, &data, format, told.or(*pixels), count)
-        }
-        Build::Growth => growth(alloc, &data, count),
+    build_of(alloc, &data, &case.3, count, told)
+}
+
+// The same of the data that is taken.
+fn build_of(
+    alloc: Global,
+    data: &[u8],
+    build: &Build,
+    count: u32,
+    told: Option<u32>,
+) -> QrResult<Digest> {
+    match build {
+        Build::InVersion(version, level) => in_version(alloc, data, *version, *level, count),
+        Build::AtLevel(level) => at_level(alloc, data, *level, count),
+        Build::Push => push(alloc, data, count),
+        Build::Automatic => automatic(alloc, data, count),
+        Build::Least => least(alloc, data, count),
+        Build::Codewords => codewords(alloc, data, count),
+        Build::PatternsAndData => patterns_and_data(alloc, data, count),
+        Build::BestMask(version) => best_mask(alloc, data, *version, count),
+        Build::Picture(format, pixels) => pictures(alloc, data, format, told.or(*pixels), count),
+        Build::Growth => growth(alloc, data, count),
     }
 }
 
@@ -217,17 +224,12 @@ fn drawn(alloc: Global, version: Version, ec_level: EcLevel, codewords: &[u8]) -
     Ok(canvas)
 }
 
-// Canvases under their best masks.
-fn best_mask(
-    alloc: Global,
-    data: &[u8],
-    version: Version,
-    ec_level: EcLevel,
-    count: u32,
-) -> QrResult<Digest>
-    requires { IsTrue (has_level version ec_level) }
-{
-    let canvas = drawn(alloc, version, ec_level, data)?;
+// Canvases at level L under their best masks.
+fn best_mask(alloc: Global, data: &[u8], version: Version, count: u32) -> QrResult<Digest> {
+    if !version.is_valid() || !version.has_level(EcLevel::L) {
+        return Err(QrError::InvalidVersion);
+    }
+    let canvas = drawn(alloc, version, EcLevel::L, data)?;
     let mut digest = Digest::of::<u8>(&[]);
     for _ in 0..count {
         let best = canvas.apply_best_mask(alloc)?;

@@ -11,25 +11,22 @@ ghost use Rattle.qrcode_trials.specs.declared.gallery.Kind.{Kind};
 use qrcode::QrCode;
 use qrcode::render::{eps, pbm, svg};
 use qrcode::types::QrResult;
-use qrcode_programs::{Fault, deliver};
+use qrcode_programs::{Fault, deliver, end};
 use qrcode_uses::drawings;
 use std::alloc::Global;
-use std::io;
 use std::io::Write;
 
+static USAGE: &str = "drawn wants char|str|half-blocks|svg|path|pic|eps|pixels|pbm|png and a text";
+
 /// Draws a text on standard output in the kind of a name, or tells why not; whether it is drawn.
-pub fn obey(rt: &HostRuntime, kind: Option<&str>, text: Option<&str>) -> io::Result<bool> {
+pub fn obey(rt: &HostRuntime, kind: Option<&str>, text: Option<&str>) -> bool {
     let drawn = match (kind, text) {
         (Some(kind), Some(text)) => run(rt.alloc(), kind, text, &mut rt.stdout()),
         _ => Err(Fault::Usage),
     };
-    match drawn {
-        Ok(()) => Ok(true),
-        Err(fault) => {
-            eprintln!(rt; "qrcode_trials: {fault}")?;
-            Ok(false)
-        }
-    }
+    let is_drawn = drawn.is_ok();
+    let _ = end(rt, "qrcode_trials", USAGE, drawn);
+    is_drawn
 }
 
 /// A way to draw.

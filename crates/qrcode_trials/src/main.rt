@@ -51,7 +51,7 @@ fn obey_words(
     match part {
         "refused" => scenarios::obey(rt, first),
         "built" => builds::obey(rt, first, second, third),
-        "drawn" => gallery::obey(rt, first, second),
+        "drawn" => Ok(gallery::obey(rt, first, second)),
         "files" => files::print_all(rt, first.is_some()),
         _ => Ok(false),
     }
@@ -61,9 +61,9 @@ fn obey_words(
 fn list_all(rt: &HostRuntime) -> io::Result<bool> {
     scenarios::obey(rt, None)?;
     builds::obey(rt, None, None, None)?;
-    gallery::obey(rt, Some("half-blocks"), Some("01234567"))?;
+    let is_drawn = gallery::obey(rt, Some("half-blocks"), Some("01234567"));
     println!(rt; "")?;
-    files::print_all(rt, false)
+    Ok(files::print_all(rt, false)? && is_drawn)
 }
 
 // The text of a word.

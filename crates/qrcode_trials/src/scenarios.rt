@@ -14,10 +14,11 @@ mod texts;
 mod word;
 
 use crate::digest::{Digest, print_digest};
+use data::Data;
 use qrcode::types::QrResult;
 use qrcode_pushes::Fault;
 use rows::{GROUPS, group};
-use scenario::{Answer, Call, Memory, Note, Outcome, Scenario, Single, outcome_of};
+use scenario::{Answer, Call, DataCall, Memory, Note, Outcome, Scenario, Single, outcome_of};
 use std::alloc::Global;
 use std::io;
 use std::io::Print;
@@ -60,30 +61,43 @@ fn run(alloc: Global, call: &Call) -> Outcome {
         Call::Segments => segments::pushed(alloc),
         Call::Optimal => segments::optimal(alloc),
         Call::Once(call) => outcome_of(once(alloc, call)),
+        Call::OfData(data, call) => outcome_of(of_data(alloc, data, call)),
     }
 }
 
-// The digest of what a call makes that is made once.
+// The digest of what a call of data makes.
+fn of_data(alloc: Global, data: &Data, call: &DataCall) -> QrResult<Digest> {
+    let held = data.hold(alloc)?;
+    of_bytes(alloc, held.bytes(), call)
+}
+
+// The same of bytes.
+fn of_bytes(alloc: Global, bytes: &[u8], call: &DataCall) -> QrResult<Digest> {
+    match call {
+        DataCall::Alone => Ok(Digest::of_one(bytes.len(), false)),
+        DataCall::Push => segments::push_of_bytes(alloc, bytes),
+        DataCall::Optimal(version) => segments::optimal_in(alloc, bytes, *version),
+        DataCall::Automatic(level) => segments::automatic(alloc, bytes, *level),
+        DataCall::Least(version) => segments::least(alloc, bytes, *version),
+        DataCall::Correction(count) => correction::of_block(alloc, bytes, *count),
+        DataCall::Codewords(version, level) => {
+            correction::codewords(alloc, bytes, *version, *level)
+        }
+        DataCall::Code(constructor) => symbols::construct(alloc, bytes, constructor),
+        DataCall::InManner(call) => texts::run_of_data(alloc, bytes, call),
+    }
+}
+
+// The digest of what a call of no data makes that is made once.
 fn once(alloc: Global, call: &Single) -> QrResult<Digest> {
     match call {
-        Single::Data(data) => Ok(Digest::of_one(data.hold(alloc)?.bytes().len(), false)),
-        Single::Push(data) => segments::push_of_bytes(alloc, data),
-        Single::Optimal(version, data) => segments::optimal_in(alloc, *version, data),
-        Single::Automatic(data, ec_level) => segments::automatic(alloc, data, *ec_level),
-        Single::Least(version, data) => segments::least(alloc, *version, data),
         Single::Runs => Ok(segments::runs()),
         Single::BitsAsked => pushes::asked(alloc),
-        Single::Correction(data, count) => correction::of_block(alloc, data, *count),
-        Single::Codewords(version, ec_level, data) => {
-            correction::codewords(alloc, *version, *ec_level, data)
-        }
         Single::Products => correction::products(),
         Single::Canvas(version, ec_level, call) => canvas::run(alloc, *version, *ec_level, call),
         Single::Functional => Ok(canvas::functional()),
-        Single::Code(data, constructor) => symbols::construct(alloc, data, constructor),
         Single::Symbol(version, call) => symbols::run(alloc, *version, call),
         Single::Text(call) => texts::run(alloc, call),
-        Single::InManner(data, call) => texts::run_of_data(alloc, data, call),
         Single::Picture(kind, frame) => pictures::run(alloc, kind, frame),
         Single::Image => pictures::image(alloc),
         Single::Filled(version) => pictures::filled(alloc, *version),

@@ -3,8 +3,8 @@
 
 use crate::builds::contents::Text::{self, Digits, Mixed, Words};
 use Build::{
-    AtLevel, Automatic, BestMask1, BestMask40, Codewords, Growth, InVersion, Least,
-    PatternsAndData, Picture, Push,
+    AtLevel, Automatic, BestMask, Codewords, Growth, InVersion, Least, PatternsAndData, Picture,
+    Push,
 };
 use Format::{Chars, Eps, HalfBlocks, Path, Pbm, Pic, Pixels, Png, Svg};
 use qrcode::types::EcLevel::{self, L, M};
@@ -29,10 +29,8 @@ pub enum Build {
     Codewords,
     /// Canvases of the same with patterns and data.
     PatternsAndData,
-    /// Canvases of Normal 1 at level L under their best masks.
-    BestMask1,
-    /// The same of Normal 40.
-    BestMask40,
+    /// Canvases of a version at level L under their best masks.
+    BestMask(Version),
     /// Pictures of the symbol of the data, of so many pixels a module where they are told.
     Picture(Format, Option<u32>),
     /// Symbols that the data fills, at level M, of one version after the other.
@@ -67,8 +65,8 @@ pub static CASES: [Case; 32] = [
     Case("least-mixed-1000", Mixed, 1000, Least),
     Case("codewords-40", Words, 2956, Codewords),
     Case("patterns-and-data-40", Words, 3706, PatternsAndData),
-    Case("best-mask-1", Words, 3706, BestMask1),
-    Case("best-mask-40", Words, 3706, BestMask40),
+    Case("best-mask-1", Words, 3706, BestMask(Normal(1))),
+    Case("best-mask-40", Words, 3706, BestMask(Normal(40))),
     Case("chars-1", Words, 14, Picture(Chars, None)),
     Case("chars-40", Words, 2331, Picture(Chars, None)),
     Case("half-blocks-1", Words, 14, Picture(HalfBlocks, None)),

@@ -1,31 +1,27 @@
 //! Error correction.
 
 use crate::digest::Digest;
-use crate::scenarios::data::Data;
 use qrcode::ec;
 use qrcode::types::{EcLevel, QrError, QrResult, Version};
 use qrcode_types::tables::Blocks;
 use std::alloc::Global;
 
 /// The correction bytes of a block.
-pub fn of_block(alloc: Global, data: &Data, count: usize) -> QrResult<Digest> {
+pub fn of_block(alloc: Global, data: &[u8], count: usize) -> QrResult<Digest> {
     if count > 69 {
         return Err(QrError::InvalidCharacter);
     }
-    let held = data.hold(alloc)?;
-    let code = ec::create_error_correction_code(alloc, held.bytes(), count)?;
+    let code = ec::create_error_correction_code(alloc, data, count)?;
     Ok(Digest::of(&code))
 }
 
 /// The codewords of data that fills the blocks of a version and level, where it has the level.
 pub fn codewords(
     alloc: Global,
+    data: &[u8],
     version: Version,
     ec_level: EcLevel,
-    data: &Data,
 ) -> QrResult<Digest> {
-    let held = data.hold(alloc)?;
-    let data = held.bytes();
     if let Some(blocks) = Blocks::of(version, ec_level)
         && blocks.data_length() != data.len()
     {

@@ -35,42 +35,48 @@ pub enum Call {
     Optimal,
     /// A call that is not made again.
     Once(Single),
+    /// A call of some data that is not made again.
+    OfData(Data, DataCall),
 }
 
-/// A call that is made once.
-pub enum Single {
+/// A call of data.
+pub enum DataCall {
     /// Nothing but the data is made.
-    Data(Data),
+    Alone,
     /// `push_byte_data` to the empty list of Normal 40.
-    Push(Data),
+    Push,
     /// `push_optimal_data` to the empty list of a version.
-    Optimal(Version, Data),
+    Optimal(Version),
     /// `encode_auto`.
-    Automatic(Data, EcLevel),
+    Automatic(EcLevel),
     /// `least_segments`.
-    Least(Version, Data),
+    Least(Version),
+    /// `create_error_correction_code` of so many bytes.
+    Correction(usize),
+    /// `construct_codewords`.
+    Codewords(Version, EcLevel),
+    /// A constructor.
+    Code(Constructor),
+    /// A symbol of data in a manner, and its bits.
+    InManner(MannerCall),
+}
+
+/// A call of no data that is made once.
+pub enum Single {
     /// `Parser`, joined by its `optimize` in Normal 1.
     Runs,
     /// What a list of bits is asked.
     BitsAsked,
-    /// `create_error_correction_code` of so many bytes.
-    Correction(Data, usize),
-    /// `construct_codewords`.
-    Codewords(Version, EcLevel, Data),
     /// `product`, `power` and `max_allowed_errors`.
     Products,
     /// A call of a canvas of a version and level.
     Canvas(Version, EcLevel, CanvasCall),
     /// `is_functional`.
     Functional,
-    /// A constructor.
-    Code(Data, Constructor),
     /// A call of the symbol of a version at level L.
     Symbol(Version, SymbolCall),
     /// A symbol of a text.
     Text(TextCall),
-    /// A symbol of data in a manner, and its bits.
-    InManner(Data, MannerCall),
     /// A picture of a kind in a frame.
     Picture(Kind, Frame),
     /// `to_image` of a small symbol in grey pixels.

@@ -3,7 +3,6 @@
 ghost use Rattle.std.specs.Iterator.{IsFinite};
 
 use crate::digest::Digest;
-use crate::scenarios::data::Data;
 use crate::scenarios::pushes::digest_of;
 use crate::scenarios::scenario::{Answer, Note, Outcome};
 use qrcode::bits::{Bits, DATA_LIMIT, encode_auto};
@@ -94,37 +93,32 @@ fn finish(bits: Bits, kept: Option<usize>, is_again: bool) -> Outcome {
 }
 
 /// The bits of data in the least version.
-pub fn automatic(alloc: Global, data: &Data, ec_level: EcLevel) -> QrResult<Digest> {
-    let held = data.hold(alloc)?;
-    Ok(digest_of(encode_auto(alloc, held.bytes(), ec_level)?))
+pub fn automatic(alloc: Global, data: &[u8], ec_level: EcLevel) -> QrResult<Digest> {
+    Ok(digest_of(encode_auto(alloc, data, ec_level)?))
 }
 
 /// The bits of data in a version.
-pub fn optimal_in(alloc: Global, version: Version, data: &Data) -> QrResult<Digest> {
+pub fn optimal_in(alloc: Global, data: &[u8], version: Version) -> QrResult<Digest> {
     if !version.is_valid() {
         return Err(QrError::InvalidVersion);
     }
-    let held = data.hold(alloc)?;
     let mut bits = Bits::new(alloc, version);
-    bits.push_optimal_data(held.bytes())?;
+    bits.push_optimal_data(data)?;
     Ok(digest_of(bits))
 }
 
 /// The bits of bytes in Normal 40.
-pub fn push_of_bytes(alloc: Global, data: &Data) -> QrResult<Digest> {
-    let held = data.hold(alloc)?;
+pub fn push_of_bytes(alloc: Global, bytes: &[u8]) -> QrResult<Digest> {
     let mut bits = Bits::new(alloc, Version::Normal(40));
-    bits.push_byte_data(held.bytes())?;
+    bits.push_byte_data(bytes)?;
     Ok(digest_of(bits))
 }
 
 /// The segments of data that take the fewest bits in a version.
-pub fn least(alloc: Global, version: Version, data: &Data) -> QrResult<Digest> {
-    let held = data.hold(alloc)?;
+pub fn least(alloc: Global, bytes: &[u8], version: Version) -> QrResult<Digest> {
     if !version.is_valid() {
         return Err(QrError::InvalidVersion);
     }
-    let bytes = held.bytes();
     if bytes.len() > DATA_LIMIT {
         return Err(QrError::DataTooLong);
     }

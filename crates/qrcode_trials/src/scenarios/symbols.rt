@@ -1,7 +1,6 @@
 //! Symbols: the constructors, and what is asked of a symbol.
 
 use crate::digest::Digest;
-use crate::scenarios::data::Data;
 use qrcode::QrCode;
 use qrcode::bits::Bits;
 use qrcode::types::{Color, EcLevel, QrError, QrResult, Version};
@@ -39,9 +38,8 @@ pub enum Constructor {
 }
 
 /// Makes a symbol.
-pub fn construct(alloc: Global, data: &Data, constructor: &Constructor) -> QrResult<Digest> {
-    let held = data.hold(alloc)?;
-    of_code(constructed(alloc, held.bytes(), constructor))
+pub fn construct(alloc: Global, data: &[u8], constructor: &Constructor) -> QrResult<Digest> {
+    of_code(constructed(alloc, data, constructor))
 }
 
 // The symbol that a constructor makes.

@@ -1,7 +1,6 @@
 //! Texts, and data in a manner: their symbols and their bits.
 
 use crate::digest::Digest;
-use crate::scenarios::data::Data;
 use crate::scenarios::pushes::digest_of;
 use crate::scenarios::symbols::of_code;
 use qrcode::QrCode;
@@ -47,9 +46,7 @@ pub fn run(alloc: Global, call: &TextCall) -> QrResult<Digest> {
 }
 
 /// Makes a call of data in a manner.
-pub fn run_of_data(alloc: Global, data: &Data, call: &MannerCall) -> QrResult<Digest> {
-    let held = data.hold(alloc)?;
-    let data = held.bytes();
+pub fn run_of_data(alloc: Global, data: &[u8], call: &MannerCall) -> QrResult<Digest> {
     match call {
         MannerCall::AtLeast(manner, from, level) => at_least(alloc, data, *manner, *from, *level),
         MannerCall::Boosted(manner, from, level) => boosted(alloc, data, *manner, *from, *level),

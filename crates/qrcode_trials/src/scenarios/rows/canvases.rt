@@ -3,10 +3,11 @@
 use super::NOTHING;
 use crate::scenarios::canvas::CanvasCall;
 use crate::scenarios::data::Data::{Bytes, Times};
-use crate::scenarios::scenario::Call::Once;
+use crate::scenarios::scenario::Call::{OfData, Once};
+use crate::scenarios::scenario::DataCall::{Codewords, Correction};
 use crate::scenarios::scenario::Memory::{NoMoreThan, Takes};
 use crate::scenarios::scenario::Scenario;
-use crate::scenarios::scenario::Single::{Canvas, Codewords, Correction, Functional, Products};
+use crate::scenarios::scenario::Single::{Canvas, Functional, Products};
 use qrcode::types::EcLevel::{H, L, M, Q};
 use qrcode::types::QrError::InvalidVersion;
 use qrcode::types::Version::{Micro, Normal};
@@ -16,13 +17,13 @@ const BLOCKS: &[u8] = b"four blocks of data, of which two have a byte more than 
 
 #[rattlefmt::skip]
 pub static SCENARIOS: [Scenario; 33] = [
-    Scenario("ec::create_error_correction_code", Takes, None, Once(Correction(Bytes(b"a block of some 24 bytes"), 30))),
-    Scenario("ec::create_error_correction_code: nothing", Takes, None, Once(Correction(Bytes(b""), 0))),
-    Scenario("ec::create_error_correction_code: 69 of 100,000 bytes", Takes, None, Once(Correction(Times(b'a', 100_000), 69))),
-    Scenario("ec::construct_codewords", Takes, None, Once(Codewords(Normal(5), Q, Bytes(BLOCKS)))),
-    Scenario("ec::construct_codewords: Micro 1", Takes, None, Once(Codewords(Micro(1), L, Bytes(b"abc")))),
-    Scenario("ec::construct_codewords: Normal 40", Takes, None, Once(Codewords(Normal(40), L, Times(b'a', 2956)))),
-    Scenario("ec::construct_codewords: no such level", NOTHING, Some(InvalidVersion), Once(Codewords(Micro(1), H, Bytes(BLOCKS)))),
+    Scenario("ec::create_error_correction_code", Takes, None, OfData(Bytes(b"a block of some 24 bytes"), Correction(30))),
+    Scenario("ec::create_error_correction_code: nothing", Takes, None, OfData(Bytes(b""), Correction(0))),
+    Scenario("ec::create_error_correction_code: 69 of 100,000 bytes", Takes, None, OfData(Times(b'a', 100_000), Correction(69))),
+    Scenario("ec::construct_codewords", Takes, None, OfData(Bytes(BLOCKS), Codewords(Normal(5), Q))),
+    Scenario("ec::construct_codewords: Micro 1", Takes, None, OfData(Bytes(b"abc"), Codewords(Micro(1), L))),
+    Scenario("ec::construct_codewords: Normal 40", Takes, None, OfData(Times(b'a', 2956), Codewords(Normal(40), L))),
+    Scenario("ec::construct_codewords: no such level", NOTHING, Some(InvalidVersion), OfData(Bytes(BLOCKS), Codewords(Micro(1), H))),
     Scenario("ec: products", NOTHING, None, Once(Products)),
     Scenario("Canvas::new", Takes, None, Once(Canvas(Normal(1), M, CanvasCall::New))),
     Scenario("Canvas: draws", NoMoreThan("Canvas::new"), None, Once(Canvas(Normal(1), M, CanvasCall::Draws))),

@@ -2,10 +2,10 @@
 
 use super::NOTHING;
 use crate::scenarios::data::Data::{Bytes, Times};
-use crate::scenarios::scenario::Call::{self, Once};
+use crate::scenarios::scenario::Call::{self, OfData};
+use crate::scenarios::scenario::DataCall::{self, Alone};
 use crate::scenarios::scenario::Memory::{NoMoreThan, Repeats, Takes};
 use crate::scenarios::scenario::Scenario;
-use crate::scenarios::scenario::Single::{self, Data};
 use qrcode::bits::ExtendedMode;
 use qrcode::types::EcLevel::{L, M, Q};
 use qrcode::types::Mode;
@@ -18,7 +18,7 @@ use qrcode_pushes::Push;
 /// Indicators, designators and data in each mode.
 #[rattlefmt::skip]
 pub static OF_DATA: [Scenario; 7] = [
-    Scenario("nothing", NOTHING, None, Once(Data(Bytes(b"")))),
+    Scenario("nothing", NOTHING, None, OfData(Bytes(b""), Alone)),
     Scenario("Bits::push_mode_indicator", Repeats, None, Call::Pushes(Normal(1), &[
         Push::Indicator(ExtendedMode::StructuredAppend),
         Push::Byte(b"21 bytes of some text"),
@@ -169,5 +169,5 @@ pub static OF_LENGTHS: [Scenario; 5] = [
     Scenario("Bits::push_alphanumeric_data: nothing", Repeats, None, Call::Pushes(Micro(2), &[Push::Alphanumeric(b"")])),
     Scenario("Bits::push_byte_data: nothing", Repeats, None, Call::Pushes(Micro(3), &[Push::Byte(b"")])),
     Scenario("Bits::push_kanji_data: nothing", Repeats, None, Call::Pushes(Micro(3), &[Push::Kanji(b"")])),
-    Scenario("Bits::push_byte_data: 65,535 bytes", Takes, None, Once(Single::Push(Times(b'a', 65_535)))),
+    Scenario("Bits::push_byte_data: 65,535 bytes", Takes, None, OfData(Times(b'a', 65_535), DataCall::Push)),
 ];

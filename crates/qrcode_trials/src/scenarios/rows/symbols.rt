@@ -2,10 +2,11 @@
 
 use super::NOTHING;
 use crate::scenarios::data::Data::{self, Bytes, Times};
-use crate::scenarios::scenario::Call::Once;
+use crate::scenarios::scenario::Call::{OfData, Once};
+use crate::scenarios::scenario::DataCall::{Alone, Code};
 use crate::scenarios::scenario::Memory::{NoMoreThan, Takes};
 use crate::scenarios::scenario::Scenario;
-use crate::scenarios::scenario::Single::{self, Code, Symbol};
+use crate::scenarios::scenario::Single::Symbol;
 use crate::scenarios::symbols::Constructor::{New, WithBits, WithLevel, WithVersion};
 use crate::scenarios::symbols::SymbolCall;
 use qrcode::types::EcLevel::{H, L, Q};
@@ -21,39 +22,39 @@ const LONG: Data = Times(b'7', 1_048_577);
 /// Symbols that are made.
 #[rattlefmt::skip]
 pub static MADE: [Scenario; 14] = [
-    Scenario("QrCode::new", Takes, None, Once(Code(Bytes(TEXT), New))),
-    Scenario("QrCode::new: nothing", Takes, None, Once(Code(Bytes(b""), New))),
-    Scenario("QrCode::new: 2,331 letters", Takes, None, Once(Code(Times(b'a', 2331), New))),
-    Scenario("QrCode::new: no room", Takes, Some(DataTooLong), Once(Code(Times(b'a', 2332), New))),
-    Scenario("QrCode::with_error_correction_level", Takes, None, Once(Code(Bytes(TEXT), WithLevel(H)))),
-    Scenario("QrCode::with_error_correction_level: nothing", Takes, None, Once(Code(Bytes(b""), WithLevel(L)))),
-    Scenario("QrCode::with_error_correction_level: 7,089 digits", Takes, None, Once(Code(Times(b'7', 7089), WithLevel(L)))),
-    Scenario("QrCode::with_version", Takes, None, Once(Code(Bytes(TEXT), WithVersion(Normal(7), Q)))),
-    Scenario("QrCode::with_version: Micro", Takes, None, Once(Code(Bytes(b"01234567"), WithVersion(Micro(2), L)))),
-    Scenario("QrCode::with_version: nothing", Takes, None, Once(Code(Bytes(b""), WithVersion(Micro(1), L)))),
-    Scenario("QrCode::with_version: 7,089 digits", Takes, None, Once(Code(Times(b'7', 7089), WithVersion(Normal(40), L)))),
-    Scenario("QrCode::with_bits", Takes, None, Once(Code(Bytes(b""), WithBits(Normal(1), L, &[
+    Scenario("QrCode::new", Takes, None, OfData(Bytes(TEXT), Code(New))),
+    Scenario("QrCode::new: nothing", Takes, None, OfData(Bytes(b""), Code(New))),
+    Scenario("QrCode::new: 2,331 letters", Takes, None, OfData(Times(b'a', 2331), Code(New))),
+    Scenario("QrCode::new: no room", Takes, Some(DataTooLong), OfData(Times(b'a', 2332), Code(New))),
+    Scenario("QrCode::with_error_correction_level", Takes, None, OfData(Bytes(TEXT), Code(WithLevel(H)))),
+    Scenario("QrCode::with_error_correction_level: nothing", Takes, None, OfData(Bytes(b""), Code(WithLevel(L)))),
+    Scenario("QrCode::with_error_correction_level: 7,089 digits", Takes, None, OfData(Times(b'7', 7089), Code(WithLevel(L)))),
+    Scenario("QrCode::with_version", Takes, None, OfData(Bytes(TEXT), Code(WithVersion(Normal(7), Q)))),
+    Scenario("QrCode::with_version: Micro", Takes, None, OfData(Bytes(b"01234567"), Code(WithVersion(Micro(2), L)))),
+    Scenario("QrCode::with_version: nothing", Takes, None, OfData(Bytes(b""), Code(WithVersion(Micro(1), L)))),
+    Scenario("QrCode::with_version: 7,089 digits", Takes, None, OfData(Times(b'7', 7089), Code(WithVersion(Normal(40), L)))),
+    Scenario("QrCode::with_bits", Takes, None, OfData(Bytes(b""), Code(WithBits(Normal(1), L, &[
         Push::Designator(9),
         Push::Byte(b"some bytes"),
         Push::Terminator(L),
     ])))),
-    Scenario("QrCode::with_bits: nothing", Takes, None, Once(Code(Bytes(b""), WithBits(Micro(1), L, &[Push::Terminator(L)])))),
-    Scenario("QrCode::with_bits: Normal 40", Takes, None, Once(Code(Bytes(b""), WithBits(Normal(40), L, &[Push::Terminator(L)])))),
+    Scenario("QrCode::with_bits: nothing", Takes, None, OfData(Bytes(b""), Code(WithBits(Micro(1), L, &[Push::Terminator(L)])))),
+    Scenario("QrCode::with_bits: Normal 40", Takes, None, OfData(Bytes(b""), Code(WithBits(Normal(40), L, &[Push::Terminator(L)])))),
 ];
 
 /// Symbols of long data, and those that are refused.
 #[rattlefmt::skip]
 pub static REFUSED: [Scenario; 10] = [
-    Scenario("long data", Takes, None, Once(Single::Data(LONG))),
-    Scenario("QrCode::new: long data", NoMoreThan("long data"), Some(DataTooLong), Once(Code(LONG, New))),
-    Scenario("QrCode::with_error_correction_level: long data", NoMoreThan("long data"), Some(DataTooLong), Once(Code(LONG, WithLevel(L)))),
-    Scenario("QrCode::with_version: long data", NoMoreThan("long data"), Some(DataTooLong), Once(Code(LONG, WithVersion(Normal(40), L)))),
-    Scenario("QrCode::with_version: no such version", NOTHING, Some(InvalidVersion), Once(Code(Bytes(b"1"), WithVersion(Normal(41), L)))),
-    Scenario("QrCode::with_version: no such mode", NOTHING, Some(UnsupportedCharacterSet), Once(Code(Bytes(b"A"), WithVersion(Micro(1), L)))),
-    Scenario("QrCode::with_version: no such level", Takes, Some(InvalidVersion), Once(Code(Bytes(b"1"), WithVersion(Micro(1), H)))),
-    Scenario("QrCode::with_version: no room", Takes, Some(DataTooLong), Once(Code(Bytes(b"123456"), WithVersion(Micro(1), L)))),
-    Scenario("QrCode::with_bits: no such level", NOTHING, Some(InvalidVersion), Once(Code(Bytes(b""), WithBits(Micro(1), H, &[])))),
-    Scenario("QrCode::with_bits: long list", NoMoreThan("long list"), Some(DataTooLong), Once(Code(Bytes(b""), WithBits(Micro(1), L, &[Push::Numeric(b"1234567")])))),
+    Scenario("long data", Takes, None, OfData(LONG, Alone)),
+    Scenario("QrCode::new: long data", NoMoreThan("long data"), Some(DataTooLong), OfData(LONG, Code(New))),
+    Scenario("QrCode::with_error_correction_level: long data", NoMoreThan("long data"), Some(DataTooLong), OfData(LONG, Code(WithLevel(L)))),
+    Scenario("QrCode::with_version: long data", NoMoreThan("long data"), Some(DataTooLong), OfData(LONG, Code(WithVersion(Normal(40), L)))),
+    Scenario("QrCode::with_version: no such version", NOTHING, Some(InvalidVersion), OfData(Bytes(b"1"), Code(WithVersion(Normal(41), L)))),
+    Scenario("QrCode::with_version: no such mode", NOTHING, Some(UnsupportedCharacterSet), OfData(Bytes(b"A"), Code(WithVersion(Micro(1), L)))),
+    Scenario("QrCode::with_version: no such level", Takes, Some(InvalidVersion), OfData(Bytes(b"1"), Code(WithVersion(Micro(1), H)))),
+    Scenario("QrCode::with_version: no room", Takes, Some(DataTooLong), OfData(Bytes(b"123456"), Code(WithVersion(Micro(1), L)))),
+    Scenario("QrCode::with_bits: no such level", NOTHING, Some(InvalidVersion), OfData(Bytes(b""), Code(WithBits(Micro(1), H, &[])))),
+    Scenario("QrCode::with_bits: long list", NoMoreThan("long list"), Some(DataTooLong), OfData(Bytes(b""), Code(WithBits(Micro(1), L, &[Push::Numeric(b"1234567")])))),
 ];
 
 /// Calls of symbols.
