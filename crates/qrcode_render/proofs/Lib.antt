@@ -17,3 +17,4 @@ pub mod Rectangles
 pub mod Sizes
 pub mod StrokedRows
 pub mod TextLines
+pub mod Vectors

@@ -20,6 +20,7 @@ pub mod Shades
 pub mod Shown
 pub mod Sides
 pub mod Strips
+pub mod StrokeLaws
 pub mod Strokes
 pub mod Texts
 pub mod Vectors

@@ -40,6 +40,9 @@ square_of s = record {
   down = s.down;
 }
 
+abbrev pub square_layout : Square → Layout  -- where its modules stand
+square_layout m = layout m.count m.zone m.across m.down
+
 -- a renderer's setting of a square, with the pixels that stand for dark and light, and the quiet zone where it is switched on
 abbrev pub setting_of : {P : Type 0} → Square → P → P → ℕ → Setting P
 setting_of m dark light whole = record {

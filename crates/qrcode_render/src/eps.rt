@@ -4,10 +4,11 @@ ghost use Rattle.std.proofs.Common.{rules};
 ghost use Rattle.std.specs.Prelude.{◌≡◌, ℕ, ◌+◌, ◌*◌, ◌^◌, ◌<◌, ◌++◌, List, length, string_bytes, IfOk, OnOk, OnErr, IsOkUnless, IsTrue};
 ghost use Rattle.qrcode_types.specs.declared.types.QrError.TheVariants.{OutOfMemory};
 ghost use Rattle.qrcode_types.specs.Colors.{select_of};
-ghost use Rattle.qrcode_render.specs.Eps.{eps_head, eps_paint, eps_box, eps_turn, eps_start, eps_rect, eps_column, eps_sides, eps_row, eps_end, eps_text};
+ghost use Rattle.qrcode_render.specs.Eps.{eps_paint, eps_box, eps_start, eps_rect, eps_column, eps_sides, eps_row, eps_end, eps_text};
 ghost use Rattle.qrcode_render.specs.Layout.{pixels_across, pixels_down};
 ghost use Rattle.qrcode_render.specs.Put.{IsPutWhere};
 ghost use Rattle.qrcode_render.specs.Setting.{fits, layout_of};
+ghost use Rattle.qrcode_render.specs.StrokeLaws.{eps_rect-is};
 
 use crate::ink::{Front, Piece, Row, Sides, number};
 use crate::stamps::Stamp;
@@ -97,6 +98,8 @@ struct Boxes;
 impl Strokes for Boxes {
     type Column = Front;
 
+    ghost rect = { eps_rect };
+
     ghost column_texts = { eps_column };
 
     ghost sides_text = { eps_sides };
@@ -119,6 +122,8 @@ impl Strokes for Boxes {
         let front = sides.behind(&number(top));
         Piece::new(front, Stamp::new(b" rectfill\n"))
     }
+
+    ghost rect_is = { eps_rect-is };
 }
 
 impl<'a> Renderer<'a, Color> {
@@ -136,14 +141,9 @@ impl<'a> Renderer<'a, Color> {
         ensures memory { IsOkUnless result OutOfMemory }
     {
         let modules = self.modules();
+        let (dark, light) = self.colors();
         let (width, height) = modules.pixels();
-        let canvas = <Canvas as crate::Canvas>::new(
-            alloc,
-            width,
-            height,
-            self.dark_color,
-            self.light_color,
-        )?;
+        let canvas = <Canvas as crate::Canvas>::new(alloc, width, height, dark, light)?;
         put_modules::<Boxes>(&canvas.text, &modules, b"showpage\n%%EOF\n", bytes)
     }
 }
@@ -213,9 +213,7 @@ impl crate::Canvas for Canvas {
     ) -> QrResult<String> {
         let (width, height) = modules.pixels();
         let canvas = Self::new(alloc, width, height, dark_pixel, light_pixel)?;
-        let mut text = push_modules::<Boxes>(canvas.text, modules)?;
-        text.push_str("showpage\n%%EOF\n")?;
-        Ok(text)
+        push_modules::<Boxes>(canvas.text, modules, "showpage\n%%EOF\n")
     }
 
     #[tactic(auto, unfolding(crate::specs::Eps::eps_text))]

@@ -36,6 +36,7 @@ impl<const N: usize> Piece<N> {
         requires back_text { ∥ IsUtf8 back ∥₁ }
         ensures front { result.0 ≡ front.entry }
         ensures back { result.1 ≡ back }
+        ensures at_most { length result.0 + length result.1 ≤ N + 16 }
     {
         Piece { front, back }
     }

@@ -6,6 +6,7 @@ ghost use Rattle.qrcode_types.specs.declared.types.QrError.TheVariants.{OutOfMem
 ghost use Rattle.qrcode_render.specs.Layout.{pixels_across, pixels_down};
 ghost use Rattle.qrcode_render.specs.Put.{IsPutWhere};
 ghost use Rattle.qrcode_render.specs.Setting.{fits, layout_of};
+ghost use Rattle.qrcode_render.specs.StrokeLaws.{pic_rect-is};
 ghost use Rattle.qrcode_render.specs.Vectors.{pic_start, pic_rect, pic_column, pic_sides, pic_row, pic_text};
 
 use crate::ink::{Front, Piece, Row, Sides, number};
@@ -69,6 +70,8 @@ struct Boxes;
 impl Strokes for Boxes {
     type Column = Front;
 
+    ghost rect = { pic_rect };
+
     ghost column_texts = { pic_column };
 
     ghost sides_text = { pic_sides };
@@ -91,6 +94,8 @@ impl Strokes for Boxes {
         let front = sides.behind(&number(top));
         Piece::new(front, Stamp::new(b")\n"))
     }
+
+    ghost rect_is = { pic_rect-is };
 }
 
 impl<'a> Renderer<'a, Color> {
@@ -107,8 +112,9 @@ impl<'a> Renderer<'a, Color> {
         ensures memory { IsOkUnless result OutOfMemory }
     {
         let modules = self.modules();
+        let (dark, light) = self.colors();
         let (width, height) = modules.pixels();
-        let canvas = <Canvas as crate::Canvas>::new(alloc, width, height, Color, Color)?;
+        let canvas = <Canvas as crate::Canvas>::new(alloc, width, height, dark, light)?;
         put_modules::<Boxes>(&canvas.text, &modules, b"", bytes)
     }
 }
@@ -173,7 +179,7 @@ impl crate::Canvas for Canvas {
     ) -> QrResult<String> {
         let (width, height) = modules.pixels();
         let canvas = Self::new(alloc, width, height, dark_pixel, light_pixel)?;
-        push_modules::<Boxes>(canvas.text, modules)
+        push_modules::<Boxes>(canvas.text, modules, "")
     }
 
     fn into_image(self) -> QrResult<String> {

@@ -1,13 +1,13 @@
 //! Texts of rectangles, put together of kept texts: those that a column determines, that of the sides,
 //! and those that a row and the text of the sides determine.
 
-ghost use Rattle.std.specs.Prelude.{◌≡◌, ℕ, ◌+◌, ◌-◌, ◌*◌, ◌^◌, ◌<◌, ◌≤◌, List, [], ◌++◌, length, map, take, drop, string_bytes, IfOk, IfSome, IfNone, OnOk, OnErr, IsOkUnless};
+ghost use Rattle.std.specs.Prelude.{◌≡◌, ℕ, ◌+◌, ◌*◌, ◌^◌, ◌<◌, ◌≤◌, List, ◌++◌, length, map, take, drop, string_bytes, IfOk, IfSome, IfNone, OnOk, OnErr, IsOkUnless};
 ghost use Rattle.std.specs.Str.{IsUtf8};
 ghost use Rattle.qrcode_types.specs.declared.types.QrError.TheVariants.{OutOfMemory};
-ghost use Rattle.qrcode_render.specs.Drawn.{drawn, drawn_row};
-ghost use Rattle.qrcode_render.specs.Layout.{layout};
+ghost use Rattle.qrcode_render.specs.Drawn.{drawn};
 ghost use Rattle.qrcode_render.specs.Put.{IsPutWhere};
-ghost use Rattle.qrcode_render.specs.Strokes.{stroke, columns_from, AreShort};
+ghost use Rattle.qrcode_render.specs.Setting.{square_layout};
+ghost use Rattle.qrcode_render.specs.Strokes.{AreShort, columns_of, line_of, rect_text};
 
 use crate::Modules;
 use crate::grid::Grid;
@@ -22,8 +22,10 @@ pub trait Strokes {
     /// How the texts of a column are kept.
     type Column: Column;
 
-    // What the column of a rectangle determines, what its sides, and what its row and the text of the
-    // sides.
+    // A rectangle behind a text.
+    ghost rect: { ℕ → ℕ → ℕ → ℕ → List ℕ → List ℕ };
+
+    // What its column determines of it, what its sides, and what its row and the text of the sides.
     ghost column_texts: { ℕ → List ℕ × List ℕ };
 
     ghost sides_text: { ℕ → ℕ → List ℕ };
@@ -40,19 +42,24 @@ pub trait Strokes {
 
     /// The texts of a row and the text of sides.
     fn row(top: u32, sides: &Sides) -> Row
-        ensures { result ≡ row_texts top sides.now };
+        ensures value { result ≡ row_texts top sides.now }
+        ensures at_most { length result.0 + length result.1 ≤ 48 };
+
+    // It is put together of these texts.
+    ghost rect_is: { (left top width height : ℕ) (text : List ℕ) → rect left top width height text
+        ≡ text ++ rect_text (column_texts left) (row_texts top (sides_text width height)) };
 }
 
-// The texts of columns of modules of so many pixels, from a first pixel on.
-fn columns<S: Strokes>(alloc: Global, left: u32, width: u32, count: u32) -> QrResult<Vec<S::Column>>
-    requires { left + count * width < 2 ^ 32 }
+// The texts of the columns of modules.
+fn columns<S: Strokes>(alloc: Global, modules: &Modules) -> QrResult<Vec<S::Column>>
     ensures value { IfOk result (λ v. map S.Column.texts v.items
-        ≡ columns_from S.column_texts left width count) }
+        ≡ columns_of S.column_texts modules.now) }
     ensures memory { IsOkUnless result OutOfMemory }
 {
-    let mut columns = Vec::with_capacity(alloc, count as usize)?;
-    for i in 0..count {
-        columns.push(S::column(left + i * width))?;
+    let left = modules.zone * modules.width;
+    let mut columns = Vec::with_capacity(alloc, modules.count as usize)?;
+    for i in 0..modules.count {
+        columns.push(S::column(left + i * modules.width))?;
     }
     Ok(columns)
 }
@@ -78,75 +85,59 @@ fn room_for(count: usize, most: usize) -> QrResult<usize>
     bytes.checked_add(MOST).ok_or(QrError::OutOfMemory)
 }
 
-// Writes the rectangles of the dark modules of a row into a line, of which each has at most so many bytes.
+// Writes the rectangles of the dark modules of a row into a line, of the texts of columns, which have at most so
+// many bytes, and those of the row.
 fn write_line<S: Strokes>(
     line: &mut Line,
     columns: &[S::Column],
-    row: &Row,
-    content: &[Color],
-    left: u32,
-    top: u32,
-    width: u32,
-    height: u32,
-    most: usize,
+    longest: usize,
+    texts: &Row,
+    modules: &Modules,
+    row: u32,
 )
-    requires at_most { length content.now ≤ length columns.now }
-    requires row_at_most { length row.now.0 + length row.now.1 ≤ most }
-    requires short { AreShort (map S.Column.texts columns.now)
-        (most - (length row.now.0 + length row.now.1)) }
-    requires columns { map S.Column.texts columns.now
-        ≡ columns_from S.column_texts left width (length columns.now) }
-    requires row { row.now ≡ S.row_texts top (S.sides_text width height) }
-    requires room { length content.now * most + 80 ≤ line.old.room }
-    ensures value { line.new.text ≡ drawn_row (stroke S.column_texts S.sides_text S.row_texts)
-        left top width height content.now [] }
-    ensures at_most { length line.new.text ≤ length content.now * most }
+    requires inside { row < modules.now.count }
+    requires columns { map S.Column.texts columns.now ≡ columns_of S.column_texts modules.now }
+    requires short { AreShort (map S.Column.texts columns.now) longest }
+    requires texts { texts.now ≡ S.row_texts ((row + modules.now.zone) * modules.now.down)
+        (S.sides_text modules.now.across modules.now.down) }
+    requires room { modules.now.count * (longest + (length texts.now.0 + length texts.now.1)) + 80
+        ≤ line.old.room }
+    ensures value { line.new.text ≡ line_of S.rect modules.now row }
+    ensures at_most { length line.new.text
+        ≤ modules.now.count * (longest + (length texts.now.0 + length texts.now.1)) }
     ensures room { line.new.room ≡ line.old.room }
     ensures is_text { ∥ IsUtf8 line.new.text ∥₁ }
 {
-    let _ = (left, top, width, height, most);
+    let _ = longest;
+    let start = row as usize * modules.count as usize;
+    let cells = &modules.content[start..start + modules.count as usize];
     line.clear();
-    for (i, color) in content.iter().enumerate() {
+    for (i, color) in cells.iter().enumerate() {
         match color {
             Color::Light => {}
-            Color::Dark => columns[i].put(line, row),
+            Color::Dark => columns[i].put(line, texts),
         }
     }
 }
 
-// Appends the rectangles of the dark modules of a square, row by row.
+// Appends the rectangles of the dark modules, row by row.
 fn push_rows<S: Strokes>(
     text: &mut String,
     line: &mut Line,
     columns: &[S::Column],
-    content: &[Color],
-    count: u32,
-    zone: u32,
-    width: u32,
-    height: u32,
+    modules: &Modules,
 ) -> QrResult<()>
-    requires square { length content.now ≡ count * count }
-    requires side_fits { count + 2 * zone < 2 ^ 32 }
-    requires across { (count + 2 * zone) * width < 2 ^ 32 }
-    requires down { (count + 2 * zone) * height < 2 ^ 32 }
-    requires columns { map S.Column.texts columns.now
-        ≡ columns_from S.column_texts (zone * width) width count }
-    ensures appends { OnOk result (string_bytes text.new
-        ≡ drawn (stroke S.column_texts S.sides_text S.row_texts)
-        (layout count zone width height) content.now (string_bytes text.old)) }
+    requires { map S.Column.texts columns.now ≡ columns_of S.column_texts modules.now }
+    ensures appends { OnOk result (string_bytes text.new ≡ drawn S.rect
+        (square_layout modules.now) modules.now.content (string_bytes text.old)) }
     ensures memory { IsOkUnless result OutOfMemory }
 {
-    let left = zone * width;
-    let sides = S::sides(width, height);
+    let sides = S::sides(modules.width, modules.height);
     let longest = longest(columns);
-    for row in 0..count {
-        let start = row as usize * count as usize;
-        let cells = &content[start..start + count as usize];
-        let top = (row + zone) * height;
-        let piece = S::row(top, &sides);
-        let most = longest + piece.len();
-        line.fit(room_for(cells.len(), most)?)?;
-        write_line::<S>(line, columns, &piece, cells, left, top, width, height, most);
+    for row in 0..modules.count {
+        let texts = S::row((row + modules.zone) * modules.height, &sides);
+        line.fit(room_for(modules.count as usize, longest + texts.len())?)?;
+        write_line::<S>(line, columns, longest, &texts, modules, row);
         text.push_str(unsafe { from_utf8_unchecked(line.as_slice()) })?;
     }
     Ok(())
@@ -158,38 +149,24 @@ fn put_rows<S: Strokes>(
     at: usize,
     line: &mut Line,
     columns: &[S::Column],
-    content: &[Color],
-    count: u32,
-    zone: u32,
-    width: u32,
-    height: u32,
+    modules: &Modules,
 ) -> usize
-    requires square { length content.now ≡ count * count }
-    requires side_fits { count + 2 * zone < 2 ^ 32 }
-    requires across { (count + 2 * zone) * width < 2 ^ 32 }
-    requires down { (count + 2 * zone) * height < 2 ^ 32 }
-    requires columns { map S.Column.texts columns.now
-        ≡ columns_from S.column_texts (zone * width) width count }
-    requires line_room { count * 80 + 80 ≤ line.old.room }
-    requires room { at + count * (count * 80) ≤ length bytes.old }
-    ensures writes { take result bytes.new ≡ drawn (stroke S.column_texts S.sides_text S.row_texts)
-        (layout count zone width height) content.now (take at bytes.old) }
+    requires columns { map S.Column.texts columns.now ≡ columns_of S.column_texts modules.now }
+    requires line_room { modules.now.count * 80 + 80 ≤ line.old.room }
+    requires room { at + modules.now.count * (modules.now.count * 80) ≤ length bytes.old }
+    ensures writes { take result bytes.new ≡ drawn S.rect
+        (square_layout modules.now) modules.now.content (take at bytes.old) }
     ensures unchanged { drop result bytes.new ≡ drop result bytes.old }
     ensures at_least { at ≤ result }
-    ensures at_most { result ≤ at + count * (count * 80) }
+    ensures at_most { result ≤ at + modules.now.count * (modules.now.count * 80) }
     ensures length { length bytes.new ≡ length bytes.old }
 {
-    let left = zone * width;
-    let sides = S::sides(width, height);
+    let sides = S::sides(modules.width, modules.height);
     let longest = longest(columns);
     let mut end = at;
-    for row in 0..count {
-        let start = row as usize * count as usize;
-        let cells = &content[start..start + count as usize];
-        let top = (row + zone) * height;
-        let piece = S::row(top, &sides);
-        let most = longest + piece.len();
-        write_line::<S>(line, columns, &piece, cells, left, top, width, height, most);
+    for row in 0..modules.count {
+        let texts = S::row((row + modules.zone) * modules.height, &sides);
+        write_line::<S>(line, columns, longest, &texts, modules, row);
         end = put_text(bytes, end, line.as_slice());
     }
     end
@@ -289,34 +266,20 @@ fn last_line<S: Strokes>(alloc: Global, columns: &[S::Column], modules: &Modules
     Line::new(alloc, room_for(modules.count as usize, most)?)
 }
 
-// The most bytes of what stands behind the rectangles.
-const LONGEST_END: usize = 15;
-
-/// Appends the rectangles of the dark modules to a text, which then has room for an end, too. Refuses with `OutOfMemory` alone.
-pub fn push_modules<S: Strokes>(text: String, modules: &Modules) -> QrResult<String>
-    ensures value { IfOk result (λ all. string_bytes all
-        ≡ drawn (stroke S.column_texts S.sides_text S.row_texts)
-        (layout modules.now.count modules.now.zone modules.now.across modules.now.down)
-        modules.now.content (string_bytes text)) }
+/// Appends the rectangles of the dark modules and an end to a text. Refuses with `OutOfMemory` alone.
+pub fn push_modules<S: Strokes>(text: String, modules: &Modules, end: &str) -> QrResult<String>
+    ensures value { IfOk result (λ all. string_bytes all ≡ drawn S.rect
+        (square_layout modules.now) modules.now.content (string_bytes text) ++ end.now) }
     ensures memory { IsOkUnless result OutOfMemory }
 {
     let alloc = *text.allocator();
-    let left = modules.zone * modules.width;
-    let columns = columns::<S>(alloc, left, modules.width, modules.count)?;
+    let columns = columns::<S>(alloc, modules)?;
     let mut line = last_line::<S>(alloc, &columns, modules)?;
     let mut text = text;
     let room = room_of::<S>(&columns, modules);
-    text.reserve(room.saturating_add(LONGEST_END))?;
-    push_rows::<S>(
-        &mut text,
-        &mut line,
-        &columns,
-        modules.content,
-        modules.count,
-        modules.zone,
-        modules.width,
-        modules.height,
-    )?;
+    text.reserve(room.saturating_add(end.len()))?;
+    push_rows::<S>(&mut text, &mut line, &columns, modules)?;
+    text.push_str(end)?;
     Ok(text)
 }
 
@@ -341,9 +304,8 @@ pub fn put_modules<S: Strokes>(
     end: &[u8],
     bytes: &mut [u8],
 ) -> QrResult<Option<usize>>
-    ensures made { IfOk result (IsPutWhere (drawn (stroke S.column_texts S.sides_text S.row_texts)
-        (layout modules.now.count modules.now.zone modules.now.across modules.now.down)
-        modules.now.content (string_bytes start.now) ++ end.now)
+    ensures made { IfOk result (IsPutWhere (drawn S.rect
+        (square_layout modules.now) modules.now.content (string_bytes start.now) ++ end.now)
         (length (string_bytes start.now) + length modules.now.content * 80 + length end.now)
         bytes.old bytes.new) }
     ensures unchanged { OnErr result (bytes.new ≡ bytes.old) }
@@ -356,20 +318,9 @@ pub fn put_modules<S: Strokes>(
         return Ok(None);
     }
     let alloc = *start.allocator();
-    let left = modules.zone * modules.width;
-    let columns = columns::<S>(alloc, left, modules.width, modules.count)?;
+    let columns = columns::<S>(alloc, modules)?;
     let mut line = row_line(alloc, modules.count)?;
     let at = put_text(bytes, 0, start.as_bytes());
-    let at = put_rows::<S>(
-        bytes,
-        at,
-        &mut line,
-        &columns,
-        modules.content,
-        modules.count,
-        modules.zone,
-        modules.width,
-        modules.height,
-    );
+    let at = put_rows::<S>(bytes, at, &mut line, &columns, modules);
     Ok(Some(put_text(bytes, at, end)))
 }

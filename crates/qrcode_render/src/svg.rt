@@ -7,6 +7,7 @@ ghost use Rattle.qrcode_types.specs.Colors.{select_of};
 ghost use Rattle.qrcode_render.specs.Layout.{pixels_across, pixels_down};
 ghost use Rattle.qrcode_render.specs.Put.{IsPutWhere};
 ghost use Rattle.qrcode_render.specs.Setting.{fits, layout_of};
+ghost use Rattle.qrcode_render.specs.StrokeLaws.{svg_rect-is};
 ghost use Rattle.qrcode_render.specs.Vectors.{svg_start, svg_rect, svg_column, svg_sides, svg_row, svg_end, svg_text};
 
 use crate::ink::{Piece, Row, SHORT, Sides, number};
@@ -78,6 +79,8 @@ struct Paths;
 impl Strokes for Paths {
     type Column = Piece<SHORT>;
 
+    ghost rect = { svg_rect };
+
     ghost column_texts = { svg_column };
 
     ghost sides_text = { svg_sides };
@@ -104,6 +107,8 @@ impl Strokes for Paths {
         let front = sides.behind(&back);
         Piece::new(front, back)
     }
+
+    ghost rect_is = { svg_rect-is };
 }
 
 impl<'a, 'c> Renderer<'a, Color<'c>> {
@@ -121,14 +126,9 @@ impl<'a, 'c> Renderer<'a, Color<'c>> {
         ensures memory { IsOkUnless result OutOfMemory }
     {
         let modules = self.modules();
+        let (dark, light) = self.colors();
         let (width, height) = modules.pixels();
-        let canvas = <Canvas as crate::Canvas>::new(
-            alloc,
-            width,
-            height,
-            self.dark_color,
-            self.light_color,
-        )?;
+        let canvas = <Canvas as crate::Canvas>::new(alloc, width, height, dark, light)?;
         put_modules::<Paths>(&canvas.text, &modules, b"\"/></svg>", bytes)
     }
 }
@@ -198,9 +198,7 @@ impl<'a> crate::Canvas for Canvas<'a> {
     ) -> QrResult<String> {
         let (width, height) = modules.pixels();
         let canvas = Self::new(alloc, width, height, dark_pixel, light_pixel)?;
-        let mut text = push_modules::<Paths>(canvas.text, modules)?;
-        text.push_str("\"/></svg>")?;
-        Ok(text)
+        push_modules::<Paths>(canvas.text, modules, "\"/></svg>")
     }
 
     #[tactic(auto, unfolding(crate::specs::Vectors::svg_text))]
