@@ -147,33 +147,6 @@ fn push_run(
     make_room(text, line)
 }
 
-// The same where there may be no cells. Within its caller, since most modules end no run.
-#[inline(always)]
-fn end_run(
-    text: &mut String,
-    line: &mut Line,
-    pen: &mut Pen,
-    top: u32,
-    end: u32,
-    width: u32,
-) -> QrResult<()>
-    requires width_at_most { width ≤ end }
-    requires row_fits { top + 1 < 2 ^ 32 }
-    requires room { length line.old.text + 80 ≤ line.old.room }
-    requires is_text { ∥ IsUtf8 line.old.text ∥₁ }
-    ensures appends { OnOk result (string_bytes text.new ++ line.new.text
-        ≡ string_bytes text.old ++ line.old.text ++ path_from pen.old (ended top end width)) }
-    ensures pen { OnOk result (pen.new ≡ pen_after pen.old (ended top end width)) }
-    ensures room { OnOk result (length line.new.text + 80 ≤ line.new.room) }
-    ensures is_text { OnOk result (∥ IsUtf8 line.new.text ∥₁) }
-    ensures memory { IsOkUnless result OutOfMemory }
-{
-    if width == 0 {
-        return Ok(());
-    }
-    push_run(text, line, pen, top, end, width)
-}
-
 // Appends the runs of the marks of a row.
 fn push_row(
     text: &mut String,
@@ -198,12 +171,15 @@ fn push_row(
     for column in 0..marks.len() {
         if marks[column] {
             width += 1;
-        } else {
-            end_run(text, line, pen, top, column as u32, width)?;
+        } else if width > 0 {
+            push_run(text, line, pen, top, column as u32, width)?;
             width = 0;
         }
     }
-    end_run(text, line, pen, top, marks.len() as u32, width)
+    if width > 0 {
+        return push_run(text, line, pen, top, marks.len() as u32, width);
+    }
+    Ok(())
 }
 
 // How many digits a number has.
