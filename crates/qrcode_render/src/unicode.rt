@@ -1,7 +1,7 @@
 //! Pictures as texts of half blocks: two rows of pixels in a line.
 
 ghost use Rattle.std.proofs.Common.{rules};
-ghost use Rattle.std.specs.Prelude.{◌≡◌, ℕ, ◌+◌, ◌*◌, ◌/◌, ◌^◌, ◌<◌, ◌≤◌, Bool, [], ◌∷◌, ◌++◌, length, take, drop, map, string_bytes, IfOk, IfSome, IfNone, OnErr, IsOkUnless};
+ghost use Rattle.std.specs.Prelude.{◌≡◌, ◌+◌, ◌*◌, ◌/◌, ◌^◌, ◌<◌, ◌≤◌, Bool, [], ◌∷◌, ◌++◌, length, take, drop, map, string_bytes, IfOk, IfSome, IfNone, OnErr, IsOkUnless};
 ghost use Rattle.std.specs.List.{join_with_byte, range_with_len};
 ghost use Rattle.qrcode_types.specs.declared.types.QrError.TheVariants.{OutOfMemory};
 ghost use Rattle.qrcode_types.specs.Colors.{is_dark};
@@ -10,7 +10,7 @@ ghost use Rattle.qrcode_render.specs.Half.{is_dark_half};
 ghost use Rattle.qrcode_render.specs.Lines.{two_text};
 ghost use Rattle.qrcode_render.specs.Put.{IsPutWhere};
 ghost use Rattle.qrcode_render.specs.Strips.{IsStripOf, lines_room};
-ghost use Rattle.qrcode_render.specs.Texts.{half_blocks, column_text, columns_text, dense_line, dense_text};
+ghost use Rattle.qrcode_render.specs.Texts.{half_blocks, column_text, dense_line, dense_text};
 
 use crate::Pixel;
 use crate::fours::{Fours, push_columns, push_stamps};
@@ -194,6 +194,24 @@ impl Strip {
         push_stamps(&mut self.line, &dark, &light, marks);
         self.line.push(b"\n");
     }
+
+    // Writes the line of the last two rows, or of the last alone, and gives it without its newline.
+    fn last_line(&mut self, grid: &Grid, halves: &Halves, i: u32) -> &[u8]
+        requires fits { IsStripOf grid.now self.old }
+        requires last { i + 1 ≡ ((pixels_of grid.now).down + 1) / 2 }
+        ensures value { result.now
+            ≡ dense_line halves.now.marked halves.now.other (pixels_of grid.now) i }
+        ensures at_most { length result.now ≤ 3 * (pixels_of grid.now).across + 32 }
+    {
+        let (_, height) = grid.pixels();
+        if height % 2 == 1 {
+            self.write_last(grid, halves, i);
+        } else {
+            self.write_two(grid, halves, i);
+        }
+        let line = self.line.as_slice();
+        &line[..line.len() - 1]
+    }
 }
 
 // Writes the lines of cells, with a newline between two, and answers where they end. Within its callers,
@@ -217,13 +235,7 @@ fn put_lines(bytes: &mut [u8], grid: &Grid, halves: &Halves, strip: &mut Strip) 
         strip.write_two(grid, halves, i);
         end = put_text(bytes, end, strip.line.as_slice());
     }
-    if height % 2 == 1 {
-        strip.write_last(grid, halves, last);
-    } else {
-        strip.write_two(grid, halves, last);
-    }
-    let line = strip.line.as_slice();
-    put_text(bytes, end, &line[..line.len() - 1])
+    put_text(bytes, end, strip.last_line(grid, halves, last))
 }
 
 // The most bytes of the lines of a picture and behind them, where they can be counted.
@@ -289,13 +301,7 @@ fn made_lines(alloc: Global, grid: &Grid, halves: &Halves, strip: &mut Strip) ->
         strip.write_two(grid, halves, i);
         lines.extend_from_slice(strip.line.as_slice())?;
     }
-    if height % 2 == 1 {
-        strip.write_last(grid, halves, last);
-    } else {
-        strip.write_two(grid, halves, last);
-    }
-    let line = strip.line.as_slice();
-    lines.extend_from_slice(&line[..line.len() - 1])?;
+    lines.extend_from_slice(strip.last_line(grid, halves, last))?;
     Ok(lines)
 }
 
