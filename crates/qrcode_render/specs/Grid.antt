@@ -47,6 +47,9 @@ repeated n text = flat_map (λ _. text) (range_with_len 0 n)
 abbrev pub row_text : List ℕ → List ℕ → Grid → ℕ → List ℕ
 row_text dark light g row = marks_text (repeated g.across dark) (repeated g.across light) (cell_row g row)
 
--- the text of each row of cells and what ends a line, as often as a cell has pixels down
+abbrev pub rows_by : (List Bool → List ℕ) → Grid → List ℕ  -- the text of each row of cells, as often as a cell has pixels down
+rows_by text g = flat_map (λ row. repeated g.down (text (cell_row g row))) (range_with_len 0 (all_rows g))
+
+-- the rows of cells as texts of dark and light pixels and of what ends a line
 abbrev pub rows_text : List ℕ → List ℕ → List ℕ → Grid → List ℕ
 rows_text dark light end g = flat_map (λ row. repeated g.down (row_text dark light g row ++ end)) (range_with_len 0 (all_rows g))

@@ -1,10 +1,9 @@
 //! Equal rows of pixels, written at once: where each cell has eight bytes, the text of four is stored into each row.
 
-ghost use Rattle.std.specs.Prelude.{◌≡◌, ℕ, ◌+◌, ◌-◌, ◌*◌, ◌<◌, ◌≤◌, Bool, [], ◌∷◌, ◌++◌, List, length, take, flat_map, OnOk, IsOkUnless};
-ghost use Rattle.std.specs.List.{range_with_len};
+ghost use Rattle.std.specs.Prelude.{◌≡◌, ℕ, ◌+◌, ◌-◌, ◌*◌, ◌<◌, ◌≤◌, Bool, [], ◌∷◌, ◌++◌, List, length, take, OnOk, IsOkUnless};
 ghost use Rattle.qrcode_types.specs.declared.types.QrError.TheVariants.{OutOfMemory};
 ghost use Rattle.qrcode_render.specs.EqualRows.{AreRowsFrom, put_at};
-ghost use Rattle.qrcode_render.specs.Grid.{all_columns, all_rows, cell_row, repeated};
+ghost use Rattle.qrcode_render.specs.Grid.{all_columns, all_rows, cell_row, repeated, rows_by};
 ghost use Rattle.qrcode_render.specs.Lines.{two_text};
 ghost use Rattle.qrcode_render.specs.Texts.{marks_text};
 
@@ -144,9 +143,8 @@ pub fn push_bands<const ROWS: usize>(
     requires some { 1 ≤ ROWS }
     requires at_most { ROWS * (8 * all_columns grid.now) ≤ 4096 }
     requires times { times * ROWS ≡ grid.now.down }
-    ensures appends { OnOk result (raw.new.items ≡ raw.old.items ++ flat_map (λ row.
-        repeated grid.now.down (marks_text dark.now light.now (cell_row grid.now row)))
-        (range_with_len 0 (all_rows grid.now))) }
+    ensures appends { OnOk result (raw.new.items
+        ≡ raw.old.items ++ rows_by (marks_text dark.now light.now) grid.now) }
     ensures memory { IsOkUnless result OutOfMemory }
 {
     let (columns, rows) = grid.sides();

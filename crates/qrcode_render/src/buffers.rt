@@ -1,9 +1,8 @@
 //! Pictures in a buffer of the caller.
 
-ghost use Rattle.std.specs.Prelude.{◌≡◌, ◌+◌, ◌*◌, ◌≤◌, [], ◌∷◌, ◌++◌, length, take, flat_map, max, vec_len, IfOk, OnOk, OnErr, IsOkUnless, IsTrue};
-ghost use Rattle.std.specs.List.{range_with_len};
+ghost use Rattle.std.specs.Prelude.{◌≡◌, ◌+◌, ◌*◌, ◌≤◌, [], ◌∷◌, ◌++◌, length, take, max, vec_len, OnOk, OnErr, IsOkUnless, IsTrue};
 ghost use Rattle.qrcode_types.specs.declared.types.QrError.TheVariants.{OutOfMemory};
-ghost use Rattle.qrcode_render.specs.Grid.{all_columns, all_rows, cell_row, pixels_of, repeated};
+ghost use Rattle.qrcode_render.specs.Grid.{all_columns, all_rows, pixels_of, repeated, rows_by};
 ghost use Rattle.qrcode_render.specs.Layout.{pixels_across, pixels_down};
 ghost use Rattle.qrcode_render.specs.Setting.{fits, layout_of, picture_of};
 ghost use Rattle.qrcode_render.specs.Texts.{marks_text, raw_bytes};
@@ -40,9 +39,8 @@ fn put_lines(bytes: &mut [u8], grid: &Grid, texts: &CellTexts, marks: &mut [bool
     requires light { vec_len texts.now.light ≡ grid.now.across }
     requires length { length bytes.old
         ≡ all_rows grid.now * (grid.now.down * (all_columns grid.now * grid.now.across)) }
-    ensures { bytes.new ≡ flat_map (λ row. repeated grid.now.down
-        (marks_text texts.now.dark.items texts.now.light.items (cell_row grid.now row)))
-        (range_with_len 0 (all_rows grid.now)) }
+    ensures { bytes.new
+        ≡ rows_by (marks_text texts.now.dark.items texts.now.light.items) grid.now }
 {
     let (_, rows) = grid.sides();
     let (_, down) = grid.cell();

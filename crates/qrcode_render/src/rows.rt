@@ -1,10 +1,9 @@
 //! Rows of cells as bytes: one row of pixels, copied for the further rows.
 
-ghost use Rattle.std.specs.Prelude.{◌≡◌, ℕ, ◌+◌, ◌*◌, ◌<◌, ◌≤◌, Bool, [], ◌∷◌, ◌++◌, length, max, flat_map, vec_len, IfOk, IfSome, OnOk, IsOkUnless};
-ghost use Rattle.std.specs.List.{range_with_len};
+ghost use Rattle.std.specs.Prelude.{◌≡◌, ◌+◌, ◌*◌, ◌≤◌, Bool, [], ◌∷◌, ◌++◌, length, max, vec_len, IfOk, IfSome, OnOk, IsOkUnless};
 ghost use Rattle.std.specs.Option.{ForSome};
 ghost use Rattle.qrcode_types.specs.declared.types.QrError.TheVariants.{OutOfMemory};
-ghost use Rattle.qrcode_render.specs.Grid.{all_columns, all_rows, cell_row, repeated, rows_text};
+ghost use Rattle.qrcode_render.specs.Grid.{all_columns, repeated, rows_by, rows_text};
 ghost use Rattle.qrcode_render.specs.Lines.{two_text};
 ghost use Rattle.qrcode_render.specs.Texts.{marks_text};
 
@@ -163,9 +162,8 @@ fn push_lines(
     requires at_most { all_columns grid.now
         * max (vec_len texts.now.dark) (vec_len texts.now.light) + length end.now ≤ most }
     requires room { most + 32 ≤ line.old.room }
-    ensures appends { OnOk result (raw.new.items ≡ raw.old.items ++ flat_map (λ row.
-        repeated grid.now.down (marks_text texts.now.dark.items texts.now.light.items
-        (cell_row grid.now row) ++ end.now)) (range_with_len 0 (all_rows grid.now))) }
+    ensures appends { OnOk result (raw.new.items ≡ raw.old.items ++ rows_by (λ cells.
+        marks_text texts.now.dark.items texts.now.light.items cells ++ end.now) grid.now) }
     ensures memory { IsOkUnless result OutOfMemory }
 {
     let (_, rows) = grid.sides();
@@ -194,9 +192,8 @@ fn push_by_lines(
     marks: &mut [bool],
 ) -> QrResult<()>
     requires length { length marks.old ≡ all_columns grid.now }
-    ensures appends { OnOk result (raw.new.items ≡ raw.old.items ++ flat_map (λ row.
-        repeated grid.now.down (marks_text texts.now.dark.items texts.now.light.items
-        (cell_row grid.now row) ++ end.now)) (range_with_len 0 (all_rows grid.now))) }
+    ensures appends { OnOk result (raw.new.items ≡ raw.old.items ++ rows_by (λ cells.
+        marks_text texts.now.dark.items texts.now.light.items cells ++ end.now) grid.now) }
     ensures memory { IsOkUnless result OutOfMemory }
 {
     let (_, down) = grid.cell();
@@ -224,9 +221,8 @@ fn push_cells(
     marks: &mut [bool],
 ) -> QrResult<()>
     requires length { length marks.old ≡ all_columns grid.now }
-    ensures appends { OnOk result (raw.new.items ≡ raw.old.items ++ flat_map (λ row.
-        repeated grid.now.down (marks_text texts.now.dark.items texts.now.light.items
-        (cell_row grid.now row) ++ end.now)) (range_with_len 0 (all_rows grid.now))) }
+    ensures appends { OnOk result (raw.new.items ≡ raw.old.items ++ rows_by (λ cells.
+        marks_text texts.now.dark.items texts.now.light.items cells ++ end.now) grid.now) }
     ensures memory { IsOkUnless result OutOfMemory }
 {
     let (_, down) = grid.cell();
