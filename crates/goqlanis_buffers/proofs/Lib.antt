@@ -2,6 +2,5 @@ pub mod Ended
 pub mod Greys
 pub mod Known
 pub mod Least
-pub mod Refused
 pub mod Taken
 pub mod Told
