@@ -9,13 +9,13 @@ ghost use Rattle.std.specs.Prelude.{◌≡◌, ◌≤◌, IfOk, IsTrue};
 ghost use Rattle.qrcode_types.specs.Versions.{is_valid};
 
 use crate::digest::{Digest, print_digest};
-use cases::{Build, CASES, Case, Format};
-use glances::{of_bytes, of_canvas, of_code, of_segments};
+use cases::{Build, CASES, Case, Format, Made};
+use glances::{of_bits, of_bytes, of_canvas, of_code, of_file, of_image, of_segments, of_text};
 use qrcode::QrCode;
 use qrcode::bits::{Bits, DATA_LIMIT, encode_auto};
 use qrcode::canvas::Canvas;
 use qrcode::ec::construct_codewords;
-use qrcode::optimize::least_segments;
+use qrcode::optimize::{Segment, least_segments};
 use qrcode::render::{Pixel, eps, image, pbm, pic, svg, unicode};
 use qrcode::types::{EcLevel, Mode, QrError, QrResult, Version};
 use qrcode_types::tables::Blocks;
@@ -76,67 +76,43 @@ fn number(word: Option<&str>) -> Option<u32> {
 // Builds a case so many times, and gives the digest of what was built.
 fn build(alloc: Global, case: &Case, count: u32, told: Option<u32>) -> QrResult<Digest> {
     let data = case.1.repeated(alloc, case.2)?;
-    build_of(alloc, &data, &case.3, count, told)
-}
-
-// The same of the data that is taken.
-fn build_of(
-    alloc: Global,
-    data: &[u8],
-    build: &Build,
-    count: u32,
-    told: Option<u32>,
-) -> QrResult<Digest> {
-    match build {
-        Build::InVersion(version, level) => in_version(alloc, data, *version, *level, count),
-        Build::AtLevel(level) => at_level(alloc, data, *level, count),
-        Build::Push => push(alloc, data, count),
-        Build::Automatic => automatic(alloc, data, count),
-        Build::Least => least(alloc, data, count),
-        Build::Codewords => codewords(alloc, data, count),
-        Build::PatternsAndData => patterns_and_data(alloc, data, count),
-        Build::BestMask(version) => best_mask(alloc, data, *version, count),
-        Build::Picture(format, pixels) => pictures(alloc, data, format, told.or(*pixels), count),
-        Build::Growth => growth(alloc, data, count),
+    match &case.3 {
+        Build::OfData(made) => of_data(alloc, &data, made, count),
+        Build::BestMask(version) => best_masks(alloc, &data, *version, count),
+        Build::Picture(format, pixels) => pictures(alloc, &data, format, told.or(*pixels), count),
     }
 }
 
-// Symbols of a version and level.
-fn in_version(
-    alloc: Global,
-    data: &[u8],
-    version: Version,
-    ec_level: EcLevel,
-    count: u32,
-) -> QrResult<Digest> {
-    let mut digest = Digest::of::<u8>(&[]);
-    for _ in 0..count {
-        let code = QrCode::with_version(alloc, data, version, ec_level)?;
-        digest = digest.and(of_code(&code));
-    }
-    Ok(digest)
-}
-
-// Symbols of the least version for data.
-fn at_level(alloc: Global, data: &[u8], ec_level: EcLevel, count: u32) -> QrResult<Digest> {
-    let mut digest = Digest::of::<u8>(&[]);
-    for _ in 0..count {
-        let code = QrCode::with_error_correction_level(alloc, data, ec_level)?;
-        digest = digest.and(of_code(&code));
-    }
-    Ok(digest)
-}
-
-// Symbols that bytes fill, at level M: the first of Normal 1, the next of Normal 2, and so on to Normal
-// 40, and from Normal 1 again.
-fn growth(alloc: Global, data: &[u8], count: u32) -> QrResult<Digest> {
+// What is made of data, so many times.
+fn of_data(alloc: Global, data: &[u8], made: &Made, count: u32) -> QrResult<Digest> {
     let mut digest = Digest::of::<u8>(&[]);
     for i in 0..count {
-        let version = Version::Normal((i % 40 + 1) as i16);
-        let code = filled(alloc, version, data)?;
-        digest = digest.and(of_code(&code));
+        digest = digest.and(made_of(alloc, data, made, i)?);
     }
     Ok(digest)
+}
+
+// What is made of data behind so many others.
+fn made_of(alloc: Global, data: &[u8], made: &Made, before: u32) -> QrResult<Digest> {
+    match made {
+        Made::InVersion(version, level) => {
+            of_code(QrCode::with_version(alloc, data, *version, *level))
+        }
+        Made::AtLevel(level) => {
+            of_code(QrCode::with_error_correction_level(alloc, data, *level))
+        }
+        Made::Growth => {
+            let version = Version::Normal((before % 40 + 1) as i16);
+            of_code(filled(alloc, version, data))
+        }
+        Made::Push => of_bits(pushed(alloc, data)),
+        Made::Automatic => of_bits(encode_auto(alloc, data, EcLevel::M)),
+        Made::Least => of_segments(least(alloc, data)),
+        Made::Codewords => codewords(alloc, data),
+        Made::PatternsAndData => {
+            Ok(of_canvas(&drawn(alloc, Version::Normal(40), EcLevel::L, data)?))
+        }
+    }
 }
 
 // The symbol of the first bytes of some data, as many as fill a version at level M.
@@ -152,64 +128,31 @@ fn filled(alloc: Global, version: Version, data: &[u8]) -> QrResult<QrCode>
     QrCode::with_version(alloc, bytes, version, EcLevel::M)
 }
 
-// Lists of bits, each with one push of digits.
-fn push(alloc: Global, digits: &[u8], count: u32) -> QrResult<Digest> {
-    let mut digest = Digest::of::<u8>(&[]);
-    for _ in 0..count {
-        let mut bits = Bits::new(alloc, Version::Normal(40));
-        bits.push_numeric_data(digits)?;
-        digest = digest.and(of_bytes(&bits.into_bytes()));
-    }
-    Ok(digest)
+// A list of bits with one push of digits.
+fn pushed(alloc: Global, digits: &[u8]) -> QrResult<Bits> {
+    let mut bits = Bits::new(alloc, Version::Normal(40));
+    bits.push_numeric_data(digits)?;
+    Ok(bits)
 }
 
-// Terminated lists of bits, of the least version.
-fn automatic(alloc: Global, data: &[u8], count: u32) -> QrResult<Digest> {
-    let mut digest = Digest::of::<u8>(&[]);
-    for _ in 0..count {
-        let bits = encode_auto(alloc, data, EcLevel::M)?;
-        digest = digest.and(of_bytes(&bits.into_bytes()));
-    }
-    Ok(digest)
-}
-
-// Segments.
-fn least(alloc: Global, data: &[u8], count: u32) -> QrResult<Digest> {
+// Segments of data that is not too long.
+fn least(alloc: Global, data: &[u8]) -> QrResult<Vec<Segment>> {
     if data.len() > DATA_LIMIT {
         return Err(QrError::DataTooLong);
     }
-    let mut digest = Digest::of::<u8>(&[]);
-    for _ in 0..count {
-        let segments = least_segments(alloc, data, Version::Normal(40))?;
-        digest = digest.and(of_segments(&segments));
-    }
-    Ok(digest)
+    least_segments(alloc, data, Version::Normal(40))
 }
 
 // Codewords of all blocks of Normal 40 at level L, where the data fills them.
-fn codewords(alloc: Global, data: &[u8], count: u32) -> QrResult<Digest> {
+fn codewords(alloc: Global, data: &[u8]) -> QrResult<Digest> {
     let (version, ec_level) = (Version::Normal(40), EcLevel::L);
     if let Some(blocks) = Blocks::of(version, ec_level)
         && blocks.data_length() != data.len()
     {
         return Err(QrError::InvalidCharacter);
     }
-    let mut digest = Digest::of::<u8>(&[]);
-    for _ in 0..count {
-        let (data, ec) = construct_codewords(alloc, data, version, ec_level)?;
-        digest = digest.and(of_bytes(&data).and(of_bytes(&ec)));
-    }
-    Ok(digest)
-}
-
-// Canvases of Normal 40 with patterns and data.
-fn patterns_and_data(alloc: Global, data: &[u8], count: u32) -> QrResult<Digest> {
-    let mut digest = Digest::of::<u8>(&[]);
-    for _ in 0..count {
-        let canvas = drawn(alloc, Version::Normal(40), EcLevel::L, data)?;
-        digest = digest.and(of_canvas(&canvas));
-    }
-    Ok(digest)
+    let (data, ec) = construct_codewords(alloc, data, version, ec_level)?;
+    Ok(of_bytes(&data).and(of_bytes(&ec)))
 }
 
 // A canvas with patterns, and with codewords at all places that they have.
@@ -225,7 +168,7 @@ fn drawn(alloc: Global, version: Version, ec_level: EcLevel, codewords: &[u8]) -
 }
 
 // Canvases at level L under their best masks.
-fn best_mask(alloc: Global, data: &[u8], version: Version, count: u32) -> QrResult<Digest> {
+fn best_masks(alloc: Global, data: &[u8], version: Version, count: u32) -> QrResult<Digest> {
     if !version.is_valid() || !version.has_level(EcLevel::L) {
         return Err(QrError::InvalidVersion);
     }
@@ -247,63 +190,31 @@ fn pictures(
     count: u32,
 ) -> QrResult<Digest> {
     let code = QrCode::new(alloc, data)?;
+    let mut digest = Digest::of::<u8>(&[]);
+    for _ in 0..count {
+        digest = digest.and(in_format(alloc, &code, format, pixels)?);
+    }
+    Ok(digest)
+}
+
+// The picture of a symbol in a format.
+fn in_format(
+    alloc: Global,
+    code: &QrCode,
+    format: &Format,
+    pixels: Option<u32>,
+) -> QrResult<Digest> {
     match format {
-        Format::Chars => texts::<char>(alloc, &code, pixels, count),
-        Format::HalfBlocks => texts::<unicode::Dense1x2>(alloc, &code, pixels, count),
-        Format::Svg => texts::<svg::Color>(alloc, &code, pixels, count),
-        Format::Pic => texts::<pic::Color>(alloc, &code, pixels, count),
-        Format::Pixels => rows(alloc, &code, pixels, count),
-        Format::Path => texts::<svg::Path>(alloc, &code, pixels, count),
-        Format::Pbm => files::<pbm::Bit>(alloc, &code, pixels, count),
-        Format::Eps => texts::<eps::Color>(alloc, &code, pixels, count),
-        Format::Png => files::<qrcode_png::Color>(alloc, &code, pixels, count),
+        Format::Chars => of_text(picture::<char>(alloc, code, pixels)),
+        Format::HalfBlocks => of_text(picture::<unicode::Dense1x2>(alloc, code, pixels)),
+        Format::Svg => of_text(picture::<svg::Color>(alloc, code, pixels)),
+        Format::Pic => of_text(picture::<pic::Color>(alloc, code, pixels)),
+        Format::Pixels => of_image(picture::<image::Luma>(alloc, code, pixels)),
+        Format::Path => of_text(picture::<svg::Path>(alloc, code, pixels)),
+        Format::Pbm => of_file(picture::<pbm::Bit>(alloc, code, pixels)),
+        Format::Eps => of_text(picture::<eps::Color>(alloc, code, pixels)),
+        Format::Png => of_file(picture::<qrcode_png::Color>(alloc, code, pixels)),
     }
-}
-
-// Pictures that are texts.
-fn texts<P: Pixel<Image = String>>(
-    alloc: Global,
-    code: &QrCode,
-    pixels: Option<u32>,
-    count: u32,
-) -> QrResult<Digest>
-    requires across { P.unit.0 ≤ 8 }
-    requires down { P.unit.1 ≤ 8 }
-{
-    let mut digest = Digest::of::<u8>(&[]);
-    for _ in 0..count {
-        let text = picture::<P>(alloc, code, pixels)?;
-        digest = digest.and(of_bytes(text.as_bytes()));
-    }
-    Ok(digest)
-}
-
-// Pictures that are rows of pixels.
-fn rows(alloc: Global, code: &QrCode, pixels: Option<u32>, count: u32) -> QrResult<Digest> {
-    let mut digest = Digest::of::<u8>(&[]);
-    for _ in 0..count {
-        let image = picture::<image::Luma>(alloc, code, pixels)?;
-        digest = digest.and(of_bytes(&image.into_raw()));
-    }
-    Ok(digest)
-}
-
-// Pictures that are files.
-fn files<P: Pixel<Image = Vec<u8>>>(
-    alloc: Global,
-    code: &QrCode,
-    pixels: Option<u32>,
-    count: u32,
-) -> QrResult<Digest>
-    requires across { P.unit.0 ≤ 8 }
-    requires down { P.unit.1 ≤ 8 }
-{
-    let mut digest = Digest::of::<u8>(&[]);
-    for _ in 0..count {
-        let file = picture::<P>(alloc, code, pixels)?;
-        digest = digest.and(of_bytes(&file));
-    }
-    Ok(digest)
 }
 
 // The picture of a symbol, of up to ten pixels a module where they are told.

@@ -84,7 +84,8 @@ fn of_bytes(alloc: Global, bytes: &[u8], call: &DataCall) -> QrResult<Digest> {
             correction::codewords(alloc, bytes, *version, *level)
         }
         DataCall::Code(constructor) => symbols::construct(alloc, bytes, constructor),
-        DataCall::InManner(call) => texts::run_of_data(alloc, bytes, call),
+        DataCall::InManner(way, told) => texts::run_of_data(alloc, bytes, *way, *told),
+        DataCall::LeastOfText(version) => texts::least(alloc, bytes, *version),
     }
 }
 

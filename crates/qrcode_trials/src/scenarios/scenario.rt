@@ -6,7 +6,7 @@ use crate::scenarios::data::Data;
 use crate::scenarios::pictures::{Frame, Kind};
 use crate::scenarios::readings::ReadCall;
 use crate::scenarios::symbols::{Constructor, SymbolCall};
-use crate::scenarios::texts::{MannerCall, TextCall};
+use crate::scenarios::texts::{TextCall, Told, Way};
 use qrcode::types::{EcLevel, QrError, QrResult, Version};
 use qrcode_pushes::{Fault, Push};
 
@@ -58,7 +58,9 @@ pub enum DataCall {
     /// A constructor.
     Code(Constructor),
     /// A symbol of data in a manner, and its bits.
-    InManner(MannerCall),
+    InManner(Way, Told),
+    /// `least_segments_in` of the modes of texts.
+    LeastOfText(Version),
 }
 
 /// A call of no data that is made once.

@@ -4,7 +4,7 @@ use crate::digest::Digest;
 use crate::scenarios::pushes::digest_of;
 use crate::scenarios::symbols::of_code;
 use qrcode::QrCode;
-use qrcode::bits::{DATA_LIMIT, Manner, encode_boosted, encode_from, encode_in};
+use qrcode::bits::{Bits, DATA_LIMIT, Manner, encode_boosted, encode_from, encode_in};
 use qrcode::optimize::{Modes, Segment, least_segments_in};
 use qrcode::types::{EcLevel, QrError, QrResult, Version};
 use std::alloc::Global;
@@ -21,17 +21,20 @@ pub enum TextCall {
     MarkedIn(&'static str, Version, EcLevel),
 }
 
-/// A call of data in a manner.
-pub enum MannerCall {
-    /// `at_least`, and `encode_from`.
-    AtLeast(Manner, Version, EcLevel),
-    /// `at_least_boosted`, and `encode_boosted`.
-    Boosted(Manner, Version, EcLevel),
-    /// `in_version`, and `encode_in`.
-    InVersion(Manner, Version, EcLevel),
-    /// `least_segments_in` of the modes of texts.
-    Least(Version),
+/// Which version data in a manner is encoded in.
+#[derive(Clone, Copy)]
+pub enum Way {
+    /// The least from one on: `at_least`, and `encode_from`.
+    AtLeast,
+    /// The same at the highest level with which it has room: `at_least_boosted`, and `encode_boosted`.
+    Boosted,
+    /// The one that is told: `in_version`, and `encode_in`.
+    InVersion,
 }
+
+/// The manner, version and level of data.
+#[derive(Clone, Copy)]
+pub struct Told(pub Manner, pub Version, pub EcLevel);
 
 /// Makes a call of texts.
 pub fn run(alloc: Global, call: &TextCall) -> QrResult<Digest> {
@@ -45,56 +48,31 @@ pub fn run(alloc: Global, call: &TextCall) -> QrResult<Digest> {
     })
 }
 
-/// Makes a call of data in a manner.
-pub fn run_of_data(alloc: Global, data: &[u8], call: &MannerCall) -> QrResult<Digest> {
-    match call {
-        MannerCall::AtLeast(manner, from, level) => at_least(alloc, data, *manner, *from, *level),
-        MannerCall::Boosted(manner, from, level) => boosted(alloc, data, *manner, *from, *level),
-        MannerCall::InVersion(manner, version, level) => {
-            in_version(alloc, data, *manner, *version, *level)
-        }
-        MannerCall::Least(version) => least(alloc, data, *version),
+/// The bits and the symbol of data in a manner.
+pub fn run_of_data(alloc: Global, data: &[u8], way: Way, told: Told) -> QrResult<Digest> {
+    let bits = digest_of(bits_of(alloc, data, way, told)?);
+    let code = of_code(symbol_of(alloc, data, way, told))?;
+    Ok(bits.and(code))
+}
+
+// The bits of data.
+fn bits_of(alloc: Global, data: &[u8], way: Way, told: Told) -> QrResult<Bits> {
+    let Told(manner, version, level) = told;
+    match way {
+        Way::AtLeast => encode_from(alloc, data, manner, version, level),
+        Way::Boosted => Ok(encode_boosted(alloc, data, manner, version, level)?.0),
+        Way::InVersion => encode_in(alloc, data, manner, version, level),
     }
 }
 
-// The bits and the symbol of data, of the least version from one on.
-fn at_least(
-    alloc: Global,
-    data: &[u8],
-    manner: Manner,
-    from: Version,
-    level: EcLevel,
-) -> QrResult<Digest> {
-    let bits = digest_of(encode_from(alloc, data, manner, from, level)?);
-    let code = of_code(QrCode::at_least(alloc, data, manner, from, level))?;
-    Ok(bits.and(code))
-}
-
-// The same at the highest level with which that version has room.
-fn boosted(
-    alloc: Global,
-    data: &[u8],
-    manner: Manner,
-    from: Version,
-    level: EcLevel,
-) -> QrResult<Digest> {
-    let (bits, _) = encode_boosted(alloc, data, manner, from, level)?;
-    let bits = digest_of(bits);
-    let code = of_code(QrCode::at_least_boosted(alloc, data, manner, from, level))?;
-    Ok(bits.and(code))
-}
-
-// The bits and the symbol of data, of a version.
-fn in_version(
-    alloc: Global,
-    data: &[u8],
-    manner: Manner,
-    version: Version,
-    level: EcLevel,
-) -> QrResult<Digest> {
-    let bits = digest_of(encode_in(alloc, data, manner, version, level)?);
-    let code = of_code(QrCode::in_version(alloc, data, manner, version, level))?;
-    Ok(bits.and(code))
+// The symbol of data.
+fn symbol_of(alloc: Global, data: &[u8], way: Way, told: Told) -> QrResult<QrCode> {
+    let Told(manner, version, level) = told;
+    match way {
+        Way::AtLeast => QrCode::at_least(alloc, data, manner, version, level),
+        Way::Boosted => QrCode::at_least_boosted(alloc, data, manner, version, level),
+        Way::InVersion => QrCode::in_version(alloc, data, manner, version, level),
+    }
 }
 
 // The digest of where segments end.
@@ -106,8 +84,8 @@ fn of_ends(segments: &[Segment]) -> Digest {
     digest
 }
 
-// The ends of the least segments of data in the modes of texts.
-fn least(alloc: Global, bytes: &[u8], version: Version) -> QrResult<Digest> {
+/// The ends of the least segments of data in the modes of texts.
+pub fn least(alloc: Global, bytes: &[u8], version: Version) -> QrResult<Digest> {
     if !version.is_valid() {
         return Err(QrError::InvalidVersion);
     }
