@@ -1,18 +1,17 @@
 //! Calls that make a symbol, each row with what it makes or why it refuses.
 
+use crate::common::{check_row, is_drawn, of_pushes};
 use crate::squares::{
     BOOSTED, DIGITS_MICRO, DIGITS_NORMAL, IN_5, MARKED, MARKED_IN_2, MICRO, PARTS, TEXT, TEXT_IN_2,
 };
-use crate::symbols;
 use qrcode::EcLevel::{self, H, L, M, Q};
-use qrcode::QrCode;
 use qrcode::Version::{self, Micro, Normal};
-use qrcode::bits::{Bits, Manner};
+use qrcode::bits::Manner;
 use qrcode::types::QrError::{self, DataTooLong, InvalidVersion, UnsupportedCharacterSet};
 use qrcode::types::QrResult;
-use qrcode_pushes::{Push, make_push};
+use qrcode::{Color, QrCode};
+use qrcode_pushes::Push;
 use std::alloc::Global;
-use std::process::Abort;
 
 /// A call that makes a symbol of data, or of pushes.
 #[derive(Clone, Copy)]
@@ -38,7 +37,7 @@ enum Answer {
     /// A symbol of this version and level.
     Chosen(Version, EcLevel),
     /// One under a mask, with these lines.
-    Printed(usize, &'static [&'static str]),
+    Printed(usize, &'static str),
     /// One under a mask, with these modules as hexadecimal digits.
     Modules(usize, &'static str),
 }
@@ -63,7 +62,7 @@ const TWO_PARTS: &[Push<'static>] = &[
 ];
 
 #[rattlefmt::skip]
-static REFUSALS_AND_CHOICES: [Row; 15] = [
+static CALLS: [Row; 31] = [
     // Refusals come in order: no such version, no such mode, no such level, too long.
     (b"1", 1, In(Normal(41), L), Refused(InvalidVersion)),
     (b"A", 1, In(Micro(1), H), Refused(UnsupportedCharacterSet)),
@@ -81,19 +80,11 @@ static REFUSALS_AND_CHOICES: [Row; 15] = [
     (b"aABCDEF", 30, At(L), Chosen(Normal(9), L)),
     (b"7", 432, New, Chosen(Normal(9), M)),
     (b"7", 433, New, Chosen(Normal(10), M)),
-];
-
-#[rattlefmt::skip]
-static PRINTED: [Row; 4] = [
     // Printed symbols.
     (b"01234567", 1, In(Normal(1), M), Printed(2, DIGITS_NORMAL)),
     (b"01234567", 1, In(Micro(2), L), Printed(4, DIGITS_MICRO)),
     (b"01234567", 1, Text(M), Printed(2, DIGITS_NORMAL)),
     (b"01234567", 1, AtLeast(Manner::Text, Micro(1), L), Printed(4, DIGITS_MICRO)),
-];
-
-#[rattlefmt::skip]
-static TEXTS: [Row; 10] = [
     // Symbols of texts.
     (b"Jos\xc3\xa9", 1, Text(M), Modules(0, TEXT)),
     (b"10 \xe2\x82\xac", 1, MarkedText(M), Modules(7, MARKED)),
@@ -105,46 +96,10 @@ static TEXTS: [Row; 10] = [
     (b"", 1, Pushed(TWO_PARTS, Normal(4), Q), Modules(2, PARTS)),
     (b"1", 1, MarkedTextIn(Micro(4), L), Refused(UnsupportedCharacterSet)),
     (b"eighteen letters..", 1, TextIn(Normal(1), L), Refused(DataTooLong)),
-];
-
-#[rattlefmt::skip]
-static ENDED_FOR_L: [Row; 2] = [
     // Bits that are ended for L, drawn at L and at H.
     (b"", 1, Pushed(GREEK, Normal(1), L), Chosen(Normal(1), L)),
     (b"", 1, Pushed(GREEK, Normal(1), H), Refused(DataTooLong)),
 ];
-
-// Makes all pushes.
-fn push_all(bits: &mut Bits, pushes: &[Push<'_>]) -> QrResult<()> {
-    for push in pushes {
-        make_push(bits, *push)?;
-    }
-    Ok(())
-}
-
-// A list of bits for a version, with these pushes.
-fn list(alloc: Global, pushes: &[Push<'_>], version: Version) -> QrResult<Bits> {
-    if !version.is_valid() {
-        return Err(InvalidVersion);
-    }
-    let mut bits = Bits::new(alloc, version);
-    push_all(&mut bits, pushes)?;
-    Ok(bits)
-}
-
-// The symbol of pushes, in which the last is a terminator.
-fn of_pushes(
-    alloc: Global,
-    pushes: &[Push<'_>],
-    version: Version,
-    ec_level: EcLevel,
-) -> QrResult<QrCode> {
-    let bits = list(alloc, pushes, version)?;
-    if bits.len() < bits.max_len(ec_level)? {
-        return Err(InvalidVersion);
-    }
-    QrCode::with_bits(alloc, bits, ec_level)
-}
 
 // The symbol of a text.
 fn of_text(alloc: Global, call: Call, text: &str) -> QrResult<QrCode> {
@@ -166,77 +121,53 @@ fn made(alloc: Global, call: Call, data: &[u8]) -> QrResult<QrCode> {
         Given(manner, version, level) => QrCode::in_version(alloc, data, manner, version, level),
         AtLeast(manner, from, level) => QrCode::at_least(alloc, data, manner, from, level),
         Boosted(manner, from, level) => QrCode::at_least_boosted(alloc, data, manner, from, level),
-        Pushed(pushes, version, level) => of_pushes(alloc, pushes, version, level),
+        Pushed(pushes, version, level) => of_pushes(alloc, version, level, pushes),
         _ => of_text(alloc, call, str::from_utf8(data).unwrap_or("")),
     }
 }
 
-// The modules of a symbol, as they stand in the table.
-fn digits_of(alloc: Global, code: &QrCode) -> QrResult<String> {
-    let mut digits = String::new(alloc);
-    for four in code.colors().chunks(4) {
-        let mut digit = 0u32;
-        for (color, bit) in four.iter().zip([8u32, 4, 2, 1]) {
-            digit |= color.select(bit, 0);
+// Whether modules are dark where hexadecimal digits have a one.
+fn are_digits(colors: &[Color], digits: &str) -> bool {
+    for (i, color) in colors.iter().enumerate() {
+        let digit = match digits.as_bytes().get(i / 4).copied() {
+            Some(digit) => char::from(digit).to_digit(16).unwrap_or(0),
+            None => return false,
+        };
+        if (*color == Color::Dark) != (digit >> (3 - i % 4) as u32 & 1 == 1) {
+            return false;
         }
-        digits.push(char::from_digit(digit % 16, 16).unwrap_or('0'))?;
     }
-    Ok(digits)
-}
-
-// Whether a symbol has this mask and these lines.
-fn is_printed(rt: &impl Abort, alloc: Global, code: &QrCode, mask: usize, lines: &[&str]) -> bool {
-    let text = code.to_debug_str(alloc, '#', '.').expect(rt, "a text");
-    symbols::has_lines(text.as_str(), lines) && code.mask().number() == mask
+    digits.len() == colors.len().div_ceil(4)
 }
 
 // Whether a symbol is the expected one.
-fn is_answer(rt: &impl Abort, alloc: Global, code: &QrCode, answer: Answer) -> bool {
+fn is_answer(alloc: Global, code: &QrCode, answer: Answer) -> bool {
     match answer {
         Refused(_) => false,
         Chosen(version, ec_level) => {
             code.version() == version && code.error_correction_level() == ec_level
         }
-        Printed(mask, lines) => is_printed(rt, alloc, code, mask, lines),
+        Printed(mask, drawing) => code.mask().number() == mask && is_drawn(alloc, code, drawing),
         Modules(mask, digits) => {
-            code.mask().number() == mask
-                && digits_of(alloc, code).expect(rt, "memory").as_str() == digits
+            code.mask().number() == mask && are_digits(code.colors(), digits)
         }
     }
 }
 
 // Whether a row is what its call answers.
-fn holds(rt: &impl Abort, alloc: Global, (bytes, count, call, answer): &Row) -> bool {
-    let data = bytes.repeat(alloc, *count).expect(rt, "memory");
+fn holds(alloc: Global, (bytes, count, call, answer): &Row) -> bool {
+    let Ok(data) = bytes.repeat(alloc, *count) else {
+        return false;
+    };
     match made(alloc, *call, &data) {
         Err(error) => matches!(answer, Refused(expected) if *expected == error),
-        Ok(code) => is_answer(rt, alloc, &code, *answer),
-    }
-}
-
-// Each row is what its call answers.
-fn check(rt: &impl Abort, alloc: Global, rows: &[Row]) {
-    for (i, row) in rows.iter().enumerate() {
-        assert!(rt; holds(rt, alloc, row), "row {i}");
+        Ok(code) => is_answer(alloc, &code, *answer),
     }
 }
 
 #[test]
-fn data_is_refused_and_versions_are_chosen(rt: HostRuntime) {
-    check(&rt, rt.alloc(), &REFUSALS_AND_CHOICES);
-}
-
-#[test]
-fn printed_symbols_are_drawn(rt: HostRuntime) {
-    check(&rt, rt.alloc(), &PRINTED);
-}
-
-#[test]
-fn texts_are_encoded(rt: HostRuntime) {
-    check(&rt, rt.alloc(), &TEXTS);
-}
-
-#[test]
-fn bits_are_drawn(rt: HostRuntime) {
-    check(&rt, rt.alloc(), &ENDED_FOR_L);
+fn calls_answer(rt: HostRuntime) {
+    for (i, row) in CALLS.iter().enumerate() {
+        check_row(&rt, i, holds(rt.alloc(), row));
+    }
 }

@@ -1,5 +1,6 @@
 //! Canvases: each kind of picture is drawn on, a user's own too, and a canvas of modules is masked.
 
+use crate::common::are_bars;
 use qrcode::canvas::Canvas;
 use qrcode::render::image::Luma;
 use qrcode::render::string::Str;
@@ -20,29 +21,29 @@ fn dotted<C: render::Canvas>(alloc: Global, dark: C::Pixel, light: C::Pixel) -> 
     canvas.into_image()
 }
 
-// The text of that picture ends so; how many bytes stand before the end.
-fn check_end<C: render::Canvas<Image = String>>(
-    rt: &impl Abort,
+// Whether the text of that picture ends so, behind some other text or none.
+fn ends<C: render::Canvas<Image = String>>(
     alloc: Global,
     dark: C::Pixel,
     light: C::Pixel,
+    is_begun: bool,
     end: &str,
-) -> usize {
-    let text = dotted::<C>(alloc, dark, light).expect(rt, "a text");
-    assert!(rt; text.as_str().ends_with(end));
-    text.len().wrapping_sub(end.len())
+) -> bool {
+    match dotted::<C>(alloc, dark, light) {
+        Ok(text) => text.as_str().ends_with(end) && is_begun == (text.len() > end.len()),
+        Err(_) => false,
+    }
 }
 
 #[test]
 fn each_canvas_of_cells_is_drawn_on(rt: HostRuntime) {
     let alloc = rt.alloc();
     let text = ".#..\n..##\n..##\n##..";
-    let before = check_end::<string::Canvas<char>>(&rt, alloc, '#', '.', text);
+    assert!(rt; ends::<string::Canvas<char>>(alloc, '#', '.', false, text));
     let text = "ab\nabab\nabab\nabab";
-    let pairs = check_end::<string::Canvas<Str<'static>>>(&rt, alloc, Str("ab"), Str(""), text);
+    assert!(rt; ends::<string::Canvas<Str<'static>>>(alloc, Str("ab"), Str(""), false, text));
     let (dark, light) = (Dense1x2::Dark, Dense1x2::Light);
-    let halves = check_end::<unicode::Canvas1x2>(&rt, alloc, dark, light, " ▀▄▄\n▄▄▀▀");
-    assert!(rt; before == 0 && pairs == 0 && halves == 0);
+    assert!(rt; ends::<unicode::Canvas1x2>(alloc, dark, light, false, " ▀▄▄\n▄▄▀▀"));
 }
 
 #[test]
@@ -50,9 +51,9 @@ fn each_canvas_of_shapes_is_drawn_on(rt: HostRuntime) {
     let alloc = rt.alloc();
     let (dark, light) = (svg::Color("a"), svg::Color("b"));
     let path = "d=\"M1 0h1v1H1V0M2 1h2v2H2V1M0 3h1v1H0V3M1 3h1v1H1V3\"/></svg>";
-    let _ = check_end::<svg::Canvas<'static>>(&rt, alloc, dark, light, path);
+    assert!(rt; ends::<svg::Canvas<'static>>(alloc, dark, light, true, path));
     let lines = "p(1,0,1,1)\np(2,1,2,2)\np(0,3,1,1)\np(1,3,1,1)\n";
-    let _ = check_end::<pic::Canvas>(&rt, alloc, pic::Color, pic::Color, lines);
+    assert!(rt; ends::<pic::Canvas>(alloc, pic::Color, pic::Color, true, lines));
     let greys = dotted::<image::Canvas<Luma>>(alloc, Luma([7]), Luma([9])).expect(&rt, "greys");
     let pixels = [9, 7, 9, 9, 9, 9, 7, 7, 9, 9, 7, 7, 7, 7, 9, 9];
     assert!(rt; greys.into_raw().as_slice() == pixels.as_slice());
@@ -78,25 +79,21 @@ fn filled_bars(alloc: Global) -> QrResult<Vec<Bar>> {
     label.into_image()
 }
 
-// Bars are those that begin there and have these sides: left, top, width, height.
-fn are_bars(rt: &impl Abort, bars: QrResult<Vec<Bar>>, sides: &[(u32, u32, u32, u32)]) -> bool {
-    let bars = bars.expect(rt, "bars");
-    for (bar, side) in bars.iter().zip(sides) {
-        if (bar.left, bar.top, bar.width, bar.height) != *side {
-            return false;
-        }
+// Whether bars are those that begin there and have these sides.
+fn are_those(bars: QrResult<Vec<Bar>>, sides: &[(u32, u32, u32, u32)]) -> bool {
+    match bars {
+        Ok(bars) => are_bars(&bars, sides) && bars.len() == sides.len(),
+        Err(_) => false,
     }
-    bars.len() == sides.len()
 }
 
 #[test]
 fn a_users_canvas_is_drawn_on(rt: HostRuntime) {
-    let bars = diagonal_bars(rt.alloc());
-    assert!(rt; are_bars(&rt, bars, &[(2, 1, 2, 1), (4, 2, 2, 1)]));
-    let bars = filled_bars(rt.alloc());
-    assert!(rt; are_bars(&rt, bars, &[(2, 3, 2, 1), (2, 4, 2, 1)]));
-    let bars = dotted::<Label>(rt.alloc(), Dot, Dot);
-    assert!(rt; are_bars(&rt, bars, &[(1, 0, 1, 1), (2, 1, 2, 2), (0, 3, 2, 1)]));
+    let alloc = rt.alloc();
+    assert!(rt; are_those(diagonal_bars(alloc), &[(2, 1, 2, 1), (4, 2, 2, 1)]));
+    assert!(rt; are_those(filled_bars(alloc), &[(2, 3, 2, 1), (2, 4, 2, 1)]));
+    let bars = dotted::<Label>(alloc, Dot, Dot);
+    assert!(rt; are_those(bars, &[(1, 0, 1, 1), (2, 1, 2, 2), (0, 3, 2, 1)]));
 }
 
 // The format word on the modules of Micro 1: from left to right in row 8, and upwards in column 8.

@@ -9,6 +9,8 @@ mod calls;
 #[cfg(test)]
 mod canvases;
 #[cfg(test)]
+mod common;
+#[cfg(test)]
 mod contents;
 #[cfg(test)]
 mod pictures;
@@ -18,7 +20,5 @@ mod render;
 mod squares;
 #[cfg(test)]
 mod symbol;
-#[cfg(test)]
-mod symbols;
 #[cfg(test)]
 mod uses;

@@ -1,16 +1,16 @@
 //! Each use once, its answers taken from outside.
 
+use crate::common::{are_bars, check_row};
 use qrcode::render::image::Rgba;
 use qrcode::types::{QrError, QrResult};
 use qrcode::{EcLevel, QrCode, Version};
 use qrcode_uses::charset::{greek_bits, greek_symbol};
 use qrcode_uses::drawings::{as_chars, as_grey_map, as_half_blocks, as_pairs, as_pic, as_svg};
-use qrcode_uses::label::{Bar, label_bars};
+use qrcode_uses::label::label_bars;
 use qrcode_uses::payment::{Payment, payment_picture};
 use qrcode_uses::ticket::ticket_blocks;
 use qrcode_uses::{plain, texts};
 use std::alloc::Global;
-use std::test::Fail;
 
 static PAYMENT: Payment<'static> = Payment {
     bic: "BPOTBEB1",
@@ -133,61 +133,57 @@ fn looks(text: &str, look: Look) -> bool {
     }
 }
 
-#[test]
-fn texts_are_drawn(rt: HostRuntime) {
-    for (i, (drawing, look)) in DRAWINGS.iter().enumerate() {
-        let as_expected = match drawn(rt.alloc(), *drawing) {
-            Ok(text) => looks(text.as_str(), *look),
-            Err(error) => matches!(look, Look::Refused(expected) if *expected == error),
-        };
-        assert!(rt; as_expected, "row {i}");
+// Whether a use draws a text that is as expected.
+fn is_drawn(alloc: Global, drawing: Drawing, look: Look) -> bool {
+    match drawn(alloc, drawing) {
+        Ok(text) => looks(text.as_str(), look),
+        Err(error) => matches!(look, Look::Refused(expected) if expected == error),
     }
 }
 
 #[test]
-fn pixels_are_drawn(rt: HostRuntime) -> Result<(), Fail> {
-    let code = QrCode::new(rt.alloc(), b"01234567")?;
-    let file = as_grey_map(rt.alloc(), &code)?;
+fn texts_are_drawn(rt: HostRuntime) {
+    for (i, (drawing, look)) in DRAWINGS.iter().enumerate() {
+        check_row(&rt, i, is_drawn(rt.alloc(), *drawing, *look));
+    }
+}
+
+#[test]
+fn pixels_are_drawn(rt: HostRuntime) {
+    let alloc = rt.alloc();
+    let code = QrCode::new(alloc, b"01234567").expect(&rt, "a symbol");
+    let file = as_grey_map(alloc, &code).expect(&rt, "a file");
     assert!(rt; file.starts_with(b"P5\n232 232\n255\n") && file.len() == 53_839);
-    let image = code.render::<Rgba>().to_image(rt.alloc())?;
+    let image = code
+        .render::<Rgba>()
+        .to_image(alloc)
+        .expect(&rt, "an image");
     assert!(rt; image.into_raw().len() == 4 * 53_824);
-    let (width, height) = plain::colors(rt.alloc())?.dimensions();
-    assert!(rt; width == 203 && height == 203);
-    Ok(())
+    let image = plain::colors(alloc).expect(&rt, "an image");
+    assert!(rt; image.dimensions() == (203, 203));
 }
 
 static GREEK_BYTES: &[u8] =
     b"\x70\x94\x0a\xca\xfe\xe4\xe9\xea\xe1\xf2\x20\x51\x52\x00\xec\x11\xec\x11\xec";
 
 #[test]
-fn greek_bits_are_made(rt: HostRuntime) -> Result<(), Fail> {
-    let bytes = greek_bits(rt.alloc(), GREEK_TEXT)?.into_bytes();
-    assert!(rt; bytes.as_slice() == GREEK_BYTES);
-    Ok(())
+fn greek_bits_are_made(rt: HostRuntime) {
+    let bits = greek_bits(rt.alloc(), GREEK_TEXT).expect(&rt, "bits");
+    assert!(rt; bits.into_bytes().as_slice() == GREEK_BYTES);
 }
 
-// Where the first bars begin and how wide they are: the first two rows of the printed symbol are
-// `#######..#.##.#######` and `#.....#..####.#.....#`.
+// Where the first bars begin, how wide they are and how high: the first two rows of the printed symbol
+// are `#######..#.##.#######` and `#.....#..####.#.....#`.
 #[rattlefmt::skip]
-static FIRST_BARS: [(u32, u32, u32); 9] = [
-    (16, 16, 28), (52, 16, 4), (60, 16, 8), (72, 16, 28),
-    (16, 20, 4), (40, 20, 4), (52, 20, 16), (72, 20, 4), (96, 20, 4),
+static FIRST_BARS: [(u32, u32, u32, u32); 9] = [
+    (16, 16, 28, 4), (52, 16, 4, 4), (60, 16, 8, 4), (72, 16, 28, 4),
+    (16, 20, 4, 4), (40, 20, 4, 4), (52, 20, 16, 4), (72, 20, 4, 4), (96, 20, 4, 4),
 ];
 
-// Whether the first bars begin there and have these widths, and each is a module high.
-fn has_first_bars(bars: &[Bar]) -> bool {
-    for (bar, (left, top, width)) in bars.iter().zip(FIRST_BARS.iter()) {
-        if (bar.left, bar.top, bar.width, bar.height) != (*left, *top, *width, 4) {
-            return false;
-        }
-    }
-    bars.len() == 112
-}
-
 #[test]
-fn a_label_is_drawn(rt: HostRuntime) -> Result<(), Fail> {
-    assert!(rt; has_first_bars(&label_bars(rt.alloc(), b"01234567")?));
-    Ok(())
+fn a_label_is_drawn(rt: HostRuntime) {
+    let bars = label_bars(rt.alloc(), b"01234567").expect(&rt, "bars");
+    assert!(rt; are_bars(&bars, &FIRST_BARS) && bars.len() == 112);
 }
 
 /// A use that makes a symbol.
@@ -235,16 +231,19 @@ fn signed(alloc: Global, sign: Sign) -> QrResult<QrCode> {
     }
 }
 
-// Each symbol has some dark modules, and not all are.
+// Whether a use makes a symbol of a version and level, of which some modules are dark, and not all.
+fn is_made(alloc: Global, sign: Sign, version: Version, ec_level: EcLevel) -> bool {
+    let Ok(code) = signed(alloc, sign) else {
+        return false;
+    };
+    let dark = texts::count_of_dark(&code);
+    let of_kind = code.version() == version && code.error_correction_level() == ec_level;
+    of_kind && 0 < dark && dark < code.colors().len()
+}
+
 #[test]
 fn symbols_are_made(rt: HostRuntime) {
     for (i, (sign, version, ec_level)) in SIGNS.iter().enumerate() {
-        let code = signed(rt.alloc(), *sign).expect(&rt, "a symbol");
-        let of_kind = code.version() == *version && code.error_correction_level() == *ec_level;
-        let dark = texts::count_of_dark(&code);
-        assert!(rt;
-            of_kind && 0 < dark && dark < code.colors().len(),
-            "row {i}"
-        );
+        check_row(&rt, i, is_made(rt.alloc(), *sign, *version, *ec_level));
     }
 }

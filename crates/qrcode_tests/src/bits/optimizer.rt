@@ -4,14 +4,13 @@ ghost use Rattle.std.specs.Prelude.{◌≡◌, ◌≤◌, length, IsTrue};
 ghost use Rattle.qrcode_types.specs.Versions.{is_valid};
 ghost use Rattle.qrcode_bits.specs.Groups.{IsJoinable};
 
-use crate::bits::cuts::{MICRO_3, NORMAL_1, total};
+use crate::common::check_row;
 use qrcode_bits::optimize::{Optimizer, Parser, Segment, least_segments, total_encoded_len};
 use qrcode_types::types::Mode::{self, Alphanumeric, Byte, Kanji, Numeric};
 use qrcode_types::types::QrError::{self, DataTooLong, InvalidVersion, UnsupportedCharacterSet};
 use qrcode_types::types::QrResult;
 use qrcode_types::types::Version::{self, Micro, Normal};
-use std::alloc::{AllocError, Global};
-use std::test::Fail;
+use std::alloc::Global;
 
 /// Which segments of data are asked for.
 #[derive(Clone, Copy)]
@@ -29,60 +28,53 @@ use Way::{Joined, Least, Runs};
 // The mode of a segment, where it begins and where it ends.
 type Cut = (Mode, usize, usize);
 
-// Data, the version that it is cut for, the way, the cuts or why there are none, and their bits by
-// the standard's counts, where they are told.
-type Row = (
-    &'static [u8],
-    Version,
-    Way,
-    Result<&'static [Cut], QrError>,
-    Option<usize>,
-);
+// Data, the version that it is cut for, the way, and the cuts or why there are none.
+type Row = (&'static [u8], Version, Way, Result<&'static [Cut], QrError>);
 
 const PAIRS: &[u8] = b"\x81\x81\x40\x81\x40\x81\x40\x81\x40\x81\x40\x81\x40\x81\x40\x81\x40";
 
 #[rattlefmt::skip]
 static CUTS: [Row; 28] = [
-    (b"", Normal(1), Runs, Ok(&[]), None),
+    (b"", Normal(1), Runs, Ok(&[])),
     (
         b"01049123451234591597033130128%10ABC123", Normal(1), Runs,
-        Ok(&[(Numeric, 0, 29), (Alphanumeric, 29, 30), (Numeric, 30, 32), (Alphanumeric, 32, 35), (Numeric, 35, 38)]), None,
+        Ok(&[(Numeric, 0, 29), (Alphanumeric, 29, 30), (Numeric, 30, 32), (Alphanumeric, 32, 35), (Numeric, 35, 38)]),
     ),
     (
         b"\x82\xa0\x81\x41\x41\xb1\x81\xf0", Normal(1), Runs,
-        Ok(&[(Kanji, 0, 4), (Alphanumeric, 4, 5), (Byte, 5, 6), (Kanji, 6, 8)]), None,
+        Ok(&[(Kanji, 0, 4), (Alphanumeric, 4, 5), (Byte, 5, 6), (Kanji, 6, 8)]),
     ),
     (
         b"\xe3\x81\x82\xe3\x80\x81A\xef\xbd\xb1\xe2\x84\xab", Normal(1), Runs,
-        Ok(&[(Kanji, 0, 4), (Byte, 4, 5), (Kanji, 5, 7), (Byte, 7, 10), (Kanji, 10, 12), (Byte, 12, 13)]), None,
+        Ok(&[(Kanji, 0, 4), (Byte, 4, 5), (Kanji, 5, 7), (Byte, 7, 10), (Kanji, 10, 12), (Byte, 12, 13)]),
     ),
-    (b"\x81\x30", Normal(1), Runs, Ok(&[(Byte, 0, 1), (Numeric, 1, 2)]), None),
-    (b"\xeb\xc0", Normal(1), Runs, Ok(&[(Byte, 0, 1), (Byte, 1, 2)]), None),
-    (b"\x81\x7f", Normal(1), Runs, Ok(&[(Byte, 0, 1), (Byte, 1, 2)]), None),
-    (b"\x81\x40\x81", Normal(1), Runs, Ok(&[(Kanji, 0, 2), (Byte, 2, 3)]), None),
-    (b"a1 b", Normal(1), Runs, Ok(&[(Byte, 0, 1), (Numeric, 1, 2), (Alphanumeric, 2, 3), (Byte, 3, 4)]), None),
-    (b"1234567A", Normal(1), Joined, Ok(&[(Alphanumeric, 0, 8)]), Some(57)),
-    (b"123A", Micro(2), Joined, Ok(&[(Numeric, 0, 3), (Alphanumeric, 3, 4)]), None),
-    (b"123A", Micro(3), Joined, Ok(&[(Alphanumeric, 0, 4)]), Some(28)),
-    (b"12AB", Micro(2), Joined, Ok(&[(Alphanumeric, 0, 4)]), None),
-    (b"\xeb\xc0", Normal(1), Joined, Ok(&[(Byte, 0, 2)]), Some(28)),
-    (b"\x81\x40\x81", Normal(1), Joined, Ok(&[(Byte, 0, 3)]), Some(36)),
-    (b"ABC123abcd", Normal(1), Joined, Ok(&[(Alphanumeric, 0, 6), (Byte, 6, 10)]), Some(90)),
-    (b"a1234b", Normal(1), Joined, Ok(&[(Byte, 0, 1), (Numeric, 1, 5), (Byte, 5, 6)]), Some(68)),
-    (b"a1234bc", Normal(1), Joined, Ok(&[(Byte, 0, 1), (Numeric, 1, 5), (Byte, 5, 7)]), Some(76)),
-    (b"\x82\xa0\x81\x41\x41\xb1\x81\xf0", Normal(1), Joined, Ok(&[(Byte, 0, 8)]), None),
-    (b"\x82\xa0\x82\xa0\x82\xa0\x82\xa0\x82\xa0\xff", Normal(1), Joined, Ok(&[(Kanji, 0, 10), (Byte, 10, 11)]), None),
+    (b"\x81\x30", Normal(1), Runs, Ok(&[(Byte, 0, 1), (Numeric, 1, 2)])),
+    (b"\xeb\xc0", Normal(1), Runs, Ok(&[(Byte, 0, 1), (Byte, 1, 2)])),
+    (b"\x81\x7f", Normal(1), Runs, Ok(&[(Byte, 0, 1), (Byte, 1, 2)])),
+    (b"\x81\x40\x81", Normal(1), Runs, Ok(&[(Kanji, 0, 2), (Byte, 2, 3)])),
+    (b"a1 b", Normal(1), Runs, Ok(&[(Byte, 0, 1), (Numeric, 1, 2), (Alphanumeric, 2, 3), (Byte, 3, 4)])),
+    (b"1234567A", Normal(1), Joined, Ok(&[(Alphanumeric, 0, 8)])),
+    (b"123A", Micro(2), Joined, Ok(&[(Numeric, 0, 3), (Alphanumeric, 3, 4)])),
+    (b"123A", Micro(3), Joined, Ok(&[(Alphanumeric, 0, 4)])),
+    (b"12AB", Micro(2), Joined, Ok(&[(Alphanumeric, 0, 4)])),
+    (b"\xeb\xc0", Normal(1), Joined, Ok(&[(Byte, 0, 2)])),
+    (b"\x81\x40\x81", Normal(1), Joined, Ok(&[(Byte, 0, 3)])),
+    (b"ABC123abcd", Normal(1), Joined, Ok(&[(Alphanumeric, 0, 6), (Byte, 6, 10)])),
+    (b"a1234b", Normal(1), Joined, Ok(&[(Byte, 0, 1), (Numeric, 1, 5), (Byte, 5, 6)])),
+    (b"a1234bc", Normal(1), Joined, Ok(&[(Byte, 0, 1), (Numeric, 1, 5), (Byte, 5, 7)])),
+    (b"\x82\xa0\x81\x41\x41\xb1\x81\xf0", Normal(1), Joined, Ok(&[(Byte, 0, 8)])),
+    (b"\x82\xa0\x82\xa0\x82\xa0\x82\xa0\x82\xa0\xff", Normal(1), Joined, Ok(&[(Kanji, 0, 10), (Byte, 10, 11)])),
     (
         b"01049123451234591597033130128%10ABC123", Normal(9), Joined,
-        Ok(&[(Numeric, 0, 29), (Alphanumeric, 29, 38)]), None,
+        Ok(&[(Numeric, 0, 29), (Alphanumeric, 29, 38)]),
     ),
-    (b"a1234b", Normal(1), Least, Ok(&[(Byte, 0, 6)]), Some(60)),
-    (b"a1234bc", Normal(1), Least, Ok(&[(Byte, 0, 7)]), None),
-    (PAIRS, Normal(1), Least, Ok(&[(Byte, 0, 1), (Kanji, 1, 17)]), Some(136)),
-    (b"123A", Micro(2), Least, Ok(&[(Numeric, 0, 3), (Alphanumeric, 3, 4)]), None),
-    (b"", Micro(1), Least, Ok(&[]), None),
-    (b"A", Micro(1), Least, Err(UnsupportedCharacterSet), None),
-    (b"1a", Micro(2), Least, Err(UnsupportedCharacterSet), None),
+    (b"a1234b", Normal(1), Least, Ok(&[(Byte, 0, 6)])),
+    (b"a1234bc", Normal(1), Least, Ok(&[(Byte, 0, 7)])),
+    (PAIRS, Normal(1), Least, Ok(&[(Byte, 0, 1), (Kanji, 1, 17)])),
+    (b"123A", Micro(2), Least, Ok(&[(Numeric, 0, 3), (Alphanumeric, 3, 4)])),
+    (b"", Micro(1), Least, Ok(&[])),
+    (b"A", Micro(1), Least, Err(UnsupportedCharacterSet)),
+    (b"1a", Micro(2), Least, Err(UnsupportedCharacterSet)),
 ];
 
 // The runs of data.
@@ -127,22 +119,10 @@ fn are_cuts(segments: &[Segment], cuts: &[Cut]) -> bool {
     given.next().is_none()
 }
 
-// Whether segments take so many bits in Normal 1, or in Micro 3.
-fn take(version: Version, segments: &[Segment], bits: usize) -> bool {
-    let headers = if version.is_micro() {
-        MICRO_3
-    } else {
-        NORMAL_1
-    };
-    total(&headers, segments) == bits
-}
-
 // Whether a row's data is cut so.
-fn holds(alloc: Global, (data, version, way, answer, bits): &Row) -> bool {
+fn holds(alloc: Global, (data, version, way, answer): &Row) -> bool {
     match (segments(alloc, data, *version, *way), answer) {
-        (Ok(segments), Ok(cuts)) => {
-            are_cuts(&segments, cuts) && bits.is_none_or(|bits| take(*version, &segments, bits))
-        }
+        (Ok(segments), Ok(cuts)) => are_cuts(&segments, cuts),
         (Err(error), Err(expected)) => error == *expected,
         _ => false,
     }
@@ -151,16 +131,15 @@ fn holds(alloc: Global, (data, version, way, answer, bits): &Row) -> bool {
 #[test]
 fn data_is_cut(rt: HostRuntime) {
     for (i, row) in CUTS.iter().enumerate() {
-        assert!(rt; holds(rt.alloc(), row), "row {i}");
+        check_row(&rt, i, holds(rt.alloc(), row));
     }
 }
 
 #[test]
-fn the_longest_data_is_cut(rt: HostRuntime) -> Result<(), Fail> {
-    let data = Vec::from_elem(rt.alloc(), b'a', 1_048_576)?;
-    let least = segments(rt.alloc(), &data, Normal(40), Least)?;
+fn the_longest_data_is_cut(rt: HostRuntime) {
+    let data = Vec::from_elem(rt.alloc(), b'a', 1_048_576).expect(&rt, "memory");
+    let least = segments(rt.alloc(), &data, Normal(40), Least).expect(&rt, "segments");
     assert!(rt; are_cuts(&least, &[(Byte, 0, 1_048_576)]));
-    Ok(())
 }
 
 fn range(mode: Mode, begin: usize, end: usize) -> Segment
@@ -170,54 +149,66 @@ fn range(mode: Mode, begin: usize, end: usize) -> Segment
 }
 
 // Whether segments are joined into these in Normal 1.
-fn joins(alloc: Global, given: &[Segment], cuts: &[Cut]) -> Result<bool, AllocError>
+fn joins(alloc: Global, given: &[Segment], cuts: &[Cut]) -> bool
     requires joinable { IsJoinable given.now }
 {
-    let joined = Optimizer::new(given.iter().copied(), Normal(1)).collect::<Vec<Segment>>(alloc)?;
-    Ok(are_cuts(&joined, cuts))
+    match Optimizer::new(given.iter().copied(), Normal(1)).collect::<Vec<Segment>>(alloc) {
+        Ok(joined) => are_cuts(&joined, cuts),
+        Err(_) => false,
+    }
 }
 
-// Empty ranges, and none.
+// No parser gives such segments: none, empty ranges, pairs with a byte left over, and neighbours in one
+// mode.
 #[test]
-fn empty_segments_are_joined(rt: HostRuntime) -> Result<(), Fail> {
-    assert!(rt; joins(rt.alloc(), &[], &[])?);
-    let given = [range(Numeric, 3, 3), range(Byte, 3, 3), range(Kanji, 3, 3)];
-    assert!(rt; joins(rt.alloc(), &given, &[(Byte, 3, 3)])?);
-    Ok(())
+fn odd_segments_are_joined(rt: HostRuntime) {
+    let empty = [range(Numeric, 3, 3), range(Byte, 3, 3), range(Kanji, 3, 3)];
+    let pairs = [range(Kanji, 1, 4), range(Kanji, 4, 7)];
+    let bytes = [range(Byte, 0, 2), range(Byte, 2, 5)];
+    assert!(rt; joins(rt.alloc(), &[], &[]));
+    assert!(rt; joins(rt.alloc(), &empty, &[(Byte, 3, 3)]));
+    assert!(rt; joins(rt.alloc(), &pairs, &[(Kanji, 1, 4), (Kanji, 4, 7)]));
+    assert!(rt; joins(rt.alloc(), &bytes, &[(Byte, 0, 5)]));
 }
 
-// Pairs with a byte left over, and neighbours in one mode: no parser gives them.
-#[test]
-fn odd_segments_are_joined(rt: HostRuntime) -> Result<(), Fail> {
-    let given = [range(Kanji, 1, 4), range(Kanji, 4, 7)];
-    assert!(rt; joins(rt.alloc(), &given, &[(Kanji, 1, 4), (Kanji, 4, 7)])?);
-    let given = [range(Byte, 0, 2), range(Byte, 2, 5)];
-    assert!(rt; joins(rt.alloc(), &given, &[(Byte, 0, 5)])?);
-    Ok(())
-}
-
-// Segments, versions, and their bits.
+// Versions, segments, and their bits as the standard counts them.
 #[rattlefmt::skip]
-static LENGTHS: [(Mode, usize, usize, Version, usize); 5] = [
-    (Numeric, 0, 3, Micro(2), 15),
-    (Alphanumeric, 3, 4, Micro(2), 10),
-    (Byte, 0, 2, Normal(1), 28),
-    (Kanji, 1, 17, Normal(40), 120),
-    (Kanji, 0, 3, Normal(1), 25),
+static LENGTHS: [(Version, &[Cut], usize); 13] = [
+    (Micro(2), &[(Numeric, 0, 3)], 15),
+    (Micro(2), &[(Alphanumeric, 3, 4)], 10),
+    (Normal(1), &[(Byte, 0, 2)], 28),
+    (Normal(40), &[(Kanji, 1, 17)], 120),
+    (Normal(1), &[(Kanji, 0, 3)], 25),
+    (Normal(1), &[(Alphanumeric, 0, 8)], 57),
+    (Micro(3), &[(Alphanumeric, 0, 4)], 28),
+    (Normal(1), &[(Byte, 0, 3)], 36),
+    (Normal(1), &[(Alphanumeric, 0, 6), (Byte, 6, 10)], 90),
+    (Normal(1), &[(Byte, 0, 1), (Numeric, 1, 5), (Byte, 5, 6)], 68),
+    (Normal(1), &[(Byte, 0, 1), (Numeric, 1, 5), (Byte, 5, 7)], 76),
+    (Normal(1), &[(Byte, 0, 6)], 60),
+    (Normal(1), &[(Byte, 0, 1), (Kanji, 1, 17)], 136),
 ];
 
-// Whether a short segment takes so many bits in a version.
-fn is_length(segment: Segment, version: Version, bits: usize) -> bool {
-    version.is_valid()
-        && segment.begin <= segment.end
-        && segment.end <= 100
-        && segment.encoded_len(version) == bits
+// The bits of short segments in a version.
+fn length(version: Version, cuts: &[Cut]) -> usize {
+    let mut bits: usize = 0;
+    for (mode, begin, end) in cuts {
+        if version.is_valid() && begin <= end && *end <= 100 {
+            let segment = Segment {
+                mode: *mode,
+                begin: *begin,
+                end: *end,
+            };
+            bits = bits.saturating_add(segment.encoded_len(version));
+        }
+    }
+    bits
 }
 
 #[test]
 fn lengths_are_counted(rt: HostRuntime) {
-    for (mode, begin, end, version, bits) in LENGTHS {
-        assert!(rt; is_length(Segment { mode, begin, end }, version, bits));
+    for (i, (version, cuts, bits)) in LENGTHS.iter().enumerate() {
+        check_row(&rt, i, length(*version, cuts) == *bits);
     }
     let segments = [range(Numeric, 0, 7), range(Alphanumeric, 7, 8)];
     assert!(rt; total_encoded_len(&segments, Normal(1)) == 57);

@@ -4,6 +4,7 @@ ghost use Rattle.std.specs.Prelude.{◌≡◌, length, IsTrue};
 ghost use Rattle.qrcode_types.specs.Versions.{is_valid};
 ghost use Rattle.qrcode_bits.specs.Segments.{AreInside};
 
+use crate::common::{check_row, list};
 use qrcode_bits::bits::{Bits, ExtendedMode, encode_auto};
 use qrcode_bits::optimize::Segment;
 use qrcode_pushes::Push::{
@@ -18,8 +19,6 @@ use qrcode_types::types::QrError::{
 use qrcode_types::types::Version::{self, Micro, Normal};
 use qrcode_types::types::{EcLevel, Mode, QrResult};
 use std::alloc::Global;
-use std::process::Abort;
-use std::test::Fail;
 
 // More letters than a length field of Normal 1 counts.
 const LONG: &str =
@@ -32,132 +31,124 @@ const END: Push<'static> = Terminator(EcLevel::L);
 // The bytes of `HELLO WORLD` with a terminator for level Q.
 const HELLO: &[u8] = b"\x20\x5b\x0b\x78\xd1\x72\xdc\x4d\x43\x40\xec\x11\xec";
 
+// A version, the pushes to a new list of it, the bytes of the list and how many bits.
+type Given = (Version, &'static [Push<'static>], &'static [u8], usize);
+
+#[rattlefmt::skip]
+static GIVEN: [Given; 28] = [
+    // Indicators and designators.
+    (Normal(1), &[Designator(9)], &[0x70, 0x90], 12),
+    (Normal(1), &[Designator(899)], &[0x78, 0x38, 0x30], 20),
+    (Normal(1), &[Designator(999_999)], &[0x7c, 0xf4, 0x23, 0xf0], 28),
+    (Normal(1), &[FirstPosition], &[0x50], 4),
+    (Normal(1), &[SecondPosition(37)], &[0x92, 0x50], 12),
+    (Normal(1), &[Indicator(ExtendedMode::Eci)], &[0x70], 4),
+    (Normal(1), &[Indicator(ExtendedMode::Data(Mode::Kanji))], &[0x80], 4),
+    (Normal(1), &[Indicator(ExtendedMode::Fnc1First)], &[0x50], 4),
+    (Normal(1), &[Indicator(ExtendedMode::Fnc1Second)], &[0x90], 4),
+    (Normal(1), &[Indicator(ExtendedMode::StructuredAppend)], &[0x30], 4),
+    (Micro(1), &[Indicator(ExtendedMode::Data(Mode::Numeric))], &[], 0),
+    // Data.
+    (Normal(1), &[MarkedText("\u{e9}")], b"\x71\xa4\x02\xc3\xa9", 40),
+    (Normal(1), &[Numeric(b"01234567")], b"\x10\x20\x0c\x56\x61\x80", 41),
+    (Normal(1), &[Numeric(b"0123456789012345")], b"\x10\x40\x0c\x56\x6a\x6e\x14\xea\x50", 68),
+    (Micro(3), &[Numeric(b"0123456789012345")], b"\x20\x06\x2b\x35\x37\x0a\x75\x28", 61),
+    (Normal(1), &[Alphanumeric(b"AC-42")], b"\x20\x29\xce\xe7\x21\x00", 41),
+    (Normal(1), &[Alphanumeric(b"a")], b"\x20\x08\x00", 19),
+    (Normal(1), &[Byte(b"\x12\x34\x56\x78\x9a\xbc\xde\xf0")], b"\x40\x81\x23\x45\x67\x89\xab\xcd\xef\x00", 76),
+    (Normal(1), &[Kanji(b"\x93\x5f\xe4\xaa")], b"\x80\x26\xcf\xea\xa8", 38),
+    // Ended lists.
+    (Normal(1), &[Alphanumeric(b"HELLO WORLD"), Terminator(EcLevel::Q)], HELLO, 104),
+    (Normal(1), &[Designator(9), Byte(b"\xca\xfe\xe4\xe9\xea\xe1\xf2 QR"), END], b"\x70\x94\x0a\xca\xfe\xe4\xe9\xea\xe1\xf2\x20\x51\x52\x00\xec\x11\xec\x11\xec", 152),
+    (Micro(1), &[Numeric(b"99999"), END], &[0xbf, 0x3e, 0x30], 20),
+    (Micro(1), &[Numeric(b"9999"), END], &[0x9f, 0x3c, 0x80], 20),
+    (Micro(1), &[Numeric(b"999"), END], &[0x7f, 0x38, 0x00], 20),
+    (Micro(1), &[Numeric(b""), END], &[0x00, 0xec, 0x00], 20),
+    (Micro(1), &[Numeric(b"1"), Numeric(b"1"), END], &[0x22, 0x44, 0x00], 20),
+    (Micro(1), &[Numeric(b"1"), Numeric(b"1"), END, END], &[0x22, 0x44, 0x00], 20),
+    (Micro(3), &[Numeric(b"00000000000000000000"), END], &[0x28, 0, 0, 0, 0, 0, 0, 0, 0, 0, 0], 84),
+];
+
 // A version, the pushes to a new list of it, another push that is refused and its error, the bytes
 // of the list and how many bits.
-type Row = (
+type Refused = (
     Version,
     &'static [Push<'static>],
-    Option<(Push<'static>, QrError)>,
+    Push<'static>,
+    QrError,
     &'static [u8],
     usize,
 );
 
 #[rattlefmt::skip]
-static GIVEN: [Row; 28] = [
-    // Indicators and designators.
-    (Normal(1), &[Designator(9)], None, &[0x70, 0x90], 12),
-    (Normal(1), &[Designator(899)], None, &[0x78, 0x38, 0x30], 20),
-    (Normal(1), &[Designator(999_999)], None, &[0x7c, 0xf4, 0x23, 0xf0], 28),
-    (Normal(1), &[FirstPosition], None, &[0x50], 4),
-    (Normal(1), &[SecondPosition(37)], None, &[0x92, 0x50], 12),
-    (Normal(1), &[Indicator(ExtendedMode::Eci)], None, &[0x70], 4),
-    (Normal(1), &[Indicator(ExtendedMode::Data(Mode::Kanji))], None, &[0x80], 4),
-    (Normal(1), &[Indicator(ExtendedMode::Fnc1First)], None, &[0x50], 4),
-    (Normal(1), &[Indicator(ExtendedMode::Fnc1Second)], None, &[0x90], 4),
-    (Normal(1), &[Indicator(ExtendedMode::StructuredAppend)], None, &[0x30], 4),
-    (Micro(1), &[Indicator(ExtendedMode::Data(Mode::Numeric))], None, &[], 0),
-    // Data.
-    (Normal(1), &[MarkedText("\u{e9}")], None, b"\x71\xa4\x02\xc3\xa9", 40),
-    (Normal(1), &[Numeric(b"01234567")], None, b"\x10\x20\x0c\x56\x61\x80", 41),
-    (Normal(1), &[Numeric(b"0123456789012345")], None, b"\x10\x40\x0c\x56\x6a\x6e\x14\xea\x50", 68),
-    (Micro(3), &[Numeric(b"0123456789012345")], None, b"\x20\x06\x2b\x35\x37\x0a\x75\x28", 61),
-    (Normal(1), &[Alphanumeric(b"AC-42")], None, b"\x20\x29\xce\xe7\x21\x00", 41),
-    (Normal(1), &[Alphanumeric(b"a")], None, b"\x20\x08\x00", 19),
-    (Normal(1), &[Byte(b"\x12\x34\x56\x78\x9a\xbc\xde\xf0")], None, b"\x40\x81\x23\x45\x67\x89\xab\xcd\xef\x00", 76),
-    (Normal(1), &[Kanji(b"\x93\x5f\xe4\xaa")], None, b"\x80\x26\xcf\xea\xa8", 38),
-    // Ended lists.
-    (Normal(1), &[Alphanumeric(b"HELLO WORLD"), Terminator(EcLevel::Q)], None, HELLO, 104),
-    (Normal(1), &[Designator(9), Byte(b"\xca\xfe\xe4\xe9\xea\xe1\xf2 QR"), END], None, b"\x70\x94\x0a\xca\xfe\xe4\xe9\xea\xe1\xf2\x20\x51\x52\x00\xec\x11\xec\x11\xec", 152),
-    (Micro(1), &[Numeric(b"99999"), END], None, &[0xbf, 0x3e, 0x30], 20),
-    (Micro(1), &[Numeric(b"9999"), END], None, &[0x9f, 0x3c, 0x80], 20),
-    (Micro(1), &[Numeric(b"999"), END], None, &[0x7f, 0x38, 0x00], 20),
-    (Micro(1), &[Numeric(b""), END], None, &[0x00, 0xec, 0x00], 20),
-    (Micro(1), &[Numeric(b"1"), Numeric(b"1"), END], None, &[0x22, 0x44, 0x00], 20),
-    (Micro(1), &[Numeric(b"1"), Numeric(b"1"), END, END], None, &[0x22, 0x44, 0x00], 20),
-    (Micro(3), &[Numeric(b"00000000000000000000"), END], None, &[0x28, 0, 0, 0, 0, 0, 0, 0, 0, 0, 0], 84),
-];
-
-#[rattlefmt::skip]
-static REFUSED: [Row; 24] = [
+static REFUSED: [Refused; 24] = [
     // Refusals by a new list.
-    (Normal(1), &[], Some((Designator(1_000_000), InvalidEciDesignator)), &[], 0),
-    (Micro(4), &[], Some((Designator(9), UnsupportedCharacterSet)), &[], 0),
-    (Micro(4), &[], Some((FirstPosition, UnsupportedCharacterSet)), &[], 0),
-    (Micro(4), &[], Some((SecondPosition(1), UnsupportedCharacterSet)), &[], 0),
-    (Micro(1), &[], Some((Alphanumeric(b"A"), UnsupportedCharacterSet)), &[], 0),
-    (Micro(2), &[], Some((Byte(b"?"), UnsupportedCharacterSet)), &[], 0),
-    (Micro(2), &[], Some((Kanji(b"?"), UnsupportedCharacterSet)), &[], 0),
-    (Micro(1), &[], Some((Numeric(b"12345678"), DataTooLong)), &[], 0),
-    (Micro(2), &[], Some((Alphanumeric(b"ABCDEFGH"), DataTooLong)), &[], 0),
-    (Micro(3), &[], Some((Byte(b"0123456701234567"), DataTooLong)), &[], 0),
-    (Micro(3), &[], Some((Kanji(b"\x93_\x93_\x93_\x93_\x93_\x93_\x93_\x93_"), DataTooLong)), &[], 0),
-    (Normal(1), &[], Some((Numeric(&[b'7'; 1024]), DataTooLong)), &[], 0),
-    (Normal(1), &[], Some((Numeric(b"12a"), InvalidCharacter)), &[], 0),
-    (Normal(1), &[], Some((Kanji(b"\x93"), InvalidCharacter)), &[], 0),
-    (Normal(1), &[], Some((Kanji(b"\x81\x7f"), InvalidCharacter)), &[], 0),
-    (Normal(1), &[], Some((Kanji(b"\xeb\xc0"), InvalidCharacter)), &[], 0),
-    (Micro(1), &[], Some((Terminator(EcLevel::M), InvalidVersion)), &[], 0),
-    (Normal(1), &[], Some((Text(LONG), DataTooLong)), &[], 0),
-    (Micro(2), &[], Some((Text("a"), UnsupportedCharacterSet)), &[], 0),
-    (Micro(4), &[], Some((MarkedText("1"), UnsupportedCharacterSet)), &[], 0),
-    (Micro(2), &[], Some((MarkedText("1"), UnsupportedCharacterSet)), &[], 0),
-    (Micro(2), &[], Some((Text("0123456789012345"), DataTooLong)), &[], 0),
+    (Normal(1), &[], Designator(1_000_000), InvalidEciDesignator, &[], 0),
+    (Micro(4), &[], Designator(9), UnsupportedCharacterSet, &[], 0),
+    (Micro(4), &[], FirstPosition, UnsupportedCharacterSet, &[], 0),
+    (Micro(4), &[], SecondPosition(1), UnsupportedCharacterSet, &[], 0),
+    (Micro(1), &[], Alphanumeric(b"A"), UnsupportedCharacterSet, &[], 0),
+    (Micro(2), &[], Byte(b"?"), UnsupportedCharacterSet, &[], 0),
+    (Micro(2), &[], Kanji(b"?"), UnsupportedCharacterSet, &[], 0),
+    (Micro(1), &[], Numeric(b"12345678"), DataTooLong, &[], 0),
+    (Micro(2), &[], Alphanumeric(b"ABCDEFGH"), DataTooLong, &[], 0),
+    (Micro(3), &[], Byte(b"0123456701234567"), DataTooLong, &[], 0),
+    (Micro(3), &[], Kanji(b"\x93_\x93_\x93_\x93_\x93_\x93_\x93_\x93_"), DataTooLong, &[], 0),
+    (Normal(1), &[], Numeric(&[b'7'; 1024]), DataTooLong, &[], 0),
+    (Normal(1), &[], Numeric(b"12a"), InvalidCharacter, &[], 0),
+    (Normal(1), &[], Kanji(b"\x93"), InvalidCharacter, &[], 0),
+    (Normal(1), &[], Kanji(b"\x81\x7f"), InvalidCharacter, &[], 0),
+    (Normal(1), &[], Kanji(b"\xeb\xc0"), InvalidCharacter, &[], 0),
+    (Micro(1), &[], Terminator(EcLevel::M), InvalidVersion, &[], 0),
+    (Normal(1), &[], Text(LONG), DataTooLong, &[], 0),
+    (Micro(2), &[], Text("a"), UnsupportedCharacterSet, &[], 0),
+    (Micro(4), &[], MarkedText("1"), UnsupportedCharacterSet, &[], 0),
+    (Micro(2), &[], MarkedText("1"), UnsupportedCharacterSet, &[], 0),
+    (Micro(2), &[], Text("0123456789012345"), DataTooLong, &[], 0),
     // Refused terminators.
-    (Micro(1), &[Numeric(b"9999999")], Some((END, DataTooLong)), &[0xff, 0x3f, 0xcf, 0x20], 27),
-    (Normal(1), &[Byte(b">>>>>>>>")], Some((Terminator(EcLevel::H), DataTooLong)), b"\x40\x83\xe3\xe3\xe3\xe3\xe3\xe3\xe3\xe0", 76),
+    (Micro(1), &[Numeric(b"9999999")], END, DataTooLong, &[0xff, 0x3f, 0xcf, 0x20], 27),
+    (Normal(1), &[Byte(b">>>>>>>>")], Terminator(EcLevel::H), DataTooLong, b"\x40\x83\xe3\xe3\xe3\xe3\xe3\xe3\xe3\xe0", 76),
 ];
 
-// Makes all pushes.
-fn push_all(bits: &mut Bits, pushes: &[Push<'_>]) -> QrResult<()> {
-    for next in pushes {
-        make_push(bits, *next)?;
-    }
-    Ok(())
-}
-
-// A list of bits for a version, with these pushes.
-fn list(alloc: Global, version: Version, pushes: &[Push<'_>]) -> QrResult<Bits> {
-    if !version.is_valid() {
-        return Err(InvalidVersion);
-    }
-    let mut bits = Bits::new(alloc, version);
-    push_all(&mut bits, pushes)?;
-    Ok(bits)
-}
-
-// Whether a list has so many bits, and these bytes.
-fn is_list(bits: Bits, bytes: &[u8], length: usize) -> bool {
-    bits.len() == length
+// Whether a list is of a version, and has these bytes and so many bits.
+fn is_list(bits: Bits, version: Version, bytes: &[u8], length: usize) -> bool {
+    bits.version() == version
+        && bits.len() == length
         && bits.is_empty() == (length == 0)
         && bits.into_bytes().as_slice() == bytes
 }
 
-// Whether a row's pushes give its list.
-fn holds(alloc: Global, (version, pushes, refused, bytes, length): &Row) -> QrResult<bool> {
-    let mut bits = list(alloc, *version, pushes)?;
-    if let Some((push, error)) = refused
-        && make_push(&mut bits, *push) != Err(*error)
-    {
-        return Ok(false);
-    }
-    Ok(bits.version() == *version && is_list(bits, bytes, *length))
-}
-
-// Each row's pushes give its list.
-fn check(rt: &impl Abort, alloc: Global, rows: &[Row]) {
-    for (i, row) in rows.iter().enumerate() {
-        assert!(rt; holds(alloc, row) == Ok(true), "row {i}");
+// Whether pushes give a list.
+fn give(alloc: Global, (version, pushes, bytes, length): &Given) -> bool {
+    match list(alloc, *version, pushes) {
+        Ok(bits) => is_list(bits, *version, bytes, *length),
+        Err(_) => false,
     }
 }
 
 #[test]
 fn pushes_give_lists(rt: HostRuntime) {
-    check(&rt, rt.alloc(), &GIVEN);
+    for (i, row) in GIVEN.iter().enumerate() {
+        check_row(&rt, i, give(rt.alloc(), row));
+    }
+}
+
+// Whether a push is refused, and the list stays.
+fn refuse(alloc: Global, (version, pushes, push, error, bytes, length): &Refused) -> bool {
+    match list(alloc, *version, pushes) {
+        Ok(mut bits) => {
+            let answer = make_push(&mut bits, *push);
+            is_list(bits, *version, bytes, *length) && answer == Err(*error)
+        }
+        Err(_) => false,
+    }
 }
 
 #[test]
 fn pushes_are_refused(rt: HostRuntime) {
-    check(&rt, rt.alloc(), &REFUSED);
+    for (i, row) in REFUSED.iter().enumerate() {
+        check_row(&rt, i, refuse(rt.alloc(), row));
+    }
 }
 
 // A version, data that is pushed in the segments of fewest bits, the level that the list is ended for,
@@ -180,23 +171,22 @@ static OPTIMAL: [Optimal; 5] = [
     (Micro(2), b"1a", EcLevel::L, Err(UnsupportedCharacterSet), &[], 0),
 ];
 
-// Whether a row's data gives its list.
-fn holds_data(
-    alloc: Global,
-    (version, data, ec_level, answer, bytes, length): &Optimal,
-) -> QrResult<bool> {
-    let mut bits = list(alloc, *version, &[])?;
+// Whether data gives a list.
+fn gives(alloc: Global, (version, data, ec_level, answer, bytes, length): &Optimal) -> bool {
+    let Ok(mut bits) = list(alloc, *version, &[]) else {
+        return false;
+    };
     let answered = match bits.push_optimal_data(data) {
         Ok(()) => bits.push_terminator(*ec_level),
         refused => refused,
     };
-    Ok(answered == *answer && is_list(bits, bytes, *length))
+    is_list(bits, *version, bytes, *length) && answered == *answer
 }
 
 #[test]
 fn data_gives_lists(rt: HostRuntime) {
     for (i, row) in OPTIMAL.iter().enumerate() {
-        assert!(rt; holds_data(rt.alloc(), row) == Ok(true), "row {i}");
+        check_row(&rt, i, gives(rt.alloc(), row));
     }
 }
 
@@ -207,41 +197,47 @@ fn range(mode: Mode, begin: usize, end: usize) -> Segment
 }
 
 // Whether ranges of bytes are pushed with this answer, and give a list.
-fn give(
+fn ranges_give(
     alloc: Global,
     version: Version,
     bytes: &[u8],
-    ranges: Vec<Segment>,
+    ranges: &[Segment],
     answer: QrResult<()>,
     held: (&[u8], usize),
 ) -> bool
     requires valid { IsTrue (is_valid version) }
-    requires inside { AreInside (length bytes.now) ranges.items }
+    requires inside { AreInside (length bytes.now) ranges.now }
 {
+    let Ok(ranges) = Vec::from_slice(alloc, ranges) else {
+        return false;
+    };
     let mut bits = Bits::new(alloc, version);
-    push_ranges(&mut bits, bytes, ranges) == answer && is_list(bits, held.0, held.1)
+    let answered = push_ranges(&mut bits, bytes, ranges);
+    is_list(bits, version, held.0, held.1) && answered == answer
 }
 
+// The ranges before a refused one stay.
 #[test]
-fn ranges_give_lists(rt: HostRuntime) -> Result<(), Fail> {
+fn ranges_give_lists(rt: HostRuntime) {
+    let alloc = rt.alloc();
     let digits = [range(Mode::Numeric, 0, 2), range(Mode::Numeric, 0, 2)];
-    let ranges = Vec::from_slice(rt.alloc(), &digits)?;
     let held = (b"\x10\x08\x60\x80\x43\x00".as_slice(), 42);
-    assert!(rt; give(rt.alloc(), Normal(1), b"12", ranges, Ok(()), held));
-    let ranges = Vec::from_slice(rt.alloc(), &[range(Mode::Numeric, 0, 0)])?;
+    assert!(rt; ranges_give(alloc, Normal(1), b"12", &digits, Ok(()), held));
     let held = (b"\x10\x00".as_slice(), 14);
-    assert!(rt; give(rt.alloc(), Normal(1), b"", ranges, Ok(()), held));
-    Ok(())
-}
-
-#[test]
-fn ranges_before_a_refused_one_stay(rt: HostRuntime) -> Result<(), Fail> {
+    assert!(rt;
+        ranges_give(
+            alloc,
+            Normal(1),
+            b"",
+            &[range(Mode::Numeric, 0, 0)],
+            Ok(()),
+            held
+        )
+    );
     let ranges = [range(Mode::Numeric, 0, 1), range(Mode::Byte, 1, 2)];
-    let ranges = Vec::from_slice(rt.alloc(), &ranges)?;
     let held = (b"\x08\x80".as_slice(), 9);
     let answer = Err(UnsupportedCharacterSet);
-    assert!(rt; give(rt.alloc(), Micro(2), b"1a", ranges, answer, held));
-    Ok(())
+    assert!(rt; ranges_give(alloc, Micro(2), b"1a", &ranges, answer, held));
 }
 
 // Whether a list of so many bits refuses the push as too long, and keeps its bits.
@@ -299,17 +295,17 @@ fn chosen(alloc: Global, bytes: &[u8], count: usize, ec_level: EcLevel) -> QrRes
 #[test]
 fn least_versions_are_chosen(rt: HostRuntime) {
     for (i, (bytes, count, ec_level, version)) in LEAST_VERSIONS.iter().enumerate() {
-        assert!(rt;
+        check_row(
+            &rt,
+            i,
             chosen(rt.alloc(), bytes, *count, *ec_level) == *version,
-            "row {i}"
         );
     }
 }
 
 #[test]
-fn the_longest_data_is_refused(rt: HostRuntime) -> Result<(), Fail> {
-    let long = Vec::from_elem(rt.alloc(), b'1', 1_048_577)?;
+fn the_longest_data_is_refused(rt: HostRuntime) {
+    let long = Vec::from_elem(rt.alloc(), b'1', 1_048_577).expect(&rt, "memory");
     let mut bits = Bits::new(rt.alloc(), Normal(1));
     assert!(rt; bits.push_optimal_data(&long) == Err(DataTooLong) && bits.len() == 0);
-    Ok(())
 }

@@ -1,5 +1,6 @@
 //! Parts of data joined in each order, and each cause for which others are not.
 
+use crate::common::check_row;
 use qrcode_several::errors::JoinError;
 use qrcode_several::{Part, join};
 use std::alloc::Global;
@@ -31,41 +32,13 @@ const THIRD: Part<'static> = Part {
     bytes: b"97932",
 };
 
-static ORDERS: [[Part<'static>; 3]; 6] = [
-    [FIRST, SECOND, THIRD],
-    [FIRST, THIRD, SECOND],
-    [SECOND, FIRST, THIRD],
-    [SECOND, THIRD, FIRST],
-    [THIRD, FIRST, SECOND],
-    [THIRD, SECOND, FIRST],
-];
-
-// Whether parts are joined to these bytes.
-fn are_joined(alloc: Global, parts: &[Part<'_>], bytes: &[u8]) -> bool {
-    match join(alloc, parts) {
-        Ok(joined) => joined.as_slice() == bytes,
-        Err(_) => false,
-    }
-}
-
-#[test]
-fn parts_are_joined_in_each_order(rt: HostRuntime) {
-    for (i, parts) in ORDERS.iter().enumerate() {
-        assert!(rt; are_joined(rt.alloc(), parts, DIGITS), "row {i}");
-    }
-}
-
-static ALONE: [Part<'static>; 1] = [Part {
+// The only part.
+const ALONE: Part<'static> = Part {
     place: 0,
     last: 0,
     parity: 0x39,
     bytes: b"3141592",
-}];
-
-#[test]
-fn a_single_part_is_the_data(rt: HostRuntime) {
-    assert!(rt; are_joined(rt.alloc(), &ALONE, b"3141592"));
-}
+};
 
 const OTHER_LAST: Part<'static> = Part {
     place: 1,
@@ -95,24 +68,39 @@ const CHANGED: Part<'static> = Part {
     bytes: b"97933",
 };
 
-// Parts, and why they are not joined.
+// Parts, and the data that they are joined to, or why they are not.
 #[rattlefmt::skip]
-static REFUSED: [(&[Part<'static>], JoinError); 9] = [
-    (&[FIRST, OTHER_LAST, THIRD], JoinError::Stranger(1)),
-    (&[FIRST, SECOND, OTHER_PARITY], JoinError::Stranger(2)),
-    (&[BEHIND, FIRST, SECOND], JoinError::Stranger(0)),
-    (&[SECOND, THIRD], JoinError::Missing(0)),
-    (&[THIRD, FIRST], JoinError::Missing(1)),
-    (&[FIRST, SECOND], JoinError::Missing(2)),
-    (&[SECOND, FIRST, THIRD, SECOND], JoinError::Twice(1)),
-    (&[FIRST, SECOND, CHANGED], JoinError::Parity),
-    (&[], JoinError::Missing(0)),
+static ROWS: [(&[Part<'static>], Result<&[u8], JoinError>); 16] = [
+    (&[FIRST, SECOND, THIRD], Ok(DIGITS)),
+    (&[FIRST, THIRD, SECOND], Ok(DIGITS)),
+    (&[SECOND, FIRST, THIRD], Ok(DIGITS)),
+    (&[SECOND, THIRD, FIRST], Ok(DIGITS)),
+    (&[THIRD, FIRST, SECOND], Ok(DIGITS)),
+    (&[THIRD, SECOND, FIRST], Ok(DIGITS)),
+    (&[ALONE], Ok(b"3141592")),
+    (&[FIRST, OTHER_LAST, THIRD], Err(JoinError::Stranger(1))),
+    (&[FIRST, SECOND, OTHER_PARITY], Err(JoinError::Stranger(2))),
+    (&[BEHIND, FIRST, SECOND], Err(JoinError::Stranger(0))),
+    (&[SECOND, THIRD], Err(JoinError::Missing(0))),
+    (&[THIRD, FIRST], Err(JoinError::Missing(1))),
+    (&[FIRST, SECOND], Err(JoinError::Missing(2))),
+    (&[SECOND, FIRST, THIRD, SECOND], Err(JoinError::Twice(1))),
+    (&[FIRST, SECOND, CHANGED], Err(JoinError::Parity)),
+    (&[], Err(JoinError::Missing(0))),
 ];
 
+// Whether parts are joined so.
+fn are_joined(alloc: Global, parts: &[Part<'_>], answer: &Result<&[u8], JoinError>) -> bool {
+    match (join(alloc, parts), answer) {
+        (Ok(joined), Ok(bytes)) => joined.as_slice() == *bytes,
+        (Err(error), Err(expected)) => error == *expected,
+        _ => false,
+    }
+}
+
 #[test]
-fn others_are_refused_by_cause(rt: HostRuntime) {
-    for (i, (parts, error)) in REFUSED.iter().enumerate() {
-        let refused = join(rt.alloc(), parts).err();
-        assert!(rt; refused == Some(*error), "row {i}");
+fn parts_are_joined(rt: HostRuntime) {
+    for (i, (parts, answer)) in ROWS.iter().enumerate() {
+        check_row(&rt, i, are_joined(rt.alloc(), parts, answer));
     }
 }

@@ -1,5 +1,6 @@
 //! The texts of refusals.
 
+use crate::common::check_row;
 use qrcode::types::QrError;
 use qrcode_contents::errors::{Cause, ContentError, Field};
 use qrcode_gs1::errors::{Cause as ElementCause, Gs1Error};
@@ -31,31 +32,26 @@ fn elements_tell_index_and_cause(rt: HostRuntime) {
     let alloc = rt.alloc();
     let wrong = Gs1Error::Refused(2, ElementCause::CheckDigit);
     assert!(rt; tells(alloc, &wrong, "element 2: CheckDigit"));
-    assert!(rt;
-        tells(
-            alloc,
-            &SymbolError::Elements(wrong),
-            "element 2: CheckDigit"
-        )
-    );
+    let wrong = SymbolError::Elements(wrong);
+    assert!(rt; tells(alloc, &wrong, "element 2: CheckDigit"));
     assert!(rt; tells(alloc, &Gs1Error::OutOfMemory, "out of memory"));
     let long = SymbolError::Symbol(QrError::DataTooLong);
     assert!(rt; tells(alloc, &long, "data too long"));
 }
 
+// Why parts are not joined, and how it is told.
+#[rattlefmt::skip]
+static OF_PARTS: [(JoinError, &str); 5] = [
+    (JoinError::Stranger(1), "part 1 is not of the same data as the first"),
+    (JoinError::Missing(0), "the part at place 0 is missing"),
+    (JoinError::Twice(15), "two parts have place 15"),
+    (JoinError::Parity, "the parity is that of other data"),
+    (JoinError::OutOfMemory, "out of memory"),
+];
+
 #[test]
 fn parts_tell_their_place(rt: HostRuntime) {
-    let alloc = rt.alloc();
-    for (error, text) in &[
-        (
-            JoinError::Stranger(1),
-            "part 1 is not of the same data as the first",
-        ),
-        (JoinError::Missing(0), "the part at place 0 is missing"),
-        (JoinError::Twice(15), "two parts have place 15"),
-        (JoinError::Parity, "the parity is that of other data"),
-        (JoinError::OutOfMemory, "out of memory"),
-    ] {
-        assert!(rt; tells(alloc, error, *text), "{text}");
+    for (i, (error, text)) in OF_PARTS.iter().enumerate() {
+        check_row(&rt, i, tells(rt.alloc(), error, *text));
     }
 }

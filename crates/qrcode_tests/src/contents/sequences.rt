@@ -2,6 +2,7 @@
 //! the symbols of segno's `make_sequence` and `make` under the masks of least penalty (0 and 7; 6, 6 and
 //! 2; 0), the text written in UTF-8.
 
+use crate::common::{check_row, is_drawn};
 use qrcode::types::{QrError, QrResult};
 use qrcode::{EcLevel, QrCode, Version};
 use qrcode_contents_uses::several::{leaflets, pages};
@@ -10,7 +11,6 @@ use qrcode_several::{
     encode_text_several_within,
 };
 use std::alloc::Global;
-use std::process::Abort;
 
 const DIGITS: &str = "314159265358979323846264338327950288419716939937510582097494";
 
@@ -35,27 +35,34 @@ const WORDS_2: &str =
 const WORDS_3: &str =
     "#######...#.#.#######\n#.....#.###.#.#.....#\n#.###.#...#.#.#.###.#\n#.###.#.##..#.#.###.#\n#.###.#..#.##.#.###.#\n#.....#.#..##.#.....#\n#######.#.#.#.#######\n.........#...........\n#####.###..###.#.#.#.\n..###..##.#...#...#..\n###.#.##..#.##....##.\n#..#....##.#.###.#.#.\n###.###..######.#.##.\n........##...#.#.#.##\n#######.#..##.##..#..\n#.....#..#.#.######.#\n#.###.#.#.#..###..#..\n#.###.#.####.#.##...#\n#.###.#.#...#.####...\n#.....#.##..##..#.###\n#######.##.#..#..##..";
 
-// The symbols are drawn so.
-fn check(rt: &impl Abort, alloc: Global, codes: QrResult<Vec<QrCode>>, texts: &[&str]) {
-    let codes = codes.expect(rt, "symbols");
-    assert_eq!(rt; codes.len(), texts.len());
-    for (code, text) in codes.iter().zip(texts) {
-        let drawn = code.to_debug_str(alloc, '#', '.').expect(rt, "a text");
-        assert!(rt; drawn.as_str() == *text);
+// Whether symbols are drawn so.
+fn are_drawn(alloc: Global, codes: &[QrCode], drawings: &[&str]) -> bool {
+    for (code, drawing) in codes.iter().zip(drawings) {
+        if !is_drawn(alloc, code, *drawing) {
+            return false;
+        }
     }
+    codes.len() == drawings.len()
 }
+
+// A text, a level, and its symbols in Normal 1.
+static OF_SEGNO: [(&str, EcLevel, &[&str]); 3] = [
+    (DIGITS, EcLevel::L, &[FIRST, SECOND]),
+    (WORDS, EcLevel::L, &[WORDS_1, WORDS_2, WORDS_3]),
+    ("HELLO WORLD", EcLevel::Q, &[ALONE]),
+];
 
 #[test]
 fn sequences_of_segno(rt: HostRuntime) {
-    let version = Version::Normal(1);
-    let codes = encode_several(rt.alloc(), DIGITS.as_bytes(), version, EcLevel::L);
-    check(&rt, rt.alloc(), codes, &[FIRST, SECOND]);
-    let codes = encode_text_several(rt.alloc(), DIGITS, version, EcLevel::L);
-    check(&rt, rt.alloc(), codes, &[FIRST, SECOND]);
-    let codes = encode_text_several(rt.alloc(), WORDS, version, EcLevel::L);
-    check(&rt, rt.alloc(), codes, &[WORDS_1, WORDS_2, WORDS_3]);
-    let codes = encode_text_several(rt.alloc(), "HELLO WORLD", version, EcLevel::Q);
-    check(&rt, rt.alloc(), codes, &[ALONE]);
+    let (alloc, version) = (rt.alloc(), Version::Normal(1));
+    for (i, (text, ec_level, drawings)) in OF_SEGNO.iter().enumerate() {
+        let codes = encode_text_several(alloc, *text, version, *ec_level).expect(&rt, "symbols");
+        check_row(&rt, i, are_drawn(alloc, &codes, drawings));
+    }
+    let codes = encode_several(alloc, DIGITS.as_bytes(), version, EcLevel::L).expect(
+        &rt, "symbols",
+    );
+    assert!(rt; are_drawn(alloc, &codes, &[FIRST, SECOND]));
 }
 
 // So many digits, the numbers of the least and the greatest version, and a level; then how many symbols
@@ -91,14 +98,14 @@ fn is_answer(codes: QrResult<Vec<QrCode>>, answer: Result<(usize, i16), QrError>
 
 #[test]
 fn the_fewest_of_some_versions(rt: HostRuntime) {
-    for (digits, least, greatest, level, answer) in &WITHIN {
+    for (i, (digits, least, greatest, level, answer)) in WITHIN.iter().enumerate() {
         let bytes = Vec::from_elem(rt.alloc(), b'7', *digits).expect(&rt, "digits");
         let versions = Versions {
             least: *least,
             greatest: *greatest,
         };
         let codes = encode_several_within(rt.alloc(), &bytes, versions, *level);
-        assert!(rt; is_answer(codes, *answer), "{digits}");
+        check_row(&rt, i, is_answer(codes, *answer));
     }
 }
 
@@ -127,13 +134,13 @@ static TEXTS: [TextRow; 6] = [
 
 #[test]
 fn the_fewest_of_some_versions_for_texts(rt: HostRuntime) {
-    for (text, least, greatest, level, answer) in &TEXTS {
+    for (i, (text, least, greatest, level, answer)) in TEXTS.iter().enumerate() {
         let versions = Versions {
             least: *least,
             greatest: *greatest,
         };
         let codes = encode_text_several_within(rt.alloc(), *text, versions, *level);
-        assert!(rt; is_answer(codes, *answer), "{text}");
+        check_row(&rt, i, is_answer(codes, *answer));
     }
 }
 
@@ -143,10 +150,7 @@ fn the_fewest_of_some_versions_for_texts(rt: HostRuntime) {
 #[test]
 fn pages_and_leaflets_are_few(rt: HostRuntime) {
     let alloc = rt.alloc();
-    let mut text = String::new(alloc);
-    for _ in 0..20 {
-        text.push_str(WORDS).expect(&rt, "a text");
-    }
+    let text = WORDS.repeat(alloc, 20).expect(&rt, "a text");
     assert!(rt; is_answer(pages(alloc, text.as_str()), Ok((8, 5))));
     assert!(rt; is_answer(leaflets(alloc, text.as_str()), Ok((4, 9))));
 }

@@ -1,15 +1,13 @@
 //! The symbols of elements.
 
-ghost use Rattle.std.specs.Prelude.{IsTrue};
-ghost use Rattle.qrcode_types.specs.Versions.{is_valid};
-
+use crate::common::{check_row, of_pushes};
 use qrcode::QrCode;
-use qrcode::bits::Bits;
-use qrcode::types::{EcLevel, Mode, QrError, QrResult, Version};
+use qrcode::types::{EcLevel, QrError, QrResult, Version};
 use qrcode_gs1::elements::Element;
 use qrcode_gs1::errors::{Cause, Gs1Error};
 use qrcode_gs1_symbol::errors::{SymbolError, SymbolResult};
 use qrcode_gs1_symbol::{are_apart, for_application, gs1};
+use qrcode_pushes::Push;
 use std::alloc::Global;
 
 // An identifier and a value.
@@ -60,37 +58,6 @@ fn symbol(alloc: Global, pairs: &[Pair], ec_level: EcLevel) -> SymbolResult<QrCo
     gs1(alloc, &elements, ec_level)
 }
 
-// Appends a segment.
-fn push(bits: &mut Bits, (mode, bytes): (Mode, &[u8])) -> QrResult<()> {
-    match mode {
-        Mode::Numeric => bits.push_numeric_data(bytes),
-        Mode::Alphanumeric => bits.push_alphanumeric_data(bytes),
-        Mode::Byte | Mode::Kanji => bits.push_byte_data(bytes),
-    }
-}
-
-// The symbol of two segments behind FNC1: in second position, where there is an application.
-fn divided(
-    alloc: Global,
-    version: Version,
-    ec_level: EcLevel,
-    application: Option<u8>,
-    first: (Mode, &[u8]),
-    second: (Mode, &[u8]),
-) -> QrResult<QrCode>
-    requires { IsTrue (is_valid version) }
-{
-    let mut bits = Bits::new(alloc, version);
-    match application {
-        None => bits.push_fnc1_first_position()?,
-        Some(application) => bits.push_fnc1_second_position(application)?,
-    }
-    push(&mut bits, first)?;
-    push(&mut bits, second)?;
-    bits.push_terminator(ec_level)?;
-    QrCode::with_bits(alloc, bits, ec_level)
-}
-
 // Whether two symbols are made, and the same.
 fn are_same(code: Option<QrCode>, expected: QrResult<QrCode>) -> bool {
     match (code, expected) {
@@ -106,69 +73,57 @@ fn symbols_have_the_versions_of_zint(rt: HostRuntime) {
             Ok(code) => Some(code.version()),
             Err(_) => None,
         };
-        assert!(rt; version == Some(Version::Normal(*number)), "row {i}");
+        check_row(&rt, i, version == Some(Version::Normal(*number)));
     }
 }
 
 // ISO/IEC 18004:2006, 6.4.8.1.
+static EXAMPLE_PUSHES: [Push<'static>; 4] = [
+    Push::FirstPosition,
+    Push::Numeric(b"01049123451234591597033130128"),
+    Push::Alphanumeric(b"%10ABC123"),
+    Push::Terminator(EcLevel::M),
+];
+
 #[test]
 fn the_example_of_the_standard_is_divided_as_there(rt: HostRuntime) {
     let alloc = rt.alloc();
     let code = symbol(alloc, &EXAMPLE, EcLevel::M).ok();
-    let first: (Mode, &[u8]) = (Mode::Numeric, b"01049123451234591597033130128");
-    let second: (Mode, &[u8]) = (Mode::Alphanumeric, b"%10ABC123");
-    let expected = divided(alloc, Version::Normal(2), EcLevel::M, None, first, second);
+    let expected = of_pushes(alloc, Version::Normal(2), EcLevel::M, &EXAMPLE_PUSHES);
     assert!(rt; are_same(code, expected));
 }
 
-// ISO/IEC 18004:2006, 6.4.8.2.
-#[test]
-fn the_example_of_an_application_is_divided_as_there(rt: HostRuntime) {
-    let alloc = rt.alloc();
-    let bytes = b"AA1234BBB112text text text text\r";
-    assert!(rt; are_apart(bytes));
-    let code = for_application(alloc, 37, bytes, EcLevel::M).ok();
-    let first: (Mode, &[u8]) = (Mode::Alphanumeric, b"AA1234BBB112");
-    let second: (Mode, &[u8]) = (Mode::Byte, b"text text text text\r");
-    let expected = divided(
-        alloc,
-        Version::Normal(3),
-        EcLevel::M,
-        Some(37),
-        first,
-        second,
-    );
-    assert!(rt; are_same(code, expected));
-}
-
-// Data of an application, and the two segments of capitals that it is divided into.
-static SEPARATED: [(&[u8], &[u8], &[u8]); 2] = [
-    (b"AAAAAAAA\x1d%BBBBBBBB", b"AAAAAAAA%", b"%%BBBBBBBB"),
-    (b"AAAAAAAA\x1d\x1dBBBBBBBB", b"AAAAAAAA%", b"%BBBBBBBB"),
+// Data of application 37, the version and level of its symbol, and the pushes that this has.
+#[rattlefmt::skip]
+static OF_APPLICATION: [(&[u8], Version, EcLevel, &[Push<'static>]); 3] = [
+    // ISO/IEC 18004:2006, 6.4.8.2.
+    (b"AA1234BBB112text text text text\r", Version::Normal(3), EcLevel::M, &[
+        Push::SecondPosition(37), Push::Alphanumeric(b"AA1234BBB112"), Push::Byte(b"text text text text\r"), Push::Terminator(EcLevel::M),
+    ]),
+    // A separator ends its segment before another and before a percent sign: three percent signs would be read as a
+    // percent sign and a separator, and two as a percent sign.
+    (b"AAAAAAAA\x1d%BBBBBBBB", Version::Normal(1), EcLevel::L, &[
+        Push::SecondPosition(37), Push::Alphanumeric(b"AAAAAAAA%"), Push::Alphanumeric(b"%%BBBBBBBB"), Push::Terminator(EcLevel::L),
+    ]),
+    (b"AAAAAAAA\x1d\x1dBBBBBBBB", Version::Normal(1), EcLevel::L, &[
+        Push::SecondPosition(37), Push::Alphanumeric(b"AAAAAAAA%"), Push::Alphanumeric(b"%BBBBBBBB"), Push::Terminator(EcLevel::L),
+    ]),
 ];
 
-// Three percent signs would be read as a percent sign and a separator, and two as a percent sign.
 #[test]
-fn a_separator_ends_its_segment_before_another_and_before_a_percent_sign(rt: HostRuntime) {
+fn data_of_an_application_is_divided(rt: HostRuntime) {
     let alloc = rt.alloc();
-    for (i, (bytes, first, behind)) in SEPARATED.iter().enumerate() {
-        let code = for_application(alloc, 37, bytes, EcLevel::L).ok();
-        let (first, behind) = ((Mode::Alphanumeric, *first), (Mode::Alphanumeric, *behind));
-        let expected = divided(
-            alloc,
-            Version::Normal(1),
-            EcLevel::L,
-            Some(37),
-            first,
-            behind,
-        );
-        assert!(rt; are_same(code, expected), "row {i}");
+    for (i, (bytes, version, ec_level, pushes)) in OF_APPLICATION.iter().enumerate() {
+        let code = for_application(alloc, 37, bytes, *ec_level).ok();
+        let expected = of_pushes(alloc, *version, *ec_level, pushes);
+        check_row(&rt, i, are_same(code, expected));
     }
 }
 
 #[test]
 fn separators_stand_apart_or_not(rt: HostRuntime) {
     assert!(rt; are_apart(b"") & are_apart(b"\x1d") & are_apart(b"\x1da\x1d"));
+    assert!(rt; are_apart(b"AA1234BBB112text text text text\r"));
     assert!(rt; !are_apart(b"\x1d\x1d") & !are_apart(b"a\x1d\x1db"));
 }
 

@@ -1,5 +1,6 @@
 //! The symbols of contents. Their texts, and what they are refused for, are asked of the library for C (`c/formats`).
 
+use crate::common::check_row;
 use qrcode::QrCode;
 use qrcode_contents::bill::{Bill, Currency, Party};
 use qrcode_contents::card::Card;
@@ -128,7 +129,7 @@ static SIDES: [(Call, usize, usize); 13] = [
 fn contents_have_symbols(rt: HostRuntime) {
     for (i, (call, least, most)) in SIDES.iter().enumerate() {
         let side = side_of(rt.alloc(), *call);
-        assert!(rt; *least <= side && side <= *most, "row {i}");
+        check_row(&rt, i, *least <= side && side <= *most);
     }
 }
 

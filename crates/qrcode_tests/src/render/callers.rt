@@ -58,9 +58,7 @@ fn needs_no_proof(rt: HostRuntime) {
     let symbol = modules(alloc, MICRO_2.1).expect(&rt, "modules");
     assert!(rt; symbol.len() == 169);
     let text = framed(alloc, &symbol, 13, 10, 200).expect(&rt, "a text");
-    assert!(rt; text.contains("viewBox=\"0 0 231 231\""));
     let file = enlarged(alloc, &symbol, 13, 1, 4).expect(&rt, "a file");
-    assert!(rt; file.starts_with(b"P4\n60 60\n"));
-    let place = middle(alloc, &symbol, 13).expect(&rt, "a place");
-    assert!(rt; place == (83, 83));
+    assert!(rt; text.contains("viewBox=\"0 0 231 231\"") && file.starts_with(b"P4\n60 60\n"));
+    assert!(rt; middle(alloc, &symbol, 13) == Ok((83, 83)));
 }

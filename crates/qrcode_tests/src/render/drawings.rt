@@ -1,5 +1,6 @@
 //! Drawings of modules.
 
+use crate::squares::{DIGITS_MICRO, DIGITS_NORMAL};
 use qrcode_types::types::{Color, QrResult};
 use std::alloc::Global;
 
@@ -16,49 +17,11 @@ pub const DARK: Drawing = Drawing(1, "#");
 /// Two modules along a side, of which the first and the last are dark.
 pub const DIAGONAL: Drawing = Drawing(2, "#.\n.#");
 
-/// The symbol of `01234567` in Normal 1 at level M (ISO/IEC 18004:2006, Annex I).
-pub const NORMAL_1: Drawing = Drawing(21, NORMAL_1_LETTERS);
+/// The symbol of `01234567` in Normal 1 at level M.
+pub const NORMAL_1: Drawing = Drawing(21, DIGITS_NORMAL);
 
-/// Its letters, a line for each row.
-pub const NORMAL_1_LETTERS: &str = "#######..#.##.#######
-#.....#..####.#.....#
-#.###.#.#.....#.###.#
-#.###.#.##....#.###.#
-#.###.#.#.###.#.###.#
-#.....#.#...#.#.....#
-#######.#.#.#.#######
-........#..##........
-#.#####..#..#.#####..
-...#.#.##.#.#..#.##..
-..#...##.#.#.#..#####
-....#....#.....####..
-...######..#.#..#....
-........#.#####..##..
-#######..##.#.##.....
-#.....#.#.#####...#.#
-#.###.#.#...#..#.##..
-#.###.#.##..#..#.....
-#.###.#.##.#.#..#.#..
-#.....#........##.##.
-#######.####.#..#.#..";
-
-/// The symbol of `01234567` in Micro 2 at level L (ISO/IEC 18004:2006, Annex I).
-pub const MICRO_2: Drawing = Drawing(
-    13,
-    "#######.#.#.#
-#.....#.###.#
-#.###.#..##.#
-#.###.#..####
-#.###.#.###..
-#.....#.#...#
-#######..####
-.........##..
-##.#....#...#
-.##.#.#.#.#.#
-###..#######.
-...#.#....##.
-###.#..##.###",
-);
+/// The symbol of `01234567` in Micro 2 at level L.
+pub const MICRO_2: Drawing = Drawing(13, DIGITS_MICRO);
 
 // The colour of a letter of a drawing.
 fn color(letter: u8) -> Color {

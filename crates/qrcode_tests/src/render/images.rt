@@ -1,5 +1,6 @@
 //! Pictures as rows of pixels, and their sides.
 
+use crate::common::check_row;
 use crate::render::drawings::{DIAGONAL, Drawing, MICRO_2, NONE, NORMAL_1};
 use crate::render::pictures::Colors::Usual;
 use crate::render::pictures::Size::{AtLeast, AtMost, Default, Of, Same};
@@ -87,9 +88,9 @@ static FITTING: [(u32, u32, u32, bool); 4] = [
 #[test]
 fn fits_up_to_the_greatest_side(rt: HostRuntime) {
     let dark = [Color::Dark];
-    for (zone, width, height, fits) in &FITTING {
+    for (i, (zone, width, height, fits)) in FITTING.iter().enumerate() {
         let mut renderer = Renderer::<Luma>::new(&dark, 1, *zone);
         renderer.module_dimensions(*width, *height);
-        assert!(rt; renderer.fits() == *fits, "{zone}");
+        check_row(&rt, i, renderer.fits() == *fits);
     }
 }

@@ -3,6 +3,7 @@
 ghost use Rattle.std.specs.Prelude.{◌≡◌, ◌*◌, ◌≤◌, length};
 ghost use Rattle.qrcode_render.specs.Setting.{side_of};
 
+use crate::common::check_row;
 use crate::render::drawings::{Drawing, modules};
 use qrcode_render::image::{Channels, ImageBuffer};
 use qrcode_render::{Pixel, Renderer};
@@ -154,45 +155,44 @@ fn picture<P: Pixel, E>(rt: &impl Abort, alloc: Global, row: &Row<P, E>) -> P::I
     renderer.build(alloc).expect(rt, "a picture")
 }
 
-// The text is this.
-fn is_text(rt: &impl Abort, text: &str, expected: Text) {
-    let is_expected = match expected {
+// Whether a text is this.
+fn is_text(text: &str, expected: Text) -> bool {
+    match expected {
         Text::Is(whole) => text == whole,
         Text::Starts(start) => text.starts_with(start),
-    };
-    assert!(rt; is_expected, "{text}");
+    }
 }
 
-// The image has these pixels.
-fn are_pixels<P: Channels>(rt: &impl Abort, image: ImageBuffer<P>, expected: Pixels) {
+// Whether an image has these pixels.
+fn are_pixels<P: Channels>(image: ImageBuffer<P>, expected: Pixels) -> bool {
     let Pixels(sides, count, start) = expected;
-    assert!(rt; image.dimensions() == sides);
+    let are_sides = image.dimensions() == sides;
     let bytes = image.into_raw();
-    assert!(rt;
-        bytes.len() == count && bytes.starts_with(start),
-        "at {count}"
-    );
+    are_sides && bytes.len() == count && bytes.starts_with(start)
 }
 
 /// The texts of the rows.
 pub fn writes<P: Pixel<Image = String>>(rt: &impl Abort, alloc: Global, rows: &[Row<P, Text>]) {
-    for row in rows {
-        is_text(rt, picture(rt, alloc, row).as_str(), row.4);
+    for (i, row) in rows.iter().enumerate() {
+        check_row(rt, i, is_text(picture(rt, alloc, row).as_str(), row.4));
     }
 }
 
 /// The files of the rows.
 pub fn makes<P: Pixel<Image = Vec<u8>>>(rt: &impl Abort, alloc: Global, rows: &[Row<P, File>]) {
-    for row in rows {
+    for (i, row) in rows.iter().enumerate() {
         let File(head, bytes) = row.4;
-        let file = picture(rt, alloc, row);
-        assert!(rt; file.strip_prefix(head) == Some(bytes), "at {}", file.len());
+        check_row(
+            rt,
+            i,
+            picture(rt, alloc, row).strip_prefix(head) == Some(bytes),
+        );
     }
 }
 
 /// The pixels of the rows.
 pub fn paints<P: Channels>(rt: &impl Abort, alloc: Global, rows: &[Row<P, Pixels>]) {
-    for row in rows {
-        are_pixels(rt, picture(rt, alloc, row), row.4);
+    for (i, row) in rows.iter().enumerate() {
+        check_row(rt, i, are_pixels(picture(rt, alloc, row), row.4));
     }
 }

@@ -1,11 +1,12 @@
 //! Pictures of characters, texts and half blocks.
 
-use crate::render::drawings::{DARK, DIAGONAL, MICRO_2, NONE, NORMAL_1, NORMAL_1_LETTERS};
+use crate::render::drawings::{DARK, DIAGONAL, MICRO_2, NONE, NORMAL_1};
 use crate::render::pictures::Colors::{Both, Usual};
 use crate::render::pictures::Size::{AtLeast, AtLeastSame, Default, Of, Same};
 use crate::render::pictures::Text::Is;
 use crate::render::pictures::Zone::{Off, OffAfter, On};
 use crate::render::pictures::{Row, Text, writes};
+use crate::squares::DIGITS_NORMAL;
 use qrcode_render::Pixel;
 use qrcode_render::string::{Canvas, Element, Str};
 use qrcode_render::unicode::Dense1x2;
@@ -17,7 +18,7 @@ static CHARACTERS: [Row<char, Text>; 7] = [
     Row(DIAGONAL, On(0), Usual, Of(2, 1), Is("██  \n  ██")),
     Row(NONE, On(0), Usual, Default, Is("")),
     Row(NONE, On(1), Usual, Default, Is("  \n  ")),
-    Row(NORMAL_1, Off(4), Both('#', '.'), Of(1, 1), Is(NORMAL_1_LETTERS)),
+    Row(NORMAL_1, Off(4), Both('#', '.'), Of(1, 1), Is(DIGITS_NORMAL)),
     // The order of setters: the quiet zone is on when the size is set, and off.
     Row(DARK, OffAfter(1), Usual, AtLeast(10, 10), Is("████\n████\n████\n████")),
     Row(DARK, Off(1), Usual, AtLeastSame(10), Is("██████████\n██████████\n██████████\n██████████\n██████████\n██████████\n██████████\n██████████\n██████████\n██████████")),

@@ -75,7 +75,7 @@ fn draws_pixels_and_rectangles(rt: HostRuntime) {
         "<?xml version=\"1.0\" standalone=\"yes\"?><svg xmlns=\"http://www.w3.org/2000/svg\" version=\"1.1\" width=\"9\" height=\"9\" viewBox=\"0 0 9 9\" shape-rendering=\"crispEdges\">",
         "<rect x=\"0\" y=\"0\" width=\"9\" height=\"9\" fill=\"tan\"/><path fill=\"red\" d=\"M1 2h1v1H1V2M3 4h5v2H3V4\"/></svg>"
     );
-    assert!(rt; text.as_str() == expected, "{text}");
+    assert!(rt; text.as_str() == expected);
 }
 
 #[test]

@@ -3,10 +3,12 @@
 ghost use Rattle.std.specs.Prelude.{◌≡◌, IsTrue};
 ghost use Rattle.qrcode_types.specs.Versions.{is_valid, has_level};
 
+use crate::common::{are_dark, check_row};
+use crate::squares::{DIGITS_MICRO, DIGITS_NORMAL};
 use crate::symbol::drawings::{
     DATA_OF_MICRO_1, DATA_OF_NORMAL_2, HALF_CODEWORD_OF_MICRO_3, LIGHT_MICRO_1, MOST_OF_NORMAL_2,
     NORMAL_1_UNDER_CHECKERBOARD, NORMAL_1_UNDER_VERTICAL_LINES, PATTERNS_OF_MICRO_1,
-    PATTERNS_OF_NORMAL_2, PATTERNS_OF_NORMAL_7, SYMBOL_OF_MICRO_2, SYMBOL_OF_NORMAL_1,
+    PATTERNS_OF_NORMAL_2, PATTERNS_OF_NORMAL_7,
 };
 use qrcode_symbol::canvas::{Canvas, MaskPattern, Module, is_functional};
 use qrcode_types::types::{Color, EcLevel, QrResult, Version};
@@ -38,7 +40,7 @@ fn module_at(canvas: &Canvas, version: Version, x: i16, y: i16) -> Module
     }
 }
 
-// The letters of a canvas of a version, row by row.
+// The letters of a canvas of a version, a line for each row.
 fn letters(alloc: Global, canvas: &Canvas, version: Version) -> QrResult<String>
     requires valid { IsTrue (is_valid version) }
     requires version { canvas.now.version ≡ version }
@@ -46,6 +48,9 @@ fn letters(alloc: Global, canvas: &Canvas, version: Version) -> QrResult<String>
     let width = version.width();
     let mut text = String::new(alloc);
     for y in 0..width {
+        if y > 0 {
+            text.push('\n')?;
+        }
         for x in 0..width {
             text.push(letter(module_at(canvas, version, x, y)))?;
         }
@@ -53,16 +58,15 @@ fn letters(alloc: Global, canvas: &Canvas, version: Version) -> QrResult<String>
     Ok(text)
 }
 
-// Which letters of a text are those of dark modules.
-fn dark_letters(rt: &impl Abort, alloc: Global, text: &str) -> Vec<bool> {
-    let bools = text.bytes().map(|letter| letter == b'#' || letter == b'*');
-    bools.collect(alloc).expect(rt, "bools")
-}
-
-// Which colours are dark.
-fn dark_colors(rt: &impl Abort, alloc: Global, colors: &[Color]) -> Vec<bool> {
-    let bools = colors.iter().map(|color| *color == Color::Dark);
-    bools.collect(alloc).expect(rt, "bools")
+// Whether a canvas of a version has these letters.
+fn shows(alloc: Global, canvas: &Canvas, version: Version, text: &str) -> bool
+    requires valid { IsTrue (is_valid version) }
+    requires version { canvas.now.version ≡ version }
+{
+    match letters(alloc, canvas, version) {
+        Ok(letters) => letters.as_str() == text,
+        Err(_) => false,
+    }
 }
 
 // Draws a light module at a place that is inside.
@@ -158,27 +162,13 @@ fn draw(rt: &impl Abort, alloc: Global, drawing: Drawing) -> Canvas
     canvas
 }
 
-// A canvas of a version has these letters, row by row.
-fn shows(rt: &impl Abort, alloc: Global, canvas: &Canvas, version: Version, text: &str)
-    requires valid { IsTrue (is_valid version) }
-    requires version { canvas.now.version ≡ version }
-{
-    let letters = letters(alloc, canvas, version).expect(rt, "letters");
-    assert_eq!(rt; letters.as_str(), text);
-}
-
-// A copy of the canvas has these letters, and the modules of the canvas are dark where a letter says so.
-fn draws(rt: &impl Abort, alloc: Global, drawing: Drawing, text: &str) {
+// Whether a copy of a canvas has these letters, and its modules are dark where a letter says so.
+fn draws(rt: &impl Abort, alloc: Global, drawing: Drawing, text: &str) -> bool {
     let canvas = draw(rt, alloc, drawing);
     let copy = canvas.clone().expect(rt, "a copy");
-    shows(rt, alloc, &copy, drawing.0, text);
-    let expected = dark_letters(rt, alloc, text);
-    assert!(rt;
-        canvas.to_bools(alloc).expect(rt, "bools") == expected,
-        "{text}"
-    );
+    let modules = canvas.to_bools(alloc).expect(rt, "modules");
     let colors = canvas.into_colors(alloc).expect(rt, "colours");
-    assert!(rt; dark_colors(rt, alloc, &colors) == expected, "{text}");
+    shows(alloc, &copy, drawing.0, text) && are_dark(text, &colors, &modules)
 }
 
 // The codewords of `01234567` in Normal 1 at M.
@@ -209,11 +199,11 @@ static DRAWN: [(Drawing, &str); 11] = [
     (Drawing(
         Version::Micro(3), EcLevel::L, Start::Patterns, (&[0; 11], &[0xff; 6]), [None, None],
     ), HALF_CODEWORD_OF_MICRO_3),
-    (Drawing(Version::Normal(1), EcLevel::M, Start::Patterns, DIGITS, [LINES, None]), SYMBOL_OF_NORMAL_1),
+    (Drawing(Version::Normal(1), EcLevel::M, Start::Patterns, DIGITS, [LINES, None]), DIGITS_NORMAL),
     (Drawing(
         Version::Micro(2), EcLevel::L, Start::Patterns, (b"\x40\x18\xac\xc3\x00", b"\x86\x0d\x22\xae\x30"),
         [Some(MaskPattern::LargeCheckerboard), None],
-    ), SYMBOL_OF_MICRO_2),
+    ), DIGITS_MICRO),
     (Drawing(
         Version::Normal(1), EcLevel::M, Start::Patterns, EMPTY, [LINES, None],
     ), NORMAL_1_UNDER_VERTICAL_LINES),
@@ -225,36 +215,33 @@ static DRAWN: [(Drawing, &str); 11] = [
 
 #[test]
 fn canvases_are_drawn(rt: HostRuntime) {
-    for (drawing, text) in &DRAWN {
-        draws(&rt, rt.alloc(), *drawing, text);
+    for (i, (drawing, text)) in DRAWN.iter().enumerate() {
+        check_row(&rt, i, draws(&rt, rt.alloc(), *drawing, *text));
     }
 }
 
 // Canvases, and their letters under their best masks.
 #[rattlefmt::skip]
 static BEST: [(Drawing, &str); 2] = [
-    (Drawing(Version::Normal(1), EcLevel::M, Start::Patterns, DIGITS, [None, None]), SYMBOL_OF_NORMAL_1),
+    (Drawing(Version::Normal(1), EcLevel::M, Start::Patterns, DIGITS, [None, None]), DIGITS_NORMAL),
     // All modules are light and stay so under each mask: all penalties are 170, and the first mask is
     // taken, with the format word 0x4445.
     (Drawing(Version::Micro(1), EcLevel::L, Start::Light, EMPTY, [None, None]), LIGHT_MICRO_1),
 ];
 
-// The canvas under its best mask has these letters, and its colours are dark where a letter says so.
-fn draws_best(rt: &impl Abort, alloc: Global, drawing: Drawing, text: &str) {
+// Whether a canvas has these letters under its best mask, and its modules are dark where a letter says so.
+fn draws_best(rt: &impl Abort, alloc: Global, drawing: Drawing, text: &str) -> bool {
     let canvas = draw(rt, alloc, drawing);
     let best = canvas.apply_best_mask(alloc).expect(rt, "a canvas");
-    shows(rt, alloc, &best, drawing.0, text);
+    let modules = best.to_bools(alloc).expect(rt, "modules");
     let colors = canvas.best_colors(alloc).expect(rt, "colours");
-    assert!(rt;
-        dark_colors(rt, alloc, &colors) == dark_letters(rt, alloc, text),
-        "{text}"
-    );
+    shows(alloc, &best, drawing.0, text) && are_dark(text, &colors, &modules)
 }
 
 #[test]
 fn canvases_are_under_their_best_masks(rt: HostRuntime) {
-    for (drawing, text) in &BEST {
-        draws_best(&rt, rt.alloc(), *drawing, text);
+    for (i, (drawing, text)) in BEST.iter().enumerate() {
+        check_row(&rt, i, draws_best(&rt, rt.alloc(), *drawing, *text));
     }
 }
 
@@ -264,54 +251,42 @@ fn coordinates_wrap(rt: HostRuntime) {
         &rt, "a canvas",
     );
     canvas.put(2, -3, Color::Dark);
-    assert!(rt; canvas.get(2, 18) == Module::Masked(Color::Dark));
-    assert!(rt; canvas.get(-19, 18) == Module::Masked(Color::Dark));
+    let dark = Module::Masked(Color::Dark);
+    assert!(rt; canvas.get(2, 18) == dark && canvas.get(-19, 18) == dark);
     *canvas.get_mut(-1, 4) = Module::Unmasked(Color::Light);
     assert!(rt; canvas.get(20, -17) == Module::Unmasked(Color::Light));
 }
 
 // A module, its colour, and its colours under a mask that keeps it and under one that turns it.
+#[rattlefmt::skip]
 static MASKED: [(Module, Color, Color, Color); 4] = [
     (Module::Empty, Color::Light, Color::Light, Color::Dark),
-    (
-        Module::Masked(Color::Dark),
-        Color::Dark,
-        Color::Dark,
-        Color::Dark,
-    ),
-    (
-        Module::Unmasked(Color::Dark),
-        Color::Dark,
-        Color::Dark,
-        Color::Light,
-    ),
-    (
-        Module::Unmasked(Color::Light),
-        Color::Light,
-        Color::Light,
-        Color::Dark,
-    ),
+    (Module::Masked(Color::Dark), Color::Dark, Color::Dark, Color::Dark),
+    (Module::Unmasked(Color::Dark), Color::Dark, Color::Dark, Color::Light),
+    (Module::Unmasked(Color::Light), Color::Light, Color::Light, Color::Dark),
 ];
 
 #[test]
 fn modules_are_masked(rt: HostRuntime) {
-    for (place, color, kept, turned) in &MASKED {
-        assert!(rt; place.is_dark() == (*color == Color::Dark), "{place:?}");
-        assert!(rt; Color::from(*place) == *color, "{place:?}");
-        assert!(rt; place.mask(false) == Module::Masked(*kept), "{place:?}");
-        assert!(rt; place.mask(true) == Module::Masked(*turned), "{place:?}");
+    for (i, (place, color, kept, turned)) in MASKED.iter().enumerate() {
+        let is_color = place.is_dark() == (*color == Color::Dark) && Color::from(*place) == *color;
+        let is_kept = place.mask(false) == Module::Masked(*kept);
+        let is_turned = place.mask(true) == Module::Masked(*turned);
+        check_row(&rt, i, is_color && is_kept && is_turned);
     }
 }
 
-// Whether a version has a pattern at a place, where that is inside.
-fn functional(version: Version, x: i16, y: i16) -> Option<bool>
-    requires { IsTrue (is_valid version) }
-{
+// Whether a version that exists has a pattern at a place that is inside.
+fn functional(version: Version, x: i16, y: i16) -> Option<bool> {
+    if !version.is_valid() {
+        return None;
+    }
     let width = version.width();
     if -width <= x && x < width && -width <= y && y < width {
-        return Some(is_functional(version, width, x, y));
+        Some(is_functional(version, width, x, y))
+    } else {
+        None
     }
-    None
 }
 
 // Places, and whether they have a pattern.
@@ -345,8 +320,7 @@ static PLACES: [(Version, i16, i16, bool); 25] = [
 
 #[test]
 fn functional_places(rt: HostRuntime) {
-    for (version, x, y, expected) in &PLACES {
-        assert!(rt; version.is_valid());
-        assert!(rt; functional(*version, *x, *y) == Some(*expected), "{x}, {y}");
+    for (i, (version, x, y, expected)) in PLACES.iter().enumerate() {
+        check_row(&rt, i, functional(*version, *x, *y) == Some(*expected));
     }
 }

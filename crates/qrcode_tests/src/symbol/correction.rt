@@ -1,10 +1,11 @@
 //! Products of the field, the correction bytes of data, and the order of codewords.
 
+use crate::common::check_row;
 use qrcode_ec::{
     construct_codewords, create_error_correction_code, max_allowed_errors, power, product,
 };
 use qrcode_types::tables::Blocks;
-use qrcode_types::types::{EcLevel, QrError, QrResult, Version};
+use qrcode_types::types::{EcLevel, QrError, Version};
 use std::alloc::Global;
 
 // Two factors and their product.
@@ -17,8 +18,8 @@ static PRODUCTS: [(u8, u8, u8); 4] = [
 
 #[test]
 fn products_and_powers_are_those_of_the_field(rt: HostRuntime) {
-    for (a, b, expected) in &PRODUCTS {
-        assert!(rt; product(*a, *b) == *expected, "at {a}, {b}");
+    for (i, (a, b, expected)) in PRODUCTS.iter().enumerate() {
+        check_row(&rt, i, product(*a, *b) == *expected);
     }
     assert!(rt; power(8) == 0x1d && power(255) == 1);
 }
@@ -36,28 +37,21 @@ static CORRECTED: [(&[u8], &[u8]); 8] = [
     (&[0x00], &[0x00, 0x00]),
 ];
 
-#[test]
-fn data_is_corrected(rt: HostRuntime) {
-    for (data, expected) in &CORRECTED {
-        assert!(rt; expected.len() <= 69);
-        let ec = create_error_correction_code(rt.alloc(), data, expected.len());
-        let ec = ec.expect(&rt, "correction bytes");
-        assert!(rt; ec.as_slice() == *expected, "of {} bytes", data.len());
+// Whether data has these correction bytes.
+fn is_corrected(alloc: Global, data: &[u8], expected: &[u8]) -> bool {
+    if expected.len() > 69 {
+        return false;
+    }
+    match create_error_correction_code(alloc, data, expected.len()) {
+        Ok(ec) => ec.as_slice() == expected,
+        Err(_) => false,
     }
 }
 
-// The codewords of a version that has the level and is filled by the data.
-fn codewords(
-    alloc: Global,
-    data: &[u8],
-    version: Version,
-    ec_level: EcLevel,
-) -> QrResult<(Vec<u8>, Vec<u8>)> {
-    match Blocks::of(version, ec_level) {
-        Some(blocks) if blocks.data_length() == data.len() => {
-            construct_codewords(alloc, data, version, ec_level)
-        }
-        _ => Err(QrError::InvalidVersion),
+#[test]
+fn data_is_corrected(rt: HostRuntime) {
+    for (i, (data, expected)) in CORRECTED.iter().enumerate() {
+        check_row(&rt, i, is_corrected(rt.alloc(), data, expected));
     }
 }
 
@@ -120,27 +114,42 @@ const INTERLEAVED_62: [u8; 62] = [
     27, 42, 58, 13, 28, 43, 59, 14, 29, 44, 60, 45, 61,
 ];
 
-// Data bytes of a version and level, the same by turns from each block, and their correction bytes by
-// turns, where they are known.
+// A version and a level, data bytes that fill it, the same by turns from each block, and their
+// correction bytes by turns, where they are known.
+type Row = (
+    Version,
+    EcLevel,
+    &'static [u8],
+    &'static [u8],
+    Option<&'static [u8]>,
+);
+
 #[rattlefmt::skip]
-static INTERLEAVED: [(Version, EcLevel, &[u8], &[u8], Option<&[u8]>); 4] = [
+static INTERLEAVED: [Row; 4] = [
     (Version::Normal(1), EcLevel::M, &DATA_OF_1_M, &DATA_OF_1_M, Some(&CORRECTION_OF_1_M)),
     (Version::Normal(5), EcLevel::Q, &DATA_OF_5_Q, &INTERLEAVED_DATA_OF_5_Q, Some(&INTERLEAVED_CORRECTION_OF_5_Q)),
     (Version::Normal(3), EcLevel::Q, &COUNTED_34, &INTERLEAVED_34, None),
     (Version::Normal(5), EcLevel::Q, &COUNTED_62, &INTERLEAVED_62, None),
 ];
 
+// Whether data has these codewords.
+fn are_interleaved(alloc: Global, (version, level, data, words, correction): &Row) -> bool {
+    match Blocks::of(*version, *level) {
+        Some(blocks) if blocks.data_length() == data.len() => {}
+        _ => return false,
+    }
+    match construct_codewords(alloc, data, *version, *level) {
+        Ok((found, ec)) => {
+            found.as_slice() == *words && ec.as_slice() == correction.unwrap_or(&ec)
+        }
+        Err(_) => false,
+    }
+}
+
 #[test]
 fn blocks_are_interleaved(rt: HostRuntime) {
-    for (version, level, data, words, correction) in &INTERLEAVED {
-        let found = codewords(rt.alloc(), data, *version, *level);
-        let (found, ec) = found.expect(&rt, "codewords");
-        let is_known = ec.as_slice() == correction.unwrap_or(&ec);
-        assert!(rt;
-            is_known && found.as_slice() == *words,
-            "of {} bytes",
-            data.len()
-        );
+    for (i, row) in INTERLEAVED.iter().enumerate() {
+        check_row(&rt, i, are_interleaved(rt.alloc(), row));
     }
 }
 
@@ -192,9 +201,6 @@ static ALLOWED: [(Version, EcLevel, Option<usize>); 40] = [
 fn errors_are_allowed(rt: HostRuntime) {
     for (row, (version, level, count)) in ALLOWED.iter().enumerate() {
         let expected = count.ok_or(QrError::InvalidVersion);
-        assert!(rt;
-            max_allowed_errors(*version, *level) == expected,
-            "in row {row}"
-        );
+        check_row(&rt, row, max_allowed_errors(*version, *level) == expected);
     }
 }

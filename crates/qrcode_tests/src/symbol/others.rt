@@ -3,6 +3,7 @@
 ghost use Rattle.std.specs.Prelude.{◌≡◌, IsTrue};
 ghost use Rattle.qrcode_types.specs.Versions.{is_valid};
 
+use crate::common::check_row;
 use crate::symbol::segno::{CODEWORDS, MASKED};
 use qrcode_symbol::canvas::{Canvas, MaskPattern};
 use qrcode_types::tables::Blocks;
@@ -44,8 +45,8 @@ fn masked(alloc: Global, version: Version, ec_level: EcLevel, mask: MaskPattern)
 #[test]
 fn patterns_are_masked_as_by_segno(rt: HostRuntime) {
     for (i, (version, ec_level, mask, expected)) in MASKED.iter().enumerate() {
-        let found = masked(rt.alloc(), *version, *ec_level, *mask).expect(&rt, "a canvas");
-        assert!(rt; found == *expected, "row {i}");
+        let found = masked(rt.alloc(), *version, *ec_level, *mask);
+        check_row(&rt, i, found == Ok(*expected));
     }
 }
 
@@ -70,7 +71,7 @@ fn drawn(alloc: Global, version: Version, ec_level: EcLevel, bytes: [u8; 3]) -> 
 #[test]
 fn codewords_stand_where_segno_draws_them(rt: HostRuntime) {
     for (i, (version, ec_level, bytes, expected)) in CODEWORDS.iter().enumerate() {
-        let found = drawn(rt.alloc(), *version, *ec_level, *bytes).expect(&rt, "a canvas");
-        assert!(rt; found == *expected, "row {i}");
+        let found = drawn(rt.alloc(), *version, *ec_level, *bytes);
+        check_row(&rt, i, found == Ok(*expected));
     }
 }

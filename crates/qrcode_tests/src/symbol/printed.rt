@@ -2,8 +2,8 @@
 
 ghost use Rattle.std.specs.Prelude.{◌≤◌};
 
+use crate::common::check_row;
 use qrcode_correct::{Corrector, Damaged, correct};
-use std::process::Abort;
 
 // The block of 01234567 in Normal 1 at level M, as ISO/IEC 18004:2006 prints it in Annex I.
 static OF_DIGITS: [u8; 26] = [
@@ -27,22 +27,19 @@ fn damaged(block: &[u8; 26], first: usize, count: usize) -> [u8; 26] {
     bytes
 }
 
-// The block is corrected from this damage.
-fn is_corrected(rt: &impl Abort, block: &[u8; 26], first: usize, count: usize) {
+// Whether a block is corrected from this damage.
+fn is_corrected(block: &[u8; 26], first: usize, count: usize) -> bool {
     let mut bytes = damaged(block, first, count);
-    let answer = correct(&mut bytes, 10);
-    assert!(rt;
-        answer == Ok(count) && bytes == *block,
-        "{count} from {first}"
-    );
+    correct(&mut bytes, 10) == Ok(count) && bytes == *block
 }
 
 #[test]
 fn printed_blocks_are_corrected_wherever_five_bytes_are_wrong(rt: HostRuntime) {
     for first in 0..26 {
         for count in 0..6 {
-            is_corrected(&rt, &OF_DIGITS, first, count);
-            is_corrected(&rt, &OF_CODERS, first, count);
+            let digits = is_corrected(&OF_DIGITS, first, count);
+            let coders = is_corrected(&OF_CODERS, first, count);
+            check_row(&rt, first, digits && coders);
         }
     }
 }
@@ -83,7 +80,7 @@ fn are_zeros_again(count: usize) -> bool
 #[test]
 fn zeros_are_corrected_by_any_number_of_bytes(rt: HostRuntime) {
     for count in 0..70 {
-        assert!(rt; are_zeros_again(count), "with {count}");
+        check_row(&rt, count, are_zeros_again(count));
     }
 }
 

@@ -4,6 +4,7 @@ ghost use Rattle.std.specs.Prelude.{◌≡◌, ◌+◌, ◌-◌, ◌*◌, ◌/�
 ghost use Rattle.qrcode_packed.specs.Rows.{FitsWidth, IsSquare};
 ghost use Rattle.qrcode_penalty.specs.RowHalves.{HasHalves};
 
+use crate::common::check_row;
 use qrcode_packed::row::{PackedRow, Row128, Row192};
 use qrcode_packed::square::PackedSquare;
 use qrcode_penalty::penalty::{micro_penalty, penalty_of_parts};
@@ -116,13 +117,15 @@ fn rows_of<R: PackedRow>(alloc: Global, kind: Kind, width: u32) -> QrResult<Vec<
     Ok(rows)
 }
 
-// The penalty of Micro, on packed rows.
-fn micro_in<R: PackedRow>(alloc: Global, kind: Kind, width: u32) -> QrResult<u32>
-    requires at_least { 7 ≤ width }
-    requires room { width + 3 ≤ R.room }
-{
-    let rows = rows_of::<R>(alloc, kind, width)?;
-    Ok(micro_penalty(&PackedSquare::new(&rows, width)))
+// Whether a square has this penalty of Micro on packed rows of a type, unless that has no room for it.
+fn micro_costs<R: PackedRow>(alloc: Global, kind: Kind, width: u32, expected: u32) -> bool {
+    if width < 7 || width > R::size().saturating_sub(3) {
+        return true;
+    }
+    match rows_of::<R>(alloc, kind, width) {
+        Ok(rows) => micro_penalty(&PackedSquare::new(&rows, width)) == expected,
+        Err(_) => false,
+    }
 }
 
 // As many places of row y as a strip has in its half, from `first` on, or of column y.
@@ -222,28 +225,26 @@ fn normal_in<L: PackedRow>(alloc: Global, kind: Kind, count: usize, width: u32) 
 }
 
 // Whether a square has this penalty of Normal by one to three strips of each type of lines.
-fn normal_costs(alloc: Global, kind: Kind, width: u32, expected: u32) -> QrResult<bool>
-    requires at_least { 7 ≤ width }
-    requires at_most { width ≤ 177 }
-{
+fn normal_costs(alloc: Global, kind: Kind, width: u32, expected: u32) -> bool {
+    if width < 7 || width > 177 {
+        return false;
+    }
     for count in 1..4 {
-        let narrow = normal_in::<u64>(alloc, kind, count, width)? == expected;
-        let wide = normal_in::<Row128>(alloc, kind, count, width)? == expected;
-        if !(narrow && wide) {
-            return Ok(false);
+        let narrow = normal_in::<u64>(alloc, kind, count, width);
+        let wide = normal_in::<Row128>(alloc, kind, count, width);
+        if narrow != Ok(expected) || wide != Ok(expected) {
+            return false;
         }
     }
-    Ok(true)
+    true
 }
 
-// Whether a square has these penalties, that of Micro on packed rows of each type that has room for it.
-fn costs(alloc: Global, kind: Kind, width: u32, expected: (u32, u32)) -> QrResult<bool> {
-    let (normal, micro) = expected;
-    let one = !matches!(width, 7..=61) || micro_in::<u64>(alloc, kind, width)? == micro;
-    let two = !matches!(width, 7..=125) || micro_in::<Row128>(alloc, kind, width)? == micro;
-    let three = matches!(width, 7..=177) && micro_in::<Row192>(alloc, kind, width)? == micro;
-    let strips = matches!(width, 7..=177) && normal_costs(alloc, kind, width, normal)?;
-    Ok(one && two && three && strips)
+// Whether a square has these penalties of Normal and of Micro.
+fn costs(alloc: Global, kind: Kind, width: u32, (normal, micro): (u32, u32)) -> bool {
+    micro_costs::<u64>(alloc, kind, width, micro)
+        && micro_costs::<Row128>(alloc, kind, width, micro)
+        && micro_costs::<Row192>(alloc, kind, width, micro)
+        && normal_costs(alloc, kind, width, normal)
 }
 
 // A symbol whose penalty is published, in parts: runs 88 and 92, blocks 90, finder forms 360 and 400,
@@ -297,7 +298,6 @@ static COUNTED: [(Kind, u32, (u32, u32)); 25] = [
 #[test]
 fn squares_cost_what_was_counted(rt: HostRuntime) {
     for (i, (kind, width, expected)) in COUNTED.iter().enumerate() {
-        let holds = costs(rt.alloc(), *kind, *width, *expected).expect(&rt, "memory");
-        assert!(rt; holds, "row {i}");
+        check_row(&rt, i, costs(rt.alloc(), *kind, *width, *expected));
     }
 }

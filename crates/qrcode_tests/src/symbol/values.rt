@@ -1,15 +1,14 @@
 //! Texts of refusals, and entries of tables.
 
+use crate::common::check_row;
 use qrcode_types::tables::capacity;
 use qrcode_types::types::{EcLevel, QrError, Version};
 
+#[rattlefmt::skip]
 static REFUSALS: [(QrError, &str); 6] = [
     (QrError::DataTooLong, "data too long"),
     (QrError::InvalidVersion, "invalid version"),
-    (
-        QrError::UnsupportedCharacterSet,
-        "unsupported character set",
-    ),
+    (QrError::UnsupportedCharacterSet, "unsupported character set"),
     (QrError::InvalidEciDesignator, "invalid ECI designator"),
     (QrError::InvalidCharacter, "invalid character"),
     (QrError::OutOfMemory, "out of memory"),
@@ -17,9 +16,9 @@ static REFUSALS: [(QrError, &str); 6] = [
 
 #[test]
 fn refusals_are_written(rt: HostRuntime) {
-    for (error, text) in &REFUSALS {
+    for (row, (error, text)) in REFUSALS.iter().enumerate() {
         let written = format!(in rt.alloc(); "{error}").expect(&rt, "a text");
-        assert!(rt; written.as_str() == *text, "{written}");
+        check_row(&rt, row, written.as_str() == *text);
     }
 }
 
@@ -39,7 +38,7 @@ fn entries_are_fetched(rt: HostRuntime) {
     table[41][1] = 2;
     for (row, (version, level, entry)) in ENTRIES.iter().enumerate() {
         let expected = entry.ok_or(QrError::InvalidVersion);
-        assert!(rt; version.fetch(*level, &table) == expected, "in row {row}");
+        check_row(&rt, row, version.fetch(*level, &table) == expected);
     }
 }
 
@@ -57,6 +56,6 @@ fn capacities_are_found(rt: HostRuntime) {
     for (row, (version, level, bits)) in CAPACITIES.iter().enumerate() {
         let has_level = version.has_level(*level);
         let is_so = capacity(*version, *level) == *bits && has_level == bits.is_some();
-        assert!(rt; is_so, "in row {row}");
+        check_row(&rt, row, is_so);
     }
 }
