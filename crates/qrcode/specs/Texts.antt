@@ -1,17 +1,17 @@
 -- How a square is shown as characters, and symbols of data in a manner.
-use Rattle.std.specs.Prelude.{◌≡◌, ℕ, ◌<◌, ◌≤◌, ◌++◌, false, Bool, List, [], length, chars, IsUtf8, Result, Err, IfOk, IfErr, IsOkUnless, IsTrue}
+use Rattle.std.specs.Prelude.{◌≡◌, ℕ, ◌<◌, ◌≤◌, ◌++◌, Bool, List, [], length, chars, IsUtf8, Result, Err, IfOk, IfErr, IsOkUnless, IsTrue}
 use Rattle.qrcode_types.specs.Versions.{is_valid, level_number}
 use Rattle.qrcode_types.specs.declared.types.Version.{Version}
 use Rattle.qrcode_types.specs.declared.types.EcLevel.{EcLevel}
 use Rattle.qrcode_types.specs.declared.types.QrError.{QrError}
-use Rattle.qrcode_types.specs.declared.types.QrError.TheVariants.{InvalidVersion, DataTooLong, OutOfMemory}
+use Rattle.qrcode_types.specs.declared.types.QrError.TheVariants.{DataTooLong, OutOfMemory}
 use Rattle.qrcode_types.specs.declared.types.Color.{Color}
 use Rattle.qrcode_places.specs.declared.masks.MaskPattern.{MaskPattern}
 use Rattle.qrcode_symbol.specs.Symbol.{IsDamaged}
 use Rattle.qrcode_symbol.specs.Reading.{ReadsBits}
-use Rattle.qrcode_bits.specs.Choice.{IsRefusedFrom, IsRefusedIn}
+use Rattle.qrcode_bits.specs.Choice.{IsRefusedIn, NeedsVersion}
 use Rattle.qrcode_bits.specs.Cuts.{IsLeastCutIn}
-use Rattle.qrcode_bits.specs.Manners.{is_text, modes_of, front, rank, HoldsAs, IsLeastFrom}
+use Rattle.qrcode_bits.specs.Manners.{is_text, modes_of, front, HoldsAs, IsLeastFrom}
 use Rattle.qrcode_bits.specs.Refusals.{data_limit}
 use Rattle.qrcode_bits.specs.Shown.{Shows, ShowsOnly}
 use Rattle.qrcode_bits.specs.Written.{written, terminated, pieces_of}
@@ -52,14 +52,11 @@ pub record IsSymbolAs (m : Manner) (v : Version) (l : EcLevel) (bytes : List ℕ
 
 -- what a constructor gives that chooses the version: such a symbol of the least version, from one on, that holds the data
 pub record IsAutomaticAs (m : Manner) (from : Version) (l : EcLevel) (bytes : List ℕ) (result : Result Code QrError) : Type 0 where
-  pub no_version : is_valid from ≡ false → result ≡ Err InvalidVersion
   pub level : IfOk result (λ code. code.level ≡ l)
   pub least_version : IfOk result (λ code. IsLeastFrom m from l bytes code.version)
   pub symbol : IfOk result (λ code. IsSymbolAs m code.version l bytes code.modules)
   pub shown : IsTrue (is_text m) → IsUtf8 bytes → IfOk result (λ code. IsShownAs code.version l (chars bytes) code.modules)
-  pub accepts : (v : Version) → IsTrue (is_valid from) → rank from ≤ rank v → HoldsAs m v l bytes → IsOkUnless result OutOfMemory
-  pub causes : IsTrue (is_valid from) → IfErr result (IsRefusedFrom m from l bytes)
-  pub too_long : IsTrue (is_valid from) → data_limit < length bytes → result ≡ Err DataTooLong
+  pub refusals : NeedsVersion m from l bytes result
 
 -- such a symbol at a level from one on, above which the version does not hold the data
 pub record IsBoostedAs (m : Manner) (from : Version) (l : EcLevel) (bytes : List ℕ) (code : Code) : Type 0 where

@@ -5,7 +5,7 @@ ghost use Rattle.qrcode_types.specs.Versions.{is_valid};
 ghost use Rattle.qrcode_types.specs.declared.types.Version.{Version};
 ghost use Rattle.qrcode_types.specs.declared.types.Version.TheVariants.{Normal};
 ghost use Rattle.qrcode_types.specs.declared.types.QrError.TheVariants.{InvalidVersion, DataTooLong, OutOfMemory};
-ghost use Rattle.qrcode_bits.specs.Choice.{IsRefusedFrom};
+ghost use Rattle.qrcode_bits.specs.Choice.{NeedsVersion};
 ghost use Rattle.qrcode_bits.specs.Manners.{rank, HoldsAs};
 ghost use Rattle.qrcode_bits.specs.Refusals.{data_limit};
 ghost use Rattle.qrcode_bits.specs.declared.bits.manner.Manner.TheVariants.{Text, MarkedText};
@@ -103,13 +103,7 @@ impl QrCode {
         ec_level: EcLevel,
     ) -> QrResult<Self>
         ensures symbol { IfOk result (IsBoostedAs manner from ec_level bytes.now) }
-        ensures no_version { is_valid from ≡ false → result ≡ Err InvalidVersion }
-        ensures accepts { (v : Version) → IsTrue (is_valid from) → rank from ≤ rank v
-            → HoldsAs manner v ec_level bytes.now → IsOkUnless result OutOfMemory }
-        ensures causes { IsTrue (is_valid from)
-            → IfErr result (IsRefusedFrom manner from ec_level bytes.now) }
-        ensures too_long { IsTrue (is_valid from) → data_limit < length bytes.now
-            → result ≡ Err DataTooLong }
+        ensures refusals { NeedsVersion manner from ec_level bytes.now result }
     {
         let (bits, highest) = bits::encode_boosted(alloc, bytes, manner, from, ec_level)?;
         QrCode::with_bits(alloc, bits, highest)

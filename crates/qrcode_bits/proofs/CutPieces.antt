@@ -15,7 +15,7 @@ use Rattle.qrcode_types.proofs.LengthFields.{counts_fit}
 use Rattle.qrcode_bits.specs.Segments.{cost_of, cost, total_cost, Tile, AreInside}
 use Rattle.qrcode_bits.specs.Written.{Piece, written_piece, written, pieces_of}
 use Rattle.qrcode_bits.specs.Spelling.{IsReadable}
-use Rattle.qrcode_bits.specs.Cuts.{IsCut}
+use Rattle.qrcode_bits.specs.Cuts.{IsCut, GiveBack}
 use Rattle.qrcode_bits.specs.declared.optimize.Segment.{Segment}
 use Rattle.qrcode_bits.proofs.Lengths.{length-piece}
 use Rattle.qrcode_bits.proofs.SegmentRanges.{length-range, tile_le}
@@ -105,5 +105,5 @@ pieces_writable : (bytes : List ℕ) (ss : List Segment) → AllByRecursion (λ 
 pieces_writable bytes [] w = tt
 pieces_writable bytes (s ∷ ss) w = (w.0, pieces_writable bytes ss w.1)
 
-pub cut_writable : (v : Version) (bytes : List ℕ) (ss : List Segment) → IsCut v bytes ss → AllByRecursion (λ p. IsTrue (can_write p.mode p.chunk)) (pieces_of bytes ss)
-cut_writable v bytes ss cut = pieces_writable bytes ss cut.writable
+pub gives_back : (v : Version) (bytes : List ℕ) (ss : List Segment) → IsCut v bytes ss → GiveBack bytes ss
+gives_back v bytes ss cut = record { inside = cut_inside v bytes ss cut; joined = cut_joined v bytes ss cut; writable = pieces_writable bytes ss cut.writable }

@@ -23,6 +23,7 @@ pub mod LeastCuts
 pub mod LeastCosts
 pub mod LeastStarts
 pub mod Manners
+pub mod Needs
 pub mod Lengths
 pub mod Numbers
 pub mod OnlyRuns

@@ -1,5 +1,5 @@
 -- Which data a symbol holds, and which version is the least that does.
-use Rattle.std.specs.Prelude.{◌≡◌, ◌⊎◌, ℕ, ◌<◌, ◌≤◌, pos, false, List, length, sum_by, IsTrue}
+use Rattle.std.specs.Prelude.{◌≡◌, ◌⊎◌, ℕ, ◌<◌, ◌≤◌, pos, false, List, length, sum_by, Result, Err, IfErr, IsOkUnless, IsTrue}
 use Rattle.qrcode_types.specs.Versions.{is_valid, has_level, capacity}
 use Rattle.qrcode_types.specs.declared.types.Version.{Version}
 use Rattle.qrcode_types.specs.declared.types.Version.TheVariants.{Normal}
@@ -29,6 +29,13 @@ IsRefused l bytes e = (e ≡ OutOfMemory) ⊎ ((e ≡ DataTooLong) × ((n : ℕ)
 -- why no version from one on is chosen, which exists: more bytes than are taken or that any such version holds, or memory was refused
 abbrev pub IsRefusedFrom : Manner → Version → EcLevel → List ℕ → QrError → Type 0
 IsRefusedFrom m from l bytes e = (e ≡ OutOfMemory) ⊎ ((e ≡ DataTooLong) × ((v : Version) → rank from ≤ rank v → ¬ HoldsAs m v l bytes))
+
+-- a call wants a version, from one on, that holds the data: where and why it is refused
+pub record NeedsVersion {A : Type 0} (m : Manner) (from : Version) (l : EcLevel) (bytes : List ℕ) (result : Result A QrError) : Type 0 where
+  pub no_version : is_valid from ≡ false → result ≡ Err InvalidVersion
+  pub accepts : (v : Version) → IsTrue (is_valid from) → rank from ≤ rank v → HoldsAs m v l bytes → IsOkUnless result OutOfMemory
+  pub causes : IsTrue (is_valid from) → IfErr result (IsRefusedFrom m from l bytes)
+  pub too_long : IsTrue (is_valid from) → data_limit < length bytes → result ≡ Err DataTooLong
 
 abbrev pub IfCause : Type 0 → Type 0 → Type 0 → Type 0  -- this where a cause applies, and that where it does not
 IfCause Cause this that = (Cause × this) ⊎ ((¬ Cause) × that)

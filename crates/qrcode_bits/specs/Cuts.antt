@@ -1,11 +1,14 @@
 -- All cuts of the data, and a least one.
-use Rattle.std.specs.Prelude.{ℕ, ◌≤◌, List, length, slice_range, sum_by, IsTrue}
+use Rattle.std.specs.Prelude.{◌≡◌, ◌⊎◌, ℕ, ◌≤◌, List, length, flat_map, slice_range, sum_by, Result, Err, IfErr, IsOkUnless, IsTrue}
 use Rattle.std.specs.List.{AllByRecursion}
 use Rattle.qrcode_types.specs.Modes.{has_mode}
 use Rattle.qrcode_types.specs.declared.types.Version.{Version}
+use Rattle.qrcode_types.specs.declared.types.QrError.{QrError}
+use Rattle.qrcode_types.specs.declared.types.QrError.TheVariants.{UnsupportedCharacterSet, OutOfMemory}
 use Rattle.qrcode_types.specs.Characters.{can_write}
 use Rattle.qrcode_bits.specs.ModeSets.{is_among}
-use Rattle.qrcode_bits.specs.Segments.{Tile, cost, total_cost}
+use Rattle.qrcode_bits.specs.Segments.{AreInside, Tile, cost, total_cost}
+use Rattle.qrcode_bits.specs.Written.{pieces_of}
 use Rattle.qrcode_bits.specs.declared.optimize.mode_sets.Modes.{Modes}
 use Rattle.qrcode_bits.specs.declared.optimize.Segment.{Segment}
 
@@ -31,3 +34,15 @@ pub record IsCutIn (set : Modes) (v : Version) (bytes : List ℕ) (segments : Li
 pub record IsLeastCutIn (set : Modes) (v : Version) (bytes : List ℕ) (segments : List Segment) : Type 0 where
   pub reached : IsCutIn set v bytes segments
   pub least : (others : List Segment) → IsCutIn set v bytes others → total_cost v segments ≤ total_cost v others
+
+-- a call wants one of these cuts: it is refused where there is none, and else only for want of memory
+pub record NeedsCut {A : Type 0} (Cuts : List Segment → Type 0) (result : Result A QrError) : Type 0 where
+  pub no_cut : ((segments : List Segment) → ¬ Cuts segments) → result ≡ Err UnsupportedCharacterSet
+  pub accepts : (segments : List Segment) → Cuts segments → IsOkUnless result OutOfMemory
+  pub causes : IfErr result (λ e. (e ≡ UnsupportedCharacterSet) ⊎ (e ≡ OutOfMemory))
+
+-- the ranges lie in the data, in order they give it back, and each mode can write its range
+pub record GiveBack (bytes : List ℕ) (segments : List Segment) : Type 0 where
+  pub inside : AreInside (length bytes) segments
+  pub joined : flat_map (λ p. p.chunk) (pieces_of bytes segments) ≡ bytes
+  pub writable : AllByRecursion (λ p. IsTrue (can_write p.mode p.chunk)) (pieces_of bytes segments)

@@ -6,10 +6,10 @@ ghost use Rattle.qrcode_types.specs.declared.types.EcLevel.{EcLevel};
 ghost use Rattle.qrcode_types.specs.declared.types.Version.{Version};
 ghost use Rattle.qrcode_types.specs.declared.types.Version.TheVariants.{Normal};
 ghost use Rattle.qrcode_types.specs.declared.types.QrError.TheVariants.{DataTooLong, InvalidVersion, OutOfMemory};
-ghost use Rattle.qrcode_bits.specs.Choice.{Holds, IsRefused, IsRefusedFrom, IsRefusedIn};
+ghost use Rattle.qrcode_bits.specs.Choice.{Holds, IsRefused, IsRefusedIn, NeedsVersion};
 ghost use Rattle.qrcode_bits.specs.Chosen.{IsHeldBy};
 ghost use Rattle.qrcode_bits.specs.Encoded.{IsChosenList, IsListAs, IsListFrom, IsBoostedList};
-ghost use Rattle.qrcode_bits.specs.Manners.{front, has_front, HoldsAs, rank};
+ghost use Rattle.qrcode_bits.specs.Manners.{front, has_front, HoldsAs};
 ghost use Rattle.qrcode_bits.specs.Pushes.{with_bits};
 ghost use Rattle.qrcode_bits.specs.Refusals.{data_limit, bit_limit};
 
@@ -50,13 +50,7 @@ pub fn encode_from(
     ec_level: EcLevel,
 ) -> QrResult<Bits>
     ensures bits { IfOk result (IsListFrom manner from ec_level bytes.now) }
-    ensures no_version { is_valid from ≡ false → result ≡ Err InvalidVersion }
-    ensures accepts { (v : Version) → IsTrue (is_valid from) → rank from ≤ rank v
-        → HoldsAs manner v ec_level bytes.now → IsOkUnless result OutOfMemory }
-    ensures causes { IsTrue (is_valid from)
-        → IfErr result (IsRefusedFrom manner from ec_level bytes.now) }
-    ensures too_long { IsTrue (is_valid from) → data_limit < length bytes.now
-        → result ≡ Err DataTooLong }
+    ensures refusals { NeedsVersion manner from ec_level bytes.now result }
 {
     let chosen = choose(alloc, bytes, manner, from, ec_level)?;
     encode_chosen(alloc, bytes, manner, ec_level, chosen)
@@ -72,13 +66,7 @@ pub fn encode_boosted(
     ec_level: EcLevel,
 ) -> QrResult<(Bits, EcLevel)>
     ensures bits { IfOk result (λ p. IsBoostedList manner from ec_level bytes.now p.1 p.0) }
-    ensures no_version { is_valid from ≡ false → result ≡ Err InvalidVersion }
-    ensures accepts { (v : Version) → IsTrue (is_valid from) → rank from ≤ rank v
-        → HoldsAs manner v ec_level bytes.now → IsOkUnless result OutOfMemory }
-    ensures causes { IsTrue (is_valid from)
-        → IfErr result (IsRefusedFrom manner from ec_level bytes.now) }
-    ensures too_long { IsTrue (is_valid from) → data_limit < length bytes.now
-        → result ≡ Err DataTooLong }
+    ensures refusals { NeedsVersion manner from ec_level bytes.now result }
 {
     let chosen = choose(alloc, bytes, manner, from, ec_level)?;
     let highest = highest_level(chosen.version, chosen.used, ec_level);

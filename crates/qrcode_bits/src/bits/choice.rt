@@ -1,14 +1,14 @@
 //! The least version that holds data.
 
-ghost use Rattle.std.specs.Prelude.{◌≡◌, ◌⊎◌, ℕ, ◌+◌, ◌<◌, ◌≤◌, pos, false, length, List, MatchOption, IsTrue, IfOk, IfErr, IsOkUnless, Err};
+ghost use Rattle.std.specs.Prelude.{◌≡◌, ℕ, ◌+◌, ◌<◌, ◌≤◌, pos, length, List, MatchOption, IsTrue, IfOk, IfErr, IsOkUnless};
 ghost use Rattle.qrcode_types.specs.Modes.{by_band};
 ghost use Rattle.qrcode_types.specs.Versions as versions;
 ghost use Rattle.qrcode_types.specs.declared.types.Version.{Version};
-ghost use Rattle.qrcode_types.specs.declared.types.Version.TheVariants.{Normal, Micro};
-ghost use Rattle.qrcode_types.specs.declared.types.QrError.TheVariants.{InvalidVersion, DataTooLong, UnsupportedCharacterSet, OutOfMemory};
+ghost use Rattle.qrcode_types.specs.declared.types.Version.TheVariants.{Normal};
+ghost use Rattle.qrcode_types.specs.declared.types.QrError.TheVariants.{OutOfMemory};
 ghost use Rattle.qrcode_bits.specs.Segments.{total_cost};
-ghost use Rattle.qrcode_bits.specs.Cuts.{IsCut, IsCutIn};
-ghost use Rattle.qrcode_bits.specs.Choice.{IsRefusedFrom};
+ghost use Rattle.qrcode_bits.specs.Cuts.{IsCut, IsCutIn, NeedsCut};
+ghost use Rattle.qrcode_bits.specs.Choice.{IsRefusedFrom, NeedsVersion};
 ghost use Rattle.qrcode_bits.specs.Chosen.{IsMeasured, IsHeldBy, IsFirstHeld};
 ghost use Rattle.qrcode_bits.specs.Manners.{modes_of, HoldsAs, NoneHolds, rank};
 ghost use Rattle.qrcode_bits.specs.Refusals.{data_limit};
@@ -50,13 +50,7 @@ pub(super) fn choose(
     ec_level: EcLevel,
 ) -> QrResult<Chosen>
     ensures chosen { IfOk result (IsFirstHeld manner (rank from) ec_level bytes.now) }
-    ensures no_version { versions.is_valid from ≡ false → result ≡ Err InvalidVersion }
-    ensures accepts { (v : Version) → IsTrue (versions.is_valid from) → rank from ≤ rank v
-        → HoldsAs manner v ec_level bytes.now → IsOkUnless result OutOfMemory }
-    ensures causes { IsTrue (versions.is_valid from)
-        → IfErr result (IsRefusedFrom manner from ec_level bytes.now) }
-    ensures too_long { IsTrue (versions.is_valid from) → data_limit < length bytes.now
-        → result ≡ Err DataTooLong }
+    ensures refusals { NeedsVersion manner from ec_level bytes.now result }
 {
     if !from.is_valid() {
         return Err(QrError::InvalidVersion);
@@ -213,12 +207,7 @@ pub(super) fn measure(
     requires valid { IsTrue (versions.is_valid version) }
     requires length_at_most { length bytes.now ≤ data_limit }
     ensures measured { IfOk result (IsMeasured manner version bytes.now) }
-    ensures no_cut { ((segments : List Segment)
-        → ¬ IsCutIn (modes_of manner) version bytes.now segments)
-        → result ≡ Err UnsupportedCharacterSet }
-    ensures accepts { (segments : List Segment)
-        → IsCutIn (modes_of manner) version bytes.now segments → IsOkUnless result OutOfMemory }
-    ensures causes { IfErr result (λ e. (e ≡ UnsupportedCharacterSet) ⊎ (e ≡ OutOfMemory)) }
+    ensures refusals { NeedsCut (IsCutIn (modes_of manner) version bytes.now) result }
 {
     let segments = least_cut(alloc, bytes, version, manner.modes())?;
     let used = manner.front_length() + segments.encoded_len(version);

@@ -1,14 +1,12 @@
 //! The segments of a least cut, of which a single one takes no memory.
 
-ghost use Rattle.std.specs.Prelude.{◌≡◌, ◌⊎◌, ◌≤◌, ◌<◌, ◌^◌, ◌-◌, [], ◌∷◌, List, length, IsTrue, IfOk, IfErr, IsOkUnless, Err};
+ghost use Rattle.std.specs.Prelude.{◌≡◌, ◌≤◌, ◌<◌, ◌^◌, ◌-◌, [], ◌∷◌, length, IsTrue, IfOk};
 ghost use Rattle.std.specs.List.{AllByRecursion};
 ghost use Rattle.qrcode_types.specs.Versions.{is_valid};
-ghost use Rattle.qrcode_types.specs.declared.types.QrError.TheVariants.{UnsupportedCharacterSet, OutOfMemory};
-ghost use Rattle.qrcode_bits.specs.Cuts.{IsCutIn, IsLeastCutIn};
+ghost use Rattle.qrcode_bits.specs.Cuts.{IsCutIn, IsLeastCutIn, NeedsCut};
 ghost use Rattle.qrcode_bits.specs.Groups.{range_limit};
 ghost use Rattle.qrcode_bits.specs.Refusals.{data_limit};
 ghost use Rattle.qrcode_bits.specs.Segments.{total_cost};
-ghost use Rattle.qrcode_bits.specs.declared.optimize.Segment.{Segment};
 
 use crate::optimize::{Modes, Segment, searched_segments, single_mode, total_encoded_len};
 use qrcode_types::types::{QrResult, Version};
@@ -78,11 +76,7 @@ pub(super) fn least_cut(
     requires valid { IsTrue (is_valid version) }
     requires length_at_most { length bytes.now ≤ data_limit }
     ensures least { IfOk result (λ cut. IsLeastCutIn modes version bytes.now cut.items) }
-    ensures no_cut { ((segments : List Segment) → ¬ IsCutIn modes version bytes.now segments)
-        → result ≡ Err UnsupportedCharacterSet }
-    ensures accepts { (segments : List Segment)
-        → IsCutIn modes version bytes.now segments → IsOkUnless result OutOfMemory }
-    ensures causes { IfErr result (λ e. (e ≡ UnsupportedCharacterSet) ⊎ (e ≡ OutOfMemory)) }
+    ensures refusals { NeedsCut (IsCutIn modes version bytes.now) result }
 {
     if let Some(mode) = single_mode(bytes, version, modes) {
         let whole = Segment {

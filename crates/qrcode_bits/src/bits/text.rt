@@ -1,8 +1,10 @@
 //! Texts in a list of bits.
 
-ghost use Rattle.std.specs.Prelude.{◌≡◌, IfOk, IsOkUnless, IsUtf8, IsTrue};
+ghost use Rattle.std.specs.Prelude.{◌≡◌, ◌+◌, ◌≤◌, length, IfOk, IsOkUnless, IsUtf8, IsTrue};
 ghost use Rattle.qrcode_types.specs.declared.types.QrError.TheVariants.{OutOfMemory};
-ghost use Rattle.qrcode_bits.specs.Manners.{is_text};
+ghost use Rattle.qrcode_bits.specs.Manners.{front, has_front, is_text};
+ghost use Rattle.qrcode_bits.specs.Pushes.{with_bits};
+ghost use Rattle.qrcode_bits.specs.Refusals.{bit_limit};
 ghost use Rattle.qrcode_bits.specs.TextPushes.{PushesText};
 ghost use Rattle.qrcode_bits.specs.declared.bits.manner.Manner.TheVariants.{Text, MarkedText};
 
@@ -50,21 +52,24 @@ impl Bits {
         if self.len() + manner.front_length() > BIT_LIMIT {
             return Err(QrError::DataTooLong);
         }
-        let mut longer = self.copy()?;
-        longer.push_front(manner)?;
+        let mut longer = self.with_front(manner)?;
         longer.push_cut(text, chosen.segments)?;
         *self = longer;
         Ok(())
     }
 
-    // The same list in memory of its own.
-    fn copy(&self) -> QrResult<Bits>
-        ensures value { IfOk result (λ copy. copy ≡ self.now) }
+    // The same list in memory of its own, with the bits in front behind it.
+    fn with_front(&self, manner: Manner) -> QrResult<Bits>
+        requires exists { IsTrue (has_front self.now.version manner) }
+        requires room { length self.now.bits + length (front manner) ≤ bit_limit }
+        ensures value { IfOk result (λ longer. longer ≡ with_bits self.now (front manner)) }
         ensures memory { IsOkUnless result OutOfMemory }
     {
-        Ok(Bits {
+        let mut longer = Bits {
             version: self.version,
             stream: self.stream.copied()?,
-        })
+        };
+        longer.push_front(manner)?;
+        Ok(longer)
     }
 }

@@ -1,19 +1,13 @@
 //! Segments of the fewest bits.
 
-ghost use Rattle.std.specs.Prelude.{◌≡◌, ◌<◌, ◌≤◌, ◌⊎◌, ◌↔◌, nat_lt, List, length, flat_map, IsTrue, IfOk, IfErr, IsOkUnless, Err};
+ghost use Rattle.std.specs.Prelude.{◌≡◌, ◌<◌, ◌≤◌, ◌↔◌, nat_lt, length, IsTrue, IfOk};
 ghost use Rattle.qrcode_types.specs.Versions.{is_valid, capacity};
-ghost use Rattle.std.specs.List.{AllByRecursion};
-ghost use Rattle.qrcode_types.specs.Characters as characters;
 ghost use Rattle.qrcode_types.specs.declared.types.EcLevel.{EcLevel};
-ghost use Rattle.qrcode_types.specs.declared.types.QrError.TheVariants.{UnsupportedCharacterSet, OutOfMemory};
 ghost use Rattle.qrcode_bits.specs.LeastBits.{AreSmall, headers_of, costs_of, AreStarts, IsFirst};
 ghost use Rattle.qrcode_bits.specs.ModeHeaders.{more_than_any};
-ghost use Rattle.qrcode_bits.specs.Segments.{AreInside};
-ghost use Rattle.qrcode_bits.specs.Cuts.{IsCut, IsLeastCut, IsCutIn, IsLeastCutIn, FitsIn};
-ghost use Rattle.qrcode_bits.specs.Written.{pieces_of};
+ghost use Rattle.qrcode_bits.specs.Cuts.{IsCut, IsLeastCut, IsCutIn, IsLeastCutIn, FitsIn, GiveBack, NeedsCut};
 ghost use Rattle.qrcode_bits.specs.Spelling.{IsSpelled};
 ghost use Rattle.qrcode_bits.specs.Refusals.{data_limit};
-ghost use Rattle.qrcode_bits.specs.declared.optimize.Segment.{Segment};
 
 use super::costs::{BestStart, Costs, HeaderBits, SingleCosts};
 use super::headers::MORE_THAN_ANY;
@@ -37,18 +31,10 @@ pub fn least_segments(alloc: Global, bytes: &[u8], version: Version) -> QrResult
     ensures least { IfOk result (λ segments. IsLeastCut version bytes.now segments.items) }
 
     // Where the data cannot be cut, that is known before memory is asked for.
-    ensures no_cut { ((segments : List Segment) → ¬ IsCut version bytes.now segments)
-        → result ≡ Err UnsupportedCharacterSet }
-    ensures accepts { (segments : List Segment)
-        → IsCut version bytes.now segments → IsOkUnless result OutOfMemory }
-    ensures causes { IfErr result (λ e. (e ≡ UnsupportedCharacterSet) ⊎ (e ≡ OutOfMemory)) }
+    ensures refusals { NeedsCut (IsCut version bytes.now) result }
 
     // The ranges lie in the data, in order they give it back, and each mode can write its range.
-    ensures inside { IfOk result (λ segments. AreInside (length bytes.now) segments.items) }
-    ensures joined { IfOk result (λ segments.
-        flat_map (λ p. p.chunk) (pieces_of bytes.now segments.items) ≡ bytes.now) }
-    ensures writable { IfOk result (λ segments. AllByRecursion
-        (λ p. IsTrue (characters.can_write p.mode p.chunk)) (pieces_of bytes.now segments.items)) }
+    ensures gives_back { IfOk result (λ segments. GiveBack bytes.now segments.items) }
 
     // A cut fits a symbol exactly when some bits that fill the symbol spell the data.
     ensures spelled { (level : EcLevel) → FitsIn version bytes.now (capacity version level)
@@ -73,18 +59,10 @@ pub fn least_segments_in(
         IsLeastCutIn modes version bytes.now segments.items) }
 
     // Where the data cannot be cut, that is known before memory is asked for.
-    ensures no_cut { ((segments : List Segment) → ¬ IsCutIn modes version bytes.now segments)
-        → result ≡ Err UnsupportedCharacterSet }
-    ensures accepts { (segments : List Segment)
-        → IsCutIn modes version bytes.now segments → IsOkUnless result OutOfMemory }
-    ensures causes { IfErr result (λ e. (e ≡ UnsupportedCharacterSet) ⊎ (e ≡ OutOfMemory)) }
+    ensures refusals { NeedsCut (IsCutIn modes version bytes.now) result }
 
     // The ranges lie in the data, in order they give it back, and each mode can write its range.
-    ensures inside { IfOk result (λ segments. AreInside (length bytes.now) segments.items) }
-    ensures joined { IfOk result (λ segments.
-        flat_map (λ p. p.chunk) (pieces_of bytes.now segments.items) ≡ bytes.now) }
-    ensures writable { IfOk result (λ segments. AllByRecursion
-        (λ p. IsTrue (characters.can_write p.mode p.chunk)) (pieces_of bytes.now segments.items)) }
+    ensures gives_back { IfOk result (λ segments. GiveBack bytes.now segments.items) }
 {
     if let Some(mode) = single_mode(bytes, version, modes) {
         let whole = Segment {
@@ -108,11 +86,7 @@ pub(crate) fn searched_segments(
     requires length_at_most { length bytes.now ≤ data_limit }
     ensures least { IfOk result (λ segments.
         IsLeastCutIn modes version bytes.now segments.items) }
-    ensures no_cut { ((segments : List Segment) → ¬ IsCutIn modes version bytes.now segments)
-        → result ≡ Err UnsupportedCharacterSet }
-    ensures accepts { (segments : List Segment)
-        → IsCutIn modes version bytes.now segments → IsOkUnless result OutOfMemory }
-    ensures causes { IfErr result (λ e. (e ≡ UnsupportedCharacterSet) ⊎ (e ≡ OutOfMemory)) }
+    ensures refusals { NeedsCut (IsCutIn modes version bytes.now) result }
 {
     if !can_be_cut(bytes, version, modes) {
         return Err(QrError::UnsupportedCharacterSet);

@@ -15,7 +15,7 @@ short c = omega (arith, cost_most (modes_of c.args.manner) c.args.version c.args
 
 pub total_encoded_len-requires-clause-ranges : goal.total_encoded_len-requires-clause-ranges
 total_encoded_len-requires-clause-ranges c =
-    rw c.deref.ensures.value (small_inside (length c.args.bytes.now) c.in_ok-segments.segments.items (omega arith) c.in_ok-segments.ensures.inside)
+    rw c.deref.ensures.value (small_inside (length c.args.bytes.now) c.in_ok-segments.segments.items (omega arith) c.in_ok-segments.ensures.gives_back.inside)
 
 pub total_encoded_len-requires-clause-fits : goal.total_encoded_len-requires-clause-fits
 total_encoded_len-requires-clause-fits c =

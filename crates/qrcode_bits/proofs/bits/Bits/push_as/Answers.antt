@@ -1,16 +1,16 @@
 use Rattle.std.proofs.Common.{◌≡◌, ◌≤◌, length, IsTrue, Ok, arith, sym, ap, subst, ◌∙◌}
 use Rattle.qrcode_types.specs.Versions.{is_valid}
 use Rattle.qrcode_bits.specs.BitList.{BitList}
-use Rattle.qrcode_bits.specs.Manners.{front, has_front, modes_of}
+use Rattle.qrcode_bits.specs.Manners.{has_front, modes_of}
 use Rattle.qrcode_bits.specs.Cuts.{IsLeastCutIn}
-use Rattle.qrcode_bits.specs.Pushes.{with_bits, PushesAll}
+use Rattle.qrcode_bits.specs.Pushes.{PushesAll}
 use Rattle.qrcode_bits.specs.Refusals.{data_limit, StopsAt}
 use Rattle.qrcode_bits.specs.TextPushes.{PushesText}
 use Rattle.qrcode_bits.specs.Written.{pieces_of}
 use Rattle.qrcode_bits.proofs.CutPieces.{cut_inside}
 use Rattle.qrcode_bits.proofs.TextPushes.{long_text, unmarked_text, uncut_text, full_list, starved_text, refused_text, appended_text}
 use Rattle.qrcode_bits.proofs.bits.Bits.push_as.Goals as goal
-use Rattle.qrcode_bits.proofs.bits.Bits.push_as.Goals.{In_ok-chosen, In_ok-push_front}
+use Rattle.qrcode_bits.proofs.bits.Bits.push_as.Goals.{In_ok-chosen}
 
 pub returns-then-text-gt-DATA_LIMIT : goal.returns-then-text-gt-DATA_LIMIT
 returns-then-text-gt-DATA_LIMIT c = long_text c.args.manner c.args.text.now c.args.self.now (omega (arith, c.if-text-gt-DATA_LIMIT.true))
@@ -24,7 +24,7 @@ pub returns-in_err-chosen : goal.returns-in_err-chosen
 returns-in_err-chosen c =
     let e = c.in_err-chosen.field-0.0 in
     uncut_text c.args.manner c.args.text.now c.args.self.now c.self.inside.version e c.from_residual.result (ap (λ (b : BitList). b.version) c.self.view_is) (omega (arith, c.if-text-gt-DATA_LIMIT.false))
-    (sym c.has_front.ensures ∙ c.if-not-has_front.false) c.in_err-chosen.ensures.causes (λ none. (let h = c.in_err-chosen.ensures.no_cut none in cc)) c.in_err-chosen.ensures.accepts c.from_residual.ensures
+    (sym c.has_front.ensures ∙ c.if-not-has_front.false) c.in_err-chosen.ensures.refusals.causes (λ none. (let h = c.in_err-chosen.ensures.refusals.no_cut none in cc)) c.in_err-chosen.ensures.refusals.accepts c.from_residual.ensures
 
 -- the version and bits of the list, as its fields say
 version : (c : In_ok-chosen) → c.self.inside.version ≡ c.args.self.now.version
@@ -48,20 +48,17 @@ returns-then-len-front_length-gt-BIT_LIMIT c =
     full_list c.args.manner c.args.text.now c.args.self.now c.in_ok-chosen.chosen.segments.items (short k) (has k) (least k)
     (omega (arith, c.len.ensures.value, c.front_length.ensures.value, c.if-len-front_length-gt-BIT_LIMIT.true))
 
+pub with_front-requires : goal.with_front-requires
+with_front-requires c = record {
+  exists = has (goal.at.with_front-requires c).In_ok-chosen;
+  room = omega (arith, c.len.ensures.value, c.front_length.ensures.value, c.if-len-front_length-gt-BIT_LIMIT.false);
+}
+
 pub returns-in_err-longer : goal.returns-in_err-longer
 returns-in_err-longer c =
     let k = (goal.at.returns-in_err-longer c).In_ok-chosen in
     starved_text c.args.manner c.args.text.now c.args.self.now c.in_ok-chosen.chosen.segments.items c.in_err-longer.field-0.0 c.from_residual-in_err-longer.result (short k) (has k) (least k)
     c.in_err-longer.ensures.memory c.from_residual-in_err-longer.ensures
-
-pub returns-in_err-push_front : goal.returns-in_err-push_front
-returns-in_err-push_front c =
-    let k = (goal.at.returns-in_err-push_front c).In_ok-chosen in
-    starved_text c.args.manner c.args.text.now c.args.self.now c.in_ok-chosen.chosen.segments.items c.in_err-push_front.field-0.0 c.from_residual-in_err-push_front.result (short k) (has k) (least k)
-    c.in_err-push_front.ensures.memory c.from_residual-in_err-push_front.ensures
-
-fronted : (c : In_ok-push_front) → c.push_front.new.self ≡ with_bits c.args.self.now (front c.args.manner)
-fronted c = c.in_ok-push_front.ensures.appends ∙ ap (λ (b : BitList). with_bits b (front c.args.manner)) c.in_ok-longer.ensures.value
 
 pub push_cut-requires : goal.push_cut-requires
 push_cut-requires c =
@@ -71,21 +68,19 @@ push_cut-requires c =
 pub returns-in_err-push_cut : goal.returns-in_err-push_cut
 returns-in_err-push_cut c =
     let k = (goal.at.returns-in_err-push_cut c).In_ok-chosen in
-    let now = (goal.at.returns-in_err-push_cut c).In_ok-push_front in
     let ss = c.in_ok-chosen.chosen.segments.items in
     let e = c.in_err-push_cut.field-0.0 in
     let new = c.push_cut.new.self.bits in
-    let stop = subst (λ (b : BitList). StopsAt b.version b.bits (pieces_of c.args.text.now ss) e new) (fronted now) c.in_err-push_cut.ensures.stopped in
+    let stop = subst (λ (b : BitList). StopsAt b.version b.bits (pieces_of c.args.text.now ss) e new) c.in_ok-longer.ensures.value c.in_err-push_cut.ensures.stopped in
     refused_text c.args.manner c.args.text.now c.args.self.now ss new e c.from_residual-in_err-push_cut.result (valid k) (short k) (has k) (least k)
     (omega (arith, c.len.ensures.value, c.front_length.ensures.value, c.if-len-front_length-gt-BIT_LIMIT.false)) stop c.from_residual-in_err-push_cut.ensures
 
 pub returns : goal.returns
 returns c =
     let k = (goal.at.returns c).In_ok-chosen in
-    let now = (goal.at.returns c).In_ok-push_front in
     let ss = c.in_ok-chosen.chosen.segments.items in
     let list = c.push_cut.new.self in
-    let pushed = subst (λ (b : BitList). PushesAll b.version b.bits c.args.text.now ss list.bits) (fronted now) c.in_ok-push_cut.ensures.pushed in
-    let is = c.push_cut.ensures.version ∙ ap (λ (b : BitList). b.version) (fronted now) in
-    subst (λ new. PushesText c.args.manner c.args.text.now c.args.self.now new (Ok tt)) (sym c.longer-2.view_is)
+    let pushed = subst (λ (b : BitList). PushesAll b.version b.bits c.args.text.now ss list.bits) c.in_ok-longer.ensures.value c.in_ok-push_cut.ensures.pushed in
+    let is = c.push_cut.ensures.version ∙ ap (λ (b : BitList). b.version) c.in_ok-longer.ensures.value in
+    subst (λ new. PushesText c.args.manner c.args.text.now c.args.self.now new (Ok tt)) (sym c.longer.view_is)
     (appended_text c.args.manner c.args.text.now c.args.self.now list ss (valid k) (has k) c.requires.text c.requires.utf8 (least k) pushed is)

@@ -30,7 +30,7 @@ returns-clause-pushed c =
       segments = ss;
       least = least k;
       pushed = pushed;
-      joined = c.in_ok-segments.ensures.joined;
+      joined = c.in_ok-segments.ensures.gives_back.joined;
       readable = λ l fits. (cut_pieces v l bytes ss (valid (goal.at.returns-clause-pushed c).After-version-version) (least k).reached fits).0;
     })
     c.push_all.ensures.pushed

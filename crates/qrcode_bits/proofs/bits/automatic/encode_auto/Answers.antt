@@ -10,11 +10,11 @@ returns-clause-bits c = if_ok c.encode_from.result (λ bits from. plain_list c.a
 pub returns-clause-accepts : goal.returns-clause-accepts
 returns-clause-accepts c = λ n holds.
     let v = Normal (pos n) in
-    c.encode_from.ensures.accepts v refl (from_first n c.args.ec_level c.args.bytes.now holds) (holds_plain v c.args.ec_level c.args.bytes.now holds)
+    c.encode_from.ensures.refusals.accepts v refl (from_first n c.args.ec_level c.args.bytes.now holds) (holds_plain v c.args.ec_level c.args.bytes.now holds)
 
 pub returns-clause-causes : goal.returns-clause-causes
 returns-clause-causes c =
     if_err c.encode_from.result (λ e refused. elim refused [
       | inl memory ↦ inl memory
       | inr none ↦ inr (none.0, λ n holds. none.1 (Normal (pos n)) (from_first n c.args.ec_level c.args.bytes.now holds) (holds_plain (Normal (pos n)) c.args.ec_level c.args.bytes.now holds))
-    ]) (c.encode_from.ensures.causes refl)
+    ]) (c.encode_from.ensures.refusals.causes refl)

@@ -21,13 +21,13 @@ behind c e cause =
 pub returns-in_err-chosen-clause-accepts : goal.returns-in_err-chosen-clause-accepts
 returns-in_err-chosen-clause-accepts c = λ holds.
     let fits = holds.room in
-    handed_on c.from_residual.result c.in_err-chosen.field-0.0 (λ e. e ≡ OutOfMemory) c.from_residual.ensures (c.in_err-chosen.ensures.accepts fits.0 fits.1.0)
+    handed_on c.from_residual.result c.in_err-chosen.field-0.0 (λ e. e ≡ OutOfMemory) c.from_residual.ensures (c.in_err-chosen.ensures.refusals.accepts fits.0 fits.1.0)
 
 pub returns-in_err-chosen-clause-causes : goal.returns-in_err-chosen-clause-causes
 returns-in_err-chosen-clause-causes c =
     let k = (goal.at.returns-in_err-chosen-clause-causes c).Else-not-has_front in
     let e = c.in_err-chosen.field-0.0 in
-    let said = c.in_err-chosen.ensures in
+    let said = c.in_err-chosen.ensures.refusals in
     handed_on c.from_residual.result e (IsRefusedIn c.args.manner c.args.version c.args.ec_level c.args.bytes.now) c.from_residual.ensures
     (behind k e (refused_search c.args.manner c.args.version c.args.ec_level c.args.bytes.now e said.causes (λ none. (let h = said.no_cut none in cc)) said.accepts))
 

@@ -30,7 +30,7 @@ returns-in_err-chosen-clause-memory c =
     let bytes = c.args.bytes.now in
     let cut = byte_cut_as m (last_of c.args.first) bytes (are_bytes bytes (λ k. omega (arith, c.type_inv.bytes k))) in
     handed_on c.from_residual.result c.in_err-chosen.field-0.0 (λ e. e ≡ OutOfMemory) c.from_residual.ensures
-    (c.in_err-chosen.ensures.accepts cut.0 (subst (λ v. IsCutIn (modes_of m) v bytes cut.0) (sym (last_is k)) cut.1.0))
+    (c.in_err-chosen.ensures.refusals.accepts cut.0 (subst (λ v. IsCutIn (modes_of m) v bytes cut.0) (sym (last_is k)) cut.1.0))
 
 pub returns-then-chosen-room-clause-chosen : goal.returns-then-chosen-room-clause-chosen
 returns-then-chosen-room-clause-chosen c =

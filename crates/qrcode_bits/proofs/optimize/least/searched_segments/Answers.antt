@@ -1,47 +1,49 @@
-use Rattle.std.proofs.Common.{◌≡◌, true, List, [], ◌∷◌, ◌++◌, sym, ap, ◌∙◌, arith, subst, true≢false}
+use Rattle.std.proofs.Common.{◌≡◌, true, [], ◌∷◌, ◌++◌, refl, sym, ap, ◌∙◌, arith, subst, true≢false, inl, rules, Result}
 use Rattle.std.proofs.lemmas.Bool.{and_parts, lt-ltb, ltb-true}
 use Rattle.std.proofs.lemmas.Grind.{common_steps}
 use Rattle.std.proofs.lemmas.List.Sums.{sum_by-append, sum_by-cons}
-use Rattle.std.specs.Prelude.{IsTrue, slice_range}
+use Rattle.std.specs.Prelude.{IsTrue, IsOkUnless, slice_range}
+use Rattle.qrcode_types.specs.declared.types.QrError.{QrError}
+use Rattle.qrcode_types.specs.declared.types.QrError.TheVariants.{OutOfMemory}
 use Rattle.qrcode_types.specs.Modes.{has_mode}
 use Rattle.qrcode_types.specs.Characters.{can_write}
 use Rattle.qrcode_bits.specs.Segments.{Tile, cost, total_cost}
-use Rattle.qrcode_bits.specs.Cuts.{IsCutIn}
+use Rattle.qrcode_bits.specs.Cuts.{IsCutIn, NeedsCut}
 use Rattle.qrcode_bits.specs.ModeHeaders.{more_than_any}
 use Rattle.qrcode_bits.specs.ModeSets.{is_among}
 use Rattle.qrcode_bits.specs.LeastBits.{costs_of, headers_of, IsFirst}
-use Rattle.qrcode_bits.specs.declared.optimize.Segment.{Segment}
 use Rattle.qrcode_bits.proofs.SegmentRanges.{tile-push, all-append}
 use Rattle.qrcode_types.proofs.Writing.{are_bytes}
+use Rattle.qrcode_bits.proofs.Needs.{cut_found}
 use Rattle.qrcode_bits.proofs.VersionModes.{allows, header_at, header_is, header_tells}
 use Rattle.qrcode_bits.proofs.LeastCuts.{HaveModes, AreAmong, AreWritable, bits_at_end, counted_least, cut_is_short, short_is_cut, cut_at_end}
 use Rattle.qrcode_bits.proofs.optimize.least.searched_segments.Goals as goal
 use Rattle.qrcode_bits.proofs.optimize.least.searched_segments.Goals.{Else-not-can_be_cut, After-loop-begin}
 
-pub returns-then-not-can_be_cut-clause-accepts : goal.returns-then-not-can_be_cut-clause-accepts
-returns-then-not-can_be_cut-clause-accepts c = λ ss cut.
-    let few = cut_is_short c.args.modes c.args.version c.args.bytes.now c.requires.valid c.requires.length_at_most ss cut in
-    absurd (true≢false (sym (lt-ltb _ _ few) ∙ sym c.can_be_cut.ensures ∙ c.if-not-can_be_cut.true))
+pub returns-then-not-can_be_cut-clause-refusals : goal.returns-then-not-can_be_cut-clause-refusals
+returns-then-not-can_be_cut-clause-refusals c = record {
+  no_cut = λ none. refl;
+  accepts = λ ss cut.
+      let few = cut_is_short c.args.modes c.args.version c.args.bytes.now c.requires.valid c.requires.length_at_most ss cut in
+      absurd (true≢false (sym (lt-ltb _ _ few) ∙ sym c.can_be_cut.ensures ∙ c.if-not-can_be_cut.true));
+  causes = inl refl;
+}
 
-some_cut : (c : Else-not-can_be_cut) → (ss : List Segment) × IsCutIn c.args.modes c.args.version c.args.bytes.now ss
-some_cut c =
+-- the data can be cut, so that only memory is refused
+refusals : (c : Else-not-can_be_cut) {A : Type 0} (r : Result A QrError) → IsOkUnless r OutOfMemory → NeedsCut (IsCutIn c.args.modes c.args.version c.args.bytes.now) r
+refusals c r memory =
     let are = are_bytes c.args.bytes.now (λ k. omega (arith, c.type_inv.bytes k)) in
-    short_is_cut c.args.modes c.args.version c.args.bytes.now are (ltb-true _ _ (sym c.can_be_cut.ensures ∙ c.if-not-can_be_cut.false))
+    let some = short_is_cut c.args.modes c.args.version c.args.bytes.now are (ltb-true _ _ (sym c.can_be_cut.ensures ∙ c.if-not-can_be_cut.false)) in
+    cut_found (IsCutIn c.args.modes c.args.version c.args.bytes.now) some.0 r some.1 memory
 
-pub returns-in_err-starts-clause-no_cut : goal.returns-in_err-starts-clause-no_cut
-returns-in_err-starts-clause-no_cut c = λ none.
-    let some = some_cut (goal.at.returns-in_err-starts-clause-no_cut c).Else-not-can_be_cut in
-    absurd (none some.0 some.1)
+pub returns-in_err-starts-clause-refusals : goal.returns-in_err-starts-clause-refusals
+returns-in_err-starts-clause-refusals c = refusals (goal.at.returns-in_err-starts-clause-refusals c).Else-not-can_be_cut c.from_residual.result (search rules)
 
-pub returns-in_err-segments-clause-no_cut : goal.returns-in_err-segments-clause-no_cut
-returns-in_err-segments-clause-no_cut c = λ none.
-    let some = some_cut (goal.at.returns-in_err-segments-clause-no_cut c).Else-not-can_be_cut in
-    absurd (none some.0 some.1)
+pub returns-in_err-segments-clause-refusals : goal.returns-in_err-segments-clause-refusals
+returns-in_err-segments-clause-refusals c = refusals (goal.at.returns-in_err-segments-clause-refusals c).Else-not-can_be_cut c.from_residual-in_err-segments.result (search rules)
 
-pub returns-in_err-push-clause-no_cut : goal.returns-in_err-push-clause-no_cut
-returns-in_err-push-clause-no_cut c = λ none.
-    let some = some_cut (goal.at.returns-in_err-push-clause-no_cut c).Else-not-can_be_cut in
-    absurd (none some.0 some.1)
+pub returns-in_err-push-clause-refusals : goal.returns-in_err-push-clause-refusals
+returns-in_err-push-clause-refusals c = refusals (goal.at.returns-in_err-push-clause-refusals c).Else-not-can_be_cut c.from_residual-in_err-push.result (search rules)
 
 pub loop-begin-preserved : goal.loop-begin-preserved
 loop-begin-preserved c =
