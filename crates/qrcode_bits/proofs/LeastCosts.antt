@@ -1,8 +1,8 @@
 -- No cut of a rest of the data takes fewer bits than are counted for it.
-use Rattle.std.proofs.Common.{◌≡◌, ℕ, ◌+◌, ◌*◌, ◌/◌, ◌<◌, ◌≤◌, nat_lt, Bool, true, false, List, [], ◌∷◌, ◌++◌, length, drop, get_or, ◌-◌, refl, sym, ap, ◌∙◌, arith, true≢false, le_trans}
+use Rattle.std.proofs.Common.{◌≡◌, ℕ, ◌+◌, ◌*◌, ◌/◌, ◌<◌, ◌≤◌, nat_lt, Bool, true, false, List, [], ◌∷◌, ◌++◌, length, drop, get_or, set, ◌-◌, refl, sym, ap, ◌∙◌, arith, true≢false, le_trans, inl, inr, get_or-set_other, get_or-set_same}
 use Rattle.std.specs.List.{list_all}
 use Rattle.std.proofs.lemmas.List.{drop_more}
-use Rattle.std.proofs.lemmas.Bool.{and_parts, cond_both, ltb-true}
+use Rattle.std.proofs.lemmas.Bool.{and_parts, cases_lt, cond_both, ltb-true}
 use Rattle.std.proofs.lemmas.Bool.Decides.{nat_tests}
 use Rattle.qrcode_types.specs.declared.types.Mode.{Mode}
 use Rattle.qrcode_types.specs.declared.types.Mode.TheVariants.{Numeric, Alphanumeric, Byte, Kanji}
@@ -207,3 +207,13 @@ counted_back h bytes i some inside =
     let next : place + 1 ≡ i = omega arith in
     let more = drop_more bytes place 0 (omega arith) ∙ ap (λ k. get_or bytes place 0 ∷ drop k bytes) next in
     ap (λ k. step h (kind_at (get_or bytes place 0) (first_byte (drop k bytes))) (costs_of h (drop i bytes))) next ∙ sym (ap (costs_of h) more)
+
+-- a list is filled from its end, one place further
+pub filled_back : {A : Type 0} (xs : List A) (i : ℕ) (x z : A) (f : ℕ → A) → 0 < i → i ≤ length xs → x ≡ f (i - 1)
+    → (k : ℕ) → i - 1 ≤ k → (i ≤ k → get_or xs k z ≡ f k) → get_or (set xs (i - 1) x) k z ≡ f k
+filled_back xs i x z f some inside new k from behind = elim (cases_lt k i) [
+  | inl below ↦
+      let same : k ≡ i - 1 = omega arith in
+      ap (λ k. get_or (set xs (i - 1) x) k z) same ∙ get_or-set_same xs (i - 1) x z (omega arith) ∙ new ∙ ap f (sym same)
+  | inr above ↦ let other : k ≡ i - 1 → ⊥ = omega arith in get_or-set_other xs (i - 1) k x z other ∙ behind above
+]

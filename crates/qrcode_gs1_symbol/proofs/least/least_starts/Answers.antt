@@ -1,6 +1,6 @@
-use Rattle.std.proofs.Common.{◌≡◌, ◌-◌, drop, get_or, set, sym, ap, ap₂, ◌∙◌, arith, inl, inr, get_or-set_other, get_or-set_same}
-use Rattle.std.proofs.lemmas.Bool.{cases_lt}
+use Rattle.std.proofs.Common.{◌≡◌, ◌-◌, drop, get_or, sym, ap, ap₂, ◌∙◌, arith}
 use Rattle.qrcode_types.proofs.Writing.{are_bytes}
+use Rattle.qrcode_bits.proofs.LeastCosts.{filled_back}
 use Rattle.qrcode_gs1_symbol.specs.Fewest.{step, costs_of, past_end}
 use Rattle.qrcode_gs1_symbol.proofs.Cuts.{costs_few, counted_back, first_back}
 use Rattle.qrcode_gs1_symbol.proofs.least.least_starts.Goals as goal
@@ -23,11 +23,6 @@ loop-i-preserved c =
       count = c.loop-i.invariant.count;
       rest = rest;
       follows = first_back bytes i (omega arith) (omega arith);
-      done = λ k from to. elim (cases_lt k i) [
-        | inl below ↦
-            let same : k ≡ place = omega arith in
-            ap (λ k. get_or (set c.loop-i.starts.items place new.start) k past_end) same ∙ get_or-set_same c.loop-i.starts.items place new.start past_end (omega arith)
-            ∙ ap (λ r. r.start) rest ∙ ap (λ k. (costs_of h (drop k bytes)).start) (sym same)
-        | inr above ↦ let other : k ≡ place → ⊥ = omega arith in get_or-set_other c.loop-i.starts.items place k new.start past_end other ∙ c.loop-i.invariant.done k above to
-      ];
+      done = λ k from to. filled_back c.loop-i.starts.items i new.start past_end (λ k. (costs_of h (drop k bytes)).start) (omega arith) (omega (arith, c.loop-i.invariant.count))
+          (ap (λ r. r.start) rest) k from (λ above. c.loop-i.invariant.done k above to);
     }

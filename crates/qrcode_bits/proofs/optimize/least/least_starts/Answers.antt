@@ -1,8 +1,7 @@
-use Rattle.std.proofs.Common.{◌≡◌, ◌-◌, drop, get_or, set, sym, ap, ap₂, ◌∙◌, arith, subst, inl, inr, get_or-set_other, get_or-set_same}
-use Rattle.std.proofs.lemmas.Bool.{cases_lt}
+use Rattle.std.proofs.Common.{◌≡◌, ◌-◌, drop, sym, ap, ap₂, ◌∙◌, arith, subst}
 use Rattle.std.proofs.lemmas.List.{length-drop}
 use Rattle.qrcode_bits.specs.LeastBits.{IsSmall, step, costs_of, past_end}
-use Rattle.qrcode_bits.proofs.LeastCosts.{rest_small, counted_back}
+use Rattle.qrcode_bits.proofs.LeastCosts.{rest_small, counted_back, filled_back}
 use Rattle.qrcode_bits.proofs.optimize.least.least_starts.Goals as goal
 
 pub with_byte_before-costs-requires-clause-rest : goal.with_byte_before-costs-requires-clause-rest
@@ -22,12 +21,6 @@ loop-i-preserved c =
     record {
       count = c.loop-i.invariant.count;
       rest = rest;
-      done = λ k from to. elim (cases_lt k i) [
-        | inl below ↦
-            let same : k ≡ place = omega arith in
-            ap (λ k. get_or (set c.loop-i.starts.items place c.with_byte_before-costs.result.start) k past_end) same
-            ∙ get_or-set_same c.loop-i.starts.items place c.with_byte_before-costs.result.start past_end (omega arith)
-            ∙ ap (λ r. r.start) rest ∙ ap (λ k. (costs_of h (drop k bytes)).start) (sym same)
-        | inr above ↦ let other : k ≡ place → ⊥ = omega arith in get_or-set_other c.loop-i.starts.items place k c.with_byte_before-costs.result.start past_end other ∙ c.loop-i.invariant.done k above to
-      ];
+      done = λ k from to. filled_back c.loop-i.starts.items i c.with_byte_before-costs.result.start past_end (λ k. (costs_of h (drop k bytes)).start) (omega arith) (omega (arith, c.loop-i.invariant.count))
+          (ap (λ r. r.start) rest) k from (λ above. c.loop-i.invariant.done k above to);
     }
