@@ -1,8 +1,12 @@
 use Rattle.std.proofs.Common.{ap}
 use Rattle.std.proofs.lemmas.Result.{err_from_is_err_and}
+use Rattle.std.specs.Prelude.{chars, string_bytes}
+use Rattle.qrcode_reader.specs.Readings.{IsTextCause, IsTextReading}
+use Rattle.qrcode_reader.specs.Refusals.{unread_text_of}
 use Rattle.qrcode_reader.specs.declared.refusals.UnreadText.TheVariants.{NoBits}
 use Rattle.qrcode_reader.proofs.ShownTexts.{text_only_memory, text_reading, unshown}
 use Rattle.qrcode_reader.proofs.texts.read_text.Goals as goal
+use Rattle.qrcode_reader.proofs.texts.read_text.Goals.{In_err-text, In_ok-text}
 
 -- ---- no bits
 pub returns-in_err-read-clause-causes : goal.returns-in_err-read-clause-causes
@@ -23,37 +27,38 @@ returns-in_err-read-clause-gives_back c =
     rw (p.1, p.2) (ap NoBits (c.in_err-read.ensures.accepts q.version q.level q.bits q.read), tt)
 
 -- ---- bits that are refused
+cause : (c : In_err-text) → IsTextCause c.args.modules.now (unread_text_of c.in_err-text.field-0.0)
+cause c =
+    let r = c.in_ok-read.read in
+    unshown c.args.modules.now r.version r.ec_level r.bits.items c.deref.result.now _ c.in_ok-read.ensures.value.only c.deref.ensures.value c.in_err-text.ensures.causes
+
 pub returns-in_err-text-clause-causes : goal.returns-in_err-text-clause-causes
 returns-in_err-text-clause-causes c =
-    let r = c.in_ok-read.read in
     let p = err_from_is_err_and c.from_residual-in_err-text.result c.from_residual-in_err-text.ensures.1 in
-    rw (p.1, p.2) (unshown c.args.modules.now r.version r.ec_level r.bits.items c.deref.result.now _ c.in_ok-read.ensures.value.only c.deref.ensures.value c.in_err-text.ensures.causes)
+    rw (p.1, p.2) (cause (goal.at.returns-in_err-text-clause-causes c).In_err-text)
 
 pub returns-in_err-text-clause-accepts : goal.returns-in_err-text-clause-accepts
 returns-in_err-text-clause-accepts c =
-    let r = c.in_ok-read.read in
+    let k = (goal.at.returns-in_err-text-clause-accepts c).In_err-text in
     let p = err_from_is_err_and c.from_residual-in_err-text.result c.from_residual-in_err-text.ensures.1 in
-    λ text q. rw (p.1, p.2) (text_only_memory c.args.modules.now _ (unshown c.args.modules.now r.version r.ec_level r.bits.items c.deref.result.now _ c.in_ok-read.ensures.value.only c.deref.ensures.value c.in_err-text.ensures.causes) text q)
+    λ text q. rw (p.1, p.2) (text_only_memory c.args.modules.now _ (cause k) text q)
 
 pub returns-in_err-text-clause-gives_back : goal.returns-in_err-text-clause-gives_back
 returns-in_err-text-clause-gives_back c =
-    let r = c.in_ok-read.read in
+    let k = (goal.at.returns-in_err-text-clause-gives_back c).In_err-text in
     let p = err_from_is_err_and c.from_residual-in_err-text.result c.from_residual-in_err-text.ensures.1 in
-    λ v l text symbol shown damaged. rw (p.1, p.2) (
-      text_only_memory c.args.modules.now _ (unshown c.args.modules.now r.version r.ec_level r.bits.items c.deref.result.now _ c.in_ok-read.ensures.value.only c.deref.ensures.value c.in_err-text.ensures.causes) text
-          (shown.shown c.args.modules.now damaged).found,
-      tt,
-    )
+    λ v l text symbol shown damaged. rw (p.1, p.2) (text_only_memory c.args.modules.now _ (cause k) text (shown.shown c.args.modules.now damaged).found, tt)
 
 -- ---- a reading
-pub returns-clause-value : goal.returns-clause-value
-returns-clause-value c =
+read_as : (c : In_ok-text) → (let r = c.in_ok-read.read in IsTextReading c.args.modules.now r.version r.ec_level r.mask (chars (string_bytes c.in_ok-text.text)) r.wrong.items)
+read_as c =
     let r = c.in_ok-read.read in
     text_reading c.args.modules.now r.version r.ec_level r.mask r.bits.items c.deref.result.now _ r.wrong.items c.in_ok-read.ensures.value c.deref.ensures.value c.in_ok-text.ensures.value
 
+pub returns-clause-value : goal.returns-clause-value
+returns-clause-value c = read_as (goal.at.returns-clause-value c).In_ok-text
+
 pub returns-clause-gives_back : goal.returns-clause-gives_back
 returns-clause-gives_back c =
-    let s = c.args.modules.now in
-    let r = c.in_ok-read.read in
-    let is = text_reading s r.version r.ec_level r.mask r.bits.items c.deref.result.now _ r.wrong.items c.in_ok-read.ensures.value c.deref.ensures.value c.in_ok-text.ensures.value in
-    λ v l text symbol shown damaged. (tt, (shown.shown s damaged).only _ is.only.found)
+    let is = read_as (goal.at.returns-clause-gives_back c).In_ok-text in
+    λ v l text symbol shown damaged. (tt, (shown.shown c.args.modules.now damaged).only _ is.only.found)
