@@ -2,7 +2,7 @@
 use Rattle.std.proofs.Common.{◌≡◌, ◌≢◌, ℕ, suc, ◌+◌, ◌-◌, ◌*◌, ◌^◌, ◌<◌, ◌≤◌, Bool, false, List, length, map, slice_index_or, slice_set, add-mul, below_more, ap, sym, subst, ◌∙◌, arith, inl, inr}
 use Rattle.std.proofs.lemmas.Bool.Decides.{leb_tells}
 use Rattle.std.proofs.lemmas.List.{get_or_past, length-map, map-set, get_or-set_same, get_or-set_other}
-use Rattle.qrcode_packed.specs.Rows.{is_set, dark_in, IsSquare, PackedRows}
+use Rattle.qrcode_packed.specs.Rows.{is_set, dark_in, IsSquare, IsTransposed, PackedRows}
 use Rattle.qrcode_packed.specs.Strips.{IsStrip, IsStripRoom, IsApart}
 use Rattle.qrcode_packed.proofs.Places.{has_above, has_zero}
 
@@ -16,12 +16,11 @@ unfolding dark_in
 past_columns rows w x y fits h = has_above (slice_index_or rows y 0) w x fits h
 
 -- rows and columns are exchanged outside, too
-pub turned_all : (room w : ℕ) (rows columns : PackedRows) → IsSquare room rows → IsSquare room columns → rows.width ≡ w → columns.width ≡ w →
-    ((x y : ℕ) → x < w → y < w → dark_in columns.rows y x ≡ dark_in rows.rows x y) → (x y : ℕ) → x < w → dark_in columns.rows y x ≡ dark_in rows.rows x y
-turned_all room w rows columns square turned e d inside x y h =
-    elim (leb_tells w y) [
-      | inl p ↦ past_columns columns.rows columns.width y x (turned.fits x) (omega (arith, p.1, d)) ∙ sym (past_rows rows.rows x y (omega (arith, p.1, e, square.length)))
-      | inr p ↦ inside x y h p.1
+pub turned_all : (room : ℕ) (rows columns : PackedRows) → IsSquare room rows → IsSquare room columns → IsTransposed rows columns → (x y : ℕ) → x < rows.width → dark_in columns.rows y x ≡ dark_in rows.rows x y
+turned_all room rows columns square turned is x y h =
+    elim (leb_tells rows.width y) [
+      | inl p ↦ past_columns columns.rows columns.width y x (turned.fits x) (omega (arith, p.1, is.same_width)) ∙ sym (past_rows rows.rows x y (omega (arith, p.1, square.length)))
+      | inr p ↦ is.turned x y h p.1
     ]
 
 -- line y of the k-th strip of a square, by its rows and columns

@@ -34,6 +34,11 @@ pub record IsColumn (width : ℕ) (rows : List ℕ) (x column : ℕ) : Type 0 wh
   pub shown : (y : ℕ) → y < width → is_set column y ≡ dark_in rows x y
   pub fits : FitsWidth width column
 
+-- a square whose rows are the columns of another
+pub record IsTransposed (square columns : PackedRows) : Type 0 where
+  pub same_width : columns.width ≡ square.width
+  pub turned : (x y : ℕ) → x < square.width → y < square.width → dark_in columns.rows y x ≡ dark_in square.rows x y
+
 abbrev pub AreColumns : ℕ → List ℕ → ℕ → List ℕ → Type 0  -- the first columns of a square, as rows
 AreColumns width rows count turned = (x : ℕ) → x < count → IsColumn width rows x (slice_index_or turned x 0)
 

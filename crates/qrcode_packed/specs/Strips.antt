@@ -1,11 +1,16 @@
 -- Squares in strips: line y of a strip has `half` places of row y and, behind them, the same places of column y.
 use Rattle.std.specs.Prelude.{◌≡◌, ◌≢◌, ℕ, ◌+◌, ◌*◌, ◌<◌, Bool, List, length, slice_index_or}
-use Rattle.qrcode_packed.specs.Rows.{dark_in}
+use Rattle.qrcode_packed.specs.Rows.{dark_in, PackedRows}
 
 -- the k-th strip, which shows the places of a square that pass a test, as the lines from one on
 pub record IsStrip (half width k first : ℕ) (lines : List ℕ) (dark : ℕ → ℕ → Bool) : Type 0 where
   pub across : (x y : ℕ) → x < half → y < width → dark_in lines x (first + y) ≡ dark (half * k + x) y
   pub down : (x y : ℕ) → x < half → y < width → dark_in lines (half + x) (first + y) ≡ dark y (half * k + x)
+
+-- between two lists of lines, the k-th strip of a square has been written, and nothing else
+pub record WritesStrip (half k : ℕ) (square : PackedRows) (old new : List ℕ) : Type 0 where
+  pub strip : IsStrip half square.width k (k * (square.width + 4) + 4) new (dark_in square.rows)
+  pub others : (n : ℕ) → ((y : ℕ) → y < square.width → n ≢ k * (square.width + 4) + 4 + y) → slice_index_or new n 0 ≡ slice_index_or old n 0
 
 -- so many strips of a square, one after the other, with four light lines before each and eight behind the last
 pub record ShowsStrips (half count width : ℕ) (lines : List ℕ) (dark : ℕ → ℕ → Bool) : Type 0 where

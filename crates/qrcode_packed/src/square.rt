@@ -3,7 +3,6 @@
 ghost use Rattle.std.specs.Prelude.{◌≡◌, ℕ, ◌+◌, ◌<◌, ◌≤◌, length, map, slice_index_or};
 ghost use Rattle.qrcode_packed.specs.Rows.{IsSquare, FitsWidth};
 
-use crate::lines::PackedLines;
 use crate::row::PackedRow;
 use std::marker::Model;
 
@@ -44,14 +43,6 @@ impl<'a, R: PackedRow> PackedSquare<'a, R> {
         ensures square { IsSquare R.room self.now }
     {
         self.width
-    }
-
-    /// Its rows as lines.
-    #[inline(always)]
-    pub fn lines(&self) -> PackedLines<'a, R>
-        ensures { result ≡ self.now.rows }
-    {
-        PackedLines::new(self.rows)
     }
 
     /// Row `y`, which lies in the square.

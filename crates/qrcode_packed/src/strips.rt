@@ -2,8 +2,8 @@
 
 ghost use Rattle.std.specs.Prelude.{◌≡◌, ◌≢◌, ℕ, ◌+◌, ◌*◌, ◌/◌, ◌<◌, ◌≤◌, length, map, slice_index_or, refl};
 ghost use Rattle.std.proofs.Common.{lit≤};
-ghost use Rattle.qrcode_packed.specs.Rows.{is_set, dark_in};
-ghost use Rattle.qrcode_packed.specs.Strips.{IsStrip, ShowsStrips, IsStripRoom, AreWords};
+ghost use Rattle.qrcode_packed.specs.Rows.{is_set, dark_in, IsTransposed};
+ghost use Rattle.qrcode_packed.specs.Strips.{WritesStrip, ShowsStrips, IsStripRoom, AreWords};
 
 use crate::row::{PackedRow, Row128};
 use crate::square::PackedSquare;
@@ -91,16 +91,10 @@ fn join_words<R: PackedRow, L: StripLine>(
 )
     requires word { k < 3 }
     requires begins { L.room / 2 * k ≡ 64 * k }
-    requires same_width { columns.now.width ≡ rows.now.width }
-    requires turned { (x y : ℕ) → x < rows.now.width → y < rows.now.width
-        → dark_in columns.now.rows y x ≡ dark_in rows.now.rows x y }
+    requires turned { IsTransposed rows.now columns.now }
     requires inside { k * (rows.now.width + 4) + (rows.now.width + 4) ≤ length strips.old }
-    ensures strip { IsStrip (L.room / 2) rows.now.width k (k * (rows.now.width + 4) + 4)
-        (map L.bits strips.new) (dark_in rows.now.rows) }
-    ensures others { (n : ℕ)
-        → ((y : ℕ) → y < rows.now.width → n ≢ k * (rows.now.width + 4) + 4 + y)
-        → slice_index_or (map L.bits strips.new) n 0
-        ≡ slice_index_or (map L.bits strips.old) n 0 }
+    ensures { WritesStrip (L.room / 2) k rows.now (map L.bits strips.old)
+        (map L.bits strips.new) }
 {
     let width = rows.width() as usize;
     let _columns = columns.width();
@@ -120,16 +114,10 @@ fn join_strip<R: PackedRow, L: StripLine>(
 )
     requires word { k < 3 }
     requires begins { L.room / 2 * k ≡ 64 * k }
-    requires same_width { columns.now.width ≡ rows.now.width }
-    requires turned { (x y : ℕ) → x < rows.now.width → y < rows.now.width
-        → dark_in columns.now.rows y x ≡ dark_in rows.now.rows x y }
+    requires turned { IsTransposed rows.now columns.now }
     requires inside { k * (rows.now.width + 4) + (rows.now.width + 4) ≤ length strips.old }
-    ensures strip { IsStrip (L.room / 2) rows.now.width k (k * (rows.now.width + 4) + 4)
-        (map L.bits strips.new) (dark_in rows.now.rows) }
-    ensures others { (n : ℕ)
-        → ((y : ℕ) → y < rows.now.width → n ≢ k * (rows.now.width + 4) + 4 + y)
-        → slice_index_or (map L.bits strips.new) n 0
-        ≡ slice_index_or (map L.bits strips.old) n 0 }
+    ensures { WritesStrip (L.room / 2) k rows.now (map L.bits strips.old)
+        (map L.bits strips.new) }
 {
     match k {
         0 => join_words(rows, columns, 0, strips),
@@ -147,9 +135,7 @@ pub fn join<R: PackedRow, L: StripLine>(
 )
     requires few { count ≤ 3 }
     requires words { AreWords (L.room / 2) count }
-    requires same_width { columns.now.width ≡ rows.now.width }
-    requires turned { (x y : ℕ) → x < rows.now.width → y < rows.now.width
-        → dark_in columns.now.rows y x ≡ dark_in rows.now.rows x y }
+    requires turned { IsTransposed rows.now columns.now }
     requires room { IsStripRoom count rows.now.width (map L.bits strips.old) }
     ensures shown { ShowsStrips (L.room / 2) count rows.now.width (map L.bits strips.new)
         (dark_in rows.now.rows) }

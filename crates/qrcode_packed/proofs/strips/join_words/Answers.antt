@@ -26,29 +26,27 @@ loop-y-preserved g c =
       others = apart_more bits c.loop-y.strips (map bits c.args.strips.now) first y c.of_parts.result c.loop-y.invariant.others;
     }
 
-pub returns-clause-strip : goal.returns-clause-strip
+pub returns : goal.returns
 unfolding dark_in
-returns-clause-strip g c =
+returns g c =
     let bits = g.L.PackedRow.bits in
     let half = g.L.PackedRow.room / 2 in
     let k = c.args.k in
     let w = c.args.rows.now.width in
     let wide : c.width-width.result ≡ w = c.width-width.ensures.value in
+    let first = ap (λ m. k * (m + 4)) wide in
     let rows = c.args.rows.now in
     let columns = c.args.columns.now in
     let new = map bits c.loop-y.strips in
     let done : (y : ℕ) → y < w → IsJoined half k rows.rows columns.rows y (slice_index_or new (k * (w + 4) + 4 + y) 0) = λ y h.
     subst (λ (n : ℕ). IsJoined half k rows.rows columns.rows y (slice_index_or new (k * (n + 4) + 4 + y) 0)) wide (c.loop-y.invariant.joined y (omega (arith, h, wide, c.loop-y-test.false, c.loop-y.auto.y-end))) in
     record {
-      across = λ x y h l. (done y l).across x h ∙ ap (λ (n : ℕ). dark_in rows.rows (n + x) y) (sym c.requires.begins);
-      down = λ x y h l.
-          (done y l).down x h
-          ∙ turned_all g.R.PackedRow.room w rows columns c.width-width.ensures.square c.width-columns.ensures.square refl c.requires.same_width c.requires.turned y (64 * k + x) l
-          ∙ ap (λ (n : ℕ). dark_in rows.rows y (n + x)) (sym c.requires.begins);
+      strip = record {
+        across = λ x y h l. (done y l).across x h ∙ ap (λ (n : ℕ). dark_in rows.rows (n + x) y) (sym c.requires.begins);
+        down = λ x y h l.
+            (done y l).down x h
+            ∙ turned_all g.R.PackedRow.room rows columns c.width-width.ensures.square c.width-columns.ensures.square c.requires.turned y (64 * k + x) l
+            ∙ ap (λ (n : ℕ). dark_in rows.rows y (n + x)) (sym c.requires.begins);
+      };
+      others = λ n h. c.loop-y.invariant.others n (λ y l e. h y (omega (arith, l, wide, c.loop-y-test.false, c.loop-y.auto.y-end)) (omega (arith, e, first)));
     }
-
-pub returns-clause-others : goal.returns-clause-others
-returns-clause-others g c = λ n h.
-    let wide = c.width-width.ensures.value in
-    let first = ap (λ m. c.args.k * (m + 4)) wide in
-    c.loop-y.invariant.others n (λ y l e. h y (omega (arith, l, wide, c.loop-y-test.false, c.loop-y.auto.y-end)) (omega (arith, e, first)))
