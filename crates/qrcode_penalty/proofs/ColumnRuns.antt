@@ -1,11 +1,15 @@
 -- The runs of columns by words that show where none goes on: bit x stands for column x.
-use Rattle.std.proofs.Common.{◌≡◌, ℕ, suc, ◌<◌, Bool, true, false, not, ◌&&◌, ◌||◌, refl, ap, ap₂, sym, ◌∙◌, arith, bit_and, ◌+◌, ◌*◌, ◌^◌, ◌≤◌, count_ones}
+use Rattle.std.proofs.Common.{◌≡◌, ℕ, suc, ◌<◌, Bool, true, false, not, ◌&&◌, ◌||◌, refl, ap, ap₂, sym, subst, ◌∙◌, arith, bit_and, ◌+◌, ◌*◌, ◌^◌, ◌≤◌, count_ones}
 use Rattle.qrcode_packed.specs.Rows.{is_set}
 use Rattle.qrcode_packed.proofs.Places.{has_and, has_above}
 use Rattle.qrcode_penalty.specs.Penalty.{sum_below, count_if, run_penalty_at}
 use Rattle.qrcode_penalty.proofs.Inside.{columns_inside}
 use Rattle.qrcode_penalty.proofs.Sums.{sum_same, sum_step, sum_others, count_places}
 use Rattle.qrcode_penalty.specs.Inside.{before, two, run_from, inside_row, AreRunsBefore}
+
+-- the runs before a row whose number is said in another way
+pub runs_at : {room i j outside last both : ℕ} {dark : ℕ → ℕ → Bool} → AreRunsBefore room dark i outside last both → i ≡ j → AreRunsBefore room dark j outside last both
+runs_at {room = m} {outside = o} {last = l} {both = b} {dark = dark} runs e = subst (λ (n : ℕ). AreRunsBefore m dark n o l b) e runs
 
 neither_case : (p q : Bool) → (not p && not q) ≡ not (q || p)
 neither_case true true = refl

@@ -9,6 +9,14 @@ pub record HasHalves (room : ℕ) : Type 0 where  -- so many places in two halve
   pub at_most : room ≤ 128
   pub even : room ≡ 2 * (room / 2)
 
+-- the k-th of up to three strips of a square of that width, in lines of so many places
+pub record IsNthStrip (room count width k : ℕ) : Type 0 where
+  pub halves : HasHalves room
+  pub at_least : 7 ≤ width
+  pub at_most : width ≤ 189
+  pub few : count ≤ 3
+  pub exists : k < count
+
 abbrev pub columns_in : ℕ → ℕ → ℕ → ℕ  -- how many columns of a square stand in so many strips
 columns_in half count width = min width (count * half)
 

@@ -7,6 +7,12 @@ ghost use Rattle.qrcode_penalty.specs.Padded.{IsPadded, inner_lines, is_mark, is
 
 use qrcode_packed::row::PackedRow;
 
+// What is found in a line and the next.
+type TwoLines<L> = (L, L);
+
+// The same in four lines, two and two.
+type FourLines<L> = (TwoLines<L>, TwoLines<L>);
+
 // Where dark, light and dark follow from the k-th line on: a finder form begins and ends so.
 #[inline(always)]
 fn marks<L: PackedRow>(lines: &[L], k: usize) -> L
@@ -17,9 +23,9 @@ fn marks<L: PackedRow>(lines: &[L], k: usize) -> L
     lines[k].and(lines[k + 2]).without(lines[k + 1])
 }
 
-// The same from each of four lines on, two and two.
+// The same from each of four lines on.
 #[inline(always)]
-fn four_marks<L: PackedRow>(lines: &[L], k: usize) -> ((L, L), (L, L))
+fn four_marks<L: PackedRow>(lines: &[L], k: usize) -> FourLines<L>
     requires at_most { length lines.now ≤ 201 }
     requires inside { k + 5 < length lines.now }
     ensures { AreFourMarks (map L.bits lines.now) k (L.bits result.0.0)
@@ -33,7 +39,7 @@ fn four_marks<L: PackedRow>(lines: &[L], k: usize) -> ((L, L), (L, L))
 
 // Where one of the four lines from the k-th on is dark, and where one of the four from the next on is: three are common.
 #[inline(always)]
-fn two_fours<L: PackedRow>(lines: &[L], k: usize) -> (L, L)
+fn two_fours<L: PackedRow>(lines: &[L], k: usize) -> TwoLines<L>
     requires at_most { length lines.now ≤ 201 }
     requires inside { k + 4 < length lines.now }
     ensures upper { (x : ℕ) → is_set (L.bits result.0) x
@@ -57,7 +63,7 @@ fn lone_forms<L: PackedRow>(begins: L, ends: L, middle: L, before: L, behind: L)
 
 // Where forms begin in the k-th line behind the first four, or in the next.
 #[inline(always)]
-fn two_forms<L: PackedRow>(lines: &[L], k: usize, begins: (L, L), ends: (L, L)) -> L
+fn two_forms<L: PackedRow>(lines: &[L], k: usize, begins: TwoLines<L>, ends: TwoLines<L>) -> L
     requires at_most { length lines.now ≤ 201 }
     requires inside { k + 15 < length lines.now }
     requires begins { AreTwoMarks (map L.bits lines.now) (k + 4) (L.bits begins.0)
@@ -81,8 +87,8 @@ fn four_forms<L: PackedRow>(
     lines: &[L],
     width: usize,
     k: usize,
-    begins: ((L, L), (L, L)),
-    ends: ((L, L), (L, L)),
+    begins: FourLines<L>,
+    ends: FourLines<L>,
 ) -> u32
     requires at_least { 7 ≤ width }
     requires at_most { width ≤ 189 }

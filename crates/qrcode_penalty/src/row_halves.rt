@@ -4,7 +4,7 @@ ghost use Rattle.std.specs.Prelude.{◌≡◌, ℕ, ◌+◌, ◌-◌, ◌*◌, �
 ghost use Rattle.qrcode_packed.specs.Rows.{is_set, dark_in};
 ghost use Rattle.qrcode_packed.specs.Strips.{ShowsStrips};
 ghost use Rattle.qrcode_penalty.specs.Penalty.{same};
-ghost use Rattle.qrcode_penalty.specs.RowHalves.{HasHalves, columns_in, ArePast, AreEdges, AreRowsBefore, blocks_in_strip, darks_in_strip};
+ghost use Rattle.qrcode_penalty.specs.RowHalves.{HasHalves, IsNthStrip, columns_in, ArePast, AreEdges, AreRowsBefore, blocks_in_strip, darks_in_strip};
 
 use qrcode_packed::row::PackedRow;
 
@@ -89,11 +89,7 @@ fn row_edges<L: PackedRow>(strips: &[L], row: u64, n: usize, past: u64) -> u64
 // The places of a word behind the blocks of the k-th strip, which has columns of the square.
 #[inline(always)]
 fn places_past<L: PackedRow>(count: usize, k: usize, width: usize) -> u64
-    requires halves { HasHalves L.room }
-    requires at_least { 7 ≤ width }
-    requires at_most { width ≤ 189 }
-    requires few { count ≤ 3 }
-    requires strip { k < count }
+    requires strip { IsNthStrip L.room count width k }
     ensures { ArePast (L.room / 2) (columns_in (L.room / 2) count width) k result }
 {
     let half = L::size() / 2;
@@ -104,11 +100,7 @@ fn places_past<L: PackedRow>(count: usize, k: usize, width: usize) -> u64
 // Row y of the k-th strip.
 #[inline(always)]
 fn row_of<L: PackedRow>(strips: &[L], count: usize, k: usize, width: usize, y: usize) -> EdgedRow
-    requires halves { HasHalves L.room }
-    requires at_least { 7 ≤ width }
-    requires at_most { width ≤ 189 }
-    requires few { count ≤ 3 }
-    requires strip { k < count }
+    requires strip { IsNthStrip L.room count width k }
     requires length { length strips.now ≡ count * (width + 4) + 8 }
     requires inside { y < width }
     ensures places { (x : ℕ) → x < L.room / 2 → is_set result.places x
@@ -137,11 +129,7 @@ fn with_row<L: PackedRow>(
     y: usize,
     before: RowsBefore,
 ) -> RowsBefore
-    requires halves { HasHalves L.room }
-    requires at_least { 7 ≤ width }
-    requires at_most { width ≤ 189 }
-    requires few { count ≤ 3 }
-    requires strip { k < count }
+    requires strip { IsNthStrip L.room count width k }
     requires length { length strips.now ≡ count * (width + 4) + 8 }
     requires some { 0 < y }
     requires inside { y < width }
@@ -167,11 +155,7 @@ pub(crate) fn count_rows<L: PackedRow>(
     k: usize,
     width: usize,
 ) -> RowCounts
-    requires halves { HasHalves L.room }
-    requires at_least { 7 ≤ width }
-    requires at_most { width ≤ 189 }
-    requires few { count ≤ 3 }
-    requires strip { k < count }
+    requires strip { IsNthStrip L.room count width k }
     requires length { length strips.now ≡ count * (width + 4) + 8 }
     ensures mixed { (dark : ℕ → ℕ → Bool)
         → ShowsStrips (L.room / 2) count width (map L.bits strips.now) dark

@@ -7,7 +7,7 @@ pub loop-j-init : goal.loop-j-init
 loop-j-init g c =
     let half = g.L.PackedRow.room / 2 in
     let r = c.row_of-last.result in
-    first_row half c.args.count c.args.width c.args.k r.places r.edges (map g.L.PackedRow.bits c.args.strips.now) (omega (arith, c.requires.halves.at_most)) c.requires.strip (omega (arith, c.requires.at_least)) c.row_of-last.ensures.fits (omega arith) (omega arith) c.row_of-last.ensures.places c.row_of-last.ensures.edges
+    first_row half c.args.count c.args.width c.args.k r.places r.edges (map g.L.PackedRow.bits c.args.strips.now) (omega (arith, c.requires.strip.halves.at_most)) c.requires.strip.exists (omega (arith, c.requires.strip.at_least)) c.row_of-last.ensures.fits (omega arith) (omega arith) c.row_of-last.ensures.places c.row_of-last.ensures.edges
 
 pub with_row-before-requires-clause-before : goal.with_row-before-requires-clause-before
 with_row-before-requires-clause-before g c =

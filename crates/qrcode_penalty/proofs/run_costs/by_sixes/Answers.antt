@@ -1,9 +1,9 @@
-use Rattle.std.proofs.Common.{◌≡◌, ℕ, ◌-◌, ◌^◌, ◌<◌, true, subst, ap, ◌∙◌, arith}
-use Rattle.qrcode_packed.specs.Rows.{is_set, dark_in}
+use Rattle.std.proofs.Common.{◌≡◌, ℕ, ◌-◌, ◌^◌, ◌<◌, true, ap, ◌∙◌, arith}
+use Rattle.qrcode_packed.specs.Rows.{is_set}
 use Rattle.qrcode_packed.proofs.Places.{has_first}
 use Rattle.qrcode_packed.proofs.Turned.{three_at}
 use Rattle.qrcode_penalty.specs.Penalty.{sum_below}
-use Rattle.qrcode_penalty.specs.Inside.{AreRunsBefore}
+use Rattle.qrcode_penalty.proofs.ColumnRuns.{runs_at}
 use Rattle.qrcode_penalty.proofs.run_costs.by_sixes.Goals as goal
 
 pub loop-k-init : goal.loop-k-init
@@ -17,22 +17,10 @@ loop-k-init g c =
     record { counted = omega arith; at_most = omega arith; last_at = all; both_at = all }
 
 pub with_two-before-requires-clause-before : goal.with_two-before-requires-clause-before
-with_two-before-requires-clause-before g c =
-    let bits = g.R.PackedRow.bits in
-    let r = c.with_two-two_thirds.result in
-    let P : ℕ → Type 0 = λ n. AreRunsBefore g.R.PackedRow.room (dark_in c.args.lines.now) n r.outside (bits r.last) (bits r.both) in
-    subst P (omega arith) c.with_two-two_thirds.ensures
+with_two-before-requires-clause-before g c = runs_at c.with_two-two_thirds.ensures (omega arith)
 
 pub loop-k-preserved : goal.loop-k-preserved
-loop-k-preserved g c =
-    let bits = g.R.PackedRow.bits in
-    let r = c.with_two-before.result in
-    let P : ℕ → Type 0 = λ n. AreRunsBefore g.R.PackedRow.room (dark_in c.args.lines.now) n r.outside (bits r.last) (bits r.both) in
-    subst P (omega arith) c.with_two-before.ensures
+loop-k-preserved g c = runs_at c.with_two-before.ensures (omega arith)
 
 pub returns : goal.returns
-returns g c =
-    let bits = g.R.PackedRow.bits in
-    let r = c.loop-k.before in
-    let P : ℕ → Type 0 = λ n. AreRunsBefore g.R.PackedRow.room (dark_in c.args.lines.now) n r.outside (bits r.last) (bits r.both) in
-    subst P (omega (arith, c.loop-k-test.false, c.loop-k.auto.k-end, c.count.ensures.value)) c.loop-k.invariant
+returns g c = runs_at c.loop-k.invariant (omega (arith, c.loop-k-test.false, c.loop-k.auto.k-end, c.count.ensures.value))

@@ -8,6 +8,10 @@ pub loop-k-init : goal.loop-k-init
 unfolding sum_below
 loop-k-init g c = record { mixed = λ dark shows. omega arith; dark = λ dark shows. refl; mixed_at_most = omega arith; dark_at_most = omega arith }
 
+pub count_rows-counts-requires-clause-strip : goal.count_rows-counts-requires-clause-strip
+count_rows-counts-requires-clause-strip g c =
+    record { halves = c.requires.halves; at_least = c.requires.at_least; at_most = c.requires.at_most; few = c.requires.few; exists = omega (arith, c.loop-k-test.true) }
+
 pub loop-k-preserved : goal.loop-k-preserved
 loop-k-preserved g c =
     let half = g.L.PackedRow.room / 2 in
