@@ -1,5 +1,5 @@
 -- Rows written as colours in whole words, each row behind the one before.
-use Rattle.std.proofs.Common.{◌≡◌, ℕ, ◌+◌, ◌-◌, ◌*◌, ◌/◌, ◌%◌, ◌^◌, ◌<◌, ◌≤◌, ◌||◌, ◌&&◌, Bool, true, false, List, bit_or, bit_and, length, slice_index_or, refl, ap, sym, ◌∙◌, inl, inr, arith}
+use Rattle.std.proofs.Common.{◌≡◌, ℕ, ◌+◌, ◌-◌, ◌*◌, ◌/◌, ◌%◌, ◌^◌, ◌<◌, ◌≤◌, ◌&&◌, Bool, true, false, List, bit_or, bit_and, length, slice_index_or, refl, ap, sym, ◌∙◌, inl, inr, arith}
 use Rattle.std.proofs.lemmas.Bool.{cases_lt}
 use Rattle.std.proofs.lemmas.Nat.{mod_below, pow_pos}
 use Rattle.qrcode_types.specs.Colors.{color_of}
@@ -8,16 +8,8 @@ use Rattle.qrcode_types.specs.declared.types.Color.TheVariants.{Light}
 use Rattle.qrcode_packed.specs.Rows.{is_set}
 use Rattle.qrcode_packed.proofs.Places.{has_or, has_and, has_shr, has_shl, has_shl_below, has_above, has_mod, has_first, below_from_places}
 use Rattle.qrcode_symbol.specs.Unpacking.{IsRowWritten, AreJoined}
+use Rattle.qrcode_symbol.proofs.Ors.{false_or, or_false}
 use Rattle.qrcode_symbol.proofs.WrittenModules.{word_at}
-
-false_or : (a b : Bool) → a ≡ false → (a || b) ≡ b
-false_or true b e = cc
-false_or false b e = refl
-
-or_false : (a b : Bool) → b ≡ false → (a || b) ≡ a
-or_false a true e = cc
-or_false true false e = refl
-or_false false false e = refl
 
 -- a row behind the places that wait
 abbrev pub behind : ℕ → ℕ → ℕ → ℕ

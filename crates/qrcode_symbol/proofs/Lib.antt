@@ -29,6 +29,7 @@ pub mod Numbered
 pub mod Numbers
 pub mod OnePlace
 pub mod OneRow
+pub mod Ors
 pub mod PackedLists
 pub mod PackedPatterns
 pub mod Pairs

@@ -8,6 +8,7 @@ use Rattle.qrcode_packed.specs.Rows.{is_set, dark_in, FitsWidth}
 use Rattle.qrcode_packed.proofs.Places.{has_or, has_shr, has_shl, has_shl_below, has_above, has_mod, below_from_places}
 use Rattle.qrcode_symbol.specs.Columns.{nth_bit}
 use Rattle.qrcode_symbol.specs.Micro.{row_from, IsPairDrawn, IsClearTo, AllFit}
+use Rattle.qrcode_symbol.proofs.Ors.{false_or, or_false}
 
 -- the k-th two bits of a word, moved to a pair of columns
 abbrev pub two_bits : ℕ → ℕ → ℕ → ℕ
@@ -57,15 +58,6 @@ row_least false width top k h = omega arith
 rows_apart : (up : Bool) (width top j k : ℕ) → j < k → k < width - top → row_from up width top j ≢ row_from up width top k
 rows_apart true width top j k l h e = absurd (omega arith)
 rows_apart false width top j k l h e = absurd (omega arith)
-
-false_or : (a b : Bool) → a ≡ false → (a || b) ≡ b
-false_or true b e = cc
-false_or false b e = refl
-
-or_false : (a b : Bool) → b ≡ false → (a || b) ≡ a
-or_false a true e = cc
-or_false true false e = refl
-or_false false false e = refl
 
 -- before the first row
 pub none_drawn : (word : ℕ) (up : Bool) (width right top k : ℕ) (rows : List ℕ) → k ≡ 0 → IsPairDrawn word up width right top k rows rows

@@ -1,5 +1,5 @@
 -- Codewords of Micro put together as a stream, by places that need not be those of bytes.
-use Rattle.std.proofs.Common.{◌≡◌, ◌≢◌, ℕ, zero, suc, ◌+◌, ◌-◌, ◌*◌, ◌/◌, ◌%◌, ◌^◌, ◌<◌, ◌≤◌, ◌||◌, Bool, true, false, List, min, replicate, take, length, get_or, set, refl, ap, sym, ◌∙◌, arith, inl, inr, bit_or, if◌then◌else◌, ◌⊎◌}
+use Rattle.std.proofs.Common.{◌≡◌, ◌≢◌, ℕ, zero, suc, ◌+◌, ◌-◌, ◌*◌, ◌/◌, ◌%◌, ◌^◌, ◌<◌, ◌≤◌, Bool, true, false, List, min, replicate, take, length, get_or, set, refl, ap, sym, ◌∙◌, arith, inl, inr, bit_or, if◌then◌else◌, ◌⊎◌}
 use Rattle.std.proofs.lemmas.Bool.{cases_lt}
 use Rattle.std.proofs.lemmas.Bool.Decides.{eqb_tells}
 use Rattle.std.proofs.lemmas.List.{get_or-set_other, get_or-set_same, get_or_past, get_or-take, get_or_append_left, get_or-append_right, length-take-le}
@@ -14,6 +14,7 @@ use Rattle.qrcode_symbol.specs.Canvas.{drawn_bits}
 use Rattle.qrcode_symbol.specs.Columns.{stream_bit}
 use Rattle.qrcode_symbol.specs.Micro.{EndsAt, AreBitsPut, IsClearTo}
 use Rattle.qrcode_symbol.proofs.BitLists.{length_bits_of}
+use Rattle.qrcode_symbol.proofs.Ors.{false_or, or_false}
 use Rattle.qrcode_symbol.proofs.StreamBytes.{bit_is}
 
 -- a bit of a stream, by its byte and its place in it
@@ -23,15 +24,6 @@ in_byte s i q r e h =
     let d : i / 8 ≡ q = omega arith in
     let m : i % 8 ≡ r = omega arith in
     rw (d, m) refl
-
-false_or : (a b : Bool) → a ≡ false → (a || b) ≡ b
-false_or true b e = cc
-false_or false b e = refl
-
-or_false : (a b : Bool) → b ≡ false → (a || b) ≡ a
-or_false a true e = cc
-or_false true false e = refl
-or_false false false e = refl
 
 -- a stream on the way: k bytes are put
 pub record IsOnTheWay (from k : ℕ) (bytes old new : List ℕ) : Type 0 where

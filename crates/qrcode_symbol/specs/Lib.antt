@@ -2,6 +2,7 @@ pub mod Canvas
 pub mod Carried
 pub mod Columns
 pub mod Deciding
+pub mod DrawnColors
 pub mod DrawnLines
 pub mod Filling
 pub mod LastLines
@@ -14,4 +15,5 @@ pub mod Penalties
 pub mod Reading
 pub mod StripLines
 pub mod Symbol
+pub mod Trying
 pub mod Unpacking

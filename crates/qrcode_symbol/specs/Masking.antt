@@ -1,10 +1,11 @@
 -- How a mask is chosen on rows packed into numbers.
 use Rattle.std.specs.Prelude.{◌≡◌, ℕ, ◌+◌, ◌-◌, ◌*◌, ◌/◌, ◌%◌, ◌<◌, ◌≤◌, ◌^◌, bit_or, Bool, true, false, ◌&&◌, List, [], ◌∷◌, map, slice_index_or, if◌then◌else◌, unwrap_or}
 use Rattle.qrcode_types.specs.Colors.{is_dark}
+use Rattle.qrcode_types.specs.Versions.{side}
 use Rattle.qrcode_types.specs.declared.types.Color.{Color}
 use Rattle.qrcode_types.specs.declared.types.Version.{Version}
 use Rattle.qrcode_types.specs.declared.types.EcLevel.{EcLevel}
-use Rattle.qrcode_packed.specs.Rows.{Shows, inside, is_set, dark_in}
+use Rattle.qrcode_packed.specs.Rows.{Shows, inside, is_set, dark_in, IsSquare}
 use Rattle.qrcode_places.specs.Masks.{turns, turned_if, nth_mask}
 use Rattle.qrcode_places.specs.Words.{format_word}
 use Rattle.qrcode_places.specs.Patterns.{decided_bit}
@@ -33,6 +34,10 @@ packed test (x ∷ xs) = 2 * packed test xs + digit (test x)
 -- rows of a square show which of its modules pass a test
 abbrev pub ShowsModules : (Module → Bool) → ℕ → List Module → List ℕ → Type 0
 ShowsModules test w modules rows = Shows w rows (λ x y. test (slice_index_or modules (y * w + x) Empty))
+
+-- rows of a square as wide as the symbol of a version
+abbrev pub IsSymbolSquare : ℕ → Version → List ℕ → Type 0
+IsSymbolSquare room v rows = IsSquare room (record { width = side v; rows = rows })
 
 -- the place is dark under a mask, by rows of what is dark and of what a mask may turn
 unfoldable pub masked_dark : Version → ℕ → MaskPattern → List ℕ → List ℕ → ℕ → ℕ → Bool
@@ -82,6 +87,11 @@ pub record IsBestShown {A : Type 0} (v : Version) (l : EcLevel) (modules : List 
   pub masked : List Module
   pub best : IsBestMasked v l modules masked
   pub shown : new ≡ map (λ m. of (color_of_module m)) masked
+
+-- the same of all modules that rows show, what is dark and what a mask may turn
+abbrev pub IsBestOfRows : {A : Type 0} → Version → EcLevel → ℕ → List ℕ → List ℕ → (Color → A) → List A → Type 0
+IsBestOfRows v l w dark free of new =
+    (modules : List Module) → ShowsModules is_dark_module w modules dark → ShowsModules is_free w modules free → IsBestShown v l modules of new
 
 -- the colours of the modules under the first mask of least penalty
 abbrev pub AreBestColors : Version → EcLevel → List Module → List Color → Type 0

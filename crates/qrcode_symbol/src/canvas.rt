@@ -11,7 +11,8 @@ ghost use Rattle.qrcode_places.specs.Words.{VersionWordsAreApart, FormatWordsAre
 ghost use Rattle.qrcode_types.specs.Colors.{is_dark};
 ghost use Rattle.qrcode_types.specs.declared.types.QrError.TheVariants.{OutOfMemory};
 ghost use Rattle.qrcode_symbol.specs.Canvas.{IsCoordinate, IsOnCanvas, wrapped, module_index, blank, color_of_module, colors_of, masked_module, drawn_bits, with_bits_drawn, with_patterns, with_mask};
-ghost use Rattle.qrcode_symbol.specs.Carried.{CarriesAll, AreCarried, drawn_modules};
+ghost use Rattle.qrcode_symbol.specs.Carried.{CarriesAll, AreCarried};
+ghost use Rattle.qrcode_symbol.specs.DrawnColors.{AreDrawnColors, AreListColors};
 ghost use Rattle.qrcode_symbol.specs.Lending.{LendsModule};
 ghost use Rattle.qrcode_symbol.specs.Masking.{IsBestMasked, AreBestColors};
 ghost use Rattle.qrcode_symbol.specs.Patterned.{IsDrawn};
@@ -350,8 +351,8 @@ pub fn drawn_colors(
     ec: &[u8],
 ) -> QrResult<Vec<Color>>
     requires { IsTrue (has_level version ec_level) }
-    ensures best { IfOk result (λ colors. AreBestColors version ec_level
-        (drawn_modules version ec_level bytes.now ec.now) colors.items) }
+    ensures best { IfOk result (λ colors.
+        AreDrawnColors version ec_level bytes.now ec.now colors.items) }
     ensures memory { IsOkUnless result OutOfMemory }
 
     // They carry the codewords, under each mask.
@@ -371,9 +372,8 @@ pub fn list_colors(
 ) -> QrResult<Vec<Color>>
     requires exists { IsTrue (has_level version ec_level) }
     requires listed { IsList version ec_level list.now }
-    ensures best { IfOk result (λ colors. AreBestColors version ec_level
-        (drawn_modules version ec_level
-        (data_in version ec_level list.now) (ec_in version ec_level list.now)) colors.items) }
+    ensures best { IfOk result (λ colors.
+        AreListColors version ec_level list.now colors.items) }
     ensures memory { IsOkUnless result OutOfMemory }
 
     // They carry the codewords, under each mask.

@@ -2,9 +2,9 @@
 
 ghost use Rattle.std.specs.Prelude.{◌≡◌, ℕ, ◌+◌, ◌-◌, ◌*◌, ◌%◌, ◌==◌, ◌<◌, ◌≤◌, ◌^◌, length, map, slice_index_or, IsTrue};
 ghost use Rattle.qrcode_types.specs.Versions.{is_valid, side};
-ghost use Rattle.qrcode_packed.specs.Rows.{is_set, FitsWidth};
+ghost use Rattle.qrcode_packed.specs.Rows.{FitsWidth};
 ghost use Rattle.qrcode_places.specs.Laws.{left_out};
-ghost use Rattle.qrcode_symbol.specs.Columns.{AreFilled, AreFreeColumns, HoldBits, is_free_step, passing};
+ghost use Rattle.qrcode_symbol.specs.Columns.{AreFilled, AreFreeColumns, IsFilledPair};
 
 mod pairs;
 mod placing;
@@ -33,14 +33,8 @@ fn next_pair<R: PackedRow>(
     requires room { width + 3 ≤ R.room }
     requires left_fits { FitsWidth width (R.bits left) }
     requires right_fits { FitsWidth width (R.bits right) }
-    ensures shown { HoldBits stream.entry.bytes.now from (number % 2 == 0) width
-        (is_set (R.bits left)) (is_set (R.bits right))
-        (is_set (R.bits result.left)) (is_set (R.bits result.right)) width }
-    ensures next { result.next ≡ from
-        + passing (is_free_step (number % 2 == 0) width
-        (is_set (R.bits left)) (is_set (R.bits right))) (2 * width) }
-    ensures new_left_fits { FitsWidth width (R.bits result.left) }
-    ensures new_right_fits { FitsWidth width (R.bits result.right) }
+    ensures { IsFilledPair stream.entry.bytes.now from (number % 2 == 0) width (R.bits left)
+        (R.bits right) (R.bits result.left) (R.bits result.right) result.next }
 {
     if number % 2 == 0 {
         return drawn_pair::<R, true>(stream, from, width, left, right);

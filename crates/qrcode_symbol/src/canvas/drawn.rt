@@ -4,13 +4,14 @@ ghost use Rattle.std.specs.Prelude.{◌≡◌, ℕ, ◌+◌, ◌*◌, ◌<◌, �
 ghost use Rattle.qrcode_types.specs.Versions.{is_valid, has_level, is_micro, side};
 ghost use Rattle.qrcode_types.specs.declared.types.QrError.TheVariants.{OutOfMemory};
 ghost use Rattle.qrcode_types.specs.declared.types.EcLevel.{EcLevel};
-ghost use Rattle.qrcode_ec.specs.Lists.{data_in, ec_in, IsList};
-ghost use Rattle.qrcode_packed.specs.Rows.{IsSquare, dark_in};
+ghost use Rattle.qrcode_ec.specs.Lists.{IsList};
+ghost use Rattle.qrcode_packed.specs.Rows.{dark_in};
 ghost use Rattle.qrcode_symbol.specs.Canvas.{blank, drawn_bits, with_patterns};
 ghost use Rattle.qrcode_symbol.specs.Carried.{drawn_modules};
 ghost use Rattle.qrcode_symbol.specs.Columns.{AreFreeColumns, IsStream};
+ghost use Rattle.qrcode_symbol.specs.DrawnColors.{AreDrawnColors, AreListColors, AreStreamColors};
 ghost use Rattle.qrcode_symbol.specs.DrawnLines.{AreDataColumns, AreDrawnLines};
-ghost use Rattle.qrcode_symbol.specs.Masking.{is_dark_module, ShowsModules, AreBestColors};
+ghost use Rattle.qrcode_symbol.specs.Masking.{is_dark_module, ShowsModules, IsSymbolSquare};
 ghost use Rattle.qrcode_symbol.specs.PackedPatterns.{AreBegun};
 
 use super::columns::draw_columns;
@@ -38,8 +39,7 @@ fn data_columns<R: PackedRow>(version: Version, stream: Stream<'_>, free: &[R], 
         → IsStream (drawn_bits version ec_level bytes ec) stream.entry.bytes.now
         → AreDataColumns version
         (drawn_modules version ec_level bytes ec) (map R.bits columns.new) }
-    ensures square { IsSquare R.room
-        (record { width = side version; rows = map R.bits columns.new }) }
+    ensures square { IsSymbolSquare R.room version (map R.bits columns.new) }
 {
     let _width = side(version);
     draw_columns(version, stream, free, columns);
@@ -62,12 +62,10 @@ fn turn_patterns<R: PackedRow>(version: Version, rows: &mut [R])
     requires normal { is_micro version ≡ false }
     requires shown { ShowsModules is_dark_module (side version)
         (with_patterns version (blank version)) (map R.bits rows.old) }
-    requires square { IsSquare R.room
-        (record { width = side version; rows = map R.bits rows.old }) }
+    requires square { IsSymbolSquare R.room version (map R.bits rows.old) }
     ensures turned { (x y : ℕ) → x < side version → y < side version
         → dark_in (map R.bits rows.new) y x ≡ dark_in (map R.bits rows.old) x y }
-    ensures square { IsSquare R.room
-        (record { width = side version; rows = map R.bits rows.new }) }
+    ensures square { IsSymbolSquare R.room version (map R.bits rows.new) }
 {
     let far = side(version) - 8;
     rows[far] = put(rows[far], 8, false);
@@ -123,10 +121,8 @@ fn drawn_by<R: PackedRow>(
     requires valid { IsTrue (is_valid version) }
     requires normal { is_micro version ≡ false }
     requires room { side version + 3 ≤ R.room }
-    ensures best { (bytes ec : List ℕ)
-        → IsStream (drawn_bits version ec_level bytes ec) stream.entry.bytes.now
-        → IfOk result (λ colors. AreBestColors version ec_level
-        (drawn_modules version ec_level bytes ec) colors.items) }
+    ensures best { IfOk result (λ colors.
+        AreStreamColors version ec_level stream.entry.bytes.now colors.items) }
     ensures memory { IsOkUnless result OutOfMemory }
 {
     let width = side(version);
@@ -153,10 +149,8 @@ fn stream_colors(
     requires exists { IsTrue (has_level version ec_level) }
     requires valid { IsTrue (is_valid version) }
     requires normal { is_micro version ≡ false }
-    ensures best { (bytes ec : List ℕ)
-        → IsStream (drawn_bits version ec_level bytes ec) stream.entry.bytes.now
-        → IfOk result (λ colors. AreBestColors version ec_level
-        (drawn_modules version ec_level bytes ec) colors.items) }
+    ensures best { IfOk result (λ colors.
+        AreStreamColors version ec_level stream.entry.bytes.now colors.items) }
     ensures memory { IsOkUnless result OutOfMemory }
 {
     let width = side(version);
@@ -178,8 +172,8 @@ pub(super) fn symbol_colors(
     ec: &[u8],
 ) -> QrResult<Vec<Color>>
     requires { IsTrue (has_level version ec_level) }
-    ensures best { IfOk result (λ colors. AreBestColors version ec_level
-        (drawn_modules version ec_level bytes.now ec.now) colors.items) }
+    ensures best { IfOk result (λ colors.
+        AreDrawnColors version ec_level bytes.now ec.now colors.items) }
     ensures memory { IsOkUnless result OutOfMemory }
 {
     if let Version::Micro(_) = version {
@@ -198,9 +192,8 @@ pub(super) fn list_colors(
 ) -> QrResult<Vec<Color>>
     requires exists { IsTrue (has_level version ec_level) }
     requires listed { IsList version ec_level list.now }
-    ensures best { IfOk result (λ colors. AreBestColors version ec_level
-        (drawn_modules version ec_level
-        (data_in version ec_level list.now) (ec_in version ec_level list.now)) colors.items) }
+    ensures best { IfOk result (λ colors.
+        AreListColors version ec_level list.now colors.items) }
     ensures memory { IsOkUnless result OutOfMemory }
 {
     if let Version::Micro(_) = version {

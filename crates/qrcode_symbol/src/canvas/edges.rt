@@ -3,7 +3,8 @@
 ghost use Rattle.std.specs.Prelude.{◌≡◌, ◌-◌, ◌<◌, ◌^◌, true};
 ghost use Rattle.qrcode_types.specs.Versions.{is_micro};
 ghost use Rattle.qrcode_places.specs.Masks.{mask_count};
-ghost use Rattle.qrcode_symbol.specs.Masking.{nth_cost, IsLastColumn, IsFirstLeastCost};
+ghost use Rattle.qrcode_symbol.specs.Masking.{IsLastColumn};
+ghost use Rattle.qrcode_symbol.specs.Trying.{cost_under, IsLeastMask};
 
 use super::masked_rows::{turn_line, turned_column, turned_row};
 use super::packing::PackedModules;
@@ -28,8 +29,7 @@ fn nth_micro_cost<R: PackedRow>(
     requires mask_exists { k < mask_count modules.now.version }
     requires dark { IsLastColumn modules.now.width modules.now.dark.rows (R.bits column.dark) }
     requires free { IsLastColumn modules.now.width modules.now.free.rows (R.bits column.free) }
-    ensures value { result ≡ nth_cost modules.now.version modules.now.ec_level modules.now.width
-        modules.now.dark.rows modules.now.free.rows k }
+    ensures value { result ≡ cost_under modules.now k }
     ensures at_most { result < 2 ^ 24 }
 {
     let mask = nth_mask(modules.version, k);
@@ -46,10 +46,7 @@ fn nth_micro_cost<R: PackedRow>(
 /// The number of the first mask of Micro under which the square costs least.
 pub(super) fn least_micro_mask<R: PackedRow>(modules: &PackedModules<'_, R>) -> usize
     requires { is_micro modules.now.version ≡ true }
-    ensures { IsFirstLeastCost
-        (nth_cost modules.now.version modules.now.ec_level modules.now.width
-        modules.now.dark.rows modules.now.free.rows)
-        (mask_count modules.now.version) result }
+    ensures { IsLeastMask modules.now result }
 {
     let column = LastColumn {
         dark: last_column(&modules.dark),

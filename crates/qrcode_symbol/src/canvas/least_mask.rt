@@ -3,11 +3,10 @@
 ghost use Rattle.std.specs.Prelude.{◌≡◌, ℕ, ◌+◌, ◌-◌, ◌*◌, ◌/◌, ◌%◌, ◌<◌, ◌≤◌, ◌^◌, length, map, false, IfOk, IsOkUnless};
 ghost use Rattle.qrcode_types.specs.Versions.{is_micro};
 ghost use Rattle.qrcode_types.specs.declared.types.QrError.TheVariants.{OutOfMemory};
-ghost use Rattle.qrcode_packed.specs.Rows.{dark_in};
-ghost use Rattle.qrcode_packed.specs.Strips.{ShowsStrips, IsStripRoom, AreWords};
+ghost use Rattle.qrcode_packed.specs.Strips.{IsStripRoom, AreWords};
 ghost use Rattle.qrcode_places.specs.Masks.{mask_count};
 ghost use Rattle.qrcode_symbol.specs.LastLines.{last_lines};
-ghost use Rattle.qrcode_symbol.specs.Masking.{nth_cost, IsFirstLeastCost};
+ghost use Rattle.qrcode_symbol.specs.Trying.{cost_under, AreStrips, IsLeastMask};
 
 use super::both_ways::BothWays;
 use super::masked_lines::mask_lines;
@@ -48,23 +47,16 @@ fn nth_cost<R: PackedRow, L: StripLine>(
     rows: &mut [R],
     columns: &mut [R],
 ) -> u32
-    requires some { 0 < count }
-    requires few { count ≤ 3 }
-    requires words { AreWords (L.room / 2) count }
+    requires strips { AreStrips (L.room / 2) count both.now.modules.now (map L.bits dark.now)
+        (map L.bits free.now) }
     requires normal { is_micro both.now.modules.now.version ≡ false }
     requires mask_exists { k < mask_count both.now.modules.now.version }
-    requires dark_shown { ShowsStrips (L.room / 2) count both.now.modules.now.width
-        (map L.bits dark.now) (dark_in both.now.modules.now.dark.rows) }
-    requires free_shown { ShowsStrips (L.room / 2) count both.now.modules.now.width
-        (map L.bits free.now) (dark_in both.now.modules.now.free.rows) }
     requires room { IsStripRoom count both.now.modules.now.width (map L.bits masked.old) }
     requires rows_length { both.now.modules.now.width
         ≤ count * (L.room / 2) - 1 + length rows.old }
     requires columns_length { both.now.modules.now.width
         ≤ count * (L.room / 2) - 1 + length columns.old }
-    ensures value { result ≡ nth_cost both.now.modules.now.version
-        both.now.modules.now.ec_level both.now.modules.now.width
-        both.now.modules.now.dark.rows both.now.modules.now.free.rows k }
+    ensures value { result ≡ cost_under both.now.modules.now k }
     ensures at_most { result < 2 ^ 24 }
     ensures room { IsStripRoom count both.now.modules.now.width (map L.bits masked.new) }
 {
@@ -86,23 +78,15 @@ fn least_mask_by_strips<R: PackedRow, L: StripLine>(
     rows: &mut [R],
     columns: &mut [R],
 ) -> usize
-    requires some { 0 < count }
-    requires few { count ≤ 3 }
-    requires words { AreWords (L.room / 2) count }
+    requires strips { AreStrips (L.room / 2) count both.now.modules.now (map L.bits dark.now)
+        (map L.bits free.now) }
     requires normal { is_micro both.now.modules.now.version ≡ false }
-    requires dark_shown { ShowsStrips (L.room / 2) count both.now.modules.now.width
-        (map L.bits dark.now) (dark_in both.now.modules.now.dark.rows) }
-    requires free_shown { ShowsStrips (L.room / 2) count both.now.modules.now.width
-        (map L.bits free.now) (dark_in both.now.modules.now.free.rows) }
     requires room { IsStripRoom count both.now.modules.now.width (map L.bits masked.old) }
     requires rows_length { both.now.modules.now.width
         ≤ count * (L.room / 2) - 1 + length rows.old }
     requires columns_length { both.now.modules.now.width
         ≤ count * (L.room / 2) - 1 + length columns.old }
-    ensures { IsFirstLeastCost
-        (nth_cost both.now.modules.now.version both.now.modules.now.ec_level
-        both.now.modules.now.width both.now.modules.now.dark.rows both.now.modules.now.free.rows)
-        (mask_count both.now.modules.now.version) result }
+    ensures { IsLeastMask both.now.modules.now result }
 {
     let mut best = 0;
     let mut least = u32::MAX;
@@ -133,10 +117,7 @@ fn least_mask_in<R: PackedRow, L: StripLine>(
         ≤ count * (L.room / 2) - 1 + length rows.old }
     requires columns_length { both.now.modules.now.width
         ≤ count * (L.room / 2) - 1 + length columns.old }
-    ensures least { IfOk result (λ best. IsFirstLeastCost
-        (nth_cost both.now.modules.now.version both.now.modules.now.ec_level
-        both.now.modules.now.width both.now.modules.now.dark.rows both.now.modules.now.free.rows)
-        (mask_count both.now.modules.now.version) best) }
+    ensures least { IfOk result (λ best. IsLeastMask both.now.modules.now best) }
     ensures memory { IsOkUnless result OutOfMemory }
 {
     let modules = both.modules;
@@ -163,10 +144,7 @@ pub(super) fn least_normal_mask<R: PackedRow>(
 ) -> QrResult<usize>
     requires normal { is_micro both.now.modules.now.version ≡ false }
     requires last { length last.old ≡ 2 * last_lines both.now.modules.now.width }
-    ensures least { IfOk result (λ best. IsFirstLeastCost
-        (nth_cost both.now.modules.now.version both.now.modules.now.ec_level
-        both.now.modules.now.width both.now.modules.now.dark.rows both.now.modules.now.free.rows)
-        (mask_count both.now.modules.now.version) best) }
+    ensures least { IfOk result (λ best. IsLeastMask both.now.modules.now best) }
     ensures memory { IsOkUnless result OutOfMemory }
 {
     let width = both.modules.width;
@@ -188,10 +166,7 @@ pub(super) fn least_turned_mask<R: PackedRow>(
     modules: &PackedModules<'_, R>,
 ) -> QrResult<usize>
     requires normal { is_micro modules.now.version ≡ false }
-    ensures least { IfOk result (λ best. IsFirstLeastCost
-        (nth_cost modules.now.version modules.now.ec_level modules.now.width
-        modules.now.dark.rows modules.now.free.rows)
-        (mask_count modules.now.version) best) }
+    ensures least { IfOk result (λ best. IsLeastMask modules.now best) }
     ensures memory { IsOkUnless result OutOfMemory }
 {
     let width = modules.width;

@@ -2,12 +2,12 @@
 
 ghost use Rattle.std.specs.Prelude.{◌≡◌, ◌≢◌, ℕ, ◌+◌, ◌<◌, ◌≤◌, length, map, unwrap_or, false, IsTrue};
 ghost use Rattle.qrcode_types.specs.Versions.{is_micro};
-ghost use Rattle.qrcode_packed.specs.Rows.{is_set, inside};
+ghost use Rattle.qrcode_packed.specs.Rows.{is_set};
 ghost use Rattle.qrcode_packed.specs.Strips.{ShowsLastLines};
 ghost use Rattle.qrcode_places.specs.Masks.{exists_in};
 ghost use Rattle.qrcode_places.specs.Patterns.{decided_bit};
-ghost use Rattle.qrcode_places.specs.Words.{format_word};
 ghost use Rattle.qrcode_symbol.specs.Masking.{masked_dark};
+ghost use Rattle.qrcode_symbol.specs.Trying.{under_mask};
 
 use super::both_ways::BothWays;
 use super::layer::Layer;
@@ -108,10 +108,7 @@ fn mask_some_lines<R: PackedRow>(
     requires rows_length { both.now.modules.now.width ≤ first + length rows.old }
     requires columns_length { both.now.modules.now.width ≤ first + length columns.old }
     ensures shown { ShowsLastLines first both.now.modules.now.width (map R.bits rows.new)
-        (map R.bits columns.new) (inside both.now.modules.now.width
-        (masked_dark both.now.modules.now.version (format_word both.now.modules.now.version
-        both.now.modules.now.ec_level mask) mask both.now.modules.now.dark.rows
-        both.now.modules.now.free.rows)) }
+        (map R.bits columns.new) (under_mask both.now.modules.now mask) }
 {
     let modules = both.modules;
     let layer = Layer {
@@ -141,10 +138,7 @@ pub(super) fn mask_lines<R: PackedRow>(
     requires rows_length { both.now.modules.now.width ≤ first + length rows.old }
     requires columns_length { both.now.modules.now.width ≤ first + length columns.old }
     ensures shown { ShowsLastLines first both.now.modules.now.width (map R.bits rows.new)
-        (map R.bits columns.new) (inside both.now.modules.now.width
-        (masked_dark both.now.modules.now.version (format_word both.now.modules.now.version
-        both.now.modules.now.ec_level mask) mask both.now.modules.now.dark.rows
-        both.now.modules.now.free.rows)) }
+        (map R.bits columns.new) (under_mask both.now.modules.now mask) }
 {
     if !rows.is_empty() {
         mask_some_lines(both, mask, first, rows, columns);

@@ -3,14 +3,14 @@
 ghost use Rattle.std.specs.Prelude.{◌≡◌, ◌≢◌, ℕ, ◌+◌, ◌-◌, ◌*◌, ◌/◌, ◌%◌, ◌<◌, ◌≤◌, ◌^◌, ◌&&◌, Bool, List, false, length, map, slice_index_or, unwrap_or, IsTrue};
 ghost use Rattle.qrcode_types.specs.Bits.{has_bit};
 ghost use Rattle.qrcode_types.specs.Versions.{is_micro};
-ghost use Rattle.qrcode_packed.specs.Rows.{is_set, dark_in, inside};
-ghost use Rattle.qrcode_packed.specs.Strips.{ShowsStrips, IsStripRoom, AreWords, IsApart};
+ghost use Rattle.qrcode_packed.specs.Rows.{is_set, dark_in};
+ghost use Rattle.qrcode_packed.specs.Strips.{ShowsStrips, IsStripRoom, IsApart};
 ghost use Rattle.qrcode_places.specs.Masks.{turns, exists_in};
-ghost use Rattle.qrcode_places.specs.Words.{format_word};
 ghost use Rattle.qrcode_places.specs.Patterns.{decided_bit};
-ghost use Rattle.qrcode_symbol.specs.Masking.{masked_dark, next_places, three_words};
+ghost use Rattle.qrcode_symbol.specs.Masking.{next_places, three_words};
 ghost use Rattle.qrcode_symbol.specs.Deciding.{IsPutInRow, IsPutInLines, is_format_place, AreLanes, turned_place, with_line_eight};
 ghost use Rattle.qrcode_symbol.specs.StripLines.{AreTurnedLines, IsDecidedLine, row_of_ends};
+ghost use Rattle.qrcode_symbol.specs.Trying.{under_mask, AreStrips};
 
 use super::layer::Layer;
 use super::masked_rows::{next_places, put, put_bits, turned_column, turned_row};
@@ -295,14 +295,10 @@ fn turn_strips<R: PackedRow, L: StripLine>(
     free: &[L],
     lines: &mut [L],
 )
-    requires few { count ≤ 3 }
+    requires strips { AreStrips (L.room / 2) count modules.now (map L.bits dark.now)
+        (map L.bits free.now) }
     requires least { 17 ≤ modules.now.width }
-    requires words { AreWords (L.room / 2) count }
     requires length { length lines.old ≡ count * (modules.now.width + 4) + 8 }
-    requires dark_shown { ShowsStrips (L.room / 2) count modules.now.width (map L.bits dark.now)
-        (dark_in modules.now.dark.rows) }
-    requires free_shown { ShowsStrips (L.room / 2) count modules.now.width (map L.bits free.now)
-        (dark_in modules.now.free.rows) }
     ensures lanes { let turned = turned_place mask (dark_in modules.now.dark.rows)
         (dark_in modules.now.free.rows) in
         (places : ℕ) → ((x : ℕ) → is_set places x ≡ is_format_place modules.now.width x)
@@ -332,20 +328,13 @@ pub(super) fn mask_strips<R: PackedRow, L: StripLine>(
     free: &[L],
     masked: &mut [L],
 )
-    requires some { 0 < count }
-    requires few { count ≤ 3 }
-    requires words { AreWords (L.room / 2) count }
+    requires strips { AreStrips (L.room / 2) count modules.now (map L.bits dark.now)
+        (map L.bits free.now) }
     requires normal { is_micro modules.now.version ≡ false }
     requires mask_exists { IsTrue (exists_in modules.now.version mask) }
     requires room { IsStripRoom count modules.now.width (map L.bits masked.old) }
-    requires dark_shown { ShowsStrips (L.room / 2) count modules.now.width (map L.bits dark.now)
-        (dark_in modules.now.dark.rows) }
-    requires free_shown { ShowsStrips (L.room / 2) count modules.now.width (map L.bits free.now)
-        (dark_in modules.now.free.rows) }
     ensures shown { ShowsStrips (L.room / 2) count modules.now.width (map L.bits masked.new)
-        (inside modules.now.width (masked_dark modules.now.version
-        (format_word modules.now.version modules.now.ec_level mask) mask
-        modules.now.dark.rows modules.now.free.rows)) }
+        (under_mask modules.now mask) }
 {
     let _dark = modules.dark.width();
     let _free = modules.free.width();

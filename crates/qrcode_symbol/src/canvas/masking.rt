@@ -1,14 +1,13 @@
 //! The choice of the mask. The modules are packed into rows once; each mask is tried on the rows, and only
 //! the best is written as modules.
 
-ghost use Rattle.std.specs.Prelude.{◌≡◌, ℕ, ◌+◌, ◌*◌, ◌<◌, ◌≤◌, length, map, false, List, IsTrue, IfOk, IsOkUnless};
+ghost use Rattle.std.specs.Prelude.{◌≡◌, ℕ, ◌+◌, ◌*◌, ◌<◌, ◌≤◌, length, map, false, IsTrue, IfOk, IsOkUnless};
 ghost use Rattle.qrcode_types.specs.Versions.{is_micro, has_level, side};
 ghost use Rattle.qrcode_types.specs.declared.types.QrError.TheVariants.{OutOfMemory};
-ghost use Rattle.qrcode_packed.specs.Rows.{IsSquare, dark_in};
-ghost use Rattle.qrcode_places.specs.Masks.{mask_count};
+ghost use Rattle.qrcode_packed.specs.Rows.{dark_in};
 ghost use Rattle.qrcode_symbol.specs.LastLines.{last_lines};
-ghost use Rattle.qrcode_symbol.specs.Masking.{is_dark_module, is_free, ShowsModules, nth_cost, IsFirstLeastCost, IsBestShown, AreBestColors};
-ghost use Rattle.qrcode_symbol.specs.declared.canvas.Module.{Module};
+ghost use Rattle.qrcode_symbol.specs.Masking.{IsSymbolSquare, IsBestShown, IsBestOfRows, AreBestColors};
+ghost use Rattle.qrcode_symbol.specs.Trying.{IsLeastMask, IsBestOf};
 
 use super::both_ways::BothWays;
 use super::cells::Cell;
@@ -26,10 +25,7 @@ use std::alloc::Global;
 
 // The number of the first mask under which the rows cost least.
 fn least_mask<R: PackedRow>(alloc: Global, modules: &PackedModules<'_, R>) -> QrResult<usize>
-    ensures least { IfOk result (λ best. IsFirstLeastCost
-        (nth_cost modules.now.version modules.now.ec_level modules.now.width
-        modules.now.dark.rows modules.now.free.rows)
-        (mask_count modules.now.version) best) }
+    ensures least { IfOk result (λ best. IsLeastMask modules.now best) }
     ensures memory { IsOkUnless result OutOfMemory }
 {
     match modules.version {
@@ -46,15 +42,8 @@ fn shown_under<R: PackedRow, S: FromColor>(
     masked: &mut [R],
 ) -> QrResult<Vec<S>>
     requires length { length masked.old ≡ packed.now.width }
-    requires least { IsFirstLeastCost
-        (nth_cost packed.now.version packed.now.ec_level packed.now.width
-        packed.now.dark.rows packed.now.free.rows)
-        (mask_count packed.now.version) best }
-    ensures best { (modules : List Module)
-        → ShowsModules is_dark_module packed.now.width modules packed.now.dark.rows
-        → ShowsModules is_free packed.now.width modules packed.now.free.rows
-        → IfOk result (λ new.
-        IsBestShown packed.now.version packed.now.ec_level modules S.from_color new.items) }
+    requires least { IsLeastMask packed.now best }
+    ensures best { IfOk result (λ new. IsBestOf packed.now S.from_color new.items) }
     ensures memory { IsOkUnless result OutOfMemory }
 {
     let mut answer = Vec::with_capacity(alloc, packed.width * packed.width)?;
@@ -72,10 +61,8 @@ fn packed_of<'a, R: PackedRow>(
     free: &'a [R],
 ) -> PackedModules<'a, R>
     requires exists { IsTrue (has_level version ec_level) }
-    requires dark_square { IsSquare R.room
-        (record { width = side version; rows = map R.bits dark.now }) }
-    requires free_square { IsSquare R.room
-        (record { width = side version; rows = map R.bits free.now }) }
+    requires dark_square { IsSymbolSquare R.room version (map R.bits dark.now) }
+    requires free_square { IsSymbolSquare R.room version (map R.bits free.now) }
     ensures version { result.version ≡ version }
     ensures width { result.width ≡ side version }
     ensures level { result.ec_level ≡ ec_level }
@@ -103,15 +90,11 @@ pub(super) fn best_from<R: PackedRow, S: FromColor>(
     masked: &mut [R],
 ) -> QrResult<Vec<S>>
     requires exists { IsTrue (has_level version ec_level) }
-    requires dark_square { IsSquare R.room
-        (record { width = side version; rows = map R.bits dark.now }) }
-    requires free_square { IsSquare R.room
-        (record { width = side version; rows = map R.bits free.now }) }
+    requires dark_square { IsSymbolSquare R.room version (map R.bits dark.now) }
+    requires free_square { IsSymbolSquare R.room version (map R.bits free.now) }
     requires masked_length { length masked.old ≡ side version }
-    ensures best { (modules : List Module)
-        → ShowsModules is_dark_module (side version) modules (map R.bits dark.now)
-        → ShowsModules is_free (side version) modules (map R.bits free.now)
-        → IfOk result (λ new. IsBestShown version ec_level modules S.from_color new.items) }
+    ensures best { IfOk result (λ new. IsBestOfRows version ec_level (side version)
+        (map R.bits dark.now) (map R.bits free.now) S.from_color new.items) }
     ensures memory { IsOkUnless result OutOfMemory }
 {
     let packed = packed_of(version, ec_level, dark, free);
@@ -133,21 +116,16 @@ pub(super) fn best_mirrored<R: PackedRow, S: FromColor>(
 ) -> QrResult<Vec<S>>
     requires exists { IsTrue (has_level version ec_level) }
     requires normal { is_micro version ≡ false }
-    requires dark_square { IsSquare R.room
-        (record { width = side version; rows = map R.bits dark.now }) }
-    requires free_square { IsSquare R.room
-        (record { width = side version; rows = map R.bits free.now }) }
+    requires dark_square { IsSymbolSquare R.room version (map R.bits dark.now) }
+    requires free_square { IsSymbolSquare R.room version (map R.bits free.now) }
     requires mirrored { (x y : ℕ) → x < side version → y < side version
         → dark_in (map R.bits free.now) y x ≡ dark_in (map R.bits free.now) x y }
-    requires columns_square { IsSquare R.room
-        (record { width = side version; rows = map R.bits columns.old }) }
+    requires columns_square { IsSymbolSquare R.room version (map R.bits columns.old) }
     requires turned { (x y : ℕ) → x < side version → y < side version
         → dark_in (map R.bits columns.old) y x ≡ dark_in (map R.bits dark.now) x y }
     requires last { length last.old ≡ 2 * last_lines (side version) }
-    ensures best { (modules : List Module)
-        → ShowsModules is_dark_module (side version) modules (map R.bits dark.now)
-        → ShowsModules is_free (side version) modules (map R.bits free.now)
-        → IfOk result (λ new. IsBestShown version ec_level modules S.from_color new.items) }
+    ensures best { IfOk result (λ new. IsBestOfRows version ec_level (side version)
+        (map R.bits dark.now) (map R.bits free.now) S.from_color new.items) }
     ensures memory { IsOkUnless result OutOfMemory }
 {
     let packed = packed_of(version, ec_level, dark, free);

@@ -1,12 +1,11 @@
 //! Symbols of Micro drawn in rows of one word, with no room from the allocator but that of the colours.
 
-ghost use Rattle.std.specs.Prelude.{◌≡◌, List, length, true, IsTrue, IfOk, IsOkUnless};
+ghost use Rattle.std.specs.Prelude.{◌≡◌, length, true, IsTrue, IfOk, IsOkUnless};
 ghost use Rattle.qrcode_types.specs.Versions.{is_valid, has_level, is_micro};
 ghost use Rattle.qrcode_types.specs.declared.types.QrError.TheVariants.{OutOfMemory};
-ghost use Rattle.qrcode_ec.specs.Lists.{data_in, ec_in, IsList};
-ghost use Rattle.qrcode_symbol.specs.Carried.{drawn_modules};
-ghost use Rattle.qrcode_symbol.specs.Masking.{is_dark_module, is_free, ShowsModules, AreBestColors};
-ghost use Rattle.qrcode_symbol.specs.declared.canvas.Module.{Module};
+ghost use Rattle.qrcode_ec.specs.Lists.{IsList};
+ghost use Rattle.qrcode_symbol.specs.DrawnColors.{AreDrawnColors, AreListColors};
+ghost use Rattle.qrcode_symbol.specs.Trying.{IsBestOf};
 
 mod codewords;
 mod data;
@@ -36,11 +35,7 @@ fn best_colors(
 ) -> QrResult<Vec<Color>>
     requires micro { is_micro packed.now.version ≡ true }
     requires length { length masked.old ≡ packed.now.width }
-    ensures best { (modules : List Module)
-        → ShowsModules is_dark_module packed.now.width modules packed.now.dark.rows
-        → ShowsModules is_free packed.now.width modules packed.now.free.rows
-        → IfOk result (λ colors.
-        AreBestColors packed.now.version packed.now.ec_level modules colors.items) }
+    ensures best { IfOk result (λ colors. IsBestOf packed.now (λ color. color) colors.items) }
     ensures memory { IsOkUnless result OutOfMemory }
 {
     let best = least_micro_mask(packed);
@@ -61,8 +56,8 @@ pub(super) fn micro_colors(
     requires exists { IsTrue (has_level version ec_level) }
     requires valid { IsTrue (is_valid version) }
     requires micro { IsTrue (is_micro version) }
-    ensures best { IfOk result (λ colors. AreBestColors version ec_level
-        (drawn_modules version ec_level bytes.now ec.now) colors.items) }
+    ensures best { IfOk result (λ colors.
+        AreDrawnColors version ec_level bytes.now ec.now colors.items) }
     ensures memory { IsOkUnless result OutOfMemory }
 {
     let width = side(version);
@@ -93,9 +88,8 @@ pub(super) fn micro_list_colors(
     requires valid { IsTrue (is_valid version) }
     requires micro { IsTrue (is_micro version) }
     requires listed { IsList version ec_level list.now }
-    ensures best { IfOk result (λ colors. AreBestColors version ec_level
-        (drawn_modules version ec_level
-        (data_in version ec_level list.now) (ec_in version ec_level list.now)) colors.items) }
+    ensures best { IfOk result (λ colors.
+        AreListColors version ec_level list.now colors.items) }
     ensures memory { IsOkUnless result OutOfMemory }
 {
     let blocks = Blocks::of(version, ec_level).unwrap();

@@ -3,8 +3,9 @@
 ghost use Rattle.std.specs.Prelude.{◌≡◌, ℕ, ◌+◌, ◌-◌, ◌*◌, ◌%◌, ◌==◌, ◌<◌, ◌≤◌, length, map, slice_index, false, IsTrue};
 ghost use Rattle.qrcode_types.specs.Bits.{has_bit};
 ghost use Rattle.qrcode_types.specs.Versions.{is_valid, is_micro, side};
-ghost use Rattle.qrcode_packed.specs.Rows.{is_set, IsSquare};
+ghost use Rattle.qrcode_packed.specs.Rows.{is_set};
 ghost use Rattle.qrcode_places.specs.Patterns.{centres, is_corner_centre};
+ghost use Rattle.qrcode_symbol.specs.Masking.{IsSymbolSquare};
 ghost use Rattle.qrcode_symbol.specs.PackedPatterns.{AreBegun, IsTaken, StayTaken, IsSpan, IsLineShown, IsShownBlock, AreAlignmentsTaken, IsWordShown, ArePatternRows};
 ghost use Rattle.qrcode_symbol.specs.Patterned.{IsCentre};
 
@@ -258,10 +259,8 @@ pub(super) fn draw_pattern_rows<R: PackedRow>(version: Version, dark: &mut [R], 
     requires room { side version + 3 ≤ R.room }
     requires begun { AreBegun version (map R.bits dark.old) (map R.bits free.old) }
     ensures shown { ArePatternRows version (map R.bits dark.new) (map R.bits free.new) }
-    ensures dark_square { IsSquare R.room
-        (record { width = side version; rows = map R.bits dark.new }) }
-    ensures free_square { IsSquare R.room
-        (record { width = side version; rows = map R.bits free.new }) }
+    ensures dark_square { IsSymbolSquare R.room version (map R.bits dark.new) }
+    ensures free_square { IsSymbolSquare R.room version (map R.bits free.new) }
 {
     let places = PatternPlaces::new(version);
     let width = places.width;

@@ -2,7 +2,7 @@
 
 ghost use Rattle.std.specs.Prelude.{◌≡◌, ℕ, ◌+◌, ◌-◌, ◌*◌, ◌<◌, ◌≤◌, ◌^◌, length, false};
 ghost use Rattle.qrcode_packed.specs.Rows.{is_set, FitsWidth};
-ghost use Rattle.qrcode_symbol.specs.Columns.{HoldBits, is_free_step, is_set_in, passing, row_at};
+ghost use Rattle.qrcode_symbol.specs.Columns.{HoldBits, IsFilledPair, is_free_step, is_set_in, passing, row_at};
 
 use super::placing::{Rows, bits_in_rows};
 use super::shuffling::{TwoWords, backwards, pressed};
@@ -218,14 +218,8 @@ pub(super) fn drawn_pair<R: PackedRow, const UP: bool>(
     requires room { width + 3 ≤ R.room }
     requires left_fits { FitsWidth width (R.bits left) }
     requires right_fits { FitsWidth width (R.bits right) }
-    ensures shown { HoldBits stream.entry.bytes.now from UP width
-        (is_set (R.bits left)) (is_set (R.bits right))
-        (is_set (R.bits result.left)) (is_set (R.bits result.right)) width }
-    ensures next { result.next ≡ from
-        + passing (is_free_step UP width (is_set (R.bits left)) (is_set (R.bits right)))
-        (2 * width) }
-    ensures new_left_fits { FitsWidth width (R.bits result.left) }
-    ensures new_right_fits { FitsWidth width (R.bits result.right) }
+    ensures { IsFilledPair stream.entry.bytes.now from UP width (R.bits left) (R.bits right)
+        (R.bits result.left) (R.bits result.right) result.next }
 {
     let free = Parts {
         left: parts_of(left),

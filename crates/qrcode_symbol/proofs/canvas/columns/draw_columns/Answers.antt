@@ -78,7 +78,7 @@ loop-number-preserved g c =
     map-set bits (slice_set old (right - 1) drawn.left) right drawn.right ∙ ap (λ (l : List ℕ). slice_set l right (bits drawn.right)) (map-set bits old (right - 1) drawn.left) in
     record {
       next = next_at v free n right c.loop-number.next drawn.next c.side-width.result (bits c.index-free-right.result) (bits c.index-free-right-in-loop-number.result)
-          c.right_column-right.ensures.value c.right_column-right.ensures.at_least small are c.loop-number.invariant.next c.side-width.ensures.value at_left at_right c.next_pair-drawn.ensures.next;
+          c.right_column-right.ensures.value c.right_column-right.ensures.at_least small are c.loop-number.invariant.next c.side-width.ensures.value at_left at_right c.next_pair-drawn.ensures.next_is;
       filled = subst (λ (l : List ℕ). AreFilled v c.args.stream.bytes.now l (2 * side v * (n + 1))) (sym both)
           (pair_filled v c.args.stream.bytes.now free columns n right c.loop-number.next (bits drawn.left) (bits drawn.right) inside c.right_column-right.ensures.value c.right_column-right.ensures.at_least small size are
           c.loop-number.invariant.next c.loop-number.invariant.filled
@@ -87,8 +87,8 @@ loop-number-preserved g c =
       left_out = ap (λ (l : List ℕ). slice_index_or l (left_out v) 0) both ∙ left_out_stays v columns n right (bits drawn.left) (bits drawn.right) inside c.right_column-right.ensures.value c.loop-number.invariant.left_out;
       fits = λ x. subst (λ (l : List ℕ). FitsWidth (side v) (slice_index_or l x 0)) (sym both)
           (columns_fit (side v) columns right (bits drawn.left) (bits drawn.right) c.right_column-right.ensures.at_least (omega arith)
-          (subst (λ (w : ℕ). FitsWidth w (bits drawn.left)) c.side-width.ensures.value c.next_pair-drawn.ensures.new_left_fits)
-          (subst (λ (w : ℕ). FitsWidth w (bits drawn.right)) c.side-width.ensures.value c.next_pair-drawn.ensures.new_right_fits) c.loop-number.invariant.fits x);
+          (subst (λ (w : ℕ). FitsWidth w (bits drawn.left)) c.side-width.ensures.value c.next_pair-drawn.ensures.left_fits)
+          (subst (λ (w : ℕ). FitsWidth w (bits drawn.right)) c.side-width.ensures.value c.next_pair-drawn.ensures.right_fits) c.loop-number.invariant.fits x);
     }
 
 pub returns-clause-filled : goal.returns-clause-filled

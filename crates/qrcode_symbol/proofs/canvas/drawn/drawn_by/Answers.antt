@@ -1,6 +1,7 @@
 use Rattle.std.proofs.Common.{◌≡◌, ℕ, ◌+◌, ◌-◌, ◌*◌, ◌^◌, List, ◌++◌, take, drop, map, replicate, get_or, ap, ap₂, sym, inl, inr, arith, ◌∙◌}
 use Rattle.std.proofs.lemmas.Bool.{cases_lt}
 use Rattle.std.proofs.lemmas.List.{append_assoc, replicate-append-replicate, get_or-replicate, get_or_past, length-replicate}
+use Rattle.std.proofs.lemmas.Result.{IfOk-weaker}
 use Rattle.qrcode_types.specs.Versions.{side}
 use Rattle.qrcode_symbol.specs.Carried.{drawn_modules}
 use Rattle.qrcode_symbol.proofs.PackedPatterns.{blank_begun}
@@ -59,7 +60,7 @@ draw_lines-requires-clause-light g c = λ x.
     ap (λ (l : List ℕ). get_or l x 0) (ap (map bits) columns ∙ map-replicate bits w none ∙ ap (λ (r : ℕ). replicate w r) c.first.ensures) ∙ zeros_at w x
 
 pub returns-clause-best : goal.returns-clause-best
-returns-clause-best g c = λ bytes ec is.
+returns-clause-best g c =
     let l = c.args.ec_level in
     let drawn = c.draw_lines.ensures in
-    c.best_mirrored.ensures.best (drawn_modules c.args.version l bytes ec) (drawn.dark_shown l bytes ec is) (drawn.free_shown l bytes ec)
+    IfOk-weaker c.best_mirrored.result _ _ (λ colors best bytes ec is. best (drawn_modules c.args.version l bytes ec) (drawn.dark_shown l bytes ec is) (drawn.free_shown l bytes ec)) c.best_mirrored.ensures.best

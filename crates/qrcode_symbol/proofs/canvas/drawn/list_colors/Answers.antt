@@ -1,4 +1,6 @@
-use Rattle.std.proofs.Common.{rules, sym, subst}
+use Rattle.std.proofs.Common.{◌≡◌, false, rules, sym, subst}
+use Rattle.std.proofs.lemmas.Result.{IfOk-weaker}
+use Rattle.qrcode_types.specs.Versions.{is_micro}
 use Rattle.qrcode_ec.specs.Lists.{data_in, ec_in}
 use Rattle.qrcode_symbol.specs.Canvas.{drawn_bits}
 use Rattle.qrcode_symbol.specs.Columns.{IsStream}
@@ -12,4 +14,5 @@ returns-clause-best c =
     let list = c.args.list.now in
     let data_words = data_in v l list in
     let ec_words = ec_in v l list in
-    c.stream_colors.ensures.best data_words ec_words (subst (IsStream (drawn_bits v l data_words ec_words)) (sym c.new.ensures) (list_stream v l list (search rules) c.requires.listed))
+    let normal : is_micro v ≡ false = search rules in
+    IfOk-weaker c.stream_colors.result _ _ (λ colors best. best data_words ec_words (subst (IsStream (drawn_bits v l data_words ec_words)) (sym c.new.ensures) (list_stream v l list normal c.requires.listed))) c.stream_colors.ensures.best

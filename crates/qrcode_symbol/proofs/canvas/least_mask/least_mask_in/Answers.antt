@@ -20,26 +20,29 @@ pub overflow_mul-size-2 : goal.overflow_mul-size-2
 overflow_mul-size-2 g c = omega (arith, few_lines c.args.count c.args.both.now.modules.now.width c.requires.few c.args.both.now.modules.now.at_most)
 
 pub join-requires-clause-turned : goal.join-requires-clause-turned
-join-requires-clause-turned g c = λ x y h l. let w = c.args.both.now.modules.now.dark_width in c.args.both.now.dark_turned x y (omega (arith, h, w)) (omega (arith, l, w))
+join-requires-clause-turned g c = c.args.both.now.dark_turned
 
 pub join-requires-clause-room : goal.join-requires-clause-room
 join-requires-clause-room g c = subst (λ (n : ℕ). IsStripRoom c.args.count n (map g.L.PackedRow.bits c.lighten_between.new.lines)) (sym c.args.both.now.modules.now.dark_width) c.lighten_between.ensures
 
 pub join-requires-2-clause-turned : goal.join-requires-2-clause-turned
-join-requires-2-clause-turned g c = λ x y h l. let w = c.args.both.now.modules.now.free_width in c.args.both.now.free_turned x y (omega (arith, h, w)) (omega (arith, l, w))
+join-requires-2-clause-turned g c = c.args.both.now.free_turned
 
 pub join-requires-2-clause-room : goal.join-requires-2-clause-room
 join-requires-2-clause-room g c = subst (λ (n : ℕ). IsStripRoom c.args.count n (map g.L.PackedRow.bits c.lighten_between-2.new.lines)) (sym c.args.both.now.modules.now.free_width) c.lighten_between-2.ensures
 
-pub least_mask_by_strips-requires-clause-dark_shown : goal.least_mask_by_strips-requires-clause-dark_shown
-least_mask_by_strips-requires-clause-dark_shown g c =
+pub least_mask_by_strips-requires-clause-strips : goal.least_mask_by_strips-requires-clause-strips
+least_mask_by_strips-requires-clause-strips g c =
+    let bits = g.L.PackedRow.bits in
+    let half = g.L.PackedRow.room / 2 in
     let m = c.args.both.now.modules.now in
-    subst (λ (n : ℕ). ShowsStrips (g.L.PackedRow.room / 2) c.args.count n (map g.L.PackedRow.bits c.join.new.strips) (dark_in m.dark.rows)) m.dark_width c.join.ensures.shown
-
-pub least_mask_by_strips-requires-clause-free_shown : goal.least_mask_by_strips-requires-clause-free_shown
-least_mask_by_strips-requires-clause-free_shown g c =
-    let m = c.args.both.now.modules.now in
-    subst (λ (n : ℕ). ShowsStrips (g.L.PackedRow.room / 2) c.args.count n (map g.L.PackedRow.bits c.join-2.new.strips) (dark_in m.free.rows)) m.free_width c.join-2.ensures.shown
+    record {
+      some = c.requires.some;
+      few = c.requires.few;
+      words = c.requires.words;
+      dark_shown = subst (λ (n : ℕ). ShowsStrips half c.args.count n (map bits c.join.new.strips) (dark_in m.dark.rows)) m.dark_width c.join.ensures.shown;
+      free_shown = subst (λ (n : ℕ). ShowsStrips half c.args.count n (map bits c.join-2.new.strips) (dark_in m.free.rows)) m.free_width c.join-2.ensures.shown;
+    }
 
 pub least_mask_by_strips-requires-clause-room : goal.least_mask_by_strips-requires-clause-room
 least_mask_by_strips-requires-clause-room g c = c.lighten_between-3.ensures

@@ -16,18 +16,18 @@ one_at_least zero m h = absurd (omega (arith, h))
 one_at_least (suc n) m h = omega arith
 
 pub mask_lines-requires-clause-behind : goal.mask_lines-requires-clause-behind
-mask_lines-requires-clause-behind g c = omega (arith, c.size.ensures, g.met.L.StripLine.half_at_least, one_at_least c.args.count (c.size.result / 2) c.requires.some)
+mask_lines-requires-clause-behind g c = omega (arith, c.size.ensures, g.met.L.StripLine.half_at_least, one_at_least c.args.count (c.size.result / 2) c.requires.strips.some)
 
 pub penalty_of_parts-requires-clause-length : goal.penalty_of_parts-requires-clause-length
 penalty_of_parts-requires-clause-length g c = omega (arith, length-map c.mask_strips.new.masked g.L.PackedRow.bits, c.mask_strips.ensures.shown.length)
 
 pub penalty_of_parts-requires-clause-rows : goal.penalty_of_parts-requires-clause-rows
 penalty_of_parts-requires-clause-rows g c =
-    omega (arith, c.requires.rows_length, c.mask_lines.auto.rows, g.met.L.StripLine.half_at_least, one_at_least c.args.count (g.L.PackedRow.room / 2) c.requires.some)
+    omega (arith, c.requires.rows_length, c.mask_lines.auto.rows, g.met.L.StripLine.half_at_least, one_at_least c.args.count (g.L.PackedRow.room / 2) c.requires.strips.some)
 
 pub penalty_of_parts-requires-clause-columns : goal.penalty_of_parts-requires-clause-columns
 penalty_of_parts-requires-clause-columns g c =
-    omega (arith, c.requires.columns_length, c.mask_lines.auto.columns, g.met.L.StripLine.half_at_least, one_at_least c.args.count (g.L.PackedRow.room / 2) c.requires.some)
+    omega (arith, c.requires.columns_length, c.mask_lines.auto.columns, g.met.L.StripLine.half_at_least, one_at_least c.args.count (g.L.PackedRow.room / 2) c.requires.strips.some)
 
 pub returns-clause-value : goal.returns-clause-value
 unfolding nth_cost

@@ -30,6 +30,6 @@ returns g c =
     ap (λ n. is_set n y) c.turn_line-column.ensures
     ∙ turned_at (bits c.row.result) (bits c.row-2.result) (turned % 2 ^ room) y (turns mask x y) (has_mod turned room y (omega (arith, h, m.room, c.requires.width)) ∙ c.turned_column-turned.ensures y (omega (arith, h, layer.small)))
     ∙ ap₂ (λ (a b : Bool). turned_if (b && turns mask x y) a)
-    (ap (λ n. is_set n y) c.row.ensures.value ∙ both.dark_turned x y (omega (arith, c.requires.inside, c.requires.width)) (omega (arith, h, c.requires.width)))
-    (ap (λ n. is_set n y) c.row-2.ensures.value ∙ both.free_turned x y (omega (arith, c.requires.inside, c.requires.width)) (omega (arith, h, c.requires.width))))
+    (ap (λ n. is_set n y) c.row.ensures.value ∙ both.dark_turned.turned x y (omega (arith, c.requires.inside, c.requires.width, m.dark_width)) (omega (arith, h, c.requires.width, m.dark_width)))
+    (ap (λ n. is_set n y) c.row-2.ensures.value ∙ both.free_turned.turned x y (omega (arith, c.requires.inside, c.requires.width, m.free_width)) (omega (arith, h, c.requires.width, m.free_width))))
     c.with_eighth.ensures.place c.with_eighth.ensures.others

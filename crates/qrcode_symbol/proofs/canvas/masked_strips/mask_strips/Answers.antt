@@ -26,15 +26,15 @@ first_strip count w long some e = omega (arith, e, strip_before 0 count (w + 4) 
 
 pub decide_places-requires-clause-inside : goal.decide_places-requires-clause-inside
 decide_places-requires-clause-inside g c =
-    omega (arith, length-map c.args.masked.now g.L.PackedRow.bits, first_strip c.args.count c.args.modules.now.width _ c.requires.some c.requires.room.length, c.args.modules.now.at_least, c.turn_strips.auto.lines)
+    omega (arith, length-map c.args.masked.now g.L.PackedRow.bits, first_strip c.args.count c.args.modules.now.width _ c.requires.strips.some c.requires.room.length, c.args.modules.now.at_least, c.turn_strips.auto.lines)
 
 pub decide_places-requires-2-clause-inside : goal.decide_places-requires-2-clause-inside
 decide_places-requires-2-clause-inside g c =
-    omega (arith, length-map c.args.masked.now g.L.PackedRow.bits, first_strip c.args.count c.args.modules.now.width _ c.requires.some c.requires.room.length, c.args.modules.now.at_least, c.turn_strips.auto.lines, c.decide_places.auto.lines)
+    omega (arith, length-map c.args.masked.now g.L.PackedRow.bits, first_strip c.args.count c.args.modules.now.width _ c.requires.strips.some c.requires.room.length, c.args.modules.now.at_least, c.turn_strips.auto.lines, c.decide_places.auto.lines)
 
 pub decide_places-requires-3-clause-inside : goal.decide_places-requires-3-clause-inside
 decide_places-requires-3-clause-inside g c =
-    omega (arith, length-map c.args.masked.now g.L.PackedRow.bits, first_strip c.args.count c.args.modules.now.width _ c.requires.some c.requires.room.length, c.args.modules.now.at_least, c.turn_strips.auto.lines, c.decide_places.auto.lines, c.decide_places-2.auto.lines)
+    omega (arith, length-map c.args.masked.now g.L.PackedRow.bits, first_strip c.args.count c.args.modules.now.width _ c.requires.strips.some c.requires.room.length, c.args.modules.now.at_least, c.turn_strips.auto.lines, c.decide_places.auto.lines, c.decide_places-2.auto.lines)
 
 pub returns : goal.returns
 unfolding masked_dark dark_in
@@ -93,7 +93,7 @@ returns g c =
     inside_of w masked x y (right x y) (below x y) ∙ ap (λ (n : ℕ). inside w (masked_dark v n mask m.dark.rows m.free.rows) x y) c.format_word.ensures in
     let lanes = c.turn_strips.ensures.lanes places places_is in
     let room = room_kept count w (map bits c.args.masked.now) d (length-map c.decide_places-3.new.lines bits ∙ omega arith ∙ sym (length-map c.args.masked.now bits))
-    (λ n h. line_same n (λ y j e. absurd (h 0 y c.requires.some j (omega (arith, e)))) ∙ c.turn_strips.ensures.others n h) c.requires.room in
+    (λ n h. line_same n (λ y j e. absurd (h 0 y c.requires.strips.some j (omega (arith, e)))) ∙ c.turn_strips.ensures.others n h) c.requires.room in
     record {
       shown = record {
         length = room.length;
@@ -103,11 +103,11 @@ returns g c =
           across = λ x y i n.
               lane half w small (λ x y. decided_bit v word x y) turned (λ x. x) places across down a d places_is across_is down_is row_replaced column_some column_none (λ x y p q. elsewhere v word x y p q)
               (λ y p f. ((put y p).put f).0) (λ y p f. ap (λ j. is_set j 8) ((put y p).kept f)) beside_same behind k x y i n ((lanes k h).across x y i n)
-              ∙ all (64 * k + x) y ∙ ap (λ (j : ℕ). inside w (masked_dark v (format_word v m.ec_level mask) mask m.dark.rows m.free.rows) (j + x) y) (sym (c.requires.words k h));
+              ∙ all (64 * k + x) y ∙ ap (λ (j : ℕ). inside w (masked_dark v (format_word v m.ec_level mask) mask m.dark.rows m.free.rows) (j + x) y) (sym (c.requires.strips.words k h));
           down = λ x y i n.
               lane half w small (λ x y. decided_bit v word y x) (λ x y. turned y x) (λ x. half + x) places down across a d places_is down_is across_is column_replaced row_some row_none (λ x y p q. elsewhere v word y x q p)
               (λ y p f. ((put y p).put f).1) (λ y p f. ap (λ j. is_set j (half + 8)) ((put y p).kept f)) above_same behind k x y i n ((lanes k h).down x y i n)
-              ∙ all y (64 * k + x) ∙ ap (λ (j : ℕ). inside w (masked_dark v (format_word v m.ec_level mask) mask m.dark.rows m.free.rows) y (j + x)) (sym (c.requires.words k h));
+              ∙ all y (64 * k + x) ∙ ap (λ (j : ℕ). inside w (masked_dark v (format_word v m.ec_level mask) mask m.dark.rows m.free.rows) y (j + x)) (sym (c.requires.strips.words k h));
         };
       };
     }

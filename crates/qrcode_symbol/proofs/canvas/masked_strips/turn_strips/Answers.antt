@@ -22,15 +22,15 @@ loop-k-preserved g c =
     let k = c.loop-k.k in
     let mask = c.args.mask in
     let below : k < c.args.count = omega (arith, c.loop-k-test.true) in
-    let words : half * k ≡ 64 * k = c.requires.words k below in
+    let words : half * k ≡ 64 * k = c.requires.strips.words k below in
     let turned = turned_place mask (dark_in m.dark.rows) (dark_in m.free.rows) in
     let across = row_of_ends w c.args.decided.across.left c.args.decided.across.right in
     let down = row_of_ends w c.args.decided.down.left c.args.decided.down.right in
     let old = map bits c.loop-k.lines in
     let mid = map bits c.turn_strip.new.lines in
     let new = map bits c.decide_line.new.lines in
-    let dark = c.requires.dark_shown.strips k below in
-    let free = c.requires.free_shown.strips k below in
+    let dark = c.requires.strips.dark_shown.strips k below in
+    let free = c.requires.strips.free_shown.strips k below in
     let here : (x y : ℕ) → x < half → y < w → dark_in mid x (k * (w + 4) + 4 + y) ≡ turned (64 * k + x) y = λ x y h l.
     (c.turn_strip.ensures.shown y l).across x h
     ∙ ap₂ (λ (a b : Bool). turned_if (a && turns mask (64 * k + x) y) b) (free.across x y h l ∙ ap (λ (n : ℕ). dark_in m.free.rows (n + x) y) words) (dark.across x y h l ∙ ap (λ (n : ℕ). dark_in m.dark.rows (n + x) y) words) in
@@ -74,10 +74,10 @@ turn_strip-requires-clause-inside g c =
     omega (arith, c.requires.length, c.loop-k.invariant.length, strip_before c.loop-k.k c.args.count (c.args.modules.now.width + 4) (omega (arith, c.loop-k-test.true)))
 
 pub turn_strip-requires-clause-dark_length : goal.turn_strip-requires-clause-dark_length
-turn_strip-requires-clause-dark_length g c = omega (arith, length-map c.args.dark.now g.L.PackedRow.bits, c.requires.dark_shown.length, c.requires.length, c.loop-k.invariant.length)
+turn_strip-requires-clause-dark_length g c = omega (arith, length-map c.args.dark.now g.L.PackedRow.bits, c.requires.strips.dark_shown.length, c.requires.length, c.loop-k.invariant.length)
 
 pub turn_strip-requires-clause-free_length : goal.turn_strip-requires-clause-free_length
-turn_strip-requires-clause-free_length g c = omega (arith, length-map c.args.free.now g.L.PackedRow.bits, c.requires.free_shown.length, c.requires.length, c.loop-k.invariant.length)
+turn_strip-requires-clause-free_length g c = omega (arith, length-map c.args.free.now g.L.PackedRow.bits, c.requires.strips.free_shown.length, c.requires.length, c.loop-k.invariant.length)
 
 pub decide_line-requires-clause-inside : goal.decide_line-requires-clause-inside
 decide_line-requires-clause-inside g c =

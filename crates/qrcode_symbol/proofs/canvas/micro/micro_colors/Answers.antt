@@ -1,5 +1,6 @@
 use Rattle.std.proofs.Common.{◌≡◌, ℕ, ◌-◌, ◌*◌, List, take, ap, sym, subst, ◌∙◌}
 use Rattle.std.proofs.lemmas.List.{map-id}
+use Rattle.std.proofs.lemmas.Result.{IfOk-weaker}
 use Rattle.qrcode_types.specs.Versions.{side}
 use Rattle.qrcode_packed.specs.Rows.{IsSquare, PackedRows}
 use Rattle.qrcode_symbol.specs.Carried.{drawn_modules}
@@ -43,6 +44,7 @@ returns-clause-best c =
     let dark_rows : c.new-2.result.rows ≡ take w rows = ap (λ (s : PackedRows). s.rows) c.new-2.ensures ∙ map-id (take w rows) in
     let free_rows : c.new-3.result.rows ≡ take w free = ap (λ (s : PackedRows). s.rows) c.new-3.ensures ∙ map-id (take w free) in
     let dark = dark_shown v l bytes ec c.stream_of-stream.result c.draw_data.new.rows rows w c.requires.valid c.requires.micro wide c.stream_of-stream.ensures.bits filled c.draw_data.ensures.left_out c.add_patterns.ensures.value in
-    c.best_colors.ensures.best m
-    (subst (λ (r : List ℕ). ShowsModules is_dark_module w m r) (sym dark_rows) (subst (λ (k : ℕ). ShowsModules is_dark_module k m (take w rows)) (sym wide) dark))
-    (subst (λ (r : List ℕ). ShowsModules is_free w m r) (sym free_rows) (subst (λ (k : ℕ). ShowsModules is_free k m (take w free)) (sym wide) (free_shown v l bytes ec free w c.requires.valid c.requires.micro wide c.free_rows-free.ensures.value)))
+    IfOk-weaker c.best_colors.result _ _
+    (λ colors best. best m (subst (λ (r : List ℕ). ShowsModules is_dark_module w m r) (sym dark_rows) (subst (λ (k : ℕ). ShowsModules is_dark_module k m (take w rows)) (sym wide) dark))
+    (subst (λ (r : List ℕ). ShowsModules is_free w m r) (sym free_rows) (subst (λ (k : ℕ). ShowsModules is_free k m (take w free)) (sym wide) (free_shown v l bytes ec free w c.requires.valid c.requires.micro wide c.free_rows-free.ensures.value))))
+    c.best_colors.ensures.best

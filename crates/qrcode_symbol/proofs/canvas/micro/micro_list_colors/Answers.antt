@@ -1,10 +1,9 @@
-use Rattle.std.proofs.Common.{◌≡◌, ℕ, List, take, drop, subst, ap, ap₂, ◌∙◌}
+use Rattle.std.proofs.Common.{◌≡◌, ℕ, List, take, drop, subst, subst₂, ap, ap₂, ◌∙◌}
 use Rattle.std.specs.Prelude.{IfOk, IfSome}
 use Rattle.qrcode_types.specs.Blocks.{AreBlocks}
 use Rattle.qrcode_types.specs.Versions.{data_length, total_ec_length}
 use Rattle.qrcode_ec.specs.Lists.{data_in, ec_in}
-use Rattle.qrcode_symbol.specs.Carried.{drawn_modules}
-use Rattle.qrcode_symbol.specs.Masking.{AreBestColors}
+use Rattle.qrcode_symbol.specs.DrawnColors.{AreDrawnColors}
 use Rattle.qrcode_symbol.proofs.canvas.micro.micro_list_colors.Goals as goal
 
 pub returns-clause-best : goal.returns-clause-best
@@ -18,4 +17,4 @@ returns-clause-best c =
     let front : c.split_at.result.0.now ≡ data_in v l list = c.split_at.ensures.front ∙ ap (λ (k : ℕ). take k list) n in
     let behind : take c.total_ec_length.result c.split_at.result.1.now ≡ ec_in v l list =
     ap₂ (λ (k : ℕ) (xs : List ℕ). take k xs) m (c.split_at.ensures.back ∙ ap (λ (k : ℕ). drop k list) n) in
-    subst (λ s. IfOk c.micro_colors.result (λ colors. AreBestColors v l s colors.items)) (ap₂ (λ (b e : List ℕ). drawn_modules v l b e) front behind) c.micro_colors.ensures.best
+    subst₂ (λ (b e : List ℕ). IfOk c.micro_colors.result (λ colors. AreDrawnColors v l b e colors.items)) front behind c.micro_colors.ensures.best

@@ -4,8 +4,8 @@ use Rattle.qrcode_packed.proofs.RowLists.{read}
 use Rattle.qrcode_symbol.proofs.PackedPatterns.{line_drawn}
 use Rattle.qrcode_symbol.proofs.canvas.packed_patterns.draw_line.Goals as goal
 
-pub returns-clause-begun : goal.returns-clause-begun
-returns-clause-begun g c =
+pub returns : goal.returns
+returns g c =
     let bits = g.R.PackedRow.bits in
     let y = c.args.y in
     let dark = map bits c.args.dark.now in
@@ -15,30 +15,5 @@ returns-clause-begun g c =
     let was = read bits c.args.free.now y c.index-free-y.result (omega (arith, length-map c.args.free.now bits, c.requires.begun.free_length, c.requires.row)) c.index-free-y.is in
     let all = line_drawn c.args.places.version dark free y span.left span.across (bits c.args.line) (bits span.places) (bits c.or.result) (bits c.without.result) c.requires.begun c.requires.row c.requires.columns c.requires.span c.requires.shown
     (c.or.ensures ∙ ap₂ (λ (a b : ℕ). bit_or a b) old c.and.ensures) (c.without.ensures ∙ ap (λ (n : ℕ). bit_xor n (bit_and n (bits span.places))) was) in
-    rw (map-set bits c.args.dark.now y c.or.result, map-set bits c.args.free.now y c.without.result) all.0
-
-pub returns-clause-stay : goal.returns-clause-stay
-returns-clause-stay g c =
-    let bits = g.R.PackedRow.bits in
-    let y = c.args.y in
-    let dark = map bits c.args.dark.now in
-    let free = map bits c.args.free.now in
-    let span = c.args.span in
-    let old = read bits c.args.dark.now y c.index-dark-y.result (omega (arith, length-map c.args.dark.now bits, c.requires.begun.dark_length, c.requires.row)) c.index-dark-y.is in
-    let was = read bits c.args.free.now y c.index-free-y.result (omega (arith, length-map c.args.free.now bits, c.requires.begun.free_length, c.requires.row)) c.index-free-y.is in
-    let all = line_drawn c.args.places.version dark free y span.left span.across (bits c.args.line) (bits span.places) (bits c.or.result) (bits c.without.result) c.requires.begun c.requires.row c.requires.columns c.requires.span c.requires.shown
-    (c.or.ensures ∙ ap₂ (λ (a b : ℕ). bit_or a b) old c.and.ensures) (c.without.ensures ∙ ap (λ (n : ℕ). bit_xor n (bit_and n (bits span.places))) was) in
-    rw (map-set bits c.args.free.now y c.without.result) all.1
-
-pub returns-clause-taken : goal.returns-clause-taken
-returns-clause-taken g c =
-    let bits = g.R.PackedRow.bits in
-    let y = c.args.y in
-    let dark = map bits c.args.dark.now in
-    let free = map bits c.args.free.now in
-    let span = c.args.span in
-    let old = read bits c.args.dark.now y c.index-dark-y.result (omega (arith, length-map c.args.dark.now bits, c.requires.begun.dark_length, c.requires.row)) c.index-dark-y.is in
-    let was = read bits c.args.free.now y c.index-free-y.result (omega (arith, length-map c.args.free.now bits, c.requires.begun.free_length, c.requires.row)) c.index-free-y.is in
-    let all = line_drawn c.args.places.version dark free y span.left span.across (bits c.args.line) (bits span.places) (bits c.or.result) (bits c.without.result) c.requires.begun c.requires.row c.requires.columns c.requires.span c.requires.shown
-    (c.or.ensures ∙ ap₂ (λ (a b : ℕ). bit_or a b) old c.and.ensures) (c.without.ensures ∙ ap (λ (n : ℕ). bit_xor n (bit_and n (bits span.places))) was) in
-    rw (map-set bits c.args.free.now y c.without.result) all.2
+    let written = map-set bits c.args.free.now y c.without.result in
+    record { begun = rw (map-set bits c.args.dark.now y c.or.result, written) all.0; stay = rw written all.1; taken = rw written all.2 }

@@ -1,0 +1,19 @@
+-- The colours of symbols of codewords under the first mask of least penalty.
+use Rattle.std.specs.Prelude.{ℕ, List}
+use Rattle.qrcode_types.specs.declared.types.Color.{Color}
+use Rattle.qrcode_types.specs.declared.types.EcLevel.{EcLevel}
+use Rattle.qrcode_types.specs.declared.types.Version.{Version}
+use Rattle.qrcode_ec.specs.Lists.{data_in, ec_in}
+use Rattle.qrcode_symbol.specs.Canvas.{drawn_bits}
+use Rattle.qrcode_symbol.specs.Carried.{drawn_modules}
+use Rattle.qrcode_symbol.specs.Columns.{IsStream}
+use Rattle.qrcode_symbol.specs.Masking.{AreBestColors}
+
+abbrev pub AreDrawnColors : Version → EcLevel → List ℕ → List ℕ → List Color → Type 0  -- of data and error correction codewords
+AreDrawnColors v l bytes ec colors = AreBestColors v l (drawn_modules v l bytes ec) colors
+
+abbrev pub AreListColors : Version → EcLevel → List ℕ → List Color → Type 0  -- of codewords in a list
+AreListColors v l list colors = AreDrawnColors v l (data_in v l list) (ec_in v l list) colors
+
+abbrev pub AreStreamColors : Version → EcLevel → List ℕ → List Color → Type 0  -- of all codewords whose bits a stream has
+AreStreamColors v l stream colors = (bytes ec : List ℕ) → IsStream (drawn_bits v l bytes ec) stream → AreDrawnColors v l bytes ec colors
