@@ -155,6 +155,10 @@ module _ (count : ℕ) (s : List ℕ) (some : 1 ≤ count) (few : count ≤ 35) 
   other : (q : ℕ) → q ≢ count - 1 → get_or high_half q 0 ≡ get_or s q 0
   other q ne = get_or-set_other s (count - 1) q (get_or s (count - 1) 0 / 16 * 16 % 256) 0 ne
 
+  -- a bit of the last byte
+  last_bit : (q j : ℕ) → q ≡ count - 1 → j < 8 → is_set (get_or high_half q 0) j ≡ is_set (get_or s (count - 1) 0 / 16 * 16) j
+  last_bit q j e h = ap (λ k. is_set (get_or high_half k 0) j) e ∙ ap (λ n. is_set n j) last ∙ has_mod (get_or s (count - 1) 0 / 16 * 16) 8 j h
+
   pub half_kept : (i : ℕ) → i < 8 * count - 4 → stream_bit high_half i ≡ stream_bit s i
   half_kept i h =
       let q = i / 8 in
@@ -164,8 +168,7 @@ module _ (count : ℕ) (s : List ℕ) (some : 1 ≤ count) (few : count ≤ 35) 
         | inl p ↦
             let b = get_or s (count - 1) 0 in
             let f : 7 - r ≡ 3 - r + 4 = omega (arith, p.1) in
-            ap (λ j. is_set (get_or high_half j 0) (7 - r)) p.1 ∙ ap (λ n. is_set n (7 - r)) last ∙ has_mod (b / 16 * 16) 8 (7 - r) (omega arith) ∙ ap (is_set (b / 16 * 16)) f ∙ has_shl (b / 16) 4 (3 - r) ∙ has_shr b 4 (3 - r)
-            ∙ ap (is_set b) (sym f) ∙ ap (λ j. is_set (get_or s j 0) (7 - r)) (sym p.1)
+            last_bit q (7 - r) p.1 (omega arith) ∙ ap (is_set (b / 16 * 16)) f ∙ has_shl (b / 16) 4 (3 - r) ∙ has_shr b 4 (3 - r) ∙ ap (is_set b) (sym f) ∙ ap (λ j. is_set (get_or s j 0) (7 - r)) (sym p.1)
         | inr p ↦ ap (λ n. is_set n (7 - r)) (other q p.1)
       ] ∙ sym (in_byte s i q r e (omega arith))
 
@@ -177,9 +180,7 @@ module _ (count : ℕ) (s : List ℕ) (some : 1 ≤ count) (few : count ≤ 35) 
         let r = i % 8 in
         let e : i ≡ 8 * q + r = omega arith in
         in_byte high_half i q r e (omega arith) ∙ elim (eqb_tells q (count - 1)) [
-          | inl p ↦
-              let b = get_or s (count - 1) 0 in
-              ap (λ j. is_set (get_or high_half j 0) (7 - r)) p.1 ∙ ap (λ n. is_set n (7 - r)) last ∙ has_mod (b / 16 * 16) 8 (7 - r) (omega arith) ∙ has_shl_below (b / 16) 4 (7 - r) (omega (arith, p.1))
+          | inl p ↦ last_bit q (7 - r) p.1 (omega arith) ∙ has_shl_below (get_or s (count - 1) 0 / 16) 4 (7 - r) (omega (arith, p.1))
           | inr p ↦ ap (λ n. is_set n (7 - r)) (other q p.1) ∙ sym (in_byte s i q r e (omega arith)) ∙ ends.light i (omega (arith, p.1))
         ];
     zeros = λ q h. other q (λ e. absurd (omega arith)) ∙ ends.zeros q (omega arith);

@@ -64,7 +64,10 @@ fn nth_cost<R: PackedRow, L: StripLine>(
     let mask = nth_mask(modules.version, k);
     mask_strips(modules, mask, count, dark, free, masked);
     let first = count * (L::size() as usize / 2) - 1;
-    mask_lines(both, mask, first, rows, columns);
+    // Where there are none, that costs no call.
+    if !rows.is_empty() {
+        mask_lines(both, mask, first, rows, columns);
+    }
     penalty_of_parts(masked, count, rows, columns, modules.width as u32)
 }
 

@@ -94,8 +94,8 @@ fn masked_column<R: PackedRow>(both: &BothWays<'_, R>, layer: Layer, x: usize) -
     with_eighth(column, bit_of_column(layer, x))
 }
 
-// Writes the rows and the columns of a square of Normal under a mask, with its format word, from one behind the ninth on.
-fn mask_some_lines<R: PackedRow>(
+/// Writes the rows and the columns of a square of Normal under a mask, with its format word, from one behind the ninth on.
+pub(super) fn mask_lines<R: PackedRow>(
     both: &BothWays<'_, R>,
     mask: MaskPattern,
     first: usize,
@@ -120,27 +120,5 @@ fn mask_some_lines<R: PackedRow>(
     for j in 0..modules.width.saturating_sub(first) {
         rows[j] = masked_row(modules, layer, first + j);
         columns[j] = masked_column(both, layer, first + j);
-    }
-}
-
-/// The same, where there may be none: that costs no call.
-#[inline(always)]
-pub(super) fn mask_lines<R: PackedRow>(
-    both: &BothWays<'_, R>,
-    mask: MaskPattern,
-    first: usize,
-    rows: &mut [R],
-    columns: &mut [R],
-)
-    requires normal { is_micro both.now.modules.now.version ≡ false }
-    requires mask_exists { IsTrue (exists_in both.now.modules.now.version mask) }
-    requires behind { 8 < first }
-    requires rows_length { both.now.modules.now.width ≤ first + length rows.old }
-    requires columns_length { both.now.modules.now.width ≤ first + length columns.old }
-    ensures shown { ShowsLastLines first both.now.modules.now.width (map R.bits rows.new)
-        (map R.bits columns.new) (under_mask both.now.modules.now mask) }
-{
-    if !rows.is_empty() {
-        mask_some_lines(both, mask, first, rows, columns);
     }
 }

@@ -1,4 +1,4 @@
-use Rattle.std.proofs.Common.{◌-◌, ◌*◌, ◌/◌, ◌<◌, ◌≤◌, ℕ, zero, suc, Bool, map, ap, subst, sym, ◌∙◌, arith}
+use Rattle.std.proofs.Common.{◌-◌, ◌*◌, ◌/◌, ◌<◌, ◌≤◌, ◌≡◌, ℕ, zero, suc, Bool, length, map, ap, subst, sym, ◌∙◌, arith}
 use Rattle.std.proofs.lemmas.List.{length-map}
 use Rattle.qrcode_places.specs.Words.{format_word}
 use Rattle.qrcode_packed.specs.Rows.{inside}
@@ -9,6 +9,7 @@ use Rattle.qrcode_symbol.specs.Masking.{nth_cost, masked_dark}
 use Rattle.qrcode_symbol.specs.Penalties.{penalty_of}
 use Rattle.qrcode_symbol.proofs.Edges.{normal_cost_of}
 use Rattle.qrcode_symbol.proofs.canvas.least_mask.nth_cost.Goals as goal
+use Rattle.qrcode_symbol.proofs.canvas.least_mask.nth_cost.Goals.{then-not-is_empty, else-not-is_empty}
 
 -- strips are as wide as one of them at least
 one_at_least : (n m : ℕ) → 0 < n → m ≤ n * m
@@ -23,11 +24,19 @@ penalty_of_parts-requires-clause-length g c = omega (arith, length-map c.mask_st
 
 pub penalty_of_parts-requires-clause-rows : goal.penalty_of_parts-requires-clause-rows
 penalty_of_parts-requires-clause-rows g c =
-    omega (arith, c.requires.rows_length, c.mask_lines.auto.rows, g.met.L.StripLine.half_at_least, one_at_least c.args.count (g.L.PackedRow.room / 2) c.requires.strips.some)
+    let some = one_at_least c.args.count (g.L.PackedRow.room / 2) c.requires.strips.some in
+    elim c.if-not-is_empty.branch [
+      | then-not-is_empty w ↦ rw w.rows-is (omega (arith, c.requires.rows_length, w.mask_lines.auto.rows, g.met.L.StripLine.half_at_least, some))
+      | else-not-is_empty w ↦ rw w.rows-is (omega (arith, c.requires.rows_length, g.met.L.StripLine.half_at_least, some))
+    ]
 
 pub penalty_of_parts-requires-clause-columns : goal.penalty_of_parts-requires-clause-columns
 penalty_of_parts-requires-clause-columns g c =
-    omega (arith, c.requires.columns_length, c.mask_lines.auto.columns, g.met.L.StripLine.half_at_least, one_at_least c.args.count (g.L.PackedRow.room / 2) c.requires.strips.some)
+    let some = one_at_least c.args.count (g.L.PackedRow.room / 2) c.requires.strips.some in
+    elim c.if-not-is_empty.branch [
+      | then-not-is_empty w ↦ rw w.columns-is (omega (arith, c.requires.columns_length, w.mask_lines.auto.columns, g.met.L.StripLine.half_at_least, some))
+      | else-not-is_empty w ↦ rw w.columns-is (omega (arith, c.requires.columns_length, g.met.L.StripLine.half_at_least, some))
+    ]
 
 pub returns-clause-value : goal.returns-clause-value
 unfolding nth_cost
@@ -38,8 +47,16 @@ returns-clause-value g c =
     let masked : MaskPattern → ℕ → ℕ → Bool = λ k. masked_dark v (format_word v m.ec_level k) k m.dark.rows m.free.rows in
     let mask = c.nth_mask-mask.result in
     let bits = g.R.PackedRow.bits in
-    let last = subst (λ (n : ℕ). ShowsLastLines (c.args.count * (n / 2) - 1) w (map bits c.mask_lines.new.rows) (map bits c.mask_lines.new.columns) (inside w (masked mask))) c.size.ensures c.mask_lines.ensures.shown in
-    c.penalty_of_parts.ensures.value (masked mask) c.mask_strips.ensures.shown last
+    c.penalty_of_parts.ensures.value (masked mask) c.mask_strips.ensures.shown
+    (elim c.if-not-is_empty.branch [
+      | then-not-is_empty w ↦
+          rw (w.rows-is, w.columns-is)
+          (subst (λ (n : ℕ). ShowsLastLines (c.args.count * (n / 2) - 1) m.width (map bits w.mask_lines.new.rows) (map bits w.mask_lines.new.columns) (inside m.width (masked mask))) c.size.ensures w.mask_lines.ensures.shown)
+      | else-not-is_empty w ↦
+          let none : length c.args.rows.now ≡ 0 = grind arith in
+          rw (w.rows-is, w.columns-is)
+          (record { across = λ x j h l. absurd (omega (arith, l, none, c.requires.rows_length)); down = λ y j h l. absurd (omega (arith, l, none, c.requires.rows_length)) })
+    ])
     ∙ ap (λ (n : ℕ). normal_penalty n (inside w (masked mask))) m.side ∙ sym (normal_cost_of v (inside w (masked mask)) c.requires.normal)
     ∙ ap (λ (k : MaskPattern). penalty_of v (inside w (masked k))) c.nth_mask-mask.ensures.value
 

@@ -2,7 +2,7 @@ use Rattle.std.proofs.Common.{◌≡◌, ◌+◌, ◌<◌, ℕ, Bool, map, slice
 use Rattle.qrcode_packed.specs.Rows.{is_set}
 use Rattle.qrcode_places.specs.Words.{format_word}
 use Rattle.qrcode_symbol.specs.Masking.{masked_dark}
-use Rattle.qrcode_symbol.proofs.canvas.masked_lines.mask_some_lines.Given as goal
+use Rattle.qrcode_symbol.proofs.canvas.masked_lines.mask_lines.Given as goal
 
 abbrev pub invariant-loop-j : goal.invariant-loop-j
 invariant-loop-j g l =

@@ -4,7 +4,7 @@ use Rattle.qrcode_packed.proofs.RowLists.{rows_more}
 use Rattle.qrcode_places.specs.Words.{format_word}
 use Rattle.qrcode_symbol.specs.Masking.{masked_dark}
 use Rattle.qrcode_symbol.proofs.Edges.{inside_here}
-use Rattle.qrcode_symbol.proofs.canvas.masked_lines.mask_some_lines.Goals as goal
+use Rattle.qrcode_symbol.proofs.canvas.masked_lines.mask_lines.Goals as goal
 
 pub loop-j-preserved : goal.loop-j-preserved
 loop-j-preserved g c =
