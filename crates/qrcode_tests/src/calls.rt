@@ -1,6 +1,6 @@
 //! Calls that make a symbol, each row with what it makes or why it refuses.
 
-use crate::common::{check_row, is_drawn, of_pushes};
+use crate::common::{Row, check, is_drawn, of_pushes};
 use crate::squares::{
     BOOSTED, DIGITS_MICRO, DIGITS_NORMAL, IN_5, MARKED, MARKED_IN_2, MICRO, PARTS, TEXT, TEXT_IN_2,
 };
@@ -46,7 +46,7 @@ use Answer::{Chosen, Modules, Printed, Refused};
 use Call::{At, AtLeast, Boosted, Given, In, MarkedText, MarkedTextIn, New, Pushed, Text, TextIn};
 
 // Bytes, how often they stand in the data, the call, and what it answers.
-type Row = (&'static [u8], usize, Call, Answer);
+struct Called(&'static [u8], usize, Call, Answer);
 
 const GREEK: &[Push<'static>] = &[
     Push::Designator(9),
@@ -62,43 +62,43 @@ const TWO_PARTS: &[Push<'static>] = &[
 ];
 
 #[rattlefmt::skip]
-static CALLS: [Row; 31] = [
+static CALLS: [Called; 31] = [
     // Refusals come in order: no such version, no such mode, no such level, too long.
-    (b"1", 1, In(Normal(41), L), Refused(InvalidVersion)),
-    (b"A", 1, In(Micro(1), H), Refused(UnsupportedCharacterSet)),
-    (b"1", 1, In(Micro(1), H), Refused(InvalidVersion)),
-    (b"12345678", 1, In(Micro(1), H), Refused(InvalidVersion)),
-    (b"12345678", 1, In(Micro(1), L), Refused(DataTooLong)),
-    (b"123456", 1, In(Micro(1), L), Refused(DataTooLong)),
-    (b"a1234bcd", 1, In(Normal(1), H), Refused(DataTooLong)),
-    (b"1", 1, In(Micro(4), H), Refused(InvalidVersion)),
+    Called(b"1", 1, In(Normal(41), L), Refused(InvalidVersion)),
+    Called(b"A", 1, In(Micro(1), H), Refused(UnsupportedCharacterSet)),
+    Called(b"1", 1, In(Micro(1), H), Refused(InvalidVersion)),
+    Called(b"12345678", 1, In(Micro(1), H), Refused(InvalidVersion)),
+    Called(b"12345678", 1, In(Micro(1), L), Refused(DataTooLong)),
+    Called(b"123456", 1, In(Micro(1), L), Refused(DataTooLong)),
+    Called(b"a1234bcd", 1, In(Normal(1), H), Refused(DataTooLong)),
+    Called(b"1", 1, In(Micro(4), H), Refused(InvalidVersion)),
     // Versions are chosen.
-    (b"", 1, At(M), Chosen(Normal(1), M)),
-    (b"HELLO WORLD", 1, At(Q), Chosen(Normal(1), Q)),
-    (b"HELLO WORLD", 1, At(H), Chosen(Normal(2), H)),
-    (b"a1234bc", 1, At(H), Chosen(Normal(1), H)),
-    (b"aABCDEF", 30, At(L), Chosen(Normal(9), L)),
-    (b"7", 432, New, Chosen(Normal(9), M)),
-    (b"7", 433, New, Chosen(Normal(10), M)),
+    Called(b"", 1, At(M), Chosen(Normal(1), M)),
+    Called(b"HELLO WORLD", 1, At(Q), Chosen(Normal(1), Q)),
+    Called(b"HELLO WORLD", 1, At(H), Chosen(Normal(2), H)),
+    Called(b"a1234bc", 1, At(H), Chosen(Normal(1), H)),
+    Called(b"aABCDEF", 30, At(L), Chosen(Normal(9), L)),
+    Called(b"7", 432, New, Chosen(Normal(9), M)),
+    Called(b"7", 433, New, Chosen(Normal(10), M)),
     // Printed symbols.
-    (b"01234567", 1, In(Normal(1), M), Printed(2, DIGITS_NORMAL)),
-    (b"01234567", 1, In(Micro(2), L), Printed(4, DIGITS_MICRO)),
-    (b"01234567", 1, Text(M), Printed(2, DIGITS_NORMAL)),
-    (b"01234567", 1, AtLeast(Manner::Text, Micro(1), L), Printed(4, DIGITS_MICRO)),
+    Called(b"01234567", 1, In(Normal(1), M), Printed(2, DIGITS_NORMAL)),
+    Called(b"01234567", 1, In(Micro(2), L), Printed(4, DIGITS_MICRO)),
+    Called(b"01234567", 1, Text(M), Printed(2, DIGITS_NORMAL)),
+    Called(b"01234567", 1, AtLeast(Manner::Text, Micro(1), L), Printed(4, DIGITS_MICRO)),
     // Symbols of texts.
-    (b"Jos\xc3\xa9", 1, Text(M), Modules(0, TEXT)),
-    (b"10 \xe2\x82\xac", 1, MarkedText(M), Modules(7, MARKED)),
-    (b"Z\xc3\xbcrich", 1, TextIn(Normal(2), Q), Modules(7, TEXT_IN_2)),
-    (b"Jos\xc3\xa9", 1, MarkedTextIn(Normal(2), Q), Modules(3, MARKED_IN_2)),
-    (b"Jos\xc3\xa9", 1, Boosted(Manner::MarkedText, Normal(1), L), Modules(7, BOOSTED)),
-    (b"Jos\xc3\xa9", 1, Given(Manner::Bytes, Normal(5), H), Modules(4, IN_5)),
-    (b"Z\xc3\xbcrich", 1, Boosted(Manner::Text, Micro(1), L), Modules(7, MICRO)),
-    (b"", 1, Pushed(TWO_PARTS, Normal(4), Q), Modules(2, PARTS)),
-    (b"1", 1, MarkedTextIn(Micro(4), L), Refused(UnsupportedCharacterSet)),
-    (b"eighteen letters..", 1, TextIn(Normal(1), L), Refused(DataTooLong)),
+    Called(b"Jos\xc3\xa9", 1, Text(M), Modules(0, TEXT)),
+    Called(b"10 \xe2\x82\xac", 1, MarkedText(M), Modules(7, MARKED)),
+    Called(b"Z\xc3\xbcrich", 1, TextIn(Normal(2), Q), Modules(7, TEXT_IN_2)),
+    Called(b"Jos\xc3\xa9", 1, MarkedTextIn(Normal(2), Q), Modules(3, MARKED_IN_2)),
+    Called(b"Jos\xc3\xa9", 1, Boosted(Manner::MarkedText, Normal(1), L), Modules(7, BOOSTED)),
+    Called(b"Jos\xc3\xa9", 1, Given(Manner::Bytes, Normal(5), H), Modules(4, IN_5)),
+    Called(b"Z\xc3\xbcrich", 1, Boosted(Manner::Text, Micro(1), L), Modules(7, MICRO)),
+    Called(b"", 1, Pushed(TWO_PARTS, Normal(4), Q), Modules(2, PARTS)),
+    Called(b"1", 1, MarkedTextIn(Micro(4), L), Refused(UnsupportedCharacterSet)),
+    Called(b"eighteen letters..", 1, TextIn(Normal(1), L), Refused(DataTooLong)),
     // Bits that are ended for L, drawn at L and at H.
-    (b"", 1, Pushed(GREEK, Normal(1), L), Chosen(Normal(1), L)),
-    (b"", 1, Pushed(GREEK, Normal(1), H), Refused(DataTooLong)),
+    Called(b"", 1, Pushed(GREEK, Normal(1), L), Chosen(Normal(1), L)),
+    Called(b"", 1, Pushed(GREEK, Normal(1), H), Refused(DataTooLong)),
 ];
 
 // The symbol of a text.
@@ -154,20 +154,20 @@ fn is_answer(alloc: Global, code: &QrCode, answer: Answer) -> bool {
     }
 }
 
-// Whether a row is what its call answers.
-fn holds(alloc: Global, (bytes, count, call, answer): &Row) -> bool {
-    let Ok(data) = bytes.repeat(alloc, *count) else {
-        return false;
-    };
-    match made(alloc, *call, &data) {
-        Err(error) => matches!(answer, Refused(expected) if *expected == error),
-        Ok(code) => is_answer(alloc, &code, *answer),
+impl Row for Called {
+    fn holds(&self, alloc: Global) -> bool {
+        let Called(bytes, count, call, answer) = self;
+        let Ok(data) = bytes.repeat(alloc, *count) else {
+            return false;
+        };
+        match made(alloc, *call, &data) {
+            Err(error) => matches!(answer, Refused(expected) if *expected == error),
+            Ok(code) => is_answer(alloc, &code, *answer),
+        }
     }
 }
 
 #[test]
 fn calls_answer(rt: HostRuntime) {
-    for (i, row) in CALLS.iter().enumerate() {
-        check_row(&rt, i, holds(rt.alloc(), row));
-    }
+    check(&rt, rt.alloc(), &CALLS);
 }

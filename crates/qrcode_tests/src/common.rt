@@ -9,7 +9,20 @@ use qrcode_uses::label::Bar;
 use std::alloc::Global;
 use std::process::Abort;
 
-/// A row of a table holds, or is told by its number.
+/// A row of a table.
+pub trait Row {
+    /// Whether what it says is so.
+    fn holds(&self, alloc: Global) -> bool;
+}
+
+/// Each row holds, or is told by its number.
+pub fn check<R: Row>(rt: &impl Abort, alloc: Global, rows: &[R]) {
+    for (i, row) in rows.iter().enumerate() {
+        check_row(rt, i, row.holds(alloc));
+    }
+}
+
+/// A row holds, or is told by its number.
 pub fn check_row(rt: &impl Abort, number: usize, holds: bool) {
     assert!(rt; holds, "row {number}");
 }

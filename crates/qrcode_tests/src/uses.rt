@@ -1,6 +1,6 @@
 //! Each use once, its answers taken from outside.
 
-use crate::common::{are_bars, check_row};
+use crate::common::{Row, are_bars, check};
 use qrcode::render::image::Rgba;
 use qrcode::types::{QrError, QrResult};
 use qrcode::{EcLevel, QrCode, Version};
@@ -55,33 +55,36 @@ enum Look {
 
 use Look::{Begins, Contains, Length, Line, Lines};
 
+// A use, and what is looked at in its text.
+struct Drawn(Drawing, Look);
+
 #[rattlefmt::skip]
-static DRAWINGS: [(Drawing, Look); 24] = [
-    (Drawing::Chars, Line(4, "    ███████  █ ██ ███████    ")),
-    (Drawing::Pairs, Line(4, "        ##############    ##  ####  ##############        ")),
-    (Drawing::HalfBlocks, Line(2, "    █▀▀▀▀▀█  █▄██ █▀▀▀▀▀█    ")),
-    (Drawing::Svg, Contains("viewBox=\"0 0 232 232\"")),
-    (Drawing::Pic, Begins("maxpswid=29;maxpsht=29;")),
+static DRAWINGS: [Drawn; 24] = [
+    Drawn(Drawing::Chars, Line(4, "    ███████  █ ██ ███████    ")),
+    Drawn(Drawing::Pairs, Line(4, "        ##############    ##  ####  ##############        ")),
+    Drawn(Drawing::HalfBlocks, Line(2, "    █▀▀▀▀▀█  █▄██ █▀▀▀▀▀█    ")),
+    Drawn(Drawing::Svg, Contains("viewBox=\"0 0 232 232\"")),
+    Drawn(Drawing::Pic, Begins("maxpswid=29;maxpsht=29;")),
     // The text has 83 bytes, which Normal 5 holds at level M: 45 modules with the quiet zone.
-    (Drawing::Payment, Begins("<?xml version=\"1.0\" standalone=\"yes\"?><svg xmlns=\"http://www.w3.org/2000/svg\" version=\"1.1\" width=\"225\" height=\"225\" viewBox=\"0 0 225 225\"")),
-    (Drawing::Ticket(12_345_678), Lines(9)),
-    (Drawing::Ticket(12_345_678), Line(0, "█████████████████")),
-    (Drawing::Ticket(12_345_678), Line(1, "██ ▄▄▄▄▄ █▄▀▄█▄██")),
-    (Drawing::Ticket(12_345_678), Line(2, "██ █   █ █   █ ██")),
-    (Drawing::Ticket(12_345_678), Line(3, "██ █▄▄▄█ █▄▄██▀██")),
-    (Drawing::Ticket(12_345_678), Line(4, "██▄▄▄▄▄▄▄█▄▄▄▀ ██")),
-    (Drawing::Ticket(12_345_678), Line(5, "██▄ ▀ ▀ ▀▄▄  ████")),
-    (Drawing::Ticket(12_345_678), Line(6, "██▄▄▀▄█ ▀▀▀ ▀▄▄██")),
-    (Drawing::Ticket(12_345_678), Line(7, "██▄▄▄█▄▄█▄██▄█▄██")),
-    (Drawing::Ticket(12_345_678), Line(8, "▀▀▀▀▀▀▀▀▀▀▀▀▀▀▀▀▀")),
-    (Drawing::Ticket(u32::MAX), Lines(9)),
-    (Drawing::Greek(GREEK_TEXT), Length(461)),
-    (Drawing::Greek(b"seventeen letters"), Look::Refused(QrError::DataTooLong)),
-    (Drawing::PlainSvg, Contains("viewBox=\"0 0 203 203\"")),
-    (Drawing::PlainBlocks, Lines(15)),
-    (Drawing::PlainPayment, Contains("viewBox=\"0 0 231 231\"")),
-    (Drawing::PlainTicket, Lines(9)),
-    (Drawing::PlainWithin, Contains("viewBox=\"0 0 290 290\"")),
+    Drawn(Drawing::Payment, Begins("<?xml version=\"1.0\" standalone=\"yes\"?><svg xmlns=\"http://www.w3.org/2000/svg\" version=\"1.1\" width=\"225\" height=\"225\" viewBox=\"0 0 225 225\"")),
+    Drawn(Drawing::Ticket(12_345_678), Lines(9)),
+    Drawn(Drawing::Ticket(12_345_678), Line(0, "█████████████████")),
+    Drawn(Drawing::Ticket(12_345_678), Line(1, "██ ▄▄▄▄▄ █▄▀▄█▄██")),
+    Drawn(Drawing::Ticket(12_345_678), Line(2, "██ █   █ █   █ ██")),
+    Drawn(Drawing::Ticket(12_345_678), Line(3, "██ █▄▄▄█ █▄▄██▀██")),
+    Drawn(Drawing::Ticket(12_345_678), Line(4, "██▄▄▄▄▄▄▄█▄▄▄▀ ██")),
+    Drawn(Drawing::Ticket(12_345_678), Line(5, "██▄ ▀ ▀ ▀▄▄  ████")),
+    Drawn(Drawing::Ticket(12_345_678), Line(6, "██▄▄▀▄█ ▀▀▀ ▀▄▄██")),
+    Drawn(Drawing::Ticket(12_345_678), Line(7, "██▄▄▄█▄▄█▄██▄█▄██")),
+    Drawn(Drawing::Ticket(12_345_678), Line(8, "▀▀▀▀▀▀▀▀▀▀▀▀▀▀▀▀▀")),
+    Drawn(Drawing::Ticket(u32::MAX), Lines(9)),
+    Drawn(Drawing::Greek(GREEK_TEXT), Length(461)),
+    Drawn(Drawing::Greek(b"seventeen letters"), Look::Refused(QrError::DataTooLong)),
+    Drawn(Drawing::PlainSvg, Contains("viewBox=\"0 0 203 203\"")),
+    Drawn(Drawing::PlainBlocks, Lines(15)),
+    Drawn(Drawing::PlainPayment, Contains("viewBox=\"0 0 231 231\"")),
+    Drawn(Drawing::PlainTicket, Lines(9)),
+    Drawn(Drawing::PlainWithin, Contains("viewBox=\"0 0 290 290\"")),
 ];
 
 const GREEK_TEXT: &[u8] = b"\xca\xfe\xe4\xe9\xea\xe1\xf2 QR";
@@ -110,7 +113,7 @@ fn plain_drawn(alloc: Global, drawing: Drawing) -> QrResult<String> {
 }
 
 // The text that a use draws.
-fn drawn(alloc: Global, drawing: Drawing) -> QrResult<String> {
+fn text_of(alloc: Global, drawing: Drawing) -> QrResult<String> {
     match drawing {
         Drawing::Payment => payment_picture(alloc, &PAYMENT),
         Drawing::Ticket(number) => ticket_blocks(alloc, number),
@@ -133,33 +136,40 @@ fn looks(text: &str, look: Look) -> bool {
     }
 }
 
-// Whether a use draws a text that is as expected.
-fn is_drawn(alloc: Global, drawing: Drawing, look: Look) -> bool {
-    match drawn(alloc, drawing) {
-        Ok(text) => looks(text.as_str(), look),
-        Err(error) => matches!(look, Look::Refused(expected) if expected == error),
+impl Row for Drawn {
+    fn holds(&self, alloc: Global) -> bool {
+        match text_of(alloc, self.0) {
+            Ok(text) => looks(text.as_str(), self.1),
+            Err(error) => matches!(self.1, Look::Refused(expected) if expected == error),
+        }
     }
 }
 
 #[test]
 fn texts_are_drawn(rt: HostRuntime) {
-    for (i, (drawing, look)) in DRAWINGS.iter().enumerate() {
-        check_row(&rt, i, is_drawn(rt.alloc(), *drawing, *look));
-    }
+    check(&rt, rt.alloc(), &DRAWINGS);
+}
+
+#[test]
+fn a_grey_map_is_drawn(rt: HostRuntime) {
+    let code = QrCode::new(rt.alloc(), b"01234567").expect(&rt, "a symbol");
+    let file = as_grey_map(rt.alloc(), &code).expect(&rt, "a file");
+    assert!(rt; file.starts_with(b"P5\n232 232\n255\n") && file.len() == 53_839);
 }
 
 #[test]
 fn pixels_are_drawn(rt: HostRuntime) {
-    let alloc = rt.alloc();
-    let code = QrCode::new(alloc, b"01234567").expect(&rt, "a symbol");
-    let file = as_grey_map(alloc, &code).expect(&rt, "a file");
-    assert!(rt; file.starts_with(b"P5\n232 232\n255\n") && file.len() == 53_839);
+    let code = QrCode::new(rt.alloc(), b"01234567").expect(&rt, "a symbol");
     let image = code
         .render::<Rgba>()
-        .to_image(alloc)
+        .to_image(rt.alloc())
         .expect(&rt, "an image");
     assert!(rt; image.into_raw().len() == 4 * 53_824);
-    let image = plain::colors(alloc).expect(&rt, "an image");
+}
+
+#[test]
+fn colors_are_drawn(rt: HostRuntime) {
+    let image = plain::colors(rt.alloc()).expect(&rt, "an image");
     assert!(rt; image.dimensions() == (203, 203));
 }
 
@@ -200,16 +210,19 @@ enum Sign {
     Greek,
 }
 
-static SIGNS: [(Sign, Version, EcLevel); 9] = [
-    (Sign::Plain, Version::Normal(2), EcLevel::M),
-    (Sign::Marked, Version::Normal(1), EcLevel::M),
-    (Sign::Small, Version::Normal(2), EcLevel::M),
-    (Sign::SmallMarked, Version::Normal(2), EcLevel::M),
-    (Sign::Smallest, Version::Micro(3), EcLevel::L),
-    (Sign::Safest, Version::Micro(3), EcLevel::M),
-    (Sign::Bytes, Version::Normal(5), EcLevel::H),
-    (Sign::TwoParts, Version::Normal(4), EcLevel::Q),
-    (Sign::Greek, Version::Normal(1), EcLevel::L),
+// A use, and the version and level of its symbol.
+struct Signed(Sign, Version, EcLevel);
+
+static SIGNS: [Signed; 9] = [
+    Signed(Sign::Plain, Version::Normal(2), EcLevel::M),
+    Signed(Sign::Marked, Version::Normal(1), EcLevel::M),
+    Signed(Sign::Small, Version::Normal(2), EcLevel::M),
+    Signed(Sign::SmallMarked, Version::Normal(2), EcLevel::M),
+    Signed(Sign::Smallest, Version::Micro(3), EcLevel::L),
+    Signed(Sign::Safest, Version::Micro(3), EcLevel::M),
+    Signed(Sign::Bytes, Version::Normal(5), EcLevel::H),
+    Signed(Sign::TwoParts, Version::Normal(4), EcLevel::Q),
+    Signed(Sign::Greek, Version::Normal(1), EcLevel::L),
 ];
 
 static CITY: &str = "Z\u{fc}rich";
@@ -217,7 +230,7 @@ static CITY: &str = "Z\u{fc}rich";
 static GREETING: &str = "\u{3053}\u{3093}\u{306b}\u{3061}\u{306f}\u{4e16}\u{754c}";
 
 // The symbol that a use makes.
-fn signed(alloc: Global, sign: Sign) -> QrResult<QrCode> {
+fn symbol_of(alloc: Global, sign: Sign) -> QrResult<QrCode> {
     match sign {
         Sign::Plain => texts::sign(alloc, GREETING),
         Sign::Marked => texts::marked_sign(alloc, CITY),
@@ -231,19 +244,19 @@ fn signed(alloc: Global, sign: Sign) -> QrResult<QrCode> {
     }
 }
 
-// Whether a use makes a symbol of a version and level, of which some modules are dark, and not all.
-fn is_made(alloc: Global, sign: Sign, version: Version, ec_level: EcLevel) -> bool {
-    let Ok(code) = signed(alloc, sign) else {
-        return false;
-    };
-    let dark = texts::count_of_dark(&code);
-    let of_kind = code.version() == version && code.error_correction_level() == ec_level;
-    of_kind && 0 < dark && dark < code.colors().len()
+// Some of the modules are dark, and not all.
+impl Row for Signed {
+    fn holds(&self, alloc: Global) -> bool {
+        let Ok(code) = symbol_of(alloc, self.0) else {
+            return false;
+        };
+        let dark = texts::count_of_dark(&code);
+        let of_kind = code.version() == self.1 && code.error_correction_level() == self.2;
+        of_kind && 0 < dark && dark < code.colors().len()
+    }
 }
 
 #[test]
 fn symbols_are_made(rt: HostRuntime) {
-    for (i, (sign, version, ec_level)) in SIGNS.iter().enumerate() {
-        check_row(&rt, i, is_made(rt.alloc(), *sign, *version, *ec_level));
-    }
+    check(&rt, rt.alloc(), &SIGNS);
 }

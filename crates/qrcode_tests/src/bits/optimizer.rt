@@ -4,7 +4,7 @@ ghost use Rattle.std.specs.Prelude.{◌≡◌, ◌≤◌, length, IsTrue};
 ghost use Rattle.qrcode_types.specs.Versions.{is_valid};
 ghost use Rattle.qrcode_bits.specs.Groups.{IsJoinable};
 
-use crate::common::check_row;
+use crate::common::{Row, check};
 use qrcode_bits::optimize::{Optimizer, Parser, Segment, least_segments, total_encoded_len};
 use qrcode_types::types::Mode::{self, Alphanumeric, Byte, Kanji, Numeric};
 use qrcode_types::types::QrError::{self, DataTooLong, InvalidVersion, UnsupportedCharacterSet};
@@ -29,52 +29,52 @@ use Way::{Joined, Least, Runs};
 type Cut = (Mode, usize, usize);
 
 // Data, the version that it is cut for, the way, and the cuts or why there are none.
-type Row = (&'static [u8], Version, Way, Result<&'static [Cut], QrError>);
+struct Cutting(&'static [u8], Version, Way, Result<&'static [Cut], QrError>);
 
 const PAIRS: &[u8] = b"\x81\x81\x40\x81\x40\x81\x40\x81\x40\x81\x40\x81\x40\x81\x40\x81\x40";
 
 #[rattlefmt::skip]
-static CUTS: [Row; 28] = [
-    (b"", Normal(1), Runs, Ok(&[])),
-    (
+static CUTS: [Cutting; 28] = [
+    Cutting(b"", Normal(1), Runs, Ok(&[])),
+    Cutting(
         b"01049123451234591597033130128%10ABC123", Normal(1), Runs,
         Ok(&[(Numeric, 0, 29), (Alphanumeric, 29, 30), (Numeric, 30, 32), (Alphanumeric, 32, 35), (Numeric, 35, 38)]),
     ),
-    (
+    Cutting(
         b"\x82\xa0\x81\x41\x41\xb1\x81\xf0", Normal(1), Runs,
         Ok(&[(Kanji, 0, 4), (Alphanumeric, 4, 5), (Byte, 5, 6), (Kanji, 6, 8)]),
     ),
-    (
+    Cutting(
         b"\xe3\x81\x82\xe3\x80\x81A\xef\xbd\xb1\xe2\x84\xab", Normal(1), Runs,
         Ok(&[(Kanji, 0, 4), (Byte, 4, 5), (Kanji, 5, 7), (Byte, 7, 10), (Kanji, 10, 12), (Byte, 12, 13)]),
     ),
-    (b"\x81\x30", Normal(1), Runs, Ok(&[(Byte, 0, 1), (Numeric, 1, 2)])),
-    (b"\xeb\xc0", Normal(1), Runs, Ok(&[(Byte, 0, 1), (Byte, 1, 2)])),
-    (b"\x81\x7f", Normal(1), Runs, Ok(&[(Byte, 0, 1), (Byte, 1, 2)])),
-    (b"\x81\x40\x81", Normal(1), Runs, Ok(&[(Kanji, 0, 2), (Byte, 2, 3)])),
-    (b"a1 b", Normal(1), Runs, Ok(&[(Byte, 0, 1), (Numeric, 1, 2), (Alphanumeric, 2, 3), (Byte, 3, 4)])),
-    (b"1234567A", Normal(1), Joined, Ok(&[(Alphanumeric, 0, 8)])),
-    (b"123A", Micro(2), Joined, Ok(&[(Numeric, 0, 3), (Alphanumeric, 3, 4)])),
-    (b"123A", Micro(3), Joined, Ok(&[(Alphanumeric, 0, 4)])),
-    (b"12AB", Micro(2), Joined, Ok(&[(Alphanumeric, 0, 4)])),
-    (b"\xeb\xc0", Normal(1), Joined, Ok(&[(Byte, 0, 2)])),
-    (b"\x81\x40\x81", Normal(1), Joined, Ok(&[(Byte, 0, 3)])),
-    (b"ABC123abcd", Normal(1), Joined, Ok(&[(Alphanumeric, 0, 6), (Byte, 6, 10)])),
-    (b"a1234b", Normal(1), Joined, Ok(&[(Byte, 0, 1), (Numeric, 1, 5), (Byte, 5, 6)])),
-    (b"a1234bc", Normal(1), Joined, Ok(&[(Byte, 0, 1), (Numeric, 1, 5), (Byte, 5, 7)])),
-    (b"\x82\xa0\x81\x41\x41\xb1\x81\xf0", Normal(1), Joined, Ok(&[(Byte, 0, 8)])),
-    (b"\x82\xa0\x82\xa0\x82\xa0\x82\xa0\x82\xa0\xff", Normal(1), Joined, Ok(&[(Kanji, 0, 10), (Byte, 10, 11)])),
-    (
+    Cutting(b"\x81\x30", Normal(1), Runs, Ok(&[(Byte, 0, 1), (Numeric, 1, 2)])),
+    Cutting(b"\xeb\xc0", Normal(1), Runs, Ok(&[(Byte, 0, 1), (Byte, 1, 2)])),
+    Cutting(b"\x81\x7f", Normal(1), Runs, Ok(&[(Byte, 0, 1), (Byte, 1, 2)])),
+    Cutting(b"\x81\x40\x81", Normal(1), Runs, Ok(&[(Kanji, 0, 2), (Byte, 2, 3)])),
+    Cutting(b"a1 b", Normal(1), Runs, Ok(&[(Byte, 0, 1), (Numeric, 1, 2), (Alphanumeric, 2, 3), (Byte, 3, 4)])),
+    Cutting(b"1234567A", Normal(1), Joined, Ok(&[(Alphanumeric, 0, 8)])),
+    Cutting(b"123A", Micro(2), Joined, Ok(&[(Numeric, 0, 3), (Alphanumeric, 3, 4)])),
+    Cutting(b"123A", Micro(3), Joined, Ok(&[(Alphanumeric, 0, 4)])),
+    Cutting(b"12AB", Micro(2), Joined, Ok(&[(Alphanumeric, 0, 4)])),
+    Cutting(b"\xeb\xc0", Normal(1), Joined, Ok(&[(Byte, 0, 2)])),
+    Cutting(b"\x81\x40\x81", Normal(1), Joined, Ok(&[(Byte, 0, 3)])),
+    Cutting(b"ABC123abcd", Normal(1), Joined, Ok(&[(Alphanumeric, 0, 6), (Byte, 6, 10)])),
+    Cutting(b"a1234b", Normal(1), Joined, Ok(&[(Byte, 0, 1), (Numeric, 1, 5), (Byte, 5, 6)])),
+    Cutting(b"a1234bc", Normal(1), Joined, Ok(&[(Byte, 0, 1), (Numeric, 1, 5), (Byte, 5, 7)])),
+    Cutting(b"\x82\xa0\x81\x41\x41\xb1\x81\xf0", Normal(1), Joined, Ok(&[(Byte, 0, 8)])),
+    Cutting(b"\x82\xa0\x82\xa0\x82\xa0\x82\xa0\x82\xa0\xff", Normal(1), Joined, Ok(&[(Kanji, 0, 10), (Byte, 10, 11)])),
+    Cutting(
         b"01049123451234591597033130128%10ABC123", Normal(9), Joined,
         Ok(&[(Numeric, 0, 29), (Alphanumeric, 29, 38)]),
     ),
-    (b"a1234b", Normal(1), Least, Ok(&[(Byte, 0, 6)])),
-    (b"a1234bc", Normal(1), Least, Ok(&[(Byte, 0, 7)])),
-    (PAIRS, Normal(1), Least, Ok(&[(Byte, 0, 1), (Kanji, 1, 17)])),
-    (b"123A", Micro(2), Least, Ok(&[(Numeric, 0, 3), (Alphanumeric, 3, 4)])),
-    (b"", Micro(1), Least, Ok(&[])),
-    (b"A", Micro(1), Least, Err(UnsupportedCharacterSet)),
-    (b"1a", Micro(2), Least, Err(UnsupportedCharacterSet)),
+    Cutting(b"a1234b", Normal(1), Least, Ok(&[(Byte, 0, 6)])),
+    Cutting(b"a1234bc", Normal(1), Least, Ok(&[(Byte, 0, 7)])),
+    Cutting(PAIRS, Normal(1), Least, Ok(&[(Byte, 0, 1), (Kanji, 1, 17)])),
+    Cutting(b"123A", Micro(2), Least, Ok(&[(Numeric, 0, 3), (Alphanumeric, 3, 4)])),
+    Cutting(b"", Micro(1), Least, Ok(&[])),
+    Cutting(b"A", Micro(1), Least, Err(UnsupportedCharacterSet)),
+    Cutting(b"1a", Micro(2), Least, Err(UnsupportedCharacterSet)),
 ];
 
 // The runs of data.
@@ -119,20 +119,19 @@ fn are_cuts(segments: &[Segment], cuts: &[Cut]) -> bool {
     given.next().is_none()
 }
 
-// Whether a row's data is cut so.
-fn holds(alloc: Global, (data, version, way, answer): &Row) -> bool {
-    match (segments(alloc, data, *version, *way), answer) {
-        (Ok(segments), Ok(cuts)) => are_cuts(&segments, cuts),
-        (Err(error), Err(expected)) => error == *expected,
-        _ => false,
+impl Row for Cutting {
+    fn holds(&self, alloc: Global) -> bool {
+        match (segments(alloc, self.0, self.1, self.2), &self.3) {
+            (Ok(segments), Ok(cuts)) => are_cuts(&segments, cuts),
+            (Err(error), Err(expected)) => error == *expected,
+            _ => false,
+        }
     }
 }
 
 #[test]
 fn data_is_cut(rt: HostRuntime) {
-    for (i, row) in CUTS.iter().enumerate() {
-        check_row(&rt, i, holds(rt.alloc(), row));
-    }
+    check(&rt, rt.alloc(), &CUTS);
 }
 
 #[test]
@@ -171,26 +170,28 @@ fn odd_segments_are_joined(rt: HostRuntime) {
     assert!(rt; joins(rt.alloc(), &bytes, &[(Byte, 0, 5)]));
 }
 
-// Versions, segments, and their bits as the standard counts them.
+// A version, segments, and their bits as the standard counts them.
+struct Length(Version, &'static [Cut], usize);
+
 #[rattlefmt::skip]
-static LENGTHS: [(Version, &[Cut], usize); 13] = [
-    (Micro(2), &[(Numeric, 0, 3)], 15),
-    (Micro(2), &[(Alphanumeric, 3, 4)], 10),
-    (Normal(1), &[(Byte, 0, 2)], 28),
-    (Normal(40), &[(Kanji, 1, 17)], 120),
-    (Normal(1), &[(Kanji, 0, 3)], 25),
-    (Normal(1), &[(Alphanumeric, 0, 8)], 57),
-    (Micro(3), &[(Alphanumeric, 0, 4)], 28),
-    (Normal(1), &[(Byte, 0, 3)], 36),
-    (Normal(1), &[(Alphanumeric, 0, 6), (Byte, 6, 10)], 90),
-    (Normal(1), &[(Byte, 0, 1), (Numeric, 1, 5), (Byte, 5, 6)], 68),
-    (Normal(1), &[(Byte, 0, 1), (Numeric, 1, 5), (Byte, 5, 7)], 76),
-    (Normal(1), &[(Byte, 0, 6)], 60),
-    (Normal(1), &[(Byte, 0, 1), (Kanji, 1, 17)], 136),
+static LENGTHS: [Length; 13] = [
+    Length(Micro(2), &[(Numeric, 0, 3)], 15),
+    Length(Micro(2), &[(Alphanumeric, 3, 4)], 10),
+    Length(Normal(1), &[(Byte, 0, 2)], 28),
+    Length(Normal(40), &[(Kanji, 1, 17)], 120),
+    Length(Normal(1), &[(Kanji, 0, 3)], 25),
+    Length(Normal(1), &[(Alphanumeric, 0, 8)], 57),
+    Length(Micro(3), &[(Alphanumeric, 0, 4)], 28),
+    Length(Normal(1), &[(Byte, 0, 3)], 36),
+    Length(Normal(1), &[(Alphanumeric, 0, 6), (Byte, 6, 10)], 90),
+    Length(Normal(1), &[(Byte, 0, 1), (Numeric, 1, 5), (Byte, 5, 6)], 68),
+    Length(Normal(1), &[(Byte, 0, 1), (Numeric, 1, 5), (Byte, 5, 7)], 76),
+    Length(Normal(1), &[(Byte, 0, 6)], 60),
+    Length(Normal(1), &[(Byte, 0, 1), (Kanji, 1, 17)], 136),
 ];
 
 // The bits of short segments in a version.
-fn length(version: Version, cuts: &[Cut]) -> usize {
+fn bits_of(version: Version, cuts: &[Cut]) -> usize {
     let mut bits: usize = 0;
     for (mode, begin, end) in cuts {
         if version.is_valid() && begin <= end && *end <= 100 {
@@ -205,11 +206,15 @@ fn length(version: Version, cuts: &[Cut]) -> usize {
     bits
 }
 
+impl Row for Length {
+    fn holds(&self, _alloc: Global) -> bool {
+        bits_of(self.0, self.1) == self.2
+    }
+}
+
 #[test]
 fn lengths_are_counted(rt: HostRuntime) {
-    for (i, (version, cuts, bits)) in LENGTHS.iter().enumerate() {
-        check_row(&rt, i, length(*version, cuts) == *bits);
-    }
+    check(&rt, rt.alloc(), &LENGTHS);
     let segments = [range(Numeric, 0, 7), range(Alphanumeric, 7, 8)];
     assert!(rt; total_encoded_len(&segments, Normal(1)) == 57);
 }

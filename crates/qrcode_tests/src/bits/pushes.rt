@@ -4,7 +4,7 @@ ghost use Rattle.std.specs.Prelude.{◌≡◌, length, IsTrue};
 ghost use Rattle.qrcode_types.specs.Versions.{is_valid};
 ghost use Rattle.qrcode_bits.specs.Segments.{AreInside};
 
-use crate::common::{check_row, list};
+use crate::common::{Row, check, list};
 use qrcode_bits::bits::{Bits, ExtendedMode, encode_auto};
 use qrcode_bits::optimize::Segment;
 use qrcode_pushes::Push::{
@@ -32,46 +32,46 @@ const END: Push<'static> = Terminator(EcLevel::L);
 const HELLO: &[u8] = b"\x20\x5b\x0b\x78\xd1\x72\xdc\x4d\x43\x40\xec\x11\xec";
 
 // A version, the pushes to a new list of it, the bytes of the list and how many bits.
-type Given = (Version, &'static [Push<'static>], &'static [u8], usize);
+struct Given(Version, &'static [Push<'static>], &'static [u8], usize);
 
 #[rattlefmt::skip]
 static GIVEN: [Given; 28] = [
     // Indicators and designators.
-    (Normal(1), &[Designator(9)], &[0x70, 0x90], 12),
-    (Normal(1), &[Designator(899)], &[0x78, 0x38, 0x30], 20),
-    (Normal(1), &[Designator(999_999)], &[0x7c, 0xf4, 0x23, 0xf0], 28),
-    (Normal(1), &[FirstPosition], &[0x50], 4),
-    (Normal(1), &[SecondPosition(37)], &[0x92, 0x50], 12),
-    (Normal(1), &[Indicator(ExtendedMode::Eci)], &[0x70], 4),
-    (Normal(1), &[Indicator(ExtendedMode::Data(Mode::Kanji))], &[0x80], 4),
-    (Normal(1), &[Indicator(ExtendedMode::Fnc1First)], &[0x50], 4),
-    (Normal(1), &[Indicator(ExtendedMode::Fnc1Second)], &[0x90], 4),
-    (Normal(1), &[Indicator(ExtendedMode::StructuredAppend)], &[0x30], 4),
-    (Micro(1), &[Indicator(ExtendedMode::Data(Mode::Numeric))], &[], 0),
+    Given(Normal(1), &[Designator(9)], &[0x70, 0x90], 12),
+    Given(Normal(1), &[Designator(899)], &[0x78, 0x38, 0x30], 20),
+    Given(Normal(1), &[Designator(999_999)], &[0x7c, 0xf4, 0x23, 0xf0], 28),
+    Given(Normal(1), &[FirstPosition], &[0x50], 4),
+    Given(Normal(1), &[SecondPosition(37)], &[0x92, 0x50], 12),
+    Given(Normal(1), &[Indicator(ExtendedMode::Eci)], &[0x70], 4),
+    Given(Normal(1), &[Indicator(ExtendedMode::Data(Mode::Kanji))], &[0x80], 4),
+    Given(Normal(1), &[Indicator(ExtendedMode::Fnc1First)], &[0x50], 4),
+    Given(Normal(1), &[Indicator(ExtendedMode::Fnc1Second)], &[0x90], 4),
+    Given(Normal(1), &[Indicator(ExtendedMode::StructuredAppend)], &[0x30], 4),
+    Given(Micro(1), &[Indicator(ExtendedMode::Data(Mode::Numeric))], &[], 0),
     // Data.
-    (Normal(1), &[MarkedText("\u{e9}")], b"\x71\xa4\x02\xc3\xa9", 40),
-    (Normal(1), &[Numeric(b"01234567")], b"\x10\x20\x0c\x56\x61\x80", 41),
-    (Normal(1), &[Numeric(b"0123456789012345")], b"\x10\x40\x0c\x56\x6a\x6e\x14\xea\x50", 68),
-    (Micro(3), &[Numeric(b"0123456789012345")], b"\x20\x06\x2b\x35\x37\x0a\x75\x28", 61),
-    (Normal(1), &[Alphanumeric(b"AC-42")], b"\x20\x29\xce\xe7\x21\x00", 41),
-    (Normal(1), &[Alphanumeric(b"a")], b"\x20\x08\x00", 19),
-    (Normal(1), &[Byte(b"\x12\x34\x56\x78\x9a\xbc\xde\xf0")], b"\x40\x81\x23\x45\x67\x89\xab\xcd\xef\x00", 76),
-    (Normal(1), &[Kanji(b"\x93\x5f\xe4\xaa")], b"\x80\x26\xcf\xea\xa8", 38),
+    Given(Normal(1), &[MarkedText("\u{e9}")], b"\x71\xa4\x02\xc3\xa9", 40),
+    Given(Normal(1), &[Numeric(b"01234567")], b"\x10\x20\x0c\x56\x61\x80", 41),
+    Given(Normal(1), &[Numeric(b"0123456789012345")], b"\x10\x40\x0c\x56\x6a\x6e\x14\xea\x50", 68),
+    Given(Micro(3), &[Numeric(b"0123456789012345")], b"\x20\x06\x2b\x35\x37\x0a\x75\x28", 61),
+    Given(Normal(1), &[Alphanumeric(b"AC-42")], b"\x20\x29\xce\xe7\x21\x00", 41),
+    Given(Normal(1), &[Alphanumeric(b"a")], b"\x20\x08\x00", 19),
+    Given(Normal(1), &[Byte(b"\x12\x34\x56\x78\x9a\xbc\xde\xf0")], b"\x40\x81\x23\x45\x67\x89\xab\xcd\xef\x00", 76),
+    Given(Normal(1), &[Kanji(b"\x93\x5f\xe4\xaa")], b"\x80\x26\xcf\xea\xa8", 38),
     // Ended lists.
-    (Normal(1), &[Alphanumeric(b"HELLO WORLD"), Terminator(EcLevel::Q)], HELLO, 104),
-    (Normal(1), &[Designator(9), Byte(b"\xca\xfe\xe4\xe9\xea\xe1\xf2 QR"), END], b"\x70\x94\x0a\xca\xfe\xe4\xe9\xea\xe1\xf2\x20\x51\x52\x00\xec\x11\xec\x11\xec", 152),
-    (Micro(1), &[Numeric(b"99999"), END], &[0xbf, 0x3e, 0x30], 20),
-    (Micro(1), &[Numeric(b"9999"), END], &[0x9f, 0x3c, 0x80], 20),
-    (Micro(1), &[Numeric(b"999"), END], &[0x7f, 0x38, 0x00], 20),
-    (Micro(1), &[Numeric(b""), END], &[0x00, 0xec, 0x00], 20),
-    (Micro(1), &[Numeric(b"1"), Numeric(b"1"), END], &[0x22, 0x44, 0x00], 20),
-    (Micro(1), &[Numeric(b"1"), Numeric(b"1"), END, END], &[0x22, 0x44, 0x00], 20),
-    (Micro(3), &[Numeric(b"00000000000000000000"), END], &[0x28, 0, 0, 0, 0, 0, 0, 0, 0, 0, 0], 84),
+    Given(Normal(1), &[Alphanumeric(b"HELLO WORLD"), Terminator(EcLevel::Q)], HELLO, 104),
+    Given(Normal(1), &[Designator(9), Byte(b"\xca\xfe\xe4\xe9\xea\xe1\xf2 QR"), END], b"\x70\x94\x0a\xca\xfe\xe4\xe9\xea\xe1\xf2\x20\x51\x52\x00\xec\x11\xec\x11\xec", 152),
+    Given(Micro(1), &[Numeric(b"99999"), END], &[0xbf, 0x3e, 0x30], 20),
+    Given(Micro(1), &[Numeric(b"9999"), END], &[0x9f, 0x3c, 0x80], 20),
+    Given(Micro(1), &[Numeric(b"999"), END], &[0x7f, 0x38, 0x00], 20),
+    Given(Micro(1), &[Numeric(b""), END], &[0x00, 0xec, 0x00], 20),
+    Given(Micro(1), &[Numeric(b"1"), Numeric(b"1"), END], &[0x22, 0x44, 0x00], 20),
+    Given(Micro(1), &[Numeric(b"1"), Numeric(b"1"), END, END], &[0x22, 0x44, 0x00], 20),
+    Given(Micro(3), &[Numeric(b"00000000000000000000"), END], &[0x28, 0, 0, 0, 0, 0, 0, 0, 0, 0, 0], 84),
 ];
 
 // A version, the pushes to a new list of it, another push that is refused and its error, the bytes
 // of the list and how many bits.
-type Refused = (
+struct Refused(
     Version,
     &'static [Push<'static>],
     Push<'static>,
@@ -83,31 +83,31 @@ type Refused = (
 #[rattlefmt::skip]
 static REFUSED: [Refused; 24] = [
     // Refusals by a new list.
-    (Normal(1), &[], Designator(1_000_000), InvalidEciDesignator, &[], 0),
-    (Micro(4), &[], Designator(9), UnsupportedCharacterSet, &[], 0),
-    (Micro(4), &[], FirstPosition, UnsupportedCharacterSet, &[], 0),
-    (Micro(4), &[], SecondPosition(1), UnsupportedCharacterSet, &[], 0),
-    (Micro(1), &[], Alphanumeric(b"A"), UnsupportedCharacterSet, &[], 0),
-    (Micro(2), &[], Byte(b"?"), UnsupportedCharacterSet, &[], 0),
-    (Micro(2), &[], Kanji(b"?"), UnsupportedCharacterSet, &[], 0),
-    (Micro(1), &[], Numeric(b"12345678"), DataTooLong, &[], 0),
-    (Micro(2), &[], Alphanumeric(b"ABCDEFGH"), DataTooLong, &[], 0),
-    (Micro(3), &[], Byte(b"0123456701234567"), DataTooLong, &[], 0),
-    (Micro(3), &[], Kanji(b"\x93_\x93_\x93_\x93_\x93_\x93_\x93_\x93_"), DataTooLong, &[], 0),
-    (Normal(1), &[], Numeric(&[b'7'; 1024]), DataTooLong, &[], 0),
-    (Normal(1), &[], Numeric(b"12a"), InvalidCharacter, &[], 0),
-    (Normal(1), &[], Kanji(b"\x93"), InvalidCharacter, &[], 0),
-    (Normal(1), &[], Kanji(b"\x81\x7f"), InvalidCharacter, &[], 0),
-    (Normal(1), &[], Kanji(b"\xeb\xc0"), InvalidCharacter, &[], 0),
-    (Micro(1), &[], Terminator(EcLevel::M), InvalidVersion, &[], 0),
-    (Normal(1), &[], Text(LONG), DataTooLong, &[], 0),
-    (Micro(2), &[], Text("a"), UnsupportedCharacterSet, &[], 0),
-    (Micro(4), &[], MarkedText("1"), UnsupportedCharacterSet, &[], 0),
-    (Micro(2), &[], MarkedText("1"), UnsupportedCharacterSet, &[], 0),
-    (Micro(2), &[], Text("0123456789012345"), DataTooLong, &[], 0),
+    Refused(Normal(1), &[], Designator(1_000_000), InvalidEciDesignator, &[], 0),
+    Refused(Micro(4), &[], Designator(9), UnsupportedCharacterSet, &[], 0),
+    Refused(Micro(4), &[], FirstPosition, UnsupportedCharacterSet, &[], 0),
+    Refused(Micro(4), &[], SecondPosition(1), UnsupportedCharacterSet, &[], 0),
+    Refused(Micro(1), &[], Alphanumeric(b"A"), UnsupportedCharacterSet, &[], 0),
+    Refused(Micro(2), &[], Byte(b"?"), UnsupportedCharacterSet, &[], 0),
+    Refused(Micro(2), &[], Kanji(b"?"), UnsupportedCharacterSet, &[], 0),
+    Refused(Micro(1), &[], Numeric(b"12345678"), DataTooLong, &[], 0),
+    Refused(Micro(2), &[], Alphanumeric(b"ABCDEFGH"), DataTooLong, &[], 0),
+    Refused(Micro(3), &[], Byte(b"0123456701234567"), DataTooLong, &[], 0),
+    Refused(Micro(3), &[], Kanji(b"\x93_\x93_\x93_\x93_\x93_\x93_\x93_\x93_"), DataTooLong, &[], 0),
+    Refused(Normal(1), &[], Numeric(&[b'7'; 1024]), DataTooLong, &[], 0),
+    Refused(Normal(1), &[], Numeric(b"12a"), InvalidCharacter, &[], 0),
+    Refused(Normal(1), &[], Kanji(b"\x93"), InvalidCharacter, &[], 0),
+    Refused(Normal(1), &[], Kanji(b"\x81\x7f"), InvalidCharacter, &[], 0),
+    Refused(Normal(1), &[], Kanji(b"\xeb\xc0"), InvalidCharacter, &[], 0),
+    Refused(Micro(1), &[], Terminator(EcLevel::M), InvalidVersion, &[], 0),
+    Refused(Normal(1), &[], Text(LONG), DataTooLong, &[], 0),
+    Refused(Micro(2), &[], Text("a"), UnsupportedCharacterSet, &[], 0),
+    Refused(Micro(4), &[], MarkedText("1"), UnsupportedCharacterSet, &[], 0),
+    Refused(Micro(2), &[], MarkedText("1"), UnsupportedCharacterSet, &[], 0),
+    Refused(Micro(2), &[], Text("0123456789012345"), DataTooLong, &[], 0),
     // Refused terminators.
-    (Micro(1), &[Numeric(b"9999999")], END, DataTooLong, &[0xff, 0x3f, 0xcf, 0x20], 27),
-    (Normal(1), &[Byte(b">>>>>>>>")], Terminator(EcLevel::H), DataTooLong, b"\x40\x83\xe3\xe3\xe3\xe3\xe3\xe3\xe3\xe0", 76),
+    Refused(Micro(1), &[Numeric(b"9999999")], END, DataTooLong, &[0xff, 0x3f, 0xcf, 0x20], 27),
+    Refused(Normal(1), &[Byte(b">>>>>>>>")], Terminator(EcLevel::H), DataTooLong, b"\x40\x83\xe3\xe3\xe3\xe3\xe3\xe3\xe3\xe0", 76),
 ];
 
 // Whether a list is of a version, and has these bytes and so many bits.
@@ -118,42 +118,42 @@ fn is_list(bits: Bits, version: Version, bytes: &[u8], length: usize) -> bool {
         && bits.into_bytes().as_slice() == bytes
 }
 
-// Whether pushes give a list.
-fn give(alloc: Global, (version, pushes, bytes, length): &Given) -> bool {
-    match list(alloc, *version, pushes) {
-        Ok(bits) => is_list(bits, *version, bytes, *length),
-        Err(_) => false,
+impl Row for Given {
+    fn holds(&self, alloc: Global) -> bool {
+        let Given(version, pushes, bytes, length) = self;
+        match list(alloc, *version, pushes) {
+            Ok(bits) => is_list(bits, *version, bytes, *length),
+            Err(_) => false,
+        }
     }
 }
 
 #[test]
 fn pushes_give_lists(rt: HostRuntime) {
-    for (i, row) in GIVEN.iter().enumerate() {
-        check_row(&rt, i, give(rt.alloc(), row));
-    }
+    check(&rt, rt.alloc(), &GIVEN);
 }
 
-// Whether a push is refused, and the list stays.
-fn refuse(alloc: Global, (version, pushes, push, error, bytes, length): &Refused) -> bool {
-    match list(alloc, *version, pushes) {
-        Ok(mut bits) => {
-            let answer = make_push(&mut bits, *push);
-            is_list(bits, *version, bytes, *length) && answer == Err(*error)
+impl Row for Refused {
+    fn holds(&self, alloc: Global) -> bool {
+        let Refused(version, pushes, push, error, bytes, length) = self;
+        match list(alloc, *version, pushes) {
+            Ok(mut bits) => {
+                let answer = make_push(&mut bits, *push);
+                is_list(bits, *version, bytes, *length) && answer == Err(*error)
+            }
+            Err(_) => false,
         }
-        Err(_) => false,
     }
 }
 
 #[test]
 fn pushes_are_refused(rt: HostRuntime) {
-    for (i, row) in REFUSED.iter().enumerate() {
-        check_row(&rt, i, refuse(rt.alloc(), row));
-    }
+    check(&rt, rt.alloc(), &REFUSED);
 }
 
 // A version, data that is pushed in the segments of fewest bits, the level that the list is ended for,
 // what the push or the terminator answers, the bytes, and how many bits.
-type Optimal = (
+struct Optimal(
     Version,
     &'static [u8],
     EcLevel,
@@ -164,30 +164,30 @@ type Optimal = (
 
 #[rattlefmt::skip]
 static OPTIMAL: [Optimal; 5] = [
-    (Normal(1), b"HELLO WORLD", EcLevel::Q, Ok(()), HELLO, 104),
-    (Micro(2), b"123A", EcLevel::L, Ok(()), b"\x18\xf7\x25\x00\xec", 40),
-    (Normal(1), b"", EcLevel::M, Ok(()), b"\x00\xec\x11\xec\x11\xec\x11\xec\x11\xec\x11\xec\x11\xec\x11\xec", 128),
-    (Normal(1), b">>>>>>>>", EcLevel::H, Err(DataTooLong), b"\x40\x83\xe3\xe3\xe3\xe3\xe3\xe3\xe3\xe0", 76),
-    (Micro(2), b"1a", EcLevel::L, Err(UnsupportedCharacterSet), &[], 0),
+    Optimal(Normal(1), b"HELLO WORLD", EcLevel::Q, Ok(()), HELLO, 104),
+    Optimal(Micro(2), b"123A", EcLevel::L, Ok(()), b"\x18\xf7\x25\x00\xec", 40),
+    Optimal(Normal(1), b"", EcLevel::M, Ok(()), b"\x00\xec\x11\xec\x11\xec\x11\xec\x11\xec\x11\xec\x11\xec\x11\xec", 128),
+    Optimal(Normal(1), b">>>>>>>>", EcLevel::H, Err(DataTooLong), b"\x40\x83\xe3\xe3\xe3\xe3\xe3\xe3\xe3\xe0", 76),
+    Optimal(Micro(2), b"1a", EcLevel::L, Err(UnsupportedCharacterSet), &[], 0),
 ];
 
-// Whether data gives a list.
-fn gives(alloc: Global, (version, data, ec_level, answer, bytes, length): &Optimal) -> bool {
-    let Ok(mut bits) = list(alloc, *version, &[]) else {
-        return false;
-    };
-    let answered = match bits.push_optimal_data(data) {
-        Ok(()) => bits.push_terminator(*ec_level),
-        refused => refused,
-    };
-    is_list(bits, *version, bytes, *length) && answered == *answer
+impl Row for Optimal {
+    fn holds(&self, alloc: Global) -> bool {
+        let Optimal(version, data, ec_level, answer, bytes, length) = self;
+        let Ok(mut bits) = list(alloc, *version, &[]) else {
+            return false;
+        };
+        let answered = match bits.push_optimal_data(data) {
+            Ok(()) => bits.push_terminator(*ec_level),
+            refused => refused,
+        };
+        is_list(bits, *version, bytes, *length) && answered == *answer
+    }
 }
 
 #[test]
 fn data_gives_lists(rt: HostRuntime) {
-    for (i, row) in OPTIMAL.iter().enumerate() {
-        check_row(&rt, i, gives(rt.alloc(), row));
-    }
+    check(&rt, rt.alloc(), &OPTIMAL);
 }
 
 fn range(mode: Mode, begin: usize, end: usize) -> Segment
@@ -266,24 +266,26 @@ fn lists_are_limited(rt: HostRuntime) {
 }
 
 // Bytes, how often they stand in the data, the level, and the least version of Normal.
+struct LeastVersion(&'static [u8], usize, EcLevel, QrResult<Version>);
+
 #[rattlefmt::skip]
-static LEAST_VERSIONS: [(&[u8], usize, EcLevel, QrResult<Version>); 15] = [
-    (b"", 1, EcLevel::M, Ok(Normal(1))),
-    (b"HELLO WORLD", 1, EcLevel::Q, Ok(Normal(1))),
-    (b"HELLO WORLD", 1, EcLevel::H, Ok(Normal(2))),
-    (b"This is a mixed data test. 1234567890", 1, EcLevel::H, Ok(Normal(4))),
-    (b"a1234bc", 1, EcLevel::H, Ok(Normal(1))),
-    (b"aABCDEF", 30, EcLevel::L, Ok(Normal(9))),
-    (b"7", 432, EcLevel::M, Ok(Normal(9))),
-    (b"7", 433, EcLevel::M, Ok(Normal(10))),
-    (b"7", 7089, EcLevel::L, Ok(Normal(40))),
-    (b"7", 7090, EcLevel::L, Err(DataTooLong)),
-    (b"a", 2331, EcLevel::M, Ok(Normal(40))),
-    (b"a", 2332, EcLevel::M, Err(DataTooLong)),
-    (b"\x93\x5f", 1817, EcLevel::L, Ok(Normal(40))),
-    (b"\x93\x5f", 1818, EcLevel::L, Err(DataTooLong)),
+static LEAST_VERSIONS: [LeastVersion; 15] = [
+    LeastVersion(b"", 1, EcLevel::M, Ok(Normal(1))),
+    LeastVersion(b"HELLO WORLD", 1, EcLevel::Q, Ok(Normal(1))),
+    LeastVersion(b"HELLO WORLD", 1, EcLevel::H, Ok(Normal(2))),
+    LeastVersion(b"This is a mixed data test. 1234567890", 1, EcLevel::H, Ok(Normal(4))),
+    LeastVersion(b"a1234bc", 1, EcLevel::H, Ok(Normal(1))),
+    LeastVersion(b"aABCDEF", 30, EcLevel::L, Ok(Normal(9))),
+    LeastVersion(b"7", 432, EcLevel::M, Ok(Normal(9))),
+    LeastVersion(b"7", 433, EcLevel::M, Ok(Normal(10))),
+    LeastVersion(b"7", 7089, EcLevel::L, Ok(Normal(40))),
+    LeastVersion(b"7", 7090, EcLevel::L, Err(DataTooLong)),
+    LeastVersion(b"a", 2331, EcLevel::M, Ok(Normal(40))),
+    LeastVersion(b"a", 2332, EcLevel::M, Err(DataTooLong)),
+    LeastVersion(b"\x93\x5f", 1817, EcLevel::L, Ok(Normal(40))),
+    LeastVersion(b"\x93\x5f", 1818, EcLevel::L, Err(DataTooLong)),
     // More than any symbol or list of bits holds.
-    (b"1", 1_048_577, EcLevel::L, Err(DataTooLong)),
+    LeastVersion(b"1", 1_048_577, EcLevel::L, Err(DataTooLong)),
 ];
 
 // The version that is chosen for bytes, so many times.
@@ -292,15 +294,15 @@ fn chosen(alloc: Global, bytes: &[u8], count: usize, ec_level: EcLevel) -> QrRes
     Ok(encode_auto(alloc, &data, ec_level)?.version())
 }
 
+impl Row for LeastVersion {
+    fn holds(&self, alloc: Global) -> bool {
+        chosen(alloc, self.0, self.1, self.2) == self.3
+    }
+}
+
 #[test]
 fn least_versions_are_chosen(rt: HostRuntime) {
-    for (i, (bytes, count, ec_level, version)) in LEAST_VERSIONS.iter().enumerate() {
-        check_row(
-            &rt,
-            i,
-            chosen(rt.alloc(), bytes, *count, *ec_level) == *version,
-        );
-    }
+    check(&rt, rt.alloc(), &LEAST_VERSIONS);
 }
 
 #[test]

@@ -1,6 +1,6 @@
 //! Parts of data joined in each order, and each cause for which others are not.
 
-use crate::common::check_row;
+use crate::common::{Row, check};
 use qrcode_several::errors::JoinError;
 use qrcode_several::{Part, join};
 use std::alloc::Global;
@@ -69,38 +69,39 @@ const CHANGED: Part<'static> = Part {
 };
 
 // Parts, and the data that they are joined to, or why they are not.
+struct Joining(&'static [Part<'static>], Result<&'static [u8], JoinError>);
+
 #[rattlefmt::skip]
-static ROWS: [(&[Part<'static>], Result<&[u8], JoinError>); 16] = [
-    (&[FIRST, SECOND, THIRD], Ok(DIGITS)),
-    (&[FIRST, THIRD, SECOND], Ok(DIGITS)),
-    (&[SECOND, FIRST, THIRD], Ok(DIGITS)),
-    (&[SECOND, THIRD, FIRST], Ok(DIGITS)),
-    (&[THIRD, FIRST, SECOND], Ok(DIGITS)),
-    (&[THIRD, SECOND, FIRST], Ok(DIGITS)),
-    (&[ALONE], Ok(b"3141592")),
-    (&[FIRST, OTHER_LAST, THIRD], Err(JoinError::Stranger(1))),
-    (&[FIRST, SECOND, OTHER_PARITY], Err(JoinError::Stranger(2))),
-    (&[BEHIND, FIRST, SECOND], Err(JoinError::Stranger(0))),
-    (&[SECOND, THIRD], Err(JoinError::Missing(0))),
-    (&[THIRD, FIRST], Err(JoinError::Missing(1))),
-    (&[FIRST, SECOND], Err(JoinError::Missing(2))),
-    (&[SECOND, FIRST, THIRD, SECOND], Err(JoinError::Twice(1))),
-    (&[FIRST, SECOND, CHANGED], Err(JoinError::Parity)),
-    (&[], Err(JoinError::Missing(0))),
+static ROWS: [Joining; 16] = [
+    Joining(&[FIRST, SECOND, THIRD], Ok(DIGITS)),
+    Joining(&[FIRST, THIRD, SECOND], Ok(DIGITS)),
+    Joining(&[SECOND, FIRST, THIRD], Ok(DIGITS)),
+    Joining(&[SECOND, THIRD, FIRST], Ok(DIGITS)),
+    Joining(&[THIRD, FIRST, SECOND], Ok(DIGITS)),
+    Joining(&[THIRD, SECOND, FIRST], Ok(DIGITS)),
+    Joining(&[ALONE], Ok(b"3141592")),
+    Joining(&[FIRST, OTHER_LAST, THIRD], Err(JoinError::Stranger(1))),
+    Joining(&[FIRST, SECOND, OTHER_PARITY], Err(JoinError::Stranger(2))),
+    Joining(&[BEHIND, FIRST, SECOND], Err(JoinError::Stranger(0))),
+    Joining(&[SECOND, THIRD], Err(JoinError::Missing(0))),
+    Joining(&[THIRD, FIRST], Err(JoinError::Missing(1))),
+    Joining(&[FIRST, SECOND], Err(JoinError::Missing(2))),
+    Joining(&[SECOND, FIRST, THIRD, SECOND], Err(JoinError::Twice(1))),
+    Joining(&[FIRST, SECOND, CHANGED], Err(JoinError::Parity)),
+    Joining(&[], Err(JoinError::Missing(0))),
 ];
 
-// Whether parts are joined so.
-fn are_joined(alloc: Global, parts: &[Part<'_>], answer: &Result<&[u8], JoinError>) -> bool {
-    match (join(alloc, parts), answer) {
-        (Ok(joined), Ok(bytes)) => joined.as_slice() == *bytes,
-        (Err(error), Err(expected)) => error == *expected,
-        _ => false,
+impl Row for Joining {
+    fn holds(&self, alloc: Global) -> bool {
+        match (join(alloc, self.0), &self.1) {
+            (Ok(joined), Ok(bytes)) => joined.as_slice() == *bytes,
+            (Err(error), Err(expected)) => error == *expected,
+            _ => false,
+        }
     }
 }
 
 #[test]
 fn parts_are_joined(rt: HostRuntime) {
-    for (i, (parts, answer)) in ROWS.iter().enumerate() {
-        check_row(&rt, i, are_joined(rt.alloc(), parts, answer));
-    }
+    check(&rt, rt.alloc(), &ROWS);
 }

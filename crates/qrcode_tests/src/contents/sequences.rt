@@ -2,7 +2,7 @@
 //! the symbols of segno's `make_sequence` and `make` under the masks of least penalty (0 and 7; 6, 6 and
 //! 2; 0), the text written in UTF-8.
 
-use crate::common::{check_row, is_drawn};
+use crate::common::{Row, check, is_drawn};
 use qrcode::types::{QrError, QrResult};
 use qrcode::{EcLevel, QrCode, Version};
 use qrcode_contents_uses::several::{leaflets, pages};
@@ -46,42 +46,57 @@ fn are_drawn(alloc: Global, codes: &[QrCode], drawings: &[&str]) -> bool {
 }
 
 // A text, a level, and its symbols in Normal 1.
-static OF_SEGNO: [(&str, EcLevel, &[&str]); 3] = [
-    (DIGITS, EcLevel::L, &[FIRST, SECOND]),
-    (WORDS, EcLevel::L, &[WORDS_1, WORDS_2, WORDS_3]),
-    ("HELLO WORLD", EcLevel::Q, &[ALONE]),
+struct Sequence(&'static str, EcLevel, &'static [&'static str]);
+
+static OF_SEGNO: [Sequence; 3] = [
+    Sequence(DIGITS, EcLevel::L, &[FIRST, SECOND]),
+    Sequence(WORDS, EcLevel::L, &[WORDS_1, WORDS_2, WORDS_3]),
+    Sequence("HELLO WORLD", EcLevel::Q, &[ALONE]),
 ];
+
+impl Row for Sequence {
+    fn holds(&self, alloc: Global) -> bool {
+        match encode_text_several(alloc, self.0, Version::Normal(1), self.1) {
+            Ok(codes) => are_drawn(alloc, &codes, self.2),
+            Err(_) => false,
+        }
+    }
+}
 
 #[test]
 fn sequences_of_segno(rt: HostRuntime) {
-    let (alloc, version) = (rt.alloc(), Version::Normal(1));
-    for (i, (text, ec_level, drawings)) in OF_SEGNO.iter().enumerate() {
-        let codes = encode_text_several(alloc, *text, version, *ec_level).expect(&rt, "symbols");
-        check_row(&rt, i, are_drawn(alloc, &codes, drawings));
-    }
-    let codes = encode_several(alloc, DIGITS.as_bytes(), version, EcLevel::L).expect(
-        &rt, "symbols",
+    check(&rt, rt.alloc(), &OF_SEGNO);
+}
+
+#[test]
+fn a_sequence_of_bytes(rt: HostRuntime) {
+    let codes = encode_several(
+        rt.alloc(),
+        DIGITS.as_bytes(),
+        Version::Normal(1),
+        EcLevel::L,
     );
-    assert!(rt; are_drawn(alloc, &codes, &[FIRST, SECOND]));
+    let codes = codes.expect(&rt, "symbols");
+    assert!(rt; are_drawn(rt.alloc(), &codes, &[FIRST, SECOND]));
 }
 
 // So many digits, the numbers of the least and the greatest version, and a level; then how many symbols
 // are the fewest, and of which version.
-type Row = (usize, usize, usize, EcLevel, Result<(usize, i16), QrError>);
+struct Digits(usize, usize, usize, EcLevel, Result<(usize, i16), QrError>);
 
 // By the standard's Tables 3 and 9, in even parts behind headers of 20 bits, computed in Python with the
 // judge's tables.
 #[rattlefmt::skip]
-static WITHIN: [Row; 9] = [
-    (60, 1, 1, EcLevel::L, Ok((2, 1))),
-    (60, 0, 2, EcLevel::L, Ok((1, 2))),
-    (560, 1, 1, EcLevel::L, Ok((16, 1))),
-    (561, 1, 1, EcLevel::L, Err(QrError::DataTooLong)),
-    (600, 3, 5, EcLevel::M, Ok((4, 5))),
-    (3000, 26, 27, EcLevel::H, Ok((3, 26))),
-    (7090, 1, 50, EcLevel::L, Ok((2, 28))),
-    (60, 2, 1, EcLevel::L, Err(QrError::InvalidVersion)),
-    (60, 41, 50, EcLevel::L, Err(QrError::InvalidVersion)),
+static WITHIN: [Digits; 9] = [
+    Digits(60, 1, 1, EcLevel::L, Ok((2, 1))),
+    Digits(60, 0, 2, EcLevel::L, Ok((1, 2))),
+    Digits(560, 1, 1, EcLevel::L, Ok((16, 1))),
+    Digits(561, 1, 1, EcLevel::L, Err(QrError::DataTooLong)),
+    Digits(600, 3, 5, EcLevel::M, Ok((4, 5))),
+    Digits(3000, 26, 27, EcLevel::H, Ok((3, 26))),
+    Digits(7090, 1, 50, EcLevel::L, Ok((2, 28))),
+    Digits(60, 2, 1, EcLevel::L, Err(QrError::InvalidVersion)),
+    Digits(60, 41, 50, EcLevel::L, Err(QrError::InvalidVersion)),
 ];
 
 // Whether a call gives this answer.
@@ -96,22 +111,31 @@ fn is_answer(codes: QrResult<Vec<QrCode>>, answer: Result<(usize, i16), QrError>
     }
 }
 
-#[test]
-fn the_fewest_of_some_versions(rt: HostRuntime) {
-    for (i, (digits, least, greatest, level, answer)) in WITHIN.iter().enumerate() {
-        let bytes = Vec::from_elem(rt.alloc(), b'7', *digits).expect(&rt, "digits");
+impl Row for Digits {
+    fn holds(&self, alloc: Global) -> bool {
+        let Digits(digits, least, greatest, level, answer) = self;
+        let Ok(bytes) = Vec::from_elem(alloc, b'7', *digits) else {
+            return false;
+        };
         let versions = Versions {
             least: *least,
             greatest: *greatest,
         };
-        let codes = encode_several_within(rt.alloc(), &bytes, versions, *level);
-        check_row(&rt, i, is_answer(codes, *answer));
+        is_answer(
+            encode_several_within(alloc, &bytes, versions, *level),
+            *answer,
+        )
     }
+}
+
+#[test]
+fn the_fewest_of_some_versions(rt: HostRuntime) {
+    check(&rt, rt.alloc(), &WITHIN);
 }
 
 // A text, the numbers of the least and the greatest version, and a level; then how many symbols are the
 // fewest, and of which version.
-type TextRow = (
+struct Text(
     &'static str,
     usize,
     usize,
@@ -123,25 +147,32 @@ type TextRow = (
 // less. The even parts of the last text have 12 bytes, as many as Normal 1 at M holds behind a header; but
 // there a character stands across the border, so that the second would have 13.
 #[rattlefmt::skip]
-static TEXTS: [TextRow; 6] = [
-    (WORDS, 1, 2, EcLevel::L, Ok((1, 2))),
-    (WORDS, 1, 1, EcLevel::L, Ok((3, 1))),
-    (WORDS, 1, 1, EcLevel::H, Ok((7, 1))),
-    (WORDS, 0, 0, EcLevel::H, Err(QrError::InvalidVersion)),
-    ("aaaaaaaaaaaaaaaaaaaaaaaa", 1, 1, EcLevel::M, Ok((2, 1))),
-    ("aéééééééééééa", 1, 1, EcLevel::M, Ok((3, 1))),
+static TEXTS: [Text; 6] = [
+    Text(WORDS, 1, 2, EcLevel::L, Ok((1, 2))),
+    Text(WORDS, 1, 1, EcLevel::L, Ok((3, 1))),
+    Text(WORDS, 1, 1, EcLevel::H, Ok((7, 1))),
+    Text(WORDS, 0, 0, EcLevel::H, Err(QrError::InvalidVersion)),
+    Text("aaaaaaaaaaaaaaaaaaaaaaaa", 1, 1, EcLevel::M, Ok((2, 1))),
+    Text("aéééééééééééa", 1, 1, EcLevel::M, Ok((3, 1))),
 ];
 
-#[test]
-fn the_fewest_of_some_versions_for_texts(rt: HostRuntime) {
-    for (i, (text, least, greatest, level, answer)) in TEXTS.iter().enumerate() {
+impl Row for Text {
+    fn holds(&self, alloc: Global) -> bool {
+        let Text(text, least, greatest, level, answer) = self;
         let versions = Versions {
             least: *least,
             greatest: *greatest,
         };
-        let codes = encode_text_several_within(rt.alloc(), *text, versions, *level);
-        check_row(&rt, i, is_answer(codes, *answer));
+        is_answer(
+            encode_text_several_within(alloc, *text, versions, *level),
+            *answer,
+        )
     }
+}
+
+#[test]
+fn the_fewest_of_some_versions_for_texts(rt: HostRuntime) {
+    check(&rt, rt.alloc(), &TEXTS);
 }
 
 // Of 640 bytes eight parts have 80 each, and Normal 5 at M, of 86 codewords, holds 82 behind a header; seven

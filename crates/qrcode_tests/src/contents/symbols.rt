@@ -1,6 +1,6 @@
 //! The symbols of elements.
 
-use crate::common::{check_row, of_pushes};
+use crate::common::{Row, check, of_pushes};
 use qrcode::QrCode;
 use qrcode::types::{EcLevel, QrError, QrResult, Version};
 use qrcode_gs1::elements::Element;
@@ -21,26 +21,26 @@ const EXAMPLE: [Pair; 4] = [
 ];
 
 /// Elements, a level, and the version in which zint 2.11.1 writes them (`zint --gs1 -b 58`).
-type Row = (&'static [Pair], EcLevel, i16);
+struct Elements(&'static [Pair], EcLevel, i16);
 
 #[rattlefmt::skip]
-static ROWS: [Row; 14] = [
-    (&EXAMPLE, EcLevel::M, 2),
-    (&EXAMPLE, EcLevel::Q, 3),
-    (&[("01", "03453120000011"), ("17", "191125"), ("10", "ABCD1234"), ("21", "10")], EcLevel::M, 2),
-    (&[("01", "03453120000011"), ("17", "191125"), ("10", "ABCD1234"), ("21", "10")], EcLevel::H, 3),
-    (&[("00", "106141412345678908")], EcLevel::Q, 1),
-    (&[("00", "106141412345678908")], EcLevel::H, 2),
-    (&[("253", "4006381333931X"), ("3103", "001750"), ("21", "%a")], EcLevel::M, 2),
-    (&[("01", "09501101530003"), ("17", "250119"), ("10", "AB%C")], EcLevel::L, 1),
-    (&[("10", "abc"), ("21", "def")], EcLevel::H, 2),
+static ROWS: [Elements; 14] = [
+    Elements(&EXAMPLE, EcLevel::M, 2),
+    Elements(&EXAMPLE, EcLevel::Q, 3),
+    Elements(&[("01", "03453120000011"), ("17", "191125"), ("10", "ABCD1234"), ("21", "10")], EcLevel::M, 2),
+    Elements(&[("01", "03453120000011"), ("17", "191125"), ("10", "ABCD1234"), ("21", "10")], EcLevel::H, 3),
+    Elements(&[("00", "106141412345678908")], EcLevel::Q, 1),
+    Elements(&[("00", "106141412345678908")], EcLevel::H, 2),
+    Elements(&[("253", "4006381333931X"), ("3103", "001750"), ("21", "%a")], EcLevel::M, 2),
+    Elements(&[("01", "09501101530003"), ("17", "250119"), ("10", "AB%C")], EcLevel::L, 1),
+    Elements(&[("10", "abc"), ("21", "def")], EcLevel::H, 2),
 
     // Percent signs among capitals, which would take a greater version in Byte.
-    (&[("10", "ABCDEFGH%IJKLMNOP")], EcLevel::M, 1),
-    (&[("10", "ABCDEFGH%IJKLMNOP")], EcLevel::H, 2),
-    (&[("01", "09501101530003"), ("10", "ABCD%EFGH")], EcLevel::L, 1),
-    (&[("10", "ABC%"), ("21", "DEF")], EcLevel::Q, 1),
-    (&[("10", "ABCDEFGH"), ("21", "%IJKLMNOP")], EcLevel::L, 1),
+    Elements(&[("10", "ABCDEFGH%IJKLMNOP")], EcLevel::M, 1),
+    Elements(&[("10", "ABCDEFGH%IJKLMNOP")], EcLevel::H, 2),
+    Elements(&[("01", "09501101530003"), ("10", "ABCD%EFGH")], EcLevel::L, 1),
+    Elements(&[("10", "ABC%"), ("21", "DEF")], EcLevel::Q, 1),
+    Elements(&[("10", "ABCDEFGH"), ("21", "%IJKLMNOP")], EcLevel::L, 1),
 ];
 
 // Elements of identifiers and values.
@@ -66,15 +66,18 @@ fn are_same(code: Option<QrCode>, expected: QrResult<QrCode>) -> bool {
     }
 }
 
+impl Row for Elements {
+    fn holds(&self, alloc: Global) -> bool {
+        match symbol(alloc, self.0, self.1) {
+            Ok(code) => code.version() == Version::Normal(self.2),
+            Err(_) => false,
+        }
+    }
+}
+
 #[test]
 fn symbols_have_the_versions_of_zint(rt: HostRuntime) {
-    for (i, (pairs, ec_level, number)) in ROWS.iter().enumerate() {
-        let version = match symbol(rt.alloc(), pairs, *ec_level) {
-            Ok(code) => Some(code.version()),
-            Err(_) => None,
-        };
-        check_row(&rt, i, version == Some(Version::Normal(*number)));
-    }
+    check(&rt, rt.alloc(), &ROWS);
 }
 
 // ISO/IEC 18004:2006, 6.4.8.1.
@@ -94,30 +97,34 @@ fn the_example_of_the_standard_is_divided_as_there(rt: HostRuntime) {
 }
 
 // Data of application 37, the version and level of its symbol, and the pushes that this has.
+struct OfApplication(&'static [u8], Version, EcLevel, &'static [Push<'static>]);
+
 #[rattlefmt::skip]
-static OF_APPLICATION: [(&[u8], Version, EcLevel, &[Push<'static>]); 3] = [
+static OF_APPLICATION: [OfApplication; 3] = [
     // ISO/IEC 18004:2006, 6.4.8.2.
-    (b"AA1234BBB112text text text text\r", Version::Normal(3), EcLevel::M, &[
+    OfApplication(b"AA1234BBB112text text text text\r", Version::Normal(3), EcLevel::M, &[
         Push::SecondPosition(37), Push::Alphanumeric(b"AA1234BBB112"), Push::Byte(b"text text text text\r"), Push::Terminator(EcLevel::M),
     ]),
     // A separator ends its segment before another and before a percent sign: three percent signs would be read as a
     // percent sign and a separator, and two as a percent sign.
-    (b"AAAAAAAA\x1d%BBBBBBBB", Version::Normal(1), EcLevel::L, &[
+    OfApplication(b"AAAAAAAA\x1d%BBBBBBBB", Version::Normal(1), EcLevel::L, &[
         Push::SecondPosition(37), Push::Alphanumeric(b"AAAAAAAA%"), Push::Alphanumeric(b"%%BBBBBBBB"), Push::Terminator(EcLevel::L),
     ]),
-    (b"AAAAAAAA\x1d\x1dBBBBBBBB", Version::Normal(1), EcLevel::L, &[
+    OfApplication(b"AAAAAAAA\x1d\x1dBBBBBBBB", Version::Normal(1), EcLevel::L, &[
         Push::SecondPosition(37), Push::Alphanumeric(b"AAAAAAAA%"), Push::Alphanumeric(b"%BBBBBBBB"), Push::Terminator(EcLevel::L),
     ]),
 ];
 
+impl Row for OfApplication {
+    fn holds(&self, alloc: Global) -> bool {
+        let code = for_application(alloc, 37, self.0, self.2).ok();
+        are_same(code, of_pushes(alloc, self.1, self.2, self.3))
+    }
+}
+
 #[test]
 fn data_of_an_application_is_divided(rt: HostRuntime) {
-    let alloc = rt.alloc();
-    for (i, (bytes, version, ec_level, pushes)) in OF_APPLICATION.iter().enumerate() {
-        let code = for_application(alloc, 37, bytes, *ec_level).ok();
-        let expected = of_pushes(alloc, *version, *ec_level, pushes);
-        check_row(&rt, i, are_same(code, expected));
-    }
+    check(&rt, rt.alloc(), &OF_APPLICATION);
 }
 
 #[test]

@@ -1,6 +1,6 @@
 //! The symbols of contents. Their texts, and what they are refused for, are asked of the library for C (`c/formats`).
 
-use crate::common::check_row;
+use crate::common::{Row, check};
 use qrcode::QrCode;
 use qrcode_contents::bill::{Bill, Currency, Party};
 use qrcode_contents::card::Card;
@@ -108,29 +108,35 @@ fn side_of(alloc: Global, call: Call) -> usize {
 
 // Calls, and the least and the greatest side that the symbol may have. The first have the sides of those that
 // segno makes of the same texts; the bill may have less, since segno writes it in one segment.
+struct Sides(Call, usize, usize);
+
 #[rattlefmt::skip]
-static SIDES: [(Call, usize, usize); 13] = [
-    (Call::Network, 29, 29),
-    (Call::Mail, 33, 33),
-    (Call::Payment, 41, 41),
-    (Call::LongBill, 21, 61),
-    (Call::Contact, 21, 177),
-    (Call::Card, 21, 177),
-    (Call::Bill, 21, 177),
-    (Call::Phone, 21, 177),
-    (Call::Message, 21, 177),
-    (Call::Place, 21, 177),
-    (Call::OneTime, 21, 177),
-    (Call::Event, 21, 177),
-    (Call::Elements, 21, 177),
+static SIDES: [Sides; 13] = [
+    Sides(Call::Network, 29, 29),
+    Sides(Call::Mail, 33, 33),
+    Sides(Call::Payment, 41, 41),
+    Sides(Call::LongBill, 21, 61),
+    Sides(Call::Contact, 21, 177),
+    Sides(Call::Card, 21, 177),
+    Sides(Call::Bill, 21, 177),
+    Sides(Call::Phone, 21, 177),
+    Sides(Call::Message, 21, 177),
+    Sides(Call::Place, 21, 177),
+    Sides(Call::OneTime, 21, 177),
+    Sides(Call::Event, 21, 177),
+    Sides(Call::Elements, 21, 177),
 ];
+
+impl Row for Sides {
+    fn holds(&self, alloc: Global) -> bool {
+        let side = side_of(alloc, self.0);
+        self.1 <= side && side <= self.2
+    }
+}
 
 #[test]
 fn contents_have_symbols(rt: HostRuntime) {
-    for (i, (call, least, most)) in SIDES.iter().enumerate() {
-        let side = side_of(rt.alloc(), *call);
-        check_row(&rt, i, *least <= side && side <= *most);
-    }
+    check(&rt, rt.alloc(), &SIDES);
 }
 
 static WITHOUT_BANK: Payment<'static> = Payment {

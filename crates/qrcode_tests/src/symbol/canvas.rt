@@ -3,7 +3,7 @@
 ghost use Rattle.std.specs.Prelude.{◌≡◌, IsTrue};
 ghost use Rattle.qrcode_types.specs.Versions.{is_valid, has_level};
 
-use crate::common::{are_dark, check_row};
+use crate::common::{Row, are_dark, check, check_row};
 use crate::squares::{DIGITS_MICRO, DIGITS_NORMAL};
 use crate::symbol::drawings::{
     DATA_OF_MICRO_1, DATA_OF_NORMAL_2, HALF_CODEWORD_OF_MICRO_3, LIGHT_MICRO_1, MOST_OF_NORMAL_2,
@@ -213,11 +213,16 @@ static DRAWN: [(Drawing, &str); 11] = [
     ), NORMAL_1_UNDER_CHECKERBOARD),
 ];
 
+// Each canvas is drawn so.
+fn check_drawn(rt: &impl Abort, alloc: Global, rows: &[(Drawing, &str)]) {
+    for (i, (drawing, text)) in rows.iter().enumerate() {
+        check_row(rt, i, draws(rt, alloc, *drawing, *text));
+    }
+}
+
 #[test]
 fn canvases_are_drawn(rt: HostRuntime) {
-    for (i, (drawing, text)) in DRAWN.iter().enumerate() {
-        check_row(&rt, i, draws(&rt, rt.alloc(), *drawing, *text));
-    }
+    check_drawn(&rt, rt.alloc(), &DRAWN);
 }
 
 // Canvases, and their letters under their best masks.
@@ -289,38 +294,44 @@ fn functional(version: Version, x: i16, y: i16) -> Option<bool> {
     }
 }
 
-// Places, and whether they have a pattern.
-static PLACES: [(Version, i16, i16, bool); 25] = [
-    (Version::Normal(7), 0, 0, true),
-    (Version::Normal(7), 9, 0, false),
-    (Version::Normal(7), 33, 0, false),
-    (Version::Normal(7), 34, 0, true),
-    (Version::Normal(7), 36, 3, true),
-    (Version::Normal(7), 4, 36, true),
-    (Version::Normal(7), 36, 6, true),
-    (Version::Normal(7), 33, 5, false),
-    (Version::Normal(7), -7, -7, true),
-    (Version::Normal(7), -9, -9, true),
-    (Version::Normal(7), -10, -7, false),
-    (Version::Normal(7), 8, -8, true),
-    (Version::Normal(7), 22, 22, true),
-    (Version::Normal(7), 6, 22, true),
-    (Version::Normal(7), 25, 22, false),
-    (Version::Normal(7), 6, -16, true),
-    (Version::Normal(7), 5, -12, false),
-    (Version::Normal(7), 44, 8, true),
-    (Version::Normal(7), 44, 9, false),
-    (Version::Normal(7), -45, -45, true),
-    (Version::Micro(2), 12, 0, true),
-    (Version::Micro(2), 12, 1, false),
-    (Version::Micro(2), 8, 7, true),
-    (Version::Micro(2), 9, 8, false),
-    (Version::Micro(2), 0, -1, true),
+// A version, a place, and whether it has a pattern.
+struct Place(Version, i16, i16, bool);
+
+static PLACES: [Place; 25] = [
+    Place(Version::Normal(7), 0, 0, true),
+    Place(Version::Normal(7), 9, 0, false),
+    Place(Version::Normal(7), 33, 0, false),
+    Place(Version::Normal(7), 34, 0, true),
+    Place(Version::Normal(7), 36, 3, true),
+    Place(Version::Normal(7), 4, 36, true),
+    Place(Version::Normal(7), 36, 6, true),
+    Place(Version::Normal(7), 33, 5, false),
+    Place(Version::Normal(7), -7, -7, true),
+    Place(Version::Normal(7), -9, -9, true),
+    Place(Version::Normal(7), -10, -7, false),
+    Place(Version::Normal(7), 8, -8, true),
+    Place(Version::Normal(7), 22, 22, true),
+    Place(Version::Normal(7), 6, 22, true),
+    Place(Version::Normal(7), 25, 22, false),
+    Place(Version::Normal(7), 6, -16, true),
+    Place(Version::Normal(7), 5, -12, false),
+    Place(Version::Normal(7), 44, 8, true),
+    Place(Version::Normal(7), 44, 9, false),
+    Place(Version::Normal(7), -45, -45, true),
+    Place(Version::Micro(2), 12, 0, true),
+    Place(Version::Micro(2), 12, 1, false),
+    Place(Version::Micro(2), 8, 7, true),
+    Place(Version::Micro(2), 9, 8, false),
+    Place(Version::Micro(2), 0, -1, true),
 ];
+
+impl Row for Place {
+    fn holds(&self, _alloc: Global) -> bool {
+        functional(self.0, self.1, self.2) == Some(self.3)
+    }
+}
 
 #[test]
 fn functional_places(rt: HostRuntime) {
-    for (i, (version, x, y, expected)) in PLACES.iter().enumerate() {
-        check_row(&rt, i, functional(*version, *x, *y) == Some(*expected));
-    }
+    check(&rt, rt.alloc(), &PLACES);
 }

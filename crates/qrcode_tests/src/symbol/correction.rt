@@ -1,6 +1,6 @@
 //! Products of the field, the correction bytes of data, and the order of codewords.
 
-use crate::common::check_row;
+use crate::common::{Row, check, check_row};
 use qrcode_ec::{
     construct_codewords, create_error_correction_code, max_allowed_errors, power, product,
 };
@@ -25,34 +25,36 @@ fn products_and_powers_are_those_of_the_field(rt: HostRuntime) {
 }
 
 // Data bytes, and their correction bytes.
+struct Corrected(&'static [u8], &'static [u8]);
+
 #[rattlefmt::skip]
-static CORRECTED: [(&[u8], &[u8]); 8] = [
-    (&DATA_OF_1_M, &CORRECTION_OF_1_M),
-    (&[0x20, 0x5b, 0x0b, 0x78, 0xd1, 0x72, 0xdc, 0x4d, 0x43, 0x40, 0xec, 0x11, 0xec], &[0xa8, 0x48, 0x16, 0x52, 0xd9, 0x36, 0x9c, 0x00, 0x2e, 0x0f, 0xb4, 0x7a, 0x10]),
-    (&[0x43, 0x55, 0x46, 0x86, 0x57, 0x26, 0x55, 0xc2, 0x77, 0x32, 0x06, 0x12, 0x06, 0x67, 0x26], &[0xd5, 0xc7, 0x0b, 0x2d, 0x73, 0xf7, 0xf1, 0xdf, 0xe5, 0xf8, 0x9a, 0x75, 0x9a, 0x6f, 0x56, 0xa1, 0x6f, 0x27]),
-    (&[0x01, 0x02, 0x04], &[0x07]),
-    (&[0x01], &[0x03, 0x02]),
-    (&[], &[0x00, 0x00, 0x00]),
-    (&[0x05], &[]),
-    (&[0x00], &[0x00, 0x00]),
+static CORRECTED: [Corrected; 8] = [
+    Corrected(&DATA_OF_1_M, &CORRECTION_OF_1_M),
+    Corrected(&[0x20, 0x5b, 0x0b, 0x78, 0xd1, 0x72, 0xdc, 0x4d, 0x43, 0x40, 0xec, 0x11, 0xec], &[0xa8, 0x48, 0x16, 0x52, 0xd9, 0x36, 0x9c, 0x00, 0x2e, 0x0f, 0xb4, 0x7a, 0x10]),
+    Corrected(&[0x43, 0x55, 0x46, 0x86, 0x57, 0x26, 0x55, 0xc2, 0x77, 0x32, 0x06, 0x12, 0x06, 0x67, 0x26], &[0xd5, 0xc7, 0x0b, 0x2d, 0x73, 0xf7, 0xf1, 0xdf, 0xe5, 0xf8, 0x9a, 0x75, 0x9a, 0x6f, 0x56, 0xa1, 0x6f, 0x27]),
+    Corrected(&[0x01, 0x02, 0x04], &[0x07]),
+    Corrected(&[0x01], &[0x03, 0x02]),
+    Corrected(&[], &[0x00, 0x00, 0x00]),
+    Corrected(&[0x05], &[]),
+    Corrected(&[0x00], &[0x00, 0x00]),
 ];
 
-// Whether data has these correction bytes.
-fn is_corrected(alloc: Global, data: &[u8], expected: &[u8]) -> bool {
-    if expected.len() > 69 {
-        return false;
-    }
-    match create_error_correction_code(alloc, data, expected.len()) {
-        Ok(ec) => ec.as_slice() == expected,
-        Err(_) => false,
+impl Row for Corrected {
+    fn holds(&self, alloc: Global) -> bool {
+        let Corrected(data, expected) = self;
+        if expected.len() > 69 {
+            return false;
+        }
+        match create_error_correction_code(alloc, data, expected.len()) {
+            Ok(ec) => ec.as_slice() == *expected,
+            Err(_) => false,
+        }
     }
 }
 
 #[test]
 fn data_is_corrected(rt: HostRuntime) {
-    for (i, (data, expected)) in CORRECTED.iter().enumerate() {
-        check_row(&rt, i, is_corrected(rt.alloc(), data, expected));
-    }
+    check(&rt, rt.alloc(), &CORRECTED);
 }
 
 // A text's data bytes for Normal 1 at level M.
@@ -116,7 +118,7 @@ const INTERLEAVED_62: [u8; 62] = [
 
 // A version and a level, data bytes that fill it, the same by turns from each block, and their
 // correction bytes by turns, where they are known.
-type Row = (
+struct Interleaved(
     Version,
     EcLevel,
     &'static [u8],
@@ -125,82 +127,87 @@ type Row = (
 );
 
 #[rattlefmt::skip]
-static INTERLEAVED: [Row; 4] = [
-    (Version::Normal(1), EcLevel::M, &DATA_OF_1_M, &DATA_OF_1_M, Some(&CORRECTION_OF_1_M)),
-    (Version::Normal(5), EcLevel::Q, &DATA_OF_5_Q, &INTERLEAVED_DATA_OF_5_Q, Some(&INTERLEAVED_CORRECTION_OF_5_Q)),
-    (Version::Normal(3), EcLevel::Q, &COUNTED_34, &INTERLEAVED_34, None),
-    (Version::Normal(5), EcLevel::Q, &COUNTED_62, &INTERLEAVED_62, None),
+static INTERLEAVED: [Interleaved; 4] = [
+    Interleaved(Version::Normal(1), EcLevel::M, &DATA_OF_1_M, &DATA_OF_1_M, Some(&CORRECTION_OF_1_M)),
+    Interleaved(Version::Normal(5), EcLevel::Q, &DATA_OF_5_Q, &INTERLEAVED_DATA_OF_5_Q, Some(&INTERLEAVED_CORRECTION_OF_5_Q)),
+    Interleaved(Version::Normal(3), EcLevel::Q, &COUNTED_34, &INTERLEAVED_34, None),
+    Interleaved(Version::Normal(5), EcLevel::Q, &COUNTED_62, &INTERLEAVED_62, None),
 ];
 
-// Whether data has these codewords.
-fn are_interleaved(alloc: Global, (version, level, data, words, correction): &Row) -> bool {
-    match Blocks::of(*version, *level) {
-        Some(blocks) if blocks.data_length() == data.len() => {}
-        _ => return false,
-    }
-    match construct_codewords(alloc, data, *version, *level) {
-        Ok((found, ec)) => {
-            found.as_slice() == *words && ec.as_slice() == correction.unwrap_or(&ec)
+impl Row for Interleaved {
+    fn holds(&self, alloc: Global) -> bool {
+        let Interleaved(version, level, data, words, correction) = self;
+        match Blocks::of(*version, *level) {
+            Some(blocks) if blocks.data_length() == data.len() => {}
+            _ => return false,
         }
-        Err(_) => false,
+        match construct_codewords(alloc, data, *version, *level) {
+            Ok((found, ec)) => {
+                found.as_slice() == *words && ec.as_slice() == correction.unwrap_or(&ec)
+            }
+            Err(_) => false,
+        }
     }
 }
 
 #[test]
 fn blocks_are_interleaved(rt: HostRuntime) {
-    for (i, row) in INTERLEAVED.iter().enumerate() {
-        check_row(&rt, i, are_interleaved(rt.alloc(), row));
-    }
+    check(&rt, rt.alloc(), &INTERLEAVED);
 }
 
 // A version, a level, and how many errors it allows, where the version has it.
-static ALLOWED: [(Version, EcLevel, Option<usize>); 40] = [
-    (Version::Micro(1), EcLevel::L, Some(0)),
-    (Version::Micro(1), EcLevel::M, None),
-    (Version::Micro(1), EcLevel::Q, None),
-    (Version::Micro(1), EcLevel::H, None),
-    (Version::Micro(2), EcLevel::L, Some(1)),
-    (Version::Micro(2), EcLevel::M, Some(2)),
-    (Version::Micro(2), EcLevel::Q, None),
-    (Version::Micro(2), EcLevel::H, None),
-    (Version::Micro(3), EcLevel::L, Some(2)),
-    (Version::Micro(3), EcLevel::M, Some(4)),
-    (Version::Micro(3), EcLevel::Q, None),
-    (Version::Micro(3), EcLevel::H, None),
-    (Version::Micro(4), EcLevel::L, Some(3)),
-    (Version::Micro(4), EcLevel::M, Some(5)),
-    (Version::Micro(4), EcLevel::Q, Some(7)),
-    (Version::Micro(4), EcLevel::H, None),
-    (Version::Normal(1), EcLevel::L, Some(2)),
-    (Version::Normal(1), EcLevel::M, Some(4)),
-    (Version::Normal(1), EcLevel::Q, Some(6)),
-    (Version::Normal(1), EcLevel::H, Some(8)),
-    (Version::Normal(2), EcLevel::L, Some(4)),
-    (Version::Normal(2), EcLevel::M, Some(8)),
-    (Version::Normal(2), EcLevel::Q, Some(11)),
-    (Version::Normal(2), EcLevel::H, Some(14)),
-    (Version::Normal(3), EcLevel::L, Some(7)),
-    (Version::Normal(3), EcLevel::M, Some(13)),
-    (Version::Normal(3), EcLevel::Q, Some(18)),
-    (Version::Normal(3), EcLevel::H, Some(22)),
-    (Version::Normal(4), EcLevel::L, Some(10)),
-    (Version::Normal(4), EcLevel::M, Some(18)),
-    (Version::Normal(4), EcLevel::Q, Some(26)),
-    (Version::Normal(4), EcLevel::H, Some(32)),
-    (Version::Normal(40), EcLevel::L, Some(375)),
-    (Version::Normal(40), EcLevel::M, Some(686)),
-    (Version::Normal(40), EcLevel::Q, Some(1020)),
-    (Version::Normal(40), EcLevel::H, Some(1215)),
-    (Version::Normal(41), EcLevel::L, None),
-    (Version::Normal(41), EcLevel::M, None),
-    (Version::Normal(41), EcLevel::Q, None),
-    (Version::Normal(41), EcLevel::H, None),
+struct Allowed(Version, EcLevel, Option<usize>);
+
+static ALLOWED: [Allowed; 40] = [
+    Allowed(Version::Micro(1), EcLevel::L, Some(0)),
+    Allowed(Version::Micro(1), EcLevel::M, None),
+    Allowed(Version::Micro(1), EcLevel::Q, None),
+    Allowed(Version::Micro(1), EcLevel::H, None),
+    Allowed(Version::Micro(2), EcLevel::L, Some(1)),
+    Allowed(Version::Micro(2), EcLevel::M, Some(2)),
+    Allowed(Version::Micro(2), EcLevel::Q, None),
+    Allowed(Version::Micro(2), EcLevel::H, None),
+    Allowed(Version::Micro(3), EcLevel::L, Some(2)),
+    Allowed(Version::Micro(3), EcLevel::M, Some(4)),
+    Allowed(Version::Micro(3), EcLevel::Q, None),
+    Allowed(Version::Micro(3), EcLevel::H, None),
+    Allowed(Version::Micro(4), EcLevel::L, Some(3)),
+    Allowed(Version::Micro(4), EcLevel::M, Some(5)),
+    Allowed(Version::Micro(4), EcLevel::Q, Some(7)),
+    Allowed(Version::Micro(4), EcLevel::H, None),
+    Allowed(Version::Normal(1), EcLevel::L, Some(2)),
+    Allowed(Version::Normal(1), EcLevel::M, Some(4)),
+    Allowed(Version::Normal(1), EcLevel::Q, Some(6)),
+    Allowed(Version::Normal(1), EcLevel::H, Some(8)),
+    Allowed(Version::Normal(2), EcLevel::L, Some(4)),
+    Allowed(Version::Normal(2), EcLevel::M, Some(8)),
+    Allowed(Version::Normal(2), EcLevel::Q, Some(11)),
+    Allowed(Version::Normal(2), EcLevel::H, Some(14)),
+    Allowed(Version::Normal(3), EcLevel::L, Some(7)),
+    Allowed(Version::Normal(3), EcLevel::M, Some(13)),
+    Allowed(Version::Normal(3), EcLevel::Q, Some(18)),
+    Allowed(Version::Normal(3), EcLevel::H, Some(22)),
+    Allowed(Version::Normal(4), EcLevel::L, Some(10)),
+    Allowed(Version::Normal(4), EcLevel::M, Some(18)),
+    Allowed(Version::Normal(4), EcLevel::Q, Some(26)),
+    Allowed(Version::Normal(4), EcLevel::H, Some(32)),
+    Allowed(Version::Normal(40), EcLevel::L, Some(375)),
+    Allowed(Version::Normal(40), EcLevel::M, Some(686)),
+    Allowed(Version::Normal(40), EcLevel::Q, Some(1020)),
+    Allowed(Version::Normal(40), EcLevel::H, Some(1215)),
+    Allowed(Version::Normal(41), EcLevel::L, None),
+    Allowed(Version::Normal(41), EcLevel::M, None),
+    Allowed(Version::Normal(41), EcLevel::Q, None),
+    Allowed(Version::Normal(41), EcLevel::H, None),
 ];
+
+impl Row for Allowed {
+    fn holds(&self, _alloc: Global) -> bool {
+        max_allowed_errors(self.0, self.1) == self.2.ok_or(QrError::InvalidVersion)
+    }
+}
 
 #[test]
 fn errors_are_allowed(rt: HostRuntime) {
-    for (row, (version, level, count)) in ALLOWED.iter().enumerate() {
-        let expected = count.ok_or(QrError::InvalidVersion);
-        check_row(&rt, row, max_allowed_errors(*version, *level) == expected);
-    }
+    check(&rt, rt.alloc(), &ALLOWED);
 }

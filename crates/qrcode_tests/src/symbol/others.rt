@@ -3,7 +3,7 @@
 ghost use Rattle.std.specs.Prelude.{◌≡◌, IsTrue};
 ghost use Rattle.qrcode_types.specs.Versions.{is_valid};
 
-use crate::common::check_row;
+use crate::common::{Row, check};
 use crate::symbol::segno::{CODEWORDS, MASKED};
 use qrcode_symbol::canvas::{Canvas, MaskPattern};
 use qrcode_types::tables::Blocks;
@@ -42,12 +42,15 @@ fn masked(alloc: Global, version: Version, ec_level: EcLevel, mask: MaskPattern)
     Ok(checksum(version.width() as usize, &canvas.to_bools(alloc)?))
 }
 
+impl Row for (Version, EcLevel, MaskPattern, u32) {
+    fn holds(&self, alloc: Global) -> bool {
+        masked(alloc, self.0, self.1, self.2) == Ok(self.3)
+    }
+}
+
 #[test]
 fn patterns_are_masked_as_by_segno(rt: HostRuntime) {
-    for (i, (version, ec_level, mask, expected)) in MASKED.iter().enumerate() {
-        let found = masked(rt.alloc(), *version, *ec_level, *mask);
-        check_row(&rt, i, found == Ok(*expected));
-    }
+    check(&rt, rt.alloc(), &MASKED);
 }
 
 // The checksum of the patterns of a version and of the codewords of three bytes that come again and again,
@@ -68,10 +71,13 @@ fn drawn(alloc: Global, version: Version, ec_level: EcLevel, bytes: [u8; 3]) -> 
     Ok(checksum(version.width() as usize, &canvas.to_bools(alloc)?))
 }
 
+impl Row for (Version, EcLevel, [u8; 3], u32) {
+    fn holds(&self, alloc: Global) -> bool {
+        drawn(alloc, self.0, self.1, self.2) == Ok(self.3)
+    }
+}
+
 #[test]
 fn codewords_stand_where_segno_draws_them(rt: HostRuntime) {
-    for (i, (version, ec_level, bytes, expected)) in CODEWORDS.iter().enumerate() {
-        let found = drawn(rt.alloc(), *version, *ec_level, *bytes);
-        check_row(&rt, i, found == Ok(*expected));
-    }
+    check(&rt, rt.alloc(), &CODEWORDS);
 }

@@ -4,7 +4,7 @@ ghost use Rattle.std.specs.Prelude.{◌≡◌, ◌+◌, ◌-◌, ◌*◌, ◌/�
 ghost use Rattle.qrcode_packed.specs.Rows.{FitsWidth, IsSquare};
 ghost use Rattle.qrcode_penalty.specs.RowHalves.{HasHalves};
 
-use crate::common::check_row;
+use crate::common::{Row, check};
 use qrcode_packed::row::{PackedRow, Row128, Row192};
 use qrcode_packed::square::PackedSquare;
 use qrcode_penalty::penalty::{micro_penalty, penalty_of_parts};
@@ -264,40 +264,46 @@ const SIDES: [u32; 17] = [
 // Kinds of squares, their sides, and their penalties of Normal and of Micro. They were counted by the judge
 // (judge/penalty.py) on the same squares; those of one colour by hand too, and the published ones are the
 // published.
+struct Counted(Kind, u32, (u32, u32));
+
 #[rattlefmt::skip]
-static COUNTED: [(Kind, u32, (u32, u32)); 25] = [
-    (Kind::Rows(&PUBLISHED), 21, (1032, 150)),
+static COUNTED: [Counted; 25] = [
+    Counted(Kind::Rows(&PUBLISHED), 21, (1032, 150)),
     // A canvas of Micro 1 at L on which nothing is drawn, under each of its masks.
-    (Kind::Rows(&[0x7ff, 0x100, 0x6ff, 0x100, 0x6ff, 0x000, 0x6ff, 0x100, 0x623, 0x000, 0x7ff]), 11, (94, 80)),
-    (Kind::Rows(&[0x1c7, 0x0c7, 0x738, 0x638, 0x0c7, 0x1c7, 0x738, 0x738, 0x083, 0x1c7, 0x638]), 11, (93, 85)),
-    (Kind::Rows(&[0x7ff, 0x1c7, 0x7db, 0x455, 0x36d, 0x471, 0x7ff, 0x0c7, 0x673, 0x555, 0x36d]), 11, (111, 68)),
-    (Kind::Rows(&[0x555, 0x638, 0x471, 0x3aa, 0x1c7, 0x38e, 0x455, 0x638, 0x4d3, 0x2aa, 0x1c7]), 11, (24, 85)),
-    (Kind::Rows(&SIDES), 17, (1246, 168)),
-    (Kind::Light, 21, (2098, 340)),
-    (Kind::Dark, 21, (2098, 0)),
-    (Kind::Light, 177, (154978, 2992)),
-    (Kind::Dark, 177, (154978, 0)),
-    (Kind::Mixed, 61, (2872, 558)),
-    (Kind::Mixed, 125, (11334, 1018)),
-    (Kind::Mixed, 177, (22273, 1621)),
-    (Kind::Finders, 61, (20089, 999)),
-    (Kind::Finders, 177, (161387, 2971)),
-    (Kind::Runs, 61, (4529, 480)),
-    (Kind::Runs, 125, (17324, 992)),
-    (Kind::Runs, 177, (33754, 1408)),
+    Counted(Kind::Rows(&[0x7ff, 0x100, 0x6ff, 0x100, 0x6ff, 0x000, 0x6ff, 0x100, 0x623, 0x000, 0x7ff]), 11, (94, 80)),
+    Counted(Kind::Rows(&[0x1c7, 0x0c7, 0x738, 0x638, 0x0c7, 0x1c7, 0x738, 0x738, 0x083, 0x1c7, 0x638]), 11, (93, 85)),
+    Counted(Kind::Rows(&[0x7ff, 0x1c7, 0x7db, 0x455, 0x36d, 0x471, 0x7ff, 0x0c7, 0x673, 0x555, 0x36d]), 11, (111, 68)),
+    Counted(Kind::Rows(&[0x555, 0x638, 0x471, 0x3aa, 0x1c7, 0x38e, 0x455, 0x638, 0x4d3, 0x2aa, 0x1c7]), 11, (24, 85)),
+    Counted(Kind::Rows(&SIDES), 17, (1246, 168)),
+    Counted(Kind::Light, 21, (2098, 340)),
+    Counted(Kind::Dark, 21, (2098, 0)),
+    Counted(Kind::Light, 177, (154978, 2992)),
+    Counted(Kind::Dark, 177, (154978, 0)),
+    Counted(Kind::Mixed, 61, (2872, 558)),
+    Counted(Kind::Mixed, 125, (11334, 1018)),
+    Counted(Kind::Mixed, 177, (22273, 1621)),
+    Counted(Kind::Finders, 61, (20089, 999)),
+    Counted(Kind::Finders, 177, (161387, 2971)),
+    Counted(Kind::Runs, 61, (4529, 480)),
+    Counted(Kind::Runs, 125, (17324, 992)),
+    Counted(Kind::Runs, 177, (33754, 1408)),
     // One run or one form in a row whose places lie in three words.
-    (Kind::RunInRow(126, 131), 177, (3, 1496)),
-    (Kind::RunInRow(123, 129), 177, (5, 1512)),
-    (Kind::RunInRow(62, 67), 177, (3, 1496)),
-    (Kind::FinderInRow(0), 177, (154954, 2992)),
-    (Kind::FinderInRow(61), 177, (154946, 2992)),
-    (Kind::FinderInRow(124), 177, (154946, 2992)),
-    (Kind::FinderInRow(170), 177, (154954, 2991)),
+    Counted(Kind::RunInRow(126, 131), 177, (3, 1496)),
+    Counted(Kind::RunInRow(123, 129), 177, (5, 1512)),
+    Counted(Kind::RunInRow(62, 67), 177, (3, 1496)),
+    Counted(Kind::FinderInRow(0), 177, (154954, 2992)),
+    Counted(Kind::FinderInRow(61), 177, (154946, 2992)),
+    Counted(Kind::FinderInRow(124), 177, (154946, 2992)),
+    Counted(Kind::FinderInRow(170), 177, (154954, 2991)),
 ];
+
+impl Row for Counted {
+    fn holds(&self, alloc: Global) -> bool {
+        costs(alloc, self.0, self.1, self.2)
+    }
+}
 
 #[test]
 fn squares_cost_what_was_counted(rt: HostRuntime) {
-    for (i, (kind, width, expected)) in COUNTED.iter().enumerate() {
-        check_row(&rt, i, costs(rt.alloc(), *kind, *width, *expected));
-    }
+    check(&rt, rt.alloc(), &COUNTED);
 }

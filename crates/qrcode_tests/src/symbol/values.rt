@@ -1,8 +1,9 @@
 //! Texts of refusals, and entries of tables.
 
-use crate::common::check_row;
+use crate::common::{Row, check, check_row};
 use qrcode_types::tables::capacity;
 use qrcode_types::types::{EcLevel, QrError, Version};
+use std::alloc::Global;
 
 #[rattlefmt::skip]
 static REFUSALS: [(QrError, &str); 6] = [
@@ -42,20 +43,25 @@ fn entries_are_fetched(rt: HostRuntime) {
     }
 }
 
-static CAPACITIES: [(Version, EcLevel, Option<usize>); 6] = [
-    (Version::Normal(40), EcLevel::L, Some(23648)),
-    (Version::Normal(9), EcLevel::M, Some(1456)),
-    (Version::Micro(3), EcLevel::L, Some(84)),
-    (Version::Micro(1), EcLevel::L, Some(20)),
-    (Version::Micro(1), EcLevel::M, None),
-    (Version::Normal(41), EcLevel::L, None),
+struct Capacity(Version, EcLevel, Option<usize>);
+
+static CAPACITIES: [Capacity; 6] = [
+    Capacity(Version::Normal(40), EcLevel::L, Some(23648)),
+    Capacity(Version::Normal(9), EcLevel::M, Some(1456)),
+    Capacity(Version::Micro(3), EcLevel::L, Some(84)),
+    Capacity(Version::Micro(1), EcLevel::L, Some(20)),
+    Capacity(Version::Micro(1), EcLevel::M, None),
+    Capacity(Version::Normal(41), EcLevel::L, None),
 ];
+
+impl Row for Capacity {
+    fn holds(&self, _alloc: Global) -> bool {
+        let Capacity(version, level, bits) = self;
+        capacity(*version, *level) == *bits && version.has_level(*level) == bits.is_some()
+    }
+}
 
 #[test]
 fn capacities_are_found(rt: HostRuntime) {
-    for (row, (version, level, bits)) in CAPACITIES.iter().enumerate() {
-        let has_level = version.has_level(*level);
-        let is_so = capacity(*version, *level) == *bits && has_level == bits.is_some();
-        check_row(&rt, row, is_so);
-    }
+    check(&rt, rt.alloc(), &CAPACITIES);
 }

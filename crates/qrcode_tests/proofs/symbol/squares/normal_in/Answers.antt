@@ -1,0 +1,23 @@
+use Rattle.std.proofs.Common.{◌+◌, ◌*◌, ◌/◌, ◌≤◌, ℕ, arith}
+use Rattle.std.proofs.lemmas.Nat.{mul-le}
+use Rattle.qrcode_tests.proofs.symbol.squares.normal_in.Goals as goal
+
+-- the items of up to three strips
+few_items : (count width : ℕ) → count ≤ 3 → width ≤ 189 → count * (width + 4) ≤ 579
+few_items count width few narrow = mul-le count (width + 4) 3 193 few (omega (arith, narrow))
+
+pub overflow_mul-count : goal.overflow_mul-count
+overflow_mul-count g c = omega (arith, few_items c.args.count c.args.width c.requires.few c.requires.at_most)
+
+pub overflow_add-count : goal.overflow_add-count
+overflow_add-count g c = omega (arith, few_items c.args.count c.args.width c.requires.few c.requires.at_most)
+
+pub overflow_mul-first : goal.overflow_mul-first
+overflow_mul-first g c =
+    let half : c.size.result / 2 ≤ 64 = omega (arith, c.size.ensures, c.requires.halves.at_most) in
+    omega (arith, mul-le c.args.count (c.size.result / 2) 3 64 c.requires.few half)
+
+pub overflow_sub-first : goal.overflow_sub-first
+overflow_sub-first g c =
+    let half : 1 ≤ c.size.result / 2 = omega (arith, c.size.ensures, c.requires.halves.at_least) in
+    omega (arith, mul-le 1 1 c.args.count (c.size.result / 2) c.requires.some half)
