@@ -1,7 +1,26 @@
--- The sizes of modules.
-use Rattle.std.proofs.Common.{◌≡◌, ℕ, zero, suc, ◌+◌, ◌-◌, ◌*◌, ◌/◌, ◌<◌, ◌≤◌, ◌⊎◌, inl, inr, max, refl, arith}
+-- The sizes of modules, and where their pixels are.
+use Rattle.std.proofs.Common.{◌≡◌, ℕ, zero, suc, ◌+◌, ◌-◌, ◌*◌, ◌/◌, ◌<◌, ◌≤◌, ◌^◌, ◌⊎◌, inl, inr, max, refl, arith}
+use Rattle.std.proofs.Math.Nat.{mul-le-mul_right}
 use Rattle.std.proofs.lemmas.Nat.{le-div, div-add-mod', mod_below, div_below}
 use Rattle.qrcode_render.specs.Setting.{least_size, greatest_size, IsLeastSize, IsGreatestSize}
+
+-- the first pixel of a module is inside
+pub pixel_fits : (i n z w : ℕ) → i < n → (n + 2 * z) * w < 2 ^ 32 → (i + z) * w < 2 ^ 32
+pixel_fits i n z w inside fits = omega (arith, mul-le-mul_right w inside)
+
+-- the pixels of a quiet zone are inside
+pub zone_fits : (n z w : ℕ) → (n + 2 * z) * w < 2 ^ 32 → z * w < 2 ^ 32
+zone_fits n z w fits = omega arith
+
+-- the end of a row of a square
+pub row_fits : (i n z : ℕ) → i < n → n + 2 * z < 2 ^ 32 → i * n + n < 2 ^ 64
+row_fits i n z inside fits =
+    let short : n ≤ 2 ^ 32 = omega arith in
+    omega (arith, mul-le-mul_right n inside, mul-le-mul_right n short)
+
+-- the first module of a row of a square
+pub first_fits : (i n z : ℕ) → i < n → n + 2 * z < 2 ^ 32 → i * n < 2 ^ 64
+first_fits i n z inside fits = omega (arith, row_fits i n z inside fits)
 
 reaches : (side pixels n : ℕ) → pixels ≤ side * n → pixels ≤ side * max n 1
 reaches side pixels zero h = omega arith

@@ -1,10 +1,25 @@
-use Rattle.std.proofs.Common.{◌≡◌, ◌+◌, ◌*◌, ◌-◌, ◌≤◌, length, ap, sym, subst, ◌∙◌, drop, take, arith}
+use Rattle.std.proofs.Common.{◌≡◌, ◌+◌, ◌*◌, ◌-◌, ◌^◌, ◌<◌, ◌≤◌, length, ap, sym, subst, ◌∙◌, drop, take, arith}
 use Rattle.std.proofs.Math.ListN.{length-take}
 use Rattle.std.proofs.Math.Nat.{mul-le-mul_right}
 use Rattle.qrcode_render.specs.Drawn.{drawn_from}
 use Rattle.qrcode_render.specs.Layout.{layout}
 use Rattle.qrcode_render.proofs.Folds.{drawn_from-part, drawn_row-is}
+use Rattle.qrcode_render.proofs.Sizes.{first_fits, pixel_fits, row_fits, zone_fits}
 use Rattle.qrcode_render.proofs.Canvas.draw_square.Goals as goal
+
+pub overflow_mul-left : goal.overflow_mul-left
+overflow_mul-left g c = record { fits = zone_fits c.args.count c.args.zone c.args.width (subst (λ n. n < 2 ^ 32) c.requires.across (g.met.Self.Canvas.sides_fit c.args.self.now).0) }
+
+pub overflow_mul-start : goal.overflow_mul-start
+overflow_mul-start g c = record { fits = first_fits c.loop-row.row c.args.count c.args.zone c.loop-row-test.true c.requires.side_fits }
+
+pub overflow_add-line : goal.overflow_add-line
+overflow_add-line g c = record { fits = row_fits c.loop-row.row c.args.count c.args.zone c.loop-row-test.true c.requires.side_fits }
+
+pub overflow_mul-row : goal.overflow_mul-row
+overflow_mul-row g c =
+    let down : (c.args.count + 2 * c.args.zone) * c.args.height < 2 ^ 32 = subst (λ n. n < 2 ^ 32) c.requires.down (g.met.Self.Canvas.sides_fit c.args.self.now).1 in
+    record { fits = pixel_fits c.loop-row.row c.args.count c.args.zone c.args.height c.loop-row-test.true down }
 
 -- The steps of a row, then those of the rows below it.
 pub loop-row-preserved : goal.loop-row-preserved

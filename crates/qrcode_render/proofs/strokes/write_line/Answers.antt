@@ -12,6 +12,7 @@ use Rattle.qrcode_render.specs.LineOf.{Written}
 use Rattle.qrcode_render.specs.Setting.{Square}
 use Rattle.qrcode_render.specs.Strokes.{rect_text}
 use Rattle.qrcode_render.proofs.Folds.{drawn_row-past}
+use Rattle.qrcode_render.proofs.Sizes.{first_fits, row_fits}
 use Rattle.qrcode_render.proofs.StrokedRows.{length-columns, line_short}
 use Rattle.qrcode_render.proofs.strokes.write_line.Goals as goal
 use Rattle.qrcode_render.proofs.strokes.write_line.Goals.{in-Light, in-Dark}
@@ -28,6 +29,23 @@ loop-i-init g c =
       ap (λ (l : Written). l.room) c.clear.ensures,
       ∣ subst IsUtf8 (sym empty) IsUtf8-nil ∣₁,
     )
+
+pub overflow_mul-start : goal.overflow_mul-start
+overflow_mul-start g c =
+    let m = c.modules.inside in
+    let inside = subst (λ (s : Square). c.args.row < s.count) (sym c.modules.view_is) c.requires.inside in
+    record { fits = first_fits c.args.row m.count m.zone inside c.modules.invariant.3 }
+
+pub overflow_add-cells : goal.overflow_add-cells
+overflow_add-cells g c =
+    let m = c.modules.inside in
+    let inside = subst (λ (s : Square). c.args.row < s.count) (sym c.modules.view_is) c.requires.inside in
+    record { fits = row_fits c.args.row m.count m.zone inside c.modules.invariant.3 }
+
+pub slice_bounds-cells-end : goal.slice_bounds-cells-end
+slice_bounds-cells-end g c =
+    let inside = subst (λ (s : Square). c.args.row < s.count) (sym c.modules.view_is) c.requires.inside in
+    omega (arith, mul-le-mul_right c.modules.inside.count inside, c.modules.invariant.0)
 
 pub bounds-columns-i : goal.bounds-columns-i
 bounds-columns-i g c =
