@@ -10,7 +10,7 @@ ghost use Rattle.qrcode_render.specs.Put.{IsPutWhere};
 ghost use Rattle.qrcode_render.specs.Setting.{fits, layout_of};
 ghost use Rattle.qrcode_render.specs.StrokeLaws.{eps_rect-is};
 
-use crate::ink::{Front, Piece, Row, Sides, number};
+use crate::ink::{Front, Piece, Row, Sides, between, number};
 use crate::stamps::Stamp;
 use crate::strokes::{Strokes, push_modules, put_modules};
 use crate::{Modules, Pixel, Renderer};
@@ -106,12 +106,8 @@ impl Strokes for Boxes {
 
     ghost row_texts = { eps_row };
 
-    #[tactic(auto, using(crate::proofs::Paths::number_short))]
     fn column(left: u32) -> Front {
-        let mut front = Stamp::new(b"");
-        front.push_number(left);
-        front.push(b" ");
-        Front::new(front)
+        Front::new(between(b"", left, b" "))
     }
 
     fn sides(width: u32, height: u32) -> Sides {

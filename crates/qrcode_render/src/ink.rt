@@ -1,7 +1,7 @@
 //! Texts of rectangles: what a column determines of them, what the sides, and what a row does.
 
 ghost use Rattle.std.specs.Prelude.{◌≡◌, ℕ, ◌+◌, ◌≤◌, ◌<◌, List, [], ◌∷◌, ◌++◌, length, decimal};
-ghost use Rattle.std.specs.Str.{IsUtf8};
+ghost use Rattle.std.specs.Str.{IsAscii, IsUtf8};
 ghost use Rattle.qrcode_render.specs.Strokes.{rect_text};
 
 use crate::stamps::{LONGEST, Line, Stamp, joined};
@@ -136,6 +136,20 @@ pub fn number(n: u32) -> Stamp<SHORT>
 {
     let mut text = Stamp::new(b"");
     text.push_number(n);
+    text
+}
+
+/// A number in decimal digits between two short texts of ASCII. Within its callers, where these are known.
+#[inline(always)]
+pub fn between(before: &[u8], n: u32, after: &[u8]) -> Stamp<SHORT>
+    requires before { (length before.now ≤ 3) × IsAscii before.now }
+    requires after { (length after.now ≤ 3) × IsAscii after.now }
+    ensures value { result ≡ before.now ++ (decimal n ++ after.now) }
+    ensures is_text { ∥ IsUtf8 result ∥₁ }
+{
+    let mut text = Stamp::new(before);
+    text.push_number(n);
+    text.push(after);
     text
 }
 

@@ -9,7 +9,7 @@ ghost use Rattle.qrcode_render.specs.Setting.{fits, layout_of};
 ghost use Rattle.qrcode_render.specs.StrokeLaws.{pic_rect-is};
 ghost use Rattle.qrcode_render.specs.Vectors.{pic_start, pic_rect, pic_column, pic_sides, pic_row, pic_text};
 
-use crate::ink::{Front, Piece, Row, Sides, number};
+use crate::ink::{Front, Piece, Row, Sides, between, number};
 use crate::stamps::Stamp;
 use crate::strokes::{Strokes, push_modules, put_modules};
 use crate::{Modules, Pixel, Renderer};
@@ -78,12 +78,8 @@ impl Strokes for Boxes {
 
     ghost row_texts = { pic_row };
 
-    #[tactic(auto, using(crate::proofs::Paths::number_short))]
     fn column(left: u32) -> Front {
-        let mut front = Stamp::new(b"p(");
-        front.push_number(left);
-        front.push(b",");
-        Front::new(front)
+        Front::new(between(b"p(", left, b","))
     }
 
     fn sides(width: u32, height: u32) -> Sides {

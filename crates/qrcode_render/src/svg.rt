@@ -10,8 +10,7 @@ ghost use Rattle.qrcode_render.specs.Setting.{fits, layout_of};
 ghost use Rattle.qrcode_render.specs.StrokeLaws.{svg_rect-is};
 ghost use Rattle.qrcode_render.specs.Vectors.{svg_start, svg_rect, svg_column, svg_sides, svg_row, svg_end, svg_text};
 
-use crate::ink::{Piece, Row, SHORT, Sides, number};
-use crate::stamps::Stamp;
+use crate::ink::{Piece, Row, SHORT, Sides, between, number};
 use crate::strokes::{Strokes, push_modules, put_modules};
 pub use crate::svg_path::{Path, PathElement};
 use crate::{Modules, Pixel, Renderer};
@@ -85,15 +84,8 @@ impl Strokes for Paths {
 
     ghost row_texts = { svg_row };
 
-    #[tactic(auto, using(crate::proofs::Paths::number_short))]
     fn column(left: u32) -> Piece<SHORT> {
-        let mut front = Stamp::new(b"M");
-        front.push_number(left);
-        front.push(b" ");
-        let mut back = Stamp::new(b"H");
-        back.push_number(left);
-        back.push(b"V");
-        Piece::new(front, back)
+        Piece::new(between(b"M", left, b" "), between(b"H", left, b"V"))
     }
 
     fn sides(width: u32, height: u32) -> Sides {
