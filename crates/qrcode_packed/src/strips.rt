@@ -104,28 +104,6 @@ fn join_words<R: PackedRow, L: StripLine>(
     }
 }
 
-// Writes the k-th strip: in a loop that is compiled for it, since finding a word by its number takes thrice as long.
-#[inline(always)]
-fn join_strip<R: PackedRow, L: StripLine>(
-    rows: &PackedSquare<'_, R>,
-    columns: &PackedSquare<'_, R>,
-    k: usize,
-    strips: &mut [L],
-)
-    requires word { k < 3 }
-    requires begins { L.room / 2 * k ≡ 64 * k }
-    requires turned { IsTransposed rows.now columns.now }
-    requires inside { k * (rows.now.width + 4) + (rows.now.width + 4) ≤ length strips.old }
-    ensures { WritesStrip (L.room / 2) k rows.now (map L.bits strips.old)
-        (map L.bits strips.new) }
-{
-    match k {
-        0 => join_words(rows, columns, 0, strips),
-        1 => join_words(rows, columns, 1, strips),
-        _ => join_words(rows, columns, 2, strips),
-    }
-}
-
 /// Writes the strips of a square, by its rows and its columns.
 pub fn join<R: PackedRow, L: StripLine>(
     rows: &PackedSquare<'_, R>,
@@ -142,6 +120,11 @@ pub fn join<R: PackedRow, L: StripLine>(
 {
     let _width = rows.width();
     for k in 0..count {
-        join_strip(rows, columns, k, strips);
+        // Each in a loop that is compiled for it, since finding a word by its number takes thrice as long.
+        match k {
+            0 => join_words(rows, columns, 0, strips),
+            1 => join_words(rows, columns, 1, strips),
+            _ => join_words(rows, columns, 2, strips),
+        }
     }
 }
