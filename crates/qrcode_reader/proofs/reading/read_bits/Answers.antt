@@ -2,12 +2,14 @@ use Rattle.std.proofs.Common.{length, take, subst, ap, ◌∙◌}
 use Rattle.std.proofs.lemmas.Result.{err_from_is_err_and}
 use Rattle.qrcode_types.specs.Bits.{bits_of}
 use Rattle.qrcode_types.specs.Versions.{capacity, block_lengths}
+use Rattle.qrcode_ec.specs.Blocks.{codewords}
+use Rattle.qrcode_places.specs.Stream.{stream}
 use Rattle.qrcode_reader.specs.Corrected.{AreCorrected}
-use Rattle.qrcode_reader.specs.Readings.{IsBitCause, IsBitReading}
+use Rattle.qrcode_reader.specs.Readings.{IsBitCause}
 use Rattle.qrcode_reader.specs.declared.refusals.Unread.TheVariants.{NoFormat}
 use Rattle.qrcode_reader.proofs.Refused.{only_memory, blocked, bit_reading, bits_given_back, bits_only_memory}
 use Rattle.qrcode_reader.proofs.reading.read_bits.Goals as goal
-use Rattle.qrcode_reader.proofs.reading.read_bits.Goals.{In_default-read_format, In_err-blocks, In_ok-bits}
+use Rattle.qrcode_reader.proofs.reading.read_bits.Goals.{In_default-read_format, In_err-blocks, In_ok-blocks}
 
 -- ---- no format
 no_format : (c : In_default-read_format) → IsBitCause c.args.modules.now NoFormat
@@ -42,22 +44,33 @@ returns-in_err-blocks-clause-gives_back c =
     λ u m bits symbol encodes damaged. rw (p.1, p.2) (bits_only_memory c.args.modules.now _ (cause k) u m bits symbol encodes damaged, tt)
 
 -- ---- a reading
-read_as : (c : In_ok-bits) → IsBitReading c.args.modules.now c.in-Some.version c.in-Some-read_format.ec_level c.in-Some-read_format.mask c.in_ok-bits.bits.items c.in_ok-blocks.blocks.wrong.items
-read_as c =
+corrected : (c : In_ok-blocks) →
+    let v = c.in-Some.version in
+    let l = c.in-Some-read_format.ec_level in
+    let held = c.in_ok-blocks.blocks in
+    AreCorrected v l (codewords v l (stream v c.in-Some-read_format.mask c.args.modules.now)) (length (block_lengths v l)) held.data.items held.wrong.items
+corrected c =
+    let v = c.in-Some.version in
+    let l = c.in-Some-read_format.ec_level in
+    let held = c.in_ok-blocks.blocks in
+    subst (λ words. AreCorrected v l words (length (block_lengths v l)) held.data.items held.wrong.items) (c.deref.ensures.value ∙ c.in_ok-words.ensures.value) c.in_ok-blocks.ensures.value
+
+pub returns-clause-value : goal.returns-clause-value
+returns-clause-value c =
     let v = c.in-Some.version in
     let l = c.in-Some-read_format.ec_level in
     let held = c.in_ok-blocks.blocks in
     bit_reading c.args.modules.now v l c.in-Some-read_format.mask held.data.items held.wrong.items c.in_ok-bits.bits.items c.in-Some.ensures.some.1 c.in-Some-read_format.ensures.some
-    (subst (λ words. AreCorrected v l words (length (block_lengths v l)) held.data.items held.wrong.items) (c.deref.ensures.value ∙ c.in_ok-words.ensures.value) c.in_ok-blocks.ensures.value)
-    (c.in_ok-bits.ensures.value ∙ ap (λ b. take (capacity v l) (bits_of b)) c.deref-2.ensures.value)
-
-pub returns-clause-value : goal.returns-clause-value
-returns-clause-value c = read_as (goal.at.returns-clause-value c).In_ok-bits
+    (corrected (goal.at.returns-clause-value c).In_ok-blocks) (c.in_ok-bits.ensures.value ∙ ap (λ b. take (capacity v l) (bits_of b)) c.deref-2.ensures.value)
 
 pub returns-clause-gives_back : goal.returns-clause-gives_back
 returns-clause-gives_back c =
-    let is = read_as (goal.at.returns-clause-gives_back c).In_ok-bits in
-    λ u m others symbol encodes damaged. (
-      tt,
-      bits_given_back c.args.modules.now c.in-Some.version c.in-Some-read_format.ec_level c.in-Some-read_format.mask c.in_ok-bits.bits.items c.in_ok-blocks.blocks.wrong.items is u m others symbol encodes damaged,
-    )
+    let s = c.args.modules.now in
+    let v = c.in-Some.version in
+    let l = c.in-Some-read_format.ec_level in
+    let k = c.in-Some-read_format.mask in
+    let held = c.in_ok-blocks.blocks in
+    let bits = c.in_ok-bits.bits.items in
+    let is = bit_reading s v l k held.data.items held.wrong.items bits c.in-Some.ensures.some.1 c.in-Some-read_format.ensures.some
+    (corrected (goal.at.returns-clause-gives_back c).In_ok-blocks) (c.in_ok-bits.ensures.value ∙ ap (λ b. take (capacity v l) (bits_of b)) c.deref-2.ensures.value) in
+    λ u m others symbol encodes damaged. (tt, bits_given_back s v l k bits held.wrong.items is u m others symbol encodes damaged)
