@@ -4,6 +4,7 @@ ghost use Rattle.std.specs.Prelude.{◌≡◌, IsTrue};
 ghost use Rattle.qrcode_types.specs.Versions.{has_level};
 
 use crate::digest::Digest;
+use crate::scenarios::symbols::{of_bools, of_colors};
 use qrcode::canvas::{Canvas, MaskPattern, is_functional};
 use qrcode::types::{Color, EcLevel, QrError, QrResult, Version};
 use std::alloc::Global;
@@ -54,16 +55,6 @@ pub fn run(
         CanvasCall::Colors => of_colors(canvas.into_colors(alloc)),
         CanvasCall::Clone => cloned(alloc, &canvas),
     }
-}
-
-// The digest of colours.
-fn of_colors(colors: QrResult<Vec<Color>>) -> QrResult<Digest> {
-    Ok(Digest::of(&colors?))
-}
-
-// The digest of bools.
-fn of_bools(bools: QrResult<Vec<bool>>) -> QrResult<Digest> {
-    Ok(Digest::of(&bools?))
 }
 
 // The digest of a canvas's colours.

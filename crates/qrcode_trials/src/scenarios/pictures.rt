@@ -149,7 +149,11 @@ fn wide<P: Pixel>(alloc: Global, size: u32) -> QrResult<P::Image> {
 /// The picture of a small symbol in grey pixels, by another call.
 pub fn image(alloc: Global) -> QrResult<Digest> {
     let code = of_digits(alloc, Version::Micro(2))?;
-    let renderer = code.render::<Luma>();
+    image_of(alloc, &code.render::<Luma>())
+}
+
+// The grey pixels of a renderer, where they fit.
+fn image_of(alloc: Global, renderer: &Renderer<Luma>) -> QrResult<Digest> {
     if !renderer.fits() {
         return Err(QrError::DataTooLong);
     }

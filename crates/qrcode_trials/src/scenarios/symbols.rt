@@ -61,6 +61,27 @@ pub fn of_code(code: QrResult<QrCode>) -> QrResult<Digest> {
     Ok(Digest::of(&code?.into_colors()))
 }
 
+/// The digest of colours.
+pub fn of_colors(colors: QrResult<Vec<Color>>) -> QrResult<Digest> {
+    Ok(Digest::of(&colors?))
+}
+
+/// The digest of bools.
+pub fn of_bools(bools: QrResult<Vec<bool>>) -> QrResult<Digest> {
+    Ok(Digest::of(&bools?))
+}
+
+// The digest of a text.
+fn of_text(text: QrResult<String>) -> QrResult<Digest> {
+    Ok(Digest::of(text?.as_bytes()))
+}
+
+// The digest of a symbol and of a copy.
+fn cloned(code: QrCode) -> QrResult<Digest> {
+    let other = code.clone()?;
+    Ok(Digest::of(&code.into_colors()).and(Digest::of(&other.into_colors())))
+}
+
 // Makes all pushes.
 fn push_all(bits: &mut Bits, pushes: &[Push<'_>]) -> QrResult<()> {
     for push in pushes {
@@ -102,18 +123,12 @@ pub fn of_digits(alloc: Global, version: Version) -> QrResult<QrCode> {
 pub fn run(alloc: Global, version: Version, call: &SymbolCall) -> QrResult<Digest> {
     let code = of_digits(alloc, version)?;
     match call {
-        SymbolCall::ToVec => Ok(Digest::of(&code.to_vec(alloc)?)),
-        SymbolCall::IntoVec => Ok(Digest::of(&code.into_vec(alloc)?)),
-        SymbolCall::ToColors => Ok(Digest::of(&code.to_colors(alloc)?)),
-        SymbolCall::IntoColors => Ok(Digest::of(&code.into_colors())),
-        SymbolCall::ToDebugStr => {
-            let text = code.to_debug_str(alloc, '#', '.')?;
-            Ok(Digest::of(text.as_bytes()))
-        }
-        SymbolCall::Clone => {
-            let other = code.clone()?;
-            Ok(Digest::of(&code.into_colors()).and(Digest::of(&other.into_colors())))
-        }
+        SymbolCall::ToVec => of_bools(code.to_vec(alloc)),
+        SymbolCall::IntoVec => of_bools(code.into_vec(alloc)),
+        SymbolCall::ToColors => of_colors(code.to_colors(alloc)),
+        SymbolCall::IntoColors => of_code(Ok(code)),
+        SymbolCall::ToDebugStr => of_text(code.to_debug_str(alloc, '#', '.')),
+        SymbolCall::Clone => cloned(code),
         SymbolCall::Asked => asked(&code, version),
     }
 }
