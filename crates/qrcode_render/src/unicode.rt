@@ -95,15 +95,15 @@ impl Finish<Dense1x2> for HalfBlocks {
 const LONGEST_HALF: usize = 3;
 
 // The character of a column of two pixels, of which each is dark or not.
-fn half(upper: bool, lower: bool) -> &'static str
-    ensures value { result.now ≡ half_blocks upper lower }
-    ensures at_most { length result.now ≤ 3 }
+fn half(upper: bool, lower: bool) -> Stamp<8>
+    ensures value { result ≡ half_blocks upper lower }
+    ensures at_most { length result ≤ 3 }
 {
     match (upper, lower) {
-        (false, false) => " ",
-        (false, true) => "\u{2584}",
-        (true, false) => "\u{2580}",
-        (true, true) => "\u{2588}",
+        (false, false) => Stamp::new(b" "),
+        (false, true) => Stamp::new("\u{2584}".as_bytes()),
+        (true, false) => Stamp::new("\u{2580}".as_bytes()),
+        (true, true) => Stamp::new("\u{2588}".as_bytes()),
     }
 }
 
@@ -123,10 +123,10 @@ impl Halves {
         ensures memory { IsOkUnless result OutOfMemory }
     {
         let columns = [
-            Stamp::new(half(other, other).as_bytes()),
-            Stamp::new(half(other, marked).as_bytes()),
-            Stamp::new(half(marked, other).as_bytes()),
-            Stamp::new(half(marked, marked).as_bytes()),
+            half(other, other),
+            half(other, marked),
+            half(marked, other),
+            half(marked, marked),
         ];
         Ok(Halves {
             marked,
@@ -188,8 +188,8 @@ impl Strip {
     {
         mark_alone(grid, 2 * i, &mut self.cells, &mut self.columns);
         let marks = &self.columns[..self.columns.len() / 2];
-        let dark = Stamp::new(half(halves.marked, false).as_bytes());
-        let light = Stamp::new(half(halves.other, false).as_bytes());
+        let dark = half(halves.marked, false);
+        let light = half(halves.other, false);
         self.line.clear();
         push_stamps(&mut self.line, &dark, &light, marks);
         self.line.push(b"\n");
