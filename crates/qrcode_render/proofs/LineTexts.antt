@@ -90,6 +90,12 @@ text_room dark light marks i j old more n is room =
       length-append old (marks_text dark light (take i marks)),
     )
 
+-- the same for one more mark, which stands for this text
+pub one_room : (dark light : List ℕ) (marks : List Bool) (i : ℕ) (old text : List ℕ) (n : ℕ) → i < length marks → (if get_or marks i false then dark else light) ≡ text → length (old ++ marks_text dark light marks) + 32 ≤ n
+    → length (old ++ marks_text dark light (take i marks)) + length text + 32 ≤ n
+one_room dark light marks i old text n inside is =
+    text_room dark light marks i (i + 1) old text n (flat_map_one (λ m. if m then dark else light) marks i (i + 1) false refl inside ∙ ap (λ t. marks_text dark light (take i marks) ++ t) is)
+
 -- how long texts of marks are at most
 pub text_at_most : (dark light : List ℕ) (marks : List Bool) (n : ℕ) → length dark ≤ n → length light ≤ n → length (marks_text dark light marks) ≤ length marks * n
 text_at_most dark light [] n d l = omega arith
