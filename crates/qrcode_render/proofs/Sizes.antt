@@ -8,6 +8,13 @@ use Rattle.qrcode_render.specs.Setting.{least_size, greatest_size, IsLeastSize, 
 pub pixel_fits : (i n z w : ℕ) → i < n → (n + 2 * z) * w < 2 ^ 32 → (i + z) * w < 2 ^ 32
 pixel_fits i n z w inside fits = omega (arith, mul-le-mul_right w inside)
 
+pub below : (a b c : ℕ) → a ≤ b → b < c → a < c
+below a b c h k = omega arith
+
+-- a module of a row is inside where the row is
+pub module_inside : (x left k n w side : ℕ) → x ≡ left + k * w → k < n → left + n * w ≤ side → x + w ≤ side
+module_inside x left k n w side is inside fits = omega (arith, mul-le-mul_right w inside)
+
 -- the pixels of a quiet zone are inside
 pub zone_fits : (n z w : ℕ) → (n + 2 * z) * w < 2 ^ 32 → z * w < 2 ^ 32
 zone_fits n z w fits = omega arith
