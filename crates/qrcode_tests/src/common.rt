@@ -1,8 +1,11 @@
 //! What the tests have in common: rows of tables, lists of bits, and drawings.
 
+ghost use Rattle.std.specs.Prelude.{◌≡◌};
+
 use qrcode::bits::Bits;
+use qrcode::optimize::Segment;
 use qrcode::types::QrError::InvalidVersion;
-use qrcode::types::QrResult;
+use qrcode::types::{Mode, QrResult};
 use qrcode::{Color, EcLevel, QrCode, Version};
 use qrcode_pushes::{Push, make_push};
 use qrcode_uses::label::Bar;
@@ -25,6 +28,13 @@ pub fn check<R: Row>(rt: &impl Abort, alloc: Global, rows: &[R]) {
 /// A row holds, or is told by its number.
 pub fn check_row(rt: &impl Abort, number: usize, holds: bool) {
     assert!(rt; holds, "row {number}");
+}
+
+/// A segment.
+pub fn range(mode: Mode, begin: usize, end: usize) -> Segment
+    ensures { result ≡ record { mode = mode; begin = begin; end = end } }
+{
+    Segment { mode, begin, end }
 }
 
 // Makes all pushes.

@@ -1,10 +1,10 @@
 //! Data cut into segments, and segments joined.
 
-ghost use Rattle.std.specs.Prelude.{◌≡◌, ◌≤◌, length, IsTrue};
+ghost use Rattle.std.specs.Prelude.{◌≤◌, length, IsTrue};
 ghost use Rattle.qrcode_types.specs.Versions.{is_valid};
 ghost use Rattle.qrcode_bits.specs.Groups.{IsJoinable};
 
-use crate::common::{Row, check};
+use crate::common::{Row, check, range};
 use qrcode_bits::optimize::{Optimizer, Parser, Segment, least_segments, total_encoded_len};
 use qrcode_types::types::Mode::{self, Alphanumeric, Byte, Kanji, Numeric};
 use qrcode_types::types::QrError::{self, DataTooLong, InvalidVersion, UnsupportedCharacterSet};
@@ -139,12 +139,6 @@ fn the_longest_data_is_cut(rt: HostRuntime) {
     let data = Vec::from_elem(rt.alloc(), b'a', 1_048_576).expect(&rt, "memory");
     let least = segments(rt.alloc(), &data, Normal(40), Least).expect(&rt, "segments");
     assert!(rt; are_cuts(&least, &[(Byte, 0, 1_048_576)]));
-}
-
-fn range(mode: Mode, begin: usize, end: usize) -> Segment
-    ensures { result ≡ record { mode = mode; begin = begin; end = end } }
-{
-    Segment { mode, begin, end }
 }
 
 // Whether segments are joined into these in Normal 1.

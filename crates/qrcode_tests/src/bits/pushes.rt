@@ -1,10 +1,10 @@
 //! Pushes to a list of bits, and what they are refused for.
 
-ghost use Rattle.std.specs.Prelude.{◌≡◌, length, IsTrue};
+ghost use Rattle.std.specs.Prelude.{length, IsTrue};
 ghost use Rattle.qrcode_types.specs.Versions.{is_valid};
 ghost use Rattle.qrcode_bits.specs.Segments.{AreInside};
 
-use crate::common::{Row, check, list};
+use crate::common::{Row, check, list, range};
 use qrcode_bits::bits::{Bits, ExtendedMode, encode_auto};
 use qrcode_bits::optimize::Segment;
 use qrcode_pushes::Push::{
@@ -188,12 +188,6 @@ impl Row for Optimal {
 #[test]
 fn data_gives_lists(rt: HostRuntime) {
     check(&rt, rt.alloc(), &OPTIMAL);
-}
-
-fn range(mode: Mode, begin: usize, end: usize) -> Segment
-    ensures { result ≡ record { mode = mode; begin = begin; end = end } }
-{
-    Segment { mode, begin, end }
 }
 
 // Whether ranges of bytes are pushed with this answer, and give a list.
