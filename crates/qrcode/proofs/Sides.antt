@@ -14,6 +14,13 @@ valid_of v l h = (and_parts (is_valid v) (not ((blocks_entry v l).0 == 0)) h).0
 up_to : (most n : ℕ) → IsTrue (nat_le 1 n && nat_le n most) → (1 ≤ n) × (n ≤ most)
 up_to most n h = let p = and_parts (nat_le 1 n) (nat_le n most) h in (leb-true 1 n p.0, leb-true n most p.1)
 
+-- a side is at most that of Normal 40
+pub side_at_most : (v : Version) → IsTrue (is_valid v) → side v ≤ 177
+side_at_most (Normal (pos n)) p = omega (arith, (up_to 40 n p).1)
+side_at_most (Micro (pos n)) p = omega (arith, (up_to 4 n p).1)
+side_at_most (Normal (negsuc n)) p = absurd (true≢false (sym p))
+side_at_most (Micro (negsuc n)) p = absurd (true≢false (sym p))
+
 -- versions of one side are one
 pub same_version : (v u : Version) → IsTrue (is_valid v) → IsTrue (is_valid u) → side v ≡ side u → v ≡ u
 same_version (Normal (negsuc n)) u p q e = absurd (true≢false (sym p))
