@@ -19,6 +19,7 @@ returns-then-is_err-clause-refused c = inr (
       cc (c.if-is_err.ensures.negation),
 )
 
+-- what a result says where it is no error
 when_ok : {T E P : Type 0} (r : Result T E) → is_err r ≡ false → IfOk r (λ _. P) → P
 when_ok (Ok x) e h = h
 when_ok (Err x) e h = absurd (true≢false e)
