@@ -38,8 +38,8 @@ pub record HoldBits (bytes : List ℕ) (from : ℕ) (up : Bool) (width : ℕ) (l
   pub right_hold : (s : ℕ) → s < steps → let y = row_at up width s in new_right y ≡ (right y && stream_bit bytes (from + passing (is_free_step up width left right) (2 * s)))
   pub left_hold : (s : ℕ) → s < steps → let y = row_at up width s in new_left y ≡ (left y && stream_bit bytes (from + passing (is_free_step up width left right) (2 * s + 1)))
 
--- a pair of columns with the bits of a stream, from one on, at the free places of two columns, and how many bits lie before
--- the next one
+-- a pair of columns with the bits of a stream, from one on, at the free places of two columns, and how many bits lie
+-- before the next one
 pub record IsFilledPair (bytes : List ℕ) (from : ℕ) (up : Bool) (width left right new_left new_right next : ℕ) : Type 0 where
   pub shown : HoldBits bytes from up width (is_set left) (is_set right) (is_set new_left) (is_set new_right) width
   pub next_is : next ≡ from + passing (is_free_step up width (is_set left) (is_set right)) (2 * width)

@@ -9,11 +9,14 @@ use Rattle.qrcode_symbol.specs.Carried.{drawn_modules}
 use Rattle.qrcode_symbol.specs.Columns.{IsStream}
 use Rattle.qrcode_symbol.specs.Masking.{AreBestColors}
 
-abbrev pub AreDrawnColors : Version → EcLevel → List ℕ → List ℕ → List Color → Type 0  -- of data and error correction codewords
+-- of the symbol of data and error correction codewords
+abbrev pub AreDrawnColors : Version → EcLevel → List ℕ → List ℕ → List Color → Type 0
 AreDrawnColors v l bytes ec colors = AreBestColors v l (drawn_modules v l bytes ec) colors
 
-abbrev pub AreListColors : Version → EcLevel → List ℕ → List Color → Type 0  -- of codewords in a list
+-- of the symbol of codewords in a list
+abbrev pub AreListColors : Version → EcLevel → List ℕ → List Color → Type 0
 AreListColors v l list colors = AreDrawnColors v l (data_in v l list) (ec_in v l list) colors
 
-abbrev pub AreStreamColors : Version → EcLevel → List ℕ → List Color → Type 0  -- of all codewords whose bits a stream has
+-- of the symbol of all codewords whose bits a stream has
+abbrev pub AreStreamColors : Version → EcLevel → List ℕ → List Color → Type 0
 AreStreamColors v l stream colors = (bytes ec : List ℕ) → IsStream (drawn_bits v l bytes ec) stream → AreDrawnColors v l bytes ec colors

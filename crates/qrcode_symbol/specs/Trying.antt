@@ -13,7 +13,8 @@ use Rattle.qrcode_symbol.specs.Masking.{masked_dark, nth_cost, IsFirstLeastCost,
 abbrev pub under_mask : {R P row pair : _} → PackedModules R P row pair → MaskPattern → ℕ → ℕ → Bool
 under_mask m mask = inside m.width (masked_dark m.version (format_word m.version m.ec_level mask) mask m.dark.rows m.free.rows)
 
-abbrev pub cost_under : {R P row pair : _} → PackedModules R P row pair → ℕ → ℕ  -- what the square costs under the k-th mask
+-- what the square costs under the k-th mask
+abbrev pub cost_under : {R P row pair : _} → PackedModules R P row pair → ℕ → ℕ
 cost_under m = nth_cost m.version m.ec_level m.width m.dark.rows m.free.rows
 
 -- the number of the first mask under which the square costs least
