@@ -1,4 +1,4 @@
-use Rattle.std.proofs.Common.{◌≡◌, ◌-◌, drop, get_or, sym, ap, ap₂, ◌∙◌, arith}
+use Rattle.std.proofs.Common.{◌≡◌, ◌-◌, drop, get_or, ap, ap₂, ◌∙◌, arith}
 use Rattle.qrcode_types.proofs.Writing.{are_bytes}
 use Rattle.qrcode_bits.proofs.LeastCosts.{filled_back}
 use Rattle.qrcode_gs1_symbol.specs.Fewest.{step, costs_of, past_end}
