@@ -214,7 +214,8 @@ impl QrCode {
         ec::max_allowed_errors(self.version, self.ec_level).unwrap()
     }
 
-    /// Whether the module in column `x` and row `y` belongs to a pattern or to the format word.
+    /// Whether the module in column `x` and row `y`, both below the width, belongs to a pattern, to
+    /// the format word or to the version word.
     pub fn is_functional(&self, x: usize, y: usize) -> bool
         requires column { x < side self.now.version }
         requires row { y < side self.now.version }
@@ -312,7 +313,7 @@ impl QrCode {
     }
 }
 
-/// The colour of the module in column x and row y, where the index is (x, y).
+/// The colour of the module in column x and row y, both below the width, where the index is (x, y).
 impl Index<(usize, usize)> for QrCode {
     type Output = Color;
 

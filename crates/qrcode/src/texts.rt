@@ -78,9 +78,9 @@ impl QrCode {
     /// in the order Micro 1 to 4, Normal 1 to 40. From Micro 1 on it is the least of all.
     ///
     /// It is refused by the first of these causes that applies. `InvalidVersion`: there is no such
-    /// version as the first. `DataTooLong`: no version from that one on holds the data, or it has
-    /// more than 1,048,576 bytes. And `OutOfMemory` may come in place of the second, or where none
-    /// applies.
+    /// version as the first. `DataTooLong`: the data has more than 1,048,576 bytes; or no version
+    /// from that one on holds it. And `OutOfMemory` may come in place of the last of these, or where
+    /// none applies.
     pub fn at_least(
         alloc: Global,
         bytes: &[u8],

@@ -77,8 +77,8 @@ fn words_of(
 /// and each block half as many wrong codewords as it has error correction codewords. What the
 /// bits mean is not looked at.
 ///
-/// `NoSuchSide`, `NoFormat` and `Damaged` come where nothing else can be read, the first that
-/// applies. `OutOfMemory` is the only other error.
+/// `NoSuchSide`, `NoFormat` and `Damaged`: the square is read as no bits, for the first of these
+/// causes that applies. `OutOfMemory` is the only other error.
 pub fn read_bits(alloc: Global, modules: &[Color]) -> Result<BitReading, Unread>
     ensures value { IfOk result (λ read. IsBitReading modules.now
         read.version read.ec_level read.mask read.bits.items read.wrong.items) }
@@ -114,8 +114,8 @@ pub fn read_bits(alloc: Global, modules: &[Color]) -> Result<BitReading, Unread>
 /// 18004:2006, 6.4, 6.9 and Annex B). Each copy of the format word may have three wrong bits, and
 /// each block half as many wrong codewords as it has error correction codewords.
 ///
-/// `NoSuchSide`, `NoFormat`, `Damaged` and `NotSpelled` come where nothing else can be read, the
-/// first that applies. `OutOfMemory` is the only other error.
+/// `NoSuchSide`, `NoFormat`, `Damaged` and `NotSpelled`: the square is read as no bytes, for the
+/// first of these causes that applies. `OutOfMemory` is the only other error.
 pub fn read(alloc: Global, modules: &[Color]) -> Result<Reading, Unread>
     ensures value { IfOk result (λ read. IsReading modules.now
         read.version read.ec_level read.mask read.data.items read.wrong.items) }

@@ -19,7 +19,8 @@ pub enum Unread {
     NoFormat,
     /// This block, counted from zero, is the first that cannot be corrected.
     Damaged(usize),
-    /// The data bits are not pieces and an end.
+    /// The data bits are not segments and an end, as where a header stands in front of them or a
+    /// segment has a number that stands for no character.
     NotSpelled,
     /// Memory was refused.
     OutOfMemory,

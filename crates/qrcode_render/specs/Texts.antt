@@ -35,7 +35,7 @@ abbrev pub pairs_text : (Bool → Bool → List ℕ) → List Bool → List ℕ
 pairs_text text columns =
     flat_map (λ x. text (slice_index_or columns (2 * x) false) (slice_index_or columns (2 * x + 1) false)) (range_with_len 0 (length columns / 2))
 
--- a line of two rows, or of a last row alone, which stands over light pixels
+-- a line of two rows, or of a last row alone, whose lower halves are left out
 abbrev pub dense_line : Bool → Bool → Bitmap → ℕ → List ℕ
 dense_line marked other b i =
     if nat_lt (2 * i + 1) b.down

@@ -27,8 +27,9 @@ pub use texts::text_of;
 /// to the terminator, or to the end where that is cut off. What stands behind the terminator is not
 /// looked at.
 ///
-/// `NotSpelled`: the bits are not pieces and an end, such as bits with the number of a character
-/// set. `OutOfMemory` is the only other error.
+/// `NotSpelled`: the bits are not segments and an end, as where a header stands in front, such as
+/// the number of a character set, or a segment has a number that stands for no character.
+/// `OutOfMemory` is the only other error.
 pub fn spell(alloc: Global, bits: &[bool], version: Version) -> Result<Vec<u8>, Unspelled>
     requires { IsTrue (is_valid version) }
     ensures value { IfOk result (λ bytes. SpellsOnly version bits.now bytes.items) }

@@ -12,7 +12,8 @@ use std::fmt;
 /// Why bits are not read as bytes.
 #[derive(Debug, PartialEq, Eq, Copy, Clone)]
 pub enum Unspelled {
-    /// The bits are not pieces and an end.
+    /// The bits are not segments and an end, as where a header stands in front of them or a segment
+    /// has a number that stands for no character.
     NotSpelled,
     /// Memory was refused.
     OutOfMemory,

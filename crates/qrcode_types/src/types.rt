@@ -31,7 +31,8 @@ pub enum QrError {
     DataTooLong,
     /// There is no such version, or it lacks the level.
     InvalidVersion,
-    /// The version lacks a mode that the data needs.
+    /// The version lacks a mode that the data needs, or what stands in front of it: the number of a
+    /// character set, FNC1 or the place among several symbols.
     UnsupportedCharacterSet,
     /// The number of the character set is 1,000,000 or more.
     InvalidEciDesignator,

@@ -15,6 +15,7 @@ pub enum Manner {
     /// In segments of all modes, whatever the bytes are.
     Bytes,
     /// As a text in UTF-8: in segments that readers show as its characters, and so without Kanji.
+    /// The bytes are not looked at: where they are no UTF-8, nothing is promised of what is shown.
     Text,
     /// As a text, with the number 26 of UTF-8 (ECI) in front, which takes 12 bits: for readers that
     /// guess the character set where nothing names it. Micro QR has no such numbers.
