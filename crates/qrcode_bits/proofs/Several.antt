@@ -4,6 +4,7 @@ use Rattle.std.specs.Prelude.{slice_get, slice_range, Result, Ok, Err, IsErr, Is
 use Rattle.std.specs.List.{AllByRecursion}
 use Rattle.std.specs.Option.{option_or}
 use Rattle.std.proofs.lemmas.Grind.{flat_map-append}
+use Rattle.std.proofs.Math.Seq.{take-length}
 use Rattle.std.proofs.lemmas.List.{map-append, take_at}
 use Rattle.std.proofs.lemmas.List.Sums.{sum_by-cons}
 use Rattle.qrcode_types.specs.declared.types.Version.{Version}
@@ -149,3 +150,13 @@ pub only_stopped : (bytes : List ℕ) (s : Segment) (old new : BitList) (result 
     → IfErr result (λ e. StopsAt old.version old.bits (pieces_of bytes (s ∷ [])) e new.bits)
 only_stopped bytes s old new (Ok u) h = tt
 only_stopped bytes s old new (Err e) h = (refuses_segment old.version old.bits bytes [] s old new e refl (none_pushed old.version old.bits bytes) h).stops
+
+-- all segments are written, and what comes behind them is refused
+pub stops_behind : (v : Version) (old : List Bool) (bytes : List ℕ) (ss : List Segment) (r : Option QrError) (now after new : BitList) (result : Result (Unit {0}) QrError)
+    → now.version ≡ v → PushesAll v old bytes ss now.bits → Changes r now after new result
+    → IfErr result (λ _. (n : ℕ) × (new ≡ record { version = v; bits = old ++ written v (take n (pieces_of bytes ss)) }))
+stops_behind v old bytes ss r now after new (Ok u) same pushed refused = tt
+stops_behind v old bytes ss r now after new (Err e) same pushed refused =
+    let ps = pieces_of bytes ss in
+    let list : Version → List Bool → BitList = λ w b. record { version = w; bits = b } in
+    (length ps, refused.unchanged ∙ ap (λ w. list w now.bits) same ∙ ap (list v) (pushed.bits ∙ ap (λ qs. old ++ written v qs) (sym (take-length ps))))

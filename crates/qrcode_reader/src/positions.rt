@@ -128,6 +128,8 @@ fn is_memory(error: Unread) -> bool
 ///
 /// It fails for want of memory alone.
 pub fn read_any(alloc: Global, modules: &[Color]) -> Result<Option<AnyReading>, AllocError>
+    ensures square { IfOk result (λ found. IfSome found (λ any. (side : ℕ)
+        × (side * side ≡ length modules.now))) }
     ensures value { IfOk result (λ found. IfSome found (λ any. (side : ℕ)
         → side * side ≡ length modules.now → IsFirstReading side modules.now
         any.position any.is_inverted any.reading.version any.reading.ec_level

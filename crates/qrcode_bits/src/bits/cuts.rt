@@ -1,6 +1,6 @@
 //! The segments of a cut in a list of bits.
 
-ghost use Rattle.std.specs.Prelude.{◌≡◌, ◌+◌, ◌≤◌, [], ◌∷◌, ◌++◌, length, IfErr, OnOk, IsOkUnless, IsTrue};
+ghost use Rattle.std.specs.Prelude.{◌≡◌, ℕ, ◌+◌, ◌≤◌, [], ◌∷◌, ◌++◌, length, take, IfErr, OnOk, IsOkUnless, IsTrue};
 ghost use Rattle.qrcode_types.specs.Versions.{has_level, capacity};
 ghost use Rattle.qrcode_types.specs.declared.types.QrError.TheVariants.{OutOfMemory};
 ghost use Rattle.qrcode_bits.specs.Cuts.{IsCut};
@@ -18,7 +18,7 @@ impl Bits {
     /// Appends data in the segments of a cut, for which the symbol has room, and ends the list: as
     /// `push_segments` and `push_terminator` do one after the other.
     ///
-    /// `OutOfMemory`: memory was refused.
+    /// `OutOfMemory`: memory was refused. The segments that were appended before then stand.
     pub fn end_with(
         &mut self,
         bytes: &[u8],
@@ -33,6 +33,10 @@ impl Bits {
           bits = terminated self.old.version ec_level
               (self.old.bits ++ written self.old.version (pieces_of bytes.now segments.items));
         }) }
+        ensures stopped { IfErr result (λ _. (n : ℕ) × (self.new ≡ record self.old {
+          bits = self.old.bits
+              ++ written self.old.version (take n (pieces_of bytes.now segments.items));
+        })) }
         ensures full { OnOk result (length self.new.bits ≡ capacity self.old.version ec_level) }
         ensures memory { IsOkUnless result OutOfMemory }
     {
@@ -49,6 +53,10 @@ impl Bits {
           bits = terminated self.old.version ec_level
               (self.old.bits ++ written self.old.version (pieces_of bytes.now cut.items));
         }) }
+        ensures stopped { IfErr result (λ _. (n : ℕ) × (self.new ≡ record self.old {
+          bits = self.old.bits
+              ++ written self.old.version (take n (pieces_of bytes.now cut.items));
+        })) }
         ensures full { OnOk result (length self.new.bits ≡ capacity self.old.version ec_level) }
         ensures memory { IsOkUnless result OutOfMemory }
     {

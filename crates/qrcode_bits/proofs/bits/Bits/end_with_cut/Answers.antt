@@ -1,10 +1,12 @@
-use Rattle.std.proofs.Common.{◌≡◌, arith}
+use Rattle.std.proofs.Common.{◌≡◌, length, arith}
 use Rattle.qrcode_types.specs.declared.types.QrError.TheVariants.{OutOfMemory}
 use Rattle.qrcode_types.proofs.BlockTable.{capacity-le}
 use Rattle.qrcode_bits.proofs.CutPieces.{cut_inside}
 use Rattle.qrcode_bits.proofs.Fitting.{fitting_stop}
 use Rattle.qrcode_bits.proofs.Manners.{valid_of}
-use Rattle.qrcode_bits.proofs.Several.{handed_on}
+use Rattle.qrcode_bits.proofs.Several.{handed_on, stops_behind}
+use Rattle.qrcode_bits.specs.Refusals.{terminator_refusal}
+use Rattle.qrcode_bits.specs.Written.{terminated}
 use Rattle.qrcode_bits.proofs.bits.Bits.end_with_cut.Goals as goal
 
 pub push_cut-requires : goal.push_cut-requires
@@ -17,3 +19,11 @@ returns-in_err-push_cut-clause-memory c =
     handed_on c.from_residual.result c.in_err-push_cut.field-0.0 (λ e. e ≡ OutOfMemory) c.from_residual.ensures
     (fitting_stop v l c.args.self.now.bits c.args.bytes.now c.args.cut.items c.in_err-push_cut.field-0.0 c.push_cut.new.self.bits (valid_of v l c.requires.exists) c.requires.cut
     (omega (arith, c.requires.room)) (omega (arith, c.requires.room, capacity-le v l c.requires.exists)) c.in_err-push_cut.ensures.stopped)
+
+pub returns-clause-stopped : goal.returns-clause-stopped
+returns-clause-stopped c =
+    let v = c.args.self.now.version in
+    let pushed = c.push_cut.new.self in
+    stops_behind v c.args.self.now.bits c.args.bytes.now c.args.cut.items (terminator_refusal pushed.version c.args.ec_level (length pushed.bits)) pushed
+    (record pushed { bits = terminated pushed.version c.args.ec_level pushed.bits }) c.push_terminator.new.self c.push_terminator.result
+    c.in_ok-push_cut.ensures.version c.in_ok-push_cut.ensures.pushed c.push_terminator.ensures.ends
