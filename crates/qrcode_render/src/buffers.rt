@@ -10,6 +10,7 @@ ghost use Rattle.qrcode_render.specs.Texts.{marks_text, raw_bytes};
 use crate::Renderer;
 use crate::grid::Grid;
 use crate::image::Luma;
+use crate::inlays::{inlaid_bytes, put_inlaid};
 use crate::rows::CellTexts;
 use crate::stamps::{Line, put_text};
 use qrcode_types::types::QrResult;
@@ -61,6 +62,9 @@ fn put_greys(alloc: Global, grid: &Grid, dark: u8, light: u8, bytes: &mut [u8]) 
     ensures unchanged { OnErr result (bytes.new ≡ bytes.old) }
     ensures memory { IsOkUnless result OutOfMemory }
 {
+    if let Some((dark, light)) = inlaid_bytes(grid, &[dark], &[light], &[]) {
+        return put_inlaid(alloc, bytes, grid, dark, light);
+    }
     let (across, _) = grid.cell();
     let (columns, _) = grid.sides();
     let texts = CellTexts::new(alloc, across, &[dark], &[light])?;

@@ -1,9 +1,10 @@
 //! Small grey pictures: rows of light pixels, into which the cells of a symbol are laid.
 
-ghost use Rattle.std.specs.Prelude.{◌≡◌, ℕ, ◌+◌, ◌*◌, ◌^◌, ◌<◌, ◌≤◌, Bool, false, [], ◌∷◌, ◌++◌, length, replicate, flat_map, IfSome, OnOk, IsOkUnless};
+ghost use Rattle.std.specs.Prelude.{◌≡◌, ℕ, ◌+◌, ◌*◌, ◌^◌, ◌<◌, ◌≤◌, Bool, false, [], ◌∷◌, ◌++◌, length, map, replicate, flat_map, IfSome, OnOk, OnErr, IsOkUnless};
 ghost use Rattle.std.specs.List.{range_with_len};
 ghost use Rattle.qrcode_types.specs.declared.types.QrError.TheVariants.{OutOfMemory};
-ghost use Rattle.qrcode_render.specs.Grid.{all_rows, cell_row, repeated};
+ghost use Rattle.qrcode_types.specs.Colors.{is_dark};
+ghost use Rattle.qrcode_render.specs.Grid.{all_columns, all_rows, cell_row, repeated};
 ghost use Rattle.qrcode_render.specs.Inlays.{eights_text, inlaid_row};
 ghost use Rattle.qrcode_render.specs.Lines.{two_text};
 
@@ -12,6 +13,7 @@ use crate::fours::pair_number;
 use crate::grid::Grid;
 use crate::stamps::Stamp;
 use qrcode_types::types::QrResult;
+use std::alloc::Global;
 
 // The pixels of a cell across, and down.
 const CELL: usize = 8;
@@ -89,6 +91,20 @@ fn lay_cells(rows: &mut [u8], twos: &Twos, zone: usize, cells: &[bool])
     lay_two(rows, twos, zone, cells, cells.len() - 2);
 }
 
+// Lays a row of cells into eight light rows, which stay light where it lies around the symbol.
+fn lay_row(rows: &mut [u8], twos: &Twos, grid: &Grid, marks: &[bool], row: usize)
+    requires marks { marks.now ≡ map is_dark grid.now.cells }
+    requires some { 2 ≤ grid.now.columns }
+    requires light { rows.old ≡ replicate (8 * (8 * all_columns grid.now)) twos.now.light }
+    ensures { rows.new
+        ≡ repeated 8 (eights_text twos.now.dark twos.now.light (cell_row grid.now row)) }
+{
+    let (_, zone) = grid.inside();
+    if let Some(cells) = grid.marks_of(row, marks) {
+        lay_cells(rows, twos, zone, cells);
+    }
+}
+
 // The most cells of a row of which eight rows of pixels are filled in few instructions: below 2048 bytes.
 const MOST: usize = 31;
 
@@ -114,6 +130,47 @@ pub(crate) fn inlaid_bytes(grid: &Grid, dark: &[u8], light: &[u8], end: &[u8]) -
     Some((dark[0], light[0]))
 }
 
+// Writes the rows of cells into a buffer that has as many bytes.
+fn put_laid(bytes: &mut [u8], twos: &Twos, grid: &Grid, marks: &[bool])
+    requires marks { marks.now ≡ map is_dark grid.now.cells }
+    requires some { 2 ≤ grid.now.columns }
+    requires length { length bytes.old ≡ all_rows grid.now * (8 * (8 * all_columns grid.now)) }
+    ensures { bytes.new ≡ flat_map (λ row.
+        repeated 8 (eights_text twos.now.dark twos.now.light (cell_row grid.now row)))
+        (range_with_len 0 (all_rows grid.now)) }
+{
+    let (columns, rows) = grid.sides();
+    let count = CELL * (CELL * columns);
+    for row in 0..rows {
+        let band = &mut bytes[row * count..(row + 1) * count];
+        band.fill(twos.light);
+        lay_row(band, twos, grid, marks, row);
+    }
+}
+
+/// Writes the rows of cells of eight by eight pixels, of which each is a byte, into a buffer that has as many.
+/// Refuses with `OutOfMemory` alone, and the buffer is then as it was.
+pub(crate) fn put_inlaid(
+    alloc: Global,
+    bytes: &mut [u8],
+    grid: &Grid,
+    dark: u8,
+    light: u8,
+) -> QrResult<()>
+    requires some { 2 ≤ grid.now.columns }
+    requires length { length bytes.old ≡ all_rows grid.now * (8 * (8 * all_columns grid.now)) }
+    ensures value { OnOk result (bytes.new ≡ flat_map (λ row.
+        repeated 8 (eights_text dark light (cell_row grid.now row)))
+        (range_with_len 0 (all_rows grid.now))) }
+    ensures unchanged { OnErr result (bytes.new ≡ bytes.old) }
+    ensures memory { IsOkUnless result OutOfMemory }
+{
+    let twos = Twos::new(dark, light);
+    let marks = grid.marks(alloc)?;
+    put_laid(bytes, &twos, grid, &marks);
+    Ok(())
+}
+
 /// Appends the rows of cells of eight by eight pixels, of which each is a byte. Refuses with `OutOfMemory` alone.
 pub(crate) fn push_inlaid(raw: &mut Vec<u8>, grid: &Grid, dark: u8, light: u8) -> QrResult<()>
     requires down { grid.now.down ≡ 8 }
@@ -124,16 +181,12 @@ pub(crate) fn push_inlaid(raw: &mut Vec<u8>, grid: &Grid, dark: u8, light: u8) -
     ensures memory { IsOkUnless result OutOfMemory }
 {
     let (columns, rows) = grid.sides();
-    let (_, zone) = grid.inside();
     let twos = Twos::new(dark, light);
     let marks = grid.marks(*raw.allocator())?;
     for row in 0..rows {
         let start = raw.len();
         raw.resize(start + CELL * (CELL * columns), light)?;
-        match grid.marks_of(row, &marks) {
-            Some(cells) => lay_cells(&mut raw[start..], &twos, zone, cells),
-            None => {}
-        }
+        lay_row(&mut raw[start..], &twos, grid, &marks, row);
     }
     Ok(())
 }

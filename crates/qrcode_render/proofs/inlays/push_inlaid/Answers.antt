@@ -8,7 +8,6 @@ use Rattle.qrcode_render.proofs.EqualRows.{replicate_rows}
 use Rattle.qrcode_render.proofs.InlaidRows.{light_text}
 use Rattle.qrcode_render.proofs.LineTexts.{flat_range_more}
 use Rattle.qrcode_render.proofs.inlays.push_inlaid.Goals as goal
-use Rattle.qrcode_render.proofs.inlays.push_inlaid.Goals.{in-Some, in-None}
 
 pub loop-row-preserved : goal.loop-row-preserved
 loop-row-preserved c =
@@ -24,43 +23,30 @@ loop-row-preserved c =
     let more : end - c.loop-row.raw.len ≡ 8 * (8 * all) = omega (arith, c.len-start.ensures, c.sides-columns.ensures.columns) in
     let filled : c.resize.new.self.items ≡ old ++ replicate (8 * (8 * all)) light =
     c.in_ok-resize.ensures.items ∙ ap₂ (λ xs k. xs ++ replicate k light) (take_all end old (omega (arith, c.loop-row.raw.ok.0, c.len-start.ensures))) more in
-    let drawn : c.match-marks_of.raw.items ≡ old ++ here row = elim c.match-marks_of.branch [
-      | in-Some w ↦
-          let lent = w.deref_mut.result.now in
-          let laid = w.lay_cells.new.rows in
-          let start = c.len-start.result in
-          let rest = replicate (8 * (8 * all)) light in
-          let behind = drop (length lent - start) (drop start lent) in
-          let edge : ℕ → List Bool = λ n. replicate n false in
-          let is : lent ≡ old ++ rest = w.deref_mut.ensures.value ∙ filled in
-          let begun : length old ≡ start = omega (arith, c.loop-row.raw.ok.0, c.len-start.ensures) in
-          let whole : length lent ≡ start + 8 * (8 * all) = omega (arith, ap length is, length-append old rest, length-replicate (8 * (8 * all)) light, begun) in
-          let none : behind ≡ [] = drop_of_length-le (drop start lent) (omega (arith, length-drop start lent)) in
-          let kept : length (take start lent ++ (laid ++ behind)) ≡ c.resize.new.self.len = omega (
-            arith,
-            length-append (take start lent) (laid ++ behind),
-            length-append laid behind,
-            length-take-le start lent (omega (arith, whole)),
-            w.lay_cells.auto.rows,
-            length-drop start lent,
-            ap length none,
-            w.deref_mut.ensures.len,
-            whole,
-          ) in
-          let shown : laid ≡ here row =
-          w.lay_cells.ensures
-          ∙ (λ k. repeated 8 (eights_text (c.new-twos.ensures.dark k) (c.new-twos.ensures.light k) (edge (c.inside-zone.ensures.zone k) ++ (w.in-Some.cells.now ++ edge (c.inside-zone.ensures.zone k)))))
-          ∙ ap (λ ms. repeated 8 (eights_text dark light ms)) (sym w.in-Some.ensures.inside) in
-          ap (λ v. v.items) w.raw-is
-          ∙ with_items_is c.resize.new.self (take start lent ++ (laid ++ behind)) kept
-          ∙ ap₂ (λ xs ys. xs ++ (laid ++ ys)) (ap (take start) is ∙ take_at old rest start begun) none
-          ∙ ap (λ t. old ++ t) (append-nil laid ∙ shown)
-      | in-None w ↦
-          ap (λ v. v.items) w.raw-is
-          ∙ filled
-          ∙ ap (λ t. old ++ t) (replicate_rows 8 (8 * all) light ∙ ap (repeated 8) (sym (light_text dark light all) ∙ ap (eights_text dark light) (sym w.in-None.ensures.around)))
-    ] in
-    drawn
+    let lent = c.deref_mut.result.now in
+    let laid = c.lay_row.new.rows in
+    let start = c.len-start.result in
+    let rest = replicate (8 * (8 * all)) light in
+    let behind = drop (length lent - start) (drop start lent) in
+    let is : lent ≡ old ++ rest = c.deref_mut.ensures.value ∙ filled in
+    let begun : length old ≡ start = omega (arith, c.loop-row.raw.ok.0, c.len-start.ensures) in
+    let whole : length lent ≡ start + 8 * (8 * all) = omega (arith, ap length is, length-append old rest, length-replicate (8 * (8 * all)) light, begun) in
+    let none : behind ≡ [] = drop_of_length-le (drop start lent) (omega (arith, length-drop start lent)) in
+    let kept : length (take start lent ++ (laid ++ behind)) ≡ c.resize.new.self.len = omega (
+      arith,
+      length-append (take start lent) (laid ++ behind),
+      length-append laid behind,
+      length-take-le start lent (omega (arith, whole)),
+      c.lay_row.auto.rows,
+      length-drop start lent,
+      ap length none,
+      c.deref_mut.ensures.len,
+      whole,
+    ) in
+    let shown : laid ≡ here row = c.lay_row.ensures ∙ ap₂ (λ d l. repeated 8 (eights_text d l (cell_row g row))) c.new-twos.ensures.dark c.new-twos.ensures.light in
+    with_items_is c.resize.new.self (take start lent ++ (laid ++ behind)) kept
+    ∙ ap₂ (λ xs ys. xs ++ (laid ++ ys)) (ap (take start) is ∙ take_at old rest start begun) none
+    ∙ ap (λ t. old ++ t) (append-nil laid ∙ shown)
     ∙ ap (λ t. t ++ here row) c.loop-row.invariant
     ∙ append_assoc c.args.raw.now.items before (here row)
     ∙ ap (λ t. c.args.raw.now.items ++ t) (sym (flat_range_more here row (row + 1) refl))
