@@ -7,6 +7,7 @@ ghost use Rattle.qrcode_render.specs.Grid.{all_columns, all_rows, cell_row, repe
 ghost use Rattle.qrcode_render.specs.Lines.{two_text};
 ghost use Rattle.qrcode_render.specs.Texts.{marks_text};
 
+use crate::buffers::put_times;
 use crate::fours::Fours;
 use crate::grid::Grid;
 use crate::rows::push_times;
@@ -155,4 +156,37 @@ pub fn push_bands<const ROWS: usize>(
         push_times(raw, band, times)?;
     }
     Ok(())
+}
+
+/// The same into a buffer that has as many bytes, by equal rows in a place to work in.
+pub(crate) fn put_bands<const ROWS: usize>(
+    bytes: &mut [u8],
+    grid: &Grid,
+    palette: &Fours<LONGEST>,
+    dark: &[u8],
+    light: &[u8],
+    marks: &mut [bool],
+    band: &mut [u8],
+    times: u32,
+)
+    requires dark { length dark.now ≡ 8 }
+    requires light { length light.now ≡ 8 }
+    requires twos { (a b : Bool) →
+        two_text palette.now a b ≡ marks_text dark.now light.now (a ∷ b ∷ []) }
+    requires marks { length marks.old ≡ all_columns grid.now }
+    requires columns { 4 ≤ all_columns grid.now }
+    requires some { 1 ≤ ROWS }
+    requires band { length band.old ≡ ROWS * (8 * all_columns grid.now) }
+    requires equal { AreRowsFrom ROWS (8 * all_columns grid.now) [] band.old }
+    requires times { times * ROWS ≡ grid.now.down }
+    requires length { length bytes.old
+        ≡ all_rows grid.now * (times * (ROWS * (8 * all_columns grid.now))) }
+    ensures { bytes.new ≡ rows_by (marks_text dark.now light.now) grid.now }
+{
+    let (_, rows) = grid.sides();
+    let mut at = 0;
+    for row in 0..rows {
+        draw_band::<ROWS>(band, grid, row, palette, dark, light, marks);
+        at = put_times(bytes, at, band, times);
+    }
 }

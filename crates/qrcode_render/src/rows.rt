@@ -110,7 +110,7 @@ impl CellTexts {
     }
 
     // The palette of four cells where a cell has eight bytes and nothing stands at the end of a row.
-    fn of_eight(&self, end: &[u8]) -> Option<&Fours<32>>
+    pub(crate) fn of_eight(&self, end: &[u8]) -> Option<&Fours<32>>
         ensures end { IfSome result (λ _. end.now ≡ []) }
         ensures dark { IfSome result (λ _. length self.now.dark.items ≡ 8) }
         ensures light { IfSome result (λ _. length self.now.light.items ≡ 8) }
@@ -209,7 +209,7 @@ fn push_by_lines(
 }
 
 // The bytes below which copies take few instructions.
-const FEW: usize = 4096;
+pub(crate) const FEW: usize = 4096;
 
 // The same, by equal rows where cells have eight bytes and their rows are in pairs of few bytes, of a small picture by
 // eight rows.

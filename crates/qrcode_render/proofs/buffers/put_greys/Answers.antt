@@ -10,12 +10,12 @@ use Rattle.qrcode_render.proofs.InlaidRows.{repeated_byte}
 use Rattle.qrcode_render.proofs.PutRows.{length-repeated}
 use Rattle.qrcode_render.proofs.buffers.put_greys.Goals as goal
 
-pub put_lines-requires-clause-dark : goal.put_lines-requires-clause-dark
-put_lines-requires-clause-dark c =
+pub put_cells-requires-clause-dark : goal.put_cells-requires-clause-dark
+put_cells-requires-clause-dark c =
     omega (arith, ap length c.in_ok-texts.ensures.dark, length-repeated (c.args.dark ∷ []) c.cell-across.result.0, c.cell-across.ensures.across)
 
-pub put_lines-requires-clause-light : goal.put_lines-requires-clause-light
-put_lines-requires-clause-light c =
+pub put_cells-requires-clause-light : goal.put_cells-requires-clause-light
+put_cells-requires-clause-light c =
     omega (arith, ap length c.in_ok-texts.ensures.light, length-repeated (c.args.light ∷ []) c.cell-across.result.0, c.cell-across.ensures.across)
 
 -- Rows without an end are the bytes of all pixels.
@@ -24,12 +24,14 @@ returns-clause-value c =
     let g = c.args.grid.now in
     let dark = c.args.dark ∷ [] in
     let light = c.args.light ∷ [] in
-    c.put_lines.ensures
+    on_ok_weaker c.put_cells.result (λ is.
+    is
     ∙ ap₂ (λ d l. flat_map (λ row. repeated g.down (marks_text d l (cell_row g row))) (range_with_len 0 (all_rows g)))
     (c.in_ok-texts.ensures.dark ∙ ap (λ n. repeated n dark) c.cell-across.ensures.across)
     (c.in_ok-texts.ensures.light ∙ ap (λ n. repeated n light) c.cell-across.ensures.across)
     ∙ (λ k. flat_map (λ row. repeated g.down (sym (append-nil (row_text dark light g row)) k)) (range_with_len 0 (all_rows g)))
-    ∙ sym (raw_rows_text dark light g (omega (arith, c.cell-across.ensures.at_least.0, c.cell-across.ensures.across)) (omega (arith, c.cell-across.ensures.at_least.1, c.cell-across.ensures.down)))
+    ∙ sym (raw_rows_text dark light g (omega (arith, c.cell-across.ensures.at_least.0, c.cell-across.ensures.across)) (omega (arith, c.cell-across.ensures.at_least.1, c.cell-across.ensures.down))))
+    c.put_cells.ensures.value
 
 -- Cells are of eight by eight pixels.
 pub put_inlaid-requires-clause-length : goal.put_inlaid-requires-clause-length
