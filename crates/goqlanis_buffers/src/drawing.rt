@@ -134,7 +134,8 @@ fn greys_into(alloc: Global, asked: &Asked<'_>, out: &mut [u8]) -> QrResult<Opti
     Ok(Some(length))
 }
 
-// Writes a text straight into the buffer where it has room for any; other formats are not written so.
+// Writes a text straight into the buffer where it has room for any, and a PBM file where it has room for it and
+// its cells are whole bytes; other formats are not written so.
 fn text_into(alloc: Global, asked: &Asked<'_>, out: &mut [u8]) -> QrResult<Option<usize>>
     ensures drawing { IfOk result (IsTriedInto asked.now out.old out.new) }
     ensures unchanged { OnErr result (out.new ≡ out.old) }
@@ -144,7 +145,8 @@ fn text_into(alloc: Global, asked: &Asked<'_>, out: &mut [u8]) -> QrResult<Optio
     match asked.format {
         Format::HalfBlocks => HalfBlocks::put(alloc, &grid(asked), dark, light, out),
         Format::LightHalfBlocks => HalfBlocks::put(alloc, &grid(asked), light, dark, out),
-        Format::Grey | Format::Png | Format::Pbm => Ok(None),
+        Format::Pbm => pbm::File::put(alloc, &grid(asked), Bit::Black, Bit::White, out),
+        Format::Grey | Format::Png => Ok(None),
         _ => strokes_into(alloc, asked, out),
     }
 }

@@ -5,3 +5,8 @@ use Rattle.std.specs.Prelude.{◌≡◌, ◌++◌, ◌<◌, ℕ, List, length, d
 abbrev pub IsPutWhere : List ℕ → ℕ → List ℕ → List ℕ → Option ℕ → Type 0
 IsPutWhere text room old new (Some count) = (count ≡ length text) × (new ≡ text ++ drop (length text) old)
 IsPutWhere text room old new None = (length old < room) × (new ≡ old)
+
+-- the same, where nothing is said of when it was not written
+abbrev pub IsPutOrNot : List ℕ → List ℕ → List ℕ → Option ℕ → Type 0
+IsPutOrNot text old new (Some count) = (count ≡ length text) × (new ≡ text ++ drop (length text) old)
+IsPutOrNot text old new None = new ≡ old

@@ -92,7 +92,13 @@ fn put_cells(
 }
 
 // Writes the grey of each pixel into a buffer that has as many bytes.
-fn put_greys(alloc: Global, grid: &Grid, dark: u8, light: u8, bytes: &mut [u8]) -> QrResult<()>
+pub(crate) fn put_greys(
+    alloc: Global,
+    grid: &Grid,
+    dark: u8,
+    light: u8,
+    bytes: &mut [u8],
+) -> QrResult<()>
     requires length { length bytes.old ≡ (pixels_of grid.now).across * (pixels_of grid.now).down }
     ensures value { OnOk result
         (bytes.new ≡ raw_bytes (dark ∷ []) (light ∷ []) (pixels_of grid.now)) }
