@@ -67,7 +67,9 @@ fn stamp_four<const ROWS: usize>(
 }
 
 // Writes the text that stands for each mark, of four at least, into each of some equal rows, by a palette of these
-// texts, which have eight bytes each. Some of the last four marks may have been written before.
+// texts, which have eight bytes each. Some of the last four marks may have been written before. Within its callers, of
+// which each draws many rows.
+#[inline(always)]
 fn stamp_marks<const ROWS: usize>(
     band: &mut [u8],
     palette: &Fours<LONGEST>,
@@ -91,7 +93,9 @@ fn stamp_marks<const ROWS: usize>(
     stamp_four::<ROWS>(band, palette, dark, light, marks, marks.len() - 4);
 }
 
-// Makes the rows of a row of cells from those of the row above. Among the light ones around they stay as they are.
+// Makes the rows of a row of cells from those of the row above. Among the light ones around they stay as they are. Within
+// its callers, too.
+#[inline(always)]
 fn draw_band<const ROWS: usize>(
     band: &mut [u8],
     grid: &Grid,
