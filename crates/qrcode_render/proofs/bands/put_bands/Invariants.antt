@@ -1,4 +1,4 @@
-use Rattle.std.proofs.Common.{◌≡◌, ◌-◌, ◌*◌, ◌≤◌, [], length, take}
+use Rattle.std.proofs.Common.{◌≡◌, ◌-◌, ◌*◌, ◌≤◌, [], take}
 use Rattle.std.specs.List.{flat_map, range_with_len}
 use Rattle.qrcode_render.specs.EqualRows.{AreRowsFrom}
 use Rattle.qrcode_render.specs.Grid.{all_columns, cell_row, repeated}
