@@ -1,11 +1,9 @@
-use Rattle.std.proofs.Common.{◌≡◌, ℕ, ◌+◌, ◌-◌, ◌*◌, [], ◌++◌, List, Bool, false, length, length-append, length-drop, take, drop, replicate, ap, ap₂, ◌∙◌, sym, refl, arith, append_assoc}
+use Rattle.std.proofs.Common.{◌≡◌, ℕ, ◌+◌, ◌-◌, ◌*◌, [], ◌++◌, List, length, length-append, length-drop, take, drop, replicate, ap, ap₂, ◌∙◌, sym, refl, arith, append_assoc}
 use Rattle.std.specs.List.{flat_map, range_with_len}
 use Rattle.std.proofs.Math.ListN.{drop_of_length-le}
 use Rattle.std.proofs.lemmas.List.{append-nil, length-replicate, length-take-le, take_all, take_at, with_items_is}
 use Rattle.qrcode_render.specs.Grid.{all_columns, cell_row, repeated}
 use Rattle.qrcode_render.specs.Inlays.{eights_text}
-use Rattle.qrcode_render.proofs.EqualRows.{replicate_rows}
-use Rattle.qrcode_render.proofs.InlaidRows.{light_text}
 use Rattle.qrcode_render.proofs.LineTexts.{flat_range_more}
 use Rattle.qrcode_render.proofs.inlays.push_inlaid.Goals as goal
 
