@@ -1,5 +1,5 @@
 -- Room for two rows of pixels, and for all.
-use Rattle.std.specs.Prelude.{◌≡◌, ◌⊎◌, ℕ, ◌+◌, ◌*◌, ◌/◌, vec_len}
+use Rattle.std.specs.Prelude.{◌≡◌, ◌⊎◌, ℕ, ◌+◌, ◌*◌, ◌/◌, ◌==◌, if◌then◌else◌, vec_len}
 use Rattle.qrcode_render.specs.Bitmap.{Bitmap}
 use Rattle.qrcode_render.specs.Grid.{Grid, all_columns}
 use Rattle.qrcode_render.specs.declared.unicode.Strip.{Strip}
@@ -13,3 +13,7 @@ pub record IsStripOf (g : Grid) (s : Strip) : Type 0 where
 -- room for the lines of a picture, of which each has three bytes a pixel at most, and for what is written behind them
 abbrev pub lines_room : Bitmap → ℕ
 lines_room b = (b.down + 1) / 2 * (3 * b.across + 33)
+
+-- room for the text of a picture: none where there are no pixels, and otherwise that of its lines
+abbrev pub dense_room : Bitmap → ℕ
+dense_room b = if b.across == 0 then 0 else lines_room b

@@ -9,7 +9,7 @@ ghost use Rattle.qrcode_render.specs.Grid.{pixels_of};
 ghost use Rattle.qrcode_render.specs.Half.{is_dark_half};
 ghost use Rattle.qrcode_render.specs.Lines.{two_text};
 ghost use Rattle.qrcode_render.specs.Put.{IsPutWhere};
-ghost use Rattle.qrcode_render.specs.Strips.{IsStripOf, lines_room};
+ghost use Rattle.qrcode_render.specs.Strips.{IsStripOf, lines_room, dense_room};
 ghost use Rattle.qrcode_render.specs.Texts.{half_blocks, column_text, dense_line, dense_text};
 
 use crate::Pixel;
@@ -325,8 +325,8 @@ fn lines_of(alloc: Global, grid: &Grid, marked: bool, other: bool) -> QrResult<S
 impl HalfBlocks {
     /// Writes the text of cells into the beginning of a buffer, and answers how long it is; or None,
     /// where the buffer has not room for any picture of so many pixels: for each two rows 3 bytes a
-    /// pixel and 33 more. Refuses with `OutOfMemory` alone. Then, and where it answers None, the buffer
-    /// is as it was.
+    /// pixel and 33 more, and none where there are no pixels. Refuses with `OutOfMemory` alone. Then, and
+    /// where it answers None, the buffer is as it was.
     #[tactic(auto, unfolding(crate::specs::Texts::dense_text))]
     pub fn put(
         alloc: Global,
@@ -337,7 +337,7 @@ impl HalfBlocks {
     ) -> QrResult<Option<usize>>
         ensures made { IfOk result (IsPutWhere
             (dense_text (is_dark_half dark) (is_dark_half light) (pixels_of grid.now))
-            (lines_room (pixels_of grid.now)) bytes.old bytes.new) }
+            (dense_room (pixels_of grid.now)) bytes.old bytes.new) }
         ensures unchanged { OnErr result (bytes.new ≡ bytes.old) }
         ensures memory { IsOkUnless result OutOfMemory }
     {

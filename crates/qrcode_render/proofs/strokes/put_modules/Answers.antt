@@ -29,4 +29,5 @@ returns-clause-made g c =
     let rest = c.put_text.ensures.unchanged
     ∙ drop-on j n two one further c.put_rows-at.ensures.unchanged
     ∙ drop-on i n one old (omega (arith, further, c.put_rows-at.ensures.at_least)) c.put_text-at.ensures.unchanged in
-    begins n old c.put_text.new.bytes _ (omega (arith, square, ap (λ (q : Square). length q.content) c.modules.view_is, c.put_text.ensures.end, c.put_text.ensures.length, c.put_rows-at.ensures.at_most, c.put_rows-at.ensures.length, c.put_text-at.ensures.end, c.put_text-at.ensures.length, c.in-Some.ensures.value, ap length c.as_bytes.ensures.value, c.if-bytes-most.false)) written rest
+    let room = ap (λ (q : Square). length q.content) c.modules.view_is in
+    (omega (arith, room, c.in-Some.ensures.value, c.if-bytes-most.false), begins n old c.put_text.new.bytes _ (omega (arith, square, room, c.put_text.ensures.end, c.put_text.ensures.length, c.put_rows-at.ensures.at_most, c.put_rows-at.ensures.length, c.put_text-at.ensures.end, c.put_text-at.ensures.length, c.in-Some.ensures.value, ap length c.as_bytes.ensures.value, c.if-bytes-most.false)) written rest)
