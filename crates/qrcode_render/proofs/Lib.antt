@@ -5,6 +5,7 @@ pub mod FilledRuns
 pub mod Folds
 pub mod Grids
 pub mod InlaidRows
+pub mod LightNumbers
 pub mod LineTexts
 pub mod Packed
 pub mod Palettes
