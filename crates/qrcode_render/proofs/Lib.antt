@@ -6,6 +6,7 @@ pub mod Folds
 pub mod Grids
 pub mod InlaidRows
 pub mod LightNumbers
+pub mod LightWords
 pub mod LineTexts
 pub mod Packed
 pub mod Palettes

@@ -9,6 +9,7 @@ pub mod Half
 pub mod Ink
 pub mod Inlays
 pub mod Layout
+pub mod Light
 pub mod LightNumbers
 pub mod LineOf
 pub mod Lines

@@ -15,6 +15,7 @@ use qrcode_types::types::Color;
 use std::marker::Model;
 
 mod inside;
+mod light;
 
 // Cells whose dark ones a byte counts: the most that are seven times the 32 that are taken at once.
 const COUNTED: usize = 224;

@@ -45,6 +45,10 @@ pub trait Shade: Copy {
     /// Whether the module is dark.
     fn is_dark(self) -> bool
         ensures { result ≡ dark self };
+
+    /// 0 for a light module, and another number for a dark one.
+    fn number(self) -> u8
+        ensures { not (result == 0) ≡ dark self };
 }
 
 impl Shade for Color {
@@ -53,6 +57,10 @@ impl Shade for Color {
     fn is_dark(self) -> bool {
         is_dark(self)
     }
+
+    fn number(self) -> u8 {
+        self as u8
+    }
 }
 
 impl Shade for u8 {
@@ -60,6 +68,10 @@ impl Shade for u8 {
 
     fn is_dark(self) -> bool {
         self != 0
+    }
+
+    fn number(self) -> u8 {
+        self
     }
 }
 

@@ -1,0 +1,16 @@
+-- Rows of cells as bits, of which those behind the end are light.
+use Rattle.std.specs.Prelude.{◌≡◌, ℕ, ◌+◌, ◌*◌, ◌<◌, Bool, false, List, length, slice_index_or, if◌then◌else◌}
+use Rattle.std.specs.Int.{bit_at}
+use Rattle.qrcode_render.specs.LightNumbers.{light_bit}
+
+abbrev pub around_bit : List Bool → ℕ → ℕ  -- the bit of a mark: 0 for one that is set, else 1, behind the end too
+around_bit marks x = if slice_index_or marks x false then 0 else 1
+
+abbrev pub ShowsLight : List Bool → ℕ → ℕ → Type 0  -- a word has the bits of the 64 marks from a place on
+ShowsLight marks start word = (k : ℕ) → k < 64 → bit_at word k ≡ around_bit marks (start + k)
+
+abbrev pub AreLight : List Bool → List ℕ → Type 0  -- words have the bits of marks, 64 a word
+AreLight marks words = (i : ℕ) → i < length words → ShowsLight marks (64 * i) (slice_index_or words i 0)
+
+abbrev pub AreCut : List Bool → List ℕ → Type 0  -- words have the bits of marks, and behind the end none
+AreCut marks words = (i k : ℕ) → i < length words → k < 64 → bit_at (slice_index_or words i 0) k ≡ light_bit marks (64 * i + k)

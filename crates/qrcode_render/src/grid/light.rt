@@ -1,0 +1,186 @@
+//! Rows of cells as bits: which of them are light.
+
+ghost use Rattle.std.specs.Prelude.{◌≡◌, ℕ, ◌+◌, ◌-◌, ◌*◌, ◌/◌, ◌^◌, ◌<◌, ◌≤◌, Bool, false, List, ◌++◌, length, map, replicate, slice_index_or};
+ghost use Rattle.std.specs.List.{slice_range};
+ghost use Rattle.qrcode_types.specs.Colors.{is_dark};
+ghost use Rattle.qrcode_render.specs.Grid.{all_columns, all_rows, cell_row};
+ghost use Rattle.qrcode_render.specs.Light.{AreCut, AreLight, ShowsLight};
+ghost use Rattle.qrcode_render.specs.LightNumbers.{light_number};
+ghost use Rattle.qrcode_render.specs.Shades.{shown};
+
+use super::{Grid, Shades};
+use crate::marks::Shade;
+use std::simd::prelude::*;
+
+// Which of up to 64 cells are light, the first in the lowest bit, and whatever is behind them. A byte for each cell first,
+// so that LLVM compares sixteen at a time.
+#[inline(always)]
+fn light_in<S: Shade>(cells: &[S]) -> u64
+    requires { length cells.now ≤ 64 }
+    ensures { ShowsLight (map S.dark cells.now) 0 result }
+{
+    let mut bytes = [0u8; 64];
+    for i in 0..cells.len() {
+        bytes[i] = cells[i].number();
+    }
+    u8x64::from_array(bytes)
+        .simd_eq(u8x64::splat(0))
+        .to_bitmask()
+}
+
+// Which cells are light that stand so many places higher, behind light ones.
+#[inline(always)]
+fn moved_up(light: u64, places: usize) -> u64
+    requires { places < 64 }
+    ensures { (marks : List Bool) → ShowsLight marks 0 light
+        → ShowsLight (replicate places false ++ marks) 0 result }
+{
+    !(!light << places)
+}
+
+// Which cells are light from so many places on, where all behind them are.
+#[inline(always)]
+fn moved_down(light: u64, places: usize) -> u64
+    requires { places < 64 }
+    ensures { (marks : List Bool) (start : ℕ) → length marks ≤ start + 64
+        → ShowsLight marks start light → ShowsLight marks (start + places) result }
+{
+    !(!light >> places)
+}
+
+// Light cells alone in the words from one on.
+fn lighten(words: &mut [u64], start: usize)
+    requires { start ≤ length words.old }
+    ensures before { (i : ℕ) → i < start
+        → slice_index_or words.new i 0 ≡ slice_index_or words.old i 0 }
+    ensures behind { (i : ℕ) → start ≤ i → i < length words.new
+        → slice_index_or words.new i 0 ≡ 2 ^ 64 - 1 }
+    ensures length { length words.new ≡ length words.old }
+{
+    words[start..].fill(u64::MAX);
+}
+
+// Up to 64 cells behind fewer light ones: a word, and what had no room in it.
+fn few_words<S: Shade>(line: &[S], zone: usize, words: &mut [u64])
+    requires at_most { length line.now ≤ 64 }
+    requires zone { zone < 64 }
+    requires some { 1 ≤ length words.old }
+    ensures value { AreLight (replicate zone false ++ map S.dark line.now) words.new }
+    ensures length { length words.new ≡ length words.old }
+{
+    let light = light_in(line);
+    words[0] = moved_up(light, zone);
+    lighten(words, 1);
+    if words.len() > 1 {
+        words[1] = moved_down(moved_down(light, 63 - zone), 1);
+    }
+}
+
+// At least 64 cells behind fewer light ones: the first of them, those that fill words, and the last ones.
+fn many_words<S: Shade>(line: &[S], zone: usize, words: &mut [u64])
+    requires at_least { 64 ≤ length line.now }
+    requires zone { zone < 64 }
+    requires room { zone + length line.now ≤ 64 * length words.old }
+    requires fits { 64 * length words.old < 2 ^ 64 }
+    ensures value { AreLight (replicate zone false ++ map S.dark line.now) words.new }
+    ensures length { length words.new ≡ length words.old }
+{
+    let count = line.len();
+    let end = (zone + count).div_ceil(64);
+    words[0] = moved_up(light_in(&line[..64]), zone);
+    for i in 1..end - 1 {
+        let first = 64 * i - zone;
+        words[i] = light_in(&line[first..first + 64]);
+    }
+    let last = light_in(&line[count - 64..]);
+    words[end - 1] = moved_down(last, 64 * end - zone - count);
+    lighten(words, end);
+}
+
+// Cells behind fewer than 64 light ones.
+fn near_words<S: Shade>(line: &[S], zone: usize, words: &mut [u64])
+    requires zone { zone < 64 }
+    requires some { 1 ≤ length words.old }
+    requires room { zone + length line.now ≤ 64 * length words.old }
+    requires fits { 64 * length words.old < 2 ^ 64 }
+    ensures value { AreLight (replicate zone false ++ map S.dark line.now) words.new }
+    ensures length { length words.new ≡ length words.old }
+{
+    if line.len() < 64 {
+        few_words(line, zone, words);
+    } else {
+        many_words(line, zone, words);
+    }
+}
+
+// Cells between so many light ones at each side.
+fn light_words<S: Shade>(line: &[S], zone: usize, words: &mut [u64])
+    requires some { 1 ≤ length words.old }
+    requires room { length line.now + 2 * zone ≤ 64 * length words.old }
+    requires fits { 64 * length words.old < 2 ^ 64 }
+    ensures value { AreLight (replicate zone false ++ map S.dark line.now) words.new }
+    ensures length { length words.new ≡ length words.old }
+{
+    if zone < 64 {
+        near_words(line, zone, words);
+    } else {
+        words.fill(u64::MAX);
+        near_words(line, zone % 64, &mut words[zone / 64..]);
+    }
+}
+
+// Clears the bits behind so many columns.
+fn cut(words: &mut [u64], columns: usize)
+    requires length { length words.old ≡ (columns + 63) / 64 }
+    requires some { 1 ≤ length words.old }
+    requires fits { 64 * length words.old < 2 ^ 64 }
+    ensures value { (marks : List Bool) → length marks ≡ columns → AreLight marks words.old
+        → AreCut marks words.new }
+    ensures length { length words.new ≡ length words.old }
+{
+    let last = words.len() - 1;
+    words[last] &= u64::MAX >> (64 * words.len() - columns);
+}
+
+impl<'a> Shades<'a> {
+    // Which of some cells are light, from a place on, behind so many light ones.
+    fn light_words(&self, first: usize, end: usize, zone: usize, words: &mut [u64])
+        requires order { first ≤ end }
+        requires inside { end ≤ length (shown self.now) }
+        requires some { 1 ≤ length words.old }
+        requires room { end - first + 2 * zone ≤ 64 * length words.old }
+        requires fits { 64 * length words.old < 2 ^ 64 }
+        ensures value { AreLight (replicate zone false
+            ++ map is_dark (slice_range (shown self.now) first end)) words.new }
+        ensures length { length words.new ≡ length words.old }
+    {
+        match *self {
+            Shades::Colors(colors) => light_words(&colors[first..end], zone, words),
+            Shades::Bytes(bytes) => light_words(&bytes[first..end], zone, words),
+        }
+    }
+}
+
+impl<'a> Grid<'a> {
+    /// The cells of a row, the light ones around counted, as bits, 64 in a word and the first lowest: 1 for a light cell,
+    /// 0 for a dark one and behind the end.
+    pub fn light_bits(&self, row: usize, words: &mut [u64])
+        requires inside { row < all_rows self.now }
+        requires length { length words.old ≡ (all_columns self.now + 63) / 64 }
+        ensures length { length words.new ≡ length words.old }
+        ensures value { (i : ℕ) → i < length words.new → slice_index_or words.new i 0
+            ≡ light_number (cell_row self.now row) (64 * i) 64 }
+    {
+        if words.is_empty() {
+            return;
+        }
+        match self.start_of(row) {
+            Some(start) => {
+                let end = start + self.columns;
+                self.cells.light_words(start, end, self.zone, words);
+            }
+            None => words.fill(u64::MAX),
+        }
+        cut(words, self.columns + 2 * self.zone);
+    }
+}
