@@ -1,5 +1,5 @@
 -- Rows of cells as bits, of which those behind the end are light.
-use Rattle.std.specs.Prelude.{◌≡◌, ℕ, ◌+◌, ◌*◌, ◌<◌, Bool, false, List, length, slice_index_or, if◌then◌else◌}
+use Rattle.std.specs.Prelude.{◌≡◌, ℕ, ◌+◌, ◌-◌, ◌*◌, ◌^◌, ◌<◌, ◌≤◌, Bool, false, List, length, slice_index_or, if◌then◌else◌}
 use Rattle.std.specs.Int.{bit_at}
 use Rattle.qrcode_render.specs.LightNumbers.{light_bit}
 
@@ -14,3 +14,6 @@ AreLight marks words = (i : ℕ) → i < length words → ShowsLight marks (64 *
 
 abbrev pub AreCut : List Bool → List ℕ → Type 0  -- words have the bits of marks, and behind the end none
 AreCut marks words = (i k : ℕ) → i < length words → k < 64 → bit_at (slice_index_or words i 0) k ≡ light_bit marks (64 * i + k)
+
+abbrev pub IsLightFrom : ℕ → List ℕ → Type 0  -- words whose bits all stand behind so many places have none but ones
+IsLightFrom count words = (i : ℕ) → count ≤ 64 * i → i < length words → slice_index_or words i 0 ≡ 2 ^ 64 - 1

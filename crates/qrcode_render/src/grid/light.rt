@@ -4,7 +4,7 @@ ghost use Rattle.std.specs.Prelude.{◌≡◌, ℕ, ◌+◌, ◌-◌, ◌*◌, �
 ghost use Rattle.std.specs.List.{slice_range};
 ghost use Rattle.qrcode_types.specs.Colors.{is_dark};
 ghost use Rattle.qrcode_render.specs.Grid.{all_columns, all_rows, cell_row};
-ghost use Rattle.qrcode_render.specs.Light.{AreCut, AreLight, ShowsLight};
+ghost use Rattle.qrcode_render.specs.Light.{AreCut, AreLight, IsLightFrom, ShowsLight};
 ghost use Rattle.qrcode_render.specs.LightNumbers.{light_number};
 ghost use Rattle.qrcode_render.specs.Shades.{shown};
 
@@ -48,61 +48,61 @@ fn moved_down(light: u64, places: usize) -> u64
     !(!light >> places)
 }
 
-// Light cells alone in the words from one on.
-fn lighten(words: &mut [u64], start: usize)
-    requires { start ≤ length words.old }
-    ensures before { (i : ℕ) → i < start
-        → slice_index_or words.new i 0 ≡ slice_index_or words.old i 0 }
-    ensures behind { (i : ℕ) → start ≤ i → i < length words.new
-        → slice_index_or words.new i 0 ≡ 2 ^ 64 - 1 }
-    ensures length { length words.new ≡ length words.old }
+// Light cells alone.
+#[inline(never)]
+fn fill_light(words: &mut [u64])
+    ensures { words.new ≡ replicate (length words.old) (2 ^ 64 - 1) }
 {
-    words[start..].fill(u64::MAX);
+    words.fill(u64::MAX);
 }
 
-// Up to 64 cells behind fewer light ones: a word, and what had no room in it.
+// Up to 64 cells behind fewer light ones, where the words behind are light: a word, and what had no room in it.
+#[inline(never)]
 fn few_words<S: Shade>(line: &[S], zone: usize, words: &mut [u64])
     requires at_most { length line.now ≤ 64 }
     requires zone { zone < 64 }
     requires some { 1 ≤ length words.old }
+    requires behind { IsLightFrom (zone + length line.now) words.old }
     ensures value { AreLight (replicate zone false ++ map S.dark line.now) words.new }
     ensures length { length words.new ≡ length words.old }
 {
     let light = light_in(line);
     words[0] = moved_up(light, zone);
-    lighten(words, 1);
     if words.len() > 1 {
         words[1] = moved_down(moved_down(light, 63 - zone), 1);
     }
 }
 
-// At least 64 cells behind fewer light ones: the first of them, those that fill words, and the last ones.
+// At least 64 cells behind fewer light ones, where the words behind are light: the first of them, the last, and those that
+// fill words between them.
+#[inline(never)]
 fn many_words<S: Shade>(line: &[S], zone: usize, words: &mut [u64])
     requires at_least { 64 ≤ length line.now }
     requires zone { zone < 64 }
     requires room { zone + length line.now ≤ 64 * length words.old }
     requires fits { 64 * length words.old < 2 ^ 64 }
+    requires behind { IsLightFrom (zone + length line.now) words.old }
     ensures value { AreLight (replicate zone false ++ map S.dark line.now) words.new }
     ensures length { length words.new ≡ length words.old }
 {
     let count = line.len();
-    let end = (zone + count).div_ceil(64);
+    let end = (zone + count + 63) / 64;
     words[0] = moved_up(light_in(&line[..64]), zone);
+    let last = light_in(&line[count - 64..]);
+    words[end - 1] = moved_down(last, 64 * end - zone - count);
     for i in 1..end - 1 {
         let first = 64 * i - zone;
         words[i] = light_in(&line[first..first + 64]);
     }
-    let last = light_in(&line[count - 64..]);
-    words[end - 1] = moved_down(last, 64 * end - zone - count);
-    lighten(words, end);
 }
 
-// Cells behind fewer than 64 light ones.
+// Cells behind fewer than 64 light ones, where the words behind are light.
 fn near_words<S: Shade>(line: &[S], zone: usize, words: &mut [u64])
     requires zone { zone < 64 }
     requires some { 1 ≤ length words.old }
     requires room { zone + length line.now ≤ 64 * length words.old }
     requires fits { 64 * length words.old < 2 ^ 64 }
+    requires behind { IsLightFrom (zone + length line.now) words.old }
     ensures value { AreLight (replicate zone false ++ map S.dark line.now) words.new }
     ensures length { length words.new ≡ length words.old }
 {
@@ -113,19 +113,34 @@ fn near_words<S: Shade>(line: &[S], zone: usize, words: &mut [u64])
     }
 }
 
-// Cells between so many light ones at each side.
-fn light_words<S: Shade>(line: &[S], zone: usize, words: &mut [u64])
+// Cells behind light ones that fill words.
+#[inline(never)]
+fn far_words<S: Shade>(line: &[S], zone: usize, words: &mut [u64])
     requires some { 1 ≤ length words.old }
     requires room { length line.now + 2 * zone ≤ 64 * length words.old }
     requires fits { 64 * length words.old < 2 ^ 64 }
     ensures value { AreLight (replicate zone false ++ map S.dark line.now) words.new }
     ensures length { length words.new ≡ length words.old }
 {
+    fill_light(words);
+    near_words(line, zone % 64, &mut words[zone / 64..]);
+}
+
+// Cells between so many light ones at each side, of which no word but the last can be behind all others.
+fn light_words<S: Shade>(line: &[S], zone: usize, words: &mut [u64])
+    requires some { 1 ≤ length words.old }
+    requires room { length line.now + 2 * zone ≤ 64 * length words.old }
+    requires least { 64 * length words.old < length line.now + 2 * zone + 64 }
+    requires fits { 64 * length words.old < 2 ^ 64 }
+    ensures value { AreLight (replicate zone false ++ map S.dark line.now) words.new }
+    ensures length { length words.new ≡ length words.old }
+{
     if zone < 64 {
+        let last = words.len() - 1;
+        words[last] = u64::MAX;
         near_words(line, zone, words);
     } else {
-        words.fill(u64::MAX);
-        near_words(line, zone % 64, &mut words[zone / 64..]);
+        far_words(line, zone, words);
     }
 }
 
@@ -149,6 +164,7 @@ impl<'a> Shades<'a> {
         requires inside { end ≤ length (shown self.now) }
         requires some { 1 ≤ length words.old }
         requires room { end - first + 2 * zone ≤ 64 * length words.old }
+        requires least { 64 * length words.old < end - first + 2 * zone + 64 }
         requires fits { 64 * length words.old < 2 ^ 64 }
         ensures value { AreLight (replicate zone false
             ++ map is_dark (slice_range (shown self.now) first end)) words.new }
@@ -179,7 +195,7 @@ impl<'a> Grid<'a> {
                 let end = start + self.columns;
                 self.cells.light_words(start, end, self.zone, words);
             }
-            None => words.fill(u64::MAX),
+            None => fill_light(words),
         }
         cut(words, self.columns + 2 * self.zone);
     }

@@ -1,7 +1,7 @@
-use Rattle.std.proofs.Common.{◌≡◌, ◌+◌, ◌-◌, ◌*◌, ◌<◌, ◌≤◌, ◌⊎◌, ◌++◌, inl, inr, false, length, map, replicate, get_or, refl, ap, ◌∙◌, sym, subst, arith, append_assoc}
+use Rattle.std.proofs.Common.{ℕ, ◌≡◌, ◌+◌, ◌-◌, ◌*◌, ◌<◌, ◌≤◌, ◌⊎◌, ◌++◌, inl, inr, false, length, map, replicate, get_or, refl, ap, ◌∙◌, sym, subst, arith, append_assoc}
 use Rattle.std.specs.List.{slice_range}
 use Rattle.std.proofs.lemmas.List.FromFn.{length-map-range_with_len}
-use Rattle.std.proofs.lemmas.List.{get_or-replicate}
+use Rattle.std.proofs.lemmas.List.{get_or-replicate, length-replicate}
 use Rattle.qrcode_types.specs.Colors.{is_dark}
 use Rattle.qrcode_render.specs.Grid.{Grid, all_columns, cell_row, is_dark_cell}
 use Rattle.qrcode_render.specs.Light.{AreLight}
@@ -35,11 +35,12 @@ returns-clause-value c = λ i below.
           subst (λ m. AreLight m words) is (subst (λ ws. AreLight ((edge ++ line) ++ edge) ws) (sym w.words-is)
           (λ i below k inside. w.light_words.ensures.value i below k inside ∙ same_with_zone (edge ++ line) g.zone (64 * i + k)))
       | in-None w ↦
+          let ones : ℕ = 18446744073709551615 in
           let none : (row < now.zone) ⊎ (now.zone + now.rows ≤ row) = w.in-None.ensures.none in
           let is : replicate (all_columns now) false ≡ marks = outside_row now row (λ top bottom. elim none [ inl above ↦ omega arith | inr beyond ↦ omega arith ]) in
           subst (λ m. AreLight m words) is (subst (λ ws. AreLight (replicate (all_columns now) false) ws) (sym w.words-is)
-          (λ i below. shown_at (replicate (all_columns now) false) w.fill.new.self i (64 * i) 18446744073709551615 refl
-          (ap (λ l. get_or l i 0) (w.fill.ensures.after (λ y h. h)) ∙ get_or-replicate (length c.args.words.now) i 18446744073709551615 0 (omega (arith, below, w.fill.ensures.len)))
+          (λ i below. shown_at (replicate (all_columns now) false) w.fill_light.new.words i (64 * i) ones refl
+          (ap (λ l. get_or l i 0) w.fill_light.ensures ∙ get_or-replicate (length c.args.words.now) i ones 0 (omega (arith, below, ap length w.fill_light.ensures, length-replicate (length c.args.words.now) ones)))
           (ones_of_none (all_columns now) (64 * i))))
     ] in
     number_of_bits marks (64 * i) (get_or c.cut.new.words i 0) (c.type_inv.words i).fits (λ k inside. c.cut.ensures.value marks size shows i k below inside)
