@@ -89,7 +89,7 @@ fn many_words<S: Shade>(line: &[S], zone: usize, words: &mut [u64])
     let end = (zone + count + 63) / 64;
     words[0] = moved_up(light_in(&line[..64]), zone);
     let last = light_in(&line[count - 64..]);
-    words[end - 1] = moved_down(last, 64 * end - zone - count);
+    words[end - 1] = moved_down(last, (zone + count).wrapping_neg() % 64);
     for i in 1..end - 1 {
         let first = 64 * i - zone;
         words[i] = light_in(&line[first..first + 64]);
@@ -148,13 +148,12 @@ fn light_words<S: Shade>(line: &[S], zone: usize, words: &mut [u64])
 fn cut(words: &mut [u64], columns: usize)
     requires length { length words.old ≡ (columns + 63) / 64 }
     requires some { 1 ≤ length words.old }
-    requires fits { 64 * length words.old < 2 ^ 64 }
     ensures value { (marks : List Bool) → length marks ≡ columns → AreLight marks words.old
         → AreCut marks words.new }
     ensures length { length words.new ≡ length words.old }
 {
     let last = words.len() - 1;
-    words[last] &= u64::MAX >> (64 * words.len() - columns);
+    words[last] &= u64::MAX >> (columns.wrapping_neg() % 64);
 }
 
 impl<'a> Shades<'a> {

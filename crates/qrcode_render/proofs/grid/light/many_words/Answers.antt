@@ -1,4 +1,4 @@
-use Rattle.std.proofs.Common.{ℕ, ◌≡◌, ◌≢◌, ◌+◌, ◌-◌, ◌*◌, ◌/◌, ◌<◌, ◌≤◌, ◌++◌, inl, inr, false, length, map, replicate, get_or, set, refl, ap, ◌∙◌, arith, length-append}
+use Rattle.std.proofs.Common.{ℕ, ◌≡◌, ◌≢◌, ◌+◌, ◌-◌, ◌*◌, ◌/◌, ◌%◌, ◌<◌, ◌≤◌, ◌++◌, inl, inr, false, length, map, replicate, get_or, set, refl, ap, ◌∙◌, arith, length-append}
 use Rattle.std.proofs.lemmas.Bool.{cases_lt}
 use Rattle.std.proofs.lemmas.List.{get_or-set_same, get_or-set_other, length-set, length-map, length-replicate}
 use Rattle.qrcode_render.specs.Light.{ShowsLight}
@@ -21,10 +21,11 @@ loop-i-init g c =
     let size : length begun ≡ length old = length-set old 0 first in
     let some : length line ≡ count = length-map c.args.line.now dark in
     let all : length marks ≡ z + count = omega (arith, some, length-append (replicate z false) line, length-replicate z false) in
-    let spare = 64 * end - z - count in
+    let spare = c.wrapping_neg.result % 64 in
+    let is : spare ≡ 64 * end - z - count = omega (arith, c.wrapping_neg.ensures, c.requires.at_least, c.requires.room, c.requires.fits) in
     let last = c.moved_down.ensures line (count - 64) (omega (arith, some, c.requires.at_least)) (shown_part dark c.args.line.now (count - 64) (count - (count - 64)) c.light_in-last.result (omega (arith, c.requires.at_least)) c.light_in-last.ensures) in
     let head : ShowsLight marks (64 * 0) (get_or begun 0 0) = shown_at marks begun 0 0 first (omega arith) (get_or-set_same old 0 first 0 (omega (arith, c.requires.at_least, c.requires.room))) (c.moved_up.ensures line (shown_part dark c.args.line.now 0 64 c.light_in.result refl c.light_in.ensures)) in
-    let tail : ShowsLight marks (64 * (end - 1)) word = shown_behind z line (count - 64 + spare) (64 * (end - 1)) word (omega (arith, c.requires.at_least)) last in
+    let tail : ShowsLight marks (64 * (end - 1)) word = shown_behind z line (count - 64 + spare) (64 * (end - 1)) word (omega (arith, is, c.requires.at_least)) last in
     let inside : end - 1 < length begun = omega (arith, size, c.requires.room, c.requires.at_least) in
     let ones : (i : ℕ) → end ≤ i → i < length old → ShowsLight marks (64 * i) (get_or begun i 0) = λ i from below.
     shown_at marks begun i (64 * i) 18446744073709551615 refl
