@@ -1,5 +1,5 @@
 -- Words of bits of cells, those behind the end light.
-use Rattle.std.proofs.Common.{◌≡◌, ℕ, zero, suc, ◌+◌, ◌-◌, ◌*◌, ◌/◌, ◌%◌, ◌^◌, ◌<◌, ◌≤◌, ◌≢◌, inl, inr, Bool, true, false, not, ◌==◌, cond, eqb, below_more, List, [], ◌∷◌, ◌++◌, length, map, take, drop, replicate, get_or, set, bit_and, refl, ap, ap₂, ◌∙◌, sym, arith, append_assoc, if◌then◌else◌}
+use Rattle.std.proofs.Common.{◌≡◌, ℕ, zero, suc, ◌+◌, ◌-◌, ◌*◌, ◌/◌, ◌%◌, ◌^◌, ◌<◌, ◌≤◌, ◌≢◌, ◌⊎◌, inl, inr, Bool, true, false, not, ◌==◌, cond, eqb, below_more, List, [], ◌∷◌, ◌++◌, length, map, take, drop, replicate, get_or, set, bit_and, refl, ap, ap₂, ◌∙◌, sym, arith, append_assoc, if◌then◌else◌}
 use Rattle.std.specs.Int.{bit_at}
 use Rattle.std.proofs.Math.ListN.{get_or-append}
 use Rattle.std.proofs.lemmas.Bool.{cases_lt, cases_eq}
@@ -12,7 +12,7 @@ use mir.Syntax.{w8, w64}
 use mir.Val.{bits, hbits}
 use Rattle.qrcode_types.specs.Colors.{is_dark, color_of}
 use Rattle.qrcode_types.specs.declared.types.Color.{Color}
-use Rattle.qrcode_render.specs.Light.{around_bit, ShowsLight}
+use Rattle.qrcode_render.specs.Light.{around_bit, AreLight, AreLightBut, ShowsLight}
 use Rattle.qrcode_render.specs.LightNumbers.{light_bit, light_number}
 use Rattle.qrcode_render.specs.Shades.{colors_of}
 use Rattle.qrcode_render.proofs.LightNumbers.{light_bit_small, light_small}
@@ -243,3 +243,21 @@ pub dark_part : (bytes : List ℕ) (start n : ℕ) → map (λ b. not (b == 0)) 
 dark_part bytes start n =
     let cell : ℕ → Color = λ b. color_of (not (b == 0)) in
     dark_bytes (take n (drop start bytes)) ∙ ap (map is_dark) (sym (take-map cell n (drop start bytes)) ∙ ap (take n) (sym (drop-map cell start bytes)))
+
+-- one word more is made
+pub but_set : (marks : List Bool) (words : List ℕ) (j end word : ℕ) → j < length words → AreLightBut marks words j end → ShowsLight marks (64 * j) word → AreLightBut marks (set words j word) (j + 1) end
+but_set marks words j end word inside others this i below made =
+    elim (cases_eq i j) [
+      | inl same ↦ shown_at marks (set words j word) i (64 * j) word (omega (arith, same)) (ap (λ i. get_or (set words j word) i 0) same ∙ get_or-set_same words j word 0 inside) this
+      | inr apart ↦
+          let there : (i < j) ⊎ (end ≤ i) = elim made [ inl before ↦ inl (omega (arith, before, apart)) | inr behind ↦ inr behind ] in
+          shown_at marks (set words j word) i (64 * i) (get_or words i 0) refl (get_or-set_other words j i word 0 apart) (others i (omega (arith, below, length-set words j word)) there)
+    ]
+
+-- all words are made
+pub all_made : (marks : List Bool) (words : List ℕ) (first end : ℕ) → end ≤ first → AreLightBut marks words first end → AreLight marks words
+all_made marks words first end h others i below =
+    elim (cases_lt i first) [
+      | inl before ↦ others i below (inl before)
+      | inr behind ↦ others i below (inr (omega arith))
+    ]

@@ -1,5 +1,5 @@
 -- Rows of cells as bits, of which those behind the end are light.
-use Rattle.std.specs.Prelude.{◌≡◌, ℕ, ◌+◌, ◌-◌, ◌*◌, ◌^◌, ◌<◌, ◌≤◌, Bool, false, List, length, slice_index_or, if◌then◌else◌}
+use Rattle.std.specs.Prelude.{◌≡◌, ◌⊎◌, ℕ, ◌+◌, ◌-◌, ◌*◌, ◌^◌, ◌<◌, ◌≤◌, Bool, false, List, length, slice_index_or, if◌then◌else◌}
 use Rattle.std.specs.Int.{bit_at}
 use Rattle.qrcode_render.specs.LightNumbers.{light_bit}
 
@@ -11,6 +11,10 @@ ShowsLight marks start word = (k : ℕ) → k < 64 → bit_at word k ≡ around_
 
 abbrev pub AreLight : List Bool → List ℕ → Type 0  -- words have the bits of marks, 64 a word
 AreLight marks words = (i : ℕ) → i < length words → ShowsLight marks (64 * i) (slice_index_or words i 0)
+
+-- words have the bits of marks, but for those from a first one up to an end
+abbrev pub AreLightBut : List Bool → List ℕ → ℕ → ℕ → Type 0
+AreLightBut marks words first end = (i : ℕ) → i < length words → ((i < first) ⊎ (end ≤ i)) → ShowsLight marks (64 * i) (slice_index_or words i 0)
 
 abbrev pub AreCut : List Bool → List ℕ → Type 0  -- words have the bits of marks, and behind the end none
 AreCut marks words = (i k : ℕ) → i < length words → k < 64 → bit_at (slice_index_or words i 0) k ≡ light_bit marks (64 * i + k)

@@ -4,7 +4,7 @@ ghost use Rattle.std.specs.Prelude.{◌≡◌, ℕ, ◌+◌, ◌-◌, ◌*◌, �
 ghost use Rattle.std.specs.List.{slice_range};
 ghost use Rattle.qrcode_types.specs.Colors.{is_dark};
 ghost use Rattle.qrcode_render.specs.Grid.{all_columns, all_rows, cell_row};
-ghost use Rattle.qrcode_render.specs.Light.{AreCut, AreLight, IsLightFrom, ShowsLight};
+ghost use Rattle.qrcode_render.specs.Light.{AreCut, AreLight, AreLightBut, IsLightFrom, ShowsLight};
 ghost use Rattle.qrcode_render.specs.LightNumbers.{light_number};
 ghost use Rattle.qrcode_render.specs.Shades.{shown};
 
@@ -73,8 +73,49 @@ fn few_words<S: Shade>(line: &[S], zone: usize, words: &mut [u64])
     }
 }
 
-// At least 64 cells behind fewer light ones, where the words behind are light: the first of them, the last, and those that
-// fill words between them.
+// The first word of at least 64 cells behind fewer light ones, and the last one with cells, which is told, where the words
+// behind are light.
+#[inline(always)]
+fn end_words<S: Shade>(line: &[S], zone: usize, words: &mut [u64]) -> usize
+    requires at_least { 64 ≤ length line.now }
+    requires zone { zone < 64 }
+    requires room { zone + length line.now ≤ 64 * length words.old }
+    requires fits { 64 * length words.old < 2 ^ 64 }
+    requires behind { IsLightFrom (zone + length line.now) words.old }
+    ensures last { result ≡ (zone + length line.now - 1) / 64 }
+    ensures value { AreLightBut (replicate zone false ++ map S.dark line.now)
+        words.new 1 result }
+    ensures length { length words.new ≡ length words.old }
+{
+    let count = zone + line.len();
+    let last = (count - 1) / 64;
+    words[0] = moved_up(light_in(&line[..64]), zone);
+    let light = light_in(&line[line.len() - 64..]);
+    words[last] = moved_down(light, count.wrapping_neg() % 64);
+    last
+}
+
+// The words of 64 cells each from a first one up to an end, where all others are made.
+#[inline(never)]
+fn inner_words<S: Shade>(line: &[S], zone: usize, words: &mut [u64], start: usize, end: usize)
+    requires zone { zone < 64 }
+    requires start { 1 ≤ start }
+    requires inside { 64 * end ≤ zone + length line.now }
+    requires room { end ≤ length words.old }
+    requires fits { 64 * length words.old < 2 ^ 64 }
+    requires others { AreLightBut (replicate zone false ++ map S.dark line.now)
+        words.old start end }
+    ensures value { AreLight (replicate zone false ++ map S.dark line.now) words.new }
+    ensures length { length words.new ≡ length words.old }
+{
+    for i in start..end {
+        let first = 64 * i - zone;
+        words[i] = light_in(&line[first..first + 64]);
+    }
+}
+
+// At least 64 cells behind fewer light ones, where the words behind are light. There are mostly no more than three words,
+// so that the second needs no loop.
 #[inline(never)]
 fn many_words<S: Shade>(line: &[S], zone: usize, words: &mut [u64])
     requires at_least { 64 ≤ length line.now }
@@ -85,14 +126,14 @@ fn many_words<S: Shade>(line: &[S], zone: usize, words: &mut [u64])
     ensures value { AreLight (replicate zone false ++ map S.dark line.now) words.new }
     ensures length { length words.new ≡ length words.old }
 {
-    let count = line.len();
-    let end = (zone + count + 63) / 64;
-    words[0] = moved_up(light_in(&line[..64]), zone);
-    let last = light_in(&line[count - 64..]);
-    words[end - 1] = moved_down(last, (zone + count).wrapping_neg() % 64);
-    for i in 1..end - 1 {
-        let first = 64 * i - zone;
-        words[i] = light_in(&line[first..first + 64]);
+    let last = end_words(line, zone, words);
+    if last < 2 {
+        return;
+    }
+    let first = 64 - zone;
+    words[1] = light_in(&line[first..first + 64]);
+    if last > 2 {
+        inner_words(line, zone, words, 2, last);
     }
 }
 
