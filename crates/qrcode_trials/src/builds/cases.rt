@@ -57,7 +57,7 @@ pub enum Format {
 
 /// All cases, in the order of the list.
 #[rattlefmt::skip]
-pub static CASES: [Case; 32] = [
+pub static CASES: [Case; 35] = [
     Case("micro-2-digits", Digits, 8, OfData(InVersion(Micro(2), L))),
     Case("normal-1-digits", Digits, 8, OfData(InVersion(Normal(1), M))),
     Case("bytes-100", Words, 100, OfData(AtLevel(M))),
@@ -85,6 +85,9 @@ pub static CASES: [Case; 32] = [
     Case("path-40", Words, 2331, Picture(Path, None)),
     Case("pbm-40", Words, 2331, Picture(Pbm, None)),
     Case("eps-40", Words, 2331, Picture(Eps, None)),
+    Case("png-1", Words, 14, Picture(Png, None)),
+    Case("png-10", Words, 213, Picture(Png, None)),
+    Case("png-17", Words, 504, Picture(Png, None)),
     Case("png-100", Words, 100, Picture(Png, None)),
     Case("png-40", Words, 2331, Picture(Png, None)),
     Case("png-40-at-3", Words, 2331, Picture(Png, Some(3))),
