@@ -48,16 +48,22 @@ fn moved_down(light: u64, places: usize) -> u64
     !(!light >> places)
 }
 
-// Light cells alone.
-#[inline(never)]
+// Light cells alone. Three words, as rows mostly have, take no call.
+#[inline(always)]
 fn fill_light(words: &mut [u64])
     ensures { words.new ≡ replicate (length words.old) (2 ^ 64 - 1) }
 {
-    words.fill(u64::MAX);
+    if words.len() == 3 {
+        words[0] = u64::MAX;
+        words[1] = u64::MAX;
+        words[2] = u64::MAX;
+    } else {
+        words.fill(u64::MAX);
+    }
 }
 
 // Up to 64 cells behind fewer light ones, where the words behind are light: a word, and what had no room in it.
-#[inline(never)]
+#[inline(always)]
 fn few_words<S: Shade>(line: &[S], zone: usize, words: &mut [u64])
     requires at_most { length line.now ≤ 64 }
     requires zone { zone < 64 }
@@ -138,6 +144,7 @@ fn many_words<S: Shade>(line: &[S], zone: usize, words: &mut [u64])
 }
 
 // Cells behind fewer than 64 light ones, where the words behind are light.
+#[inline(always)]
 fn near_words<S: Shade>(line: &[S], zone: usize, words: &mut [u64])
     requires zone { zone < 64 }
     requires some { 1 ≤ length words.old }
@@ -319,7 +326,7 @@ impl<'a> Grid<'a> {
         false
     }
 
-    // The bits of any row.
+    // The bits of any row. It stands apart, so that a call of those of most rows is a straight line.
     #[inline(never)]
     fn any_bits(&self, row: usize, words: &mut [u64])
         requires inside { row < all_rows self.now }
@@ -342,6 +349,7 @@ impl<'a> Grid<'a> {
 
     /// The cells of a row, the light ones around counted, as bits, 64 in a word and the first lowest: 1 for a light cell,
     /// 0 for a dark one and behind the end.
+    #[inline(always)]
     pub fn light_bits(&self, row: usize, words: &mut [u64])
         requires inside { row < all_rows self.now }
         requires length { length words.old ≡ (all_columns self.now + 63) / 64 }
