@@ -1,10 +1,10 @@
 -- Words of bits of cells, those behind the end light.
-use Rattle.std.proofs.Common.{◌≡◌, ℕ, zero, suc, ◌+◌, ◌-◌, ◌*◌, ◌/◌, ◌%◌, ◌^◌, ◌<◌, ◌≤◌, ◌≢◌, ◌⊎◌, inl, inr, Bool, true, false, not, ◌==◌, cond, eqb, below_more, List, [], ◌∷◌, ◌++◌, length, map, take, drop, replicate, get_or, set, bit_and, refl, ap, ap₂, ◌∙◌, sym, arith, append_assoc, if◌then◌else◌}
+use Rattle.std.proofs.Common.{◌≡◌, ℕ, zero, suc, ◌+◌, ◌-◌, ◌*◌, ◌/◌, ◌%◌, ◌^◌, ◌<◌, ◌≤◌, ◌≢◌, ◌⊎◌, inl, inr, Bool, true, false, not, ◌==◌, cond, eqb, below_more, List, [], ◌∷◌, ◌++◌, length, map, take, drop, replicate, get_or, set, bit_and, bit_or, refl, ap, ap₂, ◌∙◌, sym, arith, append_assoc, length-append, if◌then◌else◌}
 use Rattle.std.specs.Int.{bit_at}
 use Rattle.std.proofs.Math.ListN.{get_or-append}
 use Rattle.std.proofs.lemmas.Bool.{cases_lt, cases_eq}
 use Rattle.std.proofs.lemmas.Nat.{pow_pos, shr-shr, shr_split, shr_le}
-use Rattle.std.proofs.lemmas.Nat.Bits.{bit_at_not, bit_at_and, bit_at-lt, bit_at-zero, bit_at_lowest, bit_at_above, bit_at_ones, bit_at_ones_above, bit_at_cat_low, bit_at_cat_high, same_from_bits_below}
+use Rattle.std.proofs.lemmas.Nat.Bits.{bit_at_not, bit_at_and, bit_at_or, bit_at-lt, bit_at-zero, bit_at_lowest, bit_at_above, bit_at_ones, bit_at_ones_above, bit_at_cat_low, bit_at_cat_high, same_from_bits_below}
 use Rattle.std.proofs.lemmas.List.{get_or-append-add, get_or-append_right, replicate-append-replicate, get_or-replicate, get_or-map, get_or-take, get_or-drop, take-map, drop-map, get_or-set_same, get_or-set_other, length-set, get_or_past, get_or_default, length-replicate}
 use Rattle.std.proofs.lemmas.Simd.{bitmask_splat, bit_mask_l}
 use lib.Lanes.{mask_l, top, zip2}
@@ -12,7 +12,7 @@ use mir.Syntax.{w8, w64}
 use mir.Val.{bits, hbits}
 use Rattle.qrcode_types.specs.Colors.{is_dark, color_of}
 use Rattle.qrcode_types.specs.declared.types.Color.{Color}
-use Rattle.qrcode_render.specs.Light.{around_bit, AreLight, AreLightBut, ShowsLight}
+use Rattle.qrcode_render.specs.Light.{around_bit, AreLight, AreLightBut, ShowsLight, between}
 use Rattle.qrcode_render.specs.LightNumbers.{light_bit, light_number}
 use Rattle.qrcode_render.specs.Shades.{colors_of}
 use Rattle.qrcode_render.proofs.LightNumbers.{light_bit_small, light_small}
@@ -45,19 +45,21 @@ pub moved_bit : (n x : ℕ) (marks : List Bool) → around_bit (replicate n fals
 moved_bit n x marks = ap (λ b. if b then 0 else 1) (ap (λ m. get_or (replicate n false ++ marks) (m + x) false) (sym (length-replicate n false)) ∙ get_or-append-add (replicate n false) marks x false)
 
 -- what stands so many places higher, behind bits that are set
-pub shown_higher : (marks : List Bool) (light p : ℕ) → light < 2 ^ 64 → ShowsLight marks 0 light → ShowsLight (replicate p false ++ marks) 0 (18446744073709551615 - (18446744073709551615 - light) * 2 ^ p % 18446744073709551616)
-shown_higher marks light p fits shows k below =
-    let dark = 18446744073709551615 - light in
-    let moved = dark * 2 ^ p in
-    let is : bit_at (18446744073709551615 - moved % 2 ^ 64) k ≡ 1 - bit_at moved k = bit_at_not w64 (moved % 2 ^ 64) k (omega arith) below ∙ ap (λ d. 1 - d) (cut_bit moved 64 k below) in
+pub shown_higher : (marks : List Bool) (light p : ℕ) → ShowsLight marks 0 light → ShowsLight (replicate p false ++ marks) 0 (bit_or (light * 2 ^ p % 18446744073709551616) (18446744073709551615 - 18446744073709551615 * 2 ^ p % 18446744073709551616))
+shown_higher marks light p shows k below =
+    let ones = 18446744073709551615 * 2 ^ p in
+    let low : bit_at (18446744073709551615 - ones % 2 ^ 64) k ≡ 1 - bit_at ones k = bit_at_not w64 (ones % 2 ^ 64) k (omega arith) below ∙ ap (λ d. 1 - d) (cut_bit ones 64 k below) in
+    let high : bit_at (light * 2 ^ p % 2 ^ 64) k ≡ bit_at (light * 2 ^ p) k = cut_bit (light * 2 ^ p) 64 k below in
+    let is = bit_at_or (light * 2 ^ p % 2 ^ 64) (18446744073709551615 - ones % 2 ^ 64) k in
     let place : 0 + k ≡ k = omega arith in
     elim (cases_lt k p) [
-      | inl before ↦ is ∙ ap (λ d. 1 - d) (no_low_bit dark p k before) ∙ before_bit p k marks before ∙ ap (around_bit (replicate p false ++ marks)) (sym place)
+      | inl before ↦
+          omega (arith, is, low, high, no_low_bit light p k before, no_low_bit 18446744073709551615 p k before)
+          ∙ before_bit p k marks before
+          ∙ ap (around_bit (replicate p false ++ marks)) (sym place)
       | inr behind ↦
           let there : k ≡ p + (k - p) = omega arith in
-          is
-          ∙ ap (λ d. 1 - d) (high_bit dark p k behind ∙ bit_at_not w64 light (k - p) fits (omega arith))
-          ∙ omega (arith, bit_at-lt light (k - p))
+          omega (arith, is, low, high, high_bit light p k behind, high_bit 18446744073709551615 p k behind, bit_at_ones 64 (k - p) (omega arith), bit_at-lt light (k - p))
           ∙ shows (k - p) (omega arith)
           ∙ sym (moved_bit p (0 + (k - p)) marks)
           ∙ ap (around_bit (replicate p false ++ marks)) (omega arith)
@@ -261,3 +263,38 @@ all_made marks words first end h others i below =
       | inl before ↦ others i below (inl before)
       | inr behind ↦ others i below (inr (omega arith))
     ]
+
+-- a word shows marks between others that are not set where it shows them behind others
+shown_between : (z : ℕ) (line : List Bool) (start word : ℕ) → ShowsLight (replicate z false ++ line) start word → ShowsLight (between z line) start word
+shown_between z line start word shows k below =
+    let edge = replicate z false in
+    shows k below
+    ∙ same_with_zone (edge ++ line) z (start + k)
+    ∙ ap (λ m. around_bit m (start + k)) (append_assoc edge line edge)
+
+length_between : (z : ℕ) (line : List Bool) → length (between z line) ≡ length line + 2 * z
+length_between z line =
+    let edge = replicate z false in
+    omega (arith, length-append edge (line ++ edge), length-append line edge, length-replicate z false)
+
+-- a word that shows marks that are all there is their number
+pub number_between : (z : ℕ) (line : List Bool) (start word : ℕ) → word < 2 ^ 64 → start + 64 ≤ length line + 2 * z → ShowsLight (replicate z false ++ line) start word
+    → word ≡ light_number (between z line) start 64
+number_between z line start word fits inside shows =
+    number_of_bits (between z line) start word fits (whole_word (between z line) start word (omega (arith, inside, length_between z line)) (shown_between z line start word shows))
+
+-- a word that shows the last marks is moved down to the number of those from a place on
+pub number_at_end : (z : ℕ) (line : List Bool) (start word s there : ℕ) → word < 2 ^ 64 → there ≡ start + s → start + 64 ≡ length line + 2 * z → ShowsLight (replicate z false ++ line) start word
+    → word / 2 ^ s ≡ light_number (between z line) there 64
+number_at_end z line start word s there fits place end shows =
+    let marks = between z line in
+    let size : length marks ≡ length line + 2 * z = length_between z line in
+    number_of_bits marks there (word / 2 ^ s) (omega (arith, fits, shr_le word s)) (λ k below.
+    ap (λ m. m % 2) (shr-shr word s k)
+    ∙ elim (cases_lt (s + k) 64) [
+      | inl inside ↦
+          shown_between z line start word shows (s + k) inside
+          ∙ same_inside marks (start + (s + k)) (omega (arith, size, end, inside))
+          ∙ ap (light_bit marks) (omega (arith, place))
+      | inr past ↦ bit_at_above word 64 (s + k) fits past ∙ sym (ap (λ b. if b then 0 else 1) (get_or_past marks (there + k) true (omega (arith, size, end, place, past))))
+    ])

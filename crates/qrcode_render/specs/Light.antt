@@ -1,7 +1,7 @@
 -- Rows of cells as bits, of which those behind the end are light.
-use Rattle.std.specs.Prelude.{◌≡◌, ◌⊎◌, ℕ, ◌+◌, ◌-◌, ◌*◌, ◌^◌, ◌<◌, ◌≤◌, Bool, false, List, length, slice_index_or, if◌then◌else◌}
+use Rattle.std.specs.Prelude.{◌≡◌, ◌⊎◌, ℕ, ◌+◌, ◌-◌, ◌*◌, ◌^◌, ◌<◌, ◌≤◌, Bool, false, List, ◌++◌, length, replicate, slice_index_or, if◌then◌else◌}
 use Rattle.std.specs.Int.{bit_at}
-use Rattle.qrcode_render.specs.LightNumbers.{light_bit}
+use Rattle.qrcode_render.specs.LightNumbers.{light_bit, light_number}
 
 abbrev pub around_bit : List Bool → ℕ → ℕ  -- the bit of a mark: 0 for one that is set, else 1, behind the end too
 around_bit marks x = if slice_index_or marks x false then 0 else 1
@@ -21,3 +21,9 @@ AreCut marks words = (i k : ℕ) → i < length words → k < 64 → bit_at (sli
 
 abbrev pub IsLightFrom : ℕ → List ℕ → Type 0  -- words whose bits all stand behind so many places have none but ones
 IsLightFrom count words = (i : ℕ) → count ≤ 64 * i → i < length words → slice_index_or words i 0 ≡ 2 ^ 64 - 1
+
+abbrev pub between : ℕ → List Bool → List Bool  -- marks between so many at each side that are not set
+between zone marks = replicate zone false ++ (marks ++ replicate zone false)
+
+abbrev pub AreNumbersOf : List Bool → List ℕ → Type 0  -- words are the numbers of marks, 64 a word, and behind the end they have no bits
+AreNumbersOf marks words = (i : ℕ) → i < length words → slice_index_or words i 0 ≡ light_number marks (64 * i) 64

@@ -1,14 +1,14 @@
 //! Rows of cells as bits: which of them are light.
 
-ghost use Rattle.std.specs.Prelude.{◌≡◌, ℕ, ◌+◌, ◌-◌, ◌*◌, ◌/◌, ◌^◌, ◌<◌, ◌≤◌, Bool, false, List, ◌++◌, length, map, replicate, slice_index_or};
+ghost use Rattle.std.specs.Prelude.{◌≡◌, ℕ, ◌+◌, ◌-◌, ◌*◌, ◌/◌, ◌^◌, ◌<◌, ◌≤◌, Bool, false, List, ◌++◌, length, map, replicate, slice_index_or, IsTrue};
 ghost use Rattle.std.specs.List.{slice_range};
 ghost use Rattle.qrcode_types.specs.Colors.{is_dark};
 ghost use Rattle.qrcode_render.specs.Grid.{all_columns, all_rows, cell_row};
-ghost use Rattle.qrcode_render.specs.Light.{AreCut, AreLight, AreLightBut, IsLightFrom, ShowsLight};
+ghost use Rattle.qrcode_render.specs.Light.{AreCut, AreLight, AreLightBut, AreNumbersOf, IsLightFrom, ShowsLight, between};
 ghost use Rattle.qrcode_render.specs.LightNumbers.{light_number};
 ghost use Rattle.qrcode_render.specs.Shades.{shown};
 
-use super::{Grid, Shades};
+use super::{Grid, Shades, ZONE};
 use crate::marks::Shade;
 use std::simd::prelude::*;
 
@@ -35,7 +35,7 @@ fn moved_up(light: u64, places: usize) -> u64
     ensures { (marks : List Bool) → ShowsLight marks 0 light
         → ShowsLight (replicate places false ++ marks) 0 result }
 {
-    !(!light << places)
+    light << places | !(u64::MAX << places)
 }
 
 // Which cells are light from so many places on, where all behind them are.
@@ -48,16 +48,22 @@ fn moved_down(light: u64, places: usize) -> u64
     !(!light >> places)
 }
 
-// Light cells alone.
-#[inline(never)]
+// Light cells alone. Three words, as rows mostly have, take no call.
+#[inline(always)]
 fn fill_light(words: &mut [u64])
     ensures { words.new ≡ replicate (length words.old) (2 ^ 64 - 1) }
 {
-    words.fill(u64::MAX);
+    if words.len() == 3 {
+        words[0] = u64::MAX;
+        words[1] = u64::MAX;
+        words[2] = u64::MAX;
+    } else {
+        words.fill(u64::MAX);
+    }
 }
 
 // Up to 64 cells behind fewer light ones, where the words behind are light: a word, and what had no room in it.
-#[inline(never)]
+#[inline(always)]
 fn few_words<S: Shade>(line: &[S], zone: usize, words: &mut [u64])
     requires at_most { length line.now ≤ 64 }
     requires zone { zone < 64 }
@@ -138,6 +144,7 @@ fn many_words<S: Shade>(line: &[S], zone: usize, words: &mut [u64])
 }
 
 // Cells behind fewer than 64 light ones, where the words behind are light.
+#[inline(always)]
 fn near_words<S: Shade>(line: &[S], zone: usize, words: &mut [u64])
     requires zone { zone < 64 }
     requires some { 1 ≤ length words.old }
@@ -197,6 +204,62 @@ fn cut(words: &mut [u64], columns: usize)
     words[last] &= u64::MAX >> (columns.wrapping_neg() % 64);
 }
 
+// The first word of at least 64 cells between fewer light ones.
+#[inline(always)]
+fn first_word<S: Shade>(line: &[S], zone: usize) -> u64
+    requires at_least { 64 ≤ length line.now }
+    requires zone { zone < 64 }
+    ensures { result ≡ light_number (between zone (map S.dark line.now)) 0 64 }
+{
+    moved_up(light_in(&line[..64]), zone)
+}
+
+// The second word, where it has cells alone.
+#[inline(always)]
+fn second_word<S: Shade>(line: &[S], zone: usize) -> u64
+    requires at_least { 128 ≤ zone + length line.now }
+    requires zone { zone < 64 }
+    ensures { result ≡ light_number (between zone (map S.dark line.now)) 64 64 }
+{
+    let first = 64 - zone;
+    light_in(&line[first..first + 64])
+}
+
+// The last word, where so many words have room for all cells.
+#[inline(always)]
+fn last_word<S: Shade>(line: &[S], zone: usize, count: usize) -> u64
+    requires at_least { 64 ≤ length line.now }
+    requires zone { zone < 64 }
+    requires count { (1 ≤ count) × (count ≤ 3) }
+    requires room { length line.now + 2 * zone ≤ 64 * count }
+    requires least { 64 * count < length line.now + 2 * zone + 64 }
+    ensures { result ≡ light_number (between zone (map S.dark line.now)) (64 * (count - 1)) 64 }
+{
+    let light = light_in(&line[line.len() - 64..]);
+    moved_down(light, zone) >> (64 * count - 2 * zone - line.len())
+}
+
+// At least 64 cells between fewer light ones in two words, or in three, of which the second has cells alone.
+#[inline(always)]
+fn short_words<S: Shade>(line: &[S], zone: usize, count: usize, words: &mut [u64])
+    requires at_least { 64 ≤ length line.now }
+    requires zone { zone < 64 }
+    requires count { (2 ≤ count) × (count ≤ 3) }
+    requires length { length words.old ≡ count }
+    requires room { length line.now + 2 * zone ≤ 64 * count }
+    requires least { 64 * count < length line.now + 2 * zone + 64 }
+    requires second { 3 ≤ count → 128 ≤ zone + length line.now }
+    ensures value { AreNumbersOf (between zone (map S.dark line.now)) words.new }
+    ensures length { length words.new ≡ length words.old }
+{
+    let last = last_word(line, zone, count);
+    words[0] = first_word(line, zone);
+    if count > 2 {
+        words[1] = second_word(line, zone);
+    }
+    words[count - 1] = last;
+}
+
 impl<'a> Shades<'a> {
     // Which of some cells are light, from a place on, behind so many light ones.
     fn light_words(&self, first: usize, end: usize, zone: usize, words: &mut [u64])
@@ -215,17 +278,61 @@ impl<'a> Shades<'a> {
             Shades::Bytes(bytes) => light_words(&bytes[first..end], zone, words),
         }
     }
+
+    // The same of at least 64 cells in two words, or in three, of which the second has cells alone, and zeros behind.
+    #[inline(always)]
+    fn short_words(&self, first: usize, end: usize, count: usize, words: &mut [u64])
+        requires at_least { 64 + first ≤ end }
+        requires inside { end ≤ length (shown self.now) }
+        requires count { (2 ≤ count) × (count ≤ 3) }
+        requires length { length words.old ≡ count }
+        requires room { end - first + 8 ≤ 64 * count }
+        requires least { 64 * count < end - first + 72 }
+        requires second { 3 ≤ count → 124 ≤ end - first }
+        ensures value { AreNumbersOf (between 4
+            (map is_dark (slice_range (shown self.now) first end))) words.new }
+        ensures length { length words.new ≡ length words.old }
+    {
+        match *self {
+            Shades::Colors(colors) => short_words(&colors[first..end], ZONE, count, words),
+            Shades::Bytes(bytes) => short_words(&bytes[first..end], ZONE, count, words),
+        }
+    }
 }
 
 impl<'a> Grid<'a> {
-    /// The cells of a row, the light ones around counted, as bits, 64 in a word and the first lowest: 1 for a light cell,
-    /// 0 for a dark one and behind the end.
-    pub fn light_bits(&self, row: usize, words: &mut [u64])
+    // The bits of a row of cells in two or three words, with as many light ones around as mostly, in a straight line of
+    // steps; whether it is such a row.
+    #[inline(always)]
+    fn short_bits(&self, row: usize, words: &mut [u64]) -> bool
+        requires length { length words.old ≡ (all_columns self.now + 63) / 64 }
+        ensures length { length words.new ≡ length words.old }
+        ensures value { IsTrue result → AreNumbersOf (cell_row self.now row) words.new }
+    {
+        let from = row.wrapping_sub(ZONE);
+        if self.zone != ZONE || from >= self.rows {
+            return false;
+        }
+        let start = from * self.columns;
+        let end = start + self.columns;
+        if 128 - ZONE <= self.columns && self.columns <= 192 - 2 * ZONE {
+            self.cells.short_words(start, end, 3, words);
+            return true;
+        }
+        if 64 <= self.columns && self.columns <= 128 - 2 * ZONE {
+            self.cells.short_words(start, end, 2, words);
+            return true;
+        }
+        false
+    }
+
+    // The bits of any row. It stands apart, so that a call of those of most rows is a straight line.
+    #[inline(never)]
+    fn any_bits(&self, row: usize, words: &mut [u64])
         requires inside { row < all_rows self.now }
         requires length { length words.old ≡ (all_columns self.now + 63) / 64 }
         ensures length { length words.new ≡ length words.old }
-        ensures value { (i : ℕ) → i < length words.new → slice_index_or words.new i 0
-            ≡ light_number (cell_row self.now row) (64 * i) 64 }
+        ensures value { AreNumbersOf (cell_row self.now row) words.new }
     {
         if words.is_empty() {
             return;
@@ -238,5 +345,20 @@ impl<'a> Grid<'a> {
             None => fill_light(words),
         }
         cut(words, self.columns + 2 * self.zone);
+    }
+
+    /// The cells of a row, the light ones around counted, as bits, 64 in a word and the first lowest: 1 for a light cell,
+    /// 0 for a dark one and behind the end.
+    #[inline(always)]
+    pub fn light_bits(&self, row: usize, words: &mut [u64])
+        requires inside { row < all_rows self.now }
+        requires length { length words.old ≡ (all_columns self.now + 63) / 64 }
+        ensures length { length words.new ≡ length words.old }
+        ensures value { (i : ℕ) → i < length words.new → slice_index_or words.new i 0
+            ≡ light_number (cell_row self.now row) (64 * i) 64 }
+    {
+        if !self.short_bits(row, words) {
+            self.any_bits(row, words);
+        }
     }
 }

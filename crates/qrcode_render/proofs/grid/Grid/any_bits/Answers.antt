@@ -8,8 +8,8 @@ use Rattle.qrcode_render.specs.Light.{AreLight}
 use Rattle.qrcode_render.specs.Shades.{shown}
 use Rattle.qrcode_render.proofs.Grids.{inside_row, outside_row}
 use Rattle.qrcode_render.proofs.LightWords.{number_of_bits, ones_of_none, same_with_zone, shown_at}
-use Rattle.qrcode_render.proofs.grid.Grid.light_bits.Goals as goal
-use Rattle.qrcode_render.proofs.grid.Grid.light_bits.Goals.{in-Some, in-None}
+use Rattle.qrcode_render.proofs.grid.Grid.any_bits.Goals as goal
+use Rattle.qrcode_render.proofs.grid.Grid.any_bits.Goals.{in-Some, in-None}
 
 pub returns-clause-value : goal.returns-clause-value
 returns-clause-value c = λ i below.
