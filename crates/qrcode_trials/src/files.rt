@@ -76,17 +76,28 @@ fn print_made(rt: &HostRuntime, bytes: &[u8], wants_bytes: bool) -> io::Result<(
 // The same symbol in other sizes and colours: a name, the pixels of a module, and the colours of dark modules
 // and of light ones.
 #[rattlefmt::skip]
-static OTHERS: [(&str, u16, Color, Color); 15] = [
+static OTHERS: [(&str, u16, Color, Color); 26] = [
     ("size-1", 1, BLACK, WHITE),
     ("size-2", 2, BLACK, WHITE),
     ("size-4", 4, BLACK, WHITE),
     ("size-5", 5, BLACK, WHITE),
+    ("size-6", 6, BLACK, WHITE),
     ("size-7", 7, BLACK, WHITE),
     ("size-8", 8, BLACK, WHITE),
     ("size-9", 9, BLACK, WHITE),
     ("size-10", 10, BLACK, WHITE),
+    ("size-11", 11, BLACK, WHITE),
+    ("size-13", 13, BLACK, WHITE),
     ("size-16", 16, BLACK, WHITE),
+    ("size-17", 17, BLACK, WHITE),
+    ("size-18", 18, BLACK, WHITE),
+    ("size-25", 25, BLACK, WHITE),
+    ("size-31", 31, BLACK, WHITE),
     ("size-33", 33, BLACK, WHITE),
+    ("size-40", 40, BLACK, WHITE),
+    ("size-49", 49, BLACK, WHITE),
+    ("size-64", 64, BLACK, WHITE),
+    ("size-65", 65, BLACK, WHITE),
     ("colors-0", 3, Color([0, 0, 128, 255]), Color([255, 240, 200, 255])),
     ("colors-1", 3, BLACK, Color([255, 255, 255, 0])),
     ("colors-2", 3, Color([120, 0, 0, 200]), Color([1, 2, 3, 4])),
@@ -129,7 +140,19 @@ fn file(
 }
 
 // How many bytes by chance, and the pixels of a module.
-static LONG: [(usize, u16); 4] = [(100, 8), (2331, 3), (2331, 8), (2331, 10)];
+static LONG: [(usize, u16); 11] = [
+    (100, 8),
+    (2331, 1),
+    (2331, 2),
+    (2331, 3),
+    (2331, 4),
+    (2331, 5),
+    (2331, 6),
+    (2331, 7),
+    (2331, 8),
+    (2331, 9),
+    (2331, 10),
+];
 
 // Prints the lines of bytes by chance.
 fn print_long(rt: &HostRuntime, wants_bytes: bool) -> io::Result<()> {
