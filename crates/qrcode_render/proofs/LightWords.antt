@@ -1,10 +1,10 @@
 -- Words of bits of cells, those behind the end light.
-use Rattle.std.proofs.Common.{◌≡◌, ℕ, zero, suc, ◌+◌, ◌-◌, ◌*◌, ◌/◌, ◌%◌, ◌^◌, ◌<◌, ◌≤◌, ◌≢◌, ◌⊎◌, inl, inr, Bool, true, false, not, ◌==◌, cond, eqb, below_more, List, [], ◌∷◌, ◌++◌, length, map, take, drop, replicate, get_or, set, bit_and, bit_or, refl, ap, ap₂, ◌∙◌, sym, arith, append_assoc, length-append, if◌then◌else◌}
+use Rattle.std.proofs.Common.{◌≡◌, ℕ, zero, suc, ◌+◌, ◌-◌, ◌*◌, ◌/◌, ◌%◌, ◌^◌, ◌<◌, ◌≤◌, ◌≢◌, ◌⊎◌, inl, inr, Bool, true, false, not, ◌==◌, cond, eqb, below_more, List, [], ◌∷◌, ◌++◌, length, map, take, drop, replicate, get_or, set, bit_and, refl, ap, ap₂, ◌∙◌, sym, arith, append_assoc, length-append, if◌then◌else◌}
 use Rattle.std.specs.Int.{bit_at}
 use Rattle.std.proofs.Math.ListN.{get_or-append}
 use Rattle.std.proofs.lemmas.Bool.{cases_lt, cases_eq}
 use Rattle.std.proofs.lemmas.Nat.{pow_pos, shr-shr, shr_split, shr_le}
-use Rattle.std.proofs.lemmas.Nat.Bits.{bit_at_not, bit_at_and, bit_at_or, bit_at-lt, bit_at-zero, bit_at_lowest, bit_at_above, bit_at_ones, bit_at_ones_above, bit_at_cat_low, bit_at_cat_high, same_from_bits_below}
+use Rattle.std.proofs.lemmas.Nat.Bits.{bit_at_not, bit_at_and, bit_at-lt, bit_at-zero, bit_at_lowest, bit_at_above, bit_at_ones, bit_at_ones_above, bit_at_cat_low, bit_at_cat_high, same_from_bits_below}
 use Rattle.std.proofs.lemmas.List.{get_or-append-add, get_or-append_right, replicate-append-replicate, get_or-replicate, get_or-map, get_or-take, get_or-drop, take-map, drop-map, get_or-set_same, get_or-set_other, length-set, get_or_past, get_or_default, length-replicate}
 use Rattle.std.proofs.lemmas.Simd.{bitmask_splat, bit_mask_l}
 use lib.Lanes.{mask_l, top, zip2}
@@ -45,21 +45,21 @@ pub moved_bit : (n x : ℕ) (marks : List Bool) → around_bit (replicate n fals
 moved_bit n x marks = ap (λ b. if b then 0 else 1) (ap (λ m. get_or (replicate n false ++ marks) (m + x) false) (sym (length-replicate n false)) ∙ get_or-append-add (replicate n false) marks x false)
 
 -- what stands so many places higher, behind bits that are set
-pub shown_higher : (marks : List Bool) (light p : ℕ) → ShowsLight marks 0 light → ShowsLight (replicate p false ++ marks) 0 (bit_or (light * 2 ^ p % 18446744073709551616) (18446744073709551615 - 18446744073709551615 * 2 ^ p % 18446744073709551616))
-shown_higher marks light p shows k below =
-    let ones = 18446744073709551615 * 2 ^ p in
-    let low : bit_at (18446744073709551615 - ones % 2 ^ 64) k ≡ 1 - bit_at ones k = bit_at_not w64 (ones % 2 ^ 64) k (omega arith) below ∙ ap (λ d. 1 - d) (cut_bit ones 64 k below) in
-    let high : bit_at (light * 2 ^ p % 2 ^ 64) k ≡ bit_at (light * 2 ^ p) k = cut_bit (light * 2 ^ p) 64 k below in
-    let is = bit_at_or (light * 2 ^ p % 2 ^ 64) (18446744073709551615 - ones % 2 ^ 64) k in
+pub shown_higher : (marks : List Bool) (light p : ℕ) → light < 2 ^ 64 → ShowsLight marks 0 light → ShowsLight (replicate p false ++ marks) 0 (18446744073709551615 - (18446744073709551615 - light) * 2 ^ p % 18446744073709551616)
+shown_higher marks light p fits shows k below =
+    let dark = (18446744073709551615 - light) * 2 ^ p in
+    let is : bit_at (18446744073709551615 - dark % 2 ^ 64) k ≡ 1 - bit_at dark k = bit_at_not w64 (dark % 2 ^ 64) k (omega arith) below ∙ ap (λ d. 1 - d) (cut_bit dark 64 k below) in
     let place : 0 + k ≡ k = omega arith in
     elim (cases_lt k p) [
       | inl before ↦
-          omega (arith, is, low, high, no_low_bit light p k before, no_low_bit 18446744073709551615 p k before)
+          is
+          ∙ ap (λ d. 1 - d) (no_low_bit (18446744073709551615 - light) p k before)
           ∙ before_bit p k marks before
           ∙ ap (around_bit (replicate p false ++ marks)) (sym place)
       | inr behind ↦
-          let there : k ≡ p + (k - p) = omega arith in
-          omega (arith, is, low, high, high_bit light p k behind, high_bit 18446744073709551615 p k behind, bit_at_ones 64 (k - p) (omega arith), bit_at-lt light (k - p))
+          is
+          ∙ ap (λ d. 1 - d) (high_bit (18446744073709551615 - light) p k behind ∙ bit_at_not w64 light (k - p) fits (omega arith))
+          ∙ omega (arith, bit_at-lt light (k - p))
           ∙ shows (k - p) (omega arith)
           ∙ sym (moved_bit p (0 + (k - p)) marks)
           ∙ ap (around_bit (replicate p false ++ marks)) (omega arith)

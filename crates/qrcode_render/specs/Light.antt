@@ -27,3 +27,7 @@ between zone marks = replicate zone false ++ (marks ++ replicate zone false)
 
 abbrev pub AreNumbersOf : List Bool → List ℕ → Type 0  -- words are the numbers of marks, 64 a word, and behind the end they have no bits
 AreNumbersOf marks words = (i : ℕ) → i < length words → slice_index_or words i 0 ≡ light_number marks (64 * i) 64
+
+-- a count of words is 0, or rows of so many columns between light ones have so many: two to four, each but the last with its last bit among the cells
+abbrev pub IsStraight : ℕ → ℕ → ℕ → Type 0
+IsStraight words columns zone = 1 ≤ words → (2 ≤ words) × (words ≤ 4) × (zone < 64) × (64 ≤ columns) × (columns + 2 * zone ≤ 64 * words) × (64 * words < columns + 2 * zone + 64) × (64 * words ≤ zone + columns + 64)

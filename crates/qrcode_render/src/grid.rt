@@ -11,6 +11,7 @@ ghost use Rattle.qrcode_render.specs.Shades.{colors_of, shown};
 ghost use Rattle.qrcode_render.specs.Sides.{AreLightAtSides};
 
 use crate::marks::{Shade, is_dark, mark_bytes, mark_columns, mark_line};
+use light::straight_count;
 use qrcode_types::types::Color;
 use std::marker::Model;
 
@@ -180,11 +181,13 @@ pub struct Grid<'a> {
     zone: usize,
     across: u32,
     down: u32,
+    words: usize, // how many hold the bits of a row of cells, where it is made in a straight line, else 0
 }
 
 impl<'a> Model for Grid<'a> {
     ghost use Rattle.std.specs.Prelude.{◌≡◌, ◌+◌, ◌*◌, ◌^◌, ◌<◌, ◌≤◌, length};
     ghost use Rattle.qrcode_render.specs.Grid.{Grid, all_columns, all_rows};
+    ghost use Rattle.qrcode_render.specs.Light.{IsStraight};
     ghost use Rattle.qrcode_render.specs.Shades.{shown};
 
     ghost Value = { Grid };
@@ -202,7 +205,8 @@ impl<'a> Model for Grid<'a> {
         × (g.columns + 2 * g.zone < 2 ^ 32) × (g.rows + 2 * g.zone < 2 ^ 32)
         × (1 ≤ g.across) × (1 ≤ g.down)
         × ((g.columns + 2 * g.zone) * g.across < 2 ^ 32)
-        × ((g.rows + 2 * g.zone) * g.down < 2 ^ 32) };
+        × ((g.rows + 2 * g.zone) * g.down < 2 ^ 32)
+        × IsStraight g.words g.columns g.zone };
 }
 
 impl<'a> Grid<'a> {
@@ -239,6 +243,7 @@ impl<'a> Grid<'a> {
             zone: zone as usize,
             across,
             down,
+            words: straight_count(columns as usize, zone as usize),
         }
     }
 
@@ -267,6 +272,7 @@ impl<'a> Grid<'a> {
             zone: zone as usize,
             across,
             down,
+            words: straight_count(side as usize, zone as usize),
         }
     }
 
@@ -283,6 +289,7 @@ impl<'a> Grid<'a> {
             zone: self.zone,
             across,
             down: self.down,
+            words: self.words,
         }
     }
 

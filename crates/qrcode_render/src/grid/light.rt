@@ -4,11 +4,11 @@ ghost use Rattle.std.specs.Prelude.{◌≡◌, ℕ, ◌+◌, ◌-◌, ◌*◌, �
 ghost use Rattle.std.specs.List.{slice_range};
 ghost use Rattle.qrcode_types.specs.Colors.{is_dark};
 ghost use Rattle.qrcode_render.specs.Grid.{all_columns, all_rows, cell_row};
-ghost use Rattle.qrcode_render.specs.Light.{AreCut, AreLight, AreLightBut, AreNumbersOf, IsLightFrom, ShowsLight, between};
+ghost use Rattle.qrcode_render.specs.Light.{AreCut, AreLight, AreLightBut, AreNumbersOf, IsLightFrom, IsStraight, ShowsLight, between};
 ghost use Rattle.qrcode_render.specs.LightNumbers.{light_number};
 ghost use Rattle.qrcode_render.specs.Shades.{shown};
 
-use super::{Grid, Shades, ZONE};
+use super::{Grid, Shades};
 use crate::marks::Shade;
 use std::simd::prelude::*;
 
@@ -35,7 +35,7 @@ fn moved_up(light: u64, places: usize) -> u64
     ensures { (marks : List Bool) → ShowsLight marks 0 light
         → ShowsLight (replicate places false ++ marks) 0 result }
 {
-    light << places | !(u64::MAX << places)
+    !(!light << places)
 }
 
 // Which cells are light from so many places on, where all behind them are.
@@ -214,15 +214,30 @@ fn first_word<S: Shade>(line: &[S], zone: usize) -> u64
     moved_up(light_in(&line[..64]), zone)
 }
 
-// The second word, where it has cells alone.
+// A word behind the first one that has cells alone.
 #[inline(always)]
-fn second_word<S: Shade>(line: &[S], zone: usize) -> u64
-    requires at_least { 128 ≤ zone + length line.now }
+fn inner_word<S: Shade>(line: &[S], zone: usize, place: usize) -> u64
+    requires some { 1 ≤ place }
     requires zone { zone < 64 }
-    ensures { result ≡ light_number (between zone (map S.dark line.now)) 64 64 }
+    requires inside { 64 * place + 64 ≤ zone + length line.now }
+    requires at_most { place ≤ 2 }
+    ensures { result ≡ light_number (between zone (map S.dark line.now)) (64 * place) 64 }
 {
-    let first = 64 - zone;
+    let first = 64 * place - zone;
     light_in(&line[first..first + 64])
+}
+
+// How many words hold the bits of a row of cells, where it is made in a straight line, else 0.
+pub(super) fn straight_count(columns: usize, zone: usize) -> usize
+    requires { columns + 2 * zone < 2 ^ 32 }
+    ensures { IsStraight result columns zone }
+{
+    let count = (columns + 2 * zone + 63) / 64;
+    if zone < 64 && columns > 64 && count <= 4 && 64 * count <= zone + columns + 64 {
+        count
+    } else {
+        0
+    }
 }
 
 // The last word, where so many words have room for all cells.
@@ -230,32 +245,31 @@ fn second_word<S: Shade>(line: &[S], zone: usize) -> u64
 fn last_word<S: Shade>(line: &[S], zone: usize, count: usize) -> u64
     requires at_least { 64 ≤ length line.now }
     requires zone { zone < 64 }
-    requires count { (1 ≤ count) × (count ≤ 3) }
+    requires count { (1 ≤ count) × (count ≤ 4) }
     requires room { length line.now + 2 * zone ≤ 64 * count }
     requires least { 64 * count < length line.now + 2 * zone + 64 }
     ensures { result ≡ light_number (between zone (map S.dark line.now)) (64 * (count - 1)) 64 }
 {
     let light = light_in(&line[line.len() - 64..]);
-    moved_down(light, zone) >> (64 * count - 2 * zone - line.len())
+    moved_down(light, zone) >> ((line.len() + 2 * zone).wrapping_neg() % 64)
 }
 
-// At least 64 cells between fewer light ones in two words, or in three, of which the second has cells alone.
+// At least 64 cells between fewer light ones in two to four words, each but the last with its last bit among the cells.
 #[inline(always)]
-fn short_words<S: Shade>(line: &[S], zone: usize, count: usize, words: &mut [u64])
-    requires at_least { 64 ≤ length line.now }
-    requires zone { zone < 64 }
-    requires count { (2 ≤ count) × (count ≤ 3) }
+fn straight_words<S: Shade>(line: &[S], zone: usize, count: usize, words: &mut [u64])
     requires length { length words.old ≡ count }
-    requires room { length line.now + 2 * zone ≤ 64 * count }
-    requires least { 64 * count < length line.now + 2 * zone + 64 }
-    requires second { 3 ≤ count → 128 ≤ zone + length line.now }
+    requires straight { IsStraight count (length line.now) zone }
+    requires some { 1 ≤ count }
     ensures value { AreNumbersOf (between zone (map S.dark line.now)) words.new }
     ensures length { length words.new ≡ length words.old }
 {
     let last = last_word(line, zone, count);
     words[0] = first_word(line, zone);
-    if count > 2 {
-        words[1] = second_word(line, zone);
+    if count == 3 {
+        words[1] = inner_word(line, zone, 1);
+    } else if count == 4 {
+        words[1] = inner_word(line, zone, 1);
+        words[2] = inner_word(line, zone, 2);
     }
     words[count - 1] = last;
 }
@@ -279,51 +293,50 @@ impl<'a> Shades<'a> {
         }
     }
 
-    // The same of at least 64 cells in two words, or in three, of which the second has cells alone, and zeros behind.
+    // The same in two to four words, each but the last with its last bit among the cells, and zeros behind.
     #[inline(always)]
-    fn short_words(&self, first: usize, end: usize, count: usize, words: &mut [u64])
-        requires at_least { 64 + first ≤ end }
+    fn straight_words(&self, first: usize, end: usize, zone: usize, count: usize, words: &mut [u64])
+        requires order { first ≤ end }
         requires inside { end ≤ length (shown self.now) }
-        requires count { (2 ≤ count) × (count ≤ 3) }
         requires length { length words.old ≡ count }
-        requires room { end - first + 8 ≤ 64 * count }
-        requires least { 64 * count < end - first + 72 }
-        requires second { 3 ≤ count → 124 ≤ end - first }
-        ensures value { AreNumbersOf (between 4
+        requires straight { IsStraight count (end - first) zone }
+        requires some { 1 ≤ count }
+        ensures value { AreNumbersOf (between zone
             (map is_dark (slice_range (shown self.now) first end))) words.new }
         ensures length { length words.new ≡ length words.old }
     {
         match *self {
-            Shades::Colors(colors) => short_words(&colors[first..end], ZONE, count, words),
-            Shades::Bytes(bytes) => short_words(&bytes[first..end], ZONE, count, words),
+            Shades::Colors(colors) => straight_words(&colors[first..end], zone, count, words),
+            Shades::Bytes(bytes) => straight_words(&bytes[first..end], zone, count, words),
         }
     }
 }
 
 impl<'a> Grid<'a> {
-    // The bits of a row of cells in two or three words, with as many light ones around as mostly, in a straight line of
-    // steps; whether it is such a row.
+    // The bits of a row of cells in a straight line of steps, as most have them; whether it is such a row. Three words,
+    // as rows of a large symbol mostly have, are told apart.
     #[inline(always)]
-    fn short_bits(&self, row: usize, words: &mut [u64]) -> bool
+    fn straight_bits(&self, row: usize, words: &mut [u64]) -> bool
         requires length { length words.old ≡ (all_columns self.now + 63) / 64 }
         ensures length { length words.new ≡ length words.old }
         ensures value { IsTrue result → AreNumbersOf (cell_row self.now row) words.new }
     {
-        let from = row.wrapping_sub(ZONE);
-        if self.zone != ZONE || from >= self.rows {
+        let from = row.wrapping_sub(self.zone);
+        if from >= self.rows {
             return false;
         }
         let start = from * self.columns;
         let end = start + self.columns;
-        if 128 - ZONE <= self.columns && self.columns <= 192 - 2 * ZONE {
-            self.cells.short_words(start, end, 3, words);
+        if self.words == 3 {
+            self.cells.straight_words(start, end, self.zone, 3, words);
             return true;
         }
-        if 64 <= self.columns && self.columns <= 128 - 2 * ZONE {
-            self.cells.short_words(start, end, 2, words);
-            return true;
+        if self.words == 0 {
+            return false;
         }
-        false
+        self.cells
+            .straight_words(start, end, self.zone, self.words, words);
+        true
     }
 
     // The bits of any row. It stands apart, so that a call of those of most rows is a straight line.
@@ -357,7 +370,7 @@ impl<'a> Grid<'a> {
         ensures value { (i : ℕ) → i < length words.new → slice_index_or words.new i 0
             ≡ light_number (cell_row self.now row) (64 * i) 64 }
     {
-        if !self.short_bits(row, words) {
+        if !self.straight_bits(row, words) {
             self.any_bits(row, words);
         }
     }

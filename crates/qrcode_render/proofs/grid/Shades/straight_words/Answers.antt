@@ -5,12 +5,12 @@ use Rattle.qrcode_render.specs.Light.{AreNumbersOf, between}
 use Rattle.qrcode_render.specs.Shades.{shown}
 use Rattle.qrcode_render.specs.declared.grid.Shades.{Shades}
 use Rattle.qrcode_render.proofs.LightWords.{dark_part}
-use Rattle.qrcode_render.proofs.grid.Shades.short_words.Goals as goal
+use Rattle.qrcode_render.proofs.grid.Shades.straight_words.Goals as goal
 
 pub returns-in-Bytes-clause-value : goal.returns-in-Bytes-clause-value
 returns-in-Bytes-clause-value c =
     let first = c.args.first in
     let end = c.args.end in
-    subst (λ line. AreNumbersOf (between 4 line) c.short_words-in-Bytes.new.words)
+    subst (λ line. AreNumbersOf (between c.args.zone line) c.straight_words-in-Bytes.new.words)
     (dark_part c.in-Bytes.bytes.now first (end - first) ∙ ap (λ (s : Shades). map is_dark (slice_range (shown s) first end)) (sym c.in-Bytes.is))
-    c.short_words-in-Bytes.ensures.value
+    c.straight_words-in-Bytes.ensures.value
