@@ -7,6 +7,7 @@ pub mod Grids
 pub mod InlaidRows
 pub mod LightNumbers
 pub mod LightWords
+pub mod RowWords
 pub mod LineTexts
 pub mod Packed
 pub mod Palettes

@@ -298,3 +298,21 @@ number_at_end z line start word s there fits place end shows =
           ∙ ap (light_bit marks) (omega (arith, place))
       | inr past ↦ bit_at_above word 64 (s + k) fits past ∙ sym (ap (λ b. if b then 0 else 1) (get_or_past marks (there + k) true (omega (arith, size, end, place, past))))
     ])
+
+-- a word of ones behind all marks that may be set, so many of which have room in it, is the number of those from there on
+pub number_of_ones : (z : ℕ) (line : List Bool) (there s : ℕ) → there + 64 ≡ length line + 2 * z + s → z + length line ≤ there
+    → 18446744073709551615 / 2 ^ s ≡ light_number (between z line) there 64
+number_of_ones z line there s end behind =
+    let marks = between z line in
+    let size : length marks ≡ length line + 2 * z = length_between z line in
+    let all : length (replicate z false ++ line) ≤ there = omega (arith, behind, length-append (replicate z false) line, length-replicate z false) in
+    number_of_bits marks there (18446744073709551615 / 2 ^ s) (omega (arith, shr_le 18446744073709551615 s)) (λ k below.
+    ap (λ m. m % 2) (shr-shr 18446744073709551615 s k)
+    ∙ elim (cases_lt (s + k) 64) [
+      | inl inside ↦
+          bit_at_ones 64 (s + k) inside
+          ∙ sym (bit_at_ones 64 k below)
+          ∙ shown_between z line there 18446744073709551615 (shown_ones (replicate z false ++ line) there all) k below
+          ∙ same_inside marks (there + k) (omega (arith, size, end, inside))
+      | inr past ↦ bit_at_ones_above 64 (s + k) past ∙ sym (ap (λ b. if b then 0 else 1) (get_or_past marks (there + k) true (omega (arith, size, end, past))))
+    ])

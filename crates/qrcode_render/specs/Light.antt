@@ -31,3 +31,7 @@ AreNumbersOf marks words = (i : ℕ) → i < length words → slice_index_or wor
 -- a count of words is 0, or rows of so many columns between light ones have so many: two to four, each but the last with its last bit among the cells
 abbrev pub IsStraight : ℕ → ℕ → ℕ → Type 0
 IsStraight words columns zone = 1 ≤ words → (2 ≤ words) × (words ≤ 4) × (zone < 64) × (64 ≤ columns) × (columns + 2 * zone ≤ 64 * words) × (64 * words < columns + 2 * zone + 64) × (64 * words ≤ zone + columns + 64)
+
+-- a count of words is 0, or rows of so many columns between light ones have so many: three or four, of which the last alone has none of the cells between
+abbrev pub IsEdged : ℕ → ℕ → ℕ → Type 0
+IsEdged words columns zone = 1 ≤ words → (3 ≤ words) × (words ≤ 4) × (zone < 64) × (64 ≤ columns) × (columns + 2 * zone ≤ 64 * words) × (64 * words < columns + 2 * zone + 64) × (zone + columns + 64 ≤ 64 * words)

@@ -11,7 +11,7 @@ ghost use Rattle.qrcode_render.specs.Shades.{colors_of, shown};
 ghost use Rattle.qrcode_render.specs.Sides.{AreLightAtSides};
 
 use crate::marks::{Shade, is_dark, mark_bytes, mark_columns, mark_line};
-use light::straight_count;
+use light::{edged_count, straight_count};
 use qrcode_types::types::Color;
 use std::marker::Model;
 
@@ -182,12 +182,13 @@ pub struct Grid<'a> {
     across: u32,
     down: u32,
     words: usize, // how many hold the bits of a row of cells, where it is made in a straight line, else 0
+    edged: usize, // the same where the last has light cells alone
 }
 
 impl<'a> Model for Grid<'a> {
     ghost use Rattle.std.specs.Prelude.{◌≡◌, ◌+◌, ◌*◌, ◌^◌, ◌<◌, ◌≤◌, length};
     ghost use Rattle.qrcode_render.specs.Grid.{Grid, all_columns, all_rows};
-    ghost use Rattle.qrcode_render.specs.Light.{IsStraight};
+    ghost use Rattle.qrcode_render.specs.Light.{IsEdged, IsStraight};
     ghost use Rattle.qrcode_render.specs.Shades.{shown};
 
     ghost Value = { Grid };
@@ -206,7 +207,7 @@ impl<'a> Model for Grid<'a> {
         × (1 ≤ g.across) × (1 ≤ g.down)
         × ((g.columns + 2 * g.zone) * g.across < 2 ^ 32)
         × ((g.rows + 2 * g.zone) * g.down < 2 ^ 32)
-        × IsStraight g.words g.columns g.zone };
+        × IsStraight g.words g.columns g.zone × IsEdged g.edged g.columns g.zone };
 }
 
 impl<'a> Grid<'a> {
@@ -244,6 +245,7 @@ impl<'a> Grid<'a> {
             across,
             down,
             words: straight_count(columns as usize, zone as usize),
+            edged: edged_count(columns as usize, zone as usize),
         }
     }
 
@@ -273,6 +275,7 @@ impl<'a> Grid<'a> {
             across,
             down,
             words: straight_count(side as usize, zone as usize),
+            edged: edged_count(side as usize, zone as usize),
         }
     }
 
@@ -290,6 +293,7 @@ impl<'a> Grid<'a> {
             across,
             down: self.down,
             words: self.words,
+            edged: self.edged,
         }
     }
 

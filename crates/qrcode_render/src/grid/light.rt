@@ -4,7 +4,7 @@ ghost use Rattle.std.specs.Prelude.{◌≡◌, ℕ, ◌+◌, ◌-◌, ◌*◌, �
 ghost use Rattle.std.specs.List.{slice_range};
 ghost use Rattle.qrcode_types.specs.Colors.{is_dark};
 ghost use Rattle.qrcode_render.specs.Grid.{all_columns, all_rows, cell_row};
-ghost use Rattle.qrcode_render.specs.Light.{AreCut, AreLight, AreLightBut, AreNumbersOf, IsLightFrom, IsStraight, ShowsLight, between};
+ghost use Rattle.qrcode_render.specs.Light.{AreCut, AreLight, AreLightBut, AreNumbersOf, IsEdged, IsLightFrom, IsStraight, ShowsLight, between};
 ghost use Rattle.qrcode_render.specs.LightNumbers.{light_number};
 ghost use Rattle.qrcode_render.specs.Shades.{shown};
 
@@ -48,15 +48,19 @@ fn moved_down(light: u64, places: usize) -> u64
     !(!light >> places)
 }
 
-// Light cells alone. Three words, as rows mostly have, take no call.
+// Light cells alone. Three to six words, as rows mostly have, take no call.
 #[inline(always)]
 fn fill_light(words: &mut [u64])
     ensures { words.new ≡ replicate (length words.old) (2 ^ 64 - 1) }
 {
-    if words.len() == 3 {
+    let count = words.len();
+    if 3 <= count && count <= 6 {
         words[0] = u64::MAX;
         words[1] = u64::MAX;
         words[2] = u64::MAX;
+        words[count - 3] = u64::MAX;
+        words[count - 2] = u64::MAX;
+        words[count - 1] = u64::MAX;
     } else {
         words.fill(u64::MAX);
     }
@@ -102,7 +106,7 @@ fn end_words<S: Shade>(line: &[S], zone: usize, words: &mut [u64]) -> usize
 }
 
 // The words of 64 cells each from a first one up to an end, where all others are made.
-#[inline(never)]
+#[inline(always)]
 fn inner_words<S: Shade>(line: &[S], zone: usize, words: &mut [u64], start: usize, end: usize)
     requires zone { zone < 64 }
     requires start { 1 ≤ start }
@@ -122,7 +126,7 @@ fn inner_words<S: Shade>(line: &[S], zone: usize, words: &mut [u64], start: usiz
 
 // At least 64 cells behind fewer light ones, where the words behind are light. There are mostly no more than three words,
 // so that the second needs no loop.
-#[inline(never)]
+#[inline(always)]
 fn many_words<S: Shade>(line: &[S], zone: usize, words: &mut [u64])
     requires at_least { 64 ≤ length line.now }
     requires zone { zone < 64 }
@@ -161,9 +165,9 @@ fn near_words<S: Shade>(line: &[S], zone: usize, words: &mut [u64])
     }
 }
 
-// Cells behind light ones that fill words.
-#[inline(never)]
-fn far_words<S: Shade>(line: &[S], zone: usize, words: &mut [u64])
+// Cells between so many light ones at each side.
+#[inline(always)]
+fn light_words<S: Shade>(line: &[S], zone: usize, words: &mut [u64])
     requires some { 1 ≤ length words.old }
     requires room { length line.now + 2 * zone ≤ 64 * length words.old }
     requires fits { 64 * length words.old < 2 ^ 64 }
@@ -174,25 +178,8 @@ fn far_words<S: Shade>(line: &[S], zone: usize, words: &mut [u64])
     near_words(line, zone % 64, &mut words[zone / 64..]);
 }
 
-// Cells between so many light ones at each side, of which no word but the last can be behind all others.
-fn light_words<S: Shade>(line: &[S], zone: usize, words: &mut [u64])
-    requires some { 1 ≤ length words.old }
-    requires room { length line.now + 2 * zone ≤ 64 * length words.old }
-    requires least { 64 * length words.old < length line.now + 2 * zone + 64 }
-    requires fits { 64 * length words.old < 2 ^ 64 }
-    ensures value { AreLight (replicate zone false ++ map S.dark line.now) words.new }
-    ensures length { length words.new ≡ length words.old }
-{
-    if zone < 64 {
-        let last = words.len() - 1;
-        words[last] = u64::MAX;
-        near_words(line, zone, words);
-    } else {
-        far_words(line, zone, words);
-    }
-}
-
 // Clears the bits behind so many columns.
+#[inline(always)]
 fn cut(words: &mut [u64], columns: usize)
     requires length { length words.old ≡ (columns + 63) / 64 }
     requires some { 1 ≤ length words.old }
@@ -240,6 +227,19 @@ pub(super) fn straight_count(columns: usize, zone: usize) -> usize
     }
 }
 
+// The same where the last word has light cells alone.
+pub(super) fn edged_count(columns: usize, zone: usize) -> usize
+    requires { columns + 2 * zone < 2 ^ 32 }
+    ensures { IsEdged result columns zone }
+{
+    let count = (columns + 2 * zone + 63) / 64;
+    if zone < 64 && columns > 64 && count <= 4 && zone + columns + 64 <= 64 * count {
+        count
+    } else {
+        0
+    }
+}
+
 // The last word, where so many words have room for all cells.
 #[inline(always)]
 fn last_word<S: Shade>(line: &[S], zone: usize, count: usize) -> u64
@@ -265,23 +265,63 @@ fn straight_words<S: Shade>(line: &[S], zone: usize, count: usize, words: &mut [
 {
     let last = last_word(line, zone, count);
     words[0] = first_word(line, zone);
-    if count == 3 {
+    if count > 2 {
         words[1] = inner_word(line, zone, 1);
-    } else if count == 4 {
-        words[1] = inner_word(line, zone, 1);
-        words[2] = inner_word(line, zone, 2);
+        if count > 3 {
+            words[2] = inner_word(line, zone, 2);
+        }
     }
     words[count - 1] = last;
 }
 
+// The word before the last one, which has light cells alone.
+#[inline(always)]
+fn edge_word<S: Shade>(line: &[S], zone: usize, count: usize) -> u64
+    requires edged { IsEdged count (length line.now) zone }
+    requires some { 1 ≤ count }
+    ensures { result ≡ light_number (between zone (map S.dark line.now)) (64 * (count - 2)) 64 }
+{
+    let light = light_in(&line[line.len() - 64..]);
+    moved_down(light, (zone + line.len()).wrapping_neg() % 64)
+}
+
+// The last word, where it has light cells alone.
+#[inline(always)]
+fn light_word<S: Shade>(line: &[S], zone: usize, count: usize) -> u64
+    requires edged { IsEdged count (length line.now) zone }
+    requires some { 1 ≤ count }
+    ensures { result ≡ light_number (between zone (map S.dark line.now)) (64 * (count - 1)) 64 }
+{
+    let _ = count;
+    u64::MAX >> ((line.len() + 2 * zone).wrapping_neg() % 64)
+}
+
+// At least 64 cells between fewer light ones in three or four words, of which the last has light cells alone.
+#[inline(always)]
+fn edged_words<S: Shade>(line: &[S], zone: usize, count: usize, words: &mut [u64])
+    requires length { length words.old ≡ count }
+    requires edged { IsEdged count (length line.now) zone }
+    requires some { 1 ≤ count }
+    ensures value { AreNumbersOf (between zone (map S.dark line.now)) words.new }
+    ensures length { length words.new ≡ length words.old }
+{
+    let edge = edge_word(line, zone, count);
+    words[0] = first_word(line, zone);
+    if count == 4 {
+        words[1] = inner_word(line, zone, 1);
+    }
+    words[count - 2] = edge;
+    words[count - 1] = light_word(line, zone, count);
+}
+
 impl<'a> Shades<'a> {
     // Which of some cells are light, from a place on, behind so many light ones.
+    #[inline(always)]
     fn light_words(&self, first: usize, end: usize, zone: usize, words: &mut [u64])
         requires order { first ≤ end }
         requires inside { end ≤ length (shown self.now) }
         requires some { 1 ≤ length words.old }
         requires room { end - first + 2 * zone ≤ 64 * length words.old }
-        requires least { 64 * length words.old < end - first + 2 * zone + 64 }
         requires fits { 64 * length words.old < 2 ^ 64 }
         ensures value { AreLight (replicate zone false
             ++ map is_dark (slice_range (shown self.now) first end)) words.new }
@@ -310,11 +350,46 @@ impl<'a> Shades<'a> {
             Shades::Bytes(bytes) => straight_words(&bytes[first..end], zone, count, words),
         }
     }
+
+    // The same in three or four words, of which the last has light cells alone.
+    #[inline(always)]
+    fn edged_words(&self, first: usize, end: usize, zone: usize, count: usize, words: &mut [u64])
+        requires order { first ≤ end }
+        requires inside { end ≤ length (shown self.now) }
+        requires length { length words.old ≡ count }
+        requires edged { IsEdged count (end - first) zone }
+        requires some { 1 ≤ count }
+        ensures value { AreNumbersOf (between zone
+            (map is_dark (slice_range (shown self.now) first end))) words.new }
+        ensures length { length words.new ≡ length words.old }
+    {
+        match *self {
+            Shades::Colors(colors) => edged_words(&colors[first..end], zone, count, words),
+            Shades::Bytes(bytes) => edged_words(&bytes[first..end], zone, count, words),
+        }
+    }
 }
 
 impl<'a> Grid<'a> {
-    // The bits of a row of cells in a straight line of steps, as most have them; whether it is such a row. Three words,
-    // as rows of a large symbol mostly have, are told apart.
+    // The bits of a row of cells in three words, as rows of a large symbol mostly have, each but the last with its last
+    // bit among the cells; whether it is such a row.
+    #[inline(always)]
+    fn three_bits(&self, row: usize, words: &mut [u64]) -> bool
+        requires length { length words.old ≡ (all_columns self.now + 63) / 64 }
+        ensures length { length words.new ≡ length words.old }
+        ensures value { IsTrue result → AreNumbersOf (cell_row self.now row) words.new }
+    {
+        let from = row.wrapping_sub(self.zone);
+        if self.words != 3 || from >= self.rows {
+            return false;
+        }
+        let start = from * self.columns;
+        let end = start + self.columns;
+        self.cells.straight_words(start, end, self.zone, 3, words);
+        true
+    }
+
+    // The bits of a row of cells between fewer than 64 light ones in a straight line of steps; whether it is such a row.
     #[inline(always)]
     fn straight_bits(&self, row: usize, words: &mut [u64]) -> bool
         requires length { length words.old ≡ (all_columns self.now + 63) / 64 }
@@ -327,19 +402,35 @@ impl<'a> Grid<'a> {
         }
         let start = from * self.columns;
         let end = start + self.columns;
-        if self.words == 3 {
-            self.cells.straight_words(start, end, self.zone, 3, words);
+        if self.words > 0 {
+            self.cells
+                .straight_words(start, end, self.zone, self.words, words);
             return true;
         }
-        if self.words == 0 {
-            return false;
+        if self.edged > 0 {
+            self.cells
+                .edged_words(start, end, self.zone, self.edged, words);
+            return true;
         }
-        self.cells
-            .straight_words(start, end, self.zone, self.words, words);
-        true
+        false
     }
 
-    // The bits of any row. It stands apart, so that a call of those of most rows is a straight line.
+    // The bits of any row, where rows of cells are not made in three words. It stands apart, so that loops over rows
+    // stay short.
+    #[inline(never)]
+    fn other_bits(&self, row: usize, words: &mut [u64])
+        requires inside { row < all_rows self.now }
+        requires length { length words.old ≡ (all_columns self.now + 63) / 64 }
+        ensures length { length words.new ≡ length words.old }
+        ensures value { AreNumbersOf (cell_row self.now row) words.new }
+    {
+        if !self.straight_bits(row, words) {
+            self.any_bits(row, words);
+        }
+    }
+
+    // The bits of any row, by steps that serve each. It stands apart, so that a call of those of most rows is a straight
+    // line.
     #[inline(never)]
     fn any_bits(&self, row: usize, words: &mut [u64])
         requires inside { row < all_rows self.now }
@@ -370,7 +461,9 @@ impl<'a> Grid<'a> {
         ensures value { (i : ℕ) → i < length words.new → slice_index_or words.new i 0
             ≡ light_number (cell_row self.now row) (64 * i) 64 }
     {
-        if !self.straight_bits(row, words) {
+        if self.words != 3 {
+            self.other_bits(row, words);
+        } else if !self.three_bits(row, words) {
             self.any_bits(row, words);
         }
     }

@@ -1,16 +1,20 @@
-use Rattle.std.proofs.Common.{◌≡◌, ℕ, List, [], ◌∷◌, length, replicate, set, refl, arith}
+use Rattle.std.proofs.Common.{◌≡◌, ℕ, ◌-◌, ◌≤◌, List, [], ◌∷◌, length, replicate, set, refl, arith}
 use Rattle.qrcode_render.proofs.grid.light.fill_light.Goals as goal
 
--- three elements that are set are all
-all_three : (n : ℕ) (words : List ℕ) → length words ≡ 3 → set (set (set words 0 n) 1 n) 2 n ≡ replicate (length words) n
-all_three n [] e = absurd (omega (arith, e))
-all_three n (a ∷ []) e = absurd (omega (arith, e))
-all_three n (a ∷ b ∷ []) e = absurd (omega (arith, e))
-all_three n (a ∷ b ∷ c ∷ []) e = refl
-all_three n (a ∷ b ∷ c ∷ d ∷ words) e = absurd (omega (arith, e))
+-- three to six elements that are set, the first three and the last three, are all
+all_set : (n : ℕ) (words : List ℕ) → 3 ≤ length words → length words ≤ 6
+    → set (set (set (set (set (set words 0 n) 1 n) 2 n) (length words - 3) n) (length words - 2) n) (length words - 1) n ≡ replicate (length words) n
+all_set n [] least most = absurd (omega (arith, least))
+all_set n (a ∷ []) least most = absurd (omega (arith, least))
+all_set n (a ∷ b ∷ []) least most = absurd (omega (arith, least))
+all_set n (a ∷ b ∷ c ∷ []) least most = refl
+all_set n (a ∷ b ∷ c ∷ d ∷ []) least most = refl
+all_set n (a ∷ b ∷ c ∷ d ∷ e ∷ []) least most = refl
+all_set n (a ∷ b ∷ c ∷ d ∷ e ∷ f ∷ []) least most = refl
+all_set n (a ∷ b ∷ c ∷ d ∷ e ∷ f ∷ g ∷ words) least most = absurd (omega (arith, most))
 
-pub returns-then-words-eq3 : goal.returns-then-words-eq3
-returns-then-words-eq3 c = all_three 18446744073709551615 c.args.words.now c.if-words-eq3.true
+pub returns-then-count-le6 : goal.returns-then-count-le6
+returns-then-count-le6 c = all_set 18446744073709551615 c.args.words.now (omega arith) (omega arith)
 
-pub returns-else-words-eq3 : goal.returns-else-words-eq3
-returns-else-words-eq3 c = c.fill.ensures.after (λ y h. h)
+pub returns-else-count-ge3 : goal.returns-else-count-ge3
+returns-else-count-ge3 c = c.fill.ensures.after (λ y h. h)

@@ -6,7 +6,7 @@ use borrow.Rule.Slice.PartMut.{put_mid, same_len_mid}
 use Rattle.qrcode_render.specs.Light.{ShowsLight}
 use Rattle.qrcode_render.proofs.LightWords.{ones_before, shown_at, shown_behind, split_zone}
 use Rattle.qrcode_render.proofs.Palettes.{part_before, part_inside}
-use Rattle.qrcode_render.proofs.grid.light.far_words.Goals as goal
+use Rattle.qrcode_render.proofs.grid.light.light_words.Goals as goal
 
 pub returns-clause-value : goal.returns-clause-value
 returns-clause-value g c = λ i below.
