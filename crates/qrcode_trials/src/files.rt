@@ -10,7 +10,8 @@ use std::alloc::Global;
 use std::io;
 
 /// Prints the lines: of each pair of a version and a level that there is, with three pixels a module; of
-/// one symbol in other sizes and in other colours; of many bytes; and of the greatest sides and one pixel more.
+/// one symbol in other sizes and in other colours; of many bytes, and of these in other quiet zones; and of the
+/// greatest sides and one pixel more.
 pub fn print_all(rt: &HostRuntime, wants_bytes: bool) -> io::Result<bool> {
     for number in 1..=40 {
         print_levels(rt, "normal", Version::Normal(number), number, wants_bytes)?;
@@ -20,6 +21,7 @@ pub fn print_all(rt: &HostRuntime, wants_bytes: bool) -> io::Result<bool> {
     }
     print_others(rt, wants_bytes)?;
     print_long(rt, wants_bytes)?;
+    print_zones(rt, wants_bytes)?;
     print_great(rt, wants_bytes)?;
     Ok(true)
 }
@@ -163,16 +165,57 @@ fn print_long(rt: &HostRuntime, wants_bytes: bool) -> io::Result<()> {
     Ok(())
 }
 
-// The file of bytes by chance, at level M: the powers of 75 modulo 65,537, each modulo 256.
-fn file_of_chance(alloc: Global, count: usize, size: u16) -> QrResult<Vec<u8>> {
+// The modules of a quiet zone, and the pixels of each.
+static ZONES: [(u16, u16); 14] = [
+    (0, 1),
+    (0, 2),
+    (0, 3),
+    (0, 8),
+    (1, 2),
+    (10, 2),
+    (40, 1),
+    (40, 2),
+    (40, 3),
+    (40, 8),
+    (100, 2),
+    (100, 7),
+    (200, 1),
+    (424, 2),
+];
+
+// Prints the lines of bytes by chance in quiet zones of other widths.
+fn print_zones(rt: &HostRuntime, wants_bytes: bool) -> io::Result<()> {
+    for (zone, size) in &ZONES {
+        print!(rt; "zone-{zone}-{size}")?;
+        print_file(rt, file_in_zone(rt.alloc(), *zone, *size), wants_bytes)?;
+    }
+    Ok(())
+}
+
+// The symbol of bytes by chance, at level M: the powers of 75 modulo 65,537, each modulo 256.
+fn symbol_of_chance(alloc: Global, count: usize) -> QrResult<QrCode> {
     let mut bytes = Vec::new(alloc);
     let mut power = 1u32;
     for _ in 0..count {
         power = power.wrapping_mul(75) % 65537;
         bytes.push((power % 256) as u8)?;
     }
-    let code = QrCode::with_error_correction_level(alloc, &bytes, EcLevel::M)?;
+    QrCode::with_error_correction_level(alloc, &bytes, EcLevel::M)
+}
+
+// Its file, with so many pixels a module.
+fn file_of_chance(alloc: Global, count: usize, size: u16) -> QrResult<Vec<u8>> {
+    let code = symbol_of_chance(alloc, count)?;
     code.render::<Color>()
+        .module_size(u32::from(size))
+        .build(alloc)
+}
+
+// The file of the greatest such symbol, with a quiet zone of so many modules.
+fn file_in_zone(alloc: Global, zone: u16, size: u16) -> QrResult<Vec<u8>> {
+    let code = symbol_of_chance(alloc, 2331)?;
+    code.render::<Color>()
+        .quiet_zone_modules(u32::from(zone.min(4096)))
         .module_size(u32::from(size))
         .build(alloc)
 }
