@@ -11,10 +11,12 @@ ghost use Rattle.qrcode_render.specs.Shades.{colors_of, shown};
 ghost use Rattle.qrcode_render.specs.Sides.{AreLightAtSides};
 
 use crate::marks::{Shade, is_dark, mark_bytes, mark_columns, mark_line};
+use dark::{dark_in, dark_in_either, set_in, set_in_either};
 use light::{edged_count, straight_count};
 use qrcode_types::types::Color;
 use std::marker::Model;
 
+mod dark;
 mod inside;
 mod light;
 
@@ -26,56 +28,6 @@ const ZONE: usize = 4;
 
 // The marks of two rows of so many cells.
 const SIDE: usize = 2 * ZONE;
-
-// How many of a few cells are dark.
-fn dark_in(cells: &[Color]) -> u8
-    requires { length cells.now ≤ 255 }
-    ensures { result ≤ length cells.now }
-{
-    let mut count = 0u8;
-    for color in cells {
-        count += u8::from(is_dark(*color));
-    }
-    count
-}
-
-// How many of a few bytes are not zero.
-fn set_in(bytes: &[u8]) -> u8
-    requires { length bytes.now ≤ 255 }
-    ensures { result ≤ length bytes.now }
-{
-    let mut count = 0u8;
-    for byte in bytes {
-        count += u8::from(*byte != 0);
-    }
-    count
-}
-
-// How many columns of a few have a dark cell in one of two rows at least.
-fn dark_in_either(upper: &[Color], lower: &[Color]) -> u8
-    requires lower { length lower.now ≡ length upper.now }
-    requires at_most { length upper.now ≤ 255 }
-    ensures { result ≤ length upper.now }
-{
-    let mut count = 0u8;
-    for i in 0..upper.len() {
-        count += u8::from(is_dark(upper[i]) | is_dark(lower[i]));
-    }
-    count
-}
-
-// The same of bytes that are not zero.
-fn set_in_either(upper: &[u8], lower: &[u8]) -> u8
-    requires lower { length lower.now ≡ length upper.now }
-    requires at_most { length upper.now ≤ 255 }
-    ensures { result ≤ length upper.now }
-{
-    let mut count = 0u8;
-    for i in 0..upper.len() {
-        count += u8::from((upper[i] | lower[i]) != 0);
-    }
-    count
-}
 
 // Cells as colours, or as bytes, of which those that are not zero are dark.
 #[derive(Copy, Clone)]
