@@ -4,6 +4,7 @@ pub mod Beginnings
 pub mod FilledRuns
 pub mod Folds
 pub mod Grids
+pub mod GroupNumbers
 pub mod InlaidRows
 pub mod LightNumbers
 pub mod LightWords

@@ -18,7 +18,7 @@ use Rattle.qrcode_render.specs.Shades.{colors_of}
 use Rattle.qrcode_render.proofs.LightNumbers.{light_bit_small, light_small}
 
 -- the bits of a number that is cut
-cut_bit : (n w k : ℕ) → k < w → bit_at (n % 2 ^ w) k ≡ bit_at n k
+pub cut_bit : (n w k : ℕ) → k < w → bit_at (n % 2 ^ w) k ≡ bit_at n k
 cut_bit n w k h = sym (bit_at_cat_low (n / 2 ^ w) w (n % 2 ^ w) k h) ∙ ap (λ m. bit_at m k) (shr_split n w)
 
 -- the bits of a number that stands higher
@@ -91,7 +91,7 @@ shown_behind n marks start there word is shows k below =
     shows k below ∙ sym (moved_bit n (start + k) marks) ∙ ap (around_bit (replicate n false ++ marks)) (omega (arith, is))
 
 -- the bits of a number of marks
-number_bits : (marks : List Bool) (start n k : ℕ) → k < n → bit_at (light_number marks start n) k ≡ light_bit marks (start + k)
+pub number_bits : (marks : List Bool) (start n k : ℕ) → k < n → bit_at (light_number marks start n) k ≡ light_bit marks (start + k)
 unfolding light_number
 number_bits marks start zero k h = absurd (omega arith)
 number_bits marks start (suc n) k h =

@@ -35,3 +35,11 @@ IsStraight words columns zone = 1 ≤ words → (2 ≤ words) × (words ≤ 4) �
 -- a count of words is 0, or rows of so many columns between light ones have so many: three or four, of which the last alone has none of the cells between
 abbrev pub IsEdged : ℕ → ℕ → ℕ → Type 0
 IsEdged words columns zone = 1 ≤ words → (3 ≤ words) × (words ≤ 4) × (zone < 64) × (64 ≤ columns) × (columns + 2 * zone ≤ 64 * words) × (64 * words < columns + 2 * zone + 64) × (zone + columns + 64 ≤ 64 * words)
+
+-- the first numbers, so many, have the bits of eight marks each, from a place on
+abbrev pub ShowEights : List Bool → ℕ → List ℕ → ℕ → Type 0
+ShowEights marks start numbers count = (k j : ℕ) → k < count → j < 8 → bit_at (slice_index_or numbers k 0) j ≡ around_bit marks (start + 8 * k + j)
+
+-- the first numbers, so many, are those of eight marks each, from a group of eight on, and behind the end they have no bits
+abbrev pub AreEights : List Bool → ℕ → List ℕ → ℕ → Type 0
+AreEights marks first numbers count = (k : ℕ) → k < count → slice_index_or numbers k 0 ≡ light_number marks (8 * (first + k)) 8

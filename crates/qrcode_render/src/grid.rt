@@ -19,6 +19,7 @@ use std::marker::Model;
 mod dark;
 mod inside;
 mod light;
+mod numbers;
 
 // Cells whose dark ones a byte counts: the most that are seven times the 32 that are taken at once.
 const COUNTED: usize = 224;
@@ -256,6 +257,13 @@ impl<'a> Grid<'a> {
         ensures fits { (result.0 < 2 ^ 32) × (result.1 < 2 ^ 32) }
     {
         (self.columns + 2 * self.zone, self.rows + 2 * self.zone)
+    }
+
+    /// The light cells around at each side.
+    pub fn zone(&self) -> usize
+        ensures { result ≡ self.now.zone }
+    {
+        self.zone
     }
 
     /// The pixels of a cell across and down, each at least 1.

@@ -15,7 +15,7 @@ use std::simd::prelude::*;
 // Which of up to 64 cells are light, the first in the lowest bit, and whatever is behind them. A byte for each cell first,
 // so that LLVM compares sixteen at a time.
 #[inline(always)]
-fn light_in<S: Shade>(cells: &[S]) -> u64
+pub(super) fn light_in<S: Shade>(cells: &[S]) -> u64
     requires { length cells.now ≤ 64 }
     ensures { ShowsLight (map S.dark cells.now) 0 result }
 {
