@@ -1,4 +1,4 @@
-use Rattle.std.proofs.Common.{◌≡◌, ℕ, ◌+◌, ◌-◌, ◌<◌, map, slice_index_or, refl, ap, ap₂, ◌∙◌, arith}
+use Rattle.std.proofs.Common.{◌≡◌, ℕ, ◌+◌, ◌-◌, ◌<◌, map, slice_index_or, refl, ap, ap₂, subst, ◌∙◌, arith}
 use Rattle.qrcode_packed.specs.Rows.{is_set, inside}
 use Rattle.qrcode_packed.proofs.RowLists.{read}
 use Rattle.qrcode_penalty.specs.Penalty.{sum_below, line_penalty, dark_count_in}
@@ -39,3 +39,10 @@ loop-j-preserved g c =
       cost_at_most = omega (arith, l.cost_at_most, c.row_and_column_penalty-lines.ensures.at_most, c.block_penalty.ensures.at_most);
       dark_at_most = omega (arith, l.dark_at_most, c.dark_count.ensures.at_most);
     }
+
+pub returns-clause-cost : goal.returns-clause-cost
+returns-clause-cost g c = λ dark shows.
+    let w = c.args.width in
+    let n = c.args.before in
+    let IsCost : ℕ → Type 0 = λ k. c.loop-j.counts.cost ≡ sum_below k (λ j. cost_behind w (inside w dark) (n - 1 + j)) in
+    subst IsCost (omega (arith, c.loop-j-test.false, c.loop-j.auto.j-end, c.saturating_sub-j-end.ensures)) (c.loop-j.invariant.cost dark shows)

@@ -20,3 +20,9 @@ loop-j-preserved g c =
     let r = c.with_row-before.result in
     let P : ℕ → Type 0 = λ n. AreRowsBefore (g.L.PackedRow.room / 2) c.args.count c.args.width c.args.k (map g.L.PackedRow.bits c.args.strips.now) n r.last.places r.last.edges r.counts.dark r.counts.mixed in
     subst P (omega arith) c.with_row-before.ensures
+
+pub returns-clause-mixed : goal.returns-clause-mixed
+returns-clause-mixed g c = grind arith
+
+pub returns-clause-dark : goal.returns-clause-dark
+returns-clause-dark g c = grind arith

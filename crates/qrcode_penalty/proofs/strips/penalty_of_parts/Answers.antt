@@ -1,6 +1,7 @@
 use Rattle.std.proofs.Common.{◌≡◌, ℕ, ◌+◌, ◌-◌, ◌*◌, ◌/◌, ◌≤◌, map, ap, ap₂, subst, sym, ◌∙◌, arith}
 use Rattle.std.proofs.lemmas.Nat.{mul-le}
 use Rattle.std.proofs.Math.Nat.{div-mul-le_self}
+use Rattle.std.proofs.lemmas.Grind.{common_steps}
 use Rattle.qrcode_packed.specs.Rows.{inside}
 use Rattle.qrcode_packed.specs.Strips.{ShowsLastLines}
 use Rattle.qrcode_penalty.specs.Penalty.{sum_below, dark_count, dark_count_in, normal_penalty}
@@ -99,3 +100,15 @@ returns-clause-at_most g c =
       c.saturating_sub-2.ensures,
       c.abs_diff-balance.ensures,
     )
+
+pub nonzero_div-counts : goal.nonzero_div-counts
+nonzero_div-counts g c = grind (arith, common_steps)
+
+pub overflow_mul-light-2 : goal.overflow_mul-light-2
+overflow_mul-light-2 g c = grind arith
+
+pub count_last-last-requires-clause-some : goal.count_last-last-requires-clause-some
+count_last-last-requires-clause-some g c = grind arith
+
+pub overflow_mul-light : goal.overflow_mul-light
+overflow_mul-light g c = grind arith

@@ -28,3 +28,6 @@ loop-k-preserved g c =
       mixed_at_most = omega (arith, e (64 * (w - 1)), l.mixed_at_most, c.count_rows-counts.ensures.mixed_at_most);
       dark_at_most = omega (arith, e (64 * w), l.dark_at_most, c.count_rows-counts.ensures.dark_at_most);
     }
+
+pub returns-clause-mixed : goal.returns-clause-mixed
+returns-clause-mixed g c = grind arith

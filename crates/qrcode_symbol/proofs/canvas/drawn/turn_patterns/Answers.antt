@@ -48,6 +48,21 @@ module _ (g : Over) (c : goal.After-put-2 g) where
       let bits = g.R.PackedRow.bits in
       map-set bits (slice_set c.args.rows.now far c.put.result) 8 c.put-2.result ∙ ap (λ (l : List ℕ). slice_set l 8 (bits c.put-2.result)) (map-set bits c.args.rows.now far c.put.result)
 
+pub overflow_sub-far : goal.overflow_sub-far
+overflow_sub-far g c = omega (arith, c.side-far.ensures.value, normal_side c.args.version c.requires.valid c.requires.normal)
+
+pub bounds-rows-far : goal.bounds-rows-far
+bounds-rows-far g c = omega (arith, length-map c.args.rows.now g.R.PackedRow.bits, c.requires.square.length, c.side-far.ensures.value, normal_side c.args.version c.requires.valid c.requires.normal)
+
+pub bounds-rows-far-2 : goal.bounds-rows-far-2
+bounds-rows-far-2 g c = omega (arith, length-map c.args.rows.now g.R.PackedRow.bits, c.requires.square.length, c.side-far.ensures.value, normal_side c.args.version c.requires.valid c.requires.normal)
+
+pub bounds-rows-8 : goal.bounds-rows-8
+bounds-rows-8 g c = omega (arith, length-set c.args.rows.now (c.side-far.result - 8) c.put.result, length-map c.args.rows.now g.R.PackedRow.bits, c.requires.square.length, normal_side c.args.version c.requires.valid c.requires.normal)
+
+pub bounds-rows-8-2 : goal.bounds-rows-8-2
+bounds-rows-8-2 g c = omega (arith, length-set c.args.rows.now (c.side-far.result - 8) c.put.result, length-map c.args.rows.now g.R.PackedRow.bits, c.requires.square.length, normal_side c.args.version c.requires.valid c.requires.normal)
+
 pub returns-clause-turned : goal.returns-clause-turned
 returns-clause-turned g c = λ x y xl yl.
     let bits = g.R.PackedRow.bits in

@@ -4,6 +4,18 @@ use Rattle.qrcode_packed.proofs.RowLists.{read}
 use Rattle.qrcode_symbol.proofs.PackedPatterns.{line_drawn}
 use Rattle.qrcode_symbol.proofs.canvas.packed_patterns.draw_line.Goals as goal
 
+pub bounds-dark-y : goal.bounds-dark-y
+bounds-dark-y g c = omega (arith, length-map c.args.dark.now g.R.PackedRow.bits, c.requires.begun.dark_length, c.requires.row)
+
+pub bounds-dark-y-2 : goal.bounds-dark-y-2
+bounds-dark-y-2 g c = omega (arith, length-map c.args.dark.now g.R.PackedRow.bits, c.requires.begun.dark_length, c.requires.row)
+
+pub bounds-free-y : goal.bounds-free-y
+bounds-free-y g c = omega (arith, length-map c.args.free.now g.R.PackedRow.bits, c.requires.begun.free_length, c.requires.row)
+
+pub bounds-free-y-2 : goal.bounds-free-y-2
+bounds-free-y-2 g c = omega (arith, length-map c.args.free.now g.R.PackedRow.bits, c.requires.begun.free_length, c.requires.row)
+
 pub returns : goal.returns
 returns g c =
     let bits = g.R.PackedRow.bits in
