@@ -8,6 +8,7 @@ use Rattle.qrcode_types.specs.declared.types.QrError.{QrError}
 use Rattle.qrcode_types.specs.declared.types.QrError.TheVariants.{DataTooLong, InvalidVersion, UnsupportedCharacterSet, OutOfMemory}
 use Rattle.qrcode_bits.specs.BitList.{BitList}
 use Rattle.qrcode_bits.specs.Choice.{Holds, IfCause, IsRefusedIn}
+use Rattle.qrcode_bits.specs.Chosen.{IsMeasured, IsHeldBy}
 use Rattle.qrcode_bits.specs.Cuts.{IsCutIn, FitsIn}
 use Rattle.qrcode_bits.specs.Encoded.{IsChosenList, IsListFrom}
 use Rattle.qrcode_bits.specs.Manners.{modes_of, has_front, FitsAs, HoldsAs, rank}
@@ -16,6 +17,7 @@ use Rattle.qrcode_bits.specs.Segments.{total_cost}
 use Rattle.qrcode_bits.specs.Spelling.{SpellsOnly}
 use Rattle.qrcode_bits.specs.Written.{written, pieces_of, terminated}
 use Rattle.qrcode_bits.specs.declared.optimize.Segment.{Segment}
+use Rattle.qrcode_bits.specs.declared.bits.choice.Chosen.{Chosen}
 use Rattle.qrcode_bits.specs.declared.bits.manner.Manner.{Manner}
 use Rattle.qrcode_bits.specs.declared.bits.manner.Manner.TheVariants.{Bytes}
 use Rattle.qrcode_bits.proofs.Bands.{normal_number}
@@ -24,6 +26,18 @@ use Rattle.qrcode_bits.proofs.Endings.{spells_only_terminated}
 use Rattle.qrcode_bits.proofs.LeastCuts.{in_all, least_in_all}
 use Rattle.qrcode_bits.proofs.Manners.{normal_at, valid_of}
 use Rattle.qrcode_bits.proofs.Shortness.{fitting_short}
+
+-- what was measured is held by a version with the level, the bits in front and the room
+pub held_by : (m : Manner) (v : Version) (l : EcLevel) (bytes : List ℕ) (chosen : Chosen) → IsMeasured m v bytes chosen →
+    IsTrue (has_level v l) → IsTrue (has_front v m) → chosen.used ≤ capacity v l → IsHeldBy m l bytes chosen
+held_by m v l bytes chosen measured level front room =
+    let is = sym measured.version in
+    record {
+      exists = subst (λ w. IsTrue (has_level w l)) is level;
+      front_exists = subst (λ w. IsTrue (has_front w m)) is front;
+      measured = subst (λ w. IsMeasured m w bytes chosen) is measured;
+      room = subst (λ w. chosen.used ≤ capacity w l) is room;
+    }
 
 -- what holds data in any manner has room for a cut of it
 pub fits_any : (m : Manner) (v : Version) (bytes : List ℕ) (most : ℕ) → FitsAs m v bytes most → FitsIn v bytes most

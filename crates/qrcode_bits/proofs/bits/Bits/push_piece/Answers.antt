@@ -1,4 +1,5 @@
-use Rattle.std.proofs.Common.{◌≡◌, ◌≤◌, ◌++◌, None, refl, length, sym, ap, subst, ◌∙◌}
+use Rattle.std.proofs.Common.{◌≡◌, ◌≤◌, ◌++◌, None, refl, length, sym, ap, subst, ◌∙◌, arith}
+use Rattle.std.proofs.lemmas.Grind.{common_steps}
 use Rattle.qrcode_types.specs.declared.types.QrError.TheVariants.{InvalidCharacter}
 use Rattle.qrcode_bits.specs.BitList.{BitList}
 use Rattle.qrcode_bits.specs.Pushes.{with_bits}
@@ -43,3 +44,6 @@ returns c =
     let new : c.push_written.new.stream.bits ≡ c.self.inside.stream.bits ++ written_piece c.self.inside.version p = c.push_written.ensures ∙ ap (λ b. b ++ written_piece c.self.inside.version p) c.in_ok-reserve.ensures.bits in
     pushes _ _ _ _ _ (changed _ _ _ _ (good_bytes c.args.self.now.version (length c.args.self.now.bits) p (counted k) (sym c.if-not-may_write.ensures))
     (ap (list_of c.self.inside.version) new ∙ ap (λ l. with_bits l (written_piece l.version p)) c.self.view_is))
+
+pub reserve-requires : goal.reserve-requires
+reserve-requires c = grind (arith, common_steps)

@@ -2,7 +2,7 @@ use Rattle.std.proofs.Common.{◌≡◌, arith, refl, sym, ◌∙◌, inl, inr, 
 use Rattle.qrcode_types.specs.declared.types.QrError.{QrError}
 use Rattle.qrcode_types.specs.declared.types.QrError.TheVariants.{DataTooLong, OutOfMemory}
 use Rattle.qrcode_bits.specs.Choice.{IsRefusedIn}
-use Rattle.qrcode_bits.proofs.Automatic.{held_short, IsRefusedBehind, refused_behind, refused_search}
+use Rattle.qrcode_bits.proofs.Automatic.{held_short, held_by, IsRefusedBehind, refused_behind, refused_search}
 use Rattle.qrcode_bits.proofs.Given.{if_ok, if_err}
 use Rattle.qrcode_bits.proofs.Several.{handed_on}
 use Rattle.qrcode_bits.proofs.bits.automatic.encode_in.Goals as goal
@@ -48,6 +48,14 @@ returns-then-chosen-room-clause-causes c =
         (λ holds. (let fits = holds.room in omega (arith, c.if-chosen-room.true, c.in-Some.ensures.value, measured.used, measured.least.least fits.0 fits.1.0, fits.1.1)), refl),
       )),
     ))
+
+pub encode_chosen-requires : goal.encode_chosen-requires
+encode_chosen-requires c =
+    record {
+      held =
+          held_by c.args.manner c.args.version c.args.ec_level c.args.bytes.now c.in_ok-chosen.chosen c.in_ok-chosen.ensures.measured
+          (sym c.in-Some.ensures.exists) (sym c.has_front.ensures ∙ c.if-not-has_front.false) (omega (arith, c.if-chosen-room.false, c.in-Some.ensures.value));
+    }
 
 pub returns-clause-version : goal.returns-clause-version
 returns-clause-version c = if_ok c.encode_chosen.result (λ bits is. is ∙ c.in_ok-chosen.ensures.measured.version) c.encode_chosen.ensures.version

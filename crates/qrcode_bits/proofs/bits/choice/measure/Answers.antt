@@ -1,4 +1,5 @@
 use Rattle.std.proofs.Common.{◌*◌, ◌≤◌, length, arith, subst}
+use Rattle.std.proofs.lemmas.Grind.{common_steps}
 use Rattle.qrcode_bits.specs.Segments.{total_cost}
 use Rattle.qrcode_bits.specs.Cuts.{IsLeastCutIn}
 use Rattle.qrcode_bits.specs.Manners.{modes_of}
@@ -29,3 +30,6 @@ pub overflow_add-used : goal.overflow_add-used
 overflow_add-used c =
     let k = (goal.at.overflow_add-used c).In_ok-segments in
     omega (arith, short k, c.requires.length_at_most, c.front_length.ensures.at_most, c.encoded_len.ensures)
+
+pub returns-in_err-segments-clause-refusals : goal.returns-in_err-segments-clause-refusals
+returns-in_err-segments-clause-refusals c = grind (arith, common_steps)

@@ -1,5 +1,6 @@
 use Rattle.std.proofs.Common.{rules, ◌≡◌, ◌++◌, length, ap₂, ◌∙◌, arith, append_assoc}
 use Rattle.std.proofs.lemmas.List.{take-append-drop}
+use Rattle.std.proofs.lemmas.Grind.{common_steps}
 use Rattle.qrcode_bits.proofs.DigitGroups.{numeric_bits-append, digits_behind}
 use Rattle.qrcode_bits.proofs.bits.written.push_digits.Goals as goal
 
@@ -16,3 +17,6 @@ loop-twelve-preserved c =
       bits = rw (c.push_long_number.ensures.bits, c.twelve_digits_number.ensures.bits, append_assoc, ← numeric_bits-append 4 front more long, whole) c.loop-twelve.invariant.bits;
       room = omega (arith, split.2);
     }
+
+pub twelve_digits_number-requires : goal.twelve_digits_number-requires
+twelve_digits_number-requires c = grind (arith, common_steps)

@@ -1,6 +1,7 @@
-use Rattle.std.proofs.Common.{◌≡◌, ℕ, ◌+◌, ◌≤◌, false, List, length, drop, get_or, sym, ap, ◌∙◌, inl, inr}
+use Rattle.std.proofs.Common.{◌≡◌, ℕ, ◌+◌, ◌≤◌, false, List, length, drop, get_or, sym, ap, ◌∙◌, inl, inr, arith}
 use Rattle.std.proofs.lemmas.Bool.{cases_Bool, cond-false}
 use Rattle.std.proofs.lemmas.List.{drop_more, at_drop_all}
+use Rattle.std.proofs.lemmas.Grind.{common_steps}
 use Rattle.qrcode_types.specs.Characters.{is_kanji}
 use Rattle.qrcode_bits.specs.Runs.{single_kind}
 use Rattle.qrcode_bits.specs.Tokens.{kind_at, first_byte}
@@ -34,3 +35,6 @@ returns-else-place-bytes c =
           single b (first_byte (drop (place + 1) bytes)) (ap (λ (rest : List ℕ). is_kanji b (first_byte rest)) (drop_more bytes (place + 1) 0 w.if-place-bytes.true) ∙ sym w.is_kanji.ensures ∙ w.if-is_kanji.false)
       | else-place-bytes-via-else-place-bytes w ↦ single b (first_byte (drop (place + 1) bytes)) (at_end bytes b (place + 1) w.if-place-bytes.false)
     ]
+
+pub returns-then-is_kanji : goal.returns-then-is_kanji
+returns-then-is_kanji c = grind (arith, common_steps)

@@ -1,5 +1,6 @@
 use Rattle.std.proofs.Common.{◌≡◌, ◌-◌, drop, sym, ap, ap₂, ◌∙◌, arith, subst}
 use Rattle.std.proofs.lemmas.List.{length-drop}
+use Rattle.std.proofs.lemmas.Grind.{common_steps}
 use Rattle.qrcode_bits.specs.LeastBits.{IsSmall, step, costs_of, past_end}
 use Rattle.qrcode_bits.proofs.LeastCosts.{rest_small, counted_back, filled_back}
 use Rattle.qrcode_bits.proofs.optimize.least.least_starts.Goals as goal
@@ -24,3 +25,6 @@ loop-i-preserved c =
       done = λ k from to. filled_back c.loop-i.starts.items i c.with_byte_before-costs.result.start past_end (λ k. (costs_of h (drop k bytes)).start) (omega arith) (omega (arith, c.loop-i.invariant.count))
           (ap (λ r. r.start) rest) k from (λ above. c.loop-i.invariant.done k above to);
     }
+
+pub loop-i-init : goal.loop-i-init
+loop-i-init c = grind (arith, common_steps)
