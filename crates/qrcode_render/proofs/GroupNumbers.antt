@@ -1,12 +1,13 @@
 -- Numbers of groups of eight marks.
-use Rattle.std.proofs.Common.{◌≡◌, ℕ, zero, suc, ◌+◌, ◌-◌, ◌*◌, ◌/◌, ◌%◌, ◌^◌, ◌<◌, ◌≤◌, ◌⊎◌, inl, inr, Bool, true, false, List, [], ◌∷◌, length, map, take, drop, get_or, set, bit_and, max, min, refl, ap, ◌∙◌, sym, arith, length-drop, if◌then◌else◌}
+use Rattle.std.proofs.Common.{◌≡◌, ℕ, zero, suc, ◌+◌, ◌-◌, ◌*◌, ◌/◌, ◌%◌, ◌^◌, ◌<◌, ◌≤◌, ◌⊎◌, inl, inr, Bool, true, false, List, [], ◌∷◌, length, map, take, drop, get_or, set, bit_and, bit_or, max, min, refl, ap, ap₂, ◌∙◌, sym, subst, arith, length-drop, if◌then◌else◌}
 use Rattle.std.specs.List.{slice_range}
 use Rattle.std.proofs.Math.ListN.{length-take}
-use Rattle.std.specs.Int.{w16, bit_at, to_le_bytes}
+use Rattle.std.proofs.Math.Nat.{mul-le-mul_right}
+use Rattle.std.specs.Int.{w8, w16, bit_at, from_le_bytes, to_le_bytes}
 use Rattle.std.proofs.lemmas.Bool.{cases_lt, cases_eq}
-use Rattle.std.proofs.lemmas.Nat.{shr-shr}
-use Rattle.std.proofs.lemmas.Nat.Bits.{bit_at_and, bit_at-lt, bit_at_ones, bit_at_ones_above, same_from_bits_below}
-use Rattle.std.proofs.lemmas.List.{get_or-take, get_or-drop, take-map, drop-map, get_or-set_same, get_or-set_other, length-set, get_or_past, get_or_default}
+use Rattle.std.proofs.lemmas.Nat.{shr-shr, shr_le}
+use Rattle.std.proofs.lemmas.Nat.Bits.{bit_at_and, bit_at_or, bit_at_not, bit_at_cat_low, bit_at_cat_high, bit_at-lt, bit_at_ones, bit_at_ones_above, same_from_bits_below}
+use Rattle.std.proofs.lemmas.List.{get_or-map, get_or-take, get_or-drop, take-map, drop-map, get_or-set_same, get_or-set_other, length-set, get_or_past, get_or_default}
 use Rattle.std.proofs.lemmas.List.FromFn.{get_or-map-range_with_len, length-map-range_with_len}
 use borrow.Rule.Slice.PartMut.{put_mid}
 use Rattle.qrcode_types.specs.Colors.{is_dark}
@@ -14,11 +15,11 @@ use Rattle.qrcode_types.specs.declared.types.Color.{Color}
 use Rattle.qrcode_types.specs.declared.types.Color.TheVariants.{Light}
 use Rattle.qrcode_render.specs.Bitmap.{marked_line}
 use Rattle.qrcode_render.specs.Grid.{Grid, all_columns, cell_row, is_dark_cell}
-use Rattle.qrcode_render.specs.Light.{around_bit, AreEights, ShowEights}
+use Rattle.qrcode_render.specs.Light.{around_bit, AllLight, AreEights, HasOnes, ShowEights, ShowWithin}
 use Rattle.qrcode_render.specs.LightNumbers.{light_bit, light_number}
 use Rattle.qrcode_render.proofs.Grids.{cell_inside, cell_outside}
 use Rattle.qrcode_render.proofs.LightNumbers.{light_small}
-use Rattle.qrcode_render.proofs.LightWords.{cut_bit, number_bits}
+use Rattle.qrcode_render.proofs.LightWords.{cut_bit, high_bit, no_low_bit, number_bits}
 use Rattle.qrcode_render.proofs.Palettes.{part_before, part_inside}
 
 -- the bit of a mark in a part of some marks
@@ -58,37 +59,33 @@ inside_bit : (marks : List Bool) (x : ℕ) → x < length marks → around_bit m
 inside_bit marks x inside = ap (λ b. if b then 0 else 1) (get_or_default marks x false true inside)
 
 -- a byte whose bits behind the end are cleared
-cut_byte : (marks : List Bool) (start byte s j : ℕ) → j < 8 → start + 8 ≤ length marks + s → (1 ≤ s → length marks + s ≤ start + 8) → bit_at byte j ≡ around_bit marks (start + j)
-    → bit_at (bit_and byte (255 / 2 ^ s)) j ≡ light_bit marks (start + j)
-cut_byte marks start byte s j low end past shows =
-    let of_mask : bit_at (255 / 2 ^ s) j ≡ bit_at 255 (s + j) = ap (λ m. m % 2) (shr-shr 255 s j) in
-    bit_at_and byte (255 / 2 ^ s) j
-    ∙ elim (cases_lt (s + j) 8) [
+cut_byte : (marks : List Bool) (start byte kept j : ℕ) → j < 8 → HasOnes kept 8 0 (length marks - start) → bit_at byte j ≡ around_bit marks (start + j) → bit_at (bit_and byte kept) j ≡ light_bit marks (start + j)
+cut_byte marks start byte kept j low ones shows =
+    bit_at_and byte kept j
+    ∙ elim (cases_lt (start + j) (length marks)) [
       | inl inside ↦
-          omega (arith, of_mask, bit_at_ones 8 (s + j) inside, bit_at-lt byte j)
-          ∙ shows
-          ∙ inside_bit marks (start + j) (omega (arith, inside, end))
-      | inr behind ↦
-          let all : length marks ≤ start + j = omega (arith, behind, low, past (omega (arith, behind, low))) in
-          omega (arith, of_mask, bit_at_ones_above 8 (s + j) behind)
-          ∙ sym (ap (λ b. if b then 0 else 1) (get_or_past marks (start + j) true all))
+          let is : bit_at kept j ≡ 1 = (ones j low).0 (omega arith) (omega (arith, inside)) in
+          omega (arith, is, bit_at-lt byte j) ∙ shows ∙ inside_bit marks (start + j) inside
+      | inr past ↦
+          let is : bit_at kept j ≡ 0 = (ones j low).1 (inr (omega (arith, past))) in
+          omega (arith, is) ∙ sym (ap (λ b. if b then 0 else 1) (get_or_past marks (start + j) true past))
     ]
 
 -- numbers that show marks, of which the last one is cut, are their numbers
-pub cut_shown : (marks : List Bool) (first : ℕ) (numbers : List ℕ) (last s : ℕ) → length numbers ≡ last + 1 → s < 8 → 8 * (first + length numbers) ≤ length marks + s → (1 ≤ s → length marks + s ≤ 8 * (first + length numbers))
-    → ((i : ℕ) → get_or (set numbers last (bit_and (get_or numbers last 0) (255 / 2 ^ s))) i 0 < 256) → ShowEights marks (8 * first) numbers (length numbers)
-    → AreEights marks first (set numbers last (bit_and (get_or numbers last 0) (255 / 2 ^ s))) (length numbers)
-cut_shown marks first numbers last s size few end past fits shows k below =
-    let byte = bit_and (get_or numbers last 0) (255 / 2 ^ s) in
+pub cut_shown : (marks : List Bool) (first : ℕ) (numbers : List ℕ) (last kept : ℕ) → length numbers ≡ last + 1 → 8 * (first + length numbers) < length marks + 8 → HasOnes kept 8 0 (length marks + 8 - 8 * (first + length numbers))
+    → ((i : ℕ) → get_or (set numbers last (bit_and (get_or numbers last 0) kept)) i 0 < 256) → ShowEights marks (8 * first) numbers (length numbers)
+    → AreEights marks first (set numbers last (bit_and (get_or numbers last 0) kept)) (length numbers)
+cut_shown marks first numbers last kept size end ones fits shows k below =
+    let byte = bit_and (get_or numbers last 0) kept in
     elim (cases_eq k last) [
       | inl same ↦
-          let there : 8 * (first + k) + 8 ≡ 8 * (first + length numbers) = omega (arith, same, size) in
+          let rest : length marks + 8 - 8 * (first + length numbers) ≡ length marks - 8 * (first + k) = omega (arith, same, size) in
           let is : get_or (set numbers last byte) last 0 ≡ byte = get_or-set_same numbers last byte 0 (omega (arith, size)) in
           ap (λ i. get_or (set numbers last byte) i 0) same
           ∙ is
           ∙ eight_of_bits marks (8 * (first + k)) byte (omega (arith, is, fits last)) (λ j low.
           let place : 8 * first + 8 * last + j ≡ 8 * (first + k) + j = omega (arith, same) in
-          cut_byte marks (8 * (first + k)) (get_or numbers last 0) s j low (omega (arith, there, end)) (λ some. omega (arith, there, past some))
+          cut_byte marks (8 * (first + k)) (get_or numbers last 0) kept j low (subst (HasOnes kept 8 0) rest ones)
           (shows last j (omega (arith, size)) low ∙ ap (around_bit marks) place))
       | inr apart ↦
           let is : get_or (set numbers last byte) k 0 ≡ get_or numbers k 0 = get_or-set_other numbers last k byte 0 apart in
@@ -97,8 +94,101 @@ cut_shown marks first numbers last s size few end past fits shows k below =
           let place : 8 * first + 8 * k + j ≡ 8 * (first + k) + j = omega arith in
           shows k j below low
           ∙ ap (around_bit marks) place
-          ∙ inside_bit marks (8 * (first + k) + j) (omega (arith, low, apart, below, size, few, end)))
+          ∙ inside_bit marks (8 * (first + k) + j) (omega (arith, low, apart, below, size, end)))
     ]
+
+-- so many bits of a byte are kept
+pub kept_ones : (c e : ℕ) → ((j : ℕ) → j < 8 → j < e → c + j < 8) → ((j : ℕ) → j < 8 → e ≤ j → 8 ≤ c + j) → HasOnes (255 / 2 ^ c) 8 0 e
+kept_ones c e kept cut j low =
+    let is : bit_at (255 / 2 ^ c) j ≡ bit_at 255 (c + j) = ap (λ m. m % 2) (shr-shr 255 c j) in (
+      λ _ h. is ∙ bit_at_ones 8 (c + j) (kept j low h),
+      λ out. is ∙ bit_at_ones_above 8 (c + j) (elim out [ inl none ↦ absurd (omega (arith, none)) | inr past ↦ cut j low past ]),
+    )
+
+-- the first bits of a byte
+pub left_ones : (s : ℕ) → HasOnes (255 - 255 * 2 ^ s % 256) 8 0 s
+left_ones s j low =
+    let is : bit_at (255 - 255 * 2 ^ s % 256) j ≡ 1 - bit_at (255 * 2 ^ s) j = bit_at_not w8 (255 * 2 ^ s % 2 ^ 8) j (omega arith) low ∙ ap (λ d. 1 - d) (cut_bit (255 * 2 ^ s) 8 j low) in (
+      λ _ h. is ∙ ap (λ d. 1 - d) (no_low_bit 255 s j h),
+      λ out. elim out [
+        | inl none ↦ absurd (omega (arith, none))
+        | inr past ↦ is ∙ ap (λ d. 1 - d) (high_bit 255 s j past ∙ bit_at_ones 8 (j - s) (omega (arith, low)))
+      ],
+    )
+
+-- the last bits of two bytes
+pub right_ones : (s e : ℕ) → e + s ≡ 16 → HasOnes (65535 - 65535 / 2 ^ s) 16 e 16
+right_ones s e sum j low =
+    let is : bit_at (65535 - 65535 / 2 ^ s) j ≡ 1 - bit_at 65535 (s + j) = bit_at_not w16 (65535 / 2 ^ s) j (omega (arith, shr_le 65535 s)) low ∙ ap (λ m. 1 - m % 2) (shr-shr 65535 s j) in (
+      λ from _. is ∙ ap (λ d. 1 - d) (bit_at_ones_above 16 (s + j) (omega (arith, from, sum))),
+      λ out. elim out [
+        | inl before ↦ is ∙ ap (λ d. 1 - d) (bit_at_ones 16 (s + j) (omega (arith, before, sum)))
+        | inr past ↦ absurd (omega (arith, past, low))
+      ],
+    )
+
+-- the first bits of numbers are set
+pub left_shown : (marks : List Bool) (start : ℕ) (numbers : List ℕ) (left shift end : ℕ) → 1 ≤ length numbers → shift < 8 → HasOnes left 8 0 shift → AllLight marks start (start + shift) → ShowWithin marks start numbers shift end
+    → ShowWithin marks start (set numbers 0 (bit_or (get_or numbers 0 0) left)) 0 end
+left_shown marks start numbers left shift end some few ones light shows k j low from below =
+    let byte = bit_or (get_or numbers 0 0) left in
+    elim (cases_eq k 0) [
+      | inl first ↦
+          let is : bit_at (get_or (set numbers 0 byte) k 0) j ≡ max (bit_at (get_or numbers 0 0) j) (bit_at left j) =
+          ap (λ i. bit_at (get_or (set numbers 0 byte) i 0) j) first ∙ ap (λ b. bit_at b j) (get_or-set_same numbers 0 byte 0 (omega (arith, some))) ∙ bit_at_or (get_or numbers 0 0) left j in
+          elim (cases_lt j shift) [
+            | inl inside ↦
+                let set : bit_at left j ≡ 1 = (ones j low).0 (omega arith) inside in
+                is ∙ omega (arith, set, bit_at-lt (get_or numbers 0 0) j) ∙ sym (light (start + 8 * k + j) (omega arith) (omega (arith, first, inside)))
+            | inr past ↦
+                let none : bit_at left j ≡ 0 = (ones j low).1 (inr past) in
+                is ∙ omega (arith, none) ∙ shows 0 j low (omega (arith, past)) (omega (arith, below, first)) ∙ ap (around_bit marks) (omega (arith, first))
+          ]
+      | inr later ↦ ap (λ b. bit_at b j) (get_or-set_other numbers 0 k byte 0 later) ∙ shows k j low (omega (arith, later, few)) below
+    ]
+
+-- the bits of two bytes as one number
+two_bits : (a b i j : ℕ) → a < 256 → i < 2 → j < 8 → bit_at (from_le_bytes w16 (a ∷ b ∷ [])) (8 * i + j) ≡ bit_at (get_or (a ∷ b ∷ []) i 0) j
+two_bits a b zero j fits h l =
+    let is : from_le_bytes w16 (a ∷ b ∷ []) ≡ b * 2 ^ 8 + a = omega arith in
+    let place : 8 * 0 + j ≡ j = omega arith in
+    ap₂ bit_at is place ∙ bit_at_cat_low b 8 a j l
+two_bits a b (suc zero) j fits h l =
+    let is : from_le_bytes w16 (a ∷ b ∷ []) ≡ b * 2 ^ 8 + a = omega arith in
+    let place : 8 * 1 + j - 8 ≡ j = omega arith in
+    ap (λ n. bit_at n (8 * 1 + j)) is ∙ bit_at_cat_high b 8 a (8 * 1 + j) (omega (arith, fits)) (omega arith) ∙ ap (bit_at b) place
+two_bits a b (suc (suc i)) j fits h l = absurd (omega (arith, h))
+
+-- the last bits of the last two numbers are set
+pub right_shown : (marks : List Bool) (start : ℕ) (numbers : List ℕ) (last n right end : ℕ) → length numbers ≡ last + 2 → 8 * length numbers ≤ end + 16 → HasOnes right 16 (end + 16 - 8 * length numbers) 16
+    → AllLight marks (start + end) (start + 8 * length numbers) → get_or numbers last 0 < 256 → ShowWithin marks start numbers 0 end
+    → (two : List ℕ) → two ≡ to_le_bytes w16 (bit_or (from_le_bytes w16 (get_or numbers last 0 ∷ get_or numbers (last + 1) 0 ∷ [])) right)
+    → ShowEights marks start (put_mid last n numbers two) (length numbers)
+right_shown marks start numbers last n right end size few ones light fits shows two is k j below low =
+    let a = get_or numbers last 0 in
+    let b = get_or numbers (last + 1) 0 in
+    let number = from_le_bytes w16 (a ∷ b ∷ []) in
+    put_shown marks start numbers two last n 2 (omega (arith, size)) (ap length is) (λ i j h low.
+    let x = 8 * i + j in
+    let there : get_or (a ∷ b ∷ []) i 0 ≡ get_or numbers (last + i) 0 = two_at numbers last i h in
+    let old : bit_at number x ≡ bit_at (get_or numbers (last + i) 0) j = two_bits a b i j fits h low ∙ ap (λ m. bit_at m j) there in
+    ap (λ bs. bit_at (get_or bs i 0) j) is
+    ∙ byte_bit (bit_or number right) i j h low
+    ∙ bit_at_or number right x
+    ∙ elim (cases_lt (8 * last + x) end) [
+      | inl inside ↦
+          let none : bit_at right x ≡ 0 = (ones x (omega (arith, h, low))).1 (inl (omega (arith, inside, size))) in
+          omega (arith, none, old) ∙ shows (last + i) j low (omega arith) (omega (arith, inside)) ∙ ap (around_bit marks) (omega arith)
+      | inr past ↦
+          let set : bit_at right x ≡ 1 = (ones x (omega (arith, h, low))).0 (omega (arith, past, size)) (omega (arith, h, low)) in
+          omega (arith, set, bit_at-lt number x) ∙ sym (light (start + 8 * last + 8 * i + j) (omega (arith, past)) (omega (arith, h, low, size)))
+    ])
+    (λ i j h low. shows i j low (omega arith) (omega (arith, h, low, size, few))) k j (omega (arith, below, size)) low
+  where
+    two_at : (numbers : List ℕ) (last i : ℕ) → i < 2 → get_or (get_or numbers last 0 ∷ get_or numbers (last + 1) 0 ∷ []) i 0 ≡ get_or numbers (last + i) 0
+    two_at numbers last zero h = ap (λ m. get_or numbers m 0) (omega arith)
+    two_at numbers last (suc zero) h = refl
+    two_at numbers last (suc (suc i)) h = absurd (omega (arith, h))
 
 -- a mark that no module of a row is
 pub marked_outside : (line : List Color) (start x : ℕ) (marks : List Bool) → ((x < start) ⊎ (start + length line ≤ x)) → get_or (marked_line start line marks) x false ≡ get_or marks x false
@@ -162,3 +252,32 @@ marked_part g row column first end start marks top bottom whole place room from 
       ]
     ]
     ∙ sym (row_at g row (column + x))
+
+-- the cells that stand outside of a row's are light
+pub light_before : (g : Grid) (row first end : ℕ) → end ≤ g.zone → AllLight (cell_row g row) first end
+light_before g row first end before x from below = ap (λ b. if b then 0 else 1) (row_at g row x ∙ cell_outside g x row (λ left _ _ _. omega (arith, left, below, before)))
+
+pub light_behind : (g : Grid) (row first end : ℕ) → g.zone + g.columns ≤ first → AllLight (cell_row g row) first end
+light_behind g row first end behind x from below = ap (λ b. if b then 0 else 1) (row_at g row x ∙ cell_outside g x row (λ _ right _ _. omega (arith, right, from, behind)))
+
+-- the cells of a row among others that stand in a line
+pub window_shown : (g : Grid) (row from start before place count : ℕ) (numbers : List ℕ) → row ≡ from + (g.zone + 1) → from + 2 ≤ g.rows → length g.cells ≡ g.rows * g.columns → place ≤ g.zone
+    → before + g.zone ≡ g.columns + place → start ≡ from * g.columns + before → g.zone + g.columns ≤ place + 8 * count → ShowEights (map is_dark (slice_range g.cells start (start + 8 * count))) 0 numbers count
+    → ShowWithin (cell_row g row) place numbers (g.zone - place) (g.zone + g.columns - place)
+window_shown g row from start before place count numbers there inside whole left edge begin room shows k j low first below =
+    let x = 8 * k + j in
+    let column = place + x in
+    let turned : (from + 1) * g.columns ≡ from * g.columns + g.columns = omega arith in
+    let at : row - g.zone ≡ from + 1 = omega (arith, there) in
+    let index : start + x ≡ (row - g.zone) * g.columns + (column - g.zone) = omega (arith, begin, edge, turned, first, ap (λ r. r * g.columns) at) in
+    let all : (from + 2) * g.columns ≤ g.rows * g.columns = mul-le-mul_right g.columns inside in
+    let bounded : start + x < length g.cells = omega (arith, whole, all, begin, edge, below) in
+    shows k j (omega (arith, below, room)) low
+    ∙ ap (around_bit (map is_dark (slice_range g.cells start (start + 8 * count)))) (omega arith)
+    ∙ part_bit is_dark g.cells start (start + 8 * count - start) x (omega (arith, below, room))
+    ∙ ap (λ b. if b then 0 else 1)
+    (get_or-map is_dark g.cells (start + x) Light false bounded
+    ∙ ap (λ i. is_dark (get_or g.cells i Light)) index
+    ∙ sym (cell_inside g column row (omega (arith, first)) (omega (arith, below)) (omega (arith, there)) (omega (arith, there, inside)))
+    ∙ sym (row_at g row column))
+    ∙ ap (around_bit (cell_row g row)) (omega arith)

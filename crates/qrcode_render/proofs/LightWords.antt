@@ -22,10 +22,10 @@ pub cut_bit : (n w k : ℕ) → k < w → bit_at (n % 2 ^ w) k ≡ bit_at n k
 cut_bit n w k h = sym (bit_at_cat_low (n / 2 ^ w) w (n % 2 ^ w) k h) ∙ ap (λ m. bit_at m k) (shr_split n w)
 
 -- the bits of a number that stands higher
-high_bit : (n p k : ℕ) → p ≤ k → bit_at (n * 2 ^ p) k ≡ bit_at n (k - p)
+pub high_bit : (n p k : ℕ) → p ≤ k → bit_at (n * 2 ^ p) k ≡ bit_at n (k - p)
 high_bit n p k h = let e : n * 2 ^ p ≡ n * 2 ^ p + 0 = omega arith in ap (λ m. bit_at m k) e ∙ bit_at_cat_high n p 0 k (pow_pos p) h
 
-no_low_bit : (n p k : ℕ) → k < p → bit_at (n * 2 ^ p) k ≡ 0
+pub no_low_bit : (n p k : ℕ) → k < p → bit_at (n * 2 ^ p) k ≡ 0
 no_low_bit n p k h = let e : n * 2 ^ p ≡ n * 2 ^ p + 0 = omega arith in ap (λ m. bit_at m k) e ∙ bit_at_cat_low n p 0 k h ∙ bit_at-zero k
 
 -- a mark behind the end, and one that is not set

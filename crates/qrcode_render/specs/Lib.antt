@@ -26,3 +26,4 @@ pub mod StrokeLaws
 pub mod Strokes
 pub mod Texts
 pub mod Vectors
+pub mod Window

@@ -43,3 +43,14 @@ ShowEights marks start numbers count = (k j : ℕ) → k < count → j < 8 → b
 -- the first numbers, so many, are those of eight marks each, from a group of eight on, and behind the end they have no bits
 abbrev pub AreEights : List Bool → ℕ → List ℕ → ℕ → Type 0
 AreEights marks first numbers count = (k : ℕ) → k < count → slice_index_or numbers k 0 ≡ light_number marks (8 * (first + k)) 8
+
+-- of the first bits of a number, so many, those from a place on up to an end are set, and no others
+abbrev pub HasOnes : ℕ → ℕ → ℕ → ℕ → Type 0
+HasOnes number size first end = (j : ℕ) → j < size → (first ≤ j → j < end → bit_at number j ≡ 1) × ((j < first) ⊎ (end ≤ j) → bit_at number j ≡ 0)
+
+abbrev pub AllLight : List Bool → ℕ → ℕ → Type 0  -- no mark from a place on up to an end is set
+AllLight marks first end = (x : ℕ) → first ≤ x → x < end → around_bit marks x ≡ 1
+
+-- numbers have the bits of eight marks each, from a place on, but maybe for some before a first one, and for those from an end on
+abbrev pub ShowWithin : List Bool → ℕ → List ℕ → ℕ → ℕ → Type 0
+ShowWithin marks start numbers first end = (k j : ℕ) → j < 8 → first ≤ 8 * k + j → 8 * k + j < end → bit_at (slice_index_or numbers k 0) j ≡ around_bit marks (start + 8 * k + j)

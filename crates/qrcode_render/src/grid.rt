@@ -13,6 +13,7 @@ ghost use Rattle.qrcode_render.specs.Sides.{AreLightAtSides};
 use crate::marks::{Shade, is_dark, mark_bytes, mark_columns, mark_line};
 use dark::{dark_in, dark_in_either, set_in, set_in_either};
 use light::{edged_count, straight_count};
+use numbers::Window;
 use qrcode_types::types::Color;
 use std::marker::Model;
 
@@ -136,6 +137,7 @@ pub struct Grid<'a> {
     down: u32,
     words: usize, // how many hold the bits of a row of cells, where it is made in a straight line, else 0
     edged: usize, // the same where the last has light cells alone
+    window: Window,
 }
 
 impl<'a> Model for Grid<'a> {
@@ -143,6 +145,7 @@ impl<'a> Model for Grid<'a> {
     ghost use Rattle.qrcode_render.specs.Grid.{Grid, all_columns, all_rows};
     ghost use Rattle.qrcode_render.specs.Light.{IsEdged, IsStraight};
     ghost use Rattle.qrcode_render.specs.Shades.{shown};
+    ghost use Rattle.qrcode_render.specs.Window.{IsWindow};
 
     ghost Value = { Grid };
 
@@ -160,7 +163,8 @@ impl<'a> Model for Grid<'a> {
         × (1 ≤ g.across) × (1 ≤ g.down)
         × ((g.columns + 2 * g.zone) * g.across < 2 ^ 32)
         × ((g.rows + 2 * g.zone) * g.down < 2 ^ 32)
-        × IsStraight g.words g.columns g.zone × IsEdged g.edged g.columns g.zone };
+        × IsStraight g.words g.columns g.zone × IsEdged g.edged g.columns g.zone
+        × IsWindow g.window g.columns g.rows g.zone };
 }
 
 impl<'a> Grid<'a> {
@@ -199,6 +203,7 @@ impl<'a> Grid<'a> {
             down,
             words: straight_count(columns as usize, zone as usize),
             edged: edged_count(columns as usize, zone as usize),
+            window: Window::new(columns as usize, rows as usize, zone as usize),
         }
     }
 
@@ -229,6 +234,7 @@ impl<'a> Grid<'a> {
             down,
             words: straight_count(side as usize, zone as usize),
             edged: edged_count(side as usize, zone as usize),
+            window: Window::new(side as usize, side as usize, zone as usize),
         }
     }
 
@@ -247,6 +253,7 @@ impl<'a> Grid<'a> {
             down: self.down,
             words: self.words,
             edged: self.edged,
+            window: self.window,
         }
     }
 

@@ -2,12 +2,16 @@
 
 ghost use Rattle.std.specs.Prelude.{◌≡◌, ℕ, ◌+◌, ◌-◌, ◌*◌, ◌/◌, ◌%◌, ◌^◌, ◌<◌, ◌≤◌, Bool, false, List, length, map, slice_index_or};
 ghost use Rattle.std.specs.Int.{w16, bit_at, to_le_bytes};
+ghost use Rattle.std.specs.List.{slice_range};
+ghost use Rattle.qrcode_types.specs.Colors.{is_dark};
 ghost use Rattle.qrcode_render.specs.Grid.{all_columns, all_rows, cell_row};
-ghost use Rattle.qrcode_render.specs.Light.{AreEights, ShowEights, around_bit};
+ghost use Rattle.qrcode_render.specs.Light.{AllLight, AreEights, HasOnes, ShowEights, ShowWithin, around_bit};
 ghost use Rattle.qrcode_render.specs.LightNumbers.{light_number};
+ghost use Rattle.qrcode_render.specs.Shades.{shown};
+ghost use Rattle.qrcode_render.specs.Window.{IsWindow};
 
-use super::Grid;
 use super::light::light_in;
+use super::{Grid, Shades};
 use crate::marks::Shade;
 
 // Groups of so many cells are made at once, where a row is made by its marks.
@@ -151,6 +155,130 @@ fn put_all<S: Shade>(cells: &[S], numbers: &mut [u8])
     }
 }
 
+// Sets the first bits of the first number.
+#[inline(always)]
+fn set_left(numbers: &mut [u8], left: u8)
+    requires some { 1 ≤ length numbers.old }
+    ensures length { length numbers.new ≡ length numbers.old }
+    ensures value { (marks : List Bool) (start shift end : ℕ) → shift < 8 → HasOnes left 8 0 shift
+        → AllLight marks start (start + shift) → ShowWithin marks start numbers.old shift end
+        → ShowWithin marks start numbers.new 0 end }
+{
+    numbers[0] |= left;
+}
+
+// Sets the last bits of the last two numbers.
+#[inline(always)]
+fn set_right(numbers: &mut [u8], right: u16)
+    requires some { 2 ≤ length numbers.old }
+    ensures length { length numbers.new ≡ length numbers.old }
+    ensures value { (marks : List Bool) (start end : ℕ) → 8 * length numbers.old ≤ end + 16
+        → HasOnes right 16 (end + 16 - 8 * length numbers.old) 16
+        → AllLight marks (start + end) (start + 8 * length numbers.old)
+        → ShowWithin marks start numbers.old 0 end
+        → ShowEights marks start numbers.new (length numbers.new) }
+{
+    let last = numbers.len() - 2;
+    let two = u16::from_le_bytes([numbers[last], numbers[last + 1]]);
+    set_two(&mut numbers[last..], two | right);
+}
+
+// Clears the bits of the last number behind the end of a row.
+#[inline(always)]
+fn cut_last(numbers: &mut [u8], kept: u8)
+    requires some { 1 ≤ length numbers.old }
+    ensures length { length numbers.new ≡ length numbers.old }
+    ensures value { (marks : List Bool) (first : ℕ)
+        → 8 * (first + length numbers.old) < length marks + 8
+        → HasOnes kept 8 0 (length marks + 8 - 8 * (first + length numbers.old))
+        → ((k : ℕ) → slice_index_or numbers.new k 0 < 256)
+        → ShowEights marks (8 * first) numbers.old (length numbers.old)
+        → AreEights marks first numbers.new (length numbers.new) }
+{
+    numbers[numbers.len() - 1] &= kept;
+}
+
+// The groups that rows of cells are mostly asked for: all of a row, or where eight light cells or more stand at each
+// side, those that hold a cell between. Rows that have others above and below are read with some of their cells, which
+// are then made light.
+#[derive(Copy, Clone)]
+pub(super) struct Window {
+    first: usize, // the first of the groups
+    count: usize, // how many there are
+    top: usize, // the first row that has others of cells above and below
+    rows: usize, // how many such rows there are, or 0 where rows are not read like this
+    before: usize, // the place of the first cell that such a row is read from
+    left: u8, // the bits of the first group before those of its cells
+    right: u16, // the bits of the last two groups behind those of their cells
+    kept: u8, // the bits of the last group up to the end of the row
+}
+
+// How many groups a window has.
+fn window_count(columns: usize, zone: usize) -> usize
+    requires { columns + 2 * zone < 2 ^ 32 }
+    ensures inside { zone + columns ≤ 8 * (zone / 8 + result) }
+    ensures near { 8 * (zone / 8 + result) < zone + columns + 16 }
+    ensures least { 8 * (zone / 8 + result) < columns + 2 * zone + 8 }
+{
+    if zone < 8 {
+        (columns + 2 * zone + 7) / 8
+    } else {
+        (zone + columns + 7) / 8 - zone / 8
+    }
+}
+
+// How many rows are read by windows of so many groups, which have so many cells before the row's and behind them.
+fn window_rows(columns: usize, rows: usize, count: usize, before: usize, behind: usize) -> usize
+    ensures { 1 ≤ result → (result + 2 ≤ rows) × (2 ≤ count) × (before ≤ columns) × (behind ≤ columns) }
+{
+    if count < 2 || columns < before || columns < behind {
+        return 0;
+    }
+    rows.saturating_sub(2)
+}
+
+impl Window {
+    pub(super) fn new(columns: usize, rows: usize, zone: usize) -> Window
+        requires columns_fit { columns + 2 * zone < 2 ^ 32 }
+        requires rows_fit { rows + 2 * zone < 2 ^ 32 }
+        ensures { IsWindow result columns rows zone }
+    {
+        let first = zone / 8;
+        let count = window_count(columns, zone);
+        let shift = zone % 8;
+        let end = 8 * (first + count);
+        let spare = end - (zone + columns);
+        Window {
+            first,
+            count,
+            top: zone + 1,
+            rows: window_rows(columns, rows, count, shift, spare),
+            before: columns.saturating_sub(shift),
+            left: !(u8::MAX << shift),
+            right: !(u16::MAX >> spare),
+            kept: u8::MAX >> end.saturating_sub(columns + 2 * zone),
+        }
+    }
+}
+
+impl<'a> Shades<'a> {
+    // Writes the numbers of groups of the cells from a place on up to an end.
+    #[inline(always)]
+    fn put_all(&self, start: usize, end: usize, numbers: &mut [u8])
+        requires order { start ≤ end }
+        requires inside { end ≤ length (shown self.now) }
+        requires cells { end - start ≡ 8 * length numbers.old }
+        ensures length { length numbers.new ≡ length numbers.old }
+        ensures value { ShowEights (map is_dark (slice_range (shown self.now) start end)) 0
+            numbers.new (length numbers.new) }
+    {
+        match *self {
+            Shades::Colors(colors) => put_all(&colors[start..end], numbers),
+            Shades::Bytes(bytes) => put_all(&bytes[start..end], numbers),
+        }
+    }
+}
+
 impl<'a> Grid<'a> {
     // Marks which cells of a row are dark, from a column on, the light ones around counted.
     fn mark_from(&self, row: usize, column: usize, marks: &mut [bool])
@@ -216,8 +344,8 @@ impl<'a> Grid<'a> {
     {
         let (columns, _) = self.sides();
         let end = 8 * (first + numbers.len());
-        if let Some(last) = numbers.last_mut() {
-            *last &= u8::MAX >> end.saturating_sub(columns);
+        if !numbers.is_empty() {
+            cut_last(numbers, u8::MAX >> end.saturating_sub(columns));
         }
     }
 
@@ -236,7 +364,8 @@ impl<'a> Grid<'a> {
 
     /// The numbers of the groups of eight cells of a row, the light ones around counted, from a group on: bit j of the
     /// one at place k, the lowest first, is 1 where cell 8 * (first + k) + j is light, 0 for a dark one and behind the
-    /// end.
+    /// end. Of rows of the symbol those groups are quick that hold all of its cells and, where fewer than eight light
+    /// ones stand around, all of the row.
     #[inline(always)]
     pub fn light_numbers(&self, row: usize, first: usize, numbers: &mut [u8])
         requires inside { row < all_rows self.now }
@@ -245,6 +374,17 @@ impl<'a> Grid<'a> {
         ensures value { (k : ℕ) → k < length numbers.new → slice_index_or numbers.new k 0
             ≡ light_number (cell_row self.now row) (8 * (first + k)) 8 }
     {
-        self.other_numbers(row, first, numbers);
+        let window = &self.window;
+        let from = row.wrapping_sub(window.top);
+        if from >= window.rows || first != window.first || numbers.len() != window.count {
+            self.other_numbers(row, first, numbers);
+            return;
+        }
+        let start = from * self.columns + window.before;
+        self.cells
+            .put_all(start, start + 8 * numbers.len(), numbers);
+        set_left(numbers, window.left);
+        set_right(numbers, window.right);
+        cut_last(numbers, window.kept);
     }
 }

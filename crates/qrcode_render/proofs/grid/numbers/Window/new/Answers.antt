@@ -1,0 +1,30 @@
+use Rattle.std.proofs.Common.{◌≡◌, ◌+◌, ◌-◌, ◌*◌, ◌/◌, ◌%◌, ◌^◌, refl, subst, arith}
+use Rattle.qrcode_render.specs.Light.{HasOnes}
+use Rattle.qrcode_render.proofs.GroupNumbers.{kept_ones, left_ones, right_ones}
+use Rattle.qrcode_render.proofs.grid.numbers.Window.new.Goals as goal
+
+pub returns : goal.returns
+returns c = λ some.
+    let zone = c.args.zone in
+    let columns = c.args.columns in
+    let shift = zone % 8 in
+    let here : shift ≡ zone - 8 * (zone / 8) = omega arith in
+    let end = 8 * (zone / 8 + c.window_count-count.result) in
+    let count = c.window_count-count.ensures in
+    let rows = c.window_rows.ensures some in
+    let cut = c.saturating_sub-2.result in
+    let is : cut ≡ end - (columns + 2 * zone) = omega (arith, c.saturating_sub-2.ensures) in (
+      rows.0,
+      rows.1,
+      refl,
+      omega arith,
+      omega arith,
+      omega (arith, c.saturating_sub.ensures, rows.2),
+      count.inside,
+      omega (arith, rows.3),
+      count.near,
+      count.least,
+      subst (HasOnes (255 - 255 * 2 ^ shift % 256) 8 0) here (left_ones shift),
+      right_ones (end - (zone + columns)) (zone + columns + 16 - end) (omega (arith, count.inside, count.near)),
+      kept_ones cut (columns + 2 * zone + 8 - end) (λ j low h. omega (arith, is, count.least, low, h)) (λ j low h. omega (arith, is, count.least, low, h)),
+    )
