@@ -14,11 +14,10 @@ use super::light::light_in;
 use super::{Grid, Shades};
 use crate::marks::Shade;
 
-// So many groups are written at once, at most.
+// The most groups that are written at once.
 const GROUPS: usize = 24;
 
 // The cells of so many.
-
 const CELLS: usize = 8 * GROUPS;
 
 // Makes two bytes those of a number, the lowest first.
@@ -54,7 +53,8 @@ fn put_one<S: Shade>(cells: &[S], numbers: &mut [u8], at: usize)
     numbers[at] = (light_in(&cells[start..start + 8]) % (1 << 8)) as u8;
 }
 
-// Writes the numbers of two groups of cells, from a group on, where those before it are written.
+// Writes the numbers of two groups of cells, from a group on, where those before it are written. Tuned: sixteen cells are
+// compared at once, and to put the bits of more of them together takes more steps than to write those of each sixteen.
 #[inline(always)]
 fn put_two<S: Shade>(cells: &[S], numbers: &mut [u8], at: usize)
     requires cells { length cells.now ≡ 8 * length numbers.old }
@@ -137,7 +137,7 @@ fn put_many<S: Shade>(cells: &[S], numbers: &mut [u8])
     }
 }
 
-// Writes the numbers of groups of cells.
+// Writes the numbers of groups of cells, where they begin in few places that may overlap, so that it takes no loop.
 #[inline(always)]
 fn put_all<S: Shade>(cells: &[S], numbers: &mut [u8])
     requires cells { length cells.now ≡ 8 * length numbers.old }
@@ -152,7 +152,7 @@ fn put_all<S: Shade>(cells: &[S], numbers: &mut [u8])
     }
 }
 
-// Writes the numbers of groups of cells that are bytes, two by two, which takes less code than in fewer steps.
+// The same of any number of groups of cells that are bytes, two by two, for the few rows that are copied.
 fn put_bytes(bytes: &[u8], numbers: &mut [u8])
     requires { length bytes.now ≡ 8 * length numbers.old }
     ensures length { length numbers.new ≡ length numbers.old }
@@ -175,7 +175,8 @@ fn copy_line<S: Shade>(line: &[S], zone: usize, column: usize, bytes: &mut [u8])
     requires line_fits { zone + length line.now < 2 ^ 32 }
     requires bytes_fit { column + length bytes.old < 2 ^ 64 }
     ensures length { length bytes.new ≡ length bytes.old }
-    ensures value { (x : ℕ) → x < length bytes.new → around_bit (map (λ byte. not (byte == 0)) bytes.new) x
+    ensures value { (x : ℕ) → x < length bytes.new
+        → around_bit (map (λ byte. not (byte == 0)) bytes.new) x
         ≡ around_bit (replicate zone false ++ map S.dark line.now) (column + x) }
 {
     let first = column.max(zone);
@@ -246,9 +247,9 @@ fn cut_last(numbers: &mut [u8], kept: u8)
     numbers[numbers.len() - 1] &= kept;
 }
 
-// The groups that rows of cells are mostly asked for: all of a row, or where eight light cells or more stand at each
-// side, those that hold a cell between. Rows that have others above and below are read with some of their cells, which
-// are then made light.
+// The groups of a row that are mostly asked for: all of them, or where eight light cells or more stand at each side,
+// those that hold a cell between. Where rows of cells stand above and below, what is read around a row's own cells is
+// cells of those, so that no cell is copied or moved; their bits are set afterwards.
 #[derive(Copy, Clone)]
 pub(super) struct Window {
     first: usize, // the first of the groups
@@ -287,6 +288,7 @@ fn window_rows(columns: usize, rows: usize, count: usize, before: usize, behind:
 }
 
 impl Window {
+    // That of rows of so many columns between light cells.
     pub(super) fn new(columns: usize, rows: usize, zone: usize) -> Window
         requires columns_fit { columns + 2 * zone < 2 ^ 32 }
         requires rows_fit { rows + 2 * zone < 2 ^ 32 }
@@ -384,7 +386,7 @@ impl<'a> Grid<'a> {
         }
     }
 
-    // The numbers of any groups of any row. It stands apart, so that a call of those of most rows is short.
+    // The numbers of any groups of any row. It stands apart, so that a call for most rows is short.
     #[cold]
     #[inline(never)]
     fn other_numbers(&self, row: usize, first: usize, numbers: &mut [u8])
@@ -397,10 +399,10 @@ impl<'a> Grid<'a> {
         self.cut_groups(first, numbers);
     }
 
-    /// The numbers of the groups of eight cells of a row, the light ones around counted, from a group on: bit j of the
-    /// one at place k, the lowest first, is 1 where cell 8 * (first + k) + j is light, 0 for a dark one and behind the
-    /// end. Of rows of the symbol those groups are quick that hold all of its cells and, where fewer than eight light
-    /// ones stand around, all of the row.
+    /// The numbers of groups of eight cells of a row, the light ones around counted, from group `first` on: bit j of
+    /// a number, the lowest first, is 1 where cell j of its group is light, 0 for a dark one and behind the end. Quick
+    /// are rows of the symbol, asked for the groups that hold their cells, or where fewer than eight light ones stand
+    /// around, for all groups.
     #[inline(always)]
     pub fn light_numbers(&self, row: usize, first: usize, numbers: &mut [u8])
         requires inside { row < all_rows self.now }
