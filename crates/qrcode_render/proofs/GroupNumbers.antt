@@ -1,19 +1,16 @@
 -- Numbers of groups of eight marks.
 use Rattle.std.proofs.Common.{◌≡◌, ℕ, zero, suc, ◌+◌, ◌-◌, ◌*◌, ◌/◌, ◌%◌, ◌^◌, ◌<◌, ◌≤◌, ◌⊎◌, inl, inr, Bool, true, false, not, ◌==◌, List, [], ◌∷◌, ◌++◌, length, map, take, drop, replicate, get_or, set, bit_and, bit_or, max, min, refl, ap, ap₂, ◌∙◌, sym, subst, arith, append_assoc, if◌then◌else◌}
 use Rattle.std.specs.List.{slice_range}
-use Rattle.std.proofs.Math.ListN.{length-take}
 use Rattle.std.proofs.Math.Nat.{mul-le-mul_right}
 use Rattle.std.specs.Int.{w8, w16, bit_at, from_le_bytes, to_le_bytes}
 use Rattle.std.proofs.lemmas.Bool.{cases_lt, cases_eq}
 use Rattle.std.proofs.lemmas.Nat.{shr-shr, shr_le}
 use Rattle.std.proofs.lemmas.Nat.Bits.{bit_at_and, bit_at_or, bit_at_not, bit_at_cat_low, bit_at_cat_high, bit_at-lt, bit_at_ones, bit_at_ones_above, same_from_bits_below}
-use Rattle.std.proofs.lemmas.List.{length-map, get_or-replicate, get_or-map, get_or-take, get_or-drop, take-map, drop-map, get_or-set_same, get_or-set_other, length-set, get_or_past, get_or_default}
+use Rattle.std.proofs.lemmas.List.{get_or-map, get_or-take, get_or-drop, take-map, drop-map, get_or-set_same, get_or-set_other, get_or_past, get_or_default}
 use Rattle.std.proofs.lemmas.List.FromFn.{get_or-map-range_with_len, length-map-range_with_len}
 use borrow.Rule.Slice.PartMut.{put_mid}
 use Rattle.qrcode_types.specs.Colors.{is_dark}
-use Rattle.qrcode_types.specs.declared.types.Color.{Color}
 use Rattle.qrcode_types.specs.declared.types.Color.TheVariants.{Light}
-use Rattle.qrcode_render.specs.Bitmap.{marked_line}
 use Rattle.qrcode_render.specs.Grid.{Grid, all_columns, cell_row, is_dark_cell}
 use Rattle.qrcode_render.specs.Light.{around_bit, AllLight, AreEights, HasOnes, ShowEights, ShowWithin}
 use Rattle.qrcode_render.specs.LightNumbers.{light_bit, light_number}

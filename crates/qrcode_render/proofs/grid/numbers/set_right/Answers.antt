@@ -1,4 +1,4 @@
-use Rattle.std.proofs.Common.{◌≡◌, ◌+◌, ◌-◌, length, bit_and, bit_or, ap, ◌∙◌, arith, rules}
+use Rattle.std.proofs.Common.{◌-◌, length, bit_and, bit_or, ap, ◌∙◌, arith, rules}
 use Rattle.std.specs.Int.{w16, to_le_bytes}
 use borrow.Rule.Slice.PartMut.{same_len_mid}
 use Rattle.qrcode_render.proofs.GroupNumbers.{ends_shown}
