@@ -1,25 +1,22 @@
 -- Numbers of groups of eight marks.
-use Rattle.std.proofs.Common.{◌≡◌, ℕ, zero, suc, ◌+◌, ◌-◌, ◌*◌, ◌/◌, ◌%◌, ◌^◌, ◌<◌, ◌≤◌, ◌⊎◌, inl, inr, Bool, true, false, List, [], ◌∷◌, length, map, take, drop, get_or, set, bit_and, bit_or, max, min, refl, ap, ap₂, ◌∙◌, sym, subst, arith, length-drop, if◌then◌else◌}
+use Rattle.std.proofs.Common.{◌≡◌, ℕ, zero, suc, ◌+◌, ◌-◌, ◌*◌, ◌/◌, ◌%◌, ◌^◌, ◌<◌, ◌≤◌, ◌⊎◌, inl, inr, Bool, true, false, not, ◌==◌, List, [], ◌∷◌, ◌++◌, length, map, take, drop, replicate, get_or, set, bit_and, bit_or, max, min, refl, ap, ap₂, ◌∙◌, sym, subst, arith, append_assoc, if◌then◌else◌}
 use Rattle.std.specs.List.{slice_range}
-use Rattle.std.proofs.Math.ListN.{length-take}
 use Rattle.std.proofs.Math.Nat.{mul-le-mul_right}
 use Rattle.std.specs.Int.{w8, w16, bit_at, from_le_bytes, to_le_bytes}
 use Rattle.std.proofs.lemmas.Bool.{cases_lt, cases_eq}
 use Rattle.std.proofs.lemmas.Nat.{shr-shr, shr_le}
 use Rattle.std.proofs.lemmas.Nat.Bits.{bit_at_and, bit_at_or, bit_at_not, bit_at_cat_low, bit_at_cat_high, bit_at-lt, bit_at_ones, bit_at_ones_above, same_from_bits_below}
-use Rattle.std.proofs.lemmas.List.{get_or-map, get_or-take, get_or-drop, take-map, drop-map, get_or-set_same, get_or-set_other, length-set, get_or_past, get_or_default}
+use Rattle.std.proofs.lemmas.List.{get_or-map, get_or-take, get_or-drop, take-map, drop-map, get_or-set_same, get_or-set_other, get_or_past, get_or_default}
 use Rattle.std.proofs.lemmas.List.FromFn.{get_or-map-range_with_len, length-map-range_with_len}
 use borrow.Rule.Slice.PartMut.{put_mid}
 use Rattle.qrcode_types.specs.Colors.{is_dark}
-use Rattle.qrcode_types.specs.declared.types.Color.{Color}
 use Rattle.qrcode_types.specs.declared.types.Color.TheVariants.{Light}
-use Rattle.qrcode_render.specs.Bitmap.{marked_line}
 use Rattle.qrcode_render.specs.Grid.{Grid, all_columns, cell_row, is_dark_cell}
 use Rattle.qrcode_render.specs.Light.{around_bit, AllLight, AreEights, HasOnes, ShowEights, ShowWithin}
 use Rattle.qrcode_render.specs.LightNumbers.{light_bit, light_number}
-use Rattle.qrcode_render.proofs.Grids.{cell_inside, cell_outside}
+use Rattle.qrcode_render.proofs.Grids.{cell_inside, cell_outside, inside_row}
 use Rattle.qrcode_render.proofs.LightNumbers.{light_small}
-use Rattle.qrcode_render.proofs.LightWords.{cut_bit, high_bit, no_low_bit, number_bits}
+use Rattle.qrcode_render.proofs.LightWords.{before_bit, behind_end, cut_bit, high_bit, moved_bit, no_low_bit, number_bits, same_with_zone}
 use Rattle.qrcode_render.proofs.Palettes.{part_before, part_inside}
 
 -- the bit of a mark in a part of some marks
@@ -47,6 +44,18 @@ put_shown marks start numbers some at n m inside size new before k j below low =
           ∙ ap (λ b. bit_at b j) (part_inside 0 at n numbers some i inside (omega (arith, below, behind, size)))
           ∙ new i j (omega (arith, below, behind)) low
           ∙ ap (around_bit marks) (omega (arith, behind))
+    ]
+
+-- one number more shows marks
+pub set_shown : (marks : List Bool) (numbers : List ℕ) (at number : ℕ) → at < length numbers → ((j : ℕ) → j < 8 → bit_at number j ≡ around_bit marks (8 * at + j)) → ShowEights marks 0 numbers at → ShowEights marks 0 (set numbers at number) (at + 1)
+set_shown marks numbers at number inside new before k j below low =
+    elim (cases_eq k at) [
+      | inl same ↦
+          ap (λ i. bit_at (get_or (set numbers at number) i 0) j) same
+          ∙ ap (λ n. bit_at n j) (get_or-set_same numbers at number 0 inside)
+          ∙ new j low
+          ∙ ap (around_bit marks) (omega (arith, same))
+      | inr apart ↦ ap (λ n. bit_at n j) (get_or-set_other numbers at k number 0 apart) ∙ before k j (omega (arith, below, apart)) low
     ]
 
 -- a byte with the bits of eight marks is their number
@@ -97,12 +106,12 @@ cut_shown marks first numbers last kept size end ones fits shows k below =
           ∙ inside_bit marks (8 * (first + k) + j) (omega (arith, low, apart, below, size, end)))
     ]
 
--- so many bits of a byte are kept
-pub kept_ones : (c e : ℕ) → ((j : ℕ) → j < 8 → j < e → c + j < 8) → ((j : ℕ) → j < 8 → e ≤ j → 8 ≤ c + j) → HasOnes (255 / 2 ^ c) 8 0 e
-kept_ones c e kept cut j low =
-    let is : bit_at (255 / 2 ^ c) j ≡ bit_at 255 (c + j) = ap (λ m. m % 2) (shr-shr 255 c j) in (
-      λ _ h. is ∙ bit_at_ones 8 (c + j) (kept j low h),
-      λ out. is ∙ bit_at_ones_above 8 (c + j) (elim out [ inl none ↦ absurd (omega (arith, none)) | inr past ↦ cut j low past ]),
+-- so many bits of a number that has all are kept
+pub kept_ones : (n c e : ℕ) → ((j : ℕ) → j < n → j < e → c + j < n) → ((j : ℕ) → j < n → e ≤ j → n ≤ c + j) → HasOnes ((2 ^ n - 1) / 2 ^ c) n 0 e
+kept_ones n c e kept cut j low =
+    let is : bit_at ((2 ^ n - 1) / 2 ^ c) j ≡ bit_at (2 ^ n - 1) (c + j) = ap (λ m. m % 2) (shr-shr (2 ^ n - 1) c j) in (
+      λ _ h. is ∙ bit_at_ones n (c + j) (kept j low h),
+      λ out. is ∙ bit_at_ones_above n (c + j) (elim out [ inl none ↦ absurd (omega (arith, none)) | inr past ↦ cut j low past ]),
     )
 
 -- the first bits of a byte
@@ -159,57 +168,69 @@ two_bits a b (suc zero) j fits h l =
     ap (λ n. bit_at n (8 * 1 + j)) is ∙ bit_at_cat_high b 8 a (8 * 1 + j) (omega (arith, fits)) (omega arith) ∙ ap (bit_at b) place
 two_bits a b (suc (suc i)) j fits h l = absurd (omega (arith, h))
 
--- the last bits of the last two numbers are set
-pub right_shown : (marks : List Bool) (start : ℕ) (numbers : List ℕ) (last n right end : ℕ) → length numbers ≡ last + 2 → 8 * length numbers ≤ end + 16 → HasOnes right 16 (end + 16 - 8 * length numbers) 16
-    → AllLight marks (start + end) (start + 8 * length numbers) → get_or numbers last 0 < 256 → ShowWithin marks start numbers 0 end
-    → (two : List ℕ) → two ≡ to_le_bytes w16 (bit_or (from_le_bytes w16 (get_or numbers last 0 ∷ get_or numbers (last + 1) 0 ∷ [])) right)
-    → ShowEights marks start (put_mid last n numbers two) (length numbers)
-right_shown marks start numbers last n right end size few ones light fits shows two is k j below low =
+two_at : (numbers : List ℕ) (last i : ℕ) → i < 2 → get_or (get_or numbers last 0 ∷ get_or numbers (last + 1) 0 ∷ []) i 0 ≡ get_or numbers (last + i) 0
+two_at numbers last zero h = ap (λ m. get_or numbers m 0) (omega arith)
+two_at numbers last (suc zero) h = refl
+two_at numbers last (suc (suc i)) h = absurd (omega (arith, h))
+
+-- a bit of the last two numbers, of which the last ones are set, and cleared behind the end
+ends_bit : (marks : List Bool) (place number right kept end x : ℕ) → x < 16 → HasOnes right 16 end 16 → HasOnes kept 16 0 (length marks - place) → (x < end → bit_at number x ≡ around_bit marks (place + x)) → (end ≤ x → around_bit marks (place + x) ≡ 1)
+    → bit_at (bit_and (bit_or number right) kept) x ≡ light_bit marks (place + x)
+ends_bit marks place number right kept end x low ones keeps shows light =
+    bit_at_and (bit_or number right) kept x
+    ∙ ap (λ b. min b (bit_at kept x)) (bit_at_or number right x)
+    ∙ elim (cases_lt (place + x) (length marks)) [
+      | inl inside ↦
+          let kept_is : bit_at kept x ≡ 1 = (keeps x low).0 (omega arith) (omega (arith, inside)) in
+          elim (cases_lt x end) [
+            | inl before ↦
+                let none : bit_at right x ≡ 0 = (ones x low).1 (inl before) in
+                omega (arith, none, kept_is, bit_at-lt number x) ∙ shows before ∙ inside_bit marks (place + x) inside
+            | inr past ↦
+                let set : bit_at right x ≡ 1 = (ones x low).0 past low in
+                omega (arith, set, kept_is, bit_at-lt number x) ∙ sym (light past) ∙ inside_bit marks (place + x) inside
+          ]
+      | inr past ↦
+          let cut : bit_at kept x ≡ 0 = (keeps x low).1 (inr (omega (arith, past))) in
+          omega (arith, cut) ∙ sym (ap (λ b. if b then 0 else 1) (get_or_past marks (place + x) true past))
+    ]
+
+-- numbers that show marks up to an end in the last two, of which the last bits are set, and cleared behind the end, are their numbers
+pub ends_shown : (marks : List Bool) (first : ℕ) (numbers : List ℕ) (last n right kept end : ℕ) → length numbers ≡ last + 2 → 8 * length numbers ≤ end + 16 → HasOnes right 16 (end + 16 - 8 * length numbers) 16
+    → AllLight marks (8 * first + end) (8 * (first + length numbers)) → 8 * (first + length numbers) < length marks + 8 → HasOnes kept 16 0 (length marks + 16 - 8 * (first + length numbers)) → get_or numbers last 0 < 256
+    → (two : List ℕ) → two ≡ to_le_bytes w16 (bit_and (bit_or (from_le_bytes w16 (get_or numbers last 0 ∷ get_or numbers (last + 1) 0 ∷ [])) right) kept)
+    → ((i : ℕ) → get_or (put_mid last n numbers two) i 0 < 256) → ShowWithin marks (8 * first) numbers 0 end → AreEights marks first (put_mid last n numbers two) (length numbers)
+ends_shown marks first numbers last n right kept end size few ones light inside keeps low_fits two is fits shows k below =
     let a = get_or numbers last 0 in
     let b = get_or numbers (last + 1) 0 in
     let number = from_le_bytes w16 (a ∷ b ∷ []) in
-    put_shown marks start numbers two last n 2 (omega (arith, size)) (ap length is) (λ i j h low.
-    let x = 8 * i + j in
-    let there : get_or (a ∷ b ∷ []) i 0 ≡ get_or numbers (last + i) 0 = two_at numbers last i h in
-    let old : bit_at number x ≡ bit_at (get_or numbers (last + i) 0) j = two_bits a b i j fits h low ∙ ap (λ m. bit_at m j) there in
-    ap (λ bs. bit_at (get_or bs i 0) j) is
-    ∙ byte_bit (bit_or number right) i j h low
-    ∙ bit_at_or number right x
-    ∙ elim (cases_lt (8 * last + x) end) [
-      | inl inside ↦
-          let none : bit_at right x ≡ 0 = (ones x (omega (arith, h, low))).1 (inl (omega (arith, inside, size))) in
-          omega (arith, none, old) ∙ shows (last + i) j low (omega arith) (omega (arith, inside)) ∙ ap (around_bit marks) (omega arith)
-      | inr past ↦
-          let set : bit_at right x ≡ 1 = (ones x (omega (arith, h, low))).0 (omega (arith, past, size)) (omega (arith, h, low)) in
-          omega (arith, set, bit_at-lt number x) ∙ sym (light (start + 8 * last + 8 * i + j) (omega (arith, past)) (omega (arith, h, low, size)))
+    let place = 8 * (first + last) in
+    let begin : end + 16 - 8 * length numbers ≡ end - 8 * last = omega (arith, size) in
+    let rest : length marks + 16 - 8 * (first + length numbers) ≡ length marks - place = omega (arith, size) in
+    let ones' : HasOnes right 16 (end - 8 * last) 16 = subst (λ e. HasOnes right 16 e 16) begin ones in
+    let keeps' : HasOnes kept 16 0 (length marks - place) = subst (HasOnes kept 16 0) rest keeps in
+    eight_of_bits marks (8 * (first + k)) (get_or (put_mid last n numbers two) k 0) (fits k) (λ j low.
+    elim (cases_lt k last) [
+      | inl front ↦
+          ap (λ m. bit_at m j) (part_before 0 last n numbers two k front (omega (arith, size)))
+          ∙ shows k j low (omega arith) (omega (arith, front, size, few, low))
+          ∙ ap (around_bit marks) (omega arith)
+          ∙ inside_bit marks (8 * (first + k) + j) (omega (arith, front, size, inside, low))
+      | inr behind ↦
+          let i = k - last in
+          let h : i < 2 = omega (arith, below, behind, size) in
+          let x = 8 * i + j in
+          let there : k ≡ last + i = omega (arith, behind) in
+          let old : bit_at number x ≡ bit_at (get_or numbers (last + i) 0) j = two_bits a b i j low_fits h low ∙ ap (λ m. bit_at m j) (two_at numbers last i h) in
+          ap (λ m. bit_at (get_or (put_mid last n numbers two) m 0) j) there
+          ∙ ap (λ m. bit_at m j) (part_inside 0 last n numbers two i (omega (arith, size)) (omega (arith, h, ap length is)))
+          ∙ ap (λ bs. bit_at (get_or bs i 0) j) is
+          ∙ byte_bit (bit_and (bit_or number right) kept) i j h low
+          ∙ ends_bit marks place number right kept (end - 8 * last) x (omega (arith, h, low)) ones' keeps'
+          (λ before. old ∙ shows (last + i) j low (omega arith) (omega (arith, before)) ∙ ap (around_bit marks) (omega arith))
+          (λ past. light (place + x) (omega (arith, past)) (omega (arith, h, low, size)))
+          ∙ ap (light_bit marks) (omega (arith, there))
     ])
-    (λ i j h low. shows i j low (omega arith) (omega (arith, h, low, size, few))) k j (omega (arith, below, size)) low
-  where
-    two_at : (numbers : List ℕ) (last i : ℕ) → i < 2 → get_or (get_or numbers last 0 ∷ get_or numbers (last + 1) 0 ∷ []) i 0 ≡ get_or numbers (last + i) 0
-    two_at numbers last zero h = ap (λ m. get_or numbers m 0) (omega arith)
-    two_at numbers last (suc zero) h = refl
-    two_at numbers last (suc (suc i)) h = absurd (omega (arith, h))
-
--- a mark that no module of a row is
-pub marked_outside : (line : List Color) (start x : ℕ) (marks : List Bool) → ((x < start) ⊎ (start + length line ≤ x)) → get_or (marked_line start line marks) x false ≡ get_or marks x false
-marked_outside [] start x marks out = refl
-marked_outside (c ∷ line) start x marks out =
-    let apart : x ≡ start → ⊥ = λ e. elim out [ inl before ↦ omega (arith, e, before) | inr behind ↦ omega (arith, e, behind) ] in
-    let rest : (x < start + 1) ⊎ (start + 1 + length line ≤ x) = elim out [ inl before ↦ inl (omega (arith, before)) | inr behind ↦ inr (omega (arith, behind)) ] in
-    marked_outside line (start + 1) x (set marks start (is_dark c)) rest ∙ get_or-set_other marks start x (is_dark c) false apart
-
--- the mark of a module of a row
-pub marked_inside : (line : List Color) (start x : ℕ) (marks : List Bool) → x < length line → start + length line ≤ length marks → get_or (marked_line start line marks) (start + x) false ≡ is_dark (get_or line x Light)
-marked_inside [] start x marks inside room = absurd (omega (arith, inside))
-marked_inside (c ∷ line) start zero marks inside room =
-    let here : start + 0 ≡ start = omega arith in
-    ap (λ i. get_or (marked_line (start + 1) line (set marks start (is_dark c))) i false) here
-    ∙ marked_outside line (start + 1) start (set marks start (is_dark c)) (inl (omega arith))
-    ∙ get_or-set_same marks start (is_dark c) false (omega (arith, room))
-marked_inside (c ∷ line) start (suc x) marks inside room =
-    let next : start + suc x ≡ start + 1 + x = omega arith in
-    ap (λ i. get_or (marked_line (start + 1) line (set marks start (is_dark c))) i false) next
-    ∙ marked_inside line (start + 1) x (set marks start (is_dark c)) (omega (arith, inside)) (omega (arith, room, length-set marks start (is_dark c)))
 
 -- the mark at a column of a row, of which none is set behind the end
 pub row_at : (g : Grid) (row column : ℕ) → get_or (cell_row g row) column false ≡ is_dark_cell g column row
@@ -222,37 +243,6 @@ row_at g row column =
           ∙ sym (cell_outside g column row (λ _ right _ _. omega (arith, past, right)))
     ]
 
--- the marks of a part of a row: none is set in front of the first module in it and behind the last one
-pub marked_part : (g : Grid) (row column first end start : ℕ) (marks : List Bool) → g.zone ≤ row → row < g.zone + g.rows → length g.cells ≡ g.rows * g.columns
-    → start ≡ (row - g.zone) * g.columns → start + g.columns ≤ length g.cells → first ≡ max column g.zone → end ≡ min (column + length marks) (g.zone + g.columns) → first < end → ((x : ℕ) → x < length marks → get_or marks x false ≡ false)
-    → (x : ℕ) → x < length marks
-    → get_or (marked_line (first - column) (slice_range g.cells (start + (first - g.zone)) (start + (first - g.zone) + (end - first))) marks) x false ≡ get_or (cell_row g row) (column + x) false
-marked_part g row column first end start marks top bottom whole place room from to some none x inside =
-    let cell = start + (first - g.zone) in
-    let n = cell + (end - first) - cell in
-    let line = slice_range g.cells cell (cell + (end - first)) in
-    let size : length line ≡ end - first = omega (arith, length-take n (drop cell g.cells), length-drop cell g.cells, room, from, to, some) in
-    let before = first - column in
-    let out : ((x < before) ⊎ (before + length line ≤ x)) → get_or (marked_line before line marks) x false ≡ is_dark_cell g (column + x) row = λ apart.
-    marked_outside line before x marks apart
-    ∙ none x inside
-    ∙ sym (cell_outside g (column + x) row (λ left right _ _. elim apart [ inl front ↦ omega (arith, from, front, left) | inr behind ↦ omega (arith, size, from, to, some, behind, right, inside) ])) in
-    elim (cases_lt x before) [
-      | inl front ↦ out (inl front)
-      | inr past ↦ elim (cases_lt x (before + length line)) [
-        | inl within ↦
-            let y = x - before in
-            let at : x ≡ before + y = omega (arith, past) in
-            let index : cell + y ≡ (row - g.zone) * g.columns + (column + x - g.zone) = omega (arith, place, from, at) in
-            ap (λ i. get_or (marked_line before line marks) i false) at
-            ∙ marked_inside line before y marks (omega (arith, at, within)) (omega (arith, size, from, to, some))
-            ∙ ap is_dark (get_or-take n (drop cell g.cells) y Light (omega (arith, at, within, size)) ∙ get_or-drop cell g.cells y Light ∙ ap (λ i. get_or g.cells i Light) index)
-            ∙ sym (cell_inside g (column + x) row (omega (arith, from, at)) (omega (arith, from, to, at, within, size, some)) top bottom)
-        | inr behind ↦ out (inr behind)
-      ]
-    ]
-    ∙ sym (row_at g row (column + x))
-
 -- the cells that stand outside of a row's are light
 pub light_before : (g : Grid) (row first end : ℕ) → end ≤ g.zone → AllLight (cell_row g row) first end
 light_before g row first end before x from below = ap (λ b. if b then 0 else 1) (row_at g row x ∙ cell_outside g x row (λ left _ _ _. omega (arith, left, below, before)))
@@ -260,24 +250,64 @@ light_before g row first end before x from below = ap (λ b. if b then 0 else 1)
 pub light_behind : (g : Grid) (row first end : ℕ) → g.zone + g.columns ≤ first → AllLight (cell_row g row) first end
 light_behind g row first end behind x from below = ap (λ b. if b then 0 else 1) (row_at g row x ∙ cell_outside g x row (λ _ right _ _. omega (arith, right, from, behind)))
 
+-- a cell of a row shows the same as where it stands among all
+cell_bit : (g : Grid) (row column index : ℕ) → g.zone ≤ column → column < g.zone + g.columns → g.zone ≤ row → row < g.zone + g.rows → index < length g.cells → index ≡ (row - g.zone) * g.columns + (column - g.zone)
+    → around_bit (map is_dark g.cells) index ≡ around_bit (cell_row g row) column
+cell_bit g row column index left right top bottom below is =
+    ap (λ b. if b then 0 else 1)
+    (get_or-map is_dark g.cells index Light false below
+    ∙ ap (λ i. is_dark (get_or g.cells i Light)) is
+    ∙ sym (cell_inside g column row left right top bottom)
+    ∙ sym (row_at g row column))
+
 -- the cells of a row among others that stand in a line
 pub window_shown : (g : Grid) (row from start before place count : ℕ) (numbers : List ℕ) → row ≡ from + (g.zone + 1) → from + 2 ≤ g.rows → length g.cells ≡ g.rows * g.columns → place ≤ g.zone
     → before + g.zone ≡ g.columns + place → start ≡ from * g.columns + before → g.zone + g.columns ≤ place + 8 * count → ShowEights (map is_dark (slice_range g.cells start (start + 8 * count))) 0 numbers count
     → ShowWithin (cell_row g row) place numbers (g.zone - place) (g.zone + g.columns - place)
 window_shown g row from start before place count numbers there inside whole left edge begin room shows k j low first below =
     let x = 8 * k + j in
-    let column = place + x in
     let turned : (from + 1) * g.columns ≡ from * g.columns + g.columns = omega arith in
     let at : row - g.zone ≡ from + 1 = omega (arith, there) in
-    let index : start + x ≡ (row - g.zone) * g.columns + (column - g.zone) = omega (arith, begin, edge, turned, first, ap (λ r. r * g.columns) at) in
+    let index : start + x ≡ (row - g.zone) * g.columns + (place + x - g.zone) = omega (arith, begin, edge, turned, first, ap (λ r. r * g.columns) at) in
     let all : (from + 2) * g.columns ≤ g.rows * g.columns = mul-le-mul_right g.columns inside in
-    let bounded : start + x < length g.cells = omega (arith, whole, all, begin, edge, below) in
     shows k j (omega (arith, below, room)) low
     ∙ ap (around_bit (map is_dark (slice_range g.cells start (start + 8 * count)))) (omega arith)
     ∙ part_bit is_dark g.cells start (start + 8 * count - start) x (omega (arith, below, room))
-    ∙ ap (λ b. if b then 0 else 1)
-    (get_or-map is_dark g.cells (start + x) Light false bounded
-    ∙ ap (λ i. is_dark (get_or g.cells i Light)) index
-    ∙ sym (cell_inside g column row (omega (arith, first)) (omega (arith, below)) (omega (arith, there)) (omega (arith, there, inside)))
-    ∙ sym (row_at g row column))
+    ∙ cell_bit g row (place + x) (start + x) (omega (arith, first)) (omega (arith, below)) (omega (arith, there)) (omega (arith, there, inside)) (omega (arith, whole, all, begin, edge, below)) index
     ∙ ap (around_bit (cell_row g row)) (omega arith)
+
+-- bytes that tell which of a line are set, where it stands, and else are zeros, show the same as the line behind so many marks that are not set
+pub line_bit : (line : List Bool) (bytes : List ℕ) (zone column first end x : ℕ) → x < length bytes → first ≡ max column zone → end ≡ min (column + length bytes) (zone + length line)
+    → (first ≤ column + x → column + x < end → not (get_or bytes x 0 == 0) ≡ get_or line (column + x - zone) false) → ((column + x < first) ⊎ (end ≤ column + x) → get_or bytes x 0 ≡ 0)
+    → around_bit (map (λ b. not (b == 0)) bytes) x ≡ around_bit (replicate zone false ++ line) (column + x)
+line_bit line bytes zone column first end x below from to within out =
+    let bit : Bool → ℕ = λ b. if b then 0 else 1 in
+    let set : ℕ → Bool = λ b. not (b == 0) in
+    let behind = replicate zone false ++ line in
+    ap bit (get_or-map set bytes x 0 false below)
+    ∙ elim (cases_lt (column + x) zone) [
+      | inl before ↦ ap (λ b. bit (set b)) (out (inl (omega (arith, before, from)))) ∙ before_bit zone (column + x) line before
+      | inr past ↦
+          let y = column + x - zone in
+          let place : zone + y ≡ column + x = omega (arith, past) in
+          elim (cases_lt y (length line)) [
+            | inl inside ↦ ap bit (within (omega (arith, from, past)) (omega (arith, to, below, inside, past))) ∙ sym (moved_bit zone y line) ∙ ap (around_bit behind) place
+            | inr beyond ↦
+                ap (λ b. bit (set b)) (out (inr (omega (arith, to, beyond, past))))
+                ∙ behind_end line y beyond
+                ∙ sym (moved_bit zone y line)
+                ∙ ap (around_bit behind) place
+          ]
+    ]
+
+-- a row of cells shows the same as its cells behind the light ones
+pub row_bit : (g : Grid) (row start x : ℕ) → g.zone ≤ row → row < g.zone + g.rows → length g.cells ≡ g.rows * g.columns → start ≡ (row - g.zone) * g.columns
+    → around_bit (replicate g.zone false ++ map is_dark (slice_range g.cells start (start + g.columns))) x ≡ around_bit (cell_row g row) x
+row_bit g row start x top bottom whole place =
+    let edge = replicate g.zone false in
+    let line = map is_dark (slice_range g.cells start (start + g.columns)) in
+    same_with_zone (edge ++ line) g.zone x
+    ∙ ap (λ m. around_bit m x)
+    (append_assoc edge line edge
+    ∙ ap (λ s. edge ++ (map is_dark (slice_range g.cells s (s + g.columns)) ++ edge)) place
+    ∙ inside_row g row top bottom whole)

@@ -36,7 +36,7 @@ pub behind_end : (marks : List Bool) (x : ℕ) → length marks ≤ x → 1 ≡ 
 behind_end marks x h = not_set marks x (get_or_past marks x false h)
 
 -- marks behind others that are not set
-before_bit : (n x : ℕ) (marks : List Bool) → x < n → 1 ≡ around_bit (replicate n false ++ marks) x
+pub before_bit : (n x : ℕ) (marks : List Bool) → x < n → 1 ≡ around_bit (replicate n false ++ marks) x
 before_bit zero x marks h = absurd (omega arith)
 before_bit (suc n) zero marks h = refl
 before_bit (suc n) (suc x) marks h = before_bit n x marks (omega arith)

@@ -137,7 +137,7 @@ pub struct Grid<'a> {
     down: u32,
     words: usize, // how many hold the bits of a row of cells, where it is made in a straight line, else 0
     edged: usize, // the same where the last has light cells alone
-    window: Window,
+    window: Window, // the groups that rows of cells are mostly asked for, and what is read of them
 }
 
 impl<'a> Model for Grid<'a> {

@@ -75,18 +75,6 @@ impl Shade for u8 {
     }
 }
 
-impl Shade for bool {
-    ghost dark = { λ mark. mark };
-
-    fn is_dark(self) -> bool {
-        self
-    }
-
-    fn number(self) -> u8 {
-        u8::from(self)
-    }
-}
-
 /// Marks which modules of two rows are dark, column by column.
 pub fn mark_columns<S: Shade>(marks: &mut [bool], upper: &[S], lower: &[S])
     requires lower { length lower.now ≡ length upper.now }

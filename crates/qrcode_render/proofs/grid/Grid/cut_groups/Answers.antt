@@ -9,4 +9,4 @@ returns-then-not-is_empty-clause-value c = λ marks size shows.
     let is : cut ≡ end - length marks = omega (arith, c.saturating_sub.ensures, c.sides-columns.ensures.columns, size) in
     let few : end < length marks + 8 = omega (arith, c.requires.groups, size) in
     c.cut_last.ensures.value marks c.args.first few
-    (kept_ones cut (length marks + 8 - end) (λ j low h. omega (arith, is, few, low, h)) (λ j low h. omega (arith, is, few, low, h))) (λ k. (c.type_inv.numbers k).fits) shows
+    (kept_ones 8 cut (length marks + 8 - end) (λ j low h. omega (arith, is, few, low, h)) (λ j low h. omega (arith, is, few, low, h))) (λ k. (c.type_inv.numbers k).fits) shows

@@ -13,18 +13,20 @@ returns c = λ some.
     let count = c.window_count-count.ensures in
     let rows = c.window_rows.ensures some in
     let cut = c.saturating_sub-2.result in
-    let is : cut ≡ end - (columns + 2 * zone) = omega (arith, c.saturating_sub-2.ensures) in (
-      rows.0,
-      rows.1,
-      refl,
-      omega arith,
-      omega arith,
-      omega (arith, c.saturating_sub.ensures, rows.2),
-      count.inside,
-      omega (arith, rows.3),
-      count.near,
-      count.least,
-      subst (HasOnes (255 - 255 * 2 ^ shift % 256) 8 0) here (left_ones shift),
-      right_ones (end - (zone + columns)) (zone + columns + 16 - end) (omega (arith, count.inside, count.near)),
-      kept_ones cut (columns + 2 * zone + 8 - end) (λ j low h. omega (arith, is, count.least, low, h)) (λ j low h. omega (arith, is, count.least, low, h)),
-    )
+    let is : cut ≡ end - (columns + 2 * zone) = omega (arith, c.saturating_sub-2.ensures) in
+    record {
+      inner = rows.0;
+      at_least = rows.1;
+      at_most = rows.2;
+      top = refl;
+      begins = omega arith;
+      begins_near = omega arith;
+      before = omega (arith, c.saturating_sub.ensures, rows.3);
+      ends = count.inside;
+      ends_near = count.near;
+      ends_early = omega (arith, rows.4);
+      ends_in_row = count.least;
+      left = subst (HasOnes (255 - 255 * 2 ^ shift % 256) 8 0) here (left_ones shift);
+      right = right_ones (end - (zone + columns)) (zone + columns + 16 - end) (omega (arith, count.inside, count.near));
+      kept = kept_ones 16 cut (columns + 2 * zone + 16 - end) (λ j low h. omega (arith, is, count.least, low, h)) (λ j low h. omega (arith, is, count.least, low, h));
+    }
