@@ -89,22 +89,6 @@ pub has_above : (n w k : ℕ) → n < 2 ^ w → w ≤ k → is_set n k ≡ false
 unfolding is_set
 has_above n w k h l = ap (λ x. x == 1) (bit_at_above n w k h l)
 
--- the places of a number that is cut
-pub has_mod : (n room k : ℕ) → k < room → is_set (n % 2 ^ room) k ≡ is_set n k
-unfolding is_set
-has_mod n room k h = ap (λ x. x == 1) (sym (bit_at_cat_low (n / 2 ^ room) room (n % 2 ^ room) k h) ∙ ap (λ m. bit_at m k) (shr_split n room))
-
--- the places of a number in two parts
-pub has_low : (h l n k : ℕ) → k < n → is_set (h * 2 ^ n + l) k ≡ is_set l k
-unfolding is_set
-has_low h l n k below = ap (λ x. x == 1) (bit_at_cat_low h n l k below)
-
-pub has_high : (h l n k : ℕ) → l < 2 ^ n → is_set (h * 2 ^ n + l) (n + k) ≡ is_set h k
-unfolding is_set
-has_high h l n k small =
-    let d : n + k - n ≡ k = omega arith in
-    ap (λ x. x == 1) (bit_at_cat_high h n l (n + k) small (omega arith) ∙ ap (λ i. bit_at h i) d)
-
 zero_bit : (x : ℕ) → x < 2 → (x == 1) ≡ false → x ≡ 0
 zero_bit zero h e = refl
 zero_bit (suc zero) h e = cc

@@ -24,10 +24,6 @@ pub trait PackedRow: Copy {
         ensures upper { Self.Pair.upper result ≡ bits self }
         ensures lower { Self.Pair.lower result ≡ bits lower };
 
-    /// How many bits there are.
-    fn size() -> u32
-        ensures { result ≡ room };
-
     /// The row in which the first `count` bits are set.
     fn first(count: u32) -> Self
         requires { count < room }
@@ -65,8 +61,7 @@ pub trait PackedRow: Copy {
     /// How many bits are set.
     fn count_ones(self) -> u32
         ensures value { result ≡ count_ones (bits self) }
-        ensures at_most { result ≤ 192 }
-        ensures fits { bits self < 2 ^ room };
+        ensures at_most { result ≤ 192 };
 
     /// Whether no bit is set.
     fn is_zero(self) -> bool
@@ -98,11 +93,6 @@ impl PackedRow for u64 {
     #[inline(always)]
     fn beside(self, lower: u64) -> WordPair {
         WordPair { upper: self, lower }
-    }
-
-    #[inline(always)]
-    fn size() -> u32 {
-        64
     }
 
     #[inline(always)]
@@ -196,11 +186,6 @@ impl PackedRow for Row128 {
             low: self.words.upper.beside(lower.words.upper),
             high: self.words.lower.beside(lower.words.lower),
         }
-    }
-
-    #[inline(always)]
-    fn size() -> u32 {
-        128
     }
 
     #[inline(always)]
@@ -298,11 +283,6 @@ impl PackedRow for Row192 {
                 high: self.high.beside(lower.high),
             },
         }
-    }
-
-    #[inline(always)]
-    fn size() -> u32 {
-        192
     }
 
     #[inline(always)]

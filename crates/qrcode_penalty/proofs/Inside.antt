@@ -1,9 +1,18 @@
 -- The runs of a line by the modules inside them: each window of five counts with the two places behind it.
-use Rattle.std.proofs.Common.{◌≡◌, ℕ, zero, suc, ◌+◌, ◌<◌, ◌≤◌, Bool, true, false, not, ◌&&◌, ◌||◌, refl, ap, ap₂, sym, ◌∙◌, arith, if◌then◌else◌}
+use Rattle.std.proofs.Common.{◌≡◌, ℕ, zero, suc, ◌+◌, ◌*◌, ◌^◌, ◌<◌, ◌≤◌, Bool, true, false, not, ◌&&◌, ◌||◌, refl, ap, ap₂, sym, ◌∙◌, arith, bit_or, if◌then◌else◌}
+use Rattle.qrcode_packed.specs.Rows.{is_set}
+use Rattle.qrcode_packed.proofs.Places.{has_or, has_shl, has_shl_below}
 use Rattle.qrcode_penalty.specs.Penalty.{sum_below, count_if, same, is_run, begins_run, run_penalty_at}
 use Rattle.qrcode_penalty.specs.Inside.{before, two, three, run_from, inside_row}
 use Rattle.qrcode_penalty.proofs.Runs.{is_run-same}
 use Rattle.qrcode_penalty.proofs.Sums.{sum_same, sum_plus, sum_swap}
+
+-- a number with itself, shifted by one place
+pub shifted_at : (a b k : ℕ) → is_set (bit_or a (b * 2 ^ 1)) k ≡ (is_set a k || before (is_set b) k)
+shifted_at a b zero = has_or a (b * 2 ^ 1) 0 ∙ ap (λ t. is_set a 0 || t) (has_shl_below b 1 0 (omega arith))
+shifted_at a b (suc k) =
+    let e : suc k ≡ k + 1 = omega arith in
+    has_or a (b * 2 ^ 1) (suc k) ∙ ap (λ t. is_set a (suc k) || t) (ap (λ i. is_set (b * 2 ^ 1) i) e ∙ has_shl b 1 k)
 
 -- what is still to count behind the first n places
 abbrev pub behind : (ℕ → Bool) → ℕ → ℕ
@@ -55,6 +64,15 @@ inside_runs line v (suc n) h =
     let step = more line v n (λ j l. h j (omega (arith, l)) ∙ is_run-same line j) in
     let now = ap (λ b. count_if b (if begins_run line n then 3 else 1)) (h n (omega arith)) in
     omega (arith, inside_runs line v n (λ k l. h k (omega (arith, l))), step, now)
+
+-- the same where the test holds of no place from n on
+pub inside_sum : (line v : ℕ → Bool) (n : ℕ) → ((k : ℕ) → k < n → v k ≡ is_run line k 5) → ((k : ℕ) → n ≤ k → v k ≡ false) → sum_below (n + 2) (λ k. count_if (three v k) 1) ≡ sum_below n (run_penalty_at line)
+unfolding sum_below
+inside_sum line v n h none =
+    let e : n + 2 ≡ suc (suc n) = omega arith in
+    let here = ap (λ b. count_if (b || before (two v) n) 1) (none n (omega arith)) in
+    let same_next = ap₂ (λ (a b : Bool). count_if (a || (b || before v n)) 1) (none (suc n) (omega arith)) (none n (omega arith)) in
+    ap (λ m. sum_below m (λ k. count_if (three v k) 1)) e ∙ omega (arith, inside_runs line v n h, here, same_next)
 
 -- how many have one in the row before n, and in that or the one before it
 abbrev pub last_row : (ℕ → ℕ → Bool) → ℕ → ℕ → ℕ

@@ -3,13 +3,7 @@ pub mod ColumnWords
 pub mod Finders
 pub mod Inside
 pub mod LastColumn
-pub mod LastLines
-pub mod LineForms
-pub mod LineRuns
 pub mod Lines
-pub mod PaddedForms
-pub mod RowWords
 pub mod Runs
 pub mod Squares
-pub mod StripSums
 pub mod Sums

@@ -27,34 +27,43 @@ cost_more true true true true r false one more =
     let before : run_cost (suc (suc (suc r))) ≡ r + 1 = grind (arith, nat_tests) in
     omega (arith, now, before)
 
-same_dark : (b c d e : Bool) → (b && (c && (d && (e && true)))) ≡ (same d e && (same c d && (same b c && b)))
-same_dark true true true true = refl
-same_dark true true true false = refl
-same_dark true true false true = refl
-same_dark true true false false = refl
-same_dark true false true true = refl
-same_dark true false true false = refl
-same_dark true false false true = refl
-same_dark true false false false = refl
-same_dark false true true true = refl
-same_dark false true true false = refl
-same_dark false true false true = refl
-same_dark false true false false = refl
-same_dark false false true true = refl
-same_dark false false true false = refl
-same_dark false false false true = refl
-same_dark false false false false = refl
-
-turned_over : (a b : Bool) → same (not a) (not b) ≡ same a b
-turned_over true true = refl
-turned_over true false = refl
-turned_over false true = refl
-turned_over false false = refl
-
--- five places are of one colour where none of four changes it
 five_same : (a b c d e : Bool) → (same a a && (same a b && (same a c && (same a d && (same a e && true))))) ≡ (same d e && (same c d && (same b c && same a b)))
-five_same true b c d e = same_dark b c d e
-five_same false b c d e = same_dark (not b) (not c) (not d) (not e) ∙ ap₂ (λ (p q : Bool). p && q) (turned_over d e) (ap₂ (λ (p q : Bool). p && (q && not b)) (turned_over c d) (turned_over b c))
+five_same true b c d e = go b c d e where
+  go : (b c d e : Bool) → (b && (c && (d && (e && true)))) ≡ (same d e && (same c d && (same b c && b)))
+  go true true true true = refl
+  go true true true false = refl
+  go true true false true = refl
+  go true true false false = refl
+  go true false true true = refl
+  go true false true false = refl
+  go true false false true = refl
+  go true false false false = refl
+  go false true true true = refl
+  go false true true false = refl
+  go false true false true = refl
+  go false true false false = refl
+  go false false true true = refl
+  go false false true false = refl
+  go false false false true = refl
+  go false false false false = refl
+five_same false b c d e = go b c d e where
+  go : (b c d e : Bool) → (not b && (not c && (not d && (not e && true)))) ≡ (same d e && (same c d && (same b c && not b)))
+  go true true true true = refl
+  go true true true false = refl
+  go true true false true = refl
+  go true true false false = refl
+  go true false true true = refl
+  go true false true false = refl
+  go true false false true = refl
+  go true false false false = refl
+  go false true true true = refl
+  go false true true false = refl
+  go false true false true = refl
+  go false true false false = refl
+  go false false true true = refl
+  go false false true false = refl
+  go false false false true = refl
+  go false false false false = refl
 
 positive : (line : ℕ → Bool) (i : ℕ) → 1 ≤ run_length line i
 unfolding run_length

@@ -6,23 +6,27 @@ use Rattle.std.proofs.lemmas.List.{get_or_past}
 use Rattle.std.proofs.lemmas.Bool.Decides.{leb_tells}
 use Rattle.qrcode_packed.specs.Rows.{is_set}
 use Rattle.qrcode_packed.proofs.Places.{has_above, has_shr, has_zero}
-use Rattle.qrcode_penalty.specs.Penalty.{sum_below, count_if, same, run_penalty_at, run_penalty, finder_penalty_at, finder_penalty, line_penalty, dark_count, balance_penalty, light_count, micro_penalty}
+use Rattle.qrcode_penalty.specs.Penalty.{sum_below, count_if, same, run_penalty_at, run_penalty, finder_penalty_at, finder_penalty, line_penalty, block_penalty, dark_count, balance_penalty, normal_penalty, light_count, micro_penalty}
 use Rattle.qrcode_packed.specs.Rows.{dark_in, FitsWidth, Shows, inside}
 use Rattle.qrcode_penalty.proofs.Runs.{run_penalty-windows}
 use Rattle.qrcode_penalty.proofs.Sums.{count_places, sum_plus, sum_same, sum_swap}
 use Rattle.qrcode_penalty.proofs.Lines.{without, without_at, without_above}
 use Rattle.qrcode_penalty.proofs.ColumnWords.{row}
 
--- what the columns of lines cost, by runs and finder forms
-pub columns_cost : (rows : List ℕ) (n m b d : ℕ) →
-    b ≡ sum_below (n - 4) (λ y. sum_below m (λ x. run_penalty_at (dark_in rows x) y)) →
-    d ≡ sum_below (n - 6) (λ y. sum_below m (λ x. finder_penalty_at n (dark_in rows x) y)) →
-    b + d ≡ sum_below m (λ x. line_penalty n (dark_in rows x))
-unfolding finder_penalty
-columns_cost rows n m b d rb rd =
-    let runs : b ≡ sum_below m (λ x. run_penalty n (dark_in rows x)) = rb ∙ sum_swap (λ x y. run_penalty_at (dark_in rows x) y) (n - 4) m ∙ sum_same _ _ m (λ x h. sym (run_penalty-windows n (dark_in rows x))) in
-    let finders : d ≡ sum_below m (λ x. finder_penalty n (dark_in rows x)) = rd ∙ sum_swap (λ x y. finder_penalty_at n (dark_in rows x) y) (n - 6) m in
-    ap₂ (λ (u v : ℕ). u + v) runs finders ∙ sym (sum_plus (λ x. run_penalty n (dark_in rows x)) (λ x. finder_penalty n (dark_in rows x)) m)
+pub square_cost : (rows : List ℕ) (n a b d e f : ℕ) →
+    a ≡ sum_below n (λ y. line_penalty n (λ x. dark_in rows x y)) →
+    b ≡ sum_below (n - 4) (λ y. sum_below n (λ x. run_penalty_at (dark_in rows x) y)) →
+    d ≡ sum_below (n - 6) (λ y. sum_below n (λ x. finder_penalty_at n (dark_in rows x) y)) →
+    e ≡ block_penalty n (dark_in rows) →
+    f ≡ balance_penalty n (dark_in rows) →
+    a + b + d + e + f ≡ normal_penalty n (dark_in rows)
+unfolding normal_penalty finder_penalty
+square_cost rows n a b d e f ra rb rd re rf =
+    let runs : b ≡ sum_below n (λ x. run_penalty n (dark_in rows x)) = rb ∙ sum_swap (λ x y. run_penalty_at (dark_in rows x) y) (n - 4) n ∙ sum_same _ _ n (λ x h. sym (run_penalty-windows n (dark_in rows x))) in
+    let finders : d ≡ sum_below n (λ x. finder_penalty n (dark_in rows x)) = rd ∙ sum_swap (λ x y. finder_penalty_at n (dark_in rows x) y) (n - 6) n in
+    let columns : b + d ≡ sum_below n (λ x. line_penalty n (dark_in rows x)) = ap₂ (λ (u v : ℕ). u + v) runs finders ∙ sym (sum_plus (λ x. run_penalty n (dark_in rows x)) (λ x. finder_penalty n (dark_in rows x)) n) in
+    let group : a + b + d + e + f ≡ a + (b + d) + e + f = omega arith in
+    group ∙ ap₂ (λ (u v : ℕ). u + v) (ap₂ (λ (u v : ℕ). u + v) (ap₂ (λ (u v : ℕ). u + v) ra columns) re) rf
 
 pub light_places : (a n : ℕ) → count_ones (without (2 ^ (n - 1) - 1) (a / 2 ^ 1)) ≡ light_count n (is_set a)
 unfolding light_count

@@ -1,5 +1,5 @@
 -- Sums over the numbers below a bound, and the places of a packed line as such a sum.
-use Rattle.std.proofs.Common.{◌≡◌, ℕ, zero, suc, ◌+◌, ◌-◌, ◌*◌, ◌/◌, ◌%◌, ◌^◌, ◌<◌, ◌≤◌, Bool, true, false, not, ◌==◌, refl, ap, ap₂, sym, ◌∙◌, arith, count_ones}
+use Rattle.std.proofs.Common.{◌≡◌, ℕ, zero, suc, ◌+◌, ◌*◌, ◌/◌, ◌%◌, ◌^◌, ◌<◌, ◌≤◌, Bool, true, false, not, ◌==◌, refl, ap, ap₂, sym, ◌∙◌, arith, count_ones}
 use Rattle.std.specs.Int.{bit_at}
 use Rattle.std.specs.Int.Count.{ones, ones_step}
 use Rattle.std.proofs.lemmas.Nat.{shr_below}
@@ -60,7 +60,7 @@ count_places n f w inside above =
     ones_sum w n (below_from_places n w above)
     ∙ sum_same (λ k. count_if (is_set n k) 1) (λ k. count_if (f k) 1) w (λ k l. ap (λ b. count_if b 1) (inside k l))
 
-pub times_if : (c : ℕ) (b : Bool) → c * count_if b 1 ≡ count_if b c
+times_if : (c : ℕ) (b : Bool) → c * count_if b 1 ≡ count_if b c
 times_if c true = omega arith
 times_if c false = omega arith
 
@@ -78,6 +78,13 @@ sum_step f n s v h k =
     let e : n + 1 ≡ suc n = omega arith in
     ap₂ (λ (a b : ℕ). a + b) h k ∙ ap (λ m. sum_below m f) (sym e)
 
+-- the same with the next two
+pub sum_two : (f : ℕ → ℕ) (n s v : ℕ) → s ≡ sum_below n f → v ≡ f n + f (n + 1) → s + v ≡ sum_below (n + 2) f
+sum_two f n s v h k =
+    let e : n + 1 + 1 ≡ n + 2 = omega arith in
+    let one : s + f n ≡ sum_below (n + 1) f = sum_step f n s (f n) h refl in
+    omega (arith, k, sum_step f (n + 1) (s + f n) (f (n + 1)) one refl, ap (λ m. sum_below m f) e)
+
 -- the places where a test does not hold, and those where it holds
 pub sum_others : (f : ℕ → Bool) (n : ℕ) → sum_below n (λ k. count_if (not (f k)) 1) + sum_below n (λ k. count_if (f k) 1) ≡ n
 unfolding sum_below
@@ -86,17 +93,3 @@ sum_others f (suc n) = omega (arith, sum_others f n, by_case (f n)) where
   by_case : (b : Bool) → count_if (not b) 1 + count_if b 1 ≡ 1
   by_case true = refl
   by_case false = refl
-
--- a sum in two parts
-pub sum_parts : (f : ℕ → ℕ) (a b : ℕ) → sum_below (a + b) f ≡ sum_below a f + sum_below b (λ i. f (a + i))
-unfolding sum_below
-sum_parts f a zero = let e : a + 0 ≡ a = omega arith in ap (λ n. sum_below n f) e ∙ omega arith
-sum_parts f a (suc b) =
-    let e : a + suc b ≡ suc (a + b) = omega arith in
-    ap (λ n. sum_below n f) e ∙ omega (arith, sum_parts f a b)
-
--- a sum whose last numbers are 0
-pub sum_cut : (f : ℕ → ℕ) (n m : ℕ) → n ≤ m → ((i : ℕ) → n ≤ i → f i ≡ 0) → sum_below m f ≡ sum_below n f
-sum_cut f n m h none =
-    let e : m ≡ n + (m - n) = omega (arith, h) in
-    ap (λ k. sum_below k f) e ∙ sum_parts f n (m - n) ∙ omega (arith, sum_zero (λ i. f (n + i)) (m - n) (λ k l. none (n + k) (omega arith)))

@@ -2,10 +2,5 @@
 #![tactic(auto)]
 
 mod columns;
-mod forms;
-mod last_lines;
-mod pairs;
 pub mod penalty;
-mod row_halves;
-mod run_costs;
-mod strips;
+mod rows;

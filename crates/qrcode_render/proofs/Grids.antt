@@ -128,7 +128,7 @@ rows_by_cells f g some_wide some_high =
     ∙ cell_rows (λ r. f (each g.across (cell_row g r))) g.down (all_rows g)
 
 -- where a range begins does not matter to a text that is repeated
-pub times_from : (text : List ℕ) (a b n : ℕ) → text ++ flat_map (λ (_ : ℕ). text) (range_with_len a n) ≡ text ++ flat_map (λ (_ : ℕ). text) (range_with_len b n)
+times_from : (text : List ℕ) (a b n : ℕ) → text ++ flat_map (λ (_ : ℕ). text) (range_with_len a n) ≡ text ++ flat_map (λ (_ : ℕ). text) (range_with_len b n)
 times_from text a b zero = refl
 times_from text a b (suc n) = ap (λ t. text ++ t) (times_from text (a + 1) (b + 1) n)
 
@@ -146,7 +146,7 @@ text_times dark light a true = dark_times dark light a
 text_times dark light a false = light_times dark light a
 
 -- the text of marks that come so many times each
-pub text_each : (dark light : List ℕ) (a : ℕ) (cells : List Bool) → marks_text dark light (each a cells) ≡ marks_text (repeated a dark) (repeated a light) cells
+text_each : (dark light : List ℕ) (a : ℕ) (cells : List Bool) → marks_text dark light (each a cells) ≡ marks_text (repeated a dark) (repeated a light) cells
 text_each dark light a [] = refl
 text_each dark light a (c ∷ cells) =
     flat_map-append _ (replicate a c) (each a cells) ∙ ap₂ (λ x y. x ++ y) (text_times dark light a c) (text_each dark light a cells)
@@ -217,7 +217,7 @@ four_hold : (a b c d e : Bool) → a ≡ true → b ≡ true → c ≡ true → 
 four_hold a b c d e p q r s = λ k. p k && q k && r k && s k && e
 
 -- a cell inside
-pub cell_inside : (g : Grid) (column row : ℕ) → g.zone ≤ column → column < g.zone + g.columns → g.zone ≤ row → row < g.zone + g.rows → is_dark_cell g column row ≡ is_dark (get_or g.cells ((row - g.zone) * g.columns + (column - g.zone)) Light)
+cell_inside : (g : Grid) (column row : ℕ) → g.zone ≤ column → column < g.zone + g.columns → g.zone ≤ row → row < g.zone + g.rows → is_dark_cell g column row ≡ is_dark (get_or g.cells ((row - g.zone) * g.columns + (column - g.zone)) Light)
 cell_inside g column row l r t b =
     let left : nat_le g.zone column ≡ true = grind (arith, nat_tests) in
     let right : nat_lt column (g.zone + g.columns) ≡ true = grind (arith, nat_tests) in

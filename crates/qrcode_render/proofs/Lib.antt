@@ -1,14 +1,8 @@
 pub mod Attributes
-pub mod EqualRows
 pub mod Beginnings
 pub mod FilledRuns
 pub mod Folds
 pub mod Grids
-pub mod GroupNumbers
-pub mod InlaidRows
-pub mod LightNumbers
-pub mod LightWords
-pub mod RowWords
 pub mod LineTexts
 pub mod Packed
 pub mod Palettes
@@ -21,4 +15,3 @@ pub mod Rectangles
 pub mod Sizes
 pub mod StrokedRows
 pub mod TextLines
-pub mod Vectors

@@ -75,16 +75,6 @@ pub some_lines : (across : ℕ) (lines : List (List ℕ)) → 0 < across → lin
 some_lines zero lines h = absurd (omega arith)
 some_lines (suc n) lines h = let some : (suc n == 0) ≡ false = grind (arith, nat_tests) in ap (λ b. if b then [] else join_with_byte 10 lines) some
 
--- room for lines that have a width
-pub some_room : (across room : ℕ) → 0 < across → (if across == 0 then 0 else room) ≡ room
-some_room zero room h = absurd (omega arith)
-some_room (suc n) room h = let some : (suc n == 0) ≡ false = grind (arith, nat_tests) in ap (λ b. if b then 0 else room) some
-
--- room for nothing
-pub no_room : (across room : ℕ) → (0 < across → room ≡ 0) → (if across == 0 then 0 else room) ≡ 0
-no_room zero room none = refl
-no_room (suc n) room none = some_room (suc n) room (omega arith) ∙ none (omega arith)
-
 -- room for all texts is room for those of the first marks and for more of them
 pub text_room : (dark light : List ℕ) (marks : List Bool) (i j : ℕ) (old more : List ℕ) (n : ℕ) → marks_text dark light (take j marks) ≡ marks_text dark light (take i marks) ++ more → length (old ++ marks_text dark light marks) + 32 ≤ n
     → length (old ++ marks_text dark light (take i marks)) + length more + 32 ≤ n
@@ -99,12 +89,6 @@ text_room dark light marks i j old more n is room =
       length-append old (marks_text dark light marks),
       length-append old (marks_text dark light (take i marks)),
     )
-
--- the same for one more mark, which stands for this text
-pub one_room : (dark light : List ℕ) (marks : List Bool) (i : ℕ) (old text : List ℕ) (n : ℕ) → i < length marks → (if get_or marks i false then dark else light) ≡ text → length (old ++ marks_text dark light marks) + 32 ≤ n
-    → length (old ++ marks_text dark light (take i marks)) + length text + 32 ≤ n
-one_room dark light marks i old text n inside is =
-    text_room dark light marks i (i + 1) old text n (flat_map_one (λ m. if m then dark else light) marks i (i + 1) false refl inside ∙ ap (λ t. marks_text dark light (take i marks) ++ t) is)
 
 -- how long texts of marks are at most
 pub text_at_most : (dark light : List ℕ) (marks : List Bool) (n : ℕ) → length dark ≤ n → length light ≤ n → length (marks_text dark light marks) ≤ length marks * n

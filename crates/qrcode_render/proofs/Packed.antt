@@ -1,16 +1,14 @@
 -- Rows of cells as pixels, eight in a byte.
 use Rattle.std.proofs.Common.{◌≡◌, ℕ, zero, suc, ◌+◌, ◌*◌, ◌/◌, ◌^◌, ◌<◌, ◌≤◌, inl, inr, Bool, true, false, List, [], ◌∷◌, ◌++◌, length, map, replicate, get_or, refl, ap, ap₂, ◌∙◌, sym, arith, if◌then◌else◌}
-use Rattle.std.proofs.Math.Nat.{pow-suc, pow-le-pow_right, div-mul-le_self, div-div-eq-div-mul}
+use Rattle.std.proofs.Math.Nat.{pow-suc, pow-le-pow_right, div-mul-le_self}
 use Rattle.std.proofs.lemmas.Bool.{cases_lt}
-use Rattle.std.proofs.lemmas.Nat.{le-div, div_below}
-use Rattle.std.proofs.lemmas.List.{map-append, append-nil, get_or_past, get_or-map, length-map}
-use Rattle.std.proofs.lemmas.List.FromFn.{fill_by_all}
+use Rattle.std.proofs.lemmas.Nat.{le-div}
+use Rattle.std.proofs.lemmas.List.{map-append, get_or_past, get_or-map, length-map}
 use Rattle.std.specs.List.{flat_map, range_with_len}
 use Rattle.qrcode_render.specs.Bitmap.{row_of}
 use Rattle.qrcode_render.specs.Files.{inked, black_bit, bits_from, packed}
-use Rattle.qrcode_render.specs.Grid.{Grid, all_rows, cell_row, pixels_of, each, repeated, row_text, rows_text}
-use Rattle.qrcode_render.specs.Texts.{marks_text}
-use Rattle.qrcode_render.proofs.Grids.{length-each, get_or-each, row_of-pixels, flat_range_same, cell_rows, range_append, text_each}
+use Rattle.qrcode_render.specs.Grid.{Grid, all_rows, cell_row, pixels_of, each, repeated}
+use Rattle.qrcode_render.proofs.Grids.{length-each, get_or-each, row_of-pixels, flat_range_same, cell_rows, range_append}
 
 bit_small : (blacks : List Bool) (x : ℕ) → black_bit blacks x < 2
 bit_small blacks x = small (get_or blacks x false)
@@ -93,58 +91,6 @@ byte_of_one marked other a xs start some same =
     (omega (arith, same, div_grows a start (start + i) some (omega arith), div_grows a (start + i) (start + 7) some (omega (arith, h)))) in
     let none : bits_from blacks start 0 ≡ 0 = refl in
     omega (arith, none, bits_more blacks start 0, bits_more blacks start 1, bits_more blacks start 2, bits_more blacks start 3, bits_more blacks start 4, bits_more blacks start 5, bits_more blacks start 6, bits_more blacks start 7, e 0 (omega arith), e 1 (omega arith), e 2 (omega arith), e 3 (omega arith), e 4 (omega arith), e 5 (omega arith), e 6 (omega arith), e 7 (omega arith))
-
--- one byte for each mark
-bytes_of_marks : (x y : ℕ) (marks : List Bool) → marks_text (x ∷ []) (y ∷ []) marks ≡ map (λ m. if m then x else y) marks
-bytes_of_marks x y [] = refl
-bytes_of_marks x y (true ∷ marks) = ap (λ xs. x ∷ xs) (bytes_of_marks x y marks)
-bytes_of_marks x y (false ∷ marks) = ap (λ xs. y ∷ xs) (bytes_of_marks x y marks)
-
--- eight bits of a colour
-eight_bits : (marked other mark : Bool) → (if mark then (if marked then 255 else 0) else (if other then 255 else 0)) ≡ 255 * (if (if mark then marked else other) then 1 else 0)
-eight_bits true other true = refl
-eight_bits false other true = refl
-eight_bits marked true false = refl
-eight_bits marked false false = refl
-
--- cells of whole bytes are bytes that come so many times each
-pub whole_bytes : (marked other : Bool) (a : ℕ) (xs : List Bool) → 0 < a
-    → marks_text (repeated a ((if marked then 255 else 0) ∷ [])) (repeated a ((if other then 255 else 0) ∷ [])) xs ≡ packed (inked marked other (each (8 * a) xs))
-unfolding packed
-whole_bytes marked other a xs some =
-    let x : ℕ = if marked then 255 else 0 in
-    let y : ℕ = if other then 255 else 0 in
-    let blacks = inked marked other (each (8 * a) xs) in
-    let cells = each a xs in
-    let n = length xs * a in
-    let f : ℕ → ℕ = λ i. bits_from blacks (8 * i) 8 in
-    let byte : Bool → ℕ = λ m. if m then x else y in
-    let long : length cells ≡ n = length-each a xs in
-    let eight : length xs * (8 * a) ≡ 8 * n = omega arith in
-    let count : (length blacks + 7) / 8 ≡ n = omega (arith, length-map (each (8 * a) xs) (λ m. if m then marked else other), length-each (8 * a) xs, eight) in
-    sym (text_each (x ∷ []) (y ∷ []) a xs)
-    ∙ bytes_of_marks x y cells
-    ∙ fill_by_all f (map byte cells) n 0 (length-map cells byte ∙ long) (λ i below.
-    let cell = i / a in
-    let inside : cell < length xs = div_below i a (length xs) some below in
-    let first : 8 * i / (8 * a) ≡ cell = sym (div-div-eq-div-mul (8 * i) 8 a) ∙ ap (λ k. k / a) (omega arith) in
-    let last : (8 * i + 7) / (8 * a) ≡ cell = sym (div-div-eq-div-mul (8 * i + 7) 8 a) ∙ ap (λ k. k / a) (omega arith) in
-    get_or-map byte cells i false 0 (omega (arith, long, below))
-    ∙ ap byte (get_or-each a xs i false some below)
-    ∙ eight_bits marked other (get_or xs cell false)
-    ∙ ap (λ k. 255 * (if (if get_or xs k false then marked else other) then 1 else 0)) (sym first)
-    ∙ ap (λ b. 255 * b) (bit_inside marked other (8 * a) xs (8 * i) (omega arith) (omega (arith, first, inside)))
-    ∙ byte_of_one marked other (8 * a) xs (8 * i) (omega arith) (last ∙ sym first))
-    ∙ ap (λ k. map f (range_with_len 0 k)) (sym count)
-
--- rows of cells of whole bytes
-pub whole_rows : (marked other : Bool) (g : Grid) (a : ℕ) → 0 < a → g.across ≡ 8 * a
-    → rows_text ((if marked then 255 else 0) ∷ []) ((if other then 255 else 0) ∷ []) [] (record g { across = a })
-    ≡ flat_map (λ row. repeated g.down (packed (inked marked other (each g.across (cell_row g row))))) (range_with_len 0 (all_rows g))
-whole_rows marked other g a some is =
-    let row_is : (row : ℕ) → row_text ((if marked then 255 else 0) ∷ []) ((if other then 255 else 0) ∷ []) (record g { across = a }) row ++ [] ≡ packed (inked marked other (each g.across (cell_row g row))) = λ row.
-    append-nil _ ∙ whole_bytes marked other a (cell_row g row) some ∙ ap (λ n. packed (inked marked other (each n (cell_row g row)))) (sym is) in
-    λ k. flat_map (λ row. repeated g.down (row_is row k)) (range_with_len 0 (all_rows g))
 
 -- one byte more
 pub bytes_more : (blacks : List Bool) (i : ℕ) → map (λ k. bits_from blacks (8 * k) 8) (range_with_len 0 i) ++ bits_from blacks (8 * i) 8 ∷ [] ≡ map (λ k. bits_from blacks (8 * k) 8) (range_with_len 0 (i + 1))

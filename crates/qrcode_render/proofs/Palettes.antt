@@ -1,14 +1,10 @@
 -- Texts of pairs of texts.
-use Rattle.std.proofs.Common.{◌≡◌, ℕ, zero, suc, ◌+◌, ◌*◌, ◌/◌, ◌-◌, ◌<◌, ◌≤◌, inl, inr, List, [], ◌∷◌, ◌++◌, Bool, true, false, length, take, drop, map, get_or, set, refl, ap, ap₂, ◌∙◌, sym, subst, arith, length-append, append_assoc}
-use Rattle.std.specs.List.{flat_map, range_with_len}
+use Rattle.std.proofs.Common.{◌≡◌, ℕ, zero, suc, ◌+◌, ◌*◌, ◌<◌, inl, inr, List, [], ◌∷◌, ◌++◌, Bool, true, false, length, map, get_or, set, ap, ap₂, ◌∙◌, sym, subst, arith, length-append}
+use Rattle.std.specs.List.{flat_map}
 use Rattle.std.proofs.lemmas.Bool.{cases_lt}
-use Rattle.std.proofs.lemmas.List.{get_or-map, get_or-append-add, get_or-append_right, get_or-take, get_or-drop, length-map, get_or-set_same, get_or-set_other}
-use Rattle.std.proofs.Math.ListN.{get_or-append, length-set, length-take}
-use borrow.Rule.Slice.PartMut.{put_mid, post_of}
-use Rattle.qrcode_render.specs.Lines.{paired, pair_number, mark_at, AreMarksAt}
-use Rattle.qrcode_render.specs.Texts.{pairs_text, columns_text}
-use Rattle.qrcode_render.proofs.Grids.{flat_range_same}
-use Rattle.qrcode_render.proofs.LineTexts.{flat_range_more}
+use Rattle.std.proofs.lemmas.List.{get_or-map, get_or-append-add, length-map, get_or-set_same, get_or-set_other}
+use Rattle.std.proofs.Math.ListN.{get_or-append, length-set}
+use Rattle.qrcode_render.specs.Lines.{paired, pair_number, two_text, AreMarksAt}
 
 pub pair_number-lt : (a b : Bool) → pair_number a b < 4
 pair_number-lt false false = omega arith
@@ -47,41 +43,21 @@ get_or-paired ts i j four h k =
     let place : 4 * i + j ≡ i * length ts + j = omega (arith, ap (λ n. i * n) four) in
     ap (λ n. get_or (paired ts) n []) place ∙ get_or-pairs ts ts i j (omega arith) (omega arith)
 
--- the places of a list after a part of it was written
-pub part_before : {A : Type 0} (d : A) (a k : ℕ) (xs ys : List A) (i : ℕ) → i < a → a ≤ length xs → get_or (put_mid a k xs ys) i d ≡ get_or xs i d
-part_before d a k xs ys i h l = get_or-append (take a xs) (ys ++ post_of a k xs) d i (omega (arith, length-take a xs)) ∙ get_or-take a xs i d h
-
-pub part_inside : {A : Type 0} (d : A) (a k : ℕ) (xs ys : List A) (j : ℕ) → a ≤ length xs → j < length ys → get_or (put_mid a k xs ys) (a + j) d ≡ get_or ys j d
-part_inside d a k xs ys j l h =
-    let e : a ≡ length (take a xs) = omega (arith, length-take a xs) in
-    ap (λ n. get_or (put_mid a k xs ys) (n + j) d) e ∙ get_or-append-add (take a xs) (ys ++ post_of a k xs) j d ∙ get_or-append ys (post_of a k xs) d j h
-
-pub part_behind : {A : Type 0} (d : A) (a k : ℕ) (xs ys : List A) (i : ℕ) → a ≤ length xs → length ys ≡ k → a + k ≤ i → get_or (put_mid a k xs ys) i d ≡ get_or xs i d
-part_behind d a k xs ys i l n past =
-    get_or-append_right (take a xs) (ys ++ post_of a k xs) a i d (omega (arith, length-take a xs)) (omega arith)
-    ∙ get_or-append_right ys (post_of a k xs) k (i - a) d n (omega arith)
-    ∙ get_or-drop k (drop a xs) (i - a - k) d
-    ∙ get_or-drop a xs (k + (i - a - k)) d
-    ∙ ap (λ m. get_or xs m d) (omega arith)
-
--- the texts of two columns more
-pub two_columns : (text : Bool → Bool → List ℕ) (columns : List Bool) (i next : ℕ) → 2 * i + 2 ≡ next
-    → flat_map (λ x. text (mark_at columns (2 * x)) (mark_at columns (2 * x + 1))) (range_with_len 0 next)
-    ≡ flat_map (λ x. text (mark_at columns (2 * x)) (mark_at columns (2 * x + 1))) (range_with_len 0 (2 * i)) ++ (text (mark_at columns (4 * i)) (mark_at columns (4 * i + 1)) ++ text (mark_at columns (4 * i + 2)) (mark_at columns (4 * i + 3)))
-two_columns text columns i next is =
-    let column : ℕ → List ℕ = λ x. text (mark_at columns (2 * x)) (mark_at columns (2 * x + 1)) in
-    let a : 2 * (2 * i) ≡ 4 * i = omega arith in
-    let b : 2 * (2 * i) + 1 ≡ 4 * i + 1 = omega arith in
-    let c : 2 * (2 * i + 1) ≡ 4 * i + 2 = omega arith in
-    let d : 2 * (2 * i + 1) + 1 ≡ 4 * i + 3 = omega arith in
-    flat_range_more column (2 * i + 1) next (omega arith)
-    ∙ ap (λ y. y ++ column (2 * i + 1)) (flat_range_more column (2 * i) (2 * i + 1) refl)
-    ∙ append_assoc (flat_map column (range_with_len 0 (2 * i))) (column (2 * i)) (column (2 * i + 1))
-    ∙ (λ k. flat_map column (range_with_len 0 (2 * i)) ++ (text (mark_at columns (a k)) (mark_at columns (b k)) ++ text (mark_at columns (c k)) (mark_at columns (d k))))
+-- the texts of two columns, whose marks stand one behind the other
+pub four_columns : (texts : List (List ℕ)) (upper lower columns : List Bool) (i : ℕ) → AreMarksAt upper lower columns (2 * i) → AreMarksAt upper lower columns (2 * i + 1) → two_text texts (get_or columns (4 * i) false) (get_or columns (4 * i + 1) false) ++ two_text texts (get_or columns (4 * i + 2) false) (get_or columns (4 * i + 3) false) ≡ two_text texts (get_or upper (2 * i) false) (get_or lower (2 * i) false) ++ two_text texts (get_or upper (2 * i + 1) false) (get_or lower (2 * i + 1) false)
+four_columns texts upper lower columns i one two =
+    let mark : ℕ → Bool = λ k. get_or columns k false in
+    let a : 4 * i ≡ 2 * (2 * i) = omega arith in
+    let b : 4 * i + 1 ≡ 2 * (2 * i) + 1 = omega arith in
+    let c : 4 * i + 2 ≡ 2 * (2 * i + 1) = omega arith in
+    let d : 4 * i + 3 ≡ 2 * (2 * i + 1) + 1 = omega arith in
+    ap₂ (λ s t. s ++ t) (ap₂ (two_text texts) (ap mark a ∙ one.first) (ap mark b ∙ one.second)) (ap₂ (two_text texts) (ap mark c ∙ two.first) (ap mark d ∙ two.second))
 
 -- the marks of one more column
-pub columns_more : (upper lower : ℕ → Bool) (columns : List Bool) (x : ℕ) (u l : Bool) → u ≡ upper x → l ≡ lower x → 2 * x + 1 < length columns → ((k : ℕ) → k < x → AreMarksAt upper lower columns k) → (k : ℕ) → k < x + 1 → AreMarksAt upper lower (set (set columns (2 * x) u) (2 * x + 1) l) k
-columns_more upper lower columns x u l is_upper is_lower inside before k below =
+pub interleaved_more : (upper lower columns : List Bool) (x : ℕ) → 2 * x + 1 < length columns → ((k : ℕ) → k < x → AreMarksAt upper lower columns k) → (k : ℕ) → k < x + 1 → AreMarksAt upper lower (set (set columns (2 * x) (get_or upper x false)) (2 * x + 1) (get_or lower x false)) k
+interleaved_more upper lower columns x inside before k below =
+    let u = get_or upper x false in
+    let l = get_or lower x false in
     let one = set columns (2 * x) u in
     let long = length-set columns (2 * x) u in
     elim (cases_lt k x) [
@@ -94,17 +70,8 @@ columns_more upper lower columns x u l is_upper is_lower inside before k below =
       | inr from ↦
           let same : k ≡ x = omega arith in
           let here : AreMarksAt upper lower (set one (2 * x + 1) l) x = record {
-            first = get_or-set_other one (2 * x + 1) (2 * x) l false (λ e. omega (arith, e)) ∙ get_or-set_same columns (2 * x) u false (omega arith) ∙ is_upper;
-            second = get_or-set_same one (2 * x + 1) l false (omega (arith, long)) ∙ is_lower;
+            first = get_or-set_other one (2 * x + 1) (2 * x) l false (λ e. omega (arith, e)) ∙ get_or-set_same columns (2 * x) u false (omega arith);
+            second = get_or-set_same one (2 * x + 1) l false (omega (arith, long));
           } in
           subst (AreMarksAt upper lower (set one (2 * x + 1) l)) (sym same) here
     ]
-
--- the texts of columns, where the marks of each stand one behind the other
-pub pairs_are_columns : (text : Bool → Bool → List ℕ) (upper lower columns : List Bool) → length columns ≡ 2 * length upper → ((x : ℕ) → x < length upper → AreMarksAt (mark_at upper) (mark_at lower) columns x)
-    → pairs_text text columns ≡ columns_text text upper lower
-pairs_are_columns text upper lower columns long marks =
-    let half : length columns / 2 ≡ length upper = omega (arith, long) in
-    let pair : ℕ → List ℕ = λ x. text (mark_at columns (2 * x)) (mark_at columns (2 * x + 1)) in
-    ap (λ n. flat_map pair (range_with_len 0 n)) half
-    ∙ flat_range_same pair (λ x. text (mark_at upper x) (mark_at lower x)) (length upper) (λ x below. let here = marks x below in ap₂ text here.first here.second)

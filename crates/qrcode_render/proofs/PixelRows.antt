@@ -1,15 +1,13 @@
 -- Rows of pixels, and lines of half blocks.
-use Rattle.std.proofs.Common.{◌≡◌, ℕ, zero, suc, ◌+◌, ◌*◌, ◌/◌, ◌<◌, ◌≤◌, inl, inr, List, [], ◌∷◌, Bool, true, false, length, length-append, get_or, map, refl, ap, ap₂, ◌∙◌, sym, arith, if◌then◌else◌, nat_lt}
+use Rattle.std.proofs.Common.{◌≡◌, ℕ, zero, suc, ◌+◌, ◌*◌, ◌/◌, ◌<◌, ◌≤◌, inl, inr, List, [], ◌∷◌, Bool, true, false, length, length-append, get_or, map, refl, ap, ◌∙◌, sym, arith, if◌then◌else◌, nat_lt}
 use Rattle.std.specs.List.{flat_map, range_with_len}
 use Rattle.std.specs.Str.{IsUtf8}
 use Rattle.std.proofs.lemmas.Bool.{cases_lt}
-use Rattle.std.proofs.lemmas.List.FromFn.{fill_by_all, length-map-range_with_len, get_or-map-range_with_len}
-use Rattle.std.proofs.lemmas.Nat.{div_below}
+use Rattle.std.proofs.lemmas.List.FromFn.{fill_by_all}
 use Rattle.std.proofs.lemmas.Str.{IsUtf8-append, IsUtf8-nil}
 use Rattle.qrcode_render.specs.Bitmap.{Bitmap, row_of}
-use Rattle.qrcode_render.specs.Grid.{Grid, all_columns, all_rows, cell_row, each, is_dark_cell, pixels_of}
-use Rattle.qrcode_render.specs.Lines.{mark_at}
-use Rattle.qrcode_render.specs.Texts.{half_blocks, column_text, columns_text, dense_line, marks_text, pairs_text}
+use Rattle.qrcode_render.specs.Grid.{Grid, all_rows, cell_row, each, pixels_of}
+use Rattle.qrcode_render.specs.Texts.{half_blocks, column_text, columns_text, dense_line, marks_text}
 use Rattle.qrcode_render.proofs.Grids.{length-each, get_or-each, row_of-pixels}
 use Rattle.qrcode_render.proofs.LineTexts.{flat_range_more}
 use Rattle.qrcode_render.proofs.TextLines.{marks_text-IsUtf8}
@@ -22,25 +20,6 @@ each_by_place a xs some = fill_by_all (λ x. get_or xs (x / a) false) (each a xs
 pub pixels_by_cells : (g : Grid) (y : ℕ) (cells : List Bool) → 0 < g.across → 0 < g.down → y < all_rows g * g.down → cells ≡ cell_row g (y / g.down) → map (λ x. get_or cells (x / g.across) false) (range_with_len 0 (length cells * g.across)) ≡ row_of (pixels_of g) y
 pixels_by_cells g y cells wide high inside is =
     sym (each_by_place g.across cells wide) ∙ ap (each g.across) is ∙ sym (row_of-pixels g y wide high inside)
-
--- a pixel of a row is the cell that it lies in
-pixel_in_row : (g : Grid) (x y : ℕ) → 0 < g.across → 0 < g.down → y < all_rows g * g.down → x < all_columns g * g.across → is_dark_cell g (x / g.across) (y / g.down) ≡ mark_at (row_of (pixels_of g) y) x
-pixel_in_row g x y wide high inside below =
-    let cells = cell_row g (y / g.down) in
-    let columns : length cells ≡ all_columns g = length-map-range_with_len _ 0 (all_columns g) in
-    sym (ap (λ xs. mark_at xs x) (row_of-pixels g y wide high inside)
-    ∙ get_or-each g.across cells x false wide (omega (arith, ap (λ n. n * g.across) columns))
-    ∙ get_or-map-range_with_len (λ c. is_dark_cell g c (y / g.down)) 0 (all_columns g) (x / g.across) (x / g.across) false (div_below x g.across (all_columns g) wide below) (omega arith))
-
-pub pixel_of_cell : (g : Grid) (x y column row : ℕ) → 0 < g.across → 0 < g.down → y < all_rows g * g.down → x < all_columns g * g.across → column ≡ x / g.across → row ≡ y / g.down → is_dark_cell g column row ≡ mark_at (row_of (pixels_of g) y) x
-pixel_of_cell g x y column row wide high inside below is_column is_row =
-    ap₂ (λ c r. is_dark_cell g c r) is_column is_row ∙ pixel_in_row g x y wide high inside below
-
--- the pixels of a row
-pub length-row : (g : Grid) (y : ℕ) → 0 < g.across → 0 < g.down → y < all_rows g * g.down → length (row_of (pixels_of g) y) ≡ all_columns g * g.across
-length-row g y wide high inside =
-    let columns : length (cell_row g (y / g.down)) ≡ all_columns g = length-map-range_with_len _ 0 (all_columns g) in
-    ap length (row_of-pixels g y wide high inside) ∙ length-each g.across (cell_row g (y / g.down)) ∙ ap (λ n. n * g.across) columns
 
 each_once : (xs : List Bool) → each 1 xs ≡ xs
 each_once [] = refl
@@ -71,8 +50,9 @@ flat_range_at_most f m (suc n) short =
     omega (arith, flat_range_at_most f m n short, short n, ap length (flat_range_more f n (suc n) (omega arith)), length-append (flat_map f (range_with_len 0 n)) (f n))
 
 -- how long texts of columns are at most
-pub pairs_short : (text : Bool → Bool → List ℕ) (columns : List Bool) → ((a b : Bool) → length (text a b) ≤ 3) → length (pairs_text text columns) ≤ 3 * (length columns / 2)
-pairs_short text columns short = flat_range_at_most (λ x. text (mark_at columns (2 * x)) (mark_at columns (2 * x + 1))) 3 (length columns / 2) (λ x. short (mark_at columns (2 * x)) (mark_at columns (2 * x + 1)))
+pub columns_short : (text : Bool → Bool → List ℕ) (upper lower : List Bool) → ((a b : Bool) → length (text a b) ≤ 3) → length (columns_text text upper lower) ≤ 3 * length upper
+columns_short text upper lower short =
+    flat_range_at_most (λ x. text (get_or upper x false) (get_or lower x false)) 3 (length upper) (λ x. short (get_or upper x false) (get_or lower x false))
 
 -- a half block has at most three bytes
 half_short : (upper lower : Bool) → length (half_blocks upper lower) ≤ 3

@@ -1,33 +1,7 @@
--- The sizes of modules, and where their pixels are.
-use Rattle.std.proofs.Common.{◌≡◌, ℕ, zero, suc, ◌+◌, ◌-◌, ◌*◌, ◌/◌, ◌<◌, ◌≤◌, ◌^◌, ◌⊎◌, inl, inr, max, refl, arith}
-use Rattle.std.proofs.Math.Nat.{mul-le-mul_right}
+-- The sizes of modules.
+use Rattle.std.proofs.Common.{◌≡◌, ℕ, zero, suc, ◌+◌, ◌-◌, ◌*◌, ◌/◌, ◌<◌, ◌≤◌, ◌⊎◌, inl, inr, max, refl, arith}
 use Rattle.std.proofs.lemmas.Nat.{le-div, div-add-mod', mod_below, div_below}
 use Rattle.qrcode_render.specs.Setting.{least_size, greatest_size, IsLeastSize, IsGreatestSize}
-
--- the first pixel of a module is inside
-pub pixel_fits : (i n z w : ℕ) → i < n → (n + 2 * z) * w < 2 ^ 32 → (i + z) * w < 2 ^ 32
-pixel_fits i n z w inside fits = omega (arith, mul-le-mul_right w inside)
-
-pub below : (a b c : ℕ) → a ≤ b → b < c → a < c
-below a b c h k = omega arith
-
--- a module of a row is inside where the row is
-pub module_inside : (x left k n w side : ℕ) → x ≡ left + k * w → k < n → left + n * w ≤ side → x + w ≤ side
-module_inside x left k n w side is inside fits = omega (arith, mul-le-mul_right w inside)
-
--- the pixels of a quiet zone are inside
-pub zone_fits : (n z w : ℕ) → (n + 2 * z) * w < 2 ^ 32 → z * w < 2 ^ 32
-zone_fits n z w fits = omega arith
-
--- the end of a row of a square
-pub row_fits : (i n z : ℕ) → i < n → n + 2 * z < 2 ^ 32 → i * n + n < 2 ^ 64
-row_fits i n z inside fits =
-    let short : n ≤ 2 ^ 32 = omega arith in
-    omega (arith, mul-le-mul_right n inside, mul-le-mul_right n short)
-
--- the first module of a row of a square
-pub first_fits : (i n z : ℕ) → i < n → n + 2 * z < 2 ^ 32 → i * n < 2 ^ 64
-first_fits i n z inside fits = omega (arith, row_fits i n z inside fits)
 
 reaches : (side pixels n : ℕ) → pixels ≤ side * n → pixels ≤ side * max n 1
 reaches side pixels zero h = omega arith

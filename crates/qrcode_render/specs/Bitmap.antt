@@ -5,25 +5,30 @@ use Rattle.qrcode_types.specs.Colors.{is_dark}
 use Rattle.qrcode_types.specs.declared.types.Color.{Color}
 use Rattle.qrcode_render.specs.Drawn.{filled}
 
-pub record Bitmap : Type 0 where  -- which pixels are dark, in row order
+-- which pixels are dark, in row order
+pub record Bitmap : Type 0 where
   pub across : ℕ
   pub down : ℕ
   pub marks : List Bool
 
-abbrev pub blank : ℕ → ℕ → Bitmap  -- no pixel dark
+-- no pixel dark
+abbrev pub blank : ℕ → ℕ → Bitmap
 blank across down = record { across = across; down = down; marks = replicate (across * down) false }
 
 -- the marks after a pixel of a row and a column is dark, in rows of so many pixels
 abbrev pub marked : ℕ → ℕ → ℕ → List Bool → List Bool
 marked across x y marks = slice_set marks (y * across + x) true
 
-abbrev pub with_dark : ℕ → ℕ → Bitmap → Bitmap  -- one pixel dark
+-- one pixel dark
+abbrev pub with_dark : ℕ → ℕ → Bitmap → Bitmap
 with_dark x y b = record b { marks = marked b.across x y b.marks }
 
-abbrev pub with_dark_rect : ℕ → ℕ → ℕ → ℕ → Bitmap → Bitmap  -- the pixels of a rectangle dark
+-- the pixels of a rectangle dark
+abbrev pub with_dark_rect : ℕ → ℕ → ℕ → ℕ → Bitmap → Bitmap
 with_dark_rect left top width height b = record b { marks = filled (marked b.across) left top width height b.marks }
 
-abbrev pub row_of : Bitmap → ℕ → List Bool  -- the marks of a row
+-- the marks of a row
+abbrev pub row_of : Bitmap → ℕ → List Bool
 row_of b y = slice_range b.marks (y * b.across) (y * b.across + b.across)
 
 -- the marks after the modules of a row, each of one pixel, whose first module stands at a place

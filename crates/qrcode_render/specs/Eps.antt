@@ -5,26 +5,31 @@ use Rattle.qrcode_render.specs.declared.eps.Color as eps
 use Rattle.qrcode_render.specs.Drawn.{drawn}
 use Rattle.qrcode_render.specs.Layout.{Layout, pixels_across, pixels_down}
 
-abbrev pub eps_paint : eps.Color → List ℕ  -- what follows is drawn in this colour
+-- what follows is drawn in this colour
+abbrev pub eps_paint : eps.Color → List ℕ
 eps_paint p =
     decimal p.red ++ (codes " 255 div " ++ (decimal p.green ++ (codes " 255 div " ++ (decimal p.blue ++ codes " 255 div setrgbcolor\n"))))
 
-abbrev pub eps_head : ℕ → ℕ → List ℕ  -- the head, whose box has its lower left corner at 0 0, and a point for a pixel
+-- the head, whose box has its lower left corner at 0 0, and a point for a pixel
+abbrev pub eps_head : ℕ → ℕ → List ℕ
 eps_head w h =
     codes "%!PS-Adobe-3.0 EPSF-3.0\n%%BoundingBox: 0 0 " ++ (decimal w ++ (codes " " ++ (decimal h ++ codes "\n%%LanguageLevel: 2\n%%EndComments\n")))
 
-abbrev pub eps_box : ℕ → ℕ → ℕ → ℕ → List ℕ  -- a rectangle, given by its corner next to the origin and its sides
+-- a rectangle, given by its corner next to the origin and its sides
+abbrev pub eps_box : ℕ → ℕ → ℕ → ℕ → List ℕ
 eps_box left top width height =
     decimal left ++ (codes " " ++ (decimal top ++ (codes " " ++ (decimal width ++ (codes " " ++ (decimal height ++ codes " rectfill\n"))))))
 
-abbrev pub eps_turn : ℕ → List ℕ  -- the origin goes to the upper left corner, and rows are counted from above
+-- the origin goes to the upper left corner, and rows are counted from above
+abbrev pub eps_turn : ℕ → List ℕ
 eps_turn h = codes "0 " ++ (decimal h ++ codes " translate 1 -1 scale\n")
 
 -- what stands before the first dark rectangle: the head, and a light ground
 abbrev pub eps_start : ℕ → ℕ → eps.Color → eps.Color → List ℕ
 eps_start w h dark light = eps_head w h ++ (eps_paint light ++ (eps_box 0 0 w h ++ (eps_turn h ++ eps_paint dark)))
 
-abbrev pub eps_rect : ℕ → ℕ → ℕ → ℕ → List ℕ → List ℕ  -- a dark rectangle
+-- a dark rectangle
+abbrev pub eps_rect : ℕ → ℕ → ℕ → ℕ → List ℕ → List ℕ
 eps_rect left top width height text = text ++ eps_box left top width height
 
 -- what the column of a rectangle determines of its box, what its sides, and what its row and the text of the sides
@@ -37,7 +42,8 @@ eps_sides width height = codes " " ++ (decimal width ++ (codes " " ++ decimal he
 abbrev pub eps_row : ℕ → List ℕ → List ℕ × List ℕ
 eps_row top sides = (decimal top ++ sides, codes " rectfill\n")
 
-abbrev pub eps_end : List ℕ  -- what stands behind the last dark rectangle
+-- what stands behind the last dark rectangle
+abbrev pub eps_end : List ℕ
 eps_end = codes "showpage\n%%EOF\n"
 
 -- the picture of modules, of a dark and a light colour

@@ -23,15 +23,12 @@ unfoldable pub bits_from : List Bool → ℕ → ℕ → ℕ
 bits_from blacks start zero = 0
 bits_from blacks start (suc count) = 2 * bits_from blacks start count + black_bit blacks (start + count)
 
-unfoldable pub packed : List Bool → List ℕ  -- a row of pixels, eight in a byte
+-- a row of pixels, eight in a byte
+unfoldable pub packed : List Bool → List ℕ
 packed blacks = map (λ i. bits_from blacks (8 * i) 8) (range_with_len 0 ((length blacks + 7) / 8))
 
--- what a PBM file begins with: its kind and its sides
-abbrev pub pbm_head : ℕ → ℕ → List ℕ
-pbm_head across down = codes "P4\n" ++ (decimal across ++ (codes " " ++ (decimal down ++ codes "\n")))
-
--- a PBM file: its head, and the rows of pixels, each in bytes of its own
+-- a PBM file: its kind, its sides, and the rows of pixels, each in bytes of its own
 unfoldable pub pbm_file : Bool → Bool → Bitmap → List ℕ
 pbm_file marked other b =
-    pbm_head b.across b.down
+    codes "P4\n" ++ (decimal b.across ++ (codes " " ++ (decimal b.down ++ codes "\n")))
     ++ flat_map (λ y. packed (inked marked other (row_of b y))) (range_with_len 0 b.down)

@@ -16,10 +16,12 @@ pub record Grid : Type 0 where
   pub across : ℕ
   pub down : ℕ
 
-abbrev pub all_columns : Grid → ℕ  -- the columns, with the light cells around
+-- the columns, with the light cells around
+abbrev pub all_columns : Grid → ℕ
 all_columns g = g.columns + 2 * g.zone
 
-abbrev pub all_rows : Grid → ℕ  -- the rows, with the light cells around
+-- the rows, with the light cells around
+abbrev pub all_rows : Grid → ℕ
 all_rows g = g.rows + 2 * g.zone
 
 -- the cell in a column and a row, counted with the light ones around, is inside and dark
@@ -28,28 +30,29 @@ is_dark_cell g column row =
     nat_le g.zone column && nat_lt column (g.zone + g.columns) && nat_le g.zone row && nat_lt row (g.zone + g.rows)
     && is_dark (slice_index_or g.cells ((row - g.zone) * g.columns + (column - g.zone)) Light)
 
-abbrev pub cell_row : Grid → ℕ → List Bool  -- which cells of a row are dark
+-- which cells of a row are dark
+abbrev pub cell_row : Grid → ℕ → List Bool
 cell_row g row = map (λ column. is_dark_cell g column row) (range_with_len 0 (all_columns g))
 
-abbrev pub pixels_of : Grid → Bitmap  -- the pixels of the dark cells are dark, and all others light
+-- the pixels of the dark cells are dark, and all others light
+abbrev pub pixels_of : Grid → Bitmap
 pixels_of g =
     let w = all_columns g * g.across in
     let h = all_rows g * g.down in
     record { across = w; down = h; marks = map (λ i. is_dark_cell g (i % w / g.across) (i / w / g.down)) (range_with_len 0 (w * h)) }
 
-abbrev pub each : {A : Type 0} → ℕ → List A → List A  -- each element so many times
+-- each element so many times
+abbrev pub each : {A : Type 0} → ℕ → List A → List A
 each n xs = flat_map (λ x. replicate n x) xs
 
-abbrev pub repeated : ℕ → List ℕ → List ℕ  -- a text so many times
+-- a text so many times
+abbrev pub repeated : ℕ → List ℕ → List ℕ
 repeated n text = flat_map (λ _. text) (range_with_len 0 n)
 
 -- the text of a row of cells: what stands for a dark or a light pixel, as often as a cell has pixels across
 abbrev pub row_text : List ℕ → List ℕ → Grid → ℕ → List ℕ
 row_text dark light g row = marks_text (repeated g.across dark) (repeated g.across light) (cell_row g row)
 
-abbrev pub rows_by : (List Bool → List ℕ) → Grid → List ℕ  -- the text of each row of cells, as often as a cell has pixels down
-rows_by text g = flat_map (λ row. repeated g.down (text (cell_row g row))) (range_with_len 0 (all_rows g))
-
--- the rows of cells as texts of dark and light pixels and of what ends a line
+-- the text of each row of cells and what ends a line, as often as a cell has pixels down
 abbrev pub rows_text : List ℕ → List ℕ → List ℕ → Grid → List ℕ
 rows_text dark light end g = flat_map (λ row. repeated g.down (row_text dark light g row ++ end)) (range_with_len 0 (all_rows g))

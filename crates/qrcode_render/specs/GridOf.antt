@@ -2,7 +2,8 @@
 use Rattle.qrcode_render.specs.Grid.{Grid}
 use Rattle.qrcode_render.specs.Setting.{Square}
 
-abbrev pub grid_of : Square → Grid  -- the modules as cells
+-- the modules as cells
+abbrev pub grid_of : Square → Grid
 grid_of m = record {
   cells = m.content;
   columns = m.count;

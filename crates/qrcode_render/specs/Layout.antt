@@ -11,11 +11,14 @@ pub record Layout : Type 0 where
 abbrev pub layout : ℕ → ℕ → ℕ → ℕ → Layout
 layout count zone across down = record { count = count; zone = zone; across = across; down = down }
 
-abbrev pub modules_across : Layout → ℕ  -- the modules along a side, with the quiet zone
+-- the modules along a side, with the quiet zone
+abbrev pub modules_across : Layout → ℕ
 modules_across at = at.count + 2 * at.zone
 
-abbrev pub pixels_across : Layout → ℕ  -- the pixels of a picture across
+-- the pixels of a picture across
+abbrev pub pixels_across : Layout → ℕ
 pixels_across at = modules_across at * at.across
 
-abbrev pub pixels_down : Layout → ℕ  -- the pixels of a picture down
+-- the pixels of a picture down
+abbrev pub pixels_down : Layout → ℕ
 pixels_down at = modules_across at * at.down

@@ -1,16 +1,12 @@
 pub mod Bitmap
 pub mod Drawn
 pub mod Eps
-pub mod EqualRows
 pub mod Files
 pub mod Grid
 pub mod GridOf
 pub mod Half
 pub mod Ink
-pub mod Inlays
 pub mod Layout
-pub mod Light
-pub mod LightNumbers
 pub mod LineOf
 pub mod Lines
 pub mod Paths
@@ -20,10 +16,7 @@ pub mod Raster
 pub mod Setting
 pub mod Shades
 pub mod Shown
-pub mod Sides
 pub mod Strips
-pub mod StrokeLaws
 pub mod Strokes
 pub mod Texts
 pub mod Vectors
-pub mod Window

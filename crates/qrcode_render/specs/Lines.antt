@@ -1,14 +1,17 @@
 -- How texts of pictures are put together.
 use Rattle.std.specs.Prelude.{◌≡◌, ℕ, zero, suc, ◌+◌, ◌*◌, Bool, true, false, List, [], ◌∷◌, ◌++◌, map, flat_map, slice_index_or}
 
-abbrev pub line_start : ℕ → List ℕ  -- what a line begins with: a newline, but for the first line
+-- what a line begins with: a newline, but for the first line
+abbrev pub line_start : ℕ → List ℕ
 line_start zero = []
 line_start (suc y) = 10 ∷ []
 
-abbrev pub paired : List (List ℕ) → List (List ℕ)  -- each text followed by each, the second changing first
+-- each text followed by each, the second changing first
+abbrev pub paired : List (List ℕ) → List (List ℕ)
 paired texts = flat_map (λ a. map (λ b. a ++ b) texts) texts
 
-abbrev pub pair_number : Bool → Bool → ℕ  -- the number of two marks among the four pairs of marks
+-- the number of two marks among the four pairs of marks
+abbrev pub pair_number : Bool → Bool → ℕ
 pair_number false false = 0
 pair_number false true = 1
 pair_number true false = 2
@@ -19,9 +22,6 @@ abbrev pub two_text : List (List ℕ) → Bool → Bool → List ℕ
 two_text twos a b = slice_index_or twos (pair_number a b) []
 
 -- the marks of a column of two rows stand one behind the other in a list of columns
-pub record AreMarksAt (upper lower : ℕ → Bool) (columns : List Bool) (x : ℕ) : Type 0 where
-  pub first : slice_index_or columns (2 * x) false ≡ upper x
-  pub second : slice_index_or columns (2 * x + 1) false ≡ lower x
-
-abbrev pub mark_at : List Bool → ℕ → Bool  -- the mark at a place
-mark_at marks x = slice_index_or marks x false
+pub record AreMarksAt (upper lower columns : List Bool) (x : ℕ) : Type 0 where
+  pub first : slice_index_or columns (2 * x) false ≡ slice_index_or upper x false
+  pub second : slice_index_or columns (2 * x + 1) false ≡ slice_index_or lower x false

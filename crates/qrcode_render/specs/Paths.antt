@@ -4,12 +4,14 @@ use Rattle.std.specs.List.{range_with_len}
 use Rattle.qrcode_render.specs.Bitmap.{Bitmap}
 use Rattle.qrcode_render.specs.Grid.{Grid, all_rows, cell_row}
 
-pub record Run : Type 0 where  -- cells of a row beside each other: the first column, the row, and how many
+-- cells of a row beside each other: the first column, the row, and how many
+pub record Run : Type 0 where
   pub left : ℕ
   pub top : ℕ
   pub width : ℕ
 
-pub record Pen : Type 0 where  -- where the pen stands: the column and the row at whose upper left corner
+-- where the pen stands: the column and the row at whose upper left corner
+pub record Pen : Type 0 where
   pub column : ℕ
   pub row : ℕ
 
@@ -28,24 +30,30 @@ run_text pen r =
 abbrev pub behind : Run → Pen
 behind r = record { column = r.left; row = r.top + 1 }
 
-abbrev pub path_from : Pen → List Run → List ℕ  -- the path of runs, from where the pen stands
+-- the path of runs, from where the pen stands
+abbrev pub path_from : Pen → List Run → List ℕ
 path_from pen [] = []
 path_from pen (r ∷ runs) = run_text pen r ++ path_from (behind r) runs
 
-abbrev pub pen_after : Pen → List Run → Pen  -- where the pen stands behind the path of runs
+-- where the pen stands behind the path of runs
+abbrev pub pen_after : Pen → List Run → Pen
 pen_after pen [] = pen
 pen_after pen (r ∷ runs) = pen_after (behind r) runs
 
-abbrev pub start : Pen  -- where the pen stands at the start
+-- where the pen stands at the start
+abbrev pub start : Pen
 start = record { column = 0; row = 0 }
 
-abbrev pub path_text : List Run → List ℕ  -- the path of runs
+-- the path of runs
+abbrev pub path_text : List Run → List ℕ
 path_text runs = path_from start runs
 
-abbrev pub covers : Run → ℕ → ℕ → Bool  -- a subpath fills the cell in a column and a row
+-- a subpath fills the cell in a column and a row
+abbrev pub covers : Run → ℕ → ℕ → Bool
 covers r column row = nat_le r.left column && nat_lt column (r.left + r.width) && (r.top == row)
 
-abbrev pub is_filled : List Run → ℕ → ℕ → Bool  -- a path fills the cell in a column and a row: one of its subpaths does
+-- a path fills the cell in a column and a row: one of its subpaths does
+abbrev pub is_filled : List Run → ℕ → ℕ → Bool
 is_filled [] column row = false
 is_filled (r ∷ runs) column row = covers r column row || is_filled runs column row
 
@@ -53,7 +61,8 @@ is_filled (r ∷ runs) column row = covers r column row || is_filled runs column
 abbrev pub attribute_byte : ℕ → List ℕ
 attribute_byte b = if b == 34 then codes "&quot;" else (if b == 60 then codes "&lt;" else (if b == 38 then codes "&amp;" else b ∷ []))
 
-unfoldable pub attribute : List ℕ → List ℕ  -- a text as the value of an attribute
+-- a text as the value of an attribute
+unfoldable pub attribute : List ℕ → List ℕ
 attribute text = flat_map attribute_byte text
 
 -- the head of the element: its sides in pixels, and its box in cells, which fills these sides
@@ -63,7 +72,8 @@ path_frame w h columns rows =
     ++ (codes "\" viewBox=\"0 0 " ++ (decimal columns ++ (codes " " ++ (decimal rows
     ++ codes "\" preserveAspectRatio=\"none\" shape-rendering=\"crispEdges\">")))))))
 
-abbrev pub path_ground : ℕ → ℕ → List ℕ  -- the ground, up to its colour
+-- the ground, up to its colour
+abbrev pub path_ground : ℕ → ℕ → List ℕ
 path_ground columns rows =
     codes "<rect width=\"" ++ (decimal columns ++ (codes "\" height=\"" ++ (decimal rows ++ codes "\" fill=\"")))
 
@@ -73,7 +83,8 @@ path_element w h columns rows dark light runs =
     path_frame w h columns rows
     ++ (path_ground columns rows ++ (light ++ (codes "\"/><path fill=\"" ++ (dark ++ (codes "\" d=\"" ++ (path_text runs ++ codes "\"/></svg>"))))))
 
-abbrev pub xml_head : List ℕ  -- what stands before the element in a file of its own
+-- what stands before the element in a file of its own
+abbrev pub xml_head : List ℕ
 xml_head = codes "<?xml version=\"1.0\" standalone=\"yes\"?>"
 
 -- a text whose path, read so, shows the picture: each cell of its box is so many pixels across and down, and the pixels of the filled ones are dark
@@ -88,7 +99,8 @@ pub record IsPathOf (head dark light : List ℕ) (b : Bitmap) (svg : List ℕ) :
   pub written : svg ≡ head ++ path_element b.across b.down columns rows (attribute dark) (attribute light) runs
   pub shown : b.marks ≡ map (λ i. is_filled runs (i % b.across / across) (i / b.across / down)) (range_with_len 0 (b.across * b.down))
 
-abbrev pub ended : ℕ → ℕ → ℕ → List Run  -- the run of so many cells that ends before a column
+-- the run of so many cells that ends before a column
+abbrev pub ended : ℕ → ℕ → ℕ → List Run
 ended top end zero = []
 ended top end (suc n) = (record { left = end - suc n; top = top; width = suc n }) ∷ []
 
@@ -98,5 +110,6 @@ runs_from top column width [] = ended top column width
 runs_from top column width (true ∷ marks) = runs_from top (column + 1) (width + 1) marks
 runs_from top column width (false ∷ marks) = ended top column width ++ runs_from top (column + 1) 0 marks
 
-abbrev pub runs_of : Grid → List Run  -- the runs of all rows
+-- the runs of all rows
+abbrev pub runs_of : Grid → List Run
 runs_of g = flat_map (λ row. runs_from row 0 0 (cell_row g row)) (range_with_len 0 (all_rows g))

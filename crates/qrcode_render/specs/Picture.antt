@@ -15,7 +15,8 @@ is_dark_pixel at content x y =
     nat_le at.zone column && nat_lt column (at.zone + at.count) && nat_le at.zone row && nat_lt row (at.zone + at.count)
     && is_dark (slice_index_or content ((row - at.zone) * at.count + (column - at.zone)) Light)
 
-abbrev pub picture : Layout → List Color → Bitmap  -- the pixels of the dark modules are dark, and all others light
+-- the pixels of the dark modules are dark, and all others light
+abbrev pub picture : Layout → List Color → Bitmap
 picture at content =
     let w = pixels_across at in
     let h = pixels_down at in

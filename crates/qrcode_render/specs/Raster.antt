@@ -8,11 +8,14 @@ pub record Raster (P : Type 0) : Type 0 where
   pub dark : P
   pub light : P
 
-abbrev pub light_raster : {P : Type 0} → ℕ → ℕ → P → P → Raster P  -- all pixels light
+-- all pixels light
+abbrev pub light_raster : {P : Type 0} → ℕ → ℕ → P → P → Raster P
 light_raster across down dark light = record { bitmap = blank across down; dark = dark; light = light }
 
-abbrev pub dark_pixel_step : {P : Type 0} → ℕ → ℕ → Raster P → Raster P  -- a pixel dark
+-- a pixel dark
+abbrev pub dark_pixel_step : {P : Type 0} → ℕ → ℕ → Raster P → Raster P
 dark_pixel_step x y r = record r { bitmap = with_dark x y r.bitmap }
 
-abbrev pub dark_rect_step : {P : Type 0} → ℕ → ℕ → ℕ → ℕ → Raster P → Raster P  -- a rectangle dark
+-- a rectangle dark
+abbrev pub dark_rect_step : {P : Type 0} → ℕ → ℕ → ℕ → ℕ → Raster P → Raster P
 dark_rect_step left top width height r = record r { bitmap = with_dark_rect left top width height r.bitmap }

@@ -31,7 +31,8 @@ pub record IsSquare (m : Square) : Type 0 where
   pub across : 1 ≤ m.across
   pub down : 1 ≤ m.down
 
-abbrev pub square_of : {P : Type 0} → Setting P → Square  -- the square of a renderer's setting
+-- the square of a renderer's setting
+abbrev pub square_of : {P : Type 0} → Setting P → Square
 square_of s = record {
   content = s.content;
   count = s.count;
@@ -39,9 +40,6 @@ square_of s = record {
   across = s.across;
   down = s.down;
 }
-
-abbrev pub square_layout : Square → Layout  -- where its modules stand
-square_layout m = layout m.count m.zone m.across m.down
 
 -- a renderer's setting of a square, with the pixels that stand for dark and light, and the quiet zone where it is switched on
 abbrev pub setting_of : {P : Type 0} → Square → P → P → ℕ → Setting P
@@ -62,20 +60,25 @@ pub record IsWhole {P : Type 0} (s : Setting P) : Type 0 where
   pub across : 1 ≤ s.across
   pub down : 1 ≤ s.down
 
-abbrev pub layout_of : {P : Type 0} → Setting P → Layout  -- where modules stand
+-- where modules stand
+abbrev pub layout_of : {P : Type 0} → Setting P → Layout
 layout_of s = layout s.count s.zone s.across s.down
 
-abbrev pub side_of : {P : Type 0} → Setting P → ℕ  -- the modules along a side of the picture
+-- the modules along a side of the picture
+abbrev pub side_of : {P : Type 0} → Setting P → ℕ
 side_of s = modules_across (layout_of s)
 
-pub record HasPixels {P : Type 0} (s : Setting P) : Type 0 where  -- the picture has a column and a row of pixels
+-- the picture has a column and a row of pixels
+pub record HasPixels {P : Type 0} (s : Setting P) : Type 0 where
   pub across : 1 ≤ pixels_across (layout_of s)
   pub down : 1 ≤ pixels_down (layout_of s)
 
-abbrev pub fits : {P : Type 0} → Setting P → Bool  -- the modules and the pixels along each side are below 2^32
+-- the modules and the pixels along each side are below 2^32
+abbrev pub fits : {P : Type 0} → Setting P → Bool
 fits s = nat_lt (side_of s) (2 ^ 32) && nat_lt (side_of s * s.across) (2 ^ 32) && nat_lt (side_of s * s.down) (2 ^ 32)
 
-abbrev pub picture_of : {P : Type 0} → Setting P → Bitmap  -- which pixels of the picture are dark
+-- which pixels of the picture are dark
+abbrev pub picture_of : {P : Type 0} → Setting P → Bitmap
 picture_of s = picture (layout_of s) s.content
 
 -- what a canvas shows in the end: its start, and the rectangles of the dark modules in row order
@@ -83,13 +86,16 @@ abbrev pub drawing_of : {P D : Type 0} → (ℕ → ℕ → P → P → D) → (
 drawing_of start rect s =
     drawn rect (layout_of s) s.content (start (pixels_across (layout_of s)) (pixels_down (layout_of s)) s.dark s.light)
 
-abbrev pub least_size : ℕ → ℕ → ℕ  -- the pixels of a module of which `side` modules reach `pixels`
+-- the pixels of a module of which `side` modules reach `pixels`
+abbrev pub least_size : ℕ → ℕ → ℕ
 least_size side pixels = max ((pixels + side - 1) / side) 1
 
-abbrev pub greatest_size : ℕ → ℕ → ℕ  -- the pixels of a module of which `side` modules stay within `pixels`, or 1
+-- the pixels of a module of which `side` modules stay within `pixels`, or 1
+abbrev pub greatest_size : ℕ → ℕ → ℕ
 greatest_size side pixels = max (pixels / side) 1
 
-pub record IsLeastSize (side pixels size : ℕ) : Type 0 where  -- the least size of at least 1 that reaches the request
+-- the least size of at least 1 that reaches the request
+pub record IsLeastSize (side pixels size : ℕ) : Type 0 where
   pub positive : 1 ≤ size
   pub reaches : pixels ≤ side * size
   pub least : (k : ℕ) → 1 ≤ k → pixels ≤ side * k → size ≤ k

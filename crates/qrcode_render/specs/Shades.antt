@@ -5,9 +5,11 @@ use Rattle.qrcode_types.specs.declared.types.Color.{Color}
 use Rattle.qrcode_render.specs.declared.grid.Shades.{Shades}
 use Rattle.qrcode_render.specs.declared.grid.Shades.TheVariants.{Colors, Bytes}
 
-abbrev pub colors_of : List ℕ → List Color  -- bytes as cells: those that are not zero are dark
+-- bytes as cells: those that are not zero are dark
+abbrev pub colors_of : List ℕ → List Color
 colors_of bytes = map (λ b. color_of (not (b == 0))) bytes
 
-abbrev pub shown : Shades → List Color  -- the colours of cells
+-- the colours of cells
+abbrev pub shown : Shades → List Color
 shown (Colors colors) = colors.now
 shown (Bytes bytes) = colors_of bytes.now

@@ -15,7 +15,8 @@ lines_text across lines = if across == 0 then [] else join_with_byte 10 lines
 unfoldable pub text_of : List ℕ → List ℕ → Bitmap → List ℕ
 text_of dark light b = lines_text b.across (map (λ y. marks_text dark light (row_of b y)) (range_with_len 0 b.down))
 
-abbrev pub half_blocks : Bool → Bool → List ℕ  -- a space, the lower half, the upper half or the whole block
+-- a space, the lower half, the upper half or the whole block
+abbrev pub half_blocks : Bool → Bool → List ℕ
 half_blocks false false = 32 ∷ []
 half_blocks false true = 0xe2 ∷ 0x96 ∷ 0x84 ∷ []
 half_blocks true false = 0xe2 ∷ 0x96 ∷ 0x80 ∷ []
@@ -30,20 +31,17 @@ abbrev pub columns_text : (Bool → Bool → List ℕ) → List Bool → List Bo
 columns_text text upper lower =
     flat_map (λ x. text (slice_index_or upper x false) (slice_index_or lower x false)) (range_with_len 0 (length upper))
 
--- the characters of columns whose two marks stand one behind the other
-abbrev pub pairs_text : (Bool → Bool → List ℕ) → List Bool → List ℕ
-pairs_text text columns =
-    flat_map (λ x. text (slice_index_or columns (2 * x) false) (slice_index_or columns (2 * x + 1) false)) (range_with_len 0 (length columns / 2))
-
--- a line of two rows, or of a last row alone, whose lower halves are left out
+-- a line of two rows, or of a last row alone, which stands over light pixels
 abbrev pub dense_line : Bool → Bool → Bitmap → ℕ → List ℕ
 dense_line marked other b i =
     if nat_lt (2 * i + 1) b.down
     then columns_text (column_text marked other) (row_of b (2 * i)) (row_of b (2 * i + 1))
     else marks_text (half_blocks marked false) (half_blocks other false) (row_of b (2 * i))
 
-unfoldable pub dense_text : Bool → Bool → Bitmap → List ℕ  -- a line for every two rows
+-- a line for every two rows
+unfoldable pub dense_text : Bool → Bool → Bitmap → List ℕ
 dense_text marked other b = lines_text b.across (map (dense_line marked other b) (range_with_len 0 ((b.down + 1) / 2)))
 
-abbrev pub raw_bytes : List ℕ → List ℕ → Bitmap → List ℕ  -- the bytes of the pixels, row by row
+-- the bytes of the pixels, row by row
+abbrev pub raw_bytes : List ℕ → List ℕ → Bitmap → List ℕ
 raw_bytes dark light b = marks_text dark light b.marks

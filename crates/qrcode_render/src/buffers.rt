@@ -1,24 +1,23 @@
 //! Pictures in a buffer of the caller.
 
-ghost use Rattle.std.specs.Prelude.{◌≡◌, ◌+◌, ◌*◌, ◌≤◌, [], ◌∷◌, ◌++◌, length, take, max, vec_len, OnOk, OnErr, IsOkUnless, IsTrue};
+ghost use Rattle.std.specs.Prelude.{◌≡◌, ◌+◌, ◌*◌, ◌≤◌, [], ◌∷◌, ◌++◌, length, take, flat_map, max, vec_len, IfOk, OnOk, OnErr, IsOkUnless, IsTrue};
+ghost use Rattle.std.specs.List.{range_with_len};
 ghost use Rattle.qrcode_types.specs.declared.types.QrError.TheVariants.{OutOfMemory};
-ghost use Rattle.qrcode_render.specs.Grid.{all_columns, all_rows, pixels_of, repeated, rows_by};
+ghost use Rattle.qrcode_render.specs.Grid.{all_columns, all_rows, cell_row, pixels_of, repeated};
 ghost use Rattle.qrcode_render.specs.Layout.{pixels_across, pixels_down};
 ghost use Rattle.qrcode_render.specs.Setting.{fits, layout_of, picture_of};
 ghost use Rattle.qrcode_render.specs.Texts.{marks_text, raw_bytes};
 
 use crate::Renderer;
-use crate::bands::put_bands;
 use crate::grid::Grid;
 use crate::image::Luma;
-use crate::inlays::{inlaid_bytes, put_inlaid};
-use crate::rows::{CellTexts, FEW};
+use crate::rows::CellTexts;
 use crate::stamps::{Line, put_text};
 use qrcode_types::types::QrResult;
 use std::alloc::Global;
 
 // Writes a text so many times, and answers where they end.
-pub(crate) fn put_times(bytes: &mut [u8], at: usize, text: &[u8], times: u32) -> usize
+fn put_times(bytes: &mut [u8], at: usize, text: &[u8], times: u32) -> usize
     requires { at + times * length text.now ≤ length bytes.old }
     ensures writes { take result bytes.new ≡ take at bytes.old ++ repeated times text.now }
     ensures end { result ≡ at + times * length text.now }
@@ -41,8 +40,9 @@ fn put_lines(bytes: &mut [u8], grid: &Grid, texts: &CellTexts, marks: &mut [bool
     requires light { vec_len texts.now.light ≡ grid.now.across }
     requires length { length bytes.old
         ≡ all_rows grid.now * (grid.now.down * (all_columns grid.now * grid.now.across)) }
-    ensures { bytes.new
-        ≡ rows_by (marks_text texts.now.dark.items texts.now.light.items) grid.now }
+    ensures { bytes.new ≡ flat_map (λ row. repeated grid.now.down
+        (marks_text texts.now.dark.items texts.now.light.items (cell_row grid.now row)))
+        (range_with_len 0 (all_rows grid.now)) }
 {
     let (_, rows) = grid.sides();
     let (_, down) = grid.cell();
@@ -55,64 +55,21 @@ fn put_lines(bytes: &mut [u8], grid: &Grid, texts: &CellTexts, marks: &mut [bool
     }
 }
 
-// Writes the rows of cells, whose texts are as long as a cell is wide, by two equal rows at once where cells have eight
-// bytes and their rows few.
-fn put_cells(
-    alloc: Global,
-    bytes: &mut [u8],
-    grid: &Grid,
-    texts: &CellTexts,
-    marks: &mut [bool],
-) -> QrResult<()>
-    requires columns { length marks.old ≡ all_columns grid.now }
-    requires dark { vec_len texts.now.dark ≡ grid.now.across }
-    requires light { vec_len texts.now.light ≡ grid.now.across }
-    requires length { length bytes.old
-        ≡ all_rows grid.now * (grid.now.down * (all_columns grid.now * grid.now.across)) }
-    ensures value { OnOk result (bytes.new
-        ≡ rows_by (marks_text texts.now.dark.items texts.now.light.items) grid.now) }
-    ensures unchanged { OnErr result (bytes.new ≡ bytes.old) }
-    ensures memory { IsOkUnless result OutOfMemory }
-{
-    let (columns, _) = grid.sides();
-    let (_, down) = grid.cell();
-    match texts.of_eight(&[]) {
-        Some(palette) if columns >= 4 && columns < FEW / 16 && down % 2 == 0 => {
-            let mut room = vec![in alloc; 0; 2 * (8 * columns)]?;
-            let band = room.as_mut_slice();
-            let (dark, light) = (&texts.dark, &texts.light);
-            put_bands::<2>(bytes, grid, palette, dark, light, marks, band, down / 2);
-        }
-        _ => {
-            let mut line = Line::new(alloc, texts.room(columns, &[])?)?;
-            put_lines(bytes, grid, texts, marks, &mut line);
-        }
-    }
-    Ok(())
-}
-
 // Writes the grey of each pixel into a buffer that has as many bytes.
-pub(crate) fn put_greys(
-    alloc: Global,
-    grid: &Grid,
-    dark: u8,
-    light: u8,
-    bytes: &mut [u8],
-) -> QrResult<()>
+fn put_greys(alloc: Global, grid: &Grid, dark: u8, light: u8, bytes: &mut [u8]) -> QrResult<()>
     requires length { length bytes.old ≡ (pixels_of grid.now).across * (pixels_of grid.now).down }
     ensures value { OnOk result
         (bytes.new ≡ raw_bytes (dark ∷ []) (light ∷ []) (pixels_of grid.now)) }
     ensures unchanged { OnErr result (bytes.new ≡ bytes.old) }
     ensures memory { IsOkUnless result OutOfMemory }
 {
-    if let Some((dark, light)) = inlaid_bytes(grid, &[dark], &[light], &[]) {
-        return put_inlaid(alloc, bytes, grid, dark, light);
-    }
     let (across, _) = grid.cell();
     let (columns, _) = grid.sides();
     let texts = CellTexts::new(alloc, across, &[dark], &[light])?;
     let mut marks = vec![in alloc; false; columns]?;
-    put_cells(alloc, bytes, grid, &texts, &mut marks)
+    let mut line = Line::new(alloc, texts.room(columns, &[])?)?;
+    put_lines(bytes, grid, &texts, &mut marks, &mut line);
+    Ok(())
 }
 
 impl<'a> Renderer<'a, Luma> {

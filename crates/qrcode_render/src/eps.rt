@@ -4,13 +4,12 @@ ghost use Rattle.std.proofs.Common.{rules};
 ghost use Rattle.std.specs.Prelude.{◌≡◌, ℕ, ◌+◌, ◌*◌, ◌^◌, ◌<◌, ◌++◌, List, length, string_bytes, IfOk, OnOk, OnErr, IsOkUnless, IsTrue};
 ghost use Rattle.qrcode_types.specs.declared.types.QrError.TheVariants.{OutOfMemory};
 ghost use Rattle.qrcode_types.specs.Colors.{select_of};
-ghost use Rattle.qrcode_render.specs.Eps.{eps_paint, eps_box, eps_start, eps_rect, eps_column, eps_sides, eps_row, eps_end, eps_text};
+ghost use Rattle.qrcode_render.specs.Eps.{eps_head, eps_paint, eps_box, eps_turn, eps_start, eps_rect, eps_column, eps_sides, eps_row, eps_end, eps_text};
 ghost use Rattle.qrcode_render.specs.Layout.{pixels_across, pixels_down};
 ghost use Rattle.qrcode_render.specs.Put.{IsPutWhere};
 ghost use Rattle.qrcode_render.specs.Setting.{fits, layout_of};
-ghost use Rattle.qrcode_render.specs.StrokeLaws.{eps_rect-is};
 
-use crate::ink::{Front, Piece, Row, Sides, between, number};
+use crate::ink::{Column, Piece, Row, Sides, number};
 use crate::stamps::Stamp;
 use crate::strokes::{Strokes, push_modules, put_modules};
 use crate::{Modules, Pixel, Renderer};
@@ -96,18 +95,19 @@ const LONGEST_START: usize = 264;
 struct Boxes;
 
 impl Strokes for Boxes {
-    type Column = Front;
-
-    ghost rect = { eps_rect };
-
     ghost column_texts = { eps_column };
 
     ghost sides_text = { eps_sides };
 
     ghost row_texts = { eps_row };
 
-    fn column(left: u32) -> Front {
-        Front::new(between(b"", left, b" "))
+    #[tactic(auto, using(crate::proofs::Paths::number_short))]
+    fn column(left: u32) -> Column {
+        let mut front = Stamp::new(b"");
+        front.push_number(left);
+        front.push(b" ");
+        let back = Stamp::new(b"");
+        Piece::new(front, back)
     }
 
     fn sides(width: u32, height: u32) -> Sides {
@@ -118,8 +118,6 @@ impl Strokes for Boxes {
         let front = sides.behind(&number(top));
         Piece::new(front, Stamp::new(b" rectfill\n"))
     }
-
-    ghost rect_is = { eps_rect-is };
 }
 
 impl<'a> Renderer<'a, Color> {
@@ -137,9 +135,14 @@ impl<'a> Renderer<'a, Color> {
         ensures memory { IsOkUnless result OutOfMemory }
     {
         let modules = self.modules();
-        let (dark, light) = self.colors();
         let (width, height) = modules.pixels();
-        let canvas = <Canvas as crate::Canvas>::new(alloc, width, height, dark, light)?;
+        let canvas = <Canvas as crate::Canvas>::new(
+            alloc,
+            width,
+            height,
+            self.dark_color,
+            self.light_color,
+        )?;
         put_modules::<Boxes>(&canvas.text, &modules, b"showpage\n%%EOF\n", bytes)
     }
 }
@@ -209,7 +212,9 @@ impl crate::Canvas for Canvas {
     ) -> QrResult<String> {
         let (width, height) = modules.pixels();
         let canvas = Self::new(alloc, width, height, dark_pixel, light_pixel)?;
-        push_modules::<Boxes>(canvas.text, modules, "showpage\n%%EOF\n")
+        let mut text = push_modules::<Boxes>(canvas.text, modules)?;
+        text.push_str("showpage\n%%EOF\n")?;
+        Ok(text)
     }
 
     #[tactic(auto, unfolding(crate::specs::Eps::eps_text))]

@@ -1,9 +1,9 @@
 //! Texts that stand for two marks, and for four.
 
-ghost use Rattle.std.specs.Prelude.{◌≡◌, ℕ, ◌+◌, ◌*◌, ◌≤◌, Bool, All, [], ◌∷◌, List, ◌++◌, length, map, IfOk, OnOk, IsOkUnless};
+ghost use Rattle.std.specs.Prelude.{◌≡◌, ℕ, ◌+◌, ◌*◌, ◌<◌, ◌≤◌, Bool, All, [], ◌∷◌, List, ◌++◌, length, map, IfOk, OnOk, IsOkUnless};
 ghost use Rattle.qrcode_types.specs.declared.types.QrError.TheVariants.{OutOfMemory};
-ghost use Rattle.qrcode_render.specs.Lines.{paired, pair_number, two_text};
-ghost use Rattle.qrcode_render.specs.Texts.{marks_text, pairs_text};
+ghost use Rattle.qrcode_render.specs.Lines.{paired, pair_number, two_text, AreMarksAt};
+ghost use Rattle.qrcode_render.specs.Texts.{marks_text, columns_text};
 
 use crate::stamps::{Line, Stamp};
 use qrcode_types::types::QrResult;
@@ -42,7 +42,7 @@ fn pairs<const N: usize>(alloc: Global, texts: &[Stamp<N>]) -> QrResult<Vec<Stam
 }
 
 // The number of two marks among the four pairs of marks.
-pub(crate) fn pair_number(first: bool, second: bool) -> usize
+fn pair_number(first: bool, second: bool) -> usize
     ensures { result ≡ pair_number first second }
 {
     2 * usize::from(first) + usize::from(second)
@@ -115,20 +115,6 @@ pub fn push_ones(line: &mut Line, dark: &[u8], light: &[u8], marks: &[bool])
     }
 }
 
-/// The same by stamps of the two texts, which take no call where they have several bytes.
-pub fn push_stamps(line: &mut Line, dark: &Stamp<8>, light: &Stamp<8>, marks: &[bool])
-    requires room { length (line.old.text ++ marks_text dark.now light.now marks.now) + 32
-        ≤ line.old.room }
-    ensures { line.new ≡ record line.old {
-      text = line.old.text ++ marks_text dark.now light.now marks.now;
-    } }
-{
-    for mark in marks {
-        let text = if *mark { dark } else { light };
-        line.put(text);
-    }
-}
-
 /// Appends the text that stands for each mark, four at a time, by a palette of these texts. Within its
 /// callers, so that places of the line stay in registers.
 #[inline(always)]
@@ -157,18 +143,38 @@ pub fn push_marks<const N: usize>(
     push_ones(line, dark, light, &marks[4 * fours..]);
 }
 
-/// Appends the texts that stand for columns of two marks, two columns at a time. Within its callers, for the
-/// same reason.
-#[inline(always)]
-pub fn push_columns(line: &mut Line, palette: &Fours<8>, columns: &[bool])
-    requires room { length (line.old.text ++ pairs_text (two_text palette.now) columns.now) + 32
-        ≤ line.old.room }
+// Puts the marks of the columns of two rows one behind the other.
+fn interleave(upper: &[bool], lower: &[bool], columns: &mut [bool])
+    requires lower { length lower.now ≡ length upper.now }
+    requires columns { length columns.old ≡ 2 * length upper.now }
+    ensures { (x : ℕ) → x < length upper.now → AreMarksAt upper.now lower.now columns.new x }
+{
+    for x in 0..upper.len() {
+        columns[2 * x] = upper[x];
+        columns[2 * x + 1] = lower[x];
+    }
+}
+
+/// Appends the texts that stand for the columns of two rows of marks, two columns at a time.
+/// `columns` is room for all marks.
+pub fn push_columns(
+    line: &mut Line,
+    palette: &Fours<8>,
+    upper: &[bool],
+    lower: &[bool],
+    columns: &mut [bool],
+)
+    requires lower { length lower.now ≡ length upper.now }
+    requires columns { length columns.old ≡ 2 * length upper.now }
+    requires room { let text = columns_text (two_text palette.now) upper.now lower.now in
+        length (line.old.text ++ text) + 32 ≤ line.old.room }
     ensures { line.new ≡ record line.old {
-      text = line.old.text ++ pairs_text (two_text palette.now) columns.now;
+      text = line.old.text ++ columns_text (two_text palette.now) upper.now lower.now;
     } }
 {
-    let fours = columns.len() / 4;
-    for i in 0..fours {
+    interleave(upper, lower, columns);
+    let pairs = upper.len() / 2;
+    for i in 0..pairs {
         let at = 4 * i;
         let four = palette.four(
             columns[at],
@@ -178,8 +184,8 @@ pub fn push_columns(line: &mut Line, palette: &Fours<8>, columns: &[bool])
         );
         line.put(four);
     }
-    if columns.len() % 4 >= 2 {
-        let at = 4 * fours;
-        line.put(palette.two(columns[at], columns[at + 1]));
+    if upper.len() % 2 == 1 {
+        let x = upper.len() - 1;
+        line.put(palette.two(upper[x], lower[x]));
     }
 }

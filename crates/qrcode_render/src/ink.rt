@@ -1,7 +1,7 @@
 //! Texts of rectangles: what a column determines of them, what the sides, and what a row does.
 
-ghost use Rattle.std.specs.Prelude.{◌≡◌, ℕ, ◌+◌, ◌≤◌, ◌<◌, List, [], ◌∷◌, ◌++◌, length, decimal};
-ghost use Rattle.std.specs.Str.{IsAscii, IsUtf8};
+ghost use Rattle.std.specs.Prelude.{◌≡◌, ℕ, ◌+◌, ◌≤◌, ◌<◌, List, ◌∷◌, ◌++◌, length, decimal};
+ghost use Rattle.std.specs.Str.{IsUtf8};
 ghost use Rattle.qrcode_render.specs.Strokes.{rect_text};
 
 use crate::stamps::{LONGEST, Line, Stamp, joined};
@@ -36,97 +36,21 @@ impl<const N: usize> Piece<N> {
         requires back_text { ∥ IsUtf8 back ∥₁ }
         ensures front { result.0 ≡ front.entry }
         ensures back { result.1 ≡ back }
-        ensures at_most { length result.0 + length result.1 ≤ N + 16 }
     {
         Piece { front, back }
     }
 
     /// How many bytes the two texts have.
-    pub fn len(&self) -> usize
-        requires { N ≤ 32 }
-        ensures value { result ≡ length self.now.0 + length self.now.1 }
-        ensures at_most { result ≤ N + 16 }
-    {
-        self.front.len() + self.back.len()
+    pub fn len(&self) -> usize {
+        self.front.len().saturating_add(self.back.len())
     }
 }
+
+/// The texts of a column.
+pub type Column = Piece<SHORT>;
 
 /// The texts of a row.
 pub type Row = Piece<LONGEST>;
-
-/// The texts of a column: what stands in front of the text of a row, and what behind it.
-pub trait Column: Drop {
-    ghost texts: { Self → List ℕ × List ℕ };
-
-    /// How many bytes the two texts have.
-    fn len(&self) -> usize
-        ensures value { result ≡ length (texts self.now).0 + length (texts self.now).1 }
-        ensures at_most { result ≤ 32 };
-
-    /// Appends the text of a rectangle to a line.
-    fn put(&self, line: &mut Line, row: &Row)
-        requires { length line.old.text + 80 ≤ line.old.room }
-        ensures appends { line.new ≡ record line.old {
-          text = line.old.text ++ rect_text (texts self.now) row.now;
-        } }
-        ensures is_text { ∥ IsUtf8 (rect_text (texts self.now) row.now) ∥₁ };
-}
-
-impl Column for Piece<SHORT> {
-    ghost texts = { λ p. p };
-
-    fn len(&self) -> usize {
-        self.len()
-    }
-
-    fn put(&self, line: &mut Line, row: &Row) {
-        line.put(&self.front);
-        line.put(&row.front);
-        line.put(&self.back);
-        line.put(&row.back);
-    }
-}
-
-/// The text of a column that has none behind that of a row.
-#[derive(Drop)]
-pub struct Front {
-    text: Stamp<SHORT>,
-}
-
-impl Model for Front {
-    ghost use Rattle.std.specs.Prelude.{ℕ, ◌≤◌, List, length};
-    ghost use Rattle.std.specs.Str.{IsUtf8};
-
-    ghost Value = { List ℕ };
-
-    ghost view = { λ f. f.text };
-
-    ghost invariant = { λ f. (length f.text ≤ 16) × (∥ IsUtf8 f.text ∥₁) };
-}
-
-impl Front {
-    /// A text of a column.
-    pub fn new(text: Stamp<SHORT>) -> Front
-        requires { ∥ IsUtf8 text ∥₁ }
-        ensures { result ≡ text }
-    {
-        Front { text }
-    }
-}
-
-impl Column for Front {
-    ghost texts = { λ text. (text, []) };
-
-    fn len(&self) -> usize {
-        self.text.len()
-    }
-
-    fn put(&self, line: &mut Line, row: &Row) {
-        line.put(&self.text);
-        line.put(&row.front);
-        line.put(&row.back);
-    }
-}
 
 /// A number in decimal digits.
 pub fn number(n: u32) -> Stamp<SHORT>
@@ -136,20 +60,6 @@ pub fn number(n: u32) -> Stamp<SHORT>
 {
     let mut text = Stamp::new(b"");
     text.push_number(n);
-    text
-}
-
-/// A number in decimal digits between two short texts of ASCII. Within its callers, where these are known.
-#[inline(always)]
-pub fn between(before: &[u8], n: u32, after: &[u8]) -> Stamp<SHORT>
-    requires before { (length before.now ≤ 3) × IsAscii before.now }
-    requires after { (length after.now ≤ 3) × IsAscii after.now }
-    ensures value { result ≡ before.now ++ (decimal n ++ after.now) }
-    ensures is_text { ∥ IsUtf8 result ∥₁ }
-{
-    let mut text = Stamp::new(before);
-    text.push_number(n);
-    text.push(after);
     text
 }
 
@@ -197,3 +107,18 @@ impl Sides {
 
 /// The most bytes of a rectangle.
 pub const MOST: usize = 3 * SHORT + LONGEST;
+
+/// Appends the text of a rectangle to a line.
+pub fn put_rect(line: &mut Line, column: &Column, row: &Row)
+    requires room { length line.old.text + 80 ≤ line.old.room }
+    ensures appends { line.new ≡ record line.old {
+      text = line.old.text ++ rect_text column.now row.now;
+    } }
+    ensures at_most { length (rect_text column.now row.now) ≤ 80 }
+    ensures is_text { ∥ IsUtf8 (rect_text column.now row.now) ∥₁ }
+{
+    line.put(&column.front);
+    line.put(&row.front);
+    line.put(&column.back);
+    line.put(&row.back);
+}

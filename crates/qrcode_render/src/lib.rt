@@ -15,7 +15,6 @@ use qrcode_types::types::{Color, QrResult};
 use std::alloc::Global;
 use std::marker::Model;
 
-mod bands;
 mod buffers;
 mod cells;
 pub mod eps;
@@ -23,7 +22,6 @@ mod fours;
 pub mod grid;
 pub mod image;
 mod ink;
-mod inlays;
 pub mod laws;
 mod marks;
 pub mod page;

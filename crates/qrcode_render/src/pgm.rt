@@ -51,7 +51,6 @@ impl Finish<Grey> for File {
     fn image(alloc: Global, grid: &Grid, dark: Grey, light: Grey) -> QrResult<Vec<u8>> {
         let (width, height) = grid.pixels();
         let mut file = format!(in alloc; "P5\n{width} {height}\n255\n")?.into_bytes();
-        file.reserve(width as usize * height as usize)?;
         push_rows(&mut file, grid, &[dark.0], &[light.0], &[])?;
         Ok(file)
     }

@@ -6,10 +6,9 @@ ghost use Rattle.qrcode_types.specs.declared.types.QrError.TheVariants.{OutOfMem
 ghost use Rattle.qrcode_render.specs.Layout.{pixels_across, pixels_down};
 ghost use Rattle.qrcode_render.specs.Put.{IsPutWhere};
 ghost use Rattle.qrcode_render.specs.Setting.{fits, layout_of};
-ghost use Rattle.qrcode_render.specs.StrokeLaws.{pic_rect-is};
 ghost use Rattle.qrcode_render.specs.Vectors.{pic_start, pic_rect, pic_column, pic_sides, pic_row, pic_text};
 
-use crate::ink::{Front, Piece, Row, Sides, between, number};
+use crate::ink::{Column, Piece, Row, Sides, number};
 use crate::stamps::Stamp;
 use crate::strokes::{Strokes, push_modules, put_modules};
 use crate::{Modules, Pixel, Renderer};
@@ -68,18 +67,19 @@ const LONGEST_START: usize = 176;
 struct Boxes;
 
 impl Strokes for Boxes {
-    type Column = Front;
-
-    ghost rect = { pic_rect };
-
     ghost column_texts = { pic_column };
 
     ghost sides_text = { pic_sides };
 
     ghost row_texts = { pic_row };
 
-    fn column(left: u32) -> Front {
-        Front::new(between(b"p(", left, b","))
+    #[tactic(auto, using(crate::proofs::Paths::number_short))]
+    fn column(left: u32) -> Column {
+        let mut front = Stamp::new(b"p(");
+        front.push_number(left);
+        front.push(b",");
+        let back = Stamp::new(b")\n");
+        Piece::new(front, back)
     }
 
     fn sides(width: u32, height: u32) -> Sides {
@@ -88,10 +88,8 @@ impl Strokes for Boxes {
 
     fn row(top: u32, sides: &Sides) -> Row {
         let front = sides.behind(&number(top));
-        Piece::new(front, Stamp::new(b")\n"))
+        Piece::new(front, Stamp::new(b""))
     }
-
-    ghost rect_is = { pic_rect-is };
 }
 
 impl<'a> Renderer<'a, Color> {
@@ -108,9 +106,8 @@ impl<'a> Renderer<'a, Color> {
         ensures memory { IsOkUnless result OutOfMemory }
     {
         let modules = self.modules();
-        let (dark, light) = self.colors();
         let (width, height) = modules.pixels();
-        let canvas = <Canvas as crate::Canvas>::new(alloc, width, height, dark, light)?;
+        let canvas = <Canvas as crate::Canvas>::new(alloc, width, height, Color, Color)?;
         put_modules::<Boxes>(&canvas.text, &modules, b"", bytes)
     }
 }
@@ -175,7 +172,7 @@ impl crate::Canvas for Canvas {
     ) -> QrResult<String> {
         let (width, height) = modules.pixels();
         let canvas = Self::new(alloc, width, height, dark_pixel, light_pixel)?;
-        push_modules::<Boxes>(canvas.text, modules, "")
+        push_modules::<Boxes>(canvas.text, modules)
     }
 
     fn into_image(self) -> QrResult<String> {

@@ -1,16 +1,15 @@
 //! Rows of cells as bytes: one row of pixels, copied for the further rows.
 
-ghost use Rattle.std.specs.Prelude.{◌≡◌, ◌+◌, ◌*◌, ◌≤◌, Bool, [], ◌∷◌, ◌++◌, length, max, vec_len, IfOk, IfSome, OnOk, IsOkUnless};
+ghost use Rattle.std.specs.Prelude.{◌≡◌, ℕ, ◌+◌, ◌*◌, ◌<◌, ◌≤◌, Bool, [], ◌∷◌, ◌++◌, length, max, flat_map, vec_len, IfOk, OnOk, IsOkUnless};
+ghost use Rattle.std.specs.List.{range_with_len};
 ghost use Rattle.std.specs.Option.{ForSome};
 ghost use Rattle.qrcode_types.specs.declared.types.QrError.TheVariants.{OutOfMemory};
-ghost use Rattle.qrcode_render.specs.Grid.{all_columns, repeated, rows_by, rows_text};
+ghost use Rattle.qrcode_render.specs.Grid.{all_columns, all_rows, cell_row, repeated, rows_text};
 ghost use Rattle.qrcode_render.specs.Lines.{two_text};
 ghost use Rattle.qrcode_render.specs.Texts.{marks_text};
 
-use crate::bands::push_bands;
 use crate::fours::{Fours, push_marks, push_ones};
 use crate::grid::Grid;
-use crate::inlays::{inlaid_bytes, push_inlaid};
 use crate::stamps::{Line, Stamp};
 use qrcode_types::types::{QrError, QrResult};
 use std::alloc::Global;
@@ -109,21 +108,6 @@ impl CellTexts {
         row.checked_add(end.len()).ok_or(QrError::OutOfMemory)
     }
 
-    // The palette of four cells where a cell has eight bytes and nothing stands at the end of a row.
-    pub(crate) fn of_eight(&self, end: &[u8]) -> Option<&Fours<32>>
-        ensures end { IfSome result (λ _. end.now ≡ []) }
-        ensures dark { IfSome result (λ _. length self.now.dark.items ≡ 8) }
-        ensures light { IfSome result (λ _. length self.now.light.items ≡ 8) }
-        ensures twos { IfSome result (λ p. (a b : Bool) → two_text p.now a b
-            ≡ marks_text self.now.dark.items self.now.light.items (a ∷ b ∷ [])) }
-    {
-        if end.is_empty() && self.dark.len() == 8 && self.light.len() == 8 {
-            self.wide.as_ref()
-        } else {
-            None
-        }
-    }
-
     // Appends the text of marks. Within its callers, for the same reason as `push_lines`.
     #[inline(always)]
     pub(crate) fn write(&self, line: &mut Line, marks: &[bool])
@@ -162,8 +146,9 @@ fn push_lines(
     requires at_most { all_columns grid.now
         * max (vec_len texts.now.dark) (vec_len texts.now.light) + length end.now ≤ most }
     requires room { most + 32 ≤ line.old.room }
-    ensures appends { OnOk result (raw.new.items ≡ raw.old.items ++ rows_by (λ cells.
-        marks_text texts.now.dark.items texts.now.light.items cells ++ end.now) grid.now) }
+    ensures appends { OnOk result (raw.new.items ≡ raw.old.items ++ flat_map (λ row.
+        repeated grid.now.down (marks_text texts.now.dark.items texts.now.light.items
+        (cell_row grid.now row) ++ end.now)) (range_with_len 0 (all_rows grid.now))) }
     ensures memory { IsOkUnless result OutOfMemory }
 {
     let (_, rows) = grid.sides();
@@ -183,77 +168,6 @@ fn push_lines(
 // The rows that are copied together where each is copied once.
 const TOGETHER: usize = 4;
 
-// The same, by a line of its own.
-fn push_by_lines(
-    raw: &mut Vec<u8>,
-    grid: &Grid,
-    texts: &CellTexts,
-    end: &[u8],
-    marks: &mut [bool],
-) -> QrResult<()>
-    requires length { length marks.old ≡ all_columns grid.now }
-    ensures appends { OnOk result (raw.new.items ≡ raw.old.items ++ rows_by (λ cells.
-        marks_text texts.now.dark.items texts.now.light.items cells ++ end.now) grid.now) }
-    ensures memory { IsOkUnless result OutOfMemory }
-{
-    let (_, down) = grid.cell();
-    let (columns, _) = grid.sides();
-    let most = texts.room(columns, end)?;
-    let room = if down == 1 {
-        most.saturating_mul(TOGETHER)
-    } else {
-        most
-    };
-    let mut line = Line::new(*raw.allocator(), room)?;
-    push_lines(raw, grid, texts, end, marks, &mut line, most)
-}
-
-// The bytes below which copies take few instructions.
-pub(crate) const FEW: usize = 4096;
-
-// The same, by equal rows where cells have eight bytes and their rows are in pairs of few bytes, of a small picture by
-// eight rows.
-fn push_cells(
-    raw: &mut Vec<u8>,
-    grid: &Grid,
-    texts: &CellTexts,
-    end: &[u8],
-    marks: &mut [bool],
-) -> QrResult<()>
-    requires length { length marks.old ≡ all_columns grid.now }
-    ensures appends { OnOk result (raw.new.items ≡ raw.old.items ++ rows_by (λ cells.
-        marks_text texts.now.dark.items texts.now.light.items cells ++ end.now) grid.now) }
-    ensures memory { IsOkUnless result OutOfMemory }
-{
-    let (_, down) = grid.cell();
-    let (columns, _) = grid.sides();
-    match texts.of_eight(end) {
-        Some(palette) if columns >= 4 && columns < FEW / 64 && down % 8 == 0 => {
-            push_bands::<8>(
-                raw,
-                grid,
-                palette,
-                &texts.dark,
-                &texts.light,
-                marks,
-                down / 8,
-            )
-        }
-        Some(palette) if columns >= 4 && columns < FEW / 16 && down % 2 == 0 => {
-            push_bands::<2>(
-                raw,
-                grid,
-                palette,
-                &texts.dark,
-                &texts.light,
-                marks,
-                down / 2,
-            )
-        }
-        _ => push_by_lines(raw, grid, texts, end, marks),
-    }
-}
-
 /// Appends the rows of cells, of which each pixel is the text that stands for dark or for light, and
 /// each row of pixels has a text at its end. Refuses with `OutOfMemory` alone.
 pub fn push_rows(
@@ -267,13 +181,17 @@ pub fn push_rows(
         (raw.new.items ≡ raw.old.items ++ rows_text dark.now light.now end.now grid.now) }
     ensures memory { IsOkUnless result OutOfMemory }
 {
-    if let Some((dark, light)) = inlaid_bytes(grid, dark, light, end) {
-        return push_inlaid(raw, grid, dark, light);
-    }
     let alloc = *raw.allocator();
-    let (across, _) = grid.cell();
+    let (across, down) = grid.cell();
     let (columns, _) = grid.sides();
     let texts = CellTexts::new(alloc, across, dark, light)?;
     let mut marks = vec![in alloc; false; columns]?;
-    push_cells(raw, grid, &texts, end, &mut marks)
+    let most = texts.room(columns, end)?;
+    let room = if down == 1 {
+        most.saturating_mul(TOGETHER)
+    } else {
+        most
+    };
+    let mut line = Line::new(alloc, room)?;
+    push_lines(raw, grid, &texts, end, &mut marks, &mut line, most)
 }

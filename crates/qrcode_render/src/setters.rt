@@ -95,6 +95,7 @@ impl<'a, P: Pixel> Renderer<'a, P> {
     ///
     /// The picture has a module, and its modules along a side and the pixels asked for are together
     /// at most 4,294,967,296.
+    #[tactic(auto, using(crate::proofs::Sizes::is_least_size))]
     pub fn min_dimensions(&mut self, width: u32, height: u32) -> &mut Self
         requires at_least { 1 ≤ side_of self.old }
         requires side_fits { side_of self.old < 2 ^ 32 }
@@ -139,6 +140,7 @@ impl<'a, P: Pixel> Renderer<'a, P> {
     /// fits then.
     ///
     /// The picture has a module, and at most 4,294,967,295 along a side.
+    #[tactic(auto, using(crate::proofs::Sizes::is_greatest_size))]
     pub fn max_dimensions(&mut self, width: u32, height: u32) -> &mut Self
         requires at_least { 1 ≤ side_of self.old }
         requires side_fits { side_of self.old < 2 ^ 32 }

@@ -107,14 +107,6 @@ impl<const N: usize> Stamp<N> {
         self.len
     }
 
-    // A text of as many bytes as there may be, as one vector.
-    pub(crate) fn lanes(&self) -> Simd<u8, N>
-        requires { length self.now ≡ N }
-        ensures { result ≡ self.now }
-    {
-        Simd::<u8, N>::from_slice(&self.start)
-    }
-
     // Writes the text and the bytes behind it, and answers where the text ends.
     fn write(&self, bytes: &mut [u8], at: usize) -> usize
         requires { at + N ≤ length bytes.old }
@@ -175,18 +167,6 @@ impl Line {
         ensures { self.new ≡ record self.old { text = [] } }
     {
         self.end = 0;
-    }
-
-    /// Empties the text, and has so much room at least. Refuses with `OutOfMemory` alone.
-    pub fn fit(&mut self, room: usize) -> QrResult<()>
-        ensures room { OnOk result (room ≤ self.new.room) }
-        ensures memory { IsOkUnless result OutOfMemory }
-    {
-        self.end = 0;
-        if self.bytes.len() < room {
-            self.bytes.resize(room, 0)?;
-        }
-        Ok(())
     }
 
     /// Appends a stamp.

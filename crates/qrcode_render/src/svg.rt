@@ -7,10 +7,10 @@ ghost use Rattle.qrcode_types.specs.Colors.{select_of};
 ghost use Rattle.qrcode_render.specs.Layout.{pixels_across, pixels_down};
 ghost use Rattle.qrcode_render.specs.Put.{IsPutWhere};
 ghost use Rattle.qrcode_render.specs.Setting.{fits, layout_of};
-ghost use Rattle.qrcode_render.specs.StrokeLaws.{svg_rect-is};
 ghost use Rattle.qrcode_render.specs.Vectors.{svg_start, svg_rect, svg_column, svg_sides, svg_row, svg_end, svg_text};
 
-use crate::ink::{Piece, Row, SHORT, Sides, between, number};
+use crate::ink::{Column, Piece, Row, Sides, number};
+use crate::stamps::Stamp;
 use crate::strokes::{Strokes, push_modules, put_modules};
 pub use crate::svg_path::{Path, PathElement};
 use crate::{Modules, Pixel, Renderer};
@@ -41,7 +41,9 @@ impl<'a> Pixel for Color<'a> {
         (8, 8)
     }
 
-    fn default_color(color: ModuleColor) -> Color<'a> {
+    fn default_color(color: ModuleColor) -> Color<'a>
+        ensures { result.0.now ≡ select_of color (codes "#000") (codes "#fff") }
+    {
         Color(color.select("#000", "#fff"))
     }
 }
@@ -74,18 +76,21 @@ const LONGEST_START: usize = 280;
 struct Paths;
 
 impl Strokes for Paths {
-    type Column = Piece<SHORT>;
-
-    ghost rect = { svg_rect };
-
     ghost column_texts = { svg_column };
 
     ghost sides_text = { svg_sides };
 
     ghost row_texts = { svg_row };
 
-    fn column(left: u32) -> Piece<SHORT> {
-        Piece::new(between(b"M", left, b" "), between(b"H", left, b"V"))
+    #[tactic(auto, using(crate::proofs::Paths::number_short))]
+    fn column(left: u32) -> Column {
+        let mut front = Stamp::new(b"M");
+        front.push_number(left);
+        front.push(b" ");
+        let mut back = Stamp::new(b"H");
+        back.push_number(left);
+        back.push(b"V");
+        Piece::new(front, back)
     }
 
     fn sides(width: u32, height: u32) -> Sides {
@@ -97,8 +102,6 @@ impl Strokes for Paths {
         let front = sides.behind(&back);
         Piece::new(front, back)
     }
-
-    ghost rect_is = { svg_rect-is };
 }
 
 impl<'a, 'c> Renderer<'a, Color<'c>> {
@@ -116,9 +119,14 @@ impl<'a, 'c> Renderer<'a, Color<'c>> {
         ensures memory { IsOkUnless result OutOfMemory }
     {
         let modules = self.modules();
-        let (dark, light) = self.colors();
         let (width, height) = modules.pixels();
-        let canvas = <Canvas as crate::Canvas>::new(alloc, width, height, dark, light)?;
+        let canvas = <Canvas as crate::Canvas>::new(
+            alloc,
+            width,
+            height,
+            self.dark_color,
+            self.light_color,
+        )?;
         put_modules::<Paths>(&canvas.text, &modules, b"\"/></svg>", bytes)
     }
 }
@@ -188,7 +196,9 @@ impl<'a> crate::Canvas for Canvas<'a> {
     ) -> QrResult<String> {
         let (width, height) = modules.pixels();
         let canvas = Self::new(alloc, width, height, dark_pixel, light_pixel)?;
-        push_modules::<Paths>(canvas.text, modules, "\"/></svg>")
+        let mut text = push_modules::<Paths>(canvas.text, modules)?;
+        text.push_str("\"/></svg>")?;
+        Ok(text)
     }
 
     #[tactic(auto, unfolding(crate::specs::Vectors::svg_text))]

@@ -10,7 +10,7 @@ ghost use Rattle.qrcode_render.specs.Paths.{attribute, path_frame, path_ground, 
 use crate::Pixel;
 use crate::grid::Grid;
 use crate::page::{Finish, Page};
-use crate::runs::{push_runs, room_of};
+use crate::runs::push_runs;
 use qrcode_types::types::{Color as ModuleColor, QrResult};
 use std::alloc::Global;
 use std::fmt::Write;
@@ -42,7 +42,9 @@ impl<'a> Pixel for Path<'a> {
         (8, 8)
     }
 
-    fn default_color(color: ModuleColor) -> Path<'a> {
+    fn default_color(color: ModuleColor) -> Path<'a>
+        ensures { result.0.now ≡ select_of color (codes "#000") (codes "#fff") }
+    {
         Path(color.select("#000", "#fff"))
     }
 }
@@ -65,7 +67,9 @@ impl<'a> Pixel for PathElement<'a> {
         (8, 8)
     }
 
-    fn default_color(color: ModuleColor) -> PathElement<'a> {
+    fn default_color(color: ModuleColor) -> PathElement<'a>
+        ensures { result.0.now ≡ select_of color (codes "#000") (codes "#fff") }
+    {
         PathElement(color.select("#000", "#fff"))
     }
 }
@@ -85,8 +89,8 @@ impl<'a> Finish<Path<'a>> for WithHead {
         IsPathOf xml_head dark.0.now light.0.now b (string_bytes text) };
 
     fn image(alloc: Global, grid: &Grid, dark: Path<'a>, light: Path<'a>) -> QrResult<String> {
-        let head = "<?xml version=\"1.0\" standalone=\"yes\"?>";
-        with_element(alloc, head, grid, dark.0, light.0)
+        let text = String::from_str(alloc, "<?xml version=\"1.0\" standalone=\"yes\"?>")?;
+        with_element(text, grid, dark.0, light.0)
     }
 }
 
@@ -102,69 +106,58 @@ impl<'a> Finish<PathElement<'a>> for WithoutHead {
         dark: PathElement<'a>,
         light: PathElement<'a>,
     ) -> QrResult<String> {
-        with_element(alloc, "", grid, dark.0, light.0)
+        with_element(String::new(alloc), grid, dark.0, light.0)
     }
 }
 
-// The most bytes of what stands beside the colours and the runs.
-const BESIDE: usize = 304;
-
-// How many bytes a text has as the value of an attribute.
-fn attribute_len(value: &str) -> usize {
-    let mut len = 0usize;
-    for byte in value.as_bytes() {
-        let more = match *byte {
-            b'"' => 6,
-            b'<' => 4,
-            b'&' => 5,
-            _ => 1,
-        };
-        len = len.saturating_add(more);
-    }
-    len
-}
-
-// A text and the picture behind it. Its room is counted before anything is written.
-fn with_element(alloc: Global, head: &str, grid: &Grid, dark: &str, light: &str) -> QrResult<String>
+// A text and the picture behind it.
+fn with_element(text: String, grid: &Grid, dark: &str, light: &str) -> QrResult<String>
     ensures value { IfOk result (λ whole.
-        IsPathOf head.now dark.now light.now (pixels_of grid.now) (string_bytes whole)) }
+        IsPathOf (string_bytes text) dark.now light.now (pixels_of grid.now) (string_bytes whole)) }
     ensures memory { IsOkUnless result OutOfMemory }
 {
+    let mut text = text;
+    let alloc = *text.allocator();
     let (width, height) = grid.pixels();
     let (columns, rows) = grid.sides();
-    let mut marks = vec![in alloc; false; columns]?;
-    let room = room_of(grid, &mut marks)
-        .saturating_add(BESIDE)
-        .saturating_add(attribute_len(dark))
-        .saturating_add(attribute_len(light));
-    let mut text = String::with_capacity(alloc, room)?;
-    text.push_str(head)?;
-    push_head(&mut text, width, height, columns, rows)?;
+    push_frame(&mut text, width, height, columns, rows)?;
+    push_ground(&mut text, columns, rows)?;
     push_attribute(&mut text, light)?;
     text.push_str("\"/><path fill=\"")?;
     push_attribute(&mut text, dark)?;
     text.push_str("\" d=\"")?;
+    let mut marks = vec![in alloc; false; columns]?;
     push_runs(&mut text, grid, &mut marks)?;
     text.push_str("\"/></svg>")?;
     Ok(text)
 }
 
-// Appends the head of the element and the light ground, up to its colour.
-fn push_head(
+// Appends the head of the element.
+fn push_frame(
     text: &mut String,
     width: u32,
     height: u32,
     columns: usize,
     rows: usize,
 ) -> QrResult<()>
-    ensures appends { OnOk result (string_bytes text.new ≡ string_bytes text.old
-        ++ (path_frame width height columns rows ++ path_ground columns rows)) }
+    ensures appends { OnOk result (string_bytes text.new
+        ≡ string_bytes text.old ++ path_frame width height columns rows) }
     ensures memory { IsOkUnless result OutOfMemory }
 {
     write!(
         text,
-        "<svg xmlns=\"http://www.w3.org/2000/svg\" version=\"1.1\" width=\"{width}\" height=\"{height}\" viewBox=\"0 0 {columns} {rows}\" preserveAspectRatio=\"none\" shape-rendering=\"crispEdges\"><rect width=\"{columns}\" height=\"{rows}\" fill=\""
+        "<svg xmlns=\"http://www.w3.org/2000/svg\" version=\"1.1\" width=\"{width}\" height=\"{height}\" viewBox=\"0 0 {columns} {rows}\" preserveAspectRatio=\"none\" shape-rendering=\"crispEdges\">"
     )?;
+    Ok(())
+}
+
+// Appends the light ground, up to its colour.
+fn push_ground(text: &mut String, columns: usize, rows: usize) -> QrResult<()>
+    ensures appends { OnOk result
+        (string_bytes text.new ≡ string_bytes text.old ++ path_ground columns rows) }
+    ensures memory { IsOkUnless result OutOfMemory }
+{
+    write!(text, "<rect width=\"{columns}\" height=\"{rows}\" fill=\"")?;
     Ok(())
 }
 

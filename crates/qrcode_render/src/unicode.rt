@@ -1,7 +1,7 @@
 //! Pictures as texts of half blocks: two rows of pixels in a line.
 
 ghost use Rattle.std.proofs.Common.{rules};
-ghost use Rattle.std.specs.Prelude.{◌≡◌, ◌+◌, ◌*◌, ◌/◌, ◌^◌, ◌<◌, ◌≤◌, Bool, [], ◌∷◌, ◌++◌, length, take, drop, map, string_bytes, IfOk, IfSome, IfNone, OnErr, IsOkUnless};
+ghost use Rattle.std.specs.Prelude.{◌≡◌, ℕ, ◌+◌, ◌*◌, ◌/◌, ◌^◌, ◌<◌, ◌≤◌, Bool, [], ◌∷◌, ◌++◌, length, take, drop, map, string_bytes, IfOk, IfSome, IfNone, OnErr, IsOkUnless};
 ghost use Rattle.std.specs.List.{join_with_byte, range_with_len};
 ghost use Rattle.qrcode_types.specs.declared.types.QrError.TheVariants.{OutOfMemory};
 ghost use Rattle.qrcode_types.specs.Colors.{is_dark};
@@ -9,16 +9,16 @@ ghost use Rattle.qrcode_render.specs.Grid.{pixels_of};
 ghost use Rattle.qrcode_render.specs.Half.{is_dark_half};
 ghost use Rattle.qrcode_render.specs.Lines.{two_text};
 ghost use Rattle.qrcode_render.specs.Put.{IsPutWhere};
-ghost use Rattle.qrcode_render.specs.Strips.{IsStripOf, lines_room, dense_room};
-ghost use Rattle.qrcode_render.specs.Texts.{half_blocks, column_text, dense_line, dense_text};
+ghost use Rattle.qrcode_render.specs.Strips.{IsStripOf, lines_room};
+ghost use Rattle.qrcode_render.specs.Texts.{half_blocks, column_text, columns_text, dense_line, dense_text};
 
 use crate::Pixel;
-use crate::fours::{Fours, push_columns, push_stamps};
+use crate::fours::{Fours, push_columns, push_ones};
 use crate::grid::Grid;
 use crate::page::{Finish, Page};
 use crate::stamps::{LONGEST, Line, Stamp, put_text};
-use crate::strips::{mark_alone, mark_pixel_columns};
-use qrcode_types::types::{Color, QrResult};
+use crate::strips::mark_pixels;
+use qrcode_types::types::{Color, QrError, QrResult};
 use std::alloc::Global;
 
 /// A pixel that is half a character high.
@@ -65,8 +65,7 @@ impl Pixel for Dense1x2 {
 }
 
 /// Rows of pixels while they are drawn. The picture is a line of text for every two rows, with a
-/// newline between two lines and none at the end. Below a last row alone nothing is drawn: its lower
-/// halves stay blank, whatever light pixels look like.
+/// newline between two lines and none at the end; a last row alone stands over light pixels.
 pub type Canvas1x2 = Page<Dense1x2, HalfBlocks>;
 
 /// Ends rows of pixels as half blocks.
@@ -96,15 +95,15 @@ impl Finish<Dense1x2> for HalfBlocks {
 const LONGEST_HALF: usize = 3;
 
 // The character of a column of two pixels, of which each is dark or not.
-fn half(upper: bool, lower: bool) -> Stamp<8>
-    ensures value { result ≡ half_blocks upper lower }
-    ensures at_most { length result ≤ 3 }
+fn half(upper: bool, lower: bool) -> &'static str
+    ensures value { result.now ≡ half_blocks upper lower }
+    ensures at_most { length result.now ≤ 3 }
 {
     match (upper, lower) {
-        (false, false) => Stamp::new(b" "),
-        (false, true) => Stamp::new("\u{2584}".as_bytes()),
-        (true, false) => Stamp::new("\u{2580}".as_bytes()),
-        (true, true) => Stamp::new("\u{2588}".as_bytes()),
+        (false, false) => " ",
+        (false, true) => "\u{2584}",
+        (true, false) => "\u{2580}",
+        (true, true) => "\u{2588}",
     }
 }
 
@@ -124,10 +123,10 @@ impl Halves {
         ensures memory { IsOkUnless result OutOfMemory }
     {
         let columns = [
-            half(other, other),
-            half(other, marked),
-            half(marked, other),
-            half(marked, marked),
+            Stamp::new(half(other, other).as_bytes()),
+            Stamp::new(half(other, marked).as_bytes()),
+            Stamp::new(half(marked, other).as_bytes()),
+            Stamp::new(half(marked, marked).as_bytes()),
         ];
         Ok(Halves {
             marked,
@@ -137,11 +136,12 @@ impl Halves {
     }
 }
 
-// Room for the marks of two rows of cells, where a cell is wider than a pixel, and of two rows of pixels, each
-// column by column, and for the line of these.
+// Room for the marks of a row of cells, of two rows of pixels and of both, and for the line of these.
 #[derive(Drop)]
 struct Strip {
     cells: Vec<bool>,
+    upper: Vec<bool>,
+    lower: Vec<bool>,
     columns: Vec<bool>,
     line: Line,
 }
@@ -152,11 +152,11 @@ impl Strip {
         ensures memory { IsOkUnless result OutOfMemory }
     {
         let (columns, _) = grid.sides();
-        let (across, _) = grid.cell();
         let (width, _) = grid.pixels();
-        let cells = if across == 1 { 0 } else { 2 * columns };
         Ok(Strip {
-            cells: vec![in alloc; false; cells]?,
+            cells: vec![in alloc; false; columns]?,
+            upper: vec![in alloc; false; width as usize]?,
+            lower: vec![in alloc; false; width as usize]?,
             columns: vec![in alloc; false; 2 * width as usize]?,
             line: Line::new(alloc, LONGEST_HALF * width as usize + 1)?,
         })
@@ -172,9 +172,16 @@ impl Strip {
         ensures value { self.new.line.text
             ≡ dense_line halves.now.marked halves.now.other (pixels_of grid.now) i ++ 10 ∷ [] }
     {
-        mark_pixel_columns(grid, i, &mut self.cells, &mut self.columns);
+        mark_pixels(grid, 2 * i, &mut self.cells, &mut self.upper);
+        mark_pixels(grid, 2 * i + 1, &mut self.cells, &mut self.lower);
         self.line.clear();
-        push_columns(&mut self.line, &halves.palette, &self.columns);
+        push_columns(
+            &mut self.line,
+            &halves.palette,
+            &self.upper,
+            &self.lower,
+            &mut self.columns,
+        );
         self.line.push(b"\n");
     }
 
@@ -187,31 +194,17 @@ impl Strip {
         ensures value { self.new.line.text
             ≡ dense_line halves.now.marked halves.now.other (pixels_of grid.now) i ++ 10 ∷ [] }
     {
-        mark_alone(grid, 2 * i, &mut self.cells, &mut self.columns);
-        let marks = &self.columns[..self.columns.len() / 2];
+        mark_pixels(grid, 2 * i, &mut self.cells, &mut self.upper);
         let dark = half(halves.marked, false);
         let light = half(halves.other, false);
         self.line.clear();
-        push_stamps(&mut self.line, &dark, &light, marks);
+        push_ones(
+            &mut self.line,
+            dark.as_bytes(),
+            light.as_bytes(),
+            &self.upper,
+        );
         self.line.push(b"\n");
-    }
-
-    // Writes the line of the last two rows, or of the last alone, and gives it without its newline.
-    fn last_line(&mut self, grid: &Grid, halves: &Halves, i: u32) -> &[u8]
-        requires fits { IsStripOf grid.now self.old }
-        requires last { i + 1 ≡ ((pixels_of grid.now).down + 1) / 2 }
-        ensures value { result.now
-            ≡ dense_line halves.now.marked halves.now.other (pixels_of grid.now) i }
-        ensures at_most { length result.now ≤ 3 * (pixels_of grid.now).across + 32 }
-    {
-        let (_, height) = grid.pixels();
-        if height % 2 == 1 {
-            self.write_last(grid, halves, i);
-        } else {
-            self.write_two(grid, halves, i);
-        }
-        let line = self.line.as_slice();
-        &line[..line.len() - 1]
     }
 }
 
@@ -236,7 +229,13 @@ fn put_lines(bytes: &mut [u8], grid: &Grid, halves: &Halves, strip: &mut Strip) 
         strip.write_two(grid, halves, i);
         end = put_text(bytes, end, strip.line.as_slice());
     }
-    put_text(bytes, end, strip.last_line(grid, halves, last))
+    if height % 2 == 1 {
+        strip.write_last(grid, halves, last);
+    } else {
+        strip.write_two(grid, halves, last);
+    }
+    let line = strip.line.as_slice();
+    put_text(bytes, end, &line[..line.len() - 1])
 }
 
 // The most bytes of the lines of a picture and behind them, where they can be counted.
@@ -246,41 +245,6 @@ fn room_of(width: u32, height: u32) -> Option<usize>
 {
     let line = LONGEST_HALF * width as usize + 1 + LONGEST;
     (height.div_ceil(2) as usize).checked_mul(line)
-}
-
-// The bytes of the lines of cells: three for each column of pixels of which one is drawn, one for each other and
-// for each end of a line.
-fn bytes_of(grid: &Grid, marked: bool, other: bool) -> usize {
-    let (width, height) = grid.pixels();
-    let (across, down) = grid.cell();
-    let lines = height.div_ceil(2) as usize;
-    let mut drawn = 0usize;
-    for i in 0..lines {
-        let upper = 2 * i / down as usize;
-        let lower = (2 * i + 1) / down as usize;
-        drawn = drawn.saturating_add(drawn_in(grid, upper, lower, marked, other));
-    }
-    let more = drawn.saturating_mul(2 * across as usize);
-    lines
-        .saturating_mul(width as usize + 1)
-        .saturating_add(more)
-}
-
-// How many columns of two rows of cells show one that is drawn.
-fn drawn_in(grid: &Grid, upper: usize, lower: usize, marked: bool, other: bool) -> usize {
-    let (columns, _) = grid.sides();
-    let either = grid.dark_in_two(upper, lower);
-    match (marked, other) {
-        (true, true) => columns,
-        (true, false) => either,
-        (false, true) => {
-            let dark = grid
-                .dark_in_row(upper)
-                .saturating_add(grid.dark_in_row(lower));
-            columns.saturating_sub(dark.saturating_sub(either))
-        }
-        (false, false) => 0,
-    }
 }
 
 // The lines of cells, with a newline between two, in room that is taken once. Within its callers, as
@@ -294,15 +258,21 @@ fn made_lines(alloc: Global, grid: &Grid, halves: &Halves, strip: &mut Strip) ->
         (range_with_len 0 (((pixels_of grid.now).down + 1) / 2)))) }
     ensures memory { IsOkUnless result OutOfMemory }
 {
-    let (_, height) = grid.pixels();
-    let room = bytes_of(grid, halves.marked, halves.other);
+    let (width, height) = grid.pixels();
+    let room = room_of(width, height).ok_or(QrError::OutOfMemory)?;
     let mut lines = Vec::with_capacity(alloc, room)?;
     let last = (height - 1) / 2;
     for i in 0..last {
         strip.write_two(grid, halves, i);
         lines.extend_from_slice(strip.line.as_slice())?;
     }
-    lines.extend_from_slice(strip.last_line(grid, halves, last))?;
+    if height % 2 == 1 {
+        strip.write_last(grid, halves, last);
+    } else {
+        strip.write_two(grid, halves, last);
+    }
+    let line = strip.line.as_slice();
+    lines.extend_from_slice(&line[..line.len() - 1])?;
     Ok(lines)
 }
 
@@ -325,8 +295,8 @@ fn lines_of(alloc: Global, grid: &Grid, marked: bool, other: bool) -> QrResult<S
 impl HalfBlocks {
     /// Writes the text of cells into the beginning of a buffer, and answers how long it is; or None,
     /// where the buffer has not room for any picture of so many pixels: for each two rows 3 bytes a
-    /// pixel and 33 more, and none where there are no pixels. Refuses with `OutOfMemory` alone. Then, and
-    /// where it answers None, the buffer is as it was.
+    /// pixel and 33 more. Refuses with `OutOfMemory` alone. Then, and where it answers None, the buffer
+    /// is as it was.
     #[tactic(auto, unfolding(crate::specs::Texts::dense_text))]
     pub fn put(
         alloc: Global,
@@ -337,7 +307,7 @@ impl HalfBlocks {
     ) -> QrResult<Option<usize>>
         ensures made { IfOk result (IsPutWhere
             (dense_text (is_dark_half dark) (is_dark_half light) (pixels_of grid.now))
-            (dense_room (pixels_of grid.now)) bytes.old bytes.new) }
+            (lines_room (pixels_of grid.now)) bytes.old bytes.new) }
         ensures unchanged { OnErr result (bytes.new ≡ bytes.old) }
         ensures memory { IsOkUnless result OutOfMemory }
     {

@@ -44,13 +44,6 @@ module _ {S : Type 0} (of : Color → S) (v : Version) (l : EcLevel) (modules : 
   pub best_shown : (w : ℕ) (k : MaskPattern) → w ≡ side v → k ≡ nth_mask v best → Known w k
   best_shown w k e f = subst (λ (n : ℕ). Known n k) (sym e) (subst (λ (m : MaskPattern). Known (side v) m) (sym f) best_at)
 
--- what is known of modules by their fields, where these are known
-pub at_fields : (P : Version → EcLevel → ℕ → List ℕ → List ℕ → Type 0) {v v' : Version} {l l' : EcLevel} {w w' : ℕ} {dark dark' free free' : List ℕ} →
-    v ≡ v' → l ≡ l' → w ≡ w' → dark ≡ dark' → free ≡ free' → P v l w dark free → P v' l' w' dark' free'
-at_fields P {v' = v'} {l = l} {l' = l'} {w = w} {w' = w'} {dark = dark} {dark' = dark'} {free = free} version level width darks frees p =
-    subst (P v' l' w' dark') frees
-    (subst (λ (d : List ℕ). P v' l' w' d free) darks (subst (λ (n : ℕ). P v' l' n dark free) width (subst (λ (k : EcLevel). P v' k w dark free) level (subst (λ (u : Version). P u l w dark free) version p))))
-
 module _ (v : Version) (l : EcLevel) (modules new : List Module) (shown : IsBestShown v l modules (λ c. Masked c) new) where
   after : new ≡ with_mask v l shown.best.mask modules
   after = shown.shown ∙ ap (map (λ m. Masked (color_of_module m))) shown.best.after ∙ all_masked v l modules shown.best.mask

@@ -1,5 +1,5 @@
 -- Rows with the bits that no mask decides: two copies of the format word and the dark module in Normal, one copy in Micro.
-use Rattle.std.proofs.Common.{◌≡◌, ◌≢◌, ℕ, ◌+◌, ◌-◌, ◌/◌, ◌^◌, ◌<◌, ◌≤◌, Bool, true, false, List, refl, ap, sym, ◌∙◌, arith, subst, true≢false, inl, inr, Option, slice_index_or, slice_set, length, unwrap_or, below_more}
+use Rattle.std.proofs.Common.{◌≡◌, ◌≢◌, ℕ, ◌+◌, ◌-◌, ◌/◌, ◌^◌, ◌<◌, ◌≤◌, Bool, true, false, List, refl, ap, sym, ◌∙◌, arith, subst, true≢false, inl, inr, slice_index_or, slice_set, length, unwrap_or, below_more}
 use Rattle.std.specs.Option.{option_or}
 use Rattle.std.specs.Prelude.{option_map}
 use Rattle.std.proofs.lemmas.List.{get_or-set_other, get_or-set_same}
@@ -14,7 +14,7 @@ use Rattle.qrcode_packed.specs.Rows.{is_set, dark_in}
 use Rattle.qrcode_packed.proofs.Places.{has_shr, has_above, below_from_places}
 use Rattle.qrcode_places.specs.Patterns.{dark_module, decided_bit, format_index}
 use Rattle.qrcode_places.proofs.FormatPlaces.{normal_cases, micro_cases, normal_index, micro_index}
-use Rattle.qrcode_symbol.specs.Deciding.{IsPutInRow, IsPutInColumn, AreDecided, is_format_place}
+use Rattle.qrcode_symbol.specs.Deciding.{IsPutInRow, IsPutInColumn, AreDecided}
 
 -- rows with one bit more of those that are put into column 8
 pub column_more : (rows : List ℕ) (first i : ℕ) (bit : ℕ → Bool) (lines : List ℕ) (row : ℕ) → first + i < length lines → is_set row 8 ≡ bit i
@@ -75,13 +75,13 @@ kept_behind {rows} {new} put x y h =
     ]
 
 -- elsewhere than in row 8 and in column 8 a mask decides
-pub elsewhere : (v : Version) (word x y : ℕ) → x ≢ 8 → y ≢ 8 → decided_bit v word x y ≡ None
+elsewhere : (v : Version) (word x y : ℕ) → x ≢ 8 → y ≢ 8 → decided_bit v word x y ≡ None
 unfolding decided_bit dark_module
 elsewhere (Normal v) word x y h k = rw (normal_index (Normal v) x y refl, decided_bit) (grind (arith, nat_tests))
 elsewhere (Micro v) word x y h k = rw (micro_index (Micro v) x y refl, decided_bit) (grind (arith, nat_tests))
 
 -- Normal has 17 modules along a side at least
-pub normal_wide : (v : Version) → is_micro v ≡ false → 17 ≤ side v
+normal_wide : (v : Version) → is_micro v ≡ false → 17 ≤ side v
 normal_wide (Normal v) n = omega arith
 normal_wide (Micro v) n = absurd (true≢false n)
 
@@ -101,7 +101,7 @@ column_none (Normal v) word y n apart low e = rw (normal_index (Normal v) 8 y re
 column_none (Micro v) word y n apart low e = absurd (true≢false n)
 
 -- the dark module
-pub dark_some : (v : Version) (word y : ℕ) → is_micro v ≡ false → y ≡ side v - 8 → decided_bit v word 8 y ≡ Some true
+dark_some : (v : Version) (word y : ℕ) → is_micro v ≡ false → y ≡ side v - 8 → decided_bit v word 8 y ≡ Some true
 unfolding decided_bit dark_module
 dark_some (Normal v) word y n e = rw (normal_index (Normal v) 8 y refl, decided_bit) (grind (arith, nat_tests))
 dark_some (Micro v) word y n e = absurd (true≢false n)
@@ -179,114 +179,6 @@ module _ (v : Version) (word : ℕ) (normal : is_micro v ≡ false) where
           ]
         ]
 
-  pub normal_down : (row a b c new : ℕ) → IsPutInRow row 0 6 (has_bit word) a → IsPutInRow a 7 2 (has_bit (word / 2 ^ 6)) b
-      → IsPutInRow b (side v - 7) 7 (has_bit (word / 2 ^ 8)) c → IsPutInRow c (side v - 8) 1 (has_bit 1) new
-      → (y : ℕ) → is_set new y ≡ unwrap_or (decided_bit v word 8 y) (is_set row y)
-  normal_down row a b c new first second third dark y =
-      elim (leb_tells (side v - 7) y) [
-        | inl p ↦ dark.behind y (omega (arith, p.1, wide)) ∙ elim (leb_tells (side v) y) [
-          | inl q ↦ left_as v word 8 y (is_set c y) (is_set row y) (column_none v word y normal (λ e. absurd (omega (arith, e, q.1, wide))) (λ e. absurd (omega (arith, e, q.1, wide))) (grind (arith, nat_tests, q.1, wide)))
-              (third.behind y (omega (arith, q.1, wide)) ∙ second.behind y (omega (arith, p.1, wide)) ∙ first.behind y (omega (arith, p.1, wide)))
-          | inr q ↦ decided_as v word 8 y (has_bit word (14 - (side v - 1 - y))) (is_set c y) (is_set row y) (column_index y (side v - 1 - y) (grind (arith, nat_tests, p.1, q.1, wide)))
-              (put_at b (side v - 7) 7 (has_bit (word / 2 ^ 8)) c y (y - (side v - 7)) third (omega (arith, p.1, q.1, wide)) (omega (arith, p.1))
-              ∙ shifted word 8 (y - (side v - 7)) (14 - (side v - 1 - y)) (omega (arith, p.1, q.1, wide)))
-        ]
-        | inr p ↦ elim (leb_tells (side v - 8) y) [
-          | inl q ↦ decided_as v word 8 y true (is_set new y) (is_set row y) (dark_some v word y normal (omega (arith, p.1, q.1, wide)))
-              (put_at c (side v - 8) 1 (has_bit 1) new y 0 dark (omega arith) (omega (arith, p.1, q.1)))
-          | inr q ↦ dark.before y (omega (arith, q.1)) ∙ third.before y (omega (arith, p.1)) ∙ inner y (omega (arith, q.1))
-        ]
-      ] where
-        inner : (y : ℕ) → y < side v - 8 → is_set b y ≡ unwrap_or (decided_bit v word 8 y) (is_set row y)
-        inner y h = elim (leb_tells 7 y) [
-          | inl p ↦ elim (leb_tells 9 y) [
-            | inl q ↦ left_as v word 8 y (is_set b y) (is_set row y) (column_none v word y normal (λ e. absurd (omega (arith, e, q.1))) (λ e. absurd (omega (arith, e, h, wide))) (grind (arith, nat_tests, h, q.1, wide)))
-                (second.behind y (omega (arith, q.1)) ∙ first.behind y (omega (arith, p.1)))
-            | inr q ↦ elim (leb_tells 8 y) [
-              | inl r ↦ decided_as v word 8 y (has_bit word (14 - 7)) (is_set b y) (is_set row y) (column_index y 7 (grind (arith, nat_tests, r.1, q.1)))
-                  (put_at a 7 2 (has_bit (word / 2 ^ 6)) b y 1 second (omega arith) (omega (arith, r.1, q.1)) ∙ shifted word 6 1 7 refl)
-              | inr r ↦ decided_as v word 8 y (has_bit word (14 - 8)) (is_set b y) (is_set row y) (column_index y 8 (grind (arith, nat_tests, p.1, r.1)))
-                  (put_at a 7 2 (has_bit (word / 2 ^ 6)) b y 0 second (omega arith) (omega (arith, p.1, r.1)) ∙ shifted word 6 0 6 refl)
-            ]
-          ]
-          | inr p ↦ second.before y (omega (arith, p.1)) ∙ elim (leb_tells 6 y) [
-            | inl q ↦ left_as v word 8 y (is_set a y) (is_set row y) (column_none v word y normal (λ e. absurd (omega (arith, e, p.1))) (λ e. absurd (omega (arith, e, h, wide))) (grind (arith, nat_tests, p.1, q.1, wide))) (first.behind y (omega (arith, q.1)))
-            | inr q ↦ decided_as v word 8 y (has_bit word (14 - (14 - y))) (is_set a y) (is_set row y) (column_index y (14 - y) (grind (arith, nat_tests, q.1)))
-                (put_at row 0 6 (has_bit word) a y y first (omega (arith, q.1)) (omega arith) ∙ (let e : y ≡ 14 - (14 - y) = omega (arith, q.1) in ap (has_bit word) e))
-          ]
-        ]
-
-  -- behind the ninth place and before the last eight none has a bit that no mask decides
-  pub none_in_row : (x : ℕ) → 9 ≤ x → x < side v - 8 → decided_bit v word x 8 ≡ None
-  none_in_row x h l = row_none v word x normal (λ e. absurd (omega (arith, e, h))) (grind (arith, nat_tests, l, h))
-
-  pub none_in_column : (y : ℕ) → 9 ≤ y → y < side v - 8 → decided_bit v word 8 y ≡ None
-  none_in_column y h l = column_none v word y normal (λ e. absurd (omega (arith, e, h))) (λ e. absurd (omega (arith, e, l, wide))) (grind (arith, nat_tests, l, h, wide))
-
-  -- the bits of the last eight places of row 8, and of the last seven of column 8
-  pub last_in_row : (x : ℕ) → side v - 8 ≤ x → x < side v → decided_bit v word x 8 ≡ Some (has_bit word (side v - 1 - x))
-  last_in_row x h l =
-      let e : 14 - (x + 15 - side v) ≡ side v - 1 - x = omega (arith, h, l, wide) in
-      row_index x (x + 15 - side v) (grind (arith, nat_tests, h, l, wide)) ∙ ap (λ i. Some (has_bit word i)) e
-
-  pub last_in_column : (y : ℕ) → side v - 7 ≤ y → y < side v → decided_bit v word 8 y ≡ Some (has_bit word (y + 15 - side v))
-  last_in_column y h l =
-      let e : 14 - (side v - 1 - y) ≡ y + 15 - side v = omega (arith, h, l, wide) in
-      column_index y (side v - 1 - y) (grind (arith, nat_tests, h, l, wide)) ∙ ap (λ i. Some (has_bit word i)) e
-
-  -- what holds of places with a bit that no mask decides and of the others, in row 8 and in column 8
-  pub row_cases : (P : Bool → Option Bool → Type 0) → ((b : Bool) → P true (Some b)) → P false None → (x : ℕ) → P (is_format_place (side v) x) (decided_bit v word x 8)
-  row_cases P some none x =
-      let yes : is_format_place (side v) x ≡ true → (b : Bool) → decided_bit v word x 8 ≡ Some b → P (is_format_place (side v) x) (decided_bit v word x 8) = λ e b d.
-      subst (λ f. P f (decided_bit v word x 8)) (sym e) (subst (P true) (sym d) (some b)) in
-      let no : is_format_place (side v) x ≡ false → decided_bit v word x 8 ≡ None → P (is_format_place (side v) x) (decided_bit v word x 8) = λ e d.
-      subst (λ f. P f (decided_bit v word x 8)) (sym e) (subst (P false) (sym d) none) in
-      elim (leb_tells (side v - 8) x) [
-        | inl p ↦ elim (leb_tells (side v) x) [
-          | inl q ↦ no (grind (arith, nat_tests, p.1, q.1, wide)) (row_none v word x normal (λ e. absurd (omega (arith, e, wide, p.1))) (grind (arith, nat_tests, q.1)))
-          | inr q ↦ yes (grind (arith, nat_tests, p.1, q.1, wide)) (has_bit word (14 - (x + 15 - side v))) (row_index x (x + 15 - side v) (grind (arith, nat_tests, p.1, q.1, wide)))
-        ]
-        | inr p ↦ elim (leb_tells 7 x) [
-          | inl q ↦ elim (leb_tells 9 x) [
-            | inl r ↦ no (grind (arith, nat_tests, p.1, q.1, r.1, wide)) (row_none v word x normal (λ e. absurd (omega (arith, e, r.1))) (grind (arith, nat_tests, p.1, r.1)))
-            | inr r ↦ yes (grind (arith, nat_tests, p.1, q.1, r.1, wide)) (has_bit word (14 - (x - 1))) (row_index x (x - 1) (grind (arith, nat_tests, q.1, r.1)))
-          ]
-          | inr q ↦ elim (leb_tells 6 x) [
-            | inl r ↦ no (grind (arith, nat_tests, p.1, q.1, r.1, wide)) (row_none v word x normal (λ e. absurd (omega (arith, e, q.1))) (grind (arith, nat_tests, q.1, r.1, wide)))
-            | inr r ↦ yes (grind (arith, nat_tests, p.1, q.1, r.1, wide)) (has_bit word (14 - x)) (row_index x x (grind (arith, nat_tests, r.1)))
-          ]
-        ]
-      ]
-
-  pub column_cases : (P : Bool → Option Bool → Type 0) → ((b : Bool) → P true (Some b)) → P false None → (y : ℕ) → P (is_format_place (side v) y) (decided_bit v word 8 y)
-  column_cases P some none y =
-      let yes : is_format_place (side v) y ≡ true → (b : Bool) → decided_bit v word 8 y ≡ Some b → P (is_format_place (side v) y) (decided_bit v word 8 y) = λ e b d.
-      subst (λ f. P f (decided_bit v word 8 y)) (sym e) (subst (P true) (sym d) (some b)) in
-      let no : is_format_place (side v) y ≡ false → decided_bit v word 8 y ≡ None → P (is_format_place (side v) y) (decided_bit v word 8 y) = λ e d.
-      subst (λ f. P f (decided_bit v word 8 y)) (sym e) (subst (P false) (sym d) none) in
-      elim (leb_tells (side v - 7) y) [
-        | inl p ↦ elim (leb_tells (side v) y) [
-          | inl q ↦ no (grind (arith, nat_tests, p.1, q.1, wide)) (column_none v word y normal (λ e. absurd (omega (arith, e, q.1, wide))) (λ e. absurd (omega (arith, e, q.1, wide))) (grind (arith, nat_tests, q.1, wide)))
-          | inr q ↦ yes (grind (arith, nat_tests, p.1, q.1, wide)) (has_bit word (14 - (side v - 1 - y))) (column_index y (side v - 1 - y) (grind (arith, nat_tests, p.1, q.1, wide)))
-        ]
-        | inr p ↦ elim (leb_tells (side v - 8) y) [
-          | inl q ↦ yes (grind (arith, nat_tests, p.1, q.1, wide)) true (dark_some v word y normal (omega (arith, p.1, q.1, wide)))
-          | inr q ↦ elim (leb_tells 7 y) [
-            | inl r ↦ elim (leb_tells 9 y) [
-              | inl s ↦ no (grind (arith, nat_tests, q.1, r.1, s.1, wide)) (column_none v word y normal (λ e. absurd (omega (arith, e, s.1))) (λ e. absurd (omega (arith, e, q.1, wide))) (grind (arith, nat_tests, q.1, s.1, wide)))
-              | inr s ↦ elim (leb_tells 8 y) [
-                | inl t ↦ yes (grind (arith, nat_tests, r.1, s.1, wide)) (has_bit word (14 - 7)) (column_index y 7 (grind (arith, nat_tests, t.1, s.1)))
-                | inr t ↦ yes (grind (arith, nat_tests, r.1, s.1, wide)) (has_bit word (14 - 8)) (column_index y 8 (grind (arith, nat_tests, r.1, t.1)))
-              ]
-            ]
-            | inr r ↦ elim (leb_tells 6 y) [
-              | inl s ↦ no (grind (arith, nat_tests, q.1, r.1, s.1, wide)) (column_none v word y normal (λ e. absurd (omega (arith, e, r.1))) (λ e. absurd (omega (arith, e, q.1, wide))) (grind (arith, nat_tests, r.1, s.1, wide)))
-              | inr s ↦ yes (grind (arith, nat_tests, s.1, wide)) (has_bit word (14 - (14 - y))) (column_index y (14 - y) (grind (arith, nat_tests, s.1)))
-            ]
-          ]
-        ]
-      ]
-
 -- the same of Micro, which has no dark module
 no_index : (v : Version) (word x y : ℕ) → is_micro v ≡ true → format_index v x y ≡ None → decided_bit v word x y ≡ None
 unfolding decided_bit dark_module
@@ -337,7 +229,7 @@ both_lines v word rows column new long down others row = λ x y.
     ]
 
 -- no row gets a bit beside the square
-pub beside : (v : Version) (word x y : ℕ) → side v ≤ x → 11 ≤ x → decided_bit v word x y ≡ None
+beside : (v : Version) (word x y : ℕ) → side v ≤ x → 11 ≤ x → decided_bit v word x y ≡ None
 unfolding decided_bit dark_module
 beside (Normal v) word x y h l = rw (normal_index (Normal v) x y refl, decided_bit) (grind (arith, nat_tests))
 beside (Micro v) word x y h l = rw (micro_index (Micro v) x y refl, decided_bit) (grind (arith, nat_tests))
@@ -346,9 +238,3 @@ pub decided_fits : (v : Version) (word w : ℕ) (rows new : List ℕ) → AreDec
 unfolding dark_in
 decided_fits v word w rows new are wide least fits y =
     below_from_places (slice_index_or new y 0) w (λ x h. are x y ∙ ap (λ o. unwrap_or o (dark_in rows x y)) (beside v word x y (omega (arith, h, wide)) (omega (arith, h, least))) ∙ has_above (slice_index_or rows y 0) w x (fits y) h)
-
--- nor does one below it
-pub beneath : (v : Version) (word x y : ℕ) → side v ≤ y → 11 ≤ y → decided_bit v word x y ≡ None
-unfolding decided_bit dark_module
-beneath (Normal v) word x y h l = rw (normal_index (Normal v) x y refl, decided_bit) (grind (arith, nat_tests))
-beneath (Micro v) word x y h l = rw (micro_index (Micro v) x y refl, decided_bit) (grind (arith, nat_tests))

@@ -1,11 +1,11 @@
 -- The last row and the last column of a square of Micro, in which a mask decides each place.
-use Rattle.std.proofs.Common.{◌≡◌, ℕ, suc, ◌-◌, ◌<◌, ◌≤◌, Bool, true, false, ◌&&◌, List, refl, ap, ap₂, sym, ◌∙◌, arith, true≢false, le-leb, bit_and, bit_xor, slice_index_or, unwrap_or, None}
+use Rattle.std.proofs.Common.{◌≡◌, ℕ, suc, ◌-◌, ◌<◌, ◌≤◌, Bool, true, ◌&&◌, List, refl, ap, ap₂, sym, ◌∙◌, arith, true≢false, le-leb, bit_and, bit_xor, slice_index_or, unwrap_or, None}
 use Rattle.std.proofs.lemmas.Bool.Decides.{nat_tests}
 use Rattle.qrcode_types.specs.Versions.{side, is_micro}
 use Rattle.qrcode_types.specs.declared.types.Version.{Version}
 use Rattle.qrcode_types.specs.declared.types.Version.TheVariants.{Normal, Micro}
 use Rattle.qrcode_packed.specs.Rows.{is_set, dark_in, inside}
-use Rattle.qrcode_penalty.specs.Penalty.{normal_penalty, micro_penalty}
+use Rattle.qrcode_penalty.specs.Penalty.{micro_penalty}
 use Rattle.qrcode_places.specs.Masks.{turns, turned_if}
 use Rattle.qrcode_places.specs.Patterns.{decided_bit}
 use Rattle.qrcode_places.specs.declared.masks.MaskPattern.{MaskPattern}
@@ -16,14 +16,10 @@ use Rattle.qrcode_symbol.proofs.Decided.{micro_none}
 use Rattle.qrcode_symbol.proofs.RowLists.{turned_at}
 
 -- a place inside passes the test that no place outside passes, where it passes the test
-pub inside_here : (w : ℕ) (dark : ℕ → ℕ → Bool) (x y : ℕ) → x < w → y < w → inside w dark x y ≡ dark x y
+inside_here : (w : ℕ) (dark : ℕ → ℕ → Bool) (x y : ℕ) → x < w → y < w → inside w dark x y ≡ dark x y
 inside_here w dark x y h l = ap₂ (λ (a b : Bool). a && b && dark x y) (le-leb (suc x) w h) (le-leb (suc y) w l)
 
 -- what a square of Micro costs
-pub normal_cost_of : (v : Version) (dark : ℕ → ℕ → Bool) → is_micro v ≡ false → penalty_of v dark ≡ normal_penalty (side v) dark
-normal_cost_of (Normal n) dark m = refl
-normal_cost_of (Micro n) dark m = absurd (true≢false m)
-
 pub micro_cost_of : (v : Version) (dark : ℕ → ℕ → Bool) → is_micro v ≡ true → penalty_of v dark ≡ micro_penalty (side v) dark
 micro_cost_of (Normal n) dark m = absurd (true≢false (sym m))
 micro_cost_of (Micro n) dark m = refl

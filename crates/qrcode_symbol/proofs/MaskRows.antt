@@ -26,17 +26,17 @@ and_r : (a b : Bool) → (a && b) ≡ true → b ≡ true
 and_r true b e = e
 and_r false b e = cc
 
-pub same_true : (a b : Bool) → same a b ≡ true → a ≡ b
+same_true : (a b : Bool) → same a b ≡ true → a ≡ b
 same_true true b e = sym e
 same_true false true e = cc
 same_true false false e = refl
 
 -- whether a test holds below n
-unfoldable pub all_below : ℕ → (ℕ → Bool) → Bool
+pub all_below : ℕ → (ℕ → Bool) → Bool
 all_below zero f = true
 all_below (suc n) f = all_below n f && f n
 
-pub all_holds : (n : ℕ) (f : ℕ → Bool) → all_below n f ≡ true → (k : ℕ) → k < n → f k ≡ true
+all_holds : (n : ℕ) (f : ℕ → Bool) → all_below n f ≡ true → (k : ℕ) → k < n → f k ≡ true
 unfolding all_below
 all_holds zero f e k h = absurd (omega arith)
 all_holds (suc n) f e k h = below_more (λ k. f k ≡ true) n (λ k l. all_holds n f (and_l (all_below n f) (f n) e) k l) (and_r (all_below n f) (f n) e) k (omega arith)
@@ -45,18 +45,14 @@ all_holds (suc n) f e k h = below_more (λ k. f k ≡ true) n (λ k l. all_holds
 abbrev pub repeated_words : ℕ → ℕ
 repeated_words six = three_words (six * 0x1041041041041041 % 2 ^ 64)
 
--- six places stand again and again in 192 columns of a number
-abbrev is_repeated : ℕ → ℕ → Bool
-is_repeated six words = all_below 192 (λ k. same (is_set words k) (is_set six (k % 6)))
-
-table : all_below 64 (λ six. is_repeated six (repeated_words six)) ≡ true
+table : all_below 64 (λ six. all_below 192 (λ k. same (is_set (repeated_words six) k) (is_set six (k % 6)))) ≡ true
 unfolding is_set all_below
 table = refl
 
 pub has_repeated : (six k : ℕ) → six < 64 → k < 192 → is_set (repeated_words six) k ≡ is_set six (k % 6)
 has_repeated six k h l =
     same_true (is_set (repeated_words six) k) (is_set six (k % 6))
-    (all_holds 192 (λ k. same (is_set (repeated_words six) k) (is_set six (k % 6))) (all_holds 64 (λ six. is_repeated six (repeated_words six)) table six h) k l)
+    (all_holds 192 (λ k. same (is_set (repeated_words six) k) (is_set six (k % 6))) (all_holds 64 (λ six. all_below 192 (λ k. same (is_set (repeated_words six) k) (is_set six (k % 6)))) table six h) k l)
 
 fields_step : (x y : ℕ) → x * y ≡ 6 * (x / 6 * y) + x % 6 * y
 fields_step x y =
@@ -143,12 +139,8 @@ six_small p y l =
 abbrev pub twelve_repeated : ℕ → ℕ
 twelve_repeated twelve = three_words (twelve * 0x1001001001001001 % 2 ^ 64)
 
--- a number has the places that a mask turns in 192 rows of a column
-abbrev is_turned_column : MaskPattern → ℕ → ℕ → Bool
-is_turned_column p x words = all_below 192 (λ y. same (is_set words y) (turns p x y))
-
 -- the table of the code by columns: six columns of each mask, in 192 rows
-columns_table : (p : MaskPattern) → all_below 6 (λ x. is_turned_column p x (twelve_repeated (slice_index_or (slice_index_or TURNED_COLUMNS (mask_number p) []) x 0))) ≡ true
+columns_table : (p : MaskPattern) → all_below 6 (λ x. all_below 192 (λ y. same (is_set (twelve_repeated (slice_index_or (slice_index_or TURNED_COLUMNS (mask_number p) []) x 0)) y) (turns p x y))) ≡ true
 unfolding is_set all_below
 columns_table Checkerboard = refl
 columns_table HorizontalLines = refl
@@ -161,6 +153,6 @@ columns_table Meadow = refl
 
 pub twelve_at : (p : MaskPattern) (x y : ℕ) → x < 6 → y < 192 → is_set (twelve_repeated (slice_index_or (slice_index_or TURNED_COLUMNS (mask_number p) []) x 0)) y ≡ turns p x y
 twelve_at p x y h l =
-    let words = λ (x : ℕ). twelve_repeated (slice_index_or (slice_index_or TURNED_COLUMNS (mask_number p) []) x 0) in
-    same_true (is_set (words x) y) (turns p x y)
-    (all_holds 192 (λ y. same (is_set (words x) y) (turns p x y)) (all_holds 6 (λ x. is_turned_column p x (words x)) (columns_table p) x h) y l)
+    let test = λ (x y : ℕ). same (is_set (twelve_repeated (slice_index_or (slice_index_or TURNED_COLUMNS (mask_number p) []) x 0)) y) (turns p x y) in
+    same_true (is_set (twelve_repeated (slice_index_or (slice_index_or TURNED_COLUMNS (mask_number p) []) x 0)) y) (turns p x y)
+    (all_holds 192 (test x) (all_holds 6 (λ x. all_below 192 (test x)) (columns_table p) x h) y l)

@@ -31,7 +31,7 @@ unfolding number_bits
 four_bits n = refl
 
 -- of a half codeword
-pub half_byte : (byte : ℕ) → take 4 (bits_of (byte ∷ [])) ≡ number_bits 4 (byte / 16)
+half_byte : (byte : ℕ) → take 4 (bits_of (byte ∷ [])) ≡ number_bits 4 (byte / 16)
 half_byte byte =
     let a : has_bit (byte / 16) 3 ≡ has_bit byte 7 = grind (arith, nat_tests) in
     let b : has_bit (byte / 16) 2 ≡ has_bit byte 6 = grind (arith, nat_tests) in
@@ -78,7 +78,7 @@ begin_whole left begun (b ∷ bytes) half ec z some more =
       at_most_four true = omega arith
       at_most_four false = omega arith
 
-pub no_data : (bytes : List ℕ) (n : ℕ) → length bytes ≡ 0 → take n (bits_of bytes) ≡ []
+no_data : (bytes : List ℕ) (n : ℕ) → length bytes ≡ 0 → take n (bits_of bytes) ≡ []
 no_data [] zero e = refl
 no_data [] (suc n) e = refl
 no_data (b ∷ bytes) n e = absurd (omega arith)
@@ -102,14 +102,14 @@ taken_rest (b ∷ bytes) = let e : length (b ∷ bytes) - 1 ≡ length bytes = o
   take_all (x ∷ xs) = ap (λ (l : List ℕ). x ∷ l) (take_all xs)
 
 -- the bits of what is left of a number, and then its lowest
-pub number_bits_split : (m n x : ℕ) → number_bits (m + n) x ≡ number_bits m (x / 2 ^ n) ++ number_bits n x
+number_bits_split : (m n x : ℕ) → number_bits (m + n) x ≡ number_bits m (x / 2 ^ n) ++ number_bits n x
 unfolding number_bits is_set
 number_bits_split zero n x = let e : zero + n ≡ n = omega arith in rw e refl
 number_bits_split (suc m) n x =
     let e : suc m + n ≡ suc (m + n) = omega arith in
     rw e (ap₂ (λ (b : Bool) (l : List Bool). b ∷ l) (sym (has_shr x n m)) (number_bits_split m n x))
 
-pub low_bits : (n room x : ℕ) → n ≤ room → number_bits n (x % 2 ^ room) ≡ number_bits n x
+low_bits : (n room x : ℕ) → n ≤ room → number_bits n (x % 2 ^ room) ≡ number_bits n x
 unfolding number_bits is_set
 low_bits zero room x h = refl
 low_bits (suc n) room x h = ap₂ (λ (b : Bool) (l : List Bool). b ∷ l) (has_mod x room n (omega arith)) (low_bits n room x (omega arith))

@@ -32,7 +32,7 @@ drawn_twice (Some c) f m = refl
 drawn_twice None (Some i) m = refl
 drawn_twice None None m = refl
 
-pub pattern_twice : (v : Version) (x y : ℕ) (m : Module) → pattern_module v x y (pattern_module v x y m) ≡ pattern_module v x y m
+pattern_twice : (v : Version) (x y : ℕ) (m : Module) → pattern_module v x y (pattern_module v x y m) ≡ pattern_module v x y m
 pattern_twice v x y m = drawn_twice (pattern v x y) (format_index v x y) m
 
 -- the module at index i, patterned

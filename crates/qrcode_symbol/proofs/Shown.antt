@@ -1,5 +1,5 @@
 -- Lists of what shows modules.
-use Rattle.std.proofs.Common.{◌≡◌, ℕ, zero, suc, ◌<◌, ◌≤◌, Bool, List, [], ◌∷◌, ◌++◌, map, length, take, drop, replicate, get_or, slice_get, Option, Some, true, set, refl, ap, ap₂, sym, ◌∙◌, arith}
+use Rattle.std.proofs.Common.{◌≡◌, ℕ, zero, suc, ◌<◌, Bool, List, [], ◌∷◌, ◌++◌, map, length, take, drop, replicate, get_or, slice_get, Option, Some, true, set, refl, ap, ap₂, sym, ◌∙◌, arith}
 use Rattle.std.proofs.lemmas.List.{get_or-map, map-set, map-append, take-map, drop-map}
 use borrow.Rule.Slice.PartMut.{put_mid, post_of}
 use Rattle.qrcode_symbol.specs.declared.canvas.Module.{Module}
@@ -25,9 +25,9 @@ pub packed_map : {A B : Type 0} (test : B → Bool) (shows : A → B) (xs : List
 packed_map test shows [] = refl
 packed_map test shows (x ∷ xs) = omega (arith, packed_map test shows xs)
 
-pub map-replicate : {A B : Type 0} (shows : A → B) (n : ℕ) (x : A) → map shows (replicate n x) ≡ replicate n (shows x)
+pub map-replicate : {A : Type 0} (shows : A → Module) (n : ℕ) (x : A) → map shows (replicate n x) ≡ replicate n (shows x)
 map-replicate shows zero x = refl
-map-replicate {B = B} shows (suc n) x = ap (λ (l : List B). shows x ∷ l) (map-replicate shows n x)
+map-replicate shows (suc n) x = ap (λ (l : List Module). shows x ∷ l) (map-replicate shows n x)
 
 empty_at : (m : Module) → m ≡ Empty → is_empty m ≡ true
 empty_at m e = ap is_empty e
@@ -39,18 +39,3 @@ drawn_bit shows xs i x new bits b h is none next drawn =
     let at : is_empty_at (map shows xs) i ≡ true = empty_at (get_or (map shows xs) i Empty) (sym (shown_at shows xs i x h is) ∙ none) in
     map-set shows xs i new ∙ ap (set (map shows xs) i) drawn
     ∙ sym (ap₂ (λ (t : Bool) (o : Option Bool). drawn_if t o (map shows xs) i) at next)
-
--- equal items, and others behind them, cut behind the first
-pub first_equal : {A : Type 0} (n : ℕ) (a : A) (others : List A) → take n (replicate n a ++ others) ≡ replicate n a
-first_equal zero a others = refl
-first_equal {A = A} (suc n) a others = ap (λ (l : List A). a ∷ l) (first_equal n a others)
-
-pub others_behind : {A : Type 0} (n : ℕ) (a : A) (others : List A) → drop n (replicate n a ++ others) ≡ others
-others_behind zero a others = refl
-others_behind (suc n) a others = others_behind n a others
-
--- the first of equal items
-pub some_equal : {A : Type 0} (n m : ℕ) (a : A) → n ≤ m → take n (replicate m a) ≡ replicate n a
-some_equal zero m a h = refl
-some_equal {A = A} (suc n) zero a h = absurd (omega arith)
-some_equal {A = A} (suc n) (suc m) a h = ap (λ (l : List A). a ∷ l) (some_equal n m a (omega arith))

@@ -1,18 +1,15 @@
 -- Rows that are written as colours.
-use Rattle.std.proofs.Common.{◌≡◌, ℕ, zero, suc, ◌+◌, ◌*◌, ◌/◌, ◌%◌, ◌^◌, ◌==◌, ◌<◌, ◌≤◌, List, ◌++◌, bit_and, length, map, take, length-take, slice_index_or, refl, ap, ap₂, ◌∙◌, arith, true}
+use Rattle.std.proofs.Common.{◌≡◌, ℕ, zero, suc, ◌+◌, ◌-◌, ◌*◌, ◌/◌, ◌%◌, ◌^◌, ◌<◌, ◌≤◌, List, ◌++◌, length, take, length-take, slice_index_or, refl, ap, ◌∙◌, inl, inr, arith}
 use Rattle.std.specs.Int.{w64, to_le_bytes}
-use Rattle.std.proofs.lemmas.Bool.{eqb-true}
-use Rattle.std.proofs.lemmas.List.{length-append, get_or_append_left, get_or-append-add, get_or-map, get_or-take}
-use Rattle.std.proofs.lemmas.Simd.{get_or-zip2}
-use lib.Lanes.{pick_l, zip2}
+use Rattle.std.proofs.lemmas.Bool.Decides.{leb_tells}
+use Rattle.std.proofs.lemmas.List.{length-append, get_or_append_left, get_or-append-add, get_or-take}
 use Rattle.qrcode_types.specs.Colors.{color_of}
 use Rattle.qrcode_types.specs.declared.types.Color.{Color}
 use Rattle.qrcode_types.specs.declared.types.Color.TheVariants.{Light}
 use Rattle.qrcode_packed.specs.Rows.{is_set}
 use Rattle.qrcode_packed.proofs.Places.{has_shr}
 use Rattle.qrcode_symbol.specs.Unpacking.{IsRowWritten}
-use Rattle.qrcode_symbol.specs.declared.canvas.unpacking.TheConstants.{EIGHT_TIMES, BITS}
-use Rattle.qrcode_symbol.proofs.MaskRows.{has_mod, all_below, all_holds}
+use Rattle.qrcode_symbol.proofs.MaskRows.{has_mod}
 
 -- a byte of a word
 byte_is : (n k : ℕ) → k < 8 → slice_index_or (to_le_bytes w64 n) k 0 ≡ n / 2 ^ (8 * k) % 2 ^ 8
@@ -35,31 +32,6 @@ bit_in_byte n x h =
     ∙ has_shr n (8 * (x / 8)) (x % 8)
     ∙ ap (is_set n) turn
 
-eighths : all_below 64 (λ x. slice_index_or EIGHT_TIMES x 0 == x / 8) ≡ true
-unfolding all_below
-eighths = refl
-
-powers : all_below 64 (λ x. slice_index_or BITS x 0 == 2 ^ (x % 8)) ≡ true
-unfolding all_below
-powers = refl
-
--- a lane of eight bytes, each eight times, with another of its bits each time
-pub byte_apart : (bytes : List ℕ) (x : ℕ) → length bytes ≡ 8 → x < 64 → slice_index_or (zip2 bit_and (pick_l 0 (bytes ++ bytes) EIGHT_TIMES) BITS) x 0 ≡ bit_and (slice_index_or bytes (x / 8) 0) (2 ^ (x % 8))
-byte_apart bytes x size h =
-    let item = λ (k : ℕ). slice_index_or (bytes ++ bytes) k 0 in
-    let at : slice_index_or EIGHT_TIMES x 0 ≡ x / 8 = eqb-true (slice_index_or EIGHT_TIMES x 0) (x / 8) (all_holds 64 (λ x. slice_index_or EIGHT_TIMES x 0 == x / 8) eighths x h) in
-    let bit : slice_index_or BITS x 0 ≡ 2 ^ (x % 8) = eqb-true (slice_index_or BITS x 0) (2 ^ (x % 8)) (all_holds 64 (λ x. slice_index_or BITS x 0 == 2 ^ (x % 8)) powers x h) in
-    let byte : slice_index_or (map item EIGHT_TIMES) x 0 ≡ slice_index_or bytes (x / 8) 0 = get_or-map item EIGHT_TIMES x 0 0 h ∙ ap item at ∙ get_or_append_left bytes bytes 0 (x / 8) (omega (arith, size, h)) in
-    get_or-zip2 bit_and (map item EIGHT_TIMES) BITS x 0 0 0 h h ∙ ap₂ bit_and byte bit
-
-bytes_hold : all_below 64 (λ x. 1 * 2 ^ (x % 8) % 256 == 2 ^ (x % 8)) ≡ true
-unfolding all_below
-bytes_hold = refl
-
--- the bit of a place in its byte, as a shift makes it
-pub moved_bit : (x : ℕ) → x < 64 → 1 * 2 ^ (x % 8) % 256 ≡ 2 ^ (x % 8)
-moved_bit x h = eqb-true (1 * 2 ^ (x % 8) % 256) (2 ^ (x % 8)) (all_holds 64 (λ x. 1 * 2 ^ (x % 8) % 256 == 2 ^ (x % 8)) bytes_hold x h)
-
 -- a place of what is left of a line
 pub word_at : (rest word line a x : ℕ) → x < 64 → word ≡ rest % 2 ^ 64 → rest ≡ line / 2 ^ a → is_set word x ≡ is_set line (a + x)
 word_at rest word line a x h e f =
@@ -78,3 +50,20 @@ chunk_written {S = S} of word count old chunk new is small long are =
       shown = λ x h.
           ap (λ l. slice_index_or l (length old + x) (of Light)) is ∙ get_or-append-add old part x (of Light) ∙ get_or-take count chunk x (of Light) h ∙ are x (omega (arith, h, small));
     }
+
+-- the next places of a line
+pub row_more : {S : Type 0} (of : Color → S) (line word a b : ℕ) (old mid new : List S) → IsRowWritten of line a old mid → IsRowWritten of word b mid new
+    → ((x : ℕ) → x < b → is_set word x ≡ is_set line (a + x)) → IsRowWritten of line (a + b) old new
+row_more of line word a b old mid new first next same = record {
+  size = omega (arith, first.size, next.size);
+  before = λ i h. next.before i (omega (arith, h, first.size)) ∙ first.before i h;
+  shown = λ x h. elim (leb_tells (suc x) a) [
+    | inl p ↦ next.before (length old + x) (omega (arith, p.1, first.size)) ∙ first.shown x (omega (arith, p.1))
+    | inr p ↦
+        let i = x - a in
+        let e : length old + x ≡ length mid + i = omega (arith, p.1, first.size) in
+        let turn : a + i ≡ x = omega (arith, p.1) in
+        let low : i < b = omega (arith, h, p.1) in
+        ap (λ n. slice_index_or new n (of Light)) e ∙ next.shown i low ∙ ap (λ t. of (color_of t)) (same i low ∙ ap (is_set line) turn)
+  ];
+}

@@ -18,41 +18,51 @@ use Rattle.qrcode_symbol.specs.Penalties.{penalty}
 use Rattle.qrcode_symbol.specs.declared.canvas.Module.{Module}
 use Rattle.qrcode_symbol.specs.declared.canvas.Module.TheVariants.{Empty, Masked, Unmasked}
 
-pub record Drawing : Type 0 where  -- what a canvas shows: its modules in row order
+-- what a canvas shows: its modules in row order
+pub record Drawing : Type 0 where
   pub version : Version
   pub level : EcLevel
   pub modules : List Module
 
-abbrev pub wrapped : ℕ → ℤ → ℕ  -- a coordinate from -w to w - 1, where negative ones count from the far side
+-- a coordinate from -w to w - 1, where negative ones count from the far side
+abbrev pub wrapped : ℕ → ℤ → ℕ
 wrapped w (pos n) = n
 wrapped w (negsuc n) = w - (n + 1)
 
-abbrev pub IsCoordinate : ℕ → ℤ → Type 0  -- a coordinate of a canvas whose side is w
+-- a coordinate of a canvas whose side is w
+abbrev pub IsCoordinate : ℕ → ℤ → Type 0
 IsCoordinate w x = (neg_ℤ (pos w) ≤ℤ x) × (x <ℤ pos w)
 
-abbrev pub IsOnCanvas : Version → ℤ → ℤ → Type 0  -- a column and a row of the version's canvas
+-- a column and a row of the version's canvas
+abbrev pub IsOnCanvas : Version → ℤ → ℤ → Type 0
 IsOnCanvas v x y = IsCoordinate (side v) x × IsCoordinate (side v) y
 
-abbrev pub module_index : Version → ℤ → ℤ → ℕ  -- where the module of two coordinates stands in the list
+-- where the module of two coordinates stands in the list
+abbrev pub module_index : Version → ℤ → ℤ → ℕ
 module_index v x y = wrapped (side v) y * side v + wrapped (side v) x
 
-abbrev pub blank : Version → List Module  -- all modules empty
+-- all modules empty
+abbrev pub blank : Version → List Module
 blank v = replicate (side v * side v) Empty
 
-abbrev pub color_of_module : Module → Color  -- the colour of a module; an empty one is light
+-- the colour of a module; an empty one is light
+abbrev pub color_of_module : Module → Color
 color_of_module Empty = Light
 color_of_module (Masked c) = c
 color_of_module (Unmasked c) = c
 
-abbrev pub colors_of : List Module → List Color  -- the colours of modules
+-- the colours of modules
+abbrev pub colors_of : List Module → List Color
 colors_of modules = map color_of_module modules
 
-abbrev pub is_empty : Module → Bool  -- nothing is drawn in the module
+-- nothing is drawn in the module
+abbrev pub is_empty : Module → Bool
 is_empty Empty = true
 is_empty (Masked c) = false
 is_empty (Unmasked c) = false
 
-abbrev pub masked_module : Bool → Module → Module  -- a module after a mask that turns it or not
+-- a module after a mask that turns it or not
+abbrev pub masked_module : Bool → Module → Module
 masked_module inverts Empty = Masked (color_of inverts)
 masked_module inverts (Masked c) = Masked c
 masked_module inverts (Unmasked c) = Masked (color_of (turned_if inverts (is_dark c)))

@@ -9,7 +9,8 @@ use Rattle.qrcode_symbol.specs.Canvas.{Drawing, blank, colors_of, drawn_bits, wi
 use Rattle.qrcode_symbol.specs.declared.canvas.Module.{Module}
 use Rattle.qrcode_symbol.specs.Symbol.{Carries}
 
-abbrev pub HasZeroHalf : Version → EcLevel → List ℕ → Type 0  -- the low half of a half codeword is zero
+-- the low half of a half codeword is zero
+abbrev pub HasZeroHalf : Version → EcLevel → List ℕ → Type 0
 HasZeroHalf v l bytes = IsTrue (has_half_codeword v l) → slice_index bytes (length bytes - 1) % 16 ≡ 0
 
 -- data and error correction bytes of the right lengths, drawn over the patterns of a new canvas, make under each mask a

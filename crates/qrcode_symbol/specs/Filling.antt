@@ -14,10 +14,12 @@ use Rattle.qrcode_symbol.specs.declared.canvas.Module.TheVariants.{Empty, Unmask
 abbrev pub row_of_step : ℕ → ℕ → ℕ → ℕ
 row_of_step width pair step = if pair % 2 == 0 then width - 1 - step else step
 
-abbrev pub place_index : Version → ℕ → ℕ  -- where the t-th place of the walk is, in row order
+-- where the t-th place of the walk is, in row order
+abbrev pub place_index : Version → ℕ → ℕ
 place_index v t = (zigzag_place v t).1 * side v + (zigzag_place v t).0
 
-abbrev pub empty_from : Version → List Module → ℕ → List ℕ  -- the empty places from step t of the walk on
+-- the empty places from step t of the walk on
+abbrev pub empty_from : Version → List Module → ℕ → List ℕ
 empty_from v modules t = filter (λ i. is_empty (slice_index_or modules i Empty)) (map (place_index v) (range_with_len t (side v * (side v - 1) - t)))
 
 -- the modules when bits are drawn in the empty places from step t on
@@ -30,20 +32,25 @@ drawn_if false bit modules index = modules
 drawn_if true None modules index = modules
 drawn_if true (Some b) modules index = slice_set modules index (Unmasked (color_of b))
 
-abbrev pub left_if : Bool → List Bool → List Bool  -- the bits that are left when one is drawn where the module is empty
+-- the bits that are left when one is drawn where the module is empty
+abbrev pub left_if : Bool → List Bool → List Bool
 left_if false bits = bits
 left_if true bits = drop 1 bits
 
-abbrev pub is_empty_at : List Module → ℕ → Bool  -- the module at an index is empty
+-- the module at an index is empty
+abbrev pub is_empty_at : List Module → ℕ → Bool
 is_empty_at modules index = is_empty (slice_index_or modules index Empty)
 
-abbrev pub row_index : Version → ℕ → ℕ → ℕ  -- the index of the right module of a pair of columns in the row of a step
+-- the index of the right module of a pair of columns in the row of a step
+abbrev pub row_index : Version → ℕ → ℕ → ℕ
 row_index v pair step = row_of_step (side v) pair step * side v + right_column v pair
 
-abbrev pub row_places : List ℕ → List ℕ  -- both modules of rows of a pair of columns, by the indices of the right ones
+-- both modules of rows of a pair of columns, by the indices of the right ones
+abbrev pub row_places : List ℕ → List ℕ
 row_places [] = []
 row_places (i ∷ rows) = i ∷ (i - 1) ∷ row_places rows
 
-abbrev pub eight_of : Option ℕ → List Bool  -- the lowest eight bits of a number, if there is one
+-- the lowest eight bits of a number, if there is one
+abbrev pub eight_of : Option ℕ → List Bool
 eight_of (Some n) = number_bits 8 n
 eight_of None = []

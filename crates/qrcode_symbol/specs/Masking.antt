@@ -1,11 +1,10 @@
 -- How a mask is chosen on rows packed into numbers.
 use Rattle.std.specs.Prelude.{◌≡◌, ℕ, ◌+◌, ◌-◌, ◌*◌, ◌/◌, ◌%◌, ◌<◌, ◌≤◌, ◌^◌, bit_or, Bool, true, false, ◌&&◌, List, [], ◌∷◌, map, slice_index_or, if◌then◌else◌, unwrap_or}
 use Rattle.qrcode_types.specs.Colors.{is_dark}
-use Rattle.qrcode_types.specs.Versions.{side}
 use Rattle.qrcode_types.specs.declared.types.Color.{Color}
 use Rattle.qrcode_types.specs.declared.types.Version.{Version}
 use Rattle.qrcode_types.specs.declared.types.EcLevel.{EcLevel}
-use Rattle.qrcode_packed.specs.Rows.{Shows, inside, is_set, dark_in, IsSquare}
+use Rattle.qrcode_packed.specs.Rows.{Shows, inside, is_set, dark_in}
 use Rattle.qrcode_places.specs.Masks.{turns, turned_if, nth_mask}
 use Rattle.qrcode_places.specs.Words.{format_word}
 use Rattle.qrcode_places.specs.Patterns.{decided_bit}
@@ -15,15 +14,18 @@ use Rattle.qrcode_symbol.specs.declared.canvas.Module.TheVariants.{Empty, Masked
 use Rattle.qrcode_symbol.specs.Canvas.{color_of_module, colors_of, with_mask, with_patterns, with_bits_drawn, blank, IsBestMask}
 use Rattle.qrcode_symbol.specs.Penalties.{penalty_of, IsFirstLeast}
 
-abbrev pub is_dark_module : Module → Bool  -- the module is dark
+-- the module is dark
+abbrev pub is_dark_module : Module → Bool
 is_dark_module m = is_dark (color_of_module m)
 
-abbrev pub is_free : Module → Bool  -- a mask may turn the module
+-- a mask may turn the module
+abbrev pub is_free : Module → Bool
 is_free Empty = true
 is_free (Masked c) = false
 is_free (Unmasked c) = true
 
-abbrev pub digit : Bool → ℕ  -- 1 where a test holds
+-- 1 where a test holds
+abbrev pub digit : Bool → ℕ
 digit b = if b then 1 else 0
 
 -- the number whose bit i is the answer of a test for the i-th item
@@ -35,22 +37,17 @@ packed test (x ∷ xs) = 2 * packed test xs + digit (test x)
 abbrev pub ShowsModules : (Module → Bool) → ℕ → List Module → List ℕ → Type 0
 ShowsModules test w modules rows = Shows w rows (λ x y. test (slice_index_or modules (y * w + x) Empty))
 
--- rows of a square as wide as the symbol of a version
-abbrev pub IsSymbolSquare : ℕ → Version → List ℕ → Type 0
-IsSymbolSquare room v rows = IsSquare room (record { width = side v; rows = rows })
-
 -- the place is dark under a mask, by rows of what is dark and of what a mask may turn
 unfoldable pub masked_dark : Version → ℕ → MaskPattern → List ℕ → List ℕ → ℕ → ℕ → Bool
 masked_dark v word k dark free x y = unwrap_or (decided_bit v word x y) (turned_if (dark_in free x y && turns k x y) (dark_in dark x y))
 
-abbrev pub next_places : ℕ → ℕ  -- the 64 places behind those of a word in which six places stand again and again
+-- the 64 places behind those of a word in which six places stand again and again
+abbrev pub next_places : ℕ → ℕ
 next_places word = bit_or (word / 2 ^ 4) (word * 2 ^ 56 % 2 ^ 64)
 
-abbrev pub three_words : ℕ → ℕ  -- 192 such places, by the first 64
+-- 192 such places, by the first 64
+abbrev pub three_words : ℕ → ℕ
 three_words word = (next_places (next_places word) * 2 ^ 64 + next_places word) * 2 ^ 64 + word
-
-abbrev pub number_of_words : List ℕ → ℕ  -- the number of three words, the lowest first
-number_of_words words = (slice_index_or words 2 0 * 2 ^ 64 + slice_index_or words 1 0) * 2 ^ 64 + slice_index_or words 0 0
 
 -- row k with the places turned that the mask turns
 pub record IsTurnedRow (w : ℕ) (mask : MaskPattern) (dark free : List ℕ) (k row : ℕ) : Type 0 where
@@ -65,7 +62,8 @@ AreTurned w mask dark free count rows = (y : ℕ) → y < count → IsTurnedRow 
 abbrev pub IsLastColumn : ℕ → List ℕ → ℕ → Type 0
 IsLastColumn w rows column = (y : ℕ) → y < w → is_set column y ≡ dark_in rows (w - 1) y
 
-unfoldable pub nth_cost : Version → EcLevel → ℕ → List ℕ → List ℕ → ℕ → ℕ  -- what such rows cost under the k-th mask
+-- what such rows cost under the k-th mask
+unfoldable pub nth_cost : Version → EcLevel → ℕ → List ℕ → List ℕ → ℕ → ℕ
 nth_cost v l w dark free k = let mask = nth_mask v k in penalty_of v (inside w (masked_dark v (format_word v l mask) mask dark free))
 
 -- no number below the count costs less than k, and none before k as little
@@ -87,11 +85,6 @@ pub record IsBestShown {A : Type 0} (v : Version) (l : EcLevel) (modules : List 
   pub masked : List Module
   pub best : IsBestMasked v l modules masked
   pub shown : new ≡ map (λ m. of (color_of_module m)) masked
-
--- the same of all modules that rows show, what is dark and what a mask may turn
-abbrev pub IsBestOfRows : {A : Type 0} → Version → EcLevel → ℕ → List ℕ → List ℕ → (Color → A) → List A → Type 0
-IsBestOfRows v l w dark free of new =
-    (modules : List Module) → ShowsModules is_dark_module w modules dark → ShowsModules is_free w modules free → IsBestShown v l modules of new
 
 -- the colours of the modules under the first mask of least penalty
 abbrev pub AreBestColors : Version → EcLevel → List Module → List Color → Type 0

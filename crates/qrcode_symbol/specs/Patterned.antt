@@ -28,7 +28,8 @@ abbrev pub IsBlockAt : Version → List (List Color) → ℕ → ℕ → ℕ →
 IsBlockAt v block across left top =
     (i j : ℕ) → i < across → j < length block → (m : Module) → pattern_module v (left + i) (top + j) m ≡ Masked (slice_index_or (slice_index_or block j []) i Light)
 
-abbrev pub IsCentre : Version → ℕ → Type 0  -- one of the coordinates of the alignment centres
+-- one of the coordinates of the alignment centres
+abbrev pub IsCentre : Version → ℕ → Type 0
 IsCentre v a = (i : ℕ) × ((i < length (centres v)) × (slice_index_or (centres v) i 0 ≡ a))
 
 -- the alignment patterns in the first so many rows of centres have been drawn

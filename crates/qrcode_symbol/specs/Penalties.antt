@@ -1,5 +1,5 @@
 -- The penalty of colours, and the first mask of least penalty.
-use Rattle.std.specs.Prelude.{ℕ, ◌*◌, ◌/◌, ◌%◌, ◌-◌, ◌<◌, ◌≤◌, nat_lt, ◌&&◌, not, Bool, List, map, IsTrue, Some, None}
+use Rattle.std.specs.Prelude.{ℕ, ◌*◌, ◌/◌, ◌%◌, ◌-◌, ◌<◌, ◌≤◌, not, Bool, List, map, IsTrue, Some, None}
 use Rattle.std.specs.List.{range_with_len}
 use Rattle.qrcode_types.specs.Bits.{has_bit}
 use Rattle.qrcode_types.specs.Colors.{is_dark, color_of}
@@ -9,28 +9,38 @@ use Rattle.qrcode_types.specs.declared.types.Version.TheVariants.{Normal, Micro}
 use Rattle.qrcode_types.specs.declared.types.EcLevel.{EcLevel}
 use Rattle.qrcode_types.specs.declared.types.Color.{Color}
 use Rattle.qrcode_penalty.specs.Penalty.{same, normal_penalty, micro_penalty}
+use Rattle.qrcode_packed.specs.Rows.{inside}
 use Rattle.qrcode_places.specs.Masks.{turns, turned_if, exists_in, mask_number}
 use Rattle.qrcode_places.specs.Words.{format_word}
 use Rattle.qrcode_places.specs.Patterns.{format_index, pattern}
 use Rattle.qrcode_places.specs.Stream.{color_at}
 use Rattle.qrcode_places.specs.declared.masks.MaskPattern.{MaskPattern}
 
-abbrev pub penalty_of : Version → (ℕ → ℕ → Bool) → ℕ  -- what a square costs, by which of its places are dark
+-- the place, by column and row, is inside and dark
+abbrev pub is_dark_at : Version → List Color → ℕ → ℕ → Bool
+is_dark_at v s = inside (side v) (λ x y. is_dark (color_at v s x y))
+
+-- the penalty of a square of a version, given by which of its places are dark
+abbrev pub penalty_of : Version → (ℕ → ℕ → Bool) → ℕ
 penalty_of (Normal v) dark = normal_penalty (side (Normal v)) dark
 penalty_of (Micro v) dark = micro_penalty (side (Micro v)) dark
 
-unfoldable pub penalty : Version → List Color → ℕ  -- the penalty of colours in row order; no place outside is dark
-penalty v s = penalty_of v (λ x y. nat_lt x (side v) && nat_lt y (side v) && is_dark (color_at v s x y))
+-- the penalty of colours in row order
+unfoldable pub penalty : Version → List Color → ℕ
+penalty v s = penalty_of v (is_dark_at v s)
 
 -- the module in column x and row y, if the mask were j in place of k; `word` is the format word of j
 unfoldable pub remasked_at : Version → ℕ → MaskPattern → MaskPattern → List Color → ℕ → ℕ → Color
-remasked_at v word k j s x y = elim (format_index v x y) [
-  | Some i ↦ color_of (has_bit word (14 - i))
-  | None ↦ elim (pattern v x y) [
-    | Some c ↦ color_at v s x y
-    | None ↦ color_of (turned_if (not (same (turns k x y) (turns j x y))) (is_dark (color_at v s x y)))
-  ]
-]
+remasked_at v word k j s x y =
+    elim (format_index v x y) [
+      | Some i ↦ color_of (has_bit word (14 - i))
+      | None ↦
+          elim (pattern v x y) [
+            | Some c ↦ color_at v s x y
+            | None ↦
+                color_of (turned_if (not (same (turns k x y) (turns j x y))) (is_dark (color_at v s x y)))
+          ]
+    ]
 
 -- the colours, if the mask were j in place of k
 unfoldable pub remasked : Version → EcLevel → MaskPattern → MaskPattern → List Color → List Color

@@ -2,8 +2,7 @@
 
 ghost use Rattle.std.specs.Prelude.{◌≡◌, ◌+◌, ◌*◌, ◌%◌, ◌<◌, ◌≤◌, pos, neg_ℤ, ◌≤ℤ◌, ◌<ℤ◌, nat_abs, length, map, slice_index_or, slice_set, ◌↔◌, IsTrue, IfOk, IsOkUnless};
 ghost use Rattle.std.specs.Borrow.{sem};
-ghost use Rattle.qrcode_types.specs.Versions.{is_valid, has_level, side, data_length, total_ec_length};
-ghost use Rattle.qrcode_ec.specs.Lists.{data_in, ec_in, IsList};
+ghost use Rattle.qrcode_types.specs.Versions.{is_valid, has_level, side};
 ghost use Rattle.qrcode_places.specs.Masks.{exists_in};
 ghost use Rattle.qrcode_places.specs.Patterns.{is_functional_place};
 ghost use Rattle.qrcode_places.specs.Stream.{FreePlacesAreFilled};
@@ -11,8 +10,7 @@ ghost use Rattle.qrcode_places.specs.Words.{VersionWordsAreApart, FormatWordsAre
 ghost use Rattle.qrcode_types.specs.Colors.{is_dark};
 ghost use Rattle.qrcode_types.specs.declared.types.QrError.TheVariants.{OutOfMemory};
 ghost use Rattle.qrcode_symbol.specs.Canvas.{IsCoordinate, IsOnCanvas, wrapped, module_index, blank, color_of_module, colors_of, masked_module, drawn_bits, with_bits_drawn, with_patterns, with_mask};
-ghost use Rattle.qrcode_symbol.specs.Carried.{CarriesAll, AreCarried};
-ghost use Rattle.qrcode_symbol.specs.DrawnColors.{AreDrawnColors, AreListColors};
+ghost use Rattle.qrcode_symbol.specs.Carried.{CarriesAll, AreCarried, drawn_modules};
 ghost use Rattle.qrcode_symbol.specs.Lending.{LendsModule};
 ghost use Rattle.qrcode_symbol.specs.Masking.{IsBestMasked, AreBestColors};
 ghost use Rattle.qrcode_symbol.specs.Patterned.{IsDrawn};
@@ -22,27 +20,20 @@ pub use qrcode_places::mask_functions;
 pub use qrcode_places::masks::MaskPattern;
 
 mod applying;
-mod both_ways;
 mod cells;
 mod codewords;
-mod columns;
 mod drawing;
-mod drawn;
 mod edges;
 mod filling;
 mod layer;
-mod least_mask;
-mod masked_lines;
 mod masked_rows;
-mod masked_strips;
 mod masking;
-mod micro;
-mod packed_patterns;
 mod packing;
 mod pattern_places;
 mod unpacking;
 
 use applying::mask_modules;
+use cells::empty_bytes;
 use codewords::Codewords;
 use drawing::{draw_patterns, is_functional_place};
 use filling::draw_codewords;
@@ -351,40 +342,19 @@ pub fn drawn_colors(
     ec: &[u8],
 ) -> QrResult<Vec<Color>>
     requires { IsTrue (has_level version ec_level) }
-    ensures best { IfOk result (λ colors.
-        AreDrawnColors version ec_level bytes.now ec.now colors.items) }
+    ensures best { IfOk result (λ colors. AreBestColors version ec_level
+        (drawn_modules version ec_level bytes.now ec.now) colors.items) }
     ensures memory { IsOkUnless result OutOfMemory }
 
     // They carry the codewords, under each mask.
     ensures carries { AreCarried version ec_level bytes.now ec.now }
 {
-    drawn::symbol_colors(alloc, version, ec_level, bytes, ec)
-}
-
-/// The same of codewords in a list, as `ec::into_list` gives it.
-///
-/// `OutOfMemory`: memory was refused.
-pub fn list_colors(
-    alloc: Global,
-    version: Version,
-    ec_level: EcLevel,
-    list: &[u8],
-) -> QrResult<Vec<Color>>
-    requires exists { IsTrue (has_level version ec_level) }
-    requires listed { IsList version ec_level list.now }
-    ensures best { IfOk result (λ colors.
-        AreListColors version ec_level list.now colors.items) }
-    ensures memory { IsOkUnless result OutOfMemory }
-
-    // They carry the codewords, under each mask.
-    ensures carries { AreCarried version ec_level
-        (data_in version ec_level list.now) (ec_in version ec_level list.now) }
-    ensures data_length { length (data_in version ec_level list.now)
-        ≡ data_length version ec_level }
-    ensures ec_length { length (ec_in version ec_level list.now)
-        ≡ total_ec_length version ec_level }
-{
-    drawn::list_colors(alloc, version, ec_level, list)
+    let width = side(version);
+    let mut cells = empty_bytes(alloc, width * width)?;
+    draw_patterns(version, &mut cells);
+    let codewords = Codewords::new(version, ec_level, bytes, ec);
+    draw_codewords(version, codewords, &mut cells);
+    masking::into_best(alloc, version, ec_level, cells)
 }
 
 /// Whether a functional pattern or the format word has the module in column `x` and row `y` of a

@@ -1,12 +1,17 @@
-//! How a module stands in memory.
+//! How a module stands in memory: as it is, or as a byte, which takes half the room and is packed 64 at a time.
 
-ghost use Rattle.std.specs.Prelude.{◌≡◌, ◌≤◌, ◌&&◌, length, take};
+ghost use Rattle.std.specs.Prelude.{◌≡◌, ◌≤◌, ◌&&◌, length, replicate, take, IfOk, IsOkUnless};
+ghost use Rattle.qrcode_types.specs.declared.types.QrError.TheVariants.{OutOfMemory};
 ghost use Rattle.qrcode_symbol.specs.Canvas.{is_empty};
 ghost use Rattle.qrcode_symbol.specs.Masking.{is_dark_module, is_free, packed};
+ghost use Rattle.qrcode_symbol.specs.Cells.{module_of_byte};
 ghost use Rattle.qrcode_symbol.specs.declared.canvas.Module.{Module};
 
 use super::Module;
-use super::packing::pack_modules;
+use super::packing::{pack_bytes, pack_modules};
+use qrcode_places::patterns::color_of;
+use qrcode_types::types::QrResult;
+use std::alloc::Global;
 
 /// What shows a module.
 pub(super) trait Cell: Copy {
@@ -57,4 +62,55 @@ impl Cell for Module {
     fn pack(cells: &[Module], count: usize) -> (u64, u64) {
         pack_modules(&cells[..count])
     }
+}
+
+impl Cell for u8 {
+    ghost shows = { module_of_byte };
+
+    #[inline(always)]
+    fn of(m: Module) -> u8 {
+        match m {
+            Module::Unmasked(color) => color as u8,
+            Module::Empty => 2,
+            Module::Masked(color) => 128 + color as u8,
+        }
+    }
+
+    #[inline(always)]
+    fn module(self) -> Module {
+        let color = color_of(self % 2 == 1);
+        if self >= 128 {
+            return Module::Masked(color);
+        }
+        if self == 2 {
+            return Module::Empty;
+        }
+        Module::Unmasked(color)
+    }
+
+    #[inline(always)]
+    fn are_empty(first: u8, second: u8) -> bool {
+        // One comparison, where the bytes lie beside one another.
+        u16::from_le_bytes([first, second]) == 0x0202
+    }
+
+    fn pack(cells: &[u8], count: usize) -> (u64, u64) {
+        pack_bytes(cells, count)
+    }
+}
+
+// The bytes of some empty modules, to be copied.
+static EMPTY: [u8; 512] = [2; 512];
+
+/// The bytes of so many empty modules, copied by pieces: as many set at once are counted byte by byte.
+pub(super) fn empty_bytes(alloc: Global, count: usize) -> QrResult<Vec<u8>>
+    ensures value { IfOk result (λ bytes. bytes.items ≡ replicate count 2) }
+    ensures memory { IsOkUnless result OutOfMemory }
+{
+    let mut bytes = Vec::with_capacity(alloc, count)?;
+    for _ in 0..count / 512 {
+        bytes.extend_from_slice(&EMPTY)?;
+    }
+    bytes.extend_from_slice(&EMPTY[..count % 512])?;
+    Ok(bytes)
 }

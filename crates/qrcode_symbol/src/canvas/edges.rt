@@ -1,12 +1,11 @@
 //! The choice of the mask in Micro, by the last row and the last column, which alone count in its penalty.
 
-ghost use Rattle.std.specs.Prelude.{◌≡◌, ◌-◌, ◌<◌, ◌^◌, true};
+ghost use Rattle.std.specs.Prelude.{◌≡◌, ◌-◌, ◌%◌, ◌<◌, ◌^◌, bit_and, bit_xor, true};
 ghost use Rattle.qrcode_types.specs.Versions.{is_micro};
 ghost use Rattle.qrcode_places.specs.Masks.{mask_count};
-ghost use Rattle.qrcode_symbol.specs.Masking.{IsLastColumn};
-ghost use Rattle.qrcode_symbol.specs.Trying.{cost_under, IsLeastMask};
+ghost use Rattle.qrcode_symbol.specs.Masking.{three_words, nth_cost, IsLastColumn, IsFirstLeastCost};
 
-use super::masked_rows::{turn_line, turned_column, turned_row};
+use super::masked_rows::{long_row, turned_column, turned_row};
 use super::packing::PackedModules;
 use qrcode_packed::row::PackedRow;
 use qrcode_penalty::penalty::{last_column, micro_penalty_by_edges};
@@ -19,6 +18,15 @@ struct LastColumn<R: PackedRow> {
     free: R,
 }
 
+// A row or a column in which the free places are turned that the mask turns, by the first 64 of these.
+#[inline(always)]
+fn turn_line<R: PackedRow>(dark: R, free: R, turned: u64) -> R
+    ensures { R.bits result
+        ≡ bit_xor (R.bits dark) (bit_and (R.bits free) (three_words turned % 2 ^ R.room)) }
+{
+    dark.xor(free.and(long_row(turned)))
+}
+
 // What the square costs under the k-th mask of Micro.
 fn nth_micro_cost<R: PackedRow>(
     modules: &PackedModules<'_, R>,
@@ -29,7 +37,8 @@ fn nth_micro_cost<R: PackedRow>(
     requires mask_exists { k < mask_count modules.now.version }
     requires dark { IsLastColumn modules.now.width modules.now.dark.rows (R.bits column.dark) }
     requires free { IsLastColumn modules.now.width modules.now.free.rows (R.bits column.free) }
-    ensures value { result ≡ cost_under modules.now k }
+    ensures value { result ≡ nth_cost modules.now.version modules.now.ec_level modules.now.width
+        modules.now.dark.rows modules.now.free.rows k }
     ensures at_most { result < 2 ^ 24 }
 {
     let mask = nth_mask(modules.version, k);
@@ -46,7 +55,10 @@ fn nth_micro_cost<R: PackedRow>(
 /// The number of the first mask of Micro under which the square costs least.
 pub(super) fn least_micro_mask<R: PackedRow>(modules: &PackedModules<'_, R>) -> usize
     requires { is_micro modules.now.version ≡ true }
-    ensures { IsLeastMask modules.now result }
+    ensures { IsFirstLeastCost
+        (nth_cost modules.now.version modules.now.ec_level modules.now.width
+        modules.now.dark.rows modules.now.free.rows)
+        (mask_count modules.now.version) result }
 {
     let column = LastColumn {
         dark: last_column(&modules.dark),

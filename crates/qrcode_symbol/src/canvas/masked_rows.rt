@@ -1,12 +1,12 @@
 //! The rows of a square under a mask, with the format word.
 
-ghost use Rattle.std.specs.Prelude.{◌≡◌, ◌≢◌, ℕ, ◌+◌, ◌-◌, ◌%◌, ◌<◌, ◌≤◌, ◌^◌, ◌&&◌, bit_and, bit_xor, length, map, slice_index_or, true, false, IsTrue};
+ghost use Rattle.std.specs.Prelude.{◌≡◌, ◌≢◌, ℕ, ◌+◌, ◌-◌, ◌%◌, ◌<◌, ◌≤◌, ◌^◌, ◌&&◌, length, map, slice_index_or, true, false, IsTrue};
 ghost use Rattle.qrcode_types.specs.Bits.{has_bit};
 ghost use Rattle.qrcode_types.specs.Versions.{is_micro};
 ghost use Rattle.qrcode_packed.specs.Rows.{FitsWidth, IsSquare, is_set, dark_in, Shows};
 ghost use Rattle.qrcode_places.specs.Masks.{turns, turned_if, exists_in};
 ghost use Rattle.qrcode_places.specs.Words.{format_word};
-ghost use Rattle.qrcode_symbol.specs.Masking.{masked_dark, next_places, number_of_words, three_words, AreTurned};
+ghost use Rattle.qrcode_symbol.specs.Masking.{masked_dark, next_places, three_words, AreTurned};
 ghost use Rattle.qrcode_symbol.specs.Deciding.{IsPutInRow, IsPutInColumn, AreDecided};
 
 use super::layer::Layer;
@@ -52,39 +52,21 @@ fn repeat(six: u64) -> u64
     six.wrapping_mul(0x1041_0410_4104_1041)
 }
 
-/// The next 64 places, where six or twelve stand again and again: 64 is 4 more than a multiple of both, and 60 is one.
+// The next 64 places, where six or twelve stand again and again: 64 is 4 more than a multiple of both, and 60 is one.
 #[inline(always)]
-pub(super) fn next_places(word: u64) -> u64
+fn next_places(word: u64) -> u64
     ensures { result ≡ next_places word }
 {
     word >> 4 | word << 56
 }
 
-// The three words of a line in which six or twelve places stand again and again, by its first 64 places.
+/// A line in which six or twelve places stand again and again, by its first 64 places.
 #[inline(always)]
-fn long_words(word: u64) -> [u64; 3]
-    ensures { number_of_words result ≡ three_words word }
-{
-    let middle = next_places(word);
-    [word, middle, next_places(middle)]
-}
-
-// A line in which six or twelve places stand again and again, by its first 64 places.
-#[inline(always)]
-fn long_row<R: PackedRow>(word: u64) -> R
+pub(super) fn long_row<R: PackedRow>(word: u64) -> R
     ensures { R.bits result ≡ three_words word % 2 ^ R.room }
 {
-    let words = long_words(word);
-    R::of_words(words[0], words[1], words[2])
-}
-
-/// A row or a column in which the free places are turned that the mask turns, by the first 64 of these.
-#[inline(always)]
-pub(super) fn turn_line<R: PackedRow>(dark: R, free: R, turned: u64) -> R
-    ensures { R.bits result
-        ≡ bit_xor (R.bits dark) (bit_and (R.bits free) (three_words turned % 2 ^ R.room)) }
-{
-    dark.xor(free.and(long_row(turned)))
+    let middle = next_places(word);
+    R::of_words(word, middle, next_places(middle))
 }
 
 /// The places that the mask turns in the first 64 columns of row y, each of which goes on so.
@@ -103,30 +85,30 @@ pub(super) fn turned_column(mask: MaskPattern, x: usize) -> u64
     (TURNED_COLUMNS[mask.number()][x % 6] as u64).wrapping_mul(0x1001_0010_0100_1001)
 }
 
-// The places that a mask turns in twelve rows, which stand for all, since each mask goes on so every twelve rows: the
-// three words of each, found once for all rows that have them.
+// The places that a mask turns in the first 64 columns of twelve rows, which stand for all, since each mask goes on so
+// every twelve rows.
 #[derive(Drop)]
 struct TurnedRows {
     mask: MaskPattern,
-    words: [[u64; 3]; 12],
+    words: [u64; 12],
     ghost length: { length words ≡ 12 },
     ghost value: { (x y : ℕ) → x < 192
-        → is_set (slice_index_or (map number_of_words words) (y % 12) 0) x ≡ turns mask x y },
+        → is_set (slice_index_or (map three_words words) (y % 12) 0) x ≡ turns mask x y },
 }
 
 fn turned_rows(mask: MaskPattern) -> TurnedRows
     ensures { result.mask ≡ mask }
 {
-    let mut words = [[0u64; 3]; 12];
+    let mut words = [0u64; 12];
     for y in 0..12 {
-        words[y] = long_words(turned_row(mask, y));
+        words[y] = turned_row(mask, y);
     }
     TurnedRows { mask, words }
 }
 
-/// The row with one place as given.
+// The row with one place as given.
 #[inline(always)]
-pub(super) fn put<R: PackedRow>(row: R, place: u32, set: bool) -> R
+fn put<R: PackedRow>(row: R, place: u32, set: bool) -> R
     requires { place + 1 < R.room }
     ensures place { is_set (R.bits result) place ≡ set }
     ensures others { (k : ℕ) → k ≢ place → is_set (R.bits result) k ≡ is_set (R.bits row) k }
@@ -138,9 +120,9 @@ pub(super) fn put<R: PackedRow>(row: R, place: u32, set: bool) -> R
     row.without(one)
 }
 
-/// A row with the lowest bits of a number at so many places from one on, the highest of them first.
+// A row with the lowest bits of a number at so many places from one on, the highest of them first.
 #[inline(always)]
-pub(super) fn put_bits<R: PackedRow>(row: R, first: usize, count: usize, bits: u16) -> R
+fn put_bits<R: PackedRow>(row: R, first: usize, count: usize, bits: u16) -> R
     requires at_most { count ≤ 16 }
     requires inside { first + count < R.room }
     ensures { IsPutInRow (R.bits row) first count (λ i. has_bit bits (count - 1 - i))
@@ -233,11 +215,7 @@ fn turn_some_rows<R: PackedRow>(
 {
     for k in 0..count {
         let y = first + k;
-        let words = turned.words[k];
-        let places = modules
-            .free
-            .row(y)
-            .and(R::of_words(words[0], words[1], words[2]));
+        let places = modules.free.row(y).and(long_row(turned.words[k]));
         rows[y] = modules.dark.row(y).xor(places);
     }
 }

@@ -1,8 +1,9 @@
 //! Modules packed into rows of places: which are dark, and which a mask may turn.
 
-ghost use Rattle.std.specs.Prelude.{◌≡◌, ◌==◌, ◌+◌, ◌*◌, ◌<◌, ◌≤◌, length, map, take, IsTrue};
+ghost use Rattle.std.specs.Prelude.{◌≡◌, ◌==◌, ◌+◌, ◌*◌, ◌%◌, ◌<◌, ◌≤◌, ◌^◌, nat_lt, bit_and, length, map, take, IsTrue};
 ghost use Rattle.qrcode_types.specs.Versions.{is_valid, has_level, side};
 ghost use Rattle.qrcode_packed.specs.Rows.{IsSquare};
+ghost use Rattle.qrcode_symbol.specs.Cells.{module_of_byte};
 ghost use Rattle.qrcode_symbol.specs.Masking.{is_dark_module, is_free, digit, packed, ShowsModules};
 
 use super::Module;
@@ -79,6 +80,52 @@ pub(super) fn pack_modules(modules: &[Module]) -> (u64, u64)
     (equal_to(dark, 1), equal_to(free, 1))
 }
 
+// Which of 64 bytes show dark modules, and which show modules that a mask may turn, where the bytes lie.
+#[inline(always)]
+fn pack_whole(bytes: &[u8]) -> (u64, u64)
+    requires { length bytes.now ≡ 64 }
+    ensures dark { result.0 ≡ packed (λ n. bit_and n 1 == 1) bytes.now }
+    ensures free { result.1 ≡ packed (λ n. nat_lt n 128) bytes.now }
+{
+    let word = u8x64::from_slice(bytes);
+    let one = u8x64::splat(1);
+    (
+        (word & one).simd_eq(one).to_bitmask(),
+        word.simd_lt(u8x64::splat(128)).to_bitmask(),
+    )
+}
+
+// So many of the lowest bits of a number.
+#[inline(always)]
+fn lowest(word: u64, count: usize) -> u64
+    requires { count ≤ 64 }
+    ensures { result ≡ word % 2 ^ count }
+{
+    if count == 64 {
+        return word;
+    }
+    word.and(u64::first(count as u32))
+}
+
+/// Which of the first modules, up to 64, are dark, and which a mask may turn, by the bytes that show them.
+pub(super) fn pack_bytes(bytes: &[u8], count: usize) -> (u64, u64)
+    requires at_most { count ≤ 64 }
+    requires inside { count ≤ length bytes.now }
+    ensures dark { result.0
+        ≡ packed (λ n. is_dark_module (module_of_byte n)) (take count bytes.now) }
+    ensures free { result.1 ≡ packed (λ n. is_free (module_of_byte n)) (take count bytes.now) }
+{
+    if bytes.len() >= 64 {
+        // Where they lie, what is behind them left out.
+        let (dark, free) = pack_whole(&bytes[..64]);
+        return (lowest(dark, count), lowest(free, count));
+    }
+    // A byte of 128 is a light module that no mask turns.
+    let mut word = [128u8; 64];
+    word[..count].copy_from_slice(&bytes[..count]);
+    pack_whole(&word)
+}
+
 // Which of the first modules, those of a row, are dark, and which a mask may turn.
 fn pack_row<R: PackedRow, C: Cell>(modules: &[C], width: usize) -> (R, R)
     requires room { width ≤ R.room }
@@ -92,10 +139,11 @@ fn pack_row<R: PackedRow, C: Cell>(modules: &[C], width: usize) -> (R, R)
         return (R::of_words(word.0, 0, 0), R::of_words(word.1, 0, 0));
     }
     let row = &modules[..width];
-    let second = width.min(128);
-    let low = C::pack(row, 64);
-    let middle = C::pack(&row[64..], second - 64);
-    let high = C::pack(&row[second..], width - second);
+    let first = row.len().min(64);
+    let second = row.len().min(128);
+    let low = C::pack(row, first);
+    let middle = C::pack(&row[first..], second - first);
+    let high = C::pack(&row[second..], row.len() - second);
     (
         R::of_words(low.0, middle.0, high.0),
         R::of_words(low.1, middle.1, high.1),

@@ -1,20 +1,19 @@
 //! Rows of places written as modules or as colours.
 
-ghost use Rattle.std.specs.Prelude.{◌≡◌, ℕ, ◌+◌, ◌*◌, ◌%◌, ◌^◌, ◌==◌, ◌<◌, ◌≤◌, [], Bool, length, map, slice_index_or, IfOk, IsOkUnless};
+ghost use Rattle.std.specs.Prelude.{◌≡◌, ℕ, ◌+◌, ◌*◌, ◌<◌, ◌≤◌, [], length, map, slice_index_or, IfOk, IsOkUnless};
 ghost use Rattle.qrcode_types.specs.Colors.{color_of};
 ghost use Rattle.qrcode_types.specs.declared.types.Color.{Color};
 ghost use Rattle.qrcode_types.specs.declared.types.Color.TheVariants.{Light};
 ghost use Rattle.qrcode_types.specs.declared.types.QrError.TheVariants.{OutOfMemory};
 ghost use Rattle.qrcode_packed.specs.Rows.{is_set, dark_in};
 ghost use Rattle.qrcode_symbol.specs.declared.canvas.Module.TheVariants.{Masked};
-ghost use Rattle.qrcode_symbol.specs.Unpacking.{IsRowWritten, AreJoined};
+ghost use Rattle.qrcode_symbol.specs.Unpacking.{IsRowWritten};
 
 use super::Module;
 use qrcode_packed::row::PackedRow;
 use qrcode_places::patterns::color_of;
 use qrcode_types::types::{Color, QrResult};
 use std::alloc::AllocError;
-use std::simd::prelude::*;
 
 /// An item that a colour is written as.
 pub(super) trait FromColor: Copy {
@@ -48,46 +47,17 @@ impl FromColor for Module {
     }
 }
 
-// Each of eight bytes eight times.
-#[rattlefmt::skip]
-const EIGHT_TIMES: [usize; 64] = [
-    0, 0, 0, 0, 0, 0, 0, 0, 1, 1, 1, 1, 1, 1, 1, 1,
-    2, 2, 2, 2, 2, 2, 2, 2, 3, 3, 3, 3, 3, 3, 3, 3,
-    4, 4, 4, 4, 4, 4, 4, 4, 5, 5, 5, 5, 5, 5, 5, 5,
-    6, 6, 6, 6, 6, 6, 6, 6, 7, 7, 7, 7, 7, 7, 7, 7,
-];
-
-// The bits of a byte, one by one, eight times.
-#[rattlefmt::skip]
-static BITS: [u8; 64] = [
-    1, 2, 4, 8, 16, 32, 64, 128, 1, 2, 4, 8, 16, 32, 64, 128,
-    1, 2, 4, 8, 16, 32, 64, 128, 1, 2, 4, 8, 16, 32, 64, 128,
-    1, 2, 4, 8, 16, 32, 64, 128, 1, 2, 4, 8, 16, 32, 64, 128,
-    1, 2, 4, 8, 16, 32, 64, 128, 1, 2, 4, 8, 16, 32, 64, 128,
-];
-
-// Each byte of a word eight times, with another of its bits each time, so that LLVM tests sixteen places at once.
-#[inline(always)]
-fn bits_apart(word: u64) -> [u8; 64]
-    ensures length { length result ≡ 64 }
-    ensures shown { (x : ℕ) → x < 64
-        → (slice_index_or result x 0 == 2 ^ (x % 8)) ≡ is_set word x }
-{
-    let bytes = u8x8::from_array(word.to_le_bytes());
-    (bytes.swizzle(EIGHT_TIMES) & u8x64::from_array(BITS)).to_array()
-}
-
-// The colours of the places of a word.
+// The colours of the places of a word. From the bits of its bytes LLVM makes sixteen at a time.
 #[inline(always)]
 fn colors_of(word: u64) -> [Color; 64]
     ensures length { length result ≡ 64 }
     ensures shown { (x : ℕ) → x < 64
         → slice_index_or result x Light ≡ color_of (is_set word x) }
 {
-    let bits = bits_apart(word);
+    let bytes = word.to_le_bytes();
     let mut colors = [Color::Light; 64];
     for x in 0..64 {
-        colors[x] = color_of(bits[x] == 1 << (x % 8));
+        colors[x] = color_of((bytes[x / 8] >> (x % 8)) % 2 == 1);
     }
     colors
 }
@@ -107,79 +77,27 @@ fn modules_of(word: u64) -> [Module; 64]
     modules
 }
 
-// Places of a square, in row order, that wait in a word until it is full.
-#[derive(Copy, Clone)]
-struct Waiting {
-    word: u64,
-    count: usize,
-}
-
-// Puts places behind those that wait, and appends the items of a word that is full.
-#[inline(always)]
-fn join<S: FromColor>(
-    waiting: Waiting,
-    places: u64,
-    count: usize,
-    square: &mut Vec<S>,
-) -> QrResult<Waiting>
-    requires fits { places < 2 ^ count }
-    requires short { count < 64 }
-    requires less { waiting.count < 64 }
-    ensures joined { (dark : ℕ → Bool) → (joined : ℕ)
-        → AreJoined S.from_color dark joined square.old.items waiting.word waiting.count
-        → ((x : ℕ) → x < count → is_set places x ≡ dark (joined + x))
-        → IfOk result (λ new. AreJoined S.from_color dark (joined + count) square.new.items
-        new.word new.count) }
-    ensures less { IfOk result (λ new. new.count < 64) }
-    ensures memory { IsOkUnless result OutOfMemory }
-{
-    let word = waiting.word | (places << waiting.count);
-    let filled = waiting.count + count;
-    if filled < 64 {
-        return Ok(Waiting {
-            word,
-            count: filled,
-        });
-    }
-    S::append(square, word, 64)?;
-    let left = filled - 64;
-    Ok(Waiting {
-        word: places >> (count - left),
-        count: left,
-    })
-}
-
-// Puts a row behind the places that wait, 63 places at once.
-#[inline(always)]
-fn join_row<R: PackedRow, S: FromColor>(
+// Appends a row by its places, of which the dark ones are set: word by word, so that the room needs no first values.
+fn unpack_row<R: PackedRow, S: FromColor>(
     line: R,
     width: usize,
-    waiting: Waiting,
     square: &mut Vec<S>,
-) -> QrResult<Waiting>
-    requires less { waiting.count < 64 }
-    ensures joined { (dark : ℕ → Bool) → (joined : ℕ)
-        → AreJoined S.from_color dark joined square.old.items waiting.word waiting.count
-        → ((x : ℕ) → x < width → is_set (R.bits line) x ≡ dark (joined + x))
-        → IfOk result (λ new. AreJoined S.from_color dark (joined + width) square.new.items
-        new.word new.count) }
-    ensures less { IfOk result (λ new. new.count < 64) }
+) -> QrResult<()>
+    ensures written { IfOk result (λ _.
+        IsRowWritten S.from_color (R.bits line) width square.old.items square.new.items) }
     ensures memory { IsOkUnless result OutOfMemory }
 {
-    let mut now = waiting;
     let mut rest = line;
-    for _ in 0..width / 63 {
-        let places = rest.first_word() & u64::first(63);
-        now = join(now, places, 63, square)?;
-        rest = rest.down(63);
+    for _ in 0..width / 64 {
+        S::append(square, rest.first_word(), 64)?;
+        rest = rest.down(63).down(1);
     }
-    let left = width % 63;
-    let last = rest.first_word() & u64::first(left as u32);
-    join(now, last, left, square)
+    S::append(square, rest.first_word(), width % 64)?;
+    Ok(())
 }
 
-/// Appends the rows of a square by their places, of which the dark ones are set: in whole words, each row behind the one
-/// before.
+/// Appends the rows of a square by their places, of which the dark ones are set.
+#[tactic(auto, using(std::proofs::lemmas::Nat::rows))]
 pub(super) fn unpack_rows<R: PackedRow, S: FromColor>(
     width: usize,
     rows: &[R],
@@ -193,10 +111,8 @@ pub(super) fn unpack_rows<R: PackedRow, S: FromColor>(
         ≡ S.from_color (color_of (dark_in (map R.bits rows.now) x y))) }
     ensures memory { IsOkUnless result OutOfMemory }
 {
-    let mut waiting = Waiting { word: 0, count: 0 };
     for y in 0..width {
-        waiting = join_row(rows[y], width, waiting, square)?;
+        unpack_row(rows[y], width, square)?;
     }
-    S::append(square, waiting.word, waiting.count)?;
     Ok(())
 }

@@ -1,21 +1,9 @@
-use Rattle.std.proofs.Common.{◌+◌, ◌≤◌, ap, ◌∙◌, sym, subst, length, drop, arith}
+use Rattle.std.proofs.Common.{◌+◌, ap, ◌∙◌, drop, arith}
 use Rattle.qrcode_types.specs.declared.types.Color.TheVariants.{Light, Dark}
 use Rattle.qrcode_render.specs.Drawn.{drawn_row}
 use Rattle.qrcode_render.proofs.Folds.{drawn_row-past}
-use Rattle.qrcode_render.proofs.Sizes.{below, module_inside}
 use Rattle.qrcode_render.proofs.Canvas.draw_dark_modules.Goals as goal
 use Rattle.qrcode_render.proofs.Canvas.draw_dark_modules.Goals.{in-Light, in-Dark+in_ok-draw_dark_rect-in-Dark}
-
-pub draw_dark_rect-requires-clause-inside_across : goal.draw_dark_rect-requires-clause-inside_across
-draw_dark_rect-requires-clause-inside_across g c =
-    let now = c.loop-color.invariant in
-    let inside = module_inside c.loop-color.x c.args.left c.loop-color.color-index (length c.args.line.now) c.args.width (g.Self.Canvas.across c.args.self.now) now.0 c.loop-color-test.true c.requires.inside_across in
-    subst (λ n. c.loop-color.x + c.args.width ≤ n) (sym now.2) inside
-
-pub overflow_add-x : goal.overflow_add-x
-overflow_add-x g c =
-    let inside = module_inside c.loop-color.x c.args.left c.loop-color.color-index (length c.args.line.now) c.args.width (g.Self.Canvas.across c.args.self.now) c.loop-color.invariant.0 c.loop-color-test.true c.requires.inside_across in
-    record { fits = below _ _ _ inside (g.met.Self.Canvas.sides_fit c.args.self.now).0 }
 
 -- The step of a module, then those of the modules after it.
 pub loop-color-preserved : goal.loop-color-preserved

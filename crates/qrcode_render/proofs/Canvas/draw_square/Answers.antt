@@ -1,25 +1,10 @@
-use Rattle.std.proofs.Common.{◌≡◌, ◌+◌, ◌*◌, ◌-◌, ◌^◌, ◌<◌, ◌≤◌, length, ap, sym, subst, ◌∙◌, drop, take, arith}
+use Rattle.std.proofs.Common.{◌≡◌, ◌+◌, ◌*◌, ◌-◌, ◌≤◌, length, ap, sym, subst, ◌∙◌, drop, take, arith}
 use Rattle.std.proofs.Math.ListN.{length-take}
 use Rattle.std.proofs.Math.Nat.{mul-le-mul_right}
 use Rattle.qrcode_render.specs.Drawn.{drawn_from}
 use Rattle.qrcode_render.specs.Layout.{layout}
 use Rattle.qrcode_render.proofs.Folds.{drawn_from-part, drawn_row-is}
-use Rattle.qrcode_render.proofs.Sizes.{first_fits, pixel_fits, row_fits, zone_fits}
 use Rattle.qrcode_render.proofs.Canvas.draw_square.Goals as goal
-
-pub overflow_mul-left : goal.overflow_mul-left
-overflow_mul-left g c = record { fits = zone_fits c.args.count c.args.zone c.args.width (subst (λ n. n < 2 ^ 32) c.requires.across (g.met.Self.Canvas.sides_fit c.args.self.now).0) }
-
-pub overflow_mul-start : goal.overflow_mul-start
-overflow_mul-start g c = record { fits = first_fits c.loop-row.row c.args.count c.args.zone c.loop-row-test.true c.requires.side_fits }
-
-pub overflow_add-line : goal.overflow_add-line
-overflow_add-line g c = record { fits = row_fits c.loop-row.row c.args.count c.args.zone c.loop-row-test.true c.requires.side_fits }
-
-pub overflow_mul-row : goal.overflow_mul-row
-overflow_mul-row g c =
-    let down : (c.args.count + 2 * c.args.zone) * c.args.height < 2 ^ 32 = subst (λ n. n < 2 ^ 32) c.requires.down (g.met.Self.Canvas.sides_fit c.args.self.now).1 in
-    record { fits = pixel_fits c.loop-row.row c.args.count c.args.zone c.args.height c.loop-row-test.true down }
 
 -- The steps of a row, then those of the rows below it.
 pub loop-row-preserved : goal.loop-row-preserved
@@ -40,20 +25,3 @@ loop-row-preserved g c =
       c.in_ok-draw_dark_modules.ensures.across ∙ c.loop-row.invariant.1,
       c.in_ok-draw_dark_modules.ensures.down ∙ c.loop-row.invariant.2,
     )
-
--- The modules of a row are inside.
-pub slice_bounds-line-end : goal.slice_bounds-line-end
-slice_bounds-line-end g c = omega (arith, mul-le-mul_right c.args.count c.loop-row-test.true, c.requires.square)
-
-pub draw_dark_modules-requires-clause-inside_across : goal.draw_dark_modules-requires-clause-inside_across
-draw_dark_modules-requires-clause-inside_across g c =
-    let n = c.args.count in
-    let i = c.loop-row.row * n in
-    let line = take (i + n - i) (drop i c.args.content.now) in
-    let cells : length line ≤ n = omega (arith, length-take (i + n - i) (drop i c.args.content.now)) in
-    omega (arith, mul-le-mul_right c.args.width cells, c.requires.across, c.loop-row.invariant.1)
-
-pub draw_dark_modules-requires-clause-inside_down : goal.draw_dark_modules-requires-clause-inside_down
-draw_dark_modules-requires-clause-inside_down g c =
-    let below : (c.loop-row.row + 1) * c.args.height ≤ c.args.count * c.args.height = mul-le-mul_right c.args.height (omega (arith, c.loop-row-test.true)) in
-    omega (arith, below, c.requires.down, c.loop-row.invariant.2)

@@ -8,9 +8,3 @@ returns-clause-least_across g c =
     let up : c.args.width + (c.side-side.result - 1) ≡ c.args.width + side_of c.args.self.now - 1 = omega arith in
     let size = ap (λ s. s.across) c.module_dimensions.ensures.sets ∙ ap₂ (λ n side. max (n / side) 1) up c.side-side.ensures in
     subst (λ n. IsLeastSize (side_of c.args.self.now) c.args.width n) (sym size) (is_least_size _ _ c.requires.at_least)
-
-pub returns-clause-least_down : goal.returns-clause-least_down
-returns-clause-least_down g c =
-    let up : c.args.height + (c.side-side.result - 1) ≡ c.args.height + side_of c.args.self.now - 1 = omega arith in
-    let size = ap (λ s. s.down) c.module_dimensions.ensures.sets ∙ ap₂ (λ n side. max (n / side) 1) up c.side-side.ensures in
-    subst (λ n. IsLeastSize (side_of c.args.self.now) c.args.height n) (sym size) (is_least_size _ _ c.requires.at_least)

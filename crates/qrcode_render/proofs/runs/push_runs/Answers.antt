@@ -27,6 +27,4 @@ loop-row-preserved c =
       ap length c.mark_row.ensures
           ∙ length-map-range_with_len (λ column. is_dark_cell g column row) 0 (all_columns g)
           ∙ sym c.requires.length,
-      c.in_ok-push_row.ensures.room,
-      c.in_ok-push_row.ensures.is_text,
     )

@@ -1,14 +1,11 @@
-use Rattle.std.proofs.Common.{◌≡◌, ◌≤◌, ◌+◌, ◌++◌, length, string_bytes}
+use Rattle.std.proofs.Common.{◌≡◌, ◌++◌, length, string_bytes}
 use Rattle.std.specs.List.{flat_map, range_with_len}
-use Rattle.std.specs.Str.{IsUtf8}
 use Rattle.qrcode_render.specs.Grid.{cell_row}
 use Rattle.qrcode_render.specs.Paths.{path_from, pen_after, start, runs_from}
 use Rattle.qrcode_render.proofs.runs.push_runs.Given as goal
 
 abbrev pub invariant-loop-row : goal.invariant-loop-row
 invariant-loop-row l =
-    (string_bytes l.text ++ l.line.text ≡ string_bytes l.fn.text ++ path_from start (flat_map (λ row. runs_from row 0 0 (cell_row l.grid row)) (range_with_len 0 l.row)))
+    (string_bytes l.text ≡ string_bytes l.fn.text ++ path_from start (flat_map (λ row. runs_from row 0 0 (cell_row l.grid row)) (range_with_len 0 l.row)))
     × (l.pen ≡ pen_after start (flat_map (λ row. runs_from row 0 0 (cell_row l.grid row)) (range_with_len 0 l.row)))
     × (length l.marks ≡ length l.fn.marks)
-    × (length l.line.text + 80 ≤ l.line.room)
-    × (∥ IsUtf8 l.line.text ∥₁)

@@ -1,7 +1,6 @@
-use Rattle.std.proofs.Common.{◌≡◌, ◌+◌, ◌*◌, map}
-use Rattle.std.specs.List.{range_with_len}
+use Rattle.std.proofs.Common.{◌≡◌}
+use Rattle.qrcode_render.specs.Strokes.{columns_from}
 use Rattle.qrcode_render.proofs.strokes.columns.Given as goal
 
 abbrev pub invariant-loop-i : goal.invariant-loop-i
-invariant-loop-i g l =
-    map g.S.Column.Column.texts l.columns.items ≡ map (λ i. g.S.Strokes.column_texts (l.modules.zone * l.modules.across + i * l.modules.across)) (range_with_len 0 l.i)
+invariant-loop-i g l = l.columns.items ≡ columns_from g.S.Strokes.column_texts l.left l.width l.i

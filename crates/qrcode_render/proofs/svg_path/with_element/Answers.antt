@@ -20,7 +20,7 @@ nested t a b c d e f g h =
 pub returns-clause-value : goal.returns-clause-value
 returns-clause-value c =
     let grid = c.args.grid.now in
-    let head = c.args.head.now in
+    let head = string_bytes c.args.text in
     let w = all_columns grid * grid.across in
     let h = all_rows grid * grid.down in
     let frame = path_frame w h (all_columns grid) (all_rows grid) in
@@ -30,19 +30,16 @@ returns-clause-value c =
     let ground = codes "\"/><path fill=\"" in
     let path = codes "\" d=\"" in
     let end = codes "\"/></svg>" in
-    let headed = c.in_ok-push_str.ensures.bytes ∙ ap (λ t. t ++ head) c.in_ok-text.ensures.bytes in
-    let pieces : ℕ → ℕ → ℕ → ℕ → List ℕ = λ x y m n. path_frame x y m n ++ path_ground m n in
-    let begun : string_bytes c.push_head.new.text ≡ head ++ (frame ++ path_ground (all_columns grid) (all_rows grid)) =
-    c.in_ok-push_head.ensures.appends
-    ∙ ap (λ t. t ++ pieces c.pixels-width.result.0 c.pixels-width.result.1 c.sides-columns.result.0 c.sides-columns.result.1) headed
-    ∙ ap₂ (λ x y. head ++ pieces x y c.sides-columns.result.0 c.sides-columns.result.1) c.pixels-width.ensures.across c.pixels-width.ensures.down
-    ∙ ap₂ (λ m n. head ++ pieces w h m n) c.sides-columns.ensures.columns c.sides-columns.ensures.rows in
-    let start = begun ∙ sym (append_assoc head frame (path_ground (all_columns grid) (all_rows grid))) in
+    let framed : string_bytes c.push_frame.new.text ≡ head ++ frame =
+    c.in_ok-push_frame.ensures.appends
+    ∙ ap₂ (λ x y. head ++ path_frame x y c.sides-columns.result.0 c.sides-columns.result.1) c.pixels-width.ensures.across c.pixels-width.ensures.down
+    ∙ ap₂ (λ x y. head ++ path_frame w h x y) c.sides-columns.ensures.columns c.sides-columns.ensures.rows in
+    let start = c.in_ok-push_ground.ensures.appends ∙ ap₂ (λ t s. t ++ s) framed (ap₂ (λ x y. path_ground x y) c.sides-columns.ensures.columns c.sides-columns.ensures.rows) in
     let lit = c.in_ok-push_attribute.ensures.appends ∙ ap (λ t. t ++ light) start in
-    let grounded = c.in_ok-push_str-2.ensures.bytes ∙ ap (λ t. t ++ ground) lit in
+    let grounded = c.in_ok-push_str.ensures.bytes ∙ ap (λ t. t ++ ground) lit in
     let inked = c.in_ok-push_attribute-2.ensures.appends ∙ ap (λ t. t ++ dark) grounded in
-    let opened = c.in_ok-push_str-3.ensures.bytes ∙ ap (λ t. t ++ path) inked in
-    let drawn = c.in_ok-push_runs.ensures.appends ∙ ap (λ t. t ++ runs) opened in
+    let begun = c.in_ok-push_str-2.ensures.bytes ∙ ap (λ t. t ++ path) inked in
+    let drawn = c.in_ok-push_runs.ensures.appends ∙ ap (λ t. t ++ runs) begun in
     record {
       columns = all_columns grid;
       rows = all_rows grid;
@@ -51,6 +48,6 @@ returns-clause-value c =
       runs = runs_of grid;
       wide = refl;
       high = refl;
-      written = c.in_ok-push_str-4.ensures.bytes ∙ ap (λ t. t ++ end) drawn ∙ nested head frame (path_ground (all_columns grid) (all_rows grid)) light ground dark path runs end;
+      written = c.in_ok-push_str-3.ensures.bytes ∙ ap (λ t. t ++ end) drawn ∙ nested head frame (path_ground (all_columns grid) (all_rows grid)) light ground dark path runs end;
       shown = λ k. map (λ i. sym (runs_fill grid (i % w / grid.across) (i / w / grid.down)) k) (range_with_len 0 (w * h));
     }

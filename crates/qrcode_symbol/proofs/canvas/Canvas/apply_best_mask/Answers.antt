@@ -17,9 +17,3 @@ returns-clause-masked c =
     subst (λ (d : Drawing). IsBestMasked d.version d.level d.modules new) c.self.view_is
     (subst (λ (ms : List Module). IsBestMasked canvas.version canvas.ec_level ms new) c.deref.ensures.value
     (best_modules canvas.version canvas.ec_level c.deref.result.now new c.in_ok-modules.ensures.best))
-
-pub returns-in_err-modules-clause-words_apart : goal.returns-in_err-modules-clause-words_apart
-returns-in_err-modules-clause-words_apart c = c.words.ensures.formats
-
-pub returns-clause-words_apart : goal.returns-clause-words_apart
-returns-clause-words_apart c = c.words.ensures.formats

@@ -1,4 +1,4 @@
-use Rattle.std.proofs.Common.{◌≡◌, ℕ, ◌+◌, ◌-◌, ◌*◌, ◌<◌, ◌≤◌, rules, [], length, take, drop, length-take, length-drop, get_or, map, List, subst, ap, sym, ◌∙◌, arith}
+use Rattle.std.proofs.Common.{◌≡◌, ◌+◌, ◌-◌, ◌*◌, ◌≤◌, rules, [], length, take, drop, length-take, length-drop, get_or, map, List, subst, ap, sym, ◌∙◌, arith}
 use Rattle.std.proofs.lemmas.List.{get_or_read, get_or-map, length-map}
 use Rattle.qrcode_symbol.specs.declared.canvas.Module.{Module}
 use Rattle.qrcode_symbol.specs.Patterned.{DrawsTowards, IsRectanglePatterned}
@@ -37,18 +37,10 @@ loop-row-preserved g c =
     let both = subst P (sym after) step in
     rw count (record { towards = both.0; drawn = both.1 })
 
--- a row of a block lies in the square
-row_fits : (w s left across y n : ℕ) → w ≡ s → left + across ≤ s → y < s → n ≡ s * s → y * w + left + across ≤ n
-row_fits w s left across y n e columns row long = omega (arith, ap (λ k. y * k) e, row_inside s left across y columns row, long)
-
 pub offset_bounds-modules-start : goal.offset_bounds-modules-start
 offset_bounds-modules-start g c =
-    let p = c.args.places in
-    let fits = row_fits p.width (side p.version) c.args.left g.row.ACROSS (c.args.top + c.loop-row.row) (length c.loop-row.modules) p.side c.requires.columns (omega arith) (omega arith) in
-    let inside : (c.args.top + c.loop-row.row) * p.width + c.args.left ≤ length c.loop-row.modules = omega (arith, fits) in
+    let v = c.args.places.version in
+    let start = (c.args.top + c.loop-row.row) * c.args.places.width + c.args.left in
+    let at : start ≡ (c.args.top + c.loop-row.row) * side v + c.args.left = ap (λ w. (c.args.top + c.loop-row.row) * w + c.args.left) c.args.places.side in
+    let inside : start ≤ length c.loop-row.modules = omega (arith, at, row_inside (side v) c.args.left g.row.ACROSS (c.args.top + c.loop-row.row) c.requires.columns (omega arith)) in
     search rules
-
-pub slice_bounds-put_row-end : goal.slice_bounds-put_row-end
-slice_bounds-put_row-end g c =
-    let p = c.args.places in
-    row_fits p.width (side p.version) c.args.left g.row.ACROSS (c.args.top + c.loop-row.row) (length c.loop-row.modules) p.side c.requires.columns (omega arith) (omega arith)

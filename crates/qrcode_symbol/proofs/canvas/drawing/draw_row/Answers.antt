@@ -1,4 +1,4 @@
-use Rattle.std.proofs.Common.{◌≡◌, ℕ, ◌+◌, ◌*◌, ◌<◌, List, rules, length, map, set, get_or, refl, ap, sym, subst, ◌∙◌, arith}
+use Rattle.std.proofs.Common.{◌≡◌, ℕ, ◌+◌, ◌*◌, ◌<◌, List, length, map, set, get_or, refl, ap, sym, subst, ◌∙◌, arith}
 use Rattle.std.proofs.lemmas.Nat.{mul-add-lt}
 use Rattle.qrcode_types.specs.Versions.{side}
 use Rattle.std.proofs.lemmas.List.{map-set, length-map}
@@ -9,29 +9,6 @@ use Rattle.qrcode_symbol.specs.declared.canvas.Module.TheVariants.{Empty}
 use Rattle.qrcode_symbol.proofs.Shown.{shown_at}
 use Rattle.qrcode_symbol.proofs.Patterned.{row_step}
 use Rattle.qrcode_symbol.proofs.canvas.drawing.draw_row.Goals as goal
-
--- a place of a row lies in the square
-place_fits : (w s x y n : ℕ) → w ≡ s → x < s → y < s → n ≡ s * s → y * w + x < n
-place_fits w s x y n e column row long = omega (arith, ap (λ k. y * k) e, mul-add-lt y s x s row column, long)
-
-pub offset_bounds-modules-index : goal.offset_bounds-modules-index
-offset_bounds-modules-index g c =
-    let p = c.args.places in
-    let x = c.args.left + c.loop-column.column in
-    let inside : c.args.y * p.width + x < length c.loop-column.modules = place_fits p.width (side p.version) x c.args.y (length c.loop-column.modules) p.side (omega arith) c.requires.row (omega arith) in
-    search rules
-
-pub offset_bounds-modules-index-in-loop-column : goal.offset_bounds-modules-index-in-loop-column
-offset_bounds-modules-index-in-loop-column g c =
-    let p = c.args.places in
-    let x = c.args.left + c.loop-column.column in
-    let inside : c.args.y * p.width + x < length c.loop-column.modules = place_fits p.width (side p.version) x c.args.y (length c.loop-column.modules) p.side (omega arith) c.requires.row (omega arith) in
-    search rules
-
-pub bounds-modules-index : goal.bounds-modules-index
-bounds-modules-index g c =
-    let p = c.args.places in
-    place_fits p.width (side p.version) (c.args.left + c.loop-column.column) c.args.y (length c.loop-column.modules) p.side (omega arith) c.requires.row (omega arith)
 
 pub loop-column-preserved : goal.loop-column-preserved
 loop-column-preserved g c =

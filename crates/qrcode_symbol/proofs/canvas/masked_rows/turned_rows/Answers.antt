@@ -1,9 +1,9 @@
-use Rattle.std.proofs.Common.{◌≡◌, ◌<◌, ◌%◌, ◌∙◌, ℕ, ap, refl, arith}
+use Rattle.std.proofs.Common.{◌≡◌, ◌<◌, ◌%◌, ◌∙◌, ℕ, refl, arith}
 use Rattle.std.proofs.Math.ListN.{length-set}
 use Rattle.qrcode_packed.specs.Rows.{is_set}
 use Rattle.qrcode_packed.proofs.RowLists.{rows_more}
 use Rattle.qrcode_places.specs.Masks.{turns}
-use Rattle.qrcode_symbol.specs.Masking.{number_of_words}
+use Rattle.qrcode_symbol.specs.Masking.{three_words}
 use Rattle.qrcode_symbol.proofs.MaskRows.{rows_periodic}
 use Rattle.qrcode_symbol.proofs.canvas.masked_rows.turned_rows.Goals as goal
 
@@ -15,9 +15,8 @@ loop-y-preserved c =
     let y = c.loop-y.y in
     let so_far = c.loop-y.invariant in
     record {
-      length = length-set c.loop-y.words y c.long_words.result ∙ so_far.length;
-      done = rows_more number_of_words (λ k row. (x : ℕ) → x < 192 → is_set row x ≡ turns c.args.mask x k) c.loop-y.words y c.long_words.result (omega (arith, so_far.length)) so_far.done
-          (λ x h. ap (λ n. is_set n x) c.long_words.ensures ∙ c.turned_row.ensures x h);
+      length = length-set c.loop-y.words y c.turned_row.result ∙ so_far.length;
+      done = rows_more three_words (λ k row. (x : ℕ) → x < 192 → is_set row x ≡ turns c.args.mask x k) c.loop-y.words y c.turned_row.result (omega (arith, so_far.length)) so_far.done c.turned_row.ensures;
     }
 
 pub invariant_of-result-clause-value : goal.invariant_of-result-clause-value

@@ -13,16 +13,12 @@ shown test shows w xs = packed_map test shows (take w xs) ∙ ap (packed test) (
 pub returns-clause-dark : goal.returns-clause-dark
 returns-clause-dark g c =
     let row = take c.args.width c.args.modules.now in
-    simp (c.of_words-2.ensures, c.pack-low.ensures.dark, c.pack-middle.ensures.dark, c.pack-high.ensures.dark)
-    (packed_in_room (λ x. is_dark_module (g.C.Cell.shows x)) row c.args.width c.min-second.result g.R.PackedRow.room (length-take-le c.args.width c.args.modules.now c.requires.inside) (omega (arith, c.if-width-le64.false)) c.min-second.ensures c.requires.room
-    ∙ shown is_dark_module g.C.Cell.shows c.args.width c.args.modules.now)
+    simp (c.of_words-2.ensures, c.pack-low.ensures.dark, c.pack-middle.ensures.dark, c.pack-high.ensures.dark, c.min-first.ensures, c.min-second.ensures) (packed_in_room (λ x. is_dark_module (g.C.Cell.shows x)) row g.R.PackedRow.room (omega (arith, c.requires.room, length-take-le c.args.width c.args.modules.now c.requires.inside)) ∙ shown is_dark_module g.C.Cell.shows c.args.width c.args.modules.now)
 
 pub returns-clause-free : goal.returns-clause-free
 returns-clause-free g c =
     let row = take c.args.width c.args.modules.now in
-    simp (c.of_words-3.ensures, c.pack-low.ensures.free, c.pack-middle.ensures.free, c.pack-high.ensures.free)
-    (packed_in_room (λ x. is_free (g.C.Cell.shows x)) row c.args.width c.min-second.result g.R.PackedRow.room (length-take-le c.args.width c.args.modules.now c.requires.inside) (omega (arith, c.if-width-le64.false)) c.min-second.ensures c.requires.room
-    ∙ shown is_free g.C.Cell.shows c.args.width c.args.modules.now)
+    simp (c.of_words-3.ensures, c.pack-low.ensures.free, c.pack-middle.ensures.free, c.pack-high.ensures.free, c.min-first.ensures, c.min-second.ensures) (packed_in_room (λ x. is_free (g.C.Cell.shows x)) row g.R.PackedRow.room (omega (arith, c.requires.room, length-take-le c.args.width c.args.modules.now c.requires.inside)) ∙ shown is_free g.C.Cell.shows c.args.width c.args.modules.now)
 
 pub returns-then-width-le64-clause-dark : goal.returns-then-width-le64-clause-dark
 returns-then-width-le64-clause-dark g c =

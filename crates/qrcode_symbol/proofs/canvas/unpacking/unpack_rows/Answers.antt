@@ -1,38 +1,40 @@
-use Rattle.std.proofs.Common.{◌≡◌, ℕ, ◌+◌, ◌*◌, ◌/◌, ◌%◌, Bool, map, ap, ap₂, subst, sym, ◌∙◌, arith}
-use Rattle.std.proofs.lemmas.Nat.{mul-add-lt, div-mul-add, mod-mul-add}
+use Rattle.std.proofs.Common.{◌≡◌, ℕ, ◌+◌, ◌*◌, ap, ◌∙◌, arith, below_more, slice_index_or, length, mul_comm, map}
+use Rattle.std.proofs.lemmas.Nat.{mul-add-lt}
 use Rattle.qrcode_types.specs.Colors.{color_of}
 use Rattle.qrcode_packed.specs.Rows.{is_set, dark_in}
 use Rattle.qrcode_packed.proofs.RowLists.{read}
-use Rattle.qrcode_symbol.specs.Unpacking.{AreJoined}
-use Rattle.qrcode_symbol.proofs.JoinedRows.{all_written}
+use Rattle.qrcode_types.specs.declared.types.Color.TheVariants.{Light}
 use Rattle.qrcode_symbol.proofs.canvas.unpacking.unpack_rows.Goals as goal
+
+zero_mul : (w : ℕ) → 0 ≡ 0 * w
+zero_mul w = omega arith
+
+pub loop-y-init : goal.loop-y-init
+loop-y-init g c = record {
+  size = ap length c.requires.empty ∙ zero_mul c.args.width;
+  shown = λ x y h l. absurd (omega arith);
+}
 
 pub loop-y-preserved : goal.loop-y-preserved
 unfolding dark_in
 loop-y-preserved g c =
-    let bits = g.R.PackedRow.bits in
+    let places = g.R.PackedRow.bits in
     let of = g.S.FromColor.from_color in
     let w = c.args.width in
-    let y = c.loop-y.y in
-    let rows = map bits c.args.rows.now in
-    let dark : ℕ → Bool = λ (i : ℕ). dark_in rows (i % w) (i / w) in
-    let now = c.in_ok-waiting.waiting in
-    let next : y * w + w ≡ (y + 1) * w = grind arith in
-    let at = read bits c.args.rows.now y c.index-rows-y.result (omega arith) c.index-rows-y.is in
-    subst (λ (n : ℕ). AreJoined of dark n c.join_row.new.square.items now.word now.count) next
-    (c.in_ok-waiting.ensures.joined dark (y * w) c.loop-y.invariant
-    (λ x h. ap (λ (n : ℕ). is_set n x) at ∙ sym (ap₂ (λ (a b : ℕ). dark_in rows a b) (mod-mul-add y w x h) (div-mul-add y w x h))))
-
-pub returns-clause-shown : goal.returns-clause-shown
-returns-clause-shown g c = λ x y h l.
-    let bits = g.R.PackedRow.bits in
-    let of = g.S.FromColor.from_color in
-    let w = c.args.width in
-    let rows = map bits c.args.rows.now in
-    let dark : ℕ → Bool = λ (i : ℕ). dark_in rows (i % w) (i / w) in
-    let waiting = c.loop-y.waiting in
-    let items = c.loop-y.square.items in
-    let e : c.loop-y.y ≡ w = omega arith in
-    let are = subst (λ (k : ℕ). AreJoined of dark (k * w) items waiting.word waiting.count) e c.loop-y.invariant in
-    all_written of dark (w * w) items c.append.new.square.items waiting.word waiting.count (y * w + x) are c.in_ok-append.ensures (mul-add-lt y w x w l h)
-    ∙ ap₂ (λ (a b : ℕ). of (color_of (dark_in rows a b))) (mod-mul-add y w x h) (div-mul-add y w x h)
+    let n = c.loop-y.y in
+    let old = c.loop-y.square.items in
+    let new = c.unpack_row.new.square.items in
+    let rows = c.args.rows.now in
+    let size = c.loop-y.invariant.size in
+    let written = c.in_ok-unpack_row.ensures.written in
+    let step : (n + 1) * w ≡ n * w + w = grind arith in
+    let at = read places rows n c.index-rows-y.result (omega arith) c.index-rows-y.is in
+    record {
+      size = omega (arith, written.size, size, step);
+      shown = λ x y h l.
+          let here : n * w + x ≡ length old + x = omega (arith, size) in
+          below_more (λ y. slice_index_or new (y * w + x) (of Light) ≡ of (color_of (dark_in (map places rows) x y))) n
+          (λ y m. written.before (y * w + x) (omega (arith, mul-add-lt y w x n m h, mul_comm w n, size)) ∙ c.loop-y.invariant.shown x y h m)
+          (ap (λ i. slice_index_or new i (of Light)) here ∙ written.shown x h ∙ ap (λ r. of (color_of (is_set r x))) at)
+          y l;
+    }

@@ -1,7 +1,11 @@
-use Rattle.std.proofs.Common.{ℕ, ◌*◌, ◌/◌, ◌%◌, map}
+use Rattle.std.proofs.Common.{◌≡◌, ℕ, ◌<◌, ◌+◌, ◌*◌, length, map, slice_index_or}
+use Rattle.qrcode_types.specs.Colors.{color_of}
 use Rattle.qrcode_packed.specs.Rows.{dark_in}
-use Rattle.qrcode_symbol.specs.Unpacking.{AreJoined}
+use Rattle.qrcode_types.specs.declared.types.Color.TheVariants.{Light}
 use Rattle.qrcode_symbol.proofs.canvas.unpacking.unpack_rows.Given as goal
 
 abbrev pub invariant-loop-y : goal.invariant-loop-y
-invariant-loop-y g l = AreJoined g.S.FromColor.from_color (λ (i : ℕ). dark_in (map g.R.PackedRow.bits l.rows) (i % l.width) (i / l.width)) (l.y * l.width) l.square.items l.waiting.word l.waiting.count
+invariant-loop-y g l = record {
+  size : length l.square.items ≡ l.y * l.width;
+  shown : (x y : ℕ) → x < l.width → y < l.y → slice_index_or l.square.items (y * l.width + x) (g.S.FromColor.from_color Light) ≡ g.S.FromColor.from_color (color_of (dark_in (map g.R.PackedRow.bits l.rows) x y));
+}

@@ -1,8 +1,0 @@
-use Rattle.std.proofs.Common.{◌≡◌, ◌++◌}
-use Rattle.std.specs.List.{flat_map, range_with_len}
-use Rattle.qrcode_render.specs.Grid.{cell_row, repeated}
-use Rattle.qrcode_render.specs.Inlays.{eights_text}
-use Rattle.qrcode_render.proofs.inlays.push_inlaid.Given as goal
-
-abbrev pub invariant-loop-row : goal.invariant-loop-row
-invariant-loop-row l = l.raw.items ≡ l.fn.raw.items ++ flat_map (λ row. repeated 8 (eights_text l.dark l.light (cell_row l.grid row))) (range_with_len 0 l.row)
