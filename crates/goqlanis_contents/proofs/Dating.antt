@@ -4,9 +4,9 @@ use Rattle.std.specs.Str.Parse.{digits_value}
 use Rattle.std.proofs.Math.Seq.{drop-cons}
 use Rattle.std.proofs.lemmas.Bool.Decides.{nat_tests}
 use Rattle.std.proofs.lemmas.List.{get_or-take, drop_all, length-take}
-use Rattle.qrcode_events.specs.declared.times.Day.{Day}
-use Rattle.qrcode_events.specs.declared.times.Moment.{Moment}
-use Rattle.qrcode_events.specs.Times.{pair_at, day_in, read_day, read_moment}
+use Rattle.qrcode_contents.specs.declared.times.Day.{Day}
+use Rattle.qrcode_contents.specs.declared.times.Moment.{Moment}
+use Rattle.qrcode_contents.specs.Times.{pair_at, day_in, read_day, read_moment}
 
 -- two digits at a place
 pair_at_place : (bytes : List ℕ) (i : ℕ) → i + 1 < length bytes → take 2 (drop i bytes) ≡ get_or bytes i 0 ∷ get_or bytes (i + 1) 0 ∷ []

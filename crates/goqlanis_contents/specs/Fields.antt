@@ -3,7 +3,7 @@ use Rattle.std.specs.Prelude.{◌≡◌, ℕ, ◌||◌, Bool, List, ◌++◌, co
 use Rattle.std.specs.Option.{option_and_then}
 use Rattle.std.specs.Str.{bytes_eq}
 use Rattle.std.specs.Str.Parse.{digits_value, without_leading_plus}
-use Rattle.qrcode_fields.specs.Entries.{is_empty}
+use Rattle.qrcode_contents.specs.fields.Entries.{is_empty}
 use Rattle.qrcode_contents.specs.Bill.{Addressee, Invoice, bill_text}
 use Rattle.qrcode_contents.specs.Card.{Contact, card_text}
 use Rattle.qrcode_contents.specs.Contact.{Person, mecard_text}
@@ -24,11 +24,11 @@ use Rattle.qrcode_contents.specs.declared.one_time.Factor.{Factor}
 use Rattle.qrcode_contents.specs.declared.one_time.Factor.TheVariants.{Time, Counter}
 use Rattle.qrcode_contents.specs.declared.wifi.Security.{Security}
 use Rattle.qrcode_contents.specs.declared.wifi.Security.TheVariants.{Open, Wep, Wpa, Wpa3}
-use Rattle.qrcode_events.specs.Event.{Happening, event_text}
-use Rattle.qrcode_events.specs.Times.{read_day, read_moment}
-use Rattle.qrcode_events.specs.declared.event.Span.{Span}
-use Rattle.qrcode_events.specs.declared.event.Span.TheVariants.{Days, Times}
-use Rattle.qrcode_events.specs.declared.times.Moment.{Moment}
+use Rattle.qrcode_contents.specs.Event.{Happening, event_text}
+use Rattle.qrcode_contents.specs.Times.{read_day, read_moment}
+use Rattle.qrcode_contents.specs.declared.event.Span.{Span}
+use Rattle.qrcode_contents.specs.declared.event.Span.TheVariants.{Days, Times}
+use Rattle.qrcode_contents.specs.declared.times.Moment.{Moment}
 use Rattle.goqlanis_options.specs.Words.{Pair, given_for, text_for}
 use Rattle.goqlanis_options.specs.declared.tasks.Kind.{Kind}
 use Rattle.goqlanis_options.specs.declared.tasks.Kind.TheVariants.{Wifi, Mecard, Vcard, Payment, Bill, Mail, Place, Tel, Sms, Otp, Event}

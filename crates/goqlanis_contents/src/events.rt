@@ -2,16 +2,16 @@
 
 ghost use Rattle.std.specs.Prelude.{◌≡◌, [], ◌∷◌, Some, codes, IfOk, IfSome};
 ghost use Rattle.std.specs.Str.Parse.{digits_value};
-ghost use Rattle.qrcode_events.specs.Event.{happening_of};
-ghost use Rattle.qrcode_events.specs.Times.{read_day, read_moment};
+ghost use Rattle.qrcode_contents.specs.Event.{happening_of};
+ghost use Rattle.qrcode_contents.specs.Times.{read_day, read_moment};
 ghost use Rattle.goqlanis_options.specs.Words.{text_for};
 ghost use Rattle.goqlanis_contents.specs.Fields.{IsSpanOf, IsWhen, happening_in};
 
 use crate::numbers::digit;
 use crate::refusals::{Refusal, wrong};
 use goqlanis_options::Given;
-use qrcode_events::event::{Event, Span};
-use qrcode_events::times::{Day, Moment};
+use qrcode_contents::event::{Event, Span};
+use qrcode_contents::times::{Day, Moment};
 use std::alloc::Global;
 
 // An event.

@@ -3,7 +3,7 @@
 ghost use Rattle.std.specs.Prelude.{◌≡◌, ◌++◌, ◌+◌, ◌-◌, ◌≤◌, ℕ, List, [], ◌∷◌, Option, Some, None, replicate, IfSome, if◌then◌else◌};
 ghost use Rattle.std.specs.List.{after_first, before_first, list_all};
 ghost use Rattle.std.specs.Str.Parse.{digits_value};
-ghost use Rattle.qrcode_fields.specs.Characters.{is_digit};
+ghost use Rattle.qrcode_contents.specs.fields.Characters.{is_digit};
 ghost use Rattle.goqlanis_contents.specs.Numbers.{is_point, at_most_u64, scaled_value, has_minus, unsigned, degrees_of};
 
 // A number with at most so many digits behind its point, counted in the last of them: 12.5 of two is

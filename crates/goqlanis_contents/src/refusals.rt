@@ -1,7 +1,7 @@
 //! Why there is no text, told by the option that is wrong and what would help.
 
 use goqlanis_options::Kind;
-use qrcode_fields::errors::{Cause, ContentError, Field};
+use qrcode_contents::fields::errors::{Cause, ContentError, Field};
 use std::alloc::{AllocError, AllocFailed, Global};
 
 /// Why there is no text.

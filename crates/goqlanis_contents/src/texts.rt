@@ -25,7 +25,7 @@ use qrcode_contents::one_time::{Algorithm, Digits, Factor, OneTime};
 use qrcode_contents::payment::{Payment, PaymentVersion};
 use qrcode_contents::phone::Phone;
 use qrcode_contents::wifi::{Security, Wifi};
-use qrcode_fields::errors::ContentResult;
+use qrcode_contents::fields::errors::ContentResult;
 use std::alloc::Global;
 
 /// The text of a kind, of the options that are given. An option that is not given is an empty field.

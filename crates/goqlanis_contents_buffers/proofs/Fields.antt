@@ -5,15 +5,15 @@ use Rattle.std.proofs.lemmas.Bool.{false_from_ne_true, cases_Bool}
 use Rattle.std.proofs.lemmas.Grind.{common_steps}
 use Rattle.std.proofs.lemmas.Option.{get_or_from_slice_get, slice_get_within}
 use Rattle.std.proofs.lemmas.Str.{IsUtf8-from_is_utf8, is_utf8-from_IsUtf8}
-use Rattle.qrcode_fields.specs.declared.errors.Field.{Field}
+use Rattle.qrcode_contents.specs.declared.fields.errors.Field.{Field}
 use Rattle.goqlanis_contents_buffers.specs.declared.answers.Refusal.TheVariants.{NotText}
 use Rattle.std.specs.Prelude.{pos, unsigned_abs, unwrap_or, IsTrue, IsUtf8, slice_get, IsErr, IsErrAnd, IfErr, string_bytes}
 use Rattle.std.specs.Option.{option_map}
 use Rattle.std.specs.Str.{is_utf8}
 use Rattle.std.specs.declared.string.String.{String}
 use Rattle.std.specs.declared.alloc.Global.{Global}
-use Rattle.qrcode_fields.specs.Refusals.{Answers}
-use Rattle.qrcode_fields.specs.declared.errors.ContentError.{ContentError}
+use Rattle.qrcode_contents.specs.fields.Refusals.{Answers}
+use Rattle.qrcode_contents.specs.declared.fields.errors.ContentError.{ContentError}
 use Rattle.goqlanis_contents_buffers.specs.Given.{AreTexts, signed_at}
 use Rattle.goqlanis_contents_buffers.specs.Forms.{form_refusal, field_refusal, passed, AreTaken, IsNamed}
 use Rattle.goqlanis_contents_buffers.specs.declared.answers.Refusal.{Refusal}

@@ -1,7 +1,7 @@
 -- What the call for C answers: 0, or the number of a refusal.
 use Rattle.std.specs.Prelude.{ℕ}
-use Rattle.qrcode_fields.specs.declared.errors.Cause.{Cause}
-use Rattle.qrcode_fields.specs.declared.errors.Cause.TheVariants.{Empty, TooLong, TooShort, ControlCharacter, Character, CheckDigits, Range, Unused}
+use Rattle.qrcode_contents.specs.declared.fields.errors.Cause.{Cause}
+use Rattle.qrcode_contents.specs.declared.fields.errors.Cause.TheVariants.{Empty, TooLong, TooShort, ControlCharacter, Character, CheckDigits, Range, Unused}
 use Rattle.qrcode_gs1.specs.declared.errors.Cause as of_elements
 use Rattle.qrcode_gs1.specs.declared.errors.Cause.TheVariants as element
 use Rattle.goqlanis_contents_buffers.specs.declared.answers.Refusal.{Refusal}

@@ -1,10 +1,10 @@
 -- The texts of contents, and what refuses them.
 use Rattle.std.specs.Prelude.{◌≡◌, ◌≢◌, ◌⊎◌, ◌<◌, ◌++◌, ⊤, ℕ, List, drop, length, codes, Option, Some, None, if◌then◌else◌}
-use Rattle.qrcode_fields.specs.Entries.{behind, is_empty}
-use Rattle.qrcode_fields.specs.declared.errors.ContentError.{ContentError}
-use Rattle.qrcode_fields.specs.declared.errors.ContentError.TheVariants.{Refused}
-use Rattle.qrcode_fields.specs.declared.errors.Cause.{Cause}
-use Rattle.qrcode_fields.specs.declared.errors.Field.{Field}
+use Rattle.qrcode_contents.specs.fields.Entries.{behind, is_empty}
+use Rattle.qrcode_contents.specs.declared.fields.errors.ContentError.{ContentError}
+use Rattle.qrcode_contents.specs.declared.fields.errors.ContentError.TheVariants.{Refused}
+use Rattle.qrcode_contents.specs.declared.fields.errors.Cause.{Cause}
+use Rattle.qrcode_contents.specs.declared.fields.errors.Field.{Field}
 use Rattle.qrcode_contents.specs.Bill.{bill_refusal, bill_text, read_bill}
 use Rattle.qrcode_contents.specs.Card.{card_refusal, card_text, read_card}
 use Rattle.qrcode_contents.specs.Contact.{contact_refusal, mecard_text, read_mecard}
@@ -14,7 +14,7 @@ use Rattle.qrcode_contents.specs.OneTime.{key_refusal, key_text, read_key}
 use Rattle.qrcode_contents.specs.Payment.{payment_refusal, payment_text, read_payment}
 use Rattle.qrcode_contents.specs.Phone.{phone_refusal, message_text, read_message}
 use Rattle.qrcode_contents.specs.Wifi.{wifi_refusal, wifi_text, read_wifi}
-use Rattle.qrcode_events.specs.Event.{event_refusal, event_text, read_event}
+use Rattle.qrcode_contents.specs.Event.{event_refusal, event_text, read_event}
 use Rattle.goqlanis_contents_buffers.specs.Answers.{number_of, place_told}
 use Rattle.goqlanis_contents_buffers.specs.Forms.{kind_named, forms_of, AreTaken, IsFirstWrong, IsPlaceOf}
 use Rattle.goqlanis_contents_buffers.specs.Given.{text_at}

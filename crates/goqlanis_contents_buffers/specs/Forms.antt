@@ -2,10 +2,10 @@
 use Rattle.std.specs.Prelude.{◌≡◌, ℕ, ◌<◌, ◌≤◌, nat_lt, ◌&&◌, ◌||◌, not, Bool, true, false, unsigned_abs, List, [], ◌∷◌, length, slice_get, Option, Some, None, Result, Ok, Err, if◌then◌else◌}
 use Rattle.std.specs.Int.{is_negative}
 use Rattle.std.specs.Str.{is_utf8}
-use Rattle.qrcode_fields.specs.Entries.{is_filled}
-use Rattle.qrcode_fields.specs.declared.errors.Field.{Field}
-use Rattle.qrcode_fields.specs.declared.errors.Field.TheVariants.{Account, Amount, Begin, Bic, Birthday, City, Country, DebtorCity, DebtorCountry, DebtorName, DebtorNumber, DebtorPostalCode, DebtorStreet, Description, Email, End, Family, Given, Iban, Information, Issuer, Latitude, Location, Longitude, Message, Name, Note, Number, Organisation, Password, Period, Phone, PostalCode, Purpose, Reference, Region, Secret, Ssid, Stamp, Street, Subject, Summary, Uid, Url}
-use Rattle.qrcode_fields.specs.declared.errors.Cause.TheVariants.{Range, Character}
+use Rattle.qrcode_contents.specs.fields.Entries.{is_filled}
+use Rattle.qrcode_contents.specs.declared.fields.errors.Field.{Field}
+use Rattle.qrcode_contents.specs.declared.fields.errors.Field.TheVariants.{Account, Amount, Begin, Bic, Birthday, City, Country, DebtorCity, DebtorCountry, DebtorName, DebtorNumber, DebtorPostalCode, DebtorStreet, Description, Email, End, Family, Given, Iban, Information, Issuer, Latitude, Location, Longitude, Message, Name, Note, Number, Organisation, Password, Period, Phone, PostalCode, Purpose, Reference, Region, Secret, Ssid, Stamp, Street, Subject, Summary, Uid, Url}
+use Rattle.qrcode_contents.specs.declared.fields.errors.Cause.TheVariants.{Range, Character}
 use Rattle.goqlanis_contents_buffers.specs.declared.answers.Refusal.{Refusal}
 use Rattle.goqlanis_contents_buffers.specs.declared.answers.Refusal.TheVariants.{NotText, NoSuchField, Wrong}
 use Rattle.goqlanis_contents_buffers.specs.declared.forms.Form.{Form}

@@ -1,6 +1,6 @@
 -- What fields say, by kinds: the values of the formats.
 use Rattle.std.specs.Prelude.{ℕ, ◌+◌, ◌/◌, ◌%◌, ◌==◌, min, Option, Some, None, List, if◌then◌else◌}
-use Rattle.qrcode_fields.specs.Entries.{is_empty}
+use Rattle.qrcode_contents.specs.fields.Entries.{is_empty}
 use Rattle.qrcode_contents.specs.Bill.{Addressee, Invoice}
 use Rattle.qrcode_contents.specs.Card.{Contact}
 use Rattle.qrcode_contents.specs.Contact.{Person}
@@ -19,11 +19,11 @@ use Rattle.qrcode_contents.specs.declared.one_time.Factor.{Factor}
 use Rattle.qrcode_contents.specs.declared.one_time.Factor.TheVariants.{Time, Counter}
 use Rattle.qrcode_contents.specs.declared.wifi.Security.{Security}
 use Rattle.qrcode_contents.specs.declared.wifi.Security.TheVariants.{Open, Wep, Wpa, Wpa3}
-use Rattle.qrcode_events.specs.Event.{Happening}
-use Rattle.qrcode_events.specs.declared.event.Span.{Span}
-use Rattle.qrcode_events.specs.declared.event.Span.TheVariants.{Days, Times}
-use Rattle.qrcode_events.specs.declared.times.Day.{Day}
-use Rattle.qrcode_events.specs.declared.times.Moment.{Moment}
+use Rattle.qrcode_contents.specs.Event.{Happening}
+use Rattle.qrcode_contents.specs.declared.event.Span.{Span}
+use Rattle.qrcode_contents.specs.declared.event.Span.TheVariants.{Days, Times}
+use Rattle.qrcode_contents.specs.declared.times.Day.{Day}
+use Rattle.qrcode_contents.specs.declared.times.Moment.{Moment}
 use Rattle.goqlanis_contents_buffers.specs.Given.{text_at, number_at, signed_at}
 use Rattle.goqlanis_contents_buffers.specs.declared.given.Item.{Item}
 

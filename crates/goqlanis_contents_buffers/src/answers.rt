@@ -3,7 +3,7 @@
 ghost use Rattle.std.specs.Prelude.{◌≡◌, ◌≢◌};
 ghost use Rattle.goqlanis_contents_buffers.specs.Answers.{cause_number, element_number, number_of, place_told};
 
-use qrcode_fields::errors::Cause;
+use qrcode_contents::fields::errors::Cause;
 use qrcode_gs1::errors::Cause as ElementCause;
 
 /// Why a call refuses, and at which place its fields are wrong.

@@ -7,7 +7,7 @@ use crate::answers::Refusal;
 use crate::forms::{check, forms_of, kind_named, place_of};
 use crate::given::Item;
 use crate::texts::text_of;
-use qrcode_fields::errors::ContentError;
+use qrcode_contents::fields::errors::ContentError;
 use std::alloc::Global;
 
 /// Writes the text of fields of the kind of a number at the beginning of a buffer, and answers its

@@ -5,8 +5,8 @@ ghost use Rattle.goqlanis_contents_buffers.specs.Forms.{kind_named, forms_of, fo
 
 use crate::answers::Refusal;
 use crate::given::Item;
-use qrcode_fields::errors::{Cause, Field};
-use qrcode_fields::laws;
+use qrcode_contents::fields::errors::{Cause, Field};
+use qrcode_contents::fields::laws;
 
 /// A kind of content.
 #[derive(Clone, Copy)]

@@ -2,7 +2,7 @@
 
 ghost use Rattle.std.specs.Prelude.{◌≡◌, ◌≤◌, unsigned_abs, IfOk, string_bytes};
 ghost use Rattle.qrcode_contents.specs.Phone.{phone_refusal};
-ghost use Rattle.qrcode_fields.specs.Refusals.{Answers};
+ghost use Rattle.qrcode_contents.specs.fields.Refusals.{Answers};
 ghost use Rattle.goqlanis_contents_buffers.specs.Contents.{format_refusal, content_text, sms_text, IsReadAs, IsReadAsSms};
 ghost use Rattle.goqlanis_contents_buffers.specs.Given.{AreTexts, signed_at};
 ghost use Rattle.goqlanis_contents_buffers.specs.declared.forms.Kind.TheVariants.{Geo};
@@ -11,7 +11,7 @@ use crate::forms::Kind;
 use crate::given::{Item, text_at};
 use crate::values;
 use qrcode_contents::phone::Phone;
-use qrcode_fields::errors::ContentResult;
+use qrcode_contents::fields::errors::ContentResult;
 use std::alloc::Global;
 
 // The text of a message to a number, without one where it is empty.

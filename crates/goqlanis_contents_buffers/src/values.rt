@@ -8,7 +8,7 @@ ghost use Rattle.qrcode_contents.specs.Mail.{letter_of};
 ghost use Rattle.qrcode_contents.specs.OneTime.{key_of};
 ghost use Rattle.qrcode_contents.specs.Payment.{payment_fields};
 ghost use Rattle.qrcode_contents.specs.Wifi.{wifi_fields};
-ghost use Rattle.qrcode_events.specs.Event.{happening_of};
+ghost use Rattle.qrcode_contents.specs.Event.{happening_of};
 ghost use Rattle.goqlanis_contents_buffers.specs.Given.{AreTexts, text_at, number_at, signed_at};
 ghost use Rattle.goqlanis_contents_buffers.specs.Values.{network_in, person_in, contact_in, transfer_in, addressee_in, invoice_in, letter_in, place_in, time_in, counter_in, key_in, security_of, algorithm_of, digits_of, currency_of, cents_of, day_of, moment_of, times_in, days_in, happening_in};
 
@@ -21,8 +21,8 @@ use qrcode_contents::mail::Mail;
 use qrcode_contents::one_time::{Algorithm, Digits, Factor, OneTime};
 use qrcode_contents::payment::{Payment, PaymentVersion};
 use qrcode_contents::wifi::{Security, Wifi};
-use qrcode_events::event::{Event, Span};
-use qrcode_events::times::{Day, Moment};
+use qrcode_contents::event::{Event, Span};
+use qrcode_contents::times::{Day, Moment};
 
 // How a network is secured: where it is left open, by WPA with a password and else not at all.
 fn security_of(number: u64, password: &str) -> Security

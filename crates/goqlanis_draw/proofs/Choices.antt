@@ -7,12 +7,12 @@ use Rattle.qrcode_types.specs.declared.types.Version.{Version}
 use Rattle.qrcode_types.specs.declared.types.Version.TheVariants.{Normal}
 use Rattle.qrcode.specs.Code.{Code}
 use Rattle.qrcode_gs1.specs.Elements.{Item, element_string}
-use Rattle.qrcode_gs1_symbol.specs.Elements.{IsGs1Refused}
-use Rattle.qrcode_gs1_symbol.specs.Symbols.{HoldsMarked, IsMarkedSymbol, IsMarkedRefused}
-use Rattle.qrcode_gs1_symbol.specs.declared.Position.{Position}
-use Rattle.qrcode_gs1_symbol.specs.declared.Position.TheVariants.{First}
-use Rattle.qrcode_gs1_symbol.specs.declared.errors.SymbolError.{SymbolError}
-use Rattle.qrcode_gs1_symbol.specs.declared.errors.SymbolError.TheVariants.{Elements, Symbol}
+use Rattle.qrcode_gs1.specs.symbol.Elements.{IsGs1Refused}
+use Rattle.qrcode_gs1.specs.symbol.Symbols.{HoldsMarked, IsMarkedSymbol, IsMarkedRefused}
+use Rattle.qrcode_gs1.specs.declared.symbol.Position.{Position}
+use Rattle.qrcode_gs1.specs.declared.symbol.Position.TheVariants.{First}
+use Rattle.qrcode_gs1.specs.declared.symbol.errors.SymbolError.{SymbolError}
+use Rattle.qrcode_gs1.specs.declared.symbol.errors.SymbolError.TheVariants.{Elements, Symbol}
 use Rattle.goqlanis_draw.specs.Elements.{number_of, IsRefusedAlone, AreRefusedAlone}
 
 -- where none from a version on is taken, neither is that version

@@ -10,12 +10,12 @@ use Rattle.qrcode_gs1.specs.Elements.{Item, element_string}
 use Rattle.qrcode_gs1.specs.Refusals.{refusal_from}
 use Rattle.qrcode_gs1.specs.declared.errors.Gs1Error.TheVariants as gs1
 use Rattle.qrcode_gs1.specs.declared.table.TheConstants.{RULES}
-use Rattle.qrcode_gs1_symbol.specs.Elements.{IsGs1Symbol, IsGs1Refused}
-use Rattle.qrcode_gs1_symbol.specs.Symbols.{HoldsMarked, IsMarkedSymbol, IsMarkedRefused}
-use Rattle.qrcode_gs1_symbol.specs.declared.Position.{Position}
-use Rattle.qrcode_gs1_symbol.specs.declared.Position.TheVariants.{First, Second}
-use Rattle.qrcode_gs1_symbol.specs.declared.errors.SymbolError.{SymbolError}
-use Rattle.qrcode_gs1_symbol.specs.declared.errors.SymbolError.TheVariants.{Elements, Symbol}
+use Rattle.qrcode_gs1.specs.symbol.Elements.{IsGs1Symbol, IsGs1Refused}
+use Rattle.qrcode_gs1.specs.symbol.Symbols.{HoldsMarked, IsMarkedSymbol, IsMarkedRefused}
+use Rattle.qrcode_gs1.specs.declared.symbol.Position.{Position}
+use Rattle.qrcode_gs1.specs.declared.symbol.Position.TheVariants.{First, Second}
+use Rattle.qrcode_gs1.specs.declared.symbol.errors.SymbolError.{SymbolError}
+use Rattle.qrcode_gs1.specs.declared.symbol.errors.SymbolError.TheVariants.{Elements, Symbol}
 use Rattle.goqlanis_draw.specs.Drawings.{IsShownBy}
 use Rattle.goqlanis_draw.specs.declared.request.Choice.{Choice}
 use Rattle.goqlanis_draw.specs.declared.request.Choice.TheVariants.{From, Boosted, At}

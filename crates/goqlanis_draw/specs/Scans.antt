@@ -5,12 +5,12 @@ use Rattle.qrcode_types.specs.declared.types.EcLevel.{EcLevel}
 use Rattle.qrcode_types.specs.declared.types.Color.{Color}
 use Rattle.qrcode_places.specs.declared.masks.MaskPattern.{MaskPattern}
 use Rattle.qrcode_render.specs.Bitmap.{Bitmap}
-use Rattle.qrcode_scan.specs.Files.{IsSeenIn}
-use Rattle.qrcode_scan.specs.Squares.{has_dark_edge, inverted, IsSquareIn}
-use Rattle.qrcode_spell.specs.Parts.{AreParts}
-use Rattle.qrcode_spell.specs.declared.headers.Header.{Header}
-use Rattle.qrcode_spell.specs.declared.parts.Part.{Part}
-use Rattle.qrcode_spell.specs.declared.parts.Part.TheVariants.{Front, Bytes}
+use Rattle.qrcode_reader.specs.scan.Files.{IsSeenIn}
+use Rattle.qrcode_reader.specs.scan.Squares.{has_dark_edge, inverted, IsSquareIn}
+use Rattle.qrcode_reader.specs.spell.Parts.{AreParts}
+use Rattle.qrcode_reader.specs.declared.spell.headers.Header.{Header}
+use Rattle.qrcode_reader.specs.declared.spell.parts.Part.{Part}
+use Rattle.qrcode_reader.specs.declared.spell.parts.Part.TheVariants.{Front, Bytes}
 use Rattle.qrcode_reader.specs.Positions.{IsFirstReading}
 use Rattle.qrcode_reader.specs.Readings.{IsBitReading}
 use Rattle.qrcode_reader.specs.declared.correction.WrongCodeword.{WrongCodeword}

@@ -21,7 +21,7 @@ use qrcode::render::unicode::Dense1x2;
 use qrcode::render::{Pixel, Renderer, eps, pic, svg};
 use qrcode::types::{Color, QrResult};
 use qrcode_gs1::elements::Element;
-use qrcode_gs1_symbol::errors::SymbolResult;
+use qrcode_gs1::symbol::errors::SymbolResult;
 use qrcode_png::with_density;
 use std::alloc::Global;
 

@@ -8,8 +8,8 @@ use crate::request::Choice;
 use qrcode::QrCode;
 use qrcode::types::{EcLevel, QrError, QrResult, Version};
 use qrcode_gs1::elements::Element;
-use qrcode_gs1_symbol::errors::{SymbolError, SymbolResult};
-use qrcode_gs1_symbol::{for_application_from, gs1_from};
+use qrcode_gs1::symbol::errors::{SymbolError, SymbolResult};
+use qrcode_gs1::symbol::{for_application_from, gs1_from};
 use std::alloc::Global;
 
 /// The symbol of elements that a choice asks for at a level, which is kept.

@@ -1,13 +1,13 @@
 //! Pictures, read.
 
 ghost use Rattle.std.specs.Prelude.{◌≡◌, ◌++◌, true, IfOk, OnOk};
-ghost use Rattle.qrcode_scan.specs.Squares.{inverted};
+ghost use Rattle.qrcode_reader.specs.scan.Squares.{inverted};
 ghost use Rattle.goqlanis_draw.specs.Scans.{header_in, headers_in, IsHeaderReading, IsReadAs, IsScanOf, IsSquareOf};
 
 use qrcode::types::Mode;
 use qrcode_reader::{AnyReading, Position, Reading, read_any, read_bits};
-use qrcode_scan::{Pixels, Square, Unscanned, pixels_of, square_of};
-use qrcode_spell::{Header, Part, Parts, pieces};
+use qrcode_reader::scan::{Pixels, Square, Unscanned, pixels_of, square_of};
+use qrcode_reader::spell::{Header, Part, Parts, pieces};
 use std::alloc::{AllocError, Global};
 use std::fmt;
 

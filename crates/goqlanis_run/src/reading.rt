@@ -6,7 +6,7 @@ use goqlanis_draw::{Scan, Unread, read_picture};
 use goqlanis_options::Given;
 use qrcode::types::Version;
 use qrcode_reader::{Position, Reading, WrongCodeword};
-use qrcode_spell::Header;
+use qrcode_reader::spell::Header;
 use std::alloc::{AllocError, Global};
 use std::process::ExitCode;
 

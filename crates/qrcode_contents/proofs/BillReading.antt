@@ -5,22 +5,22 @@ use Rattle.std.specs.Str.{bytes_eq}
 use Rattle.std.specs.Option.{option_map}
 use Rattle.std.proofs.lemmas.Bool.Decides.{nat_tests}
 use Rattle.std.proofs.lemmas.Fmt.{decimal_nonempty}
-use Rattle.qrcode_fields.specs.declared.errors.ContentError.{ContentError}
-use Rattle.qrcode_fields.specs.declared.errors.Field.TheVariants.{Iban, Name, Street, Number, PostalCode, City, Country, Amount, Reference, Message}
-use Rattle.qrcode_fields.specs.declared.errors.Cause.TheVariants.{Character, Range}
+use Rattle.qrcode_contents.specs.declared.fields.errors.ContentError.{ContentError}
+use Rattle.qrcode_contents.specs.declared.fields.errors.Field.TheVariants.{Iban, Name, Street, Number, PostalCode, City, Country, Amount, Reference, Message}
+use Rattle.qrcode_contents.specs.declared.fields.errors.Cause.TheVariants.{Character, Range}
 use Rattle.qrcode_contents.specs.declared.bill.Currency.{Currency}
 use Rattle.qrcode_contents.specs.declared.bill.Currency.TheVariants.{Franc, Euro}
-use Rattle.qrcode_fields.specs.Amounts.{amount_text}
+use Rattle.qrcode_contents.specs.fields.Amounts.{amount_text}
 use Rattle.qrcode_contents.specs.Bill.{Addressee, Invoice, is_unsaid, is_creditor_reference, reference_kind, text_checks, text_refusal, of_debtor, named_refusal, is_nobody, party_refusal, debtor_refusal, is_out_of_range, account_checks, account_refusal, message_checks, message_refusal, bill_checks, bill_refusal, currency_name, address_kind, address_lines, unused_lines, amount_line, end_lines, bill_lines, bill_text, read_cents, read_currency, invoice_in, read_bill}
-use Rattle.qrcode_fields.specs.Characters.{is_control}
-use Rattle.qrcode_fields.specs.Entries.{is_filled}
-use Rattle.qrcode_fields.specs.Lines.{line_at}
-use Rattle.qrcode_fields.specs.Refusals.{checked, first_refusal}
-use Rattle.qrcode_fields.proofs.AmountReading.{amount_read, HasNoFeed-amount}
-use Rattle.qrcode_fields.proofs.Answering.{checked_none}
-use Rattle.qrcode_fields.proofs.EntryReading.{neither}
-use Rattle.qrcode_fields.proofs.LineReading.{HasNoFeed, HaveNoFeeds, HasNoFeed-from_control, lines_read}
-use Rattle.qrcode_fields.proofs.Passing.{all_pass, test_passes}
+use Rattle.qrcode_contents.specs.fields.Characters.{is_control}
+use Rattle.qrcode_contents.specs.fields.Entries.{is_filled}
+use Rattle.qrcode_contents.specs.fields.Lines.{line_at}
+use Rattle.qrcode_contents.specs.fields.Refusals.{checked, first_refusal}
+use Rattle.qrcode_contents.proofs.AmountReading.{amount_read, HasNoFeed-amount}
+use Rattle.qrcode_contents.proofs.Answering.{checked_none}
+use Rattle.qrcode_contents.proofs.EntryReading.{neither}
+use Rattle.qrcode_contents.proofs.LineReading.{HasNoFeed, HaveNoFeeds, HasNoFeed-from_control, lines_read}
+use Rattle.qrcode_contents.proofs.Passing.{all_pass, test_passes}
 
 -- a line that is said has no line feed
 said : (text : List ℕ) → is_unsaid text ≡ false → HasNoFeed text

@@ -2,16 +2,16 @@
 use Rattle.std.proofs.Common.{◌≡◌, ℕ, ◌==◌, List, [], ◌∷◌, false, None, Some, codes, refl, ap, arith}
 use Rattle.std.specs.List.{list_any}
 use Rattle.std.proofs.lemmas.Bool.Decides.{nat_tests}
-use Rattle.qrcode_fields.specs.declared.errors.Field.TheVariants.{Name, Family, Given, Organisation, Phone, Email, Url, Street, City, Region, PostalCode, Country, Note}
-use Rattle.qrcode_fields.specs.declared.errors.Cause.TheVariants.{ControlCharacter}
+use Rattle.qrcode_contents.specs.declared.fields.errors.Field.TheVariants.{Name, Family, Given, Organisation, Phone, Email, Url, Street, City, Region, PostalCode, Country, Note}
+use Rattle.qrcode_contents.specs.declared.fields.errors.Cause.TheVariants.{ControlCharacter}
 use Rattle.qrcode_contents.specs.Card.{Contact, card_checks, place_checks, text_refusal, place_refusal, card_refusal, card_lines, card_text, contact_in, read_card}
-use Rattle.qrcode_fields.specs.Characters.{is_control, is_stray}
-use Rattle.qrcode_fields.specs.ContentLines.{content_text, structured, read_content}
-use Rattle.qrcode_fields.specs.Entries.{Entry, value_of}
-use Rattle.qrcode_fields.proofs.ContentParts.{IsPlain, IsPlain-structured, part_read, one_plain, line_with}
-use Rattle.qrcode_fields.proofs.ContentReading.{AreContent, content_read}
-use Rattle.qrcode_fields.proofs.LinkReading.{HasNo, none_of, no_return, no_stray_return}
-use Rattle.qrcode_fields.proofs.Passing.{all_pass, test_passes}
+use Rattle.qrcode_contents.specs.fields.Characters.{is_control, is_stray}
+use Rattle.qrcode_contents.specs.fields.ContentLines.{content_text, structured, read_content}
+use Rattle.qrcode_contents.specs.fields.Entries.{Entry, value_of}
+use Rattle.qrcode_contents.proofs.ContentParts.{IsPlain, IsPlain-structured, part_read, one_plain, line_with}
+use Rattle.qrcode_contents.proofs.ContentReading.{AreContent, content_read}
+use Rattle.qrcode_contents.proofs.LinkReading.{HasNo, none_of, no_return, no_stray_return}
+use Rattle.qrcode_contents.proofs.Passing.{all_pass, test_passes}
 
 no_feed_of : (b : ℕ) → is_control b ≡ false → (b == 10) ≡ false
 no_feed_of b is = grind (arith, nat_tests)

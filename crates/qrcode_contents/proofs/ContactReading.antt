@@ -2,9 +2,9 @@
 use Rattle.std.proofs.Common.{◌≡◌, ℕ, List, true, Some, codes, refl, ap, ◌∙◌}
 use Rattle.std.specs.Option.{option_map}
 use Rattle.qrcode_contents.specs.Contact.{Person, mecard_entries, mecard_text, contact_from, read_mecard}
-use Rattle.qrcode_fields.specs.Entries.{Entry, filled, part_of}
-use Rattle.qrcode_fields.specs.EntryTests.{are_distinct}
-use Rattle.qrcode_fields.proofs.EntryReading.{read_entries-text, part_of-filled}
+use Rattle.qrcode_contents.specs.fields.Entries.{Entry, filled, part_of}
+use Rattle.qrcode_contents.specs.fields.EntryTests.{are_distinct}
+use Rattle.qrcode_contents.proofs.EntryReading.{read_entries-text, part_of-filled}
 
 contact_from-filled : (es : List Entry) → are_distinct es ≡ true → contact_from (filled es) ≡ contact_from es
 contact_from-filled es are =

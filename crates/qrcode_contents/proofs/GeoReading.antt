@@ -8,13 +8,13 @@ use Rattle.std.proofs.lemmas.Bool.{cases_lt}
 use Rattle.std.proofs.lemmas.Bool.Decides.{nat_tests}
 use Rattle.std.proofs.lemmas.List.Folds.{list_any-append}
 use Rattle.std.proofs.lemmas.Fmt.{decimal_by_steps, decimal_is_IsNumeral}
-use Rattle.qrcode_fields.specs.declared.errors.Field.TheVariants.{Latitude, Longitude}
-use Rattle.qrcode_fields.specs.declared.errors.Cause.TheVariants.{Range}
+use Rattle.qrcode_contents.specs.declared.fields.errors.Field.TheVariants.{Latitude, Longitude}
+use Rattle.qrcode_contents.specs.declared.fields.errors.Cause.TheVariants.{Range}
 use Rattle.qrcode_contents.specs.declared.geo.Place.{Place}
 use Rattle.qrcode_contents.specs.Geo.{place_checks, place_refusal, first_digit, fraction_digits, fraction_text, degrees_text, sign_text, coordinate_text, place_text, fraction_value, read_degrees, negative, read_coordinate, read_place}
-use Rattle.qrcode_fields.proofs.EntryReading.{neither}
-use Rattle.qrcode_fields.proofs.LinkReading.{HasNo, HasNo-append, before-at, after-at, before-none, after-none, none_of}
-use Rattle.qrcode_fields.proofs.Passing.{all_pass, test_passes}
+use Rattle.qrcode_contents.proofs.EntryReading.{neither}
+use Rattle.qrcode_contents.proofs.LinkReading.{HasNo, HasNo-append, before-at, after-at, before-none, after-none, none_of}
+use Rattle.qrcode_contents.proofs.Passing.{all_pass, test_passes}
 
 -- powers of ten below the sixth
 pub power_bounds : (k : ℕ) → k < 6 → (0 < 10 ^ k) × (10 ^ k < 2 ^ 32)

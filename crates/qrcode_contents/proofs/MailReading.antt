@@ -1,15 +1,15 @@
 -- The text of a mail is read back.
 use Rattle.std.proofs.Common.{◌≡◌, ℕ, List, None, Some, codes, refl, ap, ◌∙◌}
 use Rattle.std.specs.List.{list_any}
-use Rattle.qrcode_fields.specs.declared.errors.Field.TheVariants.{Subject, Message}
-use Rattle.qrcode_fields.specs.declared.errors.Cause.TheVariants.{ControlCharacter}
-use Rattle.qrcode_fields.specs.declared.links.Part.TheVariants.{Path}
-use Rattle.qrcode_fields.specs.Characters.{is_control, is_stray}
-use Rattle.qrcode_fields.specs.Links.{part_text}
+use Rattle.qrcode_contents.specs.declared.fields.errors.Field.TheVariants.{Subject, Message}
+use Rattle.qrcode_contents.specs.declared.fields.errors.Cause.TheVariants.{ControlCharacter}
+use Rattle.qrcode_contents.specs.declared.fields.links.Part.TheVariants.{Path}
+use Rattle.qrcode_contents.specs.fields.Characters.{is_control, is_stray}
+use Rattle.qrcode_contents.specs.fields.Links.{part_text}
 use Rattle.qrcode_contents.specs.Mail.{Letter, mail_checks, mail_refusal, mail_parameters, mail_text, read_mail}
-use Rattle.qrcode_fields.specs.Percents.{decoded}
-use Rattle.qrcode_fields.proofs.LinkReading.{HasNo-part, AreParameters, value_read, path_read, path_decoded, no_return, no_stray_return}
-use Rattle.qrcode_fields.proofs.Passing.{all_pass, test_passes}
+use Rattle.qrcode_contents.specs.fields.Percents.{decoded}
+use Rattle.qrcode_contents.proofs.LinkReading.{HasNo-part, AreParameters, value_read, path_read, path_decoded, no_return, no_stray_return}
+use Rattle.qrcode_contents.proofs.Passing.{all_pass, test_passes}
 
 same_letter : (m : Letter) (address subject body : List ℕ) → address ≡ m.address → subject ≡ m.subject → body ≡ m.body → (let l : Letter = record { address = address; subject = subject; body = body } in l) ≡ m
 same_letter m address subject body a s b = rw (a, s, b) refl

@@ -4,26 +4,26 @@ use Rattle.std.specs.List.{list_any, list_all}
 use Rattle.std.specs.Str.Parse.{digits_value}
 use Rattle.std.proofs.lemmas.Bool.Decides.{nat_tests}
 use Rattle.std.proofs.lemmas.Fmt.{decimal_by_steps, decimal_is_IsNumeral, decimal_nonempty}
-use Rattle.qrcode_fields.specs.declared.errors.Field.TheVariants.{Secret, Issuer, Account}
-use Rattle.qrcode_fields.specs.declared.errors.Cause.TheVariants.{Character, ControlCharacter}
-use Rattle.qrcode_fields.specs.declared.links.Part.TheVariants.{Path}
+use Rattle.qrcode_contents.specs.declared.fields.errors.Field.TheVariants.{Secret, Issuer, Account}
+use Rattle.qrcode_contents.specs.declared.fields.errors.Cause.TheVariants.{Character, ControlCharacter}
+use Rattle.qrcode_contents.specs.declared.fields.links.Part.TheVariants.{Path}
 use Rattle.qrcode_contents.specs.declared.one_time.Factor.{Factor}
 use Rattle.qrcode_contents.specs.declared.one_time.Factor.TheVariants.{Time, Counter}
 use Rattle.qrcode_contents.specs.declared.one_time.Algorithm.{Algorithm}
 use Rattle.qrcode_contents.specs.declared.one_time.Algorithm.TheVariants.{Sha1, Sha256, Sha512}
 use Rattle.qrcode_contents.specs.declared.one_time.Digits.{Digits}
 use Rattle.qrcode_contents.specs.declared.one_time.Digits.TheVariants.{Six, Eight}
-use Rattle.qrcode_fields.specs.Characters.{is_base32, is_control}
-use Rattle.qrcode_fields.specs.Entries.{is_filled}
-use Rattle.qrcode_fields.specs.EntryTests.{are_distinct}
-use Rattle.qrcode_fields.specs.Links.{before, part_text, query_text, value_in}
+use Rattle.qrcode_contents.specs.fields.Characters.{is_base32, is_control}
+use Rattle.qrcode_contents.specs.fields.Entries.{is_filled}
+use Rattle.qrcode_contents.specs.fields.EntryTests.{are_distinct}
+use Rattle.qrcode_contents.specs.fields.Links.{before, part_text, query_text, value_in}
 use Rattle.qrcode_contents.specs.OneTime.{Key, is_colon, begins_with_space, is_a_word, key_checks, key_refusal, factor_parameter, algorithm_value, digits_text, label_text, key_parameters, key_text, read_algorithm, read_digits, read_factor, without_spaces, read_account, key_in, read_key}
-use Rattle.qrcode_fields.specs.Percents.{decoded}
-use Rattle.qrcode_fields.proofs.EntryReading.{both, neither}
-use Rattle.qrcode_fields.proofs.LinkReading.{HasNo, HasNo-append, HasNo-part, AreParameters, entries_of, after-at, value_read, path_read, decoded-path, path_decoded, no_return}
-use Rattle.qrcode_fields.proofs.Passing.{all_pass, test_passes}
+use Rattle.qrcode_contents.specs.fields.Percents.{decoded}
+use Rattle.qrcode_contents.proofs.EntryReading.{both, neither}
+use Rattle.qrcode_contents.proofs.LinkReading.{HasNo, HasNo-append, HasNo-part, AreParameters, entries_of, after-at, value_read, path_read, decoded-path, path_decoded, no_return}
+use Rattle.qrcode_contents.proofs.Passing.{all_pass, test_passes}
 use Rattle.qrcode_contents.proofs.PhoneReading.{holds}
-use Rattle.qrcode_fields.proofs.PercentReading.{kept_byte}
+use Rattle.qrcode_contents.proofs.PercentReading.{kept_byte}
 
 algorithm_read : (a : Algorithm) → read_algorithm (algorithm_value a) ≡ Some a
 algorithm_read Sha1 = refl

@@ -3,21 +3,21 @@ use Rattle.std.proofs.Common.{◌≡◌, ℕ, ◌<◌, ◌^◌, ◌||◌, not, L
 use Rattle.std.specs.List.{list_any}
 use Rattle.std.specs.Option.{option_map, option_and_then}
 use Rattle.std.proofs.lemmas.Bool.Decides.{nat_tests}
-use Rattle.qrcode_fields.specs.declared.errors.Field.{Field}
-use Rattle.qrcode_fields.specs.declared.errors.Field.TheVariants.{Bic, Name, Iban, Amount, Purpose, Reference, Message, Information}
-use Rattle.qrcode_fields.specs.declared.errors.Cause.TheVariants.{ControlCharacter, Range}
+use Rattle.qrcode_contents.specs.declared.fields.errors.Field.{Field}
+use Rattle.qrcode_contents.specs.declared.fields.errors.Field.TheVariants.{Bic, Name, Iban, Amount, Purpose, Reference, Message, Information}
+use Rattle.qrcode_contents.specs.declared.fields.errors.Cause.TheVariants.{ControlCharacter, Range}
 use Rattle.qrcode_contents.specs.declared.payment.PaymentVersion.{PaymentVersion}
 use Rattle.qrcode_contents.specs.declared.payment.PaymentVersion.TheVariants.{One, Two}
-use Rattle.qrcode_fields.specs.Amounts.{amount_text, read_amount}
-use Rattle.qrcode_fields.specs.Characters.{is_control, control_refusal}
-use Rattle.qrcode_fields.specs.Entries.{is_filled, behind}
-use Rattle.qrcode_fields.specs.Lines.{line_at}
+use Rattle.qrcode_contents.specs.fields.Amounts.{amount_text, read_amount}
+use Rattle.qrcode_contents.specs.fields.Characters.{is_control, control_refusal}
+use Rattle.qrcode_contents.specs.fields.Entries.{is_filled, behind}
+use Rattle.qrcode_contents.specs.fields.Lines.{line_at}
 use Rattle.qrcode_contents.specs.Payment.{Transfer, version_name, payment_lines, payment_text, later_count, later_lines, read_payment, transfer_of, transfer_from, named_version, field_checks, control_checks, bank_checks, account_checks, name_checks, message_checks}
-use Rattle.qrcode_fields.specs.Refusals.{refused_if}
-use Rattle.qrcode_fields.proofs.EntryReading.{neither}
-use Rattle.qrcode_fields.proofs.AmountReading.{amount_read, HasNoFeed-amount}
-use Rattle.qrcode_fields.proofs.LineReading.{HasNoFeed, HaveNoFeeds, HaveNoFeeds-take, HasNoFeed-from_control, lines_read}
-use Rattle.qrcode_fields.proofs.Passing.{passes, all_pass, test_passes}
+use Rattle.qrcode_contents.specs.fields.Refusals.{refused_if}
+use Rattle.qrcode_contents.proofs.EntryReading.{neither}
+use Rattle.qrcode_contents.proofs.AmountReading.{amount_read, HasNoFeed-amount}
+use Rattle.qrcode_contents.proofs.LineReading.{HasNoFeed, HaveNoFeeds, HaveNoFeeds-take, HasNoFeed-from_control, lines_read}
+use Rattle.qrcode_contents.proofs.Passing.{passes, all_pass, test_passes}
 
 -- a field that is not filled is empty
 empty_from : (bytes : List ℕ) → is_filled bytes ≡ false → bytes ≡ []

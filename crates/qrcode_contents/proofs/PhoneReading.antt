@@ -3,14 +3,14 @@ use Rattle.std.proofs.Common.{◌≡◌, ℕ, ◌==◌, not, List, [], ◌∷◌
 use Rattle.std.specs.List.{list_all}
 use Rattle.std.specs.Option.{option_map}
 use Rattle.std.proofs.lemmas.Bool.Decides.{nat_tests}
-use Rattle.qrcode_fields.specs.declared.errors.Field.TheVariants.{Phone}
-use Rattle.qrcode_fields.specs.declared.errors.Cause.TheVariants.{Character}
-use Rattle.qrcode_fields.specs.Characters.{is_dialled}
-use Rattle.qrcode_fields.specs.Entries.{behind}
-use Rattle.qrcode_fields.specs.Percents.{encoded, decoded}
+use Rattle.qrcode_contents.specs.declared.fields.errors.Field.TheVariants.{Phone}
+use Rattle.qrcode_contents.specs.declared.fields.errors.Cause.TheVariants.{Character}
+use Rattle.qrcode_contents.specs.fields.Characters.{is_dialled}
+use Rattle.qrcode_contents.specs.fields.Entries.{behind}
+use Rattle.qrcode_contents.specs.fields.Percents.{encoded, decoded}
 use Rattle.qrcode_contents.specs.Phone.{phone_checks, phone_refusal, message_text, before_query, from_query, read_message}
-use Rattle.qrcode_fields.proofs.EntryReading.{both}
-use Rattle.qrcode_fields.proofs.Passing.{all_pass, test_passes}
+use Rattle.qrcode_contents.proofs.EntryReading.{both}
+use Rattle.qrcode_contents.proofs.Passing.{all_pass, test_passes}
 
 -- a test whose denial does not hold
 pub holds : (b : Bool) → not b ≡ false → b ≡ true

@@ -1,9 +1,9 @@
 -- Texts to which lines or entries are appended one by one.
 use Rattle.std.proofs.Common.{◌≡◌, ℕ, List, [], ◌∷◌, ◌++◌, flat_map, ap, ◌∙◌, sym, append_assoc, append-nil}
 use Rattle.std.proofs.lemmas.List.Concat.{flat_map-append}
-use Rattle.qrcode_fields.specs.ContentLines.{content_line, content_text}
-use Rattle.qrcode_fields.specs.Entries.{Entry, marked_text}
-use Rattle.qrcode_fields.specs.Links.{Parameter}
+use Rattle.qrcode_contents.specs.fields.ContentLines.{content_line, content_text}
+use Rattle.qrcode_contents.specs.fields.Entries.{Entry, marked_text}
+use Rattle.qrcode_contents.specs.fields.Links.{Parameter}
 
 six_grouped : (f n t u a o l : List ℕ) → (((((f ++ n) ++ t) ++ u) ++ a) ++ o) ++ l ≡ f ++ (n ++ (t ++ (u ++ (a ++ (o ++ l)))))
 six_grouped f n t u a o l = simp append_assoc

@@ -3,10 +3,10 @@ use Rattle.std.proofs.Common.{◌≡◌, ℕ, List, Bool, true, false, Some, cod
 use Rattle.std.specs.Option.{option_and_then}
 use Rattle.qrcode_contents.specs.declared.wifi.Security.{Security}
 use Rattle.qrcode_contents.specs.declared.wifi.Security.TheVariants.{Open, Wep, Wpa, Wpa3}
-use Rattle.qrcode_fields.specs.Entries.{Entry, filled}
-use Rattle.qrcode_fields.specs.EntryTests.{are_distinct}
+use Rattle.qrcode_contents.specs.fields.Entries.{Entry, filled}
+use Rattle.qrcode_contents.specs.fields.EntryTests.{are_distinct}
 use Rattle.qrcode_contents.specs.Wifi.{Network, wifi_entries, wifi_text, network_of, read_wifi}
-use Rattle.qrcode_fields.proofs.EntryReading.{read_entries-text, part_of-filled}
+use Rattle.qrcode_contents.proofs.EntryReading.{read_entries-text, part_of-filled}
 
 network_of-filled : (es : List Entry) → are_distinct es ≡ true → network_of (filled es) ≡ network_of es
 network_of-filled es are =

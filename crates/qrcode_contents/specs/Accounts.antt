@@ -1,8 +1,8 @@
 -- Account numbers of ISO 13616 (IBAN) and creditors' references of ISO 11649: two letters, two check digits, and what is checked.
 use Rattle.std.specs.Prelude.{ℕ, nat_lt, nat_le, ◌+◌, ◌-◌, ◌*◌, ◌%◌, ◌==◌, ◌&&◌, Bool, List, length, take, drop, slice_index_or}
 use Rattle.std.specs.List.{list_all}
-use Rattle.qrcode_fields.specs.Characters.{is_capital, is_capital_or_digit, is_digit}
-use Rattle.qrcode_fields.specs.Numbers.{checked_number}
+use Rattle.qrcode_contents.specs.fields.Characters.{is_capital, is_capital_or_digit, is_digit}
+use Rattle.qrcode_contents.specs.fields.Numbers.{checked_number}
 
 abbrev pub has_form : List ℕ → Bool  -- the form of both: two letters, two digits, and letters and digits
 has_form text =

@@ -3,22 +3,22 @@ use Rattle.std.specs.Prelude.{ℕ, nat_lt, ◌+◌, ◌==◌, ◌&&◌, ◌||◌
 use Rattle.std.specs.Str.{bytes_eq, chars}
 use Rattle.std.specs.List.{list_all, list_any, starts_with}
 use Rattle.std.specs.Option.{option_map}
-use Rattle.qrcode_fields.specs.declared.errors.ContentError.{ContentError}
-use Rattle.qrcode_fields.specs.declared.errors.ContentError.TheVariants.{Refused, OutOfMemory}
-use Rattle.qrcode_fields.specs.declared.errors.Field.{Field}
-use Rattle.qrcode_fields.specs.declared.errors.Field.TheVariants.{Iban, Name, Street, Number, PostalCode, City, Country, DebtorName, DebtorStreet, DebtorNumber, DebtorPostalCode, DebtorCity, DebtorCountry, Amount, Reference, Message}
-use Rattle.qrcode_fields.specs.declared.errors.Cause.TheVariants.{Empty, TooLong, TooShort, Character, CheckDigits, Range, Unused}
+use Rattle.qrcode_contents.specs.declared.fields.errors.ContentError.{ContentError}
+use Rattle.qrcode_contents.specs.declared.fields.errors.ContentError.TheVariants.{Refused, OutOfMemory}
+use Rattle.qrcode_contents.specs.declared.fields.errors.Field.{Field}
+use Rattle.qrcode_contents.specs.declared.fields.errors.Field.TheVariants.{Iban, Name, Street, Number, PostalCode, City, Country, DebtorName, DebtorStreet, DebtorNumber, DebtorPostalCode, DebtorCity, DebtorCountry, Amount, Reference, Message}
+use Rattle.qrcode_contents.specs.declared.fields.errors.Cause.TheVariants.{Empty, TooLong, TooShort, Character, CheckDigits, Range, Unused}
 use Rattle.qrcode_contents.specs.Accounts.{has_form, is_checked}
 use Rattle.qrcode_contents.specs.declared.bill.Currency.{Currency}
 use Rattle.qrcode_contents.specs.declared.bill.Currency.TheVariants.{Franc, Euro}
 use Rattle.qrcode_contents.specs.declared.bill.Party.{Party}
 use Rattle.qrcode_contents.specs.declared.bill.Bill.{Bill}
-use Rattle.qrcode_fields.specs.Amounts.{amount_text, read_amount}
-use Rattle.qrcode_fields.specs.Characters.{is_capital, is_control, is_digit}
-use Rattle.qrcode_fields.specs.Entries.{is_empty, is_filled}
-use Rattle.qrcode_fields.specs.Lines.{lines_text, read_lines, line_at}
-use Rattle.qrcode_fields.specs.Numbers.{carry_of}
-use Rattle.qrcode_fields.specs.Refusals.{refused_if, first_refusal}
+use Rattle.qrcode_contents.specs.fields.Amounts.{amount_text, read_amount}
+use Rattle.qrcode_contents.specs.fields.Characters.{is_capital, is_control, is_digit}
+use Rattle.qrcode_contents.specs.fields.Entries.{is_empty, is_filled}
+use Rattle.qrcode_contents.specs.fields.Lines.{lines_text, read_lines, line_at}
+use Rattle.qrcode_contents.specs.fields.Numbers.{carry_of}
+use Rattle.qrcode_contents.specs.fields.Refusals.{refused_if, first_refusal}
 
 pub record Addressee : Type 0 where  -- a name with its address
   pub name : List ℕ

@@ -3,14 +3,14 @@ use Rattle.std.specs.Prelude.{ℕ, ◌&&◌, List, [], ◌∷◌, Option, Some, 
 use Rattle.std.specs.Str.{bytes_eq}
 use Rattle.std.specs.List.{list_any}
 use Rattle.qrcode_contents.specs.declared.card.Card.{Card}
-use Rattle.qrcode_fields.specs.declared.errors.ContentError.{ContentError}
-use Rattle.qrcode_fields.specs.declared.errors.Field.TheVariants.{Name, Family, Given, Organisation, Phone, Email, Url, Street, City, Region, PostalCode, Country, Note}
-use Rattle.qrcode_fields.specs.declared.errors.Cause.TheVariants.{Empty, ControlCharacter}
-use Rattle.qrcode_fields.specs.Characters.{is_control, is_stray}
-use Rattle.qrcode_fields.specs.ContentLines.{content_text, structured, read_content, part_in}
-use Rattle.qrcode_fields.specs.Entries.{Entry, is_empty, value_of}
-use Rattle.qrcode_fields.specs.Links.{Parameter}
-use Rattle.qrcode_fields.specs.Refusals.{refused_if, first_refusal}
+use Rattle.qrcode_contents.specs.declared.fields.errors.ContentError.{ContentError}
+use Rattle.qrcode_contents.specs.declared.fields.errors.Field.TheVariants.{Name, Family, Given, Organisation, Phone, Email, Url, Street, City, Region, PostalCode, Country, Note}
+use Rattle.qrcode_contents.specs.declared.fields.errors.Cause.TheVariants.{Empty, ControlCharacter}
+use Rattle.qrcode_contents.specs.fields.Characters.{is_control, is_stray}
+use Rattle.qrcode_contents.specs.fields.ContentLines.{content_text, structured, read_content, part_in}
+use Rattle.qrcode_contents.specs.fields.Entries.{Entry, is_empty, value_of}
+use Rattle.qrcode_contents.specs.fields.Links.{Parameter}
+use Rattle.qrcode_contents.specs.fields.Refusals.{refused_if, first_refusal}
 
 pub record Contact : Type 0 where  -- a contact as its card says it
   pub name : List ℕ

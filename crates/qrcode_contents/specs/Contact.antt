@@ -4,13 +4,13 @@ use Rattle.std.specs.List.{list_all}
 use Rattle.std.specs.Str.{chars}
 use Rattle.std.specs.Option.{option_map}
 use Rattle.qrcode_contents.specs.declared.contact.Contact.{Contact}
-use Rattle.qrcode_fields.specs.declared.errors.ContentError.{ContentError}
-use Rattle.qrcode_fields.specs.declared.errors.Field.TheVariants.{Name, Given, Phone, Email, Url, Birthday, Note, Street, City, Region, PostalCode, Country}
-use Rattle.qrcode_fields.specs.declared.errors.Cause.TheVariants.{Empty, TooShort, TooLong, Character}
-use Rattle.qrcode_fields.specs.Characters.{is_digit, control_refusal}
-use Rattle.qrcode_fields.specs.Entries.{Entry, single, is_empty, is_filled, marked_text, key_of, behind_key, read_entry, read_entries, value_of, part_of}
-use Rattle.qrcode_fields.specs.Escapes.{unescaped_from, pieces_from}
-use Rattle.qrcode_fields.specs.Refusals.{refused_if, first_refusal}
+use Rattle.qrcode_contents.specs.declared.fields.errors.ContentError.{ContentError}
+use Rattle.qrcode_contents.specs.declared.fields.errors.Field.TheVariants.{Name, Given, Phone, Email, Url, Birthday, Note, Street, City, Region, PostalCode, Country}
+use Rattle.qrcode_contents.specs.declared.fields.errors.Cause.TheVariants.{Empty, TooShort, TooLong, Character}
+use Rattle.qrcode_contents.specs.fields.Characters.{is_digit, control_refusal}
+use Rattle.qrcode_contents.specs.fields.Entries.{Entry, single, is_empty, is_filled, marked_text, key_of, behind_key, read_entry, read_entries, value_of, part_of}
+use Rattle.qrcode_contents.specs.fields.Escapes.{unescaped_from, pieces_from}
+use Rattle.qrcode_contents.specs.fields.Refusals.{refused_if, first_refusal}
 
 pub record Person : Type 0 where  -- a contact as its text says it
   pub family : List ℕ

@@ -3,13 +3,13 @@ use Rattle.std.specs.Prelude.{◌≡◌, ℕ, zero, suc, nat_lt, ◌+◌, ◌-�
 use Rattle.std.specs.Int.{is_negative}
 use Rattle.std.specs.Option.{option_map}
 use Rattle.std.specs.Str.Parse.{digits_value}
-use Rattle.qrcode_fields.specs.declared.errors.ContentError.{ContentError}
-use Rattle.qrcode_fields.specs.declared.errors.Field.TheVariants.{Latitude, Longitude}
-use Rattle.qrcode_fields.specs.declared.errors.Cause.TheVariants.{Range}
+use Rattle.qrcode_contents.specs.declared.fields.errors.ContentError.{ContentError}
+use Rattle.qrcode_contents.specs.declared.fields.errors.Field.TheVariants.{Latitude, Longitude}
+use Rattle.qrcode_contents.specs.declared.fields.errors.Cause.TheVariants.{Range}
 use Rattle.qrcode_contents.specs.declared.geo.Place.{Place}
-use Rattle.qrcode_fields.specs.Entries.{behind}
-use Rattle.qrcode_fields.specs.Links.{before, after}
-use Rattle.qrcode_fields.specs.Refusals.{refused_if, first_refusal}
+use Rattle.qrcode_contents.specs.fields.Entries.{behind}
+use Rattle.qrcode_contents.specs.fields.Links.{before, after}
+use Rattle.qrcode_contents.specs.fields.Refusals.{refused_if, first_refusal}
 
 abbrev pub place_checks : Place → List (Option ContentError)  -- what the link cannot say
 place_checks p =

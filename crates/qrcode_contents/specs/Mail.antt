@@ -2,16 +2,16 @@
 use Rattle.std.specs.Prelude.{◌≡◌, ℕ, ◌==◌, not, List, [], ◌∷◌, ◌++◌, Option, Some, codes, count_by, refl}
 use Rattle.std.specs.List.{list_any}
 use Rattle.std.specs.Option.{option_map}
-use Rattle.qrcode_fields.specs.declared.errors.ContentError.{ContentError}
-use Rattle.qrcode_fields.specs.declared.errors.Field.TheVariants.{Email, Subject, Message}
-use Rattle.qrcode_fields.specs.declared.errors.Cause.TheVariants.{ControlCharacter, Character}
-use Rattle.qrcode_fields.specs.declared.links.Part.TheVariants.{Path}
+use Rattle.qrcode_contents.specs.declared.fields.errors.ContentError.{ContentError}
+use Rattle.qrcode_contents.specs.declared.fields.errors.Field.TheVariants.{Email, Subject, Message}
+use Rattle.qrcode_contents.specs.declared.fields.errors.Cause.TheVariants.{ControlCharacter, Character}
+use Rattle.qrcode_contents.specs.declared.fields.links.Part.TheVariants.{Path}
 use Rattle.qrcode_contents.specs.declared.mail.Mail.{Mail}
-use Rattle.qrcode_fields.specs.Characters.{is_control, is_stray}
-use Rattle.qrcode_fields.specs.Entries.{behind}
-use Rattle.qrcode_fields.specs.Links.{Parameter, before, part_text, query_text, read_parameter, value_in}
-use Rattle.qrcode_fields.specs.Percents.{decoded}
-use Rattle.qrcode_fields.specs.Refusals.{refused_if, first_refusal}
+use Rattle.qrcode_contents.specs.fields.Characters.{is_control, is_stray}
+use Rattle.qrcode_contents.specs.fields.Entries.{behind}
+use Rattle.qrcode_contents.specs.fields.Links.{Parameter, before, part_text, query_text, read_parameter, value_in}
+use Rattle.qrcode_contents.specs.fields.Percents.{decoded}
+use Rattle.qrcode_contents.specs.fields.Refusals.{refused_if, first_refusal}
 
 pub record Letter : Type 0 where  -- a mail as its text says it
   pub address : List ℕ

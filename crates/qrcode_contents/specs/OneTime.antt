@@ -4,10 +4,10 @@ use Rattle.std.specs.Str.{bytes_eq}
 use Rattle.std.specs.Str.Parse.{digits_value}
 use Rattle.std.specs.List.{list_all, list_any, starts_with}
 use Rattle.std.specs.Option.{option_map, option_and_then}
-use Rattle.qrcode_fields.specs.declared.errors.ContentError.{ContentError}
-use Rattle.qrcode_fields.specs.declared.errors.Field.TheVariants.{Secret, Issuer, Account, Period}
-use Rattle.qrcode_fields.specs.declared.errors.Cause.TheVariants.{Empty, Character, ControlCharacter, Range}
-use Rattle.qrcode_fields.specs.declared.links.Part.TheVariants.{Path}
+use Rattle.qrcode_contents.specs.declared.fields.errors.ContentError.{ContentError}
+use Rattle.qrcode_contents.specs.declared.fields.errors.Field.TheVariants.{Secret, Issuer, Account, Period}
+use Rattle.qrcode_contents.specs.declared.fields.errors.Cause.TheVariants.{Empty, Character, ControlCharacter, Range}
+use Rattle.qrcode_contents.specs.declared.fields.links.Part.TheVariants.{Path}
 use Rattle.qrcode_contents.specs.declared.one_time.Factor.{Factor}
 use Rattle.qrcode_contents.specs.declared.one_time.Factor.TheVariants.{Time, Counter}
 use Rattle.qrcode_contents.specs.declared.one_time.Algorithm.{Algorithm}
@@ -15,11 +15,11 @@ use Rattle.qrcode_contents.specs.declared.one_time.Algorithm.TheVariants.{Sha1, 
 use Rattle.qrcode_contents.specs.declared.one_time.Digits.{Digits}
 use Rattle.qrcode_contents.specs.declared.one_time.Digits.TheVariants.{Six, Eight}
 use Rattle.qrcode_contents.specs.declared.one_time.OneTime.{OneTime}
-use Rattle.qrcode_fields.specs.Characters.{is_base32, is_control}
-use Rattle.qrcode_fields.specs.Entries.{is_empty, is_filled, behind}
-use Rattle.qrcode_fields.specs.Links.{Parameter, before, after, part_text, query_text, read_parameter, value_in}
-use Rattle.qrcode_fields.specs.Percents.{decoded}
-use Rattle.qrcode_fields.specs.Refusals.{refused_if, first_refusal}
+use Rattle.qrcode_contents.specs.fields.Characters.{is_base32, is_control}
+use Rattle.qrcode_contents.specs.fields.Entries.{is_empty, is_filled, behind}
+use Rattle.qrcode_contents.specs.fields.Links.{Parameter, before, after, part_text, query_text, read_parameter, value_in}
+use Rattle.qrcode_contents.specs.fields.Percents.{decoded}
+use Rattle.qrcode_contents.specs.fields.Refusals.{refused_if, first_refusal}
 
 pub record Key : Type 0 where  -- one-time passwords as their text says them
   pub factor : Factor

@@ -3,18 +3,18 @@ use Rattle.std.specs.Prelude.{ℕ, nat_lt, ◌==◌, ◌&&◌, ◌||◌, not, Bo
 use Rattle.std.specs.Str.{bytes_eq, chars}
 use Rattle.std.specs.List.{list_all, starts_with}
 use Rattle.std.specs.Option.{option_map, option_and_then}
-use Rattle.qrcode_fields.specs.declared.errors.ContentError.{ContentError}
-use Rattle.qrcode_fields.specs.declared.errors.Field.TheVariants.{Bic, Name, Iban, Amount, Purpose, Reference, Message, Information, Whole}
-use Rattle.qrcode_fields.specs.declared.errors.Cause.TheVariants.{Empty, TooLong, TooShort, Character, CheckDigits, Range, Unused}
+use Rattle.qrcode_contents.specs.declared.fields.errors.ContentError.{ContentError}
+use Rattle.qrcode_contents.specs.declared.fields.errors.Field.TheVariants.{Bic, Name, Iban, Amount, Purpose, Reference, Message, Information, Whole}
+use Rattle.qrcode_contents.specs.declared.fields.errors.Cause.TheVariants.{Empty, TooLong, TooShort, Character, CheckDigits, Range, Unused}
 use Rattle.qrcode_contents.specs.Accounts.{has_form, is_checked}
 use Rattle.qrcode_contents.specs.declared.payment.PaymentVersion.{PaymentVersion}
 use Rattle.qrcode_contents.specs.declared.payment.PaymentVersion.TheVariants.{One, Two}
 use Rattle.qrcode_contents.specs.declared.payment.Payment.{Payment}
-use Rattle.qrcode_fields.specs.Amounts.{amount_text, read_amount}
-use Rattle.qrcode_fields.specs.Characters.{is_capital_or_digit, control_refusal}
-use Rattle.qrcode_fields.specs.Entries.{is_empty, is_filled, behind}
-use Rattle.qrcode_fields.specs.Lines.{lines_text, read_lines, line_at}
-use Rattle.qrcode_fields.specs.Refusals.{refused_if, first_refusal}
+use Rattle.qrcode_contents.specs.fields.Amounts.{amount_text, read_amount}
+use Rattle.qrcode_contents.specs.fields.Characters.{is_capital_or_digit, control_refusal}
+use Rattle.qrcode_contents.specs.fields.Entries.{is_empty, is_filled, behind}
+use Rattle.qrcode_contents.specs.fields.Lines.{lines_text, read_lines, line_at}
+use Rattle.qrcode_contents.specs.fields.Refusals.{refused_if, first_refusal}
 
 pub record Transfer : Type 0 where  -- a transfer as its text says it
   pub version : PaymentVersion

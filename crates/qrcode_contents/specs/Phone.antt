@@ -2,13 +2,13 @@
 use Rattle.std.specs.Prelude.{ℕ, ◌==◌, not, List, [], ◌∷◌, ◌++◌, drop, Option, codes, if◌then◌else◌}
 use Rattle.std.specs.List.{list_all, list_any}
 use Rattle.std.specs.Option.{option_map, option_and_then}
-use Rattle.qrcode_fields.specs.declared.errors.ContentError.{ContentError}
-use Rattle.qrcode_fields.specs.declared.errors.Field.TheVariants.{Phone}
-use Rattle.qrcode_fields.specs.declared.errors.Cause.TheVariants.{Empty, Character}
-use Rattle.qrcode_fields.specs.Characters.{is_dialled, is_digit}
-use Rattle.qrcode_fields.specs.Entries.{is_empty, behind}
-use Rattle.qrcode_fields.specs.Percents.{encoded, decoded}
-use Rattle.qrcode_fields.specs.Refusals.{refused_if, first_refusal}
+use Rattle.qrcode_contents.specs.declared.fields.errors.ContentError.{ContentError}
+use Rattle.qrcode_contents.specs.declared.fields.errors.Field.TheVariants.{Phone}
+use Rattle.qrcode_contents.specs.declared.fields.errors.Cause.TheVariants.{Empty, Character}
+use Rattle.qrcode_contents.specs.fields.Characters.{is_dialled, is_digit}
+use Rattle.qrcode_contents.specs.fields.Entries.{is_empty, behind}
+use Rattle.qrcode_contents.specs.fields.Percents.{encoded, decoded}
+use Rattle.qrcode_contents.specs.fields.Refusals.{refused_if, first_refusal}
 
 -- what the link cannot say: nothing, other characters, a plus sign that is not in front, and a number without a digit
 abbrev pub phone_checks : List ℕ → List (Option ContentError)

@@ -2,14 +2,14 @@
 use Rattle.std.specs.Prelude.{ℕ, nat_lt, ◌&&◌, not, Bool, true, false, List, [], ◌∷◌, ◌++◌, length, Option, Some, None, flat_map, codes, if◌then◌else◌}
 use Rattle.std.specs.Str.{bytes_eq}
 use Rattle.std.specs.Option.{option_map, option_and_then}
-use Rattle.qrcode_fields.specs.declared.errors.ContentError.{ContentError}
-use Rattle.qrcode_fields.specs.declared.errors.Field.TheVariants.{Ssid, Password}
-use Rattle.qrcode_fields.specs.declared.errors.Cause.TheVariants.{Empty, TooLong, Unused}
+use Rattle.qrcode_contents.specs.declared.fields.errors.ContentError.{ContentError}
+use Rattle.qrcode_contents.specs.declared.fields.errors.Field.TheVariants.{Ssid, Password}
+use Rattle.qrcode_contents.specs.declared.fields.errors.Cause.TheVariants.{Empty, TooLong, Unused}
 use Rattle.qrcode_contents.specs.declared.wifi.Security.{Security}
 use Rattle.qrcode_contents.specs.declared.wifi.Security.TheVariants.{Open, Wep, Wpa, Wpa3}
 use Rattle.qrcode_contents.specs.declared.wifi.Wifi.{Wifi}
-use Rattle.qrcode_fields.specs.Refusals.{refused_if, first_refusal}
-use Rattle.qrcode_fields.specs.Entries.{Entry, single, is_empty, is_filled, marked_text, read_entries, value_of}
+use Rattle.qrcode_contents.specs.fields.Refusals.{refused_if, first_refusal}
+use Rattle.qrcode_contents.specs.fields.Entries.{Entry, single, is_empty, is_filled, marked_text, read_entries, value_of}
 
 pub record Network : Type 0 where  -- a network as its text says it
   pub security : Security

@@ -4,8 +4,8 @@
 ghost use Rattle.std.specs.Prelude.{◌≡◌, ◌<◌, length};
 ghost use Rattle.qrcode_contents.specs.Accounts.{has_form, check_number, is_checked};
 
-use qrcode_fields::characters::{are_capitals, are_capitals_or_digits, are_digits};
-use qrcode_fields::numbers::has_check_digits;
+use crate::fields::characters::{are_capitals, are_capitals_or_digits, are_digits};
+use crate::fields::numbers::has_check_digits;
 
 /// The fewest characters of either: one behind the check digits.
 pub const LEAST: usize = 5;

@@ -2,19 +2,19 @@
 
 ghost use Rattle.std.specs.Prelude.{◌≡◌, ◌++◌, ◌∷◌, Option, Some, [], IfOk, OnOk, IsOkUnless, string_bytes};
 ghost use Rattle.std.specs.Option.{option_map};
-ghost use Rattle.qrcode_fields.specs.declared.errors.ContentError.{ContentError};
-ghost use Rattle.qrcode_fields.specs.declared.errors.ContentError.TheVariants.{OutOfMemory};
+ghost use Rattle.qrcode_contents.specs.declared.fields.errors.ContentError.{ContentError};
+ghost use Rattle.qrcode_contents.specs.declared.fields.errors.ContentError.TheVariants.{OutOfMemory};
 ghost use Rattle.qrcode_contents.specs.Bill.{addressee_of, invoice_of, is_latin, foreign_count, is_unsaid, is_country, is_account, is_qr_account, is_creditor_reference, is_qr_reference, reference_kind, text_refusal, length_refusal, form_refusal, named_refusal, is_nobody, party_refusal, debtor_field, of_debtor, debtor_refusal, is_out_of_range, account_refusal, message_refusal, qr_refusal, creditor_refusal, belonging_refusal, reference_refusal, bill_refusal, currency_name, address_kind, address_lines, amount_line, end_lines, bill_text, read_bill};
-ghost use Rattle.qrcode_fields.specs.Lines.{later_text};
-ghost use Rattle.qrcode_fields.specs.Refusals.{Answers, checked};
+ghost use Rattle.qrcode_contents.specs.fields.Lines.{later_text};
+ghost use Rattle.qrcode_contents.specs.fields.Refusals.{Answers, checked};
 
 use crate::accounts::{self, has_form, is_checked};
-use qrcode_fields::amounts::push_amount;
-use qrcode_fields::characters::{are_capitals, are_digits, character_count, has_control};
-use qrcode_fields::errors::{Cause, ContentError, ContentResult, Field};
-use qrcode_fields::lines::push_lines;
-use qrcode_fields::numbers::carry_of;
-use qrcode_fields::refusals::{refuse_first, too_long, too_short};
+use crate::fields::amounts::push_amount;
+use crate::fields::characters::{are_capitals, are_digits, character_count, has_control};
+use crate::fields::errors::{Cause, ContentError, ContentResult, Field};
+use crate::fields::lines::push_lines;
+use crate::fields::numbers::carry_of;
+use crate::fields::refusals::{refuse_first, too_long, too_short};
 use qrcode_types::types::{EcLevel, Version};
 use std::alloc::Global;
 

@@ -2,15 +2,15 @@
 
 ghost use Rattle.std.specs.Prelude.{◌≡◌, Some, IfOk, IsOkUnless, string_bytes};
 ghost use Rattle.std.specs.List.{list_any};
-ghost use Rattle.qrcode_fields.specs.declared.errors.Cause.TheVariants.{ControlCharacter};
-ghost use Rattle.qrcode_fields.specs.declared.errors.ContentError.TheVariants.{OutOfMemory};
+ghost use Rattle.qrcode_contents.specs.declared.fields.errors.Cause.TheVariants.{ControlCharacter};
+ghost use Rattle.qrcode_contents.specs.declared.fields.errors.ContentError.TheVariants.{OutOfMemory};
 ghost use Rattle.qrcode_contents.specs.Card.{contact_of, text_refusal, place_refusal, card_refusal, card_text, read_card};
-ghost use Rattle.qrcode_fields.specs.Characters.{is_stray};
-ghost use Rattle.qrcode_fields.specs.Refusals.{Answers, checked, refused_if};
+ghost use Rattle.qrcode_contents.specs.fields.Characters.{is_stray};
+ghost use Rattle.qrcode_contents.specs.fields.Refusals.{Answers, checked, refused_if};
 
-use qrcode_fields::content_lines::{push_content, push_texts, push_value};
-use qrcode_fields::errors::{Cause, ContentResult, Field};
-use qrcode_fields::refusals::{controls, refuse_first, stray};
+use crate::fields::content_lines::{push_content, push_texts, push_value};
+use crate::fields::errors::{Cause, ContentResult, Field};
+use crate::fields::refusals::{controls, refuse_first, stray};
 use std::alloc::Global;
 
 /// A contact. What is empty is left out; texts may have line feeds.

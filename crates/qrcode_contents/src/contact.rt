@@ -1,14 +1,14 @@
 //! The text of a contact.
 
 ghost use Rattle.std.specs.Prelude.{◌≡◌, Some, IfOk, IsOkUnless, string_bytes};
-ghost use Rattle.qrcode_fields.specs.declared.errors.ContentError.TheVariants.{OutOfMemory};
+ghost use Rattle.qrcode_contents.specs.declared.fields.errors.ContentError.TheVariants.{OutOfMemory};
 ghost use Rattle.qrcode_contents.specs.Contact.{person_of, person_controls, person_checks, contact_refusal, mecard_text, read_mecard};
-ghost use Rattle.qrcode_fields.specs.Refusals.{Answers, checked};
+ghost use Rattle.qrcode_contents.specs.fields.Refusals.{Answers, checked};
 
-use qrcode_fields::characters::{are_digits, character_count};
-use qrcode_fields::entries::{push_entry, push_texts};
-use qrcode_fields::errors::{Cause, ContentResult, Field};
-use qrcode_fields::refusals::{controls, refuse_first, too_long};
+use crate::fields::characters::{are_digits, character_count};
+use crate::fields::entries::{push_entry, push_texts};
+use crate::fields::errors::{Cause, ContentResult, Field};
+use crate::fields::refusals::{controls, refuse_first, too_long};
 use std::alloc::Global;
 
 /// A contact. What is empty is left out.

@@ -1,12 +1,12 @@
 //! Links to places.
 
 ghost use Rattle.std.specs.Prelude.{◌≡◌, ◌<◌, ◌*◌, ◌%◌, ◌++◌, Some, IfOk, OnOk, IsOkUnless, string_bytes};
-ghost use Rattle.qrcode_fields.specs.declared.errors.ContentError.TheVariants.{OutOfMemory};
+ghost use Rattle.qrcode_contents.specs.declared.fields.errors.ContentError.TheVariants.{OutOfMemory};
 ghost use Rattle.qrcode_contents.specs.Geo.{place_refusal, first_digit, fraction_text, sign_text, coordinate_text, place_text, read_place};
-ghost use Rattle.qrcode_fields.specs.Refusals.{Answers, checked};
+ghost use Rattle.qrcode_contents.specs.fields.Refusals.{Answers, checked};
 
-use qrcode_fields::errors::{Cause, ContentResult, Field};
-use qrcode_fields::refusals::refuse_first;
+use crate::fields::errors::{Cause, ContentResult, Field};
+use crate::fields::refusals::refuse_first;
 use std::alloc::Global;
 use std::fmt::Write;
 

@@ -24,20 +24,30 @@ ghost use Rattle.qrcode_contents.specs.declared.payment.PaymentVersion.{PaymentV
 ghost use Rattle.qrcode_contents.specs.declared.phone.Phone.{Phone};
 ghost use Rattle.qrcode_contents.specs.declared.wifi.Security.{Security};
 ghost use Rattle.qrcode_contents.specs.declared.wifi.Wifi.{Wifi};
+ghost use Rattle.qrcode_contents.specs.Event.{happening_of};
+ghost use Rattle.qrcode_contents.specs.declared.event.Event.{Event};
+ghost use Rattle.qrcode_contents.specs.declared.event.Span.{Span};
+ghost use Rattle.qrcode_contents.specs.declared.times.Day.{Day};
+ghost use Rattle.qrcode_contents.specs.declared.times.Moment.{Moment};
 
 use crate::bill::{Bill, Currency, Party};
 use crate::card::Card;
 use crate::contact::Contact;
+use crate::event::{Event, Span};
 use crate::geo::Place;
 use crate::mail::Mail;
 use crate::one_time::{Algorithm, Digits, Factor, OneTime};
 use crate::payment::{Payment, PaymentVersion};
 use crate::phone::Phone;
+use crate::times::{Day, Moment};
 use crate::wifi::{Security, Wifi};
 
 /// Two values are equal by `==` exactly when they are the same; two contents of texts, when their fields
 /// are.
 pub fn equality<'a>()
+    ensures days { (a b : Day) → IsTrue (⟦<Day as PartialEq>⟧.eq a b) ↔ (a ≡ b) }
+    ensures moments { (a b : Moment) → IsTrue (⟦<Moment as PartialEq>⟧.eq a b) ↔ (a ≡ b) }
+    ensures spans { (a b : Span) → IsTrue (⟦<Span as PartialEq>⟧.eq a b) ↔ (a ≡ b) }
     ensures currencies { (a b : Currency) → IsTrue (⟦<Currency as PartialEq>⟧.eq a b) ↔ (a ≡ b) }
     ensures securities { (a b : Security) → IsTrue (⟦<Security as PartialEq>⟧.eq a b) ↔ (a ≡ b) }
     ensures factors { (a b : Factor) → IsTrue (⟦<Factor as PartialEq>⟧.eq a b) ↔ (a ≡ b) }
@@ -83,6 +93,14 @@ pub fn one_time_equality<'a>()
 pub fn bill_equality<'a>()
     ensures { (a b : Bill)
         → IsTrue (⟦<Bill<'a> as PartialEq>⟧.eq a b) ↔ (invoice_of a ≡ invoice_of b) }
+{
+    equality();
+}
+
+/// Two events are equal by `==` exactly when their fields are.
+pub fn event_equality<'a>()
+    ensures { (a b : Event)
+        → IsTrue (⟦<Event<'a> as PartialEq>⟧.eq a b) ↔ (happening_of a ≡ happening_of b) }
 {
     equality();
 }

@@ -1,4 +1,4 @@
-//! Texts that symbols carry: networks, contacts, payments, and links, each a value with
+//! Texts that symbols carry: networks, contacts, payments, events and links, each a value with
 //! named fields and the text of its format.
 #![tactic(auto)]
 
@@ -6,15 +6,18 @@ mod accounts;
 pub mod bill;
 pub mod card;
 pub mod contact;
+pub mod event;
+pub mod fields;
 pub mod geo;
 pub mod laws;
 pub mod mail;
 pub mod one_time;
 pub mod payment;
 pub mod phone;
+pub mod times;
 pub mod wifi;
 
-pub use qrcode_fields::{
+pub use fields::{
     amounts, characters, content_lines, entries, errors, escapes, lines, links, numbers, percents,
     refusals,
 };

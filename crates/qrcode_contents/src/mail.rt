@@ -1,14 +1,14 @@
 //! Links that write a mail.
 
 ghost use Rattle.std.specs.Prelude.{◌≡◌, Some, IfOk, IsOkUnless, string_bytes};
-ghost use Rattle.qrcode_fields.specs.declared.errors.ContentError.TheVariants.{OutOfMemory};
+ghost use Rattle.qrcode_contents.specs.declared.fields.errors.ContentError.TheVariants.{OutOfMemory};
 ghost use Rattle.qrcode_contents.specs.Mail.{letter_of, mail_refusal, mail_text, read_mail};
-ghost use Rattle.qrcode_fields.specs.Refusals.{Answers, checked};
+ghost use Rattle.qrcode_contents.specs.fields.Refusals.{Answers, checked};
 
-use qrcode_fields::characters::has_one_at;
-use qrcode_fields::errors::{Cause, ContentResult, Field};
-use qrcode_fields::links::{Part, push_part, push_query};
-use qrcode_fields::refusals::{controls, refuse_first, stray};
+use crate::fields::characters::has_one_at;
+use crate::fields::errors::{Cause, ContentResult, Field};
+use crate::fields::links::{Part, push_part, push_query};
+use crate::fields::refusals::{controls, refuse_first, stray};
 use std::alloc::Global;
 
 /// A mail that is not yet written. What is empty is left out.

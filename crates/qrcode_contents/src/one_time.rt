@@ -2,15 +2,15 @@
 
 ghost use Rattle.std.specs.Prelude.{◌≡◌, ◌++◌, ◌∷◌, [], codes, Some, IfOk, OnOk, IsOkUnless, string_bytes};
 ghost use Rattle.std.specs.List.{list_any};
-ghost use Rattle.qrcode_fields.specs.declared.errors.ContentError.TheVariants.{OutOfMemory};
+ghost use Rattle.qrcode_contents.specs.declared.fields.errors.ContentError.TheVariants.{OutOfMemory};
 ghost use Rattle.qrcode_contents.specs.OneTime.{key_of, is_colon, has_no_period, key_refusal, factor_name, factor_parameter, algorithm_value, digits_text, label_text, key_text, read_key, is_a_word};
-ghost use Rattle.qrcode_fields.specs.Links.{query_text};
-ghost use Rattle.qrcode_fields.specs.Refusals.{Answers, checked};
+ghost use Rattle.qrcode_contents.specs.fields.Links.{query_text};
+ghost use Rattle.qrcode_contents.specs.fields.Refusals.{Answers, checked};
 
-use qrcode_fields::characters::is_in_base32;
-use qrcode_fields::errors::{Cause, ContentResult, Field};
-use qrcode_fields::links::{Part, push_part, push_query};
-use qrcode_fields::refusals::{controls, refuse_first};
+use crate::fields::characters::is_in_base32;
+use crate::fields::errors::{Cause, ContentResult, Field};
+use crate::fields::links::{Part, push_part, push_query};
+use crate::fields::refusals::{controls, refuse_first};
 use std::alloc::Global;
 
 /// What the passwords change with.

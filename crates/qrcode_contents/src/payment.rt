@@ -1,19 +1,19 @@
 //! The text of a SEPA credit transfer.
 
 ghost use Rattle.std.specs.Prelude.{◌≡◌, ◌++◌, ◌≤◌, Some, IfOk, OnOk, IsOkUnless, string_bytes, length, nat_lt, Ok, Err, if◌then◌else◌};
-ghost use Rattle.qrcode_fields.specs.declared.errors.ContentError.TheVariants.{Refused, OutOfMemory};
-ghost use Rattle.qrcode_fields.specs.declared.errors.Field.TheVariants.{Whole};
-ghost use Rattle.qrcode_fields.specs.declared.errors.Cause.TheVariants.{TooLong};
-ghost use Rattle.qrcode_fields.specs.Lines.{later_text};
-ghost use Rattle.qrcode_fields.specs.Refusals.{Answers, checked};
+ghost use Rattle.qrcode_contents.specs.declared.fields.errors.ContentError.TheVariants.{Refused, OutOfMemory};
+ghost use Rattle.qrcode_contents.specs.declared.fields.errors.Field.TheVariants.{Whole};
+ghost use Rattle.qrcode_contents.specs.declared.fields.errors.Cause.TheVariants.{TooLong};
+ghost use Rattle.qrcode_contents.specs.fields.Lines.{later_text};
+ghost use Rattle.qrcode_contents.specs.fields.Refusals.{Answers, checked};
 ghost use Rattle.qrcode_contents.specs.Payment.{payment_fields, control_checks, needs_bic, bank_checks, account_checks, name_checks, message_checks, field_checks, payment_refusal, payment_text, later_count, later_lines, read_payment, version_for, version_name, is_bic, is_reference};
 
 use crate::accounts::{self, has_form, is_checked};
-use qrcode_fields::amounts::push_amount;
-use qrcode_fields::characters::{are_capitals_or_digits, character_count};
-use qrcode_fields::errors::{Cause, ContentError, ContentResult, Field};
-use qrcode_fields::lines::push_lines;
-use qrcode_fields::refusals::{controls, refuse_first, too_long, too_short};
+use crate::fields::amounts::push_amount;
+use crate::fields::characters::{are_capitals_or_digits, character_count};
+use crate::fields::errors::{Cause, ContentError, ContentResult, Field};
+use crate::fields::lines::push_lines;
+use crate::fields::refusals::{controls, refuse_first, too_long, too_short};
 use qrcode_types::types::{EcLevel, Version};
 use std::alloc::Global;
 

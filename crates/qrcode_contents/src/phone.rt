@@ -2,17 +2,17 @@
 
 ghost use Rattle.std.specs.Prelude.{◌≡◌, ◌++◌, ◌==◌, drop, Some, IfOk, OnOk, IsOkUnless, string_bytes, codes};
 ghost use Rattle.std.specs.List.{list_any};
-ghost use Rattle.qrcode_fields.specs.declared.errors.ContentError.TheVariants.{OutOfMemory};
-ghost use Rattle.qrcode_fields.specs.Characters.{is_digit};
-ghost use Rattle.qrcode_fields.specs.Entries.{behind};
-ghost use Rattle.qrcode_fields.specs.Percents.{encoded, decoded};
+ghost use Rattle.qrcode_contents.specs.declared.fields.errors.ContentError.TheVariants.{OutOfMemory};
+ghost use Rattle.qrcode_contents.specs.fields.Characters.{is_digit};
+ghost use Rattle.qrcode_contents.specs.fields.Entries.{behind};
+ghost use Rattle.qrcode_contents.specs.fields.Percents.{encoded, decoded};
 ghost use Rattle.qrcode_contents.specs.Phone.{phone_refusal, message_text, read_message};
-ghost use Rattle.qrcode_fields.specs.Refusals.{Answers, checked};
+ghost use Rattle.qrcode_contents.specs.fields.Refusals.{Answers, checked};
 
-use qrcode_fields::characters::are_dialled;
-use qrcode_fields::errors::{Cause, ContentResult, Field};
-use qrcode_fields::percents::push_encoded;
-use qrcode_fields::refusals::refuse_first;
+use crate::fields::characters::are_dialled;
+use crate::fields::errors::{Cause, ContentResult, Field};
+use crate::fields::percents::push_encoded;
+use crate::fields::refusals::refuse_first;
 use std::alloc::Global;
 
 /// A telephone number: digits, one at least, with `-`, `.`, `(` and `)` between them, and `+` in

@@ -1,13 +1,13 @@
 //! The text that joins a wireless network.
 
 ghost use Rattle.std.specs.Prelude.{◌≡◌, [], Some, IfOk, IsOkUnless, string_bytes, codes, if◌then◌else◌};
-ghost use Rattle.qrcode_fields.specs.declared.errors.ContentError.TheVariants.{OutOfMemory};
-ghost use Rattle.qrcode_fields.specs.Refusals.{Answers, checked};
+ghost use Rattle.qrcode_contents.specs.declared.fields.errors.ContentError.TheVariants.{OutOfMemory};
+ghost use Rattle.qrcode_contents.specs.fields.Refusals.{Answers, checked};
 ghost use Rattle.qrcode_contents.specs.Wifi.{wifi_fields, wifi_refusal, wifi_text, read_wifi, security_name};
 
-use qrcode_fields::entries::push_texts;
-use qrcode_fields::errors::{Cause, ContentResult, Field};
-use qrcode_fields::refusals::refuse_first;
+use crate::fields::entries::push_texts;
+use crate::fields::errors::{Cause, ContentResult, Field};
+use crate::fields::refusals::refuse_first;
 use std::alloc::Global;
 
 /// How a network is secured.

@@ -1,3 +1,4 @@
 pub mod Elements
 pub mod Items
 pub mod Refusals
+pub mod symbol

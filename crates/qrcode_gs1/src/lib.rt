@@ -5,4 +5,5 @@ pub mod checks;
 pub mod elements;
 pub mod errors;
 pub mod laws;
+pub mod symbol;
 pub mod table;

@@ -5,3 +5,24 @@ pub mod Positioned
 pub mod Refused
 pub mod ShownTexts
 pub mod Walked
+mod Digits
+mod Framed
+mod Pieces
+mod Rasters
+mod ShownSquares
+pub mod Fronts
+pub mod Groups
+pub mod Letters
+pub mod Pairs
+pub mod Unspelled
+pub mod Spelled
+mod Headings
+mod NoHeader
+mod Parted
+mod ShownBytes
+mod BlockCorrections
+mod Locators
+mod Moments
+mod Remainders
+mod Searches
+mod Sums

@@ -13,7 +13,7 @@ use Rattle.qrcode_places.specs.declared.masks.MaskPattern.{MaskPattern}
 use Rattle.qrcode_symbol.specs.Symbol.{blocks_in, IsDamaged}
 use Rattle.qrcode_symbol.specs.Reading.{ReadsBits, ReadsBitsOnly}
 use Rattle.qrcode_bits.specs.Spelling.{Spells, SpellsOnly}
-use Rattle.qrcode_spell.specs.declared.refusals.Unspelled as spelling
+use Rattle.qrcode_reader.specs.declared.spell.refusals.Unspelled as spelling
 use Rattle.qrcode.specs.Reading.{Reads, EncodesBits, EncodesBytes}
 use Rattle.qrcode.proofs.Readings.{same_format, bits_are_read_one_way, reads_only}
 use Rattle.qrcode.proofs.Sides.{valid_of, same_version, same_root}

@@ -6,7 +6,7 @@ use Rattle.qrcode_types.specs.declared.types.Color.{Color}
 use Rattle.qrcode_places.specs.declared.masks.MaskPattern.{MaskPattern}
 use Rattle.qrcode_symbol.specs.Reading.{ReadsBitsOnly}
 use Rattle.qrcode_bits.specs.Shown.{Shows, ShowsOnly}
-use Rattle.qrcode_spell.specs.declared.refusals.Unshown as showing
+use Rattle.qrcode_reader.specs.declared.spell.refusals.Unshown as showing
 use Rattle.qrcode.specs.Texts.{ShowsText}
 use Rattle.qrcode_reader.specs.Refusals.{unread_text_of}
 use Rattle.qrcode_reader.specs.Readings.{IsBitReading, IsTextReading, IsTextCause}

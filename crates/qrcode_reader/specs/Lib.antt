@@ -5,3 +5,6 @@ pub mod Positions
 pub mod Readings
 pub mod Refusals
 pub mod Streams
+pub mod scan
+pub mod spell
+pub mod correct

@@ -1,7 +1,7 @@
 -- The texts of refusals.
 use Rattle.std.specs.Prelude.{ℕ, List, ◌++◌, codes, decimal}
-use Rattle.qrcode_spell.specs.declared.refusals.Unspelled as spelling
-use Rattle.qrcode_spell.specs.declared.refusals.Unshown as showing
+use Rattle.qrcode_reader.specs.declared.spell.refusals.Unspelled as spelling
+use Rattle.qrcode_reader.specs.declared.spell.refusals.Unshown as showing
 use Rattle.qrcode_reader.specs.declared.refusals.Unread.{Unread}
 use Rattle.qrcode_reader.specs.declared.refusals.UnreadText.{UnreadText}
 use Rattle.qrcode_reader.specs.declared.refusals.UnreadText.TheVariants.{NoBits, NotShown}

@@ -8,7 +8,7 @@ ghost use Rattle.qrcode_reader.specs.declared.refusals.Unread.TheVariants.{Damag
 
 use crate::blocks::block;
 use crate::refusals::Unread;
-use qrcode_correct::Corrector;
+use crate::correct::Corrector;
 use qrcode_types::tables::Blocks;
 use qrcode_types::types::{EcLevel, Version};
 use std::alloc::{AllocError, Global};

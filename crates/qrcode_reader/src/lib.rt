@@ -4,13 +4,16 @@
 
 mod bits;
 mod blocks;
+pub mod correct;
 mod correction;
 mod formats;
 pub mod laws;
 mod positions;
 mod reading;
 mod refusals;
+pub mod scan;
 mod sizes;
+pub mod spell;
 mod texts;
 mod turned;
 mod walk;

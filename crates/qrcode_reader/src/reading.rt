@@ -21,7 +21,7 @@ use crate::sizes::version_of;
 use crate::walk::stream;
 use crate::words::codewords;
 use qrcode_places::masks::MaskPattern;
-use qrcode_spell::spell;
+use crate::spell::spell;
 use qrcode_types::types::{Color, EcLevel, Version};
 use std::alloc::{AllocError, Global};
 

@@ -5,7 +5,7 @@ ghost use Rattle.qrcode_reader.specs.Refusals.{refusal_text, text_refusal, unrea
 ghost use Rattle.qrcode_reader.specs.declared.refusals.Unread.TheVariants.{OutOfMemory};
 ghost use Rattle.qrcode_reader.specs.declared.refusals.UnreadText.TheVariants.{NoBits};
 
-use qrcode_spell::{Unshown, Unspelled};
+use crate::spell::{Unshown, Unspelled};
 use std::alloc::{AllocError, AllocFailed};
 use std::error::Error;
 use std::fmt;

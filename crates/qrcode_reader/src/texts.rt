@@ -14,7 +14,7 @@ use crate::correction::WrongCodeword;
 use crate::reading::read_bits;
 use crate::refusals::UnreadText;
 use qrcode_places::masks::MaskPattern;
-use qrcode_spell::text_of;
+use crate::spell::text_of;
 use qrcode_types::types::{Color, EcLevel, Version};
 use std::alloc::Global;
 

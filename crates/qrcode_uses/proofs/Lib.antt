@@ -1,3 +1,4 @@
 pub mod Charsets
 pub mod Payments
 pub mod Tickets
+mod Bounds

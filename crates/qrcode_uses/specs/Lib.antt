@@ -3,3 +3,4 @@ pub mod Charsets
 pub mod Drawings
 pub mod Payments
 pub mod Tickets
+pub mod contents

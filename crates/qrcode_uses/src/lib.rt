@@ -2,6 +2,7 @@
 #![tactic(auto)]
 
 pub mod charset;
+pub mod contents;
 pub mod drawings;
 pub mod label;
 pub mod payment;

@@ -5,7 +5,7 @@
 use crate::common::{Row, check, is_drawn};
 use qrcode::types::{QrError, QrResult};
 use qrcode::{EcLevel, QrCode, Version};
-use qrcode_contents_uses::several::{leaflets, pages};
+use qrcode_uses::contents::several::{leaflets, pages};
 use qrcode_several::{
     Versions, encode_several, encode_several_within, encode_text_several,
     encode_text_several_within,

@@ -5,8 +5,8 @@ use qrcode::QrCode;
 use qrcode::types::{EcLevel, QrError, QrResult, Version};
 use qrcode_gs1::elements::Element;
 use qrcode_gs1::errors::{Cause, Gs1Error};
-use qrcode_gs1_symbol::errors::{SymbolError, SymbolResult};
-use qrcode_gs1_symbol::{are_apart, for_application, gs1};
+use qrcode_gs1::symbol::errors::{SymbolError, SymbolResult};
+use qrcode_gs1::symbol::{are_apart, for_application, gs1};
 use qrcode_pushes::Push;
 use std::alloc::Global;
 

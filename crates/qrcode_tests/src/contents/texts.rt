@@ -13,8 +13,8 @@ use qrcode_contents::payment::Payment;
 use qrcode_contents::phone::Phone;
 use qrcode_contents::wifi::Wifi;
 use qrcode_contents_uses as uses;
-use qrcode_contents_uses::examples;
-use qrcode_events::event::Event;
+use qrcode_uses::contents::examples;
+use qrcode_contents::event::Event;
 use qrcode_gs1::elements::Element;
 use std::alloc::Global;
 

@@ -3,7 +3,7 @@
 ghost use Rattle.std.specs.Prelude.{◌≤◌};
 
 use crate::common::check_row;
-use qrcode_correct::{Corrector, Damaged, correct};
+use qrcode_reader::correct::{Corrector, Damaged, correct};
 
 // The block of 01234567 in Normal 1 at level M, as ISO/IEC 18004:2006 prints it in Annex I.
 static OF_DIGITS: [u8; 26] = [

@@ -1,6 +1,6 @@
 use Rattle.std.proofs.Common.{◌<◌, ◌-◌, ◌++◌, length, take, get_or, Some, None, if◌then◌else◌, ap, ◌∙◌, subst}
 use Rattle.std.specs.Str.Parse.{digits_value}
-use Rattle.qrcode_fields.specs.Characters.{is_digit}
+use Rattle.qrcode_contents.specs.fields.Characters.{is_digit}
 use Rattle.goqlanis_contents.specs.Numbers.{at_most_u64}
 use Rattle.goqlanis_contents.proofs.Placing.{taken, digits_more, digits_joined}
 use Rattle.goqlanis_contents.proofs.numbers.with_digits.Goals as goal

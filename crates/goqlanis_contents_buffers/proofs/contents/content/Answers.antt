@@ -1,6 +1,6 @@
 use Rattle.std.proofs.Common.{length, inl, ap, subst, sym, ◌∙◌, arith}
 use Rattle.std.specs.Prelude.{slice_get}
-use Rattle.qrcode_fields.specs.declared.errors.Field.TheVariants.{Latitude, Longitude}
+use Rattle.qrcode_contents.specs.declared.fields.errors.Field.TheVariants.{Latitude, Longitude}
 use Rattle.goqlanis_contents_buffers.specs.Contents.{IsCause}
 use Rattle.goqlanis_contents_buffers.specs.Forms.{forms_of, AreTaken, IsFirstWrong}
 use Rattle.goqlanis_contents_buffers.proofs.Fields.{handed_on, texts_taken, small_taken}

@@ -1,5 +1,5 @@
 use Rattle.std.proofs.Common.{◌≡◌, codes, Some, rules}
-use Rattle.qrcode_fields.specs.Entries.{behind}
+use Rattle.qrcode_contents.specs.fields.Entries.{behind}
 use Rattle.qrcode_contents.specs.Phone.{phone_refusal, read_message}
 use Rattle.goqlanis_contents_buffers.specs.Contents.{IsReadAsSms}
 use Rattle.goqlanis_contents_buffers.proofs.Fields.{answers_map}

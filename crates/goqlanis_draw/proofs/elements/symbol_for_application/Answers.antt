@@ -1,7 +1,7 @@
 use Rattle.std.proofs.Common.{sym, subst, inl, inr, IfErr}
 use Rattle.qrcode_types.specs.declared.types.QrError.TheVariants.{DataTooLong}
-use Rattle.qrcode_gs1_symbol.specs.declared.Position.TheVariants.{Second}
-use Rattle.qrcode_gs1_symbol.specs.Symbols.{IsMarkedRefused}
+use Rattle.qrcode_gs1.specs.declared.symbol.Position.TheVariants.{Second}
+use Rattle.qrcode_gs1.specs.symbol.Symbols.{IsMarkedRefused}
 use Rattle.goqlanis_draw.specs.Elements.{IsApplicationRefused}
 use Rattle.goqlanis_draw.proofs.Choices.{other_alone}
 use Rattle.goqlanis_draw.proofs.elements.symbol_for_application.Goals as goal

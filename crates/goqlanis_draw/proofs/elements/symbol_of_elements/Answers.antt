@@ -2,8 +2,8 @@ use Rattle.std.proofs.Common.{map, sym, subst}
 use Rattle.qrcode_gs1.specs.Items.{item}
 use Rattle.qrcode_gs1.specs.Elements.{element_string}
 use Rattle.qrcode_types.specs.declared.types.QrError.TheVariants.{DataTooLong}
-use Rattle.qrcode_gs1_symbol.specs.declared.Position.TheVariants.{First}
-use Rattle.qrcode_gs1_symbol.specs.declared.errors.SymbolError.TheVariants.{Symbol}
+use Rattle.qrcode_gs1.specs.declared.symbol.Position.TheVariants.{First}
+use Rattle.qrcode_gs1.specs.declared.symbol.errors.SymbolError.TheVariants.{Symbol}
 use Rattle.goqlanis_draw.specs.Elements.{IsElementsRefused}
 use Rattle.goqlanis_draw.proofs.Choices.{other_alone}
 use Rattle.goqlanis_draw.proofs.elements.symbol_of_elements.Goals as goal

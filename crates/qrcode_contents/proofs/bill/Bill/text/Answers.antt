@@ -1,6 +1,6 @@
 use Rattle.std.proofs.Common.{◌≡◌, Some}
 use Rattle.qrcode_contents.specs.Bill.{invoice_of, bill_refusal, bill_text, read_bill}
-use Rattle.qrcode_fields.proofs.Answering.{answered}
+use Rattle.qrcode_contents.proofs.Answering.{answered}
 use Rattle.qrcode_contents.proofs.BillReading.{bill_read}
 use Rattle.qrcode_contents.proofs.bill.Bill.text.Goals as goal
 

@@ -1,6 +1,6 @@
 use Rattle.std.proofs.Common.{◌≡◌, Some}
 use Rattle.qrcode_contents.specs.Card.{contact_of, card_refusal, card_text, read_card}
-use Rattle.qrcode_fields.proofs.Answering.{answered}
+use Rattle.qrcode_contents.proofs.Answering.{answered}
 use Rattle.qrcode_contents.proofs.CardReading.{card_read}
 use Rattle.qrcode_contents.proofs.card.Card.text.Goals as goal
 

@@ -1,6 +1,6 @@
 use Rattle.std.proofs.Common.{[], ◌∷◌, codes}
 use Rattle.qrcode_contents.specs.Card.{contact_of, card_text}
-use Rattle.qrcode_fields.specs.ContentLines.{folded_from, structured}
+use Rattle.qrcode_contents.specs.fields.ContentLines.{folded_from, structured}
 use Rattle.qrcode_contents.proofs.PushedTexts.{card_pushed}
 use Rattle.qrcode_contents.proofs.card.Card.written.Goals as goal
 

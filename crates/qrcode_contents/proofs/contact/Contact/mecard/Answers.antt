@@ -1,6 +1,6 @@
 use Rattle.std.proofs.Common.{◌≡◌, Some}
 use Rattle.qrcode_contents.specs.Contact.{person_of, contact_refusal, mecard_text, read_mecard}
-use Rattle.qrcode_fields.proofs.Answering.{answered}
+use Rattle.qrcode_contents.proofs.Answering.{answered}
 use Rattle.qrcode_contents.proofs.ContactReading.{mecard_read}
 use Rattle.qrcode_contents.proofs.contact.Contact.mecard.Goals as goal
 

@@ -1,6 +1,6 @@
 use Rattle.std.proofs.Common.{[], ◌∷◌, codes}
 use Rattle.qrcode_contents.specs.Contact.{person_of, mecard_text}
-use Rattle.qrcode_fields.specs.Entries.{single}
+use Rattle.qrcode_contents.specs.fields.Entries.{single}
 use Rattle.qrcode_contents.proofs.PushedTexts.{contact_pushed}
 use Rattle.qrcode_contents.proofs.contact.Contact.written.Goals as goal
 

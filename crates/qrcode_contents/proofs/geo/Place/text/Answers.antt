@@ -1,6 +1,6 @@
 use Rattle.std.proofs.Common.{◌≡◌, Some}
 use Rattle.qrcode_contents.specs.Geo.{place_refusal, place_text, read_place}
-use Rattle.qrcode_fields.proofs.Answering.{answered}
+use Rattle.qrcode_contents.proofs.Answering.{answered}
 use Rattle.qrcode_contents.proofs.GeoReading.{place_read}
 use Rattle.qrcode_contents.proofs.geo.Place.text.Goals as goal
 

@@ -1,6 +1,6 @@
 use Rattle.std.proofs.Common.{◌≡◌, Some}
 use Rattle.qrcode_contents.specs.Mail.{letter_of, mail_refusal, mail_text, read_mail}
-use Rattle.qrcode_fields.proofs.Answering.{answered}
+use Rattle.qrcode_contents.proofs.Answering.{answered}
 use Rattle.qrcode_contents.proofs.MailReading.{mail_read}
 use Rattle.qrcode_contents.proofs.mail.Mail.text.Goals as goal
 

@@ -1,6 +1,6 @@
 use Rattle.std.proofs.Common.{◌≡◌, Some}
 use Rattle.qrcode_contents.specs.OneTime.{key_of, is_a_word, key_refusal, key_text, read_key}
-use Rattle.qrcode_fields.proofs.Answering.{checked_none, answered_by}
+use Rattle.qrcode_contents.proofs.Answering.{checked_none, answered_by}
 use Rattle.qrcode_contents.proofs.OneTimeReading.{key_read}
 use Rattle.qrcode_contents.proofs.one_time.OneTime.text.Goals as goal
 

@@ -1,8 +1,8 @@
 use Rattle.std.proofs.Common.{◌≡◌, Some}
-use Rattle.qrcode_fields.specs.declared.errors.Field.TheVariants.{Whole}
-use Rattle.qrcode_fields.specs.declared.errors.Cause.TheVariants.{TooLong}
+use Rattle.qrcode_contents.specs.declared.fields.errors.Field.TheVariants.{Whole}
+use Rattle.qrcode_contents.specs.declared.fields.errors.Cause.TheVariants.{TooLong}
 use Rattle.qrcode_contents.specs.Payment.{payment_fields, field_checks, payment_text, read_payment}
-use Rattle.qrcode_fields.proofs.Answering.{checked_none, limited}
+use Rattle.qrcode_contents.proofs.Answering.{checked_none, limited}
 use Rattle.qrcode_contents.proofs.PaymentReading.{payment_read}
 use Rattle.qrcode_contents.proofs.payment.Payment.text.Goals as goal
 

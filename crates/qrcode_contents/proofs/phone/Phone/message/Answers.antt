@@ -1,7 +1,7 @@
 use Rattle.std.proofs.Common.{◌≡◌, Some}
-use Rattle.qrcode_fields.specs.Percents.{encoded, decoded}
+use Rattle.qrcode_contents.specs.fields.Percents.{encoded, decoded}
 use Rattle.qrcode_contents.specs.Phone.{phone_refusal, message_text, read_message}
-use Rattle.qrcode_fields.proofs.Answering.{checked_none, answered_by}
+use Rattle.qrcode_contents.proofs.Answering.{checked_none, answered_by}
 use Rattle.qrcode_contents.proofs.PhoneReading.{message_read}
 use Rattle.qrcode_contents.proofs.phone.Phone.message.Goals as goal
 

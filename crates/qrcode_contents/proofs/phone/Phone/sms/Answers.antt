@@ -1,7 +1,7 @@
 use Rattle.std.proofs.Common.{◌≡◌, ◌++◌, Some, codes, refl}
-use Rattle.qrcode_fields.specs.Entries.{behind}
+use Rattle.qrcode_contents.specs.fields.Entries.{behind}
 use Rattle.qrcode_contents.specs.Phone.{phone_refusal}
-use Rattle.qrcode_fields.proofs.Answering.{answered}
+use Rattle.qrcode_contents.proofs.Answering.{answered}
 use Rattle.qrcode_contents.proofs.phone.Phone.sms.Goals as goal
 
 pub returns-clause-reads : goal.returns-clause-reads

@@ -1,6 +1,6 @@
 use Rattle.std.proofs.Common.{◌≡◌, Some}
 use Rattle.qrcode_contents.specs.Wifi.{wifi_fields, wifi_refusal, wifi_text, read_wifi}
-use Rattle.qrcode_fields.proofs.Answering.{answered}
+use Rattle.qrcode_contents.proofs.Answering.{answered}
 use Rattle.qrcode_contents.proofs.WifiReading.{wifi_read}
 use Rattle.qrcode_contents.proofs.wifi.Wifi.text.Goals as goal
 

@@ -1,0 +1,157 @@
+-- Days and moments are read back.
+use Rattle.std.proofs.Common.{◌≡◌, ℕ, nat_lt, nat_le, ◌+◌, ◌*◌, ◌/◌, ◌%◌, ◌<◌, ◌≤◌, ◌==◌, ◌&&◌, ◌||◌, List, [], ◌∷◌, ◌++◌, Bool, true, false, Some, if◌then◌else◌, refl, ap, ap₂, ◌∙◌, sym, subst, arith}
+use Rattle.std.specs.Char.{digit_value}
+use Rattle.std.specs.Str.Parse.{digits_value}
+use Rattle.std.proofs.lemmas.Bool.Decides.{nat_tests}
+use Rattle.std.proofs.lemmas.Fmt.{decimal_digit}
+use Rattle.std.proofs.lemmas.Int.Digits.{digits_value_push}
+use Rattle.std.proofs.lemmas.Str.{digit_value_digit}
+use Rattle.qrcode_contents.specs.fields.Entries.{is_filled}
+use Rattle.qrcode_contents.proofs.ContentParts.{IsPlain, plain_nothing}
+use Rattle.qrcode_contents.proofs.EntryReading.{both}
+use Rattle.qrcode_contents.specs.declared.times.Day.{Day}
+use Rattle.qrcode_contents.specs.declared.times.Moment.{Moment}
+use Rattle.qrcode_contents.specs.Times.{is_leap, days_in, is_day, is_moment, pair_text, day_text, moment_text, day_in, read_day, read_moment}
+
+-- two digits, one by one
+pair_digits : (n : ℕ) → n < 100 → pair_text n ≡ (48 + n / 10) ∷ (48 + n % 10) ∷ []
+pair_digits n small =
+    ap₂ (λ xs ys. xs ++ ys) (decimal_digit (n / 10) (omega arith)) (decimal_digit (n % 10) (omega arith))
+
+value_of_digit : (n : ℕ) → n < 10 → digit_value (48 + n) ≡ n
+value_of_digit n small = let is = digit_value_digit (48 + n) (omega arith, omega arith) in omega (arith, is)
+
+-- two digits are read back
+pair_read : (n : ℕ) → n < 100 → digits_value 10 ((48 + n / 10) ∷ (48 + n % 10) ∷ []) ≡ n
+pair_read n small =
+    digits_value_push 10 ((48 + n / 10) ∷ []) (48 + n % 10)
+    ∙ ap₂ (λ x y. x * 10 + y) (digits_value_push 10 [] (48 + n / 10) ∙ ap (λ x. 0 * 10 + x) (value_of_digit (n / 10) (omega arith))) (value_of_digit (n % 10) (omega arith))
+    ∙ omega arith
+
+days_at_most : (year month : ℕ) → days_in year month ≤ 31
+days_at_most year month = by_tests (month == 2) (is_leap year) (month == 4 || month == 6 || month == 9 || month == 11)
+  where
+    by_tests : (second leap short : Bool) → (if second then (if leap then 29 else 28) else (if short then 30 else 31)) ≤ 31
+    by_tests true true short = omega arith
+    by_tests true false short = omega arith
+    by_tests false leap true = omega arith
+    by_tests false leap false = omega arith
+
+-- numbers of two digits
+record IsSmall (d : Day) : Type 0 where
+  year : d.year < 10000
+  month : d.month < 100
+  day : d.day < 100
+
+small_day : (d : Day) → is_day d ≡ true → IsSmall d
+small_day d is =
+    let last = both (nat_lt d.year 10000 && nat_lt 0 d.month && nat_lt d.month 13 && nat_lt 0 d.day) (nat_le d.day (days_in d.year d.month)) is in
+    let most = days_at_most d.year d.month in
+    let first = both (nat_lt d.year 10000 && nat_lt 0 d.month && nat_lt d.month 13) (nat_lt 0 d.day) last.0 in
+    let months = both (nat_lt d.year 10000 && nat_lt 0 d.month) (nat_lt d.month 13) first.0 in
+    let years = both (nat_lt d.year 10000) (nat_lt 0 d.month) months.0 in
+    record { year = grind (arith, nat_tests, years.0); month = grind (arith, nat_tests, months.1); day = grind (arith, nat_tests, last.1, most) }
+
+-- the digits of a day before other bytes
+abbrev pub digits_then : Day → List ℕ → List ℕ
+digits_then d rest =
+    (48 + d.year / 100 / 10) ∷ (48 + d.year / 100 % 10) ∷ (48 + d.year % 100 / 10) ∷ (48 + d.year % 100 % 10)
+    ∷ (48 + d.month / 10) ∷ (48 + d.month % 10) ∷ (48 + d.day / 10) ∷ (48 + d.day % 10) ∷ rest
+
+day_digits : (d : Day) → IsSmall d → day_text d ≡ digits_then d []
+unfolding day_text
+day_digits d is =
+    rw (pair_digits (d.year / 100) (let y = is.year in omega (arith, y)), pair_digits (d.year % 100) (omega arith), pair_digits d.month is.month, pair_digits d.day is.day) refl
+
+same_day : (d : Day) (century rest month day : ℕ) → century ≡ d.year / 100 → rest ≡ d.year % 100 → month ≡ d.month → day ≡ d.day → (let x : Day = record { year = century * 100 + rest; month = month; day = day } in x) ≡ d
+same_day d century rest month day h₁ h₂ h₃ h₄ =
+    let year : d.year / 100 * 100 + d.year % 100 ≡ d.year = omega arith in
+    rw (h₁, h₂, h₃, h₄, year) refl
+
+-- the day that digits begin with
+day_begins : (d : Day) (rest : List ℕ) → IsSmall d → day_in (digits_then d rest) ≡ d
+day_begins d rest is =
+    same_day d _ _ _ _ (pair_read (d.year / 100) (let y = is.year in omega (arith, y))) (pair_read (d.year % 100) (omega arith)) (pair_read d.month is.month) (pair_read d.day is.day)
+
+-- a day is read back
+pub day_read : (d : Day) → is_day d ≡ true → read_day (day_text d) ≡ Some d
+unfolding read_day
+day_read d is =
+    let small = small_day d is in
+    ap read_day (day_digits d small) ∙ ap Some (day_begins d [] small)
+
+-- what stands behind the day of a moment
+abbrev clock_digits : Moment → List ℕ
+clock_digits m =
+    84 ∷ (48 + m.hour / 10) ∷ (48 + m.hour % 10) ∷ (48 + m.minute / 10) ∷ (48 + m.minute % 10) ∷ (48 + m.second / 10) ∷ (48 + m.second % 10) ∷ 90 ∷ []
+
+-- the text of a moment
+abbrev moment_digits : Moment → List ℕ
+moment_digits m = digits_then m.day (clock_digits m)
+
+-- numbers of two digits of a moment
+record IsShort (m : Moment) : Type 0 where
+  day : IsSmall m.day
+  hour : m.hour < 100
+  minute : m.minute < 100
+  second : m.second < 100
+
+short_moment : (m : Moment) → is_moment m ≡ true → IsShort m
+short_moment m is =
+    let last = both (is_day m.day && nat_lt m.hour 24 && nat_lt m.minute 60) (nat_lt m.second 61) is in
+    let minutes = both (is_day m.day && nat_lt m.hour 24) (nat_lt m.minute 60) last.0 in
+    let hours = both (is_day m.day) (nat_lt m.hour 24) minutes.0 in
+    record {
+      day = small_day m.day hours.0;
+      hour = grind (arith, nat_tests, hours.1);
+      minute = grind (arith, nat_tests, minutes.1);
+      second = grind (arith, nat_tests, last.1);
+    }
+
+moment_written : (m : Moment) → IsShort m → moment_text m ≡ moment_digits m
+unfolding moment_text
+moment_written m is =
+    rw (day_digits m.day is.day, pair_digits m.hour is.hour, pair_digits m.minute is.minute, pair_digits m.second is.second) refl
+
+same_moment : (m : Moment) (day : Day) (hour minute second : ℕ) → day ≡ m.day → hour ≡ m.hour → minute ≡ m.minute → second ≡ m.second → (let x : Moment = record { day = day; hour = hour; minute = minute; second = second } in x) ≡ m
+same_moment m day hour minute second h₁ h₂ h₃ h₄ = rw (h₁, h₂, h₃, h₄) refl
+
+-- a moment is read back
+pub moment_read : (m : Moment) → is_moment m ≡ true → read_moment (moment_text m) ≡ Some m
+unfolding read_moment
+moment_read m is =
+    let short = short_moment m is in
+    ap read_moment (moment_written m short)
+    ∙ ap Some (same_moment m _ _ _ _ (day_begins m.day (clock_digits m) short.day) (pair_read m.hour short.hour) (pair_read m.minute short.minute) (pair_read m.second short.second))
+
+digit_plain : (n : ℕ) → ((48 + n) == 13) ≡ false
+digit_plain n = grind (arith, nat_tests)
+
+digit_no_feed : (n : ℕ) → ((48 + n) == 10) ≡ false
+digit_no_feed n = grind (arith, nat_tests)
+
+plain_digits : (a b : ℕ) (rest : List ℕ) → IsPlain rest → IsPlain ((48 + a) ∷ (48 + b) ∷ rest)
+plain_digits a b rest is = record {
+  no_return = rw (digit_plain a, digit_plain b) is.no_return;
+  no_feed = rw (digit_no_feed a, digit_no_feed b) is.no_feed;
+}
+
+plain_day : (d : Day) (rest : List ℕ) → IsPlain rest → IsPlain (digits_then d rest)
+plain_day d rest is =
+    plain_digits _ _ _ (plain_digits _ _ _ (plain_digits _ _ _ (plain_digits _ _ rest is)))
+
+-- the text of a day has no line break
+pub IsPlain-day : (d : Day) → is_day d ≡ true → IsPlain (day_text d)
+IsPlain-day d is = subst IsPlain (sym (day_digits d (small_day d is))) (plain_day d [] plain_nothing)
+
+-- nor has that of a moment
+pub IsPlain-moment : (m : Moment) → is_moment m ≡ true → IsPlain (moment_text m)
+IsPlain-moment m is =
+    let zone : IsPlain (90 ∷ []) = record { no_return = refl; no_feed = refl } in
+    let time = plain_digits (m.hour / 10) (m.hour % 10) _ (plain_digits (m.minute / 10) (m.minute % 10) _ (plain_digits (m.second / 10) (m.second % 10) (90 ∷ []) zone)) in
+    subst IsPlain (sym (moment_written m (short_moment m is)))
+    (plain_day m.day (clock_digits m) (record { no_return = time.no_return; no_feed = time.no_feed }))
+
+-- it says something
+pub filled_day : (d : Day) → is_day d ≡ true → is_filled (day_text d) ≡ true
+filled_day d is = ap is_filled (day_digits d (small_day d is))

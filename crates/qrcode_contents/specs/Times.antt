@@ -1,0 +1,69 @@
+-- Days and moments, and their texts in iCalendar (RFC 5545, sections 3.3.4 and 3.3.5).
+use Rattle.std.specs.Prelude.{◌≡◌, ℕ, nat_lt, nat_le, ◌+◌, ◌*◌, ◌/◌, ◌%◌, ◌==◌, ◌&&◌, ◌||◌, not, Bool, List, [], ◌∷◌, ◌++◌, Option, Some, None, take, drop, length, flat_map, decimal, codes, if◌then◌else◌, refl}
+use Rattle.std.specs.Str.{bytes_eq}
+use Rattle.std.specs.Str.Parse.{digits_value}
+use Rattle.qrcode_contents.specs.declared.times.Day.{Day}
+use Rattle.qrcode_contents.specs.declared.times.Moment.{Moment}
+
+abbrev pub is_leap : ℕ → Bool  -- a year of the Gregorian calendar with a 29th of February
+is_leap year = year % 4 == 0 && (not (year % 100 == 0) || year % 400 == 0)
+
+abbrev pub days_in : ℕ → ℕ → ℕ  -- how many days the month of a year has
+days_in year month =
+    if month == 2 then (if is_leap year then 29 else 28)
+    else (if month == 4 || month == 6 || month == 9 || month == 11 then 30 else 31)
+
+abbrev pub is_day : Day → Bool  -- a day that the calendar has, in a year of four digits
+is_day d =
+    nat_lt d.year 10000 && nat_lt 0 d.month && nat_lt d.month 13 && nat_lt 0 d.day && nat_le d.day (days_in d.year d.month)
+
+abbrev pub is_moment : Moment → Bool  -- a time of day on such a day; a minute may have a leap second at its end
+is_moment m = is_day m.day && nat_lt m.hour 24 && nat_lt m.minute 60 && nat_lt m.second 61
+
+abbrev pub day_number : Day → ℕ  -- a number that grows from day to day
+day_number d = (d.year * 100 + d.month) * 100 + d.day
+
+abbrev pub moment_number : Moment → ℕ  -- a number that grows from second to second
+moment_number m = ((day_number m.day * 100 + m.hour) * 100 + m.minute) * 100 + m.second
+
+abbrev pub pair_text : ℕ → List ℕ  -- two digits
+pair_text n = decimal (n / 10) ++ decimal (n % 10)
+
+abbrev pub pairs_text : List ℕ → List ℕ  -- numbers, each with two digits
+pairs_text numbers = flat_map pair_text numbers
+
+unfoldable pub day_text : Day → List ℕ  -- the text of a day
+day_text d = pairs_text (d.year / 100 ∷ d.year % 100 ∷ d.month ∷ d.day ∷ [])
+
+unfoldable pub moment_text : Moment → List ℕ  -- the text of a moment in UTC
+moment_text m = day_text m.day ++ (codes "T" ++ (pairs_text (m.hour ∷ m.minute ∷ m.second ∷ []) ++ codes "Z"))
+
+abbrev pub pair_at : ℕ → List ℕ → ℕ  -- the number of the two digits at a place
+pair_at i text = digits_value 10 (take 2 (drop i text))
+
+abbrev pub day_in : List ℕ → Day  -- the day that a text begins with
+day_in text = record { year = pair_at 0 text * 100 + pair_at 2 text; month = pair_at 4 text; day = pair_at 6 text }
+
+unfoldable pub read_day : List ℕ → Option Day  -- the day that a text of eight digits says
+read_day text = if length text == 8 then Some (day_in text) else None
+
+-- the moment that a text says, with a T between day and time, and a Z for UTC at its end
+unfoldable pub read_moment : List ℕ → Option Moment
+read_moment text =
+    if bytes_eq (take 1 (drop 8 text)) (codes "T") && bytes_eq (drop 15 text) (codes "Z")
+    then Some (record { day = day_in text; hour = pair_at 9 text; minute = pair_at 11 text; second = pair_at 13 text })
+    else None
+
+-- printed examples of RFC 5545, sections 3.3.4 and 3.3.5
+printed_day : read_day (codes "19970714") ≡ Some (let d : Day = record { year = 1997; month = 7; day = 14 } in d)
+unfolding read_day
+printed_day = refl
+
+printed_moment : read_moment (codes "19980119T070000Z") ≡ Some (let m : Moment = record { day = record { year = 1998; month = 1; day = 19 }; hour = 7; minute = 0; second = 0 } in m)
+unfolding read_moment
+printed_moment = refl
+
+-- a printed time with no Z is that of a place, and not said here
+local_time : read_moment (codes "19980118T230000") ≡ None
+unfolding read_moment
+local_time = refl

@@ -1,0 +1,32 @@
+-- What characters fields have.
+use Rattle.std.specs.Prelude.{ℕ, nat_lt, ◌==◌, ◌&&◌, ◌||◌, not, Bool, List, map, Option}
+use Rattle.std.specs.List.{list_any}
+use Rattle.qrcode_contents.specs.declared.fields.errors.ContentError.{ContentError}
+use Rattle.qrcode_contents.specs.declared.fields.errors.Field.{Field}
+use Rattle.qrcode_contents.specs.declared.fields.errors.Cause.TheVariants.{ControlCharacter}
+use Rattle.qrcode_contents.specs.fields.Refusals.{refused_if, first_refusal}
+
+abbrev pub is_digit : ℕ → Bool  -- a digit
+is_digit b = nat_lt 47 b && nat_lt b 58
+
+abbrev pub is_capital : ℕ → Bool  -- a letter A to Z
+is_capital b = nat_lt 64 b && nat_lt b 91
+
+abbrev pub is_capital_or_digit : ℕ → Bool  -- a digit, or a letter A to Z
+is_capital_or_digit b = is_digit b || is_capital b
+
+abbrev pub is_dialled : ℕ → Bool  -- a byte of a telephone number: a digit, a plus sign, or one of -.()
+is_dialled b = is_digit b || b == 43 || b == 45 || b == 46 || b == 40 || b == 41
+
+abbrev pub is_base32 : ℕ → Bool  -- a character of base 32 (RFC 4648, section 6)
+is_base32 b = is_capital b || (nat_lt 49 b && nat_lt b 56)
+
+abbrev pub is_control : ℕ → Bool  -- a control character of ASCII
+is_control b = nat_lt b 32 || b == 127
+
+abbrev pub is_stray : ℕ → Bool  -- a control character that is neither a tab nor a line feed
+is_stray b = is_control b && not (b == 9) && not (b == 10)
+
+abbrev pub control_refusal : List (Field × List ℕ) → Option ContentError  -- the first field with a control character
+control_refusal fields =
+    first_refusal (map (λ field. refused_if (list_any is_control field.1) field.0 ControlCharacter) fields)

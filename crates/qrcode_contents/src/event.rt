@@ -1,0 +1,154 @@
+//! The text of an event of a calendar.
+
+ghost use Rattle.std.specs.Prelude.{◌≡◌, ◌++◌, not, Some, IfOk, OnOk, IsOkUnless, string_bytes};
+ghost use Rattle.qrcode_contents.specs.declared.fields.errors.ContentError.TheVariants.{OutOfMemory};
+ghost use Rattle.qrcode_contents.specs.fields.ContentLines.{content_line, content_text};
+ghost use Rattle.qrcode_contents.specs.fields.Refusals.{Answers, checked};
+ghost use Rattle.qrcode_contents.specs.Event.{happening_of, begins_never, ends_never, ends_early, event_refusal, span_lines, event_text, read_event};
+ghost use Rattle.qrcode_contents.specs.Times.{day_text, moment_text};
+
+use crate::fields::content_lines::{push_texts, push_value};
+use crate::fields::errors::{Cause, ContentResult, Field};
+use crate::fields::refusals::{controls, refuse_first, stray};
+use crate::times::{Day, Moment};
+use std::alloc::Global;
+
+/// When an event begins and ends.
+#[derive(Copy, Clone, PartialEq, Eq, Debug)]
+pub enum Span {
+    /// From a day until before another, which is behind it.
+    Days(Day, Day),
+    /// From a moment until a later one.
+    Times(Moment, Moment),
+}
+
+/// An event. What is empty is left out; texts may have line feeds.
+#[derive(Copy, Clone, PartialEq, Eq, Debug)]
+pub struct Event<'a> {
+    /// The identifier, which no other event has, as `19970610T172345Z-AF23B2@example.com`.
+    pub uid: &'a str,
+    /// When it was written.
+    pub stamp: Moment,
+    /// When it begins and ends.
+    pub span: Span,
+    /// What it is.
+    pub summary: &'a str,
+    /// Where it is.
+    pub location: &'a str,
+    /// What is told of it.
+    pub description: &'a str,
+}
+
+// Appends the line of a key and a day.
+fn push_day(alloc: Global, text: &mut String, key: &str, day: Day) -> ContentResult<()>
+    ensures appends { OnOk result (string_bytes text.new
+        ≡ string_bytes text.old ++ content_line (key.now, day_text day)) }
+    ensures memory { IsOkUnless result OutOfMemory }
+{
+    let value = day.text(alloc)?;
+    push_value(alloc, text, key, value.as_str())
+}
+
+// Appends the line of a key and a moment.
+fn push_moment(alloc: Global, text: &mut String, key: &str, moment: Moment) -> ContentResult<()>
+    ensures appends { OnOk result (string_bytes text.new
+        ≡ string_bytes text.old ++ content_line (key.now, moment_text moment)) }
+    ensures memory { IsOkUnless result OutOfMemory }
+{
+    let value = moment.text(alloc)?;
+    push_value(alloc, text, key, value.as_str())
+}
+
+impl Span {
+    // Whether the calendar has no such beginning, and no such end, and whether the end is not
+    // behind the beginning.
+    fn faults(self) -> (bool, bool, bool)
+        ensures { result ≡ (begins_never self, ends_never self, ends_early self) }
+    {
+        match self {
+            Span::Days(first, end) => {
+                let early = end.number() <= first.number();
+                (!first.is_valid(), !end.is_valid(), early)
+            }
+            Span::Times(begin, end) => {
+                let early = end.number() <= begin.number();
+                (!begin.is_valid(), !end.is_valid(), early)
+            }
+        }
+    }
+
+    // Appends the lines of beginning and end.
+    fn push(self, alloc: Global, text: &mut String) -> ContentResult<()>
+        ensures appends { OnOk result (string_bytes text.new
+            ≡ string_bytes text.old ++ content_text (span_lines self)) }
+        ensures memory { IsOkUnless result OutOfMemory }
+    {
+        match self {
+            Span::Days(first, end) => {
+                push_day(alloc, text, "DTSTART;VALUE=DATE", first)?;
+                push_day(alloc, text, "DTEND;VALUE=DATE", end)
+            }
+            Span::Times(begin, end) => {
+                push_moment(alloc, text, "DTSTART", begin)?;
+                push_moment(alloc, text, "DTEND", end)
+            }
+        }
+    }
+}
+
+impl Event<'_> {
+    // Refuses what the text cannot say.
+    #[tactic(auto, unfolding(crate::specs::Event::event_refusal))]
+    fn check(&self) -> ContentResult<()>
+        ensures { result ≡ checked (event_refusal (happening_of self.now)) }
+    {
+        let (begins_never, ends_never, ends_early) = self.span.faults();
+        refuse_first(&[
+            (self.uid.is_empty(), Field::Uid, Cause::Empty),
+            controls(Field::Uid, self.uid),
+            (!self.stamp.is_valid(), Field::Stamp, Cause::Range),
+            (begins_never, Field::Begin, Cause::Range),
+            (ends_never, Field::End, Cause::Range),
+            (ends_early, Field::End, Cause::Range),
+            stray(Field::Summary, self.summary),
+            stray(Field::Location, self.location),
+            stray(Field::Description, self.description),
+        ])
+    }
+
+    // The text of an event that is not refused.
+    fn written(&self, alloc: Global) -> ContentResult<String>
+        ensures value { IfOk result (λ text. string_bytes text
+            ≡ event_text (happening_of self.now)) }
+        ensures memory { IsOkUnless result OutOfMemory }
+    {
+        let mut text = String::from_str(
+            alloc,
+            "BEGIN:VCALENDAR\r\nVERSION:2.0\r\nPRODID:-//Goqlanis//Contents//EN\r\nBEGIN:VEVENT\r\n",
+        )?;
+        push_texts(alloc, &mut text, &[("UID", self.uid)])?;
+        push_moment(alloc, &mut text, "DTSTAMP", self.stamp)?;
+        self.span.push(alloc, &mut text)?;
+        let texts = [
+            ("SUMMARY", self.summary),
+            ("LOCATION", self.location),
+            ("DESCRIPTION", self.description),
+        ];
+        push_texts(alloc, &mut text, &texts)?;
+        text.push_str("END:VEVENT\r\nEND:VCALENDAR\r\n")?;
+        Ok(text)
+    }
+
+    /// The text of a calendar object with the event, as iCalendar has it (RFC 5545).
+    ///
+    /// An error names the field and why the text cannot say it, or is `OutOfMemory`.
+    pub fn text(&self, alloc: Global) -> ContentResult<String>
+        ensures reads { Answers (event_refusal (happening_of self.now)) result
+            (λ text. read_event text ≡ Some (happening_of self.now)) }
+        ensures value { IfOk result (λ text. string_bytes text
+            ≡ event_text (happening_of self.now)) }
+    {
+        self.check()?;
+        self.written(alloc)
+    }
+}

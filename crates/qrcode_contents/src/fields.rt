@@ -1,0 +1,15 @@
+//! What the texts that symbols carry are made of: escapes, entries, lines, links, check digits, and
+//! why a field is refused.
+
+pub mod amounts;
+pub mod characters;
+pub mod content_lines;
+pub mod entries;
+pub mod errors;
+pub mod escapes;
+pub mod laws;
+pub mod lines;
+pub mod links;
+pub mod numbers;
+pub mod percents;
+pub mod refusals;

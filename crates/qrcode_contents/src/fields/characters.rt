@@ -1,0 +1,79 @@
+//! What characters a field has.
+
+ghost use Rattle.std.specs.Prelude.{◌≡◌, ◌==◌, length, count_by};
+ghost use Rattle.std.specs.List.{list_all, list_any};
+ghost use Rattle.std.specs.Str.{chars};
+ghost use Rattle.qrcode_contents.specs.fields.Characters.{is_base32, is_capital, is_capital_or_digit, is_control, is_dialled, is_digit, is_stray};
+
+/// Whether all bytes are letters A to Z.
+pub fn are_capitals(bytes: &[u8]) -> bool
+    ensures { result ≡ list_all is_capital bytes.now }
+{
+    bytes.iter().all(|byte| byte.is_ascii_uppercase())
+}
+
+/// Whether all bytes are digits.
+pub fn are_digits(bytes: &[u8]) -> bool
+    ensures { result ≡ list_all is_digit bytes.now }
+{
+    bytes.iter().all(|byte| byte.is_ascii_digit())
+}
+
+/// Whether all bytes are digits or letters A to Z.
+pub fn are_capitals_or_digits(text: &str) -> bool
+    ensures { result ≡ list_all is_capital_or_digit text.now }
+{
+    let bytes = text.as_bytes();
+    bytes
+        .iter()
+        .all(|byte| matches!(*byte, b'0'..=b'9' | b'A'..=b'Z'))
+}
+
+/// Whether all bytes may stand in a telephone number: digits, `+`, `-`, `.`, `(` and `)`.
+pub fn are_dialled(text: &str) -> bool
+    ensures { result ≡ list_all is_dialled text.now }
+{
+    let bytes = text.as_bytes();
+    bytes.iter().all(|byte| matches!(*byte, b'0'..=b'9' | b'+' | b'-' | b'.' | b'(' | b')'))
+}
+
+/// Whether all bytes are characters of base 32.
+pub fn is_in_base32(text: &str) -> bool
+    ensures { result ≡ list_all is_base32 text.now }
+{
+    let bytes = text.as_bytes();
+    bytes
+        .iter()
+        .all(|byte| matches!(*byte, b'A'..=b'Z' | b'2'..=b'7'))
+}
+
+/// Whether a text has one `@`.
+pub fn has_one_at(text: &str) -> bool
+    ensures { result ≡ (count_by (λ b. b == 64) text.now == 1) }
+{
+    let bytes = text.as_bytes();
+    bytes.iter().filter(|byte| **byte == b'@').count() == 1
+}
+
+/// Whether a byte is a control character, as a line break is.
+pub fn has_control(text: &str) -> bool
+    ensures { result ≡ list_any is_control text.now }
+{
+    let bytes = text.as_bytes();
+    bytes.iter().any(|byte| *byte < 32 || *byte == 127)
+}
+
+/// Whether a byte is a control character that is neither a tab nor a line feed.
+pub fn has_stray(text: &str) -> bool
+    ensures { result ≡ list_any is_stray text.now }
+{
+    let bytes = text.as_bytes();
+    bytes.iter().any(|byte| (*byte < 32 || *byte == 127) && *byte != b'\t' && *byte != b'\n')
+}
+
+/// How many characters the text has.
+pub fn character_count(text: &str) -> usize
+    ensures { result ≡ length (chars text.now) }
+{
+    text.chars().count()
+}

@@ -1,0 +1,59 @@
+//! Percent-encoding of RFC 3986.
+
+ghost use Rattle.std.specs.Prelude.{◌≡◌, ◌<◌, ◌++◌, string_bytes, OnOk, IsOkUnless};
+ghost use Rattle.qrcode_contents.specs.declared.fields.errors.ContentError.TheVariants.{OutOfMemory};
+ghost use Rattle.qrcode_contents.specs.fields.Percents.{is_unreserved, hex_digit, encoded_byte, encoded, decoded};
+
+use crate::fields::errors::ContentResult;
+
+// Whether the byte stands for itself.
+fn is_unreserved(byte: u8) -> bool
+    ensures { result ≡ is_unreserved byte }
+{
+    matches!(byte, b'-' | b'.' | b'0'..=b'9' | b'A'..=b'Z' | b'_' | b'a'..=b'z' | b'~')
+}
+
+// The hexadecimal digit of a number below 16.
+fn hex_digit(number: u8) -> u8
+    requires { number < 16 }
+    ensures value { result ≡ hex_digit number }
+    ensures ascii { result < 128 }
+{
+    if number < 10 {
+        48 + number
+    } else {
+        55 + number
+    }
+}
+
+/// Appends a byte as it is, or as a percent sign and two digits. After `OutOfMemory` a part of it
+/// is appended.
+pub fn push_byte(text: &mut String, byte: u8) -> ContentResult<()>
+    ensures appends { OnOk result (string_bytes text.new
+        ≡ string_bytes text.old ++ encoded_byte byte) }
+    ensures memory { IsOkUnless result OutOfMemory }
+{
+    if is_unreserved(byte) {
+        text.push(char::from(byte))?;
+        return Ok(());
+    }
+    text.push('%')?;
+    text.push(char::from(hex_digit(byte / 16)))?;
+    text.push(char::from(hex_digit(byte % 16)))?;
+    Ok(())
+}
+
+/// Appends a value, percent-encoded. After `OutOfMemory` a part of it is appended.
+#[tactic(auto, unfolding(crate::specs::fields::Percents::encoded))]
+pub fn push_encoded(text: &mut String, value: &str) -> ContentResult<()>
+    ensures appends { OnOk result (string_bytes text.new
+        ≡ string_bytes text.old ++ encoded value.now) }
+    ensures reads { OnOk result (decoded (encoded value.now) ≡ value.now) }
+    ensures memory { IsOkUnless result OutOfMemory }
+{
+    let bytes = value.as_bytes();
+    for byte in bytes {
+        push_byte(text, *byte)?;
+    }
+    Ok(())
+}

@@ -1,0 +1,56 @@
+//! The first refusal of some checks.
+
+ghost use Rattle.std.specs.Prelude.{◌≡◌, length, map, nat_lt};
+ghost use Rattle.std.specs.List.{list_any};
+ghost use Rattle.std.specs.Str.{chars};
+ghost use Rattle.qrcode_contents.specs.declared.fields.errors.Cause.TheVariants.{ControlCharacter, TooLong, TooShort};
+ghost use Rattle.qrcode_contents.specs.fields.Characters.{is_control, is_stray};
+ghost use Rattle.qrcode_contents.specs.fields.Refusals.{checked, first_refusal, refused_if};
+
+use crate::fields::characters::{character_count, has_control, has_stray};
+use crate::fields::errors::{Cause, ContentError, ContentResult, Field};
+
+/// A check: whether a field is refused, which one, and for what cause.
+pub type Check = (bool, Field, Cause);
+
+/// Refuses a field with a control character, as a line break is.
+pub fn controls(field: Field, text: &str) -> Check
+    ensures { result ≡ (list_any is_control text.now, field, ControlCharacter) }
+{
+    (has_control(text), field, Cause::ControlCharacter)
+}
+
+/// Refuses a field with a control character that is neither a tab nor a line feed.
+pub fn stray(field: Field, text: &str) -> Check
+    ensures { result ≡ (list_any is_stray text.now, field, ControlCharacter) }
+{
+    (has_stray(text), field, Cause::ControlCharacter)
+}
+
+/// Refuses a field of fewer characters than this.
+pub fn too_short(field: Field, text: &str, least: usize) -> Check
+    ensures { result ≡ (nat_lt (length (chars text.now)) least, field, TooShort) }
+{
+    (character_count(text) < least, field, Cause::TooShort)
+}
+
+/// Refuses a field of more characters than this.
+pub fn too_long(field: Field, text: &str, most: usize) -> Check
+    ensures { result ≡ (nat_lt most (length (chars text.now)), field, TooLong) }
+{
+    (character_count(text) > most, field, Cause::TooLong)
+}
+
+/// Refuses the field of the first check that refuses one; the error is `Refused`, with that field and its
+/// cause.
+pub fn refuse_first(checks: &[Check]) -> ContentResult<()>
+    ensures { result ≡ checked (first_refusal
+        (map (λ check. refused_if check.0 check.1 check.2) checks.now)) }
+{
+    for (refused, field, cause) in checks {
+        if *refused {
+            return Err(ContentError::Refused(*field, *cause));
+        }
+    }
+    Ok(())
+}

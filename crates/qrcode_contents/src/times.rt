@@ -1,0 +1,142 @@
+//! Days and moments of a calendar.
+
+ghost use Rattle.std.specs.Prelude.{◌≡◌, ◌++◌, ◌≤◌, string_bytes, OnOk, IfOk, IsOkUnless};
+ghost use Rattle.qrcode_contents.specs.declared.fields.errors.ContentError.TheVariants.{OutOfMemory};
+ghost use Rattle.qrcode_contents.specs.Times.{is_leap, days_in, is_day, is_moment, day_number, moment_number, pair_text, pairs_text, day_text, moment_text};
+
+use crate::fields::errors::ContentResult;
+use std::alloc::Global;
+use std::fmt::Write;
+
+/// A day of the Gregorian calendar.
+#[derive(Copy, Clone, PartialEq, Eq, Debug)]
+pub struct Day {
+    /// The year, up to 9999.
+    pub year: u16,
+    /// The month, 1 to 12.
+    pub month: u8,
+    /// The day of the month, from 1.
+    pub day: u8,
+}
+
+/// A second of a day, in UTC.
+#[derive(Copy, Clone, PartialEq, Eq, Debug)]
+pub struct Moment {
+    /// The day.
+    pub day: Day,
+    /// The hour, up to 23.
+    pub hour: u8,
+    /// The minute, up to 59.
+    pub minute: u8,
+    /// The second, up to 60 where a leap second ends the minute.
+    pub second: u8,
+}
+
+// Whether the year has a 29th of February.
+fn is_leap(year: u16) -> bool
+    ensures { result ≡ is_leap year }
+{
+    year % 4 == 0 && (year % 100 != 0 || year % 400 == 0)
+}
+
+// How many days the month of a year has.
+fn days_in(year: u16, month: u8) -> u8
+    ensures { result ≡ days_in year month }
+{
+    match month {
+        2 if is_leap(year) => 29,
+        2 => 28,
+        4 | 6 | 9 | 11 => 30,
+        _ => 31,
+    }
+}
+
+// Appends numbers, each with two digits. After `OutOfMemory` a part of them is appended.
+fn push_pairs(text: &mut String, numbers: &[u16]) -> ContentResult<()>
+    ensures appends { OnOk result (string_bytes text.new
+        ≡ string_bytes text.old ++ pairs_text numbers.now) }
+    ensures memory { IsOkUnless result OutOfMemory }
+{
+    for number in numbers {
+        let tens = number / 10;
+        let ones = number % 10;
+        write!(text, "{tens}{ones}")?;
+    }
+    Ok(())
+}
+
+impl Day {
+    /// Whether the calendar has the day, in a year of four digits.
+    pub fn is_valid(self) -> bool
+        ensures { result ≡ is_day self }
+    {
+        self.year < 10_000
+            && self.month > 0
+            && self.month < 13
+            && self.day > 0
+            && self.day <= days_in(self.year, self.month)
+    }
+
+    /// A number that grows from day to day.
+    pub fn number(self) -> u32
+        ensures { result ≡ day_number self }
+    {
+        (u32::from(self.year) * 100 + u32::from(self.month)) * 100 + u32::from(self.day)
+    }
+
+    // Appends the eight digits of the day.
+    #[tactic(auto, unfolding(crate::specs::Times::day_text))]
+    fn push(self, text: &mut String) -> ContentResult<()>
+        ensures appends { OnOk result (string_bytes text.new
+            ≡ string_bytes text.old ++ day_text self) }
+        ensures memory { IsOkUnless result OutOfMemory }
+    {
+        let month = u16::from(self.month);
+        let day = u16::from(self.day);
+        push_pairs(text, &[self.year / 100, self.year % 100, month, day])
+    }
+
+    /// The text of the day in iCalendar. It fails for want of memory alone (`OutOfMemory`).
+    pub fn text(self, alloc: Global) -> ContentResult<String>
+        ensures value { IfOk result (λ text. string_bytes text ≡ day_text self) }
+        ensures memory { IsOkUnless result OutOfMemory }
+    {
+        let mut text = String::new(alloc);
+        self.push(&mut text)?;
+        Ok(text)
+    }
+}
+
+impl Moment {
+    /// Whether the calendar has the day, and the day the time.
+    pub fn is_valid(self) -> bool
+        ensures { result ≡ is_moment self }
+    {
+        self.day.is_valid() && self.hour < 24 && self.minute < 60 && self.second < 61
+    }
+
+    /// A number that grows from second to second.
+    pub fn number(self) -> u64
+        ensures { result ≡ moment_number self }
+    {
+        let hours = u64::from(self.day.number()) * 100 + u64::from(self.hour);
+        (hours * 100 + u64::from(self.minute)) * 100 + u64::from(self.second)
+    }
+
+    /// The text of the moment in iCalendar. It fails for want of memory alone (`OutOfMemory`).
+    #[tactic(auto, unfolding(crate::specs::Times::moment_text))]
+    pub fn text(self, alloc: Global) -> ContentResult<String>
+        ensures value { IfOk result (λ text. string_bytes text ≡ moment_text self) }
+        ensures memory { IsOkUnless result OutOfMemory }
+    {
+        let mut text = self.day.text(alloc)?;
+        text.push_str("T")?;
+        let minute = u16::from(self.minute);
+        push_pairs(
+            &mut text,
+            &[u16::from(self.hour), minute, u16::from(self.second)],
+        )?;
+        text.push_str("Z")?;
+        Ok(text)
+    }
+}

@@ -1,6 +1,0 @@
-use Rattle.std.proofs.Common.{slice_index}
-use Rattle.qrcode_correct.specs.Recurrences.{IsSearch}
-use Rattle.qrcode_correct.proofs.recurrences.Search.shortest.Given as goal
-
-abbrev pub invariant-loop-k : goal.invariant-loop-k
-invariant-loop-k l = IsSearch (slice_index l.values) l.k l.search.degree l.search.current l.search.earlier l.search.scale

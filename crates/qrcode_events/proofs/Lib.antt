@@ -1,3 +1,0 @@
-pub mod EventReading
-pub mod PushedTexts
-pub mod TimeReading

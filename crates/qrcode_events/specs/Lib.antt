@@ -1,2 +1,0 @@
-pub mod Event
-pub mod Times

@@ -1,7 +1,0 @@
-use Rattle.std.proofs.Common.{◌≡◌, ◌++◌, map, take, string_bytes}
-use Rattle.qrcode_fields.specs.Lines.{later_text}
-use Rattle.qrcode_fields.proofs.lines.push_lines.Given as goal
-
-abbrev pub invariant-loop-line : goal.invariant-loop-line
-invariant-loop-line l =
-    string_bytes l.text ≡ string_bytes l.initial.text ++ later_text (map (λ line. line.now) (take l.line-index l.lines))

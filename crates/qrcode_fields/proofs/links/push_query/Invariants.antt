@@ -1,9 +1,0 @@
-use Rattle.std.proofs.Common.{◌≡◌, ◌++◌, [], ◌∷◌, map, drop, string_bytes}
-use Rattle.qrcode_fields.specs.Links.{mark_text, query_text}
-use Rattle.qrcode_fields.proofs.LinkTexts.{pair_of}
-use Rattle.qrcode_fields.proofs.links.push_query.Given as goal
-
-abbrev pub invariant-loop-key : goal.invariant-loop-key
-invariant-loop-key l =
-    string_bytes l.text ++ query_text (mark_text l.begun) (map pair_of (drop l.key-index l.parameters))
-    ≡ string_bytes l.initial.text ++ query_text (63 ∷ []) (map pair_of l.parameters)

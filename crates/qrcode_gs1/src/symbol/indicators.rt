@@ -1,0 +1,18 @@
+//! Indicators of applications.
+
+ghost use Rattle.std.specs.Prelude.{◌≡◌};
+ghost use Rattle.qrcode_gs1.specs.symbol.Indicators.{indicator_of};
+
+/// The number of an application's indicator: of two digits the one that they write, and of a letter its
+/// byte and 100. There is none of other bytes.
+pub fn indicator_of(bytes: &[u8]) -> Option<u8>
+    ensures { result ≡ indicator_of bytes.now }
+{
+    match bytes {
+        [letter] if letter.is_ascii_alphabetic() => Some(*letter + 100),
+        [tens, ones] if tens.is_ascii_digit() && ones.is_ascii_digit() => {
+            Some(10 * (*tens - b'0') + (*ones - b'0'))
+        }
+        _ => None,
+    }
+}

@@ -1,0 +1,36 @@
+//! The mark in front of the segments.
+
+ghost use Rattle.std.specs.Prelude.{◌≡◌, ◌+◌, ◌≤◌, false, length, OnOk, IsOkUnless};
+ghost use Rattle.qrcode_types.specs.Versions.{is_micro};
+ghost use Rattle.qrcode_types.specs.declared.types.QrError.TheVariants.{OutOfMemory};
+ghost use Rattle.qrcode_bits.specs.Pushes.{with_bits};
+ghost use Rattle.qrcode_bits.specs.Refusals.{bit_limit};
+ghost use Rattle.qrcode_gs1.specs.symbol.Characters.{mark};
+
+use crate::symbol::Position;
+use qrcode::types::QrResult;
+use qrcode_bits::bits::Bits;
+
+// How many bits the mark takes.
+pub(crate) fn mark_length(position: Position) -> usize
+    ensures value { result ≡ length (mark position) }
+    ensures at_most { result ≤ 12 }
+{
+    match position {
+        Position::First => 4,
+        Position::Second(_) => 12,
+    }
+}
+
+// Appends the mark.
+pub(crate) fn push_mark(bits: &mut Bits, position: Position) -> QrResult<()>
+    requires normal { is_micro bits.old.version ≡ false }
+    requires room { length bits.old.bits + 12 ≤ bit_limit }
+    ensures appends { OnOk result (bits.new ≡ with_bits bits.old (mark position)) }
+    ensures memory { IsOkUnless result OutOfMemory }
+{
+    match position {
+        Position::First => bits.push_fnc1_first_position(),
+        Position::Second(application) => bits.push_fnc1_second_position(application),
+    }
+}

@@ -1,0 +1,86 @@
+-- What bits spell begins with the bytes of their first piece.
+use Rattle.std.proofs.Common.{◌≡◌, ◌<◌, ◌+◌, ◌^◌, ℕ, ◌++◌, List, [], ◌∷◌, Bool, true, false, length, refl, sym, ap, ap₂, subst, ◌∙◌, arith, IsTrue, IsFalse, append_assoc, length-append, true≢false}
+use Rattle.std.specs.Prelude.{flat_map}
+use Rattle.qrcode_types.specs.declared.types.Version.{Version}
+use Rattle.qrcode_types.specs.declared.types.Mode.{Mode}
+use Rattle.qrcode_types.specs.declared.types.Mode.TheVariants.{Numeric, Alphanumeric, Byte, Kanji}
+use Rattle.qrcode_bits.specs.Written.{Piece, written_piece}
+use Rattle.qrcode_bits.specs.Spelling.{is_end, IsReadAs, Spells}
+use Rattle.qrcode_bits.proofs.Lengths.{length-piece}
+use Rattle.qrcode_bits.proofs.Spellings.{same_piece}
+use Rattle.qrcode_reader.specs.spell.Steps.{BeginsWithPiece}
+
+-- what all bits spell is what was read of them, and then what the rest spells
+pub record SpellsFront (v : Version) (bits : List Bool) (done : List ℕ) (rest : List Bool) : Type 0 where
+  pub sound : (more : List ℕ) → Spells v rest more → Spells v bits (done ++ more)
+  pub complete : (bytes : List ℕ) → Spells v bits bytes → (more : List ℕ) × (bytes ≡ done ++ more) × Spells v rest more
+
+pub nothing_done : (v : Version) (bits : List Bool) → SpellsFront v bits [] bits
+nothing_done v bits = record {
+  sound = λ more s. s;
+  complete = λ bytes s. (bytes, refl, s);
+}
+
+-- bits that begin with a piece spell its bytes and then what the rest spells
+spells_more : (v : Version) (bits : List Bool) (p : Piece) (rest : List Bool) (more : List ℕ) → is_end v bits ≡ false → BeginsWithPiece v bits p rest → Spells v rest more → Spells v bits (p.chunk ++ more)
+spells_more v bits p rest more goes b s = record {
+  pieces = p ∷ s.pieces;
+  read = (rest, (b.whole, (goes, (b.readable, s.read))));
+  joined = ap (λ x. p.chunk ++ x) s.joined;
+}
+
+-- bits that do not end spell the bytes of a piece first
+record First (v : Version) (bits : List Bool) (bytes : List ℕ) : Type 0 where
+  piece : Piece
+  rest : List Bool
+  more : List ℕ
+  joined : bytes ≡ piece.chunk ++ more
+  begins : BeginsWithPiece v bits piece rest
+  spells : Spells v rest more
+
+first_of : (v : Version) (bits : List Bool) (bytes : List ℕ) (ps : List Piece) → is_end v bits ≡ false → IsReadAs v bits ps → flat_map (λ p. p.chunk) ps ≡ bytes → First v bits bytes
+first_of v bits bytes [] goes r e = absurd (true≢false (sym r ∙ goes))
+first_of v bits bytes (p ∷ ps) goes r e = record {
+  piece = p;
+  rest = r.0;
+  more = flat_map (λ p. p.chunk) ps;
+  joined = sym e;
+  begins = record { readable = r.1.1.1.0; whole = r.1.0 };
+  spells = record { pieces = ps; read = r.1.1.1.1; joined = refl };
+}
+
+-- where no piece can be read, and the bits do not end, nothing is spelled
+pub refuses_piece : (v : Version) (bits : List Bool) (done : List ℕ) (rest : List Bool) → is_end v rest ≡ false → ((p : Piece) (behind : List Bool) → ¬ BeginsWithPiece v rest p behind)
+    → SpellsFront v bits done rest → (bytes : List ℕ) → ¬ Spells v bits bytes
+refuses_piece v bits done rest goes none f bytes s =
+    let r = f.complete bytes s in
+    let first = first_of v rest r.0 r.2.pieces goes r.2.read r.2.joined in
+    none first.piece first.rest first.begins
+
+-- one piece more
+pub spells_on : (v : Version) (bits : List Bool) (done : List ℕ) (rest : List Bool) (p : Piece) (behind : List Bool) → is_end v rest ≡ false → BeginsWithPiece v rest p behind
+    → SpellsFront v bits done rest → SpellsFront v bits (done ++ p.chunk) behind
+spells_on v bits done rest p behind goes b f = record {
+  sound = λ more s. subst (Spells v bits) (sym (append_assoc done p.chunk more)) (f.sound (p.chunk ++ more) (spells_more v rest p behind more goes b s));
+  complete = λ bytes s.
+      let r = f.complete bytes s in
+      let first = first_of v rest r.0 r.2.pieces goes r.2.read r.2.joined in
+      let same = same_piece v first.piece.mode p.mode first.piece.chunk p.chunk first.rest behind first.begins.readable b.readable (sym first.begins.whole ∙ b.whole) in
+      (first.more, r.1 ∙ ap (λ x. done ++ x) (first.joined ∙ ap (λ x. x ++ first.more) same.1) ∙ sym (append_assoc done p.chunk first.more), subst (λ x. Spells v x first.more) same.2 first.spells);
+}
+
+-- at an end all was read
+pub spells_end : (v : Version) (bits : List Bool) (done : List ℕ) (rest : List Bool) → is_end v rest ≡ true → SpellsFront v bits done rest → Spells v bits done
+spells_end v bits done rest end f = subst (Spells v bits) (Rattle.std.proofs.Common.append-nil done) (f.sound [] (record { pieces = []; read = end; joined = refl }))
+
+some_data : (m : Mode) (c : ℕ) → 0 < c → 0 < Rattle.qrcode_types.specs.Modes.data_bits_count m c
+some_data Numeric c h = omega (arith, h)
+some_data Alphanumeric c h = omega (arith, h)
+some_data Byte c h = omega (arith, h)
+some_data Kanji c h = omega (arith, h)
+
+-- a piece has bits
+pub piece_shortens : (v : Version) (bits : List Bool) (p : Piece) (rest : List Bool) → BeginsWithPiece v bits p rest → length rest < length bits
+piece_shortens v bits p rest b =
+    let c = Rattle.qrcode_types.specs.Characters.character_count p.mode (length p.chunk) in
+    omega (arith, ap length b.whole, length-append (written_piece v p) rest, length-piece v p, some_data p.mode c b.readable.nonempty)

@@ -1,0 +1,102 @@
+-- The pixels of picture files.
+use Rattle.std.specs.Prelude.{◌≡◌, ℕ, ◌+◌, ◌-◌, ◌*◌, ◌/◌, ◌%◌, ◌^◌, ◌≤◌, ◌<◌, ◌==◌, ◌||◌, nat_lt, Bool, true, false, List, [], ◌∷◌, length, map, flat_map, drop, take, take_while, codes, slice_index, if◌then◌else◌}
+use Rattle.std.specs.List.{range_with_len}
+use Rattle.qrcode_render.specs.Bitmap.{Bitmap}
+use Rattle.qrcode_reader.specs.scan.Heads.{is_white, is_ended, sides_of, greatest_of, HasSides, HasGrey}
+use Rattle.qrcode_reader.specs.declared.scan.pixels.Unscanned.{Unscanned}
+use Rattle.qrcode_reader.specs.declared.scan.pixels.Unscanned.TheVariants.{NotPicture, NoSide, NoGrey, NotPixel, TooShort, OutOfMemory}
+
+-- the pixel in a column and row of rows of so many bytes, eight pixels in a byte, the first highest, black ones 1
+abbrev pub is_black_bit : List ℕ → ℕ → ℕ → ℕ → Bool
+is_black_bit bytes stride x y = slice_index bytes (y * stride + x / 8) / 2 ^ (7 - x % 8) % 2 == 1
+
+abbrev pub packed_marks : List ℕ → ℕ → ℕ → List Bool  -- the marks of so many rows of pixels, eight in a byte
+packed_marks bytes across down =
+    map (λ i. is_black_bit bytes ((across + 7) / 8) (i % across) (i / across)) (range_with_len 0 (across * down))
+
+abbrev pub is_plain : ℕ → Bool  -- a figure of a pixel, or white space
+is_plain c = c == 48 || c == 49 || is_white c
+
+abbrev pub figure_marks : ℕ → List Bool  -- the mark of a figure: 1 is black and 0 white; white space is none
+figure_marks c = if c == 49 then true ∷ [] else if c == 48 then false ∷ [] else []
+
+abbrev pub plain_marks : List ℕ → List Bool  -- the marks of figures
+plain_marks bytes = flat_map figure_marks bytes
+
+-- the marks of the figures that stand before anything but figures and white space
+abbrev pub figures_of : List ℕ → List Bool
+figures_of bytes = plain_marks (take_while is_plain bytes)
+
+-- the marks of so many greys, of which those below half of the greatest are dark
+abbrev pub grey_marks : ℕ → List ℕ → ℕ → List Bool
+grey_marks greatest bytes count = map (λ grey. nat_lt (2 * grey) greatest) (take count bytes)
+
+-- the picture of a PBM file of bits: its rows stand behind one byte that follows the sides
+abbrev pub bits_file : List ℕ → Bitmap
+bits_file file = let s = sides_of file in record { across = s.0; down = s.1; marks = packed_marks (drop 1 s.2) s.0 s.1 }
+
+abbrev pub figures_file : List ℕ → Bitmap  -- the picture of a PBM file of figures, as many as it has pixels
+figures_file file = let s = sides_of file in record { across = s.0; down = s.1; marks = take (s.0 * s.1) (figures_of s.2) }
+
+-- the picture of a PGM file of bytes: behind the sides stands the greatest grey, and behind that one byte
+abbrev pub greys_file : List ℕ → Bitmap
+greys_file file =
+    let s = sides_of file in
+    let greatest = greatest_of file in
+    record { across = s.0; down = s.1; marks = grey_marks greatest.0 (drop 1 greatest.1) (s.0 * s.1) }
+
+abbrev pub bits_length : List ℕ → ℕ  -- the bytes of the rows of a PBM file of bits, of which a row begins a byte anew
+bits_length file = let s = sides_of file in (s.0 + 7) / 8 * s.1
+
+abbrev pub IsBitsFile : List ℕ → Type 0  -- a file is a PBM file of bits: sides, white space, and behind it all rows
+IsBitsFile file = let s = sides_of file in HasSides file × (is_ended s.2 ≡ true) × (bits_length file ≤ length (drop 1 s.2))
+
+-- a file is a PBM file of figures: sides, and behind them a figure for each pixel
+abbrev pub IsFiguresFile : List ℕ → Type 0
+IsFiguresFile file = let s = sides_of file in HasSides file × (s.0 * s.1 ≤ length (figures_of s.2))
+
+-- a file is a PGM file of bytes: sides, the greatest grey, white space, and behind it a byte for each pixel
+abbrev pub IsGreysFile : List ℕ → Type 0
+IsGreysFile file =
+    let s = sides_of file in
+    let rest = (greatest_of file).1 in
+    HasSides file × HasGrey file × (is_ended rest ≡ true) × (s.0 * s.1 ≤ length (drop 1 rest))
+
+-- why a file of bits is refused: each cause where none stands before it
+abbrev pub IsBitsRefusal : List ℕ → Unscanned → Type 0
+IsBitsRefusal file NoSide = ¬ HasSides file
+IsBitsRefusal file NotPixel = HasSides file × (is_ended (sides_of file).2 ≡ false)
+IsBitsRefusal file TooShort = HasSides file × (is_ended (sides_of file).2 ≡ true) × (length (drop 1 (sides_of file).2) < bits_length file)
+IsBitsRefusal file OutOfMemory = Unit
+IsBitsRefusal file NotPicture = ⊥
+IsBitsRefusal file NoGrey = ⊥
+
+abbrev pub IsFiguresRefusal : List ℕ → Unscanned → Type 0  -- why a file of figures is refused
+IsFiguresRefusal file NoSide = ¬ HasSides file
+IsFiguresRefusal file NotPixel =
+    let s = sides_of file in HasSides file × (length (figures_of s.2) < s.0 * s.1) × (length (take_while is_plain s.2) < length s.2)
+IsFiguresRefusal file TooShort = let s = sides_of file in HasSides file × (length (figures_of s.2) < s.0 * s.1) × (take_while is_plain s.2 ≡ s.2)
+IsFiguresRefusal file OutOfMemory = Unit
+IsFiguresRefusal file NotPicture = ⊥
+IsFiguresRefusal file NoGrey = ⊥
+
+abbrev pub IsGreysRefusal : List ℕ → Unscanned → Type 0  -- why a file of greys is refused
+IsGreysRefusal file NoSide = ¬ HasSides file
+IsGreysRefusal file NoGrey = HasSides file × ¬ HasGrey file
+IsGreysRefusal file NotPixel = HasSides file × HasGrey file × (is_ended (greatest_of file).1 ≡ false)
+IsGreysRefusal file TooShort =
+    let s = sides_of file in HasSides file × HasGrey file × (is_ended (greatest_of file).1 ≡ true) × (length (drop 1 (greatest_of file).1) < s.0 * s.1)
+IsGreysRefusal file OutOfMemory = Unit
+IsGreysRefusal file NotPicture = ⊥
+
+-- the pixels that the bytes of a picture show: those of a PBM file of figures or bits, or of a PGM file, by its first two bytes
+pub record IsSeenIn (file : List ℕ) (b : Bitmap) : Type 0 where
+  pub figures : take 2 file ≡ codes "P1" → IsFiguresFile file × (b ≡ figures_file file)
+  pub bits : take 2 file ≡ codes "P4" → IsBitsFile file × (b ≡ bits_file file)
+  pub greys : take 2 file ≡ codes "P5" → IsGreysFile file × (b ≡ greys_file file)
+
+-- why the bytes of a picture are refused: of a file, by its first two bytes, what it lacks to be one, or want of memory
+pub record IsUnscanned (file : List ℕ) (e : Unscanned) : Type 0 where
+  pub figures : take 2 file ≡ codes "P1" → IsFiguresRefusal file e
+  pub bits : take 2 file ≡ codes "P4" → IsBitsRefusal file e
+  pub greys : take 2 file ≡ codes "P5" → IsGreysRefusal file e

@@ -1,0 +1,141 @@
+//! Headers in a list of bits: what may stand in front of segments.
+
+ghost use Rattle.std.specs.Prelude.{◌≡◌, ◌≢◌, ◌<◌, ◌≤◌, ◌^◌, ◌++◌, ℕ, List, Bool, IsTrue, IfSome, IfNone};
+ghost use Rattle.qrcode_types.specs.Versions.{is_valid};
+ghost use Rattle.qrcode_reader.specs.declared.spell.headers.Header.{Header};
+ghost use Rattle.qrcode_reader.specs.spell.Parts.{IsPrefixed, BeginsWithArgument, BeginsWithHeader, header_indicator};
+
+use crate::spell::fields::number_field;
+use qrcode_types::types::Version;
+
+/// What may stand in front of segments (ISO/IEC 18004:2006, 6.4.2, 6.4.8 and 8). Micro has no
+/// headers.
+#[derive(Debug, PartialEq, Eq, Copy, Clone)]
+pub enum Header {
+    /// The number of the character set of the bytes behind it, below 1,000,000 (ECI).
+    Eci(u32),
+    /// FNC1 in the first position: the data are element strings of GS1.
+    Fnc1First,
+    /// FNC1 in the second position, with the application indicator as it is written: two digits as
+    /// their number, a letter as its code and 100.
+    Fnc1Second(u8),
+    /// The symbol is one of several (Structured Append): its place from 0 on, the place of the last
+    /// one, both at most 15, and the exclusive or of all bytes of the message.
+    StructuredAppend { place: u8, last: u8, parity: u8 },
+}
+
+// A number in so many bits behind a prefix, and the rest.
+pub(crate) fn prefixed(
+    bits: &[bool],
+    width: usize,
+    prefix: u32,
+    count: usize,
+) -> Option<(u32, &[bool])>
+    requires width_at_most { width ≤ 32 }
+    requires count_at_most { count ≤ 32 }
+    requires fits { prefix < 2 ^ width }
+    ensures some { IfSome result (λ found. (front : List Bool)
+        × IsPrefixed width prefix count found.0 front × (bits.now ≡ front ++ found.1.now)) }
+    ensures none { IfNone result ((n : ℕ) (front rest : List Bool)
+        → IsPrefixed width prefix count n front → bits.now ≢ front ++ rest) }
+{
+    let Some((first, behind)) = number_field(bits, width) else {
+        return None;
+    };
+    if first != prefix {
+        return None;
+    }
+    let Some((number, rest)) = number_field(behind, count) else {
+        return None;
+    };
+    Some((number, rest))
+}
+
+// The number of a character set, in one, two or three bytes.
+fn eci(bits: &[bool]) -> Option<(Header, &[bool])>
+    ensures some { IfSome result (λ found. BeginsWithArgument found.0 bits.now found.1.now
+        × (header_indicator found.0 ≡ 7)) }
+    ensures none { IfNone result ((h : Header) (rest : List Bool)
+        → header_indicator h ≡ 7 → ¬ BeginsWithArgument h bits.now rest) }
+{
+    if let Some((number, rest)) = prefixed(bits, 1, 0b0, 7) {
+        return Some((Header::Eci(number), rest));
+    }
+    if let Some((number, rest)) = prefixed(bits, 2, 0b10, 14) {
+        return Some((Header::Eci(number), rest));
+    }
+    let Some((number, rest)) = prefixed(bits, 3, 0b110, 21) else {
+        return None;
+    };
+    if number >= 1_000_000 {
+        return None;
+    }
+    Some((Header::Eci(number), rest))
+}
+
+// The application indicator of FNC1 in the second position.
+fn fnc1_second(bits: &[bool]) -> Option<(Header, &[bool])>
+    ensures some { IfSome result (λ found. BeginsWithArgument found.0 bits.now found.1.now
+        × (header_indicator found.0 ≡ 9)) }
+    ensures none { IfNone result ((h : Header) (rest : List Bool)
+        → header_indicator h ≡ 9 → ¬ BeginsWithArgument h bits.now rest) }
+{
+    let Some((number, rest)) = number_field(bits, 8) else {
+        return None;
+    };
+    Some((Header::Fnc1Second(number as u8), rest))
+}
+
+// The places and the parity of one of several symbols.
+fn structured_append(bits: &[bool]) -> Option<(Header, &[bool])>
+    ensures some { IfSome result (λ found. BeginsWithArgument found.0 bits.now found.1.now
+        × (header_indicator found.0 ≡ 3)) }
+    ensures none { IfNone result ((h : Header) (rest : List Bool)
+        → header_indicator h ≡ 3 → ¬ BeginsWithArgument h bits.now rest) }
+{
+    let Some((number, rest)) = number_field(bits, 16) else {
+        return None;
+    };
+    let header = Header::StructuredAppend {
+        place: (number / 4096) as u8,
+        last: (number / 256 % 16) as u8,
+        parity: (number % 256) as u8,
+    };
+    Some((header, rest))
+}
+
+// The header that an indicator announces, by the bits behind it.
+fn argument(indicator: u32, bits: &[bool]) -> Option<(Header, &[bool])>
+    ensures some { IfSome result (λ found. BeginsWithArgument found.0 bits.now found.1.now
+        × (header_indicator found.0 ≡ indicator)) }
+    ensures none { IfNone result ((h : Header) (rest : List Bool)
+        → header_indicator h ≡ indicator → ¬ BeginsWithArgument h bits.now rest) }
+{
+    match indicator {
+        3 => structured_append(bits),
+        5 => Some((Header::Fnc1First, bits)),
+        7 => eci(bits),
+        9 => fnc1_second(bits),
+        _ => None,
+    }
+}
+
+// The header that stands in front of the bits, and the rest.
+pub(crate) fn take_header(bits: &[bool], version: Version) -> Option<(Header, &[bool])>
+    requires { IsTrue (is_valid version) }
+    ensures some { IfSome result (λ found.
+        BeginsWithHeader version found.0 bits.now found.1.now) }
+    ensures none { IfNone result ((h : Header) (rest : List Bool)
+        → ¬ BeginsWithHeader version h bits.now rest) }
+{
+    if version.is_micro() {
+        return None;
+    }
+    let Some((indicator, behind)) = number_field(bits, 4) else {
+        return None;
+    };
+    let Some((header, rest)) = argument(indicator, behind) else {
+        return None;
+    };
+    Some((header, rest))
+}

@@ -1,0 +1,82 @@
+//! The parts of a symbol's data: headers, and segments.
+
+ghost use Rattle.std.specs.Prelude.{◌≡◌, ◌⊎◌, ℕ, List, IsTrue, IfOk, IfErr, IsOkUnless};
+ghost use Rattle.std.specs.List.{AllByRecursion};
+ghost use Rattle.qrcode_types.specs.Versions.{is_valid};
+ghost use Rattle.qrcode_bits.specs.Spelling.{Spells};
+ghost use Rattle.qrcode_reader.specs.spell.Parts.{AreParts, HaveNoParts, IsSegment, AppendsPart};
+ghost use Rattle.qrcode_reader.specs.declared.spell.parts.Part.{Part};
+ghost use Rattle.qrcode_reader.specs.declared.spell.refusals.Unspelled.TheVariants.{NotSpelled, OutOfMemory};
+
+use crate::spell::headers::{Header, take_header};
+use crate::spell::refusals::Unspelled;
+use crate::spell::segments::{is_end, push_piece};
+use qrcode_types::types::{Mode, Version};
+use std::alloc::Global;
+
+/// A part of a symbol's data.
+#[derive(Debug, PartialEq, Eq, Copy, Clone)]
+pub enum Part {
+    /// A header, which says something of the segments behind it.
+    Front(Header),
+    /// A segment of a mode, and how many bytes it has.
+    Bytes(Mode, usize),
+}
+
+/// The parts of a symbol's data.
+#[derive(Debug, Drop)]
+pub struct Parts {
+    /// The bytes of all segments, one after the other.
+    pub bytes: Vec<u8>,
+    /// The headers and segments in order.
+    pub parts: Vec<Part>,
+}
+
+// Appends the bytes of the part that stands in front of the bits, and answers the part and the rest.
+fn push_part<'a>(
+    bytes: &mut Vec<u8>,
+    bits: &'a [bool],
+    version: Version,
+) -> Result<(Part, &'a [bool]), Unspelled>
+    requires { IsTrue (is_valid version) }
+    ensures { AppendsPart version bits.now bytes.old.items bytes.new.items result }
+{
+    if let Some((header, rest)) = take_header(bits, version) {
+        return Ok((Part::Front(header), rest));
+    }
+    let begin = bytes.len();
+    let (mode, rest) = push_piece(bytes, bits, version)?;
+    Ok((Part::Bytes(mode, bytes.len() - begin), rest))
+}
+
+/// The headers and segments of a symbol's data bits in order (ISO/IEC 18004:2006, 6.4 and 8), up to the
+/// terminator, or to the end where that is cut off: what `spell` reads, and headers too. Which header may
+/// stand where is not looked at.
+///
+/// `NotSpelled`: the bits are not headers, segments and an end. `OutOfMemory` is the only other error.
+pub fn pieces(alloc: Global, bits: &[bool], version: Version) -> Result<Parts, Unspelled>
+    requires { IsTrue (is_valid version) }
+    ensures value { IfOk result (λ found.
+        AreParts version bits.now found.bytes.items found.parts.items) }
+    ensures only { IfOk result (λ found. (bytes : List ℕ) (parts : List Part)
+        → AreParts version bits.now bytes parts
+        → (bytes ≡ found.bytes.items) × (parts ≡ found.parts.items)) }
+    ensures accepts { (bytes : List ℕ) (parts : List Part)
+        → AreParts version bits.now bytes parts → IsOkUnless result OutOfMemory }
+    ensures causes { IfErr result (λ e. (e ≡ OutOfMemory)
+        ⊎ ((e ≡ NotSpelled) × HaveNoParts version bits.now)) }
+
+    // Bits that spell bytes have segments of these bytes and no header.
+    ensures segments { (bytes : List ℕ) → Spells version bits.now bytes → IfOk result (λ found.
+        (found.bytes.items ≡ bytes) × AllByRecursion IsSegment found.parts.items) }
+{
+    let mut bytes = Vec::new(alloc);
+    let mut parts = Vec::new(alloc);
+    let mut rest = bits;
+    while !is_end(rest, version) {
+        let (part, behind) = push_part(&mut bytes, rest, version)?;
+        parts.push(part)?;
+        rest = behind;
+    }
+    Ok(Parts { bytes, parts })
+}

@@ -1,9 +1,0 @@
-use Rattle.std.proofs.Common.{length}
-use Rattle.qrcode_spell.proofs.Parted.{PartsFront}
-use Rattle.qrcode_spell.proofs.parts.pieces.Given as goal
-
-abbrev pub invariant-loop-rest : goal.invariant-loop-rest
-invariant-loop-rest l = PartsFront l.version l.bits l.bytes.items l.parts.items l.rest
-
-abbrev pub decreases-loop-rest : goal.decreases-loop-rest
-decreases-loop-rest l = length l.rest
