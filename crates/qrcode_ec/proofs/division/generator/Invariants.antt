@@ -1,6 +1,6 @@
 use Rattle.std.proofs.Common.{◌≡◌, ℕ, ◌≤◌, ◌+◌, ◌∷◌, get_or, length, take}
 use Rattle.qrcode_ec.specs.Codes.{Vanishes}
-use Rattle.qrcode_ec.proofs.division.made_generator.Given as goal
+use Rattle.qrcode_ec.proofs.division.generator.Given as goal
 
 abbrev pub invariant-loop-i : goal.invariant-loop-i
 invariant-loop-i l = record {

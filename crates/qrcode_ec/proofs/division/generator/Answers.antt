@@ -1,9 +1,8 @@
 use Rattle.std.proofs.Common.{◌≡◌, ℕ, zero, suc, List, ◌+◌, ◌≤◌, ◌∷◌, get_or, refl, subst, sym, ◌∙◌, arith}
 use Rattle.qrcode_ec.specs.Codes.{Vanishes}
-use Rattle.qrcode_ec.specs.Field.{power}
 use Rattle.qrcode_ec.proofs.Generators.{next_generator}
 use Rattle.qrcode_ec.proofs.Syndromes.{vanishes_padded, zeros_at}
-use Rattle.qrcode_ec.proofs.division.made_generator.Goals as goal
+use Rattle.qrcode_ec.proofs.division.generator.Goals as goal
 
 pub loop-i-init : goal.loop-i-init
 loop-i-init c = record { long = refl; vanishes = λ i below. absurd (omega arith); ends = λ j _. zeros_at 72 j }
@@ -11,8 +10,8 @@ loop-i-init c = record { long = refl; vanishes = λ i below. absurd (omega arith
 pub loop-i-preserved : goal.loop-i-preserved
 loop-i-preserved c = record {
   long = c.multiply.array_long;
-  vanishes = next_generator c.loop-i.i (power c.loop-i.i) c.loop-i.coefficients c.multiply.new.coefficients (omega (arith, c.loop-i.invariant.long))
-      (c.multiply.array_long ∙ sym c.loop-i.invariant.long) c.multiply.ensures.below c.loop-i.invariant.ends refl c.loop-i.invariant.vanishes;
+  vanishes = next_generator c.loop-i.i c.power.result c.loop-i.coefficients c.multiply.new.coefficients (omega (arith, c.loop-i.invariant.long))
+      (c.multiply.array_long ∙ sym c.loop-i.invariant.long) c.multiply.ensures.below c.loop-i.invariant.ends c.power.ensures.value c.loop-i.invariant.vanishes;
   ends = λ j most. c.multiply.ensures.behind j most ∙ c.loop-i.invariant.ends j (omega arith);
 }
 
