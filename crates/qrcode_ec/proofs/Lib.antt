@@ -5,8 +5,8 @@ pub mod Distances
 pub mod Divisions
 pub mod Generators
 pub mod Interleavings
-pub mod KnownGenerators
 pub mod Lanes
+pub mod Multiples
 pub mod Parts
 pub mod Places
 pub mod Powers
@@ -14,4 +14,3 @@ pub mod Products
 pub mod Registers
 pub mod Syndromes
 pub mod Xor
-pub mod Lists

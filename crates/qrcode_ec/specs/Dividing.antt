@@ -19,11 +19,6 @@ pub record AreOfGenerator (degree : ℕ) (generator : List ℕ) (low high : List
   pub units : AreMultiples generator 1 low
   pub sixteens : AreMultiples generator 16 high
 
--- row k has the first 32 coefficients times k, for each byte k
-pub record AreAllMultiples (coefficients : List ℕ) (rows : List (List ℕ)) : Type 0 where
-  pub all : length rows ≡ 256
-  pub at : (k j : ℕ) → k < 256 → j < 32 → slice_index (slice_index_or rows k []) j ≡ product k (slice_index coefficients j)
-
 -- a register of so many places has the remainder of what is done by the generator of a degree, and zeros behind it
 pub record IsRegister (degree room : ℕ) (done register : List ℕ) : Type 0 where
   pub long : length register ≡ room

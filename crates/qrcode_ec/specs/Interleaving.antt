@@ -1,5 +1,5 @@
 -- The blocks of data bytes, and the codewords in which they stand interleaved.
-use Rattle.std.specs.Prelude.{◌≡◌, ℕ, ◌+◌, ◌-◌, ◌*◌, ◌<◌, ◌++◌, nat_le, List, length, map, replicate, slice_index, slice_range, if◌then◌else◌}
+use Rattle.std.specs.Prelude.{◌≡◌, ℕ, ◌+◌, ◌-◌, ◌*◌, ◌<◌, ◌++◌, nat_le, List, length, map, slice_index, slice_range, if◌then◌else◌}
 use Rattle.std.specs.List.{range_with_len}
 use Rattle.qrcode_types.specs.Bits.{AreBytes}
 use Rattle.qrcode_types.specs.Blocks.{count_of, data_length_of}
@@ -40,19 +40,3 @@ pub record AreWordsOf (blocks : Blocks) (bytes data_words ec_words : List ℕ) :
   pub ec_long : length ec_words ≡ blocks.ec_length * count_of blocks
   pub ec_bytes : AreBytes ec_words
   pub vanishes : MakeVanish blocks bytes ec_words
-
--- the codewords of blocks in one list, and nine zeros behind them
-pub record IsWordList (blocks : Blocks) (bytes list : List ℕ) : Type 0 where
-  pub data_words : List ℕ
-  pub ec_words : List ℕ
-  pub are : AreWordsOf blocks bytes data_words ec_words
-  pub joined : list ≡ data_words ++ (ec_words ++ replicate 9 0)
-
--- the bytes of blocks as they are, their error correction codewords and nine zeros behind them
-pub record IsCorrected (blocks : Blocks) (bytes list : List ℕ) : Type 0 where
-  pub bytes_are : AreBytes bytes
-  pub ec_words : List ℕ
-  pub ec_long : length ec_words ≡ blocks.ec_length * count_of blocks
-  pub ec_bytes : AreBytes ec_words
-  pub vanishes : MakeVanish blocks bytes ec_words
-  pub joined : list ≡ bytes ++ (ec_words ++ replicate 9 0)

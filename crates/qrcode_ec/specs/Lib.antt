@@ -4,4 +4,3 @@ pub mod Codes
 pub mod Dividing
 pub mod Field
 pub mod Interleaving
-pub mod Lists

@@ -79,18 +79,6 @@ fn power_of_sum(first: usize, second: usize) -> u8
     POWERS[come_round(first + second)]
 }
 
-/// A byte times the power of 2 with this exponent.
-#[inline(always)]
-pub(crate) fn times_power(exponent: usize, byte: u8) -> u8
-    requires { exponent < 255 }
-    ensures { result ≡ product (power exponent) byte }
-{
-    if byte == 0 {
-        return 0;
-    }
-    power_of_sum(exponent, logarithm(byte))
-}
-
 /// The product of two bytes in the field.
 #[inline(always)]
 pub fn product(a: u8, b: u8) -> u8

@@ -1,23 +1,13 @@
 //! The order of the codewords: the first bytes of all blocks, then the second ones, and so on.
 
-ghost use Rattle.std.specs.Prelude.{◌≡◌, ◌≢◌, ℕ, ◌+◌, ◌*◌, ◌<◌, ◌≤◌, ◌++◌, length, vec_len, slice_index, IfOk, OnOk};
+ghost use Rattle.std.specs.Prelude.{◌≡◌, ◌≢◌, ℕ, ◌+◌, ◌*◌, ◌<◌, ◌≤◌, length, slice_index, IfOk};
 ghost use Rattle.qrcode_types.specs.Bits.{AreBytes};
 ghost use Rattle.qrcode_types.specs.Blocks.{count_of, data_length_of};
-ghost use Rattle.qrcode_ec.specs.Codes.{Vanishes};
-ghost use Rattle.qrcode_ec.specs.Interleaving.{data_block, ec_block, length_of, HasRows, HasEnds, MakeVanish, AreWordsOf};
+ghost use Rattle.qrcode_ec.specs.Interleaving.{data_block, length_of, HasRows, HasEnds, MakeVanish, AreWordsOf};
 
-use crate::division::table::TableDivider;
-use crate::division::{Divider, remainder_of_few};
+use crate::division::Divider;
 use qrcode_types::tables::Blocks;
 use std::alloc::{AllocError, Global};
-
-// Where no more bytes than this are divided, by a generator of no higher degree, products are less work
-// than multiples of the generator.
-const FEW: usize = 11;
-
-// From so many bytes on, a table of all multiples of the generator is less work than those of which
-// each other one is a sum.
-const MANY: usize = 560;
 
 /// The data bytes of a symbol, which stand block by block.
 #[derive(Drop)]
@@ -96,108 +86,6 @@ impl<'a> DataBlocks<'a> {
         }
     }
 
-    // The same, without multiples of the generator.
-    fn write_ec_of_few(&self, codewords: &mut [u8])
-        requires { length codewords.old ≡ self.now.blocks.ec_length * count_of self.now.blocks }
-        ensures bytes { AreBytes codewords.new }
-        ensures vanishes { MakeVanish self.now.blocks self.now.bytes.now codewords.new }
-    {
-        let count = self.blocks.count();
-        for b in 0..count {
-            let ec = remainder_of_few(self.blocks.ec_length, self.block(b));
-            spread(&ec[..self.blocks.ec_length], codewords, b, count);
-        }
-    }
-
-    /// Writes the error correction codewords of the symbol.
-    pub(crate) fn write_correction(&self, codewords: &mut [u8])
-        requires { length codewords.old ≡ self.now.blocks.ec_length * count_of self.now.blocks }
-        ensures bytes { AreBytes codewords.new }
-        ensures vanishes { MakeVanish self.now.blocks self.now.bytes.now codewords.new }
-    {
-        if self.bytes.len() <= FEW && self.blocks.ec_length <= FEW {
-            self.write_ec_of_few(codewords);
-        } else {
-            self.write_ec(codewords);
-        }
-    }
-
-    /// The error correction codewords of the symbol.
-    pub(crate) fn ec_codewords(&self, alloc: Global) -> Result<Vec<u8>, AllocError>
-        ensures length { IfOk result (λ words.
-            vec_len words ≡ self.now.blocks.ec_length * count_of self.now.blocks) }
-        ensures bytes { IfOk result (λ words. AreBytes words.items) }
-        ensures vanishes { IfOk result (λ words.
-            MakeVanish self.now.blocks self.now.bytes.now words.items) }
-    {
-        let mut codewords = vec![in alloc; 0; self.blocks.total_ec_length()]?;
-        self.write_correction(&mut codewords);
-        Ok(codewords)
-    }
-
-    // Writes the bytes of a block that each block has, and its error correction bytes.
-    fn write_block(&self, table: &TableDivider, index: usize, codewords: &mut [u8], ec: &mut [u8])
-        requires degree { table.now.divider.degree ≡ self.now.blocks.ec_length }
-        requires exists { index < count_of self.now.blocks }
-        requires codewords { length codewords.old ≡ data_length_of self.now.blocks }
-        requires ec { length ec.old ≡ self.now.blocks.ec_length * count_of self.now.blocks }
-        ensures written { (i : ℕ) → i < self.now.blocks.short_length
-            → slice_index codewords.new (i * count_of self.now.blocks + index)
-            ≡ slice_index (data_block self.now.blocks self.now.bytes.now index) i }
-        ensures data_unchanged { (i k : ℕ) → k < count_of self.now.blocks → k ≢ index
-            → slice_index codewords.new (i * count_of self.now.blocks + k)
-            ≡ slice_index codewords.old (i * count_of self.now.blocks + k) }
-        ensures vanishes { Vanishes (data_block self.now.blocks self.now.bytes.now index
-            ++ ec_block self.now.blocks ec.new index) self.now.blocks.ec_length }
-        ensures ec_unchanged { (i k : ℕ) → k < count_of self.now.blocks → k ≢ index
-            → slice_index ec.new (i * count_of self.now.blocks + k)
-            ≡ slice_index ec.old (i * count_of self.now.blocks + k) }
-    {
-        let count = self.blocks.count();
-        let (front, rest) = self.block(index).split_at(self.blocks.short_length);
-        let remainder = table.remainder(front, rest, codewords, index, count);
-        spread(&remainder[..self.blocks.ec_length], ec, index, count);
-    }
-
-    // Writes the data bytes of all blocks and their error correction bytes.
-    fn write_blocks(&self, table: &TableDivider, codewords: &mut [u8], ec: &mut [u8])
-        requires degree { table.now.divider.degree ≡ self.now.blocks.ec_length }
-        requires codewords { length codewords.old ≡ data_length_of self.now.blocks }
-        requires ec { length ec.old ≡ self.now.blocks.ec_length * count_of self.now.blocks }
-        ensures rows { HasRows self.now.blocks self.now.bytes.now codewords.new }
-        ensures ends { HasEnds self.now.blocks self.now.bytes.now codewords.new }
-        ensures data_bytes { AreBytes codewords.new }
-        ensures ec_bytes { AreBytes ec.new }
-        ensures vanishes { MakeVanish self.now.blocks self.now.bytes.now ec.new }
-    {
-        for b in 0..self.blocks.count() {
-            self.write_block(table, b, codewords, ec);
-        }
-        self.write_ends(codewords);
-    }
-
-    /// Writes the data codewords of the symbol and its error correction codewords.
-    pub(crate) fn write_all(
-        &self,
-        alloc: Global,
-        codewords: &mut [u8],
-        ec: &mut [u8],
-    ) -> Result<(), AllocError>
-        requires codewords { length codewords.old ≡ data_length_of self.now.blocks }
-        requires ec { length ec.old ≡ self.now.blocks.ec_length * count_of self.now.blocks }
-        ensures { OnOk result
-            (AreWordsOf self.now.blocks self.now.bytes.now codewords.new ec.new) }
-    {
-        if self.bytes.len() < MANY {
-            self.write_data(codewords);
-            self.write_correction(ec);
-            return Ok(());
-        }
-        let table = TableDivider::new(alloc, self.blocks.ec_length)?;
-        self.write_blocks(&table, codewords, ec);
-        Ok(())
-    }
-
     /// The data codewords of the symbol and its error correction codewords.
     pub(crate) fn codewords(&self, alloc: Global) -> Result<(Vec<u8>, Vec<u8>), AllocError>
         ensures { IfOk result (λ words.
@@ -205,8 +93,9 @@ impl<'a> DataBlocks<'a> {
     {
         // Not of zeros, which would be set byte by byte; all are written below.
         let mut data = Vec::from_slice(alloc, self.bytes)?;
+        self.write_data(&mut data);
         let mut ec = vec![in alloc; 0; self.blocks.total_ec_length()]?;
-        self.write_all(alloc, &mut data, &mut ec)?;
+        self.write_ec(&mut ec);
         Ok((data, ec))
     }
 }

@@ -4,26 +4,22 @@
 mod division;
 mod field;
 mod interleaving;
-mod listing;
 
 ghost use Rattle.std.specs.Prelude.{◌≡◌, ℕ, ◌+◌, ◌-◌, ◌/◌, ◌≤◌, ◌++◌, List, false, length, vec_len, IfOk, IsTrue, is_ok};
 ghost use Rattle.std.specs.Result.{IsOkUnless};
 ghost use Rattle.qrcode_types.specs.Bits.{AreBytes};
-ghost use Rattle.qrcode_types.specs.Blocks.{AreBlocks, count_of, data_length_of};
 ghost use Rattle.qrcode_types.specs.Versions.{is_valid, has_level, block_lengths, total_ec_length, data_length};
 ghost use Rattle.qrcode_types.specs.declared.types.QrError.TheVariants.{InvalidVersion, OutOfMemory};
 ghost use Rattle.qrcode_ec.specs.Allowed.{misdecode_protection};
 ghost use Rattle.qrcode_ec.specs.Blocks.{AreCodewords};
-ghost use Rattle.qrcode_ec.specs.Lists.{AreListed};
 ghost use Rattle.qrcode_ec.specs.Codes.{Vanishes, HasDistanceAbove};
 
 pub use division::{Divider, ROOM};
 pub use field::{power, product, quotient};
 use interleaving::DataBlocks;
-use listing::{listed, listed_whole};
 use qrcode_types::tables::Blocks;
 use qrcode_types::types::{EcLevel, QrError, QrResult, Version};
-use std::alloc::{AllocError, Global};
+use std::alloc::Global;
 
 /// The error correction bytes of a block of data bytes, `ec_code_size` of them, which is to be at
 /// most 69: the only ones that, behind the data bytes, make the whole vanish at as many powers of 2
@@ -77,72 +73,6 @@ pub fn construct_codewords(
     };
     let words = DataBlocks { blocks, bytes }.codewords(alloc)?;
     Ok(words)
-}
-
-/// The same of bytes that are given away: where they are one block, they are the data codewords.
-///
-/// `InvalidVersion`: there is no such version, or it lacks the level. `OutOfMemory` is the only
-/// other error.
-pub fn into_codewords(
-    alloc: Global,
-    bytes: Vec<u8>,
-    version: Version,
-    ec_level: EcLevel,
-) -> QrResult<(Vec<u8>, Vec<u8>)>
-    requires { IsTrue (has_level version ec_level)
-        → vec_len bytes ≡ data_length version ec_level }
-    ensures no_level { has_level version ec_level ≡ false → result ≡ Err InvalidVersion }
-    ensures memory { IsTrue (has_level version ec_level) → IsOkUnless result OutOfMemory }
-    ensures value { IfOk result (λ words.
-        AreCodewords version ec_level bytes.items words.0.items words.1.items) }
-    ensures one_block { length (block_lengths version ec_level) ≡ 1
-        → IfOk result (λ words. words.0.items ≡ bytes.items) }
-{
-    let Some(blocks) = Blocks::of(version, ec_level) else {
-        return Err(QrError::InvalidVersion);
-    };
-    if blocks.count() > 1 {
-        return construct_codewords(alloc, &bytes, version, ec_level);
-    }
-    let ec = one_block_ec(alloc, blocks, &bytes)?;
-    Ok((bytes, ec))
-}
-
-/// The codewords that `into_codewords` gives in one list, the data codewords first, and nine zeros
-/// behind them.
-///
-/// `InvalidVersion`: there is no such version, or it lacks the level. `OutOfMemory` is the only
-/// other error.
-pub fn into_list(
-    alloc: Global,
-    bytes: Vec<u8>,
-    version: Version,
-    ec_level: EcLevel,
-) -> QrResult<Vec<u8>>
-    requires { IsTrue (has_level version ec_level)
-        → vec_len bytes ≡ data_length version ec_level }
-    ensures no_level { has_level version ec_level ≡ false → result ≡ Err InvalidVersion }
-    ensures memory { IsTrue (has_level version ec_level) → IsOkUnless result OutOfMemory }
-    ensures value { IfOk result (λ list. AreListed version ec_level bytes.items list.items) }
-{
-    let Some(blocks) = Blocks::of(version, ec_level) else {
-        return Err(QrError::InvalidVersion);
-    };
-    if blocks.count() == 1 {
-        return Ok(listed_whole(blocks, bytes)?);
-    }
-    Ok(listed(alloc, blocks, &bytes)?)
-}
-
-// The error correction codewords of data that is one block.
-fn one_block_ec(alloc: Global, blocks: Blocks, bytes: &[u8]) -> Result<Vec<u8>, AllocError>
-    requires one { count_of blocks ≡ 1 }
-    requires whole { length bytes.now ≡ data_length_of blocks }
-    ensures { (v : Version) (l : EcLevel) → AreBlocks v l blocks
-        → IfOk result (λ ec. AreCodewords v l bytes.now bytes.now ec.items) }
-{
-    let ec = DataBlocks { blocks, bytes }.ec_codewords(alloc)?;
-    Ok(ec)
 }
 
 /// How many wrong codewords the standard allows over all blocks: half of the error correction

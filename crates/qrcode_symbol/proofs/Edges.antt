@@ -4,8 +4,8 @@ use Rattle.std.proofs.lemmas.Bool.Decides.{nat_tests}
 use Rattle.qrcode_types.specs.Versions.{side, is_micro}
 use Rattle.qrcode_types.specs.declared.types.Version.{Version}
 use Rattle.qrcode_types.specs.declared.types.Version.TheVariants.{Normal, Micro}
-use Rattle.qrcode_packed.specs.Rows.{is_set, dark_in, inside}
-use Rattle.qrcode_penalty.specs.Penalty.{micro_penalty}
+use Rattle.qrcode_masks.specs.Rows.{is_set, dark_in, inside}
+use Rattle.qrcode_masks.specs.Penalty.{micro_penalty}
 use Rattle.qrcode_places.specs.Masks.{turns, turned_if}
 use Rattle.qrcode_places.specs.Patterns.{decided_bit}
 use Rattle.qrcode_places.specs.declared.masks.MaskPattern.{MaskPattern}

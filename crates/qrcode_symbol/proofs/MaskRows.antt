@@ -4,8 +4,8 @@ use Rattle.std.proofs.Math.Nat.{mul-add}
 use Rattle.std.proofs.lemmas.Nat.{shr_split}
 use Rattle.std.proofs.lemmas.Nat.Bits.{bit_at_cat_low}
 use Rattle.std.specs.Int.{bit_at}
-use Rattle.qrcode_packed.specs.Rows.{is_set}
-use Rattle.qrcode_penalty.specs.Penalty.{same}
+use Rattle.qrcode_masks.specs.Rows.{is_set}
+use Rattle.qrcode_masks.specs.Penalty.{same}
 use Rattle.qrcode_places.specs.Masks.{turns, mask_number}
 use Rattle.qrcode_symbol.specs.Masking.{three_words}
 use borrow.Author.Tests.{ltb-true}

@@ -16,7 +16,7 @@ use Rattle.qrcode_types.specs.declared.types.Version.TheVariants.{Normal, Micro}
 use Rattle.qrcode_types.specs.declared.types.EcLevel.{EcLevel}
 use Rattle.qrcode_types.specs.declared.types.Color.{Color}
 use Rattle.qrcode_types.specs.declared.types.Color.TheVariants.{Light, Dark}
-use Rattle.qrcode_packed.specs.Rows.{Shows, inside, dark_in}
+use Rattle.qrcode_masks.specs.Rows.{Shows, inside, dark_in}
 use Rattle.qrcode_places.specs.Masks.{turns, turned_if, nth_mask}
 use Rattle.qrcode_places.specs.Words.{format_word}
 use Rattle.qrcode_places.specs.Patterns.{format_index, dark_module}

@@ -13,7 +13,7 @@ use Rattle.qrcode_types.specs.declared.types.Version.{Version}
 use Rattle.qrcode_types.specs.declared.types.EcLevel.{EcLevel}
 use Rattle.qrcode_types.specs.declared.types.Color.{Color}
 use Rattle.qrcode_types.specs.declared.types.Color.TheVariants.{Light}
-use Rattle.qrcode_penalty.specs.Penalty.{same}
+use Rattle.qrcode_masks.specs.Penalty.{same}
 use Rattle.qrcode_places.specs.Masks.{turns, turned_if}
 use Rattle.qrcode_places.specs.Words.{format_word}
 use Rattle.qrcode_places.specs.Patterns.{finder, alignment, timing, version_pattern, pattern, format_index, dark_module}

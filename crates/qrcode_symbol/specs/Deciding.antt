@@ -1,7 +1,7 @@
 -- Bits that no mask decides, written into packed rows.
 use Rattle.std.specs.Prelude.{◌≡◌, ◌≢◌, ℕ, ◌+◌, ◌<◌, ◌≤◌, Bool, List, unwrap_or}
 use Rattle.qrcode_types.specs.declared.types.Version.{Version}
-use Rattle.qrcode_packed.specs.Rows.{is_set, dark_in}
+use Rattle.qrcode_masks.specs.Rows.{is_set, dark_in}
 use Rattle.qrcode_places.specs.Patterns.{decided_bit}
 
 -- a row with so many bits from a place on

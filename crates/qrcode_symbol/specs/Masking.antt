@@ -4,7 +4,7 @@ use Rattle.qrcode_types.specs.Colors.{is_dark}
 use Rattle.qrcode_types.specs.declared.types.Color.{Color}
 use Rattle.qrcode_types.specs.declared.types.Version.{Version}
 use Rattle.qrcode_types.specs.declared.types.EcLevel.{EcLevel}
-use Rattle.qrcode_packed.specs.Rows.{Shows, inside, is_set, dark_in}
+use Rattle.qrcode_masks.specs.Rows.{Shows, inside, is_set, dark_in}
 use Rattle.qrcode_places.specs.Masks.{turns, turned_if, nth_mask}
 use Rattle.qrcode_places.specs.Words.{format_word}
 use Rattle.qrcode_places.specs.Patterns.{decided_bit}

@@ -8,8 +8,8 @@ use Rattle.qrcode_types.specs.declared.types.Version.{Version}
 use Rattle.qrcode_types.specs.declared.types.Version.TheVariants.{Normal, Micro}
 use Rattle.qrcode_types.specs.declared.types.EcLevel.{EcLevel}
 use Rattle.qrcode_types.specs.declared.types.Color.{Color}
-use Rattle.qrcode_penalty.specs.Penalty.{same, normal_penalty, micro_penalty}
-use Rattle.qrcode_packed.specs.Rows.{inside}
+use Rattle.qrcode_masks.specs.Penalty.{same, normal_penalty, micro_penalty}
+use Rattle.qrcode_masks.specs.Rows.{inside}
 use Rattle.qrcode_places.specs.Masks.{turns, turned_if, exists_in, mask_number}
 use Rattle.qrcode_places.specs.Words.{format_word}
 use Rattle.qrcode_places.specs.Patterns.{format_index, pattern}

@@ -6,7 +6,7 @@ use Rattle.qrcode_types.specs.declared.types.EcLevel.TheVariants.{L, M}
 use Rattle.qrcode_places.specs.Words.{with_check_bits, format_word}
 use Rattle.qrcode_places.specs.Patterns.{finder, centres, alignment, timing, dark_module, version_pattern, pattern, format_copies, format_index}
 use Rattle.qrcode_places.specs.declared.masks.MaskPattern.TheVariants.{Checkerboard, HorizontalLines, VerticalLines, DiagonalLines, LargeCheckerboard, Fields, Diamonds, Meadow}
-use Rattle.qrcode_penalty.specs.Penalty.{sum_below, run_length, run_penalty, is_finder_like, finder_penalty_at, finder_penalty, block_penalty_at, block_penalty, dark_count, dark_count_in, balance_penalty, normal_penalty, light_count, micro_penalty}
+use Rattle.qrcode_masks.specs.Penalty.{sum_below, run_length, run_penalty, is_finder_like, finder_penalty_at, finder_penalty, block_penalty_at, block_penalty, dark_count, dark_count_in, balance_penalty, normal_penalty, light_count, micro_penalty}
 use Rattle.qrcode_symbol.specs.Penalties.{penalty, remasked_at, remasked, IsFirstLeast}
 use Rattle.qrcode_worked.specs.Squares.{normal_square, micro_square}
 

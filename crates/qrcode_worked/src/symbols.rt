@@ -7,7 +7,7 @@ ghost use Rattle.qrcode_types.specs.declared.types.EcLevel.TheVariants.{L, M};
 ghost use Rattle.qrcode_ec.specs.Codes.{Vanishes};
 ghost use Rattle.qrcode_places.specs.Stream.{free_places};
 ghost use Rattle.qrcode_places.specs.declared.masks.MaskPattern.TheVariants.{VerticalLines, LargeCheckerboard};
-ghost use Rattle.qrcode_penalty.specs.Penalty.{normal_penalty};
+ghost use Rattle.qrcode_masks.specs.Penalty.{normal_penalty};
 ghost use Rattle.qrcode_symbol.specs.Symbol.{IsSymbol, IsDamaged};
 ghost use Rattle.qrcode_symbol.specs.Penalties.{penalty, remasked, IsFirstLeast};
 ghost use Rattle.qrcode_symbol.specs.Reading.{ReadsBits};

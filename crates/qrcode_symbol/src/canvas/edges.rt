@@ -7,8 +7,8 @@ ghost use Rattle.qrcode_symbol.specs.Masking.{three_words, nth_cost, IsLastColum
 
 use super::masked_rows::{long_row, turned_column, turned_row};
 use super::packing::PackedModules;
-use qrcode_packed::row::PackedRow;
-use qrcode_penalty::penalty::{last_column, micro_penalty_by_edges};
+use qrcode_masks::row::PackedRow;
+use qrcode_masks::penalty::{last_column, micro_penalty_by_edges};
 use qrcode_places::masks::{mask_count, nth_mask};
 
 // The last column of a square, bit y standing for row y: which modules are dark, and which a mask may turn.

@@ -3,7 +3,7 @@
 ghost use Rattle.std.specs.Prelude.{◌≡◌, ◌≢◌, ℕ, ◌+◌, ◌-◌, ◌%◌, ◌<◌, ◌≤◌, ◌^◌, ◌&&◌, length, map, slice_index_or, true, false, IsTrue};
 ghost use Rattle.qrcode_types.specs.Bits.{has_bit};
 ghost use Rattle.qrcode_types.specs.Versions.{is_micro};
-ghost use Rattle.qrcode_packed.specs.Rows.{FitsWidth, IsSquare, is_set, dark_in, Shows};
+ghost use Rattle.qrcode_masks.specs.Rows.{FitsWidth, IsSquare, is_set, dark_in, Shows};
 ghost use Rattle.qrcode_places.specs.Masks.{turns, turned_if, exists_in};
 ghost use Rattle.qrcode_places.specs.Words.{format_word};
 ghost use Rattle.qrcode_symbol.specs.Masking.{masked_dark, next_places, three_words, AreTurned};
@@ -11,7 +11,7 @@ ghost use Rattle.qrcode_symbol.specs.Deciding.{IsPutInRow, IsPutInColumn, AreDec
 
 use super::layer::Layer;
 use super::packing::PackedModules;
-use qrcode_packed::row::PackedRow;
+use qrcode_masks::row::PackedRow;
 use qrcode_places::masks::MaskPattern;
 use qrcode_places::words::format_word;
 use qrcode_types::types::Version;

@@ -5,12 +5,12 @@ ghost use Rattle.qrcode_types.specs.Colors.{color_of};
 ghost use Rattle.qrcode_types.specs.declared.types.Color.{Color};
 ghost use Rattle.qrcode_types.specs.declared.types.Color.TheVariants.{Light};
 ghost use Rattle.qrcode_types.specs.declared.types.QrError.TheVariants.{OutOfMemory};
-ghost use Rattle.qrcode_packed.specs.Rows.{is_set, dark_in};
+ghost use Rattle.qrcode_masks.specs.Rows.{is_set, dark_in};
 ghost use Rattle.qrcode_symbol.specs.declared.canvas.Module.TheVariants.{Masked};
 ghost use Rattle.qrcode_symbol.specs.Unpacking.{IsRowWritten};
 
 use super::Module;
-use qrcode_packed::row::PackedRow;
+use qrcode_masks::row::PackedRow;
 use qrcode_places::patterns::color_of;
 use qrcode_types::types::{Color, QrResult};
 use std::alloc::AllocError;

@@ -2,7 +2,7 @@ use Rattle.std.proofs.Common.{refl}
 use Rattle.qrcode_types.specs.Polynomials.{remainder_from, remainder}
 use Rattle.qrcode_places.specs.Words.{with_check_bits, format_word}
 use Rattle.qrcode_places.specs.Patterns.{finder, centres, alignment, timing, dark_module, version_pattern, pattern, format_copies, format_index}
-use Rattle.qrcode_penalty.specs.Penalty.{sum_below, run_length, run_penalty, is_finder_like, finder_penalty_at, finder_penalty, block_penalty_at, block_penalty, dark_count, dark_count_in, balance_penalty, normal_penalty, light_count, micro_penalty}
+use Rattle.qrcode_masks.specs.Penalty.{sum_below, run_length, run_penalty, is_finder_like, finder_penalty_at, finder_penalty, block_penalty_at, block_penalty, dark_count, dark_count_in, balance_penalty, normal_penalty, light_count, micro_penalty}
 use Rattle.qrcode_symbol.specs.Penalties.{penalty, remasked_at, remasked}
 use Rattle.qrcode_worked.proofs.symbols.penalties.Goals as goal
 

@@ -1,6 +1,6 @@
 use Rattle.std.proofs.Common.{ℕ, Bool, ◌%◌, ◌^◌, ◌≡◌, ◌∙◌, ap, sym, arith}
-use Rattle.qrcode_packed.specs.Rows.{inside}
-use Rattle.qrcode_penalty.specs.Penalty.{micro_penalty}
+use Rattle.qrcode_masks.specs.Rows.{inside}
+use Rattle.qrcode_masks.specs.Penalty.{micro_penalty}
 use Rattle.qrcode_places.specs.Words.{format_word}
 use Rattle.qrcode_places.specs.declared.masks.MaskPattern.{MaskPattern}
 use Rattle.qrcode_symbol.specs.Masking.{nth_cost, masked_dark, three_words}

@@ -1,7 +1,7 @@
 use Rattle.std.proofs.Common.{◌≡◌, ◌∙◌, ap, sym, subst, arith, map, List, ℕ, slice_index_or, unwrap_or}
 use Rattle.std.proofs.lemmas.List.{map-set, length-map}
-use Rattle.qrcode_packed.specs.Rows.{is_set, dark_in}
-use Rattle.qrcode_packed.proofs.RowLists.{read}
+use Rattle.qrcode_masks.specs.Rows.{is_set, dark_in}
+use Rattle.qrcode_masks.proofs.RowLists.{read}
 use Rattle.qrcode_places.specs.Patterns.{decided_bit}
 use Rattle.qrcode_symbol.specs.Deciding.{AreDecided}
 use Rattle.qrcode_symbol.proofs.Decided.{micro_row, micro_column, both_lines, kept_behind}

@@ -1,6 +1,6 @@
 use Rattle.std.proofs.Common.{arith, ap, sym, map, ◌&&◌, ◌∙◌, unwrap_or}
 use Rattle.std.proofs.lemmas.List.{length-map}
-use Rattle.qrcode_packed.specs.Rows.{dark_in}
+use Rattle.qrcode_masks.specs.Rows.{dark_in}
 use Rattle.qrcode_places.specs.Masks.{turns, turned_if}
 use Rattle.qrcode_places.specs.Patterns.{decided_bit}
 use Rattle.qrcode_symbol.specs.Masking.{masked_dark}

@@ -1,7 +1,7 @@
 use Rattle.std.proofs.Common.{◌≡◌, ◌<◌, ◌%◌, ◌∙◌, ℕ, refl, arith}
 use Rattle.std.proofs.Math.ListN.{length-set}
-use Rattle.qrcode_packed.specs.Rows.{is_set}
-use Rattle.qrcode_packed.proofs.RowLists.{rows_more}
+use Rattle.qrcode_masks.specs.Rows.{is_set}
+use Rattle.qrcode_masks.proofs.RowLists.{rows_more}
 use Rattle.qrcode_places.specs.Masks.{turns}
 use Rattle.qrcode_symbol.specs.Masking.{three_words}
 use Rattle.qrcode_symbol.proofs.MaskRows.{rows_periodic}

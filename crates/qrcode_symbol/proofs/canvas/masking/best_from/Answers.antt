@@ -1,5 +1,5 @@
 use Rattle.std.proofs.Common.{◌≡◌, ap, subst, sym, map}
-use Rattle.qrcode_packed.specs.Rows.{PackedRows}
+use Rattle.qrcode_masks.specs.Rows.{PackedRows}
 use Rattle.qrcode_symbol.specs.Masking.{is_dark_module, is_free, ShowsModules}
 use Rattle.qrcode_symbol.proofs.canvas.masking.best_from.Goals as goal
 

@@ -1,6 +1,6 @@
 use Rattle.std.proofs.Common.{◌≡◌, subst, sym, ◌∙◌, arith, map}
 use Rattle.std.proofs.lemmas.List.{take_at}
-use Rattle.qrcode_packed.specs.Rows.{Shows}
+use Rattle.qrcode_masks.specs.Rows.{Shows}
 use Rattle.qrcode_places.specs.Words.{format_word}
 use Rattle.qrcode_symbol.specs.Masking.{masked_dark}
 use Rattle.qrcode_symbol.proofs.BestMasks.{best_shown}

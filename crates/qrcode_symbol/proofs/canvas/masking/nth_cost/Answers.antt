@@ -1,6 +1,6 @@
 use Rattle.std.proofs.Common.{ℕ, Bool, ap, ap₂, sym, subst, ◌∙◌}
 use Rattle.qrcode_places.specs.Words.{format_word}
-use Rattle.qrcode_packed.specs.Rows.{PackedRows, Shows, inside}
+use Rattle.qrcode_masks.specs.Rows.{PackedRows, Shows, inside}
 use Rattle.qrcode_places.specs.declared.masks.MaskPattern.{MaskPattern}
 use Rattle.qrcode_symbol.specs.Masking.{nth_cost, masked_dark}
 use Rattle.qrcode_symbol.specs.Penalties.{penalty_of}

@@ -2,7 +2,7 @@ use Rattle.std.proofs.Common.{◌≡◌, slice_index_or, slice_set, refl, ap, �
 use Rattle.std.proofs.Math.ListN.{length-set}
 use Rattle.std.proofs.lemmas.List.{get_or-set_same, get_or-set_other}
 use Rattle.qrcode_types.specs.Colors.{color_of}
-use Rattle.qrcode_packed.specs.Rows.{is_set}
+use Rattle.qrcode_masks.specs.Rows.{is_set}
 use Rattle.qrcode_types.specs.declared.types.Color.TheVariants.{Light}
 use Rattle.qrcode_symbol.specs.declared.canvas.Module.TheVariants.{Masked}
 use Rattle.qrcode_symbol.proofs.canvas.unpacking.modules_of.Goals as goal

@@ -1,0 +1,13 @@
+pub mod PairWords
+pub mod Places
+pub mod RowLists
+pub mod Words
+pub mod ColumnRuns
+pub mod ColumnWords
+pub mod Finders
+pub mod Inside
+pub mod LastColumn
+pub mod Lines
+pub mod Runs
+pub mod Squares
+pub mod Sums

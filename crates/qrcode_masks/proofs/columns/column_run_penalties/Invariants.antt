@@ -1,0 +1,20 @@
+use Rattle.std.proofs.Common.{◌≡◌, ℕ, ◌<◌, ◌≤◌, ◌*◌, not}
+use Rattle.qrcode_masks.specs.Rows.{dark_in, is_set, FitsWidth}
+use Rattle.qrcode_masks.specs.Penalty.{sum_below}
+use Rattle.qrcode_masks.specs.Inside.{before, two, run_from, inside_row}
+use Rattle.qrcode_masks.proofs.columns.column_run_penalties.Given as goal
+
+abbrev pub invariant-loop-k : goal.invariant-loop-k
+invariant-loop-k g l =
+    let bits = g.R.PackedRow.bits in
+    let n = l.square.width in
+    let dark = dark_in l.square.rows in
+    let y : ℕ = 2 * l.k in
+    record {
+      value : l.total ≡ sum_below y (inside_row dark n);
+      at_most : l.total ≤ 189 * y;
+      last_at : (x : ℕ) → x < n → is_set (bits l.last) x ≡ not (before (run_from dark x) y);
+      both_at : (x : ℕ) → x < n → is_set (bits l.both) x ≡ not (before (two (run_from dark x)) y);
+      last_fits : FitsWidth n (bits l.last);
+      both_fits : FitsWidth n (bits l.both);
+    }

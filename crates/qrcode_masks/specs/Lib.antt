@@ -1,0 +1,4 @@
+pub mod Rows
+pub mod Inside
+pub mod Padding
+pub mod Penalty

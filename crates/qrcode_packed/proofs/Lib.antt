@@ -1,4 +1,0 @@
-pub mod PairWords
-pub mod Places
-pub mod RowLists
-pub mod Words
