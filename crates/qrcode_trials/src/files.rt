@@ -4,7 +4,7 @@
 use qrcode::QrCode;
 use qrcode::render::Renderer;
 use qrcode::types::{Color as Module, EcLevel, QrError, QrResult, Version};
-use qrcode_deflate::sums::crc;
+use qrcode_png::sums::crc;
 use qrcode_png::Color;
 use std::alloc::Global;
 use std::io;
