@@ -12,7 +12,7 @@ use qrcode_contents::one_time::OneTime;
 use qrcode_contents::payment::Payment;
 use qrcode_contents::phone::Phone;
 use qrcode_contents::wifi::Wifi;
-use qrcode_contents_uses as uses;
+use qrcode_uses::contents as uses;
 use qrcode_uses::contents::examples;
 use qrcode_contents::event::Event;
 use qrcode_gs1::elements::Element;
