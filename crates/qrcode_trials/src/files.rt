@@ -1,5 +1,5 @@
 //! PNG files of symbols, a line for each: its name, how many bytes it has and their CRC-32, or the bytes
-//! themselves as hexadecimal digits, for other programs to open (`pictures/look`).
+//! themselves as hexadecimal digits, for other programs to open (`evidence/others/pictures/look`).
 
 use qrcode::QrCode;
 use qrcode::render::Renderer;

@@ -1,4 +1,4 @@
-//! The symbols of contents. Their texts, and what they are refused for, are asked of the library for C (`c/formats`).
+//! The symbols of contents. Their texts, and what they are refused for, are asked of the library for C (`bindings/c/formats`).
 
 use crate::common::{Row, check};
 use qrcode::QrCode;

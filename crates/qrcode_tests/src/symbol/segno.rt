@@ -1,4 +1,4 @@
-//! What segno 1.4.1 draws on a canvas; `facts/make` writes it. A square stands here as the CRC-32 of its rows, lines of `#` and `.`.
+//! What segno 1.4.1 draws on a canvas; `evidence/oracle/make` writes it. A square stands here as the CRC-32 of its rows, lines of `#` and `.`.
 
 use qrcode_symbol::canvas::MaskPattern;
 use qrcode_types::types::{EcLevel, Version};

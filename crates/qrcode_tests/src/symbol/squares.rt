@@ -262,7 +262,7 @@ const SIDES: [u32; 17] = [
 ];
 
 // Kinds of squares, their sides, and their penalties of Normal and of Micro. They were counted by the judge
-// (judge/penalty.py) on the same squares; those of one colour by hand too, and the published ones are the
+// (evidence/judge/penalty.py) on the same squares; those of one colour by hand too, and the published ones are the
 // published.
 struct Counted(Kind, u32, (u32, u32));
 

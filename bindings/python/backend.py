@@ -1,0 +1,56 @@
+"""Builds the wheel with the standard library alone, so that `pip install ./bindings/python` works offline: the package, and the shared library in it.
+
+The library is that of GOQLANIS_LIB, where that is set, and else the one that `bindings/c/build` makes.
+"""
+import base64
+import hashlib
+import os
+import subprocess
+import tempfile
+import zipfile
+from pathlib import Path
+
+HERE = Path(__file__).resolve().parent
+NAME, VERSION = "goqlanis", "1.0.0"
+TAG = "py3-none-linux_x86_64"
+INFO = f"{NAME}-{VERSION}.dist-info"
+METADATA = f"""Metadata-Version: 2.1
+Name: {NAME}
+Version: {VERSION}
+Summary: QR and Micro QR symbols by a library that is proved correct
+Requires-Python: >=3.8
+License: MIT OR Apache-2.0
+"""
+WHEEL = f"""Wheel-Version: 1.0
+Generator: goqlanis
+Root-Is-Purelib: false
+Tag: {TAG}
+"""
+
+
+def library():
+    """The bytes of the shared library."""
+    given = os.environ.get("GOQLANIS_LIB")
+    if given:
+        return Path(given).read_bytes()
+    with tempfile.TemporaryDirectory() as folder:
+        subprocess.run([HERE.parent / "c" / "build", folder], check=True)
+        return (Path(folder) / "libgoqlanis.so.1").read_bytes()
+
+
+def build_wheel(wheel_directory, config_settings=None, metadata_directory=None):
+    files = {f"{NAME}/{path.name}": path.read_bytes() for path in sorted((HERE / NAME).iterdir()) if path.suffix in (".py", ".typed")}
+    files[f"{NAME}/libgoqlanis.so.1"] = library()
+    files[f"{INFO}/METADATA"] = METADATA.encode()
+    files[f"{INFO}/WHEEL"] = WHEEL.encode()
+    record = [f"{name},sha256={digest(data)},{len(data)}\n" for name, data in files.items()]
+    files[f"{INFO}/RECORD"] = "".join([*record, f"{INFO}/RECORD,,\n"]).encode()
+    made = f"{NAME}-{VERSION}-{TAG}.whl"
+    with zipfile.ZipFile(Path(wheel_directory) / made, "w", zipfile.ZIP_DEFLATED) as wheel:
+        for name, data in files.items():
+            wheel.writestr(name, data)
+    return made
+
+
+def digest(data):
+    return base64.urlsafe_b64encode(hashlib.sha256(data).digest()).rstrip(b"=").decode()

@@ -1,0 +1,140 @@
+//! The calls of `libgoqlanis.a`, as `bindings/c/goqlanis.h` declares and explains them.
+#![no_std]
+#![allow(non_camel_case_types)]
+
+pub const GOQ_OK: u32 = 0;
+pub const GOQ_NO_SUCH_LEVEL: u32 = 1;
+pub const GOQ_NO_SUCH_VERSION: u32 = 2;
+pub const GOQ_LEVEL_NOT_IN_VERSION: u32 = 3;
+pub const GOQ_TOO_LONG: u32 = 4;
+pub const GOQ_NO_MODE: u32 = 5;
+pub const GOQ_NO_ROOM: u32 = 6;
+pub const GOQ_SMALL_BUFFER: u32 = 7;
+pub const GOQ_OUT_OF_MEMORY: u32 = 8;
+pub const GOQ_NO_SUCH_FORMAT: u32 = 9;
+pub const GOQ_NOT_SQUARE: u32 = 10;
+pub const GOQ_NO_SUCH_SIZE: u32 = 11;
+pub const GOQ_NOT_TEXT: u32 = 12;
+pub const GOQ_NO_SUCH_KIND: u32 = 13;
+pub const GOQ_NOT_IN_MODE: u32 = 14;
+pub const GOQ_NO_SUCH_NUMBER: u32 = 15;
+pub const GOQ_NO_SUCH_SIDE: u32 = 16;
+pub const GOQ_NO_FORMAT: u32 = 17;
+pub const GOQ_DAMAGED: u32 = 18;
+pub const GOQ_NOT_SPELLED: u32 = 19;
+pub const GOQ_NO_SUCH_CONTENT: u32 = 32;
+pub const GOQ_NO_SUCH_FIELD: u32 = 33;
+pub const GOQ_FIELD_EMPTY: u32 = 34;
+pub const GOQ_FIELD_TOO_LONG: u32 = 35;
+pub const GOQ_FIELD_TOO_SHORT: u32 = 36;
+pub const GOQ_FIELD_CONTROL: u32 = 37;
+pub const GOQ_FIELD_CHARACTER: u32 = 38;
+pub const GOQ_FIELD_CHECK_DIGITS: u32 = 39;
+pub const GOQ_FIELD_RANGE: u32 = 40;
+pub const GOQ_FIELD_UNUSED: u32 = 41;
+pub const GOQ_NO_SUCH_IDENTIFIER: u32 = 42;
+pub const GOQ_ELEMENT_LENGTH: u32 = 43;
+
+pub const GOQ_HALF_BLOCKS: u32 = 0;
+pub const GOQ_LIGHT_HALF_BLOCKS: u32 = 1;
+pub const GOQ_SVG: u32 = 2;
+pub const GOQ_PIC: u32 = 3;
+pub const GOQ_GREY: u32 = 4;
+pub const GOQ_PNG: u32 = 5;
+pub const GOQ_EPS: u32 = 6;
+pub const GOQ_PBM: u32 = 7;
+
+pub const GOQ_NUMERIC: u32 = 0;
+pub const GOQ_ALPHANUMERIC: u32 = 1;
+pub const GOQ_BYTES: u32 = 2;
+pub const GOQ_KANJI: u32 = 3;
+pub const GOQ_ECI: u32 = 4;
+pub const GOQ_FNC1_FIRST: u32 = 5;
+pub const GOQ_FNC1_SECOND: u32 = 6;
+
+pub const GOQ_WIFI: u32 = 0;
+pub const GOQ_MECARD: u32 = 1;
+pub const GOQ_VCARD: u32 = 2;
+pub const GOQ_PAYMENT: u32 = 3;
+pub const GOQ_BILL: u32 = 4;
+pub const GOQ_MAIL: u32 = 5;
+pub const GOQ_GEO: u32 = 6;
+pub const GOQ_TEL: u32 = 7;
+pub const GOQ_SMS: u32 = 8;
+pub const GOQ_TOTP: u32 = 9;
+pub const GOQ_HOTP: u32 = 10;
+pub const GOQ_EVENT: u32 = 11;
+pub const GOQ_DAYS: u32 = 12;
+
+/// This many bytes hold the modules of every symbol.
+pub const GOQ_MODULES_MAX: usize = 177 * 177;
+
+/// This many bytes hold what is read of every symbol.
+pub const GOQ_BYTES_MAX: usize = 7089;
+
+/// What a symbol is beside its modules.
+#[repr(C)]
+#[derive(Clone, Copy, Debug, Default, PartialEq, Eq)]
+pub struct goq_symbol {
+    pub version: u32,
+    pub level: u32,
+    pub width: u32,
+}
+
+/// A segment: bytes in a mode, or a header for what stands behind it.
+#[repr(C)]
+#[derive(Clone, Copy, Debug)]
+pub struct goq_segment {
+    pub kind: u32,
+    pub number: u32,
+    pub bytes: *const u8,
+    pub length: usize,
+}
+
+/// A field of a content: a text in UTF-8, whose number is 0; or a number, whose length is 0.
+#[repr(C)]
+#[derive(Clone, Copy, Debug)]
+pub struct goq_field {
+    pub number: i64,
+    pub bytes: *const u8,
+    pub length: usize,
+}
+
+/// An element of GS1: the digits of its application identifier, and its value.
+#[repr(C)]
+#[derive(Clone, Copy, Debug)]
+pub struct goq_element {
+    pub identifier: *const u8,
+    pub identifier_length: usize,
+    pub value: *const u8,
+    pub value_length: usize,
+}
+
+/// What is read of a square beside its bytes.
+#[repr(C)]
+#[derive(Clone, Copy, Debug, Default, PartialEq, Eq)]
+pub struct goq_reading {
+    pub version: u32,
+    pub level: u32,
+    pub mask: u32,
+    pub wrong: usize,
+    pub length: usize,
+}
+
+extern "C" {
+    pub fn goq_encode(data: *const u8, data_length: usize, level: u32, modules: *mut u8, modules_length: usize, symbol: *mut goq_symbol) -> u32;
+    pub fn goq_encode_text(text: *const u8, text_length: usize, level: u32, modules: *mut u8, modules_length: usize, symbol: *mut goq_symbol) -> u32;
+    pub fn goq_encode_marked_text(text: *const u8, text_length: usize, level: u32, modules: *mut u8, modules_length: usize, symbol: *mut goq_symbol) -> u32;
+    pub fn goq_encode_in(data: *const u8, data_length: usize, version: u32, level: u32, modules: *mut u8, modules_length: usize, symbol: *mut goq_symbol) -> u32;
+    pub fn goq_encode_segments(segments: *const goq_segment, segments_length: usize, version: u32, level: u32, modules: *mut u8, modules_length: usize, symbol: *mut goq_symbol) -> u32;
+    pub fn goq_read(modules: *const u8, modules_length: usize, bytes: *mut u8, bytes_length: usize, reading: *mut goq_reading) -> u32;
+    pub fn goq_read_length(modules: *const u8, modules_length: usize, count: *mut usize) -> u32;
+    pub fn goq_least_version(data: *const u8, data_length: usize, level: u32, version: *mut u32) -> u32;
+    pub fn goq_least_version_of_segments(segments: *const goq_segment, segments_length: usize, level: u32, version: *mut u32) -> u32;
+    pub fn goq_width(version: u32) -> u32;
+    pub fn goq_is_functional(version: u32, x: u32, y: u32) -> bool;
+    pub fn goq_draw(modules: *const u8, modules_length: usize, width: u32, zone: u32, scale: u32, format: u32, out: *mut u8, out_length: usize, count: *mut usize) -> u32;
+    pub fn goq_draw_length(modules: *const u8, modules_length: usize, width: u32, zone: u32, scale: u32, format: u32, count: *mut usize) -> u32;
+    pub fn goq_content(kind: u32, fields: *const goq_field, fields_length: usize, out: *mut u8, out_length: usize, count: *mut usize, place: *mut usize) -> u32;
+    pub fn goq_gs1(elements: *const goq_element, elements_length: usize, out: *mut u8, out_length: usize, count: *mut usize, place: *mut usize) -> u32;
+}

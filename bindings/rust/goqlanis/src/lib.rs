@@ -1,0 +1,298 @@
+//! QR and Micro QR symbols by a library that is proved correct, under the names of the crate `qrcode`.
+//!
+//! ```
+//! use goqlanis::{render::svg, EcLevel, QrCode, Version};
+//!
+//! let code = QrCode::new(b"01234567")?;
+//! assert_eq!((code.version(), code.width()), (Version::Normal(1), 21));
+//! let picture = code.render::<svg::Color>().module_size(8).build();
+//! assert!(picture.starts_with("<?xml"));
+//! let ticket = QrCode::with_version(b"01234567", Version::Micro(2), EcLevel::L)?;
+//! assert_eq!(ticket.width(), 13);
+//! # Ok::<(), goqlanis::QrError>(())
+//! ```
+use goqlanis_sys as sys;
+use std::fmt;
+use std::ops::Index;
+
+pub mod contents;
+pub mod reading;
+pub mod render;
+
+pub use reading::{read, Reading, Unread};
+
+/// Why no symbol is made.
+#[derive(Clone, Copy, Debug, PartialEq, Eq)]
+pub enum QrError {
+    /// No symbol of the asked kind holds the data, or it is more than 1,048,576 bytes.
+    DataTooLong,
+    /// There is no such version, or it lacks the level.
+    InvalidVersion,
+    /// The data needs a mode that the version lacks.
+    UnsupportedCharacterSet,
+    /// A character set has no number above 999,999.
+    InvalidEciDesignator,
+    /// The mode of a segment lacks one of its bytes.
+    InvalidCharacter,
+    /// Memory was refused.
+    OutOfMemory,
+}
+
+impl fmt::Display for QrError {
+    fn fmt(&self, out: &mut fmt::Formatter<'_>) -> fmt::Result {
+        out.write_str(match self {
+            QrError::DataTooLong => "data too long",
+            QrError::InvalidVersion => "invalid version",
+            QrError::UnsupportedCharacterSet => "unsupported character set",
+            QrError::InvalidEciDesignator => "invalid ECI designator",
+            QrError::InvalidCharacter => "invalid character",
+            QrError::OutOfMemory => "out of memory",
+        })
+    }
+}
+
+impl std::error::Error for QrError {}
+
+pub type QrResult<T> = Result<T, QrError>;
+
+// What an answer to a request for a symbol means.
+fn accepted(answer: u32) -> QrResult<()> {
+    match answer {
+        sys::GOQ_OK => Ok(()),
+        sys::GOQ_NO_SUCH_VERSION | sys::GOQ_LEVEL_NOT_IN_VERSION => Err(QrError::InvalidVersion),
+        sys::GOQ_NOT_IN_MODE => Err(QrError::InvalidCharacter),
+        sys::GOQ_NO_SUCH_NUMBER => Err(QrError::InvalidEciDesignator),
+        sys::GOQ_NO_MODE => Err(QrError::UnsupportedCharacterSet),
+        sys::GOQ_OUT_OF_MEMORY => Err(QrError::OutOfMemory),
+        _ => Err(QrError::DataTooLong),
+    }
+}
+
+/// A version: `Normal` 1 to 40, `Micro` 1 to 4.
+#[derive(Clone, Copy, Debug, PartialEq, Eq)]
+pub enum Version {
+    Normal(i16),
+    Micro(i16),
+}
+
+impl Version {
+    // The library's number; 0 for a version that is none.
+    fn number(self) -> u32 {
+        match self {
+            Version::Normal(number @ 1..=40) => number as u32,
+            Version::Micro(number @ 1..=4) => 40 + number as u32,
+            _ => 0,
+        }
+    }
+
+    fn named(number: u32) -> Version {
+        if number <= 40 {
+            Version::Normal(number as i16)
+        } else {
+            Version::Micro(number as i16 - 40)
+        }
+    }
+
+    pub fn is_micro(self) -> bool {
+        matches!(self, Version::Micro(_))
+    }
+
+    /// The least Normal version that holds segments, one behind the other, at a level.
+    ///
+    /// ```
+    /// use goqlanis::{EcLevel, Segment, Version};
+    ///
+    /// let segments = [Segment::Eci(26), Segment::Byte(&[0; 2952])];
+    /// assert_eq!(Version::least_of_segments(&segments, EcLevel::L), Ok(Version::Normal(40)));
+    /// ```
+    pub fn least_of_segments(segments: &[Segment<'_>], ec_level: EcLevel) -> QrResult<Self> {
+        let given: Vec<_> = segments.iter().map(Segment::given).collect();
+        let mut version = 0;
+        accepted(unsafe { sys::goq_least_version_of_segments(given.as_ptr(), given.len(), ec_level as u32, &mut version) })?;
+        Ok(Version::named(version))
+    }
+
+    /// The modules along a side; 0 for a version that is none.
+    pub fn width(self) -> i16 {
+        unsafe { sys::goq_width(self.number()) as i16 }
+    }
+}
+
+/// An error correction level.
+#[derive(Clone, Copy, Debug, PartialEq, Eq, PartialOrd, Ord)]
+pub enum EcLevel {
+    L,
+    M,
+    Q,
+    H,
+}
+
+impl EcLevel {
+    fn named(number: u32) -> EcLevel {
+        [EcLevel::L, EcLevel::M, EcLevel::Q, EcLevel::H][number as usize]
+    }
+}
+
+/// A segment: bytes in a mode, or a header for what stands behind it.
+#[derive(Clone, Copy, Debug, PartialEq, Eq)]
+pub enum Segment<'a> {
+    /// Digits.
+    Numeric(&'a [u8]),
+    /// Digits, capitals, the space and `$%*+-./:`.
+    Alphanumeric(&'a [u8]),
+    /// Any bytes.
+    Byte(&'a [u8]),
+    /// Pairs of bytes of Shift JIS.
+    Kanji(&'a [u8]),
+    /// The number of the character set of what follows, below 1,000,000.
+    Eci(u32),
+    /// FNC1 in the first position, as GS1 wants it.
+    Fnc1First,
+    /// FNC1 in the second position, with the indicator of the application.
+    Fnc1Second(u8),
+}
+
+impl Segment<'_> {
+    fn given(&self) -> sys::goq_segment {
+        let (kind, number, bytes): (u32, u32, &[u8]) = match *self {
+            Segment::Numeric(bytes) => (sys::GOQ_NUMERIC, 0, bytes),
+            Segment::Alphanumeric(bytes) => (sys::GOQ_ALPHANUMERIC, 0, bytes),
+            Segment::Byte(bytes) => (sys::GOQ_BYTES, 0, bytes),
+            Segment::Kanji(bytes) => (sys::GOQ_KANJI, 0, bytes),
+            Segment::Eci(number) => (sys::GOQ_ECI, number, &[]),
+            Segment::Fnc1First => (sys::GOQ_FNC1_FIRST, 0, &[]),
+            Segment::Fnc1Second(application) => (sys::GOQ_FNC1_SECOND, u32::from(application), &[]),
+        };
+        sys::goq_segment { kind, number, bytes: bytes.as_ptr(), length: bytes.len() }
+    }
+}
+
+/// The colour of a module.
+#[derive(Clone, Copy, Debug, PartialEq, Eq)]
+pub enum Color {
+    Light,
+    Dark,
+}
+
+/// A symbol.
+#[derive(Clone, Debug)]
+pub struct QrCode {
+    modules: Vec<u8>,
+    version: Version,
+    ec_level: EcLevel,
+    width: usize,
+}
+
+impl QrCode {
+    /// The symbol of bytes at level `M`, of the least Normal version that holds them.
+    pub fn new<D: AsRef<[u8]>>(data: D) -> QrResult<Self> {
+        Self::with_error_correction_level(data, EcLevel::M)
+    }
+
+    /// The symbol of bytes at a level, of the least Normal version that holds them.
+    pub fn with_error_correction_level<D: AsRef<[u8]>>(data: D, ec_level: EcLevel) -> QrResult<Self> {
+        let data = data.as_ref();
+        Self::made(ec_level, |modules, known| unsafe {
+            sys::goq_encode(data.as_ptr(), data.len(), ec_level as u32, modules.as_mut_ptr(), modules.len(), known)
+        })
+    }
+
+    /// The symbol of bytes, of a version and level.
+    pub fn with_version<D: AsRef<[u8]>>(data: D, version: Version, ec_level: EcLevel) -> QrResult<Self> {
+        let data = data.as_ref();
+        Self::made(ec_level, |modules, known| unsafe {
+            sys::goq_encode_in(data.as_ptr(), data.len(), version.number(), ec_level as u32, modules.as_mut_ptr(), modules.len(), known)
+        })
+    }
+
+    /// The symbol of a text at a level, of the least Normal version that holds it. Readers show the text, where they take bytes for UTF-8.
+    pub fn of_text(text: &str, ec_level: EcLevel) -> QrResult<Self> {
+        Self::made(ec_level, |modules, known| unsafe {
+            sys::goq_encode_text(text.as_ptr(), text.len(), ec_level as u32, modules.as_mut_ptr(), modules.len(), known)
+        })
+    }
+
+    /// The same with the number 26 of UTF-8 (ECI) in front, for readers that guess.
+    pub fn of_marked_text(text: &str, ec_level: EcLevel) -> QrResult<Self> {
+        Self::made(ec_level, |modules, known| unsafe {
+            sys::goq_encode_marked_text(text.as_ptr(), text.len(), ec_level as u32, modules.as_mut_ptr(), modules.len(), known)
+        })
+    }
+
+    /// The symbol of segments, one behind the other, of a version and level.
+    ///
+    /// ```
+    /// use goqlanis::{EcLevel, QrCode, Segment, Version};
+    ///
+    /// let segments = [Segment::Eci(9), Segment::Byte(b"\xca\xfe\xe4\xe9\xea\xe1\xf2 QR")];
+    /// let code = QrCode::with_segments(&segments, Version::Normal(1), EcLevel::L)?;
+    /// assert_eq!(code.width(), 21);
+    /// # Ok::<(), goqlanis::QrError>(())
+    /// ```
+    pub fn with_segments(segments: &[Segment<'_>], version: Version, ec_level: EcLevel) -> QrResult<Self> {
+        let given: Vec<_> = segments.iter().map(Segment::given).collect();
+        Self::made(ec_level, |modules, known| unsafe {
+            sys::goq_encode_segments(given.as_ptr(), given.len(), version.number(), ec_level as u32, modules.as_mut_ptr(), modules.len(), known)
+        })
+    }
+
+    /// The symbol of segments, one behind the other, at a level, of the least Normal version that holds them.
+    pub fn of_segments(segments: &[Segment<'_>], ec_level: EcLevel) -> QrResult<Self> {
+        Self::with_segments(segments, Version::least_of_segments(segments, ec_level)?, ec_level)
+    }
+
+    fn made(ec_level: EcLevel, encode: impl FnOnce(&mut [u8], &mut sys::goq_symbol) -> u32) -> QrResult<Self> {
+        let mut modules = vec![0; sys::GOQ_MODULES_MAX];
+        let mut known = sys::goq_symbol::default();
+        accepted(encode(&mut modules, &mut known))?;
+        let width = known.width as usize;
+        modules.truncate(width * width);
+        Ok(QrCode { modules, version: Version::named(known.version), ec_level, width })
+    }
+
+    pub fn version(&self) -> Version {
+        self.version
+    }
+
+    pub fn error_correction_level(&self) -> EcLevel {
+        self.ec_level
+    }
+
+    /// The modules along a side, without a quiet zone.
+    pub fn width(&self) -> usize {
+        self.width
+    }
+
+    /// Whether a module belongs to a pattern or to the format word.
+    pub fn is_functional(&self, x: usize, y: usize) -> bool {
+        unsafe { sys::goq_is_functional(self.version.number(), x as u32, y as u32) }
+    }
+
+    /// Whether each module is dark, row by row.
+    pub fn to_vec(&self) -> Vec<bool> {
+        self.modules.iter().map(|module| *module != 0).collect()
+    }
+
+    /// The colour of each module, row by row.
+    pub fn to_colors(&self) -> Vec<Color> {
+        self.modules.iter().map(|module| if *module != 0 { Color::Dark } else { Color::Light }).collect()
+    }
+
+    /// A renderer, with a quiet zone of four modules, or of two for Micro.
+    pub fn render<P: render::Pixel>(&self) -> render::Renderer<'_, P> {
+        render::Renderer::new(&self.modules, self.width, if self.version.is_micro() { 2 } else { 4 })
+    }
+}
+
+impl Index<(usize, usize)> for QrCode {
+    type Output = Color;
+
+    fn index(&self, (x, y): (usize, usize)) -> &Color {
+        assert!(x < self.width);
+        if self.modules[y * self.width + x] != 0 { &Color::Dark } else { &Color::Light }
+    }
+}
+
+#[cfg(doctest)]
+#[doc = include_str!("../../../../docs/RUST.md")]
+pub struct Page;
