@@ -1,11 +1,16 @@
-/* Makes a case of bench/run by the library for C, so many times: calls CASE COUNT. Without a case it lists them, pictures with the pixels along a side of a module. */
+/* Makes a case of bench/run by the library for C, so many times: `calls CASE COUNT`. Without a case
+   it lists them, pictures with the pixels along a side of a module. `calls read COUNT` reads the
+   square whose modules stand on standard input, 0 and 1 row by row. */
 #include "goqlanis.h"
 #include <stdio.h>
 #include <stdlib.h>
 #include <string.h>
 
-static const char digits[] = "0123456789", words[] = "the quick brown fox jumps over the lazy dog, ",
-                  mixed[] = "left at noon: ORDER 7 OF 12, no. 2026112208150042 \x93\xfa\x96\x7b\x8c\xea\x93\x5f\xe4\xaa\x93\xfa\x96\x7b\x8c\xea, paid EUR 149.90; ";
+static const char digits[] = "0123456789";
+static const char words[] = "the quick brown fox jumps over the lazy dog, ";
+static const char mixed[] = "left at noon: ORDER 7 OF 12, no. 2026112208150042 "
+                            "\x93\xfa\x96\x7b\x8c\xea\x93\x5f\xe4\xaa\x93\xfa\x96\x7b\x8c\xea"
+                            ", paid EUR 149.90; ";
 
 static const struct {
     const char *name, *text;
@@ -43,26 +48,46 @@ static uint32_t encode(size_t size, uint32_t version, uint32_t level)
     return goq_encode(data, size, level, modules, sizeof modules, &symbol);
 }
 
+static uint32_t draw(uint32_t zone, uint32_t scale, uint32_t format)
+{
+    size_t count, size = (size_t)symbol.width * symbol.width;
+    return goq_draw(modules, size, symbol.width, zone, scale, format, out, sizeof out, &count);
+}
+
+static int read_square(int count)
+{
+    size_t size = 0;
+    goq_reading reading;
+    for (int c = getchar(); (c == '0' || c == '1') && size < sizeof modules; c = getchar())
+        modules[size++] = c == '1';
+    for (; count > 0; count--)
+        if (goq_read(modules, size, out, sizeof out, &reading) != GOQ_OK)
+            return 1;
+    return 0;
+}
+
 int main(int argc, char **argv)
 {
-    size_t found = 0, all = sizeof cases / sizeof *cases, count;
+    size_t found = 0, all = sizeof cases / sizeof *cases;
     if (argc == 1)
         for (size_t i = 0; i < all; i++)
             printf(cases[i].scale ? "%s %u\n" : "%s\n", cases[i].name, (unsigned)cases[i].scale);
     if (argc < 3)
         return argc != 1;
+    if (!strcmp(argv[1], "read"))
+        return read_square(atoi(argv[2]));
     while (strcmp(cases[found].name, argv[1]))
         if (++found == all)
             return 1;
     size_t size = cases[found].size, length = strlen(cases[found].text);
+    uint32_t level = cases[found].level, scale = cases[found].scale;
     for (size_t i = 0; i < size; i++)
         data[i] = (uint8_t)cases[found].text[i % length];
-    if (cases[found].scale && encode(size, 0, cases[found].level) != GOQ_OK)
+    if (scale && encode(size, 0, level) != GOQ_OK)
         return 1;
     for (int left = atoi(argv[2]); left > 0; left--) {
-        uint32_t answer = cases[found].scale ? goq_draw(modules, (size_t)symbol.width * symbol.width, symbol.width, cases[found].zone, cases[found].scale,
-                                                   cases[found].format, out, sizeof out, &count)
-                                             : encode(size, cases[found].version, cases[found].level);
+        uint32_t answer = scale ? draw(cases[found].zone, scale, cases[found].format)
+                                : encode(size, cases[found].version, level);
         if (answer != GOQ_OK)
             return 1;
     }
