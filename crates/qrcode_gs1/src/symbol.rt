@@ -8,12 +8,12 @@ ghost use Rattle.qrcode_gs1.specs.symbol.Elements.{IsGs1Symbol, IsGs1Refused};
 ghost use Rattle.qrcode_gs1.specs.symbol.Symbols.{HoldsMarked, IsMarkedSymbol, IsMarkedRefused};
 ghost use Rattle.qrcode_gs1.specs.declared.symbol.Position.TheVariants.{Second};
 
+use crate::elements::{Element, element_string};
 use drawing::symbol;
 use errors::SymbolResult;
 pub use indicators::indicator_of;
 use qrcode::QrCode;
 use qrcode::types::{EcLevel, QrResult};
-use crate::elements::{Element, element_string};
 pub use separators::are_apart;
 use std::alloc::Global;
 

@@ -7,8 +7,8 @@ ghost use Rattle.qrcode_reader.specs.Corrected.{AppendsBlock, AreCorrected, IsFi
 ghost use Rattle.qrcode_reader.specs.declared.refusals.Unread.TheVariants.{Damaged, OutOfMemory};
 
 use crate::blocks::block;
-use crate::refusals::Unread;
 use crate::correct::Corrector;
+use crate::refusals::Unread;
 use qrcode_types::tables::Blocks;
 use qrcode_types::types::{EcLevel, Version};
 use std::alloc::{AllocError, Global};

@@ -18,10 +18,10 @@ use crate::correction::{WrongCodeword, correct_blocks};
 use crate::formats::read_format;
 use crate::refusals::Unread;
 use crate::sizes::version_of;
+use crate::spell::spell;
 use crate::walk::stream;
 use crate::words::codewords;
 use qrcode_places::masks::MaskPattern;
-use crate::spell::spell;
 use qrcode_types::types::{Color, EcLevel, Version};
 use std::alloc::{AllocError, Global};
 

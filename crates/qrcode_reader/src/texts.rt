@@ -13,8 +13,8 @@ ghost use Rattle.qrcode_reader.specs.declared.refusals.UnreadText.TheVariants.{N
 use crate::correction::WrongCodeword;
 use crate::reading::read_bits;
 use crate::refusals::UnreadText;
-use qrcode_places::masks::MaskPattern;
 use crate::spell::text_of;
+use qrcode_places::masks::MaskPattern;
 use qrcode_types::types::{Color, EcLevel, Version};
 use std::alloc::Global;
 

@@ -3,8 +3,8 @@
 ghost use Rattle.std.specs.Prelude.{◌≡◌};
 ghost use Rattle.qrcode_gs1.specs.declared.symbol.errors.SymbolError.TheVariants.{Elements, Symbol};
 
-use qrcode::types::QrError;
 use crate::errors::Gs1Error;
+use qrcode::types::QrError;
 use std::error::Error;
 use std::fmt;
 

@@ -4,14 +4,14 @@
 use qrcode_contents::bill::{Bill, Currency, Party};
 use qrcode_contents::card::Card;
 use qrcode_contents::contact::Contact;
+use qrcode_contents::event::{Event, Span};
 use qrcode_contents::geo::Place;
 use qrcode_contents::mail::Mail;
 use qrcode_contents::one_time::{Algorithm, Digits, Factor, OneTime};
 use qrcode_contents::payment::{Payment, PaymentVersion};
 use qrcode_contents::phone::Phone;
-use qrcode_contents::wifi::{Security, Wifi};
-use qrcode_contents::event::{Event, Span};
 use qrcode_contents::times::{Day, Moment};
+use qrcode_contents::wifi::{Security, Wifi};
 use qrcode_gs1::elements::Element;
 
 /// A network with a password.
