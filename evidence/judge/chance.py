@@ -1,4 +1,4 @@
-"""Squares by chance, which the library and the judge are to read alike, or refuse for the same cause."""
+"""Random squares, which library and judge must both read alike, or refuse for the same cause."""
 from random import Random
 
 import goqlanis
@@ -18,7 +18,7 @@ def symbol(version, chance):
 
 
 def turned(square, version, level, chance):
-    """A symbol with modules turned by chance, from none to twice as many as codewords can be corrected."""
+    """A symbol with random modules turned: from none to twice as many as can be corrected."""
     parts = blocks(version, level)
     for _ in range(chance.randrange(min(parts.ec // 2 * parts.count * 2 + 3, 1000))):
         square[chance.randrange(len(square))] ^= 1
@@ -26,14 +26,16 @@ def turned(square, version, level, chance):
 
 
 def noise(square, version, chance, everywhere):
-    """A square of noise, or a symbol with noise everywhere but in the row and the column of the format word."""
+    """A square of noise, or a symbol with noise except for the row and column of the format
+    word."""
     width = form(version).width
     return bytes(chance.randrange(2) if everywhere or 8 not in divmod(place, width) else module for place, module in enumerate(square))
 
 
 def square_by_chance(chance, versions):
-    """One square: of ten, seven are symbols with modules turned, one is a symbol with as many wrong codewords in each block as can be corrected and up to two more in the last,
-    one is noise, and one noise with a format word."""
+    """One square. Of ten, seven are symbols with modules turned, one has as many wrong codewords
+    in each block as can be corrected and up to two more in the last, and two are noise, one of them
+    with a format word."""
     version = chance.choice(versions)
     square, level = symbol(version, chance)
     kind = chance.randrange(10)
@@ -45,7 +47,8 @@ def square_by_chance(chance, versions):
 
 
 def compared(count, seed, versions):
-    """What is wrong with so many squares by chance, and how many were read, and refused for which cause."""
+    """What is wrong with so many random squares, and how many were read, or refused for which
+    cause."""
     chance, found, counts = Random(seed), [], {}
     for number in range(count):
         square = square_by_chance(chance, versions)
@@ -57,21 +60,21 @@ def compared(count, seed, versions):
     return found, counts
 
 
-def told(counts):
+def summary(counts):
     return ", ".join(f"{counts[kind]} {kind}" for kind in sorted(counts, reverse=True))
 
 
 def small_squares():
-    """Squares by chance are read alike, or refused alike"""
+    """Random squares are read alike, or refused alike"""
     found, counts = compared(5000, 2006, SMALL)
     rare = [kind for kind, least in (("read", 2000), ("Damaged", 1000), ("NoFormat", 200)) if counts.get(kind, 0) < least]
-    return found + [f"too few are {kind}" for kind in rare], told(counts)
+    return found + [f"too few are {kind}" for kind in rare], summary(counts)
 
 
 def large_squares():
     """And larger ones"""
     found, counts = compared(120, 18004, list(WIDTHS.values()))
-    return found, told(counts)
+    return found, summary(counts)
 
 
 def other_sides():

@@ -8,7 +8,8 @@ from looks import square_of
 from spelling import count_bits
 from tables import CHARACTERS, MICRO_MODES
 
-# A digit, a letter, another byte, and two that are pairs of Kanji in three orders of four; in texts a character of two bytes.
+# A digit, a letter, another byte, and two that are pairs of Kanji in three orders of four; in texts
+# a character of two bytes.
 BYTES = [b"1", b"A", b"a", b"\x81", b"\x9f"]
 LETTERS = ["1", "A", "a", "\u00e9"]
 
@@ -23,7 +24,7 @@ def is_pair(pair):
 
 
 def data_bits(mode, data):
-    """The bits of bytes in a mode behind the count of characters, or None where it cannot write them."""
+    """The bits of bytes in a mode after the count of characters, or None if it has not all."""
     count = len(data)
     if mode == "numeric":
         return count // 3 * 10 + (0, 4, 7)[count % 3] if data.isdigit() else None
@@ -43,7 +44,7 @@ def segment_bits(shape, modes, data):
 
 
 def least(shape, modes, data):
-    """The fewest bits of all cuts, or None: of what stands in front of a place, the cut whose last segment ends there."""
+    """The fewest bits of all cuts, or None: at each place, of the cuts that end there."""
     best = [0]
     for end in range(1, len(data) + 1):
         ends = [(best[begin], segment_bits(shape, modes, data[begin:end])) for begin in range(end)]

@@ -1,4 +1,5 @@
-"""Bytes as polynomials over two elements, modulo x^8 + x^4 + x^3 + x^2 + 1, and the correction of blocks by Euclid's algorithm.
+"""Bytes as polynomials over two elements, modulo x^8 + x^4 + x^3 + x^2 + 1, and the correction of
+blocks by Euclid's algorithm.
 
 A polynomial over the field is a list of its coefficients, the lowest first.
 """
@@ -29,7 +30,8 @@ def value(polynomial, point):
 
 
 def syndromes(block, count):
-    """The values of a block, whose first byte is the highest coefficient, at the first powers of 2."""
+    """The values at the first powers of 2 of a block, whose first byte is the highest
+    coefficient."""
     found = []
     for exponent in range(count):
         total = 0
@@ -55,7 +57,8 @@ def added(first, second, factor, shift):
 
 
 def key(values, count):
-    """Of Euclid's algorithm on x^count and the syndromes, the first remainder below half of the degree, and the factor that belongs to it."""
+    """The first remainder below half of the degree in Euclid's algorithm on x^count and the
+    syndromes, and its factor."""
     before, now = [0] * count + [1], trimmed(list(values))
     factor_before, factor = [], [1]
     while 2 * (len(now) - 1) >= count:
@@ -67,7 +70,8 @@ def key(values, count):
 
 
 def corrected(block, count):
-    """The list of bytes that vanishes at the first `count` powers of 2 and differs from the block in at most half as many places, and in how many."""
+    """The list of bytes that vanishes at the first `count` powers of 2 and differs from the block
+    in at most half as many places, and in how many."""
     values = syndromes(block, count)
     if not any(values):
         return block, 0

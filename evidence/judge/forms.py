@@ -1,6 +1,8 @@
-"""Versions: which modules of the square of a version hold data, in which order, and where the format word and the blocks stand.
+"""Versions: which modules of the square of a version hold data, in which order, and where the
+format word and the blocks stand.
 
-A square is its modules row by row, a byte each, 1 for a dark one. A place is the number of a module in it.
+A square is its modules row by row, a byte each, 1 for a dark one. A place is the number of a module
+in it.
 """
 from functools import lru_cache
 
@@ -26,7 +28,8 @@ class Form:
         return row * self.width + column
 
     def _format_copies(self):
-        """The places of the fifteen bits of each copy of the format word, the highest first (Figures 25 and 26)."""
+        """The places of the fifteen bits of each copy of the format word, the highest first
+        (Figures 25 and 26)."""
         last, place = self.width - 1, self._place
         if self.is_micro:
             return [[place(8, 1 + k) for k in range(8)] + [place(7 - k, 8) for k in range(7)]]
@@ -55,13 +58,15 @@ class Form:
         return found
 
     def _centres(self):
-        """The centres of alignment patterns: each row with each column, but where a finder pattern stands."""
+        """The centres of alignment patterns: each row with each column, except in finder
+        patterns."""
         lines = list(map(int, normal_row(CENTRES, self.number - 1))) if self.number > 1 else []
         corners = {(6, 6), (6, self.width - 7), (self.width - 7, 6)}
         return [(i, j) for i in lines for j in lines if (i, j) not in corners]
 
     def _places(self):
-        """The places of data in the order in which bits are placed: in columns of two from the right, upwards and downwards by turns."""
+        """The places of data in the order of the bits: in pairs of columns from the right,
+        alternately upwards and downwards."""
         reserved, found, width = self._reserved(), [], self.width
         rights = range(width - 1, 0, -2) if self.is_micro else [*range(width - 1, 6, -2), 5, 3, 1]
         for turn, right in enumerate(rights):
@@ -70,7 +75,8 @@ class Form:
         return found
 
     def _turned(self, mask):
-        """Which of the places of data a mask turns, as the bits of a number, the first place being the highest."""
+        """The places of data that a mask turns, as the bits of a number, the first place
+        highest."""
         return number_of(mask(*divmod(place, self.width)) for place in self.places)
 
     def mask_numbers(self):
@@ -111,7 +117,8 @@ class Blocks:
         self.lengths = [short] * (self.count - long) + [short + 1] * long
 
     def shares(self):
-        """The numbers of the codewords of each block in the order of the stream: first those of data by turns, then those of error correction by turns."""
+        """The numbers that the codewords of each block have in the stream: data and then error
+        correction, both interleaved."""
         found, number = [[] for _ in self.lengths], 0
         for i in range(self.lengths[-1]):
             for share, length in zip(found, self.lengths):

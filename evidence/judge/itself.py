@@ -1,5 +1,5 @@
-"""The judge itself: it reads symbols of other encoders as what they were asked for, corrects as trials of all wrong codewords do, and counts what was published; and each look sees
-what is wrong."""
+"""The judge itself: it reads symbols of other encoders as what they were asked for, corrects as
+a trial of all wrong codewords does, counts published penalties, and sees wrong inputs."""
 from itertools import product
 from pathlib import Path
 from random import Random
@@ -18,7 +18,7 @@ WORLD = Path(__file__).resolve().parent.parent / "others" / "symbols"
 
 
 def world_squares():
-    """The squares of other encoders with what each was asked for, as evidence/others/symbols/make wrote them."""
+    """The squares of evidence/others/symbols, each with what its encoder was asked for."""
     asked = [line.split() for line in (WORLD / "squares").read_text().splitlines() if line and not line.startswith("#")]
     for (width, digits), told in zip(asked, (WORLD / "readings").read_text().splitlines(), strict=True):
         count = int(width) ** 2
@@ -40,7 +40,8 @@ def told_of(square):
 
 
 def other_encoders():
-    """The judge reads symbols of segno, qrcodegen, zint, qrencode and zxing as they were asked for, and the library as the judge"""
+    """The judge reads symbols of segno, qrcodegen, zint, qrencode and zxing as they were asked for,
+    and the library as the judge"""
     found, count = [], 0
     for square, told in world_squares():
         count += 1
@@ -62,7 +63,8 @@ def printed_symbols():
 
 
 def known_penalties():
-    """The judge counts published penalties, and those of squares of one colour and of a chessboard, counted by hand"""
+    """The judge counts published penalties, and those of plain squares and of a chessboard by
+    hand"""
     width = 21
     light = {"runs": 42 * 19, "blocks": 400 * 3, "finders": 0, "balance": 100}
     chessboard = bytes((i + j) % 2 for i in range(width) for j in range(width))
@@ -78,8 +80,9 @@ def known_penalties():
 
 
 def found_by_trial(block):
-    """Of a block with two error correction codewords and of all that differ from it in one byte, those that vanish at 1 and 2: the values there of a block with one changed byte
-    are those of the block and of the change."""
+    """Of a block with two error correction codewords, and of all that differ from it in one byte,
+    those that vanish at 1 and 2. The values of a block with one changed byte are those of the block
+    and of the change."""
     values, found = syndromes(block, 2), [] if any(syndromes(block, 2)) else [block]
     for place, change in product(range(len(block)), range(1, 256)):
         if ALONE[place, change] == values:
@@ -91,7 +94,7 @@ ALONE = {(place, change): syndromes(bytes(change * (k == place) for k in range(5
 
 
 def corrected_by_trial():
-    """Each wrong codeword of Micro 1 is corrected as by trial of all blocks that differ in one byte"""
+    """Each wrong codeword of Micro 1 is corrected as a trial of all single changes corrects it"""
     shape, parts, found, count = form("M1"), blocks("M1", "L"), [], 0
     square = square_of(goqlanis.encode(b"123", "L", "M1"))
     for number in range(parts.total):
@@ -114,8 +117,8 @@ def not_corrected(block, count):
 
 
 def seen(square, second):
-    """What each look says of a wrong input: an empty text where it does not see that it is wrong. The square is the symbol of `01234567` in Normal 1 at M, the second that of
-    other digits."""
+    """What each look says of a wrong input: an empty text if it does not see what is wrong. The
+    square is the symbol of `01234567` in Normal 1 at M; the second has other digits."""
     bits, shape = reading.read_bits(square), form("1")
     costs = [sum(terms.values()) for terms in reading.penalties(square, bits)]
     worst = max(shape.mask_numbers(), key=costs.__getitem__)

@@ -1,5 +1,6 @@
-"""Data bits of symbols: printed ones, headers, and lists of segments of each length where a codeword has four bits; segments in any order; damage without finder patterns; wrong bits
-of the format word."""
+"""Data bits of symbols: printed ones, headers, and lists of segments of each length where a
+codeword has four bits; segments in any order; damage without finder patterns; wrong bits of the
+format word."""
 from itertools import combinations, product
 
 import goqlanis
@@ -8,8 +9,9 @@ from forms import blocks, form
 from looks import answered, differs, judged, not_read, square_of, turn_format, turn_word
 from spelling import count_bits
 
-# Data, version, level, and the codewords of data, the last one filled with zeros. Those of `HELLO WORLD` are printed in many places; `01234567` and the two pairs are examples of
-# the standard; the others were written by hand.
+# Data, version, level, and the codewords of data, the last one filled with zeros. Those of `HELLO
+# WORLD` are printed in many places; `01234567` and the two pairs are examples of the standard; the
+# others were written by hand.
 CODEWORDS = [
     (b"123A", "M2", "L", "18f72500ec"),
     (b"99999", "M1", "L", "bf3e30"),
@@ -36,8 +38,9 @@ def printed_codewords():
     return found, f"{len(CODEWORDS)} symbols"
 
 
-# Data, version, level, and the bits of its least cut, by hand: of thirty aABCDEF 204 bytes and six letters take 1690 bits, and all bytes in one segment 1692; of the others one
-# segment takes fewer bits than each cut.
+# Data, version, level, and the bits of its least cut, by hand: of thirty aABCDEF 204 bytes and six
+# letters take 1690 bits, and all bytes in one segment 1692. For the others one segment takes fewer
+# bits than any cut.
 LEAST = [(b"aABCDEF" * 30, "9", "L", 1690), (b"a1234b", "1", "L", 60), (b"1234567A", "1", "L", 57)]
 
 
@@ -58,7 +61,8 @@ def written(shape, count):
 
 
 def lists_of_each_length(shape, room):
-    """For each length that segments of digits can have, up to the room, the counts of digits of one list of them."""
+    """For each length up to the room that lists of segments of digits can have, the counts of
+    digits in one such list."""
     most, found = 2 ** count_bits(shape, "numeric"), {0: []}
     for length in range(room + 1):
         for count in range(most if length in found else 0):
@@ -69,7 +73,8 @@ def lists_of_each_length(shape, room):
 
 
 def ended(shape, bits, room):
-    """Bits with their end: twice the number of the version and one zeros, zeros to a whole codeword, 11101100 and 00010001 by turns, and four zeros for a codeword of four bits."""
+    """Bits with their end: zeros, one more than twice the number of the version; zeros up to a
+    whole codeword; 11101100 and 00010001 in turn; and four zeros for a codeword of four bits."""
     bits += "0" * min(2 * shape.number + 1, room - len(bits))
     bits += "0" * min(-len(bits) % 8, room - len(bits))
     while len(bits) + 8 <= room:
@@ -98,7 +103,7 @@ def lists_are_ended():
 
 
 def segments_in_any_order():
-    """Segments of modes that no least cut takes are read; those without a character by the judge alone"""
+    """Segments in modes of no least cut are read; empty ones by the judge alone"""
     segments = [("alphanumeric", b"AB"), ("numeric", b"12"), ("byte", b"2A"), ("numeric", b"12"), ("kanji", b"\x93\x5f"), ("byte", b"\x93\x5f")]
     it = not_read(square_of(goqlanis.encode_segments(segments, "L", "2")), "2", "L", b"AB122A12\x93\x5f\x93\x5f")
     square = square_of(goqlanis.encode_segments([("byte", b""), *segments[:2], ("kanji", b"")], "L", "2"))
@@ -106,7 +111,8 @@ def segments_in_any_order():
     return list(filter(None, (it, empty))), "2 symbols"
 
 
-# Segments with headers in front, the version and level of their symbol, and the headers and bytes that are read of it.
+# Segments with headers in front, the version and level of their symbol, and the headers and bytes
+# that are read of it.
 HEADED = [
     ([("eci", 9), ("byte", b"\xca\xfe\xe4\xe9\xea\xe1\xf2 QR")], "1", "L", [("ECI", 9)], b"\xca\xfe\xe4\xe9\xea\xe1\xf2 QR"),
     ([("eci", 127), ("byte", b"a"), ("eci", 128), ("numeric", b"12")], "2", "M", [("ECI", 127), ("ECI", 128)], b"a12"),
@@ -153,7 +159,7 @@ def without_finders():
 
 
 def wrong_bits_of_a_copy():
-    """Any three wrong bits of either copy of the format word are read over, and any four are refused"""
+    """Any three wrong bits of either copy of the format word are corrected; any four are refused"""
     square, found, count = square_of(goqlanis.encode(b"01234567", "M", "1")), [], 0
     for copy, (wrong, expected) in product(form("1").copies, ((3, answered(square)), (4, "NoFormat"))):
         for places in combinations(copy, wrong):

@@ -1,4 +1,4 @@
-"""What is looked at in a square: each look answers what is wrong, and an empty text where nothing is."""
+"""What is looked at in a square. Each look answers what is wrong, or an empty text."""
 import goqlanis
 import penalty
 import reading
@@ -24,7 +24,8 @@ def rows_of(square):
 
 
 def judged(square):
-    """Version, level, mask, count of wrong codewords and bytes by the judge, or the name of its refusal."""
+    """What the judge reads: version, level, mask, number of wrong codewords and bytes; or the name
+    of its refusal."""
     try:
         bits, data = reading.read(square)
     except (reading.NoSuchSide, reading.NoFormat, reading.Damaged, reading.NotSpelled) as refusal:
@@ -33,7 +34,7 @@ def judged(square):
 
 
 def answered(square):
-    """The same by the library."""
+    """What the library reads, in the same form."""
     try:
         found = goqlanis.read(rows_of(square))
     except goqlanis.Unread as refusal:
@@ -42,7 +43,7 @@ def answered(square):
 
 
 def differs(judge, library):
-    """Whether the library reads otherwise than the judge."""
+    """What is wrong if the library and the judge read something else."""
     return "" if judge == library else f"the judge says {judge}, and the library {library}"
 
 
@@ -51,8 +52,8 @@ def not_alike(square):
 
 
 def not_read(square, version, level, data, wrong=0):
-    """Whether a square is not read as data of a version and level, with so many wrong codewords, by judge and library; where there are any, each copy of the format word has three
-    wrong bits, and else none."""
+    """What is wrong if judge and library do not read a square as these data, with so many wrong
+    codewords. If there are any, each copy of the format word must have three wrong bits."""
     said = judged(square)
     if said[:2] != (version, level) or said[3:] != (wrong, data):
         return f"the judge reads {said} of {version}-{level}"
@@ -64,14 +65,14 @@ def not_read(square, version, level, data, wrong=0):
 
 
 def not_least(square):
-    """Whether the mask of a symbol is not the first of least penalty, counted on the whole symbol under each mask."""
+    """What is wrong if the mask of a symbol is not the first of least penalty."""
     bits = reading.read_bits(square)
     first = penalty.first_least(reading.penalties(square, bits))
     return "" if bits.mask == first else f"mask {bits.mask} of {bits.version}-{bits.level}, and not {first}"
 
 
 def turn_word(square, shape, parts, number, bits):
-    """Changes the bits of a codeword that a byte has; of one of four bits, the byte's first four."""
+    """Changes the bits of a codeword that a byte has, or its first four if it has no more."""
     begin, count = parts.word_bits(number)
     for k in range(count):
         square[shape.places[begin + k]] ^= bits >> (7 - k) & 1
@@ -85,8 +86,11 @@ def turn_format(square, shape, numbers):
 
 
 def damaged(square, version, level, chance, more=0):
-    """A symbol with as much damage as is read, by chance: three wrong bits in each copy of the format word, and in each block half as many wrong codewords as it has for error
-    correction, in the last one some more. And how many codewords are wrong."""
+    """A symbol with random damage, as much as can be read, and how many codewords are wrong.
+
+    Three bits in each copy of the format word are wrong, and in each block half as many codewords
+    as it has for error correction; in the last block some more, if that is asked for.
+    """
     shape, parts, square, wrong = form(version), blocks(version, level), bytearray(square), 0
     for copy in shape.copies:
         for place in chance.sample(copy, MOST_WRONG_IN_FORMAT):

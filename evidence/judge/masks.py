@@ -1,11 +1,13 @@
-"""Masks of symbols in which one term of the penalty decides alone, of symbols that several masks suit alike, and of symbols with penalties of more than 16 bits."""
+"""Masks of symbols in which one term of the penalty decides alone, of symbols that several masks
+suit alike, and of symbols with penalties of more than 16 bits."""
 import goqlanis
 import penalty
 import reading
 from forms import blocks, form
 from looks import not_least, square_of
 
-# The data of a symbol, its version and level, and the one term without which another mask would have the least penalty.
+# The data of a symbol, its version and level, and the one term without which another mask would
+# have the least penalty.
 CHOICES = [
     (b"GOQLANIS 0", "1", "L", "runs"),
     (b"GOQLANIS 9", "2", "L", "runs"),
@@ -37,7 +39,8 @@ CHOICES = [
     (b"7", "M4", "Q", "greater side"),
 ]
 
-# The data of a symbol, its version and level, and the masks that have the least penalty, of which the first is taken.
+# The data of a symbol, its version and level, and the masks that have the least penalty, of which
+# the first is taken.
 TIES = [
     (b"3", "M1", "L", [1, 3]),
     (b"9", "M2", "L", [1, 2]),
@@ -52,8 +55,8 @@ TIES = [
     (b"GOQLANIS 27", "2", "L", [3, 5]),
 ]
 
-# Symbols that are light under a mask for the most part: version, mask, and how many codewords are noise, so many that the penalty under the mask is a little more than 16 bits
-# hold, and less than those under the others if it is cut to 16 bits.
+# Symbols that are mostly light under a mask: version, mask, and how many codewords are noise. The
+# penalty under the mask is a little more than 16 bits hold, and cut to 16 bits it would be the least.
 LIGHT = [("36", 3, 950), ("38", 7, 1300), ("40", 5, 1650)]
 
 
@@ -95,7 +98,8 @@ def noise(row, column):
 
 
 def light_data(version, mask, noisy):
-    """The bytes of a segment with which, in a symbol at L, codewords of data behind the first ones are light under a mask."""
+    """The bytes of a segment that makes the codewords of data, except for the first ones, light
+    under a mask, in a symbol at L."""
     shape, parts, bits = form(version), blocks(version, "L"), ""
     turned = f"{shape.turned[mask]:0{len(shape.places)}b}"
     for share, length in zip(parts.shares(), parts.lengths):
@@ -108,7 +112,8 @@ def light_data(version, mask, noisy):
 
 
 def not_beyond(square, mask):
-    """Whether the penalty under a mask is no more than 16 bits hold, or not less than each other one if it is cut to 16 bits."""
+    """Whether the penalty under a mask fits 16 bits, or is not the least when it is cut to
+    them."""
     costs = [sum(terms.values()) for terms in reading.penalties(square, reading.read_bits(square))]
     cut = costs.pop(mask)
     return "" if cut >= 2 ** 16 and cut % 2 ** 16 < min(costs) else f"{cut} beside {costs}"

@@ -1,4 +1,4 @@
-"""Symbols of all 168 pairs of version and level, with no damage and with the most, and what is refused beside them."""
+"""Symbols of all 168 pairs of version and level, undamaged and damaged, and what is refused."""
 from random import Random
 
 import goqlanis
@@ -9,7 +9,7 @@ from tables import LEVELS
 
 
 def most(version, level, mode):
-    """The most digits or small letters that a symbol holds; none where the version lacks the mode."""
+    """The most digits or small letters that a symbol holds; 0 if the version lacks the mode."""
     shape = form(version)
     width = count_bits(shape, mode)
     bits = blocks(version, level).capacity - (shape.number - 1 if shape.is_micro else 4) - width
@@ -34,7 +34,8 @@ def not_drawn(symbol):
 
 
 def symbol_complaint(version, level, data, chance):
-    """A symbol of data is drawn, takes the mask of least penalty, and is read with no damage and with the most."""
+    """What is wrong if a symbol is not drawn, has not the mask of least penalty, or is not read,
+    undamaged and with the most damage."""
     symbol = goqlanis.encode(data, level, version)
     square = square_of(symbol)
     worst, wrong = damaged(square, version, level, chance)
@@ -42,7 +43,8 @@ def symbol_complaint(version, level, data, chance):
 
 
 def pair_complaints(version, level, chance):
-    """Symbols of no digit, of one, of the most digits and of the most small letters; one more is refused. What is damaged beyond the bound is read or refused alike."""
+    """What is wrong with symbols of no digit, of one, of the most digits and of the most letters;
+    one more is refused. Beyond the bound, damage is read or refused alike."""
     count = most(version, level, "numeric")
     digits = bytes(chance.choices(b"0123456789", k=count + 1))
     found = [symbol_complaint(version, level, digits[1:], chance)]
@@ -72,7 +74,7 @@ def missing_levels():
 
 
 def least_version(rooms, count):
-    """The number of the least version of Normal that holds so many bytes in one segment, 41 where none does."""
+    """The least version of Normal that holds so many bytes in one segment, or 41."""
     for number, room in enumerate(rooms, 1):
         if count == 0 or count * 8 + 4 + count_bits(form(str(number)), "byte") <= room:
             return number

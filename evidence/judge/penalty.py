@@ -31,13 +31,15 @@ def blocks(rows):
 
 
 def finders(line):
-    """Forty for each form of a finder pattern that has four light modules on a side; outside of the square all is light."""
+    """Forty for each form of a finder pattern with four light modules on a side; all modules
+    outside the square are light."""
     wide = "0000" + line + "0000"
     return sum(40 for found in FINDERS.finditer(wide) if "0000" in (wide[found.start() - 4:found.start()], wide[found.start() + 7:found.start() + 11]))
 
 
 def normal(square, width):
-    """The four terms of Normal. The last is how far 200 times the share of dark modules, rounded down, is from 100."""
+    """The four terms of Normal. The last is how far 200 times the share of dark modules, rounded
+    down, is from 100."""
     rows, columns = lines(square, width)
     both = rows + columns
     balance = abs(200 * square.count(1) // len(square) - 100)
@@ -45,8 +47,9 @@ def normal(square, width):
 
 
 def micro(square, width):
-    """The two terms of Micro: the light modules of the last row and of the last column, without the first of each, and 15 times the greater of both. The standard
-    takes the mask of the greatest sum of dark ones, sixteen times the lesser and the greater, which is the mask of the least sum here."""
+    """The two terms of Micro: the light modules of the last row and column, without the first of
+    each, and 15 times the greater of both. The standard takes the mask with the greatest sum of
+    dark ones, sixteen times the lesser and the greater: that is the least sum here."""
     rows, columns = lines(square, width)
     row, column = rows[-1][1:].count("0"), columns[-1][1:].count("0")
     return dict(zip(MICRO_TERMS, (row + column, 15 * max(row, column))))

@@ -1,6 +1,7 @@
 """Symbols that are printed, and one whose penalty is published: rows of `#` and `.`."""
 
-# The symbols of `01234567` that the standard prints: Normal 1 at M under mask 2, and Micro 2 at L under mask 1.
+# The symbols of `01234567` that the standard prints: Normal 1 at M under mask 2, and Micro 2 at L
+# under mask 1.
 DIGITS_NORMAL = [
     "#######..#.##.#######",
     "#.....#..####.#.....#",
@@ -41,8 +42,8 @@ DIGITS_MICRO = [
     "###.#..##.###",
 ]
 
-# `HELLO WORLD` in Normal 1 at Q under mask 0, with another last data codeword, as a tutorial draws it: runs cost 88 and 92, blocks 90, forms of finders 360 and 400, the
-# balance 2.
+# `HELLO WORLD` in Normal 1 at Q under mask 0, with another last data codeword, as a tutorial draws
+# it: runs cost 88 and 92, blocks 90, forms of finders 360 and 400, the balance 2.
 PUBLISHED = [
     "#######.##....#######",
     "#.....#.#..#..#.....#",

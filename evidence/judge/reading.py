@@ -25,7 +25,7 @@ class NotSpelled(Exception):
 
 
 class Bits(NamedTuple):
-    """The data bits of a square, and what it is beside them. The mask is its number in its version."""
+    """The data bits of a square, with its version, level, mask and number of wrong codewords."""
 
     version: str
     level: str
@@ -35,7 +35,7 @@ class Bits(NamedTuple):
 
 
 def divided(five):
-    """The format word of five bits: they and the rest of their division by 10100110111 (Annex C)."""
+    """The format word of five bits: they and the remainder by 10100110111 (Annex C)."""
     rest = five << 10
     for k in range(4, -1, -1):
         if rest >> (10 + k) & 1:
@@ -110,7 +110,8 @@ def read_headed(square):
 
 
 def read(square):
-    """What a square says that has no headers and no segment without a character, as the library reads it: its bits, and its bytes."""
+    """The bits and bytes of a square without headers and without an empty segment, as the library
+    reads it."""
     bits, found = read_headed(square)
     if found.headers or not found.are_filled:
         raise NotSpelled

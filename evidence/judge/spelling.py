@@ -11,8 +11,9 @@ class Unspelled(Exception):
 
 
 class Spelled(NamedTuple):
-    """The bytes of all segments; the headers in front of them: `("ECI", 26)`, `("FNC1",)`, `("FNC1", 37)`, `("symbol", place, last, parity)`; how many bits they take; and whether
-    each segment has a character."""
+    """The bytes of all segments; the headers before them, `("ECI", 26)`, `("FNC1",)`,
+    `("FNC1", 37)`, `("symbol", place, last, parity)`; how many bits they take; and whether no
+    segment is empty."""
 
     data: bytes
     headers: list
@@ -66,7 +67,8 @@ def plain(front, count):
 
 
 def pairs(front, count):
-    """A pair of Shift JIS in thirteen bits: its bytes less 0x8140 or 0xc140, the first 192 times and the second once."""
+    """A pair of Shift JIS in thirteen bits: less 0x8140 or 0xc140, 192 times the first byte and
+    the second."""
     found = b""
     for _ in range(count):
         first, second = divmod(front.number(13), 0xc0)

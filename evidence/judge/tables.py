@@ -2,7 +2,8 @@
 
 LEVELS = "LMQH"
 
-# Table 9, a line for each version of Normal: at L, M, Q and H the error correction codewords of a block, and how many blocks there are.
+# Table 9, a line for each version of Normal: at L, M, Q and H the error correction codewords of a
+# block, and how many blocks there are.
 NORMAL_BLOCKS = """
 7x1 10x1 13x1 17x1
 10x1 16x1 22x1 28x1
@@ -54,7 +55,8 @@ MICRO_BLOCKS = """
 8x1 10x1 14x1
 """
 
-# Table E.1, a line for each version of Normal from 2 on: the rows and columns of the centres of alignment patterns.
+# Table E.1, a line for each version of Normal from 2 on: the rows and columns of the centres of
+# alignment patterns.
 CENTRES = """
 6 18
 6 22
@@ -97,7 +99,8 @@ CENTRES = """
 6 30 58 86 114 142 170
 """
 
-# Table 25: what two bits of the format word of Normal say of the level. Table 13: what three bits say of version and level in Micro.
+# Table 25: what two bits of the format word of Normal say of the level. Table 13: what three bits
+# say of version and level in Micro.
 NORMAL_LEVELS = {0b01: "L", 0b00: "M", 0b11: "Q", 0b10: "H"}
 MICRO_SYMBOLS = [("M1", "L"), ("M2", "L"), ("M2", "M"), ("M3", "L"), ("M3", "M"), ("M4", "L"), ("M4", "M"), ("M4", "Q")]
 
@@ -118,7 +121,8 @@ MICRO_MASKS = [1, 4, 6, 7]
 MODES = {1: "numeric", 2: "alphanumeric", 4: "byte", 8: "kanji"}
 MICRO_MODES = ["numeric", "alphanumeric", "byte", "kanji"]
 
-# Table 3: the bits of the count of characters, in Normal 1 to 9, 10 to 26 and 27 to 40, and in Micro 1 to 4, 0 where the mode is not there.
+# Table 3: the bits of the count of characters, in Normal 1 to 9, 10 to 26 and 27 to 40, and in
+# Micro 1 to 4, 0 where the mode is not there.
 COUNT_BITS = {"numeric": (10, 12, 14), "alphanumeric": (9, 11, 13), "byte": (8, 16, 16), "kanji": (8, 10, 12)}
 MICRO_COUNT_BITS = {"numeric": (3, 4, 5, 6), "alphanumeric": (0, 3, 4, 5), "byte": (0, 0, 4, 5), "kanji": (0, 0, 3, 4)}
 
