@@ -1,7 +1,7 @@
 use Rattle.std.proofs.Common.{◌≡◌, length}
 use Rattle.qrcode_symbol.specs.Masking.{nth_cost}
 use Rattle.qrcode_symbol.proofs.Choices.{LeastBelow}
-use Rattle.qrcode_symbol.proofs.canvas.masking.least_mask_by_rows.Given as goal
+use Rattle.qrcode_symbol.proofs.canvas.masking.least_mask.Given as goal
 
 abbrev pub invariant-loop-k : goal.invariant-loop-k
 invariant-loop-k g l = record {

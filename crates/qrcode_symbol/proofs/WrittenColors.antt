@@ -38,23 +38,23 @@ word_at rest word line a x h e f =
     let turn : x + a ≡ a + x = omega arith in
     ap (λ n. is_set n x) e ∙ has_mod rest 64 x h ∙ ap (λ n. is_set n x) f ∙ has_shr line a x ∙ ap (is_set line) turn
 
--- the places of a word, appended as items
-pub chunk_written : {S : Type 0} (of : Color → S) (word count : ℕ) (old chunk new : List S) → new ≡ old ++ take count chunk → count ≤ 64 → length chunk ≡ 64
-    → ((x : ℕ) → x < 64 → slice_index_or chunk x (of Light) ≡ of (color_of (is_set word x))) → IsRowWritten of word count old new
-chunk_written {S = S} of word count old chunk new is small long are =
-    let part : List S = take count chunk in
+-- the colours of the places of a word, appended
+pub chunk_written : (word count : ℕ) (old chunk new : List Color) → new ≡ old ++ take count chunk → count ≤ 64 → length chunk ≡ 64
+    → ((x : ℕ) → x < 64 → slice_index_or chunk x Light ≡ color_of (is_set word x)) → IsRowWritten word count old new
+chunk_written word count old chunk new is small long are =
+    let part : List Color = take count chunk in
     let size : length part ≡ count = omega (arith, length-take count chunk, long, small) in
     record {
       size = ap length is ∙ length-append old part ∙ ap (λ n. length old + n) size;
-      before = λ i h. ap (λ l. slice_index_or l i (of Light)) is ∙ get_or_append_left old part (of Light) i h;
+      before = λ i h. ap (λ l. slice_index_or l i Light) is ∙ get_or_append_left old part Light i h;
       shown = λ x h.
-          ap (λ l. slice_index_or l (length old + x) (of Light)) is ∙ get_or-append-add old part x (of Light) ∙ get_or-take count chunk x (of Light) h ∙ are x (omega (arith, h, small));
+          ap (λ l. slice_index_or l (length old + x) Light) is ∙ get_or-append-add old part x Light ∙ get_or-take count chunk x Light h ∙ are x (omega (arith, h, small));
     }
 
 -- the next places of a line
-pub row_more : {S : Type 0} (of : Color → S) (line word a b : ℕ) (old mid new : List S) → IsRowWritten of line a old mid → IsRowWritten of word b mid new
-    → ((x : ℕ) → x < b → is_set word x ≡ is_set line (a + x)) → IsRowWritten of line (a + b) old new
-row_more of line word a b old mid new first next same = record {
+pub row_more : (line word a b : ℕ) (old mid new : List Color) → IsRowWritten line a old mid → IsRowWritten word b mid new
+    → ((x : ℕ) → x < b → is_set word x ≡ is_set line (a + x)) → IsRowWritten line (a + b) old new
+row_more line word a b old mid new first next same = record {
   size = omega (arith, first.size, next.size);
   before = λ i h. next.before i (omega (arith, h, first.size)) ∙ first.before i h;
   shown = λ x h. elim (leb_tells (suc x) a) [
@@ -64,6 +64,6 @@ row_more of line word a b old mid new first next same = record {
         let e : length old + x ≡ length mid + i = omega (arith, p.1, first.size) in
         let turn : a + i ≡ x = omega (arith, p.1) in
         let low : i < b = omega (arith, h, p.1) in
-        ap (λ n. slice_index_or new n (of Light)) e ∙ next.shown i low ∙ ap (λ t. of (color_of t)) (same i low ∙ ap (is_set line) turn)
+        ap (λ n. slice_index_or new n Light) e ∙ next.shown i low ∙ ap color_of (same i low ∙ ap (is_set line) turn)
   ];
 }
