@@ -1,5 +1,4 @@
 pub mod Ended
-pub mod Greys
 pub mod Known
 pub mod Least
 pub mod Taken

@@ -75,7 +75,3 @@ IsDrawnTo a old new count =
 abbrev pub IsDrawnInto : Asked → List ℕ → List ℕ → Option ℕ → Type 0
 IsDrawnInto a old new (Some count) = IsDrawnTo a old new count
 IsDrawnInto a old new None = (new ≡ old) × ((bytes : List ℕ) × (IsPictureFor a bytes × (length old < length bytes)))
-
-abbrev pub IsTriedInto : Asked → List ℕ → List ℕ → Option ℕ → Type 0  -- the same; or the buffer is as it was
-IsTriedInto a old new (Some count) = IsDrawnTo a old new count
-IsTriedInto a old new None = new ≡ old

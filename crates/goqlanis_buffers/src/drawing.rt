@@ -2,22 +2,24 @@
 
 ghost use Rattle.std.specs.Prelude.{◌≡◌, ◌+◌, ◌*◌, length, IfOk, OnErr, IsOkUnless, IsTrue};
 ghost use Rattle.qrcode_types.specs.declared.types.QrError.TheVariants.{OutOfMemory};
-ghost use Rattle.qrcode_render.specs.GridOf.{grid_of};
 ghost use Rattle.qrcode_render.specs.Setting.{fits, setting_of};
 ghost use Rattle.qrcode_render.specs.Shades.{colors_of};
-ghost use Rattle.goqlanis_buffers.specs.declared.drawing.Format.TheVariants.{Grey, Png};
-ghost use Rattle.goqlanis_buffers.specs.Drawings.{format_named, eps_grey, square_of, IsDrawnInto, IsLengthFor, IsPictureFor, IsTriedInto};
+ghost use Rattle.goqlanis_buffers.specs.Drawings.{format_named, eps_grey, square_of, IsDrawnInto, IsLengthFor, IsPictureFor};
 
 use crate::asked::Asked;
 use crate::symbols::fill;
-use qrcode::render::grid::Grid;
 use qrcode::render::image::Luma;
-use qrcode::render::page::Finish;
-use qrcode::render::pbm::{self, Bit};
-use qrcode::render::unicode::{Dense1x2, HalfBlocks};
+use qrcode::render::pbm::Bit;
+use qrcode::render::unicode::Dense1x2;
 use qrcode::render::{Pixel, Renderer, eps, pic, svg};
 use qrcode::types::{Color, QrResult};
+use qrcode_png as png;
 use std::alloc::Global;
+
+// Black and white of PNG, opaque.
+const BLACK: [u8; 4] = [0, 0, 0, 255];
+
+const WHITE: [u8; 4] = [255, 255, 255, 255];
 
 /// How modules are drawn.
 #[derive(Clone, Copy)]
@@ -89,74 +91,6 @@ pub(crate) fn draw_into(alloc: Global, asked: &Asked<'_>, out: &mut [u8]) -> QrR
     ensures unchanged { OnErr result (out.new ≡ out.old) }
     ensures memory { IsOkUnless result OutOfMemory }
 {
-    if matches!(asked.format, Format::Grey) {
-        return greys_into(alloc, asked, out);
-    }
-    match text_into(alloc, asked, out)? {
-        Some(count) => Ok(Some(count)),
-        None => copy_into(alloc, asked, out),
-    }
-}
-
-/// How long the picture is. Refuses with `OutOfMemory` alone.
-pub(crate) fn drawn_length(alloc: Global, asked: &Asked<'_>) -> QrResult<usize>
-    ensures length { IfOk result (IsLengthFor asked.now) }
-    ensures memory { IsOkUnless result OutOfMemory }
-{
-    match asked.format {
-        Format::Grey => Ok(greys_length(asked)),
-        _ => Ok(drawn(alloc, asked)?.len()),
-    }
-}
-
-// How many pixels there are.
-fn greys_length(asked: &Asked<'_>) -> usize
-    ensures value { let side = (asked.now.width + 2 * asked.now.zone) * asked.now.scale in
-        result ≡ side * side }
-{
-    let side = (asked.width as usize + 2 * asked.zone as usize) * asked.scale as usize;
-    side * side
-}
-
-// Writes the greys of the pixels, row by row.
-fn greys_into(alloc: Global, asked: &Asked<'_>, out: &mut [u8]) -> QrResult<Option<usize>>
-    requires grey { asked.now.format ≡ Grey }
-    ensures drawing { IfOk result (IsDrawnInto asked.now out.old out.new) }
-    ensures unchanged { OnErr result (out.new ≡ out.old) }
-    ensures memory { IsOkUnless result OutOfMemory }
-{
-    let length = greys_length(asked);
-    if out.len() < length {
-        return Ok(None);
-    }
-    let colors = colors_of(alloc, asked.modules)?;
-    renderer(asked, &colors, Luma([0]), Luma([255])).build_into(alloc, &mut out[..length])?;
-    Ok(Some(length))
-}
-
-// Writes a text straight into the buffer where it has room for any, and a PBM file where it has room for it and
-// its cells are whole bytes; other formats are not written so.
-fn text_into(alloc: Global, asked: &Asked<'_>, out: &mut [u8]) -> QrResult<Option<usize>>
-    ensures drawing { IfOk result (IsTriedInto asked.now out.old out.new) }
-    ensures unchanged { OnErr result (out.new ≡ out.old) }
-    ensures memory { IsOkUnless result OutOfMemory }
-{
-    let (dark, light) = (Dense1x2::Dark, Dense1x2::Light);
-    match asked.format {
-        Format::HalfBlocks => HalfBlocks::put(alloc, &grid(asked), dark, light, out),
-        Format::LightHalfBlocks => HalfBlocks::put(alloc, &grid(asked), light, dark, out),
-        Format::Pbm => pbm::File::put(alloc, &grid(asked), Bit::Black, Bit::White, out),
-        Format::Grey | Format::Png => Ok(None),
-        _ => strokes_into(alloc, asked, out),
-    }
-}
-
-// Draws in memory of its own, and copies that into the buffer where there is room.
-fn copy_into(alloc: Global, asked: &Asked<'_>, out: &mut [u8]) -> QrResult<Option<usize>>
-    ensures drawing { IfOk result (IsDrawnInto asked.now out.old out.new) }
-    ensures unchanged { OnErr result (out.new ≡ out.old) }
-    ensures memory { IsOkUnless result OutOfMemory }
-{
     let bytes = drawn(alloc, asked)?;
     if out.len() < bytes.len() {
         return Ok(None);
@@ -165,22 +99,12 @@ fn copy_into(alloc: Global, asked: &Asked<'_>, out: &mut [u8]) -> QrResult<Optio
     Ok(Some(bytes.len()))
 }
 
-// Writes a text of rectangles straight into the buffer where it has room for any; other formats are not
-// written so.
-fn strokes_into(alloc: Global, asked: &Asked<'_>, out: &mut [u8]) -> QrResult<Option<usize>>
-    ensures drawing { IfOk result (IsTriedInto asked.now out.old out.new) }
-    ensures unchanged { OnErr result (out.new ≡ out.old) }
+/// How long the picture is. Refuses with `OutOfMemory` alone.
+pub(crate) fn drawn_length(alloc: Global, asked: &Asked<'_>) -> QrResult<usize>
+    ensures length { IfOk result (IsLengthFor asked.now) }
     ensures memory { IsOkUnless result OutOfMemory }
 {
-    let colors = colors_of(alloc, asked.modules)?;
-    match asked.format {
-        Format::Svg => {
-            renderer(asked, &colors, svg::Color("#000"), svg::Color("#fff")).put(alloc, out)
-        }
-        Format::Pic => renderer(asked, &colors, pic::Color, pic::Color).put(alloc, out),
-        Format::Eps => renderer(asked, &colors, eps_grey(0), eps_grey(255)).put(alloc, out),
-        _ => Ok(None),
-    }
+    Ok(drawn(alloc, asked)?.len())
 }
 
 // The text or the bytes of the picture.
@@ -196,21 +120,10 @@ fn drawn(alloc: Global, asked: &Asked<'_>) -> QrResult<Vec<u8>>
         Format::Pic => picture(alloc, asked, pic::Color, pic::Color)?,
         Format::Eps => picture(alloc, asked, eps_grey(0), eps_grey(255))?,
         Format::Grey => return Ok(picture(alloc, asked, Luma([0]), Luma([255]))?.into_raw()),
-        Format::Png => return png(alloc, asked),
-        Format::Pbm => return pbm::File::image(alloc, &grid(asked), Bit::Black, Bit::White),
+        Format::Png => return picture(alloc, asked, png::Color(BLACK), png::Color(WHITE)),
+        Format::Pbm => return picture(alloc, asked, Bit::Black, Bit::White),
     };
     Ok(text.into_bytes())
-}
-
-// A PNG file.
-fn png(alloc: Global, asked: &Asked<'_>) -> QrResult<Vec<u8>>
-    requires format { asked.now.format ≡ Png }
-    ensures drawing { IfOk result (λ bytes. IsPictureFor asked.now bytes.items) }
-    ensures memory { IsOkUnless result OutOfMemory }
-{
-    let dark = qrcode_png::Color::default_color(Color::Dark);
-    let light = qrcode_png::Color::default_color(Color::Light);
-    qrcode_png::File::image(alloc, &grid(asked), dark, light)
 }
 
 // The picture of the modules as colours, of pixels that stand for dark and light.
@@ -239,19 +152,6 @@ fn renderer<'a, P: Pixel>(
     renderer.light_color(light);
     renderer.module_size(asked.scale);
     renderer
-}
-
-// The modules as they are, with the quiet zone.
-fn grid<'a>(asked: &Asked<'a>) -> Grid<'a>
-    ensures { result ≡ grid_of (square_of asked.now) }
-{
-    Grid::of_bytes(
-        asked.modules,
-        asked.width,
-        asked.zone,
-        asked.scale,
-        asked.scale,
-    )
 }
 
 // A grey of EPS.
