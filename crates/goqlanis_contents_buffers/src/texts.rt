@@ -10,8 +10,8 @@ ghost use Rattle.goqlanis_contents_buffers.specs.declared.forms.Kind.TheVariants
 use crate::forms::Kind;
 use crate::given::{Item, text_at};
 use crate::values;
-use qrcode_contents::phone::Phone;
 use qrcode_contents::fields::errors::ContentResult;
+use qrcode_contents::phone::Phone;
 use std::alloc::Global;
 
 // The text of a message to a number, without one where it is empty.

@@ -16,13 +16,13 @@ use crate::given::{Item, number_at, small_at, text_at};
 use qrcode_contents::bill::{Bill, Currency, Party};
 use qrcode_contents::card::Card;
 use qrcode_contents::contact::Contact;
+use qrcode_contents::event::{Event, Span};
 use qrcode_contents::geo::Place;
 use qrcode_contents::mail::Mail;
 use qrcode_contents::one_time::{Algorithm, Digits, Factor, OneTime};
 use qrcode_contents::payment::{Payment, PaymentVersion};
-use qrcode_contents::wifi::{Security, Wifi};
-use qrcode_contents::event::{Event, Span};
 use qrcode_contents::times::{Day, Moment};
+use qrcode_contents::wifi::{Security, Wifi};
 
 // How a network is secured: where it is left open, by WPA with a password and else not at all.
 fn security_of(number: u64, password: &str) -> Security
