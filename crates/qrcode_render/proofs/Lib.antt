@@ -1,5 +1,4 @@
 pub mod Attributes
-pub mod Beginnings
 pub mod FilledRuns
 pub mod Folds
 pub mod Grids
@@ -10,7 +9,6 @@ pub mod Paths
 pub mod Pictures
 pub mod PixelRows
 pub mod RasterPictures
-pub mod PutRows
 pub mod Rectangles
 pub mod Sizes
 pub mod StrokedRows

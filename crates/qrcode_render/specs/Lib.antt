@@ -11,7 +11,6 @@ pub mod LineOf
 pub mod Lines
 pub mod Paths
 pub mod Picture
-pub mod Put
 pub mod Raster
 pub mod Setting
 pub mod Shades

@@ -11,7 +11,3 @@ pub record IsStripOf (g : Grid) (s : Strip) : Type 0 where
   pub lower : vec_len s.lower ≡ all_columns g * g.across
   pub columns : vec_len s.columns ≡ 2 * (all_columns g * g.across)
   pub room : s.line.room ≡ 3 * (all_columns g * g.across) + 33
-
--- room for the lines of a picture, of which each has three bytes a pixel at most, and for what is written behind them
-abbrev pub lines_room : Bitmap → ℕ
-lines_room b = (b.down + 1) / 2 * (3 * b.across + 33)

@@ -5,14 +5,12 @@ ghost use Rattle.std.specs.Prelude.{◌≡◌, ℕ, ◌+◌, ◌*◌, ◌^◌, �
 ghost use Rattle.qrcode_types.specs.declared.types.QrError.TheVariants.{OutOfMemory};
 ghost use Rattle.qrcode_types.specs.Colors.{select_of};
 ghost use Rattle.qrcode_render.specs.Eps.{eps_head, eps_paint, eps_box, eps_turn, eps_start, eps_rect, eps_column, eps_sides, eps_row, eps_end, eps_text};
-ghost use Rattle.qrcode_render.specs.Layout.{pixels_across, pixels_down};
-ghost use Rattle.qrcode_render.specs.Put.{IsPutWhere};
-ghost use Rattle.qrcode_render.specs.Setting.{fits, layout_of};
+ghost use Rattle.qrcode_render.specs.Setting.{layout_of};
 
 use crate::ink::{Column, Piece, Row, Sides, number};
 use crate::stamps::Stamp;
-use crate::strokes::{Strokes, push_modules, put_modules};
-use crate::{Modules, Pixel, Renderer};
+use crate::strokes::{Strokes, push_modules};
+use crate::{Modules, Pixel};
 use qrcode_types::types::{Color as ModuleColor, QrResult};
 use std::alloc::Global;
 use std::fmt::Write;
@@ -117,33 +115,6 @@ impl Strokes for Boxes {
     fn row(top: u32, sides: &Sides) -> Row {
         let front = sides.behind(&number(top));
         Piece::new(front, Stamp::new(b" rectfill\n"))
-    }
-}
-
-impl<'a> Renderer<'a, Color> {
-    /// Writes the text that `build` would give into the beginning of a buffer, and answers how long it
-    /// is; or None, where the buffer has not room for its start, its end and 80 bytes for each module.
-    /// Refuses with `OutOfMemory` alone. Then, and where it answers None, the buffer is as it was.
-    #[tactic(auto, unfolding(crate::specs::Eps::eps_text))]
-    pub fn put(&self, alloc: Global, bytes: &mut [u8]) -> QrResult<Option<usize>>
-        requires fits { IsTrue (fits self.now) }
-        ensures made { let s = self.now in let at = layout_of s in IfOk result
-            (IsPutWhere (eps_text at s.content s.dark s.light)
-            (length (eps_start (pixels_across at) (pixels_down at) s.dark s.light)
-            + length s.content * 80 + 15) bytes.old bytes.new) }
-        ensures unchanged { OnErr result (bytes.new ≡ bytes.old) }
-        ensures memory { IsOkUnless result OutOfMemory }
-    {
-        let modules = self.modules();
-        let (width, height) = modules.pixels();
-        let canvas = <Canvas as crate::Canvas>::new(
-            alloc,
-            width,
-            height,
-            self.dark_color,
-            self.light_color,
-        )?;
-        put_modules::<Boxes>(&canvas.text, &modules, b"showpage\n%%EOF\n", bytes)
     }
 }
 

@@ -15,7 +15,6 @@ use qrcode_types::types::{Color, QrResult};
 use std::alloc::Global;
 use std::marker::Model;
 
-mod buffers;
 mod cells;
 pub mod eps;
 mod fours;

@@ -3,15 +3,13 @@
 ghost use Rattle.std.proofs.Common.{rules};
 ghost use Rattle.std.specs.Prelude.{◌≡◌, ℕ, ◌+◌, ◌*◌, ◌^◌, ◌<◌, List, length, string_bytes, IfOk, OnOk, OnErr, IsOkUnless, IsTrue};
 ghost use Rattle.qrcode_types.specs.declared.types.QrError.TheVariants.{OutOfMemory};
-ghost use Rattle.qrcode_render.specs.Layout.{pixels_across, pixels_down};
-ghost use Rattle.qrcode_render.specs.Put.{IsPutWhere};
-ghost use Rattle.qrcode_render.specs.Setting.{fits, layout_of};
+ghost use Rattle.qrcode_render.specs.Setting.{layout_of};
 ghost use Rattle.qrcode_render.specs.Vectors.{pic_start, pic_rect, pic_column, pic_sides, pic_row, pic_text};
 
 use crate::ink::{Column, Piece, Row, Sides, number};
 use crate::stamps::Stamp;
-use crate::strokes::{Strokes, push_modules, put_modules};
-use crate::{Modules, Pixel, Renderer};
+use crate::strokes::{Strokes, push_modules};
+use crate::{Modules, Pixel};
 use qrcode_types::types::QrResult;
 use std::alloc::Global;
 use std::fmt::Write;
@@ -89,26 +87,6 @@ impl Strokes for Boxes {
     fn row(top: u32, sides: &Sides) -> Row {
         let front = sides.behind(&number(top));
         Piece::new(front, Stamp::new(b""))
-    }
-}
-
-impl<'a> Renderer<'a, Color> {
-    /// Writes the text that `build` would give into the beginning of a buffer, and answers how long it
-    /// is; or None, where the buffer has not room for its start and 80 bytes for each module. Refuses
-    /// with `OutOfMemory` alone. Then, and where it answers None, the buffer is as it was.
-    pub fn put(&self, alloc: Global, bytes: &mut [u8]) -> QrResult<Option<usize>>
-        requires fits { IsTrue (fits self.now) }
-        ensures made { let s = self.now in let at = layout_of s in IfOk result
-            (IsPutWhere (pic_text at s.content)
-            (length (pic_start (pixels_across at) (pixels_down at)) + length s.content * 80)
-            bytes.old bytes.new) }
-        ensures unchanged { OnErr result (bytes.new ≡ bytes.old) }
-        ensures memory { IsOkUnless result OutOfMemory }
-    {
-        let modules = self.modules();
-        let (width, height) = modules.pixels();
-        let canvas = <Canvas as crate::Canvas>::new(alloc, width, height, Color, Color)?;
-        put_modules::<Boxes>(&canvas.text, &modules, b"", bytes)
     }
 }
 

@@ -6,13 +6,12 @@ ghost use Rattle.std.specs.Str.{IsUtf8};
 ghost use Rattle.qrcode_types.specs.declared.types.QrError.TheVariants.{OutOfMemory};
 ghost use Rattle.qrcode_render.specs.Drawn.{drawn, drawn_row};
 ghost use Rattle.qrcode_render.specs.Layout.{layout};
-ghost use Rattle.qrcode_render.specs.Put.{IsPutWhere};
 ghost use Rattle.qrcode_render.specs.Strokes.{stroke, columns_from};
 
 use crate::Modules;
 use crate::ink::{Column, MOST, Row, Sides, put_rect};
-use crate::stamps::{Line, put_text};
-use qrcode_types::types::{Color, QrError, QrResult};
+use crate::stamps::Line;
+use qrcode_types::types::{Color, QrResult};
 use std::alloc::Global;
 use std::str::from_utf8_unchecked;
 
@@ -119,46 +118,6 @@ fn push_rows<S: Strokes>(
     Ok(())
 }
 
-// Writes them from a place on, and answers where they end.
-fn put_rows<S: Strokes>(
-    bytes: &mut [u8],
-    at: usize,
-    line: &mut Line,
-    columns: &[Column],
-    content: &[Color],
-    count: u32,
-    zone: u32,
-    width: u32,
-    height: u32,
-) -> usize
-    requires square { length content.now ≡ count * count }
-    requires side_fits { count + 2 * zone < 2 ^ 32 }
-    requires across { (count + 2 * zone) * width < 2 ^ 32 }
-    requires down { (count + 2 * zone) * height < 2 ^ 32 }
-    requires columns { columns.now ≡ columns_from S.column_texts (zone * width) width count }
-    requires line_room { count * 80 ≤ line.old.room }
-    requires room { at + count * (count * 80) ≤ length bytes.old }
-    ensures writes { take result bytes.new ≡ drawn (stroke S.column_texts S.sides_text S.row_texts)
-        (layout count zone width height) content.now (take at bytes.old) }
-    ensures unchanged { drop result bytes.new ≡ drop result bytes.old }
-    ensures at_least { at ≤ result }
-    ensures at_most { result ≤ at + count * (count * 80) }
-    ensures length { length bytes.new ≡ length bytes.old }
-{
-    let left = zone * width;
-    let sides = S::sides(width, height);
-    let mut end = at;
-    for row in 0..count {
-        let start = row as usize * count as usize;
-        let cells = &content[start..start + count as usize];
-        let top = (row + zone) * height;
-        let piece = S::row(top, &sides);
-        write_line::<S>(line, columns, &piece, cells, left, top, width, height);
-        end = put_text(bytes, end, line.as_slice());
-    }
-    end
-}
-
 // Room for the rectangles of the dark modules, of which none has longer texts than those of the last
 // column and of the last row.
 fn room_of<S: Strokes>(columns: &[Column], modules: &Modules) -> usize {
@@ -208,58 +167,4 @@ pub fn push_modules<S: Strokes>(text: String, modules: &Modules) -> QrResult<Str
         modules.height,
     )?;
     Ok(text)
-}
-
-// The most bytes of so many rectangles with a start and an end, where they can be counted.
-fn most_of(start: usize, modules: usize, end: usize) -> Option<usize>
-    ensures value { IfSome result (λ most. most ≡ start + modules * 80 + end) }
-    ensures uncounted { IfNone result (2 ^ 64 ≤ start + modules * 80 + end) }
-{
-    modules
-        .checked_mul(MOST)?
-        .checked_add(start)?
-        .checked_add(end)
-}
-
-/// Writes a text, the rectangles of the dark modules and an end into the beginning of a buffer, and
-/// answers how long they are; or None, where the buffer has not room for a text of 80 bytes for each
-/// module between the two. Refuses with `OutOfMemory` alone. Then, and where it answers None, the
-/// buffer is as it was.
-pub fn put_modules<S: Strokes>(
-    start: &String,
-    modules: &Modules,
-    end: &[u8],
-    bytes: &mut [u8],
-) -> QrResult<Option<usize>>
-    ensures made { IfOk result (IsPutWhere (drawn (stroke S.column_texts S.sides_text S.row_texts)
-        (layout modules.now.count modules.now.zone modules.now.across modules.now.down)
-        modules.now.content (string_bytes start.now) ++ end.now)
-        (length (string_bytes start.now) + length modules.now.content * 80 + length end.now)
-        bytes.old bytes.new) }
-    ensures unchanged { OnErr result (bytes.new ≡ bytes.old) }
-    ensures memory { IsOkUnless result OutOfMemory }
-{
-    let Some(most) = most_of(start.len(), modules.content.len(), end.len()) else {
-        return Ok(None);
-    };
-    if bytes.len() < most {
-        return Ok(None);
-    }
-    let alloc = *start.allocator();
-    let left = modules.zone * modules.width;
-    let columns = columns::<S>(alloc, left, modules.width, modules.count)?;
-    let mut line = row_line(alloc, modules.count)?;
-    let at = put_text(bytes, 0, start.as_bytes());
-    let at = put_rows::<S>(
-        bytes,
-        at,
-        &mut line,
-        &columns,
-        modules.content,
-        modules.count,
-        modules.zone,
-        modules.width,
-        modules.height,
-    );
-    Ok(Some(put_text(bytes, at, end)))
 }

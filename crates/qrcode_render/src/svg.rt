@@ -4,16 +4,14 @@ ghost use Rattle.std.proofs.Common.{rules};
 ghost use Rattle.std.specs.Prelude.{◌≡◌, ℕ, ◌+◌, ◌*◌, ◌^◌, ◌<◌, ◌++◌, List, length, string_bytes, IfOk, OnOk, OnErr, IsOkUnless, IsTrue, codes};
 ghost use Rattle.qrcode_types.specs.declared.types.QrError.TheVariants.{OutOfMemory};
 ghost use Rattle.qrcode_types.specs.Colors.{select_of};
-ghost use Rattle.qrcode_render.specs.Layout.{pixels_across, pixels_down};
-ghost use Rattle.qrcode_render.specs.Put.{IsPutWhere};
-ghost use Rattle.qrcode_render.specs.Setting.{fits, layout_of};
+ghost use Rattle.qrcode_render.specs.Setting.{layout_of};
 ghost use Rattle.qrcode_render.specs.Vectors.{svg_start, svg_rect, svg_column, svg_sides, svg_row, svg_end, svg_text};
 
 use crate::ink::{Column, Piece, Row, Sides, number};
 use crate::stamps::Stamp;
-use crate::strokes::{Strokes, push_modules, put_modules};
+use crate::strokes::{Strokes, push_modules};
 pub use crate::svg_path::{Path, PathElement};
-use crate::{Modules, Pixel, Renderer};
+use crate::{Modules, Pixel};
 use qrcode_types::types::{Color as ModuleColor, QrResult};
 use std::alloc::Global;
 use std::fmt::Write;
@@ -101,33 +99,6 @@ impl Strokes for Paths {
         let back = number(top);
         let front = sides.behind(&back);
         Piece::new(front, back)
-    }
-}
-
-impl<'a, 'c> Renderer<'a, Color<'c>> {
-    /// Writes the text that `build` would give into the beginning of a buffer, and answers how long it
-    /// is; or None, where the buffer has not room for its start, its end and 80 bytes for each module.
-    /// Refuses with `OutOfMemory` alone. Then, and where it answers None, the buffer is as it was.
-    #[tactic(auto, unfolding(crate::specs::Vectors::svg_text))]
-    pub fn put(&self, alloc: Global, bytes: &mut [u8]) -> QrResult<Option<usize>>
-        requires fits { IsTrue (fits self.now) }
-        ensures made { let s = self.now in let at = layout_of s in IfOk result
-            (IsPutWhere (svg_text at s.content s.dark.0.now s.light.0.now)
-            (length (svg_start (pixels_across at) (pixels_down at) s.dark.0.now s.light.0.now)
-            + length s.content * 80 + 9) bytes.old bytes.new) }
-        ensures unchanged { OnErr result (bytes.new ≡ bytes.old) }
-        ensures memory { IsOkUnless result OutOfMemory }
-    {
-        let modules = self.modules();
-        let (width, height) = modules.pixels();
-        let canvas = <Canvas as crate::Canvas>::new(
-            alloc,
-            width,
-            height,
-            self.dark_color,
-            self.light_color,
-        )?;
-        put_modules::<Paths>(&canvas.text, &modules, b"\"/></svg>", bytes)
     }
 }
 

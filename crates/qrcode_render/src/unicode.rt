@@ -1,22 +1,21 @@
 //! Pictures as texts of half blocks: two rows of pixels in a line.
 
 ghost use Rattle.std.proofs.Common.{rules};
-ghost use Rattle.std.specs.Prelude.{◌≡◌, ℕ, ◌+◌, ◌*◌, ◌/◌, ◌^◌, ◌<◌, ◌≤◌, Bool, [], ◌∷◌, ◌++◌, length, take, drop, map, string_bytes, IfOk, IfSome, IfNone, OnErr, IsOkUnless};
+ghost use Rattle.std.specs.Prelude.{◌≡◌, ℕ, ◌+◌, ◌*◌, ◌/◌, ◌^◌, ◌<◌, ◌≤◌, Bool, [], ◌∷◌, ◌++◌, length, map, string_bytes, IfOk, IfSome, IfNone, IsOkUnless};
 ghost use Rattle.std.specs.List.{join_with_byte, range_with_len};
 ghost use Rattle.qrcode_types.specs.declared.types.QrError.TheVariants.{OutOfMemory};
 ghost use Rattle.qrcode_types.specs.Colors.{is_dark};
 ghost use Rattle.qrcode_render.specs.Grid.{pixels_of};
 ghost use Rattle.qrcode_render.specs.Half.{is_dark_half};
 ghost use Rattle.qrcode_render.specs.Lines.{two_text};
-ghost use Rattle.qrcode_render.specs.Put.{IsPutWhere};
-ghost use Rattle.qrcode_render.specs.Strips.{IsStripOf, lines_room};
+ghost use Rattle.qrcode_render.specs.Strips.{IsStripOf};
 ghost use Rattle.qrcode_render.specs.Texts.{half_blocks, column_text, columns_text, dense_line, dense_text};
 
 use crate::Pixel;
 use crate::fours::{Fours, push_columns, push_ones};
 use crate::grid::Grid;
 use crate::page::{Finish, Page};
-use crate::stamps::{LONGEST, Line, Stamp, put_text};
+use crate::stamps::{LONGEST, Line, Stamp};
 use crate::strips::mark_pixels;
 use qrcode_types::types::{Color, QrError, QrResult};
 use std::alloc::Global;
@@ -162,7 +161,7 @@ impl Strip {
         })
     }
 
-    // Writes the line of two rows. Within its callers, for the same reason as `put_lines`.
+    // Writes the line of two rows. Within its callers, so that places of the line stay in registers.
     #[inline(always)]
     fn write_two(&mut self, grid: &Grid, halves: &Halves, i: u32)
         requires fits { IsStripOf grid.now self.old }
@@ -208,36 +207,6 @@ impl Strip {
     }
 }
 
-// Writes the lines of cells, with a newline between two, and answers where they end. Within its callers,
-// so that places of the room stay in registers.
-#[inline(always)]
-fn put_lines(bytes: &mut [u8], grid: &Grid, halves: &Halves, strip: &mut Strip) -> usize
-    requires fits { IsStripOf grid.now strip.old }
-    requires down { 0 < (pixels_of grid.now).down }
-    requires room { lines_room (pixels_of grid.now) ≤ length bytes.old }
-    ensures writes { take result bytes.new ≡ join_with_byte 10 (map
-        (dense_line halves.now.marked halves.now.other (pixels_of grid.now))
-        (range_with_len 0 (((pixels_of grid.now).down + 1) / 2))) }
-    ensures unchanged { drop result bytes.new ≡ drop result bytes.old }
-    ensures inside { result ≤ length bytes.new }
-    ensures length { length bytes.new ≡ length bytes.old }
-{
-    let (_, height) = grid.pixels();
-    let last = (height - 1) / 2;
-    let mut end = 0;
-    for i in 0..last {
-        strip.write_two(grid, halves, i);
-        end = put_text(bytes, end, strip.line.as_slice());
-    }
-    if height % 2 == 1 {
-        strip.write_last(grid, halves, last);
-    } else {
-        strip.write_two(grid, halves, last);
-    }
-    let line = strip.line.as_slice();
-    put_text(bytes, end, &line[..line.len() - 1])
-}
-
 // The most bytes of the lines of a picture and behind them, where they can be counted.
 fn room_of(width: u32, height: u32) -> Option<usize>
     ensures value { IfSome result (λ room. room ≡ (height + 1) / 2 * (3 * width + 33)) }
@@ -247,8 +216,8 @@ fn room_of(width: u32, height: u32) -> Option<usize>
     (height.div_ceil(2) as usize).checked_mul(line)
 }
 
-// The lines of cells, with a newline between two, in room that is taken once. Within its callers, as
-// `put_lines`.
+// The lines of cells, with a newline between two, in room that is taken once. Within its
+// callers, for the same reason as `write_two`.
 #[inline(always)]
 fn made_lines(alloc: Global, grid: &Grid, halves: &Halves, strip: &mut Strip) -> QrResult<Vec<u8>>
     requires fits { IsStripOf grid.now strip.old }
@@ -290,39 +259,4 @@ fn lines_of(alloc: Global, grid: &Grid, marked: bool, other: bool) -> QrResult<S
 
     // Lines of half blocks are a text.
     Ok(unsafe { String::from_utf8_unchecked(lines) })
-}
-
-impl HalfBlocks {
-    /// Writes the text of cells into the beginning of a buffer, and answers how long it is; or None,
-    /// where the buffer has not room for any picture of so many pixels: for each two rows 3 bytes a
-    /// pixel and 33 more. Refuses with `OutOfMemory` alone. Then, and where it answers None, the buffer
-    /// is as it was.
-    #[tactic(auto, unfolding(crate::specs::Texts::dense_text))]
-    pub fn put(
-        alloc: Global,
-        grid: &Grid,
-        dark: Dense1x2,
-        light: Dense1x2,
-        bytes: &mut [u8],
-    ) -> QrResult<Option<usize>>
-        ensures made { IfOk result (IsPutWhere
-            (dense_text (is_dark_half dark) (is_dark_half light) (pixels_of grid.now))
-            (lines_room (pixels_of grid.now)) bytes.old bytes.new) }
-        ensures unchanged { OnErr result (bytes.new ≡ bytes.old) }
-        ensures memory { IsOkUnless result OutOfMemory }
-    {
-        let (width, height) = grid.pixels();
-        if width == 0 || height == 0 {
-            return Ok(Some(0));
-        }
-        let Some(room) = room_of(width, height) else {
-            return Ok(None);
-        };
-        if bytes.len() < room {
-            return Ok(None);
-        }
-        let halves = Halves::new(alloc, dark.is_dark(), light.is_dark())?;
-        let mut strip = Strip::new(alloc, grid)?;
-        Ok(Some(put_lines(bytes, grid, &halves, &mut strip)))
-    }
 }
