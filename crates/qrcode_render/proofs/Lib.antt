@@ -3,13 +3,12 @@ pub mod FilledRuns
 pub mod Folds
 pub mod Grids
 pub mod LineTexts
+pub mod Numbers
 pub mod Packed
 pub mod Palettes
-pub mod Paths
 pub mod Pictures
 pub mod PixelRows
 pub mod RasterPictures
 pub mod Rectangles
 pub mod Sizes
-pub mod StrokedRows
 pub mod TextLines

@@ -7,9 +7,9 @@ pub mod GridOf
 pub mod Half
 pub mod Ink
 pub mod Layout
-pub mod LineOf
 pub mod Lines
 pub mod Paths
+pub mod Pic
 pub mod Picture
 pub mod Raster
 pub mod Setting
@@ -17,5 +17,5 @@ pub mod Shades
 pub mod Shown
 pub mod Strips
 pub mod Strokes
+pub mod Svg
 pub mod Texts
-pub mod Vectors
