@@ -11,7 +11,8 @@ use Rattle.qrcode_render.specs.Picture.{picture}
 use Rattle.qrcode_render.specs.Setting.{Square}
 use Rattle.qrcode_render.specs.Shades.{colors_of}
 use Rattle.qrcode_render.specs.Texts.{dense_text, raw_bytes}
-use Rattle.qrcode_render.specs.Vectors.{svg_text, pic_text}
+use Rattle.qrcode_render.specs.Pic.{pic_text}
+use Rattle.qrcode_render.specs.Svg.{svg_text}
 use Rattle.goqlanis_buffers.specs.declared.asked.Asked.{Asked}
 use Rattle.goqlanis_buffers.specs.declared.drawing.Format.{Format}
 use Rattle.goqlanis_buffers.specs.declared.drawing.Format.TheVariants.{HalfBlocks, LightHalfBlocks, Svg, Pic, Grey, Png, Eps, Pbm}

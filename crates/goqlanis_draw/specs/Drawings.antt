@@ -13,7 +13,8 @@ use Rattle.qrcode_render.specs.Eps.{eps_text}
 use Rattle.qrcode_render.specs.Files.{pgm_file, pbm_file}
 use Rattle.qrcode_render.specs.declared.eps.Color as eps
 use Rattle.qrcode_render.specs.Texts.{text_of, dense_text}
-use Rattle.qrcode_render.specs.Vectors.{svg_text, pic_text}
+use Rattle.qrcode_render.specs.Pic.{pic_text}
+use Rattle.qrcode_render.specs.Svg.{svg_text}
 use Rattle.qrcode.specs.Code.{Code}
 use Rattle.qrcode.specs.Pictures.{quiet_zone}
 use Rattle.goqlanis_draw.specs.Symbols.{IsSymbolOf}

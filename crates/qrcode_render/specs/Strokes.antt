@@ -1,4 +1,5 @@
--- Texts of rectangles, put together of what their columns, their rows and their sides determine.
+-- Texts of rectangles, put together of what their columns, and their rows and their sides determine.
+use Rattle.std.proofs.Common.{◌≡◌, append_assoc}
 use Rattle.std.specs.Prelude.{ℕ, ◌+◌, ◌*◌, List, ◌++◌, map}
 use Rattle.std.specs.List.{range_with_len}
 
@@ -6,10 +7,15 @@ use Rattle.std.specs.List.{range_with_len}
 abbrev pub rect_text : List ℕ × List ℕ → List ℕ × List ℕ → List ℕ
 rect_text column row = column.0 ++ (row.0 ++ (column.1 ++ row.1))
 
--- a rectangle behind a text, where columns determine such texts, and rows and the text of the sides do
-abbrev pub stroke : (ℕ → List ℕ × List ℕ) → (ℕ → ℕ → List ℕ) → (ℕ → List ℕ → List ℕ × List ℕ) → ℕ → ℕ → ℕ → ℕ → List ℕ → List ℕ
-stroke column sides row left top width height text = text ++ rect_text (column left) (row top (sides width height))
+-- a rectangle behind a text, where columns determine such texts, and rows and sides do
+abbrev pub stroke : (ℕ → List ℕ × List ℕ) → (ℕ → ℕ → ℕ → List ℕ × List ℕ) → ℕ → ℕ → ℕ → ℕ → List ℕ → List ℕ
+stroke column row left top width height text = text ++ rect_text (column left) (row top width height)
 
 -- the texts of columns of modules, each of so many pixels, from a first pixel on
 abbrev pub columns_from : (ℕ → List ℕ × List ℕ) → ℕ → ℕ → ℕ → List (List ℕ × List ℕ)
 columns_from column left width n = map (λ i. column (left + i * width)) (range_with_len 0 n)
+
+-- words of a rectangle one behind the other, and the same by its column and its row
+pub regroup : (text m a s b h c v d k x q e : List ℕ)
+    → text ++ (m ++ (a ++ (s ++ (b ++ (h ++ (c ++ (v ++ (d ++ (k ++ (x ++ (q ++ e))))))))))) ≡ text ++ rect_text (m ++ a ++ s, k ++ x ++ q) (b ++ h ++ c ++ v ++ d, e)
+regroup text m a s b h c v d k x q e = simp append_assoc

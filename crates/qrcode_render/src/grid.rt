@@ -6,36 +6,9 @@ ghost use Rattle.qrcode_render.specs.Bitmap.{marked_line};
 ghost use Rattle.qrcode_render.specs.Grid.{cell_row, all_columns, all_rows};
 ghost use Rattle.qrcode_render.specs.Shades.{colors_of, shown};
 
-use crate::marks::{is_dark, mark_bytes, mark_line};
+use crate::marks::{mark_bytes, mark_line};
 use qrcode_types::types::Color;
 use std::marker::Model;
-
-// Cells whose dark ones a byte counts: the most that are seven times the 32 that are taken at once.
-const COUNTED: usize = 224;
-
-// How many of a few cells are dark.
-fn dark_in(cells: &[Color]) -> u8
-    requires { length cells.now ≤ 255 }
-    ensures { result ≤ length cells.now }
-{
-    let mut count = 0u8;
-    for color in cells {
-        count += u8::from(is_dark(*color));
-    }
-    count
-}
-
-// How many of a few bytes are not zero.
-fn set_in(bytes: &[u8]) -> u8
-    requires { length bytes.now ≤ 255 }
-    ensures { result ≤ length bytes.now }
-{
-    let mut count = 0u8;
-    for byte in bytes {
-        count += u8::from(*byte != 0);
-    }
-    count
-}
 
 // Cells as colours, or as bytes, of which those that are not zero are dark.
 #[derive(Copy, Clone)]
@@ -45,29 +18,6 @@ enum Shades<'a> {
 }
 
 impl<'a> Shades<'a> {
-    // How many cells there are.
-    fn len(&self) -> usize
-        ensures { result ≡ length (shown self.now) }
-    {
-        match *self {
-            Shades::Colors(colors) => colors.len(),
-            Shades::Bytes(bytes) => bytes.len(),
-        }
-    }
-
-    // How many of a few cells, from a first one up to an end, are dark.
-    fn dark_in(&self, first: usize, end: usize) -> u8
-        requires order { first ≤ end }
-        requires inside { end ≤ length (shown self.now) }
-        requires at_most { end - first ≤ 255 }
-        ensures { result ≤ end - first }
-    {
-        match *self {
-            Shades::Colors(colors) => dark_in(&colors[first..end]),
-            Shades::Bytes(bytes) => set_in(&bytes[first..end]),
-        }
-    }
-
     // Marks which of some cells are dark, from a place on.
     fn mark(&self, first: usize, end: usize, marks: &mut [bool], start: usize)
         requires order { first ≤ end }
@@ -226,33 +176,5 @@ impl<'a> Grid<'a> {
             self.cells
                 .mark(start, start + self.columns, marks, self.zone);
         }
-    }
-
-    // How many cells are dark.
-    pub(crate) fn dark_count(&self) -> usize {
-        let all = self.cells.len();
-        let parts = all / COUNTED;
-        let mut count = 0;
-        for i in 0..parts {
-            let first = COUNTED * i;
-            count += usize::from(self.cells.dark_in(first, first + COUNTED));
-        }
-        count + usize::from(self.cells.dark_in(COUNTED * parts, all))
-    }
-
-    /// The bytes of all pixels, of which dark and light ones have so many and each row so many more,
-    /// or None where they cannot be counted.
-    pub fn room(&self, dark: usize, light: usize, end: usize) -> Option<usize> {
-        let (width, height) = self.pixels();
-        let all = width as usize * height as usize;
-        let marked = self
-            .dark_count()
-            .saturating_mul(self.across as usize)
-            .saturating_mul(self.down as usize)
-            .min(all);
-        marked
-            .checked_mul(dark)?
-            .checked_add((all - marked).checked_mul(light)?)?
-            .checked_add(end.checked_mul(height as usize)?)
     }
 }

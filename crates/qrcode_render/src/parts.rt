@@ -2,10 +2,10 @@
 
 ghost use Rattle.std.specs.Prelude.{◌≡◌, IsTrue};
 ghost use Rattle.qrcode_render.specs.Grid.{pixels_of};
-ghost use Rattle.qrcode_render.specs.Setting.{fits, picture_of, square_of};
+ghost use Rattle.qrcode_render.specs.Setting.{fits, picture_of};
 
 use crate::grid::Grid;
-use crate::{Modules, Pixel, Renderer};
+use crate::{Pixel, Renderer};
 
 impl<'a, P: Pixel> Renderer<'a, P> {
     /// The modules as cells, with the quiet zone where it is on.
@@ -21,20 +21,6 @@ impl<'a, P: Pixel> Renderer<'a, P> {
             self.module_width,
             self.module_height,
         )
-    }
-
-    // The modules, with the quiet zone where it is on.
-    pub(crate) fn modules(&self) -> Modules<'a>
-        requires { IsTrue (fits self.now) }
-        ensures { result ≡ square_of self.now }
-    {
-        Modules {
-            content: self.content,
-            count: self.modules_count,
-            zone: self.quiet_zone,
-            width: self.module_width,
-            height: self.module_height,
-        }
     }
 
     /// What stands for dark and for light.

@@ -12,7 +12,7 @@ use crate::Pixel;
 use crate::grid::Grid;
 use crate::page::{Finish, Page};
 use crate::rows::push_rows;
-use qrcode_types::types::{Color, QrError, QrResult};
+use qrcode_types::types::{Color, QrResult};
 use std::alloc::Global;
 
 /// What stands for a pixel in a text.
@@ -169,10 +169,7 @@ fn lines_of(alloc: Global, grid: &Grid, dark: &str, light: &str) -> QrResult<Str
         string_bytes text ≡ text_of dark.now light.now (pixels_of grid.now)) }
     ensures memory { IsOkUnless result OutOfMemory }
 {
-    let room = grid
-        .room(dark.len(), light.len(), 1)
-        .ok_or(QrError::OutOfMemory)?;
-    let mut raw = Vec::with_capacity(alloc, room)?;
+    let mut raw = Vec::new(alloc);
     push_rows(&mut raw, grid, dark.as_bytes(), light.as_bytes(), b"\n")?;
     raw.pop();
 
