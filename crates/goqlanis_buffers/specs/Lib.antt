@@ -6,3 +6,4 @@ pub mod Outputs
 pub mod Readings
 pub mod Segments
 pub mod Symbols
+pub mod contents

@@ -4,6 +4,7 @@
 
 pub mod answers;
 mod asked;
+pub mod contents;
 pub mod drawing;
 pub mod encoding;
 pub mod laws;
