@@ -1,4 +1,5 @@
 pub mod Answers
+pub mod Asking
 pub mod Calls
 pub mod Drawings
 pub mod Names

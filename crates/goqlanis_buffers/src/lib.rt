@@ -3,9 +3,7 @@
 #![tactic(auto)]
 
 pub mod answers;
-mod asked;
 pub mod contents;
-pub mod drawing;
 pub mod encoding;
 pub mod laws;
 pub mod names;

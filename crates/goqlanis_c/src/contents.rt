@@ -3,8 +3,8 @@
 ghost use Rattle.std.specs.Prelude.{◌≡◌, ◌≢◌, length};
 ghost use Rattle.goqlanis_buffers.specs.contents.Contents.{IsContentIn, IsRefused};
 
-use goqlanis_buffers::contents::writing::write;
 use goqlanis_buffers::contents::given::Item;
+use goqlanis_buffers::contents::writing::write;
 use std::alloc::Global;
 
 /// The text of fields of a kind, at the beginning of `out`, and its length to `count`.

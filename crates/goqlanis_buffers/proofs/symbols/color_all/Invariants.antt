@@ -1,6 +1,6 @@
 use Rattle.std.proofs.Common.{◌≡◌, length, take}
 use Rattle.qrcode_render.specs.Shades.{colors_of}
-use Rattle.goqlanis_buffers.proofs.drawing.color_all.Given as goal
+use Rattle.goqlanis_buffers.proofs.symbols.color_all.Given as goal
 
 -- so many modules are written
 abbrev pub invariant-loop-i : goal.invariant-loop-i
