@@ -40,12 +40,12 @@ macro_rules! pixel {
 
 // The same with the module that has the type.
 macro_rules! file_format {
-    ($about:literal, $module:ident::$type:ident, $image:ty, $number:ident, $made:expr) => {
+    ($about:literal, $module:ident::$type:ident, $image:ty, $scale:expr, $number:ident, $made:expr) => {
         pub mod $module {
             #[doc = $about]
             pub struct $type;
         }
-        pixel!($module::$type, $image, 8, |_| sys::$number, $made);
+        pixel!($module::$type, $image, $scale, |_| sys::$number, $made);
     };
 }
 
@@ -57,11 +57,11 @@ fn file(bytes: Vec<u8>) -> Vec<u8> {
     bytes
 }
 
-file_format!("An SVG text, black on white.", svg::Color, String, GOQ_SVG, text);
-file_format!("A PIC text.", pic::Color, String, GOQ_PIC, text);
-file_format!("An Encapsulated PostScript text, black on white.", eps::Color, String, GOQ_EPS, text);
-file_format!("The bytes of a PNG file, black on white.", png::Color, Vec<u8>, GOQ_PNG, file);
-file_format!("The bytes of a PBM file.", pbm::Bit, Vec<u8>, GOQ_PBM, file);
+file_format!("An SVG text, black on white.", svg::Color, String, 8, GOQ_SVG, text);
+file_format!("A PIC text.", pic::Color, String, 8, GOQ_PIC, text);
+file_format!("An Encapsulated PostScript text, black on white.", eps::Color, String, 8, GOQ_EPS, text);
+file_format!("The bytes of a PNG file, black on white.", png::Color, Vec<u8>, 8, GOQ_PNG, file);
+file_format!("The bytes of a PBM file.", pbm::Bit, Vec<u8>, 8, GOQ_PBM, file);
 
 /// Rows of pixels, a byte each.
 pub struct Luma;
