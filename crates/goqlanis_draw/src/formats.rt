@@ -59,7 +59,7 @@ pub struct Row {
 
 /// The formats of the program, in the order in which it lists them.
 #[rattlefmt::skip]
-pub static FORMATS: [Row; 9] = [
+pub static FORMATS: &[Row] = &[
     Row { format: HalfBlocks, name: "half-blocks", ending: Some("txt"), kind: Text, pixels: 1 },
     Row { format: Terminal, name: "terminal", ending: None, kind: Text, pixels: 1 },
     Row { format: Chars, name: "text", ending: None, kind: Text, pixels: 1 },
@@ -72,7 +72,7 @@ pub static FORMATS: [Row; 9] = [
 ];
 
 // The formats of the library for C, in the order of their numbers, from 0 on.
-static IN_C: [Format; 8] = [HalfBlocks, LightHalfBlocks, Svg, Pic, Grey, Png, Eps, Pbm];
+static IN_C: &[Format] = &[HalfBlocks, LightHalfBlocks, Svg, Pic, Grey, Png, Eps, Pbm];
 
 /// The format of a number in C.
 pub fn format_numbered(number: u32) -> Option<Format>
@@ -83,7 +83,7 @@ pub fn format_numbered(number: u32) -> Option<Format>
 
 /// The format of a name, in capitals or not.
 pub fn format_named(name: &str) -> Option<Format> {
-    for row in &FORMATS {
+    for row in FORMATS {
         if row.name.eq_ignore_ascii_case(name) {
             return Some(row.format);
         }
@@ -93,7 +93,7 @@ pub fn format_named(name: &str) -> Option<Format> {
 
 /// The format of the ending of a file's name, in capitals or not.
 pub fn format_of_ending(ending: &str) -> Option<Format> {
-    for row in &FORMATS {
+    for row in FORMATS {
         if row
             .ending
             .is_some_and(|known| known.eq_ignore_ascii_case(ending))
