@@ -3,3 +3,5 @@ pub mod Known
 pub mod Least
 pub mod Taken
 pub mod Told
+pub mod Fields
+pub mod Parts
