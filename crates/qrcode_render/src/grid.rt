@@ -1,14 +1,56 @@
 //! Cells in rows and columns, of which each shows as a rectangle of pixels.
 
-ghost use Rattle.std.specs.Prelude.{◌≡◌, ◌+◌, ◌-◌, ◌*◌, ◌^◌, ◌<◌, ◌≤◌, length};
-ghost use Rattle.std.specs.List.{slice_range};
-ghost use Rattle.qrcode_render.specs.Bitmap.{marked_line};
-ghost use Rattle.qrcode_render.specs.Grid.{cell_row, all_columns, all_rows};
+ghost use Rattle.std.specs.Prelude.{◌≡◌, ◌+◌, ◌-◌, ◌*◌, ◌/◌, ◌^◌, ◌<◌, ◌≤◌, false, length, map, slice_index_or};
+ghost use Rattle.std.specs.List.{range_with_len, slice_range};
+ghost use Rattle.qrcode_types.specs.Colors.{is_dark};
+ghost use Rattle.qrcode_render.specs.Bitmap.{marked_line, row_of};
+ghost use Rattle.qrcode_render.specs.Grid.{all_columns, all_rows, cell_row, pixels_of};
 ghost use Rattle.qrcode_render.specs.Shades.{colors_of, shown};
 
-use crate::marks::{mark_bytes, mark_line};
 use qrcode_types::types::Color;
 use std::marker::Model;
+
+// Whether a module is dark.
+fn is_dark(color: Color) -> bool
+    ensures { result ≡ is_dark color }
+{
+    match color {
+        Color::Light => false,
+        Color::Dark => true,
+    }
+}
+
+// Marks which modules of a row are dark, from a place on.
+fn mark_line(marks: &mut [bool], start: usize, line: &[Color])
+    requires { start + length line.now ≤ length marks.old }
+    ensures { marks.new ≡ marked_line start line.now marks.old }
+{
+    for (i, color) in line.iter().enumerate() {
+        marks[start + i] = is_dark(*color);
+    }
+}
+
+// The same of a row of bytes, of which those that are not zero are dark.
+fn mark_bytes(marks: &mut [bool], start: usize, line: &[u8])
+    requires { start + length line.now ≤ length marks.old }
+    ensures { marks.new ≡ marked_line start (colors_of line.now) marks.old }
+{
+    for (i, byte) in line.iter().enumerate() {
+        marks[start + i] = *byte != 0;
+    }
+}
+
+// Marks each pixel of which the cell is marked.
+fn widen(cells: &[bool], across: usize, marks: &mut [bool])
+    requires at_least { 1 ≤ across }
+    requires length { length marks.old ≡ length cells.now * across }
+    ensures { marks.new ≡ map (λ x. slice_index_or cells.now (x / across) false)
+        (range_with_len 0 (length cells.now * across)) }
+{
+    for x in 0..marks.len() {
+        marks[x] = cells[x / across];
+    }
+}
 
 // Cells as colours, or as bytes, of which those that are not zero are dark.
 #[derive(Copy, Clone)]
@@ -175,6 +217,25 @@ impl<'a> Grid<'a> {
             let start = (row - self.zone) * self.columns;
             self.cells
                 .mark(start, start + self.columns, marks, self.zone);
+        }
+    }
+
+    /// Marks the dark pixels of a row. `cells` is room for the marks of its cells.
+    pub fn mark_pixels(&self, y: u32, cells: &mut [bool], marks: &mut [bool])
+        requires inside { y < all_rows self.now * self.now.down }
+        requires cells { length cells.old ≡ all_columns self.now }
+        requires pixels { length marks.old ≡ all_columns self.now * self.now.across }
+        ensures value { marks.new ≡ row_of (pixels_of self.now) y }
+        ensures cells { length cells.new ≡ length cells.old }
+        ensures pixels { length marks.new ≡ length marks.old }
+    {
+        let (across, down) = self.cell();
+        let row = (y / down) as usize;
+        if across == 1 {
+            self.mark_row(row, marks);
+        } else {
+            self.mark_row(row, cells);
+            widen(cells, across as usize, marks);
         }
     }
 }

@@ -65,9 +65,7 @@ impl<'a> Element for Str<'a> {
 
     ghost is_default = { λ c element. element.0.now ≡ select_of c (0xe2 ∷ 0x96 ∷ 0x88 ∷ []) (32 ∷ []) };
 
-    fn default_color(color: Color) -> Str<'a>
-        ensures { result.0.now ≡ select_of color (0xe2 ∷ 0x96 ∷ 0x88 ∷ []) (32 ∷ []) }
-    {
+    fn default_color(color: Color) -> Str<'a> {
         Str(color.select("\u{2588}", " "))
     }
 
@@ -119,9 +117,7 @@ impl<'a> Pixel for Str<'a> {
         (1, 1)
     }
 
-    fn default_color(color: Color) -> Str<'a>
-        ensures { result.0.now ≡ select_of color (0xe2 ∷ 0x96 ∷ 0x88 ∷ []) (32 ∷ []) }
-    {
+    fn default_color(color: Color) -> Str<'a> {
         <Str as Element>::default_color(color)
     }
 }

@@ -34,9 +34,7 @@ impl<'a> Pixel for Color<'a> {
         (8, 8)
     }
 
-    fn default_color(color: ModuleColor) -> Color<'a>
-        ensures { result.0.now ≡ select_of color (codes "#000") (codes "#fff") }
-    {
+    fn default_color(color: ModuleColor) -> Color<'a> {
         Color(color.select("#000", "#fff"))
     }
 }

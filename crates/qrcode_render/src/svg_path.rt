@@ -43,9 +43,7 @@ impl<'a> Pixel for Path<'a> {
         (8, 8)
     }
 
-    fn default_color(color: ModuleColor) -> Path<'a>
-        ensures { result.0.now ≡ select_of color (codes "#000") (codes "#fff") }
-    {
+    fn default_color(color: ModuleColor) -> Path<'a> {
         Path(color.select("#000", "#fff"))
     }
 }
@@ -68,9 +66,7 @@ impl<'a> Pixel for PathElement<'a> {
         (8, 8)
     }
 
-    fn default_color(color: ModuleColor) -> PathElement<'a>
-        ensures { result.0.now ≡ select_of color (codes "#000") (codes "#fff") }
-    {
+    fn default_color(color: ModuleColor) -> PathElement<'a> {
         PathElement(color.select("#000", "#fff"))
     }
 }

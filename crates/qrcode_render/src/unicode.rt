@@ -15,7 +15,6 @@ use crate::fours::{Fours, interleave, push_ones, push_twos};
 use crate::grid::Grid;
 use crate::page::{Finish, Page};
 use crate::stamps::{Line, Stamp};
-use crate::strips::mark_pixels;
 use qrcode_types::types::{Color, QrResult};
 use std::alloc::Global;
 
@@ -172,10 +171,10 @@ impl Strip {
         ensures memory { IsOkUnless result OutOfMemory }
     {
         let (_, height) = grid.pixels();
-        mark_pixels(grid, 2 * i, &mut self.cells, &mut self.upper);
+        grid.mark_pixels(2 * i, &mut self.cells, &mut self.upper);
         self.line.clear();
         if 2 * i + 1 < height {
-            mark_pixels(grid, 2 * i + 1, &mut self.cells, &mut self.lower);
+            grid.mark_pixels(2 * i + 1, &mut self.cells, &mut self.lower);
             interleave(&self.upper, &self.lower, &mut self.columns);
             push_twos(&mut self.line, &halves.palette, &self.columns)?;
             return self.line.push(b"\n");

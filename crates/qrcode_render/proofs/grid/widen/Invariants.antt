@@ -1,6 +1,6 @@
 use Rattle.std.proofs.Common.{◌≡◌, ◌/◌, length, take, map, get_or, false}
 use Rattle.std.specs.List.{range_with_len}
-use Rattle.qrcode_render.proofs.strips.widen.Given as goal
+use Rattle.qrcode_render.proofs.grid.widen.Given as goal
 
 abbrev pub invariant-loop-x : goal.invariant-loop-x
 invariant-loop-x l =

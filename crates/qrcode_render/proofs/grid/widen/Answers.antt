@@ -1,7 +1,7 @@
 use Rattle.std.proofs.Common.{ℕ, ◌/◌, ◌∷◌, [], ◌++◌, Bool, get_or, false, ap, ◌∙◌, sym, arith, rules}
 use Rattle.std.proofs.lemmas.List.{take_more_set}
 use Rattle.std.proofs.lemmas.List.FromFn.{map-range_with_len_more}
-use Rattle.qrcode_render.proofs.strips.widen.Goals as goal
+use Rattle.qrcode_render.proofs.grid.widen.Goals as goal
 
 pub loop-x-preserved : goal.loop-x-preserved
 loop-x-preserved c =

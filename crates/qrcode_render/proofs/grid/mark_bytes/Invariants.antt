@@ -1,7 +1,7 @@
 use Rattle.std.proofs.Common.{◌≡◌, ◌+◌, drop, length}
 use Rattle.qrcode_render.specs.Bitmap.{marked_line}
 use Rattle.qrcode_render.specs.Shades.{colors_of}
-use Rattle.qrcode_render.proofs.marks.mark_bytes.Given as goal
+use Rattle.qrcode_render.proofs.grid.mark_bytes.Given as goal
 
 abbrev pub invariant-loop-i : goal.invariant-loop-i
 invariant-loop-i l =

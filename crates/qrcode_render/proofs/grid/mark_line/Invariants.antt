@@ -1,6 +1,6 @@
 use Rattle.std.proofs.Common.{◌≡◌, ◌+◌, drop, length}
 use Rattle.qrcode_render.specs.Bitmap.{marked_line}
-use Rattle.qrcode_render.proofs.marks.mark_line.Given as goal
+use Rattle.qrcode_render.proofs.grid.mark_line.Given as goal
 
 abbrev pub invariant-loop-i : goal.invariant-loop-i
 invariant-loop-i l =
