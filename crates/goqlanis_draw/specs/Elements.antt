@@ -9,7 +9,6 @@ use Rattle.qrcode.specs.Code.{Code}
 use Rattle.qrcode_gs1.specs.Elements.{Item, element_string}
 use Rattle.qrcode_gs1.specs.Refusals.{refusal_from}
 use Rattle.qrcode_gs1.specs.declared.errors.Gs1Error.TheVariants as gs1
-use Rattle.qrcode_gs1.specs.declared.table.TheConstants.{RULES}
 use Rattle.qrcode_gs1.specs.symbol.Elements.{IsGs1Symbol, IsGs1Refused}
 use Rattle.qrcode_gs1.specs.symbol.Symbols.{HoldsMarked, IsMarkedSymbol, IsMarkedRefused}
 use Rattle.qrcode_gs1.specs.declared.symbol.Position.{Position}
@@ -50,8 +49,8 @@ IsApplicationRefused (At v) application l bytes e = IsRefusedAlone v (Second app
 
 -- why elements have no symbol of a version: the first of them that is refused, or the version does not hold their element string; or memory was refused
 abbrev pub AreRefusedAlone : Version → EcLevel → List Item → SymbolError → Type 0
-AreRefusedAlone v l items (Elements e) = (refusal_from RULES 0 items ≡ Some e) ⊎ (e ≡ gs1.OutOfMemory)
-AreRefusedAlone v l items (Symbol e) = (refusal_from RULES 0 items ≡ None) × IsRefusedAlone v First l (element_string items) e
+AreRefusedAlone v l items (Elements e) = (refusal_from 0 items ≡ Some e) ⊎ (e ≡ gs1.OutOfMemory)
+AreRefusedAlone v l items (Symbol e) = (refusal_from 0 items ≡ None) × IsRefusedAlone v First l (element_string items) e
 
 -- why they have none, of a choice at a level: as IsGs1Refused says of the versions from one on, or of that version alone
 abbrev pub IsElementsRefused : Choice → EcLevel → List Item → SymbolError → Type 0

@@ -13,7 +13,8 @@ use Rattle.qrcode_gs1.specs.declared.errors.Gs1Error.TheVariants.{OutOfMemory}
 use Rattle.qrcode_gs1.specs.declared.errors.Cause.{Cause}
 use Rattle.qrcode_gs1.specs.declared.errors.Cause.TheVariants.{Length, Character, CheckDigit}
 use Rattle.qrcode_gs1.specs.Elements.{Item, number_of, prefix_of, digit_count, fixed_length, is_fixed, separator, element_string, before_separator, behind_separator, first_element, item_of, read_items, read_elements, are_apart}
-use Rattle.qrcode_gs1.specs.Refusals.{Rule, is_digit, is_character, is_identifier, numbered_rule, is_checked, cause_by, cause_found, cause_of, refusal_or, refusal_from, checked, Answers}
+use Rattle.qrcode_gs1.specs.Refusals.{is_digit, is_character, is_identifier, numbered_rule, is_checked, cause_by, cause_found, cause_of, refusal_or, refusal_from, checked, Answers}
+use Rattle.qrcode_gs1.specs.Table.{Rule, rules}
 
 -- two tests that hold
 both : (a b : Bool) → (a && b) ≡ true → (a ≡ true) × (b ≡ true)
@@ -66,8 +67,8 @@ rule_passes false rule item is = cc
 rule_passes true None item is = cc
 rule_passes true (Some rule) item is = (refl, value_passes rule item is)
 
-whole : (rules : List Rule) (item : Item) → cause_of rules item ≡ None → Whole item
-whole rules item is =
+whole : (item : Item) → cause_of item ≡ None → Whole item
+whole item is =
     let tests = rule_passes (is_identifier item.0) (numbered_rule rules (number_of item.0)) item is in
     let known = both (length item.0 == digit_count (prefix_of item.0)) (list_all is_digit item.0) tests.0 in
     record {
@@ -84,11 +85,11 @@ refusal_passes : (cause : Option Cause) (i : ℕ) (later : Option Gs1Error) → 
 refusal_passes None i later is = (refl, is)
 refusal_passes (Some cause) i later is = cc
 
-all_whole : (rules : List Rule) (i : ℕ) (items : List Item) → refusal_from rules i items ≡ None → AllWhole items
-all_whole rules i [] is = tt
-all_whole rules i (item ∷ items) is =
-    let parts = refusal_passes (cause_of rules item) i (refusal_from rules (i + 1) items) is in
-    (whole rules item parts.0, all_whole rules (i + 1) items parts.1)
+all_whole : (i : ℕ) (items : List Item) → refusal_from i items ≡ None → AllWhole items
+all_whole i [] is = tt
+all_whole i (item ∷ items) is =
+    let parts = refusal_passes (cause_of item) i (refusal_from (i + 1) items) is in
+    (whole item parts.0, all_whole (i + 1) items parts.1)
 
 -- an identifier has two digits at least
 two_at_least : (a b : Bool) → 2 ≤ (if a then 3 else (if b then 4 else 2))
@@ -182,9 +183,9 @@ count (item ∷ items) are =
     omega (arith, count items are.1, item_least item are.0, length-append bytes (mark ++ element_string items), length-append mark (element_string items))
 
 -- elements of which none is refused are read back
-pub read_back : (rules : List Rule) (items : List Item) → refusal_from rules 0 items ≡ None → read_elements (element_string items) ≡ items
-read_back rules items is =
-    let are = all_whole rules 0 items is in
+pub read_back : (items : List Item) → refusal_from 0 items ≡ None → read_elements (element_string items) ≡ items
+read_back items is =
+    let are = all_whole 0 items is in
     reads items (length (element_string items)) are (count items are)
 
 -- Separators stand apart.
@@ -210,9 +211,9 @@ apart_behind true (item ∷ items) are =
     apart_separator bytes later are.0.plain (item_least item are.0) (apart_join bytes later are.0.plain (apart_behind (not (is_fixed item.0)) items are.1))
 
 -- the separators of elements of which none is refused stand apart
-pub apart : (rules : List Rule) (items : List Item) → refusal_from rules 0 items ≡ None → are_apart (element_string items) ≡ true
-apart rules [] is = refl
-apart rules (item ∷ items) is = apart_behind false (item ∷ items) (all_whole rules 0 (item ∷ items) is)
+pub apart : (items : List Item) → refusal_from 0 items ≡ None → are_apart (element_string items) ≡ true
+apart [] is = refl
+apart (item ∷ items) is = apart_behind false (item ∷ items) (all_whole 0 (item ∷ items) is)
 
 -- a check that passes refuses nothing
 pub checked_none : (refusal : Option Gs1Error) (r : Result (Unit {0}) Gs1Error) (x : Unit {0}) → r ≡ checked refusal → r ≡ Ok x → refusal ≡ None

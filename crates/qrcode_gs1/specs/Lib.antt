@@ -1,4 +1,5 @@
 pub mod Elements
 pub mod Items
 pub mod Refusals
+pub mod Table
 pub mod symbol

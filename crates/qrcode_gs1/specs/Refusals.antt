@@ -8,10 +8,7 @@ use Rattle.qrcode_gs1.specs.declared.errors.Cause.TheVariants.{UnknownIdentifier
 use Rattle.qrcode_gs1.specs.declared.errors.Gs1Error.{Gs1Error}
 use Rattle.qrcode_gs1.specs.declared.errors.Gs1Error.TheVariants.{Refused, OutOfMemory}
 use Rattle.qrcode_gs1.specs.Elements.{Item, is_within, number_of, prefix_of, digit_count, fixed_length, is_fixed}
-
--- the first and the last identifier; the least and the greatest length of a value; how many of its first characters have to be digits; and how many of these end in a check digit
-abbrev pub Rule : Type 0
-Rule = (ℕ × ℕ) × (ℕ × ℕ) × ℕ × ℕ
+use Rattle.qrcode_gs1.specs.Table.{Rule, rules}
 
 abbrev pub is_digit : ℕ → Bool  -- a digit
 is_digit b = is_within 48 57 b
@@ -32,8 +29,8 @@ numbered_rule rules n = if is_within 3100 3699 n && nat_lt 5 (n % 10) then None 
 abbrev pub is_identifier : List ℕ → Bool  -- an identifier is digits, as many as its first two say
 is_identifier bytes = (length bytes == digit_count (prefix_of bytes)) && list_all is_digit bytes
 
-abbrev pub rule_of : List Rule → List ℕ → Option Rule  -- the rule of an identifier
-rule_of rules bytes = if is_identifier bytes then numbered_rule rules (number_of bytes) else None
+abbrev pub rule_of : List ℕ → Option Rule  -- the rule of an identifier
+rule_of bytes = if is_identifier bytes then numbered_rule rules (number_of bytes) else None
 
 abbrev pub weighted_sum : List ℕ → ℕ  -- digits, the last by 1, the one before it by 3, and so on in turn
 weighted_sum [] = 0
@@ -71,8 +68,8 @@ abbrev pub cause_found : Option Rule → Item → Option Cause  -- what is wrong
 cause_found None item = Some UnknownIdentifier
 cause_found (Some rule) item = cause_by rule item
 
-abbrev pub cause_of : List Rule → Item → Option Cause
-cause_of rules item = cause_found (rule_of rules item.0) item
+abbrev pub cause_of : Item → Option Cause
+cause_of item = cause_found (rule_of item.0) item
 
 -- a cause at this index, or what is refused behind it
 abbrev pub refusal_or : Option Cause → ℕ → Option Gs1Error → Option Gs1Error
@@ -80,10 +77,9 @@ refusal_or None index later = later
 refusal_or (Some cause) index later = Some (Refused index cause)
 
 -- the first element that is refused, of those from this index on
-abbrev pub refusal_from : List Rule → ℕ → List Item → Option Gs1Error
-refusal_from rules index [] = None
-refusal_from rules index (item ∷ items) =
-    refusal_or (cause_of rules item) index (refusal_from rules (index + 1) items)
+abbrev pub refusal_from : ℕ → List Item → Option Gs1Error
+refusal_from index [] = None
+refusal_from index (item ∷ items) = refusal_or (cause_of item) index (refusal_from (index + 1) items)
 
 abbrev pub checked : Option Gs1Error → Result (Unit {0}) Gs1Error  -- the answer of a check that refuses so
 checked None = Ok tt

@@ -5,7 +5,7 @@ ghost use Rattle.std.specs.List.{list_all};
 ghost use Rattle.qrcode_gs1.specs.Refusals.{cause_of, is_character, is_checked, is_long_enough, is_written};
 
 use crate::errors::Cause;
-use crate::table::{RULES, Rule, are_digits, fixed_length, prefix_of, rule_of, start};
+use crate::table::{Rule, are_digits, fixed_length, prefix_of, rule_of, start};
 
 // Whether all bytes are among the 82 characters.
 #[tactic(auto, unfolding(crate::specs::Refusals::is_character))]
@@ -51,7 +51,7 @@ fn is_written(rule: &Rule, value: &[u8]) -> bool
 
 /// What is wrong with an element, if anything.
 pub fn cause_of(identifier: &[u8], value: &[u8]) -> Option<Cause>
-    ensures { result ≡ cause_of RULES (identifier.now, value.now) }
+    ensures { result ≡ cause_of (identifier.now, value.now) }
 {
     let Some(rule) = rule_of(identifier) else {
         return Some(Cause::UnknownIdentifier);

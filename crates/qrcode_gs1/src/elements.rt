@@ -8,7 +8,7 @@ ghost use Rattle.qrcode_gs1.specs.Refusals.{Answers, checked, refusal_from};
 
 use crate::checks::cause_of;
 use crate::errors::{Gs1Error, Gs1Result};
-use crate::table::{RULES, fixed_length, prefix_of};
+use crate::table::{fixed_length, prefix_of};
 use std::alloc::Global;
 
 /// An application identifier with its value.
@@ -22,7 +22,7 @@ pub struct Element<'a> {
 
 // Refuses the first element with which something is wrong.
 fn check(elements: &[Element]) -> Gs1Result<()>
-    ensures { result ≡ checked (refusal_from RULES 0 (map item elements.now)) }
+    ensures { result ≡ checked (refusal_from 0 (map item elements.now)) }
 {
     for (index, element) in elements.iter().enumerate() {
         if let Some(cause) = cause_of(element.identifier.as_bytes(), element.value.as_bytes()) {
@@ -55,7 +55,7 @@ fn written(alloc: Global, elements: &[Element]) -> Gs1Result<Vec<u8>>
 ///
 /// An error names the first element that is refused and why, or is `OutOfMemory`.
 pub fn element_string(alloc: Global, elements: &[Element]) -> Gs1Result<Vec<u8>>
-    ensures reads { Answers (refusal_from RULES 0 (map item elements.now)) result
+    ensures reads { Answers (refusal_from 0 (map item elements.now)) result
         (λ bytes. read_elements bytes ≡ map item elements.now) }
     ensures value { IfOk result (λ bytes. bytes.items ≡ element_string (map item elements.now)) }
     ensures apart { IfOk result (λ bytes. IsTrue (are_apart bytes.items)) }

@@ -204,7 +204,7 @@ fn numbered_rule(rules: &[Rule], number: usize) -> Option<Rule>
 
 /// The rule of an identifier, where there is one.
 pub fn rule_of(identifier: &[u8]) -> Option<Rule>
-    ensures { result ≡ rule_of RULES identifier.now }
+    ensures { result ≡ rule_of identifier.now }
 {
     if identifier.len() != digit_count(prefix_of(identifier)) || !are_digits(identifier) {
         return None;

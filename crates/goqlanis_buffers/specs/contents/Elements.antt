@@ -3,7 +3,6 @@ use Rattle.std.specs.Prelude.{◌≡◌, ◌<◌, ◌++◌, ⊤, ℕ, List, map,
 use Rattle.qrcode_gs1.specs.Elements.{Item, element_string, read_elements}
 use Rattle.qrcode_gs1.specs.Refusals.{refusal_from}
 use Rattle.qrcode_gs1.specs.declared.errors.Gs1Error.TheVariants.{Refused}
-use Rattle.qrcode_gs1.specs.declared.table.TheConstants.{RULES}
 use Rattle.goqlanis_buffers.specs.contents.Answers.{number_of, place_told}
 use Rattle.goqlanis_buffers.specs.declared.contents.answers.Refusal.{Refusal}
 use Rattle.goqlanis_buffers.specs.declared.contents.answers.Refusal.TheVariants.{SmallBuffer, OutOfMemory, NotText, NotElement}
@@ -30,7 +29,7 @@ pub record IsFirstNoText (parts : List Part) (place : ℕ) : Type 0 where
 
 -- the string of elements, none of which is refused; it is read as exactly these
 pub record IsString (parts : List Part) (bytes : List ℕ) : Type 0 where
-  pub accepted : refusal_from RULES 0 (items_of parts) ≡ None
+  pub accepted : refusal_from 0 (items_of parts) ≡ None
   pub reads : read_elements bytes ≡ items_of parts
   pub value : bytes ≡ element_string (items_of parts)
 
@@ -45,7 +44,7 @@ pub record IsStringIn (parts : List Part) (old new : List ℕ) (count : ℕ) : T
 abbrev pub IsElementsCause : List Part → ℕ → Refusal → Type 0
 IsElementsCause parts room (NotText place) = IsFirstNoText parts place
 IsElementsCause parts room (NotElement place cause) =
-    AreTexts parts (length parts) × (refusal_from RULES 0 (items_of parts) ≡ Some (Refused place cause))
+    AreTexts parts (length parts) × (refusal_from 0 (items_of parts) ≡ Some (Refused place cause))
 IsElementsCause parts room SmallBuffer = (bytes : List ℕ) × (IsString parts bytes × (room < length bytes))
 IsElementsCause parts room OutOfMemory = ⊤
 IsElementsCause parts room refusal = ⊥

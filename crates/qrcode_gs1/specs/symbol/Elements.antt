@@ -4,7 +4,6 @@ use Rattle.qrcode_types.specs.declared.types.EcLevel.{EcLevel}
 use Rattle.qrcode_gs1.specs.Elements.{Item, element_string, read_elements}
 use Rattle.qrcode_gs1.specs.Refusals.{refusal_from}
 use Rattle.qrcode_gs1.specs.declared.errors.Gs1Error.TheVariants.{OutOfMemory}
-use Rattle.qrcode_gs1.specs.declared.table.TheConstants.{RULES}
 use Rattle.qrcode.specs.Code.{Code}
 use Rattle.qrcode_gs1.specs.symbol.Symbols.{IsMarkedSymbol, IsMarkedRefused}
 use Rattle.qrcode_gs1.specs.declared.symbol.Position.TheVariants.{First}
@@ -13,11 +12,11 @@ use Rattle.qrcode_gs1.specs.declared.symbol.errors.SymbolError.TheVariants.{Elem
 
 -- none of the elements is refused, and the symbol is that of their element string behind FNC1 in first position, which is read as the elements
 pub record IsGs1Symbol (from : ℕ) (l : EcLevel) (items : List Item) (code : Code) : Type 0 where
-  pub accepted : refusal_from RULES 0 items ≡ None
+  pub accepted : refusal_from 0 items ≡ None
   pub symbol : IsMarkedSymbol from First l (element_string items) code
   pub elements : read_elements (element_string items) ≡ items
 
 -- why there is none: the first element that is refused, or no version from one on holds their element string; or memory was refused
 abbrev pub IsGs1Refused : ℕ → EcLevel → List Item → SymbolError → Type 0
-IsGs1Refused from l items (Elements e) = (refusal_from RULES 0 items ≡ Some e) ⊎ (e ≡ OutOfMemory)
-IsGs1Refused from l items (Symbol e) = (refusal_from RULES 0 items ≡ None) × IsMarkedRefused from First l (element_string items) e
+IsGs1Refused from l items (Elements e) = (refusal_from 0 items ≡ Some e) ⊎ (e ≡ OutOfMemory)
+IsGs1Refused from l items (Symbol e) = (refusal_from 0 items ≡ None) × IsMarkedRefused from First l (element_string items) e
