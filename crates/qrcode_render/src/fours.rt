@@ -1,11 +1,11 @@
 //! Texts that stand for two marks, and for four.
 
-ghost use Rattle.std.specs.Prelude.{◌≡◌, ℕ, ◌+◌, ◌*◌, ◌<◌, ◌≤◌, All, List, ◌++◌, length, map, IfOk, OnOk, IsOkUnless};
+ghost use Rattle.std.specs.Prelude.{◌≡◌, ℕ, ◌+◌, ◌*◌, ◌/◌, ◌^◌, ◌<◌, ◌≤◌, All, List, ◌++◌, length, map, take, IfOk, OnOk, IsOkUnless};
 ghost use Rattle.qrcode_types.specs.declared.types.QrError.TheVariants.{OutOfMemory};
 ghost use Rattle.qrcode_render.specs.Lines.{paired, pair_number, two_text, twos_text, AreMarksAt};
 ghost use Rattle.qrcode_render.specs.Texts.{marks_text};
 
-use crate::stamps::{Line, Stamp};
+use crate::stamps::{LONGEST, Line, Stamp, make_room};
 use qrcode_types::types::QrResult;
 use std::alloc::Global;
 use std::marker::Model;
@@ -110,24 +110,39 @@ pub fn push_ones(line: &mut Line, dark: &[u8], light: &[u8], marks: &[bool]) -> 
     Ok(())
 }
 
+// Writes the text that stands for each two marks, and answers where it ends.
+fn write_twos(bytes: &mut [u8], at: usize, palette: &Fours, marks: &[bool]) -> usize
+    requires { at + (length marks.now / 4 * 32 + 32) ≤ length bytes.old }
+    ensures writes { take result bytes.new
+        ≡ take at bytes.old ++ twos_text (two_text palette.now) marks.now }
+    ensures inside { result ≤ length bytes.new }
+    ensures length { length bytes.new ≡ length bytes.old }
+{
+    let fours = marks.len() / 4;
+    let mut end = at;
+    for i in 0..fours {
+        let m = 4 * i;
+        let four = palette.four(marks[m], marks[m + 1], marks[m + 2], marks[m + 3]);
+        end = four.write(bytes, end);
+    }
+    if marks.len() % 4 >= 2 {
+        let m = 4 * fours;
+        return palette.two(marks[m], marks[m + 1]).write(bytes, end);
+    }
+    end
+}
+
 /// Appends the text that stands for each two marks. A last mark alone has none. Refuses with
-/// `OutOfMemory` alone. Within its callers, so that places of the line stay in registers.
-#[inline(always)]
+/// `OutOfMemory` alone.
 pub fn push_twos(line: &mut Line, palette: &Fours, marks: &[bool]) -> QrResult<()>
+    requires { length marks.now < 2 ^ 40 }
     ensures appends { OnOk result
         (line.new ≡ line.old ++ twos_text (two_text palette.now) marks.now) }
     ensures memory { IsOkUnless result OutOfMemory }
 {
-    let fours = marks.len() / 4;
-    for i in 0..fours {
-        let at = 4 * i;
-        let four = palette.four(marks[at], marks[at + 1], marks[at + 2], marks[at + 3]);
-        line.put(four)?;
-    }
-    if marks.len() % 4 >= 2 {
-        let at = 4 * fours;
-        line.put(palette.two(marks[at], marks[at + 1]))?;
-    }
+    let room = marks.len() / 4 * LONGEST + LONGEST;
+    make_room(&mut line.bytes, line.end, room)?;
+    line.end = write_twos(&mut line.bytes, line.end, palette, marks);
     Ok(())
 }
 

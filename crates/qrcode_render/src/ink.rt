@@ -1,11 +1,12 @@
 //! Short texts of words and numbers, and longer ones that are put together of them.
 
-ghost use Rattle.std.specs.Prelude.{◌≡◌, ◌+◌, ◌≤◌, ◌++◌, length, string_bytes, IfOk, OnOk, OnErr, IsOkUnless, decimal};
+ghost use Rattle.std.specs.Prelude.{◌≡◌, ◌+◌, ◌*◌, ◌^◌, ◌<◌, ◌≤◌, ◌++◌, length, take, string_bytes, IfOk, OnOk, OnErr, IsOkUnless, decimal};
+ghost use Rattle.std.specs.Str.{IsUtf8};
 ghost use Rattle.qrcode_types.specs.declared.types.QrError.TheVariants.{OutOfMemory};
-ghost use Rattle.qrcode_render.specs.Strokes.{rect_text};
+ghost use Rattle.qrcode_render.specs.Strokes.{rect_text, AreRects};
 
-use crate::stamps::{Line, Stamp};
-use qrcode_types::types::QrResult;
+use crate::stamps::{LONGEST, Line, Stamp, make_room};
+use qrcode_types::types::{Color, QrResult};
 use std::alloc::Global;
 use std::marker::Model;
 
@@ -91,7 +92,52 @@ impl Piece {
     }
 }
 
-/// A text that is put together. A step that refuses, with `OutOfMemory` alone, leaves it as it was.
+// The most bytes of a rectangle.
+const MOST: usize = 4 * LONGEST;
+
+// Writes a rectangle, and answers where it ends.
+#[inline(always)]
+fn write_rect(bytes: &mut [u8], at: usize, column: &Piece, row: &Piece) -> usize
+    requires { at + 128 ≤ length bytes.old }
+    ensures writes { take result bytes.new ≡ take at bytes.old ++ rect_text column.now row.now }
+    ensures inside { result ≤ at + 128 }
+    ensures length { length bytes.new ≡ length bytes.old }
+    ensures is_text { ∥ IsUtf8 (rect_text column.now row.now) ∥₁ }
+{
+    let end = column.front.write(bytes, at);
+    let end = row.front.write(bytes, end);
+    let end = column.back.write(bytes, end);
+    row.back.write(bytes, end)
+}
+
+// Writes the rectangles of the dark modules of a row, and answers where they end.
+fn write_rects(
+    bytes: &mut [u8],
+    at: usize,
+    columns: &[Piece],
+    row: &Piece,
+    content: &[Color],
+) -> usize
+    requires columns { length content.now ≤ length columns.now }
+    requires room { at + length content.now * 128 ≤ length bytes.old }
+    ensures writes { AreRects columns.now row.now content.now
+        (take at bytes.old) (take result bytes.new) }
+    ensures inside { result ≤ length bytes.new }
+    ensures length { length bytes.new ≡ length bytes.old }
+    ensures is_text { ∥ IsUtf8 (take at bytes.old) ∥₁ → ∥ IsUtf8 (take result bytes.new) ∥₁ }
+{
+    let mut end = at;
+    for (i, color) in content.iter().enumerate() {
+        match color {
+            Color::Light => {}
+            Color::Dark => end = write_rect(bytes, end, &columns[i], row),
+        }
+    }
+    end
+}
+
+/// A text that is put together. A text or a number that is refused, with `OutOfMemory` alone, leaves it
+/// as it was.
 #[derive(Drop)]
 pub struct Script {
     line: Line,
@@ -119,6 +165,7 @@ impl Script {
     }
 
     /// Appends a text.
+    #[inline(always)]
     pub fn push(&mut self, text: &str) -> QrResult<()>
         ensures appends { OnOk result (self.new ≡ self.old ++ text.now) }
         ensures unchanged { OnErr result (self.new ≡ self.old) }
@@ -137,14 +184,28 @@ impl Script {
     }
 
     /// Appends a rectangle, of the words of its column and those of its row.
-    #[inline(always)]
     pub fn put_rect(&mut self, column: &Piece, row: &Piece) -> QrResult<()>
         ensures appends { OnOk result (self.new ≡ self.old ++ rect_text column.now row.now) }
-        ensures unchanged { OnErr result (self.new ≡ self.old) }
         ensures memory { IsOkUnless result OutOfMemory }
     {
-        self.line
-            .put_four(&column.front, &row.front, &column.back, &row.back)
+        make_room(&mut self.line.bytes, self.line.end, MOST)?;
+        let end = write_rect(&mut self.line.bytes, self.line.end, column, row);
+        self.line.end = end;
+        Ok(())
+    }
+
+    /// Appends the rectangles of the dark modules of a row, of the words of their columns and of the row.
+    pub fn put_rects(&mut self, columns: &[Piece], row: &Piece, content: &[Color]) -> QrResult<()>
+        requires columns { length content.now ≤ length columns.now }
+        requires few { length content.now < 2 ^ 40 }
+        ensures appends { OnOk result
+            (AreRects columns.now row.now content.now self.old self.new) }
+        ensures memory { IsOkUnless result OutOfMemory }
+    {
+        make_room(&mut self.line.bytes, self.line.end, content.len() * MOST)?;
+        let end = write_rects(&mut self.line.bytes, self.line.end, columns, row, content);
+        self.line.end = end;
+        Ok(())
     }
 
     /// The whole text.

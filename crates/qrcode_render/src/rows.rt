@@ -1,6 +1,6 @@
 //! Rows of cells as bytes: one row of pixels, copied for the further rows.
 
-ghost use Rattle.std.specs.Prelude.{◌≡◌, ◌++◌, [], ◌∷◌, Bool, IfOk, OnOk, IsOkUnless};
+ghost use Rattle.std.specs.Prelude.{◌≡◌, ◌^◌, ◌<◌, ◌++◌, [], ◌∷◌, Bool, length, IfOk, OnOk, IsOkUnless};
 ghost use Rattle.std.specs.Option.{ForSome};
 ghost use Rattle.qrcode_types.specs.declared.types.QrError.TheVariants.{OutOfMemory};
 ghost use Rattle.qrcode_render.specs.Grid.{repeated, rows_text};
@@ -91,9 +91,9 @@ impl CellTexts {
         self.dark.len().max(self.light.len())
     }
 
-    // Appends the text of marks. Within its caller, for the same reason as `push_twos`.
-    #[inline(always)]
+    // Appends the text of marks.
     fn write(&self, line: &mut Line, marks: &[bool]) -> QrResult<()>
+        requires { length marks.now < 2 ^ 40 }
         ensures appends { OnOk result
             (line.new ≡ line.old ++ marks_text self.now.dark.items self.now.light.items marks.now) }
         ensures memory { IsOkUnless result OutOfMemory }

@@ -26,6 +26,7 @@ impl Model for Pen {
 }
 
 // Appends how far it is from one number to another, forward behind one text, or back behind another.
+#[inline(always)]
 fn push_step(text: &mut Script, forward: &str, back: &str, from: u32, to: u32) -> QrResult<()>
     ensures appends { OnOk result
         (text.new ≡ text.old ++ step_text forward.now back.now from to) }

@@ -12,6 +12,7 @@ use std::simd::Simd;
 pub const LONGEST: usize = 32;
 
 // Writes a text, and answers where it ends.
+#[inline(always)]
 fn put_text(bytes: &mut [u8], at: usize, text: &[u8]) -> usize
     requires { at + length text.now ≤ length bytes.old }
     ensures writes { take result bytes.new ≡ take at bytes.old ++ text.now }
@@ -97,8 +98,8 @@ impl Stamp {
         self.len = put_number(&mut self.start, self.len, n);
     }
 
-    // Writes the text and the bytes behind it, and answers where the text ends.
-    fn write(&self, bytes: &mut [u8], at: usize) -> usize
+    /// Writes the text and the bytes behind it, and answers where the text ends.
+    pub fn write(&self, bytes: &mut [u8], at: usize) -> usize
         requires { at + 32 ≤ length bytes.old }
         ensures writes { take result bytes.new ≡ take at bytes.old ++ self.now }
         ensures end { result ≡ at + length self.now }
@@ -124,9 +125,9 @@ fn grow(bytes: &mut Vec<u8>, end: usize, count: usize) -> QrResult<()>
     Ok(())
 }
 
-// Makes room for so many bytes behind those up to an end.
+/// Makes room for so many bytes behind those up to an end, which are kept.
 #[inline(always)]
-fn make_room(bytes: &mut Vec<u8>, end: usize, count: usize) -> QrResult<()>
+pub fn make_room(bytes: &mut Vec<u8>, end: usize, count: usize) -> QrResult<()>
     requires { end ≤ vec_len bytes.old }
     ensures keeps { take end bytes.new.items ≡ take end bytes.old.items }
     ensures inside { end ≤ vec_len bytes.new }
@@ -142,8 +143,8 @@ fn make_room(bytes: &mut Vec<u8>, end: usize, count: usize) -> QrResult<()>
 /// A text that grows. A step that refuses, with `OutOfMemory` alone, leaves it as it was.
 #[derive(Drop)]
 pub struct Line {
-    bytes: Vec<u8>,
-    end: usize,
+    pub(crate) bytes: Vec<u8>,
+    pub(crate) end: usize,
 }
 
 impl Model for Line {
@@ -172,35 +173,8 @@ impl Line {
         self.end = 0;
     }
 
-    /// Appends a stamp.
+    /// Appends a text of any length. Within its callers, where most texts have a known length.
     #[inline(always)]
-    pub fn put(&mut self, stamp: &Stamp) -> QrResult<()>
-        ensures appends { OnOk result (self.new ≡ self.old ++ stamp.now) }
-        ensures unchanged { OnErr result (self.new ≡ self.old) }
-        ensures memory { IsOkUnless result OutOfMemory }
-    {
-        make_room(&mut self.bytes, self.end, LONGEST)?;
-        self.end = stamp.write(&mut self.bytes, self.end);
-        Ok(())
-    }
-
-    /// Appends four stamps.
-    #[inline(always)]
-    pub fn put_four(&mut self, a: &Stamp, b: &Stamp, c: &Stamp, d: &Stamp) -> QrResult<()>
-        ensures appends { OnOk result
-            (self.new ≡ self.old ++ (a.now ++ (b.now ++ (c.now ++ d.now)))) }
-        ensures unchanged { OnErr result (self.new ≡ self.old) }
-        ensures memory { IsOkUnless result OutOfMemory }
-    {
-        make_room(&mut self.bytes, self.end, 4 * LONGEST)?;
-        let end = a.write(&mut self.bytes, self.end);
-        let end = b.write(&mut self.bytes, end);
-        let end = c.write(&mut self.bytes, end);
-        self.end = d.write(&mut self.bytes, end);
-        Ok(())
-    }
-
-    /// Appends a text of any length.
     pub fn push(&mut self, text: &[u8]) -> QrResult<()>
         ensures appends { OnOk result (self.new ≡ self.old ++ text.now) }
         ensures unchanged { OnErr result (self.new ≡ self.old) }

@@ -1,14 +1,14 @@
 //! Vector formats: a text for each dark rectangle, between a head and a tail.
 
-ghost use Rattle.std.specs.Prelude.{◌≡◌, ℕ, ◌+◌, ◌*◌, ◌^◌, ◌<◌, ◌≤◌, List, ◌++◌, length, string_bytes, IfOk, OnOk, IsOkUnless};
+ghost use Rattle.std.specs.Prelude.{◌≡◌, ℕ, ◌+◌, ◌*◌, ◌^◌, ◌<◌, ◌≤◌, List, ◌++◌, string_bytes, IfOk, OnOk, IsOkUnless};
 ghost use Rattle.qrcode_types.specs.declared.types.QrError.TheVariants.{OutOfMemory};
-ghost use Rattle.qrcode_render.specs.Drawn.{drawn, drawn_row};
+ghost use Rattle.qrcode_render.specs.Drawn.{drawn};
 ghost use Rattle.qrcode_render.specs.Setting.{square_layout, drawing_of};
-ghost use Rattle.qrcode_render.specs.Strokes.{rect_text, stroke, columns_from};
+ghost use Rattle.qrcode_render.specs.Strokes.{rect_text, columns_from};
 
 use crate::ink::{Piece, Script};
 use crate::{Canvas, Modules};
-use qrcode_types::types::{Color, QrResult};
+use qrcode_types::types::QrResult;
 use std::alloc::Global;
 use std::marker::PhantomData;
 
@@ -137,7 +137,7 @@ fn push_modules<P, S: Strokes<P>>(
     for row in 0..modules.count {
         let top = (row + modules.zone) * modules.height;
         let piece = S::row(top, modules.width, modules.height);
-        push_row::<P, S>(text, &columns, &piece, modules.row(row))?;
+        text.put_rects(&columns, &piece, modules.row(row))?;
     }
     Ok(())
 }
@@ -158,28 +158,4 @@ fn columns<P, S: Strokes<P>>(
         columns.push(S::column(left + i * width))?;
     }
     Ok(columns)
-}
-
-// Appends the rectangles of the dark modules of a row, of what its columns and it determine.
-fn push_row<P, S: Strokes<P>>(
-    text: &mut Script,
-    columns: &[Piece],
-    row: &Piece,
-    content: &[Color],
-) -> QrResult<()>
-    requires { length content.now ≤ length columns.now }
-    ensures appends { OnOk result ((left top width height : ℕ)
-        → columns.now ≡ columns_from S.column_texts left width (length columns.now)
-        → row.now ≡ S.row_texts top width height
-        → text.new ≡ drawn_row (stroke S.column_texts S.row_texts)
-        left top width height content.now text.old) }
-    ensures memory { IsOkUnless result OutOfMemory }
-{
-    for (i, color) in content.iter().enumerate() {
-        match color {
-            Color::Light => {}
-            Color::Dark => text.put_rect(&columns[i], row)?,
-        }
-    }
-    Ok(())
 }

@@ -32,8 +32,8 @@ overflow_mul-top g c =
 pub row-requires : goal.row-requires
 row-requires g c = omega (arith, c.loop-row-test.true, ap (λ (s : Square). s.count) c.modules.view_is)
 
-pub push_row-requires : goal.push_row-requires
-push_row-requires g c =
+pub put_rects-requires-clause-columns : goal.put_rects-requires-clause-columns
+put_rects-requires-clause-columns g c =
     let m = c.modules.inside in
     let q = c.args.modules.now in
     let i = c.loop-row.row * q.count in
@@ -58,7 +58,7 @@ loop-row-preserved g c =
     let piece = c.row-piece.ensures ∙ ap (λ (q : Square). row ((y + q.zone) * q.down) q.across q.down) c.modules.view_is in
     let strokes : stroke column row ≡ g.S.Strokes.rect = sym (λ k l t w h text. g.met.S.Strokes.rect_is l t w h text k) in
     ap (λ t. drawn_from g.S.Strokes.rect (square_layout m) ((y + 1) * m.count) (drop ((y + 1) * m.count) m.content) t)
-    (c.in_ok-push_row.ensures.appends left top m.across m.down (columns ∙ ap (columns_from column left m.across) many) piece
+    (c.in_ok-put_rects.ensures.appends column row left top m.across m.down (columns ∙ ap (columns_from column left m.across) many) piece
     ∙ ap₂ (λ rect line. drawn_row rect left top m.across m.down line before) strokes c.row.ensures)
     ∙ next_row g.S.Strokes.rect (square_layout m) y m.content before inside
     ∙ c.loop-row.invariant

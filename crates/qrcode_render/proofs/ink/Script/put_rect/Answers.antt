@@ -1,14 +1,19 @@
-use Rattle.std.proofs.Common.{◌++◌}
+use Rattle.std.proofs.Common.{◌++◌, take, ap, ◌∙◌, sym, subst}
+use Rattle.std.proofs.lemmas.List.{with_items_is}
 use Rattle.std.proofs.lemmas.Str.{IsUtf8-append, IsUtf8-had}
-use Rattle.qrcode_render.proofs.Numbers.{still-IsUtf8}
+use Rattle.std.specs.Str.{IsUtf8}
+use Rattle.qrcode_render.specs.Strokes.{rect_text}
 use Rattle.qrcode_render.proofs.ink.Script.put_rect.Goals as goal
 
--- Four texts, one behind the other.
+-- Where no room is made, the text is as it was.
 pub invariant_of-self : goal.invariant_of-self
-invariant_of-self c =
-    let column = c.column.inside in
-    let row = c.row.inside in
-    let behind = IsUtf8-append column.back row.back (IsUtf8-had _ c.column.invariant.1) (IsUtf8-had _ c.row.invariant.1) in
-    let rest = IsUtf8-append row.front (column.back ++ row.back) (IsUtf8-had _ c.row.invariant.0) behind in
-    let whole = IsUtf8-append column.front (row.front ++ (column.back ++ row.back)) (IsUtf8-had _ c.column.invariant.0) rest in
-    still-IsUtf8 c.put_four.result c.self.inside.line _ _ c.put_four.ensures.appends c.put_four.ensures.unchanged c.self.invariant whole
+invariant_of-self c = subst (λ t. ∥ IsUtf8 t ∥₁) (sym (c.make_room.ensures.keeps ∙ ap (λ s. s.line) c.self-inside.view_is)) c.self.invariant
+
+pub invariant_of-self-2 : goal.invariant_of-self-2
+invariant_of-self-2 c =
+    let put = c.write_rect-end.ensures in
+    let end = c.write_rect-end.result in
+    let is = ap (take end) (with_items_is c.make_room.new.bytes c.write_rect-end.new.bytes (put.length ∙ c.deref_mut.ensures.len))
+    ∙ put.writes
+    ∙ ap (λ t. t ++ rect_text c.args.column.now c.args.row.now) (ap (take c.self-inside.inside.0.0.end) c.deref_mut.ensures.value ∙ c.make_room.ensures.keeps ∙ ap (λ s. s.line) c.self-inside.view_is) in
+    ∣ subst IsUtf8 (sym is) (IsUtf8-append c.self.inside.line (rect_text c.args.column.now c.args.row.now) (IsUtf8-had _ c.self.invariant) (IsUtf8-had _ put.is_text)) ∣₁
