@@ -68,7 +68,8 @@ enum {
     GOQ_GREY = 4, /* rows of pixels, a byte each: 0 for a dark one, 255 for a light one */
     GOQ_PNG = 5, /* a PNG file, black on white, of at most 65,535 pixels a side */
     GOQ_EPS = 6, /* Encapsulated PostScript text, black on white, a point a pixel */
-    GOQ_PBM = 7 /* a PBM file */
+    GOQ_PBM = 7, /* a PBM file */
+    GOQ_FORMATS /* how many there are */
 };
 
 /* What a segment is. */

@@ -7,7 +7,7 @@
 extern size_t pool_requests, pool_refused, pool_most;
 size_t pool_live(void);
 
-enum { LAST = 10 + GOQ_PBM, CONTENTS = 5 }; /* the last number of a call below, and how many contents follow */
+enum { LAST = 9 + GOQ_FORMATS, CONTENTS = 5 }; /* the last number of a call below, and how many contents follow */
 
 static uint8_t data[500], text[500], square[GOQ_MODULES_MAX];
 static goq_symbol known;

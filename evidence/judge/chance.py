@@ -29,7 +29,8 @@ def noise(square, version, chance, everywhere):
     """A square of noise, or a symbol with noise except for the row and column of the format
     word."""
     width = form(version).width
-    return bytes(chance.randrange(2) if everywhere or 8 not in divmod(place, width) else module for place, module in enumerate(square))
+    return bytes(chance.randrange(2) if everywhere or 8 not in divmod(place, width) else module
+                 for place, module in enumerate(square))
 
 
 def square_by_chance(chance, versions):
@@ -67,7 +68,8 @@ def summary(counts):
 def small_squares():
     """Random squares are read alike, or refused alike"""
     found, counts = compared(5000, 2006, SMALL)
-    rare = [kind for kind, least in (("read", 2000), ("Damaged", 1000), ("NoFormat", 200)) if counts.get(kind, 0) < least]
+    rare = [kind for kind, least in (("read", 2000), ("Damaged", 1000), ("NoFormat", 200))
+            if counts.get(kind, 0) < least]
     return found + [f"too few are {kind}" for kind in rare], summary(counts)
 
 
@@ -80,7 +82,8 @@ def large_squares():
 def other_sides():
     """Squares with a side that no version has"""
     sides = [side for side in range(185) if side not in WIDTHS]
-    found = [f"side {side}" for side in sides if not judged(bytes(side * side)) == answered(bytes(side * side)) == "NoSuchSide"]
+    found = [f"side {side}" for side in sides
+             if not judged(bytes(side * side)) == answered(bytes(side * side)) == "NoSuchSide"]
     return found, f"{len(sides)} sides"
 
 

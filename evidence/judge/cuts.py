@@ -20,7 +20,8 @@ LENGTHS = [("1", 5), ("M1", 4), ("M2", 5), ("M3", 5), ("40", 2)]
 def is_pair(pair):
     """Whether two bytes are a pair of Shift JIS that Kanji has."""
     number = int.from_bytes(pair, "big")
-    return (0x8140 <= number <= 0x9ffc or 0xe040 <= number <= 0xebbf) and 0x40 <= pair[1] <= 0xfc and pair[1] != 0x7f
+    is_within = 0x8140 <= number <= 0x9ffc or 0xe040 <= number <= 0xebbf
+    return is_within and 0x40 <= pair[1] <= 0xfc and pair[1] != 0x7f
 
 
 def data_bits(mode, data):
@@ -39,7 +40,8 @@ def data_bits(mode, data):
 def segment_bits(shape, modes, data):
     """The fewest bits of one segment of bytes, or None."""
     indicator = shape.number - 1 if shape.is_micro else 4
-    found = [indicator + count_bits(shape, mode) + bits for mode in modes if count_bits(shape, mode) and (bits := data_bits(mode, data)) is not None]
+    found = [indicator + count_bits(shape, mode) + bits for mode in modes
+             if count_bits(shape, mode) and (bits := data_bits(mode, data)) is not None]
     return min(found, default=None)
 
 
@@ -48,7 +50,8 @@ def least(shape, modes, data):
     best = [0]
     for end in range(1, len(data) + 1):
         ends = [(best[begin], segment_bits(shape, modes, data[begin:end])) for begin in range(end)]
-        best.append(min((before + last for before, last in ends if None not in (before, last)), default=None))
+        best.append(min((before + last for before, last in ends if None not in (before, last)),
+                        default=None))
     return best[-1]
 
 
@@ -68,7 +71,8 @@ def short_data():
         for length in range(longest + 1):
             for parts in product(BYTES, repeat=length):
                 data, count = b"".join(parts), count + 1
-                if bits_of(goqlanis.encode, data, "L", version) != least(form(version), MICRO_MODES, data):
+                best = least(form(version), MICRO_MODES, data)
+                if bits_of(goqlanis.encode, data, "L", version) != best:
                     found.append(f"{data} in {version}")
     return found, f"{count} strings"
 
@@ -76,7 +80,8 @@ def short_data():
 def short_texts():
     """Short texts take as many bits as their best cut without Kanji"""
     texts = ["".join(letters) for length in range(6) for letters in product(LETTERS, repeat=length)]
-    found = [text for text in texts if bits_of(goqlanis.encode_text, text, "L") != least(form("1"), MICRO_MODES[:3], text.encode())]
+    best = {text: least(form("1"), MICRO_MODES[:3], text.encode()) for text in texts}
+    found = [text for text in texts if bits_of(goqlanis.encode_text, text, "L") != best[text]]
     return found, f"{len(texts)} texts"
 
 

@@ -64,7 +64,8 @@ def key(values, count):
     while 2 * (len(now) - 1) >= count:
         while len(before) >= len(now):
             shift, scale = len(before) - len(now), quotient(before[-1], now[-1])
-            before, factor_before = added(before, now, scale, shift), added(factor_before, factor, scale, shift)
+            before = added(before, now, scale, shift)
+            factor_before = added(factor_before, factor, scale, shift)
         before, now, factor_before, factor = now, before, factor, factor_before
     return now, factor
 
@@ -84,7 +85,8 @@ def corrected(block, count):
             steep = value(slope, inverse)
             if steep == 0:
                 raise Uncorrected
-            mended[-1 - exponent] ^= product(POWERS[exponent], quotient(value(evaluator, inverse), steep))
+            mended[-1 - exponent] ^= product(POWERS[exponent],
+                                             quotient(value(evaluator, inverse), steep))
             wrong += 1
     if 2 * wrong > count or any(syndromes(mended, count)):
         raise Uncorrected

@@ -33,15 +33,18 @@ class Form:
         last, place = self.width - 1, self._place
         if self.is_micro:
             return [[place(8, 1 + k) for k in range(8)] + [place(7 - k, 8) for k in range(7)]]
-        corner = [place(8, k) for k in (0, 1, 2, 3, 4, 5, 7, 8)] + [place(k, 8) for k in (7, 5, 4, 3, 2, 1, 0)]
-        return [corner, [place(last - k, 8) for k in range(7)] + [place(8, last - 7 + k) for k in range(8)]]
+        corner = [place(8, k) for k in (0, 1, 2, 3, 4, 5, 7, 8)]
+        corner += [place(k, 8) for k in (7, 5, 4, 3, 2, 1, 0)]
+        edges = [place(last - k, 8) for k in range(7)]
+        return [corner, edges + [place(8, last - 7 + k) for k in range(8)]]
 
     def _reserved(self):
         """The places of patterns, of the format word and of the version word."""
         width, found = self.width, set()
 
         def area(top, left, height, breadth):
-            found.update(self._place(i, j) for i in range(top, top + height) for j in range(left, left + breadth))
+            found.update(self._place(i, j) for i in range(top, top + height)
+                         for j in range(left, left + breadth))
 
         area(0, 0, 9, 9)
         timing = 0 if self.is_micro else 6
@@ -71,7 +74,9 @@ class Form:
         rights = range(width - 1, 0, -2) if self.is_micro else [*range(width - 1, 6, -2), 5, 3, 1]
         for turn, right in enumerate(rights):
             rows = range(width) if turn % 2 else range(width - 1, -1, -1)
-            found += [place for i in rows for place in (self._place(i, right), self._place(i, right - 1)) if place not in reserved]
+            found += [place for i in rows
+                      for place in (self._place(i, right), self._place(i, right - 1))
+                      if place not in reserved]
         return found
 
     def _turned(self, mask):
@@ -148,7 +153,8 @@ def blocks(version, level):
 
 
 VERSIONS = [str(number) for number in range(1, 41)] + [f"M{number}" for number in range(1, 5)]
-WIDTHS = {17 + 4 * number: str(number) for number in range(1, 41)} | {9 + 2 * number: f"M{number}" for number in range(1, 5)}
+WIDTHS = {17 + 4 * number: str(number) for number in range(1, 41)}
+WIDTHS |= {9 + 2 * number: f"M{number}" for number in range(1, 5)}
 
 
 def levels(version):

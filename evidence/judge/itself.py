@@ -14,15 +14,17 @@ from looks import damaged, drawn, not_alike, not_least, not_read, square_of, tur
 from masks import not_beyond, not_decided
 from printed import DIGITS_MICRO, DIGITS_NORMAL, PUBLISHED
 
-WORLD = Path(__file__).resolve().parent.parent / "others" / "symbols"
+OTHERS = Path(__file__).resolve().parent.parent / "others" / "symbols"
 
 
-def world_squares():
+def other_squares():
     """The squares of evidence/others/symbols, each with what its encoder was asked for."""
-    asked = [line.split() for line in (WORLD / "squares").read_text().splitlines() if line and not line.startswith("#")]
-    for (width, digits), told in zip(asked, (WORLD / "readings").read_text().splitlines(), strict=True):
+    lines = (OTHERS / "squares").read_text().splitlines()
+    squares = [line.split() for line in lines if line and not line.startswith("#")]
+    readings = (OTHERS / "readings").read_text().splitlines()
+    for (width, digits), said in zip(squares, readings, strict=True):
         count = int(width) ** 2
-        yield bytes(map(int, f"{int(digits, 16):0{len(digits) * 4}b}"[:count])), told
+        yield bytes(map(int, f"{int(digits, 16):0{len(digits) * 4}b}"[:count])), said
 
 
 def told_header(kind, *numbers):
@@ -43,10 +45,10 @@ def other_encoders():
     """The judge reads symbols of segno, qrcodegen, zint, qrencode and zxing as they were asked for,
     and the library as the judge"""
     found, count = [], 0
-    for square, told in world_squares():
+    for square, wanted in other_squares():
         count += 1
         said = told_of(square)
-        it = not_alike(square) if said == told else f"{said} and not {told}"
+        it = not_alike(square) if said == wanted else f"{said} and not {wanted}"
         found += [it] if it else []
     return found + ([] if count == 198 else ["there are not 198"]), f"{count} squares"
 
@@ -69,13 +71,15 @@ def known_penalties():
     light = {"runs": 42 * 19, "blocks": 400 * 3, "finders": 0, "balance": 100}
     chessboard = bytes((i + j) % 2 for i in range(width) for j in range(width))
     rows = [
-        (penalty.normal, drawn(PUBLISHED), {"runs": 88 + 92, "blocks": 90, "finders": 360 + 400, "balance": 2}),
+        (penalty.normal, drawn(PUBLISHED),
+         {"runs": 88 + 92, "blocks": 90, "finders": 360 + 400, "balance": 2}),
         (penalty.normal, bytes(width * width), light),
         (penalty.normal, b"\1" * width * width, light),
         (penalty.normal, chessboard, {"runs": 0, "blocks": 0, "finders": 0, "balance": 1}),
         (penalty.micro, chessboard, {"both sides": 20, "greater side": 150}),
     ]
-    found = [f"{count(square, width)} and not {costs}" for count, square, costs in rows if count(square, width) != costs]
+    found = [f"{count(square, width)} and not {costs}" for count, square, costs in rows
+             if count(square, width) != costs]
     return found, f"{len(rows)} squares"
 
 
@@ -90,7 +94,8 @@ def found_by_trial(block):
     return found
 
 
-ALONE = {(place, change): syndromes(bytes(change * (k == place) for k in range(5)), 2) for place in range(5) for change in range(1, 256)}
+ALONE = {(place, change): syndromes(bytes(change * (k == place) for k in range(5)), 2)
+         for place in range(5) for change in range(1, 256)}
 
 
 def corrected_by_trial():
@@ -101,7 +106,8 @@ def corrected_by_trial():
         for bits in range(1, 256) if parts.word_bits(number)[1] == 8 else range(0x10, 0x100, 0x10):
             wrong = bytearray(square)
             turn_word(wrong, shape, parts, number, bits)
-            block = reading.words_of(shape.stream(wrong, reading.read_bits(square).mask), len(shape.places), parts)
+            block = reading.words_of(shape.stream(wrong, reading.read_bits(square).mask),
+                                     len(shape.places), parts)
             if found_by_trial(block) != [corrected(block, 2)[0]] or not_alike(wrong):
                 found.append(f"codeword {number} changed by {bits:02x}")
             count += 1
@@ -127,7 +133,8 @@ def seen(square, second):
     yield "other data", not_read(second, "1", "M", b"01234567")
     yield "another level", not_read(square, "1", "L", b"01234567")
     yield "a wrong codeword", not_read(bytes([*square[:-1], 1 - square[-1]]), "1", "M", b"01234567")
-    yield "a wrong bit of the format word", not_read(bytes([*square[:168], 1 - square[168], *square[169:]]), "1", "M", b"01234567")
+    turned = bytes([*square[:168], 1 - square[168], *square[169:]])
+    yield "a wrong bit of the format word", not_read(turned, "1", "M", b"01234567")
     yield "too much damage", not_read(beyond, "1", "M", b"01234567", 6)
     yield "another mask", not_least(other)
     yield "a term that does not decide alone", not_decided(square, "runs")
@@ -137,7 +144,8 @@ def seen(square, second):
 
 def what_is_wrong():
     """Each look sees what is wrong"""
-    square, second = (square_of(goqlanis.encode(data, "M", "1")) for data in (b"01234567", b"76543210"))
+    square, second = (square_of(goqlanis.encode(data, "M", "1"))
+                      for data in (b"01234567", b"76543210"))
     told = list(seen(square, second))
     read = goqlanis.read
     try:

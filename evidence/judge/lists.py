@@ -95,8 +95,10 @@ def lists_are_ended():
         shape, room = form(version), blocks(version, level).capacity
         lists = lists_of_each_length(shape, room)
         for counted in lists.values():
-            square = square_of(goqlanis.encode_segments([("numeric", b"7" * count) for count in counted], level, version))
-            it = not_ended(square, ended(shape, "".join(written(shape, count) for count in counted), room))
+            segments = [("numeric", b"7" * count) for count in counted]
+            square = square_of(goqlanis.encode_segments(segments, level, version))
+            bits = "".join(written(shape, count) for count in counted)
+            it = not_ended(square, ended(shape, bits, room))
             found += [f"{counted} in {version}-{level}: {it}"] if it else []
         counts.append(len(lists))
     return found + ([] if counts == [15, 67, 51] else [f"{counts} lengths"]), f"{sum(counts)} lists"
@@ -104,9 +106,12 @@ def lists_are_ended():
 
 def segments_in_any_order():
     """Segments in modes of no least cut are read; empty ones by the judge alone"""
-    segments = [("alphanumeric", b"AB"), ("numeric", b"12"), ("byte", b"2A"), ("numeric", b"12"), ("kanji", b"\x93\x5f"), ("byte", b"\x93\x5f")]
-    it = not_read(square_of(goqlanis.encode_segments(segments, "L", "2")), "2", "L", b"AB122A12\x93\x5f\x93\x5f")
-    square = square_of(goqlanis.encode_segments([("byte", b""), *segments[:2], ("kanji", b"")], "L", "2"))
+    segments = [("alphanumeric", b"AB"), ("numeric", b"12"), ("byte", b"2A"), ("numeric", b"12"),
+                ("kanji", b"\x93\x5f"), ("byte", b"\x93\x5f")]
+    it = not_read(square_of(goqlanis.encode_segments(segments, "L", "2")), "2", "L",
+                  b"AB122A12\x93\x5f\x93\x5f")
+    square = square_of(goqlanis.encode_segments([("byte", b""), *segments[:2], ("kanji", b"")],
+                                                "L", "2"))
     empty = "" if reading.read_headed(square)[1].data == b"AB12" and answered(square) == "NotSpelled" else "segments without a character"
     return list(filter(None, (it, empty))), "2 symbols"
 
@@ -114,10 +119,14 @@ def segments_in_any_order():
 # Segments with headers in front, the version and level of their symbol, and the headers and bytes
 # that are read of it.
 HEADED = [
-    ([("eci", 9), ("byte", b"\xca\xfe\xe4\xe9\xea\xe1\xf2 QR")], "1", "L", [("ECI", 9)], b"\xca\xfe\xe4\xe9\xea\xe1\xf2 QR"),
-    ([("eci", 127), ("byte", b"a"), ("eci", 128), ("numeric", b"12")], "2", "M", [("ECI", 127), ("ECI", 128)], b"a12"),
-    ([("eci", 16383), ("alphanumeric", b"A"), ("eci", 16384), ("eci", 999999)], "3", "Q", [("ECI", 16383), ("ECI", 16384), ("ECI", 999999)], b"A"),
-    ([("fnc1_first", None), ("numeric", b"0109501101530003")], "1", "Q", [("FNC1",)], b"0109501101530003"),
+    ([("eci", 9), ("byte", b"\xca\xfe\xe4\xe9\xea\xe1\xf2 QR")], "1", "L", [("ECI", 9)],
+     b"\xca\xfe\xe4\xe9\xea\xe1\xf2 QR"),
+    ([("eci", 127), ("byte", b"a"), ("eci", 128), ("numeric", b"12")], "2", "M",
+     [("ECI", 127), ("ECI", 128)], b"a12"),
+    ([("eci", 16383), ("alphanumeric", b"A"), ("eci", 16384), ("eci", 999999)], "3", "Q",
+     [("ECI", 16383), ("ECI", 16384), ("ECI", 999999)], b"A"),
+    ([("fnc1_first", None), ("numeric", b"0109501101530003")], "1", "Q", [("FNC1",)],
+     b"0109501101530003"),
     ([("fnc1_second", 37), ("kanji", b"\x93\x5f")], "10", "H", [("FNC1", 37)], b"\x93\x5f"),
 ]
 
@@ -128,19 +137,21 @@ def headers_are_read():
     for segments, version, level, headers, data in HEADED:
         square = square_of(goqlanis.encode_segments(segments, level, version))
         bits, said = reading.read_headed(square)
-        if (bits.version, bits.level, said.headers, said.data) != (version, level, headers, data) or answered(square) != "NotSpelled":
+        read = (bits.version, bits.level, said.headers, said.data)
+        if read != (version, level, headers, data) or answered(square) != "NotSpelled":
             found.append(f"{segments}: {said}")
     return found, f"{len(HEADED)} symbols"
 
 
-def readme_symbols():
-    """The symbols of README are read back"""
+def usual_symbols():
+    """Three usual symbols are read back"""
     symbols = [
         (goqlanis.encode_text("01234567", "M"), "1", "M", b"01234567"),
         (goqlanis.encode_text("BCD\n002\n1\nSCT\n..", "M"), "2", "M", b"BCD\n002\n1\nSCT\n.."),
         (goqlanis.encode(b"01234567", "L", "M2"), "M2", "L", b"01234567"),
     ]
-    found = [not_read(square_of(symbol), version, level, data) for symbol, version, level, data in symbols]
+    found = [not_read(square_of(symbol), version, level, data)
+             for symbol, version, level, data in symbols]
     return list(filter(None, found)), f"{len(symbols)} symbols"
 
 
@@ -161,7 +172,8 @@ def without_finders():
 def wrong_bits_of_a_copy():
     """Any three wrong bits of either copy of the format word are corrected; any four are refused"""
     square, found, count = square_of(goqlanis.encode(b"01234567", "M", "1")), [], 0
-    for copy, (wrong, expected) in product(form("1").copies, ((3, answered(square)), (4, "NoFormat"))):
+    for copy, (wrong, expected) in product(form("1").copies,
+                                           ((3, answered(square)), (4, "NoFormat"))):
         for places in combinations(copy, wrong):
             turned = bytes(module ^ (place in places) for place, module in enumerate(square))
             found += [f"{places}: {answered(turned)}"] if answered(turned) != expected else []
@@ -169,4 +181,5 @@ def wrong_bits_of_a_copy():
     return found + ([] if count == 2 * (455 + 1365) else ["there are not 3640"]), f"{count} squares"
 
 
-TESTS = [printed_codewords, least_cuts, readme_symbols, headers_are_read, lists_are_ended, segments_in_any_order, without_finders, wrong_bits_of_a_copy]
+TESTS = [printed_codewords, least_cuts, usual_symbols, headers_are_read, lists_are_ended,
+         segments_in_any_order, without_finders, wrong_bits_of_a_copy]

@@ -98,6 +98,7 @@ def damaged(square, version, level, chance, more=0):
     shares = parts.shares()
     for share in shares:
         for number in chance.sample(share, parts.ec // 2 + more * (share is shares[-1])):
-            turn_word(square, shape, parts, number, chance.randrange(1, 16) << 4 | chance.randrange(16))
+            turn_word(square, shape, parts, number,
+                      chance.randrange(1, 16) << 4 | chance.randrange(16))
             wrong += 1
     return square, wrong

@@ -106,7 +106,8 @@ def light_data(version, mask, noisy):
         for number in share[:length]:
             begin, count = parts.word_bits(number)
             places = shape.places[begin:begin + count]
-            bits += "".join(str(noise(*divmod(place, shape.width))) for place in places) if number < noisy else turned[begin:begin + count]
+            random = (str(noise(*divmod(place, shape.width))) for place in places)
+            bits += "".join(random) if number < noisy else turned[begin:begin + count]
     behind = bits[20:-4]
     return bytes(int(behind[i:i + 8], 2) for i in range(0, len(behind) - 7, 8))
 
@@ -123,7 +124,8 @@ def more_than_16_bits():
     """Penalties of more than 16 bits are compared"""
     found = []
     for version, mask, noisy in LIGHT:
-        square = square_of(goqlanis.encode_segments([("byte", light_data(version, mask, noisy))], "L", version))
+        square = square_of(goqlanis.encode_segments([("byte", light_data(version, mask, noisy))],
+                                                    "L", version))
         it = not_least(square) or not_beyond(square, mask)
         found += [f"{version}: {it}"] if it else []
     return found, f"{len(LIGHT)} symbols"

@@ -48,28 +48,35 @@ def pair_complaints(version, level, chance):
     count = most(version, level, "numeric")
     digits = bytes(chance.choices(b"0123456789", k=count + 1))
     found = [symbol_complaint(version, level, digits[1:], chance)]
-    found += [not_read(square_of(goqlanis.encode(data, level, version)), version, level, data) for data in (b"", b"7")]
-    found.append("" if refusal(goqlanis.encode, digits, level, version) == "NoRoom" else f"{count + 1} digits are not refused")
+    found += [not_read(square_of(goqlanis.encode(data, level, version)), version, level, data)
+              for data in (b"", b"7")]
+    found.append("" if refusal(goqlanis.encode, digits, level, version) == "NoRoom"
+                 else f"{count + 1} digits are not refused")
     count = most(version, level, "byte")
     if count:
         data = bytes(chance.choices(b"abcdefghijklmnopqrstuvwxyz", k=count))
         found.append(symbol_complaint(version, level, data, chance))
-        found.append("" if refusal(goqlanis.encode, data + b"a", level, version) == "NoRoom" else f"{count + 1} letters are not refused")
-    beyond, _ = damaged(square_of(goqlanis.encode(digits[1:], level, version)), version, level, chance, 1)
+        found.append("" if refusal(goqlanis.encode, data + b"a", level, version) == "NoRoom"
+                     else f"{count + 1} letters are not refused")
+    beyond, _ = damaged(square_of(goqlanis.encode(digits[1:], level, version)), version, level,
+                        chance, 1)
     return found + [not_alike(beyond)]
 
 
 def all_pairs():
     """Symbols of all pairs, with no damage and with the most, under the mask of least penalty"""
     chance = Random(168)
-    found = [f"{version}-{level}: {it}" for version, level in pairs() for it in pair_complaints(version, level, chance) if it]
+    found = [f"{version}-{level}: {it}" for version, level in pairs()
+             for it in pair_complaints(version, level, chance) if it]
     return found, f"{len(pairs())} pairs"
 
 
 def missing_levels():
     """Pairs that there are not are refused"""
-    missing = [(version, level) for version in VERSIONS for level in LEVELS if level not in levels(version)]
-    found = [f"{version}-{level}" for version, level in missing if refusal(goqlanis.encode, b"", level, version) != "LevelNotInVersion"]
+    missing = [(version, level) for version in VERSIONS for level in LEVELS
+               if level not in levels(version)]
+    found = [f"{version}-{level}" for version, level in missing
+             if refusal(goqlanis.encode, b"", level, version) != "LevelNotInVersion"]
     return found + ([] if len(missing) == 8 else ["there are not eight"]), f"{len(missing)} pairs"
 
 

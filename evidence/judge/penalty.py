@@ -10,7 +10,8 @@ MICRO_TERMS = ("both sides", "greater side")
 def lines(square, width):
     """The rows, and the columns."""
     text = square.translate(LETTERS).decode()
-    return [text[i * width:(i + 1) * width] for i in range(width)], [text[j::width] for j in range(width)]
+    rows = [text[i * width:(i + 1) * width] for i in range(width)]
+    return rows, [text[j::width] for j in range(width)]
 
 
 LETTERS = bytes([48, 49]) + bytes(254)
@@ -25,7 +26,8 @@ def blocks(rows):
     """Three for each two by two modules of one colour."""
     count = 0
     for colour in (rows, [row.translate({48: 49, 49: 48}) for row in rows]):
-        joined = [pair & pair >> 1 for pair in (int(above, 2) & int(below, 2) for above, below in zip(colour, colour[1:]))]
+        both = [int(above, 2) & int(below, 2) for above, below in zip(colour, colour[1:])]
+        joined = [pair & pair >> 1 for pair in both]
         count += sum(bin(pairs).count("1") for pairs in joined)
     return 3 * count
 
@@ -34,7 +36,9 @@ def finders(line):
     """Forty for each form of a finder pattern with four light modules on a side; all modules
     outside the square are light."""
     wide = "0000" + line + "0000"
-    return sum(40 for found in FINDERS.finditer(wide) if "0000" in (wide[found.start() - 4:found.start()], wide[found.start() + 7:found.start() + 11]))
+    return sum(40 for found in FINDERS.finditer(wide)
+               if "0000" in (wide[found.start() - 4:found.start()],
+                             wide[found.start() + 7:found.start() + 11]))
 
 
 def normal(square, width):

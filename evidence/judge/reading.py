@@ -54,7 +54,8 @@ def named(version, five):
 def words(version):
     """Each format word of a version with its level and mask."""
     turned = 0b100010001000101 if version.startswith("M") else 0b101010000010010
-    return {named(version, five): divided(five) ^ turned for five in range(32) if named(version, five)}
+    return {named(version, five): divided(five) ^ turned for five in range(32)
+            if named(version, five)}
 
 
 WORDS = {version: words(version) for version in WIDTHS.values()}

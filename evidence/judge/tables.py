@@ -102,7 +102,8 @@ CENTRES = """
 # Table 25: what two bits of the format word of Normal say of the level. Table 13: what three bits
 # say of version and level in Micro.
 NORMAL_LEVELS = {0b01: "L", 0b00: "M", 0b11: "Q", 0b10: "H"}
-MICRO_SYMBOLS = [("M1", "L"), ("M2", "L"), ("M2", "M"), ("M3", "L"), ("M3", "M"), ("M4", "L"), ("M4", "M"), ("M4", "Q")]
+MICRO_SYMBOLS = [("M1", "L"), ("M2", "L"), ("M2", "M"), ("M3", "L"), ("M3", "M"), ("M4", "L"),
+                 ("M4", "M"), ("M4", "Q")]
 
 # Table 10: whether a mask turns the module in row i and column j; and which four of them Micro has.
 MASKS = [
@@ -123,8 +124,10 @@ MICRO_MODES = ["numeric", "alphanumeric", "byte", "kanji"]
 
 # Table 3: the bits of the count of characters, in Normal 1 to 9, 10 to 26 and 27 to 40, and in
 # Micro 1 to 4, 0 where the mode is not there.
-COUNT_BITS = {"numeric": (10, 12, 14), "alphanumeric": (9, 11, 13), "byte": (8, 16, 16), "kanji": (8, 10, 12)}
-MICRO_COUNT_BITS = {"numeric": (3, 4, 5, 6), "alphanumeric": (0, 3, 4, 5), "byte": (0, 0, 4, 5), "kanji": (0, 0, 3, 4)}
+COUNT_BITS = {"numeric": (10, 12, 14), "alphanumeric": (9, 11, 13), "byte": (8, 16, 16),
+              "kanji": (8, 10, 12)}
+MICRO_COUNT_BITS = {"numeric": (3, 4, 5, 6), "alphanumeric": (0, 3, 4, 5), "byte": (0, 0, 4, 5),
+                    "kanji": (0, 0, 3, 4)}
 
 # Table 5: the characters of the alphanumeric mode by their numbers.
 CHARACTERS = b"0123456789ABCDEFGHIJKLMNOPQRSTUVWXYZ $%*+-./:"

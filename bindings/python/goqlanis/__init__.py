@@ -34,9 +34,7 @@ __all__ = ["contents", "Symbol", "Reading", "encode", "encode_text", "encode_seg
 LEVELS = "LMQH"
 HALF_BLOCKS, LIGHT_HALF_BLOCKS, SVG, PIC, GREY, PNG, EPS, PBM = range(8)
 KINDS = ("numeric", "alphanumeric", "byte", "kanji", "eci", "fnc1_first", "fnc1_second")
-SMALL_BUFFER = 7
 MOST_MODULES = 177 * 177
-MOST_ROOM = 1 << 24
 MOST_BYTES = 7089
 
 
@@ -191,19 +189,6 @@ def _raise(answer: int, count: int = 0, version: Optional[str] = None, level: st
         raise kind(text.format(count=count, version=version, level=level))
 
 
-def _room(form: int, width: int, side: int) -> int:
-    """Room for any picture of so many modules and pixels along a side, so that it is drawn once; of PNG for all but unusual ones."""
-    if form in (HALF_BLOCKS, LIGHT_HALF_BLOCKS):
-        return (side + 1) // 2 * (3 * side + 33)
-    if form == GREY:
-        return side * side
-    if form == PBM:
-        return (side + 7) // 8 * side + 32
-    if form == PNG:
-        return width * width + 8 * side + side * side // 512 + 1000
-    return width * width * 80 + 400
-
-
 class Symbol:
     """A symbol: `version` ("1" to "40", "M1" to "M4"), `level` ("L", "M", "Q", "H") and `width`, the modules along a side."""
 
@@ -269,17 +254,10 @@ class Symbol:
         if not (1 <= scale <= 65535 and 0 <= zone <= 32000):
             raise NoSuchSize(f"a scale of {scale} with a quiet zone of {zone}: take a scale from 1 to 65,535 and a zone from 0 to 32,000")
         asked, count = (self._modules, len(self._modules), self.width, zone, scale, form), ctypes.c_size_t()
-        room = _room(form, self.width, (self.width + 2 * zone) * scale)
-        answer = SMALL_BUFFER
-        if room <= MOST_ROOM:
-            out = bytearray(room)
-            answer = _library.goq_draw(*asked, (ctypes.c_char * room).from_buffer(out), room, ctypes.byref(count))
-        if answer == SMALL_BUFFER:
-            _raise(_library.goq_draw_length(*asked, ctypes.byref(count)))
-            out = bytearray(count.value)
-            answer = _library.goq_draw(*asked, (ctypes.c_char * len(out)).from_buffer(out), len(out), ctypes.byref(count))
-        _raise(answer)
-        return bytes(memoryview(out)[:count.value])
+        _raise(_library.goq_draw_length(*asked, ctypes.byref(count)))
+        out = bytearray(count.value)
+        _raise(_library.goq_draw(*asked, (ctypes.c_char * len(out)).from_buffer(out), len(out), ctypes.byref(count)))
+        return bytes(out)
 
     def _repr_svg_(self) -> str:
         return self.svg()

@@ -1,6 +1,7 @@
 pub mod Ended
-pub mod Greys
 pub mod Known
 pub mod Least
 pub mod Taken
 pub mod Told
+pub mod Fields
+pub mod Parts

@@ -13,9 +13,10 @@ use Rattle.qrcode_bits.specs.declared.optimize.Segment.{Segment}
 use Rattle.qrcode.specs.Reading.{ReadsOnly}
 use Rattle.qrcode_reader.specs.Readings.{HasNoVersion, HasNoFormat, HasDamagedBlock, SpellsNothing}
 use Rattle.qrcode_render.specs.Shades.{colors_of}
-use Rattle.goqlanis_buffers.specs.Drawings.{format_named, IsDrawn}
-use Rattle.goqlanis_buffers.specs.declared.drawing.Format.{Format}
-use Rattle.goqlanis_buffers.specs.declared.drawing.Format.TheVariants.{Png}
+use Rattle.goqlanis_draw.specs.Formats.{format_numbered}
+use Rattle.goqlanis_buffers.specs.Drawings.{IsDrawn}
+use Rattle.goqlanis_draw.specs.declared.formats.Format.{Format}
+use Rattle.goqlanis_draw.specs.declared.formats.Format.TheVariants.{Png}
 use Rattle.goqlanis_buffers.specs.Names.{level_named, version_named}
 use Rattle.goqlanis_buffers.specs.Segments.{HasNoRoom, HaveNoRoom, IsFirstRefused}
 use Rattle.goqlanis_buffers.specs.Symbols.{ExceedsRoom, IsAutomaticSymbol, IsSymbolIn, IsSegmentsSymbol, IsTextSymbol}
@@ -107,12 +108,12 @@ IsNoPngSide side = (side ≡ 0) ⊎ (2 ^ 16 ≤ side)
 
 -- why modules of a width are not drawn in a format, with a quiet zone and a scale, where the buffer has so much room
 abbrev pub IsDrawingCause : List ℕ → ℕ → ℕ → ℕ → ℕ → ℕ → Refusal → Type 0
-IsDrawingCause modules width zone scale format room NoSuchFormat = format_named format ≡ None
+IsDrawingCause modules width zone scale format room NoSuchFormat = format_numbered format ≡ None
 IsDrawingCause modules width zone scale format room NotSquare = length modules ≢ width * width
 IsDrawingCause modules width zone scale format room NoSuchSize =
-    (scale ≡ 0) ⊎ ((2 ^ 16 ≤ scale) ⊎ ((2 ^ 16 ≤ width + 2 * zone) ⊎ ((format_named format ≡ Some Png) × IsNoPngSide ((width + 2 * zone) * scale))))
+    (scale ≡ 0) ⊎ ((2 ^ 16 ≤ scale) ⊎ ((2 ^ 16 ≤ width + 2 * zone) ⊎ ((format_numbered format ≡ Some Png) × IsNoPngSide ((width + 2 * zone) * scale))))
 IsDrawingCause modules width zone scale format room SmallBuffer =
-    (f : Format) × ((bytes : List ℕ) × ((format_named format ≡ Some f) × (IsDrawn f modules width zone scale bytes × (room < length bytes))))
+    (f : Format) × ((bytes : List ℕ) × ((format_numbered format ≡ Some f) × (IsDrawn f modules width zone scale bytes × (room < length bytes))))
 IsDrawingCause modules width zone scale format room OutOfMemory = ⊤
 IsDrawingCause modules width zone scale format room refusal = ⊥
 

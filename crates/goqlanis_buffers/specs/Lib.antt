@@ -1,4 +1,5 @@
 pub mod Answers
+pub mod Asking
 pub mod Calls
 pub mod Drawings
 pub mod Names
@@ -6,3 +7,4 @@ pub mod Outputs
 pub mod Readings
 pub mod Segments
 pub mod Symbols
+pub mod contents

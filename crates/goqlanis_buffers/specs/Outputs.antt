@@ -6,8 +6,9 @@ use Rattle.qrcode_types.specs.declared.types.Color.{Color}
 use Rattle.qrcode_types.specs.declared.types.EcLevel.{EcLevel}
 use Rattle.qrcode_types.specs.declared.types.Version.{Version}
 use Rattle.qrcode.specs.Code.{Code}
-use Rattle.goqlanis_buffers.specs.Drawings.{format_named, IsDrawn}
-use Rattle.goqlanis_buffers.specs.declared.drawing.Format.{Format}
+use Rattle.goqlanis_draw.specs.Formats.{format_numbered}
+use Rattle.goqlanis_buffers.specs.Drawings.{IsDrawn}
+use Rattle.goqlanis_draw.specs.declared.formats.Format.{Format}
 use Rattle.goqlanis_buffers.specs.Names.{level_named, version_named}
 use Rattle.goqlanis_buffers.specs.declared.symbols.Symbol.{Symbol}
 
@@ -34,7 +35,7 @@ pub record IsWrittenAs (Asked : Code → Type 0) (old new : List ℕ) (symbol : 
 pub record IsPictureOf (modules : List ℕ) (width zone scale format : ℕ) (old new : List ℕ) (count : ℕ) : Type 0 where
   pub named : Format
   pub bytes : List ℕ
-  pub asked : format_named format ≡ Some named
+  pub asked : format_numbered format ≡ Some named
   pub drawn : IsDrawn named modules width zone scale bytes
   pub filled : IsFilled old new bytes
   pub counted : count ≡ length bytes
@@ -42,7 +43,7 @@ pub record IsPictureOf (modules : List ℕ) (width zone scale format : ℕ) (old
 -- the length of a picture of modules, in a format of a number
 abbrev pub IsLengthOf : List ℕ → ℕ → ℕ → ℕ → ℕ → ℕ → Type 0
 IsLengthOf modules width zone scale format count =
-    (f : Format) × ((bytes : List ℕ) × ((format_named format ≡ Some f) × (IsDrawn f modules width zone scale bytes × (count ≡ length bytes))))
+    (f : Format) × ((bytes : List ℕ) × ((format_numbered format ≡ Some f) × (IsDrawn f modules width zone scale bytes × (count ≡ length bytes))))
 
 -- a number of a version of which something holds at the level of a number
 abbrev pub IsVersionAt : (EcLevel → Version → Type 0) → ℕ → ℕ → Type 0

@@ -3,8 +3,7 @@
 #![tactic(auto)]
 
 pub mod answers;
-mod asked;
-pub mod drawing;
+pub mod contents;
 pub mod encoding;
 pub mod laws;
 pub mod names;

@@ -10,9 +10,8 @@ ghost use Rattle.qrcode_render.specs.Shades.{colors_of};
 ghost use Rattle.goqlanis_buffers.specs.Readings.{mask_number_in, IsTold};
 
 use crate::answers::Refusal;
-use crate::drawing::colors_of;
 use crate::names::{level_number, version_number};
-use crate::symbols::fill;
+use crate::symbols::{colors_of, fill};
 use qrcode::canvas::MaskPattern;
 use qrcode::types::Version;
 use qrcode_reader::{Reading as Found, Unread, read};

@@ -1,6 +1,8 @@
 //! Symbols in buffers.
 
-ghost use Rattle.std.specs.Prelude.{◌≡◌, ◌<◌, ◌≤◌, length, IfOk, IfErr, OnErr};
+ghost use Rattle.std.specs.Prelude.{◌≡◌, ◌<◌, ◌≤◌, length, IfOk, IfErr, IsOkUnless, OnErr};
+ghost use Rattle.qrcode_types.specs.declared.types.QrError.TheVariants.{OutOfMemory};
+ghost use Rattle.qrcode_render.specs.Shades.{colors_of};
 ghost use Rattle.goqlanis_buffers.specs.Outputs.{module_bytes, IsFilled, IsWritten};
 ghost use Rattle.goqlanis_buffers.specs.declared.answers.Refusal.TheVariants.{SmallBuffer};
 
@@ -50,6 +52,30 @@ fn fill_modules(out: &mut [u8], colors: &[Color])
 {
     for i in 0..colors.len() {
         out[i] = colors[i].select(1, 0);
+    }
+}
+
+/// Bytes as modules.
+pub(crate) fn colors_of(alloc: Global, modules: &[u8]) -> QrResult<Vec<Color>>
+    ensures value { IfOk result (λ colors. colors.items ≡ colors_of modules.now) }
+    ensures memory { IsOkUnless result OutOfMemory }
+{
+    let mut colors = vec![in alloc; Color::Light; modules.len()]?;
+    color_all(&mut colors, modules);
+    Ok(colors)
+}
+
+// Writes modules that bytes stand for. A loop over places, since the compiler then takes sixteen at once.
+fn color_all(colors: &mut [Color], modules: &[u8])
+    requires room { length colors.old ≡ length modules.now }
+    ensures value { colors.new ≡ colors_of modules.now }
+{
+    for i in 0..modules.len() {
+        colors[i] = if modules[i] == 0 {
+            Color::Light
+        } else {
+            Color::Dark
+        };
     }
 }
 

@@ -1,10 +1,10 @@
 //! The texts of networks, contacts, payments and their kin.
 
 ghost use Rattle.std.specs.Prelude.{◌≡◌, ◌≢◌, length};
-ghost use Rattle.goqlanis_contents_buffers.specs.Contents.{IsContentIn, IsRefused};
+ghost use Rattle.goqlanis_buffers.specs.contents.Contents.{IsContentIn, IsRefused};
 
-use goqlanis_contents_buffers::contents::write;
-use goqlanis_contents_buffers::given::Item;
+use goqlanis_buffers::contents::given::Item;
+use goqlanis_buffers::contents::writing::write;
 use std::alloc::Global;
 
 /// The text of fields of a kind, at the beginning of `out`, and its length to `count`.

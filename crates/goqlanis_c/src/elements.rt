@@ -1,9 +1,9 @@
 //! Element strings of GS1.
 
 ghost use Rattle.std.specs.Prelude.{◌≡◌, ◌≢◌, length};
-ghost use Rattle.goqlanis_contents_buffers.specs.Elements.{IsStringIn, AreElementsRefused};
+ghost use Rattle.goqlanis_buffers.specs.contents.Elements.{IsStringIn, AreElementsRefused};
 
-use goqlanis_contents_buffers::elements::{Part, write_elements};
+use goqlanis_buffers::contents::elements::{Part, write_elements};
 use std::alloc::Global;
 
 /// The element string, which stands behind FNC1 in first position, at the beginning of `out`, and

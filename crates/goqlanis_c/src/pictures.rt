@@ -3,7 +3,7 @@
 ghost use Rattle.goqlanis_buffers.specs.Calls.{IsTold, TellsLength, WritesPicture};
 
 use goqlanis_buffers::answers::answer;
-use goqlanis_buffers::pictures::{length_of, put_picture};
+use goqlanis_buffers::pictures::{Asked, length_of, put_picture};
 use std::alloc::Global;
 
 /// The picture of modules in a format: at the beginning of `out`, and its length to `count`. The
@@ -26,8 +26,14 @@ pub extern "C" fn goq_draw(
     ensures { IsTold (WritesPicture modules.now width zone scale format out.old out.new)
         result count.old count.new }
 {
-    let put = put_picture(alloc, modules, width, zone, scale, format, out);
-    answer(put, count)
+    let asked = Asked {
+        modules,
+        width,
+        zone,
+        scale,
+        format,
+    };
+    answer(put_picture(alloc, &asked, out), count)
 }
 
 /// The length of the picture that `goq_draw` would write, to `count`; of PNG that of a file that shows
@@ -47,6 +53,12 @@ pub extern "C" fn goq_draw_length(
 ) -> u32
     ensures { IsTold (TellsLength modules.now width zone scale format) result count.old count.new }
 {
-    let length = length_of(alloc, modules, width, zone, scale, format);
-    answer(length, count)
+    let asked = Asked {
+        modules,
+        width,
+        zone,
+        scale,
+        format,
+    };
+    answer(length_of(alloc, &asked), count)
 }

@@ -19,13 +19,13 @@ use goqlanis_options::{Given, Kind};
 use qrcode_contents::bill::{Bill, Currency, Party};
 use qrcode_contents::card::Card;
 use qrcode_contents::contact::Contact;
+use qrcode_contents::fields::errors::ContentResult;
 use qrcode_contents::geo::Place;
 use qrcode_contents::mail::Mail;
 use qrcode_contents::one_time::{Algorithm, Digits, Factor, OneTime};
 use qrcode_contents::payment::{Payment, PaymentVersion};
 use qrcode_contents::phone::Phone;
 use qrcode_contents::wifi::{Security, Wifi};
-use qrcode_contents::fields::errors::ContentResult;
 use std::alloc::Global;
 
 /// The text of a kind, of the options that are given. An option that is not given is an empty field.

@@ -1,5 +1,7 @@
 pub mod Drawings
-pub mod Symbols
-pub mod Segments
-pub mod Scans
 pub mod Elements
+pub mod Formats
+pub mod Scans
+pub mod Segments
+pub mod Symbols
+pub mod Terminal

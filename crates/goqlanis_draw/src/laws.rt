@@ -1,9 +1,9 @@
 //! Laws of the types that no call stands for, on the contract of a function that does nothing.
 
 ghost use Rattle.std.specs.Prelude.{◌≡◌, ◌↔◌, IsTrue};
-ghost use Rattle.goqlanis_draw.specs.declared.request.Format.{Format};
+ghost use Rattle.goqlanis_draw.specs.declared.formats.Format.{Format};
 
-use crate::request::Format;
+use crate::formats::Format;
 
 /// Two values are equal by `==` exactly when they are the same.
 pub fn equality()

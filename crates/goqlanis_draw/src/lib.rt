@@ -4,16 +4,22 @@
 
 mod drawing;
 mod elements;
+pub mod formats;
 pub mod laws;
+pub mod picture;
 mod refusal;
+pub mod render;
 mod request;
 mod scanning;
 mod segments;
+mod terminal;
 
 pub use drawing::{draw, draw_elements, draw_for_application, draw_segments};
+pub use formats::Format;
+pub use picture::Ink;
 pub use refusal::{
     application_refusal_text, elements_refusal_text, refusal_text, segments_refusal_text,
 };
-pub use request::{Choice, Format, Ink, Request, manner_of};
+pub use request::{Choice, Request, manner_of};
 pub use scanning::{Scan, Unread, read_picture};
 pub use segments::{Segment, unwritable};

@@ -3,6 +3,8 @@
 ghost use Rattle.std.specs.Prelude.{◌≡◌, IsUtf8};
 ghost use Rattle.qrcode_bits.specs.declared.bits.manner.Manner.TheVariants.{Bytes, Text};
 
+use crate::formats::Format;
+use crate::picture::Ink;
 use qrcode::bits::Manner;
 use qrcode::types::{EcLevel, Version};
 
@@ -16,43 +18,6 @@ pub enum Choice {
     Boosted(Version),
     /// That of a version.
     At(Version),
-}
-
-/// How a symbol is written.
-#[derive(Clone, Copy, PartialEq, Eq)]
-pub enum Format {
-    /// A character for each two pixels, one above the other.
-    HalfBlocks,
-    /// Half blocks, in black on white by the control sequences of a terminal of 256 colours.
-    Terminal,
-    /// A character for each pixel.
-    Chars,
-    Svg,
-    Pic,
-    /// PostScript, in which a pixel is a point.
-    Eps,
-    /// A PNG file of two colours.
-    Png,
-    /// A grey map, of a byte a pixel.
-    Pgm,
-    /// A map of black and white pixels, eight in a byte.
-    Pbm,
-}
-
-impl Format {
-    /// Whether it is a text; others are for files.
-    pub fn is_text(self) -> bool {
-        !matches!(self, Format::Png | Format::Pgm | Format::Pbm)
-    }
-}
-
-/// A colour: what SVG writes as it is, and red, green and blue from 0 to 255 for EPS and PNG.
-#[derive(Clone, Copy)]
-pub struct Ink<'a> {
-    pub name: &'a str,
-    pub red: u8,
-    pub green: u8,
-    pub blue: u8,
 }
 
 /// What is asked for.

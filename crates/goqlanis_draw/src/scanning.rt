@@ -5,9 +5,9 @@ ghost use Rattle.qrcode_reader.specs.scan.Squares.{inverted};
 ghost use Rattle.goqlanis_draw.specs.Scans.{header_in, headers_in, IsHeaderReading, IsReadAs, IsScanOf, IsSquareOf};
 
 use qrcode::types::Mode;
-use qrcode_reader::{AnyReading, Position, Reading, read_any, read_bits};
 use qrcode_reader::scan::{Pixels, Square, Unscanned, pixels_of, square_of};
 use qrcode_reader::spell::{Header, Part, Parts, pieces};
+use qrcode_reader::{AnyReading, Position, Reading, read_any, read_bits};
 use std::alloc::{AllocError, Global};
 use std::fmt;
 

@@ -5,8 +5,8 @@ use crate::streams::{print, read_file, read_standard_input, write_file};
 use goqlanis_draw::{Scan, Unread, read_picture};
 use goqlanis_options::Given;
 use qrcode::types::Version;
-use qrcode_reader::{Position, Reading, WrongCodeword};
 use qrcode_reader::spell::Header;
+use qrcode_reader::{Position, Reading, WrongCodeword};
 use std::alloc::{AllocError, Global};
 use std::process::ExitCode;
 

@@ -6,13 +6,17 @@ use Rattle.std.proofs.lemmas.Bool.{cases_eq, eq-eqb}
 use Rattle.std.proofs.lemmas.List.{length-replicate, take_at, get_or_append_left, get_or-append-add}
 use Rattle.std.proofs.lemmas.Nat.Bits.{bit_at-lt}
 use Rattle.qrcode_types.specs.Bits.{AreBytes, bits_of, has_bit, number_bits}
-use Rattle.qrcode_types.specs.Versions.{capacity, data_length, ec_length, has_half_codeword, has_level}
+use Rattle.qrcode_types.specs.Versions.{capacity, data_length, ec_length, total_ec_length, has_half_codeword, has_level}
 use Rattle.qrcode_types.specs.declared.types.Version.{Version}
 use Rattle.qrcode_types.specs.declared.types.EcLevel.{EcLevel}
 use Rattle.qrcode_types.specs.declared.types.Color.{Color}
 use Rattle.qrcode_ec.specs.Codes.{Vanishes}
 use Rattle.qrcode_ec.specs.Blocks.{blocks, data_bytes, data_bits, AreCodewords}
 use Rattle.qrcode_places.specs.declared.masks.MaskPattern.{MaskPattern}
+use Rattle.qrcode_symbol.specs.Canvas.{colors_of, drawn_bits, with_mask}
+use Rattle.qrcode_symbol.specs.Carried.{AreCarried, HasZeroHalf, drawn_modules}
+use Rattle.qrcode_symbol.specs.Masking.{AreBestColors}
+use Rattle.qrcode_symbol.specs.Penalties.{IsFirstLeast}
 use Rattle.qrcode_symbol.specs.Symbol.{Carries, IsSymbol}
 use Rattle.qrcode_bits.specs.Spelling.{Spells}
 use Rattle.qrcode.specs.Drawing.{IsBestDrawing}
@@ -123,6 +127,19 @@ half_is_high v l bits rest raw half some len all is =
     let zero_at = λ (j : ℕ) (four : 4 ≤ j) (eight : j < 8).
     sym (bit_of_bits raw n j (omega (arith, all, some)) eight) ∙ ap (λ bs. get_or bs (8 * n + j) false) is ∙ zero_behind bits rest (8 * n + j) (omega (arith, len, cut, all, some, four)) in
     four_low (slice_index raw n) (zero_at 4 (omega arith) (omega arith)) (zero_at 5 (omega arith) (omega arith)) (zero_at 6 (omega arith) (omega arith)) (zero_at 7 (omega arith) (omega arith))
+
+-- the best colours of codewords carry them under the first mask of least penalty
+pub best_drawing : (v : Version) (l : EcLevel) (bytes ec : List ℕ) (s : List Color) → AreBestColors v l (drawn_modules v l bytes ec) s → AreCarried v l bytes ec
+    → length bytes ≡ data_length v l → length ec ≡ total_ec_length v l → HasZeroHalf v l bytes → IsBestDrawing v l (bytes ++ ec) s
+best_drawing v l bytes ec s best carried data_long ec_long half =
+    let k = best.best.mask in
+    let same : s ≡ colors_of (with_mask v l k (drawn_modules v l bytes ec)) = best.shown ∙ ap colors_of best.best.after in
+    record {
+      mask = k;
+      mask_exists = best.best.best.exists;
+      carries = subst (Carries v l (bytes ++ ec) k) (sym same) (carried data_long ec_long half k best.best.best.exists);
+      first_least = subst (IsFirstLeast v l k) (sym best.shown) (best.best.first_least (drawn_bits v l bytes ec) refl);
+    }
 
 -- what is drawn of the codewords of bits encodes the bits
 pub encodes_drawn : (v : Version) (l : EcLevel) (bits : List Bool) (rest : ℕ) (raw data_words ec_words : List ℕ) (s : List Color) → IsTrue (has_level v l)

@@ -1,10 +1,11 @@
-//! Laws of reading, each on the contract of a function that does nothing: no call of the library reads.
+//! Laws of reading, each on the contract of a function that does nothing: no call of the library
+//! reads.
 
 ghost use Rattle.qrcode.specs.Reading.{BitsAreReadOneWay, BytesAreReadOneWay};
 ghost use Rattle.qrcode.specs.Texts.{TextsAreShown};
 
-/// No square at all, a symbol or not, damaged or not, is read in two ways: neither as other bits, nor
-/// of another version or level, nor as other bytes.
+/// No square at all, a symbol or not, damaged or not, is read in two ways: neither as other bits,
+/// nor of another version or level, nor as other bytes.
 pub fn reading()
     ensures bits { BitsAreReadOneWay }
     ensures bytes { BytesAreReadOneWay }

@@ -1,22 +1,20 @@
 //! QR and Micro QR symbols.
 #![tactic(auto)]
 
-ghost use Rattle.std.specs.Prelude.{◌≡◌, ◌↔◌, ◌+◌, ◌*◌, ◌-◌, ◌/◌, ◌%◌, ◌<◌, ◌≤◌, ◌++◌, Bool, List, true, false, Some, string_bytes, length, slice_index, slice_get, map, IsTrue, IfOk, IfErr, OnOk, IsOkUnless};
+ghost use Rattle.std.specs.Prelude.{◌≡◌, ◌↔◌, ◌+◌, ◌*◌, ◌-◌, ◌/◌, ◌%◌, ◌<◌, ◌≤◌, Bool, List, true, false, Some, string_bytes, length, slice_index, slice_get, map, IsTrue, IfOk, IfErr, OnOk, IsOkUnless};
 ghost use Rattle.qrcode_types.specs.Versions.{is_valid, side, has_level, capacity, data_length, total_ec_length, has_half_codeword};
 ghost use Rattle.qrcode_types.specs.declared.types.QrError.TheVariants.{OutOfMemory, InvalidVersion, DataTooLong};
 ghost use Rattle.qrcode_types.specs.Colors.{is_dark};
 ghost use Rattle.qrcode_types.specs.declared.types.EcLevel.TheVariants.{M};
 ghost use Rattle.qrcode_ec.specs.Allowed.{misdecode_protection};
-ghost use Rattle.qrcode_ec.specs.Lists.{data_in, ec_in, IsList};
 ghost use Rattle.qrcode_places.specs.Masks.{exists_in};
 ghost use Rattle.qrcode_places.specs.Patterns.{is_functional_place};
-ghost use Rattle.qrcode_symbol.specs.Carried.{HasZeroHalf};
 ghost use Rattle.qrcode_symbol.specs.Patterned.{IsDrawn};
 ghost use Rattle.qrcode_symbol.specs.Symbol.{IsSymbol};
 ghost use Rattle.qrcode_bits.specs.Choice.{Holds};
 ghost use Rattle.qrcode_bits.specs.Refusals.{data_limit};
 ghost use Rattle.qrcode.specs.Acceptance.{IsAutomatic, IsLeastSymbol, IsRefusedAt};
-ghost use Rattle.qrcode.specs.Drawing.{IsBestDrawing, IsMaskOf};
+ghost use Rattle.qrcode.specs.Drawing.{IsMaskOf};
 ghost use Rattle.qrcode.specs.Pictures.{quiet_zone, debug_text};
 ghost use Rattle.qrcode.specs.Reading.{EncodesBits};
 
@@ -99,8 +97,8 @@ impl QrCode {
     /// It is refused by the first of these causes that applies. `InvalidVersion`: there is no such
     /// version. `DataTooLong`: the bytes are more than 1,048,576. `UnsupportedCharacterSet`: they
     /// need a mode that the version lacks. `InvalidVersion`: the version lacks the level.
-    /// `DataTooLong`: the symbol does not hold the bytes. And `OutOfMemory` may come in place of the
-    /// last two, or where none applies.
+    /// `DataTooLong`: the symbol does not hold the bytes. And `OutOfMemory` may come in place of
+    /// the last two, or where none applies.
     pub fn with_version(
         alloc: Global,
         bytes: &[u8],
@@ -122,7 +120,7 @@ impl QrCode {
         }
         let mut bits = Bits::new(alloc, version);
         if let Err(error) = bits.push_optimal_data(bytes) {
-            // Within the limit, a missing level is told before that the symbol lacks the room.
+            // Within the limit, a missing level is reported before a lack of room.
             if error == QrError::DataTooLong && bytes.len() <= DATA_LIMIT {
                 bits.max_len(ec_level)?;
             }
@@ -158,8 +156,9 @@ impl QrCode {
             return Err(QrError::DataTooLong);
         }
         let bytes = bits.into_bytes();
-        let list = ec::into_list(alloc, bytes, version, ec_level)?;
-        let content = drawn_symbol(alloc, version, ec_level, &list)?;
+        let (data, ec) = ec::construct_codewords(alloc, &bytes, version, ec_level)?;
+        drop(bytes);
+        let content = canvas::drawn_colors(alloc, version, ec_level, &data, &ec)?;
         Ok(QrCode {
             content,
             version,
@@ -227,8 +226,8 @@ impl QrCode {
         canvas::is_functional(self.version, self.width as i16, x as i16, y as i16)
     }
 
-    /// The modules as text, `on_char` for dark ones and `off_char` for light ones, row by row with a
-    /// newline between each two, without a quiet zone.
+    /// The modules as text, `on_char` for dark ones and `off_char` for light ones, row by row with
+    /// a newline between each two, without a quiet zone.
     ///
     /// `OutOfMemory`: memory was refused.
     pub fn to_debug_str(&self, alloc: Global, on_char: char, off_char: char) -> QrResult<String>
@@ -337,21 +336,4 @@ impl Clone for QrCode {
             width: self.width,
         })
     }
-}
-
-// The colours of the symbol of codewords, with all patterns, under the first mask of least penalty.
-fn drawn_symbol(
-    alloc: Global,
-    version: Version,
-    ec_level: EcLevel,
-    list: &[u8],
-) -> QrResult<Vec<Color>>
-    requires exists { IsTrue (has_level version ec_level) }
-    requires listed { IsList version ec_level list.now }
-    requires half { HasZeroHalf version ec_level (data_in version ec_level list.now) }
-    ensures drawn { IfOk result (λ colors. IsBestDrawing version ec_level
-        (data_in version ec_level list.now ++ ec_in version ec_level list.now) colors.items) }
-    ensures memory { IsOkUnless result OutOfMemory }
-{
-    canvas::list_colors(alloc, version, ec_level, list)
 }

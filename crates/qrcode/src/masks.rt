@@ -26,8 +26,8 @@ fn bit_at(version: Version, modules: &[Color], x: usize) -> usize
     }
 }
 
-/// The mask that the format word of a square names. Three bits of the word have its number, of which
-/// the first and the last are turned; in Micro two bits, of which the last is turned.
+/// The mask that the format word of a square names. Three bits of the word have its number, of
+/// which the first and the last are turned; in Micro two bits, of which the last is turned.
 pub(crate) fn mask_of(version: Version, modules: &[Color]) -> MaskPattern
     requires { IsTrue (is_valid version) }
     ensures { (ec_level : EcLevel) (mask : MaskPattern) → IsTrue (has_level version ec_level)

@@ -79,8 +79,8 @@ impl QrCode {
     ///
     /// It is refused by the first of these causes that applies. `InvalidVersion`: there is no such
     /// version as the first. `DataTooLong`: the data has more than 1,048,576 bytes; or no version
-    /// from that one on holds it. And `OutOfMemory` may come in place of the last of these, or where
-    /// none applies.
+    /// from that one on holds it. And `OutOfMemory` may come in place of the last of these, or
+    /// where none applies.
     pub fn at_least(
         alloc: Global,
         bytes: &[u8],

@@ -5,7 +5,6 @@ pub mod ByteCuts
 pub mod Changed
 pub mod Chosen
 pub mod Chunks
-pub mod CutItems
 pub mod CutPieces
 pub mod Designators
 pub mod DigitCuts

@@ -1,6 +1,6 @@
 -- Pieces that are written one after the other.
 use Rattle.std.proofs.Common.{◌≡◌, ℕ, ◌+◌, ◌-◌, ◌≤◌, ◌++◌, Bool, List, [], ◌∷◌, length, take, refl, sym, ap, subst, ◌∙◌, arith, Option, Some, None, length-append, append_assoc, append-nil}
-use Rattle.std.specs.Prelude.{slice_get, slice_range, Result, Ok, Err, IsErr, IsErrAnd, IfErr, IfSome, OnOk}
+use Rattle.std.specs.Prelude.{slice_get, slice_range, Result, Ok, Err, IsErr, IsErrAnd, IfErr, IfSome}
 use Rattle.std.specs.List.{AllByRecursion}
 use Rattle.std.specs.Option.{option_or}
 use Rattle.std.proofs.lemmas.Grind.{flat_map-append}
@@ -13,7 +13,7 @@ use Rattle.qrcode_bits.specs.BitList.{BitList}
 use Rattle.qrcode_bits.specs.Pushes.{Changes, PushesAll, with_bits}
 use Rattle.qrcode_bits.specs.Segments.{AreInside, cost_of, cost, total_cost}
 use Rattle.qrcode_types.specs.Characters.{character_count}
-use Rattle.qrcode_bits.specs.Refusals.{piece_refusal, pieces_refusal, IsCause, StopsAt, StopsAtLast}
+use Rattle.qrcode_bits.specs.Refusals.{piece_refusal, pieces_refusal, IsCause, StopsAtLast}
 use Rattle.qrcode_bits.specs.Written.{Piece, written_piece, written, pieces_of}
 use Rattle.qrcode_bits.specs.declared.optimize.Segment.{Segment}
 use Rattle.qrcode_bits.proofs.Lengths.{length-piece}
@@ -134,22 +134,6 @@ refuses_segment v old bytes ss s now new e same before refused =
     let cause = cause_of (piece_refusal now.version (length now.bits) p) now (with_bits now (written_piece now.version p)) new e refused in
     let stop = stops v old bytes ss s now.bits e before (subst (λ w. IsCause (piece_refusal w (length now.bits) p) e) same cause) in
     subst (StopsAtLast v old (pieces_of bytes (ss ++ s ∷ [])) e) (sym (ap (λ (l : BitList). l.bits) refused.unchanged)) stop
-
--- one segment alone
-none_pushed : (v : Version) (old : List Bool) (bytes : List ℕ) → PushesAll v old bytes [] old
-none_pushed v old bytes = record { taken = refl; bits = sym (append-nil old); longer = omega arith }
-
-pub only_pushed : (bytes : List ℕ) (s : Segment) (old new : BitList) (result : Result (Unit {0}) QrError) → (s.begin ≤ s.end) × (s.end ≤ length bytes)
-    → Changes (piece_refusal old.version (length old.bits) (piece_of bytes s)) old (with_bits old (written_piece old.version (piece_of bytes s))) new result
-    → OnOk result (PushesAll old.version old.bits bytes (s ∷ []) new.bits)
-only_pushed bytes s old new (Ok u) range h = (pushes_segment old.version old.bits bytes [] s old new u range refl (none_pushed old.version old.bits bytes) h).1
-only_pushed bytes s old new (Err e) range h = tt
-
-pub only_stopped : (bytes : List ℕ) (s : Segment) (old new : BitList) (result : Result (Unit {0}) QrError)
-    → Changes (piece_refusal old.version (length old.bits) (piece_of bytes s)) old (with_bits old (written_piece old.version (piece_of bytes s))) new result
-    → IfErr result (λ e. StopsAt old.version old.bits (pieces_of bytes (s ∷ [])) e new.bits)
-only_stopped bytes s old new (Ok u) h = tt
-only_stopped bytes s old new (Err e) h = (refuses_segment old.version old.bits bytes [] s old new e refl (none_pushed old.version old.bits bytes) h).stops
 
 -- all segments are written, and what comes behind them is refused
 pub stops_behind : (v : Version) (old : List Bool) (bytes : List ℕ) (ss : List Segment) (r : Option QrError) (now after new : BitList) (result : Result (Unit {0}) QrError)

@@ -1,7 +1,6 @@
 pub mod BitList
 pub mod Choice
 pub mod Chosen
-pub mod CutView
 pub mod Cuts
 pub mod Encoded
 pub mod GroupSteps

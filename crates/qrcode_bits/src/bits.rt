@@ -27,7 +27,6 @@ use std::marker::Model;
 
 mod automatic;
 mod choice;
-mod cut;
 mod cuts;
 mod ending;
 mod manner;
@@ -157,9 +156,9 @@ impl Bits {
     /// Appends the mode indicator of ECI and the number of a character set (ISO/IEC 18004:2006,
     /// 6.4.2).
     ///
-    /// `UnsupportedCharacterSet`: the version is one of Micro QR. `InvalidEciDesignator`: the number
-    /// is 1,000,000 or more. `DataTooLong`: the list would pass 16,777,216 bits. `OutOfMemory`:
-    /// memory was refused.
+    /// `UnsupportedCharacterSet`: the version is one of Micro QR. `InvalidEciDesignator`: the
+    /// number is 1,000,000 or more. `DataTooLong`: the list would pass 16,777,216 bits.
+    /// `OutOfMemory`: memory was refused.
     pub fn push_eci_designator(&mut self, eci_designator: u32) -> QrResult<()>
         ensures { Appends (eci_refusal self.old.version (length self.old.bits) eci_designator)
             (number_bits 4 7 ++ eci_bits eci_designator) self.old self.new result }
@@ -194,8 +193,8 @@ impl Bits {
     /// Appends digits, capital letters and the nine other characters of the alphabet, with mode
     /// indicator and length field (ISO/IEC 18004:2006, 6.4.4). Any other byte is written as `0` is.
     ///
-    /// `UnsupportedCharacterSet`: the version lacks the mode. `DataTooLong`: the length field is too
-    /// small, or the list would pass 16,777,216 bits. `OutOfMemory`: memory was refused.
+    /// `UnsupportedCharacterSet`: the version lacks the mode. `DataTooLong`: the length field is
+    /// too small, or the list would pass 16,777,216 bits. `OutOfMemory`: memory was refused.
     pub fn push_alphanumeric_data(&mut self, bytes: &[u8]) -> QrResult<()>
         ensures { PushesPiece Mode.Alphanumeric bytes.now self.old self.new result }
     {
@@ -204,8 +203,8 @@ impl Bits {
 
     /// Appends bytes, with mode indicator and length field (ISO/IEC 18004:2006, 6.4.5).
     ///
-    /// `UnsupportedCharacterSet`: the version lacks the mode. `DataTooLong`: the length field is too
-    /// small, or the list would pass 16,777,216 bits. `OutOfMemory`: memory was refused.
+    /// `UnsupportedCharacterSet`: the version lacks the mode. `DataTooLong`: the length field is
+    /// too small, or the list would pass 16,777,216 bits. `OutOfMemory`: memory was refused.
     pub fn push_byte_data(&mut self, bytes: &[u8]) -> QrResult<()>
         ensures { PushesPiece Mode.Byte bytes.now self.old self.new result }
     {
@@ -215,9 +214,9 @@ impl Bits {
     /// Appends pairs of bytes of Shift JIS, with mode indicator and length field (ISO/IEC
     /// 18004:2006, 6.4.6).
     ///
-    /// `UnsupportedCharacterSet`: the version lacks the mode. `DataTooLong`: the length field is too
-    /// small for the pairs, or the list would pass 16,777,216 bits. `InvalidCharacter`: the bytes
-    /// are not pairs that the mode can write. `OutOfMemory`: memory was refused.
+    /// `UnsupportedCharacterSet`: the version lacks the mode. `DataTooLong`: the length field is
+    /// too small for the pairs, or the list would pass 16,777,216 bits. `InvalidCharacter`: the
+    /// bytes are not pairs that the mode can write. `OutOfMemory`: memory was refused.
     pub fn push_kanji_data(&mut self, bytes: &[u8]) -> QrResult<()>
         ensures { PushesPiece Mode.Kanji bytes.now self.old self.new result }
     {
@@ -226,8 +225,8 @@ impl Bits {
 
     /// Appends the mode indicator of FNC1 in the first position (ISO/IEC 18004:2006, 6.4.8.1).
     ///
-    /// `UnsupportedCharacterSet`: the version is one of Micro QR. `DataTooLong`: the list would pass
-    /// 16,777,216 bits. `OutOfMemory`: memory was refused.
+    /// `UnsupportedCharacterSet`: the version is one of Micro QR. `DataTooLong`: the list would
+    /// pass 16,777,216 bits. `OutOfMemory`: memory was refused.
     pub fn push_fnc1_first_position(&mut self) -> QrResult<()>
         ensures { Appends (append_refusal (length self.old.bits)
             (indicator_bits self.old.version ExtendedMode.Fnc1First))
@@ -239,8 +238,8 @@ impl Bits {
     /// Appends the mode indicator of FNC1 in the second position and the indicator of the
     /// application, as eight bits (ISO/IEC 18004:2006, 6.4.8.2).
     ///
-    /// `UnsupportedCharacterSet`: the version is one of Micro QR. `DataTooLong`: the list would pass
-    /// 16,777,216 bits. `OutOfMemory`: memory was refused.
+    /// `UnsupportedCharacterSet`: the version is one of Micro QR. `DataTooLong`: the list would
+    /// pass 16,777,216 bits. `OutOfMemory`: memory was refused.
     pub fn push_fnc1_second_position(&mut self, application_indicator: u8) -> QrResult<()>
         ensures { Appends (append_refusal (length self.old.bits)
             (option_map (λ bits. bits ++ number_bits 8 application_indicator)
@@ -254,8 +253,9 @@ impl Bits {
         self.push_number(12, (0b1001 << 8) + u32::from(application_indicator))
     }
 
-    /// Ends the list: appends the terminator, and padding up to the bits that a symbol of the version
-    /// and level holds (ISO/IEC 18004:2006, 6.4.9 and 6.4.10). A list of so many bits stays as it is.
+    /// Ends the list: appends the terminator, and padding up to the bits that a symbol of the
+    /// version and level holds (ISO/IEC 18004:2006, 6.4.9 and 6.4.10). A list of so many bits stays
+    /// as it is.
     ///
     /// `InvalidVersion`: the version lacks the level. `DataTooLong`: the list is longer than the
     /// symbol holds. `OutOfMemory`: memory was refused.
@@ -285,7 +285,8 @@ impl Bits {
         Ok(())
     }
 
-    /// Appends the bytes of each segment in its mode. Ranges may come in any order, again, or empty.
+    /// Appends the bytes of each segment in its mode. Ranges may come in any order, again, or
+    /// empty.
     ///
     /// It fails as the first failing segment does, for want of memory (`OutOfMemory`) too; the
     /// segments before it stay appended.
@@ -371,7 +372,8 @@ impl Bits {
     }
 }
 
-// The bytes that a list takes at first: those of the codewords of a symbol and some more, so that it grows once.
+// The bytes that a list takes at first: those of the codewords of a symbol and some more, so that
+// it grows once.
 fn symbol_room(version: Version) -> usize {
     let Some(blocks) = Blocks::of(version, EcLevel::L) else {
         return 0;

@@ -8,11 +8,9 @@ ghost use Rattle.qrcode_bits.specs.Groups.{range_limit};
 ghost use Rattle.qrcode_bits.specs.declared.optimize.Segment.{Segment};
 
 pub use self::groups::Optimizer;
-pub(crate) use self::least::searched_segments;
 pub use self::least::{least_segments, least_segments_in};
 pub use self::mode_sets::Modes;
 pub use self::runs::Parser;
-pub(crate) use self::single::single_mode;
 use qrcode_types::characters::character_count;
 use qrcode_types::types::{Mode, Version};
 

@@ -183,21 +183,6 @@ one_block v l b bytes words is one =
     (λ i below.
     ap (λ p. get_or words p 0) (sym (only_place b i single)) ∙ is.rows i 0 (omega (arith, below, is.as_long, only.1)) (omega (arith, single)) ∙ ap (λ (xs : List ℕ). get_or xs i 0) only.0)
 
--- and the data of a single block is interleaved
-pub is_interleaved : (v : Version) (l : EcLevel) (b : Blocks) (bytes : List ℕ) → AreBlocks v l b → length bytes ≡ data_length_of b → data_length v l ≡ data_length_of b → count_of b ≡ 1
-    → IsInterleaved v l b bytes bytes
-is_interleaved v l b bytes entry whole all single = record {
-  entry = entry;
-  whole = whole;
-  as_long = whole;
-  all = all;
-  rows = λ i k within exists.
-      let first : k ≡ 0 = omega (arith, single, exists) in
-      ap (λ n. get_or bytes (i * (count_of b) + n) 0) first ∙ ap (λ p. get_or bytes p 0) (only_place b i single)
-      ∙ ap (λ (xs : List ℕ). get_or xs i 0) (sym (only_block b bytes whole single).0) ∙ ap (λ n. get_or (data_block b bytes n) i 0) (sym first);
-  ends = λ k exists. absurd (omega (arith, exists, single, b.some_blocks));
-}
-
 -- a block is of bytes, and not too long for the law of distance
 block_bytes : (b : Blocks) (bytes : List ℕ) (k : ℕ) → AreBytes bytes → AreBytes (data_block b bytes k)
 unfolding data_block

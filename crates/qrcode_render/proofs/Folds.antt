@@ -25,7 +25,7 @@ drawn_from-append rect at i (x ∷ xs) ys d =
     ∙ ap (λ k. drawn_from rect at k ys (drawn_from rect at (i + 1) xs (module_step rect at i x d))) (omega arith)
 
 -- the steps of a part, then those of the rest
-pub drawn_from-part : {D : Type 0} (rect : ℕ → ℕ → ℕ → ℕ → D → D) (at : Layout) (i j : ℕ) (xs : List Color) (d : D) → i ≤ j → j ≤ length xs → drawn_from rect at j (drop j xs) (drawn_from rect at i (take (j - i) (drop i xs)) d) ≡ drawn_from rect at i (drop i xs) d
+drawn_from-part : {D : Type 0} (rect : ℕ → ℕ → ℕ → ℕ → D → D) (at : Layout) (i j : ℕ) (xs : List Color) (d : D) → i ≤ j → j ≤ length xs → drawn_from rect at j (drop j xs) (drawn_from rect at i (take (j - i) (drop i xs)) d) ≡ drawn_from rect at i (drop i xs) d
 drawn_from-part rect at i j xs d h inside =
     let part : List Color = take (j - i) (drop i xs) in
     let n : i + length part ≡ j = omega (arith, length-drop i xs, length-take (j - i) (drop i xs)) in
@@ -51,12 +51,27 @@ drawn_row-from rect at row column (c ∷ line) d h =
     ∙ ap (λ k. drawn_from rect at k line (module_step rect at (row * at.count + column) c d)) next
 
 -- the steps of a whole row
-pub drawn_row-is : {D : Type 0} (rect : ℕ → ℕ → ℕ → ℕ → D → D) (at : Layout) (row : ℕ) (line : List Color) (d : D) → length line ≤ at.count → drawn_row rect (at.zone * at.across) ((row + at.zone) * at.down) at.across at.down line d ≡ drawn_from rect at (row * at.count) line d
+drawn_row-is : {D : Type 0} (rect : ℕ → ℕ → ℕ → ℕ → D → D) (at : Layout) (row : ℕ) (line : List Color) (d : D) → length line ≤ at.count → drawn_row rect (at.zone * at.across) ((row + at.zone) * at.down) at.across at.down line d ≡ drawn_from rect at (row * at.count) line d
 drawn_row-is rect at row line d h =
     let start : row * at.count + 0 ≡ row * at.count = omega arith in
     let left : at.zone ≡ 0 + at.zone = omega arith in
     ap (λ x. drawn_row rect (x * at.across) ((row + at.zone) * at.down) at.across at.down line d) left
     ∙ drawn_row-from rect at row 0 line d (omega arith) ∙ ap (λ k. drawn_from rect at k line d) start
+
+-- the steps of a row, then those of the rows below it
+pub next_row : {D : Type 0} (rect : ℕ → ℕ → ℕ → ℕ → D → D) (at : Layout) (row : ℕ) (xs : List Color) (d : D) → (row + 1) * at.count ≤ length xs
+    → let i = row * at.count in
+    drawn_from rect at ((row + 1) * at.count) (drop ((row + 1) * at.count) xs) (drawn_row rect (at.zone * at.across) ((row + at.zone) * at.down) at.across at.down (take (i + at.count - i) (drop i xs)) d)
+    ≡ drawn_from rect at i (drop i xs) d
+next_row rect at row xs d inside =
+    let n = at.count in
+    let i = row * n in
+    let line : List Color = take (i + n - i) (drop i xs) in
+    let whole : (row + 1) * n ≡ i + n = omega arith in
+    let short : length line ≤ n = omega (arith, length-take (i + n - i) (drop i xs)) in
+    ap (λ j. drawn_from rect at j (drop j xs) (drawn_row rect (at.zone * at.across) ((row + at.zone) * at.down) at.across at.down line d)) whole
+    ∙ ap (λ e. drawn_from rect at (i + n) (drop (i + n) xs) e) (drawn_row-is rect at row line d short)
+    ∙ drawn_from-part rect at i (i + n) xs d (omega arith) (omega arith)
 
 -- the rest of a row, from its first module on
 drawn_row-more : {D : Type 0} (rect : ℕ → ℕ → ℕ → ℕ → D → D) (left top width height k : ℕ) (line : List Color) (c : Color) (d : D) → k < length line → drawn_row rect left top width height (drop k line) d ≡ drawn_row rect (left + width) top width height (drop (k + 1) line) (select_of (get_or line k c) (rect left top width height d) d)

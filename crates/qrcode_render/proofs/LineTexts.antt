@@ -1,12 +1,11 @@
 -- Texts of marks, and lines of a text.
-use Rattle.std.proofs.Common.{◌≡◌, ℕ, zero, suc, ◌+◌, ◌*◌, ◌<◌, ◌≤◌, ◌-◌, List, [], ◌∷◌, ◌++◌, Bool, true, false, length, length-append, get_or, take, drop, map, refl, ap, ◌∙◌, sym, arith, append_assoc, add-zero, if◌then◌else◌, ◌==◌}
+use Rattle.std.proofs.Common.{◌≡◌, ℕ, zero, suc, ◌+◌, ◌*◌, ◌/◌, ◌<◌, ◌≤◌, ◌-◌, List, [], ◌∷◌, ◌++◌, Bool, false, length, get_or, take, drop, map, refl, ap, ap₂, ◌∙◌, sym, arith, append_assoc, add-zero, if◌then◌else◌, ◌==◌}
 use Rattle.std.specs.List.{flat_map, join_with_byte, range_with_len}
 use Rattle.std.proofs.lemmas.List.{take_more, take-append-drop, take_all, append-nil, length-drop}
 use Rattle.std.proofs.lemmas.Bool.Decides.{nat_tests}
 use Rattle.std.proofs.lemmas.List.Concat.{flat_map-append}
 use Rattle.std.proofs.lemmas.List.FromFn.{map-range_with_len_more, length-map-range_with_len}
-use Rattle.qrcode_render.specs.Grid.{repeated}
-use Rattle.qrcode_render.specs.Lines.{line_start}
+use Rattle.qrcode_render.specs.Lines.{line_start, twos_text}
 use Rattle.qrcode_render.specs.Texts.{marks_text, lines_text}
 
 -- one more element
@@ -31,25 +30,33 @@ flat_range_more f n m next =
     let place : 0 + n ≡ n = omega arith in
     ap (λ k. flat_map f (range_with_len 0 k)) (sym next) ∙ flat_range_from f 0 n ∙ ap (λ k. flat_map f (range_with_len 0 n) ++ f k) place
 
-regroup : (x a b c d : List ℕ) → x ++ a ++ b ++ c ++ d ≡ x ++ (a ++ (b ++ []) ++ (c ++ (d ++ [])))
-regroup x a b c d = simp (append_assoc, append-nil)
+regroup : (x a b : List ℕ) → x ++ (a ++ (b ++ [])) ≡ x ++ a ++ b
+regroup x a b = simp (append_assoc, append-nil)
 
--- four more marks, two and two
-pub marks_text_four : (dark light : List ℕ) (marks : List Bool) (at next : ℕ) → at + 4 ≡ next → next ≤ length marks → marks_text dark light (take next marks) ≡ marks_text dark light (take at marks) ++ (marks_text dark light (get_or marks at false ∷ get_or marks (at + 1) false ∷ []) ++ marks_text dark light (get_or marks (at + 2) false ∷ get_or marks (at + 3) false ∷ []))
-marks_text_four dark light marks at next is inside =
+-- the texts of the first pairs of marks are those of the marks
+first_twos : (dark light : List ℕ) (two : Bool → Bool → List ℕ) (marks : List Bool) → ((a b : Bool) → two a b ≡ marks_text dark light (a ∷ b ∷ [])) → (k : ℕ) → 2 * k ≤ length marks
+    → flat_map (λ i. two (get_or marks (2 * i) false) (get_or marks (2 * i + 1) false)) (range_with_len 0 k) ≡ marks_text dark light (take (2 * k) marks)
+first_twos dark light two marks is zero inside = refl
+first_twos dark light two marks is (suc k) inside =
     let text : Bool → List ℕ = λ m. if m then dark else light in
     let mark : ℕ → List ℕ = λ i. text (get_or marks i false) in
-    flat_map_one text marks (at + 3) next false (omega arith) (omega arith)
-    ∙ ap (λ x. x ++ mark (at + 3)) (flat_map_one text marks (at + 2) (at + 3) false (omega arith) (omega arith))
-    ∙ ap (λ x. x ++ mark (at + 2) ++ mark (at + 3)) (flat_map_one text marks (at + 1) (at + 2) false (omega arith) (omega arith))
-    ∙ ap (λ x. x ++ mark (at + 1) ++ mark (at + 2) ++ mark (at + 3)) (flat_map_one text marks at (at + 1) false (omega arith) (omega arith))
-    ∙ regroup (marks_text dark light (take at marks)) (mark at) (mark (at + 1)) (mark (at + 2)) (mark (at + 3))
+    let at = 2 * k in
+    let pair : ℕ → List ℕ = λ i. two (get_or marks (2 * i) false) (get_or marks (2 * i + 1) false) in
+    flat_range_more pair k (suc k) (omega arith)
+    ∙ ap (λ t. t ++ pair k) (first_twos dark light two marks is k (omega arith))
+    ∙ ap (λ t. marks_text dark light (take at marks) ++ t) (is (get_or marks at false) (get_or marks (at + 1) false))
+    ∙ regroup (marks_text dark light (take at marks)) (mark at) (mark (at + 1))
+    ∙ sym (ap (λ t. t ++ mark (at + 1)) (flat_map_one text marks at (at + 1) false refl (omega arith)))
+    ∙ sym (flat_map_one text marks (at + 1) (2 * suc k) false (omega arith) (omega arith))
 
--- the texts of the first marks, then those of the rest
-pub marks_text_rest : (dark light : List ℕ) (marks : List Bool) (k : ℕ) → marks_text dark light (take k marks) ++ marks_text dark light (take (length marks - k) (drop k marks)) ≡ marks_text dark light marks
-marks_text_rest dark light marks k =
+-- the texts of pairs of marks, then those of the rest
+pub twos_and_rest : (dark light : List ℕ) (two : Bool → Bool → List ℕ) (marks : List Bool) → ((a b : Bool) → two a b ≡ marks_text dark light (a ∷ b ∷ []))
+    → let k = length marks / 2 * 2 in twos_text two marks ++ marks_text dark light (take (length marks - k) (drop k marks)) ≡ marks_text dark light marks
+twos_and_rest dark light two marks is =
+    let k = length marks / 2 * 2 in
+    let place : 2 * (length marks / 2) ≡ k = omega arith in
     let rest : take (length marks - k) (drop k marks) ≡ drop k marks = take_all (length marks - k) (drop k marks) (omega (arith, length-drop k marks)) in
-    ap (λ ys. marks_text dark light (take k marks) ++ marks_text dark light ys) rest
+    ap₂ (λ t ms. t ++ marks_text dark light ms) (first_twos dark light two marks is (length marks / 2) (omega arith) ∙ ap (λ n. marks_text dark light (take n marks)) place) rest
     ∙ sym (flat_map-append _ (take k marks) (drop k marks))
     ∙ ap (marks_text dark light) (take-append-drop k marks)
 
@@ -74,37 +81,3 @@ joined_more f y =
 pub some_lines : (across : ℕ) (lines : List (List ℕ)) → 0 < across → lines_text across lines ≡ join_with_byte 10 lines
 some_lines zero lines h = absurd (omega arith)
 some_lines (suc n) lines h = let some : (suc n == 0) ≡ false = grind (arith, nat_tests) in ap (λ b. if b then [] else join_with_byte 10 lines) some
-
--- room for all texts is room for those of the first marks and for more of them
-pub text_room : (dark light : List ℕ) (marks : List Bool) (i j : ℕ) (old more : List ℕ) (n : ℕ) → marks_text dark light (take j marks) ≡ marks_text dark light (take i marks) ++ more → length (old ++ marks_text dark light marks) + 32 ≤ n
-    → length (old ++ marks_text dark light (take i marks)) + length more + 32 ≤ n
-text_room dark light marks i j old more n is room =
-    let all = ap length (marks_text_rest dark light marks j) in
-    omega (
-      arith,
-      all,
-      ap length is,
-      length-append (marks_text dark light (take j marks)) (marks_text dark light (take (length marks - j) (drop j marks))),
-      length-append (marks_text dark light (take i marks)) more,
-      length-append old (marks_text dark light marks),
-      length-append old (marks_text dark light (take i marks)),
-    )
-
--- how long texts of marks are at most
-pub text_at_most : (dark light : List ℕ) (marks : List Bool) (n : ℕ) → length dark ≤ n → length light ≤ n → length (marks_text dark light marks) ≤ length marks * n
-text_at_most dark light [] n d l = omega arith
-text_at_most dark light (true ∷ marks) n d l = omega (arith, length-append dark (marks_text dark light marks), text_at_most dark light marks n d l)
-text_at_most dark light (false ∷ marks) n d l = omega (arith, length-append light (marks_text dark light marks), text_at_most dark light marks n d l)
-
--- room for the texts of marks behind others
-pub cells_room : (dark light : List ℕ) (marks : List Bool) (old : List ℕ) (m n : ℕ) → length dark ≤ m → length light ≤ m → length old + length marks * m + 32 ≤ n → length (old ++ marks_text dark light marks) + 32 ≤ n
-cells_room dark light marks old m n d l room =
-    omega (arith, length-append old (marks_text dark light marks), text_at_most dark light marks m d l)
-
--- a text so many times behind another, which is empty unless that is once
-pub repeated-behind : (n : ℕ) (before text : List ℕ) → 1 ≤ n → (2 ≤ n → before ≡ []) → repeated n (before ++ text) ≡ before ++ repeated n text
-repeated-behind zero before text some none = absurd (omega arith)
-repeated-behind (suc zero) before text some none = append_assoc before text []
-repeated-behind (suc (suc n)) before text some none =
-    let empty = none (omega arith) in
-    ap (λ b. repeated (suc (suc n)) (b ++ text)) empty ∙ sym (ap (λ b. b ++ repeated (suc (suc n)) text) empty)

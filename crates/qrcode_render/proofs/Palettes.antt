@@ -1,10 +1,13 @@
 -- Texts of pairs of texts.
-use Rattle.std.proofs.Common.{◌≡◌, ℕ, zero, suc, ◌+◌, ◌*◌, ◌<◌, inl, inr, List, [], ◌∷◌, ◌++◌, Bool, true, false, length, map, get_or, set, ap, ap₂, ◌∙◌, sym, subst, arith, length-append}
-use Rattle.std.specs.List.{flat_map}
+use Rattle.std.proofs.Common.{◌≡◌, ℕ, zero, suc, ◌+◌, ◌*◌, ◌/◌, ◌<◌, inl, inr, List, [], ◌∷◌, ◌++◌, Bool, true, false, length, map, get_or, set, ap, ap₂, ◌∙◌, sym, subst, refl, arith, append_assoc, length-append}
+use Rattle.std.specs.List.{flat_map, range_with_len}
 use Rattle.std.proofs.lemmas.Bool.{cases_lt}
 use Rattle.std.proofs.lemmas.List.{get_or-map, get_or-append-add, length-map, get_or-set_same, get_or-set_other}
 use Rattle.std.proofs.Math.ListN.{get_or-append, length-set}
-use Rattle.qrcode_render.specs.Lines.{paired, pair_number, two_text, AreMarksAt}
+use Rattle.qrcode_render.specs.Lines.{paired, pair_number, twos_text, AreMarksAt}
+use Rattle.qrcode_render.specs.Texts.{columns_text}
+use Rattle.qrcode_render.proofs.Grids.{flat_range_same}
+use Rattle.qrcode_render.proofs.LineTexts.{flat_range_more}
 
 pub pair_number-lt : (a b : Bool) → pair_number a b < 4
 pair_number-lt false false = omega arith
@@ -43,15 +46,33 @@ get_or-paired ts i j four h k =
     let place : 4 * i + j ≡ i * length ts + j = omega (arith, ap (λ n. i * n) four) in
     ap (λ n. get_or (paired ts) n []) place ∙ get_or-pairs ts ts i j (omega arith) (omega arith)
 
--- the texts of two columns, whose marks stand one behind the other
-pub four_columns : (texts : List (List ℕ)) (upper lower columns : List Bool) (i : ℕ) → AreMarksAt upper lower columns (2 * i) → AreMarksAt upper lower columns (2 * i + 1) → two_text texts (get_or columns (4 * i) false) (get_or columns (4 * i + 1) false) ++ two_text texts (get_or columns (4 * i + 2) false) (get_or columns (4 * i + 3) false) ≡ two_text texts (get_or upper (2 * i) false) (get_or lower (2 * i) false) ++ two_text texts (get_or upper (2 * i + 1) false) (get_or lower (2 * i + 1) false)
-four_columns texts upper lower columns i one two =
-    let mark : ℕ → Bool = λ k. get_or columns k false in
-    let a : 4 * i ≡ 2 * (2 * i) = omega arith in
-    let b : 4 * i + 1 ≡ 2 * (2 * i) + 1 = omega arith in
-    let c : 4 * i + 2 ≡ 2 * (2 * i + 1) = omega arith in
-    let d : 4 * i + 3 ≡ 2 * (2 * i + 1) + 1 = omega arith in
-    ap₂ (λ s t. s ++ t) (ap₂ (two_text texts) (ap mark a ∙ one.first) (ap mark b ∙ one.second)) (ap₂ (two_text texts) (ap mark c ∙ two.first) (ap mark d ∙ two.second))
+-- the texts of two pairs of marks more
+pub twos_more : (two : Bool → Bool → List ℕ) (marks : List Bool) (i : ℕ)
+    → let text : ℕ → List ℕ = λ k. two (get_or marks (2 * k) false) (get_or marks (2 * k + 1) false) in
+    flat_map text (range_with_len 0 (2 * (i + 1)))
+    ≡ flat_map text (range_with_len 0 (2 * i)) ++ (two (get_or marks (4 * i) false) (get_or marks (4 * i + 1) false) ++ two (get_or marks (4 * i + 2) false) (get_or marks (4 * i + 3) false))
+twos_more two marks i =
+    let text : ℕ → List ℕ = λ k. two (get_or marks (2 * k) false) (get_or marks (2 * k + 1) false) in
+    let x = 2 * i in
+    let before = flat_map text (range_with_len 0 x) in
+    let mark : ℕ → Bool = λ k. get_or marks k false in
+    let a : 2 * x ≡ 4 * i = omega arith in
+    let b : 2 * x + 1 ≡ 4 * i + 1 = omega arith in
+    let c : 2 * (x + 1) ≡ 4 * i + 2 = omega arith in
+    let d : 2 * (x + 1) + 1 ≡ 4 * i + 3 = omega arith in
+    flat_range_more text (x + 1) (2 * (i + 1)) (omega arith)
+    ∙ ap (λ t. t ++ text (x + 1)) (flat_range_more text x (x + 1) refl)
+    ∙ append_assoc before (text x) (text (x + 1))
+    ∙ ap₂ (λ s t. before ++ (s ++ t)) (ap₂ two (ap mark a) (ap mark b)) (ap₂ two (ap mark c) (ap mark d))
+
+-- the texts of columns, whose marks stand one behind the other
+pub columns_are : (two : Bool → Bool → List ℕ) (upper lower columns : List Bool) → length columns ≡ 2 * length upper → ((x : ℕ) → x < length upper → AreMarksAt upper lower columns x)
+    → twos_text two columns ≡ columns_text two upper lower
+columns_are two upper lower columns long are =
+    let count : length columns / 2 ≡ length upper = omega arith in
+    let text : ℕ → List ℕ = λ k. two (get_or columns (2 * k) false) (get_or columns (2 * k + 1) false) in
+    ap (λ n. flat_map text (range_with_len 0 n)) count
+    ∙ flat_range_same text (λ x. two (get_or upper x false) (get_or lower x false)) (length upper) (λ x inside. ap₂ two (are x inside).first (are x inside).second)
 
 -- the marks of one more column
 pub interleaved_more : (upper lower columns : List Bool) (x : ℕ) → 2 * x + 1 < length columns → ((k : ℕ) → k < x → AreMarksAt upper lower columns k) → (k : ℕ) → k < x + 1 → AreMarksAt upper lower (set (set columns (2 * x) (get_or upper x false)) (2 * x + 1) (get_or lower x false)) k

@@ -1,15 +1,13 @@
 -- Rows of pixels, and lines of half blocks.
-use Rattle.std.proofs.Common.{◌≡◌, ℕ, zero, suc, ◌+◌, ◌*◌, ◌/◌, ◌<◌, ◌≤◌, inl, inr, List, [], ◌∷◌, Bool, true, false, length, length-append, get_or, map, refl, ap, ◌∙◌, sym, arith, if◌then◌else◌, nat_lt}
+use Rattle.std.proofs.Common.{◌≡◌, ℕ, ◌+◌, ◌*◌, ◌/◌, ◌<◌, List, [], ◌∷◌, Bool, true, false, length, get_or, map, refl, ap, ◌∙◌, sym, arith, if◌then◌else◌, nat_lt}
 use Rattle.std.specs.List.{flat_map, range_with_len}
 use Rattle.std.specs.Str.{IsUtf8}
-use Rattle.std.proofs.lemmas.Bool.{cases_lt}
 use Rattle.std.proofs.lemmas.List.FromFn.{fill_by_all}
 use Rattle.std.proofs.lemmas.Str.{IsUtf8-append, IsUtf8-nil}
 use Rattle.qrcode_render.specs.Bitmap.{Bitmap, row_of}
 use Rattle.qrcode_render.specs.Grid.{Grid, all_rows, cell_row, each, pixels_of}
 use Rattle.qrcode_render.specs.Texts.{half_blocks, column_text, columns_text, dense_line, marks_text}
 use Rattle.qrcode_render.proofs.Grids.{length-each, get_or-each, row_of-pixels}
-use Rattle.qrcode_render.proofs.LineTexts.{flat_range_more}
 use Rattle.qrcode_render.proofs.TextLines.{marks_text-IsUtf8}
 
 -- each element so many times, by the place of each
@@ -31,38 +29,6 @@ pixels_are_cells g y once high inside =
     sym (each_once (cell_row g (y / g.down)))
     ∙ ap (λ a. each a (cell_row g (y / g.down))) (sym once)
     ∙ sym (row_of-pixels g y (omega arith) high inside)
-
--- the texts of the first numbers are no longer than those of more
-pub flat_range_le : {B : Type 0} (f : ℕ → List B) (k n : ℕ) → k ≤ n → length (flat_map f (range_with_len 0 k)) ≤ length (flat_map f (range_with_len 0 n))
-flat_range_le f k zero h =
-    let none : k ≡ 0 = omega arith in
-    omega (arith, ap (λ j. length (flat_map f (range_with_len 0 j))) none)
-flat_range_le f k (suc n) h =
-    elim (cases_lt k (suc n)) [
-      | inl below ↦ omega (arith, flat_range_le f k n (omega arith), ap length (flat_range_more f n (suc n) (omega arith)), length-append (flat_map f (range_with_len 0 n)) (f n))
-      | inr from ↦ let same : k ≡ suc n = omega arith in omega (arith, ap (λ j. length (flat_map f (range_with_len 0 j))) same)
-    ]
-
--- how long texts of numbers are at most
-pub flat_range_at_most : (f : ℕ → List ℕ) (m n : ℕ) → ((x : ℕ) → length (f x) ≤ m) → length (flat_map f (range_with_len 0 n)) ≤ m * n
-flat_range_at_most f m zero short = omega arith
-flat_range_at_most f m (suc n) short =
-    omega (arith, flat_range_at_most f m n short, short n, ap length (flat_range_more f n (suc n) (omega arith)), length-append (flat_map f (range_with_len 0 n)) (f n))
-
--- how long texts of columns are at most
-pub columns_short : (text : Bool → Bool → List ℕ) (upper lower : List Bool) → ((a b : Bool) → length (text a b) ≤ 3) → length (columns_text text upper lower) ≤ 3 * length upper
-columns_short text upper lower short =
-    flat_range_at_most (λ x. text (get_or upper x false) (get_or lower x false)) 3 (length upper) (λ x. short (get_or upper x false) (get_or lower x false))
-
--- a half block has at most three bytes
-half_short : (upper lower : Bool) → length (half_blocks upper lower) ≤ 3
-half_short false false = omega arith
-half_short false true = omega arith
-half_short true false = omega arith
-half_short true true = omega arith
-
-pub column_short : (marked other upper lower : Bool) → length (column_text marked other upper lower) ≤ 3
-column_short marked other upper lower = half_short (if upper then marked else other) (if lower then marked else other)
 
 half-IsUtf8 : (upper lower : Bool) → IsUtf8 (half_blocks upper lower)
 unfolding lib.Utf8.encode

@@ -1,9 +1,11 @@
 -- The text of Encapsulated PostScript.
+use Rattle.std.proofs.Common.{◌≡◌}
 use Rattle.std.specs.Prelude.{ℕ, List, [], ◌++◌, codes, decimal}
 use Rattle.qrcode_types.specs.declared.types.Color.{Color}
 use Rattle.qrcode_render.specs.declared.eps.Color as eps
 use Rattle.qrcode_render.specs.Drawn.{drawn}
 use Rattle.qrcode_render.specs.Layout.{Layout, pixels_across, pixels_down}
+use Rattle.qrcode_render.specs.Strokes.{rect_text, regroup}
 
 -- what follows is drawn in this colour
 abbrev pub eps_paint : eps.Color → List ℕ
@@ -24,28 +26,34 @@ eps_box left top width height =
 abbrev pub eps_turn : ℕ → List ℕ
 eps_turn h = codes "0 " ++ (decimal h ++ codes " translate 1 -1 scale\n")
 
+-- the light ground, from the lower left corner on
+abbrev pub eps_ground : ℕ → ℕ → List ℕ
+eps_ground w h = codes "0 0 " ++ (decimal w ++ (codes " " ++ (decimal h ++ codes " rectfill\n")))
+
 -- what stands before the first dark rectangle: the head, and a light ground
 abbrev pub eps_start : ℕ → ℕ → eps.Color → eps.Color → List ℕ
-eps_start w h dark light = eps_head w h ++ (eps_paint light ++ (eps_box 0 0 w h ++ (eps_turn h ++ eps_paint dark)))
+eps_start w h dark light = eps_head w h ++ (eps_paint light ++ (eps_ground w h ++ (eps_turn h ++ eps_paint dark)))
 
 -- a dark rectangle
 abbrev pub eps_rect : ℕ → ℕ → ℕ → ℕ → List ℕ → List ℕ
 eps_rect left top width height text = text ++ eps_box left top width height
 
--- what the column of a rectangle determines of its box, what its sides, and what its row and the text of the sides
+-- what its column determines of a box, and what its row and its sides do
 abbrev pub eps_column : ℕ → List ℕ × List ℕ
 eps_column left = (decimal left ++ codes " ", [])
 
-abbrev pub eps_sides : ℕ → ℕ → List ℕ
-eps_sides width height = codes " " ++ (decimal width ++ (codes " " ++ decimal height))
+abbrev pub eps_row : ℕ → ℕ → ℕ → List ℕ × List ℕ
+eps_row top width height = (decimal top ++ codes " " ++ decimal width ++ codes " " ++ decimal height, codes " rectfill\n")
 
-abbrev pub eps_row : ℕ → List ℕ → List ℕ × List ℕ
-eps_row top sides = (decimal top ++ sides, codes " rectfill\n")
+-- a box is that of its column and of its row and its sides
+pub eps_rect-is : (left top width height : ℕ) (text : List ℕ) → eps_rect left top width height text ≡ text ++ rect_text (eps_column left) (eps_row top width height)
+eps_rect-is left top width height text =
+    regroup text [] (decimal left) (codes " ") (decimal top) (codes " ") (decimal width) (codes " ") (decimal height) [] [] [] (codes " rectfill\n")
 
 -- what stands behind the last dark rectangle
 abbrev pub eps_end : List ℕ
 eps_end = codes "showpage\n%%EOF\n"
 
 -- the picture of modules, of a dark and a light colour
-unfoldable pub eps_text : Layout → List Color → eps.Color → eps.Color → List ℕ
+abbrev pub eps_text : Layout → List Color → eps.Color → eps.Color → List ℕ
 eps_text at content dark light = drawn eps_rect at content (eps_start (pixels_across at) (pixels_down at) dark light) ++ eps_end

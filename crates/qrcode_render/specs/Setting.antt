@@ -41,6 +41,10 @@ square_of s = record {
   down = s.down;
 }
 
+-- where the modules of a square stand
+abbrev pub square_layout : Square → Layout
+square_layout m = layout m.count m.zone m.across m.down
+
 -- a renderer's setting of a square, with the pixels that stand for dark and light, and the quiet zone where it is switched on
 abbrev pub setting_of : {P : Type 0} → Square → P → P → ℕ → Setting P
 setting_of m dark light whole = record {

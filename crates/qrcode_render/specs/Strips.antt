@@ -1,17 +1,11 @@
--- Room for two rows of pixels, and for all.
-use Rattle.std.specs.Prelude.{◌≡◌, ℕ, ◌+◌, ◌*◌, ◌/◌, vec_len}
-use Rattle.qrcode_render.specs.Bitmap.{Bitmap}
+-- Room for two rows of pixels.
+use Rattle.std.specs.Prelude.{◌≡◌, ◌*◌, vec_len}
 use Rattle.qrcode_render.specs.Grid.{Grid, all_columns}
 use Rattle.qrcode_render.specs.declared.unicode.Strip.{Strip}
 
--- the marks of a row of cells, of two rows of pixels and of both, and room for a line of these with a newline
+-- the marks of a row of cells, of two rows of pixels and of both
 pub record IsStripOf (g : Grid) (s : Strip) : Type 0 where
   pub cells : vec_len s.cells ≡ all_columns g
   pub upper : vec_len s.upper ≡ all_columns g * g.across
   pub lower : vec_len s.lower ≡ all_columns g * g.across
   pub columns : vec_len s.columns ≡ 2 * (all_columns g * g.across)
-  pub room : s.line.room ≡ 3 * (all_columns g * g.across) + 33
-
--- room for the lines of a picture, of which each has three bytes a pixel at most, and for what is written behind them
-abbrev pub lines_room : Bitmap → ℕ
-lines_room b = (b.down + 1) / 2 * (3 * b.across + 33)

@@ -1,40 +1,55 @@
 //! Cells in rows and columns, of which each shows as a rectangle of pixels.
 
-ghost use Rattle.std.specs.Prelude.{◌≡◌, ◌+◌, ◌-◌, ◌*◌, ◌^◌, ◌<◌, ◌≤◌, length};
-ghost use Rattle.std.specs.List.{slice_range};
-ghost use Rattle.qrcode_render.specs.Bitmap.{marked_line};
-ghost use Rattle.qrcode_render.specs.Grid.{cell_row, all_columns, all_rows};
+ghost use Rattle.std.specs.Prelude.{◌≡◌, ◌+◌, ◌-◌, ◌*◌, ◌/◌, ◌^◌, ◌<◌, ◌≤◌, false, length, map, slice_index_or};
+ghost use Rattle.std.specs.List.{range_with_len, slice_range};
+ghost use Rattle.qrcode_types.specs.Colors.{is_dark};
+ghost use Rattle.qrcode_render.specs.Bitmap.{marked_line, row_of};
+ghost use Rattle.qrcode_render.specs.Grid.{all_columns, all_rows, cell_row, pixels_of};
 ghost use Rattle.qrcode_render.specs.Shades.{colors_of, shown};
 
-use crate::marks::{is_dark, mark_bytes, mark_line};
 use qrcode_types::types::Color;
 use std::marker::Model;
 
-// Cells whose dark ones a byte counts: the most that are seven times the 32 that are taken at once.
-const COUNTED: usize = 224;
-
-// How many of a few cells are dark.
-fn dark_in(cells: &[Color]) -> u8
-    requires { length cells.now ≤ 255 }
-    ensures { result ≤ length cells.now }
+// Whether a module is dark.
+fn is_dark(color: Color) -> bool
+    ensures { result ≡ is_dark color }
 {
-    let mut count = 0u8;
-    for color in cells {
-        count += u8::from(is_dark(*color));
+    match color {
+        Color::Light => false,
+        Color::Dark => true,
     }
-    count
 }
 
-// How many of a few bytes are not zero.
-fn set_in(bytes: &[u8]) -> u8
-    requires { length bytes.now ≤ 255 }
-    ensures { result ≤ length bytes.now }
+// Marks which modules of a row are dark, from a place on.
+fn mark_line(marks: &mut [bool], start: usize, line: &[Color])
+    requires { start + length line.now ≤ length marks.old }
+    ensures { marks.new ≡ marked_line start line.now marks.old }
 {
-    let mut count = 0u8;
-    for byte in bytes {
-        count += u8::from(*byte != 0);
+    for (i, color) in line.iter().enumerate() {
+        marks[start + i] = is_dark(*color);
     }
-    count
+}
+
+// The same of a row of bytes, of which those that are not zero are dark.
+fn mark_bytes(marks: &mut [bool], start: usize, line: &[u8])
+    requires { start + length line.now ≤ length marks.old }
+    ensures { marks.new ≡ marked_line start (colors_of line.now) marks.old }
+{
+    for (i, byte) in line.iter().enumerate() {
+        marks[start + i] = *byte != 0;
+    }
+}
+
+// Marks each pixel of which the cell is marked.
+fn widen(cells: &[bool], across: usize, marks: &mut [bool])
+    requires at_least { 1 ≤ across }
+    requires length { length marks.old ≡ length cells.now * across }
+    ensures { marks.new ≡ map (λ x. slice_index_or cells.now (x / across) false)
+        (range_with_len 0 (length cells.now * across)) }
+{
+    for x in 0..marks.len() {
+        marks[x] = cells[x / across];
+    }
 }
 
 // Cells as colours, or as bytes, of which those that are not zero are dark.
@@ -45,29 +60,6 @@ enum Shades<'a> {
 }
 
 impl<'a> Shades<'a> {
-    // How many cells there are.
-    fn len(&self) -> usize
-        ensures { result ≡ length (shown self.now) }
-    {
-        match *self {
-            Shades::Colors(colors) => colors.len(),
-            Shades::Bytes(bytes) => bytes.len(),
-        }
-    }
-
-    // How many of a few cells, from a first one up to an end, are dark.
-    fn dark_in(&self, first: usize, end: usize) -> u8
-        requires order { first ≤ end }
-        requires inside { end ≤ length (shown self.now) }
-        requires at_most { end - first ≤ 255 }
-        ensures { result ≤ end - first }
-    {
-        match *self {
-            Shades::Colors(colors) => dark_in(&colors[first..end]),
-            Shades::Bytes(bytes) => set_in(&bytes[first..end]),
-        }
-    }
-
     // Marks which of some cells are dark, from a place on.
     fn mark(&self, first: usize, end: usize, marks: &mut [bool], start: usize)
         requires order { first ≤ end }
@@ -228,31 +220,22 @@ impl<'a> Grid<'a> {
         }
     }
 
-    // How many cells are dark.
-    pub(crate) fn dark_count(&self) -> usize {
-        let all = self.cells.len();
-        let parts = all / COUNTED;
-        let mut count = 0;
-        for i in 0..parts {
-            let first = COUNTED * i;
-            count += usize::from(self.cells.dark_in(first, first + COUNTED));
+    /// Marks the dark pixels of a row. `cells` is room for the marks of its cells.
+    pub fn mark_pixels(&self, y: u32, cells: &mut [bool], marks: &mut [bool])
+        requires inside { y < all_rows self.now * self.now.down }
+        requires cells { length cells.old ≡ all_columns self.now }
+        requires pixels { length marks.old ≡ all_columns self.now * self.now.across }
+        ensures value { marks.new ≡ row_of (pixels_of self.now) y }
+        ensures cells { length cells.new ≡ length cells.old }
+        ensures pixels { length marks.new ≡ length marks.old }
+    {
+        let (across, down) = self.cell();
+        let row = (y / down) as usize;
+        if across == 1 {
+            self.mark_row(row, marks);
+        } else {
+            self.mark_row(row, cells);
+            widen(cells, across as usize, marks);
         }
-        count + usize::from(self.cells.dark_in(COUNTED * parts, all))
-    }
-
-    /// The bytes of all pixels, of which dark and light ones have so many and each row so many more,
-    /// or None where they cannot be counted.
-    pub fn room(&self, dark: usize, light: usize, end: usize) -> Option<usize> {
-        let (width, height) = self.pixels();
-        let all = width as usize * height as usize;
-        let marked = self
-            .dark_count()
-            .saturating_mul(self.across as usize)
-            .saturating_mul(self.down as usize)
-            .min(all);
-        marked
-            .checked_mul(dark)?
-            .checked_add((all - marked).checked_mul(light)?)?
-            .checked_add(end.checked_mul(height as usize)?)
     }
 }

@@ -11,7 +11,7 @@ use crate::Pixel;
 use crate::grid::Grid;
 use crate::page::{Finish, Page};
 use crate::rows::push_rows;
-use qrcode_types::types::{Color, QrError, QrResult};
+use qrcode_types::types::{Color, QrResult};
 use std::alloc::Global;
 use std::marker::PhantomData;
 
@@ -168,12 +168,8 @@ impl<P: Channels> Finish<P> for Rows {
 
     fn image(alloc: Global, grid: &Grid, dark: P, light: P) -> QrResult<ImageBuffer<P>> {
         let (width, height) = grid.pixels();
-        let (dark, light) = (dark.channels(), light.channels());
-        let room = grid
-            .room(dark.len(), light.len(), 0)
-            .ok_or(QrError::OutOfMemory)?;
-        let mut raw = Vec::with_capacity(alloc, room)?;
-        push_rows(&mut raw, grid, dark, light, &[])?;
+        let mut raw = Vec::new(alloc);
+        push_rows(&mut raw, grid, dark.channels(), light.channels(), &[])?;
         Ok(ImageBuffer {
             width,
             height,

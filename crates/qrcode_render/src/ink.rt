@@ -1,124 +1,220 @@
-//! Texts of rectangles: what a column determines of them, what the sides, and what a row does.
+//! Short texts of words and numbers, and longer ones that are put together of them.
 
-ghost use Rattle.std.specs.Prelude.{◌≡◌, ℕ, ◌+◌, ◌≤◌, ◌<◌, List, ◌∷◌, ◌++◌, length, decimal};
+ghost use Rattle.std.specs.Prelude.{◌≡◌, ◌+◌, ◌*◌, ◌^◌, ◌<◌, ◌≤◌, ◌++◌, length, take, string_bytes, IfOk, OnOk, OnErr, IsOkUnless, decimal};
 ghost use Rattle.std.specs.Str.{IsUtf8};
-ghost use Rattle.qrcode_render.specs.Strokes.{rect_text};
+ghost use Rattle.qrcode_types.specs.declared.types.QrError.TheVariants.{OutOfMemory};
+ghost use Rattle.qrcode_render.specs.Strokes.{rect_text, AreRects};
 
-use crate::stamps::{LONGEST, Line, Stamp, joined};
+use crate::stamps::{LONGEST, Line, Stamp, make_room};
+use qrcode_types::types::{Color, QrResult};
+use std::alloc::Global;
 use std::marker::Model;
 
-/// The most bytes of the text in front of a column and of that behind a column or a row.
-pub const SHORT: usize = 16;
-
-/// Two short texts: what stands in front of the text of a row, or of a column, and behind it.
+/// A text of at most 32 bytes.
 #[derive(Drop)]
-pub struct Piece<const N: usize> {
-    front: Stamp<N>,
-    back: Stamp<SHORT>,
+pub struct Word {
+    stamp: Stamp,
 }
 
-impl<const N: usize> Model for Piece<N> {
-    ghost use Rattle.std.specs.Prelude.{ℕ, ◌≤◌, List, length};
+impl Model for Word {
+    ghost use Rattle.std.specs.Prelude.{ℕ, List};
+    ghost use Rattle.std.specs.Str.{IsUtf8};
+
+    ghost Value = { List ℕ };
+
+    ghost view = { λ w. w.stamp };
+
+    ghost invariant = { λ w. ∥ IsUtf8 w.stamp ∥₁ };
+}
+
+impl Word {
+    /// A word.
+    pub fn of(text: &str) -> Word
+        requires { length text.now ≤ 32 }
+        ensures value { result ≡ text.now }
+        ensures length { length result ≡ length text.now }
+    {
+        let stamp = Stamp::new(text.as_bytes());
+        Word { stamp }
+    }
+
+    /// The word with a text behind it.
+    pub fn text(self, text: &str) -> Word
+        requires { length self + length text.now ≤ 32 }
+        ensures value { result ≡ self ++ text.now }
+        ensures length { length result ≡ length self + length text.now }
+    {
+        let mut stamp = self.stamp;
+        stamp.push(text.as_bytes());
+        Word { stamp }
+    }
+
+    /// The word with a number in decimal digits behind it.
+    #[tactic(auto, using(crate::proofs::Numbers::number_short))]
+    pub fn number(self, n: u32) -> Word
+        requires { length self + 10 ≤ 32 }
+        ensures value { result ≡ self ++ decimal n }
+        ensures at_most { length result ≤ length self + 10 }
+    {
+        let mut stamp = self.stamp;
+        stamp.push_number(n);
+        Word { stamp }
+    }
+}
+
+/// Two words of a rectangle: those of its column, or those of its row and its sides.
+#[derive(Drop)]
+pub struct Piece {
+    front: Stamp,
+    back: Stamp,
+}
+
+impl Model for Piece {
+    ghost use Rattle.std.specs.Prelude.{ℕ, List};
     ghost use Rattle.std.specs.Str.{IsUtf8};
 
     ghost Value = { List ℕ × List ℕ };
 
     ghost view = { λ p. (p.front, p.back) };
 
-    ghost invariant = { λ p. (length p.front ≤ N) × (length p.back ≤ 16)
-        × (∥ IsUtf8 p.front ∥₁) × (∥ IsUtf8 p.back ∥₁) };
+    ghost invariant = { λ p. (∥ IsUtf8 p.front ∥₁) × (∥ IsUtf8 p.back ∥₁) };
 }
 
-impl<const N: usize> Piece<N> {
-    /// Two short texts.
-    pub fn new(front: Stamp<N>, back: Stamp<SHORT>) -> Piece<N>
-        requires front_text { ∥ IsUtf8 front ∥₁ }
-        requires back_text { ∥ IsUtf8 back ∥₁ }
-        ensures front { result.0 ≡ front.entry }
-        ensures back { result.1 ≡ back }
+impl Piece {
+    /// Two words.
+    pub fn new(front: Word, back: Word) -> Piece
+        ensures { result ≡ (front, back) }
     {
-        Piece { front, back }
-    }
-
-    /// How many bytes the two texts have.
-    pub fn len(&self) -> usize {
-        self.front.len().saturating_add(self.back.len())
+        Piece {
+            front: front.stamp,
+            back: back.stamp,
+        }
     }
 }
 
-/// The texts of a column.
-pub type Column = Piece<SHORT>;
+// The most bytes of a rectangle.
+const MOST: usize = 4 * LONGEST;
 
-/// The texts of a row.
-pub type Row = Piece<LONGEST>;
-
-/// A number in decimal digits.
-pub fn number(n: u32) -> Stamp<SHORT>
-    ensures value { result ≡ decimal n }
-    ensures at_most { length result ≤ 10 }
-    ensures is_text { ∥ IsUtf8 result ∥₁ }
+// Writes a rectangle, and answers where it ends.
+#[inline(always)]
+fn write_rect(bytes: &mut [u8], at: usize, column: &Piece, row: &Piece) -> usize
+    requires { at + 128 ≤ length bytes.old }
+    ensures writes { take result bytes.new ≡ take at bytes.old ++ rect_text column.now row.now }
+    ensures inside { result ≤ at + 128 }
+    ensures length { length bytes.new ≡ length bytes.old }
+    ensures is_text { ∥ IsUtf8 (rect_text column.now row.now) ∥₁ }
 {
-    let mut text = Stamp::new(b"");
-    text.push_number(n);
-    text
+    let end = column.front.write(bytes, at);
+    let end = row.front.write(bytes, end);
+    let end = column.back.write(bytes, end);
+    row.back.write(bytes, end)
 }
 
-/// The text of two sides, which stands behind the number of each row.
+// Writes the rectangles of the dark modules of a row, and answers where they end.
+fn write_rects(
+    bytes: &mut [u8],
+    at: usize,
+    columns: &[Piece],
+    row: &Piece,
+    content: &[Color],
+) -> usize
+    requires columns { length content.now ≤ length columns.now }
+    requires room { at + length content.now * 128 ≤ length bytes.old }
+    ensures writes { AreRects columns.now row.now content.now
+        (take at bytes.old) (take result bytes.new) }
+    ensures inside { result ≤ length bytes.new }
+    ensures length { length bytes.new ≡ length bytes.old }
+    ensures is_text { ∥ IsUtf8 (take at bytes.old) ∥₁ → ∥ IsUtf8 (take result bytes.new) ∥₁ }
+{
+    let mut end = at;
+    for (i, color) in content.iter().enumerate() {
+        match color {
+            Color::Light => {}
+            Color::Dark => end = write_rect(bytes, end, &columns[i], row),
+        }
+    }
+    end
+}
+
+/// A text that is put together. A text or a number that is refused, with `OutOfMemory` alone, leaves it
+/// as it was.
 #[derive(Drop)]
-pub struct Sides {
-    text: Stamp<LONGEST>,
+pub struct Script {
+    line: Line,
 }
 
-impl Model for Sides {
-    ghost use Rattle.std.specs.Prelude.{ℕ, ◌≤◌, List, length};
+impl Model for Script {
+    ghost use Rattle.std.specs.Prelude.{ℕ, List};
     ghost use Rattle.std.specs.Str.{IsUtf8};
 
     ghost Value = { List ℕ };
 
-    ghost view = { λ s. s.text };
+    ghost view = { λ s. s.line };
 
-    ghost invariant = { λ s. (length s.text ≤ 22) × (∥ IsUtf8 s.text ∥₁) };
+    ghost invariant = { λ s. ∥ IsUtf8 s.line ∥₁ };
 }
 
-impl Sides {
-    /// A width and a height, each behind a byte of ASCII.
-    pub fn new(before: u8, width: u32, between: u8, height: u32) -> Sides
-        requires before { before < 128 }
-        requires between { between < 128 }
-        ensures { result ≡ before ∷ (decimal width ++ (between ∷ decimal height)) }
+impl Script {
+    /// A text that begins with another. Refuses with `OutOfMemory` alone.
+    pub fn of(alloc: Global, text: &str) -> QrResult<Script>
+        ensures value { IfOk result (λ script. script ≡ text.now) }
+        ensures memory { IsOkUnless result OutOfMemory }
     {
-        let mut text = Stamp::new(&[before]);
-        text.push_number(width);
-        text.push(&[between]);
-        text.push_number(height);
-        Sides { text }
+        let line = Line::of(Vec::from_slice(alloc, text.as_bytes())?);
+        Ok(Script { line })
     }
 
-    /// A number with the sides behind it.
-    pub fn behind(&self, number: &Stamp<SHORT>) -> Stamp<LONGEST>
-        requires at_most { length number.now ≤ 10 }
-        requires is_text { ∥ IsUtf8 number.now ∥₁ }
-        ensures value { result ≡ number.now ++ self.now }
-        ensures is_text { ∥ IsUtf8 result ∥₁ }
+    /// Appends a text.
+    #[inline(always)]
+    pub fn push(&mut self, text: &str) -> QrResult<()>
+        ensures appends { OnOk result (self.new ≡ self.old ++ text.now) }
+        ensures unchanged { OnErr result (self.new ≡ self.old) }
+        ensures memory { IsOkUnless result OutOfMemory }
     {
-        joined(number, &self.text)
+        self.line.push(text.as_bytes())
     }
-}
 
-/// The most bytes of a rectangle.
-pub const MOST: usize = 3 * SHORT + LONGEST;
+    /// Appends a number in decimal digits.
+    pub fn push_number(&mut self, n: u32) -> QrResult<()>
+        ensures appends { OnOk result (self.new ≡ self.old ++ decimal n) }
+        ensures unchanged { OnErr result (self.new ≡ self.old) }
+        ensures memory { IsOkUnless result OutOfMemory }
+    {
+        self.line.push_number(n)
+    }
 
-/// Appends the text of a rectangle to a line.
-pub fn put_rect(line: &mut Line, column: &Column, row: &Row)
-    requires room { length line.old.text + 80 ≤ line.old.room }
-    ensures appends { line.new ≡ record line.old {
-      text = line.old.text ++ rect_text column.now row.now;
-    } }
-    ensures at_most { length (rect_text column.now row.now) ≤ 80 }
-    ensures is_text { ∥ IsUtf8 (rect_text column.now row.now) ∥₁ }
-{
-    line.put(&column.front);
-    line.put(&row.front);
-    line.put(&column.back);
-    line.put(&row.back);
+    /// Appends a rectangle, of the words of its column and those of its row.
+    pub fn put_rect(&mut self, column: &Piece, row: &Piece) -> QrResult<()>
+        ensures appends { OnOk result (self.new ≡ self.old ++ rect_text column.now row.now) }
+        ensures memory { IsOkUnless result OutOfMemory }
+    {
+        make_room(&mut self.line.bytes, self.line.end, MOST)?;
+        let end = write_rect(&mut self.line.bytes, self.line.end, column, row);
+        self.line.end = end;
+        Ok(())
+    }
+
+    /// Appends the rectangles of the dark modules of a row, of the words of their columns and of the row.
+    pub fn put_rects(&mut self, columns: &[Piece], row: &Piece, content: &[Color]) -> QrResult<()>
+        requires columns { length content.now ≤ length columns.now }
+        requires few { length content.now < 2 ^ 40 }
+        ensures appends { OnOk result
+            (AreRects columns.now row.now content.now self.old self.new) }
+        ensures memory { IsOkUnless result OutOfMemory }
+    {
+        make_room(&mut self.line.bytes, self.line.end, content.len() * MOST)?;
+        let end = write_rects(&mut self.line.bytes, self.line.end, columns, row, content);
+        self.line.end = end;
+        Ok(())
+    }
+
+    /// The whole text.
+    pub fn into_string(self) -> String
+        ensures { string_bytes result ≡ self }
+    {
+        let bytes = self.line.into_bytes();
+
+        // It is put together of texts.
+        unsafe { String::from_utf8_unchecked(bytes) }
+    }
 }

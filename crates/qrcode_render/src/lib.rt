@@ -4,7 +4,7 @@
 ghost use Rattle.std.specs.Prelude.{◌≡◌, ℕ, ◌+◌, ◌-◌, ◌*◌, ◌^◌, ◌<◌, ◌≤◌, length, fold, IfOk, OnOk, IsOkUnless, IsTrue};
 ghost use Rattle.qrcode_types.specs.declared.types.QrError.TheVariants.{OutOfMemory};
 ghost use Rattle.qrcode_types.specs.declared.types.Color.{Color};
-ghost use Rattle.std.specs.List.{range_with_len};
+ghost use Rattle.std.specs.List.{range_with_len, slice_range};
 ghost use Rattle.qrcode_render.specs.Drawn.{drawn, drawn_row, filled};
 ghost use Rattle.qrcode_render.specs.GridOf.{grid_of};
 ghost use Rattle.qrcode_render.specs.Layout.{layout};
@@ -15,7 +15,6 @@ use qrcode_types::types::{Color, QrResult};
 use std::alloc::Global;
 use std::marker::Model;
 
-mod buffers;
 mod cells;
 pub mod eps;
 mod fours;
@@ -23,9 +22,7 @@ pub mod grid;
 pub mod image;
 mod ink;
 pub mod laws;
-mod marks;
 pub mod page;
-mod parts;
 pub mod pbm;
 pub mod pgm;
 pub mod pic;
@@ -34,7 +31,6 @@ mod runs;
 mod setters;
 mod stamps;
 pub mod string;
-mod strips;
 mod strokes;
 pub mod svg;
 mod svg_path;
@@ -307,6 +303,16 @@ impl<'a> Modules<'a> {
         ensures { result.now ≡ self.now.content }
     {
         self.content
+    }
+
+    /// The modules of a row, counted from 0.
+    pub fn row(&self, row: u32) -> &[Color]
+        requires { row < self.now.count }
+        ensures { result.now ≡ slice_range self.now.content
+            (row * self.now.count) (row * self.now.count + self.now.count) }
+    {
+        let start = row as usize * self.count as usize;
+        &self.content[start..start + self.count as usize]
     }
 
     /// The modules along a side, and those of the quiet zone at each side.

@@ -1,20 +1,20 @@
 //! The runs of dark cells of the rows, as the subpaths of an SVG path.
 
-ghost use Rattle.std.specs.Prelude.{◌≡◌, ◌^◌, ◌<◌, ◌≤◌, ◌++◌, length, string_bytes, OnOk, IsOkUnless};
+ghost use Rattle.std.specs.Prelude.{◌≡◌, ◌+◌, ◌^◌, ◌<◌, ◌≤◌, ◌++◌, length, OnOk, IsOkUnless};
 ghost use Rattle.qrcode_types.specs.declared.types.QrError.TheVariants.{OutOfMemory};
 ghost use Rattle.qrcode_render.specs.Grid.{all_columns};
 ghost use Rattle.qrcode_render.specs.Paths.{step_text, path_from, path_text, pen_after, ended, runs_from, runs_of};
 
 use crate::grid::Grid;
+use crate::ink::Script;
 use qrcode_types::types::QrResult;
-use std::fmt::Write;
 use std::marker::Model;
 
 // Where the pen stands: the column and the row at whose upper left corner.
 #[derive(Drop)]
 struct Pen {
-    column: usize,
-    row: usize,
+    column: u32,
+    row: u32,
 }
 
 impl Model for Pen {
@@ -26,25 +26,27 @@ impl Model for Pen {
 }
 
 // Appends how far it is from one number to another, forward behind one text, or back behind another.
-fn push_step(text: &mut String, forward: &str, back: &str, from: usize, to: usize) -> QrResult<()>
+#[inline(always)]
+fn push_step(text: &mut Script, forward: &str, back: &str, from: u32, to: u32) -> QrResult<()>
     ensures appends { OnOk result
-        (string_bytes text.new ≡ string_bytes text.old ++ step_text forward.now back.now from to) }
+        (text.new ≡ text.old ++ step_text forward.now back.now from to) }
     ensures memory { IsOkUnless result OutOfMemory }
 {
     if from <= to {
-        write!(text, "{forward}{}", to - from)?;
+        text.push(forward)?;
+        text.push_number(to - from)
     } else {
-        write!(text, "{back}{}", from - to)?;
+        text.push(back)?;
+        text.push_number(from - to)
     }
-    Ok(())
 }
 
 // Appends the run of so many cells that ends before a column, where there are some.
-fn push_run(text: &mut String, pen: &mut Pen, top: usize, end: usize, width: usize) -> QrResult<()>
+fn push_run(text: &mut Script, pen: &mut Pen, top: u32, end: u32, width: u32) -> QrResult<()>
     requires width_at_most { width ≤ end }
-    requires row_at_most { top < 2 ^ 32 }
-    ensures appends { OnOk result (string_bytes text.new
-        ≡ string_bytes text.old ++ path_from pen.old (ended top end width)) }
+    requires row_fits { top + 1 < 2 ^ 32 }
+    ensures appends { OnOk result (text.new
+        ≡ text.old ++ path_from pen.old (ended top end width)) }
     ensures pen { OnOk result (pen.new ≡ pen_after pen.old (ended top end width)) }
     ensures memory { IsOkUnless result OutOfMemory }
 {
@@ -52,7 +54,10 @@ fn push_run(text: &mut String, pen: &mut Pen, top: usize, end: usize, width: usi
         let left = end - width;
         push_step(text, "m", "m-", pen.column, left)?;
         push_step(text, " ", "-", pen.row, top)?;
-        write!(text, "h{width}v1h-{width}")?;
+        text.push("h")?;
+        text.push_number(width)?;
+        text.push("v1h-")?;
+        text.push_number(width)?;
         pen.column = left;
         pen.row = top + 1;
     }
@@ -60,10 +65,11 @@ fn push_run(text: &mut String, pen: &mut Pen, top: usize, end: usize, width: usi
 }
 
 // Appends the runs of the marks of a row.
-fn push_row(text: &mut String, pen: &mut Pen, marks: &[bool], top: usize) -> QrResult<()>
-    requires row_at_most { top < 2 ^ 32 }
-    ensures appends { OnOk result (string_bytes text.new
-        ≡ string_bytes text.old ++ path_from pen.old (runs_from top 0 0 marks.now)) }
+fn push_row(text: &mut Script, pen: &mut Pen, marks: &[bool], top: u32) -> QrResult<()>
+    requires columns_fit { length marks.now < 2 ^ 32 }
+    requires row_fits { top + 1 < 2 ^ 32 }
+    ensures appends { OnOk result (text.new
+        ≡ text.old ++ path_from pen.old (runs_from top 0 0 marks.now)) }
     ensures pen { OnOk result (pen.new ≡ pen_after pen.old (runs_from top 0 0 marks.now)) }
     ensures memory { IsOkUnless result OutOfMemory }
 {
@@ -72,25 +78,24 @@ fn push_row(text: &mut String, pen: &mut Pen, marks: &[bool], top: usize) -> QrR
         if marks[column] {
             width += 1;
         } else {
-            push_run(text, pen, top, column, width)?;
+            push_run(text, pen, top, column as u32, width)?;
             width = 0;
         }
     }
-    push_run(text, pen, top, marks.len(), width)
+    push_run(text, pen, top, marks.len() as u32, width)
 }
 
 /// Appends the runs of all rows, by marks of a row to write into. Refuses with `OutOfMemory` alone.
-pub fn push_runs(text: &mut String, grid: &Grid, marks: &mut [bool]) -> QrResult<()>
+pub fn push_runs(text: &mut Script, grid: &Grid, marks: &mut [bool]) -> QrResult<()>
     requires length { length marks.old ≡ all_columns grid.now }
-    ensures appends { OnOk result
-        (string_bytes text.new ≡ string_bytes text.old ++ path_text (runs_of grid.now)) }
+    ensures appends { OnOk result (text.new ≡ text.old ++ path_text (runs_of grid.now)) }
     ensures memory { IsOkUnless result OutOfMemory }
 {
     let mut pen = Pen { column: 0, row: 0 };
     let (_, rows) = grid.sides();
     for row in 0..rows {
         grid.mark_row(row, marks);
-        push_row(text, &mut pen, marks, row)?;
+        push_row(text, &mut pen, marks, row as u32)?;
     }
     Ok(())
 }

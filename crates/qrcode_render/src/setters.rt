@@ -1,8 +1,10 @@
-//! What a renderer draws: its colours, its quiet zone and the sizes of its modules.
+//! What a renderer is set to: its colours, its quiet zone and the sizes of its modules.
 
 ghost use Rattle.std.specs.Prelude.{◌≡◌, ◌+◌, ◌-◌, ◌*◌, ◌^◌, ◌<◌, ◌≤◌, IsTrue, max, if◌then◌else◌};
-ghost use Rattle.qrcode_render.specs.Setting.{side_of, fits, least_size, greatest_size, IsLeastSize, IsGreatestSize};
+ghost use Rattle.qrcode_render.specs.Grid.{pixels_of};
+ghost use Rattle.qrcode_render.specs.Setting.{side_of, fits, picture_of, least_size, greatest_size, IsLeastSize, IsGreatestSize};
 
+use crate::grid::Grid;
 use crate::{Pixel, Renderer};
 
 impl<'a, P: Pixel> Renderer<'a, P> {
@@ -166,5 +168,28 @@ impl<'a, P: Pixel> Renderer<'a, P> {
         side < 1 << 32
             && side * (self.module_width as u64) < 1 << 32
             && side * (self.module_height as u64) < 1 << 32
+    }
+
+    /// The modules as cells, with the quiet zone where it is on.
+    pub fn grid(&self) -> Grid
+        requires { IsTrue (fits self.now) }
+        ensures { pixels_of result ≡ picture_of self.now }
+    {
+        Grid::new(
+            self.content,
+            self.modules_count,
+            self.modules_count,
+            self.quiet_zone,
+            self.module_width,
+            self.module_height,
+        )
+    }
+
+    /// What stands for dark and for light.
+    pub fn colors(&self) -> (P, P)
+        ensures dark { result.0 ≡ self.now.dark }
+        ensures light { result.1 ≡ self.now.light }
+    {
+        (self.dark_color, self.light_color)
     }
 }

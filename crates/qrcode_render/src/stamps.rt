@@ -1,6 +1,6 @@
-//! Short texts that are written with the bytes behind them, into a line with room for these.
+//! Texts that are put together of short ones, each of which is written with the bytes behind it.
 
-ghost use Rattle.std.specs.Prelude.{◌≡◌, ℕ, ◌+◌, ◌-◌, ◌≤◌, ◌<◌, List, [], ◌++◌, length, take, drop, vec_len, IfOk, OnOk, IsOkUnless, decimal};
+ghost use Rattle.std.specs.Prelude.{◌≡◌, ◌+◌, ◌-◌, ◌≤◌, ◌<◌, [], ◌++◌, length, take, vec_len, OnOk, OnErr, IsOkUnless, decimal};
 ghost use Rattle.qrcode_types.specs.declared.types.QrError.TheVariants.{OutOfMemory};
 
 use qrcode_types::types::{QrError, QrResult};
@@ -8,15 +8,14 @@ use std::alloc::Global;
 use std::marker::Model;
 use std::simd::Simd;
 
-/// The most bytes of a stamp, and the room behind a line: what is written past the end of a text is
-/// overwritten by the next one.
+/// The most bytes of a stamp. What is written past the end of a text is overwritten by the next one.
 pub const LONGEST: usize = 32;
 
 // Writes a text, and answers where it ends.
-pub(crate) fn put_text(bytes: &mut [u8], at: usize, text: &[u8]) -> usize
+#[inline(always)]
+fn put_text(bytes: &mut [u8], at: usize, text: &[u8]) -> usize
     requires { at + length text.now ≤ length bytes.old }
     ensures writes { take result bytes.new ≡ take at bytes.old ++ text.now }
-    ensures unchanged { drop result bytes.new ≡ drop result bytes.old }
     ensures end { result ≡ at + length text.now }
     ensures length { length bytes.new ≡ length bytes.old }
 {
@@ -41,31 +40,31 @@ fn put_number(bytes: &mut [u8], at: usize, n: u32) -> usize
     place + 1
 }
 
-/// A text of at most `N` bytes, with bytes behind it that are written too, so that all are copied at
+/// A text of at most 32 bytes, with bytes behind it that are written too, so that all are copied at
 /// once.
 #[derive(Drop)]
-pub struct Stamp<const N: usize> {
-    start: [u8; N],
+pub struct Stamp {
+    start: [u8; LONGEST],
     len: usize,
 }
 
-impl<const N: usize> Model for Stamp<N> {
+impl Model for Stamp {
     ghost use Rattle.std.specs.Prelude.{ℕ, ◌≤◌, List, take};
 
     ghost Value = { List ℕ };
 
     ghost view = { λ s. take s.len s.start };
 
-    ghost invariant = { λ s. s.len ≤ N };
+    ghost invariant = { λ s. s.len ≤ 32 };
 }
 
-impl<const N: usize> Stamp<N> {
+impl Stamp {
     /// The stamp of a text.
-    pub fn new(text: &[u8]) -> Stamp<N>
-        requires { length text.now ≤ N }
+    pub fn new(text: &[u8]) -> Stamp
+        requires { length text.now ≤ 32 }
         ensures { result ≡ text.now }
     {
-        let mut start = [0; N];
+        let mut start = [0; LONGEST];
         start[..text.len()].copy_from_slice(text);
         Stamp {
             start,
@@ -74,18 +73,18 @@ impl<const N: usize> Stamp<N> {
     }
 
     /// The stamp of a text and another behind it.
-    pub fn and(&self, other: &Stamp<N>) -> Stamp<N>
-        requires { length self.now + length other.now ≤ N }
+    pub fn and(&self, other: &Stamp) -> Stamp
+        requires { length self.now + length other.now ≤ 32 }
         ensures { result ≡ self.now ++ other.now }
     {
         let mut start = self.start;
-        let end = put_text(&mut start, self.len, &other.start[..other.len]);
-        Stamp { start, len: end }
+        let len = put_text(&mut start, self.len, &other.start[..other.len]);
+        Stamp { start, len }
     }
 
     /// Appends a text.
     pub fn push(&mut self, text: &[u8])
-        requires { length self.old + length text.now ≤ N }
+        requires { length self.old + length text.now ≤ 32 }
         ensures { self.new ≡ self.old ++ text.now }
     {
         self.len = put_text(&mut self.start, self.len, text);
@@ -93,120 +92,124 @@ impl<const N: usize> Stamp<N> {
 
     /// Appends a number in decimal digits.
     pub fn push_number(&mut self, n: u32)
-        requires { length self.old + length (decimal n) ≤ N }
+        requires { length self.old + length (decimal n) ≤ 32 }
         ensures { self.new ≡ self.old ++ decimal n }
     {
         self.len = put_number(&mut self.start, self.len, n);
     }
 
-    /// How many bytes the text has.
-    pub fn len(&self) -> usize
-        ensures value { result ≡ length self.now }
-        ensures at_most { result ≤ N }
-    {
-        self.len
-    }
-
-    // Writes the text and the bytes behind it, and answers where the text ends.
-    fn write(&self, bytes: &mut [u8], at: usize) -> usize
-        requires { at + N ≤ length bytes.old }
+    /// Writes the text and the bytes behind it, and answers where the text ends.
+    pub fn write(&self, bytes: &mut [u8], at: usize) -> usize
+        requires { at + 32 ≤ length bytes.old }
         ensures writes { take result bytes.new ≡ take at bytes.old ++ self.now }
         ensures end { result ≡ at + length self.now }
+        ensures at_most { length self.now ≤ 32 }
         ensures length { length bytes.new ≡ length bytes.old }
     {
-        Simd::<u8, N>::from_slice(&self.start).copy_to_slice(&mut bytes[at..]);
+        Simd::<u8, LONGEST>::from_slice(&self.start).copy_to_slice(&mut bytes[at..]);
         at + self.len
     }
 }
 
-/// A short text and another behind it, copied at once.
-pub fn joined(first: &Stamp<16>, second: &Stamp<LONGEST>) -> Stamp<LONGEST>
-    requires { length first.now + length second.now ≤ 32 }
-    ensures { result ≡ first.now ++ second.now }
+// Grows bytes, of which those up to an end are kept, to hold so many more behind these.
+fn grow(bytes: &mut Vec<u8>, end: usize, count: usize) -> QrResult<()>
+    requires { end ≤ vec_len bytes.old }
+    ensures keeps { take end bytes.new.items ≡ take end bytes.old.items }
+    ensures inside { end ≤ vec_len bytes.new }
+    ensures room { OnOk result (end + count ≤ vec_len bytes.new) }
+    ensures memory { IsOkUnless result OutOfMemory }
 {
-    let mut wide = [0; 2 * LONGEST];
-    let end = first.write(&mut wide, 0);
-    let end = second.write(&mut wide, end);
-    let mut start = [0; LONGEST];
-    start.copy_from_slice(&wide[..LONGEST]);
-    Stamp { start, len: end }
+    let least = end.checked_add(count).ok_or(QrError::OutOfMemory)?;
+    let len = bytes.len().saturating_mul(2).max(least);
+    bytes.resize(len, 0)?;
+    Ok(())
 }
 
-/// A text that is written into room taken before. The room is kept for the next text.
+/// Makes room for so many bytes behind those up to an end, which are kept.
+#[inline(always)]
+pub fn make_room(bytes: &mut Vec<u8>, end: usize, count: usize) -> QrResult<()>
+    requires { end ≤ vec_len bytes.old }
+    ensures keeps { take end bytes.new.items ≡ take end bytes.old.items }
+    ensures inside { end ≤ vec_len bytes.new }
+    ensures room { OnOk result (end + count ≤ vec_len bytes.new) }
+    ensures memory { IsOkUnless result OutOfMemory }
+{
+    if bytes.len() - end < count {
+        return grow(bytes, end, count);
+    }
+    Ok(())
+}
+
+/// A text that grows. A step that refuses, with `OutOfMemory` alone, leaves it as it was.
 #[derive(Drop)]
 pub struct Line {
-    bytes: Vec<u8>,
-    end: usize,
+    pub(crate) bytes: Vec<u8>,
+    pub(crate) end: usize,
 }
 
 impl Model for Line {
-    ghost use Rattle.std.specs.Prelude.{◌≤◌, take, vec_len};
-    ghost use Rattle.qrcode_render.specs.LineOf.{Written};
+    ghost use Rattle.std.specs.Prelude.{ℕ, ◌≤◌, List, take, vec_len};
 
-    ghost Value = { Written };
+    ghost Value = { List ℕ };
 
-    ghost view = { λ l. record { text = take l.end l.bytes.items; room = vec_len l.bytes } };
+    ghost view = { λ l. take l.end l.bytes.items };
 
     ghost invariant = { λ l. l.end ≤ vec_len l.bytes };
 }
 
 impl Line {
-    /// An empty text with so much room, and some behind it. Refuses with `OutOfMemory` alone.
-    pub fn new(alloc: Global, room: usize) -> QrResult<Line>
-        ensures empty { IfOk result (λ line. line.text ≡ []) }
-        ensures room { IfOk result (λ line. line.room ≡ room + 32) }
-        ensures memory { IsOkUnless result OutOfMemory }
+    /// The text of bytes.
+    pub fn of(bytes: Vec<u8>) -> Line
+        ensures { result ≡ bytes.items }
     {
-        let whole = room.checked_add(LONGEST).ok_or(QrError::OutOfMemory)?;
-        let bytes = vec![in alloc; 0; whole]?;
-        Ok(Line { bytes, end: 0 })
+        let end = bytes.len();
+        Line { bytes, end }
     }
 
     /// Empties the text.
     pub fn clear(&mut self)
-        ensures { self.new ≡ record self.old { text = [] } }
+        ensures { self.new ≡ [] }
     {
         self.end = 0;
     }
 
-    /// Appends a stamp.
-    pub fn put<const N: usize>(&mut self, stamp: &Stamp<N>)
-        requires { length self.old.text + N ≤ self.old.room }
-        ensures { self.new ≡ record self.old { text = self.old.text ++ stamp.now } }
+    /// Appends a text of any length. Within its callers, where most texts have a known length.
+    #[inline(always)]
+    pub fn push(&mut self, text: &[u8]) -> QrResult<()>
+        ensures appends { OnOk result (self.new ≡ self.old ++ text.now) }
+        ensures unchanged { OnErr result (self.new ≡ self.old) }
+        ensures memory { IsOkUnless result OutOfMemory }
     {
-        self.end = stamp.write(&mut self.bytes, self.end);
+        make_room(&mut self.bytes, self.end, text.len())?;
+        self.end = put_text(&mut self.bytes, self.end, text);
+        Ok(())
     }
 
-    /// Appends a text of any length. One byte is stored without a call.
-    pub fn push(&mut self, text: &[u8])
-        requires { length self.old.text + length text.now + 32 ≤ self.old.room }
-        ensures { self.new ≡ record self.old { text = self.old.text ++ text.now } }
+    /// Appends a number in decimal digits.
+    #[tactic(auto, using(crate::proofs::Numbers::number_short))]
+    pub fn push_number(&mut self, n: u32) -> QrResult<()>
+        ensures appends { OnOk result (self.new ≡ self.old ++ decimal n) }
+        ensures unchanged { OnErr result (self.new ≡ self.old) }
+        ensures memory { IsOkUnless result OutOfMemory }
     {
-        self.end = match text {
-            [byte] => put_text(&mut self.bytes, self.end, &[*byte]),
-            _ => put_text(&mut self.bytes, self.end, text),
-        };
-    }
-
-    /// How many bytes the text has.
-    pub fn len(&self) -> usize
-        ensures { result ≡ length self.now.text }
-    {
-        self.end
-    }
-
-    /// How many bytes may be appended.
-    pub fn free(&self) -> usize
-        ensures { result ≡ self.now.room - (length self.now.text + 32) }
-    {
-        (self.bytes.len() - self.end).saturating_sub(LONGEST)
+        make_room(&mut self.bytes, self.end, LONGEST)?;
+        self.end = put_number(&mut self.bytes, self.end, n);
+        Ok(())
     }
 
     /// The text.
     pub fn as_slice(&self) -> &[u8]
-        ensures value { result.now ≡ self.now.text }
-        ensures at_most { length result.now ≤ self.now.room }
+        ensures { result.now ≡ self.now }
     {
         &self.bytes[..self.end]
+    }
+
+    /// The bytes of the text.
+    pub fn into_bytes(self) -> Vec<u8>
+        ensures { result.items ≡ self }
+    {
+        let Line { mut bytes, end } = self;
+        bytes.truncate(end);
+        bytes
     }
 }

@@ -12,7 +12,7 @@ use crate::Pixel;
 use crate::grid::Grid;
 use crate::page::{Finish, Page};
 use crate::rows::push_rows;
-use qrcode_types::types::{Color, QrError, QrResult};
+use qrcode_types::types::{Color, QrResult};
 use std::alloc::Global;
 
 /// What stands for a pixel in a text.
@@ -65,9 +65,7 @@ impl<'a> Element for Str<'a> {
 
     ghost is_default = { λ c element. element.0.now ≡ select_of c (0xe2 ∷ 0x96 ∷ 0x88 ∷ []) (32 ∷ []) };
 
-    fn default_color(color: Color) -> Str<'a>
-        ensures { result.0.now ≡ select_of color (0xe2 ∷ 0x96 ∷ 0x88 ∷ []) (32 ∷ []) }
-    {
+    fn default_color(color: Color) -> Str<'a> {
         Str(color.select("\u{2588}", " "))
     }
 
@@ -119,9 +117,7 @@ impl<'a> Pixel for Str<'a> {
         (1, 1)
     }
 
-    fn default_color(color: Color) -> Str<'a>
-        ensures { result.0.now ≡ select_of color (0xe2 ∷ 0x96 ∷ 0x88 ∷ []) (32 ∷ []) }
-    {
+    fn default_color(color: Color) -> Str<'a> {
         <Str as Element>::default_color(color)
     }
 }
@@ -169,10 +165,7 @@ fn lines_of(alloc: Global, grid: &Grid, dark: &str, light: &str) -> QrResult<Str
         string_bytes text ≡ text_of dark.now light.now (pixels_of grid.now)) }
     ensures memory { IsOkUnless result OutOfMemory }
 {
-    let room = grid
-        .room(dark.len(), light.len(), 1)
-        .ok_or(QrError::OutOfMemory)?;
-    let mut raw = Vec::with_capacity(alloc, room)?;
+    let mut raw = Vec::new(alloc);
     push_rows(&mut raw, grid, dark.as_bytes(), light.as_bytes(), b"\n")?;
     raw.pop();
 

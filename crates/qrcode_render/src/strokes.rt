@@ -1,46 +1,154 @@
-//! Texts of rectangles, put together of kept texts: those that a column determines, that of the sides,
-//! and those that a row and the text of the sides determine.
+//! Vector formats: a text for each dark rectangle, between a head and a tail.
 
-ghost use Rattle.std.specs.Prelude.{◌≡◌, ℕ, ◌+◌, ◌*◌, ◌^◌, ◌<◌, ◌≤◌, List, [], ◌++◌, length, take, drop, string_bytes, IfOk, IfSome, IfNone, OnOk, OnErr, IsOkUnless};
-ghost use Rattle.std.specs.Str.{IsUtf8};
+ghost use Rattle.std.specs.Prelude.{◌≡◌, ℕ, ◌+◌, ◌*◌, ◌^◌, ◌<◌, ◌≤◌, List, ◌++◌, string_bytes, IfOk, OnOk, IsOkUnless};
 ghost use Rattle.qrcode_types.specs.declared.types.QrError.TheVariants.{OutOfMemory};
-ghost use Rattle.qrcode_render.specs.Drawn.{drawn, drawn_row};
-ghost use Rattle.qrcode_render.specs.Layout.{layout};
-ghost use Rattle.qrcode_render.specs.Put.{IsPutWhere};
-ghost use Rattle.qrcode_render.specs.Strokes.{stroke, columns_from};
+ghost use Rattle.qrcode_render.specs.Drawn.{drawn};
+ghost use Rattle.qrcode_render.specs.Setting.{square_layout, drawing_of};
+ghost use Rattle.qrcode_render.specs.Strokes.{rect_text, columns_from};
 
-use crate::Modules;
-use crate::ink::{Column, MOST, Row, Sides, put_rect};
-use crate::stamps::{Line, put_text};
-use qrcode_types::types::{Color, QrError, QrResult};
+use crate::ink::{Piece, Script};
+use crate::{Canvas, Modules};
+use qrcode_types::types::QrResult;
 use std::alloc::Global;
-use std::str::from_utf8_unchecked;
+use std::marker::PhantomData;
 
-/// How a vector format writes rectangles.
-pub trait Strokes {
-    // What the column of a rectangle determines, what its sides, and what its row and the text of the
-    // sides.
+/// The texts of a vector format, of which pixels say the colours.
+pub trait Strokes<P>: Drop {
+    // What stands before the first rectangle, from the pixels across and down and the dark and the
+    // light pixel, and what stands behind the last.
+    ghost start: { ℕ → ℕ → P → P → List ℕ };
+
+    ghost end: { List ℕ };
+
+    // A rectangle behind a text.
+    ghost rect: { ℕ → ℕ → ℕ → ℕ → List ℕ → List ℕ };
+
+    // What its column determines of it, and what its row and its sides do.
     ghost column_texts: { ℕ → List ℕ × List ℕ };
 
-    ghost sides_text: { ℕ → ℕ → List ℕ };
+    ghost row_texts: { ℕ → ℕ → ℕ → List ℕ × List ℕ };
 
-    ghost row_texts: { ℕ → List ℕ → List ℕ × List ℕ };
+    /// What stands before the first rectangle. Refuses with `OutOfMemory` alone.
+    fn head(alloc: Global, width: u32, height: u32, dark: P, light: P) -> QrResult<String>
+        ensures value { IfOk result (λ text. string_bytes text ≡ start width height dark light) }
+        ensures memory { IsOkUnless result OutOfMemory };
 
-    /// The texts of a column.
-    fn column(left: u32) -> Column
+    /// What stands behind the last rectangle.
+    fn tail() -> &'static str
+        ensures { result.now ≡ end };
+
+    /// What a column determines of a rectangle.
+    fn column(left: u32) -> Piece
         ensures { result ≡ column_texts left };
 
-    /// The text of sides.
-    fn sides(width: u32, height: u32) -> Sides
-        ensures { result ≡ sides_text width height };
+    /// What a row and the sides determine of a rectangle.
+    fn row(top: u32, width: u32, height: u32) -> Piece
+        ensures { result ≡ row_texts top width height };
 
-    /// The texts of a row and the text of sides.
-    fn row(top: u32, sides: &Sides) -> Row
-        ensures { result ≡ row_texts top sides.now };
+    // A rectangle is put together of these.
+    ghost rect_is: { (left top width height : ℕ) (text : List ℕ) → rect left top width height text
+        ≡ text ++ rect_text (column_texts left) (row_texts top width height) };
 }
 
-// The texts of columns of modules of so many pixels, from a first pixel on.
-fn columns<S: Strokes>(alloc: Global, left: u32, width: u32, count: u32) -> QrResult<Vec<Column>>
+/// The text of a vector format while it is drawn.
+#[derive(Drop)]
+pub struct Plot<P, S> {
+    width: u32,
+    height: u32,
+    text: Script,
+    of: PhantomData<(P, S)>,
+    ghost width_fits: { width < 2 ^ 32 },
+    ghost height_fits: { height < 2 ^ 32 },
+}
+
+impl<P: Copy, S: Strokes<P>> Canvas for Plot<P, S> {
+    type Pixel = P;
+
+    type Image = String;
+
+    ghost Drawing = { List ℕ };
+
+    ghost shown = { λ plot. plot.text };
+
+    ghost across = { λ plot. plot.width };
+
+    ghost down = { λ plot. plot.height };
+
+    ghost start = { S.start };
+
+    ghost pixel_step = { λ x y. S.rect x y 1 1 };
+
+    ghost rect_step = { S.rect };
+
+    ghost is_end = { λ text image. string_bytes image ≡ text ++ S.end };
+
+    ghost is_picture = { λ s image. string_bytes image ≡ drawing_of S.start S.rect s ++ S.end };
+
+    ghost sides_fit = { λ plot. (plot.width_fits, plot.height_fits) };
+
+    fn new(alloc: Global, width: u32, height: u32, dark: P, light: P) -> QrResult<Self> {
+        let head = S::head(alloc, width, height, dark, light)?;
+        let text = Script::of(alloc, &head)?;
+        Ok(Plot {
+            width,
+            height,
+            text,
+            of: PhantomData,
+        })
+    }
+
+    fn draw_dark_pixel(&mut self, x: u32, y: u32) -> QrResult<()> {
+        self.text.put_rect(&S::column(x), &S::row(y, 1, 1))
+    }
+
+    fn draw_dark_rect(&mut self, left: u32, top: u32, width: u32, height: u32) -> QrResult<()> {
+        self.text
+            .put_rect(&S::column(left), &S::row(top, width, height))
+    }
+
+    fn picture(alloc: Global, modules: &Modules, dark: P, light: P) -> QrResult<String> {
+        let (width, height) = modules.pixels();
+        let head = S::head(alloc, width, height, dark, light)?;
+        let mut text = Script::of(alloc, &head)?;
+        push_modules::<P, S>(alloc, &mut text, modules)?;
+        text.push(S::tail())?;
+        Ok(text.into_string())
+    }
+
+    fn into_image(self) -> QrResult<String> {
+        let mut text = self.text;
+        text.push(S::tail())?;
+        Ok(text.into_string())
+    }
+}
+
+// Appends the rectangles of the dark modules, row by row.
+fn push_modules<P, S: Strokes<P>>(
+    alloc: Global,
+    text: &mut Script,
+    modules: &Modules,
+) -> QrResult<()>
+    ensures appends { OnOk result (text.new
+        ≡ drawn S.rect (square_layout modules.now) modules.now.content text.old) }
+    ensures memory { IsOkUnless result OutOfMemory }
+{
+    let left = modules.zone * modules.width;
+    let columns = columns::<P, S>(alloc, left, modules.width, modules.count)?;
+    for row in 0..modules.count {
+        let top = (row + modules.zone) * modules.height;
+        let piece = S::row(top, modules.width, modules.height);
+        text.put_rects(&columns, &piece, modules.row(row))?;
+    }
+    Ok(())
+}
+
+// What the columns of modules of so many pixels determine, from a first pixel on.
+fn columns<P, S: Strokes<P>>(
+    alloc: Global,
+    left: u32,
+    width: u32,
+    count: u32,
+) -> QrResult<Vec<Piece>>
     requires { left + count * width < 2 ^ 32 }
     ensures value { IfOk result (λ v. v.items ≡ columns_from S.column_texts left width count) }
     ensures memory { IsOkUnless result OutOfMemory }
@@ -50,216 +158,4 @@ fn columns<S: Strokes>(alloc: Global, left: u32, width: u32, count: u32) -> QrRe
         columns.push(S::column(left + i * width))?;
     }
     Ok(columns)
-}
-
-// Writes the rectangles of the dark modules of a row into a line.
-fn write_line<S: Strokes>(
-    line: &mut Line,
-    columns: &[Column],
-    row: &Row,
-    content: &[Color],
-    left: u32,
-    top: u32,
-    width: u32,
-    height: u32,
-)
-    requires at_most { length content.now ≤ length columns.now }
-    requires columns { columns.now
-        ≡ columns_from S.column_texts left width (length columns.now) }
-    requires row { row.now ≡ S.row_texts top (S.sides_text width height) }
-    requires room { length content.now * 80 ≤ line.old.room }
-    ensures value { line.new.text ≡ drawn_row (stroke S.column_texts S.sides_text S.row_texts)
-        left top width height content.now [] }
-    ensures at_most { length line.new.text ≤ length content.now * 80 }
-    ensures room { line.new.room ≡ line.old.room }
-    ensures is_text { ∥ IsUtf8 line.new.text ∥₁ }
-{
-    let _ = (left, top, width, height);
-    line.clear();
-    for (i, color) in content.iter().enumerate() {
-        match color {
-            Color::Light => {}
-            Color::Dark => put_rect(line, &columns[i], row),
-        }
-    }
-}
-
-// Appends the rectangles of the dark modules of a square, row by row.
-fn push_rows<S: Strokes>(
-    text: &mut String,
-    line: &mut Line,
-    columns: &[Column],
-    content: &[Color],
-    count: u32,
-    zone: u32,
-    width: u32,
-    height: u32,
-) -> QrResult<()>
-    requires square { length content.now ≡ count * count }
-    requires side_fits { count + 2 * zone < 2 ^ 32 }
-    requires across { (count + 2 * zone) * width < 2 ^ 32 }
-    requires down { (count + 2 * zone) * height < 2 ^ 32 }
-    requires columns { columns.now ≡ columns_from S.column_texts (zone * width) width count }
-    requires room { count * 80 ≤ line.old.room }
-    ensures appends { OnOk result (string_bytes text.new
-        ≡ drawn (stroke S.column_texts S.sides_text S.row_texts)
-        (layout count zone width height) content.now (string_bytes text.old)) }
-    ensures memory { IsOkUnless result OutOfMemory }
-{
-    let left = zone * width;
-    let sides = S::sides(width, height);
-    for row in 0..count {
-        let start = row as usize * count as usize;
-        let cells = &content[start..start + count as usize];
-        let top = (row + zone) * height;
-        let piece = S::row(top, &sides);
-        write_line::<S>(line, columns, &piece, cells, left, top, width, height);
-        text.push_str(unsafe { from_utf8_unchecked(line.as_slice()) })?;
-    }
-    Ok(())
-}
-
-// Writes them from a place on, and answers where they end.
-fn put_rows<S: Strokes>(
-    bytes: &mut [u8],
-    at: usize,
-    line: &mut Line,
-    columns: &[Column],
-    content: &[Color],
-    count: u32,
-    zone: u32,
-    width: u32,
-    height: u32,
-) -> usize
-    requires square { length content.now ≡ count * count }
-    requires side_fits { count + 2 * zone < 2 ^ 32 }
-    requires across { (count + 2 * zone) * width < 2 ^ 32 }
-    requires down { (count + 2 * zone) * height < 2 ^ 32 }
-    requires columns { columns.now ≡ columns_from S.column_texts (zone * width) width count }
-    requires line_room { count * 80 ≤ line.old.room }
-    requires room { at + count * (count * 80) ≤ length bytes.old }
-    ensures writes { take result bytes.new ≡ drawn (stroke S.column_texts S.sides_text S.row_texts)
-        (layout count zone width height) content.now (take at bytes.old) }
-    ensures unchanged { drop result bytes.new ≡ drop result bytes.old }
-    ensures at_least { at ≤ result }
-    ensures at_most { result ≤ at + count * (count * 80) }
-    ensures length { length bytes.new ≡ length bytes.old }
-{
-    let left = zone * width;
-    let sides = S::sides(width, height);
-    let mut end = at;
-    for row in 0..count {
-        let start = row as usize * count as usize;
-        let cells = &content[start..start + count as usize];
-        let top = (row + zone) * height;
-        let piece = S::row(top, &sides);
-        write_line::<S>(line, columns, &piece, cells, left, top, width, height);
-        end = put_text(bytes, end, line.as_slice());
-    }
-    end
-}
-
-// Room for the rectangles of the dark modules, of which none has longer texts than those of the last
-// column and of the last row.
-fn room_of<S: Strokes>(columns: &[Column], modules: &Modules) -> usize {
-    let last = (modules.count + modules.zone) * modules.height;
-    let sides = S::sides(modules.width, modules.height);
-    let row = S::row(last, &sides).len();
-    let column = match columns.last() {
-        Some(column) => column.len(),
-        None => 0,
-    };
-    modules
-        .grid()
-        .dark_count()
-        .saturating_mul(row.saturating_add(column))
-}
-
-// A line with room for the rectangles of a row.
-fn row_line(alloc: Global, count: u32) -> QrResult<Line>
-    ensures room { IfOk result (λ line. count * 80 ≤ line.room) }
-    ensures memory { IsOkUnless result OutOfMemory }
-{
-    Line::new(alloc, count as usize * MOST)
-}
-
-/// Appends the rectangles of the dark modules to a text. Refuses with `OutOfMemory` alone.
-pub fn push_modules<S: Strokes>(text: String, modules: &Modules) -> QrResult<String>
-    ensures value { IfOk result (λ all. string_bytes all
-        ≡ drawn (stroke S.column_texts S.sides_text S.row_texts)
-        (layout modules.now.count modules.now.zone modules.now.across modules.now.down)
-        modules.now.content (string_bytes text)) }
-    ensures memory { IsOkUnless result OutOfMemory }
-{
-    let alloc = *text.allocator();
-    let left = modules.zone * modules.width;
-    let columns = columns::<S>(alloc, left, modules.width, modules.count)?;
-    let mut line = row_line(alloc, modules.count)?;
-    let mut text = text;
-    text.reserve(room_of::<S>(&columns, modules))?;
-    push_rows::<S>(
-        &mut text,
-        &mut line,
-        &columns,
-        modules.content,
-        modules.count,
-        modules.zone,
-        modules.width,
-        modules.height,
-    )?;
-    Ok(text)
-}
-
-// The most bytes of so many rectangles with a start and an end, where they can be counted.
-fn most_of(start: usize, modules: usize, end: usize) -> Option<usize>
-    ensures value { IfSome result (λ most. most ≡ start + modules * 80 + end) }
-    ensures uncounted { IfNone result (2 ^ 64 ≤ start + modules * 80 + end) }
-{
-    modules
-        .checked_mul(MOST)?
-        .checked_add(start)?
-        .checked_add(end)
-}
-
-/// Writes a text, the rectangles of the dark modules and an end into the beginning of a buffer, and
-/// answers how long they are; or None, where the buffer has not room for a text of 80 bytes for each
-/// module between the two. Refuses with `OutOfMemory` alone. Then, and where it answers None, the
-/// buffer is as it was.
-pub fn put_modules<S: Strokes>(
-    start: &String,
-    modules: &Modules,
-    end: &[u8],
-    bytes: &mut [u8],
-) -> QrResult<Option<usize>>
-    ensures made { IfOk result (IsPutWhere (drawn (stroke S.column_texts S.sides_text S.row_texts)
-        (layout modules.now.count modules.now.zone modules.now.across modules.now.down)
-        modules.now.content (string_bytes start.now) ++ end.now)
-        (length (string_bytes start.now) + length modules.now.content * 80 + length end.now)
-        bytes.old bytes.new) }
-    ensures unchanged { OnErr result (bytes.new ≡ bytes.old) }
-    ensures memory { IsOkUnless result OutOfMemory }
-{
-    let Some(most) = most_of(start.len(), modules.content.len(), end.len()) else {
-        return Ok(None);
-    };
-    if bytes.len() < most {
-        return Ok(None);
-    }
-    let alloc = *start.allocator();
-    let left = modules.zone * modules.width;
-    let columns = columns::<S>(alloc, left, modules.width, modules.count)?;
-    let mut line = row_line(alloc, modules.count)?;
-    let at = put_text(bytes, 0, start.as_bytes());
-    let at = put_rows::<S>(
-        bytes,
-        at,
-        &mut line,
-        &columns,
-        modules.content,
-        modules.count,
-        modules.zone,
-        modules.width,
-        modules.height,
-    );
-    Ok(Some(put_text(bytes, at, end)))
 }

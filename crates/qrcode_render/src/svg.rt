@@ -1,23 +1,16 @@
 //! Pictures as SVG.
 
 ghost use Rattle.std.proofs.Common.{rules};
-ghost use Rattle.std.specs.Prelude.{◌≡◌, ℕ, ◌+◌, ◌*◌, ◌^◌, ◌<◌, ◌++◌, List, length, string_bytes, IfOk, OnOk, OnErr, IsOkUnless, IsTrue, codes};
-ghost use Rattle.qrcode_types.specs.declared.types.QrError.TheVariants.{OutOfMemory};
+ghost use Rattle.std.specs.Prelude.{◌≡◌, codes};
 ghost use Rattle.qrcode_types.specs.Colors.{select_of};
-ghost use Rattle.qrcode_render.specs.Layout.{pixels_across, pixels_down};
-ghost use Rattle.qrcode_render.specs.Put.{IsPutWhere};
-ghost use Rattle.qrcode_render.specs.Setting.{fits, layout_of};
-ghost use Rattle.qrcode_render.specs.Vectors.{svg_start, svg_rect, svg_column, svg_sides, svg_row, svg_end, svg_text};
+ghost use Rattle.qrcode_render.specs.Svg.{svg_start, svg_rect, svg_rect-is, svg_column, svg_row, svg_end};
 
-use crate::ink::{Column, Piece, Row, Sides, number};
-use crate::stamps::Stamp;
-use crate::strokes::{Strokes, push_modules, put_modules};
+use crate::Pixel;
+use crate::ink::{Piece, Word};
+use crate::strokes::{Plot, Strokes};
 pub use crate::svg_path::{Path, PathElement};
-use crate::{Modules, Pixel, Renderer};
 use qrcode_types::types::{Color as ModuleColor, QrResult};
 use std::alloc::Global;
-use std::fmt::Write;
-use std::marker::PhantomData;
 
 /// A colour of SVG. Its text is written as it is, with no escapes.
 #[derive(Copy, Clone, Default, PartialEq, Eq, PartialOrd, Ord, Hash)]
@@ -41,170 +34,63 @@ impl<'a> Pixel for Color<'a> {
         (8, 8)
     }
 
-    fn default_color(color: ModuleColor) -> Color<'a>
-        ensures { result.0.now ≡ select_of color (codes "#000") (codes "#fff") }
-    {
+    fn default_color(color: ModuleColor) -> Color<'a> {
         Color(color.select("#000", "#fff"))
     }
 }
 
 /// An SVG text while it is drawn: a path of the dark rectangles on a light ground.
-#[derive(Drop)]
-pub struct Canvas<'a> {
-    width: u32,
-    height: u32,
-    text: String,
-    of: PhantomData<&'a str>,
-    ghost width_fits: { width < 2 ^ 32 },
-    ghost height_fits: { height < 2 ^ 32 },
-}
+pub type Canvas<'a> = Plot<Color<'a>, Paths>;
 
-// Appends the path of a rectangle.
-fn push_rect(text: &mut String, left: u32, top: u32, width: u32, height: u32) -> QrResult<()>
-    ensures appends { OnOk result (string_bytes text.new
-        ≡ svg_rect left top width height (string_bytes text.old)) }
-    ensures memory { IsOkUnless result OutOfMemory }
-{
-    write!(text, "M{left} {top}h{width}v{height}H{left}V{top}")?;
-    Ok(())
-}
+/// The texts of SVG.
+#[derive(Copy, Clone)]
+pub struct Paths;
 
-// The most bytes of what stands before the first path, but for the names of the colours.
-const LONGEST_START: usize = 280;
+impl<'a> Strokes<Color<'a>> for Paths {
+    ghost start = { λ w h dark light. svg_start w h dark.0.now light.0.now };
 
-/// Paths of rectangles, put together of the texts of columns and rows.
-struct Paths;
+    ghost end = { svg_end };
 
-impl Strokes for Paths {
+    ghost rect = { svg_rect };
+
     ghost column_texts = { svg_column };
-
-    ghost sides_text = { svg_sides };
 
     ghost row_texts = { svg_row };
 
-    #[tactic(auto, using(crate::proofs::Paths::number_short))]
-    fn column(left: u32) -> Column {
-        let mut front = Stamp::new(b"M");
-        front.push_number(left);
-        front.push(b" ");
-        let mut back = Stamp::new(b"H");
-        back.push_number(left);
-        back.push(b"V");
-        Piece::new(front, back)
-    }
+    ghost rect_is = { svg_rect-is };
 
-    fn sides(width: u32, height: u32) -> Sides {
-        Sides::new(b'h', width, b'v', height)
-    }
-
-    fn row(top: u32, sides: &Sides) -> Row {
-        let back = number(top);
-        let front = sides.behind(&back);
-        Piece::new(front, back)
-    }
-}
-
-impl<'a, 'c> Renderer<'a, Color<'c>> {
-    /// Writes the text that `build` would give into the beginning of a buffer, and answers how long it
-    /// is; or None, where the buffer has not room for its start, its end and 80 bytes for each module.
-    /// Refuses with `OutOfMemory` alone. Then, and where it answers None, the buffer is as it was.
-    #[tactic(auto, unfolding(crate::specs::Vectors::svg_text))]
-    pub fn put(&self, alloc: Global, bytes: &mut [u8]) -> QrResult<Option<usize>>
-        requires fits { IsTrue (fits self.now) }
-        ensures made { let s = self.now in let at = layout_of s in IfOk result
-            (IsPutWhere (svg_text at s.content s.dark.0.now s.light.0.now)
-            (length (svg_start (pixels_across at) (pixels_down at) s.dark.0.now s.light.0.now)
-            + length s.content * 80 + 9) bytes.old bytes.new) }
-        ensures unchanged { OnErr result (bytes.new ≡ bytes.old) }
-        ensures memory { IsOkUnless result OutOfMemory }
-    {
-        let modules = self.modules();
-        let (width, height) = modules.pixels();
-        let canvas = <Canvas as crate::Canvas>::new(
-            alloc,
-            width,
-            height,
-            self.dark_color,
-            self.light_color,
-        )?;
-        put_modules::<Paths>(&canvas.text, &modules, b"\"/></svg>", bytes)
-    }
-}
-
-impl<'a> crate::Canvas for Canvas<'a> {
-    type Pixel = Color<'a>;
-
-    type Image = String;
-
-    ghost Drawing = { List ℕ };
-
-    ghost shown = { λ canvas. string_bytes canvas.text };
-
-    ghost across = { λ canvas. canvas.width };
-
-    ghost down = { λ canvas. canvas.height };
-
-    ghost start = { λ w h dark light. svg_start w h dark.0.now light.0.now };
-
-    ghost pixel_step = { λ x y. svg_rect x y 1 1 };
-
-    ghost rect_step = { svg_rect };
-
-    ghost is_end = { λ text image. string_bytes image ≡ text ++ svg_end };
-
-    ghost is_picture = { λ s image. string_bytes image ≡ svg_text (layout_of s) s.content s.dark.0.now s.light.0.now };
-
-    ghost sides_fit = { λ canvas. (canvas.width_fits, canvas.height_fits) };
-
-    fn new(
+    fn head(
         alloc: Global,
         width: u32,
         height: u32,
-        dark_pixel: Color<'a>,
-        light_pixel: Color<'a>,
-    ) -> QrResult<Canvas<'a>> {
-        let dark = dark_pixel.0;
-        let light = light_pixel.0;
-        let names = dark.len().saturating_add(light.len());
-        let mut text = String::with_capacity(alloc, LONGEST_START.saturating_add(names))?;
-        write!(
-            text,
-            "<?xml version=\"1.0\" standalone=\"yes\"?><svg xmlns=\"http://www.w3.org/2000/svg\" version=\"1.1\" width=\"{width}\" height=\"{height}\" viewBox=\"0 0 {width} {height}\" shape-rendering=\"crispEdges\"><rect x=\"0\" y=\"0\" width=\"{width}\" height=\"{height}\" fill=\"{light}\"/><path fill=\"{dark}\" d=\""
-        )?;
-        Ok(Canvas {
-            width,
-            height,
-            text,
-            of: PhantomData,
-        })
-    }
-
-    fn draw_dark_pixel(&mut self, x: u32, y: u32) -> QrResult<()> {
-        push_rect(&mut self.text, x, y, 1, 1)
-    }
-
-    fn draw_dark_rect(&mut self, left: u32, top: u32, width: u32, height: u32) -> QrResult<()> {
-        push_rect(&mut self.text, left, top, width, height)
-    }
-
-    #[tactic(auto, unfolding(crate::specs::Vectors::svg_text))]
-    fn picture(
-        alloc: Global,
-        modules: &Modules,
-        dark_pixel: Color<'a>,
-        light_pixel: Color<'a>,
+        dark: Color<'a>,
+        light: Color<'a>,
     ) -> QrResult<String> {
-        let (width, height) = modules.pixels();
-        let canvas = Self::new(alloc, width, height, dark_pixel, light_pixel)?;
-        let mut text = push_modules::<Paths>(canvas.text, modules)?;
-        text.push_str("\"/></svg>")?;
-        Ok(text)
+        let (dark, light) = (dark.0, light.0);
+        Ok(format!(in alloc;
+            "<?xml version=\"1.0\" standalone=\"yes\"?><svg xmlns=\"http://www.w3.org/2000/svg\" version=\"1.1\" width=\"{width}\" height=\"{height}\" viewBox=\"0 0 {width} {height}\" shape-rendering=\"crispEdges\"><rect x=\"0\" y=\"0\" width=\"{width}\" height=\"{height}\" fill=\"{light}\"/><path fill=\"{dark}\" d=\""
+        )?)
     }
 
-    #[tactic(auto, unfolding(crate::specs::Vectors::svg_text))]
-    fn into_image(self) -> QrResult<String> {
-        let mut text = self.text;
-        text.push_str("\"/></svg>")?;
-        Ok(text)
+    fn tail() -> &'static str
+        ensures { result.now ≡ svg_end }
+    {
+        "\"/></svg>"
+    }
+
+    fn column(left: u32) -> Piece
+        ensures { result ≡ svg_column left }
+    {
+        Piece::new(
+            Word::of("M").number(left).text(" "),
+            Word::of("H").number(left).text("V"),
+        )
+    }
+
+    fn row(top: u32, width: u32, height: u32) -> Piece
+        ensures { result ≡ svg_row top width height }
+    {
+        let front = Word::of("").number(top).text("h").number(width);
+        Piece::new(front.text("v").number(height), Word::of("").number(top))
     }
 }

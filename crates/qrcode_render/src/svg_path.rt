@@ -9,6 +9,7 @@ ghost use Rattle.qrcode_render.specs.Paths.{attribute, path_frame, path_ground, 
 
 use crate::Pixel;
 use crate::grid::Grid;
+use crate::ink::Script;
 use crate::page::{Finish, Page};
 use crate::runs::push_runs;
 use qrcode_types::types::{Color as ModuleColor, QrResult};
@@ -42,9 +43,7 @@ impl<'a> Pixel for Path<'a> {
         (8, 8)
     }
 
-    fn default_color(color: ModuleColor) -> Path<'a>
-        ensures { result.0.now ≡ select_of color (codes "#000") (codes "#fff") }
-    {
+    fn default_color(color: ModuleColor) -> Path<'a> {
         Path(color.select("#000", "#fff"))
     }
 }
@@ -67,9 +66,7 @@ impl<'a> Pixel for PathElement<'a> {
         (8, 8)
     }
 
-    fn default_color(color: ModuleColor) -> PathElement<'a>
-        ensures { result.0.now ≡ select_of color (codes "#000") (codes "#fff") }
-    {
+    fn default_color(color: ModuleColor) -> PathElement<'a> {
         PathElement(color.select("#000", "#fff"))
     }
 }
@@ -120,44 +117,34 @@ fn with_element(text: String, grid: &Grid, dark: &str, light: &str) -> QrResult<
     let alloc = *text.allocator();
     let (width, height) = grid.pixels();
     let (columns, rows) = grid.sides();
-    push_frame(&mut text, width, height, columns, rows)?;
-    push_ground(&mut text, columns, rows)?;
+    push_head(&mut text, width, height, columns, rows)?;
     push_attribute(&mut text, light)?;
     text.push_str("\"/><path fill=\"")?;
     push_attribute(&mut text, dark)?;
     text.push_str("\" d=\"")?;
     let mut marks = vec![in alloc; false; columns]?;
-    push_runs(&mut text, grid, &mut marks)?;
-    text.push_str("\"/></svg>")?;
-    Ok(text)
+    let mut script = Script::of(alloc, &text)?;
+    push_runs(&mut script, grid, &mut marks)?;
+    script.push("\"/></svg>")?;
+    Ok(script.into_string())
 }
 
-// Appends the head of the element.
-fn push_frame(
+// Appends the head of the element and the light ground, up to its colour.
+fn push_head(
     text: &mut String,
     width: u32,
     height: u32,
     columns: usize,
     rows: usize,
 ) -> QrResult<()>
-    ensures appends { OnOk result (string_bytes text.new
-        ≡ string_bytes text.old ++ path_frame width height columns rows) }
+    ensures appends { OnOk result (string_bytes text.new ≡ string_bytes text.old
+        ++ (path_frame width height columns rows ++ path_ground columns rows)) }
     ensures memory { IsOkUnless result OutOfMemory }
 {
     write!(
         text,
-        "<svg xmlns=\"http://www.w3.org/2000/svg\" version=\"1.1\" width=\"{width}\" height=\"{height}\" viewBox=\"0 0 {columns} {rows}\" preserveAspectRatio=\"none\" shape-rendering=\"crispEdges\">"
+        "<svg xmlns=\"http://www.w3.org/2000/svg\" version=\"1.1\" width=\"{width}\" height=\"{height}\" viewBox=\"0 0 {columns} {rows}\" preserveAspectRatio=\"none\" shape-rendering=\"crispEdges\"><rect width=\"{columns}\" height=\"{rows}\" fill=\""
     )?;
-    Ok(())
-}
-
-// Appends the light ground, up to its colour.
-fn push_ground(text: &mut String, columns: usize, rows: usize) -> QrResult<()>
-    ensures appends { OnOk result
-        (string_bytes text.new ≡ string_bytes text.old ++ path_ground columns rows) }
-    ensures memory { IsOkUnless result OutOfMemory }
-{
-    write!(text, "<rect width=\"{columns}\" height=\"{rows}\" fill=\"")?;
     Ok(())
 }
 

@@ -1,24 +1,21 @@
 //! Pictures as texts of half blocks: two rows of pixels in a line.
 
 ghost use Rattle.std.proofs.Common.{rules};
-ghost use Rattle.std.specs.Prelude.{◌≡◌, ℕ, ◌+◌, ◌*◌, ◌/◌, ◌^◌, ◌<◌, ◌≤◌, Bool, [], ◌∷◌, ◌++◌, length, take, drop, map, string_bytes, IfOk, IfSome, IfNone, OnErr, IsOkUnless};
-ghost use Rattle.std.specs.List.{join_with_byte, range_with_len};
+ghost use Rattle.std.specs.Prelude.{◌≡◌, ◌+◌, ◌*◌, ◌^◌, ◌<◌, ◌≤◌, Bool, [], ◌∷◌, ◌++◌, length, string_bytes, IfOk, OnOk, IsOkUnless};
 ghost use Rattle.qrcode_types.specs.declared.types.QrError.TheVariants.{OutOfMemory};
 ghost use Rattle.qrcode_types.specs.Colors.{is_dark};
 ghost use Rattle.qrcode_render.specs.Grid.{pixels_of};
 ghost use Rattle.qrcode_render.specs.Half.{is_dark_half};
 ghost use Rattle.qrcode_render.specs.Lines.{two_text};
-ghost use Rattle.qrcode_render.specs.Put.{IsPutWhere};
-ghost use Rattle.qrcode_render.specs.Strips.{IsStripOf, lines_room};
-ghost use Rattle.qrcode_render.specs.Texts.{half_blocks, column_text, columns_text, dense_line, dense_text};
+ghost use Rattle.qrcode_render.specs.Strips.{IsStripOf};
+ghost use Rattle.qrcode_render.specs.Texts.{half_blocks, column_text, dense_line, dense_text};
 
 use crate::Pixel;
-use crate::fours::{Fours, push_columns, push_ones};
+use crate::fours::{Fours, interleave, push_ones, push_twos};
 use crate::grid::Grid;
 use crate::page::{Finish, Page};
-use crate::stamps::{LONGEST, Line, Stamp, put_text};
-use crate::strips::mark_pixels;
-use qrcode_types::types::{Color, QrError, QrResult};
+use crate::stamps::{Line, Stamp};
+use qrcode_types::types::{Color, QrResult};
 use std::alloc::Global;
 
 /// A pixel that is half a character high.
@@ -65,7 +62,8 @@ impl Pixel for Dense1x2 {
 }
 
 /// Rows of pixels while they are drawn. The picture is a line of text for every two rows, with a
-/// newline between two lines and none at the end; a last row alone stands over light pixels.
+/// newline between two lines and none at the end. Below a last row alone nothing is drawn: its lower
+/// halves stay blank, whatever light pixels look like.
 pub type Canvas1x2 = Page<Dense1x2, HalfBlocks>;
 
 /// Ends rows of pixels as half blocks.
@@ -112,7 +110,7 @@ fn half(upper: bool, lower: bool) -> &'static str
 struct Halves {
     marked: bool,
     other: bool,
-    palette: Fours<8>,
+    palette: Fours,
     ghost twos: { (upper lower : Bool) → two_text palette upper lower ≡ column_text marked other upper lower },
 }
 
@@ -136,7 +134,7 @@ impl Halves {
     }
 }
 
-// Room for the marks of a row of cells, of two rows of pixels and of both, and for the line of these.
+// Room for the marks of a row of cells, of two rows of pixels and of both, and the line of these.
 #[derive(Drop)]
 struct Strip {
     cells: Vec<bool>,
@@ -158,122 +156,39 @@ impl Strip {
             upper: vec![in alloc; false; width as usize]?,
             lower: vec![in alloc; false; width as usize]?,
             columns: vec![in alloc; false; 2 * width as usize]?,
-            line: Line::new(alloc, LONGEST_HALF * width as usize + 1)?,
+            line: Line::of(Vec::new(alloc)),
         })
     }
 
-    // Writes the line of two rows. Within its callers, for the same reason as `put_lines`.
-    #[inline(always)]
-    fn write_two(&mut self, grid: &Grid, halves: &Halves, i: u32)
+    // Writes the line of two rows, or of a last row alone, and a newline.
+    fn write(&mut self, grid: &Grid, halves: &Halves, i: u32) -> QrResult<()>
         requires fits { IsStripOf grid.now self.old }
-        requires inside { 2 * i + 1 < (pixels_of grid.now).down }
-        requires at_most { 2 * i + 1 < 2 ^ 32 }
-        ensures fits { IsStripOf grid.now self.new }
-        ensures value { self.new.line.text
-            ≡ dense_line halves.now.marked halves.now.other (pixels_of grid.now) i ++ 10 ∷ [] }
+        requires inside { 2 * i < (pixels_of grid.now).down }
+        requires at_most { 2 * i < 2 ^ 32 }
+        ensures fits { OnOk result (IsStripOf grid.now self.new) }
+        ensures value { OnOk result (self.new.line
+            ≡ dense_line halves.now.marked halves.now.other (pixels_of grid.now) i ++ 10 ∷ []) }
+        ensures memory { IsOkUnless result OutOfMemory }
     {
-        mark_pixels(grid, 2 * i, &mut self.cells, &mut self.upper);
-        mark_pixels(grid, 2 * i + 1, &mut self.cells, &mut self.lower);
+        let (_, height) = grid.pixels();
+        grid.mark_pixels(2 * i, &mut self.cells, &mut self.upper);
         self.line.clear();
-        push_columns(
-            &mut self.line,
-            &halves.palette,
-            &self.upper,
-            &self.lower,
-            &mut self.columns,
-        );
-        self.line.push(b"\n");
-    }
-
-    // Writes the line of a last row alone, in front of which so many lines stand.
-    fn write_last(&mut self, grid: &Grid, halves: &Halves, i: u32)
-        requires fits { IsStripOf grid.now self.old }
-        requires last { 2 * i + 1 ≡ (pixels_of grid.now).down }
-        requires at_most { 2 * i + 1 < 2 ^ 32 }
-        ensures fits { IsStripOf grid.now self.new }
-        ensures value { self.new.line.text
-            ≡ dense_line halves.now.marked halves.now.other (pixels_of grid.now) i ++ 10 ∷ [] }
-    {
-        mark_pixels(grid, 2 * i, &mut self.cells, &mut self.upper);
+        if 2 * i + 1 < height {
+            grid.mark_pixels(2 * i + 1, &mut self.cells, &mut self.lower);
+            interleave(&self.upper, &self.lower, &mut self.columns);
+            push_twos(&mut self.line, &halves.palette, &self.columns)?;
+            return self.line.push(b"\n");
+        }
         let dark = half(halves.marked, false);
         let light = half(halves.other, false);
-        self.line.clear();
         push_ones(
             &mut self.line,
             dark.as_bytes(),
             light.as_bytes(),
             &self.upper,
-        );
-        self.line.push(b"\n");
+        )?;
+        self.line.push(b"\n")
     }
-}
-
-// Writes the lines of cells, with a newline between two, and answers where they end. Within its callers,
-// so that places of the room stay in registers.
-#[inline(always)]
-fn put_lines(bytes: &mut [u8], grid: &Grid, halves: &Halves, strip: &mut Strip) -> usize
-    requires fits { IsStripOf grid.now strip.old }
-    requires down { 0 < (pixels_of grid.now).down }
-    requires room { lines_room (pixels_of grid.now) ≤ length bytes.old }
-    ensures writes { take result bytes.new ≡ join_with_byte 10 (map
-        (dense_line halves.now.marked halves.now.other (pixels_of grid.now))
-        (range_with_len 0 (((pixels_of grid.now).down + 1) / 2))) }
-    ensures unchanged { drop result bytes.new ≡ drop result bytes.old }
-    ensures inside { result ≤ length bytes.new }
-    ensures length { length bytes.new ≡ length bytes.old }
-{
-    let (_, height) = grid.pixels();
-    let last = (height - 1) / 2;
-    let mut end = 0;
-    for i in 0..last {
-        strip.write_two(grid, halves, i);
-        end = put_text(bytes, end, strip.line.as_slice());
-    }
-    if height % 2 == 1 {
-        strip.write_last(grid, halves, last);
-    } else {
-        strip.write_two(grid, halves, last);
-    }
-    let line = strip.line.as_slice();
-    put_text(bytes, end, &line[..line.len() - 1])
-}
-
-// The most bytes of the lines of a picture and behind them, where they can be counted.
-fn room_of(width: u32, height: u32) -> Option<usize>
-    ensures value { IfSome result (λ room. room ≡ (height + 1) / 2 * (3 * width + 33)) }
-    ensures uncounted { IfNone result (2 ^ 64 ≤ (height + 1) / 2 * (3 * width + 33)) }
-{
-    let line = LONGEST_HALF * width as usize + 1 + LONGEST;
-    (height.div_ceil(2) as usize).checked_mul(line)
-}
-
-// The lines of cells, with a newline between two, in room that is taken once. Within its callers, as
-// `put_lines`.
-#[inline(always)]
-fn made_lines(alloc: Global, grid: &Grid, halves: &Halves, strip: &mut Strip) -> QrResult<Vec<u8>>
-    requires fits { IsStripOf grid.now strip.old }
-    requires down { 0 < (pixels_of grid.now).down }
-    ensures value { IfOk result (λ lines. lines.items ≡ join_with_byte 10 (map
-        (dense_line halves.now.marked halves.now.other (pixels_of grid.now))
-        (range_with_len 0 (((pixels_of grid.now).down + 1) / 2)))) }
-    ensures memory { IsOkUnless result OutOfMemory }
-{
-    let (width, height) = grid.pixels();
-    let room = room_of(width, height).ok_or(QrError::OutOfMemory)?;
-    let mut lines = Vec::with_capacity(alloc, room)?;
-    let last = (height - 1) / 2;
-    for i in 0..last {
-        strip.write_two(grid, halves, i);
-        lines.extend_from_slice(strip.line.as_slice())?;
-    }
-    if height % 2 == 1 {
-        strip.write_last(grid, halves, last);
-    } else {
-        strip.write_two(grid, halves, last);
-    }
-    let line = strip.line.as_slice();
-    lines.extend_from_slice(&line[..line.len() - 1])?;
-    Ok(lines)
 }
 
 // The lines of cells, where marked pixels are drawn dark or not and others dark or not.
@@ -284,45 +199,18 @@ fn lines_of(alloc: Global, grid: &Grid, marked: bool, other: bool) -> QrResult<S
         string_bytes text ≡ dense_text marked other (pixels_of grid.now)) }
     ensures memory { IsOkUnless result OutOfMemory }
 {
+    let (width, height) = grid.pixels();
     let halves = Halves::new(alloc, marked, other)?;
     let mut strip = Strip::new(alloc, grid)?;
-    let lines = made_lines(alloc, grid, &halves, &mut strip)?;
+    let count = height.div_ceil(2);
+    let longest = LONGEST_HALF * width as usize + 1;
+    let mut lines = Vec::with_capacity(alloc, longest.saturating_mul(count as usize))?;
+    for i in 0..count {
+        strip.write(grid, &halves, i)?;
+        lines.extend_from_slice(strip.line.as_slice())?;
+    }
+    lines.pop();
 
     // Lines of half blocks are a text.
     Ok(unsafe { String::from_utf8_unchecked(lines) })
-}
-
-impl HalfBlocks {
-    /// Writes the text of cells into the beginning of a buffer, and answers how long it is; or None,
-    /// where the buffer has not room for any picture of so many pixels: for each two rows 3 bytes a
-    /// pixel and 33 more. Refuses with `OutOfMemory` alone. Then, and where it answers None, the buffer
-    /// is as it was.
-    #[tactic(auto, unfolding(crate::specs::Texts::dense_text))]
-    pub fn put(
-        alloc: Global,
-        grid: &Grid,
-        dark: Dense1x2,
-        light: Dense1x2,
-        bytes: &mut [u8],
-    ) -> QrResult<Option<usize>>
-        ensures made { IfOk result (IsPutWhere
-            (dense_text (is_dark_half dark) (is_dark_half light) (pixels_of grid.now))
-            (lines_room (pixels_of grid.now)) bytes.old bytes.new) }
-        ensures unchanged { OnErr result (bytes.new ≡ bytes.old) }
-        ensures memory { IsOkUnless result OutOfMemory }
-    {
-        let (width, height) = grid.pixels();
-        if width == 0 || height == 0 {
-            return Ok(Some(0));
-        }
-        let Some(room) = room_of(width, height) else {
-            return Ok(None);
-        };
-        if bytes.len() < room {
-            return Ok(None);
-        }
-        let halves = Halves::new(alloc, dark.is_dark(), light.is_dark())?;
-        let mut strip = Strip::new(alloc, grid)?;
-        Ok(Some(put_lines(bytes, grid, &halves, &mut strip)))
-    }
 }

@@ -1,11 +1,11 @@
 -- The last row and the last column of a square of Micro, in which a mask decides each place.
-use Rattle.std.proofs.Common.{◌≡◌, ℕ, suc, ◌-◌, ◌<◌, ◌≤◌, Bool, true, ◌&&◌, List, refl, ap, ap₂, sym, ◌∙◌, arith, true≢false, le-leb, bit_and, bit_xor, slice_index_or, unwrap_or, None}
+use Rattle.std.proofs.Common.{◌≡◌, ℕ, suc, ◌-◌, ◌<◌, ◌≤◌, Bool, true, false, ◌&&◌, List, refl, ap, ap₂, sym, ◌∙◌, arith, true≢false, le-leb, bit_and, bit_xor, slice_index_or, unwrap_or, None}
 use Rattle.std.proofs.lemmas.Bool.Decides.{nat_tests}
 use Rattle.qrcode_types.specs.Versions.{side, is_micro}
 use Rattle.qrcode_types.specs.declared.types.Version.{Version}
 use Rattle.qrcode_types.specs.declared.types.Version.TheVariants.{Normal, Micro}
 use Rattle.qrcode_masks.specs.Rows.{is_set, dark_in, inside}
-use Rattle.qrcode_masks.specs.Penalty.{micro_penalty}
+use Rattle.qrcode_masks.specs.Penalty.{normal_penalty, micro_penalty}
 use Rattle.qrcode_places.specs.Masks.{turns, turned_if}
 use Rattle.qrcode_places.specs.Patterns.{decided_bit}
 use Rattle.qrcode_places.specs.declared.masks.MaskPattern.{MaskPattern}
@@ -23,6 +23,11 @@ inside_here w dark x y h l = ap₂ (λ (a b : Bool). a && b && dark x y) (le-leb
 pub micro_cost_of : (v : Version) (dark : ℕ → ℕ → Bool) → is_micro v ≡ true → penalty_of v dark ≡ micro_penalty (side v) dark
 micro_cost_of (Normal n) dark m = absurd (true≢false (sym m))
 micro_cost_of (Micro n) dark m = refl
+
+-- what a square of Normal costs
+pub normal_cost_of : (v : Version) (dark : ℕ → ℕ → Bool) → is_micro v ≡ false → penalty_of v dark ≡ normal_penalty (side v) dark
+normal_cost_of (Normal n) dark m = refl
+normal_cost_of (Micro n) dark m = absurd (true≢false m)
 
 -- no place of the format word stands behind the eighth row, nor behind the eighth column
 far_down : (x y : ℕ) → 9 ≤ y → micro_cases x y ≡ None

@@ -55,15 +55,6 @@ put_at (p ∷ ps) (b ∷ bs) m (suc i) d apart inside il =
     (omega arith)
     ∙ ap (drawn_at (slice_get bs i)) (get_or-set_other m p (get_or ps i d) (Unmasked (color_of b)) Empty other)
 
-length_put : (ps : List ℕ) (bs : List Bool) (m : List Module) → length (put_bits ps bs m) ≡ length m
-length_put [] bs m = refl
-length_put (p ∷ ps) [] m = refl
-length_put (p ∷ ps) (b ∷ bs) m = length_put ps bs (set m p (Unmasked (color_of b))) ∙ length-set m p (Unmasked (color_of b))
-
-pub length_filled : (v : Version) (bits : List Bool) (m : List Module) → length (with_bits_drawn v bits m) ≡ length m
-unfolding with_bits_drawn
-length_filled v bits m = length_put (empty_places v m) bits m
-
 -- the walk as indices
 walk : Version → List ℕ
 walk v = map (place_index v) (range_with_len 0 (side v * (side v - 1)))

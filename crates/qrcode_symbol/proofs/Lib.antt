@@ -23,4 +23,4 @@ pub mod RowLists
 pub mod Shown
 pub mod TwoRows
 pub mod Walk
-pub mod WrittenModules
+pub mod WrittenColors

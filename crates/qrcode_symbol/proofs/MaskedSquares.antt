@@ -140,13 +140,12 @@ module _ (v : Version) (l : EcLevel) (modules : List Module) where
         ap (penalty_of v) (inside_same (side v) (masked_dark v (format_word v l mask) mask dark free) (λ x y. is_dark (color_at v (colors_of (with_mask v l mask modules)) x y))
         (λ x y h p. masked_same (format_word v l mask) mask x y h p ∙ ap is_dark (sym (color_under_mask mask x y h p))))
 
-    -- what stands for the colours of a square under a mask
-    pub list_same : {S : Type 0} (of : Color → S) (k : MaskPattern) (rows : List ℕ) (new : List S) → length new ≡ side v * side v → Shows (side v) rows (masked_dark v (format_word v l k) k dark free) →
-        ((x y : ℕ) → x < side v → y < side v → slice_index_or new (y * side v + x) (of Light) ≡ of (color_of (dark_in rows x y))) → new ≡ map (λ m. of (color_of_module m)) (with_mask v l k modules)
-    list_same {S = S} of k rows new size shows are =
+    -- the colours of a square under a mask
+    pub colors_same : (k : MaskPattern) (rows : List ℕ) (new : List Color) → length new ≡ side v * side v → Shows (side v) rows (masked_dark v (format_word v l k) k dark free) →
+        ((x y : ℕ) → x < side v → y < side v → slice_index_or new (y * side v + x) Light ≡ color_of (dark_in rows x y)) → new ≡ colors_of (with_mask v l k modules)
+    colors_same k rows new size shows are =
         let masked : List Module = with_mask v l k modules in
-        let item : Module → S = λ m. of (color_of_module m) in
-        ext_get_or (of Light) new (map item masked) (size ∙ sym (length-map masked item ∙ length_with_mask k)) (λ i h.
+        ext_get_or Light new (colors_of masked) (size ∙ sym (length-map masked color_of_module ∙ length_with_mask k)) (λ i h.
         let inside : i < side v * side v = omega arith in
         let wide : 0 < side v = side_positive v in
         let x = i % side v in
@@ -155,7 +154,7 @@ module _ (v : Version) (l : EcLevel) (modules : List Module) where
         let row : y < side v = div_below i (side v) wide inside in
         let e : i ≡ y * side v + x = split i (side v) in
         let word = format_word v l k in
-        ap (λ n. slice_index_or new n (of Light)) e ∙ are x y column row
-        ∙ ap (λ b. of (color_of b)) (sym (shows x y column row) ∙ masked_same word k x y column row)
-        ∙ ap of (color_dark (color_of_module (mask_module v word k x y (slice_index_or modules (y * side v + x) Empty))))
-        ∙ ap (λ n. item (mask_module v word k x y (slice_index_or modules n Empty))) (sym e) ∙ ap item (sym (with_mask_at k i inside)) ∙ sym (get_or-map item masked i Empty))
+        ap (λ n. slice_index_or new n Light) e ∙ are x y column row
+        ∙ ap color_of (sym (shows x y column row) ∙ masked_same word k x y column row)
+        ∙ color_dark (color_of_module (mask_module v word k x y (slice_index_or modules (y * side v + x) Empty)))
+        ∙ ap (λ n. color_of_module (mask_module v word k x y (slice_index_or modules n Empty))) (sym e) ∙ ap color_of_module (sym (with_mask_at k i inside)) ∙ sym (get_or-map color_of_module masked i Empty))

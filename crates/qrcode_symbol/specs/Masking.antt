@@ -1,5 +1,5 @@
 -- How a mask is chosen on rows packed into numbers.
-use Rattle.std.specs.Prelude.{◌≡◌, ℕ, ◌+◌, ◌-◌, ◌*◌, ◌/◌, ◌%◌, ◌<◌, ◌≤◌, ◌^◌, bit_or, Bool, true, false, ◌&&◌, List, [], ◌∷◌, map, slice_index_or, if◌then◌else◌, unwrap_or}
+use Rattle.std.specs.Prelude.{◌≡◌, ℕ, ◌+◌, ◌-◌, ◌*◌, ◌/◌, ◌%◌, ◌<◌, ◌≤◌, ◌^◌, bit_or, Bool, true, false, ◌&&◌, List, [], ◌∷◌, slice_index_or, if◌then◌else◌, unwrap_or}
 use Rattle.qrcode_types.specs.Colors.{is_dark}
 use Rattle.qrcode_types.specs.declared.types.Color.{Color}
 use Rattle.qrcode_types.specs.declared.types.Version.{Version}
@@ -80,12 +80,8 @@ pub record IsBestMasked (v : Version) (l : EcLevel) (modules new : List Module) 
   -- where the modules are patterns and drawn bits, its colours need not be compared with the modules
   pub first_least : (bits : List Bool) → modules ≡ with_bits_drawn v bits (with_patterns v (blank v)) → IsFirstLeast v l mask (colors_of new)
 
--- the modules under the first mask of least penalty, each as what stands for its colour
-pub record IsBestShown {A : Type 0} (v : Version) (l : EcLevel) (modules : List Module) (of : Color → A) (new : List A) : Type 0 where
+-- the colours of the modules under the first mask of least penalty
+pub record AreBestColors (v : Version) (l : EcLevel) (modules : List Module) (colors : List Color) : Type 0 where
   pub masked : List Module
   pub best : IsBestMasked v l modules masked
-  pub shown : new ≡ map (λ m. of (color_of_module m)) masked
-
--- the colours of the modules under the first mask of least penalty
-abbrev pub AreBestColors : Version → EcLevel → List Module → List Color → Type 0
-AreBestColors v l modules colors = IsBestShown v l modules (λ color. color) colors
+  pub shown : colors ≡ colors_of masked

@@ -5,8 +5,8 @@ use Rattle.qrcode_types.specs.declared.types.Color.{Color}
 use Rattle.qrcode_types.specs.declared.types.Color.TheVariants.{Light}
 use Rattle.qrcode_masks.specs.Rows.{is_set}
 
--- the first places of a line stand behind what was there, each as what stands for its colour
-pub record IsRowWritten {A : Type 0} (of : Color → A) (line width : ℕ) (old new : List A) : Type 0 where
+-- the colours of the first places of a line stand behind what was there
+pub record IsRowWritten (line width : ℕ) (old new : List Color) : Type 0 where
   pub size : length new ≡ length old + width
-  pub before : (i : ℕ) → i < length old → slice_index_or new i (of Light) ≡ slice_index_or old i (of Light)
-  pub shown : (x : ℕ) → x < width → slice_index_or new (length old + x) (of Light) ≡ of (color_of (is_set line x))
+  pub before : (i : ℕ) → i < length old → slice_index_or new i Light ≡ slice_index_or old i Light
+  pub shown : (x : ℕ) → x < width → slice_index_or new (length old + x) Light ≡ color_of (is_set line x)

@@ -33,7 +33,7 @@ mod pattern_places;
 mod unpacking;
 
 use applying::mask_modules;
-use cells::empty_bytes;
+use cells::Cell;
 use codewords::Codewords;
 use drawing::{draw_patterns, is_functional_place};
 use filling::draw_codewords;
@@ -266,8 +266,8 @@ impl Canvas {
         // The format words are far from one another.
         ensures words_apart { FormatWordsAreApart }
     {
-        laws::words();
-        let modules = masking::best(alloc, self.version, self.ec_level, &self.modules)?;
+        let colors = self.best_colors(alloc)?;
+        let modules = masked_modules(alloc, &colors)?;
         Ok(Canvas {
             version: self.version,
             ec_level: self.ec_level,
@@ -275,8 +275,8 @@ impl Canvas {
         })
     }
 
-    /// The colours of the canvas under the first mask of least penalty, row by row: what
-    /// `apply_best_mask` gives, without a second canvas.
+    /// The colours of the canvas under the first mask of least penalty, row by row: those of
+    /// `apply_best_mask`.
     ///
     /// `OutOfMemory`: memory was refused.
     pub fn best_colors(&self, alloc: Global) -> QrResult<Vec<Color>>
@@ -289,7 +289,7 @@ impl Canvas {
         ensures words_apart { FormatWordsAreApart }
     {
         laws::words();
-        masking::best(alloc, self.version, self.ec_level, &self.modules)
+        self.clone()?.into_best_colors(alloc)
     }
 
     /// The same colours, where the canvas is freed before they are written.
@@ -305,7 +305,7 @@ impl Canvas {
         ensures words_apart { FormatWordsAreApart }
     {
         laws::words();
-        masking::into_best(alloc, self.version, self.ec_level, self.modules)
+        masking::best_colors(alloc, self.version, self.ec_level, self.modules)
     }
 
     /// Whether each module is dark, row by row.
@@ -330,8 +330,16 @@ impl Canvas {
     }
 }
 
-/// The colours of the symbol of codewords under the first mask of least penalty, row by row: what a new canvas gives when
-/// its patterns and the codewords are drawn, in half the room.
+// The modules that have these colours and that no mask turns.
+fn masked_modules(alloc: Global, colors: &[Color]) -> QrResult<Vec<Module>>
+    ensures value { IfOk result (λ modules. modules.items ≡ map (λ c. Masked c) colors.now) }
+    ensures memory { IsOkUnless result OutOfMemory }
+{
+    Ok(colors.iter().map(|c| Module::Masked(*c)).collect(alloc)?)
+}
+
+/// The colours of the symbol of codewords under the first mask of least penalty, row by row: what a
+/// new canvas gives when its patterns and the codewords are drawn, in half the room.
 ///
 /// `OutOfMemory`: memory was refused.
 pub fn drawn_colors(
@@ -350,11 +358,11 @@ pub fn drawn_colors(
     ensures carries { AreCarried version ec_level bytes.now ec.now }
 {
     let width = side(version);
-    let mut cells = empty_bytes(alloc, width * width)?;
+    let mut cells = vec![in alloc; u8::of(Module::Empty); width * width]?;
     draw_patterns(version, &mut cells);
     let codewords = Codewords::new(version, ec_level, bytes, ec);
     draw_codewords(version, codewords, &mut cells);
-    masking::into_best(alloc, version, ec_level, cells)
+    masking::best_colors(alloc, version, ec_level, cells)
 }
 
 /// Whether a functional pattern or the format word has the module in column `x` and row `y` of a

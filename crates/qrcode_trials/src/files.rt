@@ -4,8 +4,8 @@
 use qrcode::QrCode;
 use qrcode::render::Renderer;
 use qrcode::types::{Color as Module, EcLevel, QrError, QrResult, Version};
-use qrcode_png::sums::crc;
 use qrcode_png::Color;
+use qrcode_png::sums::crc;
 use std::alloc::Global;
 use std::io;
 

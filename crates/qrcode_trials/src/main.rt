@@ -1,11 +1,10 @@
 //! What the library makes is tried: calls with memory refused (`refused`), builds to be counted (`built`), and PNG
-//! files (`files`); and symbols are drawn in ten ways (`drawn`). Without a word all are listed, and one is drawn.
+//! files (`files`). Without a word all are listed.
 #![tactic(auto)]
 
 mod builds;
 mod digest;
 mod files;
-mod gallery;
 mod scenarios;
 
 use std::process::ExitCode;
@@ -51,19 +50,16 @@ fn obey_words(
     match part {
         "refused" => scenarios::obey(rt, first),
         "built" => builds::obey(rt, first, second, third),
-        "drawn" => Ok(gallery::obey(rt, first, second)),
         "files" => files::print_all(rt, first.is_some()),
         _ => Ok(false),
     }
 }
 
-// Lists the scenarios and the builds, draws a symbol, and lists the files.
+// Lists the scenarios, the builds and the files.
 fn list_all(rt: &HostRuntime) -> io::Result<bool> {
     scenarios::obey(rt, None)?;
     builds::obey(rt, None, None, None)?;
-    let is_drawn = gallery::obey(rt, Some("half-blocks"), Some("01234567"));
-    println!(rt; "")?;
-    Ok(files::print_all(rt, false)? && is_drawn)
+    files::print_all(rt, false)
 }
 
 // The text of a word.

@@ -101,7 +101,6 @@ fn once(alloc: Global, call: &Single) -> QrResult<Digest> {
         Single::Text(call) => texts::run(alloc, call),
         Single::Picture(kind, frame) => pictures::run(alloc, kind, frame),
         Single::Image => pictures::image(alloc),
-        Single::Filled(version) => pictures::filled(alloc, *version),
         Single::Reading(version, call) => readings::run(alloc, *version, call),
     }
 }

@@ -3,9 +3,10 @@ use Rattle.std.specs.Prelude.{ℕ, true, false, List, [], ◌∷◌, ◌++◌, c
 use Rattle.qrcode_types.specs.declared.types.Version.{Version}
 use Rattle.qrcode_types.specs.declared.types.Color.{Color}
 use Rattle.qrcode_render.specs.Layout.{pixels_across, pixels_down}
+use Rattle.qrcode_render.specs.Pic as pic
 use Rattle.qrcode_render.specs.Picture.{picture}
+use Rattle.qrcode_render.specs.Svg as svg
 use Rattle.qrcode_render.specs.Texts.{dense_text, raw_bytes}
-use Rattle.qrcode_render.specs.Vectors as vectors
 use Rattle.qrcode.specs.Pictures.{layout_in, cells_text}
 
 abbrev pub char_text : Version → List Color → List ℕ  -- whole blocks and spaces
@@ -18,10 +19,10 @@ abbrev pub half_block_text : Version → List Color → List ℕ  -- half blocks
 half_block_text v s = dense_text true false (picture (layout_in 1 v) s)
 
 abbrev pub svg_text : ℕ → Version → List Color → List ℕ  -- black on white
-svg_text pixels v s = vectors.svg_text (layout_in pixels v) s (codes "#000") (codes "#fff")
+svg_text pixels v s = svg.svg_text (layout_in pixels v) s (codes "#000") (codes "#fff")
 
 abbrev pub pic_text : Version → List Color → List ℕ  -- a box for each dark module
-pic_text v s = vectors.pic_text (layout_in 1 v) s
+pic_text v s = pic.pic_text (layout_in 1 v) s
 
 -- a PGM file: its head, and a byte for each pixel, 0 where it is dark and 255 where it is not
 abbrev pub grey_map : Version → List Color → List ℕ

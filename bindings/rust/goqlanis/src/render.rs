@@ -21,21 +21,52 @@ pub trait Pixel: sealed::Sealed {
     fn image(bytes: Vec<u8>, across: usize, chars: (char, char)) -> Self::Image;
 }
 
+// A type that names a format: the image that it gives, its pixels a module, its number, and how its bytes are the image.
 macro_rules! pixel {
-    ($type:path, $image:ty, $scale:expr, |$inverted:ident| $format:expr, |$bytes:ident| $made:expr) => {
+    ($type:path, $image:ty, $scale:expr, $format:expr, $made:expr) => {
         impl sealed::Sealed for $type {}
         impl Pixel for $type {
             type Image = $image;
             const SCALE: u32 = $scale;
-            fn format($inverted: bool) -> u32 {
-                $format
+            fn format(inverted: bool) -> u32 {
+                $format(inverted)
             }
-            fn image($bytes: Vec<u8>, _across: usize, _chars: (char, char)) -> $image {
-                $made
+            fn image(bytes: Vec<u8>, _across: usize, _chars: (char, char)) -> $image {
+                $made(bytes)
             }
         }
     };
 }
+
+// The same with the module that has the type.
+macro_rules! file_format {
+    ($about:literal, $module:ident::$type:ident, $image:ty, $scale:expr, $number:ident, $made:expr) => {
+        pub mod $module {
+            #[doc = $about]
+            pub struct $type;
+        }
+        pixel!($module::$type, $image, $scale, |_| sys::$number, $made);
+    };
+}
+
+fn text(bytes: Vec<u8>) -> String {
+    String::from_utf8(bytes).expect("the library writes UTF-8")
+}
+
+fn file(bytes: Vec<u8>) -> Vec<u8> {
+    bytes
+}
+
+file_format!("An SVG text, black on white.", svg::Color, String, 8, GOQ_SVG, text);
+file_format!("A PIC text.", pic::Color, String, 8, GOQ_PIC, text);
+file_format!("An Encapsulated PostScript text, black on white.", eps::Color, String, 8, GOQ_EPS, text);
+file_format!("The bytes of a PNG file, black on white.", png::Color, Vec<u8>, 8, GOQ_PNG, file);
+file_format!("The bytes of a PBM file.", pbm::Bit, Vec<u8>, 8, GOQ_PBM, file);
+
+/// Rows of pixels, a byte each.
+pub struct Luma;
+
+pixel!(Luma, Vec<u8>, 8, |_| sys::GOQ_GREY, file);
 
 pub mod unicode {
     /// Two modules a character, one above the other.
@@ -46,45 +77,11 @@ pub mod unicode {
     }
 }
 
-pub mod svg {
-    /// An SVG text, black on white.
-    pub struct Color;
+fn half_blocks(inverted: bool) -> u32 {
+    if inverted { sys::GOQ_LIGHT_HALF_BLOCKS } else { sys::GOQ_HALF_BLOCKS }
 }
 
-pub mod pic {
-    /// A PIC text.
-    pub struct Color;
-}
-
-pub mod png {
-    /// The bytes of a PNG file, black on white.
-    pub struct Color;
-}
-
-pub mod eps {
-    /// An Encapsulated PostScript text, black on white.
-    pub struct Color;
-}
-
-pub mod pbm {
-    /// The bytes of a PBM file.
-    pub struct Bit;
-}
-
-/// Rows of pixels, a byte each.
-pub struct Luma;
-
-fn text(bytes: Vec<u8>) -> String {
-    String::from_utf8(bytes).expect("the library writes UTF-8")
-}
-
-pixel!(unicode::Dense1x2, String, 1, |inverted| if inverted { sys::GOQ_LIGHT_HALF_BLOCKS } else { sys::GOQ_HALF_BLOCKS }, |bytes| text(bytes));
-pixel!(svg::Color, String, 8, |_inverted| sys::GOQ_SVG, |bytes| text(bytes));
-pixel!(pic::Color, String, 8, |_inverted| sys::GOQ_PIC, |bytes| text(bytes));
-pixel!(png::Color, Vec<u8>, 8, |_inverted| sys::GOQ_PNG, |bytes| bytes);
-pixel!(eps::Color, String, 8, |_inverted| sys::GOQ_EPS, |bytes| text(bytes));
-pixel!(pbm::Bit, Vec<u8>, 8, |_inverted| sys::GOQ_PBM, |bytes| bytes);
-pixel!(Luma, Vec<u8>, 8, |_inverted| sys::GOQ_GREY, |bytes| bytes);
+pixel!(unicode::Dense1x2, String, 1, half_blocks, text);
 
 impl sealed::Sealed for char {}
 
@@ -102,9 +99,6 @@ impl Pixel for char {
         bytes.chunks(across).map(line).collect::<Vec<_>>().join("\n")
     }
 }
-
-// More room is not taken before the length of a picture is known.
-const MOST_ROOM: usize = 1 << 24;
 
 /// Draws a symbol as it is set.
 pub struct Renderer<'a, P> {
@@ -156,44 +150,14 @@ impl<'a, P: Pixel> Renderer<'a, P> {
     ///
     /// Panics where memory is refused, or a PNG file would have more than 65,535 pixels a side.
     pub fn build(&self) -> P::Image {
-        let format = P::format(self.inverted);
-        let room = self.room(format);
-        let (mut answer, mut bytes) = if room <= MOST_ROOM { self.drawn(format, room) } else { (sys::GOQ_SMALL_BUFFER, Vec::new()) };
-        if answer == sys::GOQ_SMALL_BUFFER {
-            (answer, bytes) = self.drawn(format, self.length(format));
-        }
+        let (format, modules, mut count) = (P::format(self.inverted), self.modules, 0);
+        let (length, width, zone, scale) = (modules.len(), self.width as u32, self.zone, self.scale);
+        let answer = unsafe { sys::goq_draw_length(modules.as_ptr(), length, width, zone, scale, format, &mut count) };
         assert_eq!(answer, sys::GOQ_OK, "memory was refused, or the picture is too large");
+        let mut bytes = vec![0; count];
+        let answer = unsafe { sys::goq_draw(modules.as_ptr(), length, width, zone, scale, format, bytes.as_mut_ptr(), count, &mut count) };
+        assert_eq!(answer, sys::GOQ_OK, "memory was refused");
         P::image(bytes, (self.side() * self.scale) as usize, self.chars)
-    }
-
-    // The picture in a buffer of so many bytes, and the library's answer.
-    fn drawn(&self, format: u32, room: usize) -> (u32, Vec<u8>) {
-        let (mut bytes, mut count) = (vec![0; room], 0);
-        let (modules, width) = (self.modules, self.width as u32);
-        let answer = unsafe { sys::goq_draw(modules.as_ptr(), modules.len(), width, self.zone, self.scale, format, bytes.as_mut_ptr(), room, &mut count) };
-        bytes.truncate(count);
-        bytes.shrink_to_fit();
-        (answer, bytes)
-    }
-
-    // The length of the picture, which is drawn for it.
-    fn length(&self, format: u32) -> usize {
-        let (modules, width, mut count) = (self.modules, self.width as u32, 0);
-        let answer = unsafe { sys::goq_draw_length(modules.as_ptr(), modules.len(), width, self.zone, self.scale, format, &mut count) };
-        assert_eq!(answer, sys::GOQ_OK, "memory was refused, or the picture is too large");
-        count
-    }
-
-    // Room for any picture of so many modules and pixels along a side, so that it is drawn once; of PNG for all but unusual ones.
-    fn room(&self, format: u32) -> usize {
-        let side = self.side() as usize * self.scale as usize;
-        match format {
-            sys::GOQ_HALF_BLOCKS | sys::GOQ_LIGHT_HALF_BLOCKS => side.div_ceil(2) * (3 * side + 33),
-            sys::GOQ_GREY => side * side,
-            sys::GOQ_PBM => side.div_ceil(8) * side + 32,
-            sys::GOQ_PNG => self.width * self.width + 8 * side + side * side / 512 + 1000,
-            _ => self.modules.len() * 80 + 400,
-        }
     }
 }
 

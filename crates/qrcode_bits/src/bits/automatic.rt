@@ -36,8 +36,8 @@ pub fn encode_auto(alloc: Global, bytes: &[u8], ec_level: EcLevel) -> QrResult<B
     encode_from(alloc, bytes, Manner::Bytes, Version::Normal(1), ec_level)
 }
 
-/// Data as a terminated list of bits, in segments of the fewest bits in the modes of the manner, for
-/// the least version from one on that holds it, in the order Micro 1 to 4, Normal 1 to 40.
+/// Data as a terminated list of bits, in segments of the fewest bits in the modes of the manner,
+/// for the least version from one on that holds it, in the order Micro 1 to 4, Normal 1 to 40.
 ///
 /// It is refused by the first of these causes that applies. `InvalidVersion`: there is no such
 /// version as the first. `DataTooLong`: no version from that one on holds the data, or it has more
@@ -115,7 +115,8 @@ pub fn encode_in(
     encode_chosen(alloc, bytes, manner, ec_level, chosen)
 }
 
-// The highest level, from one on, at which the version holds so many bits, where it does at that one.
+// The highest level, from one on, at which the version holds so many bits, where it does at that
+// one.
 fn highest_level(version: Version, used: usize, ec_level: EcLevel) -> EcLevel
     requires exists { IsTrue (has_level version ec_level) }
     requires room { used ≤ capacity version ec_level }
@@ -163,7 +164,7 @@ fn encode_chosen(
 {
     let mut bits = Bits::new(alloc, chosen.version);
     bits.push_front(manner)?;
-    bits.end_with_cut(bytes, chosen.segments, ec_level)?;
+    bits.end_with(bytes, chosen.segments, ec_level)?;
     Ok(bits)
 }
 

@@ -14,9 +14,9 @@ ghost use Rattle.qrcode_bits.specs.Manners.{modes_of, HoldsAs, NoneHolds, rank};
 ghost use Rattle.qrcode_bits.specs.Refusals.{data_limit};
 ghost use Rattle.qrcode_bits.specs.declared.optimize.Segment.{Segment};
 
-use super::cut::{Cut, least_cut};
 use super::{DATA_LIMIT, Manner};
 use crate::digits::count_digits;
+use crate::optimize::{Segment, least_segments_in, total_encoded_len};
 use qrcode_types::tables;
 use qrcode_types::types::{EcLevel, QrError, QrResult, Version};
 use std::alloc::Global;
@@ -26,7 +26,7 @@ use std::alloc::Global;
 #[derive(Drop)]
 pub(super) struct Chosen {
     pub(super) version: Version,
-    pub(super) segments: Cut,
+    pub(super) segments: Vec<Segment>,
     pub(super) used: usize,
 }
 
@@ -40,8 +40,8 @@ struct Wanted {
 
 // The least version, from one on, that holds the data.
 //
-// `InvalidVersion`: there is no such version as the first. `DataTooLong`: none holds the data, or it
-// has too many bytes. `OutOfMemory`: memory was refused.
+// `InvalidVersion`: there is no such version as the first. `DataTooLong`: none holds the data, or
+// it has too many bytes. `OutOfMemory`: memory was refused.
 pub(super) fn choose(
     alloc: Global,
     bytes: &[u8],
@@ -163,8 +163,8 @@ fn choose_normal(alloc: Global, bytes: &[u8], wanted: Wanted, first: usize) -> Q
     Err(QrError::DataTooLong)
 }
 
-// The same from a version of Normal on, among those of its band. If even the lower bound of the bits
-// is more than the last of them holds, the search is skipped.
+// The same from a version of Normal on, among those of its band. If even the lower bound of the
+// bits is more than the last of them holds, the search is skipped.
 fn choose_in_band(
     alloc: Global,
     bytes: &[u8],
@@ -209,8 +209,8 @@ pub(super) fn measure(
     ensures measured { IfOk result (IsMeasured manner version bytes.now) }
     ensures refusals { NeedsCut (IsCutIn (modes_of manner) version bytes.now) result }
 {
-    let segments = least_cut(alloc, bytes, version, manner.modes())?;
-    let used = manner.front_length() + segments.encoded_len(version);
+    let segments = least_segments_in(alloc, bytes, version, manner.modes())?;
+    let used = manner.front_length() + total_encoded_len(&segments, version);
     Ok(Chosen {
         version,
         segments,

@@ -11,7 +11,7 @@ ghost use Rattle.qrcode_bits.specs.Optimal.{PushesLeast, StopsInLeast};
 ghost use Rattle.qrcode_bits.specs.declared.optimize.Segment.{Segment};
 
 use super::Bits;
-use crate::optimize::{Modes, least_segments, single_mode};
+use crate::optimize::least_segments;
 use qrcode_types::types::{QrError, QrResult};
 
 /// No more bytes of data than this are taken.
@@ -20,9 +20,9 @@ pub const DATA_LIMIT: usize = 1_048_576;
 impl Bits {
     /// Appends data in segments of the fewest bits, as `least_segments` gives them.
     ///
-    /// `DataTooLong`: the data has more than 1,048,576 bytes. `UnsupportedCharacterSet`: no modes of
-    /// the version can write it. Both, and `OutOfMemory` in the search, leave the list as it was. And
-    /// then whatever refuses one of the segments, before which the others stand.
+    /// `DataTooLong`: the data has more than 1,048,576 bytes. `UnsupportedCharacterSet`: no modes
+    /// of the version can write it. Both, and `OutOfMemory` in the search, leave the list as it
+    /// was. And then whatever refuses one of the segments, before which the others stand.
     pub fn push_optimal_data(&mut self, bytes: &[u8]) -> QrResult<()>
         ensures too_long { data_limit < length bytes.now
             → (result ≡ Err QrError.DataTooLong) × (self.new ≡ self.old) }
@@ -55,9 +55,6 @@ impl Bits {
         let version = self.version();
         if bytes.len() > DATA_LIMIT {
             return Err(QrError::DataTooLong);
-        }
-        if let Some(mode) = single_mode(bytes, version, Modes::ALL) {
-            return self.push_whole(bytes, mode);
         }
         let segments = least_segments(self.stream.allocator(), bytes, version)?;
         self.push_all(bytes, segments)

@@ -10,12 +10,13 @@ use super::Bits;
 use qrcode_types::types::{QrError, QrResult};
 
 impl Bits {
-    /// Appends the header of a symbol that is one of several (structured append, ISO/IEC 18004:2006,
-    /// 8): the mode indicator, the place of the symbol and that of the last one, both from 0 on, and
-    /// the exclusive or of all bytes of the whole data. It stands in front of everything else.
+    /// Appends the header of a symbol that is one of several (structured append, ISO/IEC
+    /// 18004:2006, 8): the mode indicator, the place of the symbol and that of the last one, both
+    /// from 0 on, and the exclusive or of all bytes of the whole data. It stands in front of
+    /// everything else.
     ///
-    /// `UnsupportedCharacterSet`: the version is one of Micro QR. `DataTooLong`: the list would pass
-    /// 16,777,216 bits. `OutOfMemory`: memory was refused.
+    /// `UnsupportedCharacterSet`: the version is one of Micro QR. `DataTooLong`: the list would
+    /// pass 16,777,216 bits. `OutOfMemory`: memory was refused.
     pub fn push_structured_append(&mut self, place: u8, last: u8, parity: u8) -> QrResult<()>
         requires inside { place ≤ last }
         requires at_most { last ≤ 15 }

@@ -6,8 +6,8 @@ ghost use Rattle.qrcode_types.specs.Bits.{number_bits, bits_of};
 use std::alloc::{AllocError, Global};
 use std::marker::Model;
 
-// Bits, packed into bytes, eight at a time, and fewer than 64 bits behind them as a number. Memory for so many bytes at
-// least is asked for at first.
+// Bits, packed into bytes, eight at a time, and fewer than 64 bits behind them as a number. Memory
+// for so many bytes at least is asked for at first.
 #[derive(Drop)]
 pub(super) struct Stream {
     bytes: Vec<u8>,

@@ -14,13 +14,14 @@ use qrcode_types::types::{QrError, QrResult};
 
 impl Bits {
     /// Appends a text in segments of the fewest bits without Kanji, as `QrCode::of_text` has it, so
-    /// that a reader which takes bytes for UTF-8 shows it. A refused text leaves the list as it was.
+    /// that a reader which takes bytes for UTF-8 shows it. A refused text leaves the list as it
+    /// was.
     ///
     /// It is refused by the first of these causes that applies. `DataTooLong`: the text has more
     /// than 1,048,576 bytes. `UnsupportedCharacterSet`: the version lacks a mode that the text
-    /// needs. `DataTooLong`: a segment has more characters than its length field counts, or the list
-    /// would pass 16,777,216 bits. And `OutOfMemory` may come in place of the last, or where none
-    /// applies.
+    /// needs. `DataTooLong`: a segment has more characters than its length field counts, or the
+    /// list would pass 16,777,216 bits. And `OutOfMemory` may come in place of the last, or where
+    /// none applies.
     pub fn push_text(&mut self, text: &str) -> QrResult<()>
         ensures { PushesText Text text.now self.old self.new result }
     {
@@ -28,8 +29,8 @@ impl Bits {
     }
 
     /// The same with the number 26 of UTF-8 (ECI) in front, which takes 12 bits, as
-    /// `QrCode::of_marked_text` has it. Micro QR has none: `UnsupportedCharacterSet`, told before that
-    /// the version lacks a mode.
+    /// `QrCode::of_marked_text` has it. Micro QR has none: `UnsupportedCharacterSet`, reported
+    /// before that the version lacks a mode.
     pub fn push_marked_text(&mut self, text: &str) -> QrResult<()>
         ensures { PushesText MarkedText text.now self.old self.new result }
     {
@@ -53,7 +54,7 @@ impl Bits {
             return Err(QrError::DataTooLong);
         }
         let mut longer = self.with_front(manner)?;
-        longer.push_cut(text, chosen.segments)?;
+        longer.push_all(text, chosen.segments)?;
         *self = longer;
         Ok(())
     }

@@ -93,10 +93,10 @@ impl BestStart {
     }
 }
 
-// The fewest bits that a rest of the data takes, by what stands before it: a segment begins here, or
-// one is open to which the rest may add. An open segment of digits counts by how many of them are
-// behind its last group of three, one of letters by whether they are odd, and `half_pair` is `pairs`
-// one byte on.
+// The fewest bits that a rest of the data takes, by what stands before it: a segment begins here,
+// or one is open to which the rest may add. An open segment of digits counts by how many of them
+// are behind its last group of three, one of letters by whether they are odd, and `half_pair` is
+// `pairs` one byte on.
 #[derive(Copy, Clone)]
 pub(super) struct Costs {
     pub(super) start: BestStart,

@@ -20,9 +20,9 @@ use std::alloc::{AllocError, Global};
 // Few cuts have more segments, so that their list does not grow.
 const USUALLY_ENOUGH: usize = 16;
 
-/// A segmentation of the data in the fewest bits: of all cuts of the data into nonempty ranges, each
-/// in a mode that the version has and that can write its bytes, one of least total length. In Kanji
-/// a range may begin wherever its bytes pair up.
+/// A segmentation of the data in the fewest bits: of all cuts of the data into nonempty ranges,
+/// each in a mode that the version has and that can write its bytes, one of least total length. In
+/// Kanji a range may begin wherever its bytes pair up.
 ///
 /// `UnsupportedCharacterSet`: there is no such cut. `OutOfMemory`: memory was refused.
 pub fn least_segments(alloc: Global, bytes: &[u8], version: Version) -> QrResult<Vec<Segment>>
@@ -75,8 +75,8 @@ pub fn least_segments_in(
     searched_segments(alloc, bytes, version, modes)
 }
 
-/// The same by a search from the end of the data.
-pub(crate) fn searched_segments(
+// The same by a search from the end of the data.
+fn searched_segments(
     alloc: Global,
     bytes: &[u8],
     version: Version,
@@ -128,7 +128,8 @@ fn counted_bits(bytes: &[u8], headers: HeaderBits) -> u32
     costs.start.bits
 }
 
-// For each place of the data, and for its end, how the rest from there on begins in the fewest bits.
+// For each place of the data, and for its end, how the rest from there on begins in the fewest
+// bits.
 fn least_starts(
     alloc: Global,
     bytes: &[u8],

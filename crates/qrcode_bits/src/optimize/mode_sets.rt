@@ -27,7 +27,8 @@ impl Modes {
         kanji: true,
     };
 
-    /// The modes that a text is written in: all but Kanji, whose bytes a reader takes for Shift JIS.
+    /// The modes that a text is written in: all but Kanji, whose bytes a reader takes for Shift
+    /// JIS.
     pub const TEXT: Modes = Modes {
         numeric: true,
         alphanumeric: true,

@@ -14,9 +14,9 @@ use super::groups::Optimizer;
 use super::tokens::split_token;
 use qrcode_types::types::Version;
 
-/// The runs of the data, each in the narrowest mode: as many pairs of Kanji, digits, other characters
-/// of the alphabet or other bytes as follow one another. A byte that could begin a pair, and begins
-/// none, is a run of its own.
+/// The runs of the data, each in the narrowest mode: as many pairs of Kanji, digits, other
+/// characters of the alphabet or other bytes as follow one another. A byte that could begin a pair,
+/// and begins none, is a run of its own.
 #[derive(Drop)]
 pub struct Parser<'a> {
     rest: &'a [u8],

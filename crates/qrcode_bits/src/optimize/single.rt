@@ -12,9 +12,9 @@ use qrcode_types::types::{Mode, Version};
 // So many places are looked at before dense data is left.
 const STRETCH: usize = 64;
 
-/// The mode in which one segment of all the data is a least cut, where no search is needed to tell: digits alone, or
-/// bytes of a version of Normal with few letters and digits together.
-pub(crate) fn single_mode(bytes: &[u8], version: Version, modes: Modes) -> Option<Mode>
+/// The mode in which one segment of all the data is a least cut, where no search is needed to tell:
+/// digits alone, or bytes of a version of Normal with few letters and digits together.
+pub(super) fn single_mode(bytes: &[u8], version: Version, modes: Modes) -> Option<Mode>
     requires valid { IsTrue (is_valid version) }
     ensures { IfSome result (λ mode. IsLeastCutIn modes version bytes.now
         (record { mode = mode; begin = 0; end = length bytes.now } ∷ [])) }
@@ -28,7 +28,8 @@ pub(crate) fn single_mode(bytes: &[u8], version: Version, modes: Modes) -> Optio
     None
 }
 
-// Whether no byte begins a pair, and of four neighbours one at least is above the alphabet, as small letters are.
+// Whether no byte begins a pair, and of four neighbours one at least is above the alphabet, as
+// small letters are.
 fn is_sparse(bytes: &[u8]) -> bool
     requires { 3 < length bytes.now }
     ensures { result ≡ true → IsSparse bytes.now }
@@ -45,8 +46,8 @@ fn is_sparse(bytes: &[u8]) -> bool
     bytes[last] < 0x81 && bytes[last + 1] < 0x81 && bytes[last + 2] < 0x81
 }
 
-// Whether four neighbours from one of some places on are not so. Each place is looked at, so that LLVM takes sixteen
-// together.
+// Whether four neighbours from one of some places on are not so. Each place is looked at, so that
+// LLVM takes sixteen together.
 fn has_dense(bytes: &[u8], from: usize, to: usize) -> bool
     requires ordered { from ≤ to }
     requires inside { to + 3 ≤ length bytes.now }

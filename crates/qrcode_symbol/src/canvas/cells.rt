@@ -1,7 +1,6 @@
 //! How a module stands in memory: as it is, or as a byte, which takes half the room and is packed 64 at a time.
 
-ghost use Rattle.std.specs.Prelude.{◌≡◌, ◌≤◌, ◌&&◌, length, replicate, take, IfOk, IsOkUnless};
-ghost use Rattle.qrcode_types.specs.declared.types.QrError.TheVariants.{OutOfMemory};
+ghost use Rattle.std.specs.Prelude.{◌≡◌, ◌≤◌, ◌&&◌, length, take};
 ghost use Rattle.qrcode_symbol.specs.Canvas.{is_empty};
 ghost use Rattle.qrcode_symbol.specs.Masking.{is_dark_module, is_free, packed};
 ghost use Rattle.qrcode_symbol.specs.Cells.{module_of_byte};
@@ -10,8 +9,6 @@ ghost use Rattle.qrcode_symbol.specs.declared.canvas.Module.{Module};
 use super::Module;
 use super::packing::{pack_bytes, pack_modules};
 use qrcode_places::patterns::color_of;
-use qrcode_types::types::QrResult;
-use std::alloc::Global;
 
 /// What shows a module.
 pub(super) trait Cell: Copy {
@@ -97,20 +94,4 @@ impl Cell for u8 {
     fn pack(cells: &[u8], count: usize) -> (u64, u64) {
         pack_bytes(cells, count)
     }
-}
-
-// The bytes of some empty modules, to be copied.
-static EMPTY: [u8; 512] = [2; 512];
-
-/// The bytes of so many empty modules, copied by pieces: as many set at once are counted byte by byte.
-pub(super) fn empty_bytes(alloc: Global, count: usize) -> QrResult<Vec<u8>>
-    ensures value { IfOk result (λ bytes. bytes.items ≡ replicate count 2) }
-    ensures memory { IsOkUnless result OutOfMemory }
-{
-    let mut bytes = Vec::with_capacity(alloc, count)?;
-    for _ in 0..count / 512 {
-        bytes.extend_from_slice(&EMPTY)?;
-    }
-    bytes.extend_from_slice(&EMPTY[..count % 512])?;
-    Ok(bytes)
 }

@@ -1,21 +1,33 @@
-//! The choice of the mask in Micro, by the last row and the last column, which alone count in its penalty.
+//! What Micro costs under a mask: its penalty counts the last row and the last column alone.
 
 ghost use Rattle.std.specs.Prelude.{◌≡◌, ◌-◌, ◌%◌, ◌<◌, ◌^◌, bit_and, bit_xor, true};
 ghost use Rattle.qrcode_types.specs.Versions.{is_micro};
 ghost use Rattle.qrcode_places.specs.Masks.{mask_count};
-ghost use Rattle.qrcode_symbol.specs.Masking.{three_words, nth_cost, IsLastColumn, IsFirstLeastCost};
+ghost use Rattle.qrcode_symbol.specs.Masking.{three_words, nth_cost, IsLastColumn};
 
 use super::masked_rows::{long_row, turned_column, turned_row};
 use super::packing::PackedModules;
-use qrcode_masks::row::PackedRow;
 use qrcode_masks::penalty::{last_column, micro_penalty_by_edges};
-use qrcode_places::masks::{mask_count, nth_mask};
+use qrcode_masks::row::PackedRow;
+use qrcode_places::masks::nth_mask;
 
-// The last column of a square, bit y standing for row y: which modules are dark, and which a mask may turn.
+/// The last column of a square, bit y standing for row y: which modules are dark, and which a mask may turn.
 #[derive(Copy, Clone)]
-struct LastColumn<R: PackedRow> {
-    dark: R,
-    free: R,
+pub(super) struct LastColumn<R: PackedRow> {
+    pub(super) dark: R,
+    pub(super) free: R,
+}
+
+impl<R: PackedRow> LastColumn<R> {
+    pub(super) fn of(modules: &PackedModules<'_, R>) -> LastColumn<R>
+        ensures dark { IsLastColumn modules.now.width modules.now.dark.rows (R.bits result.dark) }
+        ensures free { IsLastColumn modules.now.width modules.now.free.rows (R.bits result.free) }
+    {
+        LastColumn {
+            dark: last_column(&modules.dark),
+            free: last_column(&modules.free),
+        }
+    }
 }
 
 // A row or a column in which the free places are turned that the mask turns, by the first 64 of these.
@@ -27,8 +39,8 @@ fn turn_line<R: PackedRow>(dark: R, free: R, turned: u64) -> R
     dark.xor(free.and(long_row(turned)))
 }
 
-// What the square costs under the k-th mask of Micro.
-fn nth_micro_cost<R: PackedRow>(
+/// What the modules cost under the k-th mask of Micro.
+pub(super) fn nth_micro_cost<R: PackedRow>(
     modules: &PackedModules<'_, R>,
     column: LastColumn<R>,
     k: usize,
@@ -50,28 +62,4 @@ fn nth_micro_cost<R: PackedRow>(
     );
     let right = turn_line(column.dark, column.free, turned_column(mask, end));
     micro_penalty_by_edges(bottom, right, modules.width as u32)
-}
-
-/// The number of the first mask of Micro under which the square costs least.
-pub(super) fn least_micro_mask<R: PackedRow>(modules: &PackedModules<'_, R>) -> usize
-    requires { is_micro modules.now.version ≡ true }
-    ensures { IsFirstLeastCost
-        (nth_cost modules.now.version modules.now.ec_level modules.now.width
-        modules.now.dark.rows modules.now.free.rows)
-        (mask_count modules.now.version) result }
-{
-    let column = LastColumn {
-        dark: last_column(&modules.dark),
-        free: last_column(&modules.free),
-    };
-    let mut best = 0;
-    let mut least = u32::MAX;
-    for k in 0..mask_count(modules.version) {
-        let cost = nth_micro_cost(modules, column, k);
-        if cost < least {
-            best = k;
-            least = cost;
-        }
-    }
-    best
 }

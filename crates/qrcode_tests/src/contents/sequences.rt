@@ -5,11 +5,11 @@
 use crate::common::{Row, check, is_drawn};
 use qrcode::types::{QrError, QrResult};
 use qrcode::{EcLevel, QrCode, Version};
-use qrcode_uses::contents::several::{leaflets, pages};
 use qrcode_several::{
     Versions, encode_several, encode_several_within, encode_text_several,
     encode_text_several_within,
 };
+use qrcode_uses::contents::several::{leaflets, pages};
 use std::alloc::Global;
 
 const DIGITS: &str = "314159265358979323846264338327950288419716939937510582097494";

@@ -6,16 +6,16 @@ use qrcode_contents::bill::{Bill, Currency, Party};
 use qrcode_contents::card::Card;
 use qrcode_contents::contact::Contact;
 use qrcode_contents::errors::{Cause, ContentError, Field};
+use qrcode_contents::event::Event;
 use qrcode_contents::geo::Place;
 use qrcode_contents::mail::Mail;
 use qrcode_contents::one_time::OneTime;
 use qrcode_contents::payment::Payment;
 use qrcode_contents::phone::Phone;
 use qrcode_contents::wifi::Wifi;
+use qrcode_gs1::elements::Element;
 use qrcode_uses::contents as uses;
 use qrcode_uses::contents::examples;
-use qrcode_contents::event::Event;
-use qrcode_gs1::elements::Element;
 use std::alloc::Global;
 
 // A bill of the Swiss Implementation Guidelines QR-bill.

@@ -5,9 +5,9 @@ ghost use Rattle.qrcode_masks.specs.Rows.{FitsWidth, IsSquare};
 ghost use Rattle.qrcode_masks.specs.RowHalves.{HasHalves};
 
 use crate::common::{Row, check};
+use qrcode_masks::penalty::{micro_penalty, penalty_of_parts};
 use qrcode_masks::row::{PackedRow, Row128, Row192};
 use qrcode_masks::square::PackedSquare;
-use qrcode_masks::penalty::{micro_penalty, penalty_of_parts};
 use qrcode_types::types::QrResult;
 use std::alloc::Global;
 

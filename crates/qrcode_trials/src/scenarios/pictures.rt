@@ -160,19 +160,6 @@ fn image_of(alloc: Global, renderer: &Renderer<Luma>) -> QrResult<Digest> {
     Ok(Digest::of(&renderer.to_image(alloc)?.into_raw()))
 }
 
-/// The grey pixels of the symbol of digits of a version, written into a buffer.
-pub fn filled(alloc: Global, version: Version) -> QrResult<Digest> {
-    let code = of_digits(alloc, version)?;
-    let width = code.width();
-    let colors = code.into_colors();
-    let side = 17 * (width + 8);
-    let mut bytes = vec![in alloc; 0; side * side]?;
-    let mut renderer = Renderer::<Luma>::new(&colors, width, 4);
-    renderer.module_size(17);
-    renderer.build_into(alloc, &mut bytes)?;
-    Ok(Digest::of(&bytes))
-}
-
 // A row of modules.
 static LINE: [Color; 4] = [Color::Dark, Color::Light, Color::Dark, Color::Dark];
 

@@ -83,8 +83,6 @@ pub enum Single {
     Picture(Kind, Frame),
     /// `to_image` of a small symbol in grey pixels.
     Image,
-    /// `build_into` of the symbol of a version at level L.
-    Filled(Version),
     /// A reading of the symbol of a version at level L.
     Reading(Version, ReadCall),
 }

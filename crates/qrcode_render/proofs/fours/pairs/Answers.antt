@@ -3,7 +3,7 @@ use Rattle.qrcode_render.proofs.LineTexts.{flat_map_one}
 use Rattle.qrcode_render.proofs.fours.pairs.Goals as goal
 
 pub loop-first-preserved : goal.loop-first-preserved
-loop-first-preserved g c =
+loop-first-preserved c =
     let texts = c.args.texts.now in
     let i = c.loop-first.first-index in
     c.in_ok-push_pairs.ensures.appends

@@ -1,4 +1,4 @@
-use Rattle.std.proofs.Common.{ℕ, List, ◌+◌, ◌++◌, length, refl, ap, ap₂, ◌∙◌, sym, append_assoc, string_bytes}
+use Rattle.std.proofs.Common.{ℕ, List, ◌+◌, ◌++◌, length, refl, ap, ap₂, ◌∙◌, sym, append_assoc}
 use Rattle.std.specs.List.{flat_map, range_with_len}
 use Rattle.std.proofs.lemmas.List.FromFn.{length-map-range_with_len}
 use Rattle.qrcode_render.specs.Grid.{all_columns, cell_row, is_dark_cell}
@@ -10,7 +10,7 @@ use Rattle.qrcode_render.proofs.runs.push_runs.Goals as goal
 pub loop-row-preserved : goal.loop-row-preserved
 loop-row-preserved c =
     let g = c.args.grid.now in
-    let old = string_bytes c.args.text.now in
+    let old = c.args.text.now in
     let row = c.loop-row.row in
     let runs : ℕ → List Run = λ r. runs_from r 0 0 (cell_row g r) in
     let before = flat_map runs (range_with_len 0 row) in

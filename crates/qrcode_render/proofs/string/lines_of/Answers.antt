@@ -25,7 +25,7 @@ from_utf8_unchecked-requires c =
     let dark = c.args.dark.now in
     let light = c.args.light.now in
     let rows = c.in_ok-push_rows.ensures.appends
-    ∙ ap₂ (λ xs ys. xs ++ ys) c.in_ok-raw.ensures.items (ap₂ (λ d l. rows_text d l (10 ∷ []) g) c.as_bytes.ensures.value c.as_bytes-2.ensures.value) in
+    ∙ ap₂ (λ xs ys. xs ++ ys) c.new-raw.ensures.items (ap₂ (λ d l. rows_text d l (10 ∷ []) g) c.as_bytes.ensures.value c.as_bytes-2.ensures.value) in
     let is = c.pop.ensures.rest ∙ without_last dark light c.push_rows.new.raw.items g (vec_len c.push_rows.new.raw) (omega arith) c.requires.across c.requires.down rows in
     subst IsUtf8 (sym is) (lines-IsUtf8 (λ y. marks_text dark light (row_of (pixels_of g) y)) (all_rows g * g.down) (λ y. marks_text-IsUtf8 dark light (row_of (pixels_of g) y) c.utf8.dark c.utf8.light))
 
@@ -36,7 +36,7 @@ returns-clause-value c =
     let dark = c.args.dark.now in
     let light = c.args.light.now in
     let rows = c.in_ok-push_rows.ensures.appends
-    ∙ ap₂ (λ xs ys. xs ++ ys) c.in_ok-raw.ensures.items (ap₂ (λ d l. rows_text d l (10 ∷ []) g) c.as_bytes.ensures.value c.as_bytes-2.ensures.value) in
+    ∙ ap₂ (λ xs ys. xs ++ ys) c.new-raw.ensures.items (ap₂ (λ d l. rows_text d l (10 ∷ []) g) c.as_bytes.ensures.value c.as_bytes-2.ensures.value) in
     let is = c.pop.ensures.rest ∙ without_last dark light c.push_rows.new.raw.items g (vec_len c.push_rows.new.raw) (omega arith) c.requires.across c.requires.down rows in
     ap (λ v. v.items) c.from_utf8_unchecked.ensures.value
     ∙ is

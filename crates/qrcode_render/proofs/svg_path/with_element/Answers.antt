@@ -7,15 +7,8 @@ use Rattle.qrcode_render.proofs.FilledRuns.{runs_fill}
 use Rattle.qrcode_render.proofs.svg_path.with_element.Goals as goal
 
 -- nine texts, one behind another
-nested : (t a b c d e f g h : List ℕ) → (((((((t ++ a) ++ b) ++ c) ++ d) ++ e) ++ f) ++ g) ++ h ≡ t ++ (a ++ (b ++ (c ++ (d ++ (e ++ (f ++ (g ++ h)))))))
-nested t a b c d e f g h =
-    append_assoc ((((((t ++ a) ++ b) ++ c) ++ d) ++ e) ++ f) g h
-    ∙ append_assoc (((((t ++ a) ++ b) ++ c) ++ d) ++ e) f (g ++ h)
-    ∙ append_assoc ((((t ++ a) ++ b) ++ c) ++ d) e (f ++ (g ++ h))
-    ∙ append_assoc (((t ++ a) ++ b) ++ c) d (e ++ (f ++ (g ++ h)))
-    ∙ append_assoc ((t ++ a) ++ b) c (d ++ (e ++ (f ++ (g ++ h))))
-    ∙ append_assoc (t ++ a) b (c ++ (d ++ (e ++ (f ++ (g ++ h)))))
-    ∙ append_assoc t a (b ++ (c ++ (d ++ (e ++ (f ++ (g ++ h))))))
+nested : (t a b c d e f g h : List ℕ) → ((((((t ++ (a ++ b)) ++ c) ++ d) ++ e) ++ f) ++ g) ++ h ≡ t ++ (a ++ (b ++ (c ++ (d ++ (e ++ (f ++ (g ++ h)))))))
+nested t a b c d e f g h = simp append_assoc
 
 pub returns-clause-value : goal.returns-clause-value
 returns-clause-value c =
@@ -30,16 +23,16 @@ returns-clause-value c =
     let ground = codes "\"/><path fill=\"" in
     let path = codes "\" d=\"" in
     let end = codes "\"/></svg>" in
-    let framed : string_bytes c.push_frame.new.text ≡ head ++ frame =
-    c.in_ok-push_frame.ensures.appends
-    ∙ ap₂ (λ x y. head ++ path_frame x y c.sides-columns.result.0 c.sides-columns.result.1) c.pixels-width.ensures.across c.pixels-width.ensures.down
-    ∙ ap₂ (λ x y. head ++ path_frame w h x y) c.sides-columns.ensures.columns c.sides-columns.ensures.rows in
-    let start = c.in_ok-push_ground.ensures.appends ∙ ap₂ (λ t s. t ++ s) framed (ap₂ (λ x y. path_ground x y) c.sides-columns.ensures.columns c.sides-columns.ensures.rows) in
-    let lit = c.in_ok-push_attribute.ensures.appends ∙ ap (λ t. t ++ light) start in
+    let sides = c.sides-columns.ensures in
+    let framed : string_bytes c.push_head.new.text ≡ head ++ (frame ++ path_ground (all_columns grid) (all_rows grid)) =
+    c.in_ok-push_head.ensures.appends
+    ∙ ap₂ (λ x y. head ++ (path_frame x y c.sides-columns.result.0 c.sides-columns.result.1 ++ path_ground c.sides-columns.result.0 c.sides-columns.result.1)) c.pixels-width.ensures.across c.pixels-width.ensures.down
+    ∙ ap₂ (λ x y. head ++ (path_frame w h x y ++ path_ground x y)) sides.columns sides.rows in
+    let lit = c.in_ok-push_attribute.ensures.appends ∙ ap (λ t. t ++ light) framed in
     let grounded = c.in_ok-push_str.ensures.bytes ∙ ap (λ t. t ++ ground) lit in
     let inked = c.in_ok-push_attribute-2.ensures.appends ∙ ap (λ t. t ++ dark) grounded in
     let begun = c.in_ok-push_str-2.ensures.bytes ∙ ap (λ t. t ++ path) inked in
-    let drawn = c.in_ok-push_runs.ensures.appends ∙ ap (λ t. t ++ runs) begun in
+    let drawn = c.in_ok-push_runs.ensures.appends ∙ ap (λ t. t ++ runs) (c.in_ok-script.ensures.value ∙ c.deref.ensures ∙ begun) in
     record {
       columns = all_columns grid;
       rows = all_rows grid;
@@ -48,6 +41,6 @@ returns-clause-value c =
       runs = runs_of grid;
       wide = refl;
       high = refl;
-      written = c.in_ok-push_str-3.ensures.bytes ∙ ap (λ t. t ++ end) drawn ∙ nested head frame (path_ground (all_columns grid) (all_rows grid)) light ground dark path runs end;
+      written = c.into_string.ensures ∙ c.in_ok-push.ensures.appends ∙ ap (λ t. t ++ end) drawn ∙ nested head frame (path_ground (all_columns grid) (all_rows grid)) light ground dark path runs end;
       shown = λ k. map (λ i. sym (runs_fill grid (i % w / grid.across) (i / w / grid.down)) k) (range_with_len 0 (w * h));
     }

@@ -25,9 +25,9 @@ returns-clause-best c =
     let shown = map module_of_byte in
     let many : c.side-width.result * c.side-width.result ≡ side v * side v = ap (λ (n : ℕ). n * n) c.side-width.ensures.value in
     let new : shown c.deref_mut.result.now ≡ blank v =
-    ap shown (c.deref_mut.ensures.value ∙ c.in_ok-cells.ensures.value) ∙ map-replicate module_of_byte (c.side-width.result * c.side-width.result) 2 ∙ ap (λ (n : ℕ). replicate n Empty) many in
+    ap shown (c.deref_mut.ensures.value ∙ c.in_ok-cells.ensures.items_if_clones_equal (λ y e. e)) ∙ map-replicate module_of_byte (c.side-width.result * c.side-width.result) c.of.result ∙ ap (λ (m : Module). replicate (c.side-width.result * c.side-width.result) m) c.of.ensures ∙ ap (λ (n : ℕ). replicate n Empty) many in
     let patterned : shown c.deref_mut-2.result.now ≡ with_patterns v (blank v) =
     ap shown (c.deref_mut-2.ensures.value ∙ take_at c.draw_patterns.new.modules _ _ (omega arith)) ∙ c.draw_patterns.ensures ∙ ap (with_patterns v) new in
     let drawn = c.draw_codewords.ensures ∙ ap₂ (λ (bits : List Bool) (m : List Module). with_bits_drawn v bits m) c.new-codewords.ensures patterned in
-    subst (λ (ms : List Module). IfOk c.into_best.result (λ colors. AreBestColors v c.args.ec_level ms colors.items))
-    (ap shown (take_at c.draw_codewords.new.modules _ _ (omega arith)) ∙ drawn) c.into_best.ensures.best
+    subst (λ (ms : List Module). IfOk c.best_colors.result (λ colors. AreBestColors v c.args.ec_level ms colors.items))
+    (ap shown (take_at c.draw_codewords.new.modules _ _ (omega arith)) ∙ drawn) c.best_colors.ensures.best

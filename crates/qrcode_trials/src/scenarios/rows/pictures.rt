@@ -8,15 +8,12 @@ use crate::scenarios::pictures::Kind::{
 use crate::scenarios::scenario::Call::Once;
 use crate::scenarios::scenario::Memory::Takes;
 use crate::scenarios::scenario::Scenario;
-use crate::scenarios::scenario::Single::{Filled, Image, Picture};
-use qrcode::types::Version;
+use crate::scenarios::scenario::Single::{Image, Picture};
 
-/// Pictures of a small symbol, and of two written into buffers.
+/// Pictures of a small symbol.
 #[rattlefmt::skip]
-pub static OF_MICRO: [Scenario; 14] = [
+pub static OF_MICRO: [Scenario; 12] = [
     Scenario("Renderer::to_image", Takes, None, Once(Image)),
-    Scenario("Renderer::build_into: Luma", Takes, None, Once(Filled(Version::Micro(1)))),
-    Scenario("Renderer::build_into: Luma, wide", Takes, None, Once(Filled(Version::Normal(40)))),
     Scenario("Renderer::build: char", Takes, None, Once(Picture(Chars, Micro2))),
     Scenario("Renderer::build: Str", Takes, None, Once(Picture(Strings, Micro2))),
     Scenario("Renderer::build: a user's element", Takes, None, Once(Picture(Words, Micro2))),

@@ -60,27 +60,27 @@ returns-in_err-longer c =
     starved_text c.args.manner c.args.text.now c.args.self.now c.in_ok-chosen.chosen.segments.items c.in_err-longer.field-0.0 c.from_residual-in_err-longer.result (short k) (has k) (least k)
     c.in_err-longer.ensures.memory c.from_residual-in_err-longer.ensures
 
-pub push_cut-requires : goal.push_cut-requires
-push_cut-requires c =
-    let k = (goal.at.push_cut-requires c).In_ok-chosen in
+pub push_all-requires : goal.push_all-requires
+push_all-requires c =
+    let k = (goal.at.push_all-requires c).In_ok-chosen in
     cut_inside c.args.self.now.version c.args.text.now c.in_ok-chosen.chosen.segments.items (least k).reached.cut
 
-pub returns-in_err-push_cut : goal.returns-in_err-push_cut
-returns-in_err-push_cut c =
-    let k = (goal.at.returns-in_err-push_cut c).In_ok-chosen in
+pub returns-in_err-push_all : goal.returns-in_err-push_all
+returns-in_err-push_all c =
+    let k = (goal.at.returns-in_err-push_all c).In_ok-chosen in
     let ss = c.in_ok-chosen.chosen.segments.items in
-    let e = c.in_err-push_cut.field-0.0 in
-    let new = c.push_cut.new.self.bits in
-    let stop = subst (λ (b : BitList). StopsAt b.version b.bits (pieces_of c.args.text.now ss) e new) c.in_ok-longer.ensures.value c.in_err-push_cut.ensures.stopped in
-    refused_text c.args.manner c.args.text.now c.args.self.now ss new e c.from_residual-in_err-push_cut.result (valid k) (short k) (has k) (least k)
-    (omega (arith, c.len.ensures.value, c.front_length.ensures.value, c.if-len-front_length-gt-BIT_LIMIT.false)) stop c.from_residual-in_err-push_cut.ensures
+    let e = c.in_err-push_all.field-0.0 in
+    let new = c.push_all.new.self.bits in
+    let stop = subst (λ (b : BitList). StopsAt b.version b.bits (pieces_of c.args.text.now ss) e new) c.in_ok-longer.ensures.value c.in_err-push_all.ensures.stopped in
+    refused_text c.args.manner c.args.text.now c.args.self.now ss new e c.from_residual-in_err-push_all.result (valid k) (short k) (has k) (least k)
+    (omega (arith, c.len.ensures.value, c.front_length.ensures.value, c.if-len-front_length-gt-BIT_LIMIT.false)) stop c.from_residual-in_err-push_all.ensures
 
 pub returns : goal.returns
 returns c =
     let k = (goal.at.returns c).In_ok-chosen in
     let ss = c.in_ok-chosen.chosen.segments.items in
-    let list = c.push_cut.new.self in
-    let pushed = subst (λ (b : BitList). PushesAll b.version b.bits c.args.text.now ss list.bits) c.in_ok-longer.ensures.value c.in_ok-push_cut.ensures.pushed in
-    let is = c.push_cut.ensures.version ∙ ap (λ (b : BitList). b.version) c.in_ok-longer.ensures.value in
+    let list = c.push_all.new.self in
+    let pushed = subst (λ (b : BitList). PushesAll b.version b.bits c.args.text.now ss list.bits) c.in_ok-longer.ensures.value c.in_ok-push_all.ensures.pushed in
+    let is = c.push_all.ensures.version ∙ ap (λ (b : BitList). b.version) c.in_ok-longer.ensures.value in
     subst (λ new. PushesText c.args.manner c.args.text.now c.args.self.now new (Ok tt)) (sym c.longer.view_is)
     (appended_text c.args.manner c.args.text.now c.args.self.now list ss (valid k) (has k) c.requires.text c.requires.utf8 (least k) pushed is)

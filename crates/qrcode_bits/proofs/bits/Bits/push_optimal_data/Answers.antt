@@ -1,17 +1,14 @@
-use Rattle.std.proofs.Common.{ℕ, ◌≤◌, List, [], ◌∷◌, length, inr, arith, subst, IsTrue}
+use Rattle.std.proofs.Common.{◌≤◌, arith, subst, IsTrue}
 use Rattle.qrcode_types.specs.Versions.{is_valid, capacity}
 use Rattle.qrcode_bits.specs.Segments.{total_cost}
 use Rattle.qrcode_bits.specs.Cuts.{IsLeastCut}
-use Rattle.qrcode_types.specs.declared.types.Mode.{Mode}
-use Rattle.qrcode_bits.specs.declared.optimize.Segment.{Segment}
-use Rattle.qrcode_bits.proofs.LeastCuts.{least_in_all}
-use Rattle.qrcode_bits.proofs.CutPieces.{cut_joined, cut_pieces}
+use Rattle.qrcode_bits.proofs.CutPieces.{cut_pieces}
 use Rattle.qrcode_bits.proofs.Fitting.{cut_stop, fitting_stop}
 use Rattle.qrcode_bits.proofs.Given.{on_ok, if_err}
 use Rattle.qrcode_bits.proofs.Shortness.{fitting_short}
 use Rattle.qrcode_bits.proofs.SpelledCuts.{fits_spelled}
 use Rattle.qrcode_bits.proofs.bits.Bits.push_optimal_data.Goals as goal
-use Rattle.qrcode_bits.proofs.bits.Bits.push_optimal_data.Goals.{After-version-version, In-Some, In_ok-segments}
+use Rattle.qrcode_bits.proofs.bits.Bits.push_optimal_data.Goals.{After-version-version, In_ok-segments}
 
 valid : (c : After-version-version) → IsTrue (is_valid c.args.self.now.version)
 valid c = subst (λ v. IsTrue (is_valid v)) c.version-version.ensures.value c.version-version.ensures.valid
@@ -64,58 +61,3 @@ returns-in_err-segments-clause-spelled c = fits_spelled c.args.self.now.version 
 
 pub returns-clause-spelled : goal.returns-clause-spelled
 returns-clause-spelled c = fits_spelled c.args.self.now.version c.args.bytes.now (valid (goal.at.returns-clause-spelled c).After-version-version)
-
--- one segment of all the data
-abbrev whole : List ℕ → Mode → List Segment
-whole bytes mode = record { mode = mode; begin = 0; end = length bytes } ∷ []
-
--- a single segment
-least_whole : (c : In-Some) → IsLeastCut c.args.self.now.version c.args.bytes.now (whole c.args.bytes.now c.in-Some.mode)
-least_whole c =
-    subst (λ v. IsLeastCut v c.args.bytes.now (whole c.args.bytes.now c.in-Some.mode)) c.version-version.ensures.value
-    (least_in_all c.version-version.result c.args.bytes.now (whole c.args.bytes.now c.in-Some.mode) c.in-Some.ensures)
-
-pub returns-in-Some-clause-pushed : goal.returns-in-Some-clause-pushed
-returns-in-Some-clause-pushed c =
-    let k = (goal.at.returns-in-Some-clause-pushed c).In-Some in
-    let v = c.args.self.now.version in
-    let bytes = c.args.bytes.now in
-    let ss = whole bytes c.in-Some.mode in
-    on_ok c.push_whole.result
-    (λ pushed. record {
-      segments = ss;
-      least = least_whole k;
-      pushed = pushed;
-      joined = cut_joined v bytes ss (least_whole k).reached;
-      readable = λ l fits. (cut_pieces v l bytes ss (valid (goal.at.returns-in-Some-clause-pushed c).After-version-version) (least_whole k).reached fits).0;
-    })
-    c.push_whole.ensures.pushed
-
-pub returns-in-Some-clause-no_cut : goal.returns-in-Some-clause-no_cut
-returns-in-Some-clause-no_cut c = λ short none. absurd (none (whole c.args.bytes.now c.in-Some.mode) (least_whole (goal.at.returns-in-Some-clause-no_cut c).In-Some).reached)
-
-pub returns-in-Some-clause-stopped : goal.returns-in-Some-clause-stopped
-returns-in-Some-clause-stopped c = λ cut short is_cut.
-    if_err c.push_whole.result
-    (λ e stop. inr (record { segments = whole c.args.bytes.now c.in-Some.mode; least = least_whole (goal.at.returns-in-Some-clause-stopped c).In-Some; stops = stop }))
-    c.push_whole.ensures.stopped
-
-pub returns-in-Some-clause-causes : goal.returns-in-Some-clause-causes
-returns-in-Some-clause-causes c = λ cut is_cut.
-    let k = (goal.at.returns-in-Some-clause-causes c).In-Some in
-    if_err c.push_whole.result
-    (λ e stop. cut_stop c.args.self.now.version c.args.self.now.bits c.args.bytes.now (whole c.args.bytes.now c.in-Some.mode) e c.push_whole.new.self.bits (least_whole k).reached stop)
-    c.push_whole.ensures.stopped
-
-pub returns-in-Some-clause-accepts : goal.returns-in-Some-clause-accepts
-returns-in-Some-clause-accepts c = λ level room fits.
-    let k = (goal.at.returns-in-Some-clause-accepts c).In-Some in
-    let v = c.args.self.now.version in
-    let ss = whole c.args.bytes.now c.in-Some.mode in
-    let small : total_cost v ss ≤ capacity v level = omega (arith, (least_whole k).least fits.0 fits.1.0, fits.1.1) in
-    if_err c.push_whole.result
-    (λ e stop. fitting_stop v level c.args.self.now.bits c.args.bytes.now ss e c.push_whole.new.self.bits (valid (goal.at.returns-in-Some-clause-accepts c).After-version-version) (least_whole k).reached small room stop)
-    c.push_whole.ensures.stopped
-
-pub returns-in-Some-clause-spelled : goal.returns-in-Some-clause-spelled
-returns-in-Some-clause-spelled c = fits_spelled c.args.self.now.version c.args.bytes.now (valid (goal.at.returns-in-Some-clause-spelled c).After-version-version)

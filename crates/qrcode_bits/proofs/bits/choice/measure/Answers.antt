@@ -1,6 +1,6 @@
-use Rattle.std.proofs.Common.{◌*◌, ◌≤◌, length, arith, subst}
+use Rattle.std.proofs.Common.{◌*◌, ◌≤◌, length, arith, ap, sym, subst}
 use Rattle.std.proofs.lemmas.Grind.{common_steps}
-use Rattle.qrcode_bits.specs.Segments.{total_cost}
+use Rattle.qrcode_bits.specs.Segments.{AreInside, total_cost}
 use Rattle.qrcode_bits.specs.Cuts.{IsLeastCutIn}
 use Rattle.qrcode_bits.specs.Manners.{modes_of}
 use Rattle.qrcode_bits.proofs.CutPieces.{cut_inside}
@@ -15,21 +15,22 @@ least c = subst (λ set. IsLeastCutIn set c.args.version c.args.bytes.now c.in_o
 short : (c : In_ok-segments) → total_cost c.args.version c.in_ok-segments.segments.items ≤ 32 * length c.args.bytes.now
 short c = omega (arith, cost_most (modes_of c.args.manner) c.args.version c.args.bytes.now 0 c.in_ok-segments.segments.items (length c.args.bytes.now) c.requires.valid (least c).reached.cut.tiles)
 
-pub encoded_len-requires-clause-ranges : goal.encoded_len-requires-clause-ranges
-encoded_len-requires-clause-ranges c =
-    let k = (goal.at.encoded_len-requires-clause-ranges c).In_ok-segments in
+pub total_encoded_len-requires-clause-ranges : goal.total_encoded_len-requires-clause-ranges
+total_encoded_len-requires-clause-ranges c =
+    let k = (goal.at.total_encoded_len-requires-clause-ranges c).In_ok-segments in
     let bytes = c.args.bytes.now in
-    small_inside (length bytes) c.in_ok-segments.segments.items (omega arith) (cut_inside c.args.version bytes c.in_ok-segments.segments.items (least k).reached.cut)
+    small_inside (length bytes) c.deref.result.now (omega arith)
+    (subst (AreInside (length bytes)) (sym c.deref.ensures.value) (cut_inside c.args.version bytes c.in_ok-segments.segments.items (least k).reached.cut))
 
-pub encoded_len-requires-clause-fits : goal.encoded_len-requires-clause-fits
-encoded_len-requires-clause-fits c =
-    let k = (goal.at.encoded_len-requires-clause-fits c).In_ok-segments in
-    omega (arith, short k, c.requires.length_at_most)
+pub total_encoded_len-requires-clause-fits : goal.total_encoded_len-requires-clause-fits
+total_encoded_len-requires-clause-fits c =
+    let k = (goal.at.total_encoded_len-requires-clause-fits c).In_ok-segments in
+    omega (arith, short k, ap (total_cost c.args.version) c.deref.ensures.value, c.requires.length_at_most)
 
 pub overflow_add-used : goal.overflow_add-used
 overflow_add-used c =
     let k = (goal.at.overflow_add-used c).In_ok-segments in
-    omega (arith, short k, c.requires.length_at_most, c.front_length.ensures.at_most, c.encoded_len.ensures)
+    omega (arith, short k, ap (total_cost c.args.version) c.deref.ensures.value, c.requires.length_at_most, c.front_length.ensures.at_most, c.total_encoded_len.ensures)
 
 pub returns-in_err-segments-clause-refusals : goal.returns-in_err-segments-clause-refusals
 returns-in_err-segments-clause-refusals c = grind (arith, common_steps)

@@ -5,13 +5,13 @@ use Rattle.qrcode_render.proofs.Palettes.{pair_number-lt, length-paired, get_or-
 use Rattle.qrcode_render.proofs.fours.Fours.four.Goals as goal
 
 pub index-requires : goal.index-requires
-index-requires g c =
+index-requires c =
     let p = c.self.inside in
     let fours : length p.fours.items ≡ 16 = ap length c.self.invariant.1 ∙ length-paired p.twos c.self.invariant.0 in
     omega (arith, c.four_number.ensures, pair_number-lt c.args.a c.args.b, pair_number-lt c.args.c c.args.d)
 
 pub returns : goal.returns
-returns g c =
+returns c =
     let p = c.self.inside in
     let i = pair_number c.args.a c.args.b in
     let j = pair_number c.args.c c.args.d in

@@ -18,13 +18,12 @@ first_of bytes others start at n k inside short is =
     ∙ ap (λ xs. front ++ xs) (take-take n k start short)
 
 pub returns-clause-writes : goal.returns-clause-writes
-returns-clause-writes g c =
+returns-clause-writes c =
     let at = c.args.at in
     let old = c.args.bytes.now in
     let start = c.self.inside.start in
     let n = c.self.inside.len in
-    let N = g.row.N in
-    let block = chunk 0 N start in
-    let whole : length block ≡ N = length-chunk 0 N start (omega arith) in
-    let written = take_more_put_chunk at old block (at + N) (omega arith) c.requires in
-    first_of _ old start at n N (omega arith) c.self.invariant written ∙ ap (λ xs. take at old ++ xs) c.self.view_is
+    let block = chunk 0 32 start in
+    let whole : length block ≡ 32 = length-chunk 0 32 start (omega arith) in
+    let written = take_more_put_chunk at old block (at + 32) (omega arith) c.requires in
+    first_of _ old start at n 32 (omega arith) c.self.invariant written ∙ ap (λ xs. take at old ++ xs) c.self.view_is

@@ -4,7 +4,7 @@ use Rattle.std.proofs.lemmas.List.{get_or-set_same, get_or-set_other}
 use Rattle.qrcode_types.specs.Colors.{color_of}
 use Rattle.qrcode_masks.specs.Rows.{is_set}
 use Rattle.qrcode_types.specs.declared.types.Color.TheVariants.{Light}
-use Rattle.qrcode_symbol.proofs.WrittenModules.{bit_in_byte}
+use Rattle.qrcode_symbol.proofs.WrittenColors.{bit_in_byte}
 use Rattle.qrcode_symbol.proofs.canvas.unpacking.colors_of.Goals as goal
 
 pub loop-x-init : goal.loop-x-init

@@ -5,5 +5,5 @@ use Rattle.qrcode_symbol.proofs.canvas.unpacking.unpack_row.Given as goal
 abbrev pub invariant-loop : goal.invariant-loop
 invariant-loop g l = record {
   rest : g.R.PackedRow.bits l.rest ≡ g.R.PackedRow.bits l.fn.line / 2 ^ (64 * l.counter);
-  written : IsRowWritten g.S.FromColor.from_color (g.R.PackedRow.bits l.fn.line) (64 * l.counter) l.initial.square.items l.square.items;
+  written : IsRowWritten (g.R.PackedRow.bits l.fn.line) (64 * l.counter) l.initial.colors.items l.colors.items;
 }

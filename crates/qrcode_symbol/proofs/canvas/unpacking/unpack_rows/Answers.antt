@@ -19,11 +19,10 @@ pub loop-y-preserved : goal.loop-y-preserved
 unfolding dark_in
 loop-y-preserved g c =
     let places = g.R.PackedRow.bits in
-    let of = g.S.FromColor.from_color in
     let w = c.args.width in
     let n = c.loop-y.y in
-    let old = c.loop-y.square.items in
-    let new = c.unpack_row.new.square.items in
+    let old = c.loop-y.colors.items in
+    let new = c.unpack_row.new.colors.items in
     let rows = c.args.rows.now in
     let size = c.loop-y.invariant.size in
     let written = c.in_ok-unpack_row.ensures.written in
@@ -33,8 +32,8 @@ loop-y-preserved g c =
       size = omega (arith, written.size, size, step);
       shown = λ x y h l.
           let here : n * w + x ≡ length old + x = omega (arith, size) in
-          below_more (λ y. slice_index_or new (y * w + x) (of Light) ≡ of (color_of (dark_in (map places rows) x y))) n
+          below_more (λ y. slice_index_or new (y * w + x) Light ≡ color_of (dark_in (map places rows) x y)) n
           (λ y m. written.before (y * w + x) (omega (arith, mul-add-lt y w x n m h, mul_comm w n, size)) ∙ c.loop-y.invariant.shown x y h m)
-          (ap (λ i. slice_index_or new i (of Light)) here ∙ written.shown x h ∙ ap (λ r. of (color_of (is_set r x))) at)
+          (ap (λ i. slice_index_or new i Light) here ∙ written.shown x h ∙ ap (λ r. color_of (is_set r x)) at)
           y l;
     }

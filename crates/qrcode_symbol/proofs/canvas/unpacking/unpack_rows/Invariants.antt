@@ -6,6 +6,6 @@ use Rattle.qrcode_symbol.proofs.canvas.unpacking.unpack_rows.Given as goal
 
 abbrev pub invariant-loop-y : goal.invariant-loop-y
 invariant-loop-y g l = record {
-  size : length l.square.items ≡ l.y * l.width;
-  shown : (x y : ℕ) → x < l.width → y < l.y → slice_index_or l.square.items (y * l.width + x) (g.S.FromColor.from_color Light) ≡ g.S.FromColor.from_color (color_of (dark_in (map g.R.PackedRow.bits l.rows) x y));
+  size : length l.colors.items ≡ l.y * l.width;
+  shown : (x y : ℕ) → x < l.width → y < l.y → slice_index_or l.colors.items (y * l.width + x) Light ≡ color_of (dark_in (map g.R.PackedRow.bits l.rows) x y);
 }

@@ -1,0 +1,43 @@
+-- What the call for C answers: 0, or the number of a refusal.
+use Rattle.std.specs.Prelude.{ℕ}
+use Rattle.qrcode_contents.specs.declared.fields.errors.Cause.{Cause}
+use Rattle.qrcode_contents.specs.declared.fields.errors.Cause.TheVariants.{Empty, TooLong, TooShort, ControlCharacter, Character, CheckDigits, Range, Unused}
+use Rattle.qrcode_gs1.specs.declared.errors.Cause as of_elements
+use Rattle.qrcode_gs1.specs.declared.errors.Cause.TheVariants as element
+use Rattle.goqlanis_buffers.specs.declared.contents.answers.Refusal.{Refusal}
+use Rattle.goqlanis_buffers.specs.declared.contents.answers.Refusal.TheVariants.{SmallBuffer, OutOfMemory, NotText, NoSuchContent, NoSuchField, Wrong, NotElement}
+
+abbrev pub cause_number : Cause → ℕ  -- the number of a cause
+cause_number Empty = 34
+cause_number TooLong = 35
+cause_number TooShort = 36
+cause_number ControlCharacter = 37
+cause_number Character = 38
+cause_number CheckDigits = 39
+cause_number Range = 40
+cause_number Unused = 41
+
+abbrev pub element_number : of_elements.Cause → ℕ  -- the number of a cause of an element
+element_number element.Character = 38
+element_number element.CheckDigit = 39
+element_number element.UnknownIdentifier = 42
+element_number element.Length = 43
+
+abbrev pub number_of : Refusal → ℕ  -- the number of a refusal
+number_of SmallBuffer = 7
+number_of OutOfMemory = 8
+number_of (NotText place) = 12
+number_of NoSuchContent = 32
+number_of (NoSuchField place) = 33
+number_of (Wrong place cause) = cause_number cause
+number_of (NotElement place cause) = element_number cause
+
+-- the place that is told: that of the field that is wrong, and otherwise the one before
+abbrev pub place_told : Refusal → ℕ → ℕ
+place_told (NotText place) before = place
+place_told (NoSuchField place) before = place
+place_told (Wrong place cause) before = place
+place_told (NotElement place cause) before = place
+place_told SmallBuffer before = before
+place_told OutOfMemory before = before
+place_told NoSuchContent before = before

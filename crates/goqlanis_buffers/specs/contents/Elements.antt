@@ -1,0 +1,57 @@
+-- Elements of GS1 that C gives, and their string.
+use Rattle.std.specs.Prelude.{◌≡◌, ◌<◌, ◌++◌, ⊤, ℕ, List, map, drop, length, slice_get, IsUtf8, Some, None}
+use Rattle.qrcode_gs1.specs.Elements.{Item, element_string, read_elements}
+use Rattle.qrcode_gs1.specs.Refusals.{refusal_from}
+use Rattle.qrcode_gs1.specs.declared.errors.Gs1Error.TheVariants.{Refused}
+use Rattle.goqlanis_buffers.specs.contents.Answers.{number_of, place_told}
+use Rattle.goqlanis_buffers.specs.declared.contents.answers.Refusal.{Refusal}
+use Rattle.goqlanis_buffers.specs.declared.contents.answers.Refusal.TheVariants.{SmallBuffer, OutOfMemory, NotText, NotElement}
+use Rattle.goqlanis_buffers.specs.declared.contents.elements.Part.{Part}
+
+abbrev pub item_of : Part → Item  -- the identifier and the value of an element
+item_of p = (p.identifier.now, p.value.now)
+
+abbrev pub items_of : List Part → List Item  -- what is said of elements
+items_of parts = map item_of parts
+
+abbrev pub IsText : Part → Type 0  -- both are UTF-8
+IsText p = IsUtf8 p.identifier.now × IsUtf8 p.value.now
+
+abbrev pub AreTexts : List Part → ℕ → Type 0  -- so many elements are UTF-8
+AreTexts parts count = (i : ℕ) → i < count → (p : Part) → slice_get parts i ≡ Some p → IsText p
+
+-- the element at a place is the first that is not UTF-8
+pub record IsFirstNoText (parts : List Part) (place : ℕ) : Type 0 where
+  pub part : Part
+  pub at : slice_get parts place ≡ Some part
+  pub before : AreTexts parts place
+  pub wrong : ¬ IsText part
+
+-- the string of elements, none of which is refused; it is read as exactly these
+pub record IsString (parts : List Part) (bytes : List ℕ) : Type 0 where
+  pub accepted : refusal_from 0 (items_of parts) ≡ None
+  pub reads : read_elements bytes ≡ items_of parts
+  pub value : bytes ≡ element_string (items_of parts)
+
+-- such a string at the beginning of a buffer, which is otherwise as it was, and its length
+pub record IsStringIn (parts : List Part) (old new : List ℕ) (count : ℕ) : Type 0 where
+  pub bytes : List ℕ
+  pub string : IsString parts bytes
+  pub filled : new ≡ bytes ++ drop (length bytes) old
+  pub counted : count ≡ length bytes
+
+-- why elements have no string in a buffer of so much room
+abbrev pub IsElementsCause : List Part → ℕ → Refusal → Type 0
+IsElementsCause parts room (NotText place) = IsFirstNoText parts place
+IsElementsCause parts room (NotElement place cause) =
+    AreTexts parts (length parts) × (refusal_from 0 (items_of parts) ≡ Some (Refused place cause))
+IsElementsCause parts room SmallBuffer = (bytes : List ℕ) × (IsString parts bytes × (room < length bytes))
+IsElementsCause parts room OutOfMemory = ⊤
+IsElementsCause parts room refusal = ⊥
+
+-- an answer, and the place that is told in place of the one before, are those of a refusal that has its cause
+pub record AreElementsRefused (parts : List Part) (room answer before after : ℕ) : Type 0 where
+  pub refusal : Refusal
+  pub cause : IsElementsCause parts room refusal
+  pub answered : answer ≡ number_of refusal
+  pub told : after ≡ place_told refusal before

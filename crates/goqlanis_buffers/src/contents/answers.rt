@@ -1,0 +1,85 @@
+//! What the call answers.
+
+ghost use Rattle.std.specs.Prelude.{◌≡◌, ◌≢◌};
+ghost use Rattle.goqlanis_buffers.specs.contents.Answers.{cause_number, element_number, number_of, place_told};
+
+use qrcode_contents::fields::errors::Cause;
+use qrcode_gs1::errors::Cause as ElementCause;
+
+/// Why a call refuses, and at which place its fields are wrong.
+#[derive(Clone, Copy, Drop, PartialEq, Eq)]
+pub enum Refusal {
+    /// The buffer is too small for the text.
+    SmallBuffer,
+    /// Memory was refused.
+    OutOfMemory,
+    /// The field at this place is not UTF-8.
+    NotText(usize),
+    /// No kind of content has the number.
+    NoSuchContent,
+    /// The kind has no field at this place.
+    NoSuchField(usize),
+    /// The format cannot say the field at this place, for this cause.
+    Wrong(usize, Cause),
+    /// The element of GS1 at this place is refused, for this cause.
+    NotElement(usize, ElementCause),
+}
+
+// The number of a cause.
+fn cause_number(cause: Cause) -> u32
+    ensures value { result ≡ cause_number cause }
+    ensures not_made { result ≢ 0 }
+{
+    match cause {
+        Cause::Empty => 34,
+        Cause::TooLong => 35,
+        Cause::TooShort => 36,
+        Cause::ControlCharacter => 37,
+        Cause::Character => 38,
+        Cause::CheckDigits => 39,
+        Cause::Range => 40,
+        Cause::Unused => 41,
+    }
+}
+
+// The number of a cause of an element.
+fn element_number(cause: ElementCause) -> u32
+    ensures value { result ≡ element_number cause }
+    ensures not_made { result ≢ 0 }
+{
+    match cause {
+        ElementCause::Character => 38,
+        ElementCause::CheckDigit => 39,
+        ElementCause::UnknownIdentifier => 42,
+        ElementCause::Length => 43,
+    }
+}
+
+impl Refusal {
+    /// The number that C sees.
+    pub fn number(self) -> u32
+        ensures value { result ≡ number_of self }
+        ensures not_made { result ≢ 0 }
+    {
+        match self {
+            Refusal::SmallBuffer => 7,
+            Refusal::OutOfMemory => 8,
+            Refusal::NotText(_) => 12,
+            Refusal::NoSuchContent => 32,
+            Refusal::NoSuchField(_) => 33,
+            Refusal::Wrong(_, cause) => cause_number(cause),
+            Refusal::NotElement(_, cause) => element_number(cause),
+        }
+    }
+
+    /// The place of the field that is wrong, or else the one before.
+    pub fn place(self, before: usize) -> usize
+        ensures value { result ≡ place_told self before }
+    {
+        match self {
+            Refusal::NotText(place) | Refusal::NoSuchField(place) => place,
+            Refusal::Wrong(place, _) | Refusal::NotElement(place, _) => place,
+            _ => before,
+        }
+    }
+}

@@ -1,0 +1,86 @@
+//! Elements of GS1, in a buffer.
+
+ghost use Rattle.std.specs.Prelude.{◌≡◌, ℕ, length, map, IfOk, IfErr, OnOk, OnErr, OnSome, IfSome, IfNone};
+ghost use Rattle.qrcode_gs1.specs.Items.{item};
+ghost use Rattle.goqlanis_buffers.specs.contents.Elements.{item_of, items_of, IsText, AreTexts, IsString, IsStringIn, IsElementsCause};
+
+use crate::contents::answers::Refusal;
+use crate::symbols::fill;
+use qrcode_gs1::elements::{Element, element_string};
+use qrcode_gs1::errors::Gs1Error;
+use std::alloc::Global;
+
+/// An element of GS1.
+#[repr(C)]
+#[derive(Clone, Copy)]
+pub struct Part<'a> {
+    /// The digits of its application identifier, without parentheses.
+    pub identifier: &'a [u8],
+    /// Its value, with the check digit where it has one.
+    pub value: &'a [u8],
+}
+
+/// Writes the string of elements at the beginning of a buffer, and answers its length.
+///
+/// An error is `NotText`, `NotElement`, `SmallBuffer` or `OutOfMemory`. Then the buffer is as it was.
+pub fn write_elements(alloc: Global, parts: &[Part<'_>], out: &mut [u8]) -> Result<usize, Refusal>
+    ensures made { IfOk result (IsStringIn parts.now out.old out.new) }
+    ensures unchanged { OnErr result (out.new ≡ out.old) }
+    ensures causes { IfErr result (IsElementsCause parts.now (length out.old)) }
+{
+    let bytes = match string_of(alloc, parts) {
+        Ok(bytes) => bytes,
+        Err(refusal) => return Err(refusal),
+    };
+    if out.len() < bytes.len() {
+        return Err(Refusal::SmallBuffer);
+    }
+    fill(out, &bytes);
+    Ok(bytes.len())
+}
+
+// The string of elements.
+fn string_of(alloc: Global, parts: &[Part<'_>]) -> Result<Vec<u8>, Refusal>
+    ensures string { IfOk result (λ bytes. IsString parts.now bytes.items) }
+    ensures causes { (room : ℕ) → IfErr result (IsElementsCause parts.now room) }
+{
+    let elements = match elements_of(alloc, parts) {
+        Ok(elements) => elements,
+        Err(refusal) => return Err(refusal),
+    };
+    match element_string(alloc, &elements) {
+        Ok(bytes) => Ok(bytes),
+        Err(Gs1Error::Refused(place, cause)) => Err(Refusal::NotElement(place, cause)),
+        Err(Gs1Error::OutOfMemory) => Err(Refusal::OutOfMemory),
+    }
+}
+
+// The elements, where all are UTF-8.
+fn elements_of<'a>(alloc: Global, parts: &[Part<'a>]) -> Result<Vec<Element<'a>>, Refusal>
+    ensures value { IfOk result (λ elements. map item elements.items ≡ items_of parts.now) }
+    ensures texts { OnOk result (AreTexts parts.now (length parts.now)) }
+    ensures causes { (room : ℕ) → IfErr result (IsElementsCause parts.now room) }
+{
+    let mut elements = Vec::new(alloc);
+    for place in 0..parts.len() {
+        let Some(element) = element_of(&parts[place]) else {
+            return Err(Refusal::NotText(place));
+        };
+        if elements.push(element).is_err() {
+            return Err(Refusal::OutOfMemory);
+        }
+    }
+    Ok(elements)
+}
+
+// An element, where it is UTF-8.
+fn element_of<'a>(part: &Part<'a>) -> Option<Element<'a>>
+    ensures value { IfSome result (λ element. item element ≡ item_of part.now) }
+    ensures text { OnSome result (IsText part.now) }
+    ensures none { IfNone result (¬ IsText part.now) }
+{
+    match (str::from_utf8(part.identifier), str::from_utf8(part.value)) {
+        (Ok(identifier), Ok(value)) => Some(Element { identifier, value }),
+        _ => None,
+    }
+}

@@ -1,0 +1,51 @@
+//! The text of fields, in a buffer.
+
+ghost use Rattle.std.specs.Prelude.{◌≡◌, ℕ, length, string_bytes, IfOk, IfErr, OnErr};
+ghost use Rattle.goqlanis_buffers.specs.contents.Contents.{IsCause, IsContent, IsContentIn};
+
+use crate::contents::answers::Refusal;
+use crate::contents::forms::{check, forms_of, kind_named, place_of};
+use crate::contents::given::Item;
+use crate::contents::texts::text_of;
+use crate::symbols::fill;
+use qrcode_contents::fields::errors::ContentError;
+use std::alloc::Global;
+
+/// Writes the text of fields of the kind of a number at the beginning of a buffer, and answers its
+/// length.
+///
+/// An error is the first that applies of `NoSuchContent`; of each field in order `NoSuchField`,
+/// `NotText`, `Wrong`; what the format refuses (`Wrong`); `SmallBuffer`; or `OutOfMemory`. Then the
+/// buffer is as it was.
+pub fn write(alloc: Global, kind: u32, given: &[Item<'_>], out: &mut [u8]) -> Result<usize, Refusal>
+    ensures made { IfOk result (IsContentIn kind given.now out.old out.new) }
+    ensures unchanged { OnErr result (out.new ≡ out.old) }
+    ensures causes { IfErr result (IsCause kind given.now (length out.old)) }
+{
+    let text = content(alloc, kind, given)?;
+    let bytes = text.as_bytes();
+    if out.len() < bytes.len() {
+        return Err(Refusal::SmallBuffer);
+    }
+    fill(out, bytes);
+    Ok(bytes.len())
+}
+
+// The text of fields of the kind of a number.
+fn content(alloc: Global, kind: u32, given: &[Item<'_>]) -> Result<String, Refusal>
+    ensures text { IfOk result (λ text. IsContent kind given.now (string_bytes text)) }
+    ensures causes { (room : ℕ) → IfErr result (IsCause kind given.now room) }
+{
+    let Some(kind) = kind_named(kind) else {
+        return Err(Refusal::NoSuchContent);
+    };
+    let forms = forms_of(kind);
+    check(forms, given)?;
+    match text_of(alloc, kind, given) {
+        Ok(text) => Ok(text),
+        Err(ContentError::Refused(field, cause)) => {
+            Err(Refusal::Wrong(place_of(forms, field), cause))
+        }
+        Err(ContentError::OutOfMemory) => Err(Refusal::OutOfMemory),
+    }
+}

@@ -1,6 +1,0 @@
-mod Corrections
-mod Locators
-mod Moments
-mod Remainders
-mod Searches
-mod Sums

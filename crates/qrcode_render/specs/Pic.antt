@@ -1,0 +1,37 @@
+-- The text of PIC.
+use Rattle.std.proofs.Common.{◌≡◌}
+use Rattle.std.specs.Prelude.{ℕ, List, [], ◌++◌, codes, decimal}
+use Rattle.qrcode_types.specs.declared.types.Color.{Color}
+use Rattle.qrcode_render.specs.Drawn.{drawn}
+use Rattle.qrcode_render.specs.Layout.{Layout, pixels_across, pixels_down}
+use Rattle.qrcode_render.specs.Strokes.{rect_text, regroup}
+
+-- what stands before the first box
+abbrev pub pic_start : ℕ → ℕ → List ℕ
+pic_start w h =
+    codes "maxpswid=" ++ (decimal w ++ (codes ";maxpsht=" ++ (decimal h ++ codes ";movewid=0;moveht=1;boxwid=1;boxht=1\ndefine p { box wid $3 ht $4 fill 1 with .nw at $1,-$2 }\nbox wid maxpswid ht maxpsht with .nw at 0,0\n")))
+
+-- the box of one rectangle
+abbrev pub pic_rect : ℕ → ℕ → ℕ → ℕ → List ℕ → List ℕ
+pic_rect left top width height text =
+    text ++ (codes "p(" ++ (decimal left ++ (codes "," ++ (decimal top ++ (codes "," ++ (decimal width ++ (codes "," ++ (decimal height ++ codes ")\n"))))))))
+
+-- what its column determines of a box, and what its row and its sides do
+abbrev pub pic_column : ℕ → List ℕ × List ℕ
+pic_column left = (codes "p(" ++ decimal left ++ codes ",", [])
+
+abbrev pub pic_row : ℕ → ℕ → ℕ → List ℕ × List ℕ
+pic_row top width height = (decimal top ++ codes "," ++ decimal width ++ codes "," ++ decimal height, codes ")\n")
+
+-- a box is that of its column and of its row and its sides
+pub pic_rect-is : (left top width height : ℕ) (text : List ℕ) → pic_rect left top width height text ≡ text ++ rect_text (pic_column left) (pic_row top width height)
+pic_rect-is left top width height text =
+    regroup text (codes "p(") (decimal left) (codes ",") (decimal top) (codes ",") (decimal width) (codes ",") (decimal height) [] [] [] (codes ")\n")
+
+-- nothing stands behind the last box
+abbrev pub pic_end : List ℕ
+pic_end = []
+
+-- the picture of modules
+abbrev pub pic_text : Layout → List Color → List ℕ
+pic_text at content = drawn pic_rect at content (pic_start (pixels_across at) (pixels_down at)) ++ pic_end

@@ -1,5 +1,0 @@
-mod Digits
-mod Framed
-mod Pieces
-mod Rasters
-mod Shown
