@@ -31,6 +31,8 @@ def told_header(kind, *numbers):
     """A header, in the words of evidence/others/symbols/make."""
     if kind == "symbol":
         return "symbol {} of {}, parity {}".format(*numbers)
+    if kind == "FNC1":
+        numbers = [f"{it:02}" if it < 100 else chr(it - 100) for it in numbers]
     return " ".join(map(str, (kind, *numbers)))
 
 
@@ -50,7 +52,7 @@ def other_encoders():
         said = told_of(square)
         it = not_alike(square) if said == wanted else f"{said} and not {wanted}"
         found += [it] if it else []
-    return found + ([] if count == 198 else ["there are not 198"]), f"{count} squares"
+    return found + ([] if count == 204 else ["there are not 204"]), f"{count} squares"
 
 
 def printed_symbols():

@@ -1,12 +1,12 @@
 //! The symbols of elements.
 
-use crate::common::{Row, check, of_pushes};
+use crate::common::{Row, check, is_drawn, of_pushes};
 use qrcode::QrCode;
 use qrcode::types::{EcLevel, QrError, QrResult, Version};
 use qrcode_gs1::elements::Element;
 use qrcode_gs1::errors::{Cause, Gs1Error};
 use qrcode_gs1::symbol::errors::{SymbolError, SymbolResult};
-use qrcode_gs1::symbol::{are_apart, for_application, gs1};
+use qrcode_gs1::symbol::{are_apart, for_application, gs1, indicator_of};
 use qrcode_pushes::Push;
 use std::alloc::Global;
 
@@ -125,6 +125,110 @@ impl Row for OfApplication {
 #[test]
 fn data_of_an_application_is_divided(rt: HostRuntime) {
     check(&rt, rt.alloc(), &OF_APPLICATION);
+}
+
+// An application's indicator, and its number.
+struct Indicator(&'static [u8], Option<u8>);
+
+// zxing 1.4.0 reads the indicators behind these numbers in symbols of libqrencode, and no symbol with
+// the numbers 100, 164, 191, 196 and 223.
+static INDICATORS: [Indicator; 16] = [
+    Indicator(b"07", Some(7)),
+    Indicator(b"37", Some(37)),
+    Indicator(b"99", Some(99)),
+    Indicator(b"A", Some(165)),
+    Indicator(b"Z", Some(190)),
+    Indicator(b"a", Some(197)),
+    Indicator(b"z", Some(222)),
+    Indicator(b"@", None),
+    Indicator(b"[", None),
+    Indicator(b"`", None),
+    Indicator(b"{", None),
+    Indicator(b"", None),
+    Indicator(b"7", None),
+    Indicator(b"A7", None),
+    Indicator(b":0", None),
+    Indicator(b"100", None),
+];
+
+impl Row for Indicator {
+    fn holds(&self, _alloc: Global) -> bool {
+        indicator_of(self.0) == self.1
+    }
+}
+
+#[test]
+fn indicators_are_those_that_zxing_reads(rt: HostRuntime) {
+    check(&rt, rt.alloc(), &INDICATORS);
+}
+
+// A letter, and libqrencode's symbol of `AA1234BBB112` in Normal 1 at M, which zxing reads with the
+// letter in front.
+struct OfLetter(&'static [u8], &'static str);
+
+static OF_LETTERS: [OfLetter; 2] = [OfLetter(b"A", OF_A), OfLetter(b"z", OF_Z)];
+
+const OF_A: &str = "\
+#######.....#.#######
+#.....#.###...#.....#
+#.###.#...#.#.#.###.#
+#.###.#.......#.###.#
+#.###.#.#.###.#.###.#
+#.....#..###..#.....#
+#######.#.#.#.#######
+..........#..........
+#.#.#.#..##.#...#..#.
+.#..#...####..#..#.##
+.####.#.#..#.#..#####
+.....#...#.###....##.
+.###..#..###..##..#.#
+........#....#..#.###
+#######..#..#.##..#.#
+#.....#..#.....#.#...
+#.###.#.###.####..###
+#.###.#..###..###..##
+#.###.#.##.#....###..
+#.....#...####.##.#..
+#######.#..#..#.#....";
+
+const OF_Z: &str = "\
+#######...#.#.#######
+#.....#.#.###.#.....#
+#.###.#...##..#.###.#
+#.###.#..##.#.#.###.#
+#.###.#.#..##.#.###.#
+#.....#...##..#.....#
+#######.#.#.#.#######
+.........##..........
+#.#.#.#..#..#...#..#.
+...###.#.###..#..#.##
+##.#..###..#.#..#####
+.###...#.#####....##.
+##.##.#.#..#..##..#.#
+........###..#..#.###
+#######..##.#.##..#.#
+#.....#..#.....#.#.##
+#.###.#.###.####..##.
+#.###.#..###..###....
+#.###.#.##.#....####.
+#.....#..#####.##.#..
+#######.#..#..#.#....";
+
+impl Row for OfLetter {
+    fn holds(&self, alloc: Global) -> bool {
+        let Some(application) = indicator_of(self.0) else {
+            return false;
+        };
+        match for_application(alloc, application, b"AA1234BBB112", EcLevel::M) {
+            Ok(code) => is_drawn(alloc, &code, self.1),
+            Err(_) => false,
+        }
+    }
+}
+
+#[test]
+fn a_letter_stands_behind_the_mark(rt: HostRuntime) {
+    check(&rt, rt.alloc(), &OF_LETTERS);
 }
 
 #[test]
