@@ -147,8 +147,8 @@ impl<'a> Grid<'a> {
         }
     }
 
-    /// The same of a square of cells that are bytes, `side` in a row and in a column: those that are
-    /// not zero are dark.
+    /// The same of a square of cells that are bytes, `side` in a row and in a column: those that
+    /// are not zero are dark.
     pub fn of_bytes(cells: &'a [u8], side: u32, zone: u32, across: u32, down: u32) -> Grid<'a>
         requires square { length cells.now ≡ side * side }
         requires side_fits { side + 2 * zone < 2 ^ 32 }
