@@ -6,8 +6,8 @@ ghost use Rattle.qrcode_masks.specs.Penalty.{normal_penalty, micro_penalty};
 
 pub use crate::columns::last_column;
 use crate::columns::{column_finder_penalties, column_run_penalties};
-use crate::rows::{dark_count, light_count, row_and_block_penalties};
 use crate::row::PackedRow;
+use crate::rows::{dark_count, light_count, row_and_block_penalties};
 use crate::square::PackedSquare;
 
 /// The penalty of a square of a Normal version by its dark modules (ISO/IEC 18004:2006, 6.8.3).
