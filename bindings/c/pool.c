@@ -9,7 +9,7 @@ struct rattle_request {
     unsigned char *bytes; /* not null, even where it is not served */
 };
 
-static _Alignas(16) unsigned char pool[256 * 1024];
+static _Alignas(16) unsigned char pool[1024 * 1024];
 static size_t used, live;
 size_t pool_requests, pool_refused = (size_t)-1, pool_most;
 

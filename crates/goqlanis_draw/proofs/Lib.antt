@@ -1,3 +1,4 @@
 mod Choices
+mod Inks
 mod Pieces
 mod Segmented

@@ -27,30 +27,32 @@ pub fn draw_in(alloc: Global, format: Format, picture: &Picture<'_>) -> QrResult
     ensures memory { IsOkUnless result OutOfMemory }
 {
     let (dark, light) = (picture.dark, picture.light);
-    let text = match format {
-        Format::HalfBlocks => ended(picture, half_blocks(alloc, picture)?)?,
+    match format {
+        Format::HalfBlocks => lines(picture, half_blocks(alloc, picture)?),
         Format::LightHalfBlocks => {
-            ended(
+            lines(
                 picture,
                 drawn(alloc, picture, Dense1x2::Light, Dense1x2::Dark)?,
-            )?
+            )
         }
-        Format::Terminal => return coloured(alloc, &half_blocks(alloc, picture)?),
-        Format::Chars => ended(picture, drawn(alloc, picture, '\u{2588}', ' ')?)?,
-        Format::Png => return png(alloc, picture),
-        Format::Svg => drawn(
-            alloc,
-            picture,
-            svg::Color(dark.name),
-            svg::Color(light.name),
-        )?,
-        Format::Eps => drawn(alloc, picture, eps_ink(dark), eps_ink(light))?,
-        Format::Pic => drawn(alloc, picture, pic::Color, pic::Color)?,
-        Format::Pbm => return drawn(alloc, picture, Bit::Black, Bit::White),
-        Format::Pgm => return drawn(alloc, picture, pgm::Grey(0), pgm::Grey(255)),
-        Format::Grey => return Ok(drawn(alloc, picture, Luma([0]), Luma([255]))?.into_raw()),
-    };
-    Ok(text.into_bytes())
+        Format::Terminal => coloured(alloc, &half_blocks(alloc, picture)?),
+        Format::Chars => lines(picture, drawn(alloc, picture, '\u{2588}', ' ')?),
+        Format::Png => png(alloc, picture),
+        Format::Svg => {
+            let text = drawn(
+                alloc,
+                picture,
+                svg::Color(dark.name),
+                svg::Color(light.name),
+            )?;
+            Ok(text.into_bytes())
+        }
+        Format::Eps => Ok(drawn(alloc, picture, eps_ink(dark), eps_ink(light))?.into_bytes()),
+        Format::Pic => Ok(drawn(alloc, picture, pic::Color, pic::Color)?.into_bytes()),
+        Format::Pbm => drawn(alloc, picture, Bit::Black, Bit::White),
+        Format::Pgm => drawn(alloc, picture, pgm::Grey(0), pgm::Grey(255)),
+        Format::Grey => Ok(drawn(alloc, picture, Luma([0]), Luma([255]))?.into_raw()),
+    }
 }
 
 // A picture of pixels that stand for dark and light unless these are exchanged.
@@ -109,15 +111,15 @@ fn per_metre(dpi: u16) -> u32
 }
 
 // Lines of characters, with a newline at the end where there is to be one.
-fn ended(picture: &Picture<'_>, mut text: String) -> QrResult<String>
+fn lines(picture: &Picture<'_>, mut text: String) -> QrResult<Vec<u8>>
     ensures value { IfOk result (λ lines.
-        string_bytes lines ≡ ended (view_of picture.now) (string_bytes text)) }
+        lines.items ≡ ended (view_of picture.now) (string_bytes text)) }
     ensures memory { IsOkUnless result OutOfMemory }
 {
     if picture.ends_lines {
         text.push('\n')?;
     }
-    Ok(text)
+    Ok(text.into_bytes())
 }
 
 // A colour of EPS.

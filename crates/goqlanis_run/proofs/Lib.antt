@@ -1,0 +1,3 @@
+mod Dating
+mod Labelling
+mod Placing

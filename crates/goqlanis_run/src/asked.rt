@@ -1,9 +1,11 @@
 //! From the command line to what is asked for.
 
-use crate::failure::{Failure, usage, wrong};
+use crate::failure::{Failure, usage};
 use crate::segments::two_digits;
+use clap::ArgMatches;
+use clap::parser::ValueSource;
+use goqlanis_draw::formats::{format_named, format_of_ending};
 use goqlanis_draw::{Choice, Format, Ink, Request};
-use goqlanis_options::Given;
 use qrcode::bits::Manner;
 use qrcode::types::{EcLevel, Version};
 use qrcode_png::GREATEST_SIDE;
@@ -52,25 +54,25 @@ pub(crate) struct Asked<'a> {
     pub is_by_line: bool,
 }
 
-/// What is asked for by the options that are given. `has_colours`: the drawing goes to a terminal that may show colours.
+/// What is asked for by the options that are given. `has_colours`: the drawing goes to a terminal
+/// that may show colours.
 pub(crate) fn asked_for<'a>(
     alloc: Global,
-    given: &Given<'a>,
+    given: &ArgMatches<'a>,
     has_colours: bool,
 ) -> Result<Asked<'a>, Failure> {
-    if let Some(text) = not_together(given).or(not_with_flag(given)) {
+    if let Some(text) = not_together(given) {
         return usage(alloc, text);
     }
     let target = target_of(given);
     let request = request_of(alloc, given, target, has_colours)?;
-    let writing = writing_of(alloc, given)?;
     Ok(Asked {
         request,
-        writing,
+        writing: writing_of(given),
         source: source_of(given),
         target,
-        trims: given.has_flag("trim"),
-        is_by_line: given.has_flag("lines"),
+        trims: given.get_flag("trim"),
+        is_by_line: given.get_flag("lines"),
     })
 }
 
@@ -80,13 +82,9 @@ static NOT_TOGETHER: &[(&str, &str, &str)] = &[
     ("segment", "TEXT", "--segment is the data: leave out TEXT and --input"),
     ("segment", "input", "--segment is the data: leave out TEXT and --input"),
     ("TEXT", "input", "TEXT and --input: one of them is enough"),
+    ("bytes", "eci", "--bytes and --eci: one of them is enough"),
     ("version", "least-version", "--version and --least-version: one of them is enough"),
     ("scale", "size", "--scale and --size: one of them is enough"),
-];
-
-// Options and flags that do not go together, and what is said of them.
-#[rattlefmt::skip]
-static NOT_WITH_FLAG: &[(&str, &str, &str)] = &[
     ("segment", "trim", "--segment and --trim: one of them is enough"),
     ("segment", "lines", "--segment and --lines: one of them is enough"),
     ("segment", "bytes", "--segment and --bytes: one of them is enough"),
@@ -98,80 +96,90 @@ static NOT_WITH_FLAG: &[(&str, &str, &str)] = &[
 ];
 
 // What is said of options that do not go together.
-fn not_together(given: &Given<'_>) -> Option<&'static str> {
+fn not_together(given: &ArgMatches<'_>) -> Option<&'static str> {
     for (one, other, text) in NOT_TOGETHER {
-        if given.has(*one) && given.has(*other) {
+        if is_given(given, one) && is_given(given, other) {
             return Some(*text);
         }
     }
     None
 }
 
-// What is said of an option and a flag that do not go together.
-fn not_with_flag(given: &Given<'_>) -> Option<&'static str> {
-    for (option, flag, text) in NOT_WITH_FLAG {
-        if given.has(*option) && given.has_flag(*flag) {
-            return Some(*text);
-        }
-    }
-    None
+// Whether the command line has an option, or the word beside options. (A flag that it lacks has a
+// default.)
+fn is_given(given: &ArgMatches<'_>, name: &str) -> bool {
+    given.value_source(name) == Some(ValueSource::CommandLine)
 }
 
-fn source_of<'a>(given: &Given<'a>) -> Source<'a> {
-    match (given.get("TEXT"), given.get("input")) {
+fn source_of<'a>(given: &ArgMatches<'a>) -> Source<'a> {
+    match (given.get_str("TEXT"), given.get_str("input")) {
         (Some(text), _) => Source::Text(text),
         (None, None | Some("-")) => Source::StandardInput,
         (None, Some(path)) => Source::File(path),
     }
 }
 
-fn target_of<'a>(given: &Given<'a>) -> Target<'a> {
-    match given.get("output") {
+fn target_of<'a>(given: &ArgMatches<'a>) -> Target<'a> {
+    match given.get_str("output") {
         None => Target::Terminal,
         Some("-") => Target::StandardOutput,
         Some(path) => Target::File(path),
     }
 }
 
-fn writing_of(alloc: Global, given: &Given<'_>) -> Result<Writing, Failure> {
-    match (given.has_flag("bytes"), given.has_flag("eci")) {
-        (true, true) => usage(alloc, "--bytes and --eci: one of them is enough"),
-        (true, false) => Ok(Writing::Bytes),
-        (false, true) => Ok(Writing::Marked),
-        (false, false) => Ok(Writing::ByItself),
+fn writing_of(given: &ArgMatches<'_>) -> Writing {
+    if given.get_flag("bytes") {
+        Writing::Bytes
+    } else if given.get_flag("eci") {
+        Writing::Marked
+    } else {
+        Writing::ByItself
     }
 }
 
 // Which version is taken: the one that is asked for, or the least from one on.
-fn choice_of(alloc: Global, given: &Given<'_>) -> Result<Choice, Failure> {
-    if let Some(name) = given.get("version") {
-        return match version(name) {
-            Some(version) => Ok(Choice::At(version)),
-            None => Err(no_version(alloc, "version", name)),
-        };
+fn choice_of(alloc: Global, given: &ArgMatches<'_>) -> Result<Choice, Failure> {
+    if let Some(version) = version_of(alloc, given, "version")? {
+        return Ok(Choice::At(version));
     }
-    let first = if given.has_flag("micro") { "M1" } else { "1" };
-    let name = given.get("least-version").unwrap_or(first);
-    match version(name) {
-        Some(version) if given.has_flag("boost") => Ok(Choice::Boosted(version)),
-        Some(version) => Ok(Choice::From(version)),
-        None => Err(no_version(alloc, "least-version", name)),
+    let first = if given.get_flag("micro") {
+        Version::Micro(1)
+    } else {
+        Version::Normal(1)
+    };
+    let least = version_of(alloc, given, "least-version")?.unwrap_or(first);
+    if given.get_flag("boost") {
+        Ok(Choice::Boosted(least))
+    } else {
+        Ok(Choice::From(least))
     }
 }
 
-// The refusal of a name that is no version's.
-fn no_version(alloc: Global, option: &str, name: &str) -> Failure {
-    wrong(format!(in alloc; "--{option} {name}: there are 1 to 40, and M1 to M4"))
+// The version that an option names, where it is given.
+fn version_of(
+    alloc: Global,
+    given: &ArgMatches<'_>,
+    option: &str,
+) -> Result<Option<Version>, Failure> {
+    let Some(name) = given.get_str(option) else {
+        return Ok(None);
+    };
+    match version(name) {
+        Some(version) => Ok(Some(version)),
+        None => Err(Failure::Usage(format!(in alloc;
+            "--{option} {name}: there are 1 to 40, and M1 to M4"
+        )?)),
+    }
 }
 
 fn request_of<'a>(
     alloc: Global,
-    given: &Given<'a>,
+    given: &ArgMatches<'a>,
     target: Target<'a>,
     has_colours: bool,
 ) -> Result<Request<'a>, Failure> {
     let choice = choice_of(alloc, given)?;
-    let format = format(alloc, given.get("format"), target, has_colours)?;
+    let format = format(alloc, given.get_str("format"), target, has_colours)?;
     if let Some(text) = wrong_for(given, format) {
         return usage(alloc, text);
     }
@@ -181,7 +189,7 @@ fn request_of<'a>(
 // The request in a format, by which version is taken.
 fn request_in<'a>(
     alloc: Global,
-    given: &Given<'a>,
+    given: &ArgMatches<'a>,
     choice: Choice,
     format: Format,
 ) -> Result<Request<'a>, Failure> {
@@ -190,39 +198,39 @@ fn request_in<'a>(
     Ok(Request {
         manner: Manner::Text,
         choice,
-        level: level(given.get("level")),
+        level: level(given.get_str("level")),
         format,
-        zone: given.number::<u8>("quiet-zone"),
+        zone: given.get_one::<u8>("quiet-zone"),
         scale,
         size,
-        dpi: given.number::<u16>("dpi"),
+        dpi: given.get_one::<u16>("dpi"),
         dark,
         light,
-        is_inverted: given.has_flag("invert"),
+        is_inverted: given.get_flag("invert"),
     })
 }
 
 // The colours of dark and of light modules.
 fn inks<'a>(
     alloc: Global,
-    given: &Given<'a>,
+    given: &ArgMatches<'a>,
     format: Format,
 ) -> Result<(Ink<'a>, Ink<'a>), Failure> {
-    let dark = ink(alloc, given.get("colour"), "#000", format)?;
-    let light = ink(alloc, given.get("background"), "#fff", format)?;
+    let dark = ink(alloc, given.get_str("colour"), "#000", format)?;
+    let light = ink(alloc, given.get_str("background"), "#fff", format)?;
     Ok((dark, light))
 }
 
 // What is said of options that a format does not have.
-fn wrong_for(given: &Given<'_>, format: Format) -> Option<&'static str> {
-    let has_colours = matches!(format, Format::Svg | Format::Eps | Format::Png);
-    if !has_colours && given.has("colour") {
+fn wrong_for(given: &ArgMatches<'_>, format: Format) -> Option<&'static str> {
+    let has_colours = format.has_colours();
+    if !has_colours && given.contains_id("colour") {
         Some("--colour: PNG, SVG and EPS alone have colours; add --format png, svg or eps")
-    } else if !has_colours && given.has("background") {
+    } else if !has_colours && given.contains_id("background") {
         Some("--background: PNG, SVG and EPS alone have colours; add --format png, svg or eps")
-    } else if format != Format::Png && given.has("dpi") {
+    } else if format != Format::Png && given.contains_id("dpi") {
         Some("--dpi: PNG alone names its dots per inch; EPS has a point for a pixel, 72 to an inch")
-    } else if format == Format::Pic && given.has_flag("invert") {
+    } else if format == Format::Pic && given.get_flag("invert") {
         Some("--invert: PIC draws no light modules; take another --format")
     } else {
         None
@@ -230,18 +238,20 @@ fn wrong_for(given: &Given<'_>, format: Format) -> Option<&'static str> {
 }
 
 // The pixels of a module, and those of a side where they are asked for.
-fn sizes(alloc: Global, given: &Given<'_>, format: Format) -> Result<(u16, Option<u16>), Failure> {
-    let (scale, size) = (given.number::<u16>("scale"), given.number::<u16>("size"));
-    let scale = scale.unwrap_or(match format {
-        Format::HalfBlocks | Format::Terminal | Format::Chars | Format::Pic => 1,
-        _ => 8,
-    });
-    let zone = given.number::<u8>("quiet-zone").unwrap_or(4);
+fn sizes(
+    alloc: Global,
+    given: &ArgMatches<'_>,
+    format: Format,
+) -> Result<(u16, Option<u16>), Failure> {
+    let (scale, size) = (given.get_one::<u16>("scale"), given.get_one::<u16>("size"));
+    let scale = scale.unwrap_or(format.pixels());
+    let zone = given.get_one::<u8>("quiet-zone").unwrap_or(4);
     let most = GREATEST_SIDE / (177 + 2 * zone as u32);
     if format == Format::Png && scale as u32 > most {
-        return Err(wrong(format!(in alloc;
-            "--scale {scale}: a PNG file has at most 65,535 pixels a side; take --scale {most} or less"
-        )));
+        return Err(Failure::Usage(format!(in alloc;
+            "--scale {scale}: a PNG file has at most 65,535 pixels a side; \
+            take --scale {most} or less"
+        )?));
     }
     Ok((scale, size))
 }
@@ -276,16 +286,17 @@ fn format(
     has_colours: bool,
 ) -> Result<Format, Failure> {
     if let Some(name) = name {
-        return Ok(named_format(name).unwrap_or(Format::HalfBlocks));
+        return Ok(format_named(name).unwrap_or(Format::HalfBlocks));
     }
     match target {
         Target::Terminal if has_colours => Ok(Format::Terminal),
         Target::Terminal | Target::StandardOutput => Ok(Format::HalfBlocks),
         Target::File(path) => match ending_format(path) {
             Some(format) => Ok(format),
-            None => Err(wrong(format!(in alloc;
-                "--output {path}: its ending is none of .txt .png .svg .eps .pic .pbm .pgm; add --format"
-            ))),
+            None => Err(Failure::Usage(format!(in alloc;
+                "--output {path}: its ending is none of .txt .png .svg .eps .pic .pbm .pgm; \
+                add --format"
+            )?)),
         },
     }
 }
@@ -293,31 +304,7 @@ fn format(
 // The format of the ending of a file's name.
 fn ending_format(path: &str) -> Option<Format> {
     let (_, ending) = path.rsplit_once('.')?;
-    named_format(ending)
-}
-
-// Names of formats, and endings of files.
-static FORMATS: &[(&str, Format)] = &[
-    ("half-blocks", Format::HalfBlocks),
-    ("txt", Format::HalfBlocks),
-    ("terminal", Format::Terminal),
-    ("text", Format::Chars),
-    ("png", Format::Png),
-    ("svg", Format::Svg),
-    ("eps", Format::Eps),
-    ("pic", Format::Pic),
-    ("pbm", Format::Pbm),
-    ("pgm", Format::Pgm),
-];
-
-// The format of a name, or of a file's ending, in capitals or not.
-fn named_format(name: &str) -> Option<Format> {
-    for (known, format) in FORMATS {
-        if known.eq_ignore_ascii_case(name) {
-            return Some(*format);
-        }
-    }
-    None
+    format_of_ending(ending)
 }
 
 // A colour: # and three or six digits to the base 16, or in SVG a name of letters.
@@ -345,7 +332,9 @@ fn ink<'a>(
     } else {
         "; names are for SVG"
     };
-    Err(wrong(format!(in alloc; "{name} is no colour: # and three or six digits 0 to f{names}")))
+    Err(Failure::Usage(format!(in alloc;
+        "{name} is no colour: # and three or six digits 0 to f{names}"
+    )?))
 }
 
 // The colour of # and three or six digits to the base 16.

@@ -1,16 +1,15 @@
 //! Drawings, made and written.
 
 use crate::asked::{Asked, Target, Writing};
-use crate::failure::{Failure, refusal, refused, wrong};
+use crate::contents::Elements;
+use crate::failure::{Failure, refused};
 use crate::segments::{Pieces, characters_of};
 use crate::streams::{print, write_file};
-use goqlanis_contents::Elements;
 use goqlanis_draw::{
     Request, Segment, application_refusal_text, draw, draw_elements, draw_for_application,
     draw_segments, elements_refusal_text, manner_of, refusal_text, segments_refusal_text,
     unwritable,
 };
-use goqlanis_options::Given;
 use qrcode::bits::Manner;
 use qrcode::types::QrError;
 use qrcode_gs1::elements::Element;
@@ -36,18 +35,21 @@ pub(crate) fn draw_one(
     let drawing = match draw(alloc, &request, bytes) {
         Ok(drawing) => drawing,
         Err(QrError::OutOfMemory) => return Err(Failure::OutOfMemory),
-        Err(error) => return Err(refusal(refusal_text(alloc, &request, bytes.len(), error))),
+        Err(error) => {
+            let why = refusal_text(alloc, &request, bytes.len(), error)?;
+            return Err(Failure::Refused(why));
+        }
     };
     write_drawing(rt, asked, &drawing, number)
 }
 
-/// The drawing of segments by hand.
+/// The drawing of segments by hand, of words MODE:TEXT.
 pub(crate) fn segments_drawing(
     alloc: Global,
     request: &Request<'_>,
-    given: &Given<'_>,
+    words: &[&str],
 ) -> Result<Vec<u8>, Failure> {
-    let pieces = Pieces::read(alloc, &given.all(alloc, "segment")?)?;
+    let pieces = Pieces::read(alloc, words)?;
     drawing_of_segments(alloc, request, &pieces.segments(alloc)?)
 }
 
@@ -63,12 +65,15 @@ fn drawing_of_segments(
             None => "",
         };
         let number = place.saturating_add(1);
-        return Err(refusal(format!(in alloc; "segment {number}: {why}")));
+        return Err(Failure::Refused(format!(in alloc; "segment {number}: {why}")?));
     }
     match draw_segments(alloc, request, segments) {
         Ok(drawing) => Ok(drawing),
         Err(QrError::OutOfMemory) => Err(Failure::OutOfMemory),
-        Err(error) => Err(refusal(segments_refusal_text(alloc, request, segments, error))),
+        Err(error) => {
+            let why = segments_refusal_text(alloc, request, segments, error)?;
+            Err(Failure::Refused(why))
+        }
     }
 }
 
@@ -92,10 +97,11 @@ fn drawing_of_elements(
     match draw_elements(alloc, request, elements) {
         Ok(drawing) => Ok(drawing),
         Err(SymbolError::Elements(Gs1Error::Refused(index, cause))) => {
-            Err(refusal(read.refusal(alloc, index, cause)))
+            Err(Failure::Refused(read.refusal(alloc, index, cause)?))
         }
         Err(SymbolError::Symbol(QrError::DataTooLong)) => {
-            Err(refusal(elements_refusal_text(alloc, request, elements)))
+            let why = elements_refusal_text(alloc, request, elements)?;
+            Err(Failure::Refused(why))
         }
         Err(SymbolError::Elements(_) | SymbolError::Symbol(_)) => Err(Failure::OutOfMemory),
     }
@@ -109,9 +115,9 @@ pub(crate) fn application_drawing(
     data: &str,
 ) -> Result<Vec<u8>, Failure> {
     let Some(application) = indicator_of(indicator.as_bytes()) else {
-        return Err(wrong(format!(in alloc;
+        return Err(Failure::Usage(format!(in alloc;
             "--application {indicator}: an indicator is two digits or one letter, as 37 or a"
-        )));
+        )?));
     };
     if data.is_empty() {
         return refused(
@@ -123,7 +129,10 @@ pub(crate) fn application_drawing(
     match draw_for_application(alloc, request, application, bytes) {
         Ok(drawing) => Ok(drawing),
         Err(QrError::OutOfMemory) => Err(Failure::OutOfMemory),
-        Err(_) => Err(refusal(application_refusal_text(alloc, request, application, bytes))),
+        Err(_) => {
+            let why = application_refusal_text(alloc, request, application, bytes)?;
+            Err(Failure::Refused(why))
+        }
     }
 }
 
@@ -143,7 +152,8 @@ pub(crate) fn write_drawing(
         (Target::Terminal, _) if !asked.request.format.is_text() && rt.stdout().is_terminal() => {
             refused(
                 rt.alloc(),
-                "a picture of bytes is not for a terminal: add --output FILE, or --output - to see it",
+                "a picture of bytes is not for a terminal: \
+                add --output FILE, or --output - to see it",
             )
         }
         (Target::Terminal | Target::StandardOutput, _) => print(rt, drawing),

@@ -5,9 +5,9 @@ use std::io::{ErrorKind, Write};
 use std::rt::Files;
 use std::{fs, io};
 
-/// Writes a file whole or not at all: beside it under another name, and renamed into its place, with
-/// the permissions of the file that stood there. A link is followed. What is no regular file, as a
-/// pipe, is written straight.
+/// Writes a file whole or not at all: beside it under another name, and renamed into its place,
+/// with the permissions of the file that stood there. A link is followed. What is no regular file,
+/// as a pipe, is written straight.
 pub(crate) fn write_whole<R: Files + AllocGlobal>(
     rt: &R,
     path: &str,
@@ -25,8 +25,8 @@ pub(crate) fn write_whole<R: Files + AllocGlobal>(
     }
 }
 
-// Writes what a link names, as that is written by its own name. (A link to nothing is written straight,
-// which makes what it names.)
+// Writes what a link names, as that is written by its own name. (A link to nothing is written
+// straight, which makes what it names.)
 fn write_linked<R: Files + AllocGlobal>(rt: &R, link: &str, bytes: &[u8]) -> io::Result<()> {
     match fs::metadata(rt, link) {
         Ok(old) if old.is_file() => {

@@ -1,16 +1,21 @@
-//! What `goqlanis` does with what it is asked: it reads data, draws it or reads a picture, and writes files.
+//! What `goqlanis` does: it reads the command line, reads data and draws it or reads a picture, and
+//! writes files.
 #![tactic(auto)]
 
 mod asked;
+mod command;
+mod completions;
+mod contents;
 mod drawing;
 mod failure;
 mod files;
 mod lines;
+mod manual;
+mod options;
 mod progress;
 mod reading;
 mod segments;
 mod streams;
 mod tasks;
 
-pub use failure::{Failure, status};
-pub use tasks::{obey, words};
+pub use tasks::run;

@@ -7,7 +7,7 @@ use crate::progress::Progress;
 use std::io::IsTerminal;
 use std::process::ExitCode;
 
-/// Draws each line; a line that is refused is told by its number, and the others are drawn.
+/// Draws each line. A line that is refused is reported with its number, and the others are drawn.
 pub(crate) fn draw_lines(
     rt: &HostRuntime,
     asked: &Asked<'_>,

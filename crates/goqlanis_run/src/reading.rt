@@ -1,9 +1,9 @@
 //! `goqlanis read`: a picture, read back.
 
-use crate::failure::{Failure, refusal};
+use crate::failure::Failure;
 use crate::streams::{print, read_file, read_standard_input, write_file};
+use clap::ArgMatches;
 use goqlanis_draw::{Scan, Unread, read_picture};
-use goqlanis_options::Given;
 use qrcode::types::Version;
 use qrcode_reader::spell::Header;
 use qrcode_reader::{Position, Reading, WrongCodeword};
@@ -11,18 +11,18 @@ use std::alloc::{AllocError, Global};
 use std::process::ExitCode;
 
 /// Reads the picture that the command line names, and writes its data.
-pub(crate) fn read(rt: &HostRuntime, given: &Given<'_>) -> Result<ExitCode, Failure> {
-    let (name, bytes) = match given.get("PICTURE") {
+pub(crate) fn read(rt: &HostRuntime, given: &ArgMatches<'_>) -> Result<ExitCode, Failure> {
+    let (name, bytes) = match given.get_str("PICTURE") {
         None | Some("-") => ("standard input", read_standard_input(rt, "a picture")?),
         Some(path) => (path, read_file(rt, path)?),
     };
     let scan = scan_of(rt.alloc(), name, &bytes)?;
-    if given.has_flag("verbose") {
+    if given.get_flag("verbose") {
         let text = description(rt.alloc(), &scan)?;
         let _ = eprint!(rt; "{text}");
     }
     let data = scan.any.reading.data.as_slice();
-    match given.get("output") {
+    match given.get_str("output") {
         None | Some("-") => print(rt, data),
         Some(path) => write_file(rt, path, data),
     }
@@ -33,7 +33,7 @@ fn scan_of(alloc: Global, name: &str, bytes: &[u8]) -> Result<Scan, Failure> {
     match read_picture(alloc, bytes) {
         Ok(scan) => Ok(scan),
         Err(Unread::OutOfMemory) => Err(Failure::OutOfMemory),
-        Err(error) => Err(refusal(format!(in alloc; "cannot read {name}: {error}"))),
+        Err(error) => { Err(Failure::Refused(format!(in alloc; "cannot read {name}: {error}")?)) }
     }
 }
 
@@ -101,7 +101,8 @@ fn push_header(text: &mut String, header: Header) -> Result<(), AllocError> {
     }
 }
 
-// FNC1 in second position, and its application: two digits, or a letter, which stands as its code and 100.
+// FNC1 in second position, and its application: two digits, or a letter, which stands as its code
+// and 100.
 fn push_application(text: &mut String, indicator: u8) -> Result<(), AllocError> {
     text.push_str("header: FNC1 in second position, application ")?;
     let code = indicator.saturating_sub(100);

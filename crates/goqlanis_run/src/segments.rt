@@ -2,7 +2,7 @@
 
 ghost use Rattle.std.specs.Prelude.{◌≤◌, IfSome};
 
-use crate::failure::{Failure, wrong};
+use crate::failure::Failure;
 use goqlanis_draw::Segment;
 use qrcode::types::Mode;
 use std::alloc::{AllocError, Global};
@@ -15,7 +15,8 @@ pub(crate) struct Pieces {
 }
 
 impl Pieces {
-    /// The segments of words MODE:TEXT, of which the text of Kanji is Shift JIS in digits to the base 16.
+    /// The segments of words MODE:TEXT, of which the text of Kanji is Shift JIS in digits to the
+    /// base 16.
     pub(crate) fn read(alloc: Global, words: &[&str]) -> Result<Pieces, Failure> {
         let mut pieces = Pieces {
             bytes: Vec::new(alloc),
@@ -30,16 +31,18 @@ impl Pieces {
     // Appends the segment of a word.
     fn push(&mut self, alloc: Global, word: &str) -> Result<(), Failure> {
         let Some((mode, text)) = parts(word) else {
-            return Err(wrong(format!(in alloc;
-                "--segment {word}: it wants MODE:TEXT, of the modes numeric, alphanumeric, byte and kanji"
-            )));
+            return Err(Failure::Usage(format!(in alloc;
+                "--segment {word}: it wants MODE:TEXT, \
+                of the modes numeric, alphanumeric, byte and kanji"
+            )?));
         };
         if mode != Mode::Kanji {
             self.bytes.extend_from_slice(text.as_bytes())?;
         } else if !push_digits(&mut self.bytes, text.as_bytes())? {
-            return Err(wrong(format!(in alloc;
-                "--segment {word}: the text of kanji is Shift JIS in pairs of digits 0 to f, as 935f"
-            )));
+            return Err(Failure::Usage(format!(in alloc;
+                "--segment {word}: the text of kanji is Shift JIS in pairs of digits 0 to f, \
+                as 935f"
+            )?));
         }
         self.ends.push((mode, self.bytes.len()))?;
         Ok(())

@@ -1,6 +1,6 @@
 //! What comes in and goes out, whole.
 
-use crate::failure::{Failure, refusal};
+use crate::failure::Failure;
 use crate::files::write_whole;
 use std::io::{IsTerminal, Read, Write};
 use std::process::ExitCode;
@@ -26,7 +26,9 @@ pub(crate) fn print(rt: &HostRuntime, bytes: &[u8]) -> Result<ExitCode, Failure>
 pub(crate) fn write_file(rt: &HostRuntime, path: &str, bytes: &[u8]) -> Result<ExitCode, Failure> {
     match write_whole(rt, path, bytes) {
         Ok(()) => Ok(ExitCode::SUCCESS),
-        Err(error) => { Err(refusal(format!(in rt.alloc(); "cannot write {path}: {error}"))) }
+        Err(error) => {
+            Err(Failure::Refused(format!(in rt.alloc(); "cannot write {path}: {error}")?))
+        }
     }
 }
 
@@ -34,7 +36,9 @@ pub(crate) fn write_file(rt: &HostRuntime, path: &str, bytes: &[u8]) -> Result<E
 pub(crate) fn read_file(rt: &HostRuntime, path: &str) -> Result<Vec<u8>, Failure> {
     match fs::read(rt, path) {
         Ok(bytes) => Ok(bytes),
-        Err(error) => { Err(refusal(format!(in rt.alloc(); "cannot read {path}: {error}"))) }
+        Err(error) => {
+            Err(Failure::Refused(format!(in rt.alloc(); "cannot read {path}: {error}")?))
+        }
     }
 }
 
@@ -47,7 +51,7 @@ pub(crate) fn read_standard_input(rt: &HostRuntime, what: &str) -> Result<Vec<u8
     match rt.stdin().read_to_end(&mut bytes) {
         Ok(_) => Ok(bytes),
         Err(error) => {
-            Err(refusal(format!(in rt.alloc(); "cannot read standard input: {error}")))
+            Err(Failure::Refused(format!(in rt.alloc(); "cannot read standard input: {error}")?))
         }
     }
 }

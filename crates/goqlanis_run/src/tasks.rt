@@ -1,44 +1,53 @@
 //! What the command line asks for, done.
 
 use crate::asked::{Asked, Source, asked_for};
+use crate::command::command_of;
+use crate::completions::completions_of;
+use crate::contents::text_of;
 use crate::drawing::{
     application_drawing, draw_one, elements_drawing, segments_drawing, write_drawing,
 };
-use crate::failure::{Failure, refusal, refused};
+use crate::failure::{Failure, refused, status};
 use crate::lines::draw_lines;
+use crate::manual::manual_page;
+use crate::options::{Kind, Purpose, Task, task_of};
 use crate::reading::read;
 use crate::streams::{has_colours, print, read_file, read_standard_input};
-use goqlanis_contents::text_of;
-use goqlanis_options::{Given, Kind, Purpose, Task, completions_of, manual_page, task_of};
+use clap::ArgMatches;
+use clap::error::{Error, ErrorKind};
 use qrcode::QrCode;
 use qrcode::types::QrError;
 use qrcode_contents::bill;
-use qrcode_programs::Fault;
 use std::alloc::{AllocError, Global};
 use std::process::ExitCode;
+use std::{env, io};
 
-/// What the command line asks for, and its words: the title of the task, and what stands behind the word
-/// that asks for it.
-///
-/// `Refused`: a word is not UTF-8. `OutOfMemory`: memory was refused.
-pub fn words(rt: &HostRuntime) -> Result<(&'static Task, Vec<String>), Failure> {
+/// Does what the command line asks for, and returns the exit status. A failure is reported in a
+/// line on standard error.
+pub fn run(rt: &HostRuntime) -> ExitCode {
+    status(rt, run_words(rt))
+}
+
+// The same, unless it fails. The first word behind the program's name may ask for a task; `clap`
+// reads the words behind it.
+fn run_words(rt: &HostRuntime) -> Result<ExitCode, Failure> {
     let mut words = all_words(rt)?;
     let task = match words.get(1) {
         Some(word) => task_of(word.as_str()),
         None => task_of(""),
     };
     if words.len() > 1 && !task.word.is_empty() {
-        words.remove(0);
-        words[0] = String::from_str(rt.alloc(), task.title)?;
+        let word = words.remove(1);
+        words[0] = format!(in rt.alloc(); "goqlanis {word}")?;
     }
-    Ok((task, words))
+    run_task(rt, task, &words)
 }
 
 // The words of the command line.
 fn all_words(rt: &HostRuntime) -> Result<Vec<String>, Failure> {
-    match qrcode_programs::words(rt) {
+    match env::args(rt) {
         Ok(words) => Ok(words.collect(rt.alloc())?),
-        Err(Fault::NotText) => refused(
+        Err(error) if error.kind() == io::ErrorKind::InvalidData => refused(
             rt.alloc(),
             "an argument is not UTF-8: put the data into a file, and name it by --input",
         ),
@@ -46,8 +55,28 @@ fn all_words(rt: &HostRuntime) -> Result<Vec<String>, Failure> {
     }
 }
 
-/// Does a task with the options that are given, and returns the exit status.
-pub fn obey(rt: &HostRuntime, task: &Task, given: &Given<'_>) -> Result<ExitCode, Failure> {
+// Does a task as words say it, of which the first is the program's name.
+fn run_task(rt: &HostRuntime, task: &Task, words: &[String]) -> Result<ExitCode, Failure> {
+    match command_of(rt.alloc(), task)?.try_get_matches_from(words) {
+        Ok(given) => obey(rt, task, &given),
+        Err(error) => end(rt, &error),
+    }
+}
+
+// The exit status of words that `clap` refuses, or answers by a text itself, as `--help`.
+fn end(rt: &HostRuntime, error: &Error) -> Result<ExitCode, Failure> {
+    if error.kind() == ErrorKind::OutOfMemory {
+        return Err(Failure::OutOfMemory);
+    }
+    // (what is written fails where nobody reads it)
+    match error.print(rt) {
+        Ok(()) => Ok(ExitCode::from(error.exit_code() as u8)),
+        Err(_) => Ok(ExitCode::FAILURE),
+    }
+}
+
+// Does a task with the options that are given.
+fn obey(rt: &HostRuntime, task: &Task, given: &ArgMatches<'_>) -> Result<ExitCode, Failure> {
     match task.purpose {
         Purpose::Draw => draw_data(rt, given),
         Purpose::Read => read(rt, given),
@@ -57,7 +86,7 @@ pub fn obey(rt: &HostRuntime, task: &Task, given: &Given<'_>) -> Result<ExitCode
 }
 
 // Draws data, unless a text about the program is asked for.
-fn draw_data(rt: &HostRuntime, given: &Given<'_>) -> Result<ExitCode, Failure> {
+fn draw_data(rt: &HostRuntime, given: &ArgMatches<'_>) -> Result<ExitCode, Failure> {
     match text_about(rt.alloc(), given)? {
         Some(text) => print(rt, text.as_bytes()),
         None => draw_asked(rt, given, &asked_for(rt.alloc(), given, has_colours(rt))?),
@@ -65,12 +94,12 @@ fn draw_data(rt: &HostRuntime, given: &Given<'_>) -> Result<ExitCode, Failure> {
 }
 
 // The text about the program that is asked for, where one is.
-fn text_about(alloc: Global, given: &Given<'_>) -> Result<Option<String>, AllocError> {
-    if let Some(shell) = given.get("completions") {
+fn text_about(alloc: Global, given: &ArgMatches<'_>) -> Result<Option<String>, AllocError> {
+    if let Some(shell) = given.get_str("completions") {
         Ok(Some(completions_of(alloc, shell)?))
-    } else if given.has_flag("manual") {
+    } else if given.get_flag("manual") {
         Ok(Some(manual_page(alloc)?))
-    } else if given.has_flag("release") {
+    } else if given.get_flag("release") {
         Ok(Some(String::from_str(alloc, "goqlanis 1\n")?))
     } else {
         Ok(None)
@@ -78,9 +107,13 @@ fn text_about(alloc: Global, given: &Given<'_>) -> Result<Option<String>, AllocE
 }
 
 // Draws data as it is asked for.
-fn draw_asked(rt: &HostRuntime, given: &Given<'_>, asked: &Asked<'_>) -> Result<ExitCode, Failure> {
-    if given.has("segment") {
-        let drawing = segments_drawing(rt.alloc(), &asked.request, given)?;
+fn draw_asked(
+    rt: &HostRuntime,
+    given: &ArgMatches<'_>,
+    asked: &Asked<'_>,
+) -> Result<ExitCode, Failure> {
+    if let Some(words) = given.get_strs("segment") {
+        let drawing = segments_drawing(rt.alloc(), &asked.request, words)?;
         return write_drawing(rt, asked, &drawing, None);
     }
     let bytes = data(rt, asked)?;
@@ -92,7 +125,7 @@ fn draw_asked(rt: &HostRuntime, given: &Given<'_>, asked: &Asked<'_>) -> Result<
 }
 
 // Draws the text of a kind, of the fields that are given.
-fn draw_content(rt: &HostRuntime, kind: Kind, given: &Given<'_>) -> Result<ExitCode, Failure> {
+fn draw_content(rt: &HostRuntime, kind: Kind, given: &ArgMatches<'_>) -> Result<ExitCode, Failure> {
     let alloc = rt.alloc();
     let asked = asked_for(alloc, given, has_colours(rt))?;
     let text = text_of(alloc, kind, given)?;
@@ -115,21 +148,22 @@ fn check_bill(alloc: Global, text: &str) -> Result<(), Failure> {
         Err(QrError::OutOfMemory) => Err(Failure::OutOfMemory),
         Err(_) => {
             let more = text.len() - BILL_ROOM;
-            Err(refusal(format!(in alloc;
-                "the whole text: a bill has at most version 25, of {BILL_ROOM} bytes; shorten fields by {more} bytes (a letter with an accent takes two)"
-            )))
+            Err(Failure::Refused(format!(in alloc;
+                "the whole text: a bill has at most version 25, of {BILL_ROOM} bytes; \
+                shorten fields by {more} bytes (a letter with an accent takes two)"
+            )?))
         }
     }
 }
 
 // Draws elements of GS1, or data of an application.
-fn draw_gs1(rt: &HostRuntime, given: &Given<'_>) -> Result<ExitCode, Failure> {
+fn draw_gs1(rt: &HostRuntime, given: &ArgMatches<'_>) -> Result<ExitCode, Failure> {
     let alloc = rt.alloc();
     let asked = asked_for(alloc, given, has_colours(rt))?;
-    let (request, text) = (&asked.request, given.text("ELEMENTS"));
-    let drawing = match given.get("application") {
-        None => elements_drawing(alloc, request, text)?,
-        Some(indicator) => application_drawing(alloc, request, indicator, text)?,
+    let text = given.get_str("ELEMENTS").unwrap_or("");
+    let drawing = match given.get_str("application") {
+        None => elements_drawing(alloc, &asked.request, text)?,
+        Some(indicator) => application_drawing(alloc, &asked.request, indicator, text)?,
     };
     write_drawing(rt, &asked, &drawing, None)
 }

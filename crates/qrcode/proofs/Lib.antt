@@ -8,3 +8,4 @@ pub mod Sides
 pub mod Symbols
 pub mod TextSymbols
 pub mod Sealing
+pub mod Spelled

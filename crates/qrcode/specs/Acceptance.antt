@@ -1,5 +1,5 @@
 -- What a constructor accepts, what it makes of it, and why it refuses the rest.
-use Rattle.std.specs.Prelude.{◌≡◌, ◌⊎◌, ℕ, ◌<◌, pos, false, List, length, flat_map, Result, Err, IfOk, IfErr, IsOkUnless}
+use Rattle.std.specs.Prelude.{◌≡◌, ◌⊎◌, ℕ, ◌<◌, ◌≤◌, pos, false, List, length, flat_map, Result, Err, IfOk, IfErr, IsOkUnless, IsTrue}
 use Rattle.qrcode_types.specs.Versions.{is_valid, has_level}
 use Rattle.qrcode_types.specs.declared.types.Version.{Version}
 use Rattle.qrcode_types.specs.declared.types.Version.TheVariants.{Normal}
@@ -10,6 +10,7 @@ use Rattle.qrcode_types.specs.declared.types.Color.{Color}
 use Rattle.qrcode_bits.specs.Cuts.{IsCut, IsLeastCut}
 use Rattle.qrcode_bits.specs.Choice.{Holds, IsLeastHolding, IsRefused, IfCause}
 use Rattle.qrcode_bits.specs.Refusals.{data_limit}
+use Rattle.qrcode_bits.specs.Spelling.{IsSpelled}
 use Rattle.qrcode_bits.specs.Written.{written_piece, terminated, pieces_of}
 use Rattle.qrcode_bits.specs.declared.optimize.Segment.{Segment}
 use Rattle.qrcode.specs.Code.{Code}
@@ -26,6 +27,18 @@ pub record IsChosenSymbol (v : Version) (l : EcLevel) (bytes : List ℕ) (s : Li
   pub least_version : IsLeastHolding l bytes v
   pub symbol : IsLeastSymbol v l bytes s
 
+-- the version has the level, and some list of as many bits as the capacity spells the data
+pub record CanSpell (v : Version) (l : EcLevel) (bytes : List ℕ) : Type 0 where
+  pub exists : IsTrue (has_level v l)
+  pub spelled : IsSpelled v l bytes
+
+-- the least Normal version that can spell the data
+pub record IsLeastSpelling (l : EcLevel) (bytes : List ℕ) (v : Version) : Type 0 where
+  pub number : ℕ
+  pub is : v ≡ Normal (pos number)
+  pub spells : CanSpell v l bytes
+  pub least : (n : ℕ) → CanSpell (Normal (pos n)) l bytes → number ≤ n
+
 -- what a constructor gives that chooses the version: the chosen symbol, where any Normal version holds the data
 pub record IsAutomatic (l : EcLevel) (bytes : List ℕ) (result : Result Code QrError) : Type 0 where
   pub level : IfOk result (λ code. code.level ≡ l)
@@ -33,6 +46,12 @@ pub record IsAutomatic (l : EcLevel) (bytes : List ℕ) (result : Result Code Qr
   pub accepts : (n : ℕ) → Holds (Normal (pos n)) l bytes → IsOkUnless result OutOfMemory
   pub causes : IfErr result (IsRefused l bytes)
   pub too_long : data_limit < length bytes → result ≡ Err DataTooLong
+  -- without cuts: the version is the least Normal one that can spell the data
+  pub least_spelling : IfOk result (λ code. IsLeastSpelling l bytes code.version)
+  -- where any can, it accepts, unless memory runs out
+  pub accepts_spelled : (n : ℕ) → CanSpell (Normal (pos n)) l bytes → IsOkUnless result OutOfMemory
+  -- where none can, it refuses
+  pub refuses_unspelled : ((n : ℕ) → ¬ CanSpell (Normal (pos n)) l bytes) → (result ≡ Err DataTooLong) ⊎ (result ≡ Err OutOfMemory)
 
 -- why data is refused at a version and level: the first of these causes that applies; memory may be refused behind the third
 abbrev pub IsRefusedAt : Version → EcLevel → List ℕ → QrError → Type 0

@@ -13,7 +13,7 @@ ghost use Rattle.qrcode_symbol.specs.Patterned.{IsDrawn};
 ghost use Rattle.qrcode_symbol.specs.Symbol.{IsSymbol};
 ghost use Rattle.qrcode_bits.specs.Choice.{Holds};
 ghost use Rattle.qrcode_bits.specs.Refusals.{data_limit};
-ghost use Rattle.qrcode.specs.Acceptance.{IsAutomatic, IsLeastSymbol, IsRefusedAt};
+ghost use Rattle.qrcode.specs.Acceptance.{CanSpell, IsAutomatic, IsLeastSymbol, IsRefusedAt};
 ghost use Rattle.qrcode.specs.Drawing.{IsMaskOf};
 ghost use Rattle.qrcode.specs.Pictures.{quiet_zone, debug_text};
 ghost use Rattle.qrcode.specs.Reading.{EncodesBits};
@@ -114,6 +114,11 @@ impl QrCode {
         ensures causes { IfErr result (IsRefusedAt version ec_level bytes.now) }
         ensures too_long { IsTrue (is_valid version) → data_limit < length bytes.now
             → result ≡ Err DataTooLong }
+
+        // Without cuts: exactly where some list of as many bits as the capacity spells the bytes.
+        ensures accepts_spelled { CanSpell version ec_level bytes.now
+            → IsOkUnless result OutOfMemory }
+        ensures only_spelled { OnOk result (CanSpell version ec_level bytes.now) }
     {
         if !version.is_valid() {
             return Err(QrError::InvalidVersion);

@@ -288,7 +288,7 @@ impl Bits {
     /// Appends the bytes of each segment in its mode. Ranges may come in any order, again, or
     /// empty.
     ///
-    /// It fails as the first failing segment does, for want of memory (`OutOfMemory`) too; the
+    /// It fails as the first failing segment does, also where memory runs out (`OutOfMemory`); the
     /// segments before it stay appended.
     pub fn push_segments<I: Iterator<Item = Segment> + Drop>(
         &mut self,

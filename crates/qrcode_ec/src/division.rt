@@ -13,7 +13,8 @@ use std::simd::u8x32;
 /// stand behind the last one.
 pub const ROOM: usize = 72;
 
-// The coefficients that a vector has room for. No block of a symbol has more error correction bytes.
+// The coefficients that a vector has room for. No block of a symbol has more error correction
+// bytes.
 const LANES: usize = 32;
 
 // Each lane takes the one behind it, and the last one the first of a second vector.
@@ -114,8 +115,8 @@ fn in_room(lanes: u8x32) -> [u8; ROOM]
     row
 }
 
-// The remainder by a generator of any degree, by products: the bytes that, put behind the others, make
-// the whole vanish where the generator does.
+// The remainder by a generator of any degree, by products: the bytes that, put behind the others,
+// make the whole vanish where the generator does.
 fn divided(generator: &[u8; ROOM], degree: usize, bytes: &[u8]) -> [u8; ROOM]
     requires at_most { degree ≤ 69 }
     requires generator { IsGenerator degree generator.now }
@@ -131,8 +132,8 @@ fn divided(generator: &[u8; ROOM], degree: usize, bytes: &[u8]) -> [u8; ROOM]
 }
 
 /// A generator without its leading one, and multiples of what a vector has room for of it: those by
-/// the bytes below 16, and those by the multiples of 16. Any byte is the sum of one of the first and
-/// one of the second.
+/// the bytes below 16, and those by the multiples of 16. Any byte is the sum of one of the first
+/// and one of the second.
 #[derive(Drop)]
 pub struct Divider {
     /// The degree of the generator, and the length of a remainder.

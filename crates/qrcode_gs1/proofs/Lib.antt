@@ -1,7 +1,7 @@
 mod Reading
 pub mod Bounds
 pub mod Cuts
-pub mod Elements
+pub mod MarkedElements
 pub mod Gaps
 pub mod Marks
 pub mod Pieces

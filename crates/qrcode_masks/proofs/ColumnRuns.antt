@@ -1,5 +1,5 @@
 -- The runs of columns by words that show where none goes on: bit x stands for column x.
-use Rattle.std.proofs.Common.{◌≡◌, ℕ, suc, ◌<◌, Bool, true, false, not, ◌&&◌, ◌||◌, refl, ap, ap₂, ◌∙◌, arith, bit_and}
+use Rattle.std.proofs.Common.{◌≡◌, ℕ, ◌<◌, Bool, true, false, not, ◌&&◌, ◌||◌, refl, ap, ap₂, ◌∙◌, arith, bit_and}
 use Rattle.std.proofs.lemmas.Nat.{and_le_l}
 use Rattle.qrcode_masks.specs.Rows.{is_set, FitsWidth}
 use Rattle.qrcode_masks.proofs.Places.{has_and}
@@ -12,10 +12,6 @@ neither_case true true = refl
 neither_case true false = refl
 neither_case false true = refl
 neither_case false false = refl
-
-or_three : (p q r : Bool) → ((r || q) || p) ≡ (r || (q || p))
-or_three p q true = refl
-or_three p q false = refl
 
 twice : (p : Bool) → not (not p) ≡ p
 twice true = refl
@@ -43,13 +39,6 @@ pub inside_upper : (dark : ℕ → ℕ → Bool) (m y a b c : ℕ) → c ≡ bit
     sum_below m (λ x. count_if (not (is_set c x)) 1) ≡ inside_row dark m y
 inside_upper dark m y a b c e bars_a bars_b =
     counted_row m c (λ x. run_from dark x y || before (two (run_from dark x)) y) (common m a b c (λ x. before (two (run_from dark x)) y) (λ x. run_from dark x y) e bars_a bars_b)
-
--- the next row, of which the last two come as one
-pub inside_lower : (dark : ℕ → ℕ → Bool) (m y a b c : ℕ) → c ≡ bit_and a b → Bars m a (λ x. before (run_from dark x) y) → Bars m b (λ x. run_from dark x (suc y) || run_from dark x y) →
-    sum_below m (λ x. count_if (not (is_set c x)) 1) ≡ inside_row dark m (suc y)
-inside_lower dark m y a b c e bars_a bars_b =
-    counted_row m c (λ x. (run_from dark x (suc y) || run_from dark x y) || before (run_from dark x) y) (common m a b c (λ x. before (run_from dark x) y) (λ x. run_from dark x (suc y) || run_from dark x y) e bars_a bars_b)
-    ∙ sum_same _ _ m (λ x h. ap (λ t. count_if t 1) (or_three (before (run_from dark x) y) (run_from dark x y) (run_from dark x (suc y))))
 
 pub and_fits : (n a b c : ℕ) → c ≡ bit_and a b → FitsWidth n a → FitsWidth n c
 and_fits n a b c e h = rw e (omega (arith, and_le_l a b, h))

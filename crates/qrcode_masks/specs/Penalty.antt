@@ -101,7 +101,8 @@ normal_penalty w dark =
 unfoldable pub light_count : ℕ → (ℕ → Bool) → ℕ
 light_count w line = sum_below (w - 1) (λ i. count_if (not (line (i + 1))) 1)
 
--- the penalty of a square of Micro: the light modules of the last row and of the last column, and 15 times the greater
+-- the penalty of a square of Micro: the light modules of the last row and of the last column, and 15 times the greater;
+-- it is 17 * (w - 1) less the score of the standard, which counts the dark ones
 unfoldable pub micro_penalty : ℕ → (ℕ → ℕ → Bool) → ℕ
 micro_penalty w dark =
     let row = light_count w (λ x. dark x (w - 1)) in

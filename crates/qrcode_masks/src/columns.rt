@@ -3,8 +3,7 @@
 ghost use Rattle.std.specs.Prelude.{◌≡◌, ℕ, ◌+◌, ◌-◌, ◌*◌, ◌/◌, ◌<◌, ◌≤◌, ◌^◌, bit_xor, false, not, slice_index_or};
 ghost use Rattle.qrcode_masks.specs.Rows.{FitsWidth, is_set, dark_in};
 ghost use Rattle.qrcode_masks.specs.Penalty.{count_if, is_run, run_penalty_at, finder_penalty_at, sum_below};
-ghost use Rattle.qrcode_masks.specs.Inside.{before, two, run_from, inside_row};
-ghost use Rattle.qrcode_masks.specs.Padding.{padded_row, four_rows, is_lone_form};
+ghost use Rattle.qrcode_masks.specs.Padding.{padded_row, four_rows};
 
 use crate::row::PackedRow;
 use crate::square::PackedSquare;
@@ -47,27 +46,6 @@ fn mixed_from<R: PackedRow>(square: &PackedSquare<'_, R>, y: usize) -> R
     inner.or(changes(square, y))
 }
 
-// The same of row y and of the next: three changes are common to both.
-#[inline(always)]
-fn two_mixed<R: PackedRow>(square: &PackedSquare<'_, R>, y: usize) -> (R, R)
-    requires { y + 5 < square.now.width }
-    ensures upper { (x : ℕ) → not (is_set (R.bits result.0) x)
-        ≡ is_run (dark_in square.now.rows x) y 5 }
-    ensures lower { (x : ℕ) → not (is_set (R.bits result.1) x)
-        ≡ is_run (dark_in square.now.rows x) (y + 1) 5 }
-    ensures upper_fits { FitsWidth square.now.width (R.bits result.0) }
-    ensures lower_fits { FitsWidth square.now.width (R.bits result.1) }
-{
-    let _width = square.width();
-    let inner = changes(square, y + 1)
-        .or(changes(square, y + 2))
-        .or(changes(square, y + 3));
-    (
-        inner.or(changes(square, y)),
-        inner.or(changes(square, y + 4)),
-    )
-}
-
 // The k-th row of a square with four light rows before it and light rows behind it.
 #[inline(always)]
 fn padded_row<R: PackedRow>(square: &PackedSquare<'_, R>, k: usize) -> R
@@ -78,24 +56,6 @@ fn padded_row<R: PackedRow>(square: &PackedSquare<'_, R>, k: usize) -> R
         return square.row(k - 4);
     }
     R::first(0)
-}
-
-// Where one of the four rows from the k-th on is dark, and where one of the four from the next on is, all of which stand
-// in the square: counted from four light rows before the first, three are common to both.
-#[inline(always)]
-fn two_fours<R: PackedRow>(square: &PackedSquare<'_, R>, k: usize) -> (R, R)
-    requires at_least { 4 ≤ k }
-    requires at_most { k < square.now.width }
-    ensures upper { (x : ℕ) → is_set (R.bits result.0) x
-        ≡ is_set (four_rows square.now.rows k) x }
-    ensures lower { (x : ℕ) → is_set (R.bits result.1) x
-        ≡ is_set (four_rows square.now.rows (k + 1)) x }
-{
-    let inner = square
-        .row(k - 3)
-        .or(square.row(k - 2))
-        .or(square.row(k - 1));
-    (inner.or(square.row(k - 4)), inner.or(square.row(k)))
 }
 
 // Where one of the four rows from the k-th on is dark, light rows being put around the square.
@@ -109,8 +69,7 @@ fn four_rows<R: PackedRow>(square: &PackedSquare<'_, R>, k: usize) -> R
     first.or(second)
 }
 
-// What the finder forms that begin in row y cost, over all columns. Not inlined: most rows are counted two at a time.
-#[inline(never)]
+// What the finder forms that begin in row y cost, over all columns.
 fn column_finders<R: PackedRow>(square: &PackedSquare<'_, R>, y: usize) -> u32
     requires { y + 6 < square.now.width }
     ensures value { result ≡ sum_below square.now.width
@@ -130,116 +89,39 @@ fn column_finders<R: PackedRow>(square: &PackedSquare<'_, R>, y: usize) -> u32
     40 * forms.without(crowded).count_ones()
 }
 
-// Where finder forms begin in row y that have four light rows before them or after them, by where those are dark.
-#[inline(always)]
-fn lone_forms<R: PackedRow>(square: &PackedSquare<'_, R>, y: usize, before: R, after: R) -> R
-    requires inside { y + 6 < square.now.width }
-    requires before_at { (x : ℕ) → is_set (R.bits before) x
-        ≡ is_set (four_rows square.now.rows y) x }
-    requires after_at { (x : ℕ) → is_set (R.bits after) x
-        ≡ is_set (four_rows square.now.rows (y + 11)) x }
-    ensures shown { (x : ℕ) → is_set (R.bits result) x
-        ≡ is_lone_form square.now.width (dark_in square.now.rows x) y }
-    ensures beside { (x : ℕ) → square.now.width ≤ x → is_set (R.bits result) x ≡ false }
-{
-    let _width = square.width();
-    let upper = square.row(y).and(square.row(y + 2));
-    let ends = upper.and(square.row(y + 4).and(square.row(y + 6)));
-    let dark = ends.and(square.row(y + 3));
-    let light = square.row(y + 1).or(square.row(y + 5));
-    dark.without(light.or(before.and(after)))
-}
-
-// What the finder forms that begin in row y and the next cost: of two in one column, one at most begins there, so that
-// one count is enough.
-#[inline(always)]
-fn two_column_finders<R: PackedRow>(square: &PackedSquare<'_, R>, y: usize) -> u32
-    requires { y + 7 < square.now.width }
-    ensures value { result ≡ sum_below square.now.width
-        (λ x. finder_penalty_at square.now.width (dark_in square.now.rows x) y)
-        + sum_below square.now.width
-        (λ x. finder_penalty_at square.now.width (dark_in square.now.rows x) (y + 1)) }
-    ensures at_most { result ≤ 16000 }
-{
-    let width = square.width();
-    if 4 <= y && y + 11 < width as usize {
-        let (before, next_before) = two_fours(square, y);
-        let (after, next_after) = two_fours(square, y + 11);
-        let forms = lone_forms(square, y, before, after);
-        let next_forms = lone_forms(square, y + 1, next_before, next_after);
-        return 40 * forms.or(next_forms).count_ones();
-    }
-    column_finders(square, y) + column_finders(square, y + 1)
-}
-
-// What the runs of all columns cost behind the first y rows, where five modules begin in one row more or in none. Not
-// inlined: the loop over pairs of rows then keeps its words at hand.
-#[inline(never)]
-fn last_runs<R: PackedRow>(square: &PackedSquare<'_, R>, y: usize, both: R, last: R) -> u32
-    requires inside { y + 4 ≤ square.now.width }
-    requires near { square.now.width ≤ y + 5 }
-    requires both_at { let dark = dark_in square.now.rows in (x : ℕ) → x < square.now.width
-        → is_set (R.bits both) x ≡ not (before (two (run_from dark x)) y) }
-    requires last_at { let dark = dark_in square.now.rows in (x : ℕ) → x < square.now.width
-        → is_set (R.bits last) x ≡ not (before (run_from dark x) y) }
-    requires both_fits { FitsWidth square.now.width (R.bits both) }
-    requires last_fits { FitsWidth square.now.width (R.bits last) }
-    ensures value { let dark = dark_in square.now.rows in let width = square.now.width in
-        sum_below y (inside_row dark width) + result
-        ≡ sum_below (width - 4) (λ i. sum_below width (λ x. run_penalty_at (dark x) i)) }
-    ensures at_most { result ≤ 600 }
-{
-    let width = square.width();
-    if y + 4 == width as usize {
-        let one_behind = unmixed(width, last);
-        let two_behind = unmixed(width, both);
-        return two_behind + one_behind;
-    }
-    let mixed = mixed_from(square, y);
-    let inside = unmixed(width, both.and(mixed));
-    let behind = unmixed(width, last.and(mixed));
-    inside + behind + unmixed(width, mixed)
-}
-
-/// What the runs of all columns cost: as many modules as lie inside runs of five or more, neither first nor last. Five
-/// equal modules begin n - 4 times in a run of n, and with the two rows behind each it is n - 2.
+/// What the runs of all columns cost: as many modules as lie inside runs of five or more, neither
+/// first nor last. Five equal modules begin n - 4 times in a run of n, and with the two rows behind
+/// each it is n - 2.
 pub(crate) fn column_run_penalties<R: PackedRow>(square: &PackedSquare<'_, R>) -> u32
     ensures value { result ≡ sum_below (square.now.width - 4)
         (λ y. sum_below square.now.width (λ x. run_penalty_at (dark_in square.now.rows x) y)) }
     ensures at_most { result ≤ 10000 * square.now.width }
 {
     let width = square.width();
-    let count = width as usize - 4;
-    // Where the five from the row before on are mixed, and where those from each of the two rows before on are.
+    // Where the five from the row before on are mixed, and where those from each of the two rows
+    // before on are.
     let mut last = R::first(width);
     let mut both = last;
     let mut total = 0;
-    for k in 0..count / 2 {
-        let (upper, lower) = two_mixed(square, 2 * k);
-        total += unmixed(width, both.and(upper));
-        both = upper.and(lower);
-        total += unmixed(width, last.and(both));
-        last = lower;
+    for y in 0..width as usize - 4 {
+        let mixed = mixed_from(square, y);
+        total += unmixed(width, both.and(mixed));
+        both = last.and(mixed);
+        last = mixed;
     }
-    total + last_runs(square, 2 * (count / 2), both, last)
+    total + unmixed(width, both) + unmixed(width, last)
 }
 
-/// What the finder forms of all columns cost, by the rows in which they begin, two rows at a time. Not inlined: its words
-/// and those of the other loops would be in each other's way.
-#[inline(never)]
-#[tactic(auto, using(crate::proofs::Sums::sum_step, crate::proofs::Sums::sum_two), unfolding(crate::specs::Penalty::sum_below))]
+/// What the finder forms of all columns cost, by the rows in which they begin.
+#[tactic(auto, using(crate::proofs::Sums::sum_step), unfolding(crate::specs::Penalty::sum_below))]
 pub(crate) fn column_finder_penalties<R: PackedRow>(square: &PackedSquare<'_, R>) -> u32
     ensures value { let width = square.now.width in result ≡ sum_below (width - 6)
         (λ y. sum_below width (λ x. finder_penalty_at width (dark_in square.now.rows x) y)) }
     ensures at_most { result ≤ 10000 * square.now.width }
 {
-    let count = square.width() as usize - 6;
     let mut total = 0;
-    for k in 0..count / 2 {
-        total += two_column_finders(square, 2 * k);
-    }
-    if count % 2 == 1 {
-        total += column_finders(square, count - 1);
+    for y in 0..square.width() as usize - 6 {
+        total += column_finders(square, y);
     }
     total
 }

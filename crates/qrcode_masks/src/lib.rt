@@ -1,4 +1,5 @@
-//! What decides the mask of a symbol: its modules in rows packed into words, and the penalty of such rows.
+//! What decides the mask of a symbol: its modules in rows packed into words, and the penalty of
+//! such rows.
 #![tactic(auto)]
 
 mod columns;

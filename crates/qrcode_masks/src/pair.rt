@@ -5,7 +5,8 @@ ghost use Rattle.std.specs.Prelude.{◌≡◌, ℕ, ◌+◌, ◌-◌, ◌*◌, �
 
 use std::simd::u64x2;
 
-/// Two rows of modules, an upper one and a lower one, packed into words: what is done, is done to both.
+/// Two rows of modules, an upper one and a lower one, packed into words: what is done, is done to
+/// both.
 pub trait RowPair: Copy {
     // How many bits each row has room for.
     ghost room: { ℕ };
@@ -45,8 +46,8 @@ pub trait RowPair: Copy {
         ensures upper { upper result ≡ upper self / 2 ^ count }
         ensures lower { lower result ≡ lower self / 2 ^ count };
 
-    /// Each bit moves up by `count`, from 1 to 63, and the last bits of the words below come behind; none may go past the
-    /// room.
+    /// Each bit moves up by `count`, from 1 to 63, and the last bits of the words below come
+    /// behind; none may go past the room.
     fn up_over(self, below: WordPair, count: u32) -> Self
         requires at_least { 0 < count }
         requires at_most { count < 64 }

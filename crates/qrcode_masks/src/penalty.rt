@@ -40,8 +40,8 @@ pub fn micro_penalty<R: PackedRow>(square: &PackedSquare<'_, R>) -> u32
     micro_penalty_by_edges(square.row(width as usize - 1), last_column(square), width)
 }
 
-/// The same by the last row and the last column, which alone count: bit x of `bottom` stands for the module in column x,
-/// and bit y of `right` for the one in row y.
+/// The same by the last row and the last column, which alone count: bit x of `bottom` stands for
+/// the module in column x, and bit y of `right` for the one in row y.
 pub fn micro_penalty_by_edges<R: PackedRow>(bottom: R, right: R, width: u32) -> u32
     requires at_least { 7 ≤ width }
     requires room { width + 3 ≤ R.room }

@@ -151,8 +151,8 @@ impl PackedRow for u64 {
     }
 }
 
-/// A row of up to 128 bits in two words, its first 64 bits as the upper row of a pair: what joins two rows then joins
-/// both words at once.
+/// A row of up to 128 bits in two words, its first 64 bits as the upper row of a pair: what joins
+/// two rows then joins both words at once.
 #[derive(Copy, Clone)]
 pub struct Row128 {
     words: WordPair,

@@ -8,8 +8,8 @@ use crate::pair::RowPair;
 use crate::row::PackedRow;
 use crate::square::PackedSquare;
 
-// As many as lie inside runs of five modules or more, neither first nor last, in two rows together: a run of n modules
-// costs n - 2.
+// As many as lie inside runs of five modules or more, neither first nor last, in two rows together:
+// a run of n modules costs n - 2.
 #[inline(always)]
 fn run_penalties<R: PackedRow>(rows: R::Pair, width: u32) -> u32
     requires at_least { 7 ≤ width }
@@ -20,7 +20,8 @@ fn run_penalties<R: PackedRow>(rows: R::Pair, width: u32) -> u32
 {
     let edges = rows.xor(rows.down(1));
     let pairs = edges.or(edges.down(1));
-    // Where five equal modules begin: n - 4 times in a run of n. With the two places behind each it is n - 2.
+    // Where five equal modules begin: n - 4 times in a run of n. With the two places behind each it
+    // is n - 2.
     let places = R::first(width - 4);
     let windows = places.beside(places).without(pairs.or(pairs.down(2)));
     let two = windows.or(windows.up(1));
@@ -55,7 +56,8 @@ fn finder_penalties<R: PackedRow>(rows: R::Pair, width: u32) -> u32
     40 * shapes.without(crowded).count_ones()
 }
 
-// What two rows cost, each as a line. They are side by side in vectors: what it takes to count one is then enough for both.
+// What two rows cost, each as a line. They are side by side in vectors: what it takes to count one
+// is then enough for both.
 #[inline(always)]
 fn two_row_penalties<R: PackedRow>(square: &PackedSquare<'_, R>, upper: usize, lower: usize) -> u32
     requires upper_inside { upper < square.now.width }
@@ -93,8 +95,8 @@ fn two_block_penalties<R: PackedRow>(
     3 * places.beside(places).without(mixed).count_ones()
 }
 
-// What the last rows cost behind an even number y of them, each as a line, and the blocks between them: one row that is
-// counted twice, and halved, or two.
+// What the last rows cost behind an even number y of them, each as a line, and the blocks between
+// them: one row that is counted twice, and halved, or two.
 fn last_penalties<R: PackedRow>(square: &PackedSquare<'_, R>, y: usize) -> u32
     requires at_least { y < square.now.width }
     requires near { square.now.width ≤ y + 2 }
@@ -111,8 +113,8 @@ fn last_penalties<R: PackedRow>(square: &PackedSquare<'_, R>, y: usize) -> u32
     two_row_penalties(square, y, y + 1) + two_block_penalties(square, y, y) / 2
 }
 
-/// What the rows cost, each as a line, and all two by two modules of one colour, two rows at a time: both need where the
-/// colour changes in a row.
+/// What the rows cost, each as a line, and all two by two modules of one colour, two rows at a
+/// time: both need where the colour changes in a row.
 pub(crate) fn row_and_block_penalties<R: PackedRow>(square: &PackedSquare<'_, R>) -> u32
     ensures value { result ≡ sum_below square.now.width
         (λ y. line_penalty square.now.width (λ x. dark_in square.now.rows x y))

@@ -1,5 +1,5 @@
-//! Laws of words and places that are about more than one call, each on the contract of a function that
-//! does nothing.
+//! Laws of words and places that are about more than one call, each on the contract of a function
+//! that does nothing.
 
 ghost use Rattle.qrcode_places.specs.Words.{VersionWordsAreApart, FormatWordsAreApart};
 ghost use Rattle.qrcode_places.specs.Stream.{FreePlacesAreFilled};

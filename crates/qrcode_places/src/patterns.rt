@@ -64,8 +64,8 @@ pub fn near_centre(centres: &[u8], x: usize) -> Option<usize>
         .find(|centre| centre.abs_diff(x) <= 2)
 }
 
-/// Whether two coordinates of alignment centres meet in a corner where a finder pattern is; `width` is
-/// the side of the version.
+/// Whether two coordinates of alignment centres meet in a corner where a finder pattern is; `width`
+/// is the side of the version.
 pub fn is_corner_centre(width: usize, a: usize, b: usize) -> bool
     requires { 7 ≤ width }
     ensures { result ≡ is_corner_centre width a b }
@@ -74,7 +74,7 @@ pub fn is_corner_centre(width: usize, a: usize, b: usize) -> bool
     (a == 6 && (b == 6 || b == last)) || (a == last && b == 6)
 }
 
-// The alignment pattern at two coordinates, but for the corners where finder patterns are.
+// The alignment pattern at two coordinates, except for the corners where finder patterns are.
 fn alignment_between(
     width: usize,
     near_x: Option<usize>,
@@ -157,8 +157,8 @@ fn version_pattern(version: Version, width: usize, x: usize, y: usize) -> Option
 }
 
 /// The colour of a place in the functional patterns, the format word aside. `near_x` and `near_y`
-/// are the coordinates of alignment centres that are near the place, which is in the square; `width` is
-/// the side of the version, which exists.
+/// are the coordinates of alignment centres that are near the place, which is in the square;
+/// `width` is the side of the version, which exists.
 #[tactic(auto, unfolding(crate::specs::Patterns::pattern, crate::specs::Patterns::alignment))]
 pub fn pattern(
     version: Version,
@@ -237,8 +237,8 @@ fn micro_format_index(version: Version, x: usize, y: usize) -> Option<usize>
     }
 }
 
-/// Which bit of the format word stands at a place, if any, the highest being 0; `width` is the side of
-/// the version, which exists.
+/// Which bit of the format word stands at a place, if any, the highest being 0; `width` is the side
+/// of the version, which exists.
 pub fn format_index(version: Version, width: usize, x: usize, y: usize) -> Option<usize>
     requires valid { IsTrue (is_valid version) }
     requires width { width ≡ side version }
@@ -253,8 +253,8 @@ pub fn format_index(version: Version, width: usize, x: usize, y: usize) -> Optio
     }
 }
 
-/// The bit of a place that no mask decides, of the format word or of the dark module, if it has one;
-/// `width` is the side of the version, which exists.
+/// The bit of a place that no mask decides, of the format word or of the dark module, if it has
+/// one; `width` is the side of the version, which exists.
 #[tactic(auto, unfolding(crate::specs::Patterns::decided_bit))]
 pub fn decided_bit(version: Version, width: usize, word: u16, x: usize, y: usize) -> Option<bool>
     requires valid { IsTrue (is_valid version) }

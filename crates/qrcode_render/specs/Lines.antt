@@ -2,7 +2,7 @@
 use Rattle.std.specs.Prelude.{◌≡◌, ℕ, zero, suc, ◌+◌, ◌*◌, ◌/◌, Bool, true, false, List, [], ◌∷◌, ◌++◌, length, map, flat_map, slice_index_or}
 use Rattle.std.specs.List.{range_with_len}
 
--- what a line begins with: a newline, but for the first line
+-- what a line begins with: a newline, except for the first line
 abbrev pub line_start : ℕ → List ℕ
 line_start zero = []
 line_start (suc y) = 10 ∷ []

@@ -2,14 +2,7 @@
 use Rattle.std.specs.Prelude.{ℕ, ◌==◌, not, List, map}
 use Rattle.qrcode_types.specs.Colors.{color_of}
 use Rattle.qrcode_types.specs.declared.types.Color.{Color}
-use Rattle.qrcode_render.specs.declared.grid.Shades.{Shades}
-use Rattle.qrcode_render.specs.declared.grid.Shades.TheVariants.{Colors, Bytes}
 
 -- bytes as cells: those that are not zero are dark
 abbrev pub colors_of : List ℕ → List Color
 colors_of bytes = map (λ b. color_of (not (b == 0))) bytes
-
--- the colours of cells
-abbrev pub shown : Shades → List Color
-shown (Colors colors) = colors.now
-shown (Bytes bytes) = colors_of bytes.now

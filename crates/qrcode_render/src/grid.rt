@@ -1,11 +1,10 @@
 //! Cells in rows and columns, of which each shows as a rectangle of pixels.
 
 ghost use Rattle.std.specs.Prelude.{◌≡◌, ◌+◌, ◌-◌, ◌*◌, ◌/◌, ◌^◌, ◌<◌, ◌≤◌, false, length, map, slice_index_or};
-ghost use Rattle.std.specs.List.{range_with_len, slice_range};
+ghost use Rattle.std.specs.List.{range_with_len};
 ghost use Rattle.qrcode_types.specs.Colors.{is_dark};
 ghost use Rattle.qrcode_render.specs.Bitmap.{marked_line, row_of};
 ghost use Rattle.qrcode_render.specs.Grid.{all_columns, all_rows, cell_row, pixels_of};
-ghost use Rattle.qrcode_render.specs.Shades.{colors_of, shown};
 
 use qrcode_types::types::Color;
 use std::marker::Model;
@@ -30,16 +29,6 @@ fn mark_line(marks: &mut [bool], start: usize, line: &[Color])
     }
 }
 
-// The same of a row of bytes, of which those that are not zero are dark.
-fn mark_bytes(marks: &mut [bool], start: usize, line: &[u8])
-    requires { start + length line.now ≤ length marks.old }
-    ensures { marks.new ≡ marked_line start (colors_of line.now) marks.old }
-{
-    for (i, byte) in line.iter().enumerate() {
-        marks[start + i] = *byte != 0;
-    }
-}
-
 // Marks each pixel of which the cell is marked.
 fn widen(cells: &[bool], across: usize, marks: &mut [bool])
     requires at_least { 1 ≤ across }
@@ -52,34 +41,11 @@ fn widen(cells: &[bool], across: usize, marks: &mut [bool])
     }
 }
 
-// Cells as colours, or as bytes, of which those that are not zero are dark.
-#[derive(Copy, Clone)]
-enum Shades<'a> {
-    Colors(&'a [Color]),
-    Bytes(&'a [u8]),
-}
-
-impl<'a> Shades<'a> {
-    // Marks which of some cells are dark, from a place on.
-    fn mark(&self, first: usize, end: usize, marks: &mut [bool], start: usize)
-        requires order { first ≤ end }
-        requires inside { end ≤ length (shown self.now) }
-        requires room { start + (end - first) ≤ length marks.old }
-        ensures { marks.new
-            ≡ marked_line start (slice_range (shown self.now) first end) marks.old }
-    {
-        match *self {
-            Shades::Colors(colors) => mark_line(marks, start, &colors[first..end]),
-            Shades::Bytes(bytes) => mark_bytes(marks, start, &bytes[first..end]),
-        }
-    }
-}
-
 /// Cells in row order with light ones around them at each side, each of so many pixels across and
 /// down.
 #[derive(Drop)]
 pub struct Grid<'a> {
-    cells: Shades<'a>,
+    cells: &'a [Color],
     columns: usize,
     rows: usize,
     zone: usize,
@@ -90,12 +56,11 @@ pub struct Grid<'a> {
 impl<'a> Model for Grid<'a> {
     ghost use Rattle.std.specs.Prelude.{◌≡◌, ◌+◌, ◌*◌, ◌^◌, ◌<◌, ◌≤◌, length};
     ghost use Rattle.qrcode_render.specs.Grid.{Grid, all_columns, all_rows};
-    ghost use Rattle.qrcode_render.specs.Shades.{shown};
 
     ghost Value = { Grid };
 
     ghost view = { λ g. record {
-      cells = shown g.cells;
+      cells = g.cells.now;
       columns = g.columns;
       rows = g.rows;
       zone = g.zone;
@@ -103,7 +68,7 @@ impl<'a> Model for Grid<'a> {
       down = g.down;
     } };
 
-    ghost invariant = { λ g. (length (shown g.cells) ≡ g.rows * g.columns)
+    ghost invariant = { λ g. (length g.cells.now ≡ g.rows * g.columns)
         × (g.columns + 2 * g.zone < 2 ^ 32) × (g.rows + 2 * g.zone < 2 ^ 32)
         × (1 ≤ g.across) × (1 ≤ g.down)
         × ((g.columns + 2 * g.zone) * g.across < 2 ^ 32)
@@ -138,37 +103,9 @@ impl<'a> Grid<'a> {
         } }
     {
         Grid {
-            cells: Shades::Colors(cells),
+            cells,
             columns: columns as usize,
             rows: rows as usize,
-            zone: zone as usize,
-            across,
-            down,
-        }
-    }
-
-    /// The same of a square of cells that are bytes, `side` in a row and in a column: those that are
-    /// not zero are dark.
-    pub fn of_bytes(cells: &'a [u8], side: u32, zone: u32, across: u32, down: u32) -> Grid<'a>
-        requires square { length cells.now ≡ side * side }
-        requires side_fits { side + 2 * zone < 2 ^ 32 }
-        requires across_at_least { 1 ≤ across }
-        requires down_at_least { 1 ≤ down }
-        requires across_fits { (side + 2 * zone) * across < 2 ^ 32 }
-        requires down_fits { (side + 2 * zone) * down < 2 ^ 32 }
-        ensures { result ≡ record {
-          cells = colors_of cells.now;
-          columns = side;
-          rows = side;
-          zone = zone;
-          across = across;
-          down = down;
-        } }
-    {
-        Grid {
-            cells: Shades::Bytes(cells),
-            columns: side as usize,
-            rows: side as usize,
             zone: zone as usize,
             across,
             down,
@@ -215,8 +152,7 @@ impl<'a> Grid<'a> {
         marks.fill(false);
         if self.zone <= row && row < self.zone + self.rows {
             let start = (row - self.zone) * self.columns;
-            self.cells
-                .mark(start, start + self.columns, marks, self.zone);
+            mark_line(marks, self.zone, &self.cells[start..start + self.columns]);
         }
     }
 

@@ -136,8 +136,8 @@ fn write_rects(
     end
 }
 
-/// A text that is put together. A text or a number that is refused, with `OutOfMemory` alone, leaves it
-/// as it was.
+/// A text that is put together. A text or a number that is refused, with `OutOfMemory` alone,
+/// leaves it as it was.
 #[derive(Drop)]
 pub struct Script {
     line: Line,
@@ -194,7 +194,8 @@ impl Script {
         Ok(())
     }
 
-    /// Appends the rectangles of the dark modules of a row, of the words of their columns and of the row.
+    /// Appends the rectangles of the dark modules of a row, of the words of their columns and of
+    /// the row.
     pub fn put_rects(&mut self, columns: &[Piece], row: &Piece, content: &[Color]) -> QrResult<()>
         requires columns { length content.now ≤ length columns.now }
         requires few { length content.now < 2 ^ 40 }

@@ -22,8 +22,8 @@ use crate::svg::{Path, PathElement};
 use crate::unicode::Dense1x2;
 use crate::{eps, svg};
 
-/// Two pixels are equal by `==` exactly when they are the same, and two that are texts when these have the
-/// same bytes. All of PIC are equal.
+/// Two pixels are equal by `==` exactly when they are the same, and two that are texts when these
+/// have the same bytes. All of PIC are equal.
 pub fn equality<'a>()
     ensures halves { (a b : Dense1x2) → IsTrue (⟦<Dense1x2 as PartialEq>⟧.eq a b) ↔ (a ≡ b) }
     ensures bits { (a b : Bit) → IsTrue (⟦<Bit as PartialEq>⟧.eq a b) ↔ (a ≡ b) }

@@ -95,7 +95,8 @@ pub trait Canvas: Drop {
     // as, or what can be said of that in simpler words.
     ghost is_picture: { Setting Self.Pixel → Self.Image → Type 0 };
 
-    /// A canvas of light pixels, of a width and a height in pixels. Refuses with `OutOfMemory` alone.
+    /// A canvas of light pixels, of a width and a height in pixels. Refuses with `OutOfMemory`
+    /// alone.
     fn new(
         alloc: Global,
         width: u32,
@@ -131,8 +132,8 @@ pub trait Canvas: Drop {
         ensures memory { IsOkUnless result OutOfMemory };
 
     /// Draws the dark modules of a row of modules, each `width` by `height` pixels, the first with
-    /// its first pixel in column `left` and row `top`, and all inside. A canvas that can draw a row at
-    /// once has a body of its own. Refuses with `OutOfMemory` alone.
+    /// its first pixel in column `left` and row `top`, and all inside. A canvas that can draw a row
+    /// at once has a body of its own. Refuses with `OutOfMemory` alone.
     fn draw_dark_modules(
         &mut self,
         line: &[Color],
@@ -196,8 +197,8 @@ pub trait Canvas: Drop {
         Ok(())
     }
 
-    /// The picture of modules, as a renderer is set. A canvas that can make it at once has a body of
-    /// its own. Refuses with `OutOfMemory` alone.
+    /// The picture of modules, as a renderer is set. A canvas that can make it at once has a body
+    /// of its own. Refuses with `OutOfMemory` alone.
     fn picture(
         alloc: Global,
         modules: &Modules,
@@ -266,8 +267,8 @@ fn fill_row<C: Canvas>(canvas: &mut C, left: u32, y: u32, width: u32) -> QrResul
     Ok(())
 }
 
-/// A square of modules in row order, with a quiet zone at each side, and the pixels of a module. The
-/// sides of its picture fit.
+/// A square of modules in row order, with a quiet zone at each side, and the pixels of a module.
+/// The sides of its picture fit.
 #[derive(Drop)]
 pub struct Modules<'a> {
     content: &'a [Color],
@@ -421,7 +422,7 @@ impl<'a, P: Pixel> Renderer<'a, P> {
     }
 
     /// The picture. Its sides are the modules along a side, with the quiet zone where it is on,
-    /// times the pixels of a module; they fit, as `fits` tells. Refuses with `OutOfMemory` alone.
+    /// times the pixels of a module; they fit, as `fits` says. Refuses with `OutOfMemory` alone.
     pub fn build(&self, alloc: Global) -> QrResult<P::Image>
         requires { IsTrue (fits self.now) }
         ensures picture { IfOk result (P.Canvas.is_picture self.now) }

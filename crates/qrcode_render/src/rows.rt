@@ -13,8 +13,8 @@ use crate::stamps::{Line, Stamp};
 use qrcode_types::types::QrResult;
 use std::alloc::Global;
 
-/// Appends a text so many times. Refuses with `OutOfMemory` alone. Apart from its callers, so that its few
-/// variables stay in registers.
+/// Appends a text so many times. Refuses with `OutOfMemory` alone. Apart from its callers, so that
+/// its few variables stay in registers.
 #[inline(never)]
 pub fn push_times(raw: &mut Vec<u8>, text: &[u8], times: u32) -> QrResult<()>
     ensures appends { OnOk result (raw.new.items ≡ raw.old.items ++ repeated times text.now) }
@@ -107,8 +107,8 @@ impl CellTexts {
     }
 }
 
-/// Appends the rows of cells, of which each pixel is the text that stands for dark or for light, and
-/// each row of pixels has a text at its end. Refuses with `OutOfMemory` alone.
+/// Appends the rows of cells, of which each pixel is the text that stands for dark or for light,
+/// and each row of pixels has a text at its end. Refuses with `OutOfMemory` alone.
 pub fn push_rows(
     raw: &mut Vec<u8>,
     grid: &Grid,

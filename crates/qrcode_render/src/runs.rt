@@ -25,7 +25,8 @@ impl Model for Pen {
     ghost view = { λ p. record { column = p.column; row = p.row } };
 }
 
-// Appends how far it is from one number to another, forward behind one text, or back behind another.
+// Appends how far it is from one number to another, forward behind one text, or back behind
+// another.
 #[inline(always)]
 fn push_step(text: &mut Script, forward: &str, back: &str, from: u32, to: u32) -> QrResult<()>
     ensures appends { OnOk result

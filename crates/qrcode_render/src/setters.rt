@@ -41,8 +41,8 @@ impl<'a, P: Pixel> Renderer<'a, P> {
         self
     }
 
-    /// Sets the quiet zone to so many modules at each side and switches it on. Sizes of modules that
-    /// were set before stay.
+    /// Sets the quiet zone to so many modules at each side and switches it on. Sizes of modules
+    /// that were set before stay.
     ///
     /// The standard asks for four modules, and for two of a Micro symbol. A picture of up to 65,536
     /// modules along a side fits with modules of up to 65,535 pixels.
@@ -138,8 +138,8 @@ impl<'a, P: Pixel> Renderer<'a, P> {
     }
 
     /// Sets the greatest size of a module with which the picture has at most so many pixels across
-    /// and down, or 1 where no size has, with the quiet zone where it is on at this call. The picture
-    /// fits then.
+    /// and down, or 1 where no size has, with the quiet zone where it is on at this call. The
+    /// picture fits then.
     ///
     /// The picture has a module, and at most 4,294,967,295 along a side.
     #[tactic(auto, using(crate::proofs::Sizes::is_greatest_size))]

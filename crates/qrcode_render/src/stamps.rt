@@ -8,7 +8,8 @@ use std::alloc::Global;
 use std::marker::Model;
 use std::simd::Simd;
 
-/// The most bytes of a stamp. What is written past the end of a text is overwritten by the next one.
+/// The most bytes of a stamp. What is written past the end of a text is overwritten by the next
+/// one.
 pub const LONGEST: usize = 32;
 
 // Writes a text, and answers where it ends.

@@ -62,8 +62,8 @@ impl Pixel for Dense1x2 {
 }
 
 /// Rows of pixels while they are drawn. The picture is a line of text for every two rows, with a
-/// newline between two lines and none at the end. Below a last row alone nothing is drawn: its lower
-/// halves stay blank, whatever light pixels look like.
+/// newline between two lines and none at the end. Below a last row alone nothing is drawn: its
+/// lower halves stay blank, whatever light pixels look like.
 pub type Canvas1x2 = Page<Dense1x2, HalfBlocks>;
 
 /// Ends rows of pixels as half blocks.

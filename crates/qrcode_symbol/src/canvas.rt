@@ -62,8 +62,8 @@ impl Module {
         Color::from(self) == Color::Dark
     }
 
-    /// The module after a mask that turns it, or that leaves it. An empty module takes the colour of
-    /// the mask, and a masked one stays.
+    /// The module after a mask that turns it, or that leaves it. An empty module takes the colour
+    /// of the mask, and a masked one stays.
     pub fn mask(self, should_invert: bool) -> Self
         ensures { result ≡ masked_module should_invert self }
     {
@@ -219,10 +219,10 @@ impl Canvas {
         draw_patterns(self.version, &mut self.modules);
     }
 
-    /// Draws codewords at the empty places, in the order of the standard's walk (ISO/IEC 18004:2006,
-    /// 6.7.3): the data, of whose last byte only the high half is drawn where the version
-    /// and level have a half codeword, and then the error correction. Bits without a place are
-    /// dropped.
+    /// Draws codewords at the empty places, in the order of the standard's walk (ISO/IEC
+    /// 18004:2006, 6.7.3): the data, of whose last byte only the high half is drawn where the
+    /// version and level have a half codeword, and then the error correction. Bits without a place
+    /// are dropped.
     pub fn draw_data(&mut self, bytes: &[u8], ec: &[u8])
         ensures after { self.new ≡ record self.old {
           modules = with_bits_drawn self.old.version

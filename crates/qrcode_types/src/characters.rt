@@ -79,8 +79,8 @@ pub fn is_alphanumeric(byte: u8) -> bool
     matches!(byte, b'0'..=b'9' | b'A'..=b'Z' | b' ' | b'$' | b'%' | b'*' | b'+' | b'-'..=b'/' | b':')
 }
 
-/// The number of a character of the mode Alphanumeric, and 0 for any other byte (ISO/IEC 18004:2006,
-/// table 5).
+/// The number of a character of the mode Alphanumeric, and 0 for any other byte (ISO/IEC
+/// 18004:2006, table 5).
 #[tactic(auto, using(crate::proofs::Alphabet::alphanumeric_number_by_cases))]
 pub fn alphanumeric_number(byte: u8) -> u32
     ensures value { result ≡ characters.alphanumeric_number byte }

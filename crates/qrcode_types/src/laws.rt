@@ -8,7 +8,8 @@ ghost use Rattle.qrcode_types.specs.declared.types.Mode.{Mode};
 
 use crate::types::{Color, Mode, QrError, Version};
 
-/// Two values are equal by `==` exactly when they are the same. Of levels `EcLevel::number` says so.
+/// Two values are equal by `==` exactly when they are the same. Of levels `EcLevel::number` says
+/// so.
 pub fn equality()
     ensures errors { (a b : QrError) → IsTrue (⟦<QrError as PartialEq>⟧.eq a b) ↔ (a ≡ b) }
     ensures colors { (a b : Color) → IsTrue (⟦<Color as PartialEq>⟧.eq a b) ↔ (a ≡ b) }

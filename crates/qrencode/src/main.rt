@@ -3,20 +3,35 @@
 
 mod program;
 
-use qrcode_programs::{Fault, end, words};
+ghost use Rattle.std.specs.Prelude.{◌≡◌, is_ok, if◌then◌else◌};
+ghost use Rattle.std.specs.Process.{exit_status};
+
+use program::Fault;
+use qrcode::types::QrError;
+use std::env;
 use std::process::ExitCode;
 
 fn main(rt: HostRuntime) -> ExitCode {
-    let run = draw_argument(&rt);
-    end(&rt, "qrencode", "missing argument", run)
+    status(&rt, draw_argument(&rt))
 }
 
-// Draws the first argument on standard output.
+// Draws the first argument on standard output. A list of arguments that cannot be taken counts as a
+// lack of memory.
 fn draw_argument(rt: &HostRuntime) -> Result<(), Fault> {
-    let text = words(rt)?.nth(1);
-    let text = match &text {
-        Some(text) => Some(text.as_str()),
-        None => None,
-    };
-    program::run(rt.alloc(), text, &mut rt.stdout())
+    let mut words = env::args(rt).map_err(|_| Fault::Qr(QrError::OutOfMemory))?;
+    let text = words.nth(1);
+    program::run(rt.alloc(), text.as_deref(), &mut rt.stdout())
+}
+
+// The exit status of a run, whose fault is printed in a line on standard error.
+fn status<R: Eprint>(rt: &R, run: Result<(), Fault>) -> ExitCode
+    ensures { exit_status result ≡ (if is_ok run then 0 else 1) }
+{
+    match run {
+        Ok(()) => ExitCode::SUCCESS,
+        Err(fault) => {
+            let _ = eprintln!(rt; "{fault}");
+            ExitCode::FAILURE
+        }
+    }
 }

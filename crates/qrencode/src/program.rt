@@ -1,22 +1,32 @@
 //! The program, over any writer.
 
-ghost use Rattle.std.specs.Prelude.{◌≡◌, ◌⊎◌, ◌↔◌, List, Some, None, string_bytes, IfOk, IfErr, IsErrOf, IfSome, IsOkUnless};
-ghost use Rattle.std.specs.Io.KnownBytes.{Appends};
-ghost use Rattle.qrcode_types.specs.declared.types.Color.{Color};
+ghost use Rattle.std.specs.Prelude.{◌≡◌, ◌⊎◌, ◌↔◌, List, Some, None, string_bytes, IfOk, IfErr, IsErrOf, IsOkAnd, IfSome, IsOkUnless};
 ghost use Rattle.qrcode_types.specs.declared.types.EcLevel.TheVariants.{M};
 ghost use Rattle.qrcode_types.specs.declared.types.QrError.TheVariants.{OutOfMemory};
-ghost use Rattle.qrcode_types.specs.declared.types.Version.{Version};
 ghost use Rattle.qrcode_bits.specs.Choice.{IsRefused};
-ghost use Rattle.qrcode.specs.Acceptance.{IsChosenSymbol};
-ghost use Rattle.qrcode_programs.specs.Runs.{IsRun, IsCannotWrite};
+ghost use Rattle.qrencode.specs.Runs.{IsRun, IsCannotWrite};
 ghost use Rattle.qrencode.specs.Words.{terminal_text, IsTerminalText};
 
 use qrcode::QrCode;
 use qrcode::render::string::Str;
-use qrcode::types::QrResult;
-use qrcode_programs::{Fault, deliver};
+use qrcode::types::{QrError, QrResult};
 use std::alloc::Global;
 use std::io::Write;
+use thiserror::Error;
+
+/// Why the program did not do what it was asked. Its text is the line on standard error.
+#[derive(Clone, Copy, Debug, Error)]
+pub enum Fault {
+    /// There is no text.
+    #[error("qrencode: missing argument")]
+    MissingArgument,
+    /// There is no symbol, or memory ran out.
+    #[error("qrencode: {0}")]
+    Qr(QrError),
+    /// The writer failed.
+    #[error("qrencode: cannot write")]
+    CannotWrite,
+}
 
 // A dark and a light cell: two spaces in inverse video, and two on the default background.
 static DARK: &str = "\x1b[7m  \x1b[0m";
@@ -27,19 +37,28 @@ static LIGHT: &str = "\x1b[49m  \x1b[0m";
 /// a line for each row of modules, without a newline at the end. The whole text is made before the
 /// first write.
 ///
-/// `Usage`: there is no text. `Qr(DataTooLong)`: no Normal version holds it. `Qr(OutOfMemory)`: memory
-/// was refused. `CannotWrite`: the writer failed, and may have taken a part.
+/// `MissingArgument`: there is no text. `Qr(DataTooLong)`: no Normal version holds it.
+/// `Qr(OutOfMemory)`: memory ran out. `CannotWrite`: the writer failed, and may have taken a part.
 pub fn run<W: Write>(alloc: Global, text: Option<&str>, out: &mut W) -> Result<(), Fault>
-    ensures usage { IsErrOf result Fault.Usage ↔ (text.entry ≡ None) }
+    ensures usage { IsErrOf result Fault.MissingArgument ↔ (text.entry ≡ None) }
     ensures nothing { IfErr result (λ fault.
         IsCannotWrite fault ⊎ (W.contents out.new ≡ W.contents out.old)) }
     ensures runs { IfSome text.entry (λ t. IsRun (IsTerminalText t.now) (IsRefused M t.now)
         (W.contents out.old) (W.contents out.new) result) }
 {
     let Some(text) = text else {
-        return Err(Fault::Usage);
+        return Err(Fault::MissingArgument);
     };
     deliver(picture(alloc, text.as_bytes()), out)
+}
+
+// Writes what was made, or hands on why nothing was.
+fn deliver<W: Write>(made: QrResult<Vec<u8>>, out: &mut W) -> Result<(), Fault>
+    ensures { IsRun (λ bytes. IsOkAnd made (λ v. v.items ≡ bytes)) (IsErrOf made)
+        (W.contents out.old) (W.contents out.new) result }
+{
+    let bytes = made.map_err(Fault::Qr)?;
+    out.write_all(&bytes).map_err(|_| Fault::CannotWrite)
 }
 
 // The symbol of bytes, as cells.

@@ -47,7 +47,7 @@ impl Kind {
     }
 
     // The kind of a byte below those that can begin a pair. Small letters, above all of the
-    // alphabet, are told by one comparison.
+    // alphabet, are recognised by one comparison.
     #[tactic(auto, using(crate::proofs::TokenKinds::above_letters))]
     fn of_low(byte: u8) -> Kind
         ensures { result ≡ (if characters.is_digit byte then Digit

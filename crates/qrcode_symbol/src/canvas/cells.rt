@@ -1,4 +1,5 @@
-//! How a module stands in memory: as it is, or as a byte, which takes half the room and is packed 64 at a time.
+//! How a module stands in memory: as it is, or as a byte, which takes half the room and is packed
+//! 64 at a time.
 
 ghost use Rattle.std.specs.Prelude.{◌≡◌, ◌≤◌, ◌&&◌, length, take};
 ghost use Rattle.qrcode_symbol.specs.Canvas.{is_empty};

@@ -34,8 +34,8 @@ impl<'a> Model for Codewords<'a> {
     ghost invariant = { λ c. c.bits_left < 8 };
 }
 
-// The bits that are left of a byte that is begun, before those of the next byte, which is begun then: without
-// as many of the lowest.
+// The bits that are left of a byte that is begun, before those of the next byte, which is begun
+// then: without as many of the lowest.
 #[inline(always)]
 fn shifted(begun: &mut u32, bits_left: u32, next: u8) -> u32
     requires { bits_left < 8 }
@@ -89,7 +89,8 @@ impl<'a> Codewords<'a> {
         Some((self.begun >> self.bits_left) % 2 == 1)
     }
 
-    // The next eight bits, as the lowest of a number, if a byte that is drawn whole has the last of them.
+    // The next eight bits, as the lowest of a number, if a byte that is drawn whole has the last of
+    // them.
     #[inline(always)]
     pub(super) fn next_eight(&mut self) -> Option<u32>
         ensures { self.old ≡ eight_of result ++ self.new }

@@ -1,5 +1,5 @@
-//! Drawing the functional patterns: blocks of modules where they are the same in all versions, and place
-//! by place elsewhere.
+//! Drawing the functional patterns: blocks of modules where they are the same in all versions, and
+//! place by place elsewhere.
 
 ghost use Rattle.std.specs.Prelude.{◌≡◌, ℕ, ◌+◌, ◌-◌, ◌*◌, ◌<◌, ◌≤◌, length, map, slice_index, true, false, ◌↔◌, IsTrue};
 ghost use Rattle.qrcode_types.specs.Versions.{is_valid, is_micro, side};
@@ -36,7 +36,8 @@ pub(super) fn is_functional_place(places: PatternPlaces, x: usize, y: usize) -> 
         || format_index(version, width, x, y).is_some()
 }
 
-// A module after the functional patterns are drawn, the format places light, by a search for the centres near it.
+// A module after the functional patterns are drawn, the format places light, by a search for the
+// centres near it.
 #[inline(never)]
 fn searched_module(places: PatternPlaces, x: usize, y: usize, old: Module) -> Module
     requires column { x < side places.version }
@@ -59,7 +60,8 @@ fn searched_module(places: PatternPlaces, x: usize, y: usize, old: Module) -> Mo
     }
 }
 
-// The same, without a search where there is a timing module, as at most places that are drawn one by one.
+// The same, without a search where there is a timing module, as at most places that are drawn one
+// by one.
 #[inline(always)]
 fn pattern_module(places: PatternPlaces, x: usize, y: usize, old: Module) -> Module
     requires column { x < side places.version }
@@ -72,8 +74,8 @@ fn pattern_module(places: PatternPlaces, x: usize, y: usize, old: Module) -> Mod
     }
 }
 
-// Draws the patterns at so many places of a row, from column `left` on. Inlined, a line of timing modules is told from the
-// rest once.
+// Draws the patterns at so many places of a row, from column `left` on. Inlined, a line of timing
+// modules is recognised once.
 #[inline(always)]
 fn draw_row<C: Cell>(places: PatternPlaces, left: usize, across: usize, y: usize, modules: &mut [C])
     requires columns { left + across ≤ side places.version }
@@ -147,8 +149,8 @@ fn draw_block<C: Cell, const ACROSS: usize>(
     }
 }
 
-// Draws the alignment patterns round the centres in a row, but for the corners where finder patterns
-// are.
+// Draws the alignment patterns round the centres in a row, except for the corners where finder
+// patterns are.
 fn draw_alignment_row<C: Cell>(places: PatternPlaces, b: usize, modules: &mut [C])
     requires centre { IsCentre places.version b }
     requires square { length modules.old ≡ side places.version * side places.version }

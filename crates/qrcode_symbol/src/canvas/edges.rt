@@ -11,7 +11,8 @@ use qrcode_masks::penalty::{last_column, micro_penalty_by_edges};
 use qrcode_masks::row::PackedRow;
 use qrcode_places::masks::nth_mask;
 
-/// The last column of a square, bit y standing for row y: which modules are dark, and which a mask may turn.
+/// The last column of a square, bit y standing for row y: which modules are dark, and which a mask
+/// may turn.
 #[derive(Copy, Clone)]
 pub(super) struct LastColumn<R: PackedRow> {
     pub(super) dark: R,
@@ -30,7 +31,8 @@ impl<R: PackedRow> LastColumn<R> {
     }
 }
 
-// A row or a column in which the free places are turned that the mask turns, by the first 64 of these.
+// A row or a column in which the free places are turned that the mask turns, by the first 64 of
+// these.
 #[inline(always)]
 fn turn_line<R: PackedRow>(dark: R, free: R, turned: u64) -> R
     ensures { R.bits result

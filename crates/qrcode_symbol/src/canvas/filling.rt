@@ -1,5 +1,5 @@
-//! Drawing codewords at the empty places of a canvas: eight bits at once where four rows of a pair of
-//! columns are empty, and bit by bit elsewhere.
+//! Drawing codewords at the empty places of a canvas: eight bits at once where four rows of a pair
+//! of columns are empty, and bit by bit elsewhere.
 
 ghost use Rattle.std.specs.Prelude.{◌≡◌, ◌&&◌, [], ◌∷◌, ◌+◌, ◌-◌, ◌*◌, ◌%◌, ◌<◌, ◌≤◌, length, map, slice_get, IsTrue};
 ghost use Rattle.std.specs.List.{range_with_len};
@@ -22,7 +22,8 @@ const L: Color = Color::Light;
 // Dark.
 const D: Color = Color::Dark;
 
-// Two rows of a pair of columns, by the four bits that are drawn there: the highest at the right of the first row.
+// Two rows of a pair of columns, by the four bits that are drawn there: the highest at the right of
+// the first row.
 #[rattlefmt::skip]
 static TWO_ROWS: [[[Color; 2]; 2]; 16] = [
     [[L, L], [L, L]], [[L, L], [D, L]], [[L, L], [L, D]], [[L, L], [D, D]],
@@ -31,8 +32,8 @@ static TWO_ROWS: [[[Color; 2]; 2]; 16] = [
     [[D, D], [L, L]], [[D, D], [D, L]], [[D, D], [L, D]], [[D, D], [D, D]],
 ];
 
-// A pair of columns of the walk, which goes upwards where the number of the pair is even, and else downwards. The type has
-// the parity, so that each way has loops of its own.
+// A pair of columns of the walk, which goes upwards where the number of the pair is even, and else
+// downwards. The type has the parity, so that each way has loops of its own.
 #[derive(Copy, Clone)]
 struct Pair<const PARITY: usize> {
     version: Version,

@@ -16,8 +16,8 @@ use qrcode_places::masks::MaskPattern;
 use qrcode_places::words::format_word;
 use qrcode_types::types::Version;
 
-// The places that each mask turns in six columns of twelve rows, column x at bit x. All masks go on so, every six
-// columns and every twelve rows.
+// The places that each mask turns in six columns of twelve rows, column x at bit x. All masks go on
+// so, every six columns and every twelve rows.
 #[rattlefmt::skip]
 static TURNED: [[u8; 12]; 8] = [
     [0o25, 0o52, 0o25, 0o52, 0o25, 0o52, 0o25, 0o52, 0o25, 0o52, 0o25, 0o52],
@@ -30,7 +30,8 @@ static TURNED: [[u8; 12]; 8] = [
     [0o25, 0o70, 0o61, 0o52, 0o07, 0o16, 0o25, 0o70, 0o61, 0o52, 0o07, 0o16],
 ];
 
-// The places that each mask turns in twelve rows of six columns, row y at bit y: the same ones, column by column.
+// The places that each mask turns in twelve rows of six columns, row y at bit y: the same ones,
+// column by column.
 #[rattlefmt::skip]
 static TURNED_COLUMNS: [[u16; 6]; 8] = [
     [0o2525, 0o5252, 0o2525, 0o5252, 0o2525, 0o5252],
@@ -52,7 +53,8 @@ fn repeat(six: u64) -> u64
     six.wrapping_mul(0x1041_0410_4104_1041)
 }
 
-// The next 64 places, where six or twelve stand again and again: 64 is 4 more than a multiple of both, and 60 is one.
+// The next 64 places, where six or twelve stand again and again: 64 is 4 more than a multiple of
+// both, and 60 is one.
 #[inline(always)]
 fn next_places(word: u64) -> u64
     ensures { result ≡ next_places word }
@@ -85,8 +87,8 @@ pub(super) fn turned_column(mask: MaskPattern, x: usize) -> u64
     (TURNED_COLUMNS[mask.number()][x % 6] as u64).wrapping_mul(0x1001_0010_0100_1001)
 }
 
-// The places that a mask turns in the first 64 columns of twelve rows, which stand for all, since each mask goes on so
-// every twelve rows.
+// The places that a mask turns in the first 64 columns of twelve rows, which stand for all, since
+// each mask goes on so every twelve rows.
 #[derive(Drop)]
 struct TurnedRows {
     mask: MaskPattern,
@@ -148,7 +150,8 @@ fn put_column<R: PackedRow>(rows: &mut [R], first: usize, count: usize, bits: u1
     }
 }
 
-// Writes the bits that no mask decides into the rows of Normal: both copies of the format word, and the dark module.
+// Writes the bits that no mask decides into the rows of Normal: both copies of the format word, and
+// the dark module.
 #[inline(always)]
 fn decide_normal<R: PackedRow>(layer: Layer, rows: &mut [R])
     requires normal { is_micro layer.version ≡ false }
@@ -194,8 +197,8 @@ fn decide_rows<R: PackedRow>(layer: Layer, rows: &mut [R])
     }
 }
 
-// Writes up to twelve rows, from a multiple of twelve on, with the places turned that the mask turns. LLVM makes twelve
-// with the places of the mask at hand.
+// Writes up to twelve rows, from a multiple of twelve on, with the places turned that the mask
+// turns. LLVM makes twelve with the places of the mask at hand.
 #[inline(always)]
 fn turn_some_rows<R: PackedRow>(
     modules: &PackedModules<'_, R>,

@@ -1,12 +1,11 @@
-//! The choice of the mask. The modules are packed into rows once, each mask is tried on the rows, and the colours under
-//! the best one are written.
+//! The choice of the mask. The modules are packed into rows once, each mask is tried on the rows,
+//! and the colours under the best one are written.
 
-ghost use Rattle.std.specs.Prelude.{◌≡◌, ◌+◌, ◌*◌, ◌<◌, ◌≤◌, ◌^◌, false, length, map, List, IsTrue, IfOk, IsOkUnless};
+ghost use Rattle.std.specs.Prelude.{◌≡◌, ◌+◌, ◌*◌, ◌<◌, ◌≤◌, ◌^◌, false, length, map, IsTrue, IfOk, IsOkUnless};
 ghost use Rattle.qrcode_types.specs.Versions.{is_micro, has_level, side};
 ghost use Rattle.qrcode_types.specs.declared.types.QrError.TheVariants.{OutOfMemory};
 ghost use Rattle.qrcode_places.specs.Masks.{mask_count};
-ghost use Rattle.qrcode_symbol.specs.Masking.{is_dark_module, is_free, ShowsModules, nth_cost, IsFirstLeastCost, IsLastColumn, AreBestColors};
-ghost use Rattle.qrcode_symbol.specs.declared.canvas.Module.{Module};
+ghost use Rattle.qrcode_symbol.specs.Masking.{nth_cost, IsFirstLeastCost, IsLastColumn, AreBestColors};
 
 use super::cells::Cell;
 use super::edges::{LastColumn, nth_micro_cost};
@@ -76,25 +75,8 @@ fn least_mask<R: PackedRow>(modules: &PackedModules<'_, R>, masked: &mut [R]) ->
     best
 }
 
-// The colours under the first mask of least penalty, by packed rows.
-fn best_of<R: PackedRow>(alloc: Global, packed: &PackedModules<'_, R>) -> QrResult<Vec<Color>>
-    ensures best { (modules : List Module)
-        → ShowsModules is_dark_module packed.now.width modules packed.now.dark.rows
-        → ShowsModules is_free packed.now.width modules packed.now.free.rows
-        → IfOk result (λ colors.
-        AreBestColors packed.now.version packed.now.ec_level modules colors.items) }
-    ensures memory { IsOkUnless result OutOfMemory }
-{
-    let mut masked = vec![in alloc; R::first(0); packed.width]?;
-    let mut colors = Vec::with_capacity(alloc, packed.width * packed.width)?;
-    let best = least_mask(packed, &mut masked);
-    mask_rows(packed, nth_mask(packed.version, best), &mut masked);
-    unpack_rows(packed.width, &masked, &mut colors)?;
-    Ok(colors)
-}
-
-// The colours under the first mask of least penalty, chosen on rows of one kind. The modules are freed before the colours
-// are written.
+// The colours under the first mask of least penalty, chosen on rows of one kind. The modules are
+// freed before the colours are written.
 fn best_by<R: PackedRow, C: Cell>(
     alloc: Global,
     version: Version,
@@ -120,11 +102,16 @@ fn best_by<R: PackedRow, C: Cell>(
         dark: PackedSquare::new(&dark, width as u32),
         free: PackedSquare::new(&free, width as u32),
     };
-    best_of(alloc, &packed)
+    let mut masked = vec![in alloc; R::first(0); width]?;
+    let best = least_mask(&packed, &mut masked);
+    mask_rows(&packed, nth_mask(version, best), &mut masked);
+    let mut colors = Vec::with_capacity(alloc, width * width)?;
+    unpack_rows(width, &masked, &mut colors)?;
+    Ok(colors)
 }
 
-/// The colours, in row order, under the first mask of least penalty, with its format word. The modules are freed before
-/// the colours are written.
+/// The colours, in row order, under the first mask of least penalty, with its format word. The
+/// modules are freed before the colours are written.
 pub(super) fn best_colors<C: Cell>(
     alloc: Global,
     version: Version,

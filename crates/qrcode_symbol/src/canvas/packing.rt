@@ -13,8 +13,8 @@ use qrcode_masks::square::PackedSquare;
 use qrcode_types::types::{EcLevel, Version};
 use std::simd::prelude::*;
 
-/// The modules of a symbol in rows: bit x of row y of `dark` is set where the module in column x and
-/// row y is dark, and of `free` where a mask may turn it.
+/// The modules of a symbol in rows: bit x of row y of `dark` is set where the module in column x
+/// and row y is dark, and of `free` where a mask may turn it.
 #[derive(Drop)]
 pub(super) struct PackedModules<'a, R: PackedRow> {
     pub(super) version: Version,
@@ -64,8 +64,8 @@ fn equal_to(bytes: [u8; 64], number: u8) -> u64
         .to_bitmask()
 }
 
-/// Which of up to 64 modules are dark, and which a mask may turn. A byte for each answer first, so that LLVM makes
-/// sixteen at a time.
+/// Which of up to 64 modules are dark, and which a mask may turn. A byte for each answer first, so
+/// that LLVM makes sixteen at a time.
 pub(super) fn pack_modules(modules: &[Module]) -> (u64, u64)
     requires { length modules.now ≤ 64 }
     ensures dark { result.0 ≡ packed is_dark_module modules.now }
@@ -80,7 +80,8 @@ pub(super) fn pack_modules(modules: &[Module]) -> (u64, u64)
     (equal_to(dark, 1), equal_to(free, 1))
 }
 
-// Which of 64 bytes show dark modules, and which show modules that a mask may turn, where the bytes lie.
+// Which of 64 bytes show dark modules, and which show modules that a mask may turn, where the bytes
+// lie.
 #[inline(always)]
 fn pack_whole(bytes: &[u8]) -> (u64, u64)
     requires { length bytes.now ≡ 64 }
@@ -107,7 +108,8 @@ fn lowest(word: u64, count: usize) -> u64
     word.and(u64::first(count as u32))
 }
 
-/// Which of the first modules, up to 64, are dark, and which a mask may turn, by the bytes that show them.
+/// Which of the first modules, up to 64, are dark, and which a mask may turn, by the bytes that
+/// show them.
 pub(super) fn pack_bytes(bytes: &[u8], count: usize) -> (u64, u64)
     requires at_most { count ≤ 64 }
     requires inside { count ≤ length bytes.now }

@@ -38,7 +38,8 @@ fn append(colors: &mut Vec<Color>, word: u64, count: usize) -> QrResult<()>
     Ok(())
 }
 
-// Appends a row by its places, of which the dark ones are set: word by word, so that the room needs no first values.
+// Appends a row by its places, of which the dark ones are set: word by word, so that the room needs
+// no first values.
 fn unpack_row<R: PackedRow>(line: R, width: usize, colors: &mut Vec<Color>) -> QrResult<()>
     ensures written { IfOk result (λ _.
         IsRowWritten (R.bits line) width colors.old.items colors.new.items) }

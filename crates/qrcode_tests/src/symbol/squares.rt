@@ -1,11 +1,10 @@
 //! Squares that are no symbols of the library, packed into rows of each type, and what they cost.
 
-ghost use Rattle.std.specs.Prelude.{◌≡◌, ◌+◌, ◌-◌, ◌*◌, ◌/◌, ◌<◌, ◌≤◌, length, map, IfOk};
+ghost use Rattle.std.specs.Prelude.{◌≡◌, ◌+◌, ◌<◌, ◌≤◌, length, map, IfOk};
 ghost use Rattle.qrcode_masks.specs.Rows.{FitsWidth, IsSquare};
-ghost use Rattle.qrcode_masks.specs.RowHalves.{HasHalves};
 
 use crate::common::{Row, check};
-use qrcode_masks::penalty::{micro_penalty, penalty_of_parts};
+use qrcode_masks::penalty::{micro_penalty, normal_penalty};
 use qrcode_masks::row::{PackedRow, Row128, Row192};
 use qrcode_masks::square::PackedSquare;
 use qrcode_types::types::QrResult;
@@ -117,134 +116,35 @@ fn rows_of<R: PackedRow>(alloc: Global, kind: Kind, width: u32) -> QrResult<Vec<
     Ok(rows)
 }
 
-// Whether a square has this penalty of Micro on packed rows of a type, unless that has no room for it.
-fn micro_costs<R: PackedRow>(alloc: Global, kind: Kind, width: u32, expected: u32) -> bool {
-    if width < 7 || width > R::size().saturating_sub(3) {
+// Whether a square has these penalties of Normal and of Micro on packed rows of a type, unless that has no room
+// for it.
+fn costs_in<R: PackedRow>(
+    alloc: Global,
+    kind: Kind,
+    width: u32,
+    room: u32,
+    expected: (u32, u32),
+) -> bool
+    requires { room ≤ R.room }
+{
+    let (normal, micro) = expected;
+    if width < 7 || width > room.saturating_sub(3) {
         return true;
     }
     match rows_of::<R>(alloc, kind, width) {
-        Ok(rows) => micro_penalty(&PackedSquare::new(&rows, width)) == expected,
+        Ok(rows) => {
+            let square = PackedSquare::new(&rows, width);
+            normal_penalty(&square) == normal && micro_penalty(&square) == micro
+        }
         Err(_) => false,
     }
 }
 
-// As many places of row y as a strip has in its half, from `first` on, or of column y.
-fn places_of(kind: Kind, across: bool, first: usize, half: u32, y: usize, width: usize) -> u64 {
-    let mut word = 0u64;
-    for x in 0..half.min(64) {
-        let i = first.wrapping_add(x as usize);
-        let is_dark = if across {
-            kind.is_dark(i, y)
-        } else {
-            kind.is_dark(y, i)
-        };
-        if i < width && is_dark {
-            word |= 1 << x;
-        }
-    }
-    word
-}
-
-// Line y of the k-th strip.
-fn line_of<L: PackedRow>(kind: Kind, k: usize, y: usize, width: usize) -> L {
-    let half = L::size() / 2;
-    let first = k.wrapping_mul(half as usize);
-    let row = places_of(kind, true, first, half, y, width);
-    let column = places_of(kind, false, first, half, y, width);
-    if half == 32 {
-        return L::of_words(row | column << 32, 0, 0);
-    }
-    L::of_words(row, column, 0)
-}
-
-// Writes the strips of a square between light lines.
-fn fill_strips<L: PackedRow>(kind: Kind, count: usize, width: usize, strips: &mut [L])
-    requires { width ≤ 189 }
-    ensures { length strips.new ≡ length strips.old }
-{
-    for n in 0..strips.len() {
-        let y = n % (width + 4);
-        if n / (width + 4) < count && y >= 4 {
-            strips[n] = line_of(kind, n / (width + 4), y - 4, width);
-        }
-    }
-}
-
-// The first `width` places of row y, or of column y.
-fn whole_line<R: PackedRow>(kind: Kind, across: bool, y: usize, width: u32) -> R
-    requires { width < R.room }
-{
-    let mut line = R::first(0);
-    for x in 0..width {
-        let (column, row) = if across {
-            (x as usize, y)
-        } else {
-            (y, x as usize)
-        };
-        if kind.is_dark(column, row) {
-            line = changed(line, x, x + 1);
-        }
-    }
-    line
-}
-
-// The rows or columns of a square from one on.
-fn last_lines<R: PackedRow>(
-    alloc: Global,
-    kind: Kind,
-    across: bool,
-    first: usize,
-    width: u32,
-) -> QrResult<Vec<R>>
-    requires { width < R.room }
-    ensures { IfOk result (λ lines. length lines.items ≡ width - first) }
-{
-    let count = (width as usize).saturating_sub(first);
-    let mut lines = vec![in alloc; R::first(0); count]?;
-    for j in 0..count {
-        lines[j] = whole_line(kind, across, first.wrapping_add(j), width);
-    }
-    Ok(lines)
-}
-
-// The penalty of Normal, by so many strips, and by the rows and columns that stand in none.
-fn normal_in<L: PackedRow>(alloc: Global, kind: Kind, count: usize, width: u32) -> QrResult<u32>
-    requires halves { HasHalves L.room }
-    requires at_least { 7 ≤ width }
-    requires at_most { width ≤ 189 }
-    requires some { 0 < count }
-    requires few { count ≤ 3 }
-{
-    let size = width as usize;
-    let mut strips = vec![in alloc; L::first(0); count * (size + 4) + 8]?;
-    fill_strips(kind, count, size, &mut strips);
-    let first = count * (L::size() as usize / 2) - 1;
-    let rows = last_lines::<Row192>(alloc, kind, true, first, width)?;
-    let columns = last_lines::<Row192>(alloc, kind, false, first, width)?;
-    Ok(penalty_of_parts(&strips, count, &rows, &columns, width))
-}
-
-// Whether a square has this penalty of Normal by one to three strips of each type of lines.
-fn normal_costs(alloc: Global, kind: Kind, width: u32, expected: u32) -> bool {
-    if width < 7 || width > 177 {
-        return false;
-    }
-    for count in 1..4 {
-        let narrow = normal_in::<u64>(alloc, kind, count, width);
-        let wide = normal_in::<Row128>(alloc, kind, count, width);
-        if narrow != Ok(expected) || wide != Ok(expected) {
-            return false;
-        }
-    }
-    true
-}
-
-// Whether a square has these penalties of Normal and of Micro.
-fn costs(alloc: Global, kind: Kind, width: u32, (normal, micro): (u32, u32)) -> bool {
-    micro_costs::<u64>(alloc, kind, width, micro)
-        && micro_costs::<Row128>(alloc, kind, width, micro)
-        && micro_costs::<Row192>(alloc, kind, width, micro)
-        && normal_costs(alloc, kind, width, normal)
+// The same on packed rows of each type.
+fn costs(alloc: Global, kind: Kind, width: u32, expected: (u32, u32)) -> bool {
+    costs_in::<u64>(alloc, kind, width, 64, expected)
+        && costs_in::<Row128>(alloc, kind, width, 128, expected)
+        && costs_in::<Row192>(alloc, kind, width, 192, expected)
 }
 
 // A symbol whose penalty is published, in parts: runs 88 and 92, blocks 90, finder forms 360 and 400,

@@ -1,6 +1,6 @@
 use Rattle.std.proofs.Common.{rules, ◌≡◌, ◌≤◌, List, [], length, IfOk, IsTrue, true, false, true≢false, sym, ap, subst, ◌∙◌, arith, inl, inr}
 use Rattle.qrcode_types.specs.Versions.{is_valid, has_level, capacity}
-use Rattle.qrcode_types.specs.declared.types.QrError.TheVariants.{DataTooLong}
+use Rattle.qrcode_types.specs.declared.types.QrError.TheVariants.{DataTooLong, OutOfMemory}
 use Rattle.qrcode_bits.specs.BitList.{BitList}
 use Rattle.qrcode_bits.specs.Choice.{Holds}
 use Rattle.qrcode_bits.specs.Cuts.{IsCut, FitsIn}
@@ -11,6 +11,7 @@ use Rattle.qrcode_bits.proofs.Several.{handed_on}
 use Rattle.qrcode.specs.Acceptance.{IsLeastSymbol, IsRefusedAt}
 use Rattle.qrcode.proofs.Causes.{above_limit, behind_cut, not_too_long}
 use Rattle.qrcode.proofs.Sealing.{ended_symbol}
+use Rattle.qrcode.proofs.Spelled.{spelled_held}
 use Rattle.qrcode.proofs.QrCode.with_version.Goals as goal
 use Rattle.qrcode.proofs.QrCode.with_version.Goals.{In-Err, then-eq+then-bytes-le-DATA_LIMIT+in_ok-max_len, else-eq, else-eq-via-then-eq+else-bytes-le-DATA_LIMIT, else-eq-via-else-eq}
 
@@ -19,6 +20,13 @@ version c = ap (λ (b : BitList). b.version) c.new-bits.ensures.empty
 
 valid : (c : In-Err) → IsTrue (is_valid c.args.version)
 valid c = search rules
+
+-- data that is held is refused for want of memory alone
+memory : (c : In-Err) → Holds c.args.version c.args.ec_level c.args.bytes.now → c.in-Err.error ≡ OutOfMemory
+memory c holds =
+    let l = c.args.ec_level in
+    let room = c.new-bits.ensures.room l in
+    c.in-Err.ensures.accepts l (omega (arith, room, ap (λ u. capacity u l) (version c), ap (λ (b : BitList). length b.bits) c.new-bits.ensures.empty)) (subst (λ u. FitsIn u c.args.bytes.now (capacity u l)) (sym (version c)) holds.room)
 
 -- within the limit, `DataTooLong` tells that the data can be cut
 some_cut : (c : In-Err) → c.in-Err.error ≡ DataTooLong → length c.args.bytes.now ≤ 1048576 → ¬ ((segments : List Segment) → ¬ IsCut c.args.version c.args.bytes.now segments)
@@ -51,7 +59,7 @@ returns-in-Err-clause-causes c =
       | then-eq+then-bytes-le-DATA_LIMIT+in_ok-max_len w ↦
           let long : e ≡ DataTooLong = search rules in
           let has : has_level v l ≡ true = sym (w.in_ok-max_len.ensures.exists ∙ ap (λ u. has_level u l) (known.version ∙ version k)) in
-          let too_small : ¬ Holds v l bytes = λ holds. let memory = known.accepts l (omega (arith, c.new-bits.ensures.room l, ap (λ u. capacity u l) (version k), ap (λ (b : BitList). length b.bits) c.new-bits.ensures.empty)) (subst (λ u. FitsIn u bytes (capacity u l)) (sym (version k)) holds.room) in cc in
+          let too_small : ¬ Holds v l bytes = λ holds. let wanted = memory k holds in cc in
           behind_cut v l bytes (valid k) e (omega arith) (some_cut k long (omega arith)) (inr (inr (λ no. true≢false (sym has ∙ no), (too_small, long))))
       | else-eq w ↦
           elim w.else-eq.branch [
@@ -64,6 +72,15 @@ returns-in-Err-clause-causes c =
                 (λ segments cut. known.causes segments (subst (λ u. IsCut u bytes segments) (sym (version k)) cut))
           ]
     ]
+
+pub returns-in-Err-clause-accepts_spelled : goal.returns-in-Err-clause-accepts_spelled
+returns-in-Err-clause-accepts_spelled c = λ can.
+    memory (goal.at.returns-in-Err-clause-accepts_spelled c).In-Err (spelled_held c.args.ec_level c.args.bytes.now c.args.version can)
+
+pub returns-in_err-push_terminator-clause-accepts_spelled : goal.returns-in_err-push_terminator-clause-accepts_spelled
+returns-in_err-push_terminator-clause-accepts_spelled c = λ can.
+    let holds = spelled_held c.args.ec_level c.args.bytes.now c.args.version can in
+    search rules
 
 pub returns-clause-symbol : goal.returns-clause-symbol
 returns-clause-symbol c =

@@ -4,17 +4,16 @@ use Rattle.qrcode_masks.specs.Penalty.{sum_below}
 use Rattle.qrcode_masks.specs.Inside.{before, two, run_from, inside_row}
 use Rattle.qrcode_masks.proofs.columns.column_run_penalties.Given as goal
 
-abbrev pub invariant-loop-k : goal.invariant-loop-k
-invariant-loop-k g l =
+abbrev pub invariant-loop-y : goal.invariant-loop-y
+invariant-loop-y g l =
     let bits = g.R.PackedRow.bits in
     let n = l.square.width in
     let dark = dark_in l.square.rows in
-    let y : ℕ = 2 * l.k in
     record {
-      value : l.total ≡ sum_below y (inside_row dark n);
-      at_most : l.total ≤ 189 * y;
-      last_at : (x : ℕ) → x < n → is_set (bits l.last) x ≡ not (before (run_from dark x) y);
-      both_at : (x : ℕ) → x < n → is_set (bits l.both) x ≡ not (before (two (run_from dark x)) y);
+      value : l.total ≡ sum_below l.y (inside_row dark n);
+      at_most : l.total ≤ 189 * l.y;
+      last_at : (x : ℕ) → x < n → is_set (bits l.last) x ≡ not (before (run_from dark x) l.y);
+      both_at : (x : ℕ) → x < n → is_set (bits l.both) x ≡ not (before (two (run_from dark x)) l.y);
       last_fits : FitsWidth n (bits l.last);
       both_fits : FitsWidth n (bits l.both);
     }

@@ -8,8 +8,8 @@ const D: Color = Color::Dark;
 // Light.
 const L: Color = Color::Light;
 
-/// The finder pattern at the top left of Normal, with the format places round it and the first modules
-/// of both timing lines.
+/// The finder pattern at the top left of Normal, with the format places round it and the first
+/// modules of both timing lines.
 pub(super) static NORMAL_TOP_LEFT: [[Color; 9]; 9] = [
     [D, D, D, D, D, D, D, L, L],
     [D, L, L, L, L, L, D, L, L],
@@ -35,8 +35,8 @@ pub(super) static NORMAL_TOP_RIGHT: [[Color; 8]; 9] = [
     [L, L, L, L, L, L, L, L],
 ];
 
-/// The finder pattern at the bottom left of Normal, with the dark module and the format places beside
-/// it.
+/// The finder pattern at the bottom left of Normal, with the dark module and the format places
+/// beside it.
 pub(super) static NORMAL_BOTTOM_LEFT: [[Color; 9]; 8] = [
     [L, L, L, L, L, L, L, L, D],
     [D, D, D, D, D, D, D, L, L],
@@ -48,8 +48,8 @@ pub(super) static NORMAL_BOTTOM_LEFT: [[Color; 9]; 8] = [
     [D, D, D, D, D, D, D, L, L],
 ];
 
-/// The finder pattern of Micro, with the format places round it and the first modules of both timing
-/// lines.
+/// The finder pattern of Micro, with the format places round it and the first modules of both
+/// timing lines.
 pub(super) static MICRO_TOP_LEFT: [[Color; 9]; 9] = [
     [D, D, D, D, D, D, D, L, D],
     [D, L, L, L, L, L, D, L, L],

@@ -1,7 +1,7 @@
 use Rattle.std.proofs.Common.{◌≡◌, Option, Some, IfSome, IfOk, IfErr, sym, subst}
 use Rattle.qrcode_types.specs.declared.types.EcLevel.TheVariants.{M}
 use Rattle.qrcode_bits.specs.Choice.{IsRefused}
-use Rattle.qrcode_programs.proofs.Runs.{is_run-made}
+use Rattle.qrencode.proofs.Runs.{is_run-made}
 use Rattle.qrencode.specs.Words.{IsTerminalText}
 use Rattle.qrencode.proofs.program.run.Goals as goal
 

@@ -1,6 +1,6 @@
 use Rattle.std.proofs.Common.{◌∙◌, arith}
 use Rattle.qrcode_ec.proofs.Bytes.{bytes_from}
-use Rattle.qrcode_reader.proofs.Corrector.candidate.Goals as goal
+use Rattle.qrcode_reader.proofs.correct.Corrector.candidate.Goals as goal
 
 pub returns-clause-value : goal.returns-clause-value
 returns-clause-value c = λ corrected. c.corrected.ensures.value c.args.self.now.divider.degree corrected (record {

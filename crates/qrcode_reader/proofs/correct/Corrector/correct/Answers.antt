@@ -2,8 +2,8 @@ use Rattle.std.proofs.Common.{◌≡◌, ℕ, ◌/◌, ◌≤◌, List, length, 
 use Rattle.qrcode_ec.specs.Codes.{Corrects, Vanishes, distance}
 use Rattle.qrcode_ec.proofs.Bytes.{take_bytes}
 use Rattle.qrcode_reader.proofs.Remainders.{vanishes_from_zero, distance_self, corrects_itself, only_itself}
-use Rattle.qrcode_reader.proofs.Corrector.correct.Goals as goal
-use Rattle.qrcode_reader.proofs.Corrector.correct.Goals.{then-wrong-n-via-then-wrong-n, then-wrong-n-via-else-wrong-n+then-not-vanishes}
+use Rattle.qrcode_reader.proofs.correct.Corrector.correct.Goals as goal
+use Rattle.qrcode_reader.proofs.correct.Corrector.correct.Goals.{then-wrong-n-via-then-wrong-n, then-wrong-n-via-else-wrong-n+then-not-vanishes}
 
 -- ---- a block that vanishes
 block_vanishes : (c : goal.Then-is_zero) → Vanishes c.args.block.now c.args.self.now.divider.degree

@@ -1,7 +1,7 @@
 use Rattle.std.proofs.Common.{rules, ◌≡◌, length, take, arith}
 use Rattle.std.proofs.lemmas.List.{length-take-le}
 use Rattle.qrcode_reader.proofs.Remainders.{vanishes_from_zero, zero_from_vanishes}
-use Rattle.qrcode_reader.proofs.Corrector.vanishes.Goals as goal
+use Rattle.qrcode_reader.proofs.correct.Corrector.vanishes.Goals as goal
 
 pub returns : goal.returns
 returns c =

@@ -1,3 +1,0 @@
-mod Dating
-mod Labelling
-mod Placing

@@ -1,0 +1,266 @@
+//! Elements of GS1 as people write them, and why they are refused.
+
+ghost use Rattle.std.specs.Prelude.{◌≡◌, ◌≢◌, [], ◌∷◌, ◌++◌, map, true, encode_utf8, string_bytes, IfOk};
+ghost use Rattle.qrcode_gs1.specs.Items.{item};
+ghost use Rattle.goqlanis_run.specs.Labels.{ends_with_backslash, items_of, label_text, read_text, value_text};
+
+use super::refusals::wrong;
+use crate::failure::Failure;
+use qrcode_gs1::checks::cause_of;
+use qrcode_gs1::elements::Element;
+use qrcode_gs1::errors::Cause;
+use qrcode_gs1::table::{Rule, rule_of};
+use std::alloc::{AllocError, Global};
+
+/// Elements: of each its identifier and its value.
+#[derive(Drop)]
+pub(crate) struct Elements {
+    items: Vec<(String, String)>,
+}
+
+// The beginning of an element.
+#[derive(Drop)]
+enum Part {
+    // Nothing of it.
+    Nothing,
+    // Its opening bracket, and the beginning of its identifier.
+    Identifier(String),
+    // Its identifier in brackets, and the beginning of its value.
+    Value(String, String),
+}
+
+impl Elements {
+    /// The elements of a text: each identifier in round brackets, and behind it its value, in which
+    /// `\(` stands for `(`. Whether there is such an identifier, with such a value, is not looked
+    /// at.
+    ///
+    /// `Refused`: there is no element, or something else. `OutOfMemory`: memory ran out.
+    pub(crate) fn read(alloc: Global, text: &str) -> Result<Elements, Failure>
+        ensures written { IfOk result (λ elements.
+            label_text (items_of elements.items.items) ≡ text.now) }
+    {
+        let mut items = Vec::new(alloc);
+        let mut part = Part::Nothing;
+        for character in text.chars() {
+            part = next(alloc, &mut items, part, character)?;
+        }
+        match part {
+            Part::Nothing => Err(no_bracket(alloc)),
+            Part::Identifier(_) => Err(not_closed(alloc)),
+            Part::Value(identifier, value) => {
+                items.push((identifier, value))?;
+                Ok(Elements { items })
+            }
+        }
+    }
+
+    /// The elements, as a symbol is made of them. It fails only where memory runs out.
+    pub(crate) fn elements(&self, alloc: Global) -> Result<Vec<Element<'_>>, AllocError>
+        ensures value { IfOk result (λ elements. map item elements.items
+            ≡ items_of self.now.items.items) }
+    {
+        let mut elements = Vec::with_capacity(alloc, self.items.len())?;
+        for (identifier, value) in &self.items {
+            elements.push(Element {
+                identifier: identifier.as_str(),
+                value: value.as_str(),
+            })?;
+        }
+        Ok(elements)
+    }
+
+    /// Why the element at an index is refused: which one it is, what is wrong and what would help;
+    /// empty where there is no such element. It fails only where memory runs out.
+    pub(crate) fn refusal(
+        &self,
+        alloc: Global,
+        index: usize,
+        cause: Cause,
+    ) -> Result<String, AllocError> {
+        let Some((identifier, value)) = self.items.get(index) else {
+            return Ok(String::new(alloc));
+        };
+        let number = index.saturating_add(1);
+        let mut text = format!(in alloc; "element {number}, ({identifier}): ")?;
+        match rule_of(identifier.as_bytes()) {
+            Some(rule) => push_cause(&mut text, &rule, identifier.as_str(), value.as_str(), cause)?,
+            None => text.push_str(
+                "no such identifier is known; \
+                identifiers have two to four digits, as 01, 414 and 3103",
+            )?,
+        }
+        Ok(text)
+    }
+}
+
+// The beginning of an element with one more character of the text, which may end it and begin
+// another.
+fn next(
+    alloc: Global,
+    items: &mut Vec<(String, String)>,
+    part: Part,
+    character: char,
+) -> Result<Part, Failure>
+    ensures appends { IfOk result (λ more. read_text items.new.items more
+        ≡ read_text items.old.items part ++ encode_utf8 character) }
+{
+    match part {
+        Part::Nothing if character == '(' => Ok(Part::Identifier(String::new(alloc))),
+        Part::Nothing => Err(no_bracket(alloc)),
+        Part::Identifier(_) if character == '(' => Err(not_closed(alloc)),
+        Part::Identifier(identifier) if character == ')' => {
+            Ok(Part::Value(identifier, String::new(alloc)))
+        }
+        Part::Identifier(mut identifier) => {
+            identifier.push(character)?;
+            Ok(Part::Identifier(identifier))
+        }
+        Part::Value(identifier, value) if character != '(' => {
+            Ok(Part::Value(identifier, with_character(value, character)?))
+        }
+        Part::Value(identifier, value) if ends_with_backslash(value.as_str()) => {
+            Ok(Part::Value(identifier, with_bracket(value)?))
+        }
+        Part::Value(identifier, value) => {
+            items.push((identifier, value))?;
+            Ok(Part::Identifier(String::new(alloc)))
+        }
+    }
+}
+
+// Whether the last byte is a backslash.
+fn ends_with_backslash(value: &str) -> bool
+    ensures { result ≡ ends_with_backslash value.now }
+{
+    value.ends_with('\\')
+}
+
+// A value with one more character.
+#[tactic(auto, using(crate::proofs::Labelling::value_more))]
+fn with_character(value: String, character: char) -> Result<String, Failure>
+    requires { character ≢ 40 }
+    ensures appends { IfOk result (λ more. value_text (string_bytes more)
+        ≡ value_text (string_bytes value) ++ encode_utf8 character) }
+{
+    let mut value = value;
+    value.push(character)?;
+    Ok(value)
+}
+
+// A value with an opening bracket in place of the backslash at its end, which is written as both.
+fn with_bracket(value: String) -> Result<String, Failure>
+    requires { ends_with_backslash (string_bytes value) ≡ true }
+    ensures appends { IfOk result (λ more. value_text (string_bytes more)
+        ≡ value_text (string_bytes value) ++ 40 ∷ []) }
+{
+    let mut value = value;
+    value.pop();
+    value.push('(')?;
+    Ok(value)
+}
+
+// The refusal of a text that does not begin with a bracket.
+fn no_bracket(alloc: Global) -> Failure {
+    wrong(
+        alloc,
+        "ELEMENTS",
+        "they begin with an identifier in round brackets",
+        ", as (01)09521234543213",
+    )
+}
+
+// The refusal of a bracket that is not closed.
+fn not_closed(alloc: Global) -> Failure {
+    let what = "an opening bracket has no closing one behind it";
+    wrong(alloc, "ELEMENTS", what, "; a value has ( as \\(")
+}
+
+// Appends what is wrong with a value, and what would help.
+fn push_cause(
+    text: &mut String,
+    rule: &Rule,
+    identifier: &str,
+    value: &str,
+    cause: Cause,
+) -> Result<(), AllocError> {
+    match cause {
+        Cause::UnknownIdentifier => Ok(()),
+        Cause::Length => push_length(text, rule.1, value.len()),
+        Cause::Character => push_character(text, rule.2, value),
+        Cause::CheckDigit => push_digit(text, identifier, value, rule.3),
+    }
+}
+
+// Appends how many characters a value has, and the least and the most that it may have.
+fn push_length(
+    text: &mut String,
+    (least, most): (usize, usize),
+    count: usize,
+) -> Result<(), AllocError> {
+    write!(text, "its value has {count} characters; it wants {least}")?;
+    if least < most {
+        write!(text, " to {most}")?;
+    }
+    Ok(())
+}
+
+// Appends the check digit that would be right at a place, from 1.
+fn push_digit(
+    text: &mut String,
+    identifier: &str,
+    value: &str,
+    place: usize,
+) -> Result<(), AllocError> {
+    let digit = right_digit(*text.allocator(), identifier, value, place)?;
+    write!(
+        text,
+        "its check digit, at place {place}, would be {digit}; \
+        look for a digit that is wrong or exchanged"
+    )
+}
+
+// Appends the first character of a value that may not stand there, of which so many are digits.
+fn push_character(text: &mut String, digits: usize, value: &str) -> Result<(), AllocError> {
+    for (index, character) in value.chars().enumerate() {
+        if let Some(what) = wrong_with(character, index < digits) {
+            let place = index.saturating_add(1);
+            return write!(text, "{character} at place {place} is {what}");
+        }
+    }
+    Ok(())
+}
+
+// What is wrong with a character that may be a digit alone, or any of GS1.
+fn wrong_with(character: char, is_digit: bool) -> Option<&'static str> {
+    if is_digit && !character.is_ascii_digit() {
+        Some("no digit")
+    } else if !is_known(character) {
+        Some("not one of the digits, letters and !\"%&'()*+,-./:;<=>?_")
+    } else {
+        None
+    }
+}
+
+// Whether a character is one of the 82 of GS1.
+fn is_known(character: char) -> bool {
+    matches!(character, '!' | '"' | '%'..='?' | 'A'..='Z' | '_' | 'a'..='z')
+}
+
+// The check digit that would be right at a place, from 1.
+fn right_digit(
+    alloc: Global,
+    identifier: &str,
+    value: &str,
+    place: usize,
+) -> Result<char, AllocError> {
+    let mut bytes = Vec::from_slice(alloc, value.as_bytes())?;
+    for digit in b'0'..b'9' + 1 {
+        if let Some(byte) = bytes.get_mut(place.saturating_sub(1)) {
+            *byte = digit;
+        }
+        if cause_of(identifier.as_bytes(), &bytes).is_none() {
+            return Ok(char::from(digit));
+        }
+    }
+    Ok('0')
+}

@@ -1,0 +1,215 @@
+//! What the program can be asked for, with the options of each task: the tables from which the
+//! command line, the manual page and the completions of shells are made. (A command of `clap` tells
+//! neither the names of values nor which values are paths, so that they cannot be made from it.)
+
+use std::alloc::{AllocError, Global};
+
+// A row of a table of options: its name, its letter where it has one, what it takes and what help
+// says of it.
+macro_rules! entry {
+    ($long:literal, $takes:expr, $help:literal) => {
+        Entry {
+            long: $long,
+            short: None,
+            takes: $takes,
+            help: $help,
+        }
+    };
+    ($long:literal, $letter:literal, $takes:expr, $help:literal) => {
+        Entry {
+            long: $long,
+            short: Some($letter),
+            takes: $takes,
+            help: $help,
+        }
+    };
+}
+
+mod fields;
+mod symbols;
+
+use fields::{BILL, ELEMENTS, EVENT, MAIL, MECARD, OTP, PAYMENT, PLACE, SMS, TEL, VCARD, WIFI};
+use symbols::READING;
+pub(crate) use symbols::{DRAWING, EXAMPLES};
+
+/// What an option takes.
+#[derive(Clone, Copy)]
+pub(crate) enum Takes {
+    /// Nothing.
+    Nothing,
+    /// A text, by the name that stands for it.
+    Text(&'static str),
+    /// Such a text, more than once.
+    Texts(&'static str),
+    /// The path of a file.
+    Path,
+    /// One of some words.
+    Word(&'static [&'static str]),
+    /// A whole number from one to another.
+    Number(u64, u64),
+}
+
+/// An option.
+#[derive(Clone, Copy)]
+pub(crate) struct Entry {
+    /// Its name behind two hyphens.
+    pub long: &'static str,
+    /// Its letter behind one.
+    pub short: Option<char>,
+    /// What stands behind it.
+    pub takes: Takes,
+    /// What help and the manual say of it.
+    pub help: &'static str,
+}
+
+/// What a text is of.
+#[derive(Clone, Copy)]
+pub(crate) enum Kind {
+    /// A wireless network.
+    Wifi,
+    /// A contact, as MECARD.
+    Mecard,
+    /// A contact, as vCard.
+    Vcard,
+    /// A SEPA credit transfer.
+    Payment,
+    /// A Swiss QR bill.
+    Bill,
+    /// A mail.
+    Mail,
+    /// A place on the earth.
+    Place,
+    /// A call.
+    Tel,
+    /// A message to a telephone.
+    Sms,
+    /// One-time passwords.
+    Otp,
+    /// An event of a calendar.
+    Event,
+}
+
+/// What is done.
+#[derive(Clone, Copy)]
+pub(crate) enum Purpose {
+    /// Data is drawn.
+    Draw,
+    /// A picture is read.
+    Read,
+    /// The text of fields is drawn, which options give.
+    Content(Kind),
+    /// Elements of GS1 are drawn.
+    Elements,
+}
+
+/// What stands on the command line beside options.
+#[derive(Clone, Copy)]
+pub(crate) struct Operand {
+    /// What help calls it.
+    pub name: &'static str,
+    /// What help and the manual say of it.
+    pub help: &'static str,
+}
+
+/// What the program can be asked for.
+#[derive(Clone, Copy)]
+pub(crate) struct Task {
+    /// The word that asks for it; empty for drawing, for which no word asks.
+    pub word: &'static str,
+    /// What help and the manual say of it.
+    pub about: &'static str,
+    /// What is done.
+    pub purpose: Purpose,
+    /// Its own options, without those of drawing that go with it.
+    pub options: &'static [Entry],
+}
+
+/// What words ask for, in the order of the manual.
+pub(crate) fn worded_tasks() -> [&'static Task; 13] {
+    [
+        &READING, &WIFI, &MECARD, &VCARD, &PAYMENT, &BILL, &MAIL, &PLACE, &TEL, &SMS, &OTP, &EVENT,
+        &ELEMENTS,
+    ]
+}
+
+/// What the first word behind the program's name asks for.
+pub(crate) fn task_of(word: &str) -> &'static Task {
+    for task in worded_tasks() {
+        if task.word == word {
+            return task;
+        }
+    }
+    &DRAWING
+}
+
+// The options of drawing that give the data, or have a text about the program printed.
+static DATA_OPTIONS: &[&str] = &[
+    "input",
+    "trim",
+    "lines",
+    "bytes",
+    "segment",
+    "completions",
+    "manual",
+    "release",
+];
+
+// Those that say the level and the version alone.
+static LEVEL_OPTIONS: &[&str] = &["level", "version", "least-version"];
+
+// Those that go with texts alone.
+static TEXT_OPTIONS: &[&str] = &["micro", "boost", "eci"];
+
+impl Task {
+    /// What it takes beside options.
+    pub(crate) fn operand(&self) -> Option<Operand> {
+        let (name, help) = match self.purpose {
+            Purpose::Draw => (
+                "TEXT",
+                "The text; standard input where there is neither it nor --input",
+            ),
+            Purpose::Read => (
+                "PICTURE",
+                "A PBM file, a PGM file of bytes, or half blocks; \
+                standard input where there is none",
+            ),
+            Purpose::Elements => (
+                "ELEMENTS",
+                "Each identifier in round brackets, and behind it its value, in which a backslash \
+                stands before an opening bracket; with --application the data",
+            ),
+            Purpose::Content(_) => return None,
+        };
+        Some(Operand { name, help })
+    }
+
+    /// All options that it takes, unless memory runs out: its own, and those of drawing that go
+    /// with it.
+    pub(crate) fn all_options(&self, alloc: Global) -> Result<Vec<&'static Entry>, AllocError> {
+        let mut all = Vec::new(alloc);
+        for entry in self.options {
+            all.push(entry)?;
+        }
+        for entry in DRAWING.options {
+            if self.goes_with(entry.long) {
+                all.push(entry)?;
+            }
+        }
+        Ok(all)
+    }
+
+    // Whether an option of drawing goes with its own: none that gives the data, none that says the
+    // level where the format does, and for elements none that goes with texts alone.
+    fn goes_with(&self, option: &'static str) -> bool {
+        let gives_data = DATA_OPTIONS.contains(&option);
+        let is_for_texts = TEXT_OPTIONS.contains(&option);
+        match self.purpose {
+            Purpose::Draw | Purpose::Read => false,
+            Purpose::Content(Kind::Payment | Kind::Bill) => {
+                !gives_data && !is_for_texts && !LEVEL_OPTIONS.contains(&option)
+            }
+            Purpose::Content(_) => !gives_data,
+            Purpose::Elements => !gives_data && !is_for_texts,
+        }
+    }
+}

@@ -1,0 +1,97 @@
+//! Symbols, drawn where no word asks for anything else, and read.
+
+use super::Takes::{Nothing, Number, Path, Text, Texts, Word};
+use super::{Entry, Purpose, Task};
+
+// The names of formats.
+const FORMATS: &[&str] = &[
+    "half-blocks",
+    "terminal",
+    "text",
+    "png",
+    "svg",
+    "eps",
+    "pic",
+    "pbm",
+    "pgm",
+];
+
+/// A drawing of data.
+#[rattlefmt::skip]
+pub(crate) static DRAWING: Task = Task {
+    word: "",
+    about: "Draws QR and Micro QR symbols",
+    purpose: Purpose::Draw,
+    options: &[
+        entry!("input", 'i', Path, "Read the data from a file, in place of TEXT"),
+        entry!("trim", Nothing, "Leave out one newline at the end of the data"),
+        entry!("lines", Nothing, "Draw a symbol of each line of the data; files are numbered"),
+        entry!("output", 'o', Path, "Write to a file, whole or not at all; - is standard output"),
+        entry!("format", 'f', Word(FORMATS),
+            "What to write; otherwise by the ending of the file: .txt .png .svg .eps .pic .pbm \
+            .pgm"),
+        entry!("level", 'l', Word(&["L", "M", "Q", "H"]),
+            "Error correction level; M unless said otherwise"),
+        entry!("version", 'v', Text("VERSION"),
+            "Version of the symbol, 1 to 40 or M1 to M4; otherwise the least of 1 to 40"),
+        entry!("least-version", Text("VERSION"),
+            "Take the least version from this one on, in the order M1 to M4, 1 to 40"),
+        entry!("micro", Nothing, "Take Micro QR where it holds the data: as --least-version M1"),
+        entry!("boost", Nothing, "Raise the level as far as the version allows"),
+        entry!("bytes", Nothing,
+            "Write the least bits, also where data that is UTF-8 may then be shown otherwise"),
+        entry!("eci", Nothing, "Write in front that the data is UTF-8, for readers that guess"),
+        entry!("segment", Texts("MODE:TEXT"),
+            "Write a segment by hand, once for each: numeric, alphanumeric, byte, or kanji with \
+            Shift JIS as 935f"),
+        entry!("quiet-zone", 'q', Number(0, 255),
+            "Modules of the quiet zone at each side; otherwise 4, and 2 for Micro QR"),
+        entry!("scale", 's', Number(1, 1000),
+            "Pixels of a module; otherwise 8, and 1 for texts and pic"),
+        entry!("size", Number(1, 65535),
+            "Pixels that a side may have: modules are as large as there is room for"),
+        entry!("dpi", Number(1, 65535),
+            "Dots per inch that a PNG file names: pixels along an inch when it is printed"),
+        entry!("colour", Text("COLOUR"),
+            "Colour of dark modules in PNG, SVG and EPS, as #000; in SVG also a name"),
+        entry!("background", Text("COLOUR"),
+            "Colour of light modules in PNG, SVG and EPS, as #fff; in SVG also a name"),
+        entry!("invert", Nothing, "Exchange dark and light"),
+        entry!("completions", Word(&["bash", "zsh", "fish"]), "Write the completions of a shell"),
+        entry!("manual", Nothing, "Write the manual page, for man -l"),
+        entry!("release", Nothing, "Write the version of the program"),
+    ],
+};
+
+/// A picture, read.
+#[rattlefmt::skip]
+pub(crate) static READING: Task = Task {
+    word: "read",
+    about: "Reads a clean picture of a symbol, and writes its data",
+    purpose: Purpose::Read,
+    options: &[
+        entry!("output", 'o', Path,
+            "Write the data to a file, whole or not at all; - is standard output"),
+        entry!("verbose", 'v', Nothing,
+            "Say version, level, mask, position and wrong codewords on standard error"),
+    ],
+};
+
+/// Examples, as the help shows them.
+pub(crate) const EXAMPLES: &str = "Examples:
+  goqlanis \"https://example.org\"
+      draws a symbol in the terminal
+  goqlanis -o ticket.png --scale 8 -i ticket.txt
+      draws the bytes of a file, as PNG
+  goqlanis --level Q --version M4 --format svg 1234567
+      draws a Micro symbol
+  goqlanis --lines -o seat.svg < seats.txt
+      draws seat-0001.svg, seat-0002.svg and so on
+  goqlanis read ticket.pbm
+      reads a picture back; goqlanis read --help says more
+  goqlanis wifi --ssid Guests --password \"a;b\"
+      draws the symbol that joins a network; so do mecard, vcard, payment, bill, mail,
+      place, tel, sms, otp and event for what they name, and goqlanis wifi --help says more
+  goqlanis gs1 -o label.png \"(01)09521234543213(17)271231(10)ABC123\"
+      draws a label of GS1
+";
