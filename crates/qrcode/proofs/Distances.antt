@@ -28,6 +28,11 @@ bit_distance-through (false ∷ a) (true ∷ b) (false ∷ c) h k = omega (arith
 bit_distance-through (false ∷ a) (false ∷ b) (true ∷ c) h k = omega (arith, bit_distance-through a b c (omega arith) (omega arith))
 bit_distance-through (false ∷ a) (false ∷ b) (false ∷ c) h k = omega (arith, bit_distance-through a b c (omega arith) (omega arith))
 
+pub bit_distance-same : (a : List Bool) → bit_distance a a ≡ 0
+bit_distance-same [] = refl
+bit_distance-same (true ∷ a) = omega (arith, bit_distance-same a)
+bit_distance-same (false ∷ a) = omega (arith, bit_distance-same a)
+
 -- two numbers as lists of one
 abbrev mark : ℕ → ℕ → ℕ
 mark x y = cond (eqb x y) 0 1
@@ -64,3 +69,7 @@ distance-through [] b c h k = omega arith
 distance-through (x ∷ a) [] c h k = absurd (omega arith)
 distance-through (x ∷ a) (y ∷ b) [] h k = absurd (omega arith)
 distance-through (x ∷ a) (y ∷ b) (z ∷ c) h k = omega (arith, mark-through x y z, distance-through a b c (omega arith) (omega arith))
+
+pub distance-same : (a : List ℕ) → distance a a ≡ 0
+distance-same [] = refl
+distance-same (x ∷ a) = ap₂ (λ m n. m + n) (ap (λ t. cond {A = ℕ} t 0 1) (eq-eqb x x refl)) (distance-same a)

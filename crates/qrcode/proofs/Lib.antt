@@ -3,6 +3,7 @@ pub mod Causes
 pub mod Distances
 pub mod FormatMasks
 pub mod HalfBlocks
+pub mod OtherMasks
 pub mod Readings
 pub mod Sides
 pub mod Symbols

@@ -42,3 +42,11 @@ pub record EncodesBits (v : Version) (l : EcLevel) (bits : List Bool) (s : List 
 pub record EncodesBytes (v : Version) (l : EcLevel) (bits : List Bool) (bytes : List ℕ) (s : List Color) : Type 0 where
   pub encodes : EncodesBits v l bits s
   pub read : (other : List Color) → IsDamaged v l encodes.mask s other → ReadsOnly other bytes
+
+-- The modules of a symbol under another mask: of whatever bits s is the symbol, they are so under this one. Each damaged
+-- symbol of them is read as these bits and no others, and as the bytes, and no others, that s encodes.
+pub record IsUnderMask (v : Version) (l : EcLevel) (k : MaskPattern) (s new : List Color) : Type 0 where
+  pub symbol : (j : MaskPattern) (bits : List Bool) → IsTrue (exists_in v j) → IsSymbol v l bits j s → IsSymbol v l bits k new
+  pub read_bits : (j : MaskPattern) (bits : List Bool) (other : List Color) → IsTrue (exists_in v j) → IsSymbol v l bits j s → IsDamaged v l k new other
+      → ReadsBitsOnly other v l bits
+  pub read_bytes : (bits : List Bool) (bytes : List ℕ) (other : List Color) → EncodesBytes v l bits bytes s → IsDamaged v l k new other → ReadsOnly other bytes

@@ -16,7 +16,7 @@ ghost use Rattle.qrcode_bits.specs.Refusals.{data_limit};
 ghost use Rattle.qrcode.specs.Acceptance.{CanSpell, IsAutomatic, IsLeastSymbol, IsRefusedAt};
 ghost use Rattle.qrcode.specs.Drawing.{IsMaskOf};
 ghost use Rattle.qrcode.specs.Pictures.{quiet_zone, debug_text};
-ghost use Rattle.qrcode.specs.Reading.{EncodesBits};
+ghost use Rattle.qrcode.specs.Reading.{EncodesBits, IsUnderMask};
 
 use bits::{Bits, DATA_LIMIT};
 use canvas::MaskPattern;
@@ -197,6 +197,21 @@ impl QrCode {
             → IsSymbol self.now.version self.now.level bits mask self.now.modules → mask ≡ result }
     {
         mask_of(self.version, &self.content)
+    }
+
+    /// The modules of this symbol under a mask of the version, which need not be that of least
+    /// penalty, row by row: the symbol of the same data, which reads as this one does.
+    ///
+    /// `OutOfMemory`: memory was refused.
+    pub fn under_mask(&self, alloc: Global, mask: MaskPattern) -> QrResult<Vec<Color>>
+        requires mask_exists { IsTrue (exists_in self.now.version mask) }
+        ensures symbol { IfOk result (λ modules. IsUnderMask
+            self.now.version self.now.level mask self.now.modules modules.items) }
+        ensures memory { IsOkUnless result OutOfMemory }
+    {
+        let mut modules = Vec::from_slice(alloc, &self.content)?;
+        canvas::remask(self.version, self.ec_level, self.mask(), mask, &mut modules);
+        Ok(modules)
     }
 
     /// The modules along a side, without a quiet zone.

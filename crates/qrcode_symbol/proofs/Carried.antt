@@ -73,7 +73,7 @@ unfolding after
 at_free f d word t m e h = rw (e, h) refl
 
 -- no format place has a pattern
-no_format : (v : Version) (x y : ℕ) (c : Color) → IsTrue (is_valid v) → pattern v x y ≡ Some c → format_index v x y ≡ None
+pub no_format : (v : Version) (x y : ℕ) (c : Color) → IsTrue (is_valid v) → pattern v x y ≡ Some c → format_index v x y ≡ None
 no_format v x y c valid e = go (format_index v x y) refl where
   go : (f : Option ℕ) → format_index v x y ≡ f → f ≡ None
   go None h = refl
@@ -141,11 +141,11 @@ neither None None e = (refl, refl)
 neither None (Some i) e = absurd (true≢false e)
 neither (Some c) f e = absurd (true≢false e)
 
-not_true : (b : Bool) → not b ≡ true → b ≡ false
+pub not_true : (b : Bool) → not b ≡ true → b ≡ false
 not_true true e = absurd (true≢false (sym e))
 not_true false e = refl
 
-free_nothing : (v : Version) (x y : ℕ) → is_functional_place v x y ≡ false → (pattern v x y ≡ None) × (format_index v x y ≡ None)
+pub free_nothing : (v : Version) (x y : ℕ) → is_functional_place v x y ≡ false → (pattern v x y ≡ None) × (format_index v x y ≡ None)
 unfolding is_functional_place
 free_nothing v x y e = neither (pattern v x y) (format_index v x y) e
 
@@ -155,7 +155,7 @@ no_dark_module v x y valid e = go (dark_module v x y) refl where
   go None h = refl
   go (Some c) h = let some : pattern v x y ≡ Some c = dark_module_is_in_the_pattern v x y c valid h in cc
 
-free_inside : (v : Version) → IsTrue (is_valid v) → All (λ p. IsInside v p.0 p.1) (free_places v)
+pub free_inside : (v : Version) → IsTrue (is_valid v) → All (λ p. IsInside v p.0 p.1) (free_places v)
 unfolding free_places zigzag
 free_inside v valid =
     All-filter (λ p. not (is_functional_place v p.0 p.1)) (λ p. IsInside v p.0 p.1) (map (zigzag_place v) (range_with_len 0 (side v * (side v - 1))))
@@ -163,7 +163,7 @@ free_inside v valid =
     let lt : i < side v * (side v - 1) = subst (λ (n : ℕ). i < n) (length-map-range_with_len (zigzag_place v) 0 (side v * (side v - 1))) h in
     subst (λ (p : ℕ × ℕ). IsInside v p.0 p.1) (sym (get_or-map-range_with_len (zigzag_place v) 0 (side v * (side v - 1)) i i d lt (omega arith))) (walk_is_inside v i valid lt))
 
-free_free : (v : Version) → All (λ p. not (is_functional_place v p.0 p.1) ≡ true) (free_places v)
+pub free_free : (v : Version) → All (λ p. not (is_functional_place v p.0 p.1) ≡ true) (free_places v)
 unfolding free_places
 free_free v = filter_passes (λ p. not (is_functional_place v p.0 p.1)) (zigzag v)
 

@@ -1,9 +1,10 @@
 -- Codewords are read from the bits that are drawn of them.
-use Rattle.std.proofs.Common.{◌≡◌, ℕ, zero, suc, ◌+◌, ◌-◌, ◌*◌, ◌/◌, ◌%◌, ◌<◌, ◌≤◌, Bool, true, false, cond, List, [], ◌∷◌, ◌++◌, length, map, take, drop, get_or, refl, sym, ap, ap₂, ◌∙◌, arith, inl, inr, length-append, append_assoc}
+use Rattle.std.proofs.Common.{◌≡◌, ℕ, zero, suc, ◌+◌, ◌-◌, ◌*◌, ◌/◌, ◌%◌, ◌<◌, ◌≤◌, ◌^◌, Bool, true, false, cond, List, [], ◌∷◌, ◌++◌, length, map, take, drop, get_or, refl, sym, ap, ap₂, ◌∙◌, arith, subst, inl, inr, length-append, append_assoc}
 use Rattle.std.specs.List.{range_with_len}
 use Rattle.std.proofs.lemmas.Bool.{cases_lt, cases_Bool}
 use Rattle.std.proofs.lemmas.Bool.Decides.{nat_tests}
 use Rattle.std.proofs.lemmas.List.{ext_get_or, get_or-take, get_or_past, length-take, take_at, drop_at}
+use Rattle.std.proofs.lemmas.List.Elements.{All-map, recursion_from_All}
 use Rattle.std.proofs.lemmas.List.FromFn.{length-map-range_with_len, get_or-map-range_with_len}
 use Rattle.qrcode_types.specs.Bits.{number_bits, number_of, byte_at, bytes_of, bits_of, has_bit, AreBytes}
 use Rattle.qrcode_types.specs.Versions.{capacity, data_length, total_ec_length, has_half_codeword}
@@ -13,7 +14,7 @@ use Rattle.qrcode_ec.specs.Blocks.{codewords}
 use Rattle.qrcode_symbol.specs.Canvas.{drawn_bits}
 use Rattle.qrcode_symbol.specs.Carried.{HasZeroHalf}
 use Rattle.qrcode_symbol.proofs.BitLists.{length_number_bits, length_bits_of, in_byte, bits_of_at}
-use Rattle.qrcode_symbol.proofs.Numbers.{number_of_bits}
+use Rattle.qrcode_symbol.proofs.Numbers.{number_of_bits, number_small}
 
 pub are_bytes : (bytes : List ℕ) → ((i : ℕ) → get_or bytes i 0 < 256) → AreBytes bytes
 are_bytes [] each = tt
@@ -113,3 +114,26 @@ codewords_drawn v l words ec rest b c p q zero_half =
     ap (λ bs. bytes_of (take (8 * total_ec_length v l) (drop room bs))) whole ∙ ap (λ bs. bytes_of (take (8 * total_ec_length v l) bs)) (drop_at front (bits_of ec ++ rest) room lf)
     ∙ ap bytes_of (take_at (bits_of ec) rest (8 * total_ec_length v l) lec) ∙ bytes_of_bits ec c in
     ap₂ (λ x y. x ++ y) first second
+
+byte_at_small : (bits : List Bool) (i : ℕ) → byte_at bits i < 256
+unfolding byte_at
+byte_at_small bits i =
+    let f = λ (j : ℕ). get_or bits (8 * i + j) false in
+    subst (λ n. number_of (map f (range_with_len 0 8)) < 2 ^ n) (length-map-range_with_len f 0 8) (number_small (map f (range_with_len 0 8)))
+
+bytes_of_are_bytes : (bits : List Bool) → AreBytes (bytes_of bits)
+unfolding bytes_of
+bytes_of_are_bytes bits =
+    let places = range_with_len 0 ((length bits + 7) / 8) in
+    recursion_from_All (λ n. n < 256) (map (byte_at bits) places) (All-map (λ n. n < 256) (byte_at bits) places (λ k d h. byte_at_small bits (get_or places k d)))
+
+joined_bytes : (a b : List ℕ) → AreBytes a → AreBytes b → AreBytes (a ++ b)
+joined_bytes [] b p q = q
+joined_bytes (x ∷ a) b p q = (p.0, joined_bytes a b p.1 q)
+
+-- codewords of whatever bits are bytes
+pub codewords_are_bytes : (v : Version) (l : EcLevel) (bits : List Bool) → AreBytes (codewords v l bits)
+unfolding codewords
+codewords_are_bytes v l bits =
+    let behind = drop (capacity v l) bits in
+    joined_bytes (bytes_of (take (capacity v l) bits)) (bytes_of (take (8 * total_ec_length v l) behind)) (bytes_of_are_bytes (take (capacity v l) bits)) (bytes_of_are_bytes (take (8 * total_ec_length v l) behind))

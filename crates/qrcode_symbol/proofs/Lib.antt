@@ -18,6 +18,7 @@ pub mod Numbers
 pub mod OnePlace
 pub mod PackedLists
 pub mod Patterned
+pub mod Remasked
 pub mod Remasking
 pub mod RowLists
 pub mod Shown

@@ -87,15 +87,15 @@ inside_same w f g h = fun_ext (λ x. fun_ext (λ y.
       | inr p ↦ ap (λ a. a && nat_lt y w && f x y) p.0 ∙ sym (ap (λ a. a && nat_lt y w && g x y) p.0)
     ]))
 
-pub side_positive : (v : Version) → 0 < side v
+side_positive : (v : Version) → 0 < side v
 side_positive (Normal n) = omega arith
 side_positive (Micro n) = omega arith
 
 -- a place, by its row and column
-pub split : (i w : ℕ) → i ≡ i / w * w + i % w
+split : (i w : ℕ) → i ≡ i / w * w + i % w
 split i w = sym (div-add-mod' i w)
 
-pub div_below : (i w : ℕ) → 0 < w → i < w * w → i / w < w
+div_below : (i w : ℕ) → 0 < w → i < w * w → i / w < w
 div_below i w p h = (div-lt_iff_lt-mul p).1 h
 
 module _ (v : Version) (l : EcLevel) (modules : List Module) where
@@ -122,7 +122,7 @@ module _ (v : Version) (l : EcLevel) (modules : List Module) where
       with_mask_at k (y * side v + x) (mul-add-lt y (side v) x (side v) p h)
       ∙ ap₂ (λ (a b : ℕ). mask_module v (format_word v l k) k a b (slice_index_or modules (y * side v + x) Empty)) (mod-mul-add y (side v) x h) (div-mul-add y (side v) x h)
 
-  pub color_under_mask : (k : MaskPattern) (x y : ℕ) → x < side v → y < side v → color_at v (colors_of (with_mask v l k modules)) x y ≡ color_of_module (mask_module v (format_word v l k) k x y (slice_index_or modules (y * side v + x) Empty))
+  color_under_mask : (k : MaskPattern) (x y : ℕ) → x < side v → y < side v → color_at v (colors_of (with_mask v l k modules)) x y ≡ color_of_module (mask_module v (format_word v l k) k x y (slice_index_or modules (y * side v + x) Empty))
   color_under_mask k x y h p = get_or-map color_of_module (with_mask v l k modules) (y * side v + x) Empty ∙ ap color_of_module (place_under_mask k x y h p)
 
   module _ (dark free : List ℕ) (darks : ShowsModules is_dark_module (side v) modules dark) (frees : ShowsModules is_free (side v) modules free) where

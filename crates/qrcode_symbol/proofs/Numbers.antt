@@ -69,7 +69,7 @@ bits_of_number count bs l =
     ∙ ap (λ x. bit_at x (count - 1 - i) == 1) (number_value bs) ∙ ap (λ j. bit_at (value bs) j == 1) z
     ∙ ap (λ x. x == 1) (value_bit bs i (omega arith)) ∙ one_is (get_or bs i false))
 
-number_small : (bs : List Bool) → number_of bs < 2 ^ length bs
+pub number_small : (bs : List Bool) → number_of bs < 2 ^ length bs
 number_small bs = subst (λ n. n < 2 ^ length bs) (sym (number_value bs)) (value_small bs)
 
 same_bit : (x y : ℕ) → x < 2 → y < 2 → (x == 1) ≡ (y == 1) → x ≡ y

@@ -17,14 +17,14 @@ use Rattle.qrcode_masks.specs.Penalty.{same}
 use Rattle.qrcode_places.specs.Masks.{turns, turned_if}
 use Rattle.qrcode_places.specs.Words.{format_word}
 use Rattle.qrcode_places.specs.Patterns.{finder, alignment, timing, version_pattern, pattern, format_index, dark_module}
-use Rattle.qrcode_places.specs.Stream.{color_at, zigzag}
+use Rattle.qrcode_places.specs.Stream.{zigzag}
 use Rattle.qrcode_places.specs.declared.masks.MaskPattern.{MaskPattern}
 use Rattle.qrcode_symbol.specs.declared.canvas.Module.{Module}
 use Rattle.qrcode_symbol.specs.declared.canvas.Module.TheVariants.{Empty, Masked, Unmasked}
 use Rattle.qrcode_symbol.specs.Canvas.{blank, color_of_module, colors_of, is_empty, masked_module, mask_module, pattern_module, with_patterns, put_bits, empty_places, with_bits_drawn, with_mask, IsBestMask}
 use Rattle.qrcode_symbol.specs.Penalties.{penalty, remasked, remasked_at, IsFirstLeast}
 use Rattle.qrcode_symbol.specs.Masking.{is_free}
-use Rattle.qrcode_symbol.proofs.MaskedSquares.{module_is, module_of, with_mask_at, length_with_mask, color_under_mask, split, div_below, side_positive}
+use Rattle.qrcode_symbol.proofs.MaskedSquares.{module_is, module_of, with_mask_at, length_with_mask}
 
 -- a module after bits were drawn: one that was not empty stays, and one that was may be turned by masks
 record IsKept (before : List Module) (i : ℕ) (m : Module) : Type 0 where
@@ -97,7 +97,7 @@ abbrev base : Option Color → Option ℕ → Module
 base p o = elim p [ Some c ↦ Masked c | None ↦ elim o [ Some i ↦ Masked Light | None ↦ Empty ] ]
 
 -- the colour under another mask, by what stands at its place
-abbrev remask_of : ℕ → Option ℕ → Option Color → Bool → Bool → Color → Color
+abbrev pub remask_of : ℕ → Option ℕ → Option Color → Bool → Bool → Color → Color
 remask_of word o p tk tj c = elim o [ Some i ↦ color_of (has_bit word (14 - i)) | None ↦ elim p [ Some c' ↦ c | None ↦ color_of (turned_if (not (same tk tj)) (is_dark c)) ] ]
 
 turn_empty : (tk tj : Bool) → turned_if (not (same tk tj)) (is_dark (color_of tk)) ≡ tj
@@ -132,19 +132,16 @@ module _ (v : Version) (l : EcLevel) (modules : List Module) (bits : List Bool) 
   kept_at i = subst (λ (ms : List Module). IsKept (with_patterns v (blank v)) i (slice_index_or ms i Empty)) (sym drawn) (drawn_kept v bits (with_patterns v (blank v)) i)
 
   remasked_place : (k j : MaskPattern) (i : ℕ) → i < side v * side v →
-      remasked_at v (format_word v l j) k j (colors_of (with_mask v l k modules)) (i % side v) (i / side v) ≡ color_of_module (mask_module v (format_word v l j) j (i % side v) (i / side v) (slice_index_or modules i Empty))
+      remasked_at v (format_word v l j) k j (i % side v) (i / side v) (slice_index_or (colors_of (with_mask v l k modules)) i Light) ≡ color_of_module (mask_module v (format_word v l j) j (i % side v) (i / side v) (slice_index_or modules i Empty))
   unfolding remasked_at
   remasked_place k j i h =
-      let wide : 0 < side v = side_positive v in
       let x = i % side v in
       let y = i / side v in
-      let column : x < side v = omega arith in
-      let row : y < side v = div_below i (side v) wide h in
       let m = slice_index_or modules i Empty in
       let before = slice_index_or (with_patterns v (blank v)) i Empty in
       let e : before ≡ base (pattern v x y) (format_index v x y) = patterns_at v i h in
-      let color : color_at v (colors_of (with_mask v l k modules)) x y ≡ color_of_module (mask_module v (format_word v l k) k x y m) =
-      color_under_mask v l modules k x y column row ∙ ap (λ n. color_of_module (mask_module v (format_word v l k) k x y (slice_index_or modules n Empty))) (sym (split i (side v))) in
+      let color : slice_index_or (colors_of (with_mask v l k modules)) i Light ≡ color_of_module (mask_module v (format_word v l k) k x y m) =
+      get_or-map color_of_module (with_mask v l k modules) i Empty ∙ ap color_of_module (with_mask_at v l modules k i h) in
       ap (remask_of (format_word v l j) (format_index v x y) (pattern v x y) (turns k x y) (turns j x y)) (color ∙ ap color_of_module (module_is v (format_word v l k) k x y m))
       ∙ remask_place (format_word v l k) (format_word v l j) (format_index v x y) (pattern v x y) (dark_module v x y) (turns k x y) (turns j x y) m
       (dark_module_in_pattern v x y)
@@ -156,7 +153,7 @@ module _ (v : Version) (l : EcLevel) (modules : List Module) (bits : List Bool) 
   unfolding remasked
   remasked_same k j =
       let s = colors_of (with_mask v l k modules) in
-      let at = λ (i : ℕ). remasked_at v (format_word v l j) k j s (i % side v) (i / side v) in
+      let at = λ (i : ℕ). remasked_at v (format_word v l j) k j (i % side v) (i / side v) (slice_index_or s i Light) in
       let size : length (map at (range_with_len 0 (side v * side v))) ≡ side v * side v = length-map-range_with_len at 0 (side v * side v) in
       ext_get_or Light (map at (range_with_len 0 (side v * side v))) (colors_of (with_mask v l j modules)) (size ∙ sym (length-map (with_mask v l j modules) color_of_module ∙ length_with_mask v l modules j)) (λ i h.
       let inside : i < side v * side v = omega arith in

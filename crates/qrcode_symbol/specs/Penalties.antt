@@ -1,5 +1,5 @@
 -- The penalty of colours, and the first mask of least penalty.
-use Rattle.std.specs.Prelude.{ℕ, ◌*◌, ◌/◌, ◌%◌, ◌-◌, ◌<◌, ◌≤◌, not, Bool, List, map, IsTrue, Some, None}
+use Rattle.std.specs.Prelude.{ℕ, ◌*◌, ◌/◌, ◌%◌, ◌-◌, ◌<◌, ◌≤◌, not, Bool, List, map, slice_index_or, IsTrue, Some, None}
 use Rattle.std.specs.List.{range_with_len}
 use Rattle.qrcode_types.specs.Bits.{has_bit}
 use Rattle.qrcode_types.specs.Colors.{is_dark, color_of}
@@ -8,6 +8,7 @@ use Rattle.qrcode_types.specs.declared.types.Version.{Version}
 use Rattle.qrcode_types.specs.declared.types.Version.TheVariants.{Normal, Micro}
 use Rattle.qrcode_types.specs.declared.types.EcLevel.{EcLevel}
 use Rattle.qrcode_types.specs.declared.types.Color.{Color}
+use Rattle.qrcode_types.specs.declared.types.Color.TheVariants.{Light}
 use Rattle.qrcode_masks.specs.Penalty.{same, normal_penalty, micro_penalty}
 use Rattle.qrcode_masks.specs.Rows.{inside}
 use Rattle.qrcode_places.specs.Masks.{turns, turned_if, exists_in, mask_number}
@@ -29,22 +30,23 @@ penalty_of (Micro v) dark = micro_penalty (side (Micro v)) dark
 unfoldable pub penalty : Version → List Color → ℕ
 penalty v s = penalty_of v (is_dark_at v s)
 
--- the module in column x and row y, if the mask were j in place of k; `word` is the format word of j
-unfoldable pub remasked_at : Version → ℕ → MaskPattern → MaskPattern → List Color → ℕ → ℕ → Color
-remasked_at v word k j s x y =
+-- the colour of a place, if the mask were j in place of k; `word` is the format word of j
+unfoldable pub remasked_at : Version → ℕ → MaskPattern → MaskPattern → ℕ → ℕ → Color → Color
+remasked_at v word k j x y c =
     elim (format_index v x y) [
       | Some i ↦ color_of (has_bit word (14 - i))
       | None ↦
           elim (pattern v x y) [
-            | Some c ↦ color_at v s x y
-            | None ↦
-                color_of (turned_if (not (same (turns k x y) (turns j x y))) (is_dark (color_at v s x y)))
+            | Some p ↦ c
+            | None ↦ color_of (turned_if (not (same (turns k x y) (turns j x y))) (is_dark c))
           ]
     ]
 
 -- the colours, if the mask were j in place of k
 unfoldable pub remasked : Version → EcLevel → MaskPattern → MaskPattern → List Color → List Color
-remasked v l k j s = let word = format_word v l j in let w = side v in map (λ i. remasked_at v word k j s (i % w) (i / w)) (range_with_len 0 (w * w))
+remasked v l k j s =
+    let word = format_word v l j in let w = side v in
+    map (λ i. remasked_at v word k j (i % w) (i / w) (slice_index_or s i Light)) (range_with_len 0 (w * w))
 
 -- no mask of the version gives a smaller penalty than k, and none before k an equal one
 pub record IsFirstLeast (v : Version) (l : EcLevel) (k : MaskPattern) (s : List Color) : Type 0 where

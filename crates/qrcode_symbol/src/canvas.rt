@@ -30,6 +30,7 @@ mod masked_rows;
 mod masking;
 mod packing;
 mod pattern_places;
+mod remasking;
 mod unpacking;
 
 use applying::mask_modules;
@@ -40,6 +41,7 @@ use filling::draw_codewords;
 use pattern_places::PatternPlaces;
 use qrcode_places::laws;
 use qrcode_types::types::{Color, EcLevel, QrResult, Version};
+pub use remasking::remask;
 use std::alloc::Global;
 use std::marker::Model;
 

@@ -1,13 +1,15 @@
-//! Patterns under each mask, and codewords where they stand, as another encoder draws them.
+//! Patterns and a symbol under each mask, and codewords where they stand, as another encoder draws
+//! them.
 
 ghost use Rattle.std.specs.Prelude.{◌≡◌, IsTrue};
 ghost use Rattle.qrcode_types.specs.Versions.{is_valid};
 
-use crate::common::{Row, check};
-use crate::symbol::segno::{CODEWORDS, MASKED};
+use crate::common::{Row, check, check_row};
+use crate::symbol::segno::{CODEWORDS, MASKED, UNDER_MASKS};
+use qrcode::QrCode;
 use qrcode_symbol::canvas::{Canvas, MaskPattern};
 use qrcode_types::tables::Blocks;
-use qrcode_types::types::{EcLevel, QrError, QrResult, Version};
+use qrcode_types::types::{Color, EcLevel, QrError, QrResult, Version};
 use std::alloc::Global;
 
 // The checksum CRC-32 of zlib, of modules as lines of `#` and `.`, so many along a side.
@@ -51,6 +53,29 @@ impl Row for (Version, EcLevel, MaskPattern, u32) {
 #[test]
 fn patterns_are_masked_as_by_segno(rt: HostRuntime) {
     check(&rt, rt.alloc(), &MASKED);
+}
+
+// The checksum of the symbol of digits under a mask.
+fn under(alloc: Global, version: Version, ec_level: EcLevel, mask: MaskPattern) -> QrResult<u32> {
+    let code = QrCode::with_version(alloc, b"01234567", version, ec_level)?;
+    if !mask.exists_in(code.version()) {
+        return Err(QrError::InvalidVersion);
+    }
+    let colors = code.under_mask(alloc, mask)?;
+    let dark: Vec<bool> = colors.iter().map(|c| *c == Color::Dark).collect(alloc)?;
+    Ok(checksum(code.width(), &dark))
+}
+
+#[test]
+fn a_symbol_is_masked_as_by_segno(rt: HostRuntime) {
+    for (i, row) in UNDER_MASKS.iter().enumerate() {
+        let (version, ec_level, mask, sum) = *row;
+        check_row(
+            &rt,
+            i,
+            under(rt.alloc(), version, ec_level, mask) == Ok(sum),
+        );
+    }
 }
 
 // The checksum of the patterns of a version and of the codewords of three bytes that come again and again,

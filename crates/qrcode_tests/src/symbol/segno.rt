@@ -88,6 +88,23 @@ pub static MASKED: [(Version, EcLevel, MaskPattern, u32); 80] = [
     (Version::Micro(4), EcLevel::Q, MaskPattern::Meadow, 0x2a96_aa34),
 ];
 
+/// The same of the symbol of the digits 01234567.
+#[rattlefmt::skip]
+pub static UNDER_MASKS: [(Version, EcLevel, MaskPattern, u32); 12] = [
+    (Version::Normal(1), EcLevel::M, MaskPattern::Checkerboard, 0x8056_7f2a),
+    (Version::Normal(1), EcLevel::M, MaskPattern::HorizontalLines, 0x2174_5dfc),
+    (Version::Normal(1), EcLevel::M, MaskPattern::VerticalLines, 0xd3b4_a900),
+    (Version::Normal(1), EcLevel::M, MaskPattern::DiagonalLines, 0xd37f_f632),
+    (Version::Normal(1), EcLevel::M, MaskPattern::LargeCheckerboard, 0x7f66_7e85),
+    (Version::Normal(1), EcLevel::M, MaskPattern::Fields, 0x62d8_3e26),
+    (Version::Normal(1), EcLevel::M, MaskPattern::Diamonds, 0xd218_77bb),
+    (Version::Normal(1), EcLevel::M, MaskPattern::Meadow, 0xac32_3e27),
+    (Version::Micro(2), EcLevel::L, MaskPattern::HorizontalLines, 0x63de_e4f9),
+    (Version::Micro(2), EcLevel::L, MaskPattern::LargeCheckerboard, 0x14cc_9023),
+    (Version::Micro(2), EcLevel::L, MaskPattern::Diamonds, 0xec65_c668),
+    (Version::Micro(2), EcLevel::L, MaskPattern::Meadow, 0x0f43_0815),
+];
+
 /// Versions and levels, three bytes that come again and again as codewords of data and of error correction, and what is drawn of them over the patterns.
 #[rattlefmt::skip]
 pub static CODEWORDS: [(Version, EcLevel, [u8; 3], u32); 16] = [

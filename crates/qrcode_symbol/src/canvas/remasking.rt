@@ -1,0 +1,60 @@
+//! The colours of a symbol under another mask.
+
+ghost use Rattle.std.specs.Prelude.{◌≡◌, ◌*◌, ◌<◌, length, IsTrue};
+ghost use Rattle.qrcode_types.specs.Versions.{has_level, side};
+ghost use Rattle.qrcode_places.specs.Masks.{exists_in};
+ghost use Rattle.qrcode_symbol.specs.Penalties.{remasked_at, remasked};
+
+use super::drawing::is_functional_place;
+use super::layer::Layer;
+use super::pattern_places::PatternPlaces;
+use super::side;
+use qrcode_places::masks::MaskPattern;
+use qrcode_places::patterns::{color_of, format_index};
+use qrcode_places::words::format_word;
+use qrcode_types::types::{Color, EcLevel, Version};
+
+// The colour of a place under the layer's mask, which the old mask gave this colour: a bit of the
+// format word, that of a pattern as it is, and any other turned where just one of the masks turns.
+fn remasked_at(layer: Layer, old: MaskPattern, x: usize, y: usize, color: Color) -> Color
+    requires column { x < layer.width }
+    requires row { y < layer.width }
+    ensures { result ≡ remasked_at layer.version layer.word old layer.mask x y color }
+{
+    if let Some(i) = format_index(layer.version, layer.width, x, y) {
+        return color_of((layer.word >> (14 - i)) % 2 == 1);
+    }
+    let (column, row) = (x as i16, y as i16);
+    let same = old.turns(column, row) == layer.mask.turns(column, row);
+    if same || is_functional_place(PatternPlaces::new(layer.version), x, y) {
+        color
+    } else {
+        !color
+    }
+}
+
+/// Gives the colours of a symbol under an old mask, row by row, those under another mask.
+#[tactic(auto, using(std::proofs::lemmas::Nat::rows))]
+pub fn remask(
+    version: Version,
+    ec_level: EcLevel,
+    old: MaskPattern,
+    mask: MaskPattern,
+    modules: &mut [Color],
+)
+    requires exists { IsTrue (has_level version ec_level) }
+    requires mask_exists { IsTrue (exists_in version mask) }
+    requires square { length modules.old ≡ side version * side version }
+    ensures { modules.new ≡ remasked version ec_level old mask modules.old }
+{
+    let width = side(version);
+    let layer = Layer {
+        version,
+        width,
+        word: format_word(version, ec_level, mask),
+        mask,
+    };
+    for i in 0..width * width {
+        modules[i] = remasked_at(layer, old, i % width, i / width, modules[i]);
+    }
+}
