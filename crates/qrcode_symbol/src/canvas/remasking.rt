@@ -1,8 +1,10 @@
 //! The colours of a symbol under another mask.
 
-ghost use Rattle.std.specs.Prelude.{◌≡◌, ◌*◌, ◌<◌, length, IsTrue};
+ghost use Rattle.std.specs.Prelude.{◌≡◌, ◌*◌, ◌<◌, not, length, IsTrue};
+ghost use Rattle.qrcode_types.specs.Colors.{is_dark, color_of};
 ghost use Rattle.qrcode_types.specs.Versions.{has_level, side};
-ghost use Rattle.qrcode_places.specs.Masks.{exists_in};
+ghost use Rattle.qrcode_places.specs.Masks.{exists_in, turns, turned_if};
+ghost use Rattle.qrcode_masks.specs.Penalty.{same};
 ghost use Rattle.qrcode_symbol.specs.Penalties.{remasked_at, remasked};
 
 use super::drawing::is_functional_place;
@@ -14,8 +16,21 @@ use qrcode_places::patterns::{color_of, format_index};
 use qrcode_places::words::format_word;
 use qrcode_types::types::{Color, EcLevel, Version};
 
+// A colour, turned where just one of two masks turns its place.
+fn turned(old: MaskPattern, mask: MaskPattern, x: usize, y: usize, color: Color) -> Color
+    requires column { x < 1000 }
+    requires row { y < 1000 }
+    ensures { result ≡ color_of
+        (turned_if (not (same (turns old x y) (turns mask x y))) (is_dark color)) }
+{
+    if old.turns(x as i16, y as i16) == mask.turns(x as i16, y as i16) {
+        return color;
+    }
+    !color
+}
+
 // The colour of a place under the layer's mask, which the old mask gave this colour: a bit of the
-// format word, that of a pattern as it is, and any other turned where just one of the masks turns.
+// format word, that of a pattern as it is, and any other turned by both masks.
 fn remasked_at(layer: Layer, old: MaskPattern, x: usize, y: usize, color: Color) -> Color
     requires column { x < layer.width }
     requires row { y < layer.width }
@@ -24,13 +39,10 @@ fn remasked_at(layer: Layer, old: MaskPattern, x: usize, y: usize, color: Color)
     if let Some(i) = format_index(layer.version, layer.width, x, y) {
         return color_of((layer.word >> (14 - i)) % 2 == 1);
     }
-    let (column, row) = (x as i16, y as i16);
-    let same = old.turns(column, row) == layer.mask.turns(column, row);
-    if same || is_functional_place(PatternPlaces::new(layer.version), x, y) {
-        color
-    } else {
-        !color
+    if is_functional_place(PatternPlaces::new(layer.version), x, y) {
+        return color;
     }
+    turned(old, layer.mask, x, y, color)
 }
 
 /// Gives the colours of a symbol under an old mask, row by row, those under another mask.
