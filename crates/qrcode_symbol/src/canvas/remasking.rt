@@ -1,11 +1,12 @@
 //! The colours of a symbol under another mask.
 
-ghost use Rattle.std.specs.Prelude.{◌≡◌, ◌*◌, ◌<◌, not, length, IsTrue};
+ghost use Rattle.std.specs.Prelude.{◌≡◌, ◌*◌, ◌<◌, Bool, List, not, length, IsTrue};
 ghost use Rattle.qrcode_types.specs.Colors.{is_dark, color_of};
 ghost use Rattle.qrcode_types.specs.Versions.{has_level, side};
 ghost use Rattle.qrcode_places.specs.Masks.{exists_in, turns, turned_if};
 ghost use Rattle.qrcode_masks.specs.Penalty.{same};
 ghost use Rattle.qrcode_symbol.specs.Penalties.{remasked_at, remasked};
+ghost use Rattle.qrcode_symbol.specs.Symbol.{IsSymbol};
 
 use super::drawing::is_functional_place;
 use super::layer::Layer;
@@ -57,7 +58,11 @@ pub fn remask(
     requires exists { IsTrue (has_level version ec_level) }
     requires mask_exists { IsTrue (exists_in version mask) }
     requires square { length modules.old ≡ side version * side version }
-    ensures { modules.new ≡ remasked version ec_level old mask modules.old }
+    ensures value { modules.new ≡ remasked version ec_level old mask modules.old }
+
+    // They are the symbol of the same bits.
+    ensures symbol { (bits : List Bool) → IsSymbol version ec_level bits old modules.old
+        → IsSymbol version ec_level bits mask modules.new }
 {
     let width = side(version);
     let layer = Layer {

@@ -10,6 +10,8 @@ use Rattle.qrcode_types.specs.declared.types.Color.TheVariants.{Light}
 use Rattle.qrcode_places.specs.Words.{format_word}
 use Rattle.qrcode_places.specs.declared.masks.MaskPattern.{MaskPattern}
 use Rattle.qrcode_symbol.specs.Penalties.{remasked_at, remasked}
+use Rattle.qrcode_symbol.specs.Symbol.{IsSymbol}
+use Rattle.qrcode_symbol.proofs.Remasked.{is_symbol}
 use Rattle.qrcode_symbol.proofs.canvas.remasking.remask.Goals as goal
 
 -- colours that are each made of the one before
@@ -40,7 +42,12 @@ loop-i-preserved c =
       rest = λ k h. let ne : k ≢ i = omega arith in rw get_or-set_other (c.loop-i.invariant.rest k (omega arith));
     }
 
-pub returns : goal.returns
-returns c =
+pub returns-clause-value : goal.returns-clause-value
+returns-clause-value c =
     all_remasked c.args.version c.args.ec_level c.args.old c.args.mask c.args.modules.now c.loop-i.modules c.side-width.result c.format_word.result
     c.side-width.ensures.value c.format_word.ensures (c.loop-i.auto.modules ∙ c.requires.square) (λ i h. c.loop-i.invariant.done i (omega arith))
+
+pub returns-clause-symbol : goal.returns-clause-symbol
+returns-clause-symbol c = λ bits symbol.
+    subst (IsSymbol c.args.version c.args.ec_level bits c.args.mask) (sym (returns-clause-value c))
+    (is_symbol c.args.version c.args.ec_level c.args.old c.args.mask c.args.modules.now bits c.requires.exists symbol)
