@@ -12,11 +12,9 @@ use Rattle.qrcode_places.specs.Masks.{exists_in}
 use Rattle.qrcode_places.specs.Patterns.{format_copies}
 use Rattle.qrcode_places.specs.Stream.{stream}
 use Rattle.qrcode_places.specs.declared.masks.MaskPattern.{MaskPattern}
-use Rattle.qrcode_symbol.specs.Penalties.{remasked}
 use Rattle.qrcode_symbol.specs.Symbol.{bits_at, blocks_in, IsSymbol, IsDamaged}
 use Rattle.qrcode_symbol.specs.Reading.{ReadsBitsOnly}
 use Rattle.qrcode_symbol.proofs.Codewords.{codewords_are_bytes}
-use Rattle.qrcode_symbol.proofs.Remasked.{is_symbol}
 use Rattle.qrcode_bits.specs.Spelling.{Spells}
 use Rattle.qrcode.specs.Reading.{EncodesBytes, IsUnderMask}
 use Rattle.qrcode.proofs.BlockLists.{blocks-bytes}
@@ -47,12 +45,12 @@ spelled v l bits bytes s encodes =
     let same = bits_are_read_one_way s v found.version l found.level bits found.bits (encodes.encodes.read s none).found found.read in
     subst (λ (u : Version). Spells u bits bytes) same.0 (subst (λ (b : List Bool). Spells found.version b bytes) same.2 found.spelled)
 
-pub under_mask : (v : Version) (l : EcLevel) (own k : MaskPattern) (s : List Color) → IsTrue (has_level v l) → IsTrue (exists_in v k)
-    → ((bits : List Bool) (j : MaskPattern) → IsTrue (exists_in v j) → IsSymbol v l bits j s → j ≡ own) → IsUnderMask v l k s (remasked v l own k s)
-under_mask v l own k s level exists only =
-    let new = remasked v l own k s in
+pub under_mask : (v : Version) (l : EcLevel) (own k : MaskPattern) (s new : List Color) → IsTrue (has_level v l) → IsTrue (exists_in v k)
+    → ((bits : List Bool) (j : MaskPattern) → IsTrue (exists_in v j) → IsSymbol v l bits j s → j ≡ own) → ((bits : List Bool) → IsSymbol v l bits own s → IsSymbol v l bits k new)
+    → IsUnderMask v l k s new
+under_mask v l own k s new level exists only changed =
     let symbol : (j : MaskPattern) (bits : List Bool) → IsTrue (exists_in v j) → IsSymbol v l bits j s → IsSymbol v l bits k new =
-    λ j bits has is. is_symbol v l own k s bits level (subst (λ (m : MaskPattern). IsSymbol v l bits m s) (only bits j has is) is) in
+    λ j bits has is. changed bits (subst (λ (m : MaskPattern). IsSymbol v l bits m s) (only bits j has is) is) in
     let read = λ (j : MaskPattern) (bits : List Bool) (other : List Color) (has : IsTrue (exists_in v j)) (is : IsSymbol v l bits j s) (damage : IsDamaged v l k new other).
     reads_bits_only v l bits k new level exists (blocks-bytes v l (codewords v l (stream v k new)) (codewords_are_bytes v l (stream v k new))) (symbol j bits has is) other damage in
     record {
