@@ -98,7 +98,7 @@ boosted_as m from l highest bytes list (Ok code) made version level encodes =
       highest_level = λ other above. subst (λ u. ¬ HoldsAs m u other bytes) (sym version) (made.highest_level other (subst (λ h. level_number h < level_number other) level above));
     }
 
--- data that is held is refused only where memory is
+-- data that is held is refused only because memory ran out
 pub refused_for_memory : (m : Manner) (v : Version) (l : EcLevel) (bytes : List ℕ) (e : QrError) → HoldsAs m v l bytes → e ≡ OutOfMemory → IsRefusedIn m v l bytes e
 refused_for_memory m v l bytes e holds memory =
     let valid = valid_of v l holds.exists in

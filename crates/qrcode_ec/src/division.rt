@@ -1,10 +1,10 @@
 //! Division by generators, whose remainders are the error correction bytes.
 
-ghost use Rattle.std.specs.Prelude.{◌≡◌, ℕ, suc, ◌<◌, ◌≤◌, ◌++◌, ◌∷◌, length, take, replicate, slice_index, bit_xor};
+ghost use Rattle.std.specs.Prelude.{◌≡◌, ◌⊎◌, ℕ, suc, ◌*◌, ◌<◌, ◌≤◌, ◌++◌, ◌∷◌, length, take, replicate, slice_index, bit_xor};
 ghost use Rattle.qrcode_types.specs.Bits.{AreBytes};
 ghost use Rattle.qrcode_ec.specs.Field.{product};
 ghost use Rattle.qrcode_ec.specs.Codes.{Vanishes};
-ghost use Rattle.qrcode_ec.specs.Dividing.{AreOfGenerator, IsGenerator};
+ghost use Rattle.qrcode_ec.specs.Dividing.{AreMultiples, AreOfGenerator, IsGenerator};
 
 use crate::field::{power, product};
 use std::simd::u8x32;
@@ -104,6 +104,29 @@ fn sum(first: &[u8; LANES], second: &[u8; LANES]) -> u8x32
     u8x32::from_slice(first) ^ u8x32::from_slice(second)
 }
 
+// The multiple by `k` units of a generator, where the rows have those by fewer. Most are the sum of
+// two of these, which takes less than products.
+fn next_multiple(
+    rows: &[[u8; LANES]; 16],
+    generator: &[u8; ROOM],
+    degree: usize,
+    unit: usize,
+    k: usize,
+) -> [u8; LANES]
+    requires unit { (unit ≡ 1) ⊎ (unit ≡ 16) }
+    requires at_most { k < 16 }
+    requires rows { AreMultiples generator.now unit k rows.now }
+    requires ends { (j : ℕ) → degree ≤ j → slice_index generator.now j ≡ 0 }
+    ensures { (j : ℕ) → j < 32
+        → slice_index result j ≡ product (k * unit) (slice_index generator.now j) }
+{
+    let rest = k % 4;
+    if rest == 0 || rest == k {
+        return multiple(generator, degree, (k * unit) as u8);
+    }
+    sum(&rows[k - rest], &rows[rest]).to_array()
+}
+
 // The lanes of a vector, with zeros behind them.
 #[inline(always)]
 fn in_room(lanes: u8x32) -> [u8; ROOM]
@@ -155,8 +178,8 @@ impl Divider {
         let mut low = [[0; LANES]; 16];
         let mut high = [[0; LANES]; 16];
         for k in 0..16 {
-            low[k] = multiple(&generator, degree, k as u8);
-            high[k] = multiple(&generator, degree, 16 * k as u8);
+            low[k] = next_multiple(&low, &generator, degree, 1, k);
+            high[k] = next_multiple(&high, &generator, degree, 16, k);
         }
         Divider {
             degree,

@@ -18,14 +18,14 @@ pub trait Row {
     fn holds(&self, alloc: Global) -> bool;
 }
 
-/// Each row holds, or is told by its number.
+/// Each row holds, or is named by its number.
 pub fn check<R: Row>(rt: &impl Abort, alloc: Global, rows: &[R]) {
     for (i, row) in rows.iter().enumerate() {
         check_row(rt, i, row.holds(alloc));
     }
 }
 
-/// A row holds, or is told by its number.
+/// A row holds, or is named by its number.
 pub fn check_row(rt: &impl Abort, number: usize, holds: bool) {
     assert!(rt; holds, "row {number}");
 }

@@ -1,7 +1,7 @@
 //! Symbols of other programs and of the standard, module by module.
 //!
-//! Those of texts are what qrcodegen 1.8.0 makes of the same bytes, and segno 1.4.1 of Micro, each told the mask that stands
-//! beside it in the table of calls. Their modules stand in row order as hexadecimal digits, a dark one being a one, the last
+//! Those of texts are what qrcodegen 1.8.0 makes of the same bytes, and segno 1.4.1 of Micro, each asked for the mask that
+//! stands beside it in the table of calls. Their modules stand in row order as hexadecimal digits, a dark one being a one, the last
 //! digit filled with zeros. The printed symbols are those of the digits `01234567`.
 
 pub const TEXT: &str =

@@ -7,6 +7,7 @@ ghost use Rattle.qrcode_types.specs.declared.types.Version.{Version};
 ghost use Rattle.qrcode_types.specs.declared.types.Mode.{Mode};
 
 use crate::types::{Color, Mode, QrError, Version};
+use std::hash::Hash;
 
 /// Two values are equal by `==` exactly when they are the same. Of levels `EcLevel::number` says
 /// so.
@@ -15,4 +16,10 @@ pub fn equality()
     ensures colors { (a b : Color) → IsTrue (⟦<Color as PartialEq>⟧.eq a b) ↔ (a ≡ b) }
     ensures versions { (a b : Version) → IsTrue (⟦<Version as PartialEq>⟧.eq a b) ↔ (a ≡ b) }
     ensures modes { (a b : Mode) → IsTrue (⟦<Mode as PartialEq>⟧.eq a b) ↔ (a ≡ b) }
+{}
+
+/// Two colours give a hasher the same exactly when they are the same.
+pub fn hashes()
+    ensures { (a b : Color)
+        → (⟦<Color as Hash>⟧.hash_input a ≡ ⟦<Color as Hash>⟧.hash_input b) ↔ (a ≡ b) }
 {}

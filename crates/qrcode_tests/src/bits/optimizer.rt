@@ -78,18 +78,18 @@ static CUTS: [Cutting; 28] = [
 ];
 
 // The runs of data.
-fn runs(alloc: Global, data: &[u8]) -> QrResult<Vec<Segment>>
-    requires length { length data.now ≤ 1048576 }
+fn runs(alloc: Global, bytes: &[u8]) -> QrResult<Vec<Segment>>
+    requires length { length bytes.now ≤ 1048576 }
 {
-    Ok(Parser::new(data).collect(alloc)?)
+    Ok(Parser::new(bytes).collect(alloc)?)
 }
 
 // The same, joined.
-fn joined(alloc: Global, data: &[u8], version: Version) -> QrResult<Vec<Segment>>
+fn joined(alloc: Global, bytes: &[u8], version: Version) -> QrResult<Vec<Segment>>
     requires valid { IsTrue (is_valid version) }
-    requires length { length data.now ≤ 1048576 }
+    requires length { length bytes.now ≤ 1048576 }
 {
-    Ok(Parser::new(data).optimize(version).collect(alloc)?)
+    Ok(Parser::new(bytes).optimize(version).collect(alloc)?)
 }
 
 // The segments of data.

@@ -9,10 +9,10 @@ use qrcode_several::errors::JoinError;
 use std::alloc::Global;
 use std::fmt::Display;
 
-// Whether a refusal is told so.
+// Whether a refusal has this text.
 fn tells<E: Display>(alloc: Global, error: &E, text: &str) -> bool {
     match format!(in alloc; "{error}") {
-        Ok(told) => told.as_str() == text,
+        Ok(shown) => shown.as_str() == text,
         Err(_) => false,
     }
 }
@@ -39,7 +39,7 @@ fn elements_tell_index_and_cause(rt: HostRuntime) {
     assert!(rt; tells(alloc, &long, "data too long"));
 }
 
-// Why parts are not joined, and how it is told.
+// Why parts are not joined, and the text of that.
 #[rattlefmt::skip]
 static OF_PARTS: [(JoinError, &str); 5] = [
     (JoinError::Stranger(1), "part 1 is not of the same data as the first"),

@@ -21,7 +21,7 @@ version c = ap (λ (b : BitList). b.version) c.new-bits.ensures.empty
 valid : (c : In-Err) → IsTrue (is_valid c.args.version)
 valid c = search rules
 
--- data that is held is refused only where memory is
+-- data that is held is refused only because memory ran out
 memory : (c : In-Err) → Holds c.args.version c.args.ec_level c.args.bytes.now → c.in-Err.error ≡ OutOfMemory
 memory c holds =
     let l = c.args.ec_level in
