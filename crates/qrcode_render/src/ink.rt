@@ -155,12 +155,15 @@ impl Model for Script {
 }
 
 impl Script {
-    /// A text that begins with another. Refuses with `OutOfMemory` alone.
-    pub fn of(alloc: Global, text: &str) -> QrResult<Script>
+    /// A text that begins with another, in room for so many bytes at first. Refuses with
+    /// `OutOfMemory` alone.
+    pub fn of(alloc: Global, text: &str, room: usize) -> QrResult<Script>
         ensures value { IfOk result (λ script. script ≡ text.now) }
         ensures memory { IsOkUnless result OutOfMemory }
     {
-        let line = Line::of(Vec::from_slice(alloc, text.as_bytes())?);
+        let mut bytes = Vec::with_capacity(alloc, room)?;
+        bytes.extend_from_slice(text.as_bytes())?;
+        let line = Line::of(bytes);
         Ok(Script { line })
     }
 
