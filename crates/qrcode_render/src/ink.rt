@@ -155,15 +155,12 @@ impl Model for Script {
 }
 
 impl Script {
-    /// A text that begins with another, in room for so many bytes at first. Refuses with
-    /// `OutOfMemory` alone.
-    pub fn of(alloc: Global, text: &str, room: usize) -> QrResult<Script>
+    /// A text that begins with another. Refuses with `OutOfMemory` alone.
+    pub fn of(alloc: Global, text: &str) -> QrResult<Script>
         ensures value { IfOk result (λ script. script ≡ text.now) }
         ensures memory { IsOkUnless result OutOfMemory }
     {
-        let mut bytes = Vec::with_capacity(alloc, room)?;
-        bytes.extend_from_slice(text.as_bytes())?;
-        let line = Line::of(bytes);
+        let line = Line::of(Vec::from_slice(alloc, text.as_bytes())?);
         Ok(Script { line })
     }
 

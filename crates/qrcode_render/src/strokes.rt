@@ -88,7 +88,7 @@ impl<P: Copy, S: Strokes<P>> Canvas for Plot<P, S> {
 
     fn new(alloc: Global, width: u32, height: u32, dark: P, light: P) -> QrResult<Self> {
         let head = S::head(alloc, width, height, dark, light)?;
-        let text = Script::of(alloc, &head, 0)?;
+        let text = Script::of(alloc, &head)?;
         Ok(Plot {
             width,
             height,
@@ -109,10 +109,7 @@ impl<P: Copy, S: Strokes<P>> Canvas for Plot<P, S> {
     fn picture(alloc: Global, modules: &Modules, dark: P, light: P) -> QrResult<String> {
         let (width, height) = modules.pixels();
         let head = S::head(alloc, width, height, dark, light)?;
-
-        // Half of most symbols is dark, in rectangles of up to 24 bytes.
-        let room = modules.content().len().saturating_mul(12);
-        let mut text = Script::of(alloc, &head, room)?;
+        let mut text = Script::of(alloc, &head)?;
         push_modules::<P, S>(alloc, &mut text, modules)?;
         text.push(S::tail())?;
         Ok(text.into_string())

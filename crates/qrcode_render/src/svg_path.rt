@@ -123,7 +123,7 @@ fn with_element(text: String, grid: &Grid, dark: &str, light: &str) -> QrResult<
     push_attribute(&mut text, dark)?;
     text.push_str("\" d=\"")?;
     let mut marks = vec![in alloc; false; columns]?;
-    let mut script = Script::of(alloc, &text, 0)?;
+    let mut script = Script::of(alloc, &text)?;
     push_runs(&mut script, grid, &mut marks)?;
     script.push("\"/></svg>")?;
     Ok(script.into_string())
