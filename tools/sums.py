@@ -11,6 +11,7 @@ from pathlib import Path
 
 TOP = Path(__file__).resolve().parent.parent
 CRATES = TOP / "crates"
+GATE = CRATES / "goqlanis" / "out" / "gate"
 
 
 @functools.cache
@@ -88,3 +89,8 @@ def program(name):
     """The program of a crate that a green gate left, or None."""
     path = CRATES / name / "out" / name
     return path if is_left(name, "program") and are_libraries_left(name) else None
+
+
+def gate():
+    """What a green gate said at its end, or nothing."""
+    return GATE.read_text() if GATE.exists() else ""

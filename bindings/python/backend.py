@@ -1,10 +1,13 @@
-"""Builds the wheel with the standard library alone, so that `pip install ./bindings/python` works offline: the package, and the shared library in it.
+"""Builds the wheel with the standard library alone, so that `pip install ./bindings/python` works
+offline: the package, and the shared library in it.
 
-The library is that of GOQLANIS_LIB, where that is set, and else the one that `bindings/c/build` makes.
+The library is that of GOQLANIS_LIB, where that is set, or else what `bindings/c/build` makes. The
+tag names the least glibc that has all that the library takes from it.
 """
 import base64
 import hashlib
 import os
+import re
 import subprocess
 import tempfile
 import zipfile
@@ -12,7 +15,6 @@ from pathlib import Path
 
 HERE = Path(__file__).resolve().parent
 NAME, VERSION = "goqlanis", "1.0.0"
-TAG = "py3-none-linux_x86_64"
 INFO = f"{NAME}-{VERSION}.dist-info"
 METADATA = f"""Metadata-Version: 2.1
 Name: {NAME}
@@ -21,10 +23,10 @@ Summary: QR and Micro QR symbols by a library that is proved correct
 Requires-Python: >=3.8
 License: MIT OR Apache-2.0
 """
-WHEEL = f"""Wheel-Version: 1.0
+WHEEL = """Wheel-Version: 1.0
 Generator: goqlanis
 Root-Is-Purelib: false
-Tag: {TAG}
+Tag: {tag}
 """
 
 
@@ -38,14 +40,21 @@ def library():
         return (Path(folder) / "libgoqlanis.so.1").read_bytes()
 
 
+def least_glibc(data):
+    """The n of the least glibc 2.n that has each name that a file in ELF form takes from it."""
+    return max(int(it) for it in re.findall(rb"\0GLIBC_2\.(\d+)", data))
+
+
 def build_wheel(wheel_directory, config_settings=None, metadata_directory=None):
-    files = {f"{NAME}/{path.name}": path.read_bytes() for path in sorted((HERE / NAME).iterdir()) if path.suffix in (".py", ".typed")}
+    paths = [it for it in sorted((HERE / NAME).iterdir()) if it.suffix in (".py", ".typed")]
+    files = {f"{NAME}/{path.name}": path.read_bytes() for path in paths}
     files[f"{NAME}/libgoqlanis.so.1"] = library()
+    tag = f"py3-none-manylinux_2_{least_glibc(files[f'{NAME}/libgoqlanis.so.1'])}_x86_64"
     files[f"{INFO}/METADATA"] = METADATA.encode()
-    files[f"{INFO}/WHEEL"] = WHEEL.encode()
+    files[f"{INFO}/WHEEL"] = WHEEL.format(tag=tag).encode()
     record = [f"{name},sha256={digest(data)},{len(data)}\n" for name, data in files.items()]
     files[f"{INFO}/RECORD"] = "".join([*record, f"{INFO}/RECORD,,\n"]).encode()
-    made = f"{NAME}-{VERSION}-{TAG}.whl"
+    made = f"{NAME}-{VERSION}-{tag}.whl"
     with zipfile.ZipFile(Path(wheel_directory) / made, "w", zipfile.ZIP_DEFLATED) as wheel:
         for name, data in files.items():
             wheel.writestr(name, data)

@@ -1,4 +1,3 @@
 mod Choices
-mod Inks
 mod Pieces
 mod Segmented

@@ -77,7 +77,7 @@ some_at [] k h e = omega arith
 some_at (x ∷ xs) zero h e = cc
 some_at (x ∷ xs) (suc k) h e = some_at xs k (omega arith) e
 
--- a stop among pieces that a reader takes is for want of memory
+-- a stop among pieces that a reader takes is one of memory
 pub readable_stop : (v : Version) (old : List Bool) (ps : List Piece) (e : QrError) (new : List Bool) → AllByRecursion (IsReadable v) ps → length old + length (written v ps) ≤ bit_limit
     → StopsAt v old ps e new → e ≡ OutOfMemory
 readable_stop v old ps e new all room s =

@@ -1,4 +1,4 @@
--- What is refused for want of a version or of a cut.
+-- What is refused where there is no version, or no cut.
 use Rattle.std.proofs.Common.{◌≡◌, ℕ, ◌≤◌, List, length, sym, subst, ◌∙◌, arith, IsTrue, inl, inr, true≢false, Result, Ok, Err, IfErr}
 use Rattle.std.specs.Prelude.{IsErr, IsErrAnd, IsOkUnless}
 use Rattle.std.proofs.lemmas.Bool.{false≢true}

@@ -71,7 +71,7 @@ piece_long m bytes list ss new least room stop =
       ),
     )
 
--- text that a symbol holds is refused for want of memory alone
+-- text that a symbol holds is refused only where memory is
 held_stop : (m : Manner) (l : EcLevel) (bytes : List ℕ) (list : BitList) (ss : List Segment) (e : QrError) (new : List Bool) → IsTrue (is_valid list.version) → IsLeastCutIn (modes_of m) list.version bytes ss
     → HoldsAs m list.version l bytes → length list.bits + capacity list.version l ≤ bit_limit → StopsAt list.version (list.bits ++ front m) (pieces_of bytes ss) e new → e ≡ OutOfMemory
 held_stop m l bytes list ss e new valid least holds room stop =

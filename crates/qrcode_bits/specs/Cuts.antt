@@ -35,7 +35,7 @@ pub record IsLeastCutIn (set : Modes) (v : Version) (bytes : List ℕ) (segments
   pub reached : IsCutIn set v bytes segments
   pub least : (others : List Segment) → IsCutIn set v bytes others → total_cost v segments ≤ total_cost v others
 
--- a call wants one of these cuts: it is refused where there is none, and else only for want of memory
+-- a call wants one of these cuts: it is refused where there is none, and else only where memory is
 pub record NeedsCut {A : Type 0} (Cuts : List Segment → Type 0) (result : Result A QrError) : Type 0 where
   pub no_cut : ((segments : List Segment) → ¬ Cuts segments) → result ≡ Err UnsupportedCharacterSet
   pub accepts : (segments : List Segment) → Cuts segments → IsOkUnless result OutOfMemory

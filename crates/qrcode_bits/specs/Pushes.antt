@@ -12,7 +12,7 @@ use Rattle.qrcode_bits.specs.Written.{Piece, written, written_piece, pieces_of}
 use Rattle.qrcode_bits.specs.declared.optimize.Segment.{Segment}
 
 -- The list becomes another, or is refused and stays as it was: where there is a refusal, by it and no other; and else
--- for want of memory at most.
+-- only where memory is refused.
 pub record Changes (refusal : Option QrError) (old after new : BitList) (result : Result (Unit {0}) QrError) : Type 0 where
   pub refused : (e : QrError) → refusal ≡ Some e → result ≡ Err e
   pub accepted : refusal ≡ None → IsOkUnless result OutOfMemory

@@ -30,7 +30,7 @@ is_checked Kanji = true
 is_checked Alphanumeric = false
 is_checked Byte = false
 
--- What refuses so many characters behind so many bits, whatever they are. Where nothing refuses, want of memory still may.
+-- What refuses so many characters behind so many bits, whatever they are. Where nothing refuses, memory may still run out.
 abbrev pub count_refusal : Version → ℕ → Mode → ℕ → Option QrError
 count_refusal v used m count =
     if not (has_mode v m) then Some UnsupportedCharacterSet else
@@ -73,7 +73,7 @@ eci_refusal (Normal v) used n = if nat_le n 999999 then append_refusal used (Som
 abbrev pub terminator_refusal : Version → EcLevel → ℕ → Option QrError
 terminator_refusal v l used = if not (has_level v l) then Some InvalidVersion else (if nat_le used (capacity v l) then None else Some DataTooLong)
 
--- a piece is refused by its own cause where it has one, and else for want of memory
+-- a piece is refused by its own cause where it has one, and else where memory is
 abbrev pub IsCause : Option QrError → QrError → Type 0
 IsCause (Some cause) e = e ≡ cause
 IsCause None e = e ≡ OutOfMemory

@@ -35,7 +35,7 @@ pub struct Event<'a> {
     pub summary: &'a str,
     /// Where it is.
     pub location: &'a str,
-    /// What is told of it.
+    /// A description.
     pub description: &'a str,
 }
 

@@ -87,7 +87,7 @@ pub struct Payment<'a> {
     pub reference: &'a str,
     /// A message, up to 140 characters.
     pub message: &'a str,
-    /// What the payer is told, up to 70 characters.
+    /// For the payer, up to 70 characters.
     pub information: &'a str,
 }
 

@@ -96,7 +96,7 @@ impl Day {
         push_pairs(text, &[self.year / 100, self.year % 100, month, day])
     }
 
-    /// The text of the day in iCalendar. It fails for want of memory alone (`OutOfMemory`).
+    /// The text of the day in iCalendar. It fails only where memory is refused (`OutOfMemory`).
     pub fn text(self, alloc: Global) -> ContentResult<String>
         ensures value { IfOk result (λ text. string_bytes text ≡ day_text self) }
         ensures memory { IsOkUnless result OutOfMemory }
@@ -123,7 +123,7 @@ impl Moment {
         (hours * 100 + u64::from(self.minute)) * 100 + u64::from(self.second)
     }
 
-    /// The text of the moment in iCalendar. It fails for want of memory alone (`OutOfMemory`).
+    /// The text of the moment in iCalendar. It fails only where memory is refused (`OutOfMemory`).
     #[tactic(auto, unfolding(crate::specs::Times::moment_text))]
     pub fn text(self, alloc: Global) -> ContentResult<String>
         ensures value { IfOk result (λ text. string_bytes text ≡ moment_text self) }

@@ -85,7 +85,7 @@ abbrev pub checked : Option Gs1Error → Result (Unit {0}) Gs1Error  -- the answ
 checked None = Ok tt
 checked (Some e) = Err e
 
--- bytes with this property where nothing is refused; else the refusal, or the want of memory
+-- bytes with this property where nothing is refused; else the refusal, or that memory ran out
 abbrev pub Answers : Option Gs1Error → Result (Vec ℕ Global) Gs1Error → (List ℕ → Type 0) → Type 0
 Answers refusal (Ok bytes) P = (refusal ≡ None) × P bytes.items
 Answers refusal (Err e) P = (refusal ≡ Some e) ⊎ (e ≡ OutOfMemory)

@@ -34,7 +34,7 @@ centres (Micro v) = []
 abbrev pub is_near : ℕ → ℕ → Bool  -- an alignment pattern reaches two modules from its centre
 is_near x a = nat_le (abs_diff a x) 2
 
--- the alignment pattern whose centre has the coordinates a and b, dark there and at distance 2, but for the corners where finder patterns are
+-- the alignment pattern whose centre has the coordinates a and b, dark there and at distance 2, except in the corners where finder patterns are
 abbrev pub alignment_between : ℕ → Option ℕ → Option ℕ → ℕ → ℕ → Option Color
 alignment_between w None b x y = None
 alignment_between w (Some a) None x y = None

@@ -17,7 +17,7 @@ svg_ground w h dark light =
     codes "<rect x=\"0\" y=\"0\" width=\"" ++ (decimal w ++ (codes "\" height=\"" ++ (decimal h ++ (codes "\" fill=\"" ++ (light ++ (codes "\"/><path fill=\"" ++ (dark ++ codes "\" d=\"")))))))
 
 -- what stands before the first dark rectangle
-abbrev pub svg_start : ℕ → ℕ → List ℕ → List ℕ → List ℕ
+unfoldable pub svg_start : ℕ → ℕ → List ℕ → List ℕ → List ℕ
 svg_start w h dark light =
     codes "<?xml version=\"1.0\" standalone=\"yes\"?><svg xmlns=\"http://www.w3.org/2000/svg\" version=\"1.1\" width=\"" ++ svg_frame w h ++ svg_ground w h dark light
 

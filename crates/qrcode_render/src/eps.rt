@@ -70,7 +70,10 @@ impl Strokes<Color> for Boxes {
 
     fn head(alloc: Global, width: u32, height: u32, dark: Color, light: Color) -> QrResult<String> {
         Ok(format!(in alloc;
-            "%!PS-Adobe-3.0 EPSF-3.0\n%%BoundingBox: 0 0 {width} {height}\n%%LanguageLevel: 2\n%%EndComments\n{} 255 div {} 255 div {} 255 div setrgbcolor\n0 0 {width} {height} rectfill\n0 {height} translate 1 -1 scale\n{} 255 div {} 255 div {} 255 div setrgbcolor\n",
+            "%!PS-Adobe-3.0 EPSF-3.0\n%%BoundingBox: 0 0 {width} {height}\n%%LanguageLevel: 2\n\
+             %%EndComments\n{} 255 div {} 255 div {} 255 div setrgbcolor\n\
+             0 0 {width} {height} rectfill\n0 {height} translate 1 -1 scale\n\
+             {} 255 div {} 255 div {} 255 div setrgbcolor\n",
             light.red, light.green, light.blue, dark.red, dark.green, dark.blue
         )?)
     }

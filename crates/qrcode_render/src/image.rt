@@ -1,7 +1,7 @@
 //! Pictures as rows of pixels, each of one or more bytes.
 
 ghost use Rattle.std.proofs.Common.{rules};
-ghost use Rattle.std.specs.Prelude.{◌≡◌, ℕ, ◌+◌, ◌*◌, ◌<◌, List, [], ◌∷◌, ◌++◌, IfOk, OnOk, IsOkUnless};
+ghost use Rattle.std.specs.Prelude.{◌≡◌, ℕ, ◌+◌, ◌*◌, ◌<◌, List, [], ◌∷◌, ◌++◌, length, slice_index_or, IfOk, OnOk, IsOkUnless};
 ghost use Rattle.qrcode_types.specs.declared.types.QrError.TheVariants.{OutOfMemory};
 ghost use Rattle.qrcode_types.specs.Colors.{select_of};
 ghost use Rattle.qrcode_types.specs.declared.types.Color.{Color};
@@ -38,19 +38,40 @@ pub trait Channels: Copy {
     // The bytes of a colour unless said otherwise.
     ghost default_bytes: { Color → List ℕ };
 
+    ghost channel_count: { ℕ };
+
     /// What stands for a colour unless said otherwise: black for dark and white for light, opaque.
     fn of_color(color: Color) -> Self
         ensures { bytes result ≡ default_bytes color };
 
+    /// How many bytes each pixel has.
+    fn count() -> usize
+        ensures { result ≡ channel_count };
+
+    /// The byte of a channel, counted from 0 and below the count.
+    fn channel(self, i: usize) -> u8
+        requires { i < channel_count }
+        ensures { result ≡ slice_index_or (bytes self) i 0 }
+    {
+        self.channels()[i]
+    }
+
     /// The bytes of the pixel.
     fn channels(&self) -> &[u8]
-        ensures { result.now ≡ bytes self.now };
+        ensures value { result.now ≡ bytes self.now }
+        ensures length { length result.now ≡ channel_count };
 }
 
 impl Channels for Luma {
     ghost bytes = { λ pixel. pixel.0 };
 
     ghost default_bytes = { λ c. select_of c 0 255 ∷ [] };
+
+    ghost channel_count = { 1 };
+
+    fn count() -> usize {
+        1
+    }
 
     fn of_color(color: Color) -> Luma {
         Luma([color.select(0, 255)])
@@ -66,6 +87,12 @@ impl Channels for LumaA {
 
     ghost default_bytes = { λ c. select_of c 0 255 ∷ 255 ∷ [] };
 
+    ghost channel_count = { 2 };
+
+    fn count() -> usize {
+        2
+    }
+
     fn of_color(color: Color) -> LumaA {
         LumaA([color.select(0, 255), 255])
     }
@@ -80,6 +107,12 @@ impl Channels for Rgb {
 
     ghost default_bytes = { λ c. select_of c 0 255 ∷ select_of c 0 255 ∷ select_of c 0 255 ∷ [] };
 
+    ghost channel_count = { 3 };
+
+    fn count() -> usize {
+        3
+    }
+
     fn of_color(color: Color) -> Rgb {
         let grey = color.select(0, 255);
         Rgb([grey, grey, grey])
@@ -93,7 +126,14 @@ impl Channels for Rgb {
 impl Channels for Rgba {
     ghost bytes = { λ pixel. pixel.0 };
 
-    ghost default_bytes = { λ c. select_of c 0 255 ∷ select_of c 0 255 ∷ select_of c 0 255 ∷ 255 ∷ [] };
+    ghost default_bytes = { λ c.
+        select_of c 0 255 ∷ select_of c 0 255 ∷ select_of c 0 255 ∷ 255 ∷ [] };
+
+    ghost channel_count = { 4 };
+
+    fn count() -> usize {
+        4
+    }
 
     fn of_color(color: Color) -> Rgba {
         let grey = color.select(0, 255);

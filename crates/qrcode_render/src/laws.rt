@@ -1,6 +1,9 @@
 //! Laws of the pixels that no call stands for, on the contracts of functions that do nothing.
 
-ghost use Rattle.std.specs.Prelude.{◌≡◌, ◌↔◌, IsTrue};
+ghost use Rattle.std.specs.Prelude.{◌≡◌, ◌↔◌, [], Some, IsTrue};
+ghost use Rattle.std.specs.Cmp.Lexicographic.{slice_cmp};
+ghost use Rattle.std.specs.Ordering.{nat_cmp};
+ghost use Rattle.std.specs.declared.cmp.Ordering.TheVariants.{Equal};
 ghost use Rattle.qrcode_render.specs.declared.eps.Color as eps;
 ghost use Rattle.qrcode_render.specs.declared.image.Luma.{Luma};
 ghost use Rattle.qrcode_render.specs.declared.image.LumaA.{LumaA};
@@ -8,6 +11,7 @@ ghost use Rattle.qrcode_render.specs.declared.image.Rgb.{Rgb};
 ghost use Rattle.qrcode_render.specs.declared.image.Rgba.{Rgba};
 ghost use Rattle.qrcode_render.specs.declared.pbm.Bit.{Bit};
 ghost use Rattle.qrcode_render.specs.declared.pgm.Grey.{Grey};
+ghost use Rattle.qrcode_render.specs.declared.pic.Color as pic;
 ghost use Rattle.qrcode_render.specs.declared.string.Str.{Str};
 ghost use Rattle.qrcode_render.specs.declared.svg.Color as svg;
 ghost use Rattle.qrcode_render.specs.declared.svg_path.Path.{Path};
@@ -20,7 +24,8 @@ use crate::pgm::Grey;
 use crate::string::Str;
 use crate::svg::{Path, PathElement};
 use crate::unicode::Dense1x2;
-use crate::{eps, svg};
+use crate::{eps, pic, svg};
+use std::hash::Hash;
 
 /// Two pixels are equal by `==` exactly when they are the same, and two that are texts when these
 /// have the same bytes. All of PIC are equal.
@@ -33,10 +38,30 @@ pub fn equality<'a>()
     ensures rgb { (a b : Rgb) → IsTrue (⟦<Rgb as PartialEq>⟧.eq a b) ↔ (a ≡ b) }
     ensures rgba { (a b : Rgba) → IsTrue (⟦<Rgba as PartialEq>⟧.eq a b) ↔ (a ≡ b) }
     ensures eps { (a b : eps.Color) → IsTrue (⟦<eps::Color as PartialEq>⟧.eq a b) ↔ (a ≡ b) }
+    ensures pic { (a b : pic.Color) → IsTrue (⟦<pic::Color as PartialEq>⟧.eq a b) }
     ensures svg { (a b : svg.Color) → IsTrue (⟦<svg::Color<'a> as PartialEq>⟧.eq a b)
         ↔ (a.0.now ≡ b.0.now) }
     ensures paths { (a b : Path) → IsTrue (⟦<Path<'a> as PartialEq>⟧.eq a b) ↔ (a.0.now ≡ b.0.now) }
     ensures elements { (a b : PathElement) → IsTrue (⟦<PathElement<'a> as PartialEq>⟧.eq a b)
         ↔ (a.0.now ≡ b.0.now) }
     ensures texts { (a b : Str) → IsTrue (⟦<Str<'a> as PartialEq>⟧.eq a b) ↔ (a.0.now ≡ b.0.now) }
+{}
+
+/// Colours of SVG are ordered as their texts are, byte by byte, and the empty text is what stands
+/// for one unless said otherwise. Those with the same text make the same writes to a hasher. All
+/// colours of PIC are equal in the order and make the same writes, which are none.
+pub fn order<'a>()
+    ensures svg { (a b : svg.Color) → ⟦<svg::Color<'a> as Ord>⟧.cmp a b
+        ≡ slice_cmp nat_cmp a.0.now b.0.now }
+    ensures svg_partial { (a b : svg.Color) → ⟦<svg::Color<'a> as PartialOrd>⟧.partial_cmp a b
+        ≡ Some (slice_cmp nat_cmp a.0.now b.0.now) }
+    ensures svg_default { (a : svg.Color) → ⟦<svg::Color<'a> as Default>⟧.is_default a
+        → a.0.now ≡ [] }
+    ensures svg_hash { (a b : svg.Color) → a.0.now ≡ b.0.now
+        → ⟦<svg::Color<'a> as Hash>⟧.hash_input a ≡ ⟦<svg::Color<'a> as Hash>⟧.hash_input b }
+    ensures pic { (a b : pic.Color) → ⟦<pic::Color as Ord>⟧.cmp a b ≡ Equal }
+    ensures pic_partial { (a b : pic.Color) → ⟦<pic::Color as PartialOrd>⟧.partial_cmp a b
+        ≡ Some Equal }
+    ensures pic_hash { (a b : pic.Color) → ⟦<pic::Color as Hash>⟧.hash_input a
+        ≡ ⟦<pic::Color as Hash>⟧.hash_input b }
 {}

@@ -55,7 +55,9 @@ impl Strokes<Color> for Boxes {
 
     fn head(alloc: Global, width: u32, height: u32, _: Color, _: Color) -> QrResult<String> {
         Ok(format!(in alloc;
-            "maxpswid={width};maxpsht={height};movewid=0;moveht=1;boxwid=1;boxht=1\ndefine p {{ box wid $3 ht $4 fill 1 with .nw at $1,-$2 }}\nbox wid maxpswid ht maxpsht with .nw at 0,0\n"
+            "maxpswid={width};maxpsht={height};movewid=0;moveht=1;boxwid=1;boxht=1\n\
+             define p {{ box wid $3 ht $4 fill 1 with .nw at $1,-$2 }}\n\
+             box wid maxpswid ht maxpsht with .nw at 0,0\n"
         )?)
     }
 

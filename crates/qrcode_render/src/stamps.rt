@@ -112,6 +112,9 @@ impl Stamp {
     }
 }
 
+// What a text grows by at least. Only its room doubles: bytes far behind its end are not written.
+const STEP: usize = 1024;
+
 // Grows bytes, of which those up to an end are kept, to hold so many more behind these.
 fn grow(bytes: &mut Vec<u8>, end: usize, count: usize) -> QrResult<()>
     requires { end ≤ vec_len bytes.old }
@@ -120,8 +123,9 @@ fn grow(bytes: &mut Vec<u8>, end: usize, count: usize) -> QrResult<()>
     ensures room { OnOk result (end + count ≤ vec_len bytes.new) }
     ensures memory { IsOkUnless result OutOfMemory }
 {
-    let least = end.checked_add(count).ok_or(QrError::OutOfMemory)?;
-    let len = bytes.len().saturating_mul(2).max(least);
+    let len = end
+        .checked_add(count.max(STEP))
+        .ok_or(QrError::OutOfMemory)?;
     bytes.resize(len, 0)?;
     Ok(())
 }

@@ -63,7 +63,8 @@ pub struct Str<'a>(pub &'a str);
 impl<'a> Element for Str<'a> {
     ghost text = { λ element. element.0.now };
 
-    ghost is_default = { λ c element. element.0.now ≡ select_of c (0xe2 ∷ 0x96 ∷ 0x88 ∷ []) (32 ∷ []) };
+    ghost is_default = { λ c element. element.0.now
+        ≡ select_of c (0xe2 ∷ 0x96 ∷ 0x88 ∷ []) (32 ∷ []) };
 
     fn default_color(color: Color) -> Str<'a> {
         Str(color.select("\u{2588}", " "))
@@ -108,7 +109,8 @@ impl<'a> Pixel for Str<'a> {
 
     ghost unit_positive = { Prim.search rules };
 
-    ghost is_default_color = { λ c pixel. pixel.0.now ≡ select_of c (0xe2 ∷ 0x96 ∷ 0x88 ∷ []) (32 ∷ []) };
+    ghost is_default_color = { λ c pixel. pixel.0.now
+        ≡ select_of c (0xe2 ∷ 0x96 ∷ 0x88 ∷ []) (32 ∷ []) };
 
     fn default_unit_size() -> (u32, u32)
         ensures across { result.0 ≡ 1 }
@@ -133,7 +135,8 @@ pub struct Lines;
 impl<P: Element> Finish<P> for Lines {
     type Image = String;
 
-    ghost is_image = { λ b dark light image. string_bytes image ≡ text_of (P.text dark) (P.text light) b };
+    ghost is_image = { λ b dark light image. string_bytes image
+        ≡ text_of (P.text dark) (P.text light) b };
 
     #[tactic(auto, unfolding(crate::specs::Texts::text_of))]
     fn image(alloc: Global, grid: &Grid, dark: P, light: P) -> QrResult<String> {

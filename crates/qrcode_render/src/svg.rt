@@ -68,7 +68,11 @@ impl<'a> Strokes<Color<'a>> for Paths {
     ) -> QrResult<String> {
         let (dark, light) = (dark.0, light.0);
         Ok(format!(in alloc;
-            "<?xml version=\"1.0\" standalone=\"yes\"?><svg xmlns=\"http://www.w3.org/2000/svg\" version=\"1.1\" width=\"{width}\" height=\"{height}\" viewBox=\"0 0 {width} {height}\" shape-rendering=\"crispEdges\"><rect x=\"0\" y=\"0\" width=\"{width}\" height=\"{height}\" fill=\"{light}\"/><path fill=\"{dark}\" d=\""
+            "<?xml version=\"1.0\" standalone=\"yes\"?>\
+             <svg xmlns=\"http://www.w3.org/2000/svg\" version=\"1.1\" width=\"{width}\" \
+             height=\"{height}\" viewBox=\"0 0 {width} {height}\" shape-rendering=\"crispEdges\">\
+             <rect x=\"0\" y=\"0\" width=\"{width}\" height=\"{height}\" fill=\"{light}\"/>\
+             <path fill=\"{dark}\" d=\""
         )?)
     }
 

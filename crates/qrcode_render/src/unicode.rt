@@ -75,7 +75,8 @@ impl Finish<Dense1x2> for HalfBlocks {
 
     type Image = String;
 
-    ghost is_image = { λ b dark light image. string_bytes image ≡ dense_text (is_dark_half dark) (is_dark_half light) b };
+    ghost is_image = { λ b dark light image. string_bytes image
+        ≡ dense_text (is_dark_half dark) (is_dark_half light) b };
 
     #[tactic(auto, unfolding(crate::specs::Texts::dense_text))]
     fn image(alloc: Global, grid: &Grid, dark: Dense1x2, light: Dense1x2) -> QrResult<String> {
@@ -111,7 +112,8 @@ struct Halves {
     marked: bool,
     other: bool,
     palette: Fours,
-    ghost twos: { (upper lower : Bool) → two_text palette upper lower ≡ column_text marked other upper lower },
+    ghost twos: { (upper lower : Bool) → two_text palette upper lower
+        ≡ column_text marked other upper lower },
 }
 
 impl Halves {

@@ -101,7 +101,7 @@ none_strange bytes count part last told i (p ∷ parts) a b each =
     let here : belongs last told p ≡ true = belongs_of last told p (omega (arith, each.0.last, a)) (each.0.parity ∙ sym b) (omega (arith, each.0.inside, a)) in
     ap (λ (t : Bool). if t then first_stranger last told (i + 1) parts else Some i) here ∙ none_strange bytes count part last told (i + 1) parts a b each.1
 
--- the parts of data are refused for want of memory alone
+-- the parts of data are refused only where memory is
 pub shares_taken : (bytes : List ℕ) (count : ℕ) (part : ℕ → List ℕ) (parts : List Part) (e : JoinError) → AreShares bytes count part parts → IsJoinRefused parts e → e ≡ OutOfMemory
 shares_taken bytes count part parts (Stranger k) s r =
     let told = told_of bytes count part parts s in

@@ -11,7 +11,7 @@ use Rattle.qrcode_places.specs.Centres.{centre_table}
 use Rattle.qrcode_places.specs.Patterns.{centres, is_near}
 use Rattle.qrcode_symbol.specs.Patterned.{IsCentre}
 
--- a centre is far from the edges, but for the first coordinate and the last
+-- a centre is far from the edges, except the first coordinate and the last
 good : ℕ → ℕ → Bool
 good w a = (a == 6 || nat_le 16 a) && (a + 7 == w || nat_le (a + 17) w)
 

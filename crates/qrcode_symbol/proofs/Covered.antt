@@ -117,7 +117,7 @@ outside n m x y all xl yl out = by_centres (find (is_near x) (centres (Normal (p
   by_centres (Some a) None ea eb = plain (rw (ea, eb) refl)
   by_centres (Some a) (Some b) ea eb = square a b (is_corner_centre (4 * n + 17) a b) refl ea eb
 
--- whether a place is in a version word, but for the side of it that the corner bounds
+-- whether a place is in a version word, except for the side of it that the corner bounds
 in_word : (w x y : ℕ) → (45 ≤ w → 6 ≤ x ⊎ y + 11 < w) ⊎ ((45 ≤ w) × (x < 6) × (w ≤ y + 11))
 in_word w x y = elim (cases_lt w 45) [
   | inl small ↦ inl (λ wide. absurd (omega arith))

@@ -132,7 +132,7 @@ impl<'a, P: Pixel> Renderer<'a, P> {
     /// The least module size at which the picture has so many pixels across and down. A module is as wide as it is high.
     pub fn min_dimensions(&mut self, width: u32, height: u32) -> &mut Self {
         let side = self.side();
-        self.module_size(width.max(height).div_ceil(side))
+        self.module_size((width.max(height).max(1) - 1) / side + 1)
     }
 
     /// The greatest module size at which the picture has no more pixels across and down, but at least 1.

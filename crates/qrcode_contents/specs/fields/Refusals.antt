@@ -21,7 +21,7 @@ abbrev pub checked : Option ContentError → Result (Unit {0}) ContentError  -- 
 checked None = Ok tt
 checked (Some e) = Err e
 
--- a text with this property where nothing is refused; else the refusal, or the want of memory
+-- a text with this property where nothing is refused; else the refusal, or that memory ran out
 abbrev pub Answers : Option ContentError → Result (String Global) ContentError → (List ℕ → Type 0) → Type 0
 Answers refusal (Ok text) P = (refusal ≡ None) × P (string_bytes text)
 Answers refusal (Err e) P = (refusal ≡ Some e) ⊎ (e ≡ OutOfMemory)

@@ -68,7 +68,7 @@ pub enum Field {
     Reference,
     /// The message of a payment, of a mail or to a telephone.
     Message,
-    /// What is told beside a payment.
+    /// What stands beside a payment.
     Information,
     /// The subject of a mail.
     Subject,
@@ -96,7 +96,7 @@ pub enum Field {
     Summary,
     /// Where an event is.
     Location,
-    /// What is told of an event.
+    /// The description of an event.
     Description,
     /// The whole text.
     Whole,

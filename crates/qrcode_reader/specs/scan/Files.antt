@@ -95,7 +95,7 @@ pub record IsSeenIn (file : List ℕ) (b : Bitmap) : Type 0 where
   pub bits : take 2 file ≡ codes "P4" → IsBitsFile file × (b ≡ bits_file file)
   pub greys : take 2 file ≡ codes "P5" → IsGreysFile file × (b ≡ greys_file file)
 
--- why the bytes of a picture are refused: of a file, by its first two bytes, what it lacks to be one, or want of memory
+-- why the bytes of a picture are refused: of a file, by its first two bytes, what it lacks to be one, or that memory ran out
 pub record IsUnscanned (file : List ℕ) (e : Unscanned) : Type 0 where
   pub figures : take 2 file ≡ codes "P1" → IsFiguresRefusal file e
   pub bits : take 2 file ≡ codes "P4" → IsBitsRefusal file e

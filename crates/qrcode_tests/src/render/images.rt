@@ -68,12 +68,23 @@ fn pixels_are_painted(rt: HostRuntime) {
     paints(&rt, rt.alloc(), &COLORS_WITH_OPACITY);
 }
 
+// Whether a pixel has these channels and no others.
+fn has<P: Channels>(pixel: P, expected: &[u8]) -> bool {
+    let mut are_same = P::count() == expected.len() && pixel.channels() == expected;
+    for (i, byte) in expected.iter().enumerate() {
+        are_same = are_same && i < P::count() && pixel.channel(i) == *byte;
+    }
+    are_same
+}
+
 #[test]
 fn has_channels(rt: HostRuntime) {
     let dark = LumaA::default_color(Color::Dark);
     assert!(rt; dark == LumaA([0, 255]));
-    assert!(rt; dark.channels() == [0, 255].as_slice());
-    assert!(rt; Rgb::default_color(Color::Light) == Rgb([255, 255, 255]));
+    assert!(rt; has(dark, &[0, 255]));
+    assert!(rt; has(Luma([7]), &[7]));
+    assert!(rt; has(Rgb::default_color(Color::Light), &[255, 255, 255]));
+    assert!(rt; has(Rgba([1, 2, 3, 4]), &[1, 2, 3, 4]));
 }
 
 // The quiet zone of one dark module, the pixels of a module across and down, and whether a picture

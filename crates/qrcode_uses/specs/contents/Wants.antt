@@ -1,4 +1,4 @@
--- When a content has no symbol for want of memory.
+-- When a content has no symbol because memory ran out.
 use Rattle.std.specs.Prelude.{◌≡◌, ◌⊎◌}
 use Rattle.qrcode_types.specs.declared.types.QrError.TheVariants as code
 use Rattle.qrcode_contents.specs.declared.fields.errors.ContentError.TheVariants as content
