@@ -1,7 +1,7 @@
 -- A symbol under another mask is read as the same bits and bytes.
-use Rattle.std.proofs.Common.{◌≡◌, ℕ, ◌+◌, ◌/◌, ◌≤◌, Bool, List, [], ◌∷◌, refl, sym, ap, arith, subst, IsTrue}
+use Rattle.std.proofs.Common.{◌≡◌, ℕ, ◌/◌, ◌≤◌, Bool, List, [], ◌∷◌, refl, arith, subst, IsTrue}
 use Rattle.std.specs.List.{AllByRecursion, AllZip}
-use Rattle.qrcode_types.specs.Bits.{AreBytes, bit_distance}
+use Rattle.qrcode_types.specs.Bits.{bit_distance}
 use Rattle.qrcode_types.specs.Versions.{has_level, ec_length}
 use Rattle.qrcode_types.specs.declared.types.Version.{Version}
 use Rattle.qrcode_types.specs.declared.types.EcLevel.{EcLevel}
@@ -13,7 +13,6 @@ use Rattle.qrcode_places.specs.Patterns.{format_copies}
 use Rattle.qrcode_places.specs.Stream.{stream}
 use Rattle.qrcode_places.specs.declared.masks.MaskPattern.{MaskPattern}
 use Rattle.qrcode_symbol.specs.Symbol.{bits_at, blocks_in, IsSymbol, IsDamaged}
-use Rattle.qrcode_symbol.specs.Reading.{ReadsBitsOnly}
 use Rattle.qrcode_symbol.proofs.Codewords.{codewords_are_bytes}
 use Rattle.qrcode_bits.specs.Spelling.{Spells}
 use Rattle.qrcode.specs.Reading.{EncodesBytes, IsUnderMask}

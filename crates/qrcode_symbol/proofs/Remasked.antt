@@ -1,6 +1,6 @@
 -- The colours under another mask are the symbol of the same bits.
 use Rattle.std.proofs.Common.{◌≡◌, ℕ, ◌+◌, ◌-◌, ◌*◌, ◌/◌, ◌%◌, ◌<◌, Bool, true, false, not, List, map, drop, length, get_or, Option, Some, None, IfSome, IsTrue, refl, sym, ap, ap₂, ◌∙◌, arith, subst}
-use Rattle.std.specs.List.{range_with_len, AllByRecursion, list_all}
+use Rattle.std.specs.List.{AllByRecursion, list_all}
 use Rattle.std.proofs.lemmas.List.{ext_get_or, get_or-map, length-map}
 use Rattle.std.proofs.lemmas.List.Elements.{All-weaker, All-from_recursion, recursion_from_All}
 use Rattle.std.proofs.lemmas.List.FromFn.{get_or-map-range_with_len, length-map-range_with_len}

@@ -1,6 +1,5 @@
-use Rattle.std.proofs.Common.{◌≡◌, ◌∙◌, ℕ, ◌++◌, Bool, List, length, take, drop, IsTrue, sym, subst, arith, rules}
+use Rattle.std.proofs.Common.{◌≡◌, ℕ, ◌++◌, length, take, drop, IsTrue, sym, subst, rules}
 use Rattle.std.proofs.Math.Seq.{take-append_seam}
-use Rattle.qrcode_types.specs.declared.types.Color.{Color}
 use Rattle.qrcode_places.specs.Masks.{exists_in}
 use Rattle.qrcode_symbol.specs.Symbol.{IsSymbol}
 use Rattle.qrcode.specs.Code.{Code}
