@@ -1,17 +1,19 @@
 //! PNG files of symbols, a line for each: its name, how many bytes it has and their CRC-32, or the bytes
 //! themselves as hexadecimal digits, for other programs to open (`evidence/others/pictures/look`).
 
+ghost use Rattle.std.specs.Prelude.{◌≤◌};
+
 use qrcode::QrCode;
 use qrcode::render::Renderer;
 use qrcode::types::{Color as Module, EcLevel, QrError, QrResult, Version};
-use qrcode_png::Color;
 use qrcode_png::sums::crc;
+use qrcode_png::{Color, grey, with_density};
 use std::alloc::Global;
 use std::io;
 
 /// Prints the lines: of each pair of a version and a level that there is, with three pixels a module; of
-/// one symbol in other sizes and in other colours; of many bytes, and of these in other quiet zones; and of the
-/// greatest sides and one pixel more.
+/// one symbol in other sizes and in other colours, and with nothing set; of many bytes, and of these in other
+/// quiet zones; of the greatest sides by `with_density` and `grey`; and of these and one pixel more.
 pub fn print_all(rt: &HostRuntime, wants_bytes: bool) -> io::Result<bool> {
     for number in 1..=40 {
         print_levels(rt, "normal", Version::Normal(number), number, wants_bytes)?;
@@ -22,6 +24,7 @@ pub fn print_all(rt: &HostRuntime, wants_bytes: bool) -> io::Result<bool> {
     print_others(rt, wants_bytes)?;
     print_long(rt, wants_bytes)?;
     print_zones(rt, wants_bytes)?;
+    print_calls(rt, wants_bytes)?;
     print_great(rt, wants_bytes)?;
     Ok(true)
 }
@@ -121,7 +124,15 @@ fn print_others(rt: &HostRuntime, wants_bytes: bool) -> io::Result<()> {
         );
         print_file(rt, file, wants_bytes)?;
     }
-    Ok(())
+    print!(rt; "size-8-usual")?;
+    print_file(rt, usual_file(rt.alloc()), wants_bytes)
+}
+
+// The file of five digits with nothing set.
+fn usual_file(alloc: Global) -> QrResult<Vec<u8>> {
+    QrCode::with_version(alloc, b"12345", Version::Normal(2), EcLevel::M)?
+        .render::<Color>()
+        .build(alloc)
 }
 
 // The file of five digits.
@@ -272,4 +283,34 @@ fn file_of_modules(
     Renderer::<Color>::new(modules, side, 0)
         .module_dimensions(u32::from(across), u32::from(down))
         .build(alloc)
+}
+
+// Prints the lines of the calls that no renderer makes: a file that says how many pixels lie on a metre, and files
+// of dark pixels, each as three rows of three modules of so many pixels across and down.
+fn print_calls(rt: &HostRuntime, wants_bytes: bool) -> io::Result<()> {
+    print!(rt; "dense-21845-21845")?;
+    print_file(rt, dense_file(rt.alloc()), wants_bytes)?;
+    print!(rt; "grey-21845-1")?;
+    print_file(rt, grey_file(rt.alloc(), 65535, 3), wants_bytes)?;
+    print!(rt; "grey-1-21845")?;
+    print_file(rt, grey_file(rt.alloc(), 3, 65535), wants_bytes)
+}
+
+// A file with the most pixels, and the most on a metre.
+fn dense_file(alloc: Global) -> QrResult<Vec<u8>> {
+    let mut renderer = Renderer::<Color>::new(THREE, 3, 0);
+    renderer.module_dimensions(21845, 21845);
+    if !renderer.fits() {
+        return Err(QrError::DataTooLong);
+    }
+    with_density(alloc, &renderer, u32::MAX / 2)
+}
+
+// The file of so many dark pixels across and down.
+fn grey_file(alloc: Global, across: u16, down: u16) -> QrResult<Vec<u8>>
+    requires some_across { 1 ≤ across }
+    requires some_down { 1 ≤ down }
+{
+    let marks = vec![in alloc; true; usize::from(down) * usize::from(across)]?;
+    Ok(grey(alloc, &marks, u32::from(across), u32::from(down))?)
 }

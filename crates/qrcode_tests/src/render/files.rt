@@ -1,6 +1,6 @@
 //! Pictures as files: PBM, PGM, EPS, and SVG of one path.
 
-use crate::render::drawings::{DIAGONAL, Drawing, MICRO_2};
+use crate::render::drawings::{DARK, DIAGONAL, Drawing, MICRO_2};
 use crate::render::pictures::Colors::{Both, Dark, Usual};
 use crate::render::pictures::Size::{Default, Of, Same};
 use crate::render::pictures::Text::{Is, Starts};
@@ -10,7 +10,7 @@ use qrcode_render::{Pixel, eps, pbm, pgm, svg};
 use qrcode_types::types::Color;
 
 #[rattlefmt::skip]
-static BITS: [Row<pbm::Bit, File>; 2] = [
+static BITS: [Row<pbm::Bit, File>; 4] = [
     // What netpbm and ImageMagick make of the drawing.
     Row(MICRO_2, On(2), Usual, Same(1), File(b"P4\n17 17\n", &[
         0b0000_0000, 0b0000_0000, 0b0000_0000,
@@ -37,16 +37,36 @@ static BITS: [Row<pbm::Bit, File>; 2] = [
         0b1111_1000, 0b0000_0000,
         0b1111_1000, 0b0000_0000,
     ])),
+    // What netpbm makes of the picture.
+    Row(DIAGONAL, On(0), Usual, Of(2, 3), File(b"P4\n4 6\n", &[
+        0b1100_0000,
+        0b1100_0000,
+        0b1100_0000,
+        0b0011_0000,
+        0b0011_0000,
+        0b0011_0000,
+    ])),
+    Row(DARK, On(0), Usual, Default, File(b"P4\n8 8\n", &[0b1111_1111; 8])),
 ];
 
 #[rattlefmt::skip]
-static GREYS: [Row<pgm::Grey, File>; 1] = [
+static GREYS: [Row<pgm::Grey, File>; 3] = [
     Row(DIAGONAL, Changed(4, 1), Both(pgm::Grey(0), pgm::Grey(200)), Same(1), File(b"P5\n4 4\n255\n", &[
         200, 200, 200, 200,
         200, 0, 200, 200,
         200, 200, 0, 200,
         200, 200, 200, 200,
     ])),
+    // What netpbm makes of the picture.
+    Row(DIAGONAL, On(0), Usual, Of(2, 3), File(b"P5\n4 6\n255\n", &[
+        0, 0, 255, 255,
+        0, 0, 255, 255,
+        0, 0, 255, 255,
+        255, 255, 0, 0,
+        255, 255, 0, 0,
+        255, 255, 0, 0,
+    ])),
+    Row(DARK, On(0), Usual, Default, File(b"P5\n8 8\n255\n", &[0; 64])),
 ];
 
 const BROWN: eps::Color = eps::Color {
@@ -62,7 +82,7 @@ const WHITE: eps::Color = eps::Color {
 };
 
 #[rattlefmt::skip]
-static EPS: [Row<eps::Color, Text>; 1] = [
+static EPS: [Row<eps::Color, Text>; 2] = [
     Row(DIAGONAL, On(1), Dark(BROWN), Of(3, 2), Is("%!PS-Adobe-3.0 EPSF-3.0
 %%BoundingBox: 0 0 12 8
 %%LanguageLevel: 2
@@ -76,24 +96,46 @@ static EPS: [Row<eps::Color, Text>; 1] = [
 showpage
 %%EOF
 ")),
+    Row(DARK, On(1), Usual, Default, Is("%!PS-Adobe-3.0 EPSF-3.0
+%%BoundingBox: 0 0 24 24
+%%LanguageLevel: 2
+%%EndComments
+255 255 div 255 255 div 255 255 div setrgbcolor
+0 0 24 24 rectfill
+0 24 translate 1 -1 scale
+0 255 div 0 255 div 0 255 div setrgbcolor
+8 8 8 8 rectfill
+showpage
+%%EOF
+")),
 ];
 
 #[rattlefmt::skip]
-static PATHS: [Row<svg::Path<'static>, Text>; 1] = [
+static PATHS: [Row<svg::Path<'static>, Text>; 2] = [
     Row(Drawing(2, "##\n.#"), On(1), Dark(svg::Path("a\"b<c&d>")), Of(3, 2), Is(concat!(
         "<?xml version=\"1.0\" standalone=\"yes\"?><svg xmlns=\"http://www.w3.org/2000/svg\" version=\"1.1\"",
         " width=\"12\" height=\"8\" viewBox=\"0 0 4 4\" preserveAspectRatio=\"none\" shape-rendering=\"crispEdges\">",
         "<rect width=\"4\" height=\"4\" fill=\"#fff\"/>",
         "<path fill=\"a&quot;b&lt;c&amp;d>\" d=\"m1 1h2v1h-2m1 0h1v1h-1\"/></svg>"
     ))),
+    Row(DARK, On(1), Usual, Default, Is(concat!(
+        "<?xml version=\"1.0\" standalone=\"yes\"?><svg xmlns=\"http://www.w3.org/2000/svg\" version=\"1.1\"",
+        " width=\"24\" height=\"24\" viewBox=\"0 0 3 3\" preserveAspectRatio=\"none\" shape-rendering=\"crispEdges\">",
+        "<rect width=\"3\" height=\"3\" fill=\"#fff\"/><path fill=\"#000\" d=\"m1 1h1v1h-1\"/></svg>"
+    ))),
 ];
 
 #[rattlefmt::skip]
-static ELEMENTS: [Row<svg::PathElement<'static>, Text>; 1] = [
+static ELEMENTS: [Row<svg::PathElement<'static>, Text>; 2] = [
     Row(MICRO_2, On(2), Dark(svg::PathElement("navy")), Default, Starts(concat!(
         "<svg xmlns=\"http://www.w3.org/2000/svg\" version=\"1.1\" width=\"136\" height=\"136\" viewBox=\"0 0 17 17\"",
         " preserveAspectRatio=\"none\" shape-rendering=\"crispEdges\"><rect width=\"17\" height=\"17\" fill=\"#fff\"/><path fill=\"navy\"",
         " d=\"m2 2h7v1h-7m8-1h1v1h-1m2-1h1v1h-1m2-1h1v1h-1m-12 0h1v1h-1m6-1h1"
+    ))),
+    Row(DARK, On(1), Usual, Default, Is(concat!(
+        "<svg xmlns=\"http://www.w3.org/2000/svg\" version=\"1.1\" width=\"24\" height=\"24\" viewBox=\"0 0 3 3\"",
+        " preserveAspectRatio=\"none\" shape-rendering=\"crispEdges\"><rect width=\"3\" height=\"3\" fill=\"#fff\"/>",
+        "<path fill=\"#000\" d=\"m1 1h1v1h-1\"/></svg>"
     ))),
 ];
 

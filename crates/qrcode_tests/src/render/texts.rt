@@ -25,7 +25,8 @@ static CHARACTERS: [Row<char, Text>; 7] = [
 ];
 
 #[rattlefmt::skip]
-static TEXTS: [Row<Str<'static>, Text>; 1] = [
+static TEXTS: [Row<Str<'static>, Text>; 2] = [
+    Row(DIAGONAL, On(1), Usual, Default, Is("    \n █  \n  █ \n    ")),
     Row(DIAGONAL, On(1), Both(Str("!B!"), Str("A")), Of(2, 2), Is(
         "AAAAAAAA\nAAAAAAAA\nAA!B!!B!AAAA\nAA!B!!B!AAAA\nAAAA!B!!B!AA\nAAAA!B!!B!AA\nAAAAAAAA\nAAAAAAAA"
     )),
