@@ -1,14 +1,19 @@
 //! Scenarios: calls that may take memory, each with a digest of what it made, or why it made nothing.
 
 mod canvas;
+mod contents;
 mod correction;
 mod data;
+mod elements;
 mod pictures;
 mod pushes;
 mod readings;
 mod rows;
+mod scans;
 mod scenario;
 mod segments;
+mod several;
+mod sweep;
 mod symbols;
 mod texts;
 mod word;
@@ -75,7 +80,7 @@ fn of_data(alloc: Global, data: &Data, call: &DataCall) -> QrResult<Digest> {
 fn of_bytes(alloc: Global, bytes: &[u8], call: &DataCall) -> QrResult<Digest> {
     match call {
         DataCall::Alone => Ok(Digest::of_one(bytes.len(), false)),
-        DataCall::Push => segments::push_of_bytes(alloc, bytes),
+        DataCall::Push(call) => pushes::of_data(alloc, bytes, call),
         DataCall::Optimal(version) => segments::optimal_in(alloc, bytes, *version),
         DataCall::Automatic(level) => segments::automatic(alloc, bytes, *level),
         DataCall::Least(version) => segments::least(alloc, bytes, *version),
@@ -86,6 +91,12 @@ fn of_bytes(alloc: Global, bytes: &[u8], call: &DataCall) -> QrResult<Digest> {
         DataCall::Code(constructor) => symbols::construct(alloc, bytes, constructor),
         DataCall::InManner(way, told) => texts::run_of_data(alloc, bytes, *way, *told),
         DataCall::LeastOfText(version) => texts::least(alloc, bytes, *version),
+        DataCall::Text(call) => texts::run(alloc, bytes, call),
+        DataCall::Read(version, call) => readings::run(alloc, bytes, *version, call),
+        DataCall::Several(call) => several::run(alloc, bytes, call),
+        DataCall::Elements(count, call) => elements::run(alloc, bytes, *count, call),
+        DataCall::Application(level) => elements::of_application(alloc, bytes, *level),
+        DataCall::Content(call) => contents::run(alloc, bytes, call),
     }
 }
 
@@ -98,10 +109,12 @@ fn once(alloc: Global, call: &Single) -> QrResult<Digest> {
         Single::Canvas(version, ec_level, call) => canvas::run(alloc, *version, *ec_level, call),
         Single::Functional => Ok(canvas::functional()),
         Single::Symbol(version, call) => symbols::run(alloc, *version, call),
-        Single::Text(call) => texts::run(alloc, call),
         Single::Picture(kind, frame) => pictures::run(alloc, kind, frame),
         Single::Image => pictures::image(alloc),
-        Single::Reading(version, call) => readings::run(alloc, *version, call),
+        Single::Density(version, size) => pictures::with_density(alloc, *version, *size),
+        Single::Grey(across, down) => pictures::grey(alloc, *across, *down),
+        Single::Scan(version, size, form) => scans::run(alloc, *version, *size, form),
+        Single::Sweep => sweep::run(alloc),
     }
 }
 
@@ -149,6 +162,7 @@ fn list<R: Print>(rt: &R, scenario: &Scenario) -> io::Result<()> {
         Memory::Takes => print!(rt; "{name} | takes")?,
         Memory::Repeats => print!(rt; "{name} | repeats")?,
         Memory::NoMoreThan(other) => print!(rt; "{name} | as {other}")?,
+        Memory::Ample => print!(rt; "{name} | ample")?,
     }
     match scenario.2 {
         Some(cause) => println!(rt; " | {cause}"),

@@ -11,7 +11,7 @@ use qrcode_render::{Pixel, Renderer};
 use qrcode_types::types::Color;
 
 #[rattlefmt::skip]
-static GREYS: [Row<Luma, Pixels>; 5] = [
+static GREYS: [Row<Luma, Pixels>; 6] = [
     Row(Drawing(3, ".##\n#..\n.#."), On(1), Usual, Of(1, 1), Pixels((5, 5), 25, &[
         255, 255, 255, 255, 255,
         255, 255, 0, 0, 255,
@@ -34,6 +34,12 @@ static GREYS: [Row<Luma, Pixels>; 5] = [
         255, 255, 255, 255, 0, 0, 255, 255,
         255, 255, 255, 255, 255, 255, 255, 255,
         255, 255, 255, 255, 255, 255, 255, 255,
+    ])),
+    Row(DIAGONAL, On(1), Usual, AtLeast(10, 10), Pixels((12, 12), 144, &[
+        255, 255, 255, 255, 255, 255, 255, 255, 255, 255, 255, 255,
+        255, 255, 255, 255, 255, 255, 255, 255, 255, 255, 255, 255,
+        255, 255, 255, 255, 255, 255, 255, 255, 255, 255, 255, 255,
+        255, 255, 255, 0, 0, 0, 255, 255, 255, 255, 255, 255,
     ])),
     Row(NORMAL_1, On(4), Usual, Default, Pixels((232, 232), 53824, &[255])),
     Row(NONE, On(0), Usual, Default, Pixels((0, 0), 0, &[])),
@@ -87,20 +93,26 @@ fn has_channels(rt: HostRuntime) {
     assert!(rt; has(Rgba([1, 2, 3, 4]), &[1, 2, 3, 4]));
 }
 
-// The quiet zone of one dark module, the pixels of a module across and down, and whether a picture
-// fits.
-static FITTING: [(u32, u32, u32, bool); 4] = [
-    (0, u32::MAX, u32::MAX, true),
-    (2147483647, 0, 1, true),
-    (2147483647, 1, 2, false),
-    (2147483648, 1, 1, false),
+// The modules of a side, all dark, their quiet zone, the pixels of a module across and down, and
+// whether a picture fits.
+static FITTING: [(u8, u32, u32, u32, bool); 8] = [
+    (1, 0, u32::MAX, u32::MAX, true),
+    (1, 2147483647, 0, 1, true),
+    (1, 2147483647, 1, 1, true),
+    (1, 2147483647, 1, 2, false),
+    (1, 2147483647, 2, 2, false),
+    (1, 2147483648, 1, 1, false),
+    (177, 0, 24265351, 1, true),
+    (177, 0, 24265352, 1, false),
 ];
 
 #[test]
 fn fits_up_to_the_greatest_side(rt: HostRuntime) {
-    let dark = [Color::Dark];
-    for (i, (zone, width, height, fits)) in FITTING.iter().enumerate() {
-        let mut renderer = Renderer::<Luma>::new(&dark, 1, *zone);
+    for (i, (side, zone, width, height, fits)) in FITTING.iter().enumerate() {
+        let side = usize::from(*side);
+        let dark = Vec::from_elem(rt.alloc(), Color::Dark, side * side).expect(&rt, "memory");
+        assert!(rt; dark.len() == side * side);
+        let mut renderer = Renderer::<Luma>::new(&dark, side, *zone);
         renderer.module_dimensions(*width, *height);
         check_row(&rt, i, renderer.fits() == *fits);
     }

@@ -160,6 +160,40 @@ fn image_of(alloc: Global, renderer: &Renderer<Luma>) -> QrResult<Digest> {
     Ok(Digest::of(&renderer.to_image(alloc)?.into_raw()))
 }
 
+/// The PNG file of a symbol with so many pixels a module, of which 11,811 lie on a metre.
+pub fn with_density(alloc: Global, version: Version, size: u32) -> QrResult<Digest> {
+    let code = of_digits(alloc, version)?;
+    let mut renderer = code.render::<qrcode_png::Color>();
+    renderer.module_size(size);
+    if !renderer.fits() {
+        return Err(QrError::DataTooLong);
+    }
+    Ok(Digest::of(&qrcode_png::with_density(alloc, &renderer, 11_811)?))
+}
+
+// So many marks, of which each third is set.
+fn marks_of_thirds(alloc: Global, count: usize) -> QrResult<Vec<bool>> {
+    let mut marks = Vec::with_capacity(alloc, count)?;
+    for i in 0..count {
+        marks.push(i % 3 == 0)?;
+    }
+    Ok(marks)
+}
+
+/// The PNG file of so many pixels across and down, of which each third is dark.
+pub fn grey(alloc: Global, across: u16, down: u16) -> QrResult<Digest> {
+    if across == 0 || down == 0 {
+        return Err(QrError::DataTooLong);
+    }
+    let count = usize::from(down) * usize::from(across);
+    let marks = marks_of_thirds(alloc, count)?;
+    if marks.len() != count {
+        return Err(QrError::InvalidCharacter);
+    }
+    let file = qrcode_png::grey(alloc, &marks, u32::from(across), u32::from(down))?;
+    Ok(Digest::of(&file))
+}
+
 // A row of modules.
 static LINE: [Color; 4] = [Color::Dark, Color::Light, Color::Dark, Color::Dark];
 

@@ -2,10 +2,38 @@
 
 use crate::digest::Digest;
 use crate::scenarios::scenario::{Answer, Note, Outcome};
+use crate::scenarios::texts::text_of;
 use qrcode::bits::Bits;
 use qrcode::types::{EcLevel, QrError, QrResult, Version};
-use qrcode_pushes::{Fault, Push, push_again};
+use qrcode_pushes::{Fault, Push, make_push, push_again};
 use std::alloc::Global;
+
+/// A push of data.
+pub enum PushCall {
+    Numeric,
+    Alphanumeric,
+    Byte,
+    Kanji,
+    Text,
+    MarkedText,
+}
+
+/// The list of Normal 40 after a push of data.
+pub fn of_data(alloc: Global, data: &[u8], call: &PushCall) -> QrResult<Digest> {
+    let mut bits = Bits::new(alloc, Version::Normal(40));
+    make_push(
+        &mut bits,
+        match call {
+            PushCall::Numeric => Push::Numeric(data),
+            PushCall::Alphanumeric => Push::Alphanumeric(data),
+            PushCall::Byte => Push::Byte(data),
+            PushCall::Kanji => Push::Kanji(data),
+            PushCall::Text => Push::Text(text_of(data)),
+            PushCall::MarkedText => Push::MarkedText(text_of(data)),
+        },
+    )?;
+    Ok(digest_of(bits))
+}
 
 /// The list of a version after pushes.
 pub fn run(alloc: Global, version: Version, pushes: &[Push<'_>]) -> Outcome {

@@ -1,8 +1,9 @@
 //! Readings of squares.
 
 use crate::digest::Digest;
-use crate::scenarios::symbols::of_digits;
-use qrcode::types::{Color, QrError, QrResult, Version};
+use qrcode::QrCode;
+use qrcode::types::{Color, EcLevel, QrError, QrResult, Version};
+use qrcode_reader::spell::{Unspelled, pieces};
 use qrcode_reader::{
     Reading, Unread, UnreadText, WrongCodeword, read, read_any, read_bits, read_text,
 };
@@ -18,11 +19,13 @@ pub enum ReadCall {
     Text,
     /// `read_any`.
     Any,
+    /// `read_bits`, and `pieces` of them.
+    Pieces,
 }
 
-/// Reads the symbol of digits of a version, its last module turned over.
-pub fn run(alloc: Global, version: Version, call: &ReadCall) -> QrResult<Digest> {
-    let mut colors = of_digits(alloc, version)?.into_colors();
+/// Reads the symbol of data of a version at level L, its last module turned over.
+pub fn run(alloc: Global, data: &[u8], version: Version, call: &ReadCall) -> QrResult<Digest> {
+    let mut colors = QrCode::with_version(alloc, data, version, EcLevel::L)?.into_colors();
     if let Some(last) = colors.last_mut() {
         *last = !*last;
     }
@@ -34,6 +37,7 @@ pub fn run(alloc: Global, version: Version, call: &ReadCall) -> QrResult<Digest>
             Some(found) => Ok(of_reading(found.reading)),
             None => Err(QrError::InvalidCharacter),
         },
+        ReadCall::Pieces => of_pieces(alloc, &colors),
     }
 }
 
@@ -42,6 +46,19 @@ fn of_bits(alloc: Global, colors: &[Color]) -> QrResult<Digest> {
     match read_bits(alloc, colors) {
         Ok(read) => Ok(Digest::of(&read.bits).and(of_wrong(&read.wrong))),
         Err(unread) => Err(refusal(unread)),
+    }
+}
+
+// What was read as headers and segments.
+fn of_pieces(alloc: Global, colors: &[Color]) -> QrResult<Digest> {
+    let read = read_bits(alloc, colors).map_err(refusal)?;
+    if !read.version.is_valid() {
+        return Err(QrError::InvalidVersion);
+    }
+    match pieces(alloc, &read.bits, read.version) {
+        Ok(found) => Ok(Digest::of(&found.bytes)),
+        Err(Unspelled::OutOfMemory) => Err(QrError::OutOfMemory),
+        Err(_) => Err(QrError::InvalidCharacter),
     }
 }
 

@@ -3,6 +3,8 @@
 use crate::scenarios::scenario::{Memory, Scenario};
 
 mod canvases;
+mod contents;
+mod greatest;
 mod pictures;
 mod pushes;
 mod readings;
@@ -14,7 +16,7 @@ mod texts;
 const NOTHING: Memory = Memory::NoMoreThan("nothing");
 
 /// The number of the groups.
-pub const GROUPS: usize = 17;
+pub const GROUPS: usize = 22;
 
 /// The scenarios of a group.
 pub fn group(number: usize) -> &'static [Scenario] {
@@ -35,7 +37,7 @@ fn of_bits(number: usize) -> &'static [Scenario] {
         0 => &pushes::OF_DATA,
         1 => &pushes::OF_TEXTS,
         2 => &pushes::REFUSED,
-        3 => &pushes::OF_LENGTHS,
+        3 => &pushes::OF_NOTHING,
         4 => &segments::SCENARIOS,
         _ => &[],
     }
@@ -63,13 +65,18 @@ fn of_pictures(number: usize) -> &'static [Scenario] {
     }
 }
 
-// Other pictures, and readings.
+// Other pictures, readings, contents, and what is greatest.
 fn of_others(number: usize) -> &'static [Scenario] {
     match number {
         13 => &pictures::OF_CALLS,
         14 => &pictures::OF_FILES,
         15 => &pictures::OF_WIDE_FILES,
         16 => &readings::SCENARIOS,
+        17 => &contents::SCENARIOS,
+        18 => &greatest::OF_BITS,
+        19 => &greatest::OF_SYMBOLS,
+        20 => &greatest::OF_CONTENTS,
+        21 => &greatest::OF_PICTURES,
         _ => &[],
     }
 }

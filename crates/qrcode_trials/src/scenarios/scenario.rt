@@ -2,9 +2,14 @@
 
 use crate::digest::Digest;
 use crate::scenarios::canvas::CanvasCall;
+use crate::scenarios::contents::ContentCall;
 use crate::scenarios::data::Data;
+use crate::scenarios::elements::ElementCall;
 use crate::scenarios::pictures::{Frame, Kind};
+use crate::scenarios::pushes::PushCall;
 use crate::scenarios::readings::ReadCall;
+use crate::scenarios::scans::Form;
+use crate::scenarios::several::SeveralCall;
 use crate::scenarios::symbols::{Constructor, SymbolCall};
 use crate::scenarios::texts::{TextCall, Told, Way};
 use qrcode::types::{EcLevel, QrError, QrResult, Version};
@@ -22,6 +27,8 @@ pub enum Memory {
     Repeats,
     /// It takes no more than another scenario does.
     NoMoreThan(&'static str),
+    /// None is refused: the input is the greatest, and a run for each request would take too long.
+    Ample,
 }
 
 /// What a scenario calls.
@@ -43,8 +50,8 @@ pub enum Call {
 pub enum DataCall {
     /// Nothing but the data is made.
     Alone,
-    /// `push_byte_data` to the empty list of Normal 40.
-    Push,
+    /// A push to the empty list of Normal 40.
+    Push(PushCall),
     /// `push_optimal_data` to the empty list of a version.
     Optimal(Version),
     /// `encode_auto`.
@@ -61,6 +68,18 @@ pub enum DataCall {
     InManner(Way, Told),
     /// `least_segments_in` of the modes of texts.
     LeastOfText(Version),
+    /// A symbol of a text.
+    Text(TextCall),
+    /// A reading of the symbol of a version at level L.
+    Read(Version, ReadCall),
+    /// Several symbols, or their parts.
+    Several(SeveralCall),
+    /// A call of so many elements of the identifier 91, each with the data as its value.
+    Elements(usize, ElementCall),
+    /// `for_application`, with the indicator 37.
+    Application(EcLevel),
+    /// The text of a content, of which each field that has no bound is the data.
+    Content(ContentCall),
 }
 
 /// A call of no data that is made once.
@@ -77,14 +96,18 @@ pub enum Single {
     Functional,
     /// A call of the symbol of a version at level L.
     Symbol(Version, SymbolCall),
-    /// A symbol of a text.
-    Text(TextCall),
     /// A picture of a kind in a frame.
     Picture(Kind, Frame),
     /// `to_image` of a small symbol in grey pixels.
     Image,
-    /// A reading of the symbol of a version at level L.
-    Reading(Version, ReadCall),
+    /// `with_density` of the symbol of a version, with so many pixels a module.
+    Density(Version, u32),
+    /// `grey` of so many pixels across and down.
+    Grey(u16, u16),
+    /// A scan of a picture of the symbol of a version, with so many pixels a module.
+    Scan(Version, u32, Form),
+    /// Symbols of each pair of a version and a level, drawn.
+    Sweep,
 }
 
 /// What became of a list of bits after a refusal.

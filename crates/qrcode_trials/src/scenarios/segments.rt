@@ -107,13 +107,6 @@ pub fn optimal_in(alloc: Global, data: &[u8], version: Version) -> QrResult<Dige
     Ok(digest_of(bits))
 }
 
-/// The bits of bytes in Normal 40.
-pub fn push_of_bytes(alloc: Global, bytes: &[u8]) -> QrResult<Digest> {
-    let mut bits = Bits::new(alloc, Version::Normal(40));
-    bits.push_byte_data(bytes)?;
-    Ok(digest_of(bits))
-}
-
 /// The segments of data that take the fewest bits in a version.
 pub fn least(alloc: Global, bytes: &[u8], version: Version) -> QrResult<Digest> {
     if !version.is_valid() {

@@ -12,13 +12,18 @@ use std::alloc::Global;
 /// A call of texts.
 pub enum TextCall {
     /// `of_text`.
-    Of(&'static str, EcLevel),
+    Of(EcLevel),
     /// `of_marked_text`.
-    OfMarked(&'static str, EcLevel),
+    OfMarked(EcLevel),
     /// `of_text_in`.
-    In(&'static str, Version, EcLevel),
+    In(Version, EcLevel),
     /// `of_marked_text_in`.
-    MarkedIn(&'static str, Version, EcLevel),
+    MarkedIn(Version, EcLevel),
+}
+
+/// The text of data in UTF-8, and no text of other data.
+pub fn text_of(data: &[u8]) -> &str {
+    str::from_utf8(data).unwrap_or("")
 }
 
 /// Which version data in a manner is encoded in.
@@ -37,13 +42,14 @@ pub enum Way {
 pub struct Told(pub Manner, pub Version, pub EcLevel);
 
 /// Makes a call of texts.
-pub fn run(alloc: Global, call: &TextCall) -> QrResult<Digest> {
+pub fn run(alloc: Global, data: &[u8], call: &TextCall) -> QrResult<Digest> {
+    let text = text_of(data);
     of_code(match call {
-        TextCall::Of(text, level) => QrCode::of_text(alloc, *text, *level),
-        TextCall::OfMarked(text, level) => QrCode::of_marked_text(alloc, *text, *level),
-        TextCall::In(text, version, level) => QrCode::of_text_in(alloc, *text, *version, *level),
-        TextCall::MarkedIn(text, version, level) => {
-            QrCode::of_marked_text_in(alloc, *text, *version, *level)
+        TextCall::Of(level) => QrCode::of_text(alloc, text, *level),
+        TextCall::OfMarked(level) => QrCode::of_marked_text(alloc, text, *level),
+        TextCall::In(version, level) => QrCode::of_text_in(alloc, text, *version, *level),
+        TextCall::MarkedIn(version, level) => {
+            QrCode::of_marked_text_in(alloc, text, *version, *level)
         }
     })
 }

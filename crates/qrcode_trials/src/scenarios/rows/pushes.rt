@@ -1,10 +1,10 @@
 //! The scenarios of pushes.
 
 use super::NOTHING;
-use crate::scenarios::data::Data::{Bytes, Times};
+use crate::scenarios::data::Data::Bytes;
 use crate::scenarios::scenario::Call::{self, OfData};
-use crate::scenarios::scenario::DataCall::{self, Alone};
-use crate::scenarios::scenario::Memory::{NoMoreThan, Repeats, Takes};
+use crate::scenarios::scenario::DataCall::Alone;
+use crate::scenarios::scenario::Memory::{NoMoreThan, Repeats};
 use crate::scenarios::scenario::Scenario;
 use qrcode::bits::ExtendedMode;
 use qrcode::types::EcLevel::{L, M, Q};
@@ -162,12 +162,11 @@ pub static REFUSED: [Scenario; 19] = [
     ])),
 ];
 
-/// Pushes of nothing, and of as many bytes as a length field counts.
+/// Pushes of nothing.
 #[rattlefmt::skip]
-pub static OF_LENGTHS: [Scenario; 5] = [
+pub static OF_NOTHING: [Scenario; 4] = [
     Scenario("Bits::push_numeric_data: nothing", Repeats, None, Call::Pushes(Micro(1), &[Push::Numeric(b"")])),
     Scenario("Bits::push_alphanumeric_data: nothing", Repeats, None, Call::Pushes(Micro(2), &[Push::Alphanumeric(b"")])),
     Scenario("Bits::push_byte_data: nothing", Repeats, None, Call::Pushes(Micro(3), &[Push::Byte(b"")])),
     Scenario("Bits::push_kanji_data: nothing", Repeats, None, Call::Pushes(Micro(3), &[Push::Kanji(b"")])),
-    Scenario("Bits::push_byte_data: 65,535 bytes", Takes, None, OfData(Times(b'a', 65_535), DataCall::Push)),
 ];

@@ -2,11 +2,10 @@
 
 use super::NOTHING;
 use crate::scenarios::data::Data::{Bytes, Times};
-use crate::scenarios::scenario::Call::{OfData, Once};
-use crate::scenarios::scenario::DataCall::{InManner, LeastOfText};
+use crate::scenarios::scenario::Call::OfData;
+use crate::scenarios::scenario::DataCall::{InManner, LeastOfText, Text};
 use crate::scenarios::scenario::Memory::{NoMoreThan, Takes};
 use crate::scenarios::scenario::Scenario;
-use crate::scenarios::scenario::Single::Text;
 use crate::scenarios::texts::TextCall::{In, MarkedIn, Of, OfMarked};
 use crate::scenarios::texts::Told;
 use crate::scenarios::texts::Way::{AtLeast, Boosted, InVersion};
@@ -15,16 +14,17 @@ use qrcode::types::EcLevel::{L, M, Q};
 use qrcode::types::QrError::{DataTooLong, InvalidVersion, UnsupportedCharacterSet};
 use qrcode::types::Version::{Micro, Normal};
 
-const TEXT: &str = "Z\u{fc}rich, 0123456789, \u{3053}\u{3093}";
+// Zürich, ten digits and two characters of Hiragana.
+const TEXT: &[u8] = b"Z\xc3\xbcrich, 0123456789, \xe3\x81\x93\xe3\x82\x93";
 
 #[rattlefmt::skip]
 pub static SCENARIOS: [Scenario; 14] = [
-    Scenario("QrCode::of_text", Takes, None, Once(Text(Of(TEXT, M)))),
-    Scenario("QrCode::of_marked_text", Takes, None, Once(Text(OfMarked(TEXT, M)))),
-    Scenario("QrCode::of_text_in", Takes, None, Once(Text(In(TEXT, Normal(4), Q)))),
-    Scenario("QrCode::of_text_in: no room", Takes, Some(DataTooLong), Once(Text(In(TEXT, Normal(1), M)))),
-    Scenario("QrCode::of_marked_text_in", Takes, None, Once(Text(MarkedIn(TEXT, Normal(4), Q)))),
-    Scenario("QrCode::of_marked_text_in: not in Micro", NOTHING, Some(UnsupportedCharacterSet), Once(Text(MarkedIn("1", Micro(4), L)))),
+    Scenario("QrCode::of_text", Takes, None, OfData(Bytes(TEXT), Text(Of(M)))),
+    Scenario("QrCode::of_marked_text", Takes, None, OfData(Bytes(TEXT), Text(OfMarked(M)))),
+    Scenario("QrCode::of_text_in", Takes, None, OfData(Bytes(TEXT), Text(In(Normal(4), Q)))),
+    Scenario("QrCode::of_text_in: no room", Takes, Some(DataTooLong), OfData(Bytes(TEXT), Text(In(Normal(1), M)))),
+    Scenario("QrCode::of_marked_text_in", Takes, None, OfData(Bytes(TEXT), Text(MarkedIn(Normal(4), Q)))),
+    Scenario("QrCode::of_marked_text_in: not in Micro", NOTHING, Some(UnsupportedCharacterSet), OfData(Bytes(b"1"), Text(MarkedIn(Micro(4), L)))),
     Scenario("QrCode::at_least", Takes, None, OfData(Bytes(b"some text"), InManner(AtLeast, Told(Manner::Text, Micro(1), L)))),
     Scenario("QrCode::at_least: no such version", NOTHING, Some(InvalidVersion), OfData(Bytes(b"1"), InManner(AtLeast, Told(Manner::Text, Micro(5), L)))),
     Scenario("QrCode::at_least_boosted", Takes, None, OfData(Bytes(b"some text"), InManner(Boosted, Told(Manner::MarkedText, Normal(1), L)))),
