@@ -92,7 +92,9 @@ fn push_bash_value(text: &mut String, entry: &Entry) -> Result<(), AllocError> {
             let words = joined(alloc, words, " ")?;
             format!(in alloc; "$(compgen -W '{words}' -- \"$word\")")?
         }
-        Takes::Text(_) | Takes::Texts(_) | Takes::Number(_, _) => String::new(alloc),
+        Takes::Text(_) | Takes::Wanted(_) | Takes::Texts(_) | Takes::Number(_, _) => String::new(
+            alloc,
+        ),
     };
     write!(text, "        --{long}")?;
     if let Some(letter) = entry.short {
@@ -144,7 +146,7 @@ fn push_zsh_option(text: &mut String, entry: &Entry) -> Result<(), AllocError> {
             let words = joined(*text.allocator(), words, " ")?;
             write!(text, ":word:({words})")?;
         }
-        Takes::Text(_) | Takes::Texts(_) => text.push_str(":text:")?,
+        Takes::Text(_) | Takes::Wanted(_) | Takes::Texts(_) => text.push_str(":text:")?,
         Takes::Number(_, _) => text.push_str(":number:")?,
     }
     text.push_str("' \\\n")
@@ -194,7 +196,9 @@ fn push_fish_option(text: &mut String, entry: &Entry) -> Result<(), AllocError> 
             let words = joined(*text.allocator(), words, " ")?;
             write!(text, " -x -a '{words}'")?;
         }
-        Takes::Text(_) | Takes::Texts(_) | Takes::Number(_, _) => text.push_str(" -x")?,
+        Takes::Text(_) | Takes::Wanted(_) | Takes::Texts(_) | Takes::Number(_, _) => text.push_str(
+            " -x",
+        )?,
     }
     write!(text, " -d '{help}'\n")
 }

@@ -2,6 +2,7 @@
 //! writes files.
 #![tactic(auto)]
 
+mod advice;
 mod asked;
 mod command;
 mod completions;
@@ -17,5 +18,6 @@ mod reading;
 mod segments;
 mod streams;
 mod tasks;
+mod warnings;
 
 pub use tasks::run;

@@ -26,9 +26,11 @@ macro_rules! entry {
 }
 
 mod fields;
+mod habits;
 mod symbols;
 
 use fields::{BILL, ELEMENTS, EVENT, MAIL, MECARD, OTP, PAYMENT, PLACE, SMS, TEL, VCARD, WIFI};
+pub(crate) use habits::{ADVICE, OTHER_NAMES};
 use symbols::READING;
 pub(crate) use symbols::{DRAWING, EXAMPLES};
 
@@ -39,6 +41,8 @@ pub(crate) enum Takes {
     Nothing,
     /// A text, by the name that stands for it.
     Text(&'static str),
+    /// Such a text, which is wanted.
+    Wanted(&'static str),
     /// Such a text, more than once.
     Texts(&'static str),
     /// The path of a file.
@@ -149,18 +153,24 @@ static DATA_OPTIONS: &[&str] = &[
     "lines",
     "bytes",
     "segment",
+    "allow-empty",
     "completions",
     "manual",
-    "release",
+    "version",
 ];
 
 // Those that say the level and the version alone.
-static LEVEL_OPTIONS: &[&str] = &["level", "version", "least-version"];
+static LEVEL_OPTIONS: &[&str] = &["level", "symbol-version", "least-version"];
 
 // Those that go with texts alone.
 static TEXT_OPTIONS: &[&str] = &["micro", "boost", "eci"];
 
 impl Task {
+    /// Whether it draws.
+    pub(crate) fn draws(&self) -> bool {
+        !matches!(self.purpose, Purpose::Read)
+    }
+
     /// What it takes beside options.
     pub(crate) fn operand(&self) -> Option<Operand> {
         let (name, help) = match self.purpose {

@@ -1,5 +1,6 @@
 //! What the command line asks for, done.
 
+use crate::advice::{advice, wrapped};
 use crate::asked::{Asked, Source, asked_for};
 use crate::command::command_of;
 use crate::completions::completions_of;
@@ -12,7 +13,7 @@ use crate::lines::draw_lines;
 use crate::manual::manual_page;
 use crate::options::{Kind, Purpose, Task, task_of};
 use crate::reading::read;
-use crate::streams::{has_colours, print, read_file, read_standard_input};
+use crate::streams::{print, read_file, read_standard_input};
 use clap::ArgMatches;
 use clap::error::{Error, ErrorKind};
 use qrcode::QrCode;
@@ -59,7 +60,13 @@ fn all_words(rt: &HostRuntime) -> Result<Vec<String>, Failure> {
 fn run_task(rt: &HostRuntime, task: &Task, words: &[String]) -> Result<ExitCode, Failure> {
     match command_of(rt.alloc(), task)?.try_get_matches_from(words) {
         Ok(given) => obey(rt, task, &given),
-        Err(error) => end(rt, &error),
+        Err(error) if error.kind() == ErrorKind::DisplayHelp => {
+            print(rt, wrapped(rt.alloc(), &error)?.as_bytes())
+        }
+        Err(error) => match advice(rt.alloc(), task, words, &error)? {
+            Some(why) => Err(Failure::Usage(why)),
+            None => end(rt, &error),
+        },
     }
 }
 
@@ -89,7 +96,7 @@ fn obey(rt: &HostRuntime, task: &Task, given: &ArgMatches<'_>) -> Result<ExitCod
 fn draw_data(rt: &HostRuntime, given: &ArgMatches<'_>) -> Result<ExitCode, Failure> {
     match text_about(rt.alloc(), given)? {
         Some(text) => print(rt, text.as_bytes()),
-        None => draw_asked(rt, given, &asked_for(rt.alloc(), given, has_colours(rt))?),
+        None => draw_asked(rt, given, &asked_for(rt, given)?),
     }
 }
 
@@ -99,7 +106,7 @@ fn text_about(alloc: Global, given: &ArgMatches<'_>) -> Result<Option<String>, A
         Ok(Some(completions_of(alloc, shell)?))
     } else if given.get_flag("manual") {
         Ok(Some(manual_page(alloc)?))
-    } else if given.get_flag("release") {
+    } else if given.get_flag("version") {
         Ok(Some(String::from_str(alloc, "goqlanis 1\n")?))
     } else {
         Ok(None)
@@ -127,7 +134,7 @@ fn draw_asked(
 // Draws the text of a kind, of the fields that are given.
 fn draw_content(rt: &HostRuntime, kind: Kind, given: &ArgMatches<'_>) -> Result<ExitCode, Failure> {
     let alloc = rt.alloc();
-    let asked = asked_for(alloc, given, has_colours(rt))?;
+    let asked = asked_for(rt, given)?;
     let text = text_of(alloc, kind, given)?;
     if matches!(kind, Kind::Bill) {
         check_bill(alloc, text.as_str())?;
@@ -159,7 +166,7 @@ fn check_bill(alloc: Global, text: &str) -> Result<(), Failure> {
 // Draws elements of GS1, or data of an application.
 fn draw_gs1(rt: &HostRuntime, given: &ArgMatches<'_>) -> Result<ExitCode, Failure> {
     let alloc = rt.alloc();
-    let asked = asked_for(alloc, given, has_colours(rt))?;
+    let asked = asked_for(rt, given)?;
     let text = given.get_str("ELEMENTS").unwrap_or("");
     let drawing = match given.get_str("application") {
         None => elements_drawing(alloc, &asked.request, text)?,
