@@ -12,6 +12,7 @@ use goqlanis_draw::{Choice, Format, Ink, Request};
 use qrcode::bits::Manner;
 use qrcode::types::{EcLevel, Version};
 use qrcode_png::GREATEST_SIDE;
+use qrcode_several::Versions;
 use std::alloc::Global;
 
 /// Where the data comes from.
@@ -79,24 +80,23 @@ pub(crate) fn asked_for<'a>(
         is_by_line: given.get_flag("lines"),
         allows_empty: given.get_flag("allow-empty"),
     };
-    if asked.is_by_line && !goes_by_line(target, request.format) {
-        return usage(
-            alloc,
-            "--lines: pictures are not written one behind another; \
-            add --output, as -o a.png, and files are numbered",
-        );
+    if asked.is_by_line {
+        check_one_behind_another(alloc, &asked)?;
     }
     warn(rt, &asked);
     Ok(asked)
 }
 
-// Whether several drawings may go to one place: each to a file of its own, or as lines.
-fn goes_by_line(target: Target<'_>, format: Format) -> bool {
-    let is_lines = matches!(
-        format,
-        Format::HalfBlocks | Format::Terminal | Format::Chars
-    );
-    is_lines || matches!(target, Target::File(_))
+/// Refuses several drawings that go to one place, unless they are lines of characters.
+pub(crate) fn check_one_behind_another(alloc: Global, asked: &Asked<'_>) -> Result<(), Failure> {
+    match (asked.target, asked.request.format) {
+        (Target::File(_), _) | (_, Format::HalfBlocks | Format::Terminal | Format::Chars) => Ok(()),
+        _ => usage(
+            alloc,
+            "pictures are not written one behind another: \
+            add --output, as -o a.png, and files are numbered",
+        ),
+    }
 }
 
 // Options that do not go together, and what is said of them.
@@ -114,6 +114,8 @@ static NOT_TOGETHER: &[(&str, &str, &str)] = &[
     ("segment", "bytes", "--segment and --bytes: one of them is enough"),
     ("segment", "eci", "--segment and --eci: one of them is enough"),
     ("segment", "boost", "--segment and --boost: one of them is enough"),
+    ("symbol-version", "greatest-version",
+        "--symbol-version and --greatest-version: one of them is enough"),
     ("symbol-version", "micro",
         "--symbol-version and --micro: --symbol-version M1 to M4 is Micro QR"),
     ("symbol-version", "boost",
@@ -178,6 +180,29 @@ fn choice_of(alloc: Global, given: &ArgMatches<'_>) -> Result<Choice, Failure> {
         Ok(Choice::Boosted(least))
     } else {
         Ok(Choice::From(least))
+    }
+}
+
+/// The versions of several symbols.
+pub(crate) fn versions_of(
+    alloc: Global,
+    given: &ArgMatches<'_>,
+    choice: Choice,
+) -> Result<Versions, Failure> {
+    let most = version_of(alloc, given, "greatest-version")?.unwrap_or(Version::Normal(40));
+    let (least, greatest) = match choice {
+        Choice::At(version) => (version, version),
+        Choice::From(version) | Choice::Boosted(version) => (version, most),
+    };
+    match (least, greatest) {
+        (Version::Normal(least), Version::Normal(greatest)) if least <= greatest => Ok(Versions {
+            least: least as usize,
+            greatest: greatest as usize,
+        }),
+        _ => usage(
+            alloc,
+            "several symbols have versions of 1 to 40, the greatest not below the least",
+        ),
     }
 }
 

@@ -21,7 +21,12 @@ pub(crate) fn command_of<'a>(alloc: Global, task: &Task) -> Result<Command<'a>, 
 fn arguments<'a>(alloc: Global, task: &Task) -> Result<Vec<Arg<'a>>, AllocError> {
     let mut arguments = Vec::new(alloc);
     if let Some(operand) = task.operand() {
-        arguments.push(Arg::new(alloc, operand.name).help(operand.help))?;
+        let arg = Arg::new(alloc, operand.name).help(operand.help);
+        arguments.push(if operand.is_many {
+            arg.num_args(1..).action(ArgAction::Append).required(true)
+        } else {
+            arg
+        })?;
     }
     for entry in &task.all_options(alloc)? {
         arguments.push(argument(alloc, entry)?)?;

@@ -124,7 +124,7 @@ fn push_zsh(text: &mut String, task: &Task) -> Result<(), AllocError> {
     }
     let words = words_of(alloc, task)?;
     let files = match task.purpose {
-        Purpose::Read => " '2:picture:_files'",
+        Purpose::Read | Purpose::Join => " '*:picture:_files'",
         _ => "",
     };
     text.push_str("      '--help[Print help]' \\\n")?;
@@ -157,7 +157,7 @@ fn fish(alloc: Global) -> Result<String, AllocError> {
     let words = words_of(alloc, &DRAWING)?;
     let mut text = format!(in alloc;
         "complete -c goqlanis -f
-complete -c goqlanis -n '__fish_seen_subcommand_from read' -F
+complete -c goqlanis -n '__fish_seen_subcommand_from read join' -F
 complete -c goqlanis -n __fish_use_subcommand -a '{words}'\n"
     )?;
     for task in worded_tasks() {

@@ -28,12 +28,7 @@ pub(crate) fn draw_one(
     number: Option<usize>,
 ) -> Result<ExitCode, Failure> {
     let alloc = rt.alloc();
-    if bytes.is_empty() && !asked.allows_empty {
-        return refused(
-            alloc,
-            "there is nothing to draw, as of a variable that is not set; --allow-empty draws it",
-        );
-    }
+    check_empty(alloc, asked, bytes)?;
     let request = Request {
         manner: manner(alloc, asked.writing, bytes)?,
         ..asked.request
@@ -47,6 +42,17 @@ pub(crate) fn draw_one(
         }
     };
     write_drawing(rt, asked, &drawing, number)
+}
+
+/// Refuses data that is empty, unless that is allowed.
+pub(crate) fn check_empty(alloc: Global, asked: &Asked<'_>, bytes: &[u8]) -> Result<(), Failure> {
+    if !bytes.is_empty() || asked.allows_empty {
+        return Ok(());
+    }
+    refused(
+        alloc,
+        "there is nothing to draw, as of a variable that is not set; --allow-empty draws it",
+    )
 }
 
 /// The drawing of segments by hand, of words MODE:TEXT.

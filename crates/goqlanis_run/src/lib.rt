@@ -16,6 +16,7 @@ mod options;
 mod progress;
 mod reading;
 mod segments;
+mod several;
 mod streams;
 mod tasks;
 mod warnings;

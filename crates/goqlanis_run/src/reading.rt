@@ -28,8 +28,8 @@ pub(crate) fn read(rt: &HostRuntime, given: &ArgMatches<'_>) -> Result<ExitCode,
     }
 }
 
-// What is read of a picture of a name.
-fn scan_of(alloc: Global, name: &str, bytes: &[u8]) -> Result<Scan, Failure> {
+/// What is read of a picture of a name.
+pub(crate) fn scan_of(alloc: Global, name: &str, bytes: &[u8]) -> Result<Scan, Failure> {
     match read_picture(alloc, bytes) {
         Ok(scan) => Ok(scan),
         Err(Unread::OutOfMemory) => Err(Failure::OutOfMemory),

@@ -13,6 +13,7 @@ use crate::lines::draw_lines;
 use crate::manual::manual_page;
 use crate::options::{Kind, Purpose, Task, task_of};
 use crate::reading::read;
+use crate::several::{draw_several, join_pictures};
 use crate::streams::{print, read_file, read_standard_input};
 use clap::ArgMatches;
 use clap::error::{Error, ErrorKind};
@@ -86,7 +87,9 @@ fn end(rt: &HostRuntime, error: &Error) -> Result<ExitCode, Failure> {
 fn obey(rt: &HostRuntime, task: &Task, given: &ArgMatches<'_>) -> Result<ExitCode, Failure> {
     match task.purpose {
         Purpose::Draw => draw_data(rt, given),
+        Purpose::Several => draw_parts(rt, given),
         Purpose::Read => read(rt, given),
+        Purpose::Join => join_pictures(rt, given),
         Purpose::Content(kind) => draw_content(rt, kind, given),
         Purpose::Elements => draw_gs1(rt, given),
     }
@@ -129,6 +132,12 @@ fn draw_asked(
     } else {
         draw_one(rt, asked, &bytes, None)
     }
+}
+
+// Draws data in several symbols.
+fn draw_parts(rt: &HostRuntime, given: &ArgMatches<'_>) -> Result<ExitCode, Failure> {
+    let asked = asked_for(rt, given)?;
+    draw_several(rt, given, &asked, &data(rt, &asked)?)
 }
 
 // Draws the text of a kind, of the fields that are given.

@@ -79,6 +79,33 @@ pub(crate) static READING: Task = Task {
     ],
 };
 
+/// Data, drawn in several symbols.
+#[rattlefmt::skip]
+pub(crate) static SEVERAL: Task = Task {
+    word: "several",
+    about: "Draws data in several symbols, up to 16, which name their place (structured append)",
+    purpose: Purpose::Several,
+    options: &[
+        entry!("count", Number(1, 16),
+            "How many symbols there may be, of the least version that does; otherwise there are as \
+            few as can be"),
+        entry!("greatest-version", Text("VERSION"),
+            "Take no version behind this one, 1 to 40; otherwise 40"),
+    ],
+};
+
+/// Pictures of several symbols, read.
+#[rattlefmt::skip]
+pub(crate) static JOINING: Task = Task {
+    word: "join",
+    about: "Reads clean pictures of several symbols, and writes their data",
+    purpose: Purpose::Join,
+    options: &[
+        entry!("output", 'o', Path,
+            "Write the data to a file, whole or not at all; - is standard output"),
+    ],
+};
+
 /// Examples, as the help shows them.
 pub(crate) const EXAMPLES: &str = "Examples:
   goqlanis \"https://example.org\"
