@@ -12,7 +12,7 @@ use crate::lines::draw_lines;
 use crate::manual::manual_page;
 use crate::options::{Kind, Purpose, Task, task_of};
 use crate::reading::read;
-use crate::streams::{has_colours, print, read_file, read_standard_input};
+use crate::streams::{Escaped, MOST_DATA, has_colours, print, read_file, read_standard_input};
 use clap::ArgMatches;
 use clap::error::{Error, ErrorKind};
 use qrcode::QrCode;
@@ -68,11 +68,16 @@ fn end(rt: &HostRuntime, error: &Error) -> Result<ExitCode, Failure> {
     if error.kind() == ErrorKind::OutOfMemory {
         return Err(Failure::OutOfMemory);
     }
-    // (what is written fails where nobody reads it)
-    match error.print(rt) {
-        Ok(()) => Ok(ExitCode::from(error.exit_code() as u8)),
-        Err(_) => Ok(ExitCode::FAILURE),
+    let text = format!(in rt.alloc(); "{error}")?;
+    if !error.use_stderr() {
+        return print(rt, text.as_bytes());
     }
+    let shown = Escaped {
+        bytes: text.as_bytes(),
+        has_lines: true,
+    };
+    let _ = eprint!(rt; "{shown}");
+    Ok(ExitCode::from(error.exit_code() as u8))
 }
 
 // Does a task with the options that are given.
@@ -116,12 +121,10 @@ fn draw_asked(
         let drawing = segments_drawing(rt.alloc(), &asked.request, words)?;
         return write_drawing(rt, asked, &drawing, None);
     }
-    let bytes = data(rt, asked)?;
     if asked.is_by_line {
-        draw_lines(rt, asked, &bytes)
-    } else {
-        draw_one(rt, asked, &bytes, None)
+        return draw_lines(rt, asked);
     }
+    draw_one(rt, asked, &data(rt, asked)?, None)
 }
 
 // Draws the text of a kind, of the fields that are given.
@@ -173,8 +176,8 @@ fn data(rt: &HostRuntime, asked: &Asked<'_>) -> Result<Vec<u8>, Failure> {
     let alloc = rt.alloc();
     let mut bytes = match asked.source {
         Source::Text(text) => Vec::from_slice(alloc, text.as_bytes())?,
-        Source::File(path) => read_file(rt, path)?,
-        Source::StandardInput => read_standard_input(rt, "the text")?,
+        Source::File(path) => read_file(rt, path, MOST_DATA)?,
+        Source::StandardInput => read_standard_input(rt, "the text", MOST_DATA)?,
     };
     if asked.trims && bytes.last() == Some(&b'\n') {
         bytes.pop();
