@@ -89,10 +89,9 @@ fn on_value(
 const WIDTH: usize = 80;
 
 /// The text of help, in which long lines go on below their last column.
-pub(crate) fn wrapped(alloc: Global, error: &Error) -> Result<String, AllocError> {
-    let help = format!(in alloc; "{error}")?;
+pub(crate) fn wrapped(alloc: Global, help: &str) -> Result<String, AllocError> {
     let mut text = String::new(alloc);
-    for line in help.as_str().trim_end().split('\n') {
+    for line in help.trim_end().split('\n') {
         push_wrapped(&mut text, line)?;
     }
     Ok(text)

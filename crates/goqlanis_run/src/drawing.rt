@@ -203,8 +203,8 @@ fn manner(alloc: Global, writing: Writing, bytes: &[u8]) -> Result<Manner, Failu
 fn numbered(alloc: Global, path: &str, number: usize) -> Result<String, AllocError> {
     match path.rsplit_once('.') {
         Some((stem, ending)) if !ending.contains('/') => {
-            format!(in alloc; "{stem}-{number:04}.{ending}")
+            format!(in alloc; "{stem}-{number:06}.{ending}")
         }
-        _ => format!(in alloc; "{path}-{number:04}"),
+        _ => format!(in alloc; "{path}-{number:06}"),
     }
 }

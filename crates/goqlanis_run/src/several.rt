@@ -4,7 +4,7 @@ use crate::asked::{Asked, Writing, check_one_behind_another, versions_of};
 use crate::drawing::{check_empty, write_drawing};
 use crate::failure::{Failure, refused};
 use crate::reading::scan_of;
-use crate::streams::{print, read_file, write_file};
+use crate::streams::{MOST_DATA, MOST_PICTURE, print, read_file, write_file};
 use clap::ArgMatches;
 use goqlanis_draw::{Scan, drawing_of};
 use qrcode::QrCode;
@@ -14,6 +14,9 @@ use qrcode_several::errors::JoinError;
 use qrcode_several::{Part, Versions, encode_several_within, encode_text_several_within, join};
 use std::alloc::{AllocError, Global};
 use std::process::ExitCode;
+
+/// The most bytes of data that are read: as many as for 16 symbols.
+pub(crate) const MOST_IN_SEVERAL: usize = 16 * MOST_DATA;
 
 /// Draws data in several symbols, each to the file of its number.
 pub(crate) fn draw_several(
@@ -95,7 +98,7 @@ pub(crate) fn join_pictures(rt: &HostRuntime, given: &ArgMatches<'_>) -> Result<
     let names = given.get_strs("PICTURE").unwrap_or(&[]);
     let mut scans = Vec::new(rt.alloc());
     for name in names {
-        scans.push(scan_of(rt.alloc(), name, &read_file(rt, name)?)?)?;
+        scans.push(scan_of(rt.alloc(), name, &read_file(rt, name, MOST_PICTURE)?)?)?;
     }
     let data = joined(rt.alloc(), names, &scans)?;
     match given.get_str("output") {

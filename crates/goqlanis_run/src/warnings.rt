@@ -1,6 +1,7 @@
 //! What is said on standard error though all is drawn.
 
 use crate::asked::{Asked, Target, ending_format};
+use crate::streams::shown;
 use goqlanis_draw::{Format, Ink};
 
 /// Warns of colours that readers hardly tell apart, and of a picture in a file whose ending is that
@@ -17,6 +18,7 @@ pub(crate) fn warn(rt: &HostRuntime, asked: &Asked<'_>) {
     }
     if let Target::File(path) = asked.target {
         if is_named_otherwise(path, request.format) {
+            let path = shown(path);
             let _ = eprintln!(rt;
                 "goqlanis: --output {path}: its format is that of --format, not that of its ending"
             );

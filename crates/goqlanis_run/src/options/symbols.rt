@@ -115,7 +115,7 @@ pub(crate) const EXAMPLES: &str = "Examples:
   goqlanis --level Q -v M4 --format svg 1234567
       draws a Micro symbol
   goqlanis --lines -o seat.svg < seats.txt
-      draws seat-0001.svg, seat-0002.svg and so on
+      draws seat-000001.svg, seat-000002.svg and so on
   goqlanis read ticket.pbm
       reads a picture back; goqlanis read --help says more
   goqlanis wifi --ssid Guests --password \"a;b\"

@@ -4,7 +4,8 @@ use crate::digest::Digest;
 use crate::scenarios::symbols::of_digits;
 use qrcode::types::{Color, QrError, QrResult, Version};
 use qrcode_reader::{
-    Reading, Unread, UnreadText, WrongCodeword, read, read_any, read_bits, read_text,
+    Reading, Unread, UnreadText, WrongCodeword, read, read_any, read_any_parts, read_bits,
+    read_text,
 };
 use std::alloc::Global;
 
@@ -18,6 +19,8 @@ pub enum ReadCall {
     Text,
     /// `read_any`.
     Any,
+    /// `read_any_parts`.
+    Parts,
 }
 
 /// Reads the symbol of digits of a version, its last module turned over.
@@ -34,6 +37,18 @@ pub fn run(alloc: Global, version: Version, call: &ReadCall) -> QrResult<Digest>
             Some(found) => Ok(of_reading(found.reading)),
             None => Err(QrError::InvalidCharacter),
         },
+        ReadCall::Parts => of_parts(alloc, &colors),
+    }
+}
+
+// What was read as headers and segments.
+fn of_parts(alloc: Global, colors: &[Color]) -> QrResult<Digest> {
+    match read_any_parts(alloc, colors) {
+        Ok(found) => {
+            let read = found.reading;
+            Ok(Digest::of(&read.parts.bytes).and(of_wrong(&read.wrong)))
+        }
+        Err(unread) => Err(refusal(unread)),
     }
 }
 
