@@ -116,6 +116,8 @@ pub(crate) const EXAMPLES: &str = "Examples:
       draws a Micro symbol
   goqlanis --lines -o seat.svg < seats.txt
       draws seat-000001.svg, seat-000002.svg and so on
+  goqlanis several --count 4 -o part.pbm -i ticket.txt
+      draws data in up to 4 symbols; goqlanis join part-*.pbm reads them back
   goqlanis read ticket.pbm
       reads a picture back; goqlanis read --help says more
   goqlanis wifi --ssid Guests --password \"a;b\"
