@@ -1,5 +1,5 @@
 -- Texts that are taken apart into half blocks.
-use Rattle.std.proofs.Common.{◌≡◌, ℕ, List, [], ◌∷◌, ◌++◌, refl, sym, ap, subst, ◌∙◌, inr, append_assoc}
+use Rattle.std.proofs.Common.{◌≡◌, ◌+◌, ◌<◌, ℕ, List, [], ◌∷◌, ◌++◌, length, length-append, arith, refl, sym, ap, subst, ◌∙◌, inr, append_assoc}
 use Rattle.qrcode_reader.specs.scan.Halves.{IsHalf, EndsColour, AreHalves}
 use Rattle.qrcode_reader.specs.declared.scan.halves.Half.{Half}
 use Rattle.qrcode_reader.specs.declared.scan.halves.Half.TheVariants.{Nothing}
@@ -16,3 +16,7 @@ colours_shown text more rest whole e = (
   inr (record { digits = e.digits; plain = e.plain; whole = refl }),
   whole ∙ ap (λ (x : List ℕ). 27 ∷ 91 ∷ x) (e.whole ∙ sym (append_assoc e.digits (109 ∷ []) rest)),
 )
+
+-- and have bytes
+pub colours_shorten : (text more rest : List ℕ) → text ≡ 27 ∷ 91 ∷ more → EndsColour more rest → length rest < length text
+colours_shorten text more rest whole e = omega (arith, ap length whole, ap length e.whole, length-append e.digits (109 ∷ rest))

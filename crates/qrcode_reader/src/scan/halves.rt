@@ -1,6 +1,6 @@
 //! Texts of half blocks.
 
-ghost use Rattle.std.specs.Prelude.{◌≡◌, ◌<◌, ◌≤◌, ◌++◌, ℕ, List, [], not, length, IfOk, OnOk};
+ghost use Rattle.std.specs.Prelude.{◌≡◌, ◌<◌, ◌≤◌, ◌++◌, ℕ, List, [], false, not, length, slice_index_or, IfOk, OnOk};
 ghost use Rattle.std.specs.List.{list_all};
 ghost use Rattle.qrcode_reader.specs.scan.Halves.{IsHalf, EndsColour, AreHalves, IsHalfBlocks, longest, rows_from, padded, without_last};
 
@@ -59,6 +59,7 @@ fn halves_of(alloc: Global, text: &[u8]) -> Result<Vec<Half>, Unscanned>
 }
 
 // What a text begins with, and what follows it.
+#[tactic(auto, using(crate::proofs::HalfBlocks::colours_shown, crate::proofs::HalfBlocks::colours_shorten))]
 fn next_half(text: &[u8]) -> Result<(Half, &[u8]), Unscanned>
     requires { 1 ≤ length text.now }
     ensures value { IfOk result (λ found. (front : List ℕ)
@@ -80,7 +81,6 @@ fn next_half(text: &[u8]) -> Result<(Half, &[u8]), Unscanned>
 // What follows the m that ends a control sequence of digits and semicolons.
 fn behind_colour(text: &[u8]) -> Result<&[u8], Unscanned>
     ensures value { IfOk result (λ rest. EndsColour text.now rest.now) }
-    ensures at_most { IfOk result (λ rest. length rest.now ≤ length text.now) }
 {
     let mut rest = text;
     while let [first, more @ ..] = rest {
@@ -151,9 +151,19 @@ fn push_row(marks: &mut Vec<bool>, row: &[bool], across: usize) -> Result<(), Al
     ensures { OnOk result (marks.new.items ≡ marks.old.items ++ padded across row.now) }
 {
     for x in 0..across {
-        marks.push(row.get(x) == Some(&true))?;
+        marks.push(mark_of(row, x))?;
     }
     Ok(())
+}
+
+// Whether the pixel in a column of a row is dark; there is none behind its end.
+fn mark_of(row: &[bool], x: usize) -> bool
+    ensures { result ≡ slice_index_or row.now x false }
+{
+    match row.get(x) {
+        Some(mark) => *mark,
+        None => false,
+    }
 }
 
 // Rows without the last one, where it is light and there is one more than columns.
