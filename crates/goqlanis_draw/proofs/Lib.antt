@@ -2,4 +2,4 @@ mod Choices
 mod Inks
 mod Pieces
 mod Segmented
-mod Unread
+mod WhyUnread

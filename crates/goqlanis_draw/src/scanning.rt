@@ -3,6 +3,7 @@
 ghost use Rattle.std.specs.Prelude.{◌≡◌, ◌++◌, [], true, IsTrue, IfOk, IfErr, OnOk};
 ghost use Rattle.qrcode_reader.specs.scan.Squares.{inverted};
 ghost use Rattle.qrcode_reader.specs.Positions.{IsFirstPartsReading};
+ghost use Rattle.goqlanis_draw.specs.declared.scanning.Unread.TheVariants.{OutOfMemory};
 ghost use Rattle.goqlanis_draw.specs.Scans.{header_in, headers_in, IsReadAs, IsScanOf, IsSquareOf, IsUnreadPicture, IsUnreadIn, unread_as};
 
 use qrcode::types::Mode;
@@ -39,6 +40,8 @@ pub enum Unread {
 }
 
 impl From<AllocError> for Unread {
+    ghost from_gives = { λ _ e. e ≡ OutOfMemory };
+
     fn from(_error: AllocError) -> Unread {
         Unread::OutOfMemory
     }
@@ -76,6 +79,7 @@ fn cause_text(cause: Unscanned) -> &'static str {
 
 /// Reads a picture: its pixels, the square of modules that these show, and the symbol that the
 /// square is in one of the positions.
+#[tactic(auto, using(crate::proofs::WhyUnread::unread_picture))]
 pub fn read_picture(alloc: Global, bytes: &[u8]) -> Result<Scan, Unread>
     ensures value { IfOk result (IsScanOf bytes.now) }
     ensures causes { IfErr result (IsUnreadPicture bytes.now) }
@@ -103,6 +107,7 @@ fn read_inverted(alloc: Global, pixels: &Pixels) -> Result<Scan, Unread>
 }
 
 // Reads pixels, which may have dark and light exchanged.
+#[tactic(auto, using(crate::proofs::WhyUnread::unread_square))]
 fn read_pixels(alloc: Global, pixels: &Pixels, is_inverted: bool) -> Result<Scan, Unread>
     ensures square { IfOk result (λ scan. IsSquareOf scan pixels.now) }
     ensures inverted { IfOk result (λ scan. scan.is_inverted ≡ is_inverted) }
@@ -188,7 +193,7 @@ fn push_header(headers: &mut Vec<Header>, part: Part) -> Result<(), AllocError>
 
 // The bytes of a symbol's parts, as readers hand them on.
 fn data_of(alloc: Global, parts: Parts, is_plain: bool) -> Result<Vec<u8>, AllocError>
-    ensures { IsTrue is_plain → IfOk result (λ data. data.items ≡ parts.bytes.items) }
+    ensures { IfOk result (λ bytes. IsTrue is_plain → bytes.items ≡ parts.bytes.items) }
 {
     if is_plain {
         Ok(parts.bytes)

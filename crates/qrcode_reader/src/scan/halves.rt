@@ -1,8 +1,8 @@
 //! Texts of half blocks.
 
-ghost use Rattle.std.specs.Prelude.{◌≡◌, ◌<◌, ◌≤◌, ◌++◌, ℕ, List, [], not, length, IfOk, OnOk};
+ghost use Rattle.std.specs.Prelude.{◌≡◌, ◌<◌, ◌≤◌, ◌++◌, [], Some, false, not, length, slice_index_or, IfOk, OnOk};
 ghost use Rattle.std.specs.List.{list_all};
-ghost use Rattle.qrcode_reader.specs.scan.Halves.{IsHalf, EndsColour, AreHalves, IsHalfBlocks, longest, rows_from, padded, without_last};
+ghost use Rattle.qrcode_reader.specs.scan.Halves.{IsHalf, AreHalves, IsHalfBlocks, behind_colour, longest, rows_from, padded, without_last};
 
 use crate::scan::pixels::{Pixels, Unscanned};
 use std::alloc::{AllocError, Global};
@@ -18,8 +18,10 @@ pub(crate) enum Half {
     Pair(bool, bool),
     // The end of a line.
     End,
-    // What shows nothing.
-    Nothing,
+    // A carriage return, which shows nothing.
+    Return,
+    // The control sequence of colours, which shows nothing.
+    Colours,
 }
 
 /// The pixels of a text of half blocks: a line for two rows of pixels. Control sequences of a
@@ -61,8 +63,7 @@ fn halves_of(alloc: Global, text: &[u8]) -> Result<Vec<Half>, Unscanned>
 // What a text begins with, and what follows it.
 fn next_half(text: &[u8]) -> Result<(Half, &[u8]), Unscanned>
     requires { 1 ≤ length text.now }
-    ensures value { IfOk result (λ found. (front : List ℕ)
-        × IsHalf found.0 front × (text.now ≡ front ++ found.1.now)) }
+    ensures value { IfOk result (λ found. IsHalf found.0 text.now found.1.now) }
     ensures at_most { IfOk result (λ found. length found.1.now < length text.now) }
 {
     match text {
@@ -71,15 +72,16 @@ fn next_half(text: &[u8]) -> Result<(Half, &[u8]), Unscanned>
         [0xe2, 0x96, 0x84, more @ ..] => Ok((Half::Pair(false, true), more)),
         [0xe2, 0x96, 0x88, more @ ..] => Ok((Half::Pair(true, true), more)),
         [b'\n', more @ ..] => Ok((Half::End, more)),
-        [b'\r', more @ ..] => Ok((Half::Nothing, more)),
-        [0x1b, b'[', more @ ..] => Ok((Half::Nothing, behind_colour(more)?)),
+        [b'\r', more @ ..] => Ok((Half::Return, more)),
+        [0x1b, b'[', more @ ..] => Ok((Half::Colours, behind_colour(more)?)),
         _ => Err(Unscanned::NotPicture),
     }
 }
 
 // What follows the m that ends a control sequence of digits and semicolons.
+#[tactic(auto, unfolding(crate::specs::scan::Halves::behind_colour))]
 fn behind_colour(text: &[u8]) -> Result<&[u8], Unscanned>
-    ensures value { IfOk result (λ rest. EndsColour text.now rest.now) }
+    ensures value { IfOk result (λ rest. behind_colour text.now ≡ Some rest.now) }
     ensures at_most { IfOk result (λ rest. length rest.now ≤ length text.now) }
 {
     let mut rest = text;
@@ -107,7 +109,7 @@ fn width(halves: &[Half]) -> usize
                 most = most.max(columns);
                 columns = 0;
             }
-            Half::Nothing => {}
+            Half::Return | Half::Colours => {}
         }
     }
     most.max(columns)
@@ -136,7 +138,7 @@ fn rows(alloc: Global, halves: &[Half], across: usize) -> Result<Vec<bool>, Unsc
                 upper.clear();
                 lower.clear();
             }
-            Half::Nothing => {}
+            Half::Return | Half::Colours => {}
         }
     }
     if !upper.is_empty() {
@@ -151,9 +153,19 @@ fn push_row(marks: &mut Vec<bool>, row: &[bool], across: usize) -> Result<(), Al
     ensures { OnOk result (marks.new.items ≡ marks.old.items ++ padded across row.now) }
 {
     for x in 0..across {
-        marks.push(row.get(x) == Some(&true))?;
+        marks.push(mark_of(row, x))?;
     }
     Ok(())
+}
+
+// Whether the pixel in a column of a row is dark; there is none behind its end.
+fn mark_of(row: &[bool], x: usize) -> bool
+    ensures { result ≡ slice_index_or row.now x false }
+{
+    match row.get(x) {
+        Some(mark) => *mark,
+        None => false,
+    }
 }
 
 // Rows without the last one, where it is light and there is one more than columns.
