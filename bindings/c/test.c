@@ -212,6 +212,7 @@ static void readings(void)
     reading = (goq_reading){99, 0, 0, 0, 98};
     refuses_to_read(goq_read(modules, 441, found, 7, &reading), GOQ_SMALL_BUFFER, "a byte too few for a reading");
     refuses_to_read(goq_read(modules, 440, found, sizeof found, &reading), GOQ_NO_SUCH_SIDE, "440 modules to read");
+    refuses_to_read(goq_read(modules, SIZE_MAX, found, sizeof found, &reading), GOQ_NO_SUCH_SIDE, "more modules than memory has room for");
     refuses_to_read(goq_read(NULL, 0, found, sizeof found, &reading), GOQ_NO_SUCH_SIDE, "no modules to read");
     memset(modules, 1, 441);
     refuses_to_read(goq_read(modules, 441, found, sizeof found, &reading), GOQ_NO_FORMAT, "a dark square");

@@ -1,13 +1,15 @@
 -- What is known of a reading.
-use Rattle.std.proofs.Common.{ℕ, List}
+use Rattle.std.proofs.Common.{◌≡◌, ◌≢◌, ◌*◌, ℕ, List, length, sym, ◌∙◌}
+use Rattle.std.proofs.lemmas.List.{length-map}
 use Rattle.std.specs.Prelude.{IsTrue}
-use Rattle.qrcode_types.specs.Versions.{has_level}
+use Rattle.qrcode_types.specs.Versions.{has_level, is_valid, side}
 use Rattle.qrcode_types.specs.declared.types.Color.{Color}
 use Rattle.qrcode_types.specs.declared.types.EcLevel.{EcLevel}
 use Rattle.qrcode_types.specs.declared.types.Version.{Version}
 use Rattle.qrcode_places.specs.declared.masks.MaskPattern.{MaskPattern}
 use Rattle.qrcode.specs.Reading.{ReadsOnly}
-use Rattle.qrcode_reader.specs.Readings.{IsReading}
+use Rattle.qrcode_render.specs.Shades.{colors_of}
+use Rattle.qrcode_reader.specs.Readings.{IsReading, HasNoVersion}
 use Rattle.qrcode_reader.specs.declared.correction.WrongCodeword.{WrongCodeword}
 
 -- no other bytes are read
@@ -19,3 +21,7 @@ only_these s v l k bytes wrong reading = reading.only
 pub existing : (s : List Color) (v : Version) (l : EcLevel) (k : MaskPattern) (bytes : List ℕ) (wrong : List WrongCodeword)
     → IsReading s v l k bytes wrong → IsTrue (has_level v l)
 existing s v l k bytes wrong reading = reading.read.only.found.exists
+
+-- bytes whose number is that of no square are the colours of none
+pub no_side : (bytes : List ℕ) → ((v : Version) → IsTrue (is_valid v) → length bytes ≢ side v * side v) → HasNoVersion (colors_of bytes)
+no_side bytes none v valid same = none v valid (sym (length-map bytes _) ∙ same)

@@ -14,7 +14,7 @@ use crate::names::{level_number, version_number};
 use crate::symbols::{colors_of, fill};
 use qrcode::canvas::MaskPattern;
 use qrcode::types::Version;
-use qrcode_reader::{Reading as Found, Unread, read};
+use qrcode_reader::{Reading as Found, Unread, read, version_of};
 use std::alloc::Global;
 
 /// What is read of a square beside its bytes.
@@ -65,7 +65,7 @@ pub fn read_length(alloc: Global, modules: &[u8]) -> Result<usize, Refusal>
 }
 
 // What is read of a square.
-#[tactic(auto, using(crate::proofs::Known::only_these, crate::proofs::Known::existing))]
+#[tactic(auto, using(crate::proofs::Known::only_these, crate::proofs::Known::existing, crate::proofs::Known::no_side))]
 fn read_square(alloc: Global, modules: &[u8]) -> Result<Found, Refusal>
     ensures reading { IfOk result (λ read. IsReading (colors_of modules.now)
         read.version read.ec_level read.mask read.data.items read.wrong.items) }
@@ -73,6 +73,9 @@ fn read_square(alloc: Global, modules: &[u8]) -> Result<Found, Refusal>
     ensures exists { IfOk result (λ read. IsTrue (has_level read.version read.ec_level)) }
     ensures causes { (room : ℕ) → IfErr result (IsReadingCause modules.now room) }
 {
+    if version_of(modules.len()).is_none() {
+        return Err(Refusal::NoSuchSide);
+    }
     let Ok(colors) = colors_of(alloc, modules) else {
         return Err(Refusal::OutOfMemory);
     };

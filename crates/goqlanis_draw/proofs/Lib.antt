@@ -1,3 +1,4 @@
 mod Choices
 mod Pieces
 mod Segmented
+mod WhyUnread

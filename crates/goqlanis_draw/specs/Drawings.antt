@@ -1,14 +1,12 @@
 -- What a request shows of a symbol.
-use Rattle.std.specs.Prelude.{ℕ, ◌+◌, ◌*◌, ◌/◌, List, true, max, unwrap_or}
+use Rattle.std.specs.Prelude.{ℕ, ◌+◌, ◌*◌, ◌/◌, true, max, unwrap_or}
 use Rattle.std.specs.Option.{option_map}
 use Rattle.qrcode_types.specs.Versions.{side}
-use Rattle.qrcode_types.specs.declared.types.Color.{Color}
 use Rattle.qrcode_types.specs.declared.types.Version.{Version}
 use Rattle.qrcode_render.specs.Layout.{Layout, layout}
-use Rattle.qrcode.specs.Code.{Code}
 use Rattle.qrcode.specs.Pictures.{quiet_zone}
 use Rattle.goqlanis_draw.specs.Formats.{View, shade_of, IsDrawnIn}
-use Rattle.goqlanis_draw.specs.Symbols.{IsSymbolOf}
+use Rattle.goqlanis_draw.specs.declared.drawing.Drawing.{Drawing}
 use Rattle.goqlanis_draw.specs.declared.request.Request.{Request}
 
 abbrev pub zone_for : Request → Version → ℕ  -- the quiet zone: what is asked for, or the standard's
@@ -26,11 +24,5 @@ layout_for r v = layout (side v) (zone_for r v) (max (scale_for r v) 1) (max (sc
 abbrev pub view_for : Request → View
 view_for r = record { dark = shade_of r.dark; light = shade_of r.light; is_inverted = r.is_inverted; dpi = r.dpi; ends_lines = true }
 
-abbrev pub IsShownBy : Request → Version → List Color → List ℕ → Type 0  -- what shows a symbol as a request asks for it
-IsShownBy r v s bytes = IsDrawnIn r.format (view_for r) (layout_for r v) s bytes
-
--- the drawing that a request asks for, of data
-pub record IsDrawing (r : Request) (bytes drawing : List ℕ) : Type 0 where
-  pub code : Code
-  pub symbol : IsSymbolOf r bytes code
-  pub shown : IsShownBy r code.version code.modules drawing
+abbrev pub IsShownIn : Request → Drawing → Type 0  -- bytes that show their symbol as a request asks for it
+IsShownIn r d = IsDrawnIn r.format (view_for r) (layout_for r d.code.version) d.code.modules d.bytes.items

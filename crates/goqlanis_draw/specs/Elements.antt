@@ -15,10 +15,8 @@ use Rattle.qrcode_gs1.specs.declared.symbol.Position.{Position}
 use Rattle.qrcode_gs1.specs.declared.symbol.Position.TheVariants.{First, Second}
 use Rattle.qrcode_gs1.specs.declared.symbol.errors.SymbolError.{SymbolError}
 use Rattle.qrcode_gs1.specs.declared.symbol.errors.SymbolError.TheVariants.{Elements, Symbol}
-use Rattle.goqlanis_draw.specs.Drawings.{IsShownBy}
 use Rattle.goqlanis_draw.specs.declared.request.Choice.{Choice}
 use Rattle.goqlanis_draw.specs.declared.request.Choice.TheVariants.{From, Boosted, At}
-use Rattle.goqlanis_draw.specs.declared.request.Request.{Request}
 
 abbrev pub number_of : Version → ℕ  -- the number of a version of Normal; 0 for Micro, which has no FNC1
 number_of (Normal (pos n)) = n
@@ -57,15 +55,3 @@ abbrev pub IsElementsRefused : Choice → EcLevel → List Item → SymbolError 
 IsElementsRefused (From v) l items e = IsGs1Refused (number_of v) l items e
 IsElementsRefused (Boosted v) l items e = IsGs1Refused (number_of v) l items e
 IsElementsRefused (At v) l items e = AreRefusedAlone v l items e
-
--- the drawing of elements that a request asks for
-pub record IsDrawingOfElements (r : Request) (items : List Item) (drawing : List ℕ) : Type 0 where
-  pub code : Code
-  pub symbol : IsElementsIn r.choice r.level items code
-  pub shown : IsShownBy r code.version code.modules drawing
-
--- the drawing of data of an application that a request asks for
-pub record IsDrawingForApplication (r : Request) (application : ℕ) (bytes drawing : List ℕ) : Type 0 where
-  pub code : Code
-  pub symbol : IsApplicationIn r.choice application r.level bytes code
-  pub shown : IsShownBy r code.version code.modules drawing

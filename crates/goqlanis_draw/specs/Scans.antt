@@ -1,21 +1,19 @@
 -- What is read of a picture.
-use Rattle.std.specs.Prelude.{◌≡◌, ℕ, true, false, List, [], ◌∷◌, Bool, flat_map, if◌then◌else◌}
-use Rattle.qrcode_types.specs.declared.types.Version.{Version}
-use Rattle.qrcode_types.specs.declared.types.EcLevel.{EcLevel}
+use Rattle.std.specs.Prelude.{◌≡◌, ◌<◌, ℕ, List, [], ◌∷◌, Bool, flat_map, if◌then◌else◌}
 use Rattle.qrcode_types.specs.declared.types.Color.{Color}
-use Rattle.qrcode_places.specs.declared.masks.MaskPattern.{MaskPattern}
 use Rattle.qrcode_render.specs.Bitmap.{Bitmap}
-use Rattle.qrcode_reader.specs.scan.Files.{IsSeenIn}
-use Rattle.qrcode_reader.specs.scan.Squares.{has_dark_edge, inverted, IsSquareIn}
-use Rattle.qrcode_reader.specs.spell.Parts.{AreParts}
+use Rattle.qrcode_reader.specs.scan.Files.{IsSeenIn, IsUnscanned}
+use Rattle.qrcode_reader.specs.scan.Squares.{has_dark_edge, inverted, IsSquareIn, IsFramedIn}
 use Rattle.qrcode_reader.specs.declared.spell.headers.Header.{Header}
 use Rattle.qrcode_reader.specs.declared.spell.parts.Part.{Part}
 use Rattle.qrcode_reader.specs.declared.spell.parts.Part.TheVariants.{Front, Bytes}
-use Rattle.qrcode_reader.specs.Positions.{IsFirstReading}
-use Rattle.qrcode_reader.specs.Readings.{IsBitReading}
-use Rattle.qrcode_reader.specs.declared.correction.WrongCodeword.{WrongCodeword}
-use Rattle.qrcode_reader.specs.declared.positions.Position.TheVariants.{Upright}
+use Rattle.qrcode_reader.specs.Positions.{seen, IsFirstPartsReading}
+use Rattle.qrcode_reader.specs.Readings.{IsPartsCause, ReadsParts}
+use Rattle.qrcode_reader.specs.declared.positions.Position.{Position}
+use Rattle.qrcode_reader.specs.declared.refusals.Unread as reading
 use Rattle.goqlanis_draw.specs.declared.scanning.Scan.{Scan}
+use Rattle.goqlanis_draw.specs.declared.scanning.Unread.{Unread}
+use Rattle.goqlanis_draw.specs.declared.scanning.Unread.TheVariants.{Unscanned, NoSquare, NoSymbol, OutOfMemory}
 
 abbrev pub IsSquareOf : Scan → Bitmap → Type 0  -- the square of modules that pixels show
 IsSquareOf scan b = IsSquareIn b scan.square.count scan.square.zone scan.square.scale scan.square.modules.items
@@ -27,25 +25,15 @@ header_in (Bytes m n) = []
 abbrev pub headers_in : List Part → List Header  -- the headers among parts
 headers_in parts = flat_map header_in parts
 
--- the square is read as bits that are headers, these and no others, and segments; this is its mask, and these codewords were wrong
-pub record IsHeaderReading (s : List Color) (v : Version) (l : EcLevel) (k : MaskPattern) (wrong : List WrongCodeword) (headers : List Header) : Type 0 where
-  pub bits : List Bool
-  pub read : IsBitReading s v l k bits wrong
+-- The reading of that square: that of the headers and segments in the first position in which there are some, and its headers. Where there is no header the
+-- bytes are those of the segments; which bytes are handed on otherwise is not said.
+pub record IsReadAs (scan : Scan) : Type 0 where
   pub bytes : List ℕ
   pub parts : List Part
-  pub spelled : AreParts v bits bytes parts
-  pub among : headers ≡ headers_in parts
-
--- The reading of that square. Where headers stand between segments it is that of the square as it stands, and these are the headers; which bytes are handed
--- on is not said. Where none do it is that in the first position in which the square is read.
-pub record IsReadAs (scan : Scan) : Type 0 where
-  pub plain : scan.has_headers ≡ false → IsFirstReading scan.square.count scan.square.modules.items scan.any.position scan.any.is_inverted scan.any.reading.version
-      scan.any.reading.ec_level scan.any.reading.mask scan.any.reading.data.items scan.any.reading.wrong.items
-  pub none : scan.has_headers ≡ false → scan.headers.items ≡ []
-  pub headed : scan.has_headers ≡ true → IsHeaderReading scan.square.modules.items scan.any.reading.version scan.any.reading.ec_level scan.any.reading.mask
-      scan.any.reading.wrong.items scan.headers.items
-  pub upright : scan.has_headers ≡ true → scan.any.position ≡ Upright
-  pub dark : scan.has_headers ≡ true → scan.any.is_inverted ≡ false
+  pub first : IsFirstPartsReading scan.square.count scan.square.modules.items scan.any.position scan.any.is_inverted scan.any.reading.version
+      scan.any.reading.ec_level scan.any.reading.mask bytes parts scan.any.reading.wrong.items
+  pub among : scan.headers.items ≡ headers_in parts
+  pub plain : scan.headers.items ≡ [] → scan.any.reading.data.items ≡ bytes
 
 -- what the bytes of a picture are read as: the square of modules that its pixels show, with dark and light exchanged where their first row is dark, and
 -- that square's reading
@@ -55,3 +43,38 @@ pub record IsScanOf (bytes : List ℕ) (scan : Scan) : Type 0 where
   pub edge : scan.is_inverted ≡ has_dark_edge pixels
   pub square : IsSquareOf scan (if scan.is_inverted then inverted pixels else pixels)
   pub read : IsReadAs scan
+
+-- pixels show a square of so many modules a side, which has no headers and segments in any position; this is why it has none as it stands
+pub record ShowsNoSymbol (b : Bitmap) (count : ℕ) (e : reading.Unread) : Type 0 where
+  pub zone : ℕ
+  pub scale : ℕ
+  pub modules : List Color
+  pub square : IsSquareIn b count zone scale modules
+  pub cause : IsPartsCause modules e
+  pub none : (p : Position) (is_inverted : Bool) (bytes : List ℕ) (parts : List Part) → ¬ ReadsParts (seen count p is_inverted modules) bytes parts
+
+abbrev pub IsUnreadIn : Bitmap → Unread → Type 0  -- why pixels are not read
+IsUnreadIn b (Unscanned e) = ⊥
+IsUnreadIn b NoSquare = (count zone scale column : ℕ) (modules : List Color) → IsFramedIn b count zone scale column modules → 177 < count
+IsUnreadIn b (NoSymbol count e) = ShowsNoSymbol b count e
+IsUnreadIn b OutOfMemory = Unit
+
+-- why pixels whose square of so many modules a side is not read are not read
+abbrev pub unread_as : ℕ → reading.Unread → Unread
+unread_as count reading.TheVariants.OutOfMemory = OutOfMemory
+unread_as count reading.TheVariants.NoSuchSide = NoSymbol count reading.TheVariants.NoSuchSide
+unread_as count reading.TheVariants.NoFormat = NoSymbol count reading.TheVariants.NoFormat
+unread_as count (reading.TheVariants.Damaged b) = NoSymbol count (reading.TheVariants.Damaged b)
+unread_as count reading.TheVariants.NotSpelled = NoSymbol count reading.TheVariants.NotSpelled
+
+-- pixels that a picture shows are not read, with dark and light exchanged where their first row is dark
+pub record HasUnreadPixels (bytes : List ℕ) (e : Unread) : Type 0 where
+  pub pixels : Bitmap
+  pub seen : IsSeenIn bytes pixels
+  pub unread : IsUnreadIn (if has_dark_edge pixels then inverted pixels else pixels) e
+
+abbrev pub IsUnreadPicture : List ℕ → Unread → Type 0  -- why the bytes of a picture are not read
+IsUnreadPicture bytes (Unscanned e) = IsUnscanned bytes e
+IsUnreadPicture bytes NoSquare = HasUnreadPixels bytes NoSquare
+IsUnreadPicture bytes (NoSymbol count e) = HasUnreadPixels bytes (NoSymbol count e)
+IsUnreadPicture bytes OutOfMemory = Unit

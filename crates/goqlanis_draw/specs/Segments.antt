@@ -1,13 +1,11 @@
 -- Symbols of segments by hand.
-use Rattle.std.specs.Prelude.{◌≡◌, ℕ, List, map, flat_map}
+use Rattle.std.specs.Prelude.{◌≡◌, List, map, flat_map}
 use Rattle.std.specs.List.{AllByRecursion}
 use Rattle.qrcode_types.specs.declared.types.EcLevel.{EcLevel}
 use Rattle.qrcode_bits.specs.Spelling.{IsReadable, SpellsOnly}
 use Rattle.qrcode_bits.specs.Written.{Piece, written, terminated}
 use Rattle.qrcode.specs.Code.{Code}
 use Rattle.qrcode.specs.Reading.{EncodesBits}
-use Rattle.goqlanis_draw.specs.Drawings.{IsShownBy}
-use Rattle.goqlanis_draw.specs.declared.request.Request.{Request}
 use Rattle.goqlanis_draw.specs.declared.segments.Segment.{Segment}
 
 abbrev pub piece_of : Segment → Piece  -- the piece that a segment is
@@ -22,9 +20,3 @@ pub record IsSymbolOfPieces (l : EcLevel) (pieces : List Piece) (code : Code) : 
   pub encodes : EncodesBits code.version l (terminated code.version l (written code.version pieces)) code.modules
   pub spelled : AllByRecursion (IsReadable code.version) pieces
       → SpellsOnly code.version (terminated code.version l (written code.version pieces)) (flat_map (λ p. p.chunk) pieces)
-
--- the drawing of pieces that a request asks for
-pub record IsDrawingOfPieces (r : Request) (pieces : List Piece) (drawing : List ℕ) : Type 0 where
-  pub code : Code
-  pub symbol : IsSymbolOfPieces r.level pieces code
-  pub shown : IsShownBy r code.version code.modules drawing

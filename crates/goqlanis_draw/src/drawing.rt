@@ -4,9 +4,9 @@ ghost use Rattle.std.specs.Prelude.{◌≡◌, ◌≤◌, map, unwrap_or, IfOk, 
 ghost use Rattle.qrcode_types.specs.declared.types.QrError.TheVariants.{OutOfMemory};
 ghost use Rattle.qrcode.specs.Pictures.{quiet_zone};
 ghost use Rattle.qrcode_gs1.specs.Items.{item};
-ghost use Rattle.goqlanis_draw.specs.Drawings.{IsDrawing, IsShownBy, scale_for};
-ghost use Rattle.goqlanis_draw.specs.Elements.{IsDrawingOfElements, IsElementsRefused, IsDrawingForApplication, IsApplicationRefused};
-ghost use Rattle.goqlanis_draw.specs.Segments.{IsDrawingOfPieces, pieces_of};
+ghost use Rattle.goqlanis_draw.specs.Drawings.{IsShownIn, scale_for};
+ghost use Rattle.goqlanis_draw.specs.Elements.{IsElementsIn, IsElementsRefused, IsApplicationIn, IsApplicationRefused};
+ghost use Rattle.goqlanis_draw.specs.Segments.{IsSymbolOfPieces, pieces_of};
 ghost use Rattle.goqlanis_draw.specs.Symbols.{IsSymbolOf, IsRefusalOf};
 
 use crate::elements::{symbol_for_application, symbol_of_elements};
@@ -20,17 +20,23 @@ use qrcode_gs1::elements::Element;
 use qrcode_gs1::symbol::errors::SymbolResult;
 use std::alloc::Global;
 
+/// A symbol, and the bytes that show it.
+#[derive(Drop)]
+pub struct Drawing {
+    pub code: QrCode,
+    pub bytes: Vec<u8>,
+}
+
 /// The drawing of data that a request asks for.
 ///
 /// It is refused where no version that may be taken holds the data, by the causes of `QrCode::at_least`,
 /// `QrCode::at_least_boosted` or `QrCode::in_version`; and for want of memory.
-pub fn draw(alloc: Global, request: &Request<'_>, bytes: &[u8]) -> QrResult<Vec<u8>>
-    ensures drawing { IfOk result (λ drawing. IsDrawing request.now bytes.now drawing.items) }
+pub fn draw(alloc: Global, request: &Request<'_>, bytes: &[u8]) -> QrResult<Drawing>
+    ensures symbol { IfOk result (λ drawing. IsSymbolOf request.now bytes.now drawing.code) }
+    ensures shown { IfOk result (IsShownIn request.now) }
     ensures causes { IfErr result (IsRefusalOf request.now bytes.now) }
 {
-    let code = symbol(alloc, request, bytes)?;
-    let drawing = drawing_of(alloc, request, &code)?;
-    Ok(drawing)
+    drawing_of(alloc, request, symbol(alloc, request, bytes)?)
 }
 
 /// The drawing of segments by hand that a request asks for; its manner is not looked at. Versions
@@ -43,13 +49,13 @@ pub fn draw_segments(
     alloc: Global,
     request: &Request<'_>,
     segments: &[Segment<'_>],
-) -> QrResult<Vec<u8>>
-    ensures drawing { IfOk result (λ drawing.
-        IsDrawingOfPieces request.now (pieces_of segments.now) drawing.items) }
+) -> QrResult<Drawing>
+    ensures symbol { IfOk result (λ drawing.
+        IsSymbolOfPieces request.now.level (pieces_of segments.now) drawing.code) }
+    ensures shown { IfOk result (IsShownIn request.now) }
 {
     let code = symbol_of(alloc, request.choice, request.level, segments)?;
-    let drawing = drawing_of(alloc, request, &code)?;
-    Ok(drawing)
+    drawing_of(alloc, request, code)
 }
 
 /// The drawing of elements of GS1 that a request asks for; its manner is not looked at, and a choice with
@@ -61,15 +67,15 @@ pub fn draw_elements(
     alloc: Global,
     request: &Request<'_>,
     elements: &[Element<'_>],
-) -> SymbolResult<Vec<u8>>
-    ensures drawing { IfOk result (λ drawing.
-        IsDrawingOfElements request.now (map item elements.now) drawing.items) }
+) -> SymbolResult<Drawing>
+    ensures symbol { IfOk result (λ drawing. IsElementsIn request.now.choice request.now.level
+        (map item elements.now) drawing.code) }
+    ensures shown { IfOk result (IsShownIn request.now) }
     ensures causes { IfErr result
         (IsElementsRefused request.now.choice request.now.level (map item elements.now)) }
 {
     let code = symbol_of_elements(alloc, request.choice, request.level, elements)?;
-    let drawing = drawing_of(alloc, request, &code)?;
-    Ok(drawing)
+    Ok(drawing_of(alloc, request, code)?)
 }
 
 /// The drawing of data of an application, behind FNC1 in second position and the application's
@@ -83,16 +89,16 @@ pub fn draw_for_application(
     request: &Request<'_>,
     application: u8,
     bytes: &[u8],
-) -> QrResult<Vec<u8>>
-    ensures drawing { IfOk result (λ drawing.
-        IsDrawingForApplication request.now application bytes.now drawing.items) }
+) -> QrResult<Drawing>
+    ensures symbol { IfOk result (λ drawing. IsApplicationIn request.now.choice application
+        request.now.level bytes.now drawing.code) }
+    ensures shown { IfOk result (IsShownIn request.now) }
     ensures causes { IfErr result
         (IsApplicationRefused request.now.choice application request.now.level bytes.now) }
 {
     let (choice, level) = (request.choice, request.level);
     let code = symbol_for_application(alloc, choice, level, application, bytes)?;
-    let drawing = drawing_of(alloc, request, &code)?;
-    Ok(drawing)
+    drawing_of(alloc, request, code)
 }
 
 // The symbol that a request asks for.
@@ -108,29 +114,30 @@ fn symbol(alloc: Global, request: &Request<'_>, bytes: &[u8]) -> QrResult<QrCode
     }
 }
 
-// A symbol, drawn as a request asks for.
-fn drawing_of(alloc: Global, request: &Request<'_>, code: &QrCode) -> QrResult<Vec<u8>>
-    ensures drawing { IfOk result (λ drawing.
-        IsShownBy request.now code.now.version code.now.modules drawing.items) }
+/// A symbol, drawn as a request asks for.
+pub fn drawing_of(alloc: Global, request: &Request<'_>, code: QrCode) -> QrResult<Drawing>
+    ensures symbol { IfOk result (λ drawing. drawing.code ≡ code) }
+    ensures shown { IfOk result (IsShownIn request.now) }
     ensures memory { IsOkUnless result OutOfMemory }
 {
     let modules = code.to_colors(alloc)?;
     let picture = Picture {
         modules: &modules,
         width: code.width() as u32,
-        zone: quiet_zone(request, code),
-        scale: scale(request, code).max(1),
+        zone: quiet_zone(request, &code),
+        scale: scale(request, &code).max(1),
         dark: request.dark,
         light: request.light,
         is_inverted: request.is_inverted,
         dpi: request.dpi,
         ends_lines: true,
     };
-    draw_in(alloc, request.format, &picture)
+    let bytes = draw_in(alloc, request.format, &picture)?;
+    Ok(Drawing { code, bytes })
 }
 
-// The modules of the quiet zone at each side.
-fn quiet_zone(request: &Request<'_>, code: &QrCode) -> u32
+/// The modules of the quiet zone at each side.
+pub fn quiet_zone(request: &Request<'_>, code: &QrCode) -> u32
     ensures value { result ≡ unwrap_or request.now.zone (quiet_zone code.now.version) }
     ensures at_most { result ≤ 255 }
 {

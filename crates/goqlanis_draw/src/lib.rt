@@ -14,7 +14,9 @@ mod scanning;
 mod segments;
 mod terminal;
 
-pub use drawing::{draw, draw_elements, draw_for_application, draw_segments};
+pub use drawing::{
+    Drawing, draw, draw_elements, draw_for_application, draw_segments, drawing_of, quiet_zone,
+};
 pub use formats::Format;
 pub use picture::Ink;
 pub use refusal::{

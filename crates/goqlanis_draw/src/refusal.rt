@@ -261,17 +261,18 @@ impl fmt::Display for Name {
     }
 }
 
-// A number below a million, with a comma before the last three digits.
+// A number below a thousand millions, with a comma before each three digits.
 #[derive(Clone, Copy)]
 struct Grouped(usize);
 
 impl fmt::Display for Grouped {
     fn fmt<W: fmt::Write>(&self, f: &mut fmt::Formatter<W>) -> fmt::Result {
-        let (thousands, rest) = (self.0 / 1000, self.0 % 1000);
-        if thousands == 0 {
-            write!(f, "{rest}")
-        } else {
-            write!(f, "{thousands},{rest:03}")
+        let (millions, thousands, rest) = (self.0 / 1_000_000, self.0 / 1000, self.0 % 1000);
+        let below = thousands % 1000;
+        match (millions, thousands) {
+            (0, 0) => write!(f, "{rest}"),
+            (0, _) => write!(f, "{thousands},{rest:03}"),
+            _ => write!(f, "{millions},{below:03},{rest:03}"),
         }
     }
 }

@@ -1,13 +1,15 @@
 //! Pictures, read.
 
-ghost use Rattle.std.specs.Prelude.{◌≡◌, ◌++◌, true, IfOk, OnOk};
+ghost use Rattle.std.specs.Prelude.{◌≡◌, ◌++◌, [], true, IsTrue, IfOk, IfErr, OnOk};
 ghost use Rattle.qrcode_reader.specs.scan.Squares.{inverted};
-ghost use Rattle.goqlanis_draw.specs.Scans.{header_in, headers_in, IsHeaderReading, IsReadAs, IsScanOf, IsSquareOf};
+ghost use Rattle.qrcode_reader.specs.Positions.{IsFirstPartsReading};
+ghost use Rattle.goqlanis_draw.specs.declared.scanning.Unread.TheVariants.{OutOfMemory};
+ghost use Rattle.goqlanis_draw.specs.Scans.{header_in, headers_in, IsReadAs, IsScanOf, IsSquareOf, IsUnreadPicture, IsUnreadIn, unread_as};
 
 use qrcode::types::Mode;
 use qrcode_reader::scan::{Pixels, Square, Unscanned, pixels_of, square_of};
-use qrcode_reader::spell::{Header, Part, Parts, pieces};
-use qrcode_reader::{AnyReading, Position, Reading, read_any, read_bits};
+use qrcode_reader::spell::{Header, Part, Parts};
+use qrcode_reader::{AnyPartsReading, AnyReading, Reading, read_any_parts};
 use std::alloc::{AllocError, Global};
 use std::fmt;
 
@@ -18,11 +20,9 @@ pub struct Scan {
     pub square: Square,
     /// Whether the picture has dark and light exchanged.
     pub is_inverted: bool,
-    /// What the square is read as, and in which position.
+    /// What the square is read as, and in which position: the bytes as readers hand them on.
     pub any: AnyReading,
-    /// Whether headers, as the number of a character set, stand between the segments.
-    pub has_headers: bool,
-    /// These headers, in their order.
+    /// The headers between the segments, as the number of a character set, in their order.
     pub headers: Vec<Header>,
 }
 
@@ -40,6 +40,8 @@ pub enum Unread {
 }
 
 impl From<AllocError> for Unread {
+    ghost from_gives = { λ _ e. e ≡ OutOfMemory };
+
     fn from(_error: AllocError) -> Unread {
         Unread::OutOfMemory
     }
@@ -48,7 +50,7 @@ impl From<AllocError> for Unread {
 impl fmt::Display for Unread {
     fn fmt<W: fmt::Write>(&self, f: &mut fmt::Formatter<W>) -> fmt::Result {
         match self {
-            Unread::Unscanned(cause) => f.write_str(told(*cause)),
+            Unread::Unscanned(cause) => f.write_str(cause_text(*cause)),
             Unread::NoSquare => f.write_str(
                 "its pixels are no square of modules of one size in a margin that is as wide at each side",
             ),
@@ -61,11 +63,13 @@ impl fmt::Display for Unread {
 }
 
 // Why there are no pixels.
-fn told(cause: Unscanned) -> &'static str {
+fn cause_text(cause: Unscanned) -> &'static str {
     match cause {
         Unscanned::NotPicture =>
             "it is neither a PBM or PGM file nor half blocks; convert it to PBM",
-        Unscanned::NoSide => "it has no pixels, or more than 65,535 along a side",
+        Unscanned::NoSide => {
+            "it has no pixels, or more than 65,535 along a side, of half blocks 4,096"
+        }
         Unscanned::NoGrey => "its greatest grey is not one of 1 to 255; convert it to PBM",
         Unscanned::NotPixel => "something that is no pixel stands before its last pixel",
         Unscanned::TooShort => "it ends before its last pixel",
@@ -75,8 +79,10 @@ fn told(cause: Unscanned) -> &'static str {
 
 /// Reads a picture: its pixels, the square of modules that these show, and the symbol that the
 /// square is in one of the positions.
+#[tactic(auto, using(crate::proofs::WhyUnread::unread_picture))]
 pub fn read_picture(alloc: Global, bytes: &[u8]) -> Result<Scan, Unread>
     ensures value { IfOk result (IsScanOf bytes.now) }
+    ensures causes { IfErr result (IsUnreadPicture bytes.now) }
 {
     let pixels = match pixels_of(alloc, bytes) {
         Ok(pixels) => pixels,
@@ -94,73 +100,73 @@ fn read_inverted(alloc: Global, pixels: &Pixels) -> Result<Scan, Unread>
     ensures square { IfOk result (λ scan. IsSquareOf scan (inverted pixels.now)) }
     ensures inverted { IfOk result (λ scan. scan.is_inverted ≡ true) }
     ensures read { IfOk result IsReadAs }
+    ensures causes { IfErr result (IsUnreadIn (inverted pixels.now)) }
 {
     let pixels = pixels.inverted(alloc)?;
     read_pixels(alloc, &pixels, true)
 }
 
 // Reads pixels, which may have dark and light exchanged.
+#[tactic(auto, using(crate::proofs::WhyUnread::unread_square))]
 fn read_pixels(alloc: Global, pixels: &Pixels, is_inverted: bool) -> Result<Scan, Unread>
     ensures square { IfOk result (λ scan. IsSquareOf scan pixels.now) }
     ensures inverted { IfOk result (λ scan. scan.is_inverted ≡ is_inverted) }
     ensures read { IfOk result IsReadAs }
+    ensures causes { IfErr result (IsUnreadIn pixels.now) }
 {
     let Some(square) = square_of(alloc, pixels)? else {
         return Err(Unread::NoSquare);
     };
-    if let Some(any) = read_any(alloc, &square.modules)? {
-        return Ok(Scan {
-            square,
-            is_inverted,
-            any,
-            has_headers: false,
-            headers: Vec::new(alloc),
-        });
-    }
-    let (reading, headers) = read_with_headers(alloc, &square)?;
-    Ok(Scan {
-        square,
-        is_inverted,
-        any: AnyReading {
-            position: Position::Upright,
-            is_inverted: false,
-            reading,
-        },
-        has_headers: true,
-        headers,
-    })
-}
-
-// The reading of an upright square in which headers stand between segments, and these headers.
-fn read_with_headers(alloc: Global, square: &Square) -> Result<(Reading, Vec<Header>), Unread>
-    ensures { IfOk result (λ read. IsHeaderReading square.now.modules.items
-        read.0.version read.0.ec_level read.0.mask read.0.wrong.items read.1.items) }
-{
-    let bits = match read_bits(alloc, &square.modules) {
-        Ok(bits) => bits,
+    let any = match read_any_parts(alloc, &square.modules) {
+        Ok(any) => any,
         Err(error) => return Err(no_symbol(square.count, error)),
     };
-    let found = match pieces(alloc, &bits.bits, bits.version) {
-        Ok(found) => found,
-        Err(error) => return Err(no_symbol(square.count, error.into())),
-    };
-    let headers = headers_of(alloc, &found.parts)?;
-    let reading = Reading {
-        version: bits.version,
-        ec_level: bits.ec_level,
-        mask: bits.mask,
-        data: as_handed_on(alloc, &found)?,
-        wrong: bits.wrong,
-    };
-    Ok((reading, headers))
+    Ok(scan_of(alloc, square, is_inverted, any)?)
 }
 
 // Why a square of so many modules a side is not read.
-fn no_symbol(count: usize, error: qrcode_reader::Unread) -> Unread {
+fn no_symbol(count: usize, error: qrcode_reader::Unread) -> Unread
+    ensures { result ≡ unread_as count error }
+{
     match error {
         qrcode_reader::Unread::OutOfMemory => Unread::OutOfMemory,
         error => Unread::NoSymbol(count, error),
     }
+}
+
+// What is read of a picture, by the headers and segments of its square.
+fn scan_of(
+    alloc: Global,
+    square: Square,
+    is_inverted: bool,
+    any: AnyPartsReading,
+) -> Result<Scan, AllocError>
+    requires { IsFirstPartsReading square.count square.modules.items any.position any.is_inverted
+        any.reading.version any.reading.ec_level any.reading.mask any.reading.parts.bytes.items
+        any.reading.parts.parts.items any.reading.wrong.items }
+    ensures square { IfOk result (λ scan. scan.square ≡ square) }
+    ensures inverted { IfOk result (λ scan. scan.is_inverted ≡ is_inverted) }
+    ensures read { IfOk result IsReadAs }
+{
+    let read = any.reading;
+    let headers = headers_of(alloc, &read.parts.parts)?;
+    let data = data_of(alloc, read.parts, headers.is_empty())?;
+    Ok(Scan {
+        square,
+        is_inverted,
+        any: AnyReading {
+            position: any.position,
+            is_inverted: any.is_inverted,
+            reading: Reading {
+                version: read.version,
+                ec_level: read.ec_level,
+                mask: read.mask,
+                data,
+                wrong: read.wrong,
+            },
+        },
+        headers,
+    })
 }
 
 // The headers among parts.
@@ -185,7 +191,18 @@ fn push_header(headers: &mut Vec<Header>, part: Part) -> Result<(), AllocError>
     Ok(())
 }
 
-// The bytes of a symbol's parts, as readers hand them on (ISO/IEC 18004:2006, 6.4.8): behind FNC1 a percent
+// The bytes of a symbol's parts, as readers hand them on.
+fn data_of(alloc: Global, parts: Parts, is_plain: bool) -> Result<Vec<u8>, AllocError>
+    ensures { IfOk result (λ bytes. IsTrue is_plain → bytes.items ≡ parts.bytes.items) }
+{
+    if is_plain {
+        Ok(parts.bytes)
+    } else {
+        as_handed_on(alloc, &parts)
+    }
+}
+
+// The bytes of parts with headers, as readers hand them on (ISO/IEC 18004:2006, 6.4.8): behind FNC1 a percent
 // sign of the mode Alphanumeric is a separator, byte 29, and two of them are a percent sign.
 fn as_handed_on(alloc: Global, found: &Parts) -> Result<Vec<u8>, AllocError> {
     let mut bytes = Vec::with_capacity(alloc, found.bytes.len())?;

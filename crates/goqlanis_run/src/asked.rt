@@ -1,7 +1,10 @@
 //! From the command line to what is asked for.
 
+use crate::contents::decimal;
 use crate::failure::{Failure, usage};
 use crate::segments::two_digits;
+use crate::streams::has_colours;
+use crate::warnings::warn;
 use clap::ArgMatches;
 use clap::parser::ValueSource;
 use goqlanis_draw::formats::{format_named, format_of_ending};
@@ -9,6 +12,7 @@ use goqlanis_draw::{Choice, Format, Ink, Request};
 use qrcode::bits::Manner;
 use qrcode::types::{EcLevel, Version};
 use qrcode_png::GREATEST_SIDE;
+use qrcode_several::Versions;
 use std::alloc::Global;
 
 /// Where the data comes from.
@@ -52,28 +56,47 @@ pub(crate) struct Asked<'a> {
     pub trims: bool,
     /// Whether each line is data of its own.
     pub is_by_line: bool,
+    /// Whether data that is empty is drawn.
+    pub allows_empty: bool,
 }
 
-/// What is asked for by the options that are given. `has_colours`: the drawing goes to a terminal
-/// that may show colours.
+/// What is asked for by the options that are given. What is doubtful is said on standard error.
 pub(crate) fn asked_for<'a>(
-    alloc: Global,
+    rt: &HostRuntime,
     given: &ArgMatches<'a>,
-    has_colours: bool,
 ) -> Result<Asked<'a>, Failure> {
+    let alloc = rt.alloc();
     if let Some(text) = not_together(given) {
         return usage(alloc, text);
     }
     let target = target_of(given);
-    let request = request_of(alloc, given, target, has_colours)?;
-    Ok(Asked {
+    let request = request_of(alloc, given, target, has_colours(rt))?;
+    let asked = Asked {
         request,
         writing: writing_of(given),
         source: source_of(given),
         target,
         trims: given.get_flag("trim"),
         is_by_line: given.get_flag("lines"),
-    })
+        allows_empty: given.get_flag("allow-empty"),
+    };
+    if asked.is_by_line {
+        check_one_behind_another(alloc, &asked)?;
+    }
+    warn(rt, &asked);
+    Ok(asked)
+}
+
+/// Refuses several drawings that go to one place, unless they are lines of characters.
+pub(crate) fn check_one_behind_another(alloc: Global, asked: &Asked<'_>) -> Result<(), Failure> {
+    match (asked.target, asked.request.format) {
+        (Target::File(_), _) | (_, Format::HalfBlocks | Format::Terminal | Format::Chars) => Ok(()),
+        _ => usage(
+            alloc,
+            "pictures are not written one behind another: \
+            add --output, as -o a.png, and files are numbered",
+        ),
+    }
 }
 
 // Options that do not go together, and what is said of them.
@@ -83,15 +106,20 @@ static NOT_TOGETHER: &[(&str, &str, &str)] = &[
     ("segment", "input", "--segment is the data: leave out TEXT and --input"),
     ("TEXT", "input", "TEXT and --input: one of them is enough"),
     ("bytes", "eci", "--bytes and --eci: one of them is enough"),
-    ("version", "least-version", "--version and --least-version: one of them is enough"),
+    ("symbol-version", "least-version",
+        "--symbol-version and --least-version: one of them is enough"),
     ("scale", "size", "--scale and --size: one of them is enough"),
     ("segment", "trim", "--segment and --trim: one of them is enough"),
     ("segment", "lines", "--segment and --lines: one of them is enough"),
     ("segment", "bytes", "--segment and --bytes: one of them is enough"),
     ("segment", "eci", "--segment and --eci: one of them is enough"),
     ("segment", "boost", "--segment and --boost: one of them is enough"),
-    ("version", "micro", "--version and --micro: --version M1 to M4 is Micro QR"),
-    ("version", "boost", "--version and --boost: take --least-version in place of --version"),
+    ("symbol-version", "greatest-version",
+        "--symbol-version and --greatest-version: one of them is enough"),
+    ("symbol-version", "micro",
+        "--symbol-version and --micro: --symbol-version M1 to M4 is Micro QR"),
+    ("symbol-version", "boost",
+        "--symbol-version and --boost: take --least-version in place of --symbol-version"),
     ("least-version", "micro", "--least-version and --micro: --micro is --least-version M1"),
 ];
 
@@ -139,7 +167,7 @@ fn writing_of(given: &ArgMatches<'_>) -> Writing {
 
 // Which version is taken: the one that is asked for, or the least from one on.
 fn choice_of(alloc: Global, given: &ArgMatches<'_>) -> Result<Choice, Failure> {
-    if let Some(version) = version_of(alloc, given, "version")? {
+    if let Some(version) = version_of(alloc, given, "symbol-version")? {
         return Ok(Choice::At(version));
     }
     let first = if given.get_flag("micro") {
@@ -152,6 +180,29 @@ fn choice_of(alloc: Global, given: &ArgMatches<'_>) -> Result<Choice, Failure> {
         Ok(Choice::Boosted(least))
     } else {
         Ok(Choice::From(least))
+    }
+}
+
+/// The versions of several symbols.
+pub(crate) fn versions_of(
+    alloc: Global,
+    given: &ArgMatches<'_>,
+    choice: Choice,
+) -> Result<Versions, Failure> {
+    let most = version_of(alloc, given, "greatest-version")?.unwrap_or(Version::Normal(40));
+    let (least, greatest) = match choice {
+        Choice::At(version) => (version, version),
+        Choice::From(version) | Choice::Boosted(version) => (version, most),
+    };
+    match (least, greatest) {
+        (Version::Normal(least), Version::Normal(greatest)) if least <= greatest => Ok(Versions {
+            least: least as usize,
+            greatest: greatest as usize,
+        }),
+        _ => usage(
+            alloc,
+            "several symbols have versions of 1 to 40, the greatest not below the least",
+        ),
     }
 }
 
@@ -243,8 +294,11 @@ fn sizes(
     given: &ArgMatches<'_>,
     format: Format,
 ) -> Result<(u16, Option<u16>), Failure> {
-    let (scale, size) = (given.get_one::<u16>("scale"), given.get_one::<u16>("size"));
-    let scale = scale.unwrap_or(format.pixels());
+    let size = match given.get_str("size") {
+        Some(text) => Some(size(alloc, text, dots(given, format))?),
+        None => None,
+    };
+    let scale = given.get_one::<u16>("scale").unwrap_or(format.pixels());
     let zone = given.get_one::<u8>("quiet-zone").unwrap_or(4);
     let most = GREATEST_SIDE / (177 + 2 * zone as u32);
     if format == Format::Png && scale as u32 > most {
@@ -254,6 +308,40 @@ fn sizes(
         )?));
     }
     Ok((scale, size))
+}
+
+// The dots of an inch, where they are known: of EPS, whose pixels are points, always.
+fn dots(given: &ArgMatches<'_>, format: Format) -> Option<u16> {
+    match format {
+        Format::Eps => Some(72),
+        _ => given.get_one::<u16>("dpi"),
+    }
+}
+
+// The pixels of a side that a text says: a number of them, or of millimetres.
+fn size(alloc: Global, text: &str, dots: Option<u16>) -> Result<u16, Failure> {
+    let pixels = match (text.strip_suffix("mm"), dots) {
+        (None, _) => text.parse::<u16>().ok(),
+        (Some(number), Some(dots)) => pixels_along(number, dots),
+        (Some(_), None) => {
+            return Err(Failure::Usage(format!(in alloc;
+                "--size {text}: how many pixels are these? Say it by --format png and --dpi 300, \
+                or take --format eps, in points"
+            )?));
+        }
+    };
+    match pixels {
+        Some(pixels) if pixels > 0 => Ok(pixels),
+        _ => Err(Failure::Usage(format!(in alloc;
+            "--size {text}: it wants pixels, 1 to 65535, or millimetres, as 30mm with --dpi"
+        )?)),
+    }
+}
+
+// The whole pixels along a number of millimetres, of which an inch has 25.4.
+fn pixels_along(millimetres: &str, dots: u16) -> Option<u16> {
+    let hundredths = decimal(millimetres, 2)?;
+    u16::try_from(hundredths.saturating_mul(dots as u64) / 2540).ok()
 }
 
 fn level(name: Option<&str>) -> EcLevel {
@@ -295,14 +383,14 @@ fn format(
             Some(format) => Ok(format),
             None => Err(Failure::Usage(format!(in alloc;
                 "--output {path}: its ending is none of .txt .png .svg .eps .pic .pbm .pgm; \
-                add --format"
+                take one of these, and convert it where need be, or add --format"
             )?)),
         },
     }
 }
 
-// The format of the ending of a file's name.
-fn ending_format(path: &str) -> Option<Format> {
+/// The format of the ending of a file's name.
+pub(crate) fn ending_format(path: &str) -> Option<Format> {
     let (_, ending) = path.rsplit_once('.')?;
     format_of_ending(ending)
 }

@@ -1,6 +1,6 @@
 //! The command line, as `clap` reads it.
 
-use crate::options::{EXAMPLES, Entry, Takes, Task};
+use crate::options::{EXAMPLES, Entry, OTHER_NAMES, Takes, Task};
 use clap::builder::ValueParser;
 use clap::{Arg, ArgAction, Command};
 use std::alloc::{AllocError, Global};
@@ -21,26 +21,38 @@ pub(crate) fn command_of<'a>(alloc: Global, task: &Task) -> Result<Command<'a>, 
 fn arguments<'a>(alloc: Global, task: &Task) -> Result<Vec<Arg<'a>>, AllocError> {
     let mut arguments = Vec::new(alloc);
     if let Some(operand) = task.operand() {
-        arguments.push(Arg::new(alloc, operand.name).help(operand.help))?;
+        let arg = Arg::new(alloc, operand.name).help(operand.help);
+        arguments.push(if operand.is_many {
+            arg.num_args(1..).action(ArgAction::Append).required(true)
+        } else {
+            arg
+        })?;
     }
     for entry in &task.all_options(alloc)? {
-        arguments.push(argument(alloc, entry))?;
+        arguments.push(argument(alloc, entry)?)?;
     }
     Ok(arguments)
 }
 
-// An option.
-fn argument<'a>(alloc: Global, entry: &'static Entry) -> Arg<'a> {
+// An option. A negative number behind it is its value.
+fn argument<'a>(alloc: Global, entry: &'static Entry) -> Result<Arg<'a>, AllocError> {
     let arg = Arg::new(alloc, entry.long)
         .long(entry.long)
-        .help(entry.help);
+        .help(entry.help)
+        .allow_negative_numbers(true);
     let arg = match entry.short {
         Some(letter) => arg.short(letter),
         None => arg,
     };
-    match entry.takes {
+    Ok(with_values(with_other_names(arg, entry.long)?, entry.takes))
+}
+
+// An option with what it takes.
+fn with_values<'a>(arg: Arg<'a>, takes: Takes) -> Arg<'a> {
+    match takes {
         Takes::Nothing => arg.action(ArgAction::SetTrue),
         Takes::Text(name) => arg.value_name(name),
+        Takes::Wanted(name) => arg.value_name(name).required(true),
         Takes::Texts(name) => arg.value_name(name).action(ArgAction::Append),
         Takes::Path => arg.value_name("FILE"),
         Takes::Word(words) => arg.value_parser(words).ignore_case(true),
@@ -48,4 +60,18 @@ fn argument<'a>(alloc: Global, entry: &'static Entry) -> Arg<'a> {
             .value_name("NUMBER")
             .value_parser(ValueParser::unsigned(least, most)),
     }
+}
+
+// The option of a name, with the letters and names that other programs have for it.
+fn with_other_names<'a>(arg: Arg<'a>, name: &str) -> Result<Arg<'a>, AllocError> {
+    let mut arg = arg;
+    for (other, option) in OTHER_NAMES {
+        if *option == name {
+            arg = match other.as_bytes() {
+                [letter] => arg.short_alias(char::from(*letter))?,
+                _ => arg.alias(other)?,
+            };
+        }
+    }
+    Ok(arg)
 }

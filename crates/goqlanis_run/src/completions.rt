@@ -92,7 +92,9 @@ fn push_bash_value(text: &mut String, entry: &Entry) -> Result<(), AllocError> {
             let words = joined(alloc, words, " ")?;
             format!(in alloc; "$(compgen -W '{words}' -- \"$word\")")?
         }
-        Takes::Text(_) | Takes::Texts(_) | Takes::Number(_, _) => String::new(alloc),
+        Takes::Text(_) | Takes::Wanted(_) | Takes::Texts(_) | Takes::Number(_, _) => String::new(
+            alloc,
+        ),
     };
     write!(text, "        --{long}")?;
     if let Some(letter) = entry.short {
@@ -122,7 +124,7 @@ fn push_zsh(text: &mut String, task: &Task) -> Result<(), AllocError> {
     }
     let words = words_of(alloc, task)?;
     let files = match task.purpose {
-        Purpose::Read => " '2:picture:_files'",
+        Purpose::Read | Purpose::Join => " '*:picture:_files'",
         _ => "",
     };
     text.push_str("      '--help[Print help]' \\\n")?;
@@ -144,7 +146,7 @@ fn push_zsh_option(text: &mut String, entry: &Entry) -> Result<(), AllocError> {
             let words = joined(*text.allocator(), words, " ")?;
             write!(text, ":word:({words})")?;
         }
-        Takes::Text(_) | Takes::Texts(_) => text.push_str(":text:")?,
+        Takes::Text(_) | Takes::Wanted(_) | Takes::Texts(_) => text.push_str(":text:")?,
         Takes::Number(_, _) => text.push_str(":number:")?,
     }
     text.push_str("' \\\n")
@@ -155,7 +157,7 @@ fn fish(alloc: Global) -> Result<String, AllocError> {
     let words = words_of(alloc, &DRAWING)?;
     let mut text = format!(in alloc;
         "complete -c goqlanis -f
-complete -c goqlanis -n '__fish_seen_subcommand_from read' -F
+complete -c goqlanis -n '__fish_seen_subcommand_from read join' -F
 complete -c goqlanis -n __fish_use_subcommand -a '{words}'\n"
     )?;
     for task in worded_tasks() {
@@ -194,7 +196,9 @@ fn push_fish_option(text: &mut String, entry: &Entry) -> Result<(), AllocError> 
             let words = joined(*text.allocator(), words, " ")?;
             write!(text, " -x -a '{words}'")?;
         }
-        Takes::Text(_) | Takes::Texts(_) | Takes::Number(_, _) => text.push_str(" -x")?,
+        Takes::Text(_) | Takes::Wanted(_) | Takes::Texts(_) | Takes::Number(_, _) => text.push_str(
+            " -x",
+        )?,
     }
     write!(text, " -d '{help}'\n")
 }

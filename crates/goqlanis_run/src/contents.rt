@@ -12,6 +12,7 @@ mod texts;
 
 use clap::ArgMatches;
 pub(crate) use elements::Elements;
+pub(crate) use numbers::decimal;
 pub(crate) use texts::text_of;
 
 /// What is given for an option, or an empty text.

@@ -6,9 +6,9 @@ use crate::failure::{Failure, refused};
 use crate::segments::{Pieces, characters_of};
 use crate::streams::{print, write_file};
 use goqlanis_draw::{
-    Request, Segment, application_refusal_text, draw, draw_elements, draw_for_application,
-    draw_segments, elements_refusal_text, manner_of, refusal_text, segments_refusal_text,
-    unwritable,
+    Drawing, Request, Segment, application_refusal_text, draw, draw_elements, draw_for_application,
+    draw_segments, elements_refusal_text, manner_of, quiet_zone, refusal_text,
+    segments_refusal_text, unwritable,
 };
 use qrcode::bits::Manner;
 use qrcode::types::QrError;
@@ -28,6 +28,7 @@ pub(crate) fn draw_one(
     number: Option<usize>,
 ) -> Result<ExitCode, Failure> {
     let alloc = rt.alloc();
+    check_empty(alloc, asked, bytes)?;
     let request = Request {
         manner: manner(alloc, asked.writing, bytes)?,
         ..asked.request
@@ -43,12 +44,23 @@ pub(crate) fn draw_one(
     write_drawing(rt, asked, &drawing, number)
 }
 
+/// Refuses data that is empty, unless that is allowed.
+pub(crate) fn check_empty(alloc: Global, asked: &Asked<'_>, bytes: &[u8]) -> Result<(), Failure> {
+    if !bytes.is_empty() || asked.allows_empty {
+        return Ok(());
+    }
+    refused(
+        alloc,
+        "there is nothing to draw, as of a variable that is not set; --allow-empty draws it",
+    )
+}
+
 /// The drawing of segments by hand, of words MODE:TEXT.
 pub(crate) fn segments_drawing(
     alloc: Global,
     request: &Request<'_>,
     words: &[&str],
-) -> Result<Vec<u8>, Failure> {
+) -> Result<Drawing, Failure> {
     let pieces = Pieces::read(alloc, words)?;
     drawing_of_segments(alloc, request, &pieces.segments(alloc)?)
 }
@@ -58,7 +70,7 @@ fn drawing_of_segments(
     alloc: Global,
     request: &Request<'_>,
     segments: &[Segment<'_>],
-) -> Result<Vec<u8>, Failure> {
+) -> Result<Drawing, Failure> {
     if let Some(place) = unwritable(segments) {
         let why = match segments.get(place) {
             Some(segment) => characters_of(segment.mode),
@@ -82,7 +94,7 @@ pub(crate) fn elements_drawing(
     alloc: Global,
     request: &Request<'_>,
     text: &str,
-) -> Result<Vec<u8>, Failure> {
+) -> Result<Drawing, Failure> {
     let read = Elements::read(alloc, text)?;
     drawing_of_elements(alloc, request, &read, &read.elements(alloc)?)
 }
@@ -93,7 +105,7 @@ fn drawing_of_elements(
     request: &Request<'_>,
     read: &Elements,
     elements: &[Element<'_>],
-) -> Result<Vec<u8>, Failure> {
+) -> Result<Drawing, Failure> {
     match draw_elements(alloc, request, elements) {
         Ok(drawing) => Ok(drawing),
         Err(SymbolError::Elements(Gs1Error::Refused(index, cause))) => {
@@ -113,7 +125,7 @@ pub(crate) fn application_drawing(
     request: &Request<'_>,
     indicator: &str,
     data: &str,
-) -> Result<Vec<u8>, Failure> {
+) -> Result<Drawing, Failure> {
     let Some(application) = indicator_of(indicator.as_bytes()) else {
         return Err(Failure::Usage(format!(in alloc;
             "--application {indicator}: an indicator is two digits or one letter, as 37 or a"
@@ -140,14 +152,16 @@ pub(crate) fn application_drawing(
 pub(crate) fn write_drawing(
     rt: &HostRuntime,
     asked: &Asked<'_>,
-    drawing: &[u8],
+    drawing: &Drawing,
     number: Option<usize>,
 ) -> Result<ExitCode, Failure> {
+    check_size(rt.alloc(), &asked.request, drawing)?;
+    let bytes = drawing.bytes.as_slice();
     match (asked.target, number) {
-        (Target::File(path), None) => write_file(rt, path, drawing),
+        (Target::File(path), None) => write_file(rt, path, bytes),
         (Target::File(path), Some(number)) => {
             let path = numbered(rt.alloc(), path, number)?;
-            write_file(rt, path.as_str(), drawing)
+            write_file(rt, path.as_str(), bytes)
         }
         (Target::Terminal, _) if !asked.request.format.is_text() && rt.stdout().is_terminal() => {
             refused(
@@ -156,7 +170,20 @@ pub(crate) fn write_drawing(
                 add --output FILE, or --output - to see it",
             )
         }
-        (Target::Terminal | Target::StandardOutput, _) => print(rt, drawing),
+        (Target::Terminal | Target::StandardOutput, _) => print(rt, bytes),
+    }
+}
+
+// Refuses a drawing whose side has more modules than pixels are asked for.
+fn check_size(alloc: Global, request: &Request<'_>, drawing: &Drawing) -> Result<(), Failure> {
+    let code = &drawing.code;
+    let side = code.width() as u32 + 2 * quiet_zone(request, code);
+    match request.size {
+        Some(size) if (size as u32) < side => Err(Failure::Refused(format!(in alloc;
+            "a side of {size} pixels: the symbol and its quiet zone have {side} modules a side; \
+            take --size {side} or more, or a smaller --quiet-zone"
+        )?)),
+        _ => Ok(()),
     }
 }
 
@@ -176,8 +203,8 @@ fn manner(alloc: Global, writing: Writing, bytes: &[u8]) -> Result<Manner, Failu
 fn numbered(alloc: Global, path: &str, number: usize) -> Result<String, AllocError> {
     match path.rsplit_once('.') {
         Some((stem, ending)) if !ending.contains('/') => {
-            format!(in alloc; "{stem}-{number:04}.{ending}")
+            format!(in alloc; "{stem}-{number:06}.{ending}")
         }
-        _ => format!(in alloc; "{path}-{number:04}"),
+        _ => format!(in alloc; "{path}-{number:06}"),
     }
 }

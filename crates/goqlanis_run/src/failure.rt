@@ -1,5 +1,6 @@
 //! Why the program does not do what it is asked.
 
+use crate::streams::shown;
 use std::alloc::{AllocError, AllocFailed, Global};
 use std::process::ExitCode;
 
@@ -10,8 +11,10 @@ pub(crate) enum Failure {
     Usage(String),
     /// The data, a file or the terminal does not serve: status 1.
     Refused(String),
-    /// Standard output takes no more: status 1.
-    Closed(String),
+    /// What was drawn cannot be written, so that nothing more is drawn: status 1.
+    Unwritten(String),
+    /// Nobody reads what is written to standard output: status 1, without a line.
+    Unheard,
     /// Memory ran out: status 1.
     OutOfMemory,
 }
@@ -28,7 +31,8 @@ impl<T: Drop> From<AllocFailed<T>> for Failure {
     }
 }
 
-/// The exit status of a run, whose failure is reported in a line on standard error.
+/// The exit status of a run, whose failure is reported in a line on standard error, unless it is that
+/// nobody reads.
 pub(crate) fn status(rt: &HostRuntime, run: Result<ExitCode, Failure>) -> ExitCode {
     let failure = match run {
         Ok(code) => return code,
@@ -36,9 +40,11 @@ pub(crate) fn status(rt: &HostRuntime, run: Result<ExitCode, Failure>) -> ExitCo
     };
     let (code, why) = match &failure {
         Failure::Usage(why) => (ExitCode::from(2), why.as_str()),
-        Failure::Refused(why) | Failure::Closed(why) => (ExitCode::FAILURE, why.as_str()),
+        Failure::Refused(why) | Failure::Unwritten(why) => (ExitCode::FAILURE, why.as_str()),
+        Failure::Unheard => return ExitCode::FAILURE,
         Failure::OutOfMemory => (ExitCode::FAILURE, "out of memory"),
     };
+    let why = shown(why);
     let _ = eprintln!(rt; "goqlanis: {why}");
     code
 }

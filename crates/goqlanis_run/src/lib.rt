@@ -2,6 +2,7 @@
 //! writes files.
 #![tactic(auto)]
 
+mod advice;
 mod asked;
 mod command;
 mod completions;
@@ -15,7 +16,9 @@ mod options;
 mod progress;
 mod reading;
 mod segments;
+mod several;
 mod streams;
 mod tasks;
+mod warnings;
 
 pub use tasks::run;

@@ -1,43 +1,73 @@
 //! A symbol of each line.
 
-use crate::asked::{Asked, Target};
+use crate::asked::{Asked, Source, Target};
 use crate::drawing::draw_one;
 use crate::failure::Failure;
 use crate::progress::Progress;
-use std::io::IsTerminal;
+use crate::streams::{ask, shown, unread};
+use std::alloc::Global;
+use std::fs;
+use std::io::{BufRead, BufReader, IsTerminal, Read};
 use std::process::ExitCode;
 
-/// Draws each line. A line that is refused is reported with its number, and the others are drawn.
-pub(crate) fn draw_lines(
+// The most bytes of a line that is read, far more than a symbol holds.
+const MOST_IN_LINE: usize = 100_000;
+
+/// Draws each line as it comes, without its line feed, or carriage return and line feed. A line that
+/// is refused is reported with its number, and the others are drawn; where a drawing cannot be
+/// written, the lines behind it are not drawn.
+pub(crate) fn draw_lines(rt: &HostRuntime, asked: &Asked<'_>) -> Result<ExitCode, Failure> {
+    let alloc = rt.alloc();
+    match asked.source {
+        Source::Text(text) => draw_from(rt, asked, "TEXT", text.as_bytes()),
+        Source::File(path) => match fs::open(rt, path) {
+            Ok(file) => draw_from(rt, asked, path, buffered(alloc, file)?),
+            Err(error) => unread(alloc, path, &error),
+        },
+        Source::StandardInput => {
+            ask(rt, "the lines");
+            draw_from(rt, asked, "standard input", buffered(alloc, rt.stdin())?)
+        }
+    }
+}
+
+fn buffered<R: Read + Drop>(alloc: Global, from: R) -> Result<BufReader<R>, Failure> {
+    BufReader::new(alloc, from).map_err(|_| Failure::OutOfMemory)
+}
+
+// Draws each line of what has a name.
+fn draw_from<R: BufRead + Drop>(
     rt: &HostRuntime,
     asked: &Asked<'_>,
-    bytes: &[u8],
+    name: &str,
+    from: R,
 ) -> Result<ExitCode, Failure> {
-    let bytes = bytes.strip_suffix(b"\n").unwrap_or(bytes);
-    let total = bytes.split(is_newline).count();
-    let mut progress = Progress::new(rt, total, is_drawn_to_terminal(rt, asked));
-    let drawn = draw_each(rt, asked, bytes, &mut progress);
+    let mut from = from;
+    let progress = Progress::new(rt, is_drawn_to_terminal(rt, asked));
+    let drawn = draw_each(rt, asked, name, &mut from, progress);
     progress.clear(rt);
     drawn
 }
 
-// Draws each line, and tells of those that are refused.
-fn draw_each(
+// Draws each line, and reports those that are refused.
+fn draw_each<R: BufRead>(
     rt: &HostRuntime,
     asked: &Asked<'_>,
-    bytes: &[u8],
-    progress: &mut Progress,
+    name: &str,
+    from: &mut R,
+    progress: Progress,
 ) -> Result<ExitCode, Failure> {
-    let mut number = 0usize;
     let mut code = ExitCode::SUCCESS;
-    for line in bytes.split(is_newline) {
-        progress.show(rt, number);
-        number = number.saturating_add(1);
-        match draw_one(rt, asked, line, Some(number)) {
-            Ok(_) => {}
+    let mut line = Vec::new(rt.alloc());
+    for number in 1..usize::MAX {
+        if !next_line(rt.alloc(), name, from, &mut line, number)? {
+            return Ok(code);
+        }
+        match draw_one(rt, asked, without_ending(&line), Some(number)) {
+            Ok(_) => progress.show(rt, number),
             Err(Failure::Refused(why)) => {
                 progress.clear(rt);
-                let _ = eprintln!(rt; "goqlanis: line {number}: {why}");
+                report(rt, number, why.as_str());
                 code = ExitCode::FAILURE;
             }
             Err(failure) => return Err(failure),
@@ -46,8 +76,42 @@ fn draw_each(
     Ok(code)
 }
 
-fn is_newline(byte: &u8) -> bool {
-    *byte == b'\n'
+// Reads a line with its ending, in place of another one. At the end there is none.
+fn next_line<R: BufRead>(
+    alloc: Global,
+    name: &str,
+    from: &mut R,
+    line: &mut Vec<u8>,
+    number: usize,
+) -> Result<bool, Failure> {
+    line.clear();
+    match from
+        .by_ref()
+        .take(MOST_IN_LINE as u64)
+        .read_until(b'\n', line)
+    {
+        Ok(0) => Ok(false),
+        Ok(_) if line.len() < MOST_IN_LINE || line.ends_with(b"\n") => Ok(true),
+        Ok(_) => Err(Failure::Refused(format!(in alloc;
+            "cannot read {name}: line {number} has more than {MOST_IN_LINE} bytes; \
+            neither it nor the lines behind it are drawn"
+        )?)),
+        Err(error) => unread(alloc, name, &error),
+    }
+}
+
+// A line without its line feed, or its carriage return and line feed.
+fn without_ending(line: &[u8]) -> &[u8] {
+    match line {
+        [text @ .., b'\r', b'\n'] | [text @ .., b'\n'] => text,
+        _ => line,
+    }
+}
+
+// Reports why a line is refused.
+fn report(rt: &HostRuntime, number: usize, why: &str) {
+    let why = shown(why);
+    let _ = eprintln!(rt; "goqlanis: line {number}: {why}");
 }
 
 // Whether drawings go to a terminal.

@@ -85,7 +85,7 @@ fn push_option(text: &mut String, entry: &Entry) -> Result<(), AllocError> {
 fn push_value(text: &mut String, takes: Takes) -> Result<(), AllocError> {
     match takes {
         Takes::Nothing => Ok(()),
-        Takes::Text(name) | Takes::Texts(name) => write!(text, " {name}"),
+        Takes::Text(name) | Takes::Wanted(name) | Takes::Texts(name) => write!(text, " {name}"),
         Takes::Path => text.push_str(" FILE"),
         Takes::Word(words) => {
             let words = joined(*text.allocator(), words, "|")?;

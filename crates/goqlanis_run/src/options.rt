@@ -26,10 +26,12 @@ macro_rules! entry {
 }
 
 mod fields;
+mod habits;
 mod symbols;
 
 use fields::{BILL, ELEMENTS, EVENT, MAIL, MECARD, OTP, PAYMENT, PLACE, SMS, TEL, VCARD, WIFI};
-use symbols::READING;
+pub(crate) use habits::{ADVICE, OTHER_NAMES};
+use symbols::{JOINING, READING, SEVERAL};
 pub(crate) use symbols::{DRAWING, EXAMPLES};
 
 /// What an option takes.
@@ -39,6 +41,8 @@ pub(crate) enum Takes {
     Nothing,
     /// A text, by the name that stands for it.
     Text(&'static str),
+    /// Such a text, which is wanted.
+    Wanted(&'static str),
     /// Such a text, more than once.
     Texts(&'static str),
     /// The path of a file.
@@ -94,8 +98,12 @@ pub(crate) enum Kind {
 pub(crate) enum Purpose {
     /// Data is drawn.
     Draw,
+    /// Data is drawn in several symbols.
+    Several,
     /// A picture is read.
     Read,
+    /// Pictures of several symbols are read.
+    Join,
     /// The text of fields is drawn, which options give.
     Content(Kind),
     /// Elements of GS1 are drawn.
@@ -109,6 +117,8 @@ pub(crate) struct Operand {
     pub name: &'static str,
     /// What help and the manual say of it.
     pub help: &'static str,
+    /// Whether there may be several of it, and one at least.
+    pub is_many: bool,
 }
 
 /// What the program can be asked for.
@@ -125,10 +135,10 @@ pub(crate) struct Task {
 }
 
 /// What words ask for, in the order of the manual.
-pub(crate) fn worded_tasks() -> [&'static Task; 13] {
+pub(crate) fn worded_tasks() -> [&'static Task; 15] {
     [
-        &READING, &WIFI, &MECARD, &VCARD, &PAYMENT, &BILL, &MAIL, &PLACE, &TEL, &SMS, &OTP, &EVENT,
-        &ELEMENTS,
+        &READING, &SEVERAL, &JOINING, &WIFI, &MECARD, &VCARD, &PAYMENT, &BILL, &MAIL, &PLACE, &TEL,
+        &SMS, &OTP, &EVENT, &ELEMENTS,
     ]
 }
 
@@ -149,22 +159,40 @@ static DATA_OPTIONS: &[&str] = &[
     "lines",
     "bytes",
     "segment",
+    "allow-empty",
     "completions",
     "manual",
-    "release",
+    "version",
+];
+
+// Those that go with data in one symbol alone.
+static ALONE_OPTIONS: &[&str] = &[
+    "lines",
+    "segment",
+    "micro",
+    "boost",
+    "eci",
+    "completions",
+    "manual",
+    "version",
 ];
 
 // Those that say the level and the version alone.
-static LEVEL_OPTIONS: &[&str] = &["level", "version", "least-version"];
+static LEVEL_OPTIONS: &[&str] = &["level", "symbol-version", "least-version"];
 
 // Those that go with texts alone.
 static TEXT_OPTIONS: &[&str] = &["micro", "boost", "eci"];
 
 impl Task {
+    /// Whether it draws.
+    pub(crate) fn draws(&self) -> bool {
+        !matches!(self.purpose, Purpose::Read | Purpose::Join)
+    }
+
     /// What it takes beside options.
     pub(crate) fn operand(&self) -> Option<Operand> {
         let (name, help) = match self.purpose {
-            Purpose::Draw => (
+            Purpose::Draw | Purpose::Several => (
                 "TEXT",
                 "The text; standard input where there is neither it nor --input",
             ),
@@ -173,6 +201,10 @@ impl Task {
                 "A PBM file, a PGM file of bytes, or half blocks; \
                 standard input where there is none",
             ),
+            Purpose::Join => (
+                "PICTURE",
+                "Pictures of all symbols of the data, in any order, as goqlanis read takes them",
+            ),
             Purpose::Elements => (
                 "ELEMENTS",
                 "Each identifier in round brackets, and behind it its value, in which a backslash \
@@ -180,7 +212,12 @@ impl Task {
             ),
             Purpose::Content(_) => return None,
         };
-        Some(Operand { name, help })
+        let is_many = matches!(self.purpose, Purpose::Join);
+        Some(Operand {
+            name,
+            help,
+            is_many,
+        })
     }
 
     /// All options that it takes, unless memory runs out: its own, and those of drawing that go
@@ -204,7 +241,8 @@ impl Task {
         let gives_data = DATA_OPTIONS.contains(&option);
         let is_for_texts = TEXT_OPTIONS.contains(&option);
         match self.purpose {
-            Purpose::Draw | Purpose::Read => false,
+            Purpose::Draw | Purpose::Read | Purpose::Join => false,
+            Purpose::Several => !ALONE_OPTIONS.contains(&option),
             Purpose::Content(Kind::Payment | Kind::Bill) => {
                 !gives_data && !is_for_texts && !LEVEL_OPTIONS.contains(&option)
             }

@@ -1,20 +1,24 @@
 //! `goqlanis read`: a picture, read back.
 
 use crate::failure::Failure;
-use crate::streams::{print, read_file, read_standard_input, write_file};
+use crate::streams::{Escaped, MOST_PICTURE, print, read_file, read_standard_input, write_file};
 use clap::ArgMatches;
 use goqlanis_draw::{Scan, Unread, read_picture};
 use qrcode::types::Version;
 use qrcode_reader::spell::Header;
 use qrcode_reader::{Position, Reading, WrongCodeword};
 use std::alloc::{AllocError, Global};
+use std::io::IsTerminal;
 use std::process::ExitCode;
 
 /// Reads the picture that the command line names, and writes its data.
 pub(crate) fn read(rt: &HostRuntime, given: &ArgMatches<'_>) -> Result<ExitCode, Failure> {
     let (name, bytes) = match given.get_str("PICTURE") {
-        None | Some("-") => ("standard input", read_standard_input(rt, "a picture")?),
-        Some(path) => (path, read_file(rt, path)?),
+        None | Some("-") => (
+            "standard input",
+            read_standard_input(rt, "a picture", MOST_PICTURE)?,
+        ),
+        Some(path) => (path, read_file(rt, path, MOST_PICTURE)?),
     };
     let scan = scan_of(rt.alloc(), name, &bytes)?;
     if given.get_flag("verbose") {
@@ -23,13 +27,25 @@ pub(crate) fn read(rt: &HostRuntime, given: &ArgMatches<'_>) -> Result<ExitCode,
     }
     let data = scan.any.reading.data.as_slice();
     match given.get_str("output") {
+        None if rt.stdout().is_terminal() => show(rt, data),
         None | Some("-") => print(rt, data),
         Some(path) => write_file(rt, path, data),
     }
 }
 
-// What is read of a picture of a name.
-fn scan_of(alloc: Global, name: &str, bytes: &[u8]) -> Result<Scan, Failure> {
+// Writes data to a terminal, where its control characters other than line breaks and tabs are shown
+// as escapes.
+fn show(rt: &HostRuntime, data: &[u8]) -> Result<ExitCode, Failure> {
+    let shown = Escaped {
+        bytes: data,
+        has_lines: true,
+    };
+    let text = format!(in rt.alloc(); "{shown}")?;
+    print(rt, text.as_bytes())
+}
+
+/// What is read of a picture of a name.
+pub(crate) fn scan_of(alloc: Global, name: &str, bytes: &[u8]) -> Result<Scan, Failure> {
     match read_picture(alloc, bytes) {
         Ok(scan) => Ok(scan),
         Err(Unread::OutOfMemory) => Err(Failure::OutOfMemory),

@@ -1,5 +1,6 @@
 //! What the command line asks for, done.
 
+use crate::advice::{advice, wrapped};
 use crate::asked::{Asked, Source, asked_for};
 use crate::command::command_of;
 use crate::completions::completions_of;
@@ -12,7 +13,8 @@ use crate::lines::draw_lines;
 use crate::manual::manual_page;
 use crate::options::{Kind, Purpose, Task, task_of};
 use crate::reading::read;
-use crate::streams::{has_colours, print, read_file, read_standard_input};
+use crate::several::{MOST_IN_SEVERAL, draw_several, join_pictures};
+use crate::streams::{Escaped, MOST_DATA, print, read_file, read_standard_input};
 use clap::ArgMatches;
 use clap::error::{Error, ErrorKind};
 use qrcode::QrCode;
@@ -59,7 +61,10 @@ fn all_words(rt: &HostRuntime) -> Result<Vec<String>, Failure> {
 fn run_task(rt: &HostRuntime, task: &Task, words: &[String]) -> Result<ExitCode, Failure> {
     match command_of(rt.alloc(), task)?.try_get_matches_from(words) {
         Ok(given) => obey(rt, task, &given),
-        Err(error) => end(rt, &error),
+        Err(error) => match advice(rt.alloc(), task, words, &error)? {
+            Some(why) => Err(Failure::Usage(why)),
+            None => end(rt, &error),
+        },
     }
 }
 
@@ -68,18 +73,25 @@ fn end(rt: &HostRuntime, error: &Error) -> Result<ExitCode, Failure> {
     if error.kind() == ErrorKind::OutOfMemory {
         return Err(Failure::OutOfMemory);
     }
-    // (what is written fails where nobody reads it)
-    match error.print(rt) {
-        Ok(()) => Ok(ExitCode::from(error.exit_code() as u8)),
-        Err(_) => Ok(ExitCode::FAILURE),
+    let text = format!(in rt.alloc(); "{error}")?;
+    if !error.use_stderr() {
+        return print(rt, wrapped(rt.alloc(), text.as_str())?.as_bytes());
     }
+    let shown = Escaped {
+        bytes: text.as_bytes(),
+        has_lines: true,
+    };
+    let _ = eprint!(rt; "{shown}");
+    Ok(ExitCode::from(error.exit_code() as u8))
 }
 
 // Does a task with the options that are given.
 fn obey(rt: &HostRuntime, task: &Task, given: &ArgMatches<'_>) -> Result<ExitCode, Failure> {
     match task.purpose {
         Purpose::Draw => draw_data(rt, given),
+        Purpose::Several => draw_parts(rt, given),
         Purpose::Read => read(rt, given),
+        Purpose::Join => join_pictures(rt, given),
         Purpose::Content(kind) => draw_content(rt, kind, given),
         Purpose::Elements => draw_gs1(rt, given),
     }
@@ -89,7 +101,7 @@ fn obey(rt: &HostRuntime, task: &Task, given: &ArgMatches<'_>) -> Result<ExitCod
 fn draw_data(rt: &HostRuntime, given: &ArgMatches<'_>) -> Result<ExitCode, Failure> {
     match text_about(rt.alloc(), given)? {
         Some(text) => print(rt, text.as_bytes()),
-        None => draw_asked(rt, given, &asked_for(rt.alloc(), given, has_colours(rt))?),
+        None => draw_asked(rt, given, &asked_for(rt, given)?),
     }
 }
 
@@ -99,7 +111,7 @@ fn text_about(alloc: Global, given: &ArgMatches<'_>) -> Result<Option<String>, A
         Ok(Some(completions_of(alloc, shell)?))
     } else if given.get_flag("manual") {
         Ok(Some(manual_page(alloc)?))
-    } else if given.get_flag("release") {
+    } else if given.get_flag("version") {
         Ok(Some(String::from_str(alloc, "goqlanis 1\n")?))
     } else {
         Ok(None)
@@ -116,18 +128,22 @@ fn draw_asked(
         let drawing = segments_drawing(rt.alloc(), &asked.request, words)?;
         return write_drawing(rt, asked, &drawing, None);
     }
-    let bytes = data(rt, asked)?;
     if asked.is_by_line {
-        draw_lines(rt, asked, &bytes)
-    } else {
-        draw_one(rt, asked, &bytes, None)
+        return draw_lines(rt, asked);
     }
+    draw_one(rt, asked, &data(rt, asked, MOST_DATA)?, None)
+}
+
+// Draws data in several symbols.
+fn draw_parts(rt: &HostRuntime, given: &ArgMatches<'_>) -> Result<ExitCode, Failure> {
+    let asked = asked_for(rt, given)?;
+    draw_several(rt, given, &asked, &data(rt, &asked, MOST_IN_SEVERAL)?)
 }
 
 // Draws the text of a kind, of the fields that are given.
 fn draw_content(rt: &HostRuntime, kind: Kind, given: &ArgMatches<'_>) -> Result<ExitCode, Failure> {
     let alloc = rt.alloc();
-    let asked = asked_for(alloc, given, has_colours(rt))?;
+    let asked = asked_for(rt, given)?;
     let text = text_of(alloc, kind, given)?;
     if matches!(kind, Kind::Bill) {
         check_bill(alloc, text.as_str())?;
@@ -159,7 +175,7 @@ fn check_bill(alloc: Global, text: &str) -> Result<(), Failure> {
 // Draws elements of GS1, or data of an application.
 fn draw_gs1(rt: &HostRuntime, given: &ArgMatches<'_>) -> Result<ExitCode, Failure> {
     let alloc = rt.alloc();
-    let asked = asked_for(alloc, given, has_colours(rt))?;
+    let asked = asked_for(rt, given)?;
     let text = given.get_str("ELEMENTS").unwrap_or("");
     let drawing = match given.get_str("application") {
         None => elements_drawing(alloc, &asked.request, text)?,
@@ -168,13 +184,13 @@ fn draw_gs1(rt: &HostRuntime, given: &ArgMatches<'_>) -> Result<ExitCode, Failur
     write_drawing(rt, &asked, &drawing, None)
 }
 
-// The data that is asked about.
-fn data(rt: &HostRuntime, asked: &Asked<'_>) -> Result<Vec<u8>, Failure> {
+// The data that is asked about, of at most so many bytes where it is read.
+fn data(rt: &HostRuntime, asked: &Asked<'_>, most: usize) -> Result<Vec<u8>, Failure> {
     let alloc = rt.alloc();
     let mut bytes = match asked.source {
         Source::Text(text) => Vec::from_slice(alloc, text.as_bytes())?,
-        Source::File(path) => read_file(rt, path)?,
-        Source::StandardInput => read_standard_input(rt, "the text")?,
+        Source::File(path) => read_file(rt, path, most)?,
+        Source::StandardInput => read_standard_input(rt, "the text", most)?,
     };
     if asked.trims && bytes.last() == Some(&b'\n') {
         bytes.pop();

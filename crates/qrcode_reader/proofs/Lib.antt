@@ -1,12 +1,14 @@
 pub mod Copies
 pub mod Corrections
 pub mod Interleaved
+pub mod PartsRead
 pub mod Positioned
 pub mod Refused
 pub mod ShownTexts
 pub mod Walked
 mod Digits
 mod Framed
+mod HalfBlocks
 mod Pieces
 mod Rasters
 mod ShownSquares

@@ -1,12 +1,16 @@
 -- Squares in other positions.
-use Rattle.std.proofs.Common.{◌≡◌, ◌≢◌, ◌*◌, ◌<◌, ℕ, Bool, true, false, List, length, refl, sym, subst, ◌∙◌, arith, IsTrue}
-use Rattle.std.proofs.lemmas.List.FromFn.{length-map-range_with_len}
+use Rattle.std.proofs.Common.{◌≡◌, ◌≢◌, ◌+◌, ◌*◌, ◌/◌, ◌%◌, ◌<◌, ℕ, Bool, true, false, List, length, get_or, refl, sym, ap, subst, ◌∙◌, arith, IsTrue}
+use Rattle.std.proofs.lemmas.List.FromFn.{fill_by_all, length-map-range_with_len}
+use Rattle.std.proofs.lemmas.Nat.{div-add-mod'}
 use Rattle.qrcode_types.specs.Versions.{is_valid, side}
 use Rattle.qrcode_types.specs.declared.types.Version.{Version}
 use Rattle.qrcode_types.specs.declared.types.Color.{Color}
+use Rattle.qrcode_types.specs.declared.types.Color.TheVariants.{Light, Dark}
 use Rattle.qrcode.specs.Reading.{Reads}
 use Rattle.qrcode.proofs.Sides.{valid_of}
-use Rattle.qrcode_reader.specs.Positions.{seen, seen_at, tried, IsUnreadIn}
+use Rattle.qrcode_reader.specs.Positions.{seen, seen_at, seen_color, tried, IsUnreadIn, IsPartlessIn}
+use Rattle.qrcode_reader.specs.Readings.{ReadsParts}
+use Rattle.qrcode_reader.specs.declared.spell.parts.Part.{Part}
 use Rattle.qrcode_reader.specs.declared.positions.Position.{Position}
 use Rattle.qrcode_reader.specs.declared.positions.Position.TheVariants.{Upright, TurnedLeft, UpsideDown, TurnedRight, Mirrored, Flipped, Transposed, Antitransposed}
 
@@ -19,6 +23,23 @@ pub unread_of_no_version : (s : List Color) → ((v : Version) → IsTrue (is_va
     → ¬ Reads (seen w p is_inverted s) bytes
 unread_of_no_version s none w square p is_inverted bytes reads =
     none reads.version (valid_of reads.version reads.level reads.read.exists) (sym square ∙ sym (length-seen w p is_inverted s) ∙ reads.read.square)
+
+-- nor do they hold headers and segments in one
+pub partless_of_no_version : (s : List Color) → ((v : Version) → IsTrue (is_valid v) → length s ≢ side v * side v) → (w : ℕ) → w * w ≡ length s → (p : Position) (is_inverted : Bool)
+    (bytes : List ℕ) (parts : List Part) → ¬ ReadsParts (seen w p is_inverted s) bytes parts
+partless_of_no_version s none w square p is_inverted bytes parts reads =
+    none reads.version (valid_of reads.version reads.level reads.read.exists) (sym square ∙ sym (length-seen w p is_inverted s) ∙ reads.read.square)
+
+same_color : (c : Color) → seen_color false c ≡ c
+same_color Light = refl
+same_color Dark = refl
+
+-- upright a square is seen as it stands
+pub seen_upright : (w : ℕ) (s : List Color) → w * w ≡ length s → seen w Upright false s ≡ s
+unfolding seen
+seen_upright w s square = sym (fill_by_all (seen_at w Upright false s) s (w * w) Light (sym square) (λ k inside.
+    let e : k / w * w + k % w ≡ k = omega (arith, div-add-mod' k w) in
+    sym (same_color (get_or s (k / w * w + k % w) Light) ∙ ap (λ n. get_or s n Light) e)))
 
 -- each position is tried
 place_of : (p : Position) (is_inverted : Bool) → (n : ℕ) × (n < 16) × (tried n ≡ (p, is_inverted))
@@ -43,3 +64,9 @@ pub unread_in_all : (w : ℕ) (s : List Color) → ((n : ℕ) → n < 16 → IsU
 unread_in_all w s none p is_inverted bytes =
     let at = place_of p is_inverted in
     subst (λ (t : Position × Bool). ¬ Reads (seen w t.0 t.1 s) bytes) at.2 (none at.0 at.1 bytes)
+
+pub partless_in_all : (w : ℕ) (s : List Color) → ((n : ℕ) → n < 16 → IsPartlessIn w s n) → (p : Position) (is_inverted : Bool) (bytes : List ℕ) (parts : List Part)
+    → ¬ ReadsParts (seen w p is_inverted s) bytes parts
+partless_in_all w s none p is_inverted bytes parts =
+    let at = place_of p is_inverted in
+    subst (λ (t : Position × Bool). ¬ ReadsParts (seen w t.0 t.1 s) bytes parts) at.2 (none at.0 at.1 bytes parts)

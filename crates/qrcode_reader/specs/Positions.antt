@@ -7,7 +7,8 @@ use Rattle.qrcode_types.specs.declared.types.Version.{Version}
 use Rattle.qrcode_types.specs.declared.types.EcLevel.{EcLevel}
 use Rattle.qrcode_places.specs.declared.masks.MaskPattern.{MaskPattern}
 use Rattle.qrcode.specs.Reading.{Reads}
-use Rattle.qrcode_reader.specs.Readings.{IsReading}
+use Rattle.qrcode_reader.specs.Readings.{IsReading, IsPartsReading, ReadsParts}
+use Rattle.qrcode_reader.specs.declared.spell.parts.Part.{Part}
 use Rattle.qrcode_reader.specs.declared.correction.WrongCodeword.{WrongCodeword}
 use Rattle.qrcode_reader.specs.declared.positions.Position.{Position}
 use Rattle.qrcode_reader.specs.declared.positions.Position.TheVariants.{Upright, TurnedLeft, UpsideDown, TurnedRight, Mirrored, Flipped, Transposed, Antitransposed}
@@ -47,3 +48,14 @@ pub record IsFirstReading (w : ℕ) (s : List Color) (p : Position) (is_inverted
   pub number : ℕ
   pub position : tried number ≡ (p, is_inverted)
   pub first : (n : ℕ) → n < number → IsUnreadIn w s n
+
+-- no headers and segments are read in the n-th of these positions
+abbrev pub IsPartlessIn : ℕ → List Color → ℕ → Type 0
+IsPartlessIn w s n = (bytes : List ℕ) (parts : List Part) → ¬ ReadsParts (seen w (tried n).0 (tried n).1 s) bytes parts
+
+-- the first position in which headers and segments are read of a square of side w, and these
+pub record IsFirstPartsReading (w : ℕ) (s : List Color) (p : Position) (is_inverted : Bool) (v : Version) (l : EcLevel) (k : MaskPattern) (bytes : List ℕ) (parts : List Part) (wrong : List WrongCodeword) : Type 0 where
+  pub read : IsPartsReading (seen w p is_inverted s) v l k bytes parts wrong
+  pub number : ℕ
+  pub position : tried number ≡ (p, is_inverted)
+  pub first : (n : ℕ) → n < number → IsPartlessIn w s n

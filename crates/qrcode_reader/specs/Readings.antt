@@ -8,13 +8,15 @@ use Rattle.qrcode_ec.specs.Blocks.{codewords}
 use Rattle.qrcode_places.specs.Stream.{stream}
 use Rattle.qrcode_places.specs.declared.masks.MaskPattern.{MaskPattern}
 use Rattle.qrcode_symbol.specs.Symbol.{blocks_in}
-use Rattle.qrcode_symbol.specs.Reading.{ReadsBitsOnly}
+use Rattle.qrcode_symbol.specs.Reading.{ReadsBits, ReadsBitsOnly}
 use Rattle.qrcode_bits.specs.Spelling.{Spells}
 use Rattle.qrcode_bits.specs.Shown.{Shows}
 use Rattle.qrcode.specs.Reading.{ReadsOnly}
 use Rattle.qrcode.specs.Texts.{ShowsTextOnly}
 use Rattle.qrcode_reader.specs.Formats.{HasFormat}
 use Rattle.qrcode_reader.specs.Corrected.{wrong_from, IsFirstDamaged}
+use Rattle.qrcode_reader.specs.spell.Parts.{AreParts, HaveNoParts}
+use Rattle.qrcode_reader.specs.declared.spell.parts.Part.{Part}
 use Rattle.qrcode_reader.specs.declared.correction.WrongCodeword.{WrongCodeword}
 use Rattle.qrcode_reader.specs.declared.refusals.Unread.{Unread}
 use Rattle.qrcode_reader.specs.declared.refusals.UnreadText.{UnreadText}
@@ -40,6 +42,21 @@ pub record IsTextReading (s : List Color) (v : Version) (l : EcLevel) (k : MaskP
   pub bits : List Bool
   pub read : IsBitReading s v l k bits wrong
   pub shown : Shows v bits text
+
+-- a reader finds these headers and segments, and the bytes of the segments
+pub record ReadsParts (s : List Color) (bytes : List ℕ) (parts : List Part) : Type 0 where
+  pub version : Version
+  pub level : EcLevel
+  pub bits : List Bool
+  pub read : ReadsBits s version level bits
+  pub parted : AreParts version bits bytes parts
+
+-- the square is read as these headers and segments and as no others, by bits of which the same is true
+pub record IsPartsReading (s : List Color) (v : Version) (l : EcLevel) (k : MaskPattern) (bytes : List ℕ) (parts : List Part) (wrong : List WrongCodeword) : Type 0 where
+  pub only : (others : List ℕ) (more : List Part) → ReadsParts s others more → (others ≡ bytes) × (more ≡ parts)
+  pub bits : List Bool
+  pub read : IsBitReading s v l k bits wrong
+  pub parted : AreParts v bits bytes parts
 
 abbrev pub HasNoVersion : List Color → Type 0  -- no version has a square of so many modules
 HasNoVersion s = (v : Version) → IsTrue (is_valid v) → length s ≢ side v * side v
@@ -75,6 +92,13 @@ pub record ShowsNothing (s : List Color) : Type 0 where
   pub only : ReadsBitsOnly s version level bits
   pub none : (text : List ℕ) → ¬ Shows version bits text
 
+pub record HoldsNoParts (s : List Color) : Type 0 where  -- all blocks can be corrected, and the bits are no headers and segments
+  pub version : Version
+  pub level : EcLevel
+  pub bits : List Bool
+  pub only : ReadsBitsOnly s version level bits
+  pub none : HaveNoParts version bits
+
 abbrev pub IsBitCause : List Color → Unread → Type 0  -- why a square is not read as bits
 IsBitCause s NoSuchSide = HasNoVersion s
 IsBitCause s NoFormat = HasNoFormat s
@@ -88,6 +112,13 @@ IsCause s NoFormat = HasNoFormat s
 IsCause s (Damaged b) = HasDamagedBlock s b
 IsCause s NotSpelled = SpellsNothing s
 IsCause s OutOfMemory = Unit
+
+abbrev pub IsPartsCause : List Color → Unread → Type 0  -- why a square is not read as headers and segments
+IsPartsCause s NoSuchSide = HasNoVersion s
+IsPartsCause s NoFormat = HasNoFormat s
+IsPartsCause s (Damaged b) = HasDamagedBlock s b
+IsPartsCause s NotSpelled = HoldsNoParts s
+IsPartsCause s OutOfMemory = Unit
 
 abbrev pub IsTextCause : List Color → UnreadText → Type 0  -- why a square is shown as no text
 IsTextCause s (NoBits e) = IsBitCause s e

@@ -1,3 +1,4 @@
 pub mod Heads
 pub mod Files
+pub mod Halves
 pub mod Squares

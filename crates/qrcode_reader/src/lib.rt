@@ -8,6 +8,7 @@ pub mod correct;
 mod correction;
 mod formats;
 pub mod laws;
+mod parts;
 mod positions;
 mod reading;
 mod refusals;
@@ -21,7 +22,8 @@ mod words;
 
 pub use correction::WrongCodeword;
 pub use formats::read_format;
-pub use positions::{AnyReading, Position, read_any};
+pub use parts::{PartsReading, read_parts};
+pub use positions::{AnyPartsReading, AnyReading, Position, read_any, read_any_parts};
 pub use reading::{BitReading, Reading, read, read_bits};
 pub use refusals::{Unread, UnreadText};
 pub use sizes::version_of;

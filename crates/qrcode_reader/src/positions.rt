@@ -1,11 +1,14 @@
 //! Squares that stand in another position, or with the colours exchanged.
 
-ghost use Rattle.std.specs.Prelude.{◌≡◌, ◌*◌, ◌<◌, ◌≤◌, ℕ, Bool, List, length, IsTrue, IfOk, IfSome, IfNone};
+ghost use Rattle.std.specs.Prelude.{◌≡◌, ◌*◌, ◌<◌, ◌≤◌, ◌⊎◌, ℕ, Bool, List, length, IsTrue, IfOk, IfErr, IfSome, IfNone};
 ghost use Rattle.qrcode.specs.Reading.{Reads};
-ghost use Rattle.qrcode_reader.specs.Positions.{standing, seen, seen_color, tried, IsFirstReading};
+ghost use Rattle.qrcode_reader.specs.Positions.{standing, seen, seen_color, tried, IsFirstReading, IsFirstPartsReading};
+ghost use Rattle.qrcode_reader.specs.Readings.{ReadsParts, IsPartsCause};
+ghost use Rattle.qrcode_reader.specs.declared.spell.parts.Part.{Part};
 ghost use Rattle.qrcode_reader.specs.declared.positions.Position.{Position};
 ghost use Rattle.qrcode_reader.specs.declared.refusals.Unread.TheVariants.{OutOfMemory};
 
+use crate::parts::{PartsReading, read_parts};
 use crate::reading::{Reading, read};
 use crate::refusals::Unread;
 use crate::sizes::version_of;
@@ -43,6 +46,17 @@ pub struct AnyReading {
     pub is_inverted: bool,
     /// What was read.
     pub reading: Reading,
+}
+
+/// A square read as headers and segments in the first position in which it can be.
+#[derive(Drop)]
+pub struct AnyPartsReading {
+    /// How the symbol stands.
+    pub position: Position,
+    /// Whether its dark modules are light, and its light ones dark.
+    pub is_inverted: bool,
+    /// What was read.
+    pub reading: PartsReading,
 }
 
 // Where the module at a column and row of the symbol stands, by column and row.
@@ -148,6 +162,72 @@ pub fn read_any(alloc: Global, modules: &[Color]) -> Result<Option<AnyReading>, 
         match read(alloc, &colors) {
             Ok(reading) => {
                 return Ok(Some(AnyReading {
+                    position,
+                    is_inverted,
+                    reading,
+                }));
+            }
+            Err(error) => {
+                if is_memory(error) {
+                    return Err(AllocError);
+                }
+            }
+        }
+    }
+    Ok(None)
+}
+
+/// Reads the headers and segments of a square in any of the positions of `read_any`: in the first one
+/// in which there are some.
+///
+/// An error is why the square as it stands is read as none (`read_parts`), where there is no such
+/// position, or `OutOfMemory`.
+pub fn read_any_parts(alloc: Global, modules: &[Color]) -> Result<AnyPartsReading, Unread>
+    ensures value { IfOk result (λ any. (side : ℕ)
+        → side * side ≡ length modules.now → IsFirstPartsReading side modules.now
+        any.position any.is_inverted any.reading.version any.reading.ec_level any.reading.mask
+        any.reading.parts.bytes.items any.reading.parts.parts.items any.reading.wrong.items) }
+    ensures causes { IfErr result (λ e. (e ≡ OutOfMemory) ⊎ (IsPartsCause modules.now e
+        × ((side : ℕ) → side * side ≡ length modules.now
+        → (position : Position) (is_inverted : Bool) (bytes : List ℕ) (parts : List Part)
+        → ¬ ReadsParts (seen side position is_inverted modules.now) bytes parts))) }
+{
+    match read_parts(alloc, modules) {
+        Ok(reading) => Ok(AnyPartsReading {
+            position: Position::Upright,
+            is_inverted: false,
+            reading,
+        }),
+        Err(error) => match parts_in_positions(alloc, modules)? {
+            Some(any) => Ok(any),
+            None => Err(error),
+        },
+    }
+}
+
+// The same, or `None` where there is no such position. It fails only where memory is refused.
+fn parts_in_positions(
+    alloc: Global,
+    modules: &[Color],
+) -> Result<Option<AnyPartsReading>, AllocError>
+    ensures value { IfOk result (λ found. IfSome found (λ any. (side : ℕ)
+        → side * side ≡ length modules.now → IsFirstPartsReading side modules.now
+        any.position any.is_inverted any.reading.version any.reading.ec_level any.reading.mask
+        any.reading.parts.bytes.items any.reading.parts.parts.items any.reading.wrong.items)) }
+    ensures none { IfOk result (λ found. IfNone found ((side : ℕ)
+        → side * side ≡ length modules.now
+        → (position : Position) (is_inverted : Bool) (bytes : List ℕ) (parts : List Part)
+        → ¬ ReadsParts (seen side position is_inverted modules.now) bytes parts)) }
+{
+    let Some(version) = version_of(modules.len()) else {
+        return Ok(None);
+    };
+    for number in 0..16 {
+        let (position, is_inverted) = tried(number);
+        let colors = seen(alloc, side(version), position, is_inverted, modules)?;
+        match read_parts(alloc, &colors) {
+            Ok(reading) => {
+                return Ok(Some(AnyPartsReading {
                     position,
                     is_inverted,
                     reading,

@@ -81,7 +81,7 @@ fn option_of(kind: Kind, field: Field) -> &'static str {
 // What is wrong, by its cause.
 fn told(cause: Cause) -> &'static str {
     match cause {
-        Cause::Empty => "it is wanted, and not empty",
+        Cause::Empty => "it is missing or empty",
         Cause::TooLong => "it is longer than the format allows",
         Cause::TooShort => "it is shorter than the format allows",
         Cause::ControlCharacter =>

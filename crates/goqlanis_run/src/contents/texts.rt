@@ -327,7 +327,7 @@ fn coordinate(alloc: Global, option: &str, text: &str) -> Result<i32, Failure>
             alloc,
             option,
             "it is no number of degrees",
-            "; write it as --latitude=-33.8568, with at most six digits behind the point",
+            "; write it as -33.8568, with at most six digits behind the point",
         )),
     }
 }

@@ -1,6 +1,6 @@
 //! Texts of fields and elements of GS1, with the options that give them.
 
-use super::Takes::{Nothing, Text, Word};
+use super::Takes::{Nothing, Text, Wanted, Word};
 use super::{Entry, Kind, Purpose, Task};
 
 /// Elements of GS1.
@@ -23,7 +23,7 @@ pub(crate) static WIFI: Task = Task {
     about: "Draws the symbol that joins a wireless network",
     purpose: Purpose::Content(Kind::Wifi),
     options: &[
-        entry!("ssid", Text("NAME"), "The name of the network, 1 to 32 bytes"),
+        entry!("ssid", Wanted("NAME"), "The name of the network, 1 to 32 bytes"),
         entry!("password", Text("TEXT"), "Its password; none for an open network"),
         entry!("security", Word(&["open", "WEP", "WPA", "WPA3"]),
             "How it is secured; otherwise WPA with a password, and open without"),
@@ -38,7 +38,7 @@ pub(crate) static MECARD: Task = Task {
     about: "Draws the symbol of a contact, as MECARD",
     purpose: Purpose::Content(Kind::Mecard),
     options: &[
-        entry!("family", Text("NAME"), "The family name"),
+        entry!("family", Wanted("NAME"), "The family name"),
         entry!("given", Text("NAME"), "The given name"),
         entry!("phone", Text("NUMBER"), "A telephone number"),
         entry!("email", Text("ADDRESS"), "An address of mail"),
@@ -60,8 +60,8 @@ pub(crate) static VCARD: Task = Task {
     about: "Draws the symbol of a contact, as vCard 3.0",
     purpose: Purpose::Content(Kind::Vcard),
     options: &[
-        entry!("name", Text("NAME"), "The whole name, as it is shown"),
-        entry!("family", Text("NAME"), "The family name"),
+        entry!("name", Wanted("NAME"), "The whole name, as it is shown"),
+        entry!("family", Wanted("NAME"), "The family name"),
         entry!("given", Text("NAME"), "The given names"),
         entry!("organisation", Text("NAME"), "The organisation"),
         entry!("phone", Text("NUMBER"), "A telephone number"),
@@ -83,9 +83,9 @@ pub(crate) static PAYMENT: Task = Task {
     about: "Draws the symbol of a SEPA credit transfer (EPC069-12), of level M",
     purpose: Purpose::Content(Kind::Payment),
     options: &[
-        entry!("name", Text("NAME"), "Who is paid, up to 70 characters"),
-        entry!("iban", Text("IBAN"), "The account, without spaces"),
-        entry!("amount", Text("EUROS"), "The amount in euros, as 12.30"),
+        entry!("name", Wanted("NAME"), "Who is paid, up to 70 characters"),
+        entry!("iban", Wanted("IBAN"), "The account, without spaces"),
+        entry!("amount", Wanted("EUROS"), "The amount in euros, as 12.30"),
         entry!("bic", Text("BIC"),
             "The identifier of the bank, which makes the text one of version 001; otherwise 002"),
         entry!("purpose", Text("CODE"), "The code of the purpose, up to four capitals and digits"),
@@ -102,13 +102,13 @@ pub(crate) static BILL: Task = Task {
     about: "Draws the symbol of a Swiss QR bill, of level M, without its cross",
     purpose: Purpose::Content(Kind::Bill),
     options: &[
-        entry!("iban", Text("IBAN"), "The account in Switzerland or Liechtenstein, without spaces"),
-        entry!("name", Text("NAME"), "Who is paid, up to 70 characters"),
+        entry!("iban", Wanted("IBAN"), "The account in Switzerland or Liechtenstein, without spaces"),
+        entry!("name", Wanted("NAME"), "Who is paid, up to 70 characters"),
         entry!("street", Text("TEXT"), "The street of who is paid"),
         entry!("number", Text("TEXT"), "The number of the house"),
-        entry!("code", Text("TEXT"), "The postal code"),
-        entry!("city", Text("TEXT"), "The town"),
-        entry!("country", Text("CODE"), "The country, two capitals, as CH"),
+        entry!("code", Wanted("TEXT"), "The postal code"),
+        entry!("city", Wanted("TEXT"), "The town"),
+        entry!("country", Wanted("CODE"), "The country, two capitals, as CH"),
         entry!("amount", Text("NUMBER"), "The amount, as 1949.75; otherwise it is left open"),
         entry!("currency", Word(&["CHF", "EUR"]), "The currency; CHF unless said otherwise"),
         entry!("debtor-name", Text("NAME"),
@@ -131,7 +131,7 @@ pub(crate) static MAIL: Task = Task {
     about: "Draws the symbol that writes a mail",
     purpose: Purpose::Content(Kind::Mail),
     options: &[
-        entry!("email", Text("ADDRESS"), "To whom it goes"),
+        entry!("email", Wanted("ADDRESS"), "To whom it goes"),
         entry!("subject", Text("TEXT"), "Its subject"),
         entry!("message", Text("TEXT"), "What it says"),
     ],
@@ -144,9 +144,9 @@ pub(crate) static PLACE: Task = Task {
     about: "Draws the symbol of a place on the earth",
     purpose: Purpose::Content(Kind::Place),
     options: &[
-        entry!("latitude", Text("DEGREES"),
-            "Degrees north of the equator, -90 to 90, as --latitude=-33.8568"),
-        entry!("longitude", Text("DEGREES"), "Degrees east of Greenwich, -180 to 180"),
+        entry!("latitude", Wanted("DEGREES"),
+            "Degrees north of the equator, -90 to 90, as -33.8568"),
+        entry!("longitude", Wanted("DEGREES"), "Degrees east of Greenwich, -180 to 180"),
     ],
 };
 
@@ -157,7 +157,7 @@ pub(crate) static TEL: Task = Task {
     about: "Draws the symbol that dials a number",
     purpose: Purpose::Content(Kind::Tel),
     options: &[
-        entry!("phone", Text("NUMBER"), "The number, as +41441234567"),
+        entry!("phone", Wanted("NUMBER"), "The number, as +41441234567"),
     ],
 };
 
@@ -168,7 +168,7 @@ pub(crate) static SMS: Task = Task {
     about: "Draws the symbol that writes a message to a telephone",
     purpose: Purpose::Content(Kind::Sms),
     options: &[
-        entry!("phone", Text("NUMBER"), "The number, as +41441234567"),
+        entry!("phone", Wanted("NUMBER"), "The number, as +41441234567"),
         entry!("message", Text("TEXT"), "What it says"),
     ],
 };
@@ -180,8 +180,8 @@ pub(crate) static OTP: Task = Task {
     about: "Draws the symbol of one-time passwords, for programs that show them",
     purpose: Purpose::Content(Kind::Otp),
     options: &[
-        entry!("account", Text("NAME"), "For which account they are"),
-        entry!("secret", Text("SECRET"), "The secret in base 32, without spaces and ="),
+        entry!("account", Wanted("NAME"), "For which account they are"),
+        entry!("secret", Wanted("SECRET"), "The secret in base 32, without spaces and ="),
         entry!("issuer", Text("NAME"), "Who issues them"),
         entry!("algorithm", Word(&["SHA1", "SHA256", "SHA512"]),
             "The hash; SHA1 unless said otherwise"),
@@ -200,13 +200,13 @@ pub(crate) static EVENT: Task = Task {
     about: "Draws the symbol of an event of a calendar",
     purpose: Purpose::Content(Kind::Event),
     options: &[
-        entry!("begin", Text("TIME"),
+        entry!("begin", Wanted("TIME"),
             "When it begins, in UTC as 19970714T170000Z, or a day as 19970714"),
-        entry!("end", Text("TIME"), "When it ends; of whole days the day behind the last"),
+        entry!("end", Wanted("TIME"), "When it ends; of whole days the day behind the last"),
         entry!("summary", Text("TEXT"), "What it is"),
         entry!("location", Text("TEXT"), "Where it is"),
         entry!("description", Text("TEXT"), "What is told of it"),
-        entry!("uid", Text("TEXT"), "Its identifier, which no other event has"),
-        entry!("stamp", Text("TIME"), "When this was written, in UTC"),
+        entry!("uid", Wanted("TEXT"), "Its identifier, which no other event has"),
+        entry!("stamp", Wanted("TIME"), "When this was written, in UTC"),
     ],
 };

@@ -26,13 +26,14 @@ pub(crate) static DRAWING: Task = Task {
         entry!("input", 'i', Path, "Read the data from a file, in place of TEXT"),
         entry!("trim", Nothing, "Leave out one newline at the end of the data"),
         entry!("lines", Nothing, "Draw a symbol of each line of the data; files are numbered"),
+        entry!("allow-empty", Nothing, "Draw data that is empty, too"),
         entry!("output", 'o', Path, "Write to a file, whole or not at all; - is standard output"),
         entry!("format", 'f', Word(FORMATS),
             "What to write; otherwise by the ending of the file: .txt .png .svg .eps .pic .pbm \
             .pgm"),
         entry!("level", 'l', Word(&["L", "M", "Q", "H"]),
             "Error correction level; M unless said otherwise"),
-        entry!("version", 'v', Text("VERSION"),
+        entry!("symbol-version", 'v', Text("VERSION"),
             "Version of the symbol, 1 to 40 or M1 to M4; otherwise the least of 1 to 40"),
         entry!("least-version", Text("VERSION"),
             "Take the least version from this one on, in the order M1 to M4, 1 to 40"),
@@ -48,8 +49,9 @@ pub(crate) static DRAWING: Task = Task {
             "Modules of the quiet zone at each side; otherwise 4, and 2 for Micro QR"),
         entry!("scale", 's', Number(1, 1000),
             "Pixels of a module; otherwise 8, and 1 for texts and pic"),
-        entry!("size", Number(1, 65535),
-            "Pixels that a side may have: modules are as large as there is room for"),
+        entry!("size", Text("SIZE"),
+            "Pixels that a side may have, or with --dpi millimetres, as 30mm: modules are as large \
+            as there is room for"),
         entry!("dpi", Number(1, 65535),
             "Dots per inch that a PNG file names: pixels along an inch when it is printed"),
         entry!("colour", Text("COLOUR"),
@@ -59,7 +61,7 @@ pub(crate) static DRAWING: Task = Task {
         entry!("invert", Nothing, "Exchange dark and light"),
         entry!("completions", Word(&["bash", "zsh", "fish"]), "Write the completions of a shell"),
         entry!("manual", Nothing, "Write the manual page, for man -l"),
-        entry!("release", Nothing, "Write the version of the program"),
+        entry!("version", 'V', Nothing, "Write the version of the program"),
     ],
 };
 
@@ -77,16 +79,45 @@ pub(crate) static READING: Task = Task {
     ],
 };
 
+/// Data, drawn in several symbols.
+#[rattlefmt::skip]
+pub(crate) static SEVERAL: Task = Task {
+    word: "several",
+    about: "Draws data in several symbols, up to 16, which name their place (structured append)",
+    purpose: Purpose::Several,
+    options: &[
+        entry!("count", Number(1, 16),
+            "How many symbols there may be, of the least version that does; otherwise there are as \
+            few as can be"),
+        entry!("greatest-version", Text("VERSION"),
+            "Take no version behind this one, 1 to 40; otherwise 40"),
+    ],
+};
+
+/// Pictures of several symbols, read.
+#[rattlefmt::skip]
+pub(crate) static JOINING: Task = Task {
+    word: "join",
+    about: "Reads clean pictures of several symbols, and writes their data",
+    purpose: Purpose::Join,
+    options: &[
+        entry!("output", 'o', Path,
+            "Write the data to a file, whole or not at all; - is standard output"),
+    ],
+};
+
 /// Examples, as the help shows them.
 pub(crate) const EXAMPLES: &str = "Examples:
   goqlanis \"https://example.org\"
       draws a symbol in the terminal
   goqlanis -o ticket.png --scale 8 -i ticket.txt
       draws the bytes of a file, as PNG
-  goqlanis --level Q --version M4 --format svg 1234567
+  goqlanis --level Q -v M4 --format svg 1234567
       draws a Micro symbol
   goqlanis --lines -o seat.svg < seats.txt
-      draws seat-0001.svg, seat-0002.svg and so on
+      draws seat-000001.svg, seat-000002.svg and so on
+  goqlanis several --count 4 -o part.pbm -i ticket.txt
+      draws data in up to 4 symbols; goqlanis join part-*.pbm reads them back
   goqlanis read ticket.pbm
       reads a picture back; goqlanis read --help says more
   goqlanis wifi --ssid Guests --password \"a;b\"

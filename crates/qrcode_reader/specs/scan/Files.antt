@@ -1,7 +1,8 @@
 -- The pixels of picture files.
-use Rattle.std.specs.Prelude.{◌≡◌, ℕ, ◌+◌, ◌-◌, ◌*◌, ◌/◌, ◌%◌, ◌^◌, ◌≤◌, ◌<◌, ◌==◌, ◌||◌, nat_lt, Bool, true, false, List, [], ◌∷◌, length, map, flat_map, drop, take, take_while, codes, slice_index, if◌then◌else◌}
+use Rattle.std.specs.Prelude.{◌≡◌, ◌≢◌, ℕ, ◌+◌, ◌-◌, ◌*◌, ◌/◌, ◌%◌, ◌^◌, ◌≤◌, ◌<◌, ◌==◌, ◌||◌, nat_lt, Bool, true, false, List, [], ◌∷◌, length, map, flat_map, drop, take, take_while, codes, slice_index, if◌then◌else◌}
 use Rattle.std.specs.List.{range_with_len}
 use Rattle.qrcode_render.specs.Bitmap.{Bitmap}
+use Rattle.qrcode_reader.specs.scan.Halves.{IsHalfBlocks}
 use Rattle.qrcode_reader.specs.scan.Heads.{is_white, is_ended, sides_of, greatest_of, HasSides, HasGrey}
 use Rattle.qrcode_reader.specs.declared.scan.pixels.Unscanned.{Unscanned}
 use Rattle.qrcode_reader.specs.declared.scan.pixels.Unscanned.TheVariants.{NotPicture, NoSide, NoGrey, NotPixel, TooShort, OutOfMemory}
@@ -89,11 +90,12 @@ IsGreysRefusal file TooShort =
 IsGreysRefusal file OutOfMemory = Unit
 IsGreysRefusal file NotPicture = ⊥
 
--- the pixels that the bytes of a picture show: those of a PBM file of figures or bits, or of a PGM file, by its first two bytes
+-- the pixels that the bytes of a picture show: those of a PBM file of figures or bits, or of a PGM file, by its first two bytes, or else of half blocks
 pub record IsSeenIn (file : List ℕ) (b : Bitmap) : Type 0 where
   pub figures : take 2 file ≡ codes "P1" → IsFiguresFile file × (b ≡ figures_file file)
   pub bits : take 2 file ≡ codes "P4" → IsBitsFile file × (b ≡ bits_file file)
   pub greys : take 2 file ≡ codes "P5" → IsGreysFile file × (b ≡ greys_file file)
+  pub halves : take 2 file ≢ codes "P1" → take 2 file ≢ codes "P4" → take 2 file ≢ codes "P5" → IsHalfBlocks file b
 
 -- why the bytes of a picture are refused: of a file, by its first two bytes, what it lacks to be one, or that memory ran out
 pub record IsUnscanned (file : List ℕ) (e : Unscanned) : Type 0 where

@@ -1,53 +1,60 @@
 //! Texts of half blocks.
 
-ghost use Rattle.std.specs.Prelude.{◌<◌, ◌≤◌, length, IfOk};
+ghost use Rattle.std.specs.Prelude.{◌≡◌, ◌<◌, ◌≤◌, ◌++◌, [], Some, false, not, length, slice_index_or, IfOk, OnOk};
+ghost use Rattle.std.specs.List.{list_all};
+ghost use Rattle.qrcode_reader.specs.scan.Halves.{IsHalf, AreHalves, IsHalfBlocks, behind_colour, longest, rows_from, padded, without_last};
 
-use crate::scan::pixels::{GREATEST_SIDE, Pixels, Unscanned};
+use crate::scan::pixels::{Pixels, Unscanned};
 use std::alloc::{AllocError, Global};
 
+// The most pixels along a side of a text of half blocks: 22 for each module of the largest symbol in
+// its quiet zone. It bounds the memory that is taken for lines that end early.
+const GREATEST_HALVES: usize = 4096;
+
 // What a text of half blocks consists of.
-#[derive(Clone, Copy, PartialEq, Eq)]
-enum Half {
+#[derive(Clone, Copy)]
+pub(crate) enum Half {
     // Two pixels, one above the other, each dark or not.
     Pair(bool, bool),
     // The end of a line.
     End,
-    // What shows nothing.
-    Nothing,
+    // A carriage return, which shows nothing.
+    Return,
+    // The control sequence of colours, which shows nothing.
+    Colours,
 }
 
 /// The pixels of a text of half blocks: a line for two rows of pixels. Control sequences of a
 /// terminal that set colours show nothing, and lines that end early go on with light pixels. Where
 /// there is a row more than columns, and it is light, it is left out.
-pub(crate) fn half_block_pixels(alloc: Global, text: &[u8]) -> Result<Pixels, Unscanned> {
-    let mut halves = halves_of(alloc, text)?;
-    if halves.last() != Some(&Half::End) {
-        halves.push(Half::End)?;
-    }
+///
+/// `NoSide`: there is no pixel, or there are more than 4,096 along a side. `NotPicture`: it is no
+/// such text. `OutOfMemory` is the only other error.
+pub(crate) fn half_block_pixels(alloc: Global, text: &[u8]) -> Result<Pixels, Unscanned>
+    ensures { IfOk result (IsHalfBlocks text.now) }
+{
+    let halves = halves_of(alloc, text)?;
     let across = width(&halves);
-    if across == 0 || across > GREATEST_SIDE {
+    if across == 0 || across > GREATEST_HALVES {
         return Err(Unscanned::NoSide);
     }
-    let mut marks = rows(alloc, &halves, across)?;
-    if marks.len() == across * (across + 1) && is_light(&marks[across * across..]) {
-        marks.truncate(across * across);
-    }
+    let marks = square_rows(rows(alloc, &halves, across)?, across);
     let down = marks.len() / across;
-    if down > GREATEST_SIDE || down * across != marks.len() {
+    if down > GREATEST_HALVES || down * across != marks.len() {
         return Err(Unscanned::NoSide);
     }
     Ok(Pixels::new(across, down, marks))
 }
 
-// What a text consists of; its last line ends.
-fn halves_of(alloc: Global, text: &[u8]) -> Result<Vec<Half>, Unscanned> {
+// What a text consists of.
+fn halves_of(alloc: Global, text: &[u8]) -> Result<Vec<Half>, Unscanned>
+    ensures { IfOk result (λ halves. AreHalves halves.items text.now) }
+{
     let mut halves = Vec::new(alloc);
     let mut rest = text;
     while !rest.is_empty() {
         let (half, more) = next_half(rest)?;
-        if half != Half::Nothing {
-            halves.push(half)?;
-        }
+        halves.push(half)?;
         rest = more;
     }
     Ok(halves)
@@ -56,6 +63,7 @@ fn halves_of(alloc: Global, text: &[u8]) -> Result<Vec<Half>, Unscanned> {
 // What a text begins with, and what follows it.
 fn next_half(text: &[u8]) -> Result<(Half, &[u8]), Unscanned>
     requires { 1 ≤ length text.now }
+    ensures value { IfOk result (λ found. IsHalf found.0 text.now found.1.now) }
     ensures at_most { IfOk result (λ found. length found.1.now < length text.now) }
 {
     match text {
@@ -64,20 +72,23 @@ fn next_half(text: &[u8]) -> Result<(Half, &[u8]), Unscanned>
         [0xe2, 0x96, 0x84, more @ ..] => Ok((Half::Pair(false, true), more)),
         [0xe2, 0x96, 0x88, more @ ..] => Ok((Half::Pair(true, true), more)),
         [b'\n', more @ ..] => Ok((Half::End, more)),
-        [b'\r', more @ ..] => Ok((Half::Nothing, more)),
-        [0x1b, b'[', more @ ..] => Ok((Half::Nothing, behind_colour(more)?)),
+        [b'\r', more @ ..] => Ok((Half::Return, more)),
+        [0x1b, b'[', more @ ..] => Ok((Half::Colours, behind_colour(more)?)),
         _ => Err(Unscanned::NotPicture),
     }
 }
 
 // What follows the m that ends a control sequence of digits and semicolons.
+#[tactic(auto, unfolding(crate::specs::scan::Halves::behind_colour))]
 fn behind_colour(text: &[u8]) -> Result<&[u8], Unscanned>
+    ensures value { IfOk result (λ rest. behind_colour text.now ≡ Some rest.now) }
     ensures at_most { IfOk result (λ rest. length rest.now ≤ length text.now) }
 {
-    for at in 0..text.len() {
-        match text[at] {
-            b'm' => return Ok(&text[at + 1..]),
-            b'0'..=b'9' | b';' => {}
+    let mut rest = text;
+    while let [first, more @ ..] = rest {
+        match *first {
+            b'm' => return Ok(more),
+            b'0'..=b'9' | b';' => rest = more,
             _ => return Err(Unscanned::NotPicture),
         }
     }
@@ -85,7 +96,10 @@ fn behind_colour(text: &[u8]) -> Result<&[u8], Unscanned>
 }
 
 // The columns of the longest line.
-fn width(halves: &[Half]) -> usize {
+#[tactic(auto, unfolding(crate::specs::scan::Halves::longest))]
+fn width(halves: &[Half]) -> usize
+    ensures { result ≡ longest 0 0 halves.now }
+{
     let mut most = 0;
     let mut columns = 0;
     for half in halves {
@@ -95,14 +109,18 @@ fn width(halves: &[Half]) -> usize {
                 most = most.max(columns);
                 columns = 0;
             }
-            Half::Nothing => {}
+            Half::Return | Half::Colours => {}
         }
     }
-    most
+    most.max(columns)
 }
 
 // The pixels of lines that are so many columns wide.
-fn rows(alloc: Global, halves: &[Half], across: usize) -> Result<Vec<bool>, AllocError> {
+#[tactic(auto, unfolding(crate::specs::scan::Halves::rows_from))]
+fn rows(alloc: Global, halves: &[Half], across: usize) -> Result<Vec<bool>, Unscanned>
+    requires { across ≤ 4096 }
+    ensures { IfOk result (λ marks. marks.items ≡ rows_from across [] [] halves.now) }
+{
     let mut marks = Vec::new(alloc);
     let (mut upper, mut lower) = (Vec::new(alloc), Vec::new(alloc));
     for half in halves {
@@ -112,26 +130,59 @@ fn rows(alloc: Global, halves: &[Half], across: usize) -> Result<Vec<bool>, Allo
                 lower.push(below)?;
             }
             Half::End => {
+                if marks.len() > GREATEST_HALVES * across {
+                    return Err(Unscanned::NoSide);
+                }
                 push_row(&mut marks, &upper, across)?;
                 push_row(&mut marks, &lower, across)?;
                 upper.clear();
                 lower.clear();
             }
-            Half::Nothing => {}
+            Half::Return | Half::Colours => {}
         }
+    }
+    if !upper.is_empty() {
+        push_row(&mut marks, &upper, across)?;
+        push_row(&mut marks, &lower, across)?;
     }
     Ok(marks)
 }
 
 // Appends a row, which goes on with light pixels where it ends early.
-fn push_row(marks: &mut Vec<bool>, row: &[bool], across: usize) -> Result<(), AllocError> {
+fn push_row(marks: &mut Vec<bool>, row: &[bool], across: usize) -> Result<(), AllocError>
+    ensures { OnOk result (marks.new.items ≡ marks.old.items ++ padded across row.now) }
+{
     for x in 0..across {
-        marks.push(row.get(x) == Some(&true))?;
+        marks.push(mark_of(row, x))?;
     }
     Ok(())
 }
 
+// Whether the pixel in a column of a row is dark; there is none behind its end.
+fn mark_of(row: &[bool], x: usize) -> bool
+    ensures { result ≡ slice_index_or row.now x false }
+{
+    match row.get(x) {
+        Some(mark) => *mark,
+        None => false,
+    }
+}
+
+// Rows without the last one, where it is light and there is one more than columns.
+fn square_rows(marks: Vec<bool>, across: usize) -> Vec<bool>
+    requires { across ≤ 4096 }
+    ensures { result.items ≡ without_last across marks.items }
+{
+    let mut marks = marks;
+    if marks.len() == across * (across + 1) && is_light(&marks[across * across..]) {
+        marks.truncate(across * across);
+    }
+    marks
+}
+
 // Whether no pixel is dark.
-fn is_light(marks: &[bool]) -> bool {
+fn is_light(marks: &[bool]) -> bool
+    ensures { result ≡ list_all not marks.now }
+{
     marks.iter().all(|mark| !*mark)
 }

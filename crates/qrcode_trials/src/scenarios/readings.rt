@@ -5,7 +5,8 @@ use qrcode::QrCode;
 use qrcode::types::{Color, EcLevel, QrError, QrResult, Version};
 use qrcode_reader::spell::{Unspelled, pieces};
 use qrcode_reader::{
-    Reading, Unread, UnreadText, WrongCodeword, read, read_any, read_bits, read_text,
+    Reading, Unread, UnreadText, WrongCodeword, read, read_any, read_any_parts, read_bits,
+    read_text,
 };
 use std::alloc::Global;
 
@@ -21,6 +22,8 @@ pub enum ReadCall {
     Any,
     /// `read_bits`, and `pieces` of them.
     Pieces,
+    /// `read_any_parts`.
+    Parts,
 }
 
 /// Reads the symbol of data of a version at level L, its last module turned over.
@@ -38,6 +41,18 @@ pub fn run(alloc: Global, data: &[u8], version: Version, call: &ReadCall) -> QrR
             None => Err(QrError::InvalidCharacter),
         },
         ReadCall::Pieces => of_pieces(alloc, &colors),
+        ReadCall::Parts => of_parts(alloc, &colors),
+    }
+}
+
+// What was read as headers and segments.
+fn of_parts(alloc: Global, colors: &[Color]) -> QrResult<Digest> {
+    match read_any_parts(alloc, colors) {
+        Ok(found) => {
+            let read = found.reading;
+            Ok(Digest::of(&read.parts.bytes).and(of_wrong(&read.wrong)))
+        }
+        Err(unread) => Err(refusal(unread)),
     }
 }
 

@@ -1,5 +1,10 @@
-use Rattle.std.proofs.Common.{length}
+use Rattle.std.proofs.Common.{List, ◌++◌, length}
+use Rattle.qrcode_reader.specs.scan.Halves.{AreHalves}
+use Rattle.qrcode_reader.specs.declared.scan.halves.Half.{Half}
 use Rattle.qrcode_reader.proofs.scan.halves.halves_of.Given as goal
+
+abbrev pub invariant-loop-rest : goal.invariant-loop-rest
+invariant-loop-rest l = (more : List Half) → AreHalves more l.rest → AreHalves (l.halves.items ++ more) l.text
 
 abbrev pub decreases-loop-rest : goal.decreases-loop-rest
 decreases-loop-rest l = length l.rest

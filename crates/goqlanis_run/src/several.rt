@@ -1,0 +1,169 @@
+//! `goqlanis several`: data in several symbols; and `goqlanis join`: the data of such symbols.
+
+use crate::asked::{Asked, Writing, check_one_behind_another, versions_of};
+use crate::drawing::{check_empty, write_drawing};
+use crate::failure::{Failure, refused};
+use crate::reading::scan_of;
+use crate::streams::{MOST_DATA, MOST_PICTURE, print, read_file, write_file};
+use clap::ArgMatches;
+use goqlanis_draw::{Scan, drawing_of};
+use qrcode::QrCode;
+use qrcode::types::{QrError, QrResult};
+use qrcode_reader::spell::Header;
+use qrcode_several::errors::JoinError;
+use qrcode_several::{Part, Versions, encode_several_within, encode_text_several_within, join};
+use std::alloc::{AllocError, Global};
+use std::process::ExitCode;
+
+/// The most bytes of data that are read: as many as for 16 symbols.
+pub(crate) const MOST_IN_SEVERAL: usize = 16 * MOST_DATA;
+
+/// Draws data in several symbols, each to the file of its number.
+pub(crate) fn draw_several(
+    rt: &HostRuntime,
+    given: &ArgMatches<'_>,
+    asked: &Asked<'_>,
+    bytes: &[u8],
+) -> Result<ExitCode, Failure> {
+    let alloc = rt.alloc();
+    check_one_behind_another(alloc, asked)?;
+    check_empty(alloc, asked, bytes)?;
+    let versions = versions_of(alloc, given, asked.request.choice)?;
+    let most = given.get_one::<u8>("count");
+    match symbols(alloc, asked, bytes, versions, most) {
+        Ok(codes) => draw_each(rt, asked, codes),
+        Err(QrError::DataTooLong) => refused(
+            alloc,
+            "the data is too long for such symbols: take more of them, up to --count 16, \
+            greater versions, or a lower --level",
+        ),
+        Err(_) => Err(Failure::OutOfMemory),
+    }
+}
+
+// The symbols of data: as few as there can be; or, where there may be so many, of the least version.
+fn symbols(
+    alloc: Global,
+    asked: &Asked<'_>,
+    bytes: &[u8],
+    versions: Versions,
+    most: Option<u8>,
+) -> QrResult<Vec<QrCode>> {
+    let Some(most) = most else {
+        return symbols_within(alloc, asked, bytes, versions);
+    };
+    for number in versions.least..versions.greatest.saturating_add(1) {
+        let version = Versions {
+            least: number,
+            greatest: number,
+        };
+        match symbols_within(alloc, asked, bytes, version) {
+            Ok(codes) if codes.len() <= most as usize => return Ok(codes),
+            Ok(_) | Err(QrError::DataTooLong) => {}
+            Err(error) => return Err(error),
+        }
+    }
+    Err(QrError::DataTooLong)
+}
+
+// The symbols of data, as few as versions allow: of a text unless bytes are asked for.
+fn symbols_within(
+    alloc: Global,
+    asked: &Asked<'_>,
+    bytes: &[u8],
+    versions: Versions,
+) -> QrResult<Vec<QrCode>> {
+    let level = asked.request.level;
+    match (asked.writing, str::from_utf8(bytes)) {
+        (Writing::ByItself, Ok(text)) => encode_text_several_within(alloc, text, versions, level),
+        _ => encode_several_within(alloc, bytes, versions, level),
+    }
+}
+
+// Draws symbols one after the other.
+fn draw_each(rt: &HostRuntime, asked: &Asked<'_>, codes: Vec<QrCode>) -> Result<ExitCode, Failure> {
+    let mut number = 0usize;
+    for code in codes {
+        number = number.saturating_add(1);
+        match drawing_of(rt.alloc(), &asked.request, code) {
+            Ok(drawing) => write_drawing(rt, asked, &drawing, Some(number))?,
+            Err(_) => return Err(Failure::OutOfMemory),
+        };
+    }
+    Ok(ExitCode::SUCCESS)
+}
+
+/// Joins the data of the symbols that pictures show, and writes it.
+pub(crate) fn join_pictures(rt: &HostRuntime, given: &ArgMatches<'_>) -> Result<ExitCode, Failure> {
+    let names = given.get_strs("PICTURE").unwrap_or(&[]);
+    let mut scans = Vec::new(rt.alloc());
+    for name in names {
+        scans.push(scan_of(rt.alloc(), name, &read_file(rt, name, MOST_PICTURE)?)?)?;
+    }
+    let data = joined(rt.alloc(), names, &scans)?;
+    match given.get_str("output") {
+        None | Some("-") => print(rt, &data),
+        Some(path) => write_file(rt, path, &data),
+    }
+}
+
+// The data of pictures of these names, one behind the other by their headers.
+fn joined(alloc: Global, names: &[&str], scans: &[Scan]) -> Result<Vec<u8>, Failure> {
+    let mut parts = Vec::with_capacity(alloc, scans.len())?;
+    for (name, scan) in names.iter().zip(scans) {
+        parts.push(part_of(alloc, name, scan)?)?;
+    }
+    match join(alloc, &parts) {
+        Ok(data) => Ok(data),
+        Err(error) => Err(not_joined(alloc, names, error)?),
+    }
+}
+
+// The part that a picture of a name shows.
+fn part_of<'a>(alloc: Global, name: &str, scan: &'a Scan) -> Result<Part<'a>, Failure> {
+    for header in &scan.headers {
+        if let Header::StructuredAppend {
+            place,
+            last,
+            parity,
+        } = *header
+        {
+            let bytes = scan.any.reading.data.as_slice();
+            return Ok(Part {
+                place,
+                last,
+                parity,
+                bytes,
+            });
+        }
+    }
+    Err(Failure::Refused(format!(in alloc;
+        "{name}: it is none of several symbols; goqlanis read reads it"
+    )?))
+}
+
+// Why pictures of these names are not joined.
+fn not_joined(alloc: Global, names: &[&str], error: JoinError) -> Result<Failure, AllocError> {
+    let text = match error {
+        JoinError::OutOfMemory => return Ok(Failure::OutOfMemory),
+        JoinError::Stranger(index) => {
+            let name = names.get(index).unwrap_or(&"");
+            format!(in alloc; "{name}: it is a part of other data than the first picture")?
+        }
+        JoinError::Missing(place) => {
+            let number = place.saturating_add(1);
+            format!(in alloc; "there is no picture of symbol {number}; name all of them")?
+        }
+        JoinError::Twice(place) => {
+            let number = place.saturating_add(1);
+            format!(in alloc; "there are two pictures of symbol {number}; leave one out")?
+        }
+        JoinError::Parity => {
+            String::from_str(
+                alloc,
+                "the pictures are not parts of the same data: parity differs",
+            )?
+        }
+    };
+    Ok(Failure::Refused(text))
+}

@@ -1,0 +1,63 @@
+-- The pixels of texts of half blocks.
+use Rattle.std.specs.Prelude.{◌≡◌, ℕ, ◌+◌, ◌*◌, ◌==◌, ◌&&◌, ◌||◌, nat_le, max, not, Bool, true, false, List, [], ◌∷◌, ◌++◌, Option, Some, None, length, map, take, drop, slice_index_or, if◌then◌else◌}
+use Rattle.std.specs.List.{range_with_len, list_all}
+use Rattle.qrcode_render.specs.Bitmap.{Bitmap}
+use Rattle.qrcode_reader.specs.declared.scan.halves.Half.{Half}
+use Rattle.qrcode_reader.specs.declared.scan.halves.Half.TheVariants.{Pair, End, Return, Colours}
+
+-- the characters of two pixels, one above the other, dark or not: a space, and U+2580, U+2584 and U+2588 in UTF-8
+abbrev pub block : Bool → Bool → List ℕ
+block false false = 32 ∷ []
+block true false = 226 ∷ 150 ∷ 128 ∷ []
+block false true = 226 ∷ 150 ∷ 132 ∷ []
+block true true = 226 ∷ 150 ∷ 136 ∷ []
+
+abbrev pub is_colour_byte : ℕ → Bool  -- a digit or a semicolon
+is_colour_byte c = (nat_le 48 c && nat_le c 57) || c == 59
+
+-- what follows the m that ends the control sequence of a terminal that sets colours, behind digits and semicolons
+unfoldable pub behind_colour : List ℕ → Option (List ℕ)
+behind_colour [] = None
+behind_colour (c ∷ rest) = if c == 109 then Some rest else if is_colour_byte c then behind_colour rest else None
+
+-- a text begins with two pixels, with the end of a line, or with what shows nothing: a carriage return, or the control sequence of colours
+abbrev pub IsHalf : Half → List ℕ → List ℕ → Type 0
+IsHalf (Pair a b) text rest = text ≡ block a b ++ rest
+IsHalf End text rest = text ≡ 10 ∷ rest
+IsHalf Return text rest = text ≡ 13 ∷ rest
+IsHalf Colours text rest = (more : List ℕ) × ((text ≡ 27 ∷ 91 ∷ more) × (behind_colour more ≡ Some rest))
+
+abbrev pub AreHalves : List Half → List ℕ → Type 0  -- a text is these, one behind the other
+AreHalves [] text = text ≡ []
+AreHalves (h ∷ hs) text = (rest : List ℕ) × (IsHalf h text rest × AreHalves hs rest)
+
+-- the columns of the longest line, where the lines before had at most so many, and the first one has so many before these
+unfoldable pub longest : ℕ → ℕ → List Half → ℕ
+longest most columns [] = max most columns
+longest most columns (Pair a b ∷ hs) = longest most (columns + 1) hs
+longest most columns (End ∷ hs) = longest (max most columns) 0 hs
+longest most columns (Return ∷ hs) = longest most columns hs
+longest most columns (Colours ∷ hs) = longest most columns hs
+
+abbrev pub padded : ℕ → List Bool → List Bool  -- a row of so many pixels, light ones behind those that are there
+padded across row = map (λ x. slice_index_or row x false) (range_with_len 0 across)
+
+-- two rows of pixels for each line, behind those of the first line; an empty last line is none
+unfoldable pub rows_from : ℕ → List Bool → List Bool → List Half → List Bool
+rows_from across upper lower [] = if length upper == 0 then [] else padded across upper ++ padded across lower
+rows_from across upper lower (Pair a b ∷ hs) = rows_from across (upper ++ a ∷ []) (lower ++ b ∷ []) hs
+rows_from across upper lower (End ∷ hs) = padded across upper ++ (padded across lower ++ rows_from across [] [] hs)
+rows_from across upper lower (Return ∷ hs) = rows_from across upper lower hs
+rows_from across upper lower (Colours ∷ hs) = rows_from across upper lower hs
+
+-- rows without the last one, where it is light and there is one more than columns
+abbrev pub without_last : ℕ → List Bool → List Bool
+without_last across marks =
+    if length marks == across * (across + 1) && list_all not (drop (across * across) marks) then take (across * across) marks else marks
+
+-- the pixels of a text of half blocks
+pub record IsHalfBlocks (text : List ℕ) (b : Bitmap) : Type 0 where
+  pub halves : List Half
+  pub shown : AreHalves halves text
+  pub across : b.across ≡ longest 0 0 halves
+  pub marks : b.marks ≡ without_last b.across (rows_from b.across [] [] halves)
