@@ -1,5 +1,5 @@
 -- What is known of a reading.
-use Rattle.std.proofs.Common.{◌≡◌, ◌≢◌, ◌*◌, ℕ, List, length, sym, ◌∙◌}
+use Rattle.std.proofs.Common.{◌≢◌, ◌*◌, ℕ, List, length, sym, ◌∙◌}
 use Rattle.std.proofs.lemmas.List.{length-map}
 use Rattle.std.specs.Prelude.{IsTrue}
 use Rattle.qrcode_types.specs.Versions.{has_level, is_valid, side}

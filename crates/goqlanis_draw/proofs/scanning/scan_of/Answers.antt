@@ -1,5 +1,4 @@
-use Rattle.std.proofs.Common.{rules, ap, ◌∙◌}
-use Rattle.goqlanis_draw.specs.Scans.{headers_in}
+use Rattle.std.proofs.Common.{rules}
 use Rattle.goqlanis_draw.proofs.scanning.scan_of.Goals as goal
 
 pub returns-clause-read : goal.returns-clause-read
