@@ -1,6 +1,6 @@
 //! Squares read as headers and segments.
 
-ghost use Rattle.std.specs.Prelude.{◌≡◌, IfOk, IfErr};
+ghost use Rattle.std.specs.Prelude.{IfOk, IfErr};
 ghost use Rattle.qrcode_reader.specs.Readings.{IsPartsReading, IsPartsCause};
 
 use crate::correction::WrongCodeword;

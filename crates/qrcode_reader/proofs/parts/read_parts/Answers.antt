@@ -1,5 +1,4 @@
 use Rattle.std.proofs.lemmas.Result.{err_from_is_err_and}
-use Rattle.qrcode_reader.specs.Refusals.{unread_of}
 use Rattle.qrcode_reader.proofs.PartsRead.{parts_reading, unparted}
 use Rattle.qrcode_reader.proofs.parts.read_parts.Goals as goal
 

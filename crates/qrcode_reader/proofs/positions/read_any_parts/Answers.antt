@@ -1,4 +1,4 @@
-use Rattle.std.proofs.Common.{refl, sym, subst, arith, inr}
+use Rattle.std.proofs.Common.{refl, sym, subst, arith}
 use Rattle.qrcode_reader.specs.Readings.{IsPartsReading}
 use Rattle.qrcode_reader.proofs.Positioned.{seen_upright}
 use Rattle.qrcode_reader.proofs.positions.read_any_parts.Goals as goal

@@ -1,4 +1,4 @@
-use Rattle.std.proofs.Common.{◌≡◌, ◌++◌, drop, length, []}
+use Rattle.std.proofs.Common.{◌≡◌, ◌++◌, drop, []}
 use Rattle.qrcode_reader.specs.scan.Halves.{rows_from}
 use Rattle.qrcode_reader.proofs.scan.halves.rows.Given as goal
 
