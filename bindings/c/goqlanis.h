@@ -47,11 +47,12 @@ enum {
     GOQ_NO_SUCH_MASK = 22, /* the version of the symbol has no mask of the number */
     GOQ_NOT_IN_FORMAT = 23, /* the format has no such colours, or no dots per inch */
     GOQ_NOT_SHOWN = 24, /* the data bits are not a text that readers show */
-    GOQ_NOT_SEVERAL = 25, /* the square has no header of one of several symbols */
-    GOQ_STRANGER = 26, /* the square is a part of other data than the first */
-    GOQ_MISSING = 27, /* no square has the part at this place */
-    GOQ_TWICE = 28, /* more than one square has the part at this place */
-    GOQ_PARITY = 29, /* the parts are not those of the data that their headers name */
+    GOQ_NOT_READ = 25, /* the square is read in none of the sixteen positions */
+    GOQ_NOT_SEVERAL = 26, /* the square has no header of one of several symbols */
+    GOQ_STRANGER = 27, /* the square is a part of other data than the first */
+    GOQ_MISSING = 28, /* no square has the part at this place */
+    GOQ_TWICE = 29, /* more than one square has the part at this place */
+    GOQ_PARITY = 30, /* the parts are not those of the data that their headers name */
     GOQ_NO_SUCH_CONTENT = 32, /* no kind of content has the number */
     GOQ_NO_SUCH_FIELD = 33, /* the kind has no field at this place */
     GOQ_FIELD_EMPTY = 34, /* the field may not be empty */
@@ -444,7 +445,8 @@ uint32_t goq_read(const uint8_t *modules, size_t modules_length, uint8_t *bytes,
 /* How many bytes goq_read would write, to `count`. GOQ_NO_SUCH_SIDE, GOQ_NO_FORMAT, GOQ_DAMAGED, GOQ_NOT_SPELLED, GOQ_OUT_OF_MEMORY. */
 uint32_t goq_read_length(const uint8_t *modules, size_t modules_length, size_t *count);
 
-/* The same of a square in any position, in the first of the sixteen in which it is read. */
+/* The same of a square in any position, in the first of the sixteen in which it is read.
+   GOQ_NOT_READ, GOQ_SMALL_BUFFER; GOQ_OUT_OF_MEMORY. */
 uint32_t goq_read_any(const uint8_t *modules, size_t modules_length, uint8_t *bytes,
     size_t bytes_length, goq_any_reading *reading);
 
@@ -454,8 +456,8 @@ uint32_t goq_read_any(const uint8_t *modules, size_t modules_length, uint8_t *by
 uint32_t goq_read_text(const uint8_t *modules, size_t modules_length, uint8_t *text,
     size_t text_length, goq_reading *reading);
 
-/* The number of the mask of a square, headers or not: 0 to 7, in Micro 0 to 3.
-   GOQ_NO_SUCH_SIDE, GOQ_NO_FORMAT, GOQ_DAMAGED; GOQ_OUT_OF_MEMORY. */
+/* The number of the mask that the format word of a square names: 0 to 7, in Micro 0 to 3.
+   GOQ_NO_SUCH_SIDE, GOQ_NO_FORMAT; GOQ_OUT_OF_MEMORY. */
 uint32_t goq_mask(const uint8_t *modules, size_t modules_length, uint32_t *mask);
 
 /* The data of several symbols, read from squares in any order: at the beginning of `out`, and its

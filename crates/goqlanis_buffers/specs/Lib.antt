@@ -3,6 +3,7 @@ pub mod Asking
 pub mod Calls
 pub mod Drawings
 pub mod Names
+pub mod Options
 pub mod Outputs
 pub mod Readings
 pub mod Segments

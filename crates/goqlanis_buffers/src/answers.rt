@@ -49,6 +49,18 @@ pub enum Refusal {
     Damaged,
     /// The data bits are not segments and an end.
     NotSpelled,
+    /// The size that a struct names is not its own.
+    NoSuchStruct,
+    /// No manner has the number.
+    NoSuchManner,
+    /// The version has no mask of the number.
+    NoSuchMask,
+    /// The format has no such colours, or names no dots per inch.
+    NotInFormat,
+    /// The data bits are not a text that readers show.
+    NotShown,
+    /// The square is read in no position.
+    NotRead,
 }
 
 impl Refusal {
@@ -77,6 +89,12 @@ impl Refusal {
             Refusal::NoFormat => 17,
             Refusal::Damaged => 18,
             Refusal::NotSpelled => 19,
+            Refusal::NoSuchStruct => 20,
+            Refusal::NoSuchManner => 21,
+            Refusal::NoSuchMask => 22,
+            Refusal::NotInFormat => 23,
+            Refusal::NotShown => 24,
+            Refusal::NotRead => 25,
         }
     }
 }

@@ -7,6 +7,7 @@ pub mod contents;
 pub mod encoding;
 pub mod laws;
 pub mod names;
+pub mod options;
 pub mod pictures;
 pub mod reading;
 pub mod segments;

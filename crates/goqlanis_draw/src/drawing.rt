@@ -7,7 +7,7 @@ ghost use Rattle.qrcode_gs1.specs.Items.{item};
 ghost use Rattle.goqlanis_draw.specs.Drawings.{IsDrawing, IsShownBy, scale_for};
 ghost use Rattle.goqlanis_draw.specs.Elements.{IsDrawingOfElements, IsElementsRefused, IsDrawingForApplication, IsApplicationRefused};
 ghost use Rattle.goqlanis_draw.specs.Segments.{IsDrawingOfPieces, pieces_of};
-ghost use Rattle.goqlanis_draw.specs.Symbols.{IsSymbolOf, IsRefusalOf};
+ghost use Rattle.goqlanis_draw.specs.Symbols.{IsSymbolIn, IsRefusedFor, IsRefusalOf};
 
 use crate::elements::{symbol_for_application, symbol_of_elements};
 use crate::picture::Picture;
@@ -15,7 +15,8 @@ use crate::render::draw_in;
 use crate::request::{Choice, Request};
 use crate::segments::{Segment, symbol_of};
 use qrcode::QrCode;
-use qrcode::types::QrResult;
+use qrcode::bits::Manner;
+use qrcode::types::{EcLevel, QrResult};
 use qrcode_gs1::elements::Element;
 use qrcode_gs1::symbol::errors::SymbolResult;
 use std::alloc::Global;
@@ -23,12 +24,18 @@ use std::alloc::Global;
 /// The drawing of data that a request asks for.
 ///
 /// It is refused where no version that may be taken holds the data, by the causes of `QrCode::at_least`,
-/// `QrCode::at_least_boosted` or `QrCode::in_version`; and for want of memory.
+/// `QrCode::at_least_boosted` or `QrCode::in_version`; `OutOfMemory`: memory was refused.
 pub fn draw(alloc: Global, request: &Request<'_>, bytes: &[u8]) -> QrResult<Vec<u8>>
     ensures drawing { IfOk result (λ drawing. IsDrawing request.now bytes.now drawing.items) }
     ensures causes { IfErr result (IsRefusalOf request.now bytes.now) }
 {
-    let code = symbol(alloc, request, bytes)?;
+    let code = symbol_in(
+        alloc,
+        request.choice,
+        request.manner,
+        request.level,
+        bytes,
+    )?;
     let drawing = drawing_of(alloc, request, &code)?;
     Ok(drawing)
 }
@@ -95,13 +102,20 @@ pub fn draw_for_application(
     Ok(drawing)
 }
 
-// The symbol that a request asks for.
-fn symbol(alloc: Global, request: &Request<'_>, bytes: &[u8]) -> QrResult<QrCode>
-    ensures symbol { IfOk result (IsSymbolOf request.now bytes.now) }
-    ensures causes { IfErr result (IsRefusalOf request.now bytes.now) }
+/// The symbol of data in a manner, of a choice at a level.
+///
+/// It is refused by the causes of `draw`, `OutOfMemory` among them.
+pub fn symbol_in(
+    alloc: Global,
+    choice: Choice,
+    manner: Manner,
+    level: EcLevel,
+    bytes: &[u8],
+) -> QrResult<QrCode>
+    ensures symbol { IfOk result (IsSymbolIn choice manner level bytes.now) }
+    ensures causes { IfErr result (IsRefusedFor choice manner level bytes.now) }
 {
-    let (manner, level) = (request.manner, request.level);
-    match request.choice {
+    match choice {
         Choice::From(version) => QrCode::at_least(alloc, bytes, manner, version, level),
         Choice::Boosted(version) => QrCode::at_least_boosted(alloc, bytes, manner, version, level),
         Choice::At(version) => QrCode::in_version(alloc, bytes, manner, version, level),

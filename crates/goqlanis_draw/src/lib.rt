@@ -14,7 +14,7 @@ mod scanning;
 mod segments;
 mod terminal;
 
-pub use drawing::{draw, draw_elements, draw_for_application, draw_segments};
+pub use drawing::{draw, draw_elements, draw_for_application, draw_segments, symbol_in};
 pub use formats::Format;
 pub use picture::Ink;
 pub use refusal::{
