@@ -26,14 +26,14 @@ use Rattle.goqlanis_buffers.specs.Segments.{HasNoRoom, HaveNoRoom, IsFirstRefuse
 use Rattle.goqlanis_buffers.specs.Symbols.{ExceedsRoom, IsAutomaticSymbol, IsSymbolIn, IsSegmentsSymbol, IsTextSymbol}
 use Rattle.goqlanis_buffers.specs.declared.segments.Segment as by_hand
 use Rattle.goqlanis_buffers.specs.declared.answers.Refusal.{Refusal}
-use Rattle.goqlanis_buffers.specs.declared.answers.Refusal.TheVariants.{NoSuchLevel, NoSuchVersion, LevelNotInVersion, TooLong, NoMode, NoRoom, SmallBuffer, OutOfMemory, NoSuchFormat, NotSquare, NoSuchSize, NotText, NoSuchKind, NotInMode, NoSuchNumber, NoSuchSide, NoFormat, Damaged, NotSpelled, NoSuchStruct, NoSuchManner, NoSuchMask, NotInFormat, NotShown, NotRead}
+use Rattle.goqlanis_buffers.specs.declared.answers.Refusal.TheVariants.{NoSuchLevel, NoSuchVersion, LevelNotInVersion, TooLong, NoMode, NoRoom, SmallBuffer, OutOfMemory, NoSuchFormat, NotSquare, NoSuchSize, NotText, NoSuchKind, NotInMode, NoSuchNumber, NoSuchSide, NoFormat, Damaged, NotSpelled, NoSuchStruct, NoSuchManner, NoSuchMask, NotInFormat, NotShown, NotSeveral, Stranger, Missing, Twice, Parity, NotRead}
 
 abbrev pub refusals : List Refusal  -- the refusals in the order of their numbers, from 1 on
 refusals =
     NoSuchLevel ∷ NoSuchVersion ∷ LevelNotInVersion ∷ TooLong ∷ NoMode ∷ NoRoom ∷ SmallBuffer ∷ OutOfMemory ∷
     NoSuchFormat ∷ NotSquare ∷ NoSuchSize ∷ NotText ∷ NoSuchKind ∷ NotInMode ∷ NoSuchNumber ∷
     NoSuchSide ∷ NoFormat ∷ Damaged ∷ NotSpelled ∷ NoSuchStruct ∷ NoSuchManner ∷
-    NoSuchMask ∷ NotInFormat ∷ NotShown ∷ NotRead ∷ []
+    NoSuchMask ∷ NotInFormat ∷ NotShown ∷ NotSeveral ∷ Stranger ∷ Missing ∷ Twice ∷ Parity ∷ NotRead ∷ []
 
 abbrev pub refusal_of : ℕ → Option Refusal  -- the refusal of an answer, where it is one
 refusal_of n = if n == 0 then None else slice_get refusals (n - 1)

@@ -59,6 +59,16 @@ pub enum Refusal {
     NotInFormat,
     /// The data bits are not a text that readers show.
     NotShown,
+    /// The square has no header of one of several symbols.
+    NotSeveral,
+    /// The square is a part of other data than the first.
+    Stranger,
+    /// No square has a part.
+    Missing,
+    /// More than one square has a part.
+    Twice,
+    /// The parts are not those of the data that their headers name.
+    Parity,
     /// The square is read in no position.
     NotRead,
 }
@@ -94,7 +104,12 @@ impl Refusal {
             Refusal::NoSuchMask => 22,
             Refusal::NotInFormat => 23,
             Refusal::NotShown => 24,
-            Refusal::NotRead => 25,
+            Refusal::NotSeveral => 25,
+            Refusal::Stranger => 26,
+            Refusal::Missing => 27,
+            Refusal::Twice => 28,
+            Refusal::Parity => 29,
+            Refusal::NotRead => 30,
         }
     }
 }

@@ -82,8 +82,11 @@ fn symbol_with(alloc: Global, bytes: &[u8], options: &Options) -> Result<QrCode,
     }
 }
 
-// What options name.
-fn asked_by(options: &Options) -> Result<Asked, Refusal>
+/// What options name.
+///
+/// An error is the first that applies of `NoSuchStruct`, `NoSuchLevel`, `NoSuchVersion` and
+/// `NoSuchManner`.
+pub(crate) fn asked_by(options: &Options) -> Result<Asked, Refusal>
     ensures made { IfOk result (IsAsked options.now) }
     ensures causes { (bytes : List ℕ) (room : ℕ)
         → IfErr result (IsOptionsCause options.now bytes room) }

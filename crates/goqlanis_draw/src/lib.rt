@@ -15,6 +15,7 @@ mod segments;
 mod terminal;
 
 pub use drawing::{draw, draw_elements, draw_for_application, draw_segments, symbol_in};
+pub use elements::symbol_of_elements;
 pub use formats::Format;
 pub use picture::Ink;
 pub use refusal::{

@@ -2,12 +2,19 @@
 
 ghost use Rattle.std.specs.Prelude.{◌≡◌, ℕ, length, map, IfOk, IfErr, OnOk, OnErr, OnSome, IfSome, IfNone};
 ghost use Rattle.qrcode_gs1.specs.Items.{item};
-ghost use Rattle.goqlanis_buffers.specs.contents.Elements.{item_of, items_of, IsText, AreTexts, IsString, IsStringIn, IsElementsCause};
+ghost use Rattle.goqlanis_buffers.specs.contents.Elements.{item_of, items_of, IsText, AreTexts, IsString, IsStringIn, IsElementsCause, IsElementsSymbol, IsElementsSymbolCause};
+ghost use Rattle.goqlanis_buffers.specs.Outputs.{IsWrittenAs};
 
+use crate::answers::Refusal as OfSymbols;
 use crate::contents::answers::Refusal;
-use crate::symbols::fill;
+use crate::options::{Options, asked_by};
+use crate::symbols::{Symbol, fill, write_symbol};
+use goqlanis_draw::symbol_of_elements;
+use qrcode::QrCode;
+use qrcode::types::QrError;
 use qrcode_gs1::elements::{Element, element_string};
 use qrcode_gs1::errors::Gs1Error;
+use qrcode_gs1::symbol::errors::SymbolError;
 use std::alloc::Global;
 
 /// An element of GS1.
@@ -37,6 +44,59 @@ pub fn write_elements(alloc: Global, parts: &[Part<'_>], out: &mut [u8]) -> Resu
     }
     fill(out, &bytes);
     Ok(bytes.len())
+}
+
+/// Writes the symbol of elements that options ask for at the beginning of a buffer, and answers what
+/// it is beside its modules. Manner and boost are not looked at.
+///
+/// An error is `NoSymbol`, `NotText`, `NotElement`, `SmallBuffer` or `OutOfMemory`. Then the buffer is
+/// as it was.
+pub fn encode_elements(
+    alloc: Global,
+    parts: &[Part<'_>],
+    options: &Options,
+    modules: &mut [u8],
+) -> Result<Symbol, Refusal>
+    ensures made { IfOk result
+        (IsWrittenAs (IsElementsSymbol options.now parts.now) modules.old modules.new) }
+    ensures unchanged { OnErr result (modules.new ≡ modules.old) }
+    ensures causes { IfErr result
+        (IsElementsSymbolCause options.now parts.now (length modules.old)) }
+{
+    let code = match symbol_of(alloc, parts, options) {
+        Ok(code) => code,
+        Err(refusal) => return Err(refusal),
+    };
+    match write_symbol(code, modules) {
+        Ok(symbol) => Ok(symbol),
+        Err(_) => Err(Refusal::SmallBuffer),
+    }
+}
+
+// The symbol of elements that options ask for.
+fn symbol_of(alloc: Global, parts: &[Part<'_>], options: &Options) -> Result<QrCode, Refusal>
+    ensures made { IfOk result (IsElementsSymbol options.now parts.now) }
+    ensures causes { (room : ℕ)
+        → IfErr result (IsElementsSymbolCause options.now parts.now room) }
+{
+    let asked = match asked_by(options) {
+        Ok(asked) => asked,
+        Err(refusal) => return Err(Refusal::NoSymbol(refusal)),
+    };
+    let elements = match elements_of(alloc, parts) {
+        Ok(elements) => elements,
+        Err(refusal) => return Err(refusal),
+    };
+    match symbol_of_elements(alloc, asked.choice, asked.level, &elements) {
+        Ok(code) => Ok(code),
+        Err(SymbolError::Elements(Gs1Error::Refused(place, cause))) => {
+            Err(Refusal::NotElement(place, cause))
+        }
+        Err(SymbolError::Symbol(QrError::DataTooLong)) => {
+            Err(Refusal::NoSymbol(OfSymbols::NoRoom))
+        }
+        Err(_) => Err(Refusal::OutOfMemory),
+    }
 }
 
 // The string of elements.
