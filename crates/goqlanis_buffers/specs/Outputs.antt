@@ -19,12 +19,16 @@ module_bytes modules = map (λ c. select_of c 1 0) modules
 abbrev pub IsFilled : List ℕ → List ℕ → List ℕ → Type 0  -- a buffer begins with some bytes, and is otherwise as it was
 IsFilled old new bytes = new ≡ bytes ++ drop (length bytes) old
 
--- a symbol in buffers: its modules row by row at the beginning of one, and what it is beside them
-pub record IsWritten (code : Code) (old new : List ℕ) (symbol : Symbol) : Type 0 where
-  pub modules : IsFilled old new (module_bytes code.modules)
+-- what a symbol is beside its modules
+pub record IsDescribed (code : Code) (symbol : Symbol) : Type 0 where
   pub version : version_named symbol.version ≡ Some code.version
   pub level : level_named symbol.level ≡ Some code.level
   pub width : symbol.width ≡ side code.version
+
+-- a symbol in buffers: its modules row by row at the beginning of one, and what it is beside them
+pub record IsWritten (code : Code) (old new : List ℕ) (symbol : Symbol) : Type 0 where
+  pub modules : IsFilled old new (module_bytes code.modules)
+  pub described : IsDescribed code symbol
 
 -- a symbol that is asked for, in buffers
 pub record IsWrittenAs (Asked : Code → Type 0) (old new : List ℕ) (symbol : Symbol) : Type 0 where
