@@ -13,6 +13,7 @@ pub record IsWithinLimits (a : Asked) : Type 0 where
   pub side : a.width + 2 * a.drawing.zone < 2 ^ 16
   pub scale_least : 1 ≤ a.drawing.scale
   pub scale_most : a.drawing.scale < 2 ^ 16
+  pub dpi_most : a.drawing.dpi < 2 ^ 16
 
 abbrev pub IsPictureFor : Asked → List ℕ → Type 0  -- the picture that is asked for
 IsPictureFor a bytes = (f : Format) × ((format_numbered a.drawing.format ≡ Some f) × IsDrawn f a.modules.now a.width a.drawing bytes)

@@ -1,6 +1,7 @@
 pub mod Answers
 pub mod Asking
 pub mod Calls
+pub mod Colours
 pub mod Drawings
 pub mod Names
 pub mod Options

@@ -14,7 +14,7 @@ use Rattle.goqlanis_buffers.specs.Names.{level_named, version_named}
 use Rattle.goqlanis_buffers.specs.Segments.{refusal_in}
 use Rattle.goqlanis_buffers.specs.Symbols.{ExceedsRoom}
 use Rattle.goqlanis_buffers.specs.declared.answers.Refusal.{Refusal}
-use Rattle.goqlanis_buffers.specs.declared.answers.Refusal.TheVariants.{NoSuchLevel, NoSuchVersion, NoSuchStruct, NoSuchManner, NotText, SmallBuffer}
+use Rattle.goqlanis_buffers.specs.declared.answers.Refusal.TheVariants.{NoSuchLevel, NoSuchVersion, NoSuchStruct, NoSuchManner, NoSuchMask, NotText, SmallBuffer}
 use Rattle.goqlanis_buffers.specs.declared.options.Asked.{Asked}
 use Rattle.goqlanis_buffers.specs.declared.options.Options.{Options}
 
@@ -33,6 +33,7 @@ pub record IsAsked (o : Options) (a : Asked) : Type 0 where
   pub level : level_named o.level ≡ Some a.level
   pub choice : choice_named o ≡ Some a.choice
   pub manner : manner_named o.manner ≡ Some a.manner
+  pub mask : o.mask ≡ 0
 
 -- the symbol of data that options ask for; a text is UTF-8
 pub record IsSymbolWith (o : Options) (bytes : List ℕ) (code : Code) : Type 0 where
@@ -55,6 +56,7 @@ IsOptionsCause o bytes room NoSuchStruct = o.size ≢ 28
 IsOptionsCause o bytes room NoSuchLevel = level_named o.level ≡ None
 IsOptionsCause o bytes room NoSuchVersion = choice_named o ≡ None
 IsOptionsCause o bytes room NoSuchManner = manner_named o.manner ≡ None
+IsOptionsCause o bytes room NoSuchMask = o.mask ≢ 0
 IsOptionsCause o bytes room NotText = ¬ IsUtf8 bytes
 IsOptionsCause o bytes room SmallBuffer = ExceedsRoom (IsSymbolWith o bytes) room
 IsOptionsCause o bytes room refusal = HasNoSymbol o bytes refusal

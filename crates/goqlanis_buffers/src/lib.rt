@@ -3,6 +3,7 @@
 #![tactic(auto)]
 
 pub mod answers;
+mod colours;
 pub mod contents;
 pub mod encoding;
 pub mod laws;

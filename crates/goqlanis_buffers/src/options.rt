@@ -84,8 +84,8 @@ fn symbol_with(alloc: Global, bytes: &[u8], options: &Options) -> Result<QrCode,
 
 /// What options name.
 ///
-/// An error is the first that applies of `NoSuchStruct`, `NoSuchLevel`, `NoSuchVersion` and
-/// `NoSuchManner`.
+/// An error is the first that applies of `NoSuchStruct`, `NoSuchLevel`, `NoSuchVersion`,
+/// `NoSuchManner` and `NoSuchMask`.
 pub(crate) fn asked_by(options: &Options) -> Result<Asked, Refusal>
     ensures made { IfOk result (IsAsked options.now) }
     ensures causes { (bytes : List ℕ) (room : ℕ)
@@ -103,6 +103,9 @@ pub(crate) fn asked_by(options: &Options) -> Result<Asked, Refusal>
     let Some(manner) = manner_named(options.manner) else {
         return Err(Refusal::NoSuchManner);
     };
+    if options.mask != 0 {
+        return Err(Refusal::NoSuchMask);
+    }
     Ok(Asked {
         choice,
         level,

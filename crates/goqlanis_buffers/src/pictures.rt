@@ -1,16 +1,18 @@
 //! Pictures in buffers.
 
-ghost use Rattle.std.specs.Prelude.{◌≡◌, ◌<◌, ◌^◌, ◌/◌, ◌%◌, ℕ, string_bytes, Some, IfOk, IfErr, OnOk, IsOkUnless, IsTrue};
+ghost use Rattle.std.specs.Prelude.{◌≡◌, ◌<◌, ◌^◌, ℕ, Some, IfOk, IfErr, OnOk, IsOkUnless, IsTrue};
+ghost use Rattle.std.specs.Bool.{OnTrue};
 ghost use Rattle.qrcode_types.specs.declared.types.QrError.TheVariants.{OutOfMemory};
-ghost use Rattle.goqlanis_draw.specs.Formats.{format_numbered, shade_of};
+ghost use Rattle.goqlanis_draw.specs.Formats.{format_numbered};
 ghost use Rattle.goqlanis_buffers.specs.Calls.{TellsLength, WritesPicture};
 ghost use Rattle.goqlanis_buffers.specs.Asking.{IsCauseFor, IsPictureFor, IsWithinLimits};
-ghost use Rattle.goqlanis_buffers.specs.Drawings.{colour_name, colour_shade, density, has_colours, is_sayable, plain, IsDrawn};
+ghost use Rattle.goqlanis_buffers.specs.Drawings.{density, is_sayable, plain, IsDrawn};
 
 use crate::answers::Refusal;
+use crate::colours::{BLACK, WHITE, has_colours, ink_of, name_of};
 use crate::symbols::{colors_of, fill};
 use goqlanis_draw::formats::{Format, format_numbered};
-use goqlanis_draw::picture::{Ink, Picture};
+use goqlanis_draw::picture::Picture;
 use goqlanis_draw::render::draw_in;
 use qrcode::types::QrResult;
 use std::alloc::Global;
@@ -38,12 +40,6 @@ pub struct Drawing {
 
 // The bytes of a drawing.
 const SIZE: u32 = 28;
-
-const BLACK: u32 = 0;
-const WHITE: u32 = 0x00ff_ffff;
-
-// A colour from here on is not opaque.
-const TRANSPARENT: u32 = 1 << 24;
 
 /// A drawing in black on white.
 pub fn plain(zone: u32, scale: u32, format: u32) -> Drawing
@@ -152,20 +148,10 @@ fn format_of(asked: &Asked<'_>) -> Result<Format, Refusal>
 // Whether a format has the colours, and names dots per inch where they are given.
 fn is_sayable(format: Format, drawing: &Drawing) -> bool
     ensures value { result ≡ is_sayable format drawing.now }
+    ensures dpi_at_most { OnTrue result (drawing.now.dpi < 2 ^ 16) }
 {
     let most = if matches!(format, Format::Png) { 65_535 } else { 0 };
     drawing.dpi <= most && has_colours(format, drawing.dark, drawing.light)
-}
-
-// Whether a format has the colours of dark and light modules.
-fn has_colours(format: Format, dark: u32, light: u32) -> bool
-    ensures value { result ≡ has_colours format dark light }
-{
-    match format {
-        Format::Png | Format::Svg | Format::SvgPath => true,
-        Format::Eps => dark < TRANSPARENT && light < TRANSPARENT,
-        _ => dark == BLACK && light == WHITE,
-    }
 }
 
 // A picture in a format. Refuses with `OutOfMemory` alone.
@@ -184,8 +170,8 @@ fn drawn(alloc: Global, asked: &Asked<'_>, format: Format) -> QrResult<Vec<u8>>
         width: asked.width,
         zone: drawing.zone,
         scale: drawing.scale,
-        dark: ink(&dark, drawing.dark),
-        light: ink(&light, drawing.light),
+        dark: ink_of(&dark, drawing.dark),
+        light: ink_of(&light, drawing.light),
         is_inverted: false,
         dpi: density(drawing.dpi),
         ends_lines: false,
@@ -199,37 +185,4 @@ fn density(dpi: u32) -> Option<u16>
     ensures value { result ≡ density dpi }
 {
     if dpi == 0 { None } else { Some(dpi as u16) }
-}
-
-// What SVG writes for a colour.
-fn name_of(alloc: Global, colour: u32) -> QrResult<String>
-    ensures value { IfOk result (λ name. string_bytes name ≡ colour_name colour) }
-    ensures memory { IsOkUnless result OutOfMemory }
-{
-    let [transparency, red, green, blue] = colour.to_be_bytes();
-    if colour == BLACK {
-        Ok(String::from_str(alloc, "#000")?)
-    } else if colour == WHITE {
-        Ok(String::from_str(alloc, "#fff")?)
-    } else if transparency == 0 {
-        Ok(format!(in alloc; "#{red:02x}{green:02x}{blue:02x}")?)
-    } else {
-        let opacity = 255 - transparency;
-        Ok(format!(in alloc; "#{red:02x}{green:02x}{blue:02x}{opacity:02x}")?)
-    }
-}
-
-// A colour and its name.
-fn ink<'a>(name: &'a str, colour: u32) -> Ink<'a>
-    requires name { name.now ≡ colour_name colour }
-    ensures value { shade_of result ≡ colour_shade colour }
-{
-    let [transparency, red, green, blue] = colour.to_be_bytes();
-    Ink {
-        name,
-        red,
-        green,
-        blue,
-        opacity: 255 - transparency,
-    }
 }
