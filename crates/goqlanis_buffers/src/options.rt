@@ -65,6 +65,7 @@ pub fn encode_with(
 }
 
 // The symbol of data that options ask for.
+#[tactic(auto, using(crate::proofs::Refused::refused_as))]
 fn symbol_with(alloc: Global, bytes: &[u8], options: &Options) -> Result<QrCode, Refusal>
     ensures { Tells (IsSymbolWith options.now bytes.now)
         (λ refusal. (room : ℕ) → IsOptionsCause options.now bytes.now room refusal) result }
