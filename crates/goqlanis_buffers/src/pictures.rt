@@ -3,7 +3,9 @@
 ghost use Rattle.std.specs.Prelude.{◌≡◌, ◌<◌, ◌^◌, ℕ, Some, IfOk, IfErr, OnOk, IsOkUnless, IsTrue};
 ghost use Rattle.std.specs.Bool.{OnTrue};
 ghost use Rattle.qrcode_types.specs.declared.types.QrError.TheVariants.{OutOfMemory};
+ghost use Rattle.qrcode_render.specs.Shades.{colors_of};
 ghost use Rattle.goqlanis_draw.specs.Formats.{format_numbered};
+ghost use Rattle.goqlanis_buffers.specs.Colours.{colour_name};
 ghost use Rattle.goqlanis_buffers.specs.Calls.{TellsLength, WritesPicture};
 ghost use Rattle.goqlanis_buffers.specs.Asking.{IsCauseFor, IsPictureFor, IsWithinLimits};
 ghost use Rattle.goqlanis_buffers.specs.Drawings.{density, is_sayable, plain, IsDrawn};
@@ -14,7 +16,7 @@ use crate::symbols::{colors_of, fill};
 use goqlanis_draw::formats::{Format, format_numbered};
 use goqlanis_draw::picture::Picture;
 use goqlanis_draw::render::draw_in;
-use qrcode::types::QrResult;
+use qrcode::types::{Color, QrResult};
 use std::alloc::Global;
 
 /// How C wants modules drawn. A colour has its transparency, red, green and blue in its four bytes,
@@ -162,16 +164,39 @@ fn drawn(alloc: Global, asked: &Asked<'_>, format: Format) -> QrResult<Vec<u8>>
         asked.now.drawing bytes.items) }
     ensures memory { IsOkUnless result OutOfMemory }
 {
-    let drawing = &asked.drawing;
     let colors = colors_of(alloc, asked.modules)?;
-    let (dark, light) = (name_of(alloc, drawing.dark)?, name_of(alloc, drawing.light)?);
+    let dark = name_of(alloc, asked.drawing.dark)?;
+    let light = name_of(alloc, asked.drawing.light)?;
+    draw_named(alloc, asked, format, &colors, (&dark, &light))
+}
+
+// The same, of these modules and names of dark and light.
+fn draw_named<'a>(
+    alloc: Global,
+    asked: &Asked<'_>,
+    format: Format,
+    modules: &'a [Color],
+    names: (&'a str, &'a str),
+) -> QrResult<Vec<u8>>
+    requires limits { IsWithinLimits asked.now }
+    requires sayable { IsTrue (is_sayable format asked.now.drawing) }
+    requires modules { modules.now ≡ colors_of asked.now.modules.now }
+    requires dark { names.0.now ≡ colour_name asked.now.drawing.dark }
+    requires light { names.1.now ≡ colour_name asked.now.drawing.light }
+    ensures drawing { IfOk result (λ bytes. IsDrawn format asked.now.modules.now asked.now.width
+        asked.now.drawing bytes.items) }
+    ensures memory { IsOkUnless result OutOfMemory }
+{
+    let drawing = &asked.drawing;
+    let dark = ink_of(names.0, drawing.dark);
+    let light = ink_of(names.1, drawing.light);
     let picture = Picture {
-        modules: &colors,
+        modules,
         width: asked.width,
         zone: drawing.zone,
         scale: drawing.scale,
-        dark: ink_of(&dark, drawing.dark),
-        light: ink_of(&light, drawing.light),
+        dark,
+        light,
         is_inverted: false,
         dpi: density(drawing.dpi),
         ends_lines: false,
