@@ -259,7 +259,8 @@ typedef struct {
     uint32_t version; /* this one; or 0 for the least that holds the data */
     uint32_t least_version; /* the first that is tried where `version` is 0; then Micro comes before
                                Normal, so that GOQ_MICRO(1) gives the least of all */
-    uint32_t boost; /* 1 for the highest level, from `level` on, at which that version holds it */
+    uint32_t boost; /* where `version` is 0: 1 for the highest level, from `level` on, at which the
+                       least version holds the data */
     uint32_t mask; /* GOQ_MASK(number), or 0 for the one of least penalty */
 } goq_options;
 

@@ -57,8 +57,6 @@ static void choices(void)
     makes("0", least, 7, GOQ_H);
     given.version = 40;
     makes("0", given, 40, GOQ_M);
-    given.boost = 1;
-    makes("0", given, 40, GOQ_H);
     given.version = GOQ_MICRO(2);
     makes("0123456789", given, GOQ_MICRO(2), GOQ_M);
     expect(encode("01234567", &plain) == GOQ_OK, "the symbol of digits");
@@ -83,9 +81,9 @@ static void refusals(void)
         GOQ_NO_MODE, "a marked text in M4");
     refuses("1", (goq_options){sizeof o, 1, 0, GOQ_MICRO(1), 1, 0, 0}, GOQ_LEVEL_NOT_IN_VERSION,
         "M1 at M");
-    refuses("0123456789012", (goq_options){sizeof o, 3, 0, GOQ_MICRO(4), 1, 1, 0},
+    refuses("0123456789012", (goq_options){sizeof o, 3, 0, GOQ_MICRO(4), 1, 0, 0},
         GOQ_LEVEL_NOT_IN_VERSION, "M4 at H");
-    refuses("01234567890", (goq_options){sizeof o, 0, 0, GOQ_MICRO(2), 1, 1, 0}, GOQ_NO_ROOM,
+    refuses("01234567890", (goq_options){sizeof o, 0, 0, GOQ_MICRO(2), 1, 0, 0}, GOQ_NO_ROOM,
         "11 digits in M2");
     refuses(long_text, (goq_options){sizeof o, 0, 0, 0, 1, 0, 0}, GOQ_NO_ROOM, "2,954 bytes");
     refuses("1", (goq_options){sizeof o, 1, 0, 0, 1, 0, GOQ_MASK(8)}, GOQ_NO_SUCH_MASK, "mask 8");

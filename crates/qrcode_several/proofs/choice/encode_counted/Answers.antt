@@ -7,5 +7,5 @@ pub returns-in-Some-clause-symbols : goal.returns-in-Some-clause-symbols
 returns-in-Some-clause-symbols c =
     pair_ok c.symbols.result
     (λ codes is made. counted_of c.args.manner c.args.versions c.args.ec_level c.args.bytes.now c.args.count c.in-Some.number codes.items
-    (least_held c.args.manner c.args.versions c.args.ec_level c.args.bytes.now c.args.count c.in-Some.number c.in_ok-least_number.field-0 c.in-Some.is c.in_ok-least_number.ensures.value) is made)
+    (least_held c.args.manner c.args.versions c.args.ec_level c.args.bytes.now c.args.count c.in-Some.number c.in_ok-number.field-0 c.in-Some.is c.in_ok-number.ensures.value) is made)
     c.symbols.ensures.count c.symbols.ensures.symbols
