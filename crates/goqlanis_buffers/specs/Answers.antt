@@ -10,7 +10,7 @@ use Rattle.qrcode_bits.specs.Manners.{rank, HoldsAs}
 use Rattle.qrcode_bits.specs.Refusals.{data_limit}
 use Rattle.qrcode_bits.specs.declared.bits.manner.Manner.{Manner}
 use Rattle.qrcode_bits.specs.declared.optimize.Segment.{Segment}
-use Rattle.qrcode.specs.Reading.{Reads, ReadsOnly}
+use Rattle.qrcode.specs.Reading.{ReadsOnly}
 use Rattle.qrcode.specs.Texts.{ShowsTextOnly}
 use Rattle.qrcode_reader.specs.Positions.{seen}
 use Rattle.qrcode_reader.specs.Readings.{HasNoVersion, HasNoFormat, HasDamagedBlock, ShowsNothing, SpellsNothing}
@@ -22,6 +22,7 @@ use Rattle.goqlanis_buffers.specs.declared.pictures.Drawing.{Drawing}
 use Rattle.goqlanis_draw.specs.declared.formats.Format.{Format}
 use Rattle.goqlanis_draw.specs.declared.formats.Format.TheVariants.{Png}
 use Rattle.goqlanis_buffers.specs.Names.{level_named, version_named}
+use Rattle.goqlanis_buffers.specs.Readings.{IsReadNowhere}
 use Rattle.goqlanis_buffers.specs.Segments.{HasNoRoom, HaveNoRoom, IsFirstRefused}
 use Rattle.goqlanis_buffers.specs.Symbols.{ExceedsRoom, IsAutomaticSymbol, IsSymbolIn, IsSegmentsSymbol, IsTextSymbol}
 use Rattle.goqlanis_buffers.specs.declared.segments.Segment as by_hand
@@ -137,8 +138,7 @@ IsReadingCause modules room refusal = ⊥
 
 -- why modules are read in no position, or not into a buffer of so much room
 abbrev pub IsAnyReadingCause : List ℕ → ℕ → Refusal → Type 0
-IsAnyReadingCause modules room NotRead = (side : ℕ) → side * side ≡ length (colors_of modules)
-    → (p : Position) (is_inverted : Bool) (bytes : List ℕ) → ¬ Reads (seen side p is_inverted (colors_of modules)) bytes
+IsAnyReadingCause modules room NotRead = IsReadNowhere (colors_of modules)
 IsAnyReadingCause modules room SmallBuffer =
     (p : Position) × ((is_inverted : Bool) × ((side : ℕ) × ((bytes : List ℕ)
     × (ReadsOnly (seen side p is_inverted (colors_of modules)) bytes × (room < length bytes)))))
@@ -151,7 +151,7 @@ IsTextReadingCause modules room NoFormat = HasNoFormat (colors_of modules)
 IsTextReadingCause modules room Damaged = (block : ℕ) × HasDamagedBlock (colors_of modules) block
 IsTextReadingCause modules room NotShown = ShowsNothing (colors_of modules)
 IsTextReadingCause modules room SmallBuffer =
-    (text : List ℕ) × (IsUtf8 text × (ShowsTextOnly (colors_of modules) (chars text) × (room < length text)))
+    (text : List ℕ) × (ShowsTextOnly (colors_of modules) (chars text) × (room < length text))
 IsTextReadingCause modules room OutOfMemory = ⊤
 IsTextReadingCause modules room refusal = ⊥
 

@@ -1,13 +1,15 @@
 -- What the calls for C read.
-use Rattle.std.specs.Prelude.{◌≡◌, ℕ, ◌+◌, ◌*◌, Bool, List, length, chars, IsUtf8, Some, if◌then◌else◌}
+use Rattle.std.specs.Prelude.{◌≡◌, ℕ, ◌+◌, ◌*◌, Bool, List, length, chars, Some, if◌then◌else◌}
 use Rattle.qrcode_types.specs.declared.types.EcLevel.{EcLevel}
 use Rattle.qrcode_types.specs.declared.types.Version.{Version}
 use Rattle.qrcode_types.specs.declared.types.Version.TheVariants.{Normal, Micro}
 use Rattle.qrcode_types.specs.Versions.{side}
 use Rattle.qrcode_places.specs.Masks.{mask_number, micro_mask_number}
 use Rattle.qrcode_places.specs.declared.masks.MaskPattern.{MaskPattern}
+use Rattle.qrcode_types.specs.declared.types.Color.{Color}
+use Rattle.qrcode.specs.Reading.{Reads}
 use Rattle.qrcode_reader.specs.Formats.{HasFormat}
-use Rattle.qrcode_reader.specs.Positions.{IsFirstReading}
+use Rattle.qrcode_reader.specs.Positions.{seen, IsFirstReading}
 use Rattle.qrcode_reader.specs.Readings.{IsReading, IsTextReading}
 use Rattle.qrcode_reader.specs.declared.positions.Position.{Position}
 use Rattle.qrcode_reader.specs.declared.positions.Position.TheVariants.{Upright, TurnedLeft, UpsideDown, TurnedRight, Mirrored, Flipped, Transposed, Antitransposed}
@@ -54,11 +56,15 @@ pub record IsReadInto (modules old new : List ℕ) (reading : Reading) : Type 0 
   pub filled : IsFilled old new bytes
   pub told : IsTold version level mask (length wrong) (length bytes) reading
 
+-- a square is read in no position
+pub record IsReadNowhere (s : List Color) : Type 0 where
+  pub none : (side : ℕ) → side * side ≡ length s → (p : Position) (is_inverted : Bool) (bytes : List ℕ) → ¬ Reads (seen side p is_inverted s) bytes
+
 -- the reading of a square in the first position in which it is read
-pub record IsReadAnywhere (modules : List ℕ) (p : Position) (is_inverted : Bool) (v : Version) (l : EcLevel) (k : MaskPattern) (bytes : List ℕ) (wrong : List WrongCodeword) : Type 0 where
+pub record IsReadAnywhere (s : List Color) (p : Position) (is_inverted : Bool) (v : Version) (l : EcLevel) (k : MaskPattern) (bytes : List ℕ) (wrong : List WrongCodeword) : Type 0 where
   pub side : ℕ
-  pub square : side * side ≡ length (colors_of modules)
-  pub read : IsFirstReading side (colors_of modules) p is_inverted v l k bytes wrong
+  pub square : side * side ≡ length s
+  pub read : IsFirstReading side s p is_inverted v l k bytes wrong
 
 -- the same in buffers
 pub record IsAnyReadInto (modules old new : List ℕ) (any : AnyReading) : Type 0 where
@@ -69,7 +75,7 @@ pub record IsAnyReadInto (modules old new : List ℕ) (any : AnyReading) : Type 
   pub mask : MaskPattern
   pub bytes : List ℕ
   pub wrong : List WrongCodeword
-  pub read : IsReadAnywhere modules position is_inverted version level mask bytes wrong
+  pub read : IsReadAnywhere (colors_of modules) position is_inverted version level mask bytes wrong
   pub filled : IsFilled old new bytes
   pub told : IsTold version level mask (length wrong) (length bytes) any.reading
   pub position_told : any.position ≡ position_number position is_inverted
@@ -81,7 +87,6 @@ pub record IsTextReadInto (modules old new : List ℕ) (reading : Reading) : Typ
   pub mask : MaskPattern
   pub bytes : List ℕ
   pub wrong : List WrongCodeword
-  pub text : IsUtf8 bytes
   pub read : IsTextReading (colors_of modules) version level mask (chars bytes) wrong
   pub filled : IsFilled old new bytes
   pub told : IsTold version level mask (length wrong) (length bytes) reading
@@ -91,6 +96,6 @@ pub record IsMaskNumber (modules : List ℕ) (number : ℕ) : Type 0 where
   pub version : Version
   pub level : EcLevel
   pub mask : MaskPattern
-  pub square : length modules ≡ side version * side version
+  pub square : length (colors_of modules) ≡ side version * side version
   pub named : HasFormat version (colors_of modules) level mask
   pub told : number ≡ mask_number_in version mask

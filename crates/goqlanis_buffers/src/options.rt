@@ -1,6 +1,7 @@
 //! Symbols by options.
 
-ghost use Rattle.std.specs.Prelude.{◌≡◌, ℕ, List, IfOk, IfErr};
+ghost use Rattle.std.specs.Prelude.{◌≡◌, ℕ, List, false, IfOk, IfErr, IsTrue, IsUtf8};
+ghost use Rattle.qrcode_bits.specs.Manners.{is_text};
 ghost use Rattle.goqlanis_buffers.specs.Calls.{Tells, WritesWith};
 ghost use Rattle.goqlanis_buffers.specs.Options.{choice_named, manner_named, IsAsked, IsOptionsCause, IsSymbolWith};
 
@@ -74,7 +75,7 @@ fn symbol_with(alloc: Global, bytes: &[u8], options: &Options) -> Result<QrCode,
         Ok(asked) => asked,
         Err(refusal) => return Err(refusal),
     };
-    if asked.manner != Manner::Bytes && str::from_utf8(bytes).is_err() {
+    if !is_sound(asked.manner, bytes) {
         return Err(Refusal::NotText);
     }
     match symbol_in(alloc, asked.choice, asked.manner, asked.level, bytes) {
@@ -112,6 +113,20 @@ pub(crate) fn asked_by(options: &Options) -> Result<Asked, Refusal>
         level,
         manner,
     })
+}
+
+/// Whether bytes that are to be a text are UTF-8.
+pub(crate) fn is_sound(manner: Manner, bytes: &[u8]) -> bool
+    ensures text { IsTrue result → IsTrue (is_text manner) → IsUtf8 bytes.now }
+    ensures other { result ≡ false → ¬ IsUtf8 bytes.now }
+{
+    match manner {
+        Manner::Bytes => true,
+        Manner::Text | Manner::MarkedText => match str::from_utf8(bytes) {
+            Ok(_) => true,
+            Err(_) => false,
+        },
+    }
 }
 
 // Which symbol options ask for.

@@ -1,23 +1,26 @@
 //! Squares of modules read back.
 
-ghost use Rattle.std.specs.Prelude.{◌≡◌, ℕ, chars, string_bytes, IsTrue, IfOk, IfErr};
-ghost use Rattle.qrcode_types.specs.Versions.{has_level};
+ghost use Rattle.std.specs.Prelude.{◌≡◌, ◌*◌, ℕ, chars, length, string_bytes, IsTrue, IfOk, IfErr, IfNone, IfSome, OnErr};
+ghost use Rattle.qrcode_types.specs.Versions.{has_level, is_valid, side};
 ghost use Rattle.qrcode.specs.Reading.{ReadsOnly};
-ghost use Rattle.qrcode_reader.specs.Readings.{IsReading, IsTextReading};
-ghost use Rattle.goqlanis_buffers.specs.Answers.{IsAnyReadingCause, IsReadingCause, IsTextReadingCause};
+ghost use Rattle.qrcode.specs.Texts.{ShowsTextOnly};
+ghost use Rattle.qrcode_reader.specs.Formats.{HasFormat};
+ghost use Rattle.qrcode_reader.specs.Readings.{HasNoFormat, IsReading, IsTextReading};
+ghost use Rattle.goqlanis_buffers.specs.Answers.{IsAnyReadingCause, IsMaskCause, IsReadingCause, IsTextReadingCause};
 ghost use Rattle.goqlanis_buffers.specs.Calls.{TellsMask, TellsReadLength, WritesAnyReading, WritesReading, WritesTextReading};
 ghost use Rattle.qrcode_render.specs.Shades.{colors_of};
-ghost use Rattle.goqlanis_buffers.specs.Readings.{mask_number_in, position_number, IsReadAnywhere, IsTold};
+ghost use Rattle.goqlanis_buffers.specs.declared.answers.Refusal.TheVariants.{NoFormat};
+ghost use Rattle.goqlanis_buffers.specs.Readings.{mask_number_in, position_number, IsReadAnywhere, IsReadNowhere, IsTold};
 
 use crate::answers::Refusal;
 use crate::names::{level_number, version_number};
 use crate::symbols::{colors_of, fill};
 use qrcode::canvas::MaskPattern;
-use qrcode::types::{EcLevel, Version};
+use qrcode::types::{Color, EcLevel, Version};
 use qrcode_reader::{AnyReading as FoundAnywhere, Position, Reading as Found};
 use qrcode_reader::{TextReading, Unread, UnreadText};
 use qrcode_reader::{read, read_any, read_format, read_text, version_of};
-use std::alloc::Global;
+use std::alloc::{AllocError, Global};
 
 /// What is read of a square beside its bytes.
 #[repr(C)]
@@ -128,15 +131,9 @@ pub fn read_text_into(alloc: Global, modules: &[u8], text: &mut [u8]) -> Result<
 pub fn mask_of(alloc: Global, modules: &[u8]) -> Result<u32, Refusal>
     ensures { TellsMask modules.now result }
 {
-    let Some(version) = version_of(modules.len()) else {
-        return Err(Refusal::NoSuchSide);
-    };
-    let Ok(colors) = colors_of(alloc, modules) else {
-        return Err(Refusal::OutOfMemory);
-    };
-    match read_format(version, &colors) {
-        Some((_, mask)) => Ok(mask_number(version, mask)),
-        None => Err(Refusal::NoFormat),
+    match format_of(alloc, modules) {
+        Ok(format) => Ok(mask_number(format.version, format.mask)),
+        Err(refusal) => Err(refusal),
     }
 }
 
@@ -174,11 +171,53 @@ fn read_square(alloc: Global, modules: &[u8]) -> Result<Found, Refusal>
     }
 }
 
+// What the format word of a square names.
+#[derive(Clone, Copy)]
+struct Format {
+    version: Version,
+    level: EcLevel,
+    mask: MaskPattern,
+}
+
+// The format word of a square of modules.
+fn format_of(alloc: Global, modules: &[u8]) -> Result<Format, Refusal>
+    ensures square { IfOk result (λ f.
+        length (colors_of modules.now) ≡ side f.version * side f.version) }
+    ensures named { IfOk result (λ f. HasFormat f.version (colors_of modules.now) f.level f.mask) }
+    ensures causes { IfErr result (IsMaskCause modules.now) }
+{
+    let Ok(colors) = colors_of(alloc, modules) else {
+        return Err(Refusal::OutOfMemory);
+    };
+    match version_of(colors.len()) {
+        Some(version) => format_in(version, &colors),
+        None => Err(Refusal::NoSuchSide),
+    }
+}
+
+// The same of a version.
+fn format_in(version: Version, colors: &[Color]) -> Result<Format, Refusal>
+    requires valid { IsTrue (is_valid version) }
+    requires square { length colors.now ≡ side version * side version }
+    ensures version { IfOk result (λ f. f.version ≡ version) }
+    ensures named { IfOk result (λ f. HasFormat f.version colors.now f.level f.mask) }
+    ensures is { IfErr result (λ refusal. refusal ≡ NoFormat) }
+    ensures none { OnErr result (HasNoFormat colors.now) }
+{
+    match read_format(version, colors) {
+        Some((level, mask)) => Ok(Format {
+            version,
+            level,
+            mask,
+        }),
+        None => Err(Refusal::NoFormat),
+    }
+}
+
 // What is read of a square in any position.
-#[tactic(auto, using(crate::proofs::Known::existing))]
 fn read_any_square(alloc: Global, modules: &[u8]) -> Result<FoundAnywhere, Refusal>
-    ensures reading { IfOk result (λ any. IsReadAnywhere modules.now any.position any.is_inverted
-        any.reading.version any.reading.ec_level any.reading.mask
+    ensures reading { IfOk result (λ any. IsReadAnywhere (colors_of modules.now) any.position
+        any.is_inverted any.reading.version any.reading.ec_level any.reading.mask
         any.reading.data.items any.reading.wrong.items) }
     ensures exists { IfOk result (λ any.
         IsTrue (has_level any.reading.version any.reading.ec_level)) }
@@ -187,18 +226,40 @@ fn read_any_square(alloc: Global, modules: &[u8]) -> Result<FoundAnywhere, Refus
     let Ok(colors) = colors_of(alloc, modules) else {
         return Err(Refusal::OutOfMemory);
     };
-    match read_any(alloc, &colors) {
+    match first_reading(alloc, &colors) {
         Ok(Some(found)) => Ok(found),
         Ok(None) => Err(Refusal::NotRead),
         Err(_) => Err(Refusal::OutOfMemory),
     }
 }
 
+// The first reading of a square, where there is one.
+#[tactic(auto, using(crate::proofs::Known::existing))]
+fn first_reading(
+    alloc: Global,
+    colors: &[Color],
+) -> Result<Option<FoundAnywhere>, AllocError>
+    ensures reading { IfOk result (λ found. IfSome found (λ any. IsReadAnywhere colors.now
+        any.position any.is_inverted any.reading.version any.reading.ec_level any.reading.mask
+        any.reading.data.items any.reading.wrong.items)) }
+    ensures exists { IfOk result (λ found. IfSome found (λ any.
+        IsTrue (has_level any.reading.version any.reading.ec_level))) }
+    ensures nowhere { IfOk result (λ found. IfNone found (IsReadNowhere colors.now)) }
+{
+    match read_any(alloc, colors) {
+        Ok(Some(found)) => Ok(Some(found)),
+        Ok(None) => Ok(None),
+        Err(error) => Err(error),
+    }
+}
+
 // The text that readers show of a square.
-#[tactic(auto, using(crate::proofs::Known::shown_existing))]
+#[tactic(auto, using(crate::proofs::Known::shown_existing, crate::proofs::Known::only_shown))]
 fn read_shown(alloc: Global, modules: &[u8]) -> Result<TextReading, Refusal>
     ensures reading { IfOk result (λ read. IsTextReading (colors_of modules.now) read.version
         read.ec_level read.mask (chars (string_bytes read.text)) read.wrong.items) }
+    ensures only { IfOk result (λ read.
+        ShowsTextOnly (colors_of modules.now) (chars (string_bytes read.text))) }
     ensures exists { IfOk result (λ read. IsTrue (has_level read.version read.ec_level)) }
     ensures causes { (room : ℕ) → IfErr result (IsTextReadingCause modules.now room) }
 {

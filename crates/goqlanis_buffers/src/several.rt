@@ -8,6 +8,7 @@ ghost use Rattle.goqlanis_buffers.specs.Several.{modules_of, AreAsked, AreSymbol
 
 use crate::answers::Refusal;
 use crate::names::level_named;
+use crate::options::is_sound;
 use crate::symbols::{Symbol, described, fill};
 use qrcode::QrCode;
 use qrcode::bits::Manner;
@@ -94,7 +95,7 @@ fn symbols_with(alloc: Global, bytes: &[u8], options: &Several) -> Result<Vec<Qr
         Ok(asked) => asked,
         Err(refusal) => return Err(refusal),
     };
-    if asked.manner != Manner::Bytes && str::from_utf8(bytes).is_err() {
+    if !is_sound(asked.manner, bytes) {
         return Err(Refusal::NotText);
     }
     let Named {

@@ -85,7 +85,8 @@ fn symbol_of(alloc: Global, parts: &[Part<'_>], options: &Options) -> Result<QrC
     };
     let elements = match elements_of(alloc, parts) {
         Ok(elements) => elements,
-        Err(refusal) => return Err(refusal),
+        Err(Refusal::NotText(place)) => return Err(Refusal::NotText(place)),
+        Err(_) => return Err(Refusal::OutOfMemory),
     };
     match symbol_of_elements(alloc, asked.choice, asked.level, &elements) {
         Ok(code) => Ok(code),
