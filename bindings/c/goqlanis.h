@@ -44,14 +44,9 @@ enum {
     GOQ_NOT_SPELLED = 19, /* the data bits are not segments and an end, as where a header stands in front */
     GOQ_NO_SUCH_STRUCT = 20, /* the field `size` is not the size of the struct */
     GOQ_NO_SUCH_MANNER = 21, /* no manner has the number */
-    GOQ_NO_SUCH_MASK = 22, /* the version of the symbol has no mask of the number */
+    GOQ_NO_SUCH_MASK = 22, /* the mask is another than 0 */
     GOQ_NOT_IN_FORMAT = 23, /* the format has no such colours, or no dots per inch */
     GOQ_NOT_SHOWN = 24, /* the data bits are not a text that readers show */
-    GOQ_NOT_SEVERAL = 25, /* the square has no header of one of several symbols */
-    GOQ_STRANGER = 26, /* the square is a part of other data than the first */
-    GOQ_MISSING = 27, /* no square has the part at this place */
-    GOQ_TWICE = 28, /* more than one square has the part at this place */
-    GOQ_PARITY = 29, /* the parts are not those of the data that their headers name */
     GOQ_NOT_READ = 30, /* the square is read in none of the sixteen positions */
     GOQ_NO_SUCH_CONTENT = 32, /* no kind of content has the number */
     GOQ_NO_SUCH_FIELD = 33, /* the kind has no field at this place */
@@ -244,42 +239,21 @@ enum {
     GOQ_AS_MARKED_TEXT = 2 /* as goq_encode_marked_text does: UTF-8, and Micro has no such symbols */
 };
 
-/* As bytes of a character set, behind its number (ECI), which is below 1,000,000. */
-#define GOQ_IN_SET(number) (3 + (number))
-
-/* A mask by its number: 0 to 7, in Micro 0 to 3. */
-#define GOQ_MASK(number) (1 + (number))
-
 /* What is asked of a symbol. Begin with GOQ_OPTIONS, and change what you like. Later versions of
    this library may have more fields at the end; `size` says which ones you know. */
 typedef struct {
     uint32_t size; /* sizeof(goq_options) */
     uint32_t level; /* GOQ_L .. GOQ_H */
-    uint32_t manner; /* GOQ_AS_BYTES .. GOQ_IN_SET(number) */
+    uint32_t manner; /* GOQ_AS_BYTES .. GOQ_AS_MARKED_TEXT */
     uint32_t version; /* this one; or 0 for the least that holds the data */
     uint32_t least_version; /* the first that is tried where `version` is 0; then Micro comes before
                                Normal, so that GOQ_MICRO(1) gives the least of all */
     uint32_t boost; /* where `version` is 0: 1 for the highest level, from `level` on, at which the
                        least version holds the data */
-    uint32_t mask; /* GOQ_MASK(number), or 0 for the one of least penalty */
+    uint32_t mask; /* 0, for the one of least penalty */
 } goq_options;
 
 #define GOQ_OPTIONS {sizeof(goq_options), GOQ_M, GOQ_AS_BYTES, 0, 1, 0, 0}
-
-/* How symbols are asked for between which data is parted: as few as one of the versions allows, of
-   the least version that allows so few; or so many, of the least version that holds them. */
-typedef struct {
-    uint32_t size; /* sizeof(goq_several) */
-    uint32_t level;
-    uint32_t manner; /* GOQ_AS_BYTES or GOQ_AS_TEXT */
-    uint32_t least_version; /* of Normal */
-    uint32_t greatest_version;
-    uint32_t count; /* 1 to GOQ_SEVERAL_MAX, or 0 for as few as there can be */
-} goq_several;
-
-#define GOQ_SEVERAL {sizeof(goq_several), GOQ_M, GOQ_AS_BYTES, 1, 40, 0}
-
-enum { GOQ_SEVERAL_MAX = 16 };
 
 /* How modules are drawn. Begin with GOQ_DRAWING, and change what you like. A colour is 0xRRGGBB, to
    which a transparency is added: 0x80000000 for half of it, GOQ_TRANSPARENT for all. SVG and PNG
@@ -366,12 +340,6 @@ typedef struct {
     uint32_t position;
 } goq_any_reading;
 
-/* A square of modules, as goq_read takes it. */
-typedef struct {
-    const uint8_t *modules;
-    size_t length;
-} goq_square;
-
 /* The symbol of data at a level, of the least Normal version that holds it: its modules, row by row, 1 for a dark one, at the beginning of `modules`.
    GOQ_NO_SUCH_LEVEL, GOQ_NO_ROOM, GOQ_SMALL_BUFFER, GOQ_OUT_OF_MEMORY. */
 uint32_t goq_encode(const uint8_t *data, size_t data_length, uint32_t level, uint8_t *modules, size_t modules_length, goq_symbol *symbol);
@@ -388,20 +356,11 @@ uint32_t goq_encode_in(
     const uint8_t *data, size_t data_length, uint32_t version, uint32_t level, uint8_t *modules, size_t modules_length, goq_symbol *symbol);
 
 /* The symbol of data that options ask for. GOQ_NO_SUCH_STRUCT, GOQ_NO_SUCH_LEVEL,
-   GOQ_NO_SUCH_VERSION, GOQ_NO_SUCH_MANNER, GOQ_NO_SUCH_NUMBER, GOQ_NOT_TEXT; where a version is
-   asked for GOQ_TOO_LONG, GOQ_NO_MODE, GOQ_LEVEL_NOT_IN_VERSION; GOQ_NO_ROOM, GOQ_NO_SUCH_MASK,
-   GOQ_SMALL_BUFFER; GOQ_OUT_OF_MEMORY. */
+   GOQ_NO_SUCH_VERSION, GOQ_NO_SUCH_MANNER, GOQ_NO_SUCH_MASK, GOQ_NOT_TEXT; where a version is
+   asked for GOQ_NO_MODE, GOQ_LEVEL_NOT_IN_VERSION; GOQ_NO_ROOM, GOQ_SMALL_BUFFER;
+   GOQ_OUT_OF_MEMORY. */
 uint32_t goq_encode_with(const uint8_t *data, size_t data_length, const goq_options *options,
     uint8_t *modules, size_t modules_length, goq_symbol *symbol);
-
-/* The symbols between which data is parted (structured append), in order, one behind the other in
-   `modules`: each has symbol->width * symbol->width of them, and `symbol` is what each of them is.
-   How many there are goes to `count`. A single one has no header. GOQ_NO_SUCH_STRUCT,
-   GOQ_NO_SUCH_LEVEL, GOQ_NO_SUCH_VERSION (also of Micro, or the least above the greatest),
-   GOQ_NO_SUCH_MANNER, GOQ_NO_SUCH_NUMBER (a count above GOQ_SEVERAL_MAX), GOQ_NOT_TEXT,
-   GOQ_NO_ROOM, GOQ_SMALL_BUFFER; GOQ_OUT_OF_MEMORY. */
-uint32_t goq_encode_several(const uint8_t *data, size_t data_length, const goq_several *options,
-    uint8_t *modules, size_t modules_length, goq_symbol *symbol, size_t *count);
 
 /* The symbol of segments, one behind the other, of a version and level. Of several causes
    the first is told, in this order: GOQ_NO_SUCH_LEVEL, GOQ_NO_SUCH_VERSION, GOQ_LEVEL_NOT_IN_VERSION; of each segment GOQ_NO_SUCH_KIND, GOQ_NOT_IN_MODE,
@@ -461,14 +420,6 @@ uint32_t goq_read_text(const uint8_t *modules, size_t modules_length, uint8_t *t
    GOQ_NO_SUCH_SIDE, GOQ_NO_FORMAT; GOQ_OUT_OF_MEMORY. */
 uint32_t goq_mask(const uint8_t *modules, size_t modules_length, uint32_t *mask);
 
-/* The data of several symbols, read from squares in any order: at the beginning of `out`, and its
-   length to `count`. Of the first square that is not read GOQ_NO_SUCH_SIDE, GOQ_NO_FORMAT,
-   GOQ_DAMAGED, GOQ_NOT_SPELLED, GOQ_NOT_SEVERAL; then GOQ_STRANGER; each with the place of the
-   square. GOQ_MISSING, GOQ_TWICE, with the place of the part; GOQ_PARITY, GOQ_SMALL_BUFFER;
-   GOQ_OUT_OF_MEMORY. */
-uint32_t goq_join(const goq_square *squares, size_t squares_length, uint8_t *out, size_t out_length,
-    size_t *count, size_t *place);
-
 /* The text of a kind of content, to be encoded by goq_encode_text: at the beginning of `out`, and its length to `count`, with no zero behind it. No symbol holds
    a text of more than GOQ_BYTES_MAX bytes. Fields behind those given are empty or 0. Of several causes the first is told, in this order: GOQ_NO_SUCH_CONTENT; of
    each field GOQ_NO_SUCH_FIELD, GOQ_NOT_TEXT, GOQ_FIELD_RANGE, GOQ_FIELD_CHARACTER, where it is wrong by itself; what the format refuses, GOQ_FIELD_EMPTY ..
@@ -485,8 +436,9 @@ uint32_t goq_gs1(const goq_element *elements, size_t elements_length, uint8_t *o
 /* The symbol of elements of GS1 that options ask for, in segments of the fewest bits; their manner
    and boost are not looked at. Of the first element that is wrong, with its place, GOQ_NOT_TEXT;
    else GOQ_NO_SUCH_IDENTIFIER, GOQ_ELEMENT_LENGTH, GOQ_FIELD_CHARACTER, GOQ_FIELD_CHECK_DIGITS.
-   Before these GOQ_NO_SUCH_STRUCT, GOQ_NO_SUCH_LEVEL, GOQ_NO_SUCH_VERSION; behind them GOQ_NO_ROOM
-   (Micro has no such symbols), GOQ_NO_SUCH_MASK, GOQ_SMALL_BUFFER; GOQ_OUT_OF_MEMORY. */
+   Before these GOQ_NO_SUCH_STRUCT, GOQ_NO_SUCH_LEVEL, GOQ_NO_SUCH_VERSION, GOQ_NO_SUCH_MANNER,
+   GOQ_NO_SUCH_MASK; behind them GOQ_NO_ROOM (Micro has no such symbols), GOQ_SMALL_BUFFER;
+   GOQ_OUT_OF_MEMORY. */
 uint32_t goq_encode_gs1(const goq_element *elements, size_t elements_length,
     const goq_options *options, uint8_t *modules, size_t modules_length, goq_symbol *symbol,
     size_t *place);

@@ -74,7 +74,7 @@ static void refusals(void)
     refuses("1", (goq_options){sizeof o, 4, 0, 0, 1, 0, 0}, GOQ_NO_SUCH_LEVEL, "level 4");
     refuses("1", (goq_options){sizeof o, 1, 0, 45, 1, 0, 0}, GOQ_NO_SUCH_VERSION, "version 45");
     refuses("1", (goq_options){sizeof o, 1, 0, 0, 0, 0, 0}, GOQ_NO_SUCH_VERSION, "from 0 on");
-    refuses("1", (goq_options){sizeof o, 1, 3 + 1000000, 0, 1, 0, 0}, GOQ_NO_SUCH_NUMBER, "ECI");
+    refuses("1", (goq_options){sizeof o, 1, 3, 0, 1, 0, 0}, GOQ_NO_SUCH_MANNER, "manner 3");
     refuses("\xff", (goq_options){sizeof o, 1, GOQ_AS_TEXT, 0, 1, 0, 0}, GOQ_NOT_TEXT, "no UTF-8");
     refuses("a", (goq_options){sizeof o, 0, 0, GOQ_MICRO(2), 1, 0, 0}, GOQ_NO_MODE, "M2");
     refuses("1", (goq_options){sizeof o, 0, GOQ_AS_MARKED_TEXT, GOQ_MICRO(4), 1, 0, 0},
@@ -86,40 +86,23 @@ static void refusals(void)
     refuses("01234567890", (goq_options){sizeof o, 0, 0, GOQ_MICRO(2), 1, 0, 0}, GOQ_NO_ROOM,
         "11 digits in M2");
     refuses(long_text, (goq_options){sizeof o, 0, 0, 0, 1, 0, 0}, GOQ_NO_ROOM, "2,954 bytes");
-    refuses("1", (goq_options){sizeof o, 1, 0, 0, 1, 0, GOQ_MASK(8)}, GOQ_NO_SUCH_MASK, "mask 8");
-    refuses("1", (goq_options){sizeof o, 0, 0, GOQ_MICRO(2), 1, 0, GOQ_MASK(4)}, GOQ_NO_SUCH_MASK,
-        "mask 4 of M2");
+    refuses("1", (goq_options){sizeof o, 1, 0, 0, 1, 0, 9}, GOQ_NO_SUCH_MASK, "mask 9");
     expect(goq_encode_with((const uint8_t *)"1", 1, &o, modules, 440, &symbol) == GOQ_SMALL_BUFFER,
         "a module too few");
 }
 
-/* Each mask is the one that its format word names; ECI 9 of Greek in front takes 12 bits. */
-static void masks_and_sets(void)
+static void masks(void)
 {
-    goq_options o = GOQ_OPTIONS;
     uint8_t bytes[8];
     goq_reading reading;
     uint32_t mask = 77;
-    for (uint32_t version = 1; version <= GOQ_MICRO(4); version += 43)
-        for (uint32_t number = 0; number < (version == 1 ? 8 : 4); number++) {
-            o.version = version;
-            o.mask = GOQ_MASK(number);
-            expect(encode("0123", &o) == GOQ_OK, "a mask");
-            size_t count = symbol.width * symbol.width;
-            expect(goq_mask(modules, count, &mask) == GOQ_OK && mask == number, "its number");
-            expect(goq_read(modules, count, bytes, 8, &reading) == GOQ_OK && reading.length == 4
-                && reading.mask == number && !memcmp(bytes, "0123", 4), "it is read");
-        }
+    goq_encode((const uint8_t *)"0123", 4, GOQ_M, modules, sizeof modules, &symbol);
+    expect(goq_read(modules, 441, bytes, 8, &reading) == GOQ_OK, "a reading");
+    expect(goq_mask(modules, 441, &mask) == GOQ_OK && mask == reading.mask, "its mask");
     mask = 77;
     expect(goq_mask(modules, 440, &mask) == GOQ_NO_SUCH_SIDE && mask == 77, "440 modules");
     memset(modules, 1, 441);
     expect(goq_mask(modules, 441, &mask) == GOQ_NO_FORMAT && mask == 77, "a dark square");
-    o = (goq_options)GOQ_OPTIONS;
-    o.manner = GOQ_IN_SET(9);
-    makes("\xca\xfe\xe4", o, 1, GOQ_M);
-    expect(goq_mask(modules, 441, &mask) == GOQ_OK, "the mask of a symbol with a header");
-    makes("01234567890123456789012345", o, 1, GOQ_M); /* 26 digits: 12 + 4 + 10 + 87 of 128 bits */
-    makes("012345678901234567890123456789012", o, 2, GOQ_M); /* 33: 12 + 4 + 10 + 110 */
 }
 
 static size_t count;
@@ -242,54 +225,14 @@ static void elements(void)
     expect(symbol.version == 1 && place == 77, "in the least version");
 }
 
-/* Normal 2 holds 32 bytes at L, and 20 bits of a header leave room for 30 (272 bits, table 7). */
-static void several(void)
-{
-    goq_several o = {sizeof o, GOQ_L, GOQ_AS_BYTES, 2, 2, 0};
-    uint8_t bytes[64], part[64];
-    goq_reading reading;
-    memset(bytes, 'a', 64);
-    count = 5;
-    expect(goq_encode_several(bytes, 32, &o, modules, sizeof modules, &symbol, &count) == GOQ_OK
-        && count == 1 && symbol.version == 2, "one");
-    expect(goq_read(modules, 625, part, 64, &reading) == GOQ_OK && reading.length == 32, "alone");
-    expect(goq_encode_several(bytes, 60, &o, modules, 1250, &symbol, &count) == GOQ_OK
-        && count == 2 && symbol.width == 25, "two");
-    expect(goq_read(modules, 625, part, 64, &reading) == GOQ_NOT_SPELLED, "a header in front");
-    expect(goq_encode_several(bytes, 61, &o, modules, sizeof modules, &symbol, &count) == GOQ_OK
-        && count == 3, "three");
-    o.count = 4;
-    o.least_version = 1;
-    o.manner = GOQ_AS_TEXT;
-    expect(goq_encode_several(bytes, 56, &o, modules, sizeof modules, &symbol, &count) == GOQ_OK
-        && count == 4 && symbol.version == 1, "four of 14 bytes: 20 + 12 + 112 of 152 bits");
-    count = 5;
-    symbol.version = 99;
-    memset(modules, 7, sizeof modules);
-    expect(goq_encode_several(bytes, 56, &o, modules, 1763, &symbol, &count) == GOQ_SMALL_BUFFER,
-        "a module too few");
-    bytes[0] = 0xff;
-    struct { goq_several given; uint32_t answer; } wrong_ones[] = {
-        {{23, 0, 0, 1, 2, 0}, GOQ_NO_SUCH_STRUCT}, {{24, 4, 0, 1, 2, 0}, GOQ_NO_SUCH_LEVEL},
-        {{24, 0, 0, 0, 2, 0}, GOQ_NO_SUCH_VERSION}, {{24, 0, 0, 1, 41, 0}, GOQ_NO_SUCH_VERSION},
-        {{24, 0, 0, 3, 2, 0}, GOQ_NO_SUCH_VERSION}, {{24, 0, 2, 1, 2, 0}, GOQ_NO_SUCH_MANNER},
-        {{24, 0, 0, 1, 2, 17}, GOQ_NO_SUCH_NUMBER}, {{24, 0, 1, 1, 2, 0}, GOQ_NOT_TEXT},
-        {{24, 0, 0, 1, 1, 2}, GOQ_NO_ROOM}};
-    for (size_t i = 0; i < sizeof wrong_ones / sizeof wrong_ones[0]; i++)
-        expect(goq_encode_several(bytes, 64, &wrong_ones[i].given, modules, sizeof modules,
-            &symbol, &count) == wrong_ones[i].answer, "several that are refused");
-    expect(modules[0] == 7 && symbol.version == 99 && count == 5, "untouched");
-}
-
 int main(void)
 {
     choices();
     refusals();
-    masks_and_sets();
+    masks();
     drawings();
     positions();
     elements();
-    several();
     printf("%d wrong\n", wrong);
     return wrong != 0;
 }

@@ -9,6 +9,5 @@ mod encoding;
 mod pictures;
 mod reading;
 mod segments;
-mod several;
 mod shape;
 mod texts;

@@ -34,8 +34,6 @@ pub enum QrError {
     InvalidEciDesignator,
     /// The mode of a segment lacks one of its bytes, or a text is not UTF-8.
     InvalidCharacter,
-    /// The version has no mask of the number.
-    NoSuchMask,
     /// Memory was refused.
     OutOfMemory,
 }
@@ -48,7 +46,6 @@ impl fmt::Display for QrError {
             QrError::UnsupportedCharacterSet => "unsupported character set",
             QrError::InvalidEciDesignator => "invalid ECI designator",
             QrError::InvalidCharacter => "invalid character",
-            QrError::NoSuchMask => "no such mask",
             QrError::OutOfMemory => "out of memory",
         })
     }
@@ -64,7 +61,6 @@ fn accepted(answer: u32) -> QrResult<()> {
         sys::GOQ_OK => Ok(()),
         sys::GOQ_NO_SUCH_VERSION | sys::GOQ_LEVEL_NOT_IN_VERSION => Err(QrError::InvalidVersion),
         sys::GOQ_NOT_IN_MODE | sys::GOQ_NOT_TEXT => Err(QrError::InvalidCharacter),
-        sys::GOQ_NO_SUCH_MASK => Err(QrError::NoSuchMask),
         sys::GOQ_NO_SUCH_NUMBER => Err(QrError::InvalidEciDesignator),
         sys::GOQ_NO_MODE => Err(QrError::UnsupportedCharacterSet),
         sys::GOQ_OUT_OF_MEMORY => Err(QrError::OutOfMemory),
@@ -180,8 +176,6 @@ pub enum Writing {
     Text,
     /// As `QrCode::of_marked_text` does.
     MarkedText,
-    /// As bytes of a character set, behind its number (ECI), which is below 1,000,000.
-    InSet(u32),
 }
 
 /// What is asked of a symbol.
@@ -195,8 +189,6 @@ pub struct Options {
     pub least_version: Version,
     /// Whether the level is the highest, from `ec_level` on, at which that version holds the data.
     pub boost: bool,
-    /// The number of a mask, or none for the one of least penalty.
-    pub mask: Option<u32>,
 }
 
 impl Default for Options {
@@ -207,7 +199,6 @@ impl Default for Options {
             version: None,
             least_version: Version::Normal(1),
             boost: false,
-            mask: None,
         }
     }
 }
@@ -221,7 +212,6 @@ impl Options {
                 Writing::Bytes => sys::GOQ_AS_BYTES,
                 Writing::Text => sys::GOQ_AS_TEXT,
                 Writing::MarkedText => sys::GOQ_AS_MARKED_TEXT,
-                Writing::InSet(number) => number.saturating_add(3),
             },
             version: self.version.map_or(0, |version| match version.number() {
                 0 => u32::MAX,
@@ -229,7 +219,7 @@ impl Options {
             }),
             least_version: self.least_version.number(),
             boost: u32::from(self.boost),
-            mask: self.mask.map_or(0, |number| number.saturating_add(1)),
+            mask: 0,
         }
     }
 }
@@ -311,15 +301,11 @@ impl QrCode {
     /// The symbol of data that options ask for.
     ///
     /// ```
-    /// use goqlanis::{EcLevel, Options, QrCode, Version, Writing};
+    /// use goqlanis::{EcLevel, Options, QrCode, Version};
     ///
     /// let least = Options { least_version: Version::Micro(1), boost: true, ..Options::default() };
     /// let code = QrCode::with_options("12345", &Options { ec_level: EcLevel::L, ..least })?;
     /// assert_eq!(code.version(), Version::Micro(1));
-    /// let greek = Options { writing: Writing::InSet(9), ..Options::default() };
-    /// assert_eq!(QrCode::with_options(b"\xca\xfe\xe4", &greek)?.width(), 21);
-    /// let masked = Options { mask: Some(5), ..Options::default() };
-    /// assert_eq!(QrCode::with_options("12345", &masked)?.mask(), 5);
     /// # Ok::<(), goqlanis::QrError>(())
     /// ```
     pub fn with_options<D: AsRef<[u8]>>(data: D, options: &Options) -> QrResult<Self> {

@@ -67,19 +67,17 @@ fn colours() {
 
 #[test]
 fn options() {
-    let given = |version, least_version, mask| Options { version, least_version, mask, ..Options::default() };
+    let given = |version, least_version| Options { version, least_version, ..Options::default() };
     let made = |options| QrCode::with_options("01234567890123456", &options);
     let boosted = made(Options { ec_level: EcLevel::L, boost: true, ..Options::default() }).unwrap();
     assert_eq!((boosted.version(), boosted.error_correction_level()), (Version::Normal(1), EcLevel::H));
     let (first, ninth) = (Version::Normal(1), Version::Normal(9));
-    assert_eq!(made(given(Some(ninth), first, Some(3))).unwrap().mask(), 3);
-    assert_eq!(made(given(None, ninth, None)).unwrap().version(), ninth);
-    assert_eq!(made(given(Some(Version::Normal(0)), first, None)).unwrap_err(), QrError::InvalidVersion);
-    assert_eq!(made(given(None, first, Some(8))).unwrap_err(), QrError::NoSuchMask);
+    let code = made(given(Some(ninth), first)).unwrap();
+    assert_eq!((code.version(), code.mask()), (ninth, read(&code.to_colors()).unwrap().mask));
+    assert_eq!(made(given(None, ninth)).unwrap().version(), ninth);
+    assert_eq!(made(given(Some(Version::Normal(0)), first)).unwrap_err(), QrError::InvalidVersion);
     let text = Options { writing: Writing::Text, ..Options::default() };
     assert_eq!(QrCode::with_options(b"\xff", &text).unwrap_err(), QrError::InvalidCharacter);
-    let set = Options { writing: Writing::InSet(1_000_000), ..Options::default() };
-    assert_eq!(made(set).unwrap_err(), QrError::InvalidEciDesignator);
 }
 
 #[test]

@@ -2,7 +2,7 @@
 
 ghost use Rattle.std.specs.Prelude.{◌≡◌, ℕ, length, map, IfOk, IfErr, OnOk, OnErr, OnSome, IfSome, IfNone};
 ghost use Rattle.qrcode_gs1.specs.Items.{item};
-ghost use Rattle.goqlanis_buffers.specs.contents.Elements.{item_of, items_of, IsText, AreTexts, IsString, IsStringIn, IsElementsCause, IsElementsSymbol, IsElementsSymbolCause};
+ghost use Rattle.goqlanis_buffers.specs.contents.Elements.{item_of, items_of, IsText, AreTexts, IsFirstNoText, IsString, IsStringIn, IsElementsCause, IsElementsSymbol, IsElementsSymbolCause};
 ghost use Rattle.goqlanis_buffers.specs.Outputs.{IsWrittenAs};
 
 use crate::answers::Refusal as OfSymbols;
@@ -85,8 +85,8 @@ fn symbol_of(alloc: Global, parts: &[Part<'_>], options: &Options) -> Result<QrC
     };
     let elements = match elements_of(alloc, parts) {
         Ok(elements) => elements,
-        Err(Refusal::NotText(place)) => return Err(Refusal::NotText(place)),
-        Err(_) => return Err(Refusal::OutOfMemory),
+        Err(Some(place)) => return Err(Refusal::NotText(place)),
+        Err(None) => return Err(Refusal::OutOfMemory),
     };
     match symbol_of_elements(alloc, asked.choice, asked.level, &elements) {
         Ok(code) => Ok(code),
@@ -107,7 +107,8 @@ fn string_of(alloc: Global, parts: &[Part<'_>]) -> Result<Vec<u8>, Refusal>
 {
     let elements = match elements_of(alloc, parts) {
         Ok(elements) => elements,
-        Err(refusal) => return Err(refusal),
+        Err(Some(place)) => return Err(Refusal::NotText(place)),
+        Err(None) => return Err(Refusal::OutOfMemory),
     };
     match element_string(alloc, &elements) {
         Ok(bytes) => Ok(bytes),
@@ -116,19 +117,19 @@ fn string_of(alloc: Global, parts: &[Part<'_>]) -> Result<Vec<u8>, Refusal>
     }
 }
 
-// The elements, where all are UTF-8.
-fn elements_of<'a>(alloc: Global, parts: &[Part<'a>]) -> Result<Vec<Element<'a>>, Refusal>
+// The elements, or the place of the first that is not UTF-8; none where memory was refused.
+fn elements_of<'a>(alloc: Global, parts: &[Part<'a>]) -> Result<Vec<Element<'a>>, Option<usize>>
     ensures value { IfOk result (λ elements. map item elements.items ≡ items_of parts.now) }
     ensures texts { OnOk result (AreTexts parts.now (length parts.now)) }
-    ensures causes { (room : ℕ) → IfErr result (IsElementsCause parts.now room) }
+    ensures no_text { IfErr result (λ place. IfSome place (IsFirstNoText parts.now)) }
 {
     let mut elements = Vec::new(alloc);
     for place in 0..parts.len() {
         let Some(element) = element_of(&parts[place]) else {
-            return Err(Refusal::NotText(place));
+            return Err(Some(place));
         };
         if elements.push(element).is_err() {
-            return Err(Refusal::OutOfMemory);
+            return Err(None);
         }
     }
     Ok(elements)

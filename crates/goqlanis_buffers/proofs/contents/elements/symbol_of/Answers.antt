@@ -3,6 +3,3 @@ use Rattle.goqlanis_buffers.proofs.contents.elements.symbol_of.Goals as goal
 
 pub returns-in-Err-clause-causes : goal.returns-in-Err-clause-causes
 returns-in-Err-clause-causes c = λ room. inr (λ bytes other. c.in-Err.ensures.causes bytes other)
-
-pub returns-in-Err-NotText-clause-causes : goal.returns-in-Err-NotText-clause-causes
-returns-in-Err-NotText-clause-causes c = λ room. c.in-Err-NotText.ensures.causes room
