@@ -1,8 +1,11 @@
 /* QR and Micro QR symbols, by a library that is proved correct.
 
-   Data may be any bytes. Each call works in buffers that its caller gives, keeps nothing and uses nothing that is shared, so that calls may run in any
-   threads at once, each with buffers of its own. There is nothing to free. Every call that answers GOQ_OK has written all its outputs; every other answer
-   has one cause, and all outputs are as they were, but that goq_content and goq_gs1 tell the place of what is wrong. A pointer with length 0 may be NULL.
+   Data may be any bytes. Each call works in buffers that its caller gives, keeps nothing and uses
+   nothing that is shared, so that calls may run in any threads at once, each with buffers of its
+   own. There is nothing to free. Every call that answers GOQ_OK has written all its outputs. Every
+   other answer has one cause, the first that applies in the order in which its comment names them,
+   and all outputs are as they were, except that a call with `place` writes there which field,
+   element or square is wrong. A pointer with length 0 may be NULL.
 
    The library asks for memory by rattle_alloc, rattle_realloc and rattle_dealloc, which stand over malloc unless the program has its own. */
 #ifndef GOQLANIS_H
@@ -39,6 +42,12 @@ enum {
     GOQ_NO_FORMAT = 17, /* no level and mask are within three bits of each copy of the format word */
     GOQ_DAMAGED = 18, /* a block has too many wrong codewords */
     GOQ_NOT_SPELLED = 19, /* the data bits are not segments and an end, as where a header stands in front */
+    GOQ_NO_SUCH_STRUCT = 20, /* the field `size` is not the size of the struct */
+    GOQ_NO_SUCH_MANNER = 21, /* no manner has the number */
+    GOQ_NO_SUCH_MASK = 22, /* the mask is another than 0 */
+    GOQ_NOT_IN_FORMAT = 23, /* the format has no such colours, or no dots per inch */
+    GOQ_NOT_SHOWN = 24, /* the data bits are not a text that readers show */
+    GOQ_NOT_READ = 30, /* the square is read in none of the sixteen positions */
     GOQ_NO_SUCH_CONTENT = 32, /* no kind of content has the number */
     GOQ_NO_SUCH_FIELD = 33, /* the kind has no field at this place */
     GOQ_FIELD_EMPTY = 34, /* the field may not be empty */
@@ -69,6 +78,7 @@ enum {
     GOQ_PNG = 5, /* a PNG file, black on white, of at most 65,535 pixels a side */
     GOQ_EPS = 6, /* Encapsulated PostScript text, black on white, a point a pixel */
     GOQ_PBM = 7, /* a PBM file */
+    GOQ_SVG_PATH = 8, /* SVG text of one path, by the runs of dark modules; shorter than GOQ_SVG */
     GOQ_FORMATS /* how many there are */
 };
 
@@ -222,6 +232,46 @@ enum {
     GOQ_EVENT_FIELDS
 };
 
+/* How the data of a symbol is written. */
+enum {
+    GOQ_AS_BYTES = 0, /* as goq_encode writes it */
+    GOQ_AS_TEXT = 1, /* as goq_encode_text does: it has to be UTF-8 */
+    GOQ_AS_MARKED_TEXT = 2 /* as goq_encode_marked_text does: UTF-8, and Micro has no such symbols */
+};
+
+/* What is asked of a symbol. Begin with GOQ_OPTIONS, and change what you like. Later versions of
+   this library may have more fields at the end; `size` says which ones you know. */
+typedef struct {
+    uint32_t size; /* sizeof(goq_options) */
+    uint32_t level; /* GOQ_L .. GOQ_H */
+    uint32_t manner; /* GOQ_AS_BYTES .. GOQ_AS_MARKED_TEXT */
+    uint32_t version; /* this one; or 0 for the least that holds the data */
+    uint32_t least_version; /* the first that is tried where `version` is 0; then Micro comes before
+                               Normal, so that GOQ_MICRO(1) gives the least of all */
+    uint32_t boost; /* where `version` is 0: 1 for the highest level, from `level` on, at which the
+                       least version holds the data */
+    uint32_t mask; /* 0, for the one of least penalty */
+} goq_options;
+
+#define GOQ_OPTIONS {sizeof(goq_options), GOQ_M, GOQ_AS_BYTES, 0, 1, 0, 0}
+
+/* How modules are drawn. Begin with GOQ_DRAWING, and change what you like. A colour is 0xRRGGBB, to
+   which a transparency is added: 0x80000000 for half of it, GOQ_TRANSPARENT for all. SVG and PNG
+   have all colours, EPS has opaque ones; other formats take black on white alone. */
+typedef struct {
+    uint32_t size; /* sizeof(goq_drawing) */
+    uint32_t format;
+    uint32_t zone; /* the modules of the quiet zone at each side */
+    uint32_t scale; /* the pixels of a module */
+    uint32_t dark; /* the colour of dark modules, 0x000000 for black */
+    uint32_t light; /* that of light ones and of the quiet zone, 0xffffff for white */
+    uint32_t dpi; /* the dots per inch that a PNG file names, up to 65,535; 0 for none */
+} goq_drawing;
+
+#define GOQ_DRAWING {sizeof(goq_drawing), GOQ_PNG, 4, 8, 0x000000, 0xffffff, 0}
+
+#define GOQ_TRANSPARENT 0xff000000u
+
 /* This many bytes hold the modules of every symbol. */
 enum { GOQ_MODULES_MAX = 177 * 177 };
 
@@ -271,6 +321,25 @@ typedef struct {
     size_t length; /* how many bytes there are */
 } goq_reading;
 
+/* How the symbol of a square stands. GOQ_INVERTED is added where dark and light are exchanged. */
+enum {
+    GOQ_UPRIGHT = 0,
+    GOQ_TURNED_LEFT = 1, /* by a quarter, against the clock */
+    GOQ_UPSIDE_DOWN = 2,
+    GOQ_TURNED_RIGHT = 3,
+    GOQ_MIRRORED = 4, /* left and right exchanged */
+    GOQ_FLIPPED = 5, /* top and bottom exchanged */
+    GOQ_TRANSPOSED = 6, /* columns and rows exchanged */
+    GOQ_ANTITRANSPOSED = 7, /* the same from the other corner */
+    GOQ_INVERTED = 8
+};
+
+/* What is read of a square in any position beside its bytes. */
+typedef struct {
+    goq_reading reading;
+    uint32_t position;
+} goq_any_reading;
+
 /* The symbol of data at a level, of the least Normal version that holds it: its modules, row by row, 1 for a dark one, at the beginning of `modules`.
    GOQ_NO_SUCH_LEVEL, GOQ_NO_ROOM, GOQ_SMALL_BUFFER, GOQ_OUT_OF_MEMORY. */
 uint32_t goq_encode(const uint8_t *data, size_t data_length, uint32_t level, uint8_t *modules, size_t modules_length, goq_symbol *symbol);
@@ -285,6 +354,13 @@ uint32_t goq_encode_marked_text(const uint8_t *text, size_t text_length, uint32_
    GOQ_NO_SUCH_LEVEL, GOQ_NO_SUCH_VERSION, GOQ_TOO_LONG, GOQ_NO_MODE, GOQ_LEVEL_NOT_IN_VERSION, GOQ_NO_ROOM, GOQ_SMALL_BUFFER; GOQ_OUT_OF_MEMORY. */
 uint32_t goq_encode_in(
     const uint8_t *data, size_t data_length, uint32_t version, uint32_t level, uint8_t *modules, size_t modules_length, goq_symbol *symbol);
+
+/* The symbol of data that options ask for. GOQ_NO_SUCH_STRUCT, GOQ_NO_SUCH_LEVEL,
+   GOQ_NO_SUCH_VERSION, GOQ_NO_SUCH_MANNER, GOQ_NO_SUCH_MASK, GOQ_NOT_TEXT; where a version is
+   asked for GOQ_NO_MODE, GOQ_LEVEL_NOT_IN_VERSION; GOQ_NO_ROOM, GOQ_SMALL_BUFFER;
+   GOQ_OUT_OF_MEMORY. */
+uint32_t goq_encode_with(const uint8_t *data, size_t data_length, const goq_options *options,
+    uint8_t *modules, size_t modules_length, goq_symbol *symbol);
 
 /* The symbol of segments, one behind the other, of a version and level. Of several causes
    the first is told, in this order: GOQ_NO_SUCH_LEVEL, GOQ_NO_SUCH_VERSION, GOQ_LEVEL_NOT_IN_VERSION; of each segment GOQ_NO_SUCH_KIND, GOQ_NOT_IN_MODE,
@@ -314,6 +390,13 @@ uint32_t goq_draw(const uint8_t *modules, size_t modules_length, uint32_t width,
 /* The length that goq_draw would write, to `count`. GOQ_NO_SUCH_FORMAT, GOQ_NOT_SQUARE, GOQ_NO_SUCH_SIZE, GOQ_OUT_OF_MEMORY. */
 uint32_t goq_draw_length(const uint8_t *modules, size_t modules_length, uint32_t width, uint32_t zone, uint32_t scale, uint32_t format, size_t *count);
 
+/* The same of a drawing with colours and dots per inch. GOQ_NO_SUCH_STRUCT, GOQ_NO_SUCH_FORMAT,
+   GOQ_NOT_SQUARE, GOQ_NO_SUCH_SIZE, GOQ_NOT_IN_FORMAT, GOQ_SMALL_BUFFER; GOQ_OUT_OF_MEMORY. */
+uint32_t goq_draw_with(const uint8_t *modules, size_t modules_length, uint32_t width,
+    const goq_drawing *drawing, uint8_t *out, size_t out_length, size_t *count);
+uint32_t goq_draw_with_length(const uint8_t *modules, size_t modules_length, uint32_t width,
+    const goq_drawing *drawing, size_t *count);
+
 /* The bytes of a square of modules, row by row from the top left corner, dark where a byte is not zero, without a quiet zone: at the beginning of `bytes`, and
    what it is beside them. Each copy of the format word may have three wrong bits, and each block half as many wrong codewords as it has for error correction.
    Of several causes the first is told, in this order: GOQ_NO_SUCH_SIDE, GOQ_NO_FORMAT, GOQ_DAMAGED, GOQ_NOT_SPELLED, GOQ_SMALL_BUFFER; GOQ_OUT_OF_MEMORY. */
@@ -321,6 +404,21 @@ uint32_t goq_read(const uint8_t *modules, size_t modules_length, uint8_t *bytes,
 
 /* How many bytes goq_read would write, to `count`. GOQ_NO_SUCH_SIDE, GOQ_NO_FORMAT, GOQ_DAMAGED, GOQ_NOT_SPELLED, GOQ_OUT_OF_MEMORY. */
 uint32_t goq_read_length(const uint8_t *modules, size_t modules_length, size_t *count);
+
+/* The same of a square in any position, in the first of the sixteen in which it is read.
+   GOQ_NOT_READ, GOQ_SMALL_BUFFER; GOQ_OUT_OF_MEMORY. */
+uint32_t goq_read_any(const uint8_t *modules, size_t modules_length, uint8_t *bytes,
+    size_t bytes_length, goq_any_reading *reading);
+
+/* The text that readers show of a square, in UTF-8: that of a symbol of goq_encode_text or
+   goq_encode_marked_text. GOQ_NO_SUCH_SIDE, GOQ_NO_FORMAT, GOQ_DAMAGED, GOQ_NOT_SHOWN,
+   GOQ_SMALL_BUFFER; GOQ_OUT_OF_MEMORY. */
+uint32_t goq_read_text(const uint8_t *modules, size_t modules_length, uint8_t *text,
+    size_t text_length, goq_reading *reading);
+
+/* The number of the mask that the format word of a square names: 0 to 7, in Micro 0 to 3.
+   GOQ_NO_SUCH_SIDE, GOQ_NO_FORMAT; GOQ_OUT_OF_MEMORY. */
+uint32_t goq_mask(const uint8_t *modules, size_t modules_length, uint32_t *mask);
 
 /* The text of a kind of content, to be encoded by goq_encode_text: at the beginning of `out`, and its length to `count`, with no zero behind it. No symbol holds
    a text of more than GOQ_BYTES_MAX bytes. Fields behind those given are empty or 0. Of several causes the first is told, in this order: GOQ_NO_SUCH_CONTENT; of
@@ -334,6 +432,16 @@ uint32_t goq_content(
    separator (byte 29) behind each element whose length is not predefined and that another one follows. The first element that is wrong is told by its place, to
    `place`: GOQ_NOT_TEXT; else GOQ_NO_SUCH_IDENTIFIER, GOQ_ELEMENT_LENGTH, GOQ_FIELD_CHARACTER, GOQ_FIELD_CHECK_DIGITS. GOQ_SMALL_BUFFER, GOQ_OUT_OF_MEMORY. */
 uint32_t goq_gs1(const goq_element *elements, size_t elements_length, uint8_t *out, size_t out_length, size_t *count, size_t *place);
+
+/* The symbol of elements of GS1 that options ask for, in segments of the fewest bits; their manner
+   and boost are not looked at. Of the first element that is wrong, with its place, GOQ_NOT_TEXT;
+   else GOQ_NO_SUCH_IDENTIFIER, GOQ_ELEMENT_LENGTH, GOQ_FIELD_CHARACTER, GOQ_FIELD_CHECK_DIGITS.
+   Before these GOQ_NO_SUCH_STRUCT, GOQ_NO_SUCH_LEVEL, GOQ_NO_SUCH_VERSION, GOQ_NO_SUCH_MANNER,
+   GOQ_NO_SUCH_MASK; behind them GOQ_NO_ROOM (Micro has no such symbols), GOQ_SMALL_BUFFER;
+   GOQ_OUT_OF_MEMORY. */
+uint32_t goq_encode_gs1(const goq_element *elements, size_t elements_length,
+    const goq_options *options, uint8_t *modules, size_t modules_length, goq_symbol *symbol,
+    size_t *place);
 
 #ifdef __cplusplus
 }

@@ -7,9 +7,10 @@
 extern size_t pool_requests, pool_refused, pool_most;
 size_t pool_live(void);
 
-enum { LAST = 9 + GOQ_FORMATS, CONTENTS = 5 }; /* the last number of a call below, and how many contents follow */
+/* The last number of a call below, how many contents follow, and how many calls with options. */
+enum { LAST = 9 + GOQ_FORMATS, CONTENTS = 5, OPTIONS = 6 };
 
-static uint8_t data[500], text[500], square[GOQ_MODULES_MAX];
+static uint8_t data[500], text[500], square[GOQ_MODULES_MAX], shown[21 * 21];
 static goq_symbol known;
 static struct outputs {
     uint8_t buffer[700000]; /* room for any picture of the symbol's width */
@@ -17,6 +18,7 @@ static struct outputs {
     goq_reading reading;
     size_t count, place;
     uint32_t version;
+    goq_any_reading any;
 } outputs, before;
 
 /* A content of each way in which its text is written. */
@@ -34,10 +36,30 @@ static uint32_t content(int number)
     return goq_content(all[number].kind, all[number].fields, all[number].count, outputs.buffer, sizeof outputs.buffer, &outputs.count, &outputs.place);
 }
 
+static uint32_t by_options(int number)
+{
+    const goq_element lot = {(const uint8_t *)"10", 2, (const uint8_t *)"ABCD1234", 8}, parts[] = {lot, lot};
+    const goq_drawing drawing = {sizeof drawing, GOQ_SVG_PATH, 4, 1, 0x123456, GOQ_TRANSPARENT, 0};
+    const size_t modules = (size_t)known.width * known.width, room = sizeof outputs.buffer;
+    goq_options options = GOQ_OPTIONS;
+    uint8_t *out = outputs.buffer;
+    options.boost = 1;
+    switch (number) {
+    case 0: return goq_encode_with(data, sizeof data, &options, out, room, &outputs.symbol);
+    case 1: return goq_encode_gs1(parts, 2, &options, out, room, &outputs.symbol, &outputs.place);
+    case 2: return goq_draw_with(square, modules, known.width, &drawing, out, room, &outputs.count);
+    case 3: return goq_read_any(square, modules, out, room, &outputs.any);
+    case 4: return goq_read_text(shown, sizeof shown, out, room, &outputs.reading);
+    default: return goq_mask(square, modules, &outputs.version);
+    }
+}
+
 static uint32_t call(int number)
 {
     uint8_t *out = outputs.buffer;
     size_t room = sizeof outputs.buffer, modules = (size_t)known.width * known.width;
+    if (number > LAST + CONTENTS)
+        return by_options(number - LAST - CONTENTS - 1);
     if (number > LAST)
         return content(number - LAST - 1);
     goq_segment segments[] = {{GOQ_ECI, 26, NULL, 0}, {GOQ_BYTES, 0, data, sizeof data}};
@@ -63,9 +85,11 @@ int main(void)
     memset(text, 'a', sizeof text);
     for (size_t i = 0; i < sizeof data; i++)
         data[i] = (uint8_t)(i * 37);
+    if (goq_encode_text(text, 9, GOQ_M, shown, sizeof shown, &known) != GOQ_OK)
+        return 1;
     if (goq_encode(data, sizeof data, GOQ_M, square, sizeof square, &known) != GOQ_OK)
         return 1;
-    for (int number = 0; number <= LAST + CONTENTS; number++, calls++) {
+    for (int number = 0; number <= LAST + CONTENTS + OPTIONS; number++, calls++) {
         size_t all = 1, answered = 0;
         for (size_t i = 0; i <= all; i++) { /* at first none is refused */
             pool_requests = 0;

@@ -5,3 +5,4 @@ pub mod Taken
 pub mod Told
 pub mod Fields
 pub mod Parts
+pub mod Refused

@@ -1,5 +1,5 @@
 -- What the calls for C answer: 0, or the number of a refusal; and the cause of each refusal.
-use Rattle.std.specs.Prelude.{◌≡◌, ◌≢◌, ◌⊎◌, ◌+◌, ◌*◌, ◌^◌, ◌<◌, ◌≤◌, ◌-◌, ◌==◌, ⊤, ℕ, pos, List, [], ◌∷◌, length, false, IsUtf8, Option, Some, None, slice_get, if◌then◌else◌}
+use Rattle.std.specs.Prelude.{◌≡◌, ◌≢◌, ◌⊎◌, ◌+◌, ◌*◌, ◌^◌, ◌<◌, ◌≤◌, ◌-◌, ◌==◌, ⊤, ℕ, pos, Bool, List, [], ◌∷◌, length, chars, false, IsUtf8, Option, Some, None, slice_get, if◌then◌else◌}
 use Rattle.qrcode_types.specs.Versions.{has_level}
 use Rattle.qrcode_types.specs.declared.types.EcLevel.{EcLevel}
 use Rattle.qrcode_types.specs.declared.types.Version.{Version}
@@ -11,24 +11,30 @@ use Rattle.qrcode_bits.specs.Refusals.{data_limit}
 use Rattle.qrcode_bits.specs.declared.bits.manner.Manner.{Manner}
 use Rattle.qrcode_bits.specs.declared.optimize.Segment.{Segment}
 use Rattle.qrcode.specs.Reading.{ReadsOnly}
-use Rattle.qrcode_reader.specs.Readings.{HasNoVersion, HasNoFormat, HasDamagedBlock, SpellsNothing}
+use Rattle.qrcode.specs.Texts.{ShowsTextOnly}
+use Rattle.qrcode_reader.specs.Positions.{seen}
+use Rattle.qrcode_reader.specs.Readings.{HasNoVersion, HasNoFormat, HasDamagedBlock, ShowsNothing, SpellsNothing}
+use Rattle.qrcode_reader.specs.declared.positions.Position.{Position}
 use Rattle.qrcode_render.specs.Shades.{colors_of}
 use Rattle.goqlanis_draw.specs.Formats.{format_numbered}
-use Rattle.goqlanis_buffers.specs.Drawings.{IsDrawn}
+use Rattle.goqlanis_buffers.specs.Drawings.{is_sayable, IsDrawn}
+use Rattle.goqlanis_buffers.specs.declared.pictures.Drawing.{Drawing}
 use Rattle.goqlanis_draw.specs.declared.formats.Format.{Format}
 use Rattle.goqlanis_draw.specs.declared.formats.Format.TheVariants.{Png}
 use Rattle.goqlanis_buffers.specs.Names.{level_named, version_named}
+use Rattle.goqlanis_buffers.specs.Readings.{IsReadNowhere}
 use Rattle.goqlanis_buffers.specs.Segments.{HasNoRoom, HaveNoRoom, IsFirstRefused}
 use Rattle.goqlanis_buffers.specs.Symbols.{ExceedsRoom, IsAutomaticSymbol, IsSymbolIn, IsSegmentsSymbol, IsTextSymbol}
 use Rattle.goqlanis_buffers.specs.declared.segments.Segment as by_hand
 use Rattle.goqlanis_buffers.specs.declared.answers.Refusal.{Refusal}
-use Rattle.goqlanis_buffers.specs.declared.answers.Refusal.TheVariants.{NoSuchLevel, NoSuchVersion, LevelNotInVersion, TooLong, NoMode, NoRoom, SmallBuffer, OutOfMemory, NoSuchFormat, NotSquare, NoSuchSize, NotText, NoSuchKind, NotInMode, NoSuchNumber, NoSuchSide, NoFormat, Damaged, NotSpelled}
+use Rattle.goqlanis_buffers.specs.declared.answers.Refusal.TheVariants.{NoSuchLevel, NoSuchVersion, LevelNotInVersion, TooLong, NoMode, NoRoom, SmallBuffer, OutOfMemory, NoSuchFormat, NotSquare, NoSuchSize, NotText, NoSuchKind, NotInMode, NoSuchNumber, NoSuchSide, NoFormat, Damaged, NotSpelled, NoSuchStruct, NoSuchManner, NoSuchMask, NotInFormat, NotShown, NotSeveral, Stranger, Missing, Twice, Parity, NotRead}
 
 abbrev pub refusals : List Refusal  -- the refusals in the order of their numbers, from 1 on
 refusals =
     NoSuchLevel ∷ NoSuchVersion ∷ LevelNotInVersion ∷ TooLong ∷ NoMode ∷ NoRoom ∷ SmallBuffer ∷ OutOfMemory ∷
     NoSuchFormat ∷ NotSquare ∷ NoSuchSize ∷ NotText ∷ NoSuchKind ∷ NotInMode ∷ NoSuchNumber ∷
-    NoSuchSide ∷ NoFormat ∷ Damaged ∷ NotSpelled ∷ []
+    NoSuchSide ∷ NoFormat ∷ Damaged ∷ NotSpelled ∷ NoSuchStruct ∷ NoSuchManner ∷
+    NoSuchMask ∷ NotInFormat ∷ NotShown ∷ NotSeveral ∷ Stranger ∷ Missing ∷ Twice ∷ Parity ∷ NotRead ∷ []
 
 abbrev pub refusal_of : ℕ → Option Refusal  -- the refusal of an answer, where it is one
 refusal_of n = if n == 0 then None else slice_get refusals (n - 1)
@@ -106,16 +112,20 @@ IsTextCause m level bytes room refusal = ⊥
 abbrev pub IsNoPngSide : ℕ → Type 0  -- a PNG file has no side of so many pixels
 IsNoPngSide side = (side ≡ 0) ⊎ (2 ^ 16 ≤ side)
 
--- why modules of a width are not drawn in a format, with a quiet zone and a scale, where the buffer has so much room
-abbrev pub IsDrawingCause : List ℕ → ℕ → ℕ → ℕ → ℕ → ℕ → Refusal → Type 0
-IsDrawingCause modules width zone scale format room NoSuchFormat = format_numbered format ≡ None
-IsDrawingCause modules width zone scale format room NotSquare = length modules ≢ width * width
-IsDrawingCause modules width zone scale format room NoSuchSize =
-    (scale ≡ 0) ⊎ ((2 ^ 16 ≤ scale) ⊎ ((2 ^ 16 ≤ width + 2 * zone) ⊎ ((format_numbered format ≡ Some Png) × IsNoPngSide ((width + 2 * zone) * scale))))
-IsDrawingCause modules width zone scale format room SmallBuffer =
-    (f : Format) × ((bytes : List ℕ) × ((format_numbered format ≡ Some f) × (IsDrawn f modules width zone scale bytes × (room < length bytes))))
-IsDrawingCause modules width zone scale format room OutOfMemory = ⊤
-IsDrawingCause modules width zone scale format room refusal = ⊥
+-- why modules of a width are not drawn, where the buffer has so much room
+abbrev pub IsDrawingCause : List ℕ → ℕ → Drawing → ℕ → Refusal → Type 0
+IsDrawingCause modules width d room NoSuchStruct = d.size ≢ 28
+IsDrawingCause modules width d room NoSuchFormat = format_numbered d.format ≡ None
+IsDrawingCause modules width d room NotSquare = length modules ≢ width * width
+IsDrawingCause modules width d room NoSuchSize =
+    (d.scale ≡ 0) ⊎ ((2 ^ 16 ≤ d.scale) ⊎ ((2 ^ 16 ≤ width + 2 * d.zone)
+    ⊎ ((format_numbered d.format ≡ Some Png) × IsNoPngSide ((width + 2 * d.zone) * d.scale))))
+IsDrawingCause modules width d room NotInFormat =
+    (f : Format) × ((format_numbered d.format ≡ Some f) × (is_sayable f d ≡ false))
+IsDrawingCause modules width d room SmallBuffer =
+    (f : Format) × ((bytes : List ℕ) × ((format_numbered d.format ≡ Some f) × (IsDrawn f modules width d bytes × (room < length bytes))))
+IsDrawingCause modules width d room OutOfMemory = ⊤
+IsDrawingCause modules width d room refusal = ⊥
 
 abbrev pub IsReadingCause : List ℕ → ℕ → Refusal → Type 0  -- why modules are not read into a buffer of so much room
 IsReadingCause modules room NoSuchSide = HasNoVersion (colors_of modules)
@@ -125,3 +135,28 @@ IsReadingCause modules room NotSpelled = SpellsNothing (colors_of modules)
 IsReadingCause modules room SmallBuffer = (bytes : List ℕ) × (ReadsOnly (colors_of modules) bytes × (room < length bytes))
 IsReadingCause modules room OutOfMemory = ⊤
 IsReadingCause modules room refusal = ⊥
+
+-- why modules are read in no position, or not into a buffer of so much room
+abbrev pub IsAnyReadingCause : List ℕ → ℕ → Refusal → Type 0
+IsAnyReadingCause modules room NotRead = IsReadNowhere (colors_of modules)
+IsAnyReadingCause modules room SmallBuffer =
+    (p : Position) × ((is_inverted : Bool) × ((side : ℕ) × ((bytes : List ℕ)
+    × (ReadsOnly (seen side p is_inverted (colors_of modules)) bytes × (room < length bytes)))))
+IsAnyReadingCause modules room OutOfMemory = ⊤
+IsAnyReadingCause modules room refusal = ⊥
+
+abbrev pub IsTextReadingCause : List ℕ → ℕ → Refusal → Type 0  -- why modules are not read into a buffer of so much room as a text
+IsTextReadingCause modules room NoSuchSide = HasNoVersion (colors_of modules)
+IsTextReadingCause modules room NoFormat = HasNoFormat (colors_of modules)
+IsTextReadingCause modules room Damaged = (block : ℕ) × HasDamagedBlock (colors_of modules) block
+IsTextReadingCause modules room NotShown = ShowsNothing (colors_of modules)
+IsTextReadingCause modules room SmallBuffer =
+    (text : List ℕ) × (ShowsTextOnly (colors_of modules) (chars text) × (room < length text))
+IsTextReadingCause modules room OutOfMemory = ⊤
+IsTextReadingCause modules room refusal = ⊥
+
+abbrev pub IsMaskCause : List ℕ → Refusal → Type 0  -- why modules have no mask
+IsMaskCause modules NoSuchSide = HasNoVersion (colors_of modules)
+IsMaskCause modules NoFormat = HasNoFormat (colors_of modules)
+IsMaskCause modules OutOfMemory = ⊤
+IsMaskCause modules refusal = ⊥

@@ -3,13 +3,18 @@ use Rattle.std.specs.Prelude.{◌≡◌, ◌≢◌, ℕ, List, length, Some, IsS
 use Rattle.qrcode_bits.specs.Choice.{IsLeastHolding}
 use Rattle.qrcode_bits.specs.declared.bits.manner.Manner.{Manner}
 use Rattle.qrcode.specs.Reading.{ReadsOnly}
-use Rattle.goqlanis_buffers.specs.Answers.{refusal_of, IsAutomaticCause, IsCauseIn, IsDrawingCause, IsLeastCause, IsReadingCause, IsSegmentsCause, IsTextCause}
+use Rattle.goqlanis_buffers.specs.Answers.{refusal_of, IsAutomaticCause, IsCauseIn, IsDrawingCause, IsLeastCause, IsSegmentsCause, IsTextCause}
+use Rattle.goqlanis_buffers.specs.Answers.{IsAnyReadingCause, IsMaskCause, IsReadingCause, IsTextReadingCause}
 use Rattle.qrcode_render.specs.Shades.{colors_of}
+use Rattle.goqlanis_buffers.specs.Options.{IsOptionsCause, IsSymbolWith}
 use Rattle.goqlanis_buffers.specs.Outputs.{IsLengthOf, IsPictureOf, IsVersionAt, IsWrittenAs}
-use Rattle.goqlanis_buffers.specs.Readings.{IsReadInto}
+use Rattle.goqlanis_buffers.specs.Readings.{IsAnyReadInto, IsMaskNumber, IsReadInto, IsTextReadInto}
 use Rattle.goqlanis_buffers.specs.Segments.{IsLeastHeld}
 use Rattle.goqlanis_buffers.specs.Symbols.{IsAutomaticSymbol, IsSegmentsSymbol, IsSymbolIn, IsTextSymbol}
 use Rattle.goqlanis_buffers.specs.declared.answers.Refusal.{Refusal}
+use Rattle.goqlanis_buffers.specs.declared.options.Options.{Options}
+use Rattle.goqlanis_buffers.specs.declared.pictures.Drawing.{Drawing}
+use Rattle.goqlanis_buffers.specs.declared.reading.AnyReading.{AnyReading}
 use Rattle.goqlanis_buffers.specs.declared.reading.Reading.{Reading}
 use Rattle.goqlanis_buffers.specs.declared.segments.Segment.{Segment}
 use Rattle.goqlanis_buffers.specs.declared.symbols.Symbol.{Symbol}
@@ -51,24 +56,39 @@ abbrev pub WritesText : Manner → ℕ → List ℕ → List ℕ → List ℕ �
 WritesText m level text old new result =
     Writes (IsWrittenAs (IsTextSymbol m level text) old) (IsTextCause m level text (length old)) old new result
 
+-- it writes the symbol of data that options ask for
+abbrev pub WritesWith : Options → List ℕ → List ℕ → List ℕ → Result Symbol Refusal → Type 0
+WritesWith o bytes old new result = Writes (IsWrittenAs (IsSymbolWith o bytes) old) (IsOptionsCause o bytes (length old)) old new result
+
 -- it writes the symbol of segments, of a version and level of these numbers
 abbrev pub WritesSegments : ℕ → ℕ → List Segment → List ℕ → List ℕ → Result Symbol Refusal → Type 0
 WritesSegments version level segments old new result =
     Writes (IsWrittenAs (IsSegmentsSymbol version level segments) old) (IsSegmentsCause version level segments (length old)) old new result
 
--- it writes the picture of modules in a format of a number, and answers its length
-abbrev pub WritesPicture : List ℕ → ℕ → ℕ → ℕ → ℕ → List ℕ → List ℕ → Result ℕ Refusal → Type 0
-WritesPicture modules width zone scale format old new result =
-    Writes (IsPictureOf modules width zone scale format old) (IsDrawingCause modules width zone scale format (length old)) old new result
+-- it writes the picture of modules, and answers its length
+abbrev pub WritesPicture : List ℕ → ℕ → Drawing → List ℕ → List ℕ → Result ℕ Refusal → Type 0
+WritesPicture modules width d old new result =
+    Writes (IsPictureOf modules width d old) (IsDrawingCause modules width d (length old)) old new result
 
 -- it writes the bytes of the only reading of a square of modules, and answers what that is beside them
 abbrev pub WritesReading : List ℕ → List ℕ → List ℕ → Result Reading Refusal → Type 0
 WritesReading modules old new result = Writes (IsReadInto modules old) (IsReadingCause modules (length old)) old new result
 
+-- it writes the bytes of a square in any position, and answers what is read beside them
+abbrev pub WritesAnyReading : List ℕ → List ℕ → List ℕ → Result AnyReading Refusal → Type 0
+WritesAnyReading modules old new result = Writes (IsAnyReadInto modules old) (IsAnyReadingCause modules (length old)) old new result
+
+-- it writes the text that readers show of a square, and answers what is read beside it
+abbrev pub WritesTextReading : List ℕ → List ℕ → List ℕ → Result Reading Refusal → Type 0
+WritesTextReading modules old new result = Writes (IsTextReadInto modules old) (IsTextReadingCause modules (length old)) old new result
+
+abbrev pub TellsMask : List ℕ → Result ℕ Refusal → Type 0  -- it answers the number of the mask of a square
+TellsMask modules result = Tells (IsMaskNumber modules) (IsMaskCause modules) result
+
 -- it answers the length of that picture, and refuses whatever room a buffer would have
-abbrev pub TellsLength : List ℕ → ℕ → ℕ → ℕ → ℕ → Result ℕ Refusal → Type 0
-TellsLength modules width zone scale format result =
-    Tells (IsLengthOf modules width zone scale format) (λ refusal. (room : ℕ) → IsDrawingCause modules width zone scale format room refusal) result
+abbrev pub TellsLength : List ℕ → ℕ → Drawing → Result ℕ Refusal → Type 0
+TellsLength modules width d result =
+    Tells (IsLengthOf modules width d) (λ refusal. (room : ℕ) → IsDrawingCause modules width d room refusal) result
 
 -- it answers how many bytes a square of modules is read as, and refuses whatever room a buffer would have
 abbrev pub TellsReadLength : List ℕ → Result ℕ Refusal → Type 0

@@ -1,16 +1,30 @@
 -- What the calls for C draw.
-use Rattle.std.specs.Prelude.{ℕ, false, List, codes, None}
+use Rattle.std.specs.Prelude.{ℕ, ◌==◌, nat_le, ◌&&◌, Bool, false, List, IsTrue, Option, None, Some, if◌then◌else◌}
 use Rattle.qrcode_render.specs.Layout.{layout}
 use Rattle.qrcode_render.specs.Shades.{colors_of}
-use Rattle.goqlanis_draw.specs.Formats.{Shade, View, IsDrawnIn}
+use Rattle.goqlanis_draw.specs.Formats.{View, IsDrawnIn}
 use Rattle.goqlanis_draw.specs.declared.formats.Format.{Format}
+use Rattle.goqlanis_draw.specs.declared.formats.Format.TheVariants.{Png}
+use Rattle.goqlanis_buffers.specs.Colours.{colour_shade, has_colours}
+use Rattle.goqlanis_buffers.specs.declared.pictures.Drawing.{Drawing}
 
-abbrev pub grey_shade : List ℕ → ℕ → Shade  -- a grey: what SVG writes, and how bright it is
-grey_shade name n = record { name = name; red = n; green = n; blue = n }
+abbrev pub plain : ℕ → ℕ → ℕ → Drawing  -- in black on white
+plain zone scale format =
+    record { size = 28; format = format; zone = zone; scale = scale; dark = 0; light = 0xffffff; dpi = 0 }
 
-abbrev pub black_on_white : View  -- how the drawings for C look
-black_on_white = record { dark = grey_shade (codes "#000") 0; light = grey_shade (codes "#fff") 255; is_inverted = false; dpi = None; ends_lines = false }
+abbrev pub density : ℕ → Option ℕ  -- the dots per inch, where they are given
+density dpi = if dpi == 0 then None else Some dpi
 
--- the picture of modules of a width as bytes, with a quiet zone and a scale
-abbrev pub IsDrawn : Format → List ℕ → ℕ → ℕ → ℕ → List ℕ → Type 0
-IsDrawn f modules width zone scale bytes = IsDrawnIn f black_on_white (layout width zone scale scale) (colors_of modules) bytes
+abbrev pub view : Drawing → View  -- how a drawing looks
+view d = record { dark = colour_shade d.dark; light = colour_shade d.light; is_inverted = false; dpi = density d.dpi; ends_lines = false }
+
+abbrev pub has_density : Format → ℕ → Bool  -- the format names these dots per inch, where they are given
+has_density Png dpi = nat_le dpi 65535
+has_density f dpi = nat_le dpi 0
+
+abbrev pub is_sayable : Format → Drawing → Bool  -- the format has the colours and dots per inch
+is_sayable f d = has_density f d.dpi && has_colours f d.dark d.light
+
+-- the picture of modules of a width as bytes, which the format can say
+abbrev pub IsDrawn : Format → List ℕ → ℕ → Drawing → List ℕ → Type 0
+IsDrawn f modules width d bytes = IsTrue (is_sayable f d) × IsDrawnIn f (view d) (layout width d.zone d.scale d.scale) (colors_of modules) bytes

@@ -1,8 +1,10 @@
 pub mod Answers
 pub mod Asking
 pub mod Calls
+pub mod Colours
 pub mod Drawings
 pub mod Names
+pub mod Options
 pub mod Outputs
 pub mod Readings
 pub mod Segments

@@ -10,6 +10,7 @@ use Rattle.goqlanis_draw.specs.Formats.{format_numbered}
 use Rattle.goqlanis_buffers.specs.Drawings.{IsDrawn}
 use Rattle.goqlanis_draw.specs.declared.formats.Format.{Format}
 use Rattle.goqlanis_buffers.specs.Names.{level_named, version_named}
+use Rattle.goqlanis_buffers.specs.declared.pictures.Drawing.{Drawing}
 use Rattle.goqlanis_buffers.specs.declared.symbols.Symbol.{Symbol}
 
 abbrev pub module_bytes : List Color → List ℕ  -- modules as bytes, a one for a dark one
@@ -18,12 +19,16 @@ module_bytes modules = map (λ c. select_of c 1 0) modules
 abbrev pub IsFilled : List ℕ → List ℕ → List ℕ → Type 0  -- a buffer begins with some bytes, and is otherwise as it was
 IsFilled old new bytes = new ≡ bytes ++ drop (length bytes) old
 
--- a symbol in buffers: its modules row by row at the beginning of one, and what it is beside them
-pub record IsWritten (code : Code) (old new : List ℕ) (symbol : Symbol) : Type 0 where
-  pub modules : IsFilled old new (module_bytes code.modules)
+-- what a symbol is beside its modules
+pub record IsDescribed (code : Code) (symbol : Symbol) : Type 0 where
   pub version : version_named symbol.version ≡ Some code.version
   pub level : level_named symbol.level ≡ Some code.level
   pub width : symbol.width ≡ side code.version
+
+-- a symbol in buffers: its modules row by row at the beginning of one, and what it is beside them
+pub record IsWritten (code : Code) (old new : List ℕ) (symbol : Symbol) : Type 0 where
+  pub modules : IsFilled old new (module_bytes code.modules)
+  pub described : IsDescribed code symbol
 
 -- a symbol that is asked for, in buffers
 pub record IsWrittenAs (Asked : Code → Type 0) (old new : List ℕ) (symbol : Symbol) : Type 0 where
@@ -31,19 +36,18 @@ pub record IsWrittenAs (Asked : Code → Type 0) (old new : List ℕ) (symbol : 
   pub asked : Asked code
   pub written : IsWritten code old new symbol
 
--- a picture of modules, in a format of a number, at the beginning of a buffer, and its length
-pub record IsPictureOf (modules : List ℕ) (width zone scale format : ℕ) (old new : List ℕ) (count : ℕ) : Type 0 where
+-- a picture of modules at the beginning of a buffer, and its length
+pub record IsPictureOf (modules : List ℕ) (width : ℕ) (d : Drawing) (old new : List ℕ) (count : ℕ) : Type 0 where
   pub named : Format
   pub bytes : List ℕ
-  pub asked : format_numbered format ≡ Some named
-  pub drawn : IsDrawn named modules width zone scale bytes
+  pub asked : format_numbered d.format ≡ Some named
+  pub drawn : IsDrawn named modules width d bytes
   pub filled : IsFilled old new bytes
   pub counted : count ≡ length bytes
 
--- the length of a picture of modules, in a format of a number
-abbrev pub IsLengthOf : List ℕ → ℕ → ℕ → ℕ → ℕ → ℕ → Type 0
-IsLengthOf modules width zone scale format count =
-    (f : Format) × ((bytes : List ℕ) × ((format_numbered format ≡ Some f) × (IsDrawn f modules width zone scale bytes × (count ≡ length bytes))))
+abbrev pub IsLengthOf : List ℕ → ℕ → Drawing → ℕ → Type 0  -- the length of a picture of modules
+IsLengthOf modules width d count =
+    (f : Format) × ((bytes : List ℕ) × ((format_numbered d.format ≡ Some f) × (IsDrawn f modules width d bytes × (count ≡ length bytes))))
 
 -- a number of a version of which something holds at the level of a number
 abbrev pub IsVersionAt : (EcLevel → Version → Type 0) → ℕ → ℕ → Type 0

@@ -1,20 +1,41 @@
 -- What the calls for C read.
-use Rattle.std.specs.Prelude.{◌≡◌, ℕ, List, length, Some}
+use Rattle.std.specs.Prelude.{◌≡◌, ℕ, ◌+◌, ◌*◌, Bool, List, length, chars, Some, if◌then◌else◌}
 use Rattle.qrcode_types.specs.declared.types.EcLevel.{EcLevel}
 use Rattle.qrcode_types.specs.declared.types.Version.{Version}
 use Rattle.qrcode_types.specs.declared.types.Version.TheVariants.{Normal, Micro}
+use Rattle.qrcode_types.specs.Versions.{side}
 use Rattle.qrcode_places.specs.Masks.{mask_number, micro_mask_number}
 use Rattle.qrcode_places.specs.declared.masks.MaskPattern.{MaskPattern}
-use Rattle.qrcode_reader.specs.Readings.{IsReading}
+use Rattle.qrcode_types.specs.declared.types.Color.{Color}
+use Rattle.qrcode.specs.Reading.{Reads}
+use Rattle.qrcode_reader.specs.Formats.{HasFormat}
+use Rattle.qrcode_reader.specs.Positions.{seen, IsFirstReading}
+use Rattle.qrcode_reader.specs.Readings.{IsReading, IsTextReading}
+use Rattle.qrcode_reader.specs.declared.positions.Position.{Position}
+use Rattle.qrcode_reader.specs.declared.positions.Position.TheVariants.{Upright, TurnedLeft, UpsideDown, TurnedRight, Mirrored, Flipped, Transposed, Antitransposed}
 use Rattle.qrcode_reader.specs.declared.correction.WrongCodeword.{WrongCodeword}
 use Rattle.qrcode_render.specs.Shades.{colors_of}
 use Rattle.goqlanis_buffers.specs.Names.{level_named, version_named}
 use Rattle.goqlanis_buffers.specs.Outputs.{IsFilled}
+use Rattle.goqlanis_buffers.specs.declared.reading.AnyReading.{AnyReading}
 use Rattle.goqlanis_buffers.specs.declared.reading.Reading.{Reading}
 
 abbrev pub mask_number_in : Version → MaskPattern → ℕ  -- the number that a mask has in versions of its kind
 mask_number_in (Normal v) mask = mask_number mask
 mask_number_in (Micro v) mask = micro_mask_number mask
+
+abbrev pub place_of : Position → ℕ  -- the number of a position
+place_of Upright = 0
+place_of TurnedLeft = 1
+place_of UpsideDown = 2
+place_of TurnedRight = 3
+place_of Mirrored = 4
+place_of Flipped = 5
+place_of Transposed = 6
+place_of Antitransposed = 7
+
+abbrev pub position_number : Position → Bool → ℕ  -- the same, and 8 more where colours are exchanged
+position_number p is_inverted = if is_inverted then place_of p + 8 else place_of p
 
 -- what is told of a reading beside its bytes
 pub record IsTold (v : Version) (l : EcLevel) (mask : MaskPattern) (wrong count : ℕ) (reading : Reading) : Type 0 where
@@ -34,3 +55,47 @@ pub record IsReadInto (modules old new : List ℕ) (reading : Reading) : Type 0 
   pub read : IsReading (colors_of modules) version level mask bytes wrong
   pub filled : IsFilled old new bytes
   pub told : IsTold version level mask (length wrong) (length bytes) reading
+
+-- a square is read in no position
+pub record IsReadNowhere (s : List Color) : Type 0 where
+  pub none : (side : ℕ) → side * side ≡ length s → (p : Position) (is_inverted : Bool) (bytes : List ℕ) → ¬ Reads (seen side p is_inverted s) bytes
+
+-- the reading of a square in the first position in which it is read
+pub record IsReadAnywhere (s : List Color) (p : Position) (is_inverted : Bool) (v : Version) (l : EcLevel) (k : MaskPattern) (bytes : List ℕ) (wrong : List WrongCodeword) : Type 0 where
+  pub side : ℕ
+  pub square : side * side ≡ length s
+  pub read : IsFirstReading side s p is_inverted v l k bytes wrong
+
+-- the same in buffers
+pub record IsAnyReadInto (modules old new : List ℕ) (any : AnyReading) : Type 0 where
+  pub position : Position
+  pub is_inverted : Bool
+  pub version : Version
+  pub level : EcLevel
+  pub mask : MaskPattern
+  pub bytes : List ℕ
+  pub wrong : List WrongCodeword
+  pub read : IsReadAnywhere (colors_of modules) position is_inverted version level mask bytes wrong
+  pub filled : IsFilled old new bytes
+  pub told : IsTold version level mask (length wrong) (length bytes) any.reading
+  pub position_told : any.position ≡ position_number position is_inverted
+
+-- the text that readers show of a square of modules, and no other, in buffers
+pub record IsTextReadInto (modules old new : List ℕ) (reading : Reading) : Type 0 where
+  pub version : Version
+  pub level : EcLevel
+  pub mask : MaskPattern
+  pub bytes : List ℕ
+  pub wrong : List WrongCodeword
+  pub read : IsTextReading (colors_of modules) version level mask (chars bytes) wrong
+  pub filled : IsFilled old new bytes
+  pub told : IsTold version level mask (length wrong) (length bytes) reading
+
+-- the mask that the format word of a square of modules names, by its number
+pub record IsMaskNumber (modules : List ℕ) (number : ℕ) : Type 0 where
+  pub version : Version
+  pub level : EcLevel
+  pub mask : MaskPattern
+  pub square : length (colors_of modules) ≡ side version * side version
+  pub named : HasFormat version (colors_of modules) level mask
+  pub told : number ≡ mask_number_in version mask

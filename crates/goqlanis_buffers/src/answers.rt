@@ -49,6 +49,28 @@ pub enum Refusal {
     Damaged,
     /// The data bits are not segments and an end.
     NotSpelled,
+    /// The size that a struct names is not its own.
+    NoSuchStruct,
+    /// No manner has the number.
+    NoSuchManner,
+    /// The version has no mask of the number.
+    NoSuchMask,
+    /// The format has no such colours, or names no dots per inch.
+    NotInFormat,
+    /// The data bits are not a text that readers show.
+    NotShown,
+    /// The square has no header of one of several symbols.
+    NotSeveral,
+    /// The square is a part of other data than the first.
+    Stranger,
+    /// No square has a part.
+    Missing,
+    /// More than one square has a part.
+    Twice,
+    /// The parts are not those of the data that their headers name.
+    Parity,
+    /// The square is read in no position.
+    NotRead,
 }
 
 impl Refusal {
@@ -77,6 +99,17 @@ impl Refusal {
             Refusal::NoFormat => 17,
             Refusal::Damaged => 18,
             Refusal::NotSpelled => 19,
+            Refusal::NoSuchStruct => 20,
+            Refusal::NoSuchManner => 21,
+            Refusal::NoSuchMask => 22,
+            Refusal::NotInFormat => 23,
+            Refusal::NotShown => 24,
+            Refusal::NotSeveral => 25,
+            Refusal::Stranger => 26,
+            Refusal::Missing => 27,
+            Refusal::Twice => 28,
+            Refusal::Parity => 29,
+            Refusal::NotRead => 30,
         }
     }
 }

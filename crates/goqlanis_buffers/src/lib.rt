@@ -3,10 +3,12 @@
 #![tactic(auto)]
 
 pub mod answers;
+mod colours;
 pub mod contents;
 pub mod encoding;
 pub mod laws;
 pub mod names;
+pub mod options;
 pub mod pictures;
 pub mod reading;
 pub mod segments;

@@ -1,19 +1,62 @@
 //! Pictures in buffers.
 
-ghost use Rattle.std.specs.Prelude.{◌≡◌, ℕ, Some, IfOk, IfErr, OnOk, IsOkUnless};
+ghost use Rattle.std.specs.Prelude.{◌≡◌, ◌<◌, ◌^◌, ℕ, Some, IfOk, IfErr, OnOk, IsOkUnless, IsTrue};
+ghost use Rattle.std.specs.Bool.{OnTrue};
 ghost use Rattle.qrcode_types.specs.declared.types.QrError.TheVariants.{OutOfMemory};
-ghost use Rattle.goqlanis_draw.specs.Formats.{format_numbered, shade_of};
+ghost use Rattle.qrcode_render.specs.Shades.{colors_of};
+ghost use Rattle.goqlanis_draw.specs.Formats.{format_numbered};
+ghost use Rattle.goqlanis_buffers.specs.Colours.{colour_name};
 ghost use Rattle.goqlanis_buffers.specs.Calls.{TellsLength, WritesPicture};
 ghost use Rattle.goqlanis_buffers.specs.Asking.{IsCauseFor, IsPictureFor, IsWithinLimits};
-ghost use Rattle.goqlanis_buffers.specs.Drawings.{grey_shade, IsDrawn};
+ghost use Rattle.goqlanis_buffers.specs.Drawings.{density, is_sayable, plain, IsDrawn};
 
 use crate::answers::Refusal;
+use crate::colours::{BLACK, WHITE, has_colours, ink_of, name_of};
 use crate::symbols::{colors_of, fill};
 use goqlanis_draw::formats::{Format, format_numbered};
-use goqlanis_draw::picture::{Ink, Picture};
+use goqlanis_draw::picture::Picture;
 use goqlanis_draw::render::draw_in;
-use qrcode::types::QrResult;
+use qrcode::types::{Color, QrResult};
 use std::alloc::Global;
+
+/// How C wants modules drawn. A colour has its transparency, red, green and blue in its four bytes,
+/// the highest first.
+#[repr(C)]
+#[derive(Clone, Copy)]
+pub struct Drawing {
+    /// The bytes of this.
+    pub size: u32,
+    /// The number of a format.
+    pub format: u32,
+    /// The modules of the quiet zone at each side.
+    pub zone: u32,
+    /// The pixels of a module, across and down.
+    pub scale: u32,
+    /// The colour of dark modules.
+    pub dark: u32,
+    /// That of light ones.
+    pub light: u32,
+    /// The dots per inch that a PNG file names, or 0 for none.
+    pub dpi: u32,
+}
+
+// The bytes of a drawing.
+const SIZE: u32 = 28;
+
+/// A drawing in black on white.
+pub fn plain(zone: u32, scale: u32, format: u32) -> Drawing
+    ensures value { result ≡ plain zone scale format }
+{
+    Drawing {
+        size: SIZE,
+        format,
+        zone,
+        scale,
+        dark: BLACK,
+        light: WHITE,
+        dpi: 0,
+    }
+}
 
 /// What is asked to be drawn, as C says it.
 #[derive(Clone, Copy)]
@@ -22,21 +65,16 @@ pub struct Asked<'a> {
     pub modules: &'a [u8],
     /// The modules along a side.
     pub width: u32,
-    /// The modules of the quiet zone at each side.
-    pub zone: u32,
-    /// The pixels of a module, across and down.
-    pub scale: u32,
-    /// The number of a format.
-    pub format: u32,
+    pub drawing: Drawing,
 }
 
 /// Writes a picture at the beginning of a buffer, and answers its length.
 ///
-/// An error is `NoSuchFormat`, `NotSquare`, `NoSuchSize`, `SmallBuffer` or `OutOfMemory`; then the
-/// buffer is as it was.
+/// An error is `NoSuchStruct`, `NoSuchFormat`, `NotSquare`, `NoSuchSize`, `NotInFormat`,
+/// `SmallBuffer` or `OutOfMemory`; then the buffer is as it was.
 pub fn put_picture(alloc: Global, asked: &Asked<'_>, out: &mut [u8]) -> Result<usize, Refusal>
-    ensures { WritesPicture asked.now.modules.now asked.now.width asked.now.zone asked.now.scale
-        asked.now.format out.old out.new result }
+    ensures { WritesPicture asked.now.modules.now asked.now.width asked.now.drawing
+        out.old out.new result }
 {
     let bytes = match picture_of(alloc, asked) {
         Ok(bytes) => bytes,
@@ -51,10 +89,10 @@ pub fn put_picture(alloc: Global, asked: &Asked<'_>, out: &mut [u8]) -> Result<u
 
 /// The length of a picture.
 ///
-/// An error is `NoSuchFormat`, `NotSquare`, `NoSuchSize` or `OutOfMemory`.
+/// An error is `NoSuchStruct`, `NoSuchFormat`, `NotSquare`, `NoSuchSize`, `NotInFormat` or
+/// `OutOfMemory`.
 pub fn length_of(alloc: Global, asked: &Asked<'_>) -> Result<usize, Refusal>
-    ensures { TellsLength asked.now.modules.now asked.now.width asked.now.zone asked.now.scale
-        asked.now.format result }
+    ensures { TellsLength asked.now.modules.now asked.now.width asked.now.drawing result }
 {
     match picture_of(alloc, asked) {
         Ok(bytes) => Ok(bytes.len()),
@@ -79,57 +117,97 @@ fn picture_of(alloc: Global, asked: &Asked<'_>) -> Result<Vec<u8>, Refusal>
 
 // The format of a number, where modules are a square and the picture is within the limits.
 fn format_of(asked: &Asked<'_>) -> Result<Format, Refusal>
-    ensures format { IfOk result (λ format. format_numbered asked.now.format ≡ Some format) }
+    ensures format { IfOk result (λ format.
+        format_numbered asked.now.drawing.format ≡ Some format) }
+    ensures sayable { IfOk result (λ format. IsTrue (is_sayable format asked.now.drawing)) }
     ensures limits { OnOk result (IsWithinLimits asked.now) }
     ensures causes { (room : ℕ) → IfErr result (IsCauseFor asked.now room) }
 {
-    let Some(format) = format_numbered(asked.format) else {
+    let drawing = &asked.drawing;
+    if drawing.size != SIZE {
+        return Err(Refusal::NoSuchStruct);
+    }
+    let Some(format) = format_numbered(drawing.format) else {
         return Err(Refusal::NoSuchFormat);
     };
     if asked.modules.len() as u64 != u64::from(asked.width) * u64::from(asked.width) {
         return Err(Refusal::NotSquare);
     }
-    let side = u64::from(asked.width) + 2 * u64::from(asked.zone);
-    if asked.scale == 0 || asked.scale > 65_535 || side > 65_535 {
+    let side = u64::from(asked.width) + 2 * u64::from(drawing.zone);
+    if drawing.scale == 0 || drawing.scale > 65_535 || side > 65_535 {
         return Err(Refusal::NoSuchSize);
     }
-    let pixels = side * u64::from(asked.scale);
+    let pixels = side * u64::from(drawing.scale);
     if matches!(format, Format::Png) && (pixels == 0 || pixels > 65_535) {
         return Err(Refusal::NoSuchSize);
     }
+    if !is_sayable(format, drawing) {
+        return Err(Refusal::NotInFormat);
+    }
     Ok(format)
+}
+
+// Whether a format has the colours, and names dots per inch where they are given.
+fn is_sayable(format: Format, drawing: &Drawing) -> bool
+    ensures value { result ≡ is_sayable format drawing.now }
+    ensures dpi_at_most { OnTrue result (drawing.now.dpi < 2 ^ 16) }
+{
+    let most = if matches!(format, Format::Png) { 65_535 } else { 0 };
+    drawing.dpi <= most && has_colours(format, drawing.dark, drawing.light)
 }
 
 // A picture in a format. Refuses with `OutOfMemory` alone.
 fn drawn(alloc: Global, asked: &Asked<'_>, format: Format) -> QrResult<Vec<u8>>
     requires limits { IsWithinLimits asked.now }
+    requires sayable { IsTrue (is_sayable format asked.now.drawing) }
     ensures drawing { IfOk result (λ bytes. IsDrawn format asked.now.modules.now asked.now.width
-        asked.now.zone asked.now.scale bytes.items) }
+        asked.now.drawing bytes.items) }
     ensures memory { IsOkUnless result OutOfMemory }
 {
     let colors = colors_of(alloc, asked.modules)?;
+    let dark = name_of(alloc, asked.drawing.dark)?;
+    let light = name_of(alloc, asked.drawing.light)?;
+    draw_named(alloc, asked, format, &colors, (&dark, &light))
+}
+
+// The same, of these modules and names of dark and light.
+fn draw_named<'a>(
+    alloc: Global,
+    asked: &Asked<'_>,
+    format: Format,
+    modules: &'a [Color],
+    names: (&'a str, &'a str),
+) -> QrResult<Vec<u8>>
+    requires limits { IsWithinLimits asked.now }
+    requires sayable { IsTrue (is_sayable format asked.now.drawing) }
+    requires modules { modules.now ≡ colors_of asked.now.modules.now }
+    requires dark { names.0.now ≡ colour_name asked.now.drawing.dark }
+    requires light { names.1.now ≡ colour_name asked.now.drawing.light }
+    ensures drawing { IfOk result (λ bytes. IsDrawn format asked.now.modules.now asked.now.width
+        asked.now.drawing bytes.items) }
+    ensures memory { IsOkUnless result OutOfMemory }
+{
+    let drawing = &asked.drawing;
+    let dark = ink_of(names.0, drawing.dark);
+    let light = ink_of(names.1, drawing.light);
     let picture = Picture {
-        modules: &colors,
+        modules,
         width: asked.width,
-        zone: asked.zone,
-        scale: asked.scale,
-        dark: ink("#000", 0),
-        light: ink("#fff", 255),
+        zone: drawing.zone,
+        scale: drawing.scale,
+        dark,
+        light,
         is_inverted: false,
-        dpi: None,
+        dpi: density(drawing.dpi),
         ends_lines: false,
     };
     draw_in(alloc, format, &picture)
 }
 
-// A grey.
-fn ink(name: &'static str, grey: u8) -> Ink<'static>
-    ensures { shade_of result ≡ grey_shade name.now grey }
+// The dots per inch, where they are given.
+fn density(dpi: u32) -> Option<u16>
+    requires at_most { dpi < 2 ^ 16 }
+    ensures value { result ≡ density dpi }
 {
-    Ink {
-        name,
-        red: grey,
-        green: grey,
-        blue: grey,
-    }
+    if dpi == 0 { None } else { Some(dpi as u16) }
 }

@@ -1,21 +1,26 @@
 //! Squares of modules read back.
 
-ghost use Rattle.std.specs.Prelude.{◌≡◌, ℕ, length, IsTrue, IfOk, IfErr};
-ghost use Rattle.qrcode_types.specs.Versions.{has_level};
+ghost use Rattle.std.specs.Prelude.{◌≡◌, ◌*◌, ℕ, chars, length, string_bytes, IsTrue, IfOk, IfErr, IfNone, IfSome, OnErr};
+ghost use Rattle.qrcode_types.specs.Versions.{has_level, is_valid, side};
 ghost use Rattle.qrcode.specs.Reading.{ReadsOnly};
-ghost use Rattle.qrcode_reader.specs.Readings.{IsReading};
-ghost use Rattle.goqlanis_buffers.specs.Answers.{IsReadingCause};
-ghost use Rattle.goqlanis_buffers.specs.Calls.{TellsReadLength, WritesReading};
+ghost use Rattle.qrcode.specs.Texts.{ShowsTextOnly};
+ghost use Rattle.qrcode_reader.specs.Formats.{HasFormat};
+ghost use Rattle.qrcode_reader.specs.Readings.{HasNoFormat, IsReading, IsTextReading};
+ghost use Rattle.goqlanis_buffers.specs.Answers.{IsAnyReadingCause, IsMaskCause, IsReadingCause, IsTextReadingCause};
+ghost use Rattle.goqlanis_buffers.specs.Calls.{TellsMask, TellsReadLength, WritesAnyReading, WritesReading, WritesTextReading};
 ghost use Rattle.qrcode_render.specs.Shades.{colors_of};
-ghost use Rattle.goqlanis_buffers.specs.Readings.{mask_number_in, IsTold};
+ghost use Rattle.goqlanis_buffers.specs.declared.answers.Refusal.TheVariants.{NoFormat};
+ghost use Rattle.goqlanis_buffers.specs.Readings.{mask_number_in, position_number, IsReadAnywhere, IsReadNowhere, IsTold};
 
 use crate::answers::Refusal;
 use crate::names::{level_number, version_number};
 use crate::symbols::{colors_of, fill};
 use qrcode::canvas::MaskPattern;
-use qrcode::types::Version;
-use qrcode_reader::{Reading as Found, Unread, read, version_of};
-use std::alloc::Global;
+use qrcode::types::{Color, EcLevel, Version};
+use qrcode_reader::{AnyReading as FoundAnywhere, Position, Reading as Found};
+use qrcode_reader::{TextReading, Unread, UnreadText};
+use qrcode_reader::{read, read_any, read_format, read_text, version_of};
+use std::alloc::{AllocError, Global};
 
 /// What is read of a square beside its bytes.
 #[repr(C)]
@@ -31,6 +36,15 @@ pub struct Reading {
     pub wrong: usize,
     /// How many bytes there are.
     pub length: usize,
+}
+
+/// What is read of a square in any position beside its bytes.
+#[repr(C)]
+#[derive(Clone, Copy)]
+pub struct AnyReading {
+    pub reading: Reading,
+    /// The number of the position, and 8 more where dark and light are exchanged.
+    pub position: u32,
 }
 
 /// Writes the bytes of a square of modules, which are bytes in row order, dark where they are not zero,
@@ -49,7 +63,78 @@ pub fn read_into(alloc: Global, modules: &[u8], bytes: &mut [u8]) -> Result<Read
         return Err(Refusal::SmallBuffer);
     }
     fill(bytes, &found.data);
-    Ok(told(&found))
+    Ok(told(
+        found.version,
+        found.ec_level,
+        found.mask,
+        found.wrong.len(),
+        found.data.len(),
+    ))
+}
+
+/// The same of a square in any position, in the first of the sixteen in which it is read.
+///
+/// An error is `NotRead`, `SmallBuffer` or `OutOfMemory`; then the buffer is as it was.
+pub fn read_any_into(alloc: Global, modules: &[u8], bytes: &mut [u8]) -> Result<AnyReading, Refusal>
+    ensures { WritesAnyReading modules.now bytes.old bytes.new result }
+{
+    let found = match read_any_square(alloc, modules) {
+        Ok(found) => found,
+        Err(refusal) => return Err(refusal),
+    };
+    let read = &found.reading;
+    if bytes.len() < read.data.len() {
+        return Err(Refusal::SmallBuffer);
+    }
+    fill(bytes, &read.data);
+    Ok(AnyReading {
+        reading: told(
+            read.version,
+            read.ec_level,
+            read.mask,
+            read.wrong.len(),
+            read.data.len(),
+        ),
+        position: position_number(found.position, found.is_inverted),
+    })
+}
+
+/// Writes the text that readers show of a square of modules at the beginning of a buffer, and answers
+/// what is read beside it.
+///
+/// An error is `NoSuchSide`, `NoFormat`, `Damaged`, `NotShown`, `SmallBuffer` or `OutOfMemory`; then
+/// the buffer is as it was.
+pub fn read_text_into(alloc: Global, modules: &[u8], text: &mut [u8]) -> Result<Reading, Refusal>
+    ensures { WritesTextReading modules.now text.old text.new result }
+{
+    let found = match read_shown(alloc, modules) {
+        Ok(found) => found,
+        Err(refusal) => return Err(refusal),
+    };
+    let bytes = found.text.as_bytes();
+    if text.len() < bytes.len() {
+        return Err(Refusal::SmallBuffer);
+    }
+    fill(text, bytes);
+    Ok(told(
+        found.version,
+        found.ec_level,
+        found.mask,
+        found.wrong.len(),
+        bytes.len(),
+    ))
+}
+
+/// The number of the mask of a square of modules.
+///
+/// An error is `NoSuchSide`, `NoFormat` or `OutOfMemory`.
+pub fn mask_of(alloc: Global, modules: &[u8]) -> Result<u32, Refusal>
+    ensures { TellsMask modules.now result }
+{
+    match format_of(alloc, modules) {
+        Ok(format) => Ok(mask_number(format.version, format.mask)),
+        Err(refusal) => Err(refusal),
+    }
 }
 
 /// How many bytes a square of modules is read as.
@@ -89,19 +174,146 @@ fn read_square(alloc: Global, modules: &[u8]) -> Result<Found, Refusal>
     }
 }
 
+// What the format word of a square names.
+#[derive(Clone, Copy)]
+struct Format {
+    version: Version,
+    level: EcLevel,
+    mask: MaskPattern,
+}
+
+// The format word of a square of modules.
+fn format_of(alloc: Global, modules: &[u8]) -> Result<Format, Refusal>
+    ensures square { IfOk result (λ f.
+        length (colors_of modules.now) ≡ side f.version * side f.version) }
+    ensures named { IfOk result (λ f. HasFormat f.version (colors_of modules.now) f.level f.mask) }
+    ensures causes { IfErr result (IsMaskCause modules.now) }
+{
+    let Ok(colors) = colors_of(alloc, modules) else {
+        return Err(Refusal::OutOfMemory);
+    };
+    match version_of(colors.len()) {
+        Some(version) => format_in(version, &colors),
+        None => Err(Refusal::NoSuchSide),
+    }
+}
+
+// The same of a version.
+fn format_in(version: Version, colors: &[Color]) -> Result<Format, Refusal>
+    requires valid { IsTrue (is_valid version) }
+    requires square { length colors.now ≡ side version * side version }
+    ensures version { IfOk result (λ f. f.version ≡ version) }
+    ensures named { IfOk result (λ f. HasFormat f.version colors.now f.level f.mask) }
+    ensures is { IfErr result (λ refusal. refusal ≡ NoFormat) }
+    ensures none { OnErr result (HasNoFormat colors.now) }
+{
+    match read_format(version, colors) {
+        Some((level, mask)) => Ok(Format {
+            version,
+            level,
+            mask,
+        }),
+        None => Err(Refusal::NoFormat),
+    }
+}
+
+// What is read of a square in any position.
+fn read_any_square(alloc: Global, modules: &[u8]) -> Result<FoundAnywhere, Refusal>
+    ensures reading { IfOk result (λ any. IsReadAnywhere (colors_of modules.now) any.position
+        any.is_inverted any.reading.version any.reading.ec_level any.reading.mask
+        any.reading.data.items any.reading.wrong.items) }
+    ensures exists { IfOk result (λ any.
+        IsTrue (has_level any.reading.version any.reading.ec_level)) }
+    ensures causes { (room : ℕ) → IfErr result (IsAnyReadingCause modules.now room) }
+{
+    let Ok(colors) = colors_of(alloc, modules) else {
+        return Err(Refusal::OutOfMemory);
+    };
+    match first_reading(alloc, &colors) {
+        Ok(Some(found)) => Ok(found),
+        Ok(None) => Err(Refusal::NotRead),
+        Err(_) => Err(Refusal::OutOfMemory),
+    }
+}
+
+// The first reading of a square, where there is one.
+#[tactic(auto, using(crate::proofs::Known::existing))]
+fn first_reading(
+    alloc: Global,
+    colors: &[Color],
+) -> Result<Option<FoundAnywhere>, AllocError>
+    ensures reading { IfOk result (λ found. IfSome found (λ any. IsReadAnywhere colors.now
+        any.position any.is_inverted any.reading.version any.reading.ec_level any.reading.mask
+        any.reading.data.items any.reading.wrong.items)) }
+    ensures exists { IfOk result (λ found. IfSome found (λ any.
+        IsTrue (has_level any.reading.version any.reading.ec_level))) }
+    ensures nowhere { IfOk result (λ found. IfNone found (IsReadNowhere colors.now)) }
+{
+    match read_any(alloc, colors) {
+        Ok(Some(found)) => Ok(Some(found)),
+        Ok(None) => Ok(None),
+        Err(error) => Err(error),
+    }
+}
+
+// The text that readers show of a square.
+#[tactic(auto, using(crate::proofs::Known::shown_existing, crate::proofs::Known::only_shown))]
+fn read_shown(alloc: Global, modules: &[u8]) -> Result<TextReading, Refusal>
+    ensures reading { IfOk result (λ read. IsTextReading (colors_of modules.now) read.version
+        read.ec_level read.mask (chars (string_bytes read.text)) read.wrong.items) }
+    ensures only { IfOk result (λ read.
+        ShowsTextOnly (colors_of modules.now) (chars (string_bytes read.text))) }
+    ensures exists { IfOk result (λ read. IsTrue (has_level read.version read.ec_level)) }
+    ensures causes { (room : ℕ) → IfErr result (IsTextReadingCause modules.now room) }
+{
+    let Ok(colors) = colors_of(alloc, modules) else {
+        return Err(Refusal::OutOfMemory);
+    };
+    match read_text(alloc, &colors) {
+        Ok(found) => Ok(found),
+        Err(UnreadText::NoBits(Unread::NoSuchSide)) => Err(Refusal::NoSuchSide),
+        Err(UnreadText::NoBits(Unread::NoFormat)) => Err(Refusal::NoFormat),
+        Err(UnreadText::NoBits(Unread::Damaged(_))) => Err(Refusal::Damaged),
+        Err(UnreadText::NotShown) => Err(Refusal::NotShown),
+        Err(UnreadText::NoBits(_)) => Err(Refusal::OutOfMemory),
+    }
+}
+
 // What is told of a reading beside its bytes.
-fn told(found: &Found) -> Reading
-    requires exists { IsTrue (has_level found.now.version found.now.ec_level) }
-    ensures value { IsTold found.now.version found.now.ec_level found.now.mask
-        (length found.now.wrong.items) (length found.now.data.items) result }
+fn told(
+    version: Version,
+    ec_level: EcLevel,
+    mask: MaskPattern,
+    wrong: usize,
+    length: usize,
+) -> Reading
+    requires exists { IsTrue (has_level version ec_level) }
+    ensures value { IsTold version ec_level mask wrong length result }
 {
     Reading {
-        version: version_number(found.version),
-        level: level_number(found.ec_level),
-        mask: mask_number(found.version, found.mask),
-        wrong: found.wrong.len(),
-        length: found.data.len(),
+        version: version_number(version),
+        level: level_number(ec_level),
+        mask: mask_number(version, mask),
+        wrong,
+        length,
     }
+}
+
+// The number of a position, and 8 more where colours are exchanged.
+fn position_number(position: Position, is_inverted: bool) -> u32
+    ensures value { result ≡ position_number position is_inverted }
+{
+    let number = match position {
+        Position::Upright => 0,
+        Position::TurnedLeft => 1,
+        Position::UpsideDown => 2,
+        Position::TurnedRight => 3,
+        Position::Mirrored => 4,
+        Position::Flipped => 5,
+        Position::Transposed => 6,
+        Position::Antitransposed => 7,
+    };
+    if is_inverted { number + 8 } else { number }
 }
 
 // The number of a mask of a version.

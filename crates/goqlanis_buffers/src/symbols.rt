@@ -3,7 +3,7 @@
 ghost use Rattle.std.specs.Prelude.{◌≡◌, ◌<◌, ◌≤◌, length, IfOk, IfErr, IsOkUnless, OnErr};
 ghost use Rattle.qrcode_types.specs.declared.types.QrError.TheVariants.{OutOfMemory};
 ghost use Rattle.qrcode_render.specs.Shades.{colors_of};
-ghost use Rattle.goqlanis_buffers.specs.Outputs.{module_bytes, IsFilled, IsWritten};
+ghost use Rattle.goqlanis_buffers.specs.Outputs.{module_bytes, IsDescribed, IsFilled, IsWritten};
 ghost use Rattle.goqlanis_buffers.specs.declared.answers.Refusal.TheVariants.{SmallBuffer};
 
 use crate::answers::Refusal;
@@ -32,17 +32,24 @@ pub(crate) fn write_symbol(code: QrCode, modules: &mut [u8]) -> Result<Symbol, R
     ensures causes { IfErr result (λ refusal. refusal ≡ SmallBuffer) }
     ensures no_room { OnErr result (length modules.old < length code.modules) }
 {
-    let symbol = Symbol {
-        version: version_number(code.version()),
-        level: level_number(code.error_correction_level()),
-        width: code.width() as u32,
-    };
+    let symbol = described(&code);
     let colors = code.into_colors();
     if modules.len() < colors.len() {
         return Err(Refusal::SmallBuffer);
     }
     fill_modules(modules, &colors);
     Ok(symbol)
+}
+
+/// What a symbol is beside its modules.
+pub(crate) fn described(code: &QrCode) -> Symbol
+    ensures value { IsDescribed code.now result }
+{
+    Symbol {
+        version: version_number(code.version()),
+        level: level_number(code.error_correction_level()),
+        width: code.width() as u32,
+    }
 }
 
 // Writes modules at the beginning of a buffer that has room for them.

@@ -1,9 +1,10 @@
 //! Symbols of bytes.
 
-ghost use Rattle.goqlanis_buffers.specs.Calls.{IsTold, WritesAutomatic, WritesIn};
+ghost use Rattle.goqlanis_buffers.specs.Calls.{IsTold, WritesAutomatic, WritesIn, WritesWith};
 
 use goqlanis_buffers::answers::answer;
 use goqlanis_buffers::encoding::{encode, encode_in};
+use goqlanis_buffers::options::{Options, encode_with};
 use goqlanis_buffers::symbols::Symbol;
 use std::alloc::Global;
 
@@ -46,4 +47,24 @@ pub extern "C" fn goq_encode_in(
         result symbol.old symbol.new }
 {
     answer(encode_in(alloc, bytes, version, level, modules), symbol)
+}
+
+/// The symbol of data that options ask for: its modules row by row, 1 for a dark one, at the beginning
+/// of `modules`, and what it is beside them.
+///
+/// 0, or the number of a `Refusal`, of which the first that applies is told: `NoSuchStruct`,
+/// `NoSuchLevel`, `NoSuchVersion`, `NoSuchManner`, `NotText`, `NoMode`, `LevelNotInVersion`,
+/// `NoRoom`, `SmallBuffer`; or `OutOfMemory`. Then the outputs are as they were.
+#[unsafe(no_mangle)]
+pub extern "C" fn goq_encode_with(
+    alloc: Global,
+    bytes: &[u8],
+    options: &Options,
+    modules: &mut [u8],
+    symbol: &mut Symbol,
+) -> u32
+    ensures { IsTold (WritesWith options.now bytes.now modules.old modules.new)
+        result symbol.old symbol.new }
+{
+    answer(encode_with(alloc, bytes, options, modules), symbol)
 }

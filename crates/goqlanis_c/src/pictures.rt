@@ -1,9 +1,10 @@
 //! Pictures in buffers.
 
 ghost use Rattle.goqlanis_buffers.specs.Calls.{IsTold, TellsLength, WritesPicture};
+ghost use Rattle.goqlanis_buffers.specs.Drawings.{plain};
 
 use goqlanis_buffers::answers::answer;
-use goqlanis_buffers::pictures::{Asked, length_of, put_picture};
+use goqlanis_buffers::pictures::{Asked, Drawing, length_of, plain, put_picture};
 use std::alloc::Global;
 
 /// The picture of modules in a format: at the beginning of `out`, and its length to `count`. The
@@ -23,17 +24,10 @@ pub extern "C" fn goq_draw(
     out: &mut [u8],
     count: &mut usize,
 ) -> u32
-    ensures { IsTold (WritesPicture modules.now width zone scale format out.old out.new)
+    ensures { IsTold (WritesPicture modules.now width (plain zone scale format) out.old out.new)
         result count.old count.new }
 {
-    let asked = Asked {
-        modules,
-        width,
-        zone,
-        scale,
-        format,
-    };
-    answer(put_picture(alloc, &asked, out), count)
+    goq_draw_with(alloc, modules, width, &plain(zone, scale, format), out, count)
 }
 
 /// The length of the picture that `goq_draw` would write, to `count`; of PNG that of a file that shows
@@ -51,14 +45,55 @@ pub extern "C" fn goq_draw_length(
     format: u32,
     count: &mut usize,
 ) -> u32
-    ensures { IsTold (TellsLength modules.now width zone scale format) result count.old count.new }
+    ensures { IsTold (TellsLength modules.now width (plain zone scale format))
+        result count.old count.new }
 {
+    goq_draw_with_length(alloc, modules, width, &plain(zone, scale, format), count)
+}
+
+/// The same of a drawing with colours and dots per inch.
+///
+/// 0, or the number of a `Refusal`: `NoSuchStruct`, `NoSuchFormat`, `NotSquare`, `NoSuchSize`,
+/// `NotInFormat`, `SmallBuffer` or `OutOfMemory`. Then the outputs are as they were.
+#[unsafe(no_mangle)]
+pub extern "C" fn goq_draw_with(
+    alloc: Global,
+    modules: &[u8],
+    width: u32,
+    drawing: &Drawing,
+    out: &mut [u8],
+    count: &mut usize,
+) -> u32
+    ensures { IsTold (WritesPicture modules.now width drawing.now out.old out.new)
+        result count.old count.new }
+{
+    let drawing = *drawing;
     let asked = Asked {
         modules,
         width,
-        zone,
-        scale,
-        format,
+        drawing,
+    };
+    answer(put_picture(alloc, &asked, out), count)
+}
+
+/// The length of the picture that `goq_draw_with` would write, to `count`.
+///
+/// 0, or the number of a `Refusal`: the same but `SmallBuffer`. Then `count` is as it was.
+#[unsafe(no_mangle)]
+pub extern "C" fn goq_draw_with_length(
+    alloc: Global,
+    modules: &[u8],
+    width: u32,
+    drawing: &Drawing,
+    count: &mut usize,
+) -> u32
+    ensures { IsTold (TellsLength modules.now width drawing.now) result count.old count.new }
+{
+    let drawing = *drawing;
+    let asked = Asked {
+        modules,
+        width,
+        drawing,
     };
     answer(length_of(alloc, &asked), count)
 }

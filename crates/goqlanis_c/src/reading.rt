@@ -1,9 +1,10 @@
 //! Squares of modules read back.
 
-ghost use Rattle.goqlanis_buffers.specs.Calls.{IsTold, TellsReadLength, WritesReading};
+ghost use Rattle.goqlanis_buffers.specs.Calls.{IsTold, TellsMask, TellsReadLength, WritesAnyReading, WritesReading, WritesTextReading};
 
 use goqlanis_buffers::answers::answer;
-use goqlanis_buffers::reading::{Reading, read_into, read_length};
+use goqlanis_buffers::reading::{AnyReading, Reading};
+use goqlanis_buffers::reading::{mask_of, read_any_into, read_into, read_length, read_text_into};
 use std::alloc::Global;
 
 /// The bytes of a square of modules, which are bytes in row order, dark where they are not zero, without
@@ -35,4 +36,49 @@ pub extern "C" fn goq_read_length(alloc: Global, modules: &[u8], count: &mut usi
     ensures { IsTold (TellsReadLength modules.now) result count.old count.new }
 {
     answer(read_length(alloc, modules), count)
+}
+
+/// The same of a square in any position, in the first of the sixteen in which it is read.
+///
+/// 0, or the number of a `Refusal`: `NotRead`, `SmallBuffer` or `OutOfMemory`. Then the outputs are as
+/// they were.
+#[unsafe(no_mangle)]
+pub extern "C" fn goq_read_any(
+    alloc: Global,
+    modules: &[u8],
+    bytes: &mut [u8],
+    reading: &mut AnyReading,
+) -> u32
+    ensures { IsTold (WritesAnyReading modules.now bytes.old bytes.new)
+        result reading.old reading.new }
+{
+    answer(read_any_into(alloc, modules, bytes), reading)
+}
+
+/// The text that readers show of a square: at the beginning of `text`, and what is read beside it.
+///
+/// 0, or the number of a `Refusal`: `NoSuchSide`, `NoFormat`, `Damaged`, `NotShown`, `SmallBuffer` or
+/// `OutOfMemory`. Then the outputs are as they were.
+#[unsafe(no_mangle)]
+pub extern "C" fn goq_read_text(
+    alloc: Global,
+    modules: &[u8],
+    text: &mut [u8],
+    reading: &mut Reading,
+) -> u32
+    ensures { IsTold (WritesTextReading modules.now text.old text.new)
+        result reading.old reading.new }
+{
+    answer(read_text_into(alloc, modules, text), reading)
+}
+
+/// The number of the mask that the format word of a square names, to `mask`.
+///
+/// 0, or the number of a `Refusal`: `NoSuchSide`, `NoFormat` or `OutOfMemory`. Then `mask` is as it
+/// was.
+#[unsafe(no_mangle)]
+pub extern "C" fn goq_mask(alloc: Global, modules: &[u8], mask: &mut u32) -> u32
+    ensures { IsTold (TellsMask modules.now) result mask.old mask.new }
+{
+    answer(mask_of(alloc, modules), mask)
 }

@@ -5,6 +5,7 @@ use Rattle.qrcode_types.specs.declared.types.Color.{Color}
 use Rattle.qrcode_render.specs.Eps.{eps_text}
 use Rattle.qrcode_render.specs.Files.{pgm_file, pbm_file}
 use Rattle.qrcode_render.specs.Layout.{Layout, layout}
+use Rattle.qrcode_render.specs.Paths.{xml_head, IsPathOf}
 use Rattle.qrcode_render.specs.Picture.{picture}
 use Rattle.qrcode_render.specs.Setting.{Setting}
 use Rattle.qrcode_render.specs.Texts.{text_of, dense_text, raw_bytes}
@@ -15,19 +16,20 @@ use Rattle.qrcode_png.specs.Shown.{IsFileOf}
 use Rattle.qrcode_png.specs.declared.picture.Color as png
 use Rattle.goqlanis_draw.specs.Terminal.{coloured_text}
 use Rattle.goqlanis_draw.specs.declared.formats.Format.{Format}
-use Rattle.goqlanis_draw.specs.declared.formats.Format.TheVariants.{HalfBlocks, LightHalfBlocks, Terminal, Chars, Png, Svg, Eps, Pic, Pbm, Pgm, Grey}
+use Rattle.goqlanis_draw.specs.declared.formats.Format.TheVariants.{HalfBlocks, LightHalfBlocks, Terminal, Chars, Png, Svg, SvgPath, Eps, Pic, Pbm, Pgm, Grey}
 use Rattle.goqlanis_draw.specs.declared.picture.Ink.{Ink}
 use Rattle.goqlanis_draw.specs.declared.picture.Picture.{Picture}
 
 abbrev pub format_numbered : ℕ → Option Format  -- the format of a number in C, in this order from 0 on
-format_numbered n = slice_get (HalfBlocks ∷ LightHalfBlocks ∷ Svg ∷ Pic ∷ Grey ∷ Png ∷ Eps ∷ Pbm ∷ []) n
+format_numbered n = slice_get (HalfBlocks ∷ LightHalfBlocks ∷ Svg ∷ Pic ∷ Grey ∷ Png ∷ Eps ∷ Pbm ∷ SvgPath ∷ []) n
 
--- a colour: what SVG writes, and red, green and blue
+-- a colour: what SVG writes; red, green and blue; and how opaque it is in PNG
 pub record Shade : Type 0 where
   pub name : List ℕ
   pub red : ℕ
   pub green : ℕ
   pub blue : ℕ
+  pub opacity : ℕ
 
 -- how a drawing looks: its colours, whether they are exchanged, the dots per inch that it names, and whether its lines end with a newline
 pub record View : Type 0 where
@@ -38,7 +40,7 @@ pub record View : Type 0 where
   pub ends_lines : Bool
 
 abbrev pub shade_of : Ink → Shade
-shade_of c = record { name = c.name.now; red = c.red; green = c.green; blue = c.blue }
+shade_of c = record { name = c.name.now; red = c.red; green = c.green; blue = c.blue; opacity = c.opacity }
 
 abbrev pub view_of : Picture → View
 view_of p = record { dark = shade_of p.dark; light = shade_of p.light; is_inverted = p.is_inverted; dpi = p.dpi; ends_lines = p.ends_lines }
@@ -69,8 +71,8 @@ setting_of p dark light = record {
 abbrev pub eps_ink : Shade → eps.Color  -- a colour of EPS
 eps_ink c = record { red = c.red; green = c.green; blue = c.blue }
 
-abbrev pub png_ink : Shade → png.Color  -- an opaque colour of PNG
-png_ink c = record { 0 = c.red ∷ c.green ∷ c.blue ∷ 255 ∷ [] }
+abbrev pub png_ink : Shade → png.Color  -- a colour of PNG
+png_ink c = record { 0 = c.red ∷ c.green ∷ c.blue ∷ c.opacity ∷ [] }
 
 abbrev pub per_metre : ℕ → ℕ  -- dots per inch as dots per metre, to the nearest: an inch is 0.0254 metres
 per_metre dpi = (10000 * dpi + 127) / 254
@@ -95,6 +97,7 @@ IsDrawnIn Chars v at s bytes = bytes ≡ ended v (char_text v (encode_utf8 0x258
 IsDrawnIn Png v at s bytes =
     IsFileOf (picture at s) (dark_of v (png_ink v.dark) (png_ink v.light)) (light_of v (png_ink v.dark) (png_ink v.light)) (option_map per_metre v.dpi) bytes
 IsDrawnIn Svg v at s bytes = bytes ≡ svg_text at s (dark_of v v.dark.name v.light.name) (light_of v v.dark.name v.light.name)
+IsDrawnIn SvgPath v at s bytes = IsPathOf xml_head (dark_of v v.dark.name v.light.name) (light_of v v.dark.name v.light.name) (picture at s) bytes
 IsDrawnIn Eps v at s bytes = bytes ≡ eps_text at s (dark_of v (eps_ink v.dark) (eps_ink v.light)) (light_of v (eps_ink v.dark) (eps_ink v.light))
 IsDrawnIn Pic v at s bytes = bytes ≡ pic_text at s
 IsDrawnIn Pbm v at s bytes = bytes ≡ pbm_file (dark_of v true false) (light_of v true false) (picture at s)

@@ -29,6 +29,9 @@ IsRefusalFrom (From from) m l bytes e = IfCause (is_valid from ≡ false) (e ≡
 IsRefusalFrom (Boosted from) m l bytes e = IfCause (is_valid from ≡ false) (e ≡ InvalidVersion) (IsRefusedFrom m from l bytes e)
 IsRefusalFrom (At version) m l bytes e = IsRefusedIn m version l bytes e
 
--- why there is no drawing: memory was refused, or no version that may be taken holds the data
-abbrev pub IsRefusalOf : Request → List ℕ → QrError → Type 0
-IsRefusalOf r bytes e = (e ≡ OutOfMemory) ⊎ IsRefusalFrom r.choice r.manner r.level bytes e
+-- why there is no symbol: memory was refused, or no version that may be taken holds the data
+abbrev pub IsRefusedFor : Choice → Manner → EcLevel → List ℕ → QrError → Type 0
+IsRefusedFor choice m l bytes e = (e ≡ OutOfMemory) ⊎ IsRefusalFrom choice m l bytes e
+
+abbrev pub IsRefusalOf : Request → List ℕ → QrError → Type 0  -- why there is no drawing
+IsRefusalOf r bytes e = IsRefusedFor r.choice r.manner r.level bytes e

@@ -7,7 +7,7 @@ ghost use Rattle.qrcode_gs1.specs.Items.{item};
 ghost use Rattle.goqlanis_draw.specs.Drawings.{IsShownIn, scale_for};
 ghost use Rattle.goqlanis_draw.specs.Elements.{IsElementsIn, IsElementsRefused, IsApplicationIn, IsApplicationRefused};
 ghost use Rattle.goqlanis_draw.specs.Segments.{IsSymbolOfPieces, pieces_of};
-ghost use Rattle.goqlanis_draw.specs.Symbols.{IsSymbolOf, IsRefusalOf};
+ghost use Rattle.goqlanis_draw.specs.Symbols.{IsSymbolIn, IsSymbolOf, IsRefusedFor, IsRefusalOf};
 
 use crate::elements::{symbol_for_application, symbol_of_elements};
 use crate::picture::Picture;
@@ -15,7 +15,8 @@ use crate::render::draw_in;
 use crate::request::{Choice, Request};
 use crate::segments::{Segment, symbol_of};
 use qrcode::QrCode;
-use qrcode::types::QrResult;
+use qrcode::bits::Manner;
+use qrcode::types::{EcLevel, QrResult};
 use qrcode_gs1::elements::Element;
 use qrcode_gs1::symbol::errors::SymbolResult;
 use std::alloc::Global;
@@ -30,13 +31,20 @@ pub struct Drawing {
 /// The drawing of data that a request asks for.
 ///
 /// It is refused where no version that may be taken holds the data, by the causes of `QrCode::at_least`,
-/// `QrCode::at_least_boosted` or `QrCode::in_version`; and for want of memory.
+/// `QrCode::at_least_boosted` or `QrCode::in_version`; `OutOfMemory`: memory was refused.
 pub fn draw(alloc: Global, request: &Request<'_>, bytes: &[u8]) -> QrResult<Drawing>
     ensures symbol { IfOk result (λ drawing. IsSymbolOf request.now bytes.now drawing.code) }
     ensures shown { IfOk result (IsShownIn request.now) }
     ensures causes { IfErr result (IsRefusalOf request.now bytes.now) }
 {
-    drawing_of(alloc, request, symbol(alloc, request, bytes)?)
+    let code = symbol_in(
+        alloc,
+        request.choice,
+        request.manner,
+        request.level,
+        bytes,
+    )?;
+    drawing_of(alloc, request, code)
 }
 
 /// The drawing of segments by hand that a request asks for; its manner is not looked at. Versions
@@ -101,13 +109,20 @@ pub fn draw_for_application(
     drawing_of(alloc, request, code)
 }
 
-// The symbol that a request asks for.
-fn symbol(alloc: Global, request: &Request<'_>, bytes: &[u8]) -> QrResult<QrCode>
-    ensures symbol { IfOk result (IsSymbolOf request.now bytes.now) }
-    ensures causes { IfErr result (IsRefusalOf request.now bytes.now) }
+/// The symbol of data in a manner, of a choice at a level.
+///
+/// It is refused by the causes of `draw`, `OutOfMemory` among them.
+pub fn symbol_in(
+    alloc: Global,
+    choice: Choice,
+    manner: Manner,
+    level: EcLevel,
+    bytes: &[u8],
+) -> QrResult<QrCode>
+    ensures symbol { IfOk result (IsSymbolIn choice manner level bytes.now) }
+    ensures causes { IfErr result (IsRefusedFor choice manner level bytes.now) }
 {
-    let (manner, level) = (request.manner, request.level);
-    match request.choice {
+    match choice {
         Choice::From(version) => QrCode::at_least(alloc, bytes, manner, version, level),
         Choice::Boosted(version) => QrCode::at_least_boosted(alloc, bytes, manner, version, level),
         Choice::At(version) => QrCode::in_version(alloc, bytes, manner, version, level),
@@ -148,7 +163,7 @@ pub fn quiet_zone(request: &Request<'_>, code: &QrCode) -> u32
     }
 }
 
-// The pixels of a module, as many as there is room for where the pixels of a side are told.
+// The pixels of a module, as many as there is room for where the pixels of a side are given.
 fn scale(request: &Request<'_>, code: &QrCode) -> u32
     ensures value { result ≡ scale_for request.now code.now.version }
     ensures at_most { result ≤ 65535 }

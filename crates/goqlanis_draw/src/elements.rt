@@ -17,7 +17,7 @@ use std::alloc::Global;
 /// `Elements`: which element is refused first, and why. `Symbol(DataTooLong)`: no version that may be
 /// taken holds them. `OutOfMemory`, in either: memory was refused.
 #[tactic(auto, using(crate::proofs::Choices::elements_alone))]
-pub(crate) fn symbol_of_elements(
+pub fn symbol_of_elements(
     alloc: Global,
     choice: Choice,
     level: EcLevel,

@@ -3,7 +3,9 @@
 ghost use Rattle.std.specs.Prelude.{◌≡◌};
 ghost use Rattle.goqlanis_draw.specs.Formats.{format_numbered};
 
-use Format::{Chars, Eps, Grey, HalfBlocks, LightHalfBlocks, Pbm, Pgm, Pic, Png, Svg, Terminal};
+use Format::{
+    Chars, Eps, Grey, HalfBlocks, LightHalfBlocks, Pbm, Pgm, Pic, Png, Svg, SvgPath, Terminal,
+};
 use Kind::{ColouredFile, ColouredText, File, Text};
 
 /// How modules are drawn.
@@ -21,6 +23,8 @@ pub enum Format {
     Png,
     /// An SVG text.
     Svg,
+    /// An SVG text of one path, by the runs of dark modules.
+    SvgPath,
     /// Encapsulated PostScript, a text, in which a pixel is a point.
     Eps,
     /// A PIC text, which has no light modules.
@@ -72,7 +76,7 @@ pub static FORMATS: &[Row] = &[
 ];
 
 // The formats of the library for C, in the order of their numbers, from 0 on.
-static IN_C: &[Format] = &[HalfBlocks, LightHalfBlocks, Svg, Pic, Grey, Png, Eps, Pbm];
+static IN_C: &[Format] = &[HalfBlocks, LightHalfBlocks, Svg, Pic, Grey, Png, Eps, Pbm, SvgPath];
 
 /// The format of a number in C.
 pub fn format_numbered(number: u32) -> Option<Format>

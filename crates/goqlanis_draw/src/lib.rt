@@ -16,7 +16,9 @@ mod terminal;
 
 pub use drawing::{
     Drawing, draw, draw_elements, draw_for_application, draw_segments, drawing_of, quiet_zone,
+    symbol_in,
 };
+pub use elements::symbol_of_elements;
 pub use formats::Format;
 pub use picture::Ink;
 pub use refusal::{

@@ -4,13 +4,15 @@ ghost use Rattle.std.specs.Prelude.{◌≡◌, ◌+◌, ◌*◌, ◌^◌, ◌<�
 
 use qrcode::types::Color;
 
-/// A colour: what SVG writes as it is, and red, green and blue from 0 to 255 for EPS and PNG.
+/// A colour: what SVG writes as it is; red, green and blue from 0 to 255 for EPS and PNG; and how
+/// opaque it is in PNG, from 0 to 255.
 #[derive(Clone, Copy)]
 pub struct Ink<'a> {
     pub name: &'a str,
     pub red: u8,
     pub green: u8,
     pub blue: u8,
+    pub opacity: u8,
 }
 
 /// A square of modules, and how it is drawn.

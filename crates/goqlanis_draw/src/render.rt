@@ -47,6 +47,10 @@ pub fn draw_in(alloc: Global, format: Format, picture: &Picture<'_>) -> QrResult
             )?;
             Ok(text.into_bytes())
         }
+        Format::SvgPath => {
+            let text = drawn(alloc, picture, svg::Path(dark.name), svg::Path(light.name))?;
+            Ok(text.into_bytes())
+        }
         Format::Eps => Ok(drawn(alloc, picture, eps_ink(dark), eps_ink(light))?.into_bytes()),
         Format::Pic => Ok(drawn(alloc, picture, pic::Color, pic::Color)?.into_bytes()),
         Format::Pbm => drawn(alloc, picture, Bit::Black, Bit::White),
@@ -133,9 +137,9 @@ fn eps_ink(ink: Ink<'_>) -> eps::Color
     }
 }
 
-// An opaque colour of PNG.
+// A colour of PNG.
 fn png_ink(ink: Ink<'_>) -> qrcode_png::Color
     ensures value { result ≡ png_ink (shade_of ink.entry) }
 {
-    qrcode_png::Color([ink.red, ink.green, ink.blue, 255])
+    qrcode_png::Color([ink.red, ink.green, ink.blue, ink.opacity])
 }

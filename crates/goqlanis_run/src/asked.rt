@@ -413,6 +413,7 @@ fn ink<'a>(
             red: 0,
             green: 0,
             blue: 0,
+            opacity: 255,
         });
     }
     let names = if format == Format::Svg {
@@ -452,6 +453,7 @@ fn ink_with(name: &str, red: Option<u8>, green: Option<u8>, blue: Option<u8>) ->
             red,
             green,
             blue,
+            opacity: 255,
         }),
         _ => None,
     }

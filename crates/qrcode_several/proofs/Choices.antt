@@ -11,11 +11,11 @@ use Rattle.qrcode_bits.specs.declared.bits.manner.Manner.{Manner}
 use Rattle.qrcode_bits.proofs.Bands.{normal_level, normal_number}
 use Rattle.qrcode.specs.Code.{Code}
 use Rattle.qrcode_several.specs.Division.{part}
-use Rattle.qrcode_several.specs.Fewest.{IsAmong, IsLeastAmong, AreFewest}
+use Rattle.qrcode_several.specs.Fewest.{IsAmong, IsLeastAmong, AreCounted, AreFewest}
 use Rattle.qrcode_several.specs.Reading.{EachAt}
 use Rattle.qrcode_several.specs.Symbols.{HoldSeveral, IsPartSymbol}
 use Rattle.qrcode_several.specs.declared.choice.Versions.{Versions}
-use Rattle.qrcode_several.proofs.Parts.{several_of}
+use Rattle.qrcode_several.proofs.Parts.{parted_of, several_of}
 
 -- a version by its number
 pub version_is : (n : ℕ) → n ≤ 40 → Normal (to_z w16 n) ≡ Normal (pos n)
@@ -37,7 +37,15 @@ least_among m vs l bytes count number low high most holds none = record {
   least = λ n among held. elim (cases_lt n number) [ inl below ↦ absurd (none n among below held) | inr above ↦ above ];
 }
 
--- the symbols of that version, where no less of any version hold the data
+-- the symbols of that version
+pub counted_of : (m : Manner) (vs : Versions) (l : EcLevel) (bytes : List ℕ) (count number : ℕ) (codes : List Code) → IsLeastAmong m vs l bytes count number → length codes ≡ count
+    → EachAt (λ place. IsPartSymbol m (Normal (to_z w16 number)) l place (count - 1) (parity bytes) (part m bytes count place)) codes → AreCounted m vs l bytes count codes
+counted_of m vs l bytes count number codes least is symbols =
+    let own = subst (λ u. EachAt (λ place. IsPartSymbol m u l place (count - 1) (parity bytes) (part m bytes count place)) codes)
+    (version_is number (normal_number number l least.holds.exists).1) symbols in
+    record { counted = is; number = number; least_version = least; symbols = parted_of m (Normal (pos number)) l bytes count codes least.holds is own }
+
+-- the same, where no less of any version hold the data
 pub fewest_of : (m : Manner) (vs : Versions) (l : EcLevel) (bytes : List ℕ) (count number : ℕ) (codes : List Code) → IsLeastAmong m vs l bytes count number
     → ((k n : ℕ) → k < count → IsAmong vs n → ¬ HoldSeveral m (Normal (pos n)) l bytes k) → length codes ≡ count
     → EachAt (λ place. IsPartSymbol m (Normal (to_z w16 number)) l place (count - 1) (parity bytes) (part m bytes count place)) codes → AreFewest m vs l bytes codes

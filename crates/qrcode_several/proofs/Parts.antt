@@ -34,7 +34,7 @@ use Rattle.qrcode.specs.Reading.{EncodesBits}
 use Rattle.qrcode.proofs.Readings.{bits_are_read_one_way}
 use Rattle.qrcode_several.specs.Division.{part}
 use Rattle.qrcode_several.specs.Reading.{EachAt, ShowsPartOnly}
-use Rattle.qrcode_several.specs.Symbols.{front_length, PartFits, HoldSeveral, IsPartList, IsPartSymbol, AreSeveral}
+use Rattle.qrcode_several.specs.Symbols.{front_length, PartFits, HoldSeveral, IsPartList, IsPartSymbol, AreParted, AreSeveral}
 use Rattle.qrcode_several.proofs.Borders.{parts_joined, part_text}
 use Rattle.qrcode_several.proofs.Fronts.{length-header, length-front}
 use Rattle.qrcode_several.proofs.Together.{together}
@@ -138,19 +138,26 @@ symbol_of m v l place last parity bytes list (Ok code) exists normal fits made v
           (part_shown m v l place last parity bytes made.segments (valid_of v l exists) text utf8 made.least room);
     }
 
--- the symbols of the first count that holds the data
-pub several_of : (m : Manner) (v : Version) (l : EcLevel) (bytes : List ℕ) (count : ℕ) (codes : List Code) → HoldSeveral m v l bytes count → ((n : ℕ) → n < count → ¬ HoldSeveral m v l bytes n)
-    → length codes ≡ count → EachAt (λ place. IsPartSymbol m v l place (count - 1) (parity bytes) (part m bytes count place)) codes → AreSeveral m v l bytes codes
-several_of m v l bytes count codes held none is symbols =
+-- the symbols of a count that holds the data
+pub parted_of : (m : Manner) (v : Version) (l : EcLevel) (bytes : List ℕ) (count : ℕ) (codes : List Code) → HoldSeveral m v l bytes count
+    → length codes ≡ count → EachAt (λ place. IsPartSymbol m v l place (count - 1) (parity bytes) (part m bytes count place)) codes → AreParted m v l bytes codes
+parted_of m v l bytes count codes held is symbols =
     let some : 0 < length codes = omega (arith, held.some, is) in
     record {
       held = subst (HoldSeveral m v l bytes) (sym is) held;
-      fewest = λ n other. elim (cases_lt n count) [ inl below ↦ absurd (none n below other) | inr above ↦ omega (arith, above, is) ];
       symbols = subst (λ n. EachAt (λ place. IsPartSymbol m v l place (n - 1) (parity bytes) (part m bytes n place)) codes) (sym is) symbols;
       joined = parts_joined m bytes (length codes) some;
       read = λ squares same each. together m bytes (length codes) squares some same each;
       characters = λ text u place inside. part_text m bytes (length codes) place text u inside;
     }
+
+-- and of the first that does
+pub several_of : (m : Manner) (v : Version) (l : EcLevel) (bytes : List ℕ) (count : ℕ) (codes : List Code) → HoldSeveral m v l bytes count → ((n : ℕ) → n < count → ¬ HoldSeveral m v l bytes n)
+    → length codes ≡ count → EachAt (λ place. IsPartSymbol m v l place (count - 1) (parity bytes) (part m bytes count place)) codes → AreSeveral m v l bytes codes
+several_of m v l bytes count codes held none is symbols = record {
+  parted = parted_of m v l bytes count codes held is symbols;
+  fewest = λ n other. elim (cases_lt n count) [ inl below ↦ absurd (none n below other) | inr above ↦ omega (arith, above, is) ];
+}
 
 pub pair_ok : {T : Type 0} {P Q R : T → Type 0} (r : Result T QrError) → ((x : T) → P x → Q x → R x) → IfOk r P → IfOk r Q → IfOk r R
 pair_ok (Ok x) f p q = f x p q

@@ -7,7 +7,7 @@ use Rattle.qrcode_types.specs.declared.types.QrError.{QrError}
 use Rattle.qrcode_types.specs.declared.types.QrError.TheVariants.{InvalidVersion, DataTooLong, OutOfMemory}
 use Rattle.qrcode_bits.specs.declared.bits.manner.Manner.{Manner}
 use Rattle.qrcode.specs.Code.{Code}
-use Rattle.qrcode_several.specs.Symbols.{HoldSeveral, AreSeveral}
+use Rattle.qrcode_several.specs.Symbols.{HoldSeveral, AreParted, AreSeveral}
 use Rattle.qrcode_several.specs.declared.choice.Versions.{Versions}
 
 abbrev pub IsAmong : Versions → ℕ → Type 0  -- the version of Normal of this number is among some
@@ -25,6 +25,13 @@ pub record AreFewest (m : Manner) (vs : Versions) (l : EcLevel) (bytes : List �
   pub least_version : IsLeastAmong m vs l bytes (length codes) number
   pub fewest : (n count : ℕ) → IsAmong vs n → HoldSeveral m (Normal (pos n)) l bytes count → length codes ≤ count
   pub symbols : AreSeveral m (Normal (pos number)) l bytes codes
+
+-- so many symbols of even parts, of the least of the versions of which so many hold the data
+pub record AreCounted (m : Manner) (vs : Versions) (l : EcLevel) (bytes : List ℕ) (count : ℕ) (codes : List Code) : Type 0 where
+  pub counted : length codes ≡ count
+  pub number : ℕ
+  pub least_version : IsLeastAmong m vs l bytes count number
+  pub symbols : AreParted m (Normal (pos number)) l bytes codes
 
 -- why there are none: memory was refused; there is none of the versions; or 16 symbols of none of them hold the data
 abbrev pub AreNotHeld : Manner → Versions → EcLevel → List ℕ → QrError → Type 0

@@ -61,16 +61,20 @@ pub record IsPartSymbol (m : Manner) (v : Version) (l : EcLevel) (place last par
   pub read : (other : List Color) → IsDamaged v l encodes.mask code.modules other → ReadsPart other place last parity bytes
   pub shown : IsTrue (is_text m) → IsUtf8 bytes → (other : List Color) → IsDamaged v l encodes.mask code.modules other → ShowsPartOnly other place last parity (chars bytes)
 
--- The symbols of the fewest even parts that symbols of the version and level hold, in order. The parts are the data, and those
+-- The symbols of even parts that symbols of the version and level hold, in order. The parts are the data, and those
 -- of a text are texts; squares that are read as these parts are read as the data, and as nothing else.
-pub record AreSeveral (m : Manner) (v : Version) (l : EcLevel) (bytes : List ℕ) (codes : List Code) : Type 0 where
+pub record AreParted (m : Manner) (v : Version) (l : EcLevel) (bytes : List ℕ) (codes : List Code) : Type 0 where
   pub held : HoldSeveral m v l bytes (length codes)
-  pub fewest : (count : ℕ) → HoldSeveral m v l bytes count → length codes ≤ count
   pub symbols : EachAt (λ place. IsPartSymbol m v l place (length codes - 1) (parity bytes) (part m bytes (length codes) place)) codes
   pub joined : flat_map (part m bytes (length codes)) (range_with_len 0 (length codes)) ≡ bytes
   pub read : (squares : List (List Color)) → length squares ≡ length codes
       → EachAt (λ place s. ReadsPart s place (length codes - 1) (parity bytes) (part m bytes (length codes) place)) squares → ReadsSeveralOnly squares bytes
   pub characters : IsTrue (is_text m) → IsUtf8 bytes → (place : ℕ) → place < length codes → IsUtf8 (part m bytes (length codes) place)
+
+-- the same of the fewest parts
+pub record AreSeveral (m : Manner) (v : Version) (l : EcLevel) (bytes : List ℕ) (codes : List Code) : Type 0 where
+  pub parted : AreParted m v l bytes codes
+  pub fewest : (count : ℕ) → HoldSeveral m v l bytes count → length codes ≤ count
 
 -- why there are none: memory was refused; no symbol of such a version and level can be one of several; or 16 do not hold the data
 abbrev pub AreRefused : Manner → Version → EcLevel → List ℕ → QrError → Type 0

@@ -1,10 +1,10 @@
 //! How many symbols of which version hold data.
 
-ghost use Rattle.std.specs.Prelude.{◌≡◌, ℕ, ◌<◌, ◌≤◌, pos, length, MatchOption, IfOk, IfErr, IsOkUnless};
-ghost use Rattle.qrcode_types.specs.declared.types.QrError.TheVariants.{OutOfMemory};
+ghost use Rattle.std.specs.Prelude.{◌≡◌, ◌⊎◌, ℕ, ◌<◌, ◌≤◌, pos, length, MatchOption, IfOk, IfErr, IsOkUnless};
+ghost use Rattle.qrcode_types.specs.declared.types.QrError.TheVariants.{DataTooLong, OutOfMemory};
 ghost use Rattle.qrcode_types.specs.declared.types.Version.TheVariants.{Normal};
 ghost use Rattle.qrcode_bits.specs.Refusals.{data_limit};
-ghost use Rattle.qrcode_several.specs.Fewest.{IsAmong, IsLeastAmong, AreFewest, AreNotHeld};
+ghost use Rattle.qrcode_several.specs.Fewest.{IsAmong, IsLeastAmong, AreCounted, AreFewest, AreNotHeld};
 ghost use Rattle.qrcode_several.specs.Symbols.{HoldSeveral, AreSeveral, AreRefused};
 
 use crate::drawing::symbols;
@@ -51,9 +51,11 @@ pub(crate) fn encode_as(alloc: Global, bytes: &[u8], wanted: Wanted) -> QrResult
     Err(QrError::DataTooLong)
 }
 
-// The symbols of data in a manner: of as few even parts as symbols of any of the versions hold, and of
-// the least version that holds so many.
-pub(crate) fn encode_among(
+/// The symbols of data in a manner: of as few even parts as symbols of any of the versions hold, and of
+/// the least version that holds so many. A marked text is written as an unmarked one.
+///
+/// It is refused by the causes of `encode_several_within`, `OutOfMemory` among them.
+pub fn encode_among(
     alloc: Global,
     bytes: &[u8],
     manner: Manner,
@@ -84,6 +86,43 @@ pub(crate) fn encode_among(
         }
     }
     Err(QrError::DataTooLong)
+}
+
+/// The symbols of data in a manner: of so many even parts, of the least of the versions of which so many
+/// symbols hold them.
+///
+/// `DataTooLong`: so many symbols, or more than 16, of none of the versions do. `OutOfMemory`: memory
+/// was refused.
+pub fn encode_counted(
+    alloc: Global,
+    bytes: &[u8],
+    manner: Manner,
+    versions: Versions,
+    ec_level: EcLevel,
+    count: usize,
+) -> QrResult<Vec<QrCode>>
+    ensures symbols { IfOk result (λ codes.
+        AreCounted manner versions ec_level bytes.now count codes.items) }
+    ensures accepts { (n : ℕ) → IsAmong versions n
+        → HoldSeveral manner (Normal (pos n)) ec_level bytes.now count
+        → IsOkUnless result OutOfMemory }
+    ensures causes { IfErr result (λ e. (e ≡ OutOfMemory) ⊎ ((e ≡ DataTooLong) × ((n : ℕ)
+        → IsAmong versions n → ¬ HoldSeveral manner (Normal (pos n)) ec_level bytes.now count))) }
+{
+    if bytes.len() > DATA_LIMIT || count == 0 || count > 16 {
+        return Err(QrError::DataTooLong);
+    }
+    match least_number(alloc, bytes, manner, versions, ec_level, count)? {
+        Some(number) => {
+            let wanted = Wanted {
+                manner,
+                version: Version::Normal(number as i16),
+                ec_level,
+            };
+            symbols(alloc, bytes, wanted, count)
+        }
+        None => Err(QrError::DataTooLong),
+    }
 }
 
 // The least of the versions of which so many symbols hold the data.

@@ -16,8 +16,8 @@ ghost use Rattle.qrcode_bits.specs.declared.bits.manner.Manner.TheVariants.{Byte
 ghost use Rattle.qrcode_several.specs.Fewest.{IsAmong, AreFewest, AreNotHeld};
 ghost use Rattle.qrcode_several.specs.Symbols.{HoldSeveral, AreSeveral, AreRefused};
 
-pub use choice::Versions;
-use choice::{encode_among, encode_as};
+use choice::encode_as;
+pub use choice::{Versions, encode_among, encode_counted};
 use holding::Wanted;
 pub use joining::{Part, join};
 use qrcode::QrCode;

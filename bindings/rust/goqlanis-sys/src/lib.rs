@@ -22,6 +22,12 @@ pub const GOQ_NO_SUCH_SIDE: u32 = 16;
 pub const GOQ_NO_FORMAT: u32 = 17;
 pub const GOQ_DAMAGED: u32 = 18;
 pub const GOQ_NOT_SPELLED: u32 = 19;
+pub const GOQ_NO_SUCH_STRUCT: u32 = 20;
+pub const GOQ_NO_SUCH_MANNER: u32 = 21;
+pub const GOQ_NO_SUCH_MASK: u32 = 22;
+pub const GOQ_NOT_IN_FORMAT: u32 = 23;
+pub const GOQ_NOT_SHOWN: u32 = 24;
+pub const GOQ_NOT_READ: u32 = 30;
 pub const GOQ_NO_SUCH_CONTENT: u32 = 32;
 pub const GOQ_NO_SUCH_FIELD: u32 = 33;
 pub const GOQ_FIELD_EMPTY: u32 = 34;
@@ -43,6 +49,7 @@ pub const GOQ_GREY: u32 = 4;
 pub const GOQ_PNG: u32 = 5;
 pub const GOQ_EPS: u32 = 6;
 pub const GOQ_PBM: u32 = 7;
+pub const GOQ_SVG_PATH: u32 = 8;
 
 pub const GOQ_NUMERIC: u32 = 0;
 pub const GOQ_ALPHANUMERIC: u32 = 1;
@@ -65,6 +72,46 @@ pub const GOQ_TOTP: u32 = 9;
 pub const GOQ_HOTP: u32 = 10;
 pub const GOQ_EVENT: u32 = 11;
 pub const GOQ_DAYS: u32 = 12;
+
+pub const GOQ_AS_BYTES: u32 = 0;
+pub const GOQ_AS_TEXT: u32 = 1;
+pub const GOQ_AS_MARKED_TEXT: u32 = 2;
+
+pub const GOQ_INVERTED: u32 = 8;
+
+/// What is asked of a symbol.
+#[repr(C)]
+#[derive(Clone, Copy, Debug)]
+pub struct goq_options {
+    pub size: u32,
+    pub level: u32,
+    pub manner: u32,
+    pub version: u32,
+    pub least_version: u32,
+    pub boost: u32,
+    pub mask: u32,
+}
+
+/// How modules are drawn.
+#[repr(C)]
+#[derive(Clone, Copy, Debug)]
+pub struct goq_drawing {
+    pub size: u32,
+    pub format: u32,
+    pub zone: u32,
+    pub scale: u32,
+    pub dark: u32,
+    pub light: u32,
+    pub dpi: u32,
+}
+
+/// What is read of a square in any position beside its bytes.
+#[repr(C)]
+#[derive(Clone, Copy, Debug, Default, PartialEq, Eq)]
+pub struct goq_any_reading {
+    pub reading: goq_reading,
+    pub position: u32,
+}
 
 /// This many bytes hold the modules of every symbol.
 pub const GOQ_MODULES_MAX: usize = 177 * 177;
@@ -135,6 +182,13 @@ extern "C" {
     pub fn goq_is_functional(version: u32, x: u32, y: u32) -> bool;
     pub fn goq_draw(modules: *const u8, modules_length: usize, width: u32, zone: u32, scale: u32, format: u32, out: *mut u8, out_length: usize, count: *mut usize) -> u32;
     pub fn goq_draw_length(modules: *const u8, modules_length: usize, width: u32, zone: u32, scale: u32, format: u32, count: *mut usize) -> u32;
+    pub fn goq_encode_with(data: *const u8, data_length: usize, options: *const goq_options, modules: *mut u8, modules_length: usize, symbol: *mut goq_symbol) -> u32;
+    pub fn goq_encode_gs1(elements: *const goq_element, elements_length: usize, options: *const goq_options, modules: *mut u8, modules_length: usize, symbol: *mut goq_symbol, place: *mut usize) -> u32;
+    pub fn goq_draw_with(modules: *const u8, modules_length: usize, width: u32, drawing: *const goq_drawing, out: *mut u8, out_length: usize, count: *mut usize) -> u32;
+    pub fn goq_draw_with_length(modules: *const u8, modules_length: usize, width: u32, drawing: *const goq_drawing, count: *mut usize) -> u32;
+    pub fn goq_read_any(modules: *const u8, modules_length: usize, bytes: *mut u8, bytes_length: usize, reading: *mut goq_any_reading) -> u32;
+    pub fn goq_read_text(modules: *const u8, modules_length: usize, text: *mut u8, text_length: usize, reading: *mut goq_reading) -> u32;
+    pub fn goq_mask(modules: *const u8, modules_length: usize, mask: *mut u32) -> u32;
     pub fn goq_content(kind: u32, fields: *const goq_field, fields_length: usize, out: *mut u8, out_length: usize, count: *mut usize, place: *mut usize) -> u32;
     pub fn goq_gs1(elements: *const goq_element, elements_length: usize, out: *mut u8, out_length: usize, count: *mut usize, place: *mut usize) -> u32;
 }

@@ -145,22 +145,31 @@ fn refused(answer: u32, of_field: impl FnOnce(Cause) -> ContentError) -> Content
 /// # Ok::<(), ContentError>(())
 /// ```
 pub fn gs1(elements: &[(&str, &str)]) -> Result<Vec<u8>, ContentError> {
-    let one = |(identifier, value): &(&str, &str)| sys::goq_element {
-        identifier: identifier.as_ptr(),
-        identifier_length: identifier.len(),
-        value: value.as_ptr(),
-        value_length: value.len(),
-    };
-    let given: Vec<sys::goq_element> = elements.iter().map(one).collect();
+    let given: Vec<sys::goq_element> = elements.iter().map(element).collect();
     let mut out = vec![0; sys::GOQ_BYTES_MAX];
     let (mut count, mut place) = (0, 0);
     // SAFETY: each element points to texts that outlive the call, and the lengths are those of the buffers.
     let answer = unsafe { sys::goq_gs1(given.as_ptr(), given.len(), out.as_mut_ptr(), out.len(), &mut count, &mut place) };
     if answer != sys::GOQ_OK {
-        return Err(refused(answer, |cause| ContentError::Element(place, cause)));
+        return Err(element_error(answer, place));
     }
     out.truncate(count);
     Ok(out)
+}
+
+// An element as the library takes it.
+pub(crate) fn element((identifier, value): &(&str, &str)) -> sys::goq_element {
+    sys::goq_element {
+        identifier: identifier.as_ptr(),
+        identifier_length: identifier.len(),
+        value: value.as_ptr(),
+        value_length: value.len(),
+    }
+}
+
+// What an answer of the element at a place means.
+pub(crate) fn element_error(answer: u32, place: usize) -> ContentError {
+    refused(answer, |cause| ContentError::Element(place, cause))
 }
 
 /// How a network is secured.

@@ -19,7 +19,7 @@ pub mod contents;
 pub mod reading;
 pub mod render;
 
-pub use reading::{read, Reading, Unread};
+pub use reading::{read, read_any, read_text, Position, Reading, Unread};
 
 /// Why no symbol is made.
 #[derive(Clone, Copy, Debug, PartialEq, Eq)]
@@ -32,7 +32,7 @@ pub enum QrError {
     UnsupportedCharacterSet,
     /// A character set has no number above 999,999.
     InvalidEciDesignator,
-    /// The mode of a segment lacks one of its bytes.
+    /// The mode of a segment lacks one of its bytes, or a text is not UTF-8.
     InvalidCharacter,
     /// Memory was refused.
     OutOfMemory,
@@ -60,7 +60,7 @@ fn accepted(answer: u32) -> QrResult<()> {
     match answer {
         sys::GOQ_OK => Ok(()),
         sys::GOQ_NO_SUCH_VERSION | sys::GOQ_LEVEL_NOT_IN_VERSION => Err(QrError::InvalidVersion),
-        sys::GOQ_NOT_IN_MODE => Err(QrError::InvalidCharacter),
+        sys::GOQ_NOT_IN_MODE | sys::GOQ_NOT_TEXT => Err(QrError::InvalidCharacter),
         sys::GOQ_NO_SUCH_NUMBER => Err(QrError::InvalidEciDesignator),
         sys::GOQ_NO_MODE => Err(QrError::UnsupportedCharacterSet),
         sys::GOQ_OUT_OF_MEMORY => Err(QrError::OutOfMemory),
@@ -167,6 +167,63 @@ impl Segment<'_> {
     }
 }
 
+/// How the data of a symbol is written.
+#[derive(Clone, Copy, Debug, PartialEq, Eq)]
+pub enum Writing {
+    /// As `QrCode::new` writes it.
+    Bytes,
+    /// As `QrCode::of_text` does: it has to be UTF-8.
+    Text,
+    /// As `QrCode::of_marked_text` does.
+    MarkedText,
+}
+
+/// What is asked of a symbol.
+#[derive(Clone, Copy, Debug)]
+pub struct Options {
+    pub ec_level: EcLevel,
+    pub writing: Writing,
+    /// The version, or none for the least that holds the data.
+    pub version: Option<Version>,
+    /// The first that is tried then, where Micro comes before Normal.
+    pub least_version: Version,
+    /// Whether the level is the highest, from `ec_level` on, at which that version holds the data.
+    pub boost: bool,
+}
+
+impl Default for Options {
+    fn default() -> Self {
+        Options {
+            ec_level: EcLevel::M,
+            writing: Writing::Bytes,
+            version: None,
+            least_version: Version::Normal(1),
+            boost: false,
+        }
+    }
+}
+
+impl Options {
+    fn given(&self) -> sys::goq_options {
+        sys::goq_options {
+            size: std::mem::size_of::<sys::goq_options>() as u32,
+            level: self.ec_level as u32,
+            manner: match self.writing {
+                Writing::Bytes => sys::GOQ_AS_BYTES,
+                Writing::Text => sys::GOQ_AS_TEXT,
+                Writing::MarkedText => sys::GOQ_AS_MARKED_TEXT,
+            },
+            version: self.version.map_or(0, |version| match version.number() {
+                0 => u32::MAX,
+                number => number,
+            }),
+            least_version: self.least_version.number(),
+            boost: u32::from(self.boost),
+            mask: 0,
+        }
+    }
+}
+
 /// The colour of a module.
 #[derive(Clone, Copy, Debug, PartialEq, Eq)]
 pub enum Color {
@@ -192,7 +249,7 @@ impl QrCode {
     /// The symbol of bytes at a level, of the least Normal version that holds them.
     pub fn with_error_correction_level<D: AsRef<[u8]>>(data: D, ec_level: EcLevel) -> QrResult<Self> {
         let data = data.as_ref();
-        Self::made(ec_level, |modules, known| unsafe {
+        Self::made(|modules, known| unsafe {
             sys::goq_encode(data.as_ptr(), data.len(), ec_level as u32, modules.as_mut_ptr(), modules.len(), known)
         })
     }
@@ -200,21 +257,21 @@ impl QrCode {
     /// The symbol of bytes, of a version and level.
     pub fn with_version<D: AsRef<[u8]>>(data: D, version: Version, ec_level: EcLevel) -> QrResult<Self> {
         let data = data.as_ref();
-        Self::made(ec_level, |modules, known| unsafe {
+        Self::made(|modules, known| unsafe {
             sys::goq_encode_in(data.as_ptr(), data.len(), version.number(), ec_level as u32, modules.as_mut_ptr(), modules.len(), known)
         })
     }
 
     /// The symbol of a text at a level, of the least Normal version that holds it. Readers show the text, where they take bytes for UTF-8.
     pub fn of_text(text: &str, ec_level: EcLevel) -> QrResult<Self> {
-        Self::made(ec_level, |modules, known| unsafe {
+        Self::made(|modules, known| unsafe {
             sys::goq_encode_text(text.as_ptr(), text.len(), ec_level as u32, modules.as_mut_ptr(), modules.len(), known)
         })
     }
 
     /// The same with the number 26 of UTF-8 (ECI) in front, for readers that guess.
     pub fn of_marked_text(text: &str, ec_level: EcLevel) -> QrResult<Self> {
-        Self::made(ec_level, |modules, known| unsafe {
+        Self::made(|modules, known| unsafe {
             sys::goq_encode_marked_text(text.as_ptr(), text.len(), ec_level as u32, modules.as_mut_ptr(), modules.len(), known)
         })
     }
@@ -231,7 +288,7 @@ impl QrCode {
     /// ```
     pub fn with_segments(segments: &[Segment<'_>], version: Version, ec_level: EcLevel) -> QrResult<Self> {
         let given: Vec<_> = segments.iter().map(Segment::given).collect();
-        Self::made(ec_level, |modules, known| unsafe {
+        Self::made(|modules, known| unsafe {
             sys::goq_encode_segments(given.as_ptr(), given.len(), version.number(), ec_level as u32, modules.as_mut_ptr(), modules.len(), known)
         })
     }
@@ -241,13 +298,78 @@ impl QrCode {
         Self::with_segments(segments, Version::least_of_segments(segments, ec_level)?, ec_level)
     }
 
-    fn made(ec_level: EcLevel, encode: impl FnOnce(&mut [u8], &mut sys::goq_symbol) -> u32) -> QrResult<Self> {
+    /// The symbol of data that options ask for.
+    ///
+    /// ```
+    /// use goqlanis::{EcLevel, Options, QrCode, Version};
+    ///
+    /// let least = Options { least_version: Version::Micro(1), boost: true, ..Options::default() };
+    /// let code = QrCode::with_options("12345", &Options { ec_level: EcLevel::L, ..least })?;
+    /// assert_eq!(code.version(), Version::Micro(1));
+    /// # Ok::<(), goqlanis::QrError>(())
+    /// ```
+    pub fn with_options<D: AsRef<[u8]>>(data: D, options: &Options) -> QrResult<Self> {
+        let (data, given) = (data.as_ref(), options.given());
+        Self::made(|modules, known| unsafe {
+            sys::goq_encode_with(
+                data.as_ptr(),
+                data.len(),
+                &given,
+                modules.as_mut_ptr(),
+                modules.len(),
+                known,
+            )
+        })
+    }
+
+    /// The symbol of elements of GS1 in segments of the fewest bits; writing and boost are not looked
+    /// at. An element that is wrong is a `ContentError`, and what else is refused a `QrError`.
+    ///
+    /// ```
+    /// use goqlanis::{Options, QrCode, Version};
+    ///
+    /// let parts = [("01", "03453120000011"), ("17", "191125")];
+    /// assert_eq!(QrCode::of_gs1(&parts, &Options::default())?.version(), Version::Normal(1));
+    /// assert!(QrCode::of_gs1(&[("01", "03453120000012")], &Options::default()).is_err());
+    /// # Ok::<(), Box<dyn std::error::Error>>(())
+    /// ```
+    pub fn of_gs1(
+        elements: &[(&str, &str)],
+        options: &Options,
+    ) -> Result<Self, Box<dyn std::error::Error>> {
+        let given: Vec<_> = elements.iter().map(contents::element).collect();
+        let (asked, mut place, mut refused) = (options.given(), usize::MAX, sys::GOQ_OK);
+        let made = Self::made(|modules, known| {
+            let (out, room) = (modules.as_mut_ptr(), modules.len());
+            refused = unsafe {
+                let (parts, count) = (given.as_ptr(), given.len());
+                sys::goq_encode_gs1(parts, count, &asked, out, room, known, &mut place)
+            };
+            refused
+        });
+        match made {
+            Err(_) if place < elements.len() => Err(contents::element_error(refused, place).into()),
+            made => Ok(made?),
+        }
+    }
+
+    /// The number of the mask, 0 to 7, in Micro 0 to 3.
+    pub fn mask(&self) -> u32 {
+        let mut mask = 0;
+        let (modules, length) = (self.modules.as_ptr(), self.modules.len());
+        let answer = unsafe { sys::goq_mask(modules, length, &mut mask) };
+        assert_eq!(answer, sys::GOQ_OK, "memory was refused");
+        mask
+    }
+
+    fn made(encode: impl FnOnce(&mut [u8], &mut sys::goq_symbol) -> u32) -> QrResult<Self> {
         let mut modules = vec![0; sys::GOQ_MODULES_MAX];
         let mut known = sys::goq_symbol::default();
         accepted(encode(&mut modules, &mut known))?;
         let width = known.width as usize;
         modules.truncate(width * width);
-        Ok(QrCode { modules, version: Version::named(known.version), ec_level, width })
+        let (version, ec_level) = (Version::named(known.version), EcLevel::named(known.level));
+        Ok(QrCode { modules, version, ec_level, width })
     }
 
     pub fn version(&self) -> Version {

@@ -14,6 +14,10 @@ pub enum Unread {
     Damaged,
     /// The data bits are not segments and an end, as where a header stands in front.
     NotSpelled,
+    /// The data bits are not a text that readers show.
+    NotShown,
+    /// The square is read in none of the sixteen positions.
+    NotRead,
     /// Memory was refused.
     OutOfMemory,
 }
@@ -25,6 +29,8 @@ impl fmt::Display for Unread {
             Unread::NoFormat => "no format word is near each of its copies",
             Unread::Damaged => "a block has too many wrong codewords",
             Unread::NotSpelled => "the bits are not segments and an end",
+            Unread::NotShown => "the bits are not a text that readers show",
+            Unread::NotRead => "the square is read in no position",
             Unread::OutOfMemory => "out of memory",
         })
     }
@@ -56,17 +62,84 @@ pub struct Reading {
 /// # Ok::<(), Box<dyn std::error::Error>>(())
 /// ```
 pub fn read(colors: &[Color]) -> Result<Reading, Unread> {
+    read_by(colors, |modules, data, known: &mut sys::goq_reading| unsafe {
+        sys::goq_read(modules.as_ptr(), modules.len(), data.as_mut_ptr(), data.len(), known)
+    })
+    .map(|(data, known)| Reading::named(data, known))
+}
+
+/// The same of a square in any position, in the first of the sixteen in which it is read.
+///
+/// ```
+/// use goqlanis::{read_any, Color, Position, QrCode};
+///
+/// let colors = QrCode::new(b"01234567")?.to_colors();
+/// let turned: Vec<Color> = colors.into_iter().rev().collect();
+/// let (reading, position) = read_any(&turned)?;
+/// assert_eq!((reading.data, position), (b"01234567".to_vec(), Position(2)));
+/// # Ok::<(), Box<dyn std::error::Error>>(())
+/// ```
+pub fn read_any(colors: &[Color]) -> Result<(Reading, Position), Unread> {
+    read_by(colors, |modules, data, known: &mut sys::goq_any_reading| unsafe {
+        sys::goq_read_any(modules.as_ptr(), modules.len(), data.as_mut_ptr(), data.len(), known)
+    })
+    .map(|(data, known)| (Reading::named(data, known.reading), Position(known.position)))
+}
+
+/// The text that readers show of a square: that of a symbol of a text, marked or not.
+///
+/// ```
+/// use goqlanis::{read_text, EcLevel, QrCode};
+///
+/// let code = QrCode::of_marked_text("Größe: 5 m²", EcLevel::M)?;
+/// assert_eq!(read_text(&code.to_colors())?, "Größe: 5 m²");
+/// # Ok::<(), Box<dyn std::error::Error>>(())
+/// ```
+pub fn read_text(colors: &[Color]) -> Result<String, Unread> {
+    read_by(colors, |modules, data, known: &mut sys::goq_reading| unsafe {
+        sys::goq_read_text(modules.as_ptr(), modules.len(), data.as_mut_ptr(), data.len(), known)
+    })
+    .map(|(mut data, known)| {
+        data.truncate(known.length);
+        String::from_utf8(data).expect("the library writes UTF-8")
+    })
+}
+
+/// How a symbol stands in a square: by a quarter turned to the left so many times, up to 3; 4 with left
+/// and right, 5 with top and bottom, 6 with columns and rows exchanged, 7 with these from the other
+/// corner; and 8 more where dark and light are exchanged.
+#[derive(Clone, Copy, Debug, PartialEq, Eq)]
+pub struct Position(pub u32);
+
+impl Reading {
+    fn named(mut data: Vec<u8>, known: sys::goq_reading) -> Reading {
+        data.truncate(known.length);
+        Reading {
+            data,
+            version: Version::named(known.version),
+            ec_level: EcLevel::named(known.level),
+            mask: known.mask,
+            wrong: known.wrong,
+        }
+    }
+}
+
+// What a call reads of a square: a buffer that begins with the bytes, and what is known beside them.
+fn read_by<T: Default>(
+    colors: &[Color],
+    call: impl FnOnce(&[u8], &mut [u8], &mut T) -> u32,
+) -> Result<(Vec<u8>, T), Unread> {
     let modules: Vec<u8> = colors.iter().map(|color| u8::from(*color == Color::Dark)).collect();
     let mut data = vec![0; sys::GOQ_BYTES_MAX];
-    let mut known = sys::goq_reading::default();
-    match unsafe { sys::goq_read(modules.as_ptr(), modules.len(), data.as_mut_ptr(), data.len(), &mut known) } {
-        sys::GOQ_OK => {}
-        sys::GOQ_NO_SUCH_SIDE => return Err(Unread::NoSuchSide),
-        sys::GOQ_NO_FORMAT => return Err(Unread::NoFormat),
-        sys::GOQ_DAMAGED => return Err(Unread::Damaged),
-        sys::GOQ_NOT_SPELLED => return Err(Unread::NotSpelled),
-        _ => return Err(Unread::OutOfMemory),
+    let mut known = T::default();
+    match call(&modules, &mut data, &mut known) {
+        sys::GOQ_OK => Ok((data, known)),
+        sys::GOQ_NO_SUCH_SIDE => Err(Unread::NoSuchSide),
+        sys::GOQ_NO_FORMAT => Err(Unread::NoFormat),
+        sys::GOQ_DAMAGED => Err(Unread::Damaged),
+        sys::GOQ_NOT_SPELLED => Err(Unread::NotSpelled),
+        sys::GOQ_NOT_SHOWN => Err(Unread::NotShown),
+        sys::GOQ_NOT_READ => Err(Unread::NotRead),
+        _ => Err(Unread::OutOfMemory),
     }
-    data.truncate(known.length);
-    Ok(Reading { data, version: Version::named(known.version), ec_level: EcLevel::named(known.level), mask: known.mask, wrong: known.wrong })
 }

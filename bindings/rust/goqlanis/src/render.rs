@@ -57,11 +57,24 @@ fn file(bytes: Vec<u8>) -> Vec<u8> {
     bytes
 }
 
-file_format!("An SVG text, black on white.", svg::Color, String, 8, GOQ_SVG, text);
+file_format!("An SVG text.", svg::Color, String, 8, GOQ_SVG, text);
+file_format!("An SVG text of one path.", svg_path::Color, String, 8, GOQ_SVG_PATH, text);
 file_format!("A PIC text.", pic::Color, String, 8, GOQ_PIC, text);
-file_format!("An Encapsulated PostScript text, black on white.", eps::Color, String, 8, GOQ_EPS, text);
-file_format!("The bytes of a PNG file, black on white.", png::Color, Vec<u8>, 8, GOQ_PNG, file);
+file_format!("An Encapsulated PostScript text.", eps::Color, String, 8, GOQ_EPS, text);
+file_format!("The bytes of a PNG file.", png::Color, Vec<u8>, 8, GOQ_PNG, file);
 file_format!("The bytes of a PBM file.", pbm::Bit, Vec<u8>, 8, GOQ_PBM, file);
+
+/// A colour, and how opaque it is, each from 0 to 255. EPS has opaque ones alone.
+#[derive(Clone, Copy, Debug, PartialEq, Eq)]
+pub struct Rgba(pub u8, pub u8, pub u8, pub u8);
+
+/// What has colours.
+pub trait Coloured: Pixel {}
+
+impl Coloured for svg::Color {}
+impl Coloured for svg_path::Color {}
+impl Coloured for eps::Color {}
+impl Coloured for png::Color {}
 
 /// Rows of pixels, a byte each.
 pub struct Luma;
@@ -107,6 +120,9 @@ pub struct Renderer<'a, P> {
     zone: u32,
     whole_zone: u32,
     scale: u32,
+    dark: u32,
+    light: u32,
+    dpi: u32,
     inverted: bool,
     chars: (char, char),
     pixel: PhantomData<P>,
@@ -114,7 +130,19 @@ pub struct Renderer<'a, P> {
 
 impl<'a, P: Pixel> Renderer<'a, P> {
     pub(crate) fn new(modules: &'a [u8], width: usize, zone: u32) -> Self {
-        Renderer { modules, width, zone, whole_zone: zone, scale: P::SCALE, inverted: false, chars: ('\u{2588}', ' '), pixel: PhantomData }
+        Renderer {
+            modules,
+            width,
+            zone,
+            whole_zone: zone,
+            scale: P::SCALE,
+            dark: 0,
+            light: 0x00ff_ffff,
+            dpi: 0,
+            inverted: false,
+            chars: ('\u{2588}', ' '),
+            pixel: PhantomData,
+        }
     }
 
     /// Switches the quiet zone on or off.
@@ -148,16 +176,54 @@ impl<'a, P: Pixel> Renderer<'a, P> {
 
     /// The picture.
     ///
-    /// Panics where memory is refused, or a PNG file would have more than 65,535 pixels a side.
+    /// Panics where memory is refused, a PNG file would have more than 65,535 pixels a side, or a
+    /// colour of EPS is not opaque.
     pub fn build(&self) -> P::Image {
-        let (format, modules, mut count) = (P::format(self.inverted), self.modules, 0);
-        let (length, width, zone, scale) = (modules.len(), self.width as u32, self.zone, self.scale);
-        let answer = unsafe { sys::goq_draw_length(modules.as_ptr(), length, width, zone, scale, format, &mut count) };
-        assert_eq!(answer, sys::GOQ_OK, "memory was refused, or the picture is too large");
+        let drawing = sys::goq_drawing {
+            size: std::mem::size_of::<sys::goq_drawing>() as u32,
+            format: P::format(self.inverted),
+            zone: self.zone,
+            scale: self.scale,
+            dark: self.dark,
+            light: self.light,
+            dpi: self.dpi,
+        };
+        let (modules, length, width) = (self.modules.as_ptr(), self.modules.len(), self.width as u32);
+        let mut count = 0;
+        let answer = unsafe { sys::goq_draw_with_length(modules, length, width, &drawing, &mut count) };
+        assert_eq!(answer, sys::GOQ_OK, "memory was refused, or there is no such picture");
         let mut bytes = vec![0; count];
-        let answer = unsafe { sys::goq_draw(modules.as_ptr(), length, width, zone, scale, format, bytes.as_mut_ptr(), count, &mut count) };
+        let out = bytes.as_mut_ptr();
+        let answer = unsafe { sys::goq_draw_with(modules, length, width, &drawing, out, count, &mut count) };
         assert_eq!(answer, sys::GOQ_OK, "memory was refused");
         P::image(bytes, (self.side() * self.scale) as usize, self.chars)
+    }
+}
+
+// A colour as the library takes it: its transparency, red, green and blue.
+fn word_of(Rgba(red, green, blue, opacity): Rgba) -> u32 {
+    u32::from_be_bytes([255 - opacity, red, green, blue])
+}
+
+impl<P: Coloured> Renderer<'_, P> {
+    /// The colour of dark modules.
+    pub fn dark_color(&mut self, color: Rgba) -> &mut Self {
+        self.dark = word_of(color);
+        self
+    }
+
+    /// The colour of light modules and of the quiet zone.
+    pub fn light_color(&mut self, color: Rgba) -> &mut Self {
+        self.light = word_of(color);
+        self
+    }
+}
+
+impl Renderer<'_, png::Color> {
+    /// The dots per inch that the file names; none where it is 0.
+    pub fn dots_per_inch(&mut self, dpi: u16) -> &mut Self {
+        self.dpi = u32::from(dpi);
+        self
     }
 }
 

@@ -1,5 +1,6 @@
-use goqlanis::render::{eps, pbm, pic, png, svg, unicode, Luma};
-use goqlanis::{read, Color, EcLevel, QrCode, QrError, Segment, Unread, Version};
+use goqlanis::render::{eps, pbm, pic, png, svg, svg_path, unicode, Luma, Rgba};
+use goqlanis::{read, read_any, read_text, Color, EcLevel, Options, QrCode, QrError, Segment, Unread};
+use goqlanis::{Version, Writing};
 
 #[test]
 fn symbols() {
@@ -52,6 +53,34 @@ fn pictures() {
 }
 
 #[test]
+fn colours() {
+    let code = QrCode::new(b"01234567").unwrap();
+    let (blue, none) = (Rgba(0, 128, 255, 255), Rgba(255, 255, 255, 0));
+    let has = |file: &[u8], bytes: &[u8]| file.windows(bytes.len()).any(|part| part == bytes);
+    let file = code.render::<png::Color>().dark_color(blue).light_color(none).dots_per_inch(300).build();
+    assert!(has(&file, b"PLTE\x00\x80\xff\xff\xff\xff") && has(&file, b"tRNS\xff\x00"));
+    assert!(has(&file, b"pHYs\x00\x00\x2e\x23\x00\x00\x2e\x23\x01"));
+    let text = code.render::<svg_path::Color>().dark_color(blue).light_color(none).build();
+    assert!(text.contains("\"#0080ff\"") && text.contains("\"#ffffff00\""));
+    assert!(code.render::<svg::Color>().build().contains("fill=\"#000\""));
+}
+
+#[test]
+fn options() {
+    let given = |version, least_version| Options { version, least_version, ..Options::default() };
+    let made = |options| QrCode::with_options("01234567890123456", &options);
+    let boosted = made(Options { ec_level: EcLevel::L, boost: true, ..Options::default() }).unwrap();
+    assert_eq!((boosted.version(), boosted.error_correction_level()), (Version::Normal(1), EcLevel::H));
+    let (first, ninth) = (Version::Normal(1), Version::Normal(9));
+    let code = made(given(Some(ninth), first)).unwrap();
+    assert_eq!((code.version(), code.mask()), (ninth, read(&code.to_colors()).unwrap().mask));
+    assert_eq!(made(given(None, ninth)).unwrap().version(), ninth);
+    assert_eq!(made(given(Some(Version::Normal(0)), first)).unwrap_err(), QrError::InvalidVersion);
+    let text = Options { writing: Writing::Text, ..Options::default() };
+    assert_eq!(QrCode::with_options(b"\xff", &text).unwrap_err(), QrError::InvalidCharacter);
+}
+
+#[test]
 fn segments() {
     let segments = [Segment::Eci(26), Segment::Byte("é".as_bytes()), Segment::Numeric(b"123")];
     assert_eq!(QrCode::with_segments(&segments, Version::Normal(1), EcLevel::M).unwrap().width(), 21);
@@ -71,6 +100,9 @@ fn readings() {
     assert_eq!((found.data, found.version, found.ec_level, found.wrong), (b"01234567".to_vec(), Version::Micro(2), EcLevel::L, 0));
     assert_eq!(read(&[Color::Dark; 440]).unwrap_err(), Unread::NoSuchSide);
     assert_eq!(read(&[Color::Dark; 441]).unwrap_err(), Unread::NoFormat);
+    assert_eq!(read_any(&[Color::Dark; 441]).unwrap_err(), Unread::NotRead);
+    let bytes = QrCode::new(b"\xff").unwrap();
+    assert_eq!(read_text(&bytes.to_colors()).unwrap_err(), Unread::NotShown);
     let header = QrCode::with_segments(&[Segment::Fnc1First, Segment::Numeric(b"0109501101530003")], Version::Normal(1), EcLevel::M).unwrap();
     assert_eq!(read(&header.to_colors()).unwrap_err(), Unread::NotSpelled);
 }

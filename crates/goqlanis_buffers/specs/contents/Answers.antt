@@ -1,11 +1,12 @@
 -- What the call for C answers: 0, or the number of a refusal.
-use Rattle.std.specs.Prelude.{ℕ}
+use Rattle.std.specs.Prelude.{◌≡◌, ℕ, Some}
 use Rattle.qrcode_contents.specs.declared.fields.errors.Cause.{Cause}
 use Rattle.qrcode_contents.specs.declared.fields.errors.Cause.TheVariants.{Empty, TooLong, TooShort, ControlCharacter, Character, CheckDigits, Range, Unused}
 use Rattle.qrcode_gs1.specs.declared.errors.Cause as of_elements
 use Rattle.qrcode_gs1.specs.declared.errors.Cause.TheVariants as element
+use Rattle.goqlanis_buffers.specs.Answers.{refusal_of}
 use Rattle.goqlanis_buffers.specs.declared.contents.answers.Refusal.{Refusal}
-use Rattle.goqlanis_buffers.specs.declared.contents.answers.Refusal.TheVariants.{SmallBuffer, OutOfMemory, NotText, NoSuchContent, NoSuchField, Wrong, NotElement}
+use Rattle.goqlanis_buffers.specs.declared.contents.answers.Refusal.TheVariants.{SmallBuffer, OutOfMemory, NotText, NoSuchContent, NoSuchField, Wrong, NotElement, NoSymbol}
 
 abbrev pub cause_number : Cause → ℕ  -- the number of a cause
 cause_number Empty = 34
@@ -23,14 +24,15 @@ element_number element.CheckDigit = 39
 element_number element.UnknownIdentifier = 42
 element_number element.Length = 43
 
-abbrev pub number_of : Refusal → ℕ  -- the number of a refusal
-number_of SmallBuffer = 7
-number_of OutOfMemory = 8
-number_of (NotText place) = 12
-number_of NoSuchContent = 32
-number_of (NoSuchField place) = 33
-number_of (Wrong place cause) = cause_number cause
-number_of (NotElement place cause) = element_number cause
+abbrev pub IsNumberOf : Refusal → ℕ → Type 0  -- the number of a refusal
+IsNumberOf SmallBuffer n = n ≡ 7
+IsNumberOf OutOfMemory n = n ≡ 8
+IsNumberOf (NotText place) n = n ≡ 12
+IsNumberOf NoSuchContent n = n ≡ 32
+IsNumberOf (NoSuchField place) n = n ≡ 33
+IsNumberOf (Wrong place cause) n = n ≡ cause_number cause
+IsNumberOf (NotElement place cause) n = n ≡ element_number cause
+IsNumberOf (NoSymbol refusal) n = refusal_of n ≡ Some refusal
 
 -- the place that is told: that of the field that is wrong, and otherwise the one before
 abbrev pub place_told : Refusal → ℕ → ℕ
@@ -41,3 +43,4 @@ place_told (NotElement place cause) before = place
 place_told SmallBuffer before = before
 place_told OutOfMemory before = before
 place_told NoSuchContent before = before
+place_told (NoSymbol refusal) before = before

@@ -1,11 +1,20 @@
 -- Elements of GS1 that C gives, and their string.
-use Rattle.std.specs.Prelude.{◌≡◌, ◌<◌, ◌++◌, ⊤, ℕ, List, map, drop, length, slice_get, IsUtf8, Some, None}
+use Rattle.std.specs.Prelude.{◌≡◌, ◌⊎◌, ◌<◌, ◌++◌, ⊤, ℕ, List, map, drop, length, slice_get, IsUtf8, Some, None}
 use Rattle.qrcode_gs1.specs.Elements.{Item, element_string, read_elements}
 use Rattle.qrcode_gs1.specs.Refusals.{refusal_from}
 use Rattle.qrcode_gs1.specs.declared.errors.Gs1Error.TheVariants.{Refused}
-use Rattle.goqlanis_buffers.specs.contents.Answers.{number_of, place_told}
+use Rattle.qrcode_gs1.specs.declared.symbol.errors.SymbolError.TheVariants.{Symbol}
+use Rattle.qrcode_types.specs.declared.types.QrError.TheVariants.{DataTooLong}
+use Rattle.qrcode.specs.Code.{Code}
+use Rattle.goqlanis_draw.specs.Elements.{IsElementsIn, IsElementsRefused}
+use Rattle.goqlanis_buffers.specs.Options.{IsAsked, IsOptionsCause}
+use Rattle.goqlanis_buffers.specs.Symbols.{ExceedsRoom}
+use Rattle.goqlanis_buffers.specs.declared.answers.Refusal.TheVariants.{NoRoom}
+use Rattle.goqlanis_buffers.specs.declared.options.Asked.{Asked}
+use Rattle.goqlanis_buffers.specs.declared.options.Options.{Options}
+use Rattle.goqlanis_buffers.specs.contents.Answers.{place_told, IsNumberOf}
 use Rattle.goqlanis_buffers.specs.declared.contents.answers.Refusal.{Refusal}
-use Rattle.goqlanis_buffers.specs.declared.contents.answers.Refusal.TheVariants.{SmallBuffer, OutOfMemory, NotText, NotElement}
+use Rattle.goqlanis_buffers.specs.declared.contents.answers.Refusal.TheVariants.{SmallBuffer, OutOfMemory, NotText, NotElement, NoSymbol}
 use Rattle.goqlanis_buffers.specs.declared.contents.elements.Part.{Part}
 
 abbrev pub item_of : Part → Item  -- the identifier and the value of an element
@@ -49,9 +58,40 @@ IsElementsCause parts room SmallBuffer = (bytes : List ℕ) × (IsString parts b
 IsElementsCause parts room OutOfMemory = ⊤
 IsElementsCause parts room refusal = ⊥
 
+-- the symbol of elements that options ask for
+pub record IsElementsSymbol (o : Options) (parts : List Part) (code : Code) : Type 0 where
+  pub asked : Asked
+  pub named : IsAsked o asked
+  pub texts : AreTexts parts (length parts)
+  pub made : IsElementsIn asked.choice asked.level (items_of parts) code
+
+-- no version that options allow holds elements
+pub record HaveNoVersion (o : Options) (parts : List Part) : Type 0 where
+  pub asked : Asked
+  pub named : IsAsked o asked
+  pub refused : IsElementsRefused asked.choice asked.level (items_of parts) (Symbol DataTooLong)
+
+-- why elements have no symbol in a buffer of so much room
+abbrev pub IsElementsSymbolCause : Options → List Part → ℕ → Refusal → Type 0
+IsElementsSymbolCause o parts room (NoSymbol refusal) =
+    ((refusal ≡ NoRoom) × HaveNoVersion o parts) ⊎ ((bytes : List ℕ) (room : ℕ) → IsOptionsCause o bytes room refusal)
+IsElementsSymbolCause o parts room (NotText place) = IsFirstNoText parts place
+IsElementsSymbolCause o parts room (NotElement place cause) =
+    AreTexts parts (length parts) × (refusal_from 0 (items_of parts) ≡ Some (Refused place cause))
+IsElementsSymbolCause o parts room SmallBuffer = ExceedsRoom (IsElementsSymbol o parts) room
+IsElementsSymbolCause o parts room OutOfMemory = ⊤
+IsElementsSymbolCause o parts room refusal = ⊥
+
+-- an answer, and the place that is told in place of the one before, are those of a refusal that has its cause
+pub record IsElementsSymbolRefused (o : Options) (parts : List Part) (room answer before after : ℕ) : Type 0 where
+  pub refusal : Refusal
+  pub cause : IsElementsSymbolCause o parts room refusal
+  pub answered : IsNumberOf refusal answer
+  pub told : after ≡ place_told refusal before
+
 -- an answer, and the place that is told in place of the one before, are those of a refusal that has its cause
 pub record AreElementsRefused (parts : List Part) (room answer before after : ℕ) : Type 0 where
   pub refusal : Refusal
   pub cause : IsElementsCause parts room refusal
-  pub answered : answer ≡ number_of refusal
+  pub answered : IsNumberOf refusal answer
   pub told : after ≡ place_told refusal before

@@ -1,8 +1,9 @@
 //! What the call answers.
 
 ghost use Rattle.std.specs.Prelude.{◌≡◌, ◌≢◌};
-ghost use Rattle.goqlanis_buffers.specs.contents.Answers.{cause_number, element_number, number_of, place_told};
+ghost use Rattle.goqlanis_buffers.specs.contents.Answers.{cause_number, element_number, place_told, IsNumberOf};
 
+use crate::answers::Refusal as OfSymbols;
 use qrcode_contents::fields::errors::Cause;
 use qrcode_gs1::errors::Cause as ElementCause;
 
@@ -23,6 +24,8 @@ pub enum Refusal {
     Wrong(usize, Cause),
     /// The element of GS1 at this place is refused, for this cause.
     NotElement(usize, ElementCause),
+    /// No symbol is asked for, or none holds the elements.
+    NoSymbol(OfSymbols),
 }
 
 // The number of a cause.
@@ -58,7 +61,7 @@ fn element_number(cause: ElementCause) -> u32
 impl Refusal {
     /// The number that C sees.
     pub fn number(self) -> u32
-        ensures value { result ≡ number_of self }
+        ensures value { IsNumberOf self result }
         ensures not_made { result ≢ 0 }
     {
         match self {
@@ -69,6 +72,7 @@ impl Refusal {
             Refusal::NoSuchField(_) => 33,
             Refusal::Wrong(_, cause) => cause_number(cause),
             Refusal::NotElement(_, cause) => element_number(cause),
+            Refusal::NoSymbol(refusal) => refusal.number(),
         }
     }
 

@@ -2,12 +2,19 @@
 
 ghost use Rattle.std.specs.Prelude.{◌≡◌, ℕ, length, map, IfOk, IfErr, OnOk, OnErr, OnSome, IfSome, IfNone};
 ghost use Rattle.qrcode_gs1.specs.Items.{item};
-ghost use Rattle.goqlanis_buffers.specs.contents.Elements.{item_of, items_of, IsText, AreTexts, IsString, IsStringIn, IsElementsCause};
+ghost use Rattle.goqlanis_buffers.specs.contents.Elements.{item_of, items_of, IsText, AreTexts, IsFirstNoText, IsString, IsStringIn, IsElementsCause, IsElementsSymbol, IsElementsSymbolCause};
+ghost use Rattle.goqlanis_buffers.specs.Outputs.{IsWrittenAs};
 
+use crate::answers::Refusal as OfSymbols;
 use crate::contents::answers::Refusal;
-use crate::symbols::fill;
+use crate::options::{Options, asked_by};
+use crate::symbols::{Symbol, fill, write_symbol};
+use goqlanis_draw::symbol_of_elements;
+use qrcode::QrCode;
+use qrcode::types::QrError;
 use qrcode_gs1::elements::{Element, element_string};
 use qrcode_gs1::errors::Gs1Error;
+use qrcode_gs1::symbol::errors::SymbolError;
 use std::alloc::Global;
 
 /// An element of GS1.
@@ -39,6 +46,60 @@ pub fn write_elements(alloc: Global, parts: &[Part<'_>], out: &mut [u8]) -> Resu
     Ok(bytes.len())
 }
 
+/// Writes the symbol of elements that options ask for at the beginning of a buffer, and answers what
+/// it is beside its modules. Manner and boost are not looked at.
+///
+/// An error is `NoSymbol`, `NotText`, `NotElement`, `SmallBuffer` or `OutOfMemory`. Then the buffer is
+/// as it was.
+pub fn encode_elements(
+    alloc: Global,
+    parts: &[Part<'_>],
+    options: &Options,
+    modules: &mut [u8],
+) -> Result<Symbol, Refusal>
+    ensures made { IfOk result
+        (IsWrittenAs (IsElementsSymbol options.now parts.now) modules.old modules.new) }
+    ensures unchanged { OnErr result (modules.new ≡ modules.old) }
+    ensures causes { IfErr result
+        (IsElementsSymbolCause options.now parts.now (length modules.old)) }
+{
+    let code = match symbol_of(alloc, parts, options) {
+        Ok(code) => code,
+        Err(refusal) => return Err(refusal),
+    };
+    match write_symbol(code, modules) {
+        Ok(symbol) => Ok(symbol),
+        Err(_) => Err(Refusal::SmallBuffer),
+    }
+}
+
+// The symbol of elements that options ask for.
+fn symbol_of(alloc: Global, parts: &[Part<'_>], options: &Options) -> Result<QrCode, Refusal>
+    ensures made { IfOk result (IsElementsSymbol options.now parts.now) }
+    ensures causes { (room : ℕ)
+        → IfErr result (IsElementsSymbolCause options.now parts.now room) }
+{
+    let asked = match asked_by(options) {
+        Ok(asked) => asked,
+        Err(refusal) => return Err(Refusal::NoSymbol(refusal)),
+    };
+    let elements = match elements_of(alloc, parts) {
+        Ok(elements) => elements,
+        Err(Some(place)) => return Err(Refusal::NotText(place)),
+        Err(None) => return Err(Refusal::OutOfMemory),
+    };
+    match symbol_of_elements(alloc, asked.choice, asked.level, &elements) {
+        Ok(code) => Ok(code),
+        Err(SymbolError::Elements(Gs1Error::Refused(place, cause))) => {
+            Err(Refusal::NotElement(place, cause))
+        }
+        Err(SymbolError::Symbol(QrError::DataTooLong)) => {
+            Err(Refusal::NoSymbol(OfSymbols::NoRoom))
+        }
+        Err(_) => Err(Refusal::OutOfMemory),
+    }
+}
+
 // The string of elements.
 fn string_of(alloc: Global, parts: &[Part<'_>]) -> Result<Vec<u8>, Refusal>
     ensures string { IfOk result (λ bytes. IsString parts.now bytes.items) }
@@ -46,7 +107,8 @@ fn string_of(alloc: Global, parts: &[Part<'_>]) -> Result<Vec<u8>, Refusal>
 {
     let elements = match elements_of(alloc, parts) {
         Ok(elements) => elements,
-        Err(refusal) => return Err(refusal),
+        Err(Some(place)) => return Err(Refusal::NotText(place)),
+        Err(None) => return Err(Refusal::OutOfMemory),
     };
     match element_string(alloc, &elements) {
         Ok(bytes) => Ok(bytes),
@@ -55,19 +117,19 @@ fn string_of(alloc: Global, parts: &[Part<'_>]) -> Result<Vec<u8>, Refusal>
     }
 }
 
-// The elements, where all are UTF-8.
-fn elements_of<'a>(alloc: Global, parts: &[Part<'a>]) -> Result<Vec<Element<'a>>, Refusal>
+// The elements, or the place of the first that is not UTF-8; none where memory was refused.
+fn elements_of<'a>(alloc: Global, parts: &[Part<'a>]) -> Result<Vec<Element<'a>>, Option<usize>>
     ensures value { IfOk result (λ elements. map item elements.items ≡ items_of parts.now) }
     ensures texts { OnOk result (AreTexts parts.now (length parts.now)) }
-    ensures causes { (room : ℕ) → IfErr result (IsElementsCause parts.now room) }
+    ensures no_text { IfErr result (λ place. IfSome place (IsFirstNoText parts.now)) }
 {
     let mut elements = Vec::new(alloc);
     for place in 0..parts.len() {
         let Some(element) = element_of(&parts[place]) else {
-            return Err(Refusal::NotText(place));
+            return Err(Some(place));
         };
         if elements.push(element).is_err() {
-            return Err(Refusal::OutOfMemory);
+            return Err(None);
         }
     }
     Ok(elements)

@@ -1,0 +1,238 @@
+/* Calls with options: what each asks for, every answer, outputs untouched on each refusal. */
+#include "goqlanis.h"
+#include <stdio.h>
+#include <string.h>
+
+static uint8_t modules[GOQ_MODULES_MAX], other[GOQ_MODULES_MAX], out[100000];
+static goq_symbol symbol;
+static int wrong;
+
+static void expect(int holds, const char *what)
+{
+    if (!holds) {
+        printf("WRONG: %s\n", what);
+        wrong++;
+    }
+}
+
+static uint32_t encode(const char *data, const goq_options *options)
+{
+    memset(modules, 7, sizeof modules);
+    symbol = (goq_symbol){99, 98, 97};
+    return goq_encode_with((const uint8_t *)data, strlen(data), options, modules, sizeof modules,
+        &symbol);
+}
+
+static void refuses(const char *data, goq_options options, uint32_t wanted, const char *what)
+{
+    expect(encode(data, &options) == wanted, what);
+    expect(modules[0] == 7 && symbol.version == 99 && symbol.width == 97, what);
+}
+
+static void makes(const char *data, goq_options options, uint32_t version, uint32_t level)
+{
+    expect(encode(data, &options) == GOQ_OK, data);
+    expect(symbol.version == version && symbol.level == level, data);
+    expect(symbol.width == goq_width(version) && modules[symbol.width * symbol.width] == 7, data);
+}
+
+/* Digits at each level of Normal 1: 17, 27, 34, 41; 5 in Micro 1 and 10 in Micro 2 at L, 18 in
+   Micro 3 at M (ISO/IEC 18004:2006, table 7). */
+static void choices(void)
+{
+    static const char digits[] = "01234567890123456789012345678901234567890";
+    goq_options plain = GOQ_OPTIONS, boost = plain, least = plain, given = plain;
+    boost.level = least.level = GOQ_L;
+    boost.boost = 1;
+    makes(digits + 41 - 17, boost, 1, GOQ_H);
+    makes(digits + 41 - 18, boost, 1, GOQ_Q);
+    makes(digits + 41 - 28, boost, 1, GOQ_M);
+    makes(digits + 41 - 35, boost, 1, GOQ_L);
+    least.least_version = GOQ_MICRO(1);
+    makes("01234", least, GOQ_MICRO(1), GOQ_L);
+    makes("012345", least, GOQ_MICRO(2), GOQ_L);
+    least.boost = 1;
+    makes(digits + 41 - 18, least, GOQ_MICRO(3), GOQ_M);
+    least.least_version = 7;
+    makes("0", least, 7, GOQ_H);
+    given.version = 40;
+    makes("0", given, 40, GOQ_M);
+    given.version = GOQ_MICRO(2);
+    makes("0123456789", given, GOQ_MICRO(2), GOQ_M);
+    expect(encode("01234567", &plain) == GOQ_OK, "the symbol of digits");
+    goq_encode((const uint8_t *)"01234567", 8, GOQ_M, other, sizeof other, &symbol);
+    expect(!memcmp(modules, other, 441), "the same as that of goq_encode");
+    expect(goq_encode_with(NULL, 0, &plain, modules, sizeof modules, &symbol) == GOQ_OK, "NULL");
+}
+
+static void refusals(void)
+{
+    goq_options o = GOQ_OPTIONS;
+    static char long_text[2955];
+    memset(long_text, 'a', 2954);
+    refuses("1", (goq_options){27, 1, 0, 0, 1, 0, 0}, GOQ_NO_SUCH_STRUCT, "a size of 27");
+    refuses("1", (goq_options){sizeof o, 4, 0, 0, 1, 0, 0}, GOQ_NO_SUCH_LEVEL, "level 4");
+    refuses("1", (goq_options){sizeof o, 1, 0, 45, 1, 0, 0}, GOQ_NO_SUCH_VERSION, "version 45");
+    refuses("1", (goq_options){sizeof o, 1, 0, 0, 0, 0, 0}, GOQ_NO_SUCH_VERSION, "from 0 on");
+    refuses("1", (goq_options){sizeof o, 1, 3, 0, 1, 0, 0}, GOQ_NO_SUCH_MANNER, "manner 3");
+    refuses("\xff", (goq_options){sizeof o, 1, GOQ_AS_TEXT, 0, 1, 0, 0}, GOQ_NOT_TEXT, "no UTF-8");
+    refuses("a", (goq_options){sizeof o, 0, 0, GOQ_MICRO(2), 1, 0, 0}, GOQ_NO_MODE, "M2");
+    refuses("1", (goq_options){sizeof o, 0, GOQ_AS_MARKED_TEXT, GOQ_MICRO(4), 1, 0, 0},
+        GOQ_NO_MODE, "a marked text in M4");
+    refuses("1", (goq_options){sizeof o, 1, 0, GOQ_MICRO(1), 1, 0, 0}, GOQ_LEVEL_NOT_IN_VERSION,
+        "M1 at M");
+    refuses("0123456789012", (goq_options){sizeof o, 3, 0, GOQ_MICRO(4), 1, 0, 0},
+        GOQ_LEVEL_NOT_IN_VERSION, "M4 at H");
+    refuses("01234567890", (goq_options){sizeof o, 0, 0, GOQ_MICRO(2), 1, 0, 0}, GOQ_NO_ROOM,
+        "11 digits in M2");
+    refuses(long_text, (goq_options){sizeof o, 0, 0, 0, 1, 0, 0}, GOQ_NO_ROOM, "2,954 bytes");
+    refuses("1", (goq_options){sizeof o, 1, 0, 0, 1, 0, 9}, GOQ_NO_SUCH_MASK, "mask 9");
+    expect(goq_encode_with((const uint8_t *)"1", 1, &o, modules, 440, &symbol) == GOQ_SMALL_BUFFER,
+        "a module too few");
+}
+
+static void masks(void)
+{
+    uint8_t bytes[8];
+    goq_reading reading;
+    uint32_t mask = 77;
+    goq_encode((const uint8_t *)"0123", 4, GOQ_M, modules, sizeof modules, &symbol);
+    expect(goq_read(modules, 441, bytes, 8, &reading) == GOQ_OK, "a reading");
+    expect(goq_mask(modules, 441, &mask) == GOQ_OK && mask == reading.mask, "its mask");
+    mask = 77;
+    expect(goq_mask(modules, 440, &mask) == GOQ_NO_SUCH_SIDE && mask == 77, "440 modules");
+    memset(modules, 1, 441);
+    expect(goq_mask(modules, 441, &mask) == GOQ_NO_FORMAT && mask == 77, "a dark square");
+}
+
+static size_t count;
+
+static uint32_t draw(goq_drawing drawing, size_t room)
+{
+    size_t length = 5;
+    count = 5;
+    memset(out, 9, sizeof out);
+    uint32_t answer = goq_draw_with(modules, 441, 21, &drawing, out, room, &count);
+    uint32_t told = goq_draw_with_length(modules, 441, 21, &drawing, &length);
+    if (answer == GOQ_OK)
+        expect(told == GOQ_OK && length == count && out[length] == 9, "the length of a drawing");
+    else
+        expect(count == 5 && out[0] == 9 && (answer == told || length > room), "a refused drawing");
+    return answer;
+}
+
+static int has(const char *bytes, size_t length)
+{
+    for (size_t i = 0; i + length <= count; i++)
+        if (!memcmp(out + i, bytes, length))
+            return 1;
+    return 0;
+}
+
+static void drawn(goq_drawing drawing, const char *bytes, size_t length, const char *what)
+{
+    expect(draw(drawing, sizeof out) == GOQ_OK && has(bytes, length), what);
+}
+
+static void undrawn(goq_drawing drawing, uint32_t wanted, const char *what)
+{
+    expect(draw(drawing, sizeof out) == wanted, what);
+}
+
+static void drawings(void)
+{
+    const uint32_t size = sizeof(goq_drawing), half = 0x80000000u, none = GOQ_TRANSPARENT;
+    const goq_drawing plain = {size, GOQ_SVG, 4, 2, 0, 0xffffff, 0};
+    goq_encode((const uint8_t *)"01234567", 8, GOQ_M, modules, sizeof modules, &symbol);
+    drawn(plain, "fill=\"#000\"", 11, "black");
+    goq_draw(modules, 441, 21, 4, 2, GOQ_SVG, other, sizeof other, &count);
+    expect(!memcmp(out, other, count), "as goq_draw");
+    drawn((goq_drawing){size, GOQ_SVG, 4, 2, 0x0080ff, 0xffffff, 0}, "\"#0080ff\"", 9, "blue");
+    drawn((goq_drawing){size, GOQ_SVG_PATH, 4, 2, half | 0x0a0b0c, none, 0}, "\"#0a0b0c7f\"", 11,
+        "half transparent");
+    expect(has("viewBox=\"0 0 29 29\"", 19) && has("\"#00000000\"", 11), "one path, by modules");
+    drawn((goq_drawing){size, GOQ_EPS, 4, 2, 0x0080ff, 0xffffff, 0},
+        "\n0 255 div 128 255 div 255 255 div setrgbcolor\n", 46, "blue in EPS");
+    drawn((goq_drawing){size, GOQ_PNG, 4, 2, 0x0080ff, none | 0x010203, 300},
+        "PLTE\x00\x80\xff\x01\x02\x03", 10, "a palette");
+    expect(has("tRNS\xff\x00", 6), "a transparent ground");
+    expect(has("pHYs\0\0\x2e\x23\0\0\x2e\x23\x01", 13), "300 dots per inch are 11,811 per metre");
+    expect(draw(plain, count) == GOQ_SMALL_BUFFER, "too small a buffer");
+    undrawn((goq_drawing){27, 2, 4, 2, 0, 0xffffff, 0}, GOQ_NO_SUCH_STRUCT, "a size of 27");
+    undrawn((goq_drawing){size, GOQ_FORMATS, 4, 2, 0, 0xffffff, 0}, GOQ_NO_SUCH_FORMAT, "format");
+    undrawn((goq_drawing){size, 2, 4, 0, 0, 0xffffff, 0}, GOQ_NO_SUCH_SIZE, "scale 0");
+    undrawn((goq_drawing){size, GOQ_PBM, 4, 2, 1, 0xffffff, 0}, GOQ_NOT_IN_FORMAT, "blue PBM");
+    undrawn((goq_drawing){size, GOQ_PIC, 4, 2, 0, 0xfffffe, 0}, GOQ_NOT_IN_FORMAT, "yellow PIC");
+    undrawn((goq_drawing){size, GOQ_EPS, 4, 2, 0, none, 0}, GOQ_NOT_IN_FORMAT, "EPS on nothing");
+    undrawn((goq_drawing){size, GOQ_EPS, 4, 2, half, 0, 0}, GOQ_NOT_IN_FORMAT, "half an EPS");
+    undrawn((goq_drawing){size, GOQ_SVG, 4, 2, 0, 0xffffff, 1}, GOQ_NOT_IN_FORMAT, "dpi of SVG");
+    undrawn((goq_drawing){size, GOQ_PNG, 4, 2, 0, 0xffffff, 65536}, GOQ_NOT_IN_FORMAT, "dpi");
+    goq_drawing zero = plain;
+    expect(goq_draw_with(NULL, 0, 0, &zero, out, sizeof out, &count) == GOQ_OK, "no modules");
+}
+
+static void positions(void)
+{
+    uint8_t bytes[8] = {7};
+    goq_any_reading any = {{99, 0, 0, 0, 98}, 97};
+    const uint8_t *text = (const uint8_t *)"\xc3\xa9";
+    goq_encode((const uint8_t *)"01234567", 8, GOQ_M, modules, sizeof modules, &symbol);
+    expect(goq_read_any(modules, 441, bytes, 7, &any) == GOQ_SMALL_BUFFER, "7 bytes of room");
+    expect(goq_read_any(modules, 440, bytes, 8, &any) == GOQ_NOT_READ, "440 modules");
+    expect(bytes[0] == 7 && any.position == 97 && any.reading.length == 98, "untouched");
+    for (int i = 0; i < 441; i++)
+        other[i] = !modules[i % 21 * 21 + 20 - i / 21]; /* the row from above is a column */
+    expect(goq_read_any(other, 441, bytes, 8, &any) == GOQ_OK, "turned and inverted");
+    expect(any.position == GOQ_TURNED_LEFT + GOQ_INVERTED && any.reading.length == 8, "how");
+    expect(!memcmp(bytes, "01234567", 8) && any.reading.level == GOQ_M, "what it is");
+    expect(goq_read_any(modules, 441, bytes, 8, &any) == GOQ_OK && any.position == 0, "upright");
+    goq_encode_marked_text(text, 2, GOQ_M, modules, sizeof modules, &symbol);
+    expect(goq_read_text(modules, 441, bytes, 1, &any.reading) == GOQ_SMALL_BUFFER, "1 byte");
+    expect(goq_read_text(modules, 441, bytes, 8, &any.reading) == GOQ_OK, "a marked text");
+    expect(any.reading.length == 2 && !memcmp(bytes, text, 2), "its bytes");
+    any.reading.length = 98;
+    goq_encode((const uint8_t *)"\xff", 1, GOQ_M, modules, sizeof modules, &symbol);
+    expect(goq_read_text(modules, 441, bytes, 8, &any.reading) == GOQ_NOT_SHOWN, "no UTF-8");
+    expect(goq_read_text(NULL, 0, bytes, 8, &any.reading) == GOQ_NO_SUCH_SIDE, "no modules");
+    memset(modules, 1, 441);
+    expect(goq_read_text(modules, 441, bytes, 8, &any.reading) == GOQ_NO_FORMAT, "dark");
+    expect(any.reading.length == 98 && bytes[0] == text[0], "untouched by refusals");
+}
+
+#define WORD(text) (const uint8_t *)(text), sizeof(text) - 1
+
+/* 24 digits, "10ABCD" and the mark take 98 + 46 + 4 bits at least, and Normal 1 has 152 at L. */
+static void elements(void)
+{
+    goq_options o = GOQ_OPTIONS;
+    size_t place = 77;
+    const goq_element parts[] = {{WORD("01"), WORD("03453120000011")}, {WORD("17"), WORD("191125")},
+        {WORD("10"), WORD("ABCD")}, {WORD("01"), WORD("03453120000012")}};
+    o.level = GOQ_L;
+    memset(modules, 7, sizeof modules);
+    expect(goq_encode_gs1(parts, 3, &o, modules, 440, &symbol, &place) == GOQ_SMALL_BUFFER, "440");
+    expect(goq_encode_gs1(parts, 4, &o, modules, 441, &symbol, &place) == GOQ_FIELD_CHECK_DIGITS
+        && place == 3, "a wrong check digit");
+    o.version = GOQ_MICRO(4);
+    place = 77;
+    expect(goq_encode_gs1(parts, 3, &o, modules, 441, &symbol, &place) == GOQ_NO_ROOM, "M4");
+    o.level = 4;
+    expect(goq_encode_gs1(parts, 3, &o, modules, 441, &symbol, &place) == GOQ_NO_SUCH_LEVEL, "4");
+    expect(place == 77 && modules[0] == 7, "untouched");
+    o = (goq_options)GOQ_OPTIONS;
+    o.level = GOQ_L;
+    expect(goq_encode_gs1(parts, 3, &o, modules, 441, &symbol, &place) == GOQ_OK, "elements");
+    expect(symbol.version == 1 && place == 77, "in the least version");
+}
+
+int main(void)
+{
+    choices();
+    refusals();
+    masks();
+    drawings();
+    positions();
+    elements();
+    printf("%d wrong\n", wrong);
+    return wrong != 0;
+}

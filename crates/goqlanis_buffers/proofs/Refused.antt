@@ -1,0 +1,24 @@
+-- Why data has no symbol that options ask for.
+use Rattle.std.proofs.Common.{◌≡◌, ℕ, List, refl, sym, subst}
+use Rattle.qrcode_types.specs.declared.types.QrError.{QrError}
+use Rattle.qrcode_types.specs.declared.types.QrError.TheVariants.{DataTooLong, InvalidVersion, UnsupportedCharacterSet, InvalidEciDesignator, InvalidCharacter, OutOfMemory}
+use Rattle.goqlanis_draw.specs.Symbols.{IsRefusedFor}
+use Rattle.goqlanis_buffers.specs.Options.{HasNoSymbol, IsAsked, IsOptionsCause}
+use Rattle.goqlanis_buffers.specs.Segments.{refusal_in}
+use Rattle.goqlanis_buffers.specs.declared.answers.Refusal.{Refusal}
+use Rattle.goqlanis_buffers.specs.declared.options.Asked.{Asked}
+use Rattle.goqlanis_buffers.specs.declared.options.Options.{Options}
+
+-- an error of the library is told as its refusal
+no_symbol : (o : Options) (bytes : List ℕ) (room : ℕ) (e : QrError) → HasNoSymbol o bytes (refusal_in e) → IsOptionsCause o bytes room (refusal_in e)
+no_symbol o bytes room DataTooLong h = h
+no_symbol o bytes room InvalidVersion h = h
+no_symbol o bytes room UnsupportedCharacterSet h = h
+no_symbol o bytes room InvalidEciDesignator h = h
+no_symbol o bytes room InvalidCharacter h = h
+no_symbol o bytes room OutOfMemory h = h
+
+pub refused_as : (o : Options) (a : Asked) (bytes : List ℕ) (e : QrError) (refusal : Refusal) → refusal ≡ refusal_in e → IsAsked o a → IsRefusedFor a.choice a.manner a.level bytes e
+    → (room : ℕ) → IsOptionsCause o bytes room refusal
+refused_as o a bytes e refusal is named cause room =
+    subst (IsOptionsCause o bytes room) (sym is) (no_symbol o bytes room e (record { asked = a; named = named; error = e; told = refl; cause = cause }))

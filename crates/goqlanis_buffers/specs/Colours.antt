@@ -1,0 +1,47 @@
+-- Colours of drawings: transparency, red, green and blue in the four bytes of a number.
+use Rattle.std.specs.Prelude.{ℕ, ◌-◌, ◌/◌, ◌%◌, ◌^◌, ◌==◌, nat_lt, ◌&&◌, Bool, true, false, List, [], ◌∷◌, ◌++◌, codes, if◌then◌else◌}
+use Rattle.std.specs.Fmt.{digit_glyph}
+use Rattle.goqlanis_draw.specs.Formats.{Shade}
+use Rattle.goqlanis_draw.specs.declared.formats.Format.{Format}
+use Rattle.goqlanis_draw.specs.declared.formats.Format.TheVariants.{Png, Svg, SvgPath, Eps}
+
+abbrev pub red_of : ℕ → ℕ
+red_of colour = colour / 65536 % 256
+
+abbrev pub green_of : ℕ → ℕ
+green_of colour = colour / 256 % 256
+
+abbrev pub blue_of : ℕ → ℕ
+blue_of colour = colour % 256
+
+abbrev pub opacity_of : ℕ → ℕ
+opacity_of colour = 255 - colour / 16777216
+
+abbrev pub hex_text : ℕ → List ℕ  -- a byte to the base 16, in two digits
+hex_text n = digit_glyph false (n / 16) ∷ digit_glyph false (n % 16) ∷ []
+
+abbrev pub digits_of : ℕ → List ℕ  -- red, green and blue to the base 16
+digits_of colour = codes "#" ++ hex_text (red_of colour) ++ hex_text (green_of colour) ++ hex_text (blue_of colour)
+
+-- what SVG writes for a colour: how opaque it is stands behind where it is not
+abbrev pub colour_name : ℕ → List ℕ
+colour_name colour =
+    if colour == 0 then codes "#000"
+    else (if colour == 0xffffff then codes "#fff"
+    else (if opacity_of colour == 255 then digits_of colour else digits_of colour ++ hex_text (opacity_of colour)))
+
+abbrev pub colour_shade : ℕ → Shade  -- a colour and its name
+colour_shade colour = record {
+  name = colour_name colour;
+  red = red_of colour;
+  green = green_of colour;
+  blue = blue_of colour;
+  opacity = opacity_of colour;
+}
+
+abbrev pub has_colours : Format → ℕ → ℕ → Bool  -- the format has these colours of dark and light modules
+has_colours Png dark light = true
+has_colours Svg dark light = true
+has_colours SvgPath dark light = true
+has_colours Eps dark light = nat_lt dark (2 ^ 24) && nat_lt light (2 ^ 24)
+has_colours f dark light = (dark == 0) && (light == 0xffffff)

@@ -1,0 +1,62 @@
+-- Symbols by options.
+use Rattle.std.specs.Prelude.{◌≡◌, ◌≢◌, ℕ, List, [], ◌∷◌, ◌==◌, IsTrue, IsUtf8, Option, Some, None, slice_get, if◌then◌else◌}
+use Rattle.std.specs.Option.{option_map}
+use Rattle.qrcode_types.specs.declared.types.QrError.{QrError}
+use Rattle.qrcode_types.specs.declared.types.Version.{Version}
+use Rattle.qrcode_bits.specs.Manners.{is_text}
+use Rattle.qrcode_bits.specs.declared.bits.manner.Manner.{Manner}
+use Rattle.qrcode_bits.specs.declared.bits.manner.Manner.TheVariants.{Bytes, Text, MarkedText}
+use Rattle.qrcode.specs.Code.{Code}
+use Rattle.goqlanis_draw.specs.Symbols.{IsSymbolIn, IsRefusedFor}
+use Rattle.goqlanis_draw.specs.declared.request.Choice.{Choice}
+use Rattle.goqlanis_draw.specs.declared.request.Choice.TheVariants.{From, Boosted, At}
+use Rattle.goqlanis_buffers.specs.Names.{level_named, version_named}
+use Rattle.goqlanis_buffers.specs.Segments.{refusal_in}
+use Rattle.goqlanis_buffers.specs.Symbols.{ExceedsRoom}
+use Rattle.goqlanis_buffers.specs.declared.answers.Refusal.{Refusal}
+use Rattle.goqlanis_buffers.specs.declared.answers.Refusal.TheVariants.{NoSuchLevel, NoSuchVersion, NoSuchStruct, NoSuchManner, NoSuchMask, NotText, SmallBuffer}
+use Rattle.goqlanis_buffers.specs.declared.options.Asked.{Asked}
+use Rattle.goqlanis_buffers.specs.declared.options.Options.{Options}
+
+abbrev pub manner_named : ℕ → Option Manner  -- the manner of a number, in this order from 0 on
+manner_named n = slice_get (Bytes ∷ Text ∷ MarkedText ∷ []) n
+
+abbrev pub from_on : ℕ → Version → Choice  -- the least version from one on, at the highest level where that is asked for
+from_on boost v = if boost == 0 then From v else Boosted v
+
+abbrev pub choice_named : Options → Option Choice  -- which symbol options ask for
+choice_named o = if o.version == 0 then option_map (from_on o.boost) (version_named o.least_version) else option_map At (version_named o.version)
+
+-- what options name
+pub record IsAsked (o : Options) (a : Asked) : Type 0 where
+  pub size : o.size ≡ 28
+  pub level : level_named o.level ≡ Some a.level
+  pub choice : choice_named o ≡ Some a.choice
+  pub manner : manner_named o.manner ≡ Some a.manner
+  pub mask : o.mask ≡ 0
+
+-- the symbol of data that options ask for; a text is UTF-8
+pub record IsSymbolWith (o : Options) (bytes : List ℕ) (code : Code) : Type 0 where
+  pub asked : Asked
+  pub named : IsAsked o asked
+  pub text : IsTrue (is_text asked.manner) → IsUtf8 bytes
+  pub made : IsSymbolIn asked.choice asked.manner asked.level bytes code
+
+-- what is asked for has no symbol
+pub record HasNoSymbol (o : Options) (bytes : List ℕ) (refusal : Refusal) : Type 0 where
+  pub asked : Asked
+  pub named : IsAsked o asked
+  pub error : QrError
+  pub told : refusal ≡ refusal_in error
+  pub cause : IsRefusedFor asked.choice asked.manner asked.level bytes error
+
+-- why data has no symbol that options ask for, where the buffer has so much room
+abbrev pub IsOptionsCause : Options → List ℕ → ℕ → Refusal → Type 0
+IsOptionsCause o bytes room NoSuchStruct = o.size ≢ 28
+IsOptionsCause o bytes room NoSuchLevel = level_named o.level ≡ None
+IsOptionsCause o bytes room NoSuchVersion = choice_named o ≡ None
+IsOptionsCause o bytes room NoSuchManner = manner_named o.manner ≡ None
+IsOptionsCause o bytes room NoSuchMask = o.mask ≢ 0
+IsOptionsCause o bytes room NotText = ¬ IsUtf8 bytes
+IsOptionsCause o bytes room SmallBuffer = ExceedsRoom (IsSymbolWith o bytes) room
+IsOptionsCause o bytes room refusal = HasNoSymbol o bytes refusal

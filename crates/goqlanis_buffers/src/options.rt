@@ -1,0 +1,157 @@
+//! Symbols by options.
+
+ghost use Rattle.std.specs.Prelude.{◌≡◌, ℕ, List, false, IfOk, IfErr, IsTrue, IsUtf8};
+ghost use Rattle.qrcode_bits.specs.Manners.{is_text};
+ghost use Rattle.goqlanis_buffers.specs.Calls.{Tells, WritesWith};
+ghost use Rattle.goqlanis_buffers.specs.Options.{choice_named, manner_named, IsAsked, IsOptionsCause, IsSymbolWith};
+
+use crate::answers::Refusal;
+use crate::names::{level_named, version_named};
+use crate::symbols::{Symbol, write_symbol};
+use goqlanis_draw::{Choice, symbol_in};
+use qrcode::QrCode;
+use qrcode::bits::Manner;
+use qrcode::types::EcLevel;
+use std::alloc::Global;
+
+/// What C asks of a symbol.
+#[repr(C)]
+#[derive(Clone, Copy)]
+pub struct Options {
+    /// The bytes of this.
+    pub size: u32,
+    /// 0 for `L`, 1 for `M`, 2 for `Q`, 3 for `H`.
+    pub level: u32,
+    /// 0 for `Bytes`, 1 for `Text`, 2 for `MarkedText`.
+    pub manner: u32,
+    /// 1 to 40 for Normal, 41 to 44 for Micro; or 0 for the least that holds the data.
+    pub version: u32,
+    /// The first version that is tried then.
+    pub least_version: u32,
+    /// Other than 0 for the highest level at which that version holds the data.
+    pub boost: u32,
+    /// One more than the number of a mask, or 0 for the one of least penalty.
+    pub mask: u32,
+}
+
+// The bytes of options.
+const SIZE: u32 = 28;
+
+/// What options name.
+#[derive(Clone, Copy)]
+pub struct Asked {
+    pub choice: Choice,
+    pub level: EcLevel,
+    pub manner: Manner,
+}
+
+/// Writes the symbol of data that options ask for at the beginning of a buffer, and answers what it is
+/// beside its modules.
+///
+/// An error is the first that applies of `NoSuchStruct`, `NoSuchLevel`, `NoSuchVersion`,
+/// `NoSuchManner`, `NotText`, `NoMode`, `LevelNotInVersion`, `NoRoom` and `SmallBuffer`, or
+/// `OutOfMemory`; then the buffer is as it was.
+pub fn encode_with(
+    alloc: Global,
+    bytes: &[u8],
+    options: &Options,
+    modules: &mut [u8],
+) -> Result<Symbol, Refusal>
+    ensures { WritesWith options.now bytes.now modules.old modules.new result }
+{
+    match symbol_with(alloc, bytes, options) {
+        Ok(code) => write_symbol(code, modules),
+        Err(refusal) => Err(refusal),
+    }
+}
+
+// The symbol of data that options ask for.
+#[tactic(auto, using(crate::proofs::Refused::refused_as))]
+fn symbol_with(alloc: Global, bytes: &[u8], options: &Options) -> Result<QrCode, Refusal>
+    ensures { Tells (IsSymbolWith options.now bytes.now)
+        (λ refusal. (room : ℕ) → IsOptionsCause options.now bytes.now room refusal) result }
+{
+    let asked = match asked_by(options) {
+        Ok(asked) => asked,
+        Err(refusal) => return Err(refusal),
+    };
+    if !is_sound(asked.manner, bytes) {
+        return Err(Refusal::NotText);
+    }
+    match symbol_in(alloc, asked.choice, asked.manner, asked.level, bytes) {
+        Ok(code) => Ok(code),
+        Err(error) => Err(Refusal::from(error)),
+    }
+}
+
+/// What options name.
+///
+/// An error is the first that applies of `NoSuchStruct`, `NoSuchLevel`, `NoSuchVersion`,
+/// `NoSuchManner` and `NoSuchMask`.
+pub(crate) fn asked_by(options: &Options) -> Result<Asked, Refusal>
+    ensures made { IfOk result (IsAsked options.now) }
+    ensures causes { (bytes : List ℕ) (room : ℕ)
+        → IfErr result (IsOptionsCause options.now bytes room) }
+{
+    if options.size != SIZE {
+        return Err(Refusal::NoSuchStruct);
+    }
+    let Some(level) = level_named(options.level) else {
+        return Err(Refusal::NoSuchLevel);
+    };
+    let Some(choice) = choice_named(options) else {
+        return Err(Refusal::NoSuchVersion);
+    };
+    let Some(manner) = manner_named(options.manner) else {
+        return Err(Refusal::NoSuchManner);
+    };
+    if options.mask != 0 {
+        return Err(Refusal::NoSuchMask);
+    }
+    Ok(Asked {
+        choice,
+        level,
+        manner,
+    })
+}
+
+/// Whether bytes that are to be a text are UTF-8.
+pub(crate) fn is_sound(manner: Manner, bytes: &[u8]) -> bool
+    ensures text { IsTrue result → IsTrue (is_text manner) → IsUtf8 bytes.now }
+    ensures other { result ≡ false → ¬ IsUtf8 bytes.now }
+{
+    match manner {
+        Manner::Bytes => true,
+        Manner::Text | Manner::MarkedText => match str::from_utf8(bytes) {
+            Ok(_) => true,
+            Err(_) => false,
+        },
+    }
+}
+
+// Which symbol options ask for.
+fn choice_named(options: &Options) -> Option<Choice>
+    ensures value { result ≡ choice_named options.now }
+{
+    if options.version != 0 {
+        return version_named(options.version).map(Choice::At);
+    }
+    let from = version_named(options.least_version)?;
+    Some(if options.boost == 0 {
+        Choice::From(from)
+    } else {
+        Choice::Boosted(from)
+    })
+}
+
+// The manner of a number.
+fn manner_named(number: u32) -> Option<Manner>
+    ensures value { result ≡ manner_named number }
+{
+    match number {
+        0 => Some(Manner::Bytes),
+        1 => Some(Manner::Text),
+        2 => Some(Manner::MarkedText),
+        _ => None,
+    }
+}
