@@ -37,13 +37,7 @@ pub fn draw(alloc: Global, request: &Request<'_>, bytes: &[u8]) -> QrResult<Draw
     ensures shown { IfOk result (IsShownIn request.now) }
     ensures causes { IfErr result (IsRefusalOf request.now bytes.now) }
 {
-    let code = symbol_in(
-        alloc,
-        request.choice,
-        request.manner,
-        request.level,
-        bytes,
-    )?;
+    let code = symbol_in(alloc, request.choice, request.manner, request.level, bytes)?;
     drawing_of(alloc, request, code)
 }
 
