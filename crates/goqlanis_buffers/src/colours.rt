@@ -13,6 +13,7 @@ use std::alloc::Global;
 use std::fmt::Write;
 
 pub(crate) const BLACK: u32 = 0;
+
 pub(crate) const WHITE: u32 = 0x00ff_ffff;
 
 // A colour from here on is not opaque.

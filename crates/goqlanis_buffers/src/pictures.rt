@@ -152,7 +152,11 @@ fn is_sayable(format: Format, drawing: &Drawing) -> bool
     ensures value { result ≡ is_sayable format drawing.now }
     ensures dpi_at_most { OnTrue result (drawing.now.dpi < 2 ^ 16) }
 {
-    let most = if matches!(format, Format::Png) { 65_535 } else { 0 };
+    let most = if matches!(format, Format::Png) {
+        65_535
+    } else {
+        0
+    };
     drawing.dpi <= most && has_colours(format, drawing.dark, drawing.light)
 }
 

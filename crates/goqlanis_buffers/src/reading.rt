@@ -17,9 +17,10 @@ use crate::names::{level_number, version_number};
 use crate::symbols::{colors_of, fill};
 use qrcode::canvas::MaskPattern;
 use qrcode::types::{Color, EcLevel, Version};
-use qrcode_reader::{AnyReading as FoundAnywhere, Position, Reading as Found};
-use qrcode_reader::{TextReading, Unread, UnreadText};
-use qrcode_reader::{read, read_any, read_format, read_text, version_of};
+use qrcode_reader::{
+    AnyReading as FoundAnywhere, Position, Reading as Found, TextReading, Unread, UnreadText, read,
+    read_any, read_format, read_text, version_of,
+};
 use std::alloc::{AllocError, Global};
 
 /// What is read of a square beside its bytes.
@@ -235,10 +236,7 @@ fn read_any_square(alloc: Global, modules: &[u8]) -> Result<FoundAnywhere, Refus
 
 // The first reading of a square, where there is one.
 #[tactic(auto, using(crate::proofs::Known::existing))]
-fn first_reading(
-    alloc: Global,
-    colors: &[Color],
-) -> Result<Option<FoundAnywhere>, AllocError>
+fn first_reading(alloc: Global, colors: &[Color]) -> Result<Option<FoundAnywhere>, AllocError>
     ensures reading { IfOk result (λ found. IfSome found (λ any. IsReadAnywhere colors.now
         any.position any.is_inverted any.reading.version any.reading.ec_level any.reading.mask
         any.reading.data.items any.reading.wrong.items)) }

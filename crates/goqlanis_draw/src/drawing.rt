@@ -29,13 +29,7 @@ pub fn draw(alloc: Global, request: &Request<'_>, bytes: &[u8]) -> QrResult<Vec<
     ensures drawing { IfOk result (λ drawing. IsDrawing request.now bytes.now drawing.items) }
     ensures causes { IfErr result (IsRefusalOf request.now bytes.now) }
 {
-    let code = symbol_in(
-        alloc,
-        request.choice,
-        request.manner,
-        request.level,
-        bytes,
-    )?;
+    let code = symbol_in(alloc, request.choice, request.manner, request.level, bytes)?;
     let drawing = drawing_of(alloc, request, &code)?;
     Ok(drawing)
 }

@@ -76,7 +76,17 @@ pub static FORMATS: &[Row] = &[
 ];
 
 // The formats of the library for C, in the order of their numbers, from 0 on.
-static IN_C: &[Format] = &[HalfBlocks, LightHalfBlocks, Svg, Pic, Grey, Png, Eps, Pbm, SvgPath];
+static IN_C: &[Format] = &[
+    HalfBlocks,
+    LightHalfBlocks,
+    Svg,
+    Pic,
+    Grey,
+    Png,
+    Eps,
+    Pbm,
+    SvgPath,
+];
 
 /// The format of a number in C.
 pub fn format_numbered(number: u32) -> Option<Format>
