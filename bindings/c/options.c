@@ -3,7 +3,7 @@
 #include <stdio.h>
 #include <string.h>
 
-static uint8_t modules[GOQ_MODULES_MAX], other[GOQ_MODULES_MAX], out[100000];
+static uint8_t modules[GOQ_MODULES_MAX + 1], other[GOQ_MODULES_MAX], out[100000];
 static goq_symbol symbol;
 static int wrong;
 
@@ -36,7 +36,7 @@ static void makes(const char *data, goq_options options, uint32_t version, uint3
     expect(symbol.width == goq_width(version) && modules[symbol.width * symbol.width] == 7, data);
 }
 
-/* Digits at each level of Normal 1: 17, 27, 34, 41; 5 in Micro 1 and 10 in Micro 2 at L, 18 in
+/* Digits at each level of Normal 1: 17, 27, 34, 41; 5 in Micro 1 at L, 8 in Micro 2 and 18 in
    Micro 3 at M (ISO/IEC 18004:2006, table 7). */
 static void choices(void)
 {
@@ -58,7 +58,7 @@ static void choices(void)
     given.version = 40;
     makes("0", given, 40, GOQ_M);
     given.version = GOQ_MICRO(2);
-    makes("0123456789", given, GOQ_MICRO(2), GOQ_M);
+    makes("01234567", given, GOQ_MICRO(2), GOQ_M);
     expect(encode("01234567", &plain) == GOQ_OK, "the symbol of digits");
     goq_encode((const uint8_t *)"01234567", 8, GOQ_M, other, sizeof other, &symbol);
     expect(!memcmp(modules, other, 441), "the same as that of goq_encode");

@@ -27,7 +27,14 @@ pub extern "C" fn goq_draw(
     ensures { IsTold (WritesPicture modules.now width (plain zone scale format) out.old out.new)
         result count.old count.new }
 {
-    goq_draw_with(alloc, modules, width, &plain(zone, scale, format), out, count)
+    goq_draw_with(
+        alloc,
+        modules,
+        width,
+        &plain(zone, scale, format),
+        out,
+        count,
+    )
 }
 
 /// The length of the picture that `goq_draw` would write, to `count`; of PNG that of a file that shows

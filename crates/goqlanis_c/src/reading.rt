@@ -3,8 +3,9 @@
 ghost use Rattle.goqlanis_buffers.specs.Calls.{IsTold, TellsMask, TellsReadLength, WritesAnyReading, WritesReading, WritesTextReading};
 
 use goqlanis_buffers::answers::answer;
-use goqlanis_buffers::reading::{AnyReading, Reading};
-use goqlanis_buffers::reading::{mask_of, read_any_into, read_into, read_length, read_text_into};
+use goqlanis_buffers::reading::{
+    AnyReading, Reading, mask_of, read_any_into, read_into, read_length, read_text_into,
+};
 use std::alloc::Global;
 
 /// The bytes of a square of modules, which are bytes in row order, dark where they are not zero, without
