@@ -1,17 +1,21 @@
-"""Builds the wheel with the standard library alone, so that `pip install ./bindings/python` works offline: the package, and the shared library in it.
+"""Builds the wheel with the standard library alone, so that `pip install ./bindings/python` works
+offline: the package, and the shared library in it.
 
-The library is that of GOQLANIS_LIB, where that is set, and else the one that `bindings/c/build` makes.
+The library is that of GOQLANIS_LIB, where that is set, and else the one that `bindings/c/build`
+makes.
 """
 import base64
 import hashlib
 import os
+import re
 import subprocess
 import tempfile
 import zipfile
 from pathlib import Path
 
 HERE = Path(__file__).resolve().parent
-NAME, VERSION = "goqlanis", "1.0.0"
+NAME = "goqlanis"
+VERSION = re.search('__version__ = "(.*)"', (HERE / NAME / "__init__.py").read_text())[1]
 TAG = "py3-none-linux_x86_64"
 INFO = f"{NAME}-{VERSION}.dist-info"
 METADATA = f"""Metadata-Version: 2.1
@@ -39,7 +43,8 @@ def library():
 
 
 def build_wheel(wheel_directory, config_settings=None, metadata_directory=None):
-    files = {f"{NAME}/{path.name}": path.read_bytes() for path in sorted((HERE / NAME).iterdir()) if path.suffix in (".py", ".typed")}
+    paths = [it for it in sorted((HERE / NAME).iterdir()) if it.suffix in (".py", ".typed")]
+    files = {f"{NAME}/{path.name}": path.read_bytes() for path in paths}
     files[f"{NAME}/libgoqlanis.so.1"] = library()
     files[f"{INFO}/METADATA"] = METADATA.encode()
     files[f"{INFO}/WHEEL"] = WHEEL.encode()

@@ -49,8 +49,10 @@ def drawn(modules: bytes, width: int, usual_zone: int, name: str, look: Look) ->
     out = _room(count.value)
     place = (ctypes.c_char * len(out)).from_buffer(out)
     refuse(library.goq_draw_with(*given, place, len(out), ctypes.byref(count)))
-    head = b"P5\n%d %d\n255\n" % (side, side) if name == "pgm" else b""
-    return head + bytes(out)
+    if name == "pgm":
+        return b"P5\n%d %d\n255\n" % (side, side) + out
+    # Renderers that know no opacity in a colour know this one.
+    return bytes(out).replace(b'"#00000000"', b'"none"') if name == "svg" else bytes(out)
 
 
 def _room(count: int) -> bytearray:

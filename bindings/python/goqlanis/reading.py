@@ -11,11 +11,10 @@ from .symbol import Symbol
 Modules = Union[Symbol, Sequence[Sequence[bool]]]
 POSITIONS = ("upright", "turned left", "upside down", "turned right", "mirrored", "flipped",
              "transposed", "antitransposed")
-STRANGER, MISSING, TWICE = 26, 27, 28
-JOINS = {25: "square {place} has no header of one of several symbols",
-         STRANGER: "square {place} is a part of other data than the first",
-         MISSING: "part {place} is missing", TWICE: "part {place} is there twice",
-         29: "the parts are not those of the data that their headers name"}
+JOINS = {26: "square {place} has no header of one of several symbols",
+         27: "square {place} is a part of other data than the first",
+         28: "part {place} is missing", 29: "part {place} is there twice",
+         30: "the parts are not those of the data that their headers name"}
 
 
 class Reading(NamedTuple):
