@@ -36,27 +36,27 @@ A symbol, or a square of modules, is read back:
 >>> goqlanis.read(symbol).data, goqlanis.read_text(symbol.matrix)
 (b'https://example.org', 'https://example.org')
 
-What is refused is an exception of its own name, all of them a goqlanis.Error:
+What is refused is an exception of its own name, all of them a goqlanis.Error (help(goqlanis.errors)
+lists them), and its text says what would help:
 
 >>> goqlanis.encode("a" * 3000)
 Traceback (most recent call last):
     ...
 goqlanis.NoRoom: 3,000 bytes at level M: at most 2,331 unless they are digits or capitals; no \
 level holds them: encode_sequence parts them between symbols
+
+help(goqlanis.encode), help(goqlanis.Symbol) and help(goqlanis.contents) say all that may be asked.
 """
 from . import contents
 from .encoding import (encode, encode_gs1, encode_segments, encode_sequence, encode_text,
                        is_functional, least_version, least_version_of_segments)
-from .errors import (Damaged, Error, LevelNotInVersion, NoFormat, NoMode, NoRoom, NoSuchLevel,
-                     NoSuchMask, NoSuchNumber, NoSuchSide, NoSuchSize, NoSuchVersion, NotInFormat,
-                     NotInMode, NotJoined, NotShown, NotSpelled, OutOfMemory, TooLong, Unread)
-from .reading import AnyReading, Reading, join, read, read_any, read_text
+from .errors import *  # noqa: F403 - its __all__ alone
+from .reading import AnyReading as AnyReading
+from .reading import Reading as Reading
+from .reading import join, read, read_any, read_text
 from .symbol import Symbol
 
 __version__ = "1.0.0"
 __all__ = ["contents", "Symbol", "encode", "encode_sequence", "encode_segments", "encode_gs1",
-           "encode_text", "read", "read_any", "read_text", "join", "Reading", "AnyReading",
-           "least_version", "least_version_of_segments", "is_functional", "Error", "NoRoom",
-           "NoMode", "NoSuchVersion", "NoSuchLevel", "LevelNotInVersion", "NoSuchMask", "TooLong",
-           "NotInMode", "NoSuchNumber", "NoSuchSize", "NotInFormat", "OutOfMemory", "Unread",
-           "NoSuchSide", "NoFormat", "Damaged", "NotSpelled", "NotShown", "NotJoined"]
+           "encode_text", "read", "read_any", "read_text", "join", "least_version",
+           "least_version_of_segments", "is_functional"]

@@ -31,7 +31,7 @@ def _write_whole(path: str, data: bytes) -> None:
     try:
         descriptor, beside = tempfile.mkstemp(prefix=".goqlanis-", dir=folder)
     except OSError as error:
-        raise type(error)(error.errno, f"{error.strerror} (in its folder)", path) from None
+        raise OSError(error.errno, f"{error.strerror} in the folder {folder}", path) from None
     try:
         with open(descriptor, "wb") as file:
             file.write(data)

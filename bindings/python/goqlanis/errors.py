@@ -1,6 +1,11 @@
 """What the library refuses, each cause under its own name."""
 from typing import Dict, Tuple, Type
 
+__all__ = ["Error", "NoSuchLevel", "NoSuchVersion", "LevelNotInVersion", "TooLong", "NoMode",
+           "NoRoom", "NoSuchMask", "OutOfMemory", "NoSuchSize", "NotInFormat", "NotInMode",
+           "NoSuchNumber", "Unread", "NoSuchSide", "NoFormat", "Damaged", "NotSpelled", "NotShown",
+           "NotJoined"]
+
 
 class Error(Exception):
     """The library refused; the text says what would help."""
@@ -104,9 +109,8 @@ _CAUSES: Dict[int, Tuple[Type[Error], str]] = {
 }
 
 # They are shown as the package exports them.
-EXPORTED = [it for it in list(globals().values()) if isinstance(it, type) and issubclass(it, Error)]
-for _each in EXPORTED:
-    _each.__module__ = "goqlanis"
+for _name in __all__:
+    globals()[_name].__module__ = "goqlanis"
 
 
 def refusal(answer: int, text: str = "", of: str = "") -> Error:
