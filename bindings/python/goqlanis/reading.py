@@ -1,5 +1,6 @@
 """Squares of modules, read back."""
 import ctypes
+import os
 from typing import Any, Iterable, NamedTuple, Sequence, Union
 
 from . import _checks
@@ -123,6 +124,9 @@ def _modules_of(square: Modules) -> bytes:
     """The modules of a square, a byte each."""
     if isinstance(square, Symbol):
         return square.modules
+    if isinstance(square, (str, bytes, os.PathLike)):
+        raise TypeError(f"square is a Symbol or rows of modules, not {square!r}: a picture is read "
+                        "by the program `goqlanis read`")
     given = _checks.listed("square", square, "rows of modules, or a Symbol")
     rows = [_row(f"row {at + 1} of the square", it) for at, it in enumerate(given)]
     if any(len(row) != len(rows) for row in rows):
