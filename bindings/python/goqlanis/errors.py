@@ -105,7 +105,7 @@ _CAUSES: Dict[int, Tuple[Type[Error], str]] = {
     22: (NoSuchMask, "the masks are 0 to 7, in Micro 0 to 3"),
     23: (NotInFormat, "PNG and SVG have colours, EPS opaque ones, and PNG alone has dpi"),
     24: (NotShown, "the bits are not a text that readers show; read gives the bytes"),
-    25: (Unread, "the square is read in none of the sixteen positions"),
+    30: (Unread, "the square is read in none of the sixteen positions"),
 }
 
 # They are shown as the package exports them.

@@ -12,10 +12,10 @@ from .symbol import Symbol
 Modules = Union[Symbol, Sequence[Sequence[bool]]]
 POSITIONS = ("upright", "turned left", "upside down", "turned right", "mirrored", "flipped",
              "transposed", "antitransposed")
-JOINS = {26: "square {place} has no header of one of several symbols",
-         27: "square {place} is a part of other data than the first",
-         28: "part {place} is missing", 29: "part {place} is there twice",
-         30: "the parts are not those of the data that their headers name"}
+JOINS = {25: "square {place} has no header of one of several symbols",
+         26: "square {place} is a part of other data than the first",
+         27: "part {place} is missing", 28: "part {place} is there twice",
+         29: "the parts are not those of the data that their headers name"}
 
 
 class Reading(NamedTuple):
