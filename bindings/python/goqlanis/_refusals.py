@@ -27,6 +27,8 @@ def _no_level(asked: Any) -> str:
 
 def _no_mode(asked: Any) -> str:
     name = version_name(asked.version)
+    if isinstance(asked, Segments) and any(row.kind >= len(MODES) for row in asked.rows):
+        return f"version {name} has no headers, as all of Micro QR; take 1 to 40"
     if isinstance(asked, Segments):
         return f"version {name} has not all modes of the segments; M3, M4 and 1 to 40 have"
     if isinstance(asked, Data) and asked.manner >= AS_MARKED_TEXT:
