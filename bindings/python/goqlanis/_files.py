@@ -22,11 +22,11 @@ def _write_whole(path: str, data: bytes) -> None:
     """Writes a file under another name beside it, which nobody else may read, and renames that. A
     link is followed, the permissions of an old file stay, and what is no file is written straight.
     """
-    place = os.path.realpath(path)
-    if os.path.exists(place) and not os.path.isfile(place):
-        with open(place, "wb") as file:
+    if os.path.exists(path) and not os.path.isfile(path):
+        with open(path, "wb") as file:
             file.write(data)
         return
+    place = os.path.realpath(path)
     folder = os.path.dirname(place)
     try:
         descriptor, beside = tempfile.mkstemp(prefix=".goqlanis-", dir=folder)
