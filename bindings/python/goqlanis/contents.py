@@ -190,8 +190,8 @@ def hotp(account: str, secret: str, issuer: str = "", algorithm: str = "SHA1", d
          counter: int = 0) -> str:
     """The link of one-time passwords that change with a counter, which begins here.
 
-    >>> hotp("alice@google.com", "JBSWY3DPEHPK3PXP", algorithm="SHA256", digits=8)[-49:]
-    'JBSWY3DPEHPK3PXP&algorithm=SHA256&digits=8&counter=0'
+    >>> hotp("alice@google.com", "JBSWY3DPEHPK3PXP", algorithm="SHA256", digits=8)
+    'otpauth://hotp/alice@google.com?secret=JBSWY3DPEHPK3PXP&algorithm=SHA256&digits=8&counter=0'
     """
     key = _key(account, secret, issuer, algorithm, digits)
     return text_of(HOTP, [*key, ("counter", counter)])

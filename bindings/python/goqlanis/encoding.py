@@ -190,10 +190,10 @@ def encode_gs1(elements: Elements, level: str = "M", version: Optional[Version] 
 
     >>> encode_gs1([("01", "03453120000011"), ("17", "191125"), ("10", "ABCD1234")]).version
     '2'
-    >>> encode_gs1([("01", "03453120000012")])
+    >>> encode_gs1([("20", "123")])
     Traceback (most recent call last):
         ...
-    goqlanis.contents.WrongCheckDigits: elements[0]: the check digits are wrong
+    goqlanis.contents.WrongLength: elements[0]: its value has too few or too many characters
     """
     given, versions = elements_of(elements), _versions(version, least_version, False)
     string_of(given)
