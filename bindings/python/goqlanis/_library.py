@@ -2,7 +2,7 @@
 import ctypes
 import ctypes.util
 import os
-from typing import Any, Dict, List
+from typing import Any, Callable, Dict, List
 
 MOST_MODULES = 177 * 177
 MOST_BYTES = 7089
@@ -99,11 +99,18 @@ def _load() -> ctypes.CDLL:
     loaded = ctypes.CDLL(found)
     for name, arguments in _CALLS.items():
         if not hasattr(loaded, name):
-            raise ImportError(f"{found} has no {name}: it is older than this package")
+            setattr(loaded, name, _lacking(found, name))
         call = getattr(loaded, name)
         call.argtypes, call.restype = arguments, _number
     loaded.goq_is_functional.restype = ctypes.c_bool
     return loaded
+
+
+def _lacking(found: str, name: str) -> Callable[..., int]:
+    """What stands for a call that an older library does not have."""
+    def call(*given: Any) -> int:
+        raise NotImplementedError(f"{found} has no {name}: it is older than this package")
+    return call
 
 
 library = _load()
