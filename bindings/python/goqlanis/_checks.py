@@ -1,4 +1,5 @@
 """What a caller gives, checked before the library sees it."""
+import numbers
 import operator
 from typing import Any, Callable, Iterable, List, Optional, Tuple
 
@@ -21,9 +22,9 @@ def whole(name: str, value: Any, least: int, most: int,
 
 
 def _index(value: Any) -> Optional[int]:
-    """The whole number that a value is, where it is one."""
+    """The whole number that a value is, where it is one; numpy has bools of its own."""
     try:
-        return None if isinstance(value, bool) else operator.index(value)
+        return None if "bool" in type(value).__name__ else operator.index(value)
     except TypeError:
         return None
 
@@ -79,7 +80,7 @@ def _shown(value: Any) -> str:
 
 def _bytes_of(value: Any) -> str:
     """What would make data of a value, where something does."""
-    if isinstance(value, (int, float)):
+    if isinstance(value, numbers.Number):
         return f": take str({value})"
     if hasattr(value, "read_bytes"):
         return ": take str(..) for the path, or .read_bytes() for what is in the file"
