@@ -16,7 +16,6 @@ from pathlib import Path
 HERE = Path(__file__).resolve().parent
 NAME = "goqlanis"
 VERSION = re.search('__version__ = "(.*)"', (HERE / NAME / "__init__.py").read_text())[1]
-TAG = "py3-none-linux_x86_64"
 INFO = f"{NAME}-{VERSION}.dist-info"
 METADATA = f"""Metadata-Version: 2.1
 Name: {NAME}
@@ -25,10 +24,10 @@ Summary: QR and Micro QR symbols by a library that is proved correct
 Requires-Python: >=3.8
 License: MIT OR Apache-2.0
 """
-WHEEL = f"""Wheel-Version: 1.0
+WHEEL = """Wheel-Version: 1.0
 Generator: goqlanis
 Root-Is-Purelib: false
-Tag: {TAG}
+Tag: {tag}
 """
 
 
@@ -42,19 +41,26 @@ def library():
         return (Path(folder) / "libgoqlanis.so.1").read_bytes()
 
 
+def tag(made):
+    """Where a library runs: with the least glibc that has all symbols that it uses, or a later."""
+    used = re.findall(rb"GLIBC_(\d+)\.(\d+)", made)
+    major, minor = max(tuple(map(int, version)) for version in used)
+    return f"py3-none-manylinux_{major}_{minor}_x86_64"
+
+
 def build_wheel(wheel_directory, config_settings=None, metadata_directory=None):
     paths = [it for it in sorted((HERE / NAME).iterdir()) if it.suffix in (".py", ".typed")]
     files = {f"{NAME}/{path.name}": path.read_bytes() for path in paths}
-    files[f"{NAME}/libgoqlanis.so.1"] = library()
+    files[f"{NAME}/libgoqlanis.so.1"] = made = library()
     files[f"{INFO}/METADATA"] = METADATA.encode()
-    files[f"{INFO}/WHEEL"] = WHEEL.encode()
+    files[f"{INFO}/WHEEL"] = WHEEL.format(tag=tag(made)).encode()
     record = [f"{name},sha256={digest(data)},{len(data)}\n" for name, data in files.items()]
     files[f"{INFO}/RECORD"] = "".join([*record, f"{INFO}/RECORD,,\n"]).encode()
-    made = f"{NAME}-{VERSION}-{TAG}.whl"
-    with zipfile.ZipFile(Path(wheel_directory) / made, "w", zipfile.ZIP_DEFLATED) as wheel:
-        for name, data in files.items():
-            wheel.writestr(name, data)
-    return made
+    name = f"{NAME}-{VERSION}-{tag(made)}.whl"
+    with zipfile.ZipFile(Path(wheel_directory) / name, "w", zipfile.ZIP_DEFLATED) as wheel:
+        for path, data in files.items():
+            wheel.writestr(path, data)
+    return name
 
 
 def digest(data):
