@@ -63,9 +63,16 @@ def _no_room(asked: Any, said: str) -> str:
     else:
         text = f"no version holds {said} at level {level}"
     helps = _helps(asked)
-    if not helps and isinstance(asked, Data) and asked.manner < AS_MARKED_TEXT:
+    if helps:
+        return f"{text}; {helps} holds them"
+    if isinstance(asked, Data) and asked.manner < AS_MARKED_TEXT and _are_held(asked):
         return f"{text}; no level holds them: encode_sequence parts them between symbols"
-    return f"{text}; {helps} holds them" if helps else f"{text}, and no level does"
+    return f"{text}; no level holds them"
+
+
+def _are_held(asked: Data) -> bool:
+    """Whether several symbols hold data between them."""
+    return Parts(asked.data, 0, asked.manner, 1, 40, 0).answer()[0] == 0
 
 
 def _helps(asked: Any) -> str:
