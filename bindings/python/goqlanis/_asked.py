@@ -6,7 +6,7 @@ from ._checks import LEVELS, version_name
 from ._library import MOST_MODULES, MOST_SYMBOLS, Known, Options, Segment, Several, library
 from .symbol import Symbol
 
-AS_BYTES, AS_TEXT, AS_MARKED_TEXT, IN_SET = range(4)
+AS_BYTES, AS_TEXT, AS_MARKED_TEXT = range(3)
 MICRO_1 = 41
 
 Answer = Tuple[int, List[Symbol]]
@@ -34,10 +34,9 @@ class Data(NamedTuple):
     version: int
     least_version: int
     boost: int
-    mask: int
 
     def options(self) -> Options:
-        return Options(ctypes.sizeof(Options), *self[1:])
+        return Options(ctypes.sizeof(Options), *self[1:], 0)
 
     def answer(self) -> Answer:
         options = ctypes.byref(self.options())
@@ -45,7 +44,7 @@ class Data(NamedTuple):
 
     def of_any_version(self) -> "Data":
         least = MICRO_1 if self.version > 40 else 1
-        return self._replace(version=0, least_version=least, boost=0, mask=0)
+        return self._replace(version=0, least_version=least, boost=0)
 
 
 class Parts(NamedTuple):
@@ -94,13 +93,12 @@ class Elements(NamedTuple):
     level: int
     version: int
     least_version: int
-    mask: int
 
     def answer(self) -> Answer:
-        _, level, version, least, mask = self
-        options = Data(b"", level, AS_BYTES, version, least, 0, mask).options()
+        _, level, version, least = self
+        options = Data(b"", level, AS_BYTES, version, least, 0).options()
         given = self.elements, len(self.elements), ctypes.byref(options)
         return _made(library.goq_encode_gs1, *given, behind=[ctypes.c_size_t()])
 
     def of_any_version(self) -> "Elements":
-        return self._replace(version=0, least_version=1, mask=0)
+        return self._replace(version=0, least_version=1)

@@ -2,7 +2,7 @@
 from typing import Any, Iterable, List, Optional, Tuple, Union
 
 from . import _asked, _checks, _refusals
-from ._asked import AS_BYTES, AS_MARKED_TEXT, AS_TEXT, IN_SET, MICRO_1
+from ._asked import AS_BYTES, AS_MARKED_TEXT, AS_TEXT, MICRO_1
 from ._library import MOST_SYMBOLS, Segment, library
 from ._fields import elements_of, string_of
 from .errors import NoSuchNumber
@@ -29,14 +29,13 @@ def _one(asked: Any, said: str) -> Symbol:
 
 def encode(data: Data, level: str = "M", version: Optional[Version] = None, *,
            least_version: Optional[Version] = None, micro: bool = False, boost: bool = False,
-           mask: Optional[int] = None, marked: bool = False, eci: Optional[int] = None) -> Symbol:
+           marked: bool = False, eci: Optional[int] = None) -> Symbol:
     """The symbol of a text or of bytes at a level ("L", "M", "Q", "H"), of the least version of
     Normal QR that holds it, or of a `version`.
 
     - `micro`: takes Micro QR, where it holds the data;
     - `least_version`: takes no lesser version;
-    - `boost`: takes the highest level, from `level` on, for which that version has room;
-    - `mask`: takes this one, and not the one of least penalty;
+    - `boost`: takes the highest level, from `level` on, for which the least version has room;
     - `marked`: writes in front that the text is UTF-8, for readers that guess;
     - `eci`: writes in front the number of the character set of the bytes, as 7 for ISO 8859-2.
 
@@ -44,8 +43,8 @@ def encode(data: Data, level: str = "M", version: Optional[Version] = None, *,
     <goqlanis.Symbol 2-M>
     >>> encode(bytes([0, 255]), "H", version=7)
     <goqlanis.Symbol 7-H>
-    >>> encode("HELLO", micro=True), encode("HELLO", boost=True), encode("HELLO", mask=3).mask
-    (<goqlanis.Symbol M2-M>, <goqlanis.Symbol 1-H>, 3)
+    >>> encode("HELLO", micro=True), encode("HELLO", boost=True)
+    (<goqlanis.Symbol M2-M>, <goqlanis.Symbol 1-H>)
     >>> encode("Größe: 5 m²").version, encode("Größe: 5 m²", marked=True).version
     ('1', '2')
     >>> encode("Živjo".encode("iso8859_2"), eci=7).version
@@ -62,23 +61,24 @@ level M holds them
     """
     octets, is_text = _checks.data(data)
     manner, versions = _manner(is_text, marked, eci), _versions(version, least_version, micro)
-    is_boosted = _checks.flag("boost", boost)
-    return _one(_asked.Data(octets, _checks.level(level), manner, *versions, is_boosted,
-                            _mask(mask)), f"{len(octets):,} bytes")
+    if _checks.flag("boost", boost) and version is not None:
+        raise ValueError("version and boost: take least_version in place of version")
+    if eci is None or is_text:
+        return _one(_asked.Data(octets, _checks.level(level), manner, *versions, boost),
+                    f"{len(octets):,} bytes")
+    if least_version is not None or micro or boost:
+        raise ValueError("bytes behind eci: give no more than level and version beside it")
+    return encode_segments([("eci", eci), ("byte", octets)], level, version)
 
 
 def _manner(is_text: bool, marked: bool, eci: Optional[int]) -> int:
-    """How data is written."""
+    """How data is written that is no bytes behind a number."""
     if _checks.flag("marked", marked) and not is_text:
         raise TypeError("marked is of a str; of bytes eci=26 says that they are UTF-8")
-    if eci is None:
-        return AS_MARKED_TEXT if marked else AS_TEXT if is_text else AS_BYTES
-    number = _checks.whole("eci", eci, 0, MOST_SET, NoSuchNumber)
-    if not is_text:
-        return IN_SET + number
-    if number != UTF_8:
+    number = None if eci is None else _checks.whole("eci", eci, 0, MOST_SET, NoSuchNumber)
+    if is_text and number not in (None, UTF_8):
         raise ValueError(f"eci={number} is of bytes: give data.encode(..) in that character set")
-    return AS_MARKED_TEXT
+    return AS_MARKED_TEXT if marked or number else AS_TEXT if is_text else AS_BYTES
 
 
 def _versions(version: Optional[Version], least: Optional[Version], micro: bool) -> Tuple[int, int]:
@@ -90,10 +90,6 @@ def _versions(version: Optional[Version], least: Optional[Version], micro: bool)
     asked = 0 if version is None else _checks.version(version)
     first = MICRO_1 if micro else 1 if least is None else _checks.version(least)
     return asked, first
-
-
-def _mask(mask: Optional[int]) -> int:
-    return 0 if mask is None else 1 + _checks.whole("mask", mask, 0, 7)
 
 
 def encode_text(text: str, level: str = "M", marked: bool = False) -> Symbol:
@@ -185,7 +181,7 @@ def _segment(name: str, given: Any) -> Segment:
 
 
 def encode_gs1(elements: Elements, level: str = "M", version: Optional[Version] = None, *,
-               least_version: Optional[Version] = None, mask: Optional[int] = None) -> Symbol:
+               least_version: Optional[Version] = None) -> Symbol:
     """The smallest symbol of elements of GS1, as `contents.gs1` takes them.
 
     >>> encode_gs1([("01", "03453120000011"), ("17", "191125"), ("10", "ABCD1234")]).version
@@ -197,8 +193,7 @@ def encode_gs1(elements: Elements, level: str = "M", version: Optional[Version] 
     """
     given, versions = elements_of(elements), _versions(version, least_version, False)
     string_of(given)
-    return _one(_asked.Elements(given, _checks.level(level), *versions, _mask(mask)),
-                "the elements")
+    return _one(_asked.Elements(given, _checks.level(level), *versions), "the elements")
 
 
 def least_version(data: Data, level: str = "M") -> str:

@@ -2,7 +2,7 @@
 from typing import Dict, Tuple, Type
 
 __all__ = ["Error", "NoSuchLevel", "NoSuchVersion", "LevelNotInVersion", "TooLong", "NoMode",
-           "NoRoom", "NoSuchMask", "OutOfMemory", "NoSuchSize", "NotInFormat", "NotInMode",
+           "NoRoom", "OutOfMemory", "NoSuchSize", "NotInFormat", "NotInMode",
            "NoSuchNumber", "Unread", "NoSuchSide", "NoFormat", "Damaged", "NotSpelled", "NotShown",
            "NotJoined"]
 
@@ -33,10 +33,6 @@ class NoMode(Error, ValueError):
 
 class NoRoom(Error, ValueError):
     """No symbol of the asked kind holds the data."""
-
-
-class NoSuchMask(Error, ValueError):
-    """The version has no mask of the number."""
 
 
 class OutOfMemory(Error, MemoryError):
@@ -103,7 +99,6 @@ _CAUSES: Dict[int, Tuple[Type[Error], str]] = {
     18: (Damaged, "a block has too many wrong codewords"),
     19: (NotSpelled, "the bits are not segments and an end, as behind a header; join reads "
          "several symbols, read_text a text that says that it is UTF-8"),
-    22: (NoSuchMask, "the masks are 0 to 7, in Micro 0 to 3"),
     23: (NotInFormat, "PNG and SVG have colours, EPS opaque ones, and PNG alone has dpi"),
     24: (NotShown, "the bits are not a text that readers show; read gives the bytes"),
     30: (Unread, "the square is read in none of the sixteen positions"),
