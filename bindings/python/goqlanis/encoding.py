@@ -106,15 +106,10 @@ def encode_sequence(data: Data, level: str = "M", version: Optional[Version] = N
                     greatest_version: Optional[Version] = None) -> List[Symbol]:
     """The symbols between which data is parted (structured append), at most 16: as few as there can
     be, and these of the least version; or `count` of them. They are of a `version` of Normal QR, or
-    of one from `least_version` to `greatest_version`. A single symbol has no header. `join` reads
-    them back.
+    of one from `least_version` to `greatest_version`. A single symbol has no header.
 
-    >>> from goqlanis import join
-    >>> symbols = encode_sequence("All that is gold does not glitter", "L", count=3)
-    >>> symbols
+    >>> encode_sequence("All that is gold does not glitter", "L", count=3)
     [<goqlanis.Symbol 1-L>, <goqlanis.Symbol 1-L>, <goqlanis.Symbol 1-L>]
-    >>> join(symbols)
-    b'All that is gold does not glitter'
     """
     octets, is_text = _checks.data(data)
     if version is not None and (least_version is not None or greatest_version is not None):
