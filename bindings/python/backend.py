@@ -14,7 +14,8 @@ import zipfile
 from pathlib import Path
 
 HERE = Path(__file__).resolve().parent
-NAME, VERSION = "goqlanis", "1.0.0"
+NAME = "goqlanis"
+VERSION = re.search('__version__ = "(.*)"', (HERE / NAME / "__init__.py").read_text())[1]
 INFO = f"{NAME}-{VERSION}.dist-info"
 METADATA = f"""Metadata-Version: 2.1
 Name: {NAME}

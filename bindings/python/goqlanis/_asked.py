@@ -1,0 +1,104 @@
+"""What is asked of the library in its own numbers, and what it answers."""
+import ctypes
+from typing import Any, List, NamedTuple, Sequence, Tuple
+
+from ._checks import LEVELS, version_name
+from ._library import MOST_MODULES, MOST_SYMBOLS, Known, Options, Segment, Several, library
+from .symbol import Symbol
+
+AS_BYTES, AS_TEXT, AS_MARKED_TEXT = range(3)
+MICRO_1 = 41
+
+Answer = Tuple[int, List[Symbol]]
+
+
+def _made(call: Any, *given: Any, behind: Sequence[Any] = (), most: int = 1) -> Answer:
+    """What a call answers that fills modules, and the symbols where that is 0: one, or as many as
+    `behind` says."""
+    known = Known()
+    modules: Any = ctypes.create_string_buffer(most * MOST_MODULES)
+    answer = call(*given, modules, len(modules), ctypes.byref(known), *map(ctypes.byref, behind))
+    if answer:
+        return answer, []
+    size, count = known.width * known.width, behind[0].value if most > 1 else 1
+    name, level = version_name(known.version), LEVELS[known.level]
+    parts = (modules[at * size:(at + 1) * size] for at in range(count))
+    return 0, [Symbol(part, name, level) for part in parts]
+
+
+class Data(NamedTuple):
+    """The symbol of data: of a version, or of the least, which is 0."""
+    data: bytes
+    level: int
+    manner: int
+    version: int
+    least_version: int
+    boost: int
+
+    def options(self) -> Options:
+        return Options(ctypes.sizeof(Options), *self[1:], 0)
+
+    def answer(self) -> Answer:
+        options = ctypes.byref(self.options())
+        return _made(library.goq_encode_with, self.data, len(self.data), options)
+
+    def of_any_version(self) -> "Data":
+        least = MICRO_1 if self.version > 40 else 1
+        return self._replace(version=0, least_version=least, boost=0)
+
+
+class Parts(NamedTuple):
+    """Several symbols between which data is parted."""
+    data: bytes
+    level: int
+    manner: int
+    least_version: int
+    greatest_version: int
+    wanted: int
+
+    def answer(self) -> Answer:
+        options = ctypes.byref(Several(ctypes.sizeof(Several), *self[1:]))
+        given, count = (self.data, len(self.data), options), ctypes.c_size_t()
+        return _made(library.goq_encode_several, *given, behind=[count], most=MOST_SYMBOLS)
+
+
+class Segments(NamedTuple):
+    """The symbol of segments: of a version, or of the least of Normal, which is 0."""
+    rows: Sequence[Segment]
+    level: int
+    version: int
+
+    def given(self) -> Tuple[Any, int]:
+        return (Segment * len(self.rows))(*self.rows), len(self.rows)
+
+    def least(self) -> Tuple[int, int]:
+        """What the library answers about the least version, and its number."""
+        found = ctypes.c_uint32()
+        call = library.goq_least_version_of_segments
+        return call(*self.given(), self.level, ctypes.byref(found)), found.value
+
+    def answer(self) -> Answer:
+        answer, version = (0, self.version) if self.version else self.least()
+        if answer:
+            return answer, []
+        return _made(library.goq_encode_segments, *self.given(), version, self.level)
+
+    def of_any_version(self) -> "Segments":
+        return self._replace(version=0)
+
+
+class Elements(NamedTuple):
+    """The symbol of elements of GS1, in which nothing is wrong: of a version, or of the least."""
+    elements: Any
+    level: int
+    version: int
+    least_version: int
+
+    def answer(self) -> Answer:
+        _, level, version, least = self
+        options = Data(b"", level, AS_BYTES, version, least, 0).options()
+        given = self.elements, len(self.elements), ctypes.byref(options)
+        return _made(library.goq_encode_gs1, *given, behind=[ctypes.c_size_t()])
+
+    def of_any_version(self) -> "Elements":
+        return self._replace(version=0, least_version=1)

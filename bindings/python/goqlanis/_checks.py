@@ -1,0 +1,125 @@
+"""What a caller gives, checked before the library sees it."""
+import numbers
+import operator
+from typing import Any, Callable, Iterable, List, Optional, Tuple
+
+from .errors import NoSuchLevel, NoSuchVersion
+
+LEVELS = "LMQH"
+BINARY = (bytes, bytearray, memoryview)
+
+
+def whole(name: str, value: Any, least: int, most: int,
+          error: Callable[[str], Exception] = ValueError) -> int:
+    """A whole number in a range. Those of numpy are taken; True and 2.0 are none."""
+    number = _index(value)
+    if number is None:
+        raise TypeError(f"{name} is a whole number from {least:,} to {most:,}, not {value!r}"
+                        f"{_whole_of(value)}")
+    if not least <= number <= most:
+        raise error(f"{name} is a whole number from {least:,} to {most:,}, not {number:,}")
+    return number
+
+
+def _index(value: Any) -> Optional[int]:
+    """The whole number that a value is, where it is one; numpy has bools of its own."""
+    try:
+        return None if "bool" in type(value).__name__ else operator.index(value)
+    except TypeError:
+        return None
+
+
+def _whole_of(value: Any) -> str:
+    """What would make a whole number of a value, where something does."""
+    if isinstance(value, float) and abs(value) < 2**53:
+        return f": take {round(value)}"
+    if isinstance(value, str) and value.strip().isdecimal():
+        return f": take {int(value)}"
+    return ""
+
+
+def flag(name: str, value: Any) -> bool:
+    """True or False."""
+    if not isinstance(value, bool):
+        raise TypeError(f"{name} is True or False, not {value!r}")
+    return value
+
+
+def text(name: str, value: Any) -> str:
+    """A str."""
+    if isinstance(value, str):
+        return value
+    if isinstance(value, BINARY):
+        raise TypeError(f"{name} is a str, not bytes: take {name}.decode()")
+    raise TypeError(f"{name} is a str, not {value!r}: take str(..)")
+
+
+def binary(name: str, value: Any) -> bytes:
+    """Bytes."""
+    if isinstance(value, BINARY):
+        return bytes(value)
+    if isinstance(value, str):
+        raise TypeError(f"{name} is bytes, not a str: take {value[:20]!r}.encode()")
+    raise TypeError(f"{name} is bytes, not {_shown(value)}{_bytes_of(value)}")
+
+
+def data(value: Any) -> Tuple[bytes, bool]:
+    """Data as bytes, and whether it is a text."""
+    if isinstance(value, str):
+        return value.encode(), True
+    if isinstance(value, BINARY):
+        return bytes(value), False
+    raise TypeError(f"data is a str or bytes, not {_shown(value)}{_bytes_of(value)}")
+
+
+def _shown(value: Any) -> str:
+    """A value in few words."""
+    kind, said = type(value).__name__, repr(value)
+    return said if value is None else f"the {kind} {said if len(said) <= 40 else '..'}"
+
+
+def _bytes_of(value: Any) -> str:
+    """What would make data of a value, where something does."""
+    if isinstance(value, numbers.Number):
+        return f": take str({value})"
+    if hasattr(value, "read_bytes"):
+        return ": take str(..) for the path, or .read_bytes() for what is in the file"
+    if hasattr(value, "read"):
+        return ": take .read()"
+    if isinstance(value, (list, tuple, set, range)):
+        return ": take bytes(..) for numbers from 0 to 255, encode_segments for segments"
+    return "" if value is None else ": take str(..) or bytes(..)"
+
+
+def level(value: Any) -> int:
+    """The library's number of a level."""
+    if not isinstance(value, str):
+        raise TypeError(f"level is one of 'L', 'M', 'Q' and 'H', not {value!r}")
+    if len(value) != 1 or value.upper() not in LEVELS:
+        raise NoSuchLevel(f"no level {value!r}: take L, M, Q or H")
+    return LEVELS.index(value.upper())
+
+
+def version(value: Any) -> int:
+    """The library's number of a version, which is a text or, of Normal, a number."""
+    name = value if isinstance(value, str) else str(_index(value))
+    if name == "None":
+        raise TypeError(f"a version is '1' to '40' or 'M1' to 'M4', not {value!r}")
+    is_micro = name[:1] in ("M", "m")
+    digits, most = (name[1:], 4) if is_micro else (name, 40)
+    number = int(digits) if digits.isascii() and digits.isdigit() and len(digits) < 3 else 0
+    if not 1 <= number <= most:
+        raise NoSuchVersion(f"no version {value!r}: take 1 to 40 or M1 to M4")
+    return 40 + number if is_micro else number
+
+
+def version_name(number: int) -> str:
+    """A version's name by the library's number."""
+    return str(number) if number <= 40 else f"M{number - 40}"
+
+
+def listed(name: str, value: Any, of: str) -> List[Any]:
+    """A list of what an iterable gives, which is no text."""
+    if isinstance(value, (str, *BINARY)) or not isinstance(value, Iterable):
+        raise TypeError(f"{name}: a list of {of}, not {_shown(value)}")
+    return list(value)

@@ -1,0 +1,110 @@
+"""How symbols are drawn: the formats, and what may be asked of each."""
+import ctypes
+import os
+from typing import Any, NamedTuple, Optional, Tuple
+
+from . import _checks
+from ._colours import colour
+from ._library import Drawing, library
+from .errors import NoSuchSize, NotInFormat, OutOfMemory, refuse
+
+
+class Kind(NamedTuple):
+    """A format: the library's number, whether it is a text, and the usual pixels of a module."""
+    number: int
+    is_text: bool
+    scale: int
+
+
+KINDS = {"txt": Kind(0, True, 1), "png": Kind(5, False, 8), "svg": Kind(8, True, 8),
+         "eps": Kind(6, True, 8), "pic": Kind(3, True, 1), "pbm": Kind(7, False, 8),
+         "pgm": Kind(4, False, 8)}
+# Formats that are no files: half blocks for dark grounds, and rows of pixels.
+OTHERS = {"light": Kind(1, True, 1), "grey": Kind(4, False, 8)}
+MOST_SIDE = 65535
+
+
+class Look(NamedTuple):
+    """What is asked of a drawing, as a caller gives it; `border` and `quiet_zone` are one thing."""
+    scale: Any = None
+    border: Any = None
+    quiet_zone: Any = None
+    dark: Any = "black"
+    light: Any = "white"
+    dpi: Any = None
+
+
+def drawn(modules: bytes, width: int, usual_zone: int, name: str, look: Look) -> bytes:
+    """The drawing of modules in a format."""
+    kind = KINDS.get(name) or OTHERS[name]
+    zone, scale = _zone(look, usual_zone), _scale(look, kind)
+    dark, light, dpi = _ink(look, name)
+    side = (width + 2 * zone) * scale
+    if name == "png" and side > MOST_SIDE:
+        raise NoSuchSize(f"a PNG file of {side:,} pixels a side has more than {MOST_SIDE:,}: take "
+                         f"scale={MOST_SIDE // (width + 2 * zone)} or less")
+    drawing = Drawing(ctypes.sizeof(Drawing), kind.number, zone, scale, dark, light, dpi)
+    given, count = (modules, len(modules), width, ctypes.byref(drawing)), ctypes.c_size_t()
+    refuse(library.goq_draw_with_length(*given, ctypes.byref(count)))
+    out = _room(count.value)
+    place = (ctypes.c_char * len(out)).from_buffer(out)
+    refuse(library.goq_draw_with(*given, place, len(out), ctypes.byref(count)))
+    if name == "pgm":
+        return b"P5\n%d %d\n255\n" % (side, side) + out
+    # Renderers that know no opacity in a colour know this one.
+    return bytes(out).replace(b'"#00000000"', b'"none"') if name == "svg" else bytes(out)
+
+
+def _room(count: int) -> bytearray:
+    try:
+        return bytearray(count)
+    except (MemoryError, OverflowError):
+        raise OutOfMemory(f"a picture of {count:,} bytes: take a smaller scale") from None
+
+
+def _zone(look: Look, usual: int) -> int:
+    """The modules of the quiet zone."""
+    if look.border is not None and look.quiet_zone is not None:
+        raise TypeError("border and quiet_zone are one thing: give one of them")
+    name, value = ("border", look.border) if look.quiet_zone is None else \
+        ("quiet_zone", look.quiet_zone)
+    return usual if value is None else _checks.whole(name, value, 0, 32000, NoSuchSize)
+
+
+def _scale(look: Look, kind: Kind) -> int:
+    """The pixels of a module."""
+    if isinstance(look.scale, (str, os.PathLike)):
+        raise TypeError(f"scale is a whole number, not {look.scale!r}: symbol.save({look.scale!r}) "
+                        "writes a file")
+    return kind.scale if look.scale is None else \
+        _checks.whole("scale", look.scale, 1, MOST_SIDE, NoSuchSize)
+
+
+def _ink(look: Look, name: str) -> Tuple[int, int, int]:
+    """The colours of dark and light modules, and the dots per inch, 0 for none."""
+    dark, light = colour("dark", look.dark), colour("light", look.light)
+    if name not in ("png", "svg", "eps") and (dark, light) != (0x000000, 0xFFFFFF):
+        raise NotInFormat(f"{name.upper()} is black on white; PNG, SVG and EPS have colours")
+    if name == "eps" and max(dark, light) > 0xFFFFFF:
+        raise NotInFormat("EPS has opaque colours alone; PNG and SVG have transparent ones")
+    if dark == light:
+        raise ValueError(f"dark and light are one colour, {look.dark!r}: nobody sees the symbol")
+    if look.dpi is not None and name != "png":
+        raise NotInFormat(f"{name.upper()} names no dots per inch: PNG alone has dpi")
+    return dark, light, 0 if look.dpi is None else _checks.whole("dpi", look.dpi, 1, MOST_SIDE)
+
+
+def kind_of(out: Any, kind: Optional[str]) -> str:
+    """The format of a file: the one that is asked for, or that of its ending."""
+    known = ", ".join(KINDS)
+    if kind is not None:
+        found = _checks.text("kind", kind).lstrip(".").lower()
+        if found not in KINDS:
+            raise ValueError(f"no kind {kind!r}: take one of {known}")
+        return found
+    name = getattr(out, "name", "") if hasattr(out, "write") else os.fsdecode(out)
+    ending = os.path.splitext(name)[1] if isinstance(name, str) else ""
+    if ending[1:].lower() not in KINDS:
+        what = f"{name!r}: its ending is none of" if ending else "nothing names the format, one of"
+        raise ValueError(f"{what} {known}: add kind='png', or another one")
+    return ending[1:].lower()

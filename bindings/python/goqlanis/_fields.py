@@ -1,0 +1,177 @@
+"""The fields of contents, as the library takes them, and what it says of them."""
+import ctypes
+import datetime
+import decimal
+from typing import Any, Sequence, Tuple, Union
+
+from . import _checks
+from ._library import MOST_BYTES, Element, Field, library
+from .errors import Error, NoRoom, refuse
+
+Number = Union[int, float, str, decimal.Decimal]
+
+# Fields that are numbers; all others are texts.
+NUMBERS = {"security", "hidden", "amount", "currency", "latitude", "longitude", "algorithm",
+           "digits", "period", "counter", "stamp", "begin", "end"}
+
+
+class WrongField(Error, ValueError):
+    """The format cannot say a field: `field` is its name, or `text` for the text as a whole."""
+
+    why = "the format cannot say it"
+
+    def __init__(self, field: str):
+        super().__init__(field)
+        self.field = field
+
+    def __str__(self) -> str:
+        return f"{self.field}: {self.why}"
+
+
+class EmptyField(WrongField):
+    """The field may not be empty."""
+    why = "it may not be empty"
+
+
+class TooLong(WrongField):
+    """The field is longer than the format allows."""
+    why = "it is longer than the format allows"
+
+
+class TooShort(WrongField):
+    """The field is shorter than the format allows."""
+    why = "it is shorter than the format allows"
+
+
+class ControlCharacter(WrongField):
+    """The field has a line break or another control character."""
+    why = "it has a line break or another control character"
+
+
+class WrongCharacter(WrongField):
+    """The field has a character that the format does not allow there."""
+    why = "it has a character that the format does not allow there"
+
+
+class WrongCheckDigits(WrongField):
+    """The check digits are wrong."""
+    why = "the check digits are wrong; look for a digit that is wrong or exchanged"
+
+
+class OutOfRange(WrongField):
+    """The number is outside what the format allows."""
+    why = "the number is outside what the format allows"
+
+
+class Unused(WrongField):
+    """The field has no place beside what else is given."""
+    why = "it has no place beside what else is given"
+
+
+class UnknownIdentifier(WrongField):
+    """The application identifier is not in the table."""
+    why = "its application identifier is not in the table"
+
+
+class WrongLength(WrongField):
+    """The value of an element has too few or too many characters."""
+    why = "its value has too few or too many characters"
+
+
+_CAUSES = {34: EmptyField, 35: TooLong, 36: TooShort, 37: ControlCharacter, 38: WrongCharacter,
+           39: WrongCheckDigits, 40: OutOfRange, 41: Unused, 42: UnknownIdentifier,
+           43: WrongLength}
+for _each in (WrongField, *_CAUSES.values()):
+    _each.__module__ = "goqlanis.contents"
+
+
+def text_of(kind: int, fields: Sequence[Tuple[str, Union[str, int]]]) -> str:
+    """The text of a kind, of names and values in the library's order."""
+    rows = (Field * len(fields))(*(_field(name, value) for name, value in fields))
+    out, count, place = _room(), ctypes.c_size_t(), ctypes.c_size_t()
+    answer = library.goq_content(kind, rows, len(rows), out, MOST_BYTES, ctypes.byref(count),
+                                 ctypes.byref(place))
+    _refuse(answer, fields[place.value][0] if place.value < len(fields) else "text")
+    return bytes(out[:count.value]).decode()
+
+
+def _field(name: str, value: Union[str, int]) -> Field:
+    """A field, which is a number or a text by its name."""
+    if name not in NUMBERS:
+        data = _checks.text(name, value).encode()
+        return Field(0, data, len(data))
+    return Field(_checks.whole(name, value, -2**63, 2**63 - 1, lambda _: OutOfRange(name)), b"", 0)
+
+
+def elements_of(elements: Any) -> Any:
+    """Elements of GS1 as the library takes them."""
+    pairs = _checks.listed("elements", elements, "pairs, as ('01', '09501101530003')")
+    return (Element * len(pairs))(*(_element(f"elements[{at}]", it) for at, it in enumerate(pairs)))
+
+
+def _element(name: str, pair: Any) -> Element:
+    if not isinstance(pair, (tuple, list)) or len(pair) != 2:
+        raise TypeError(f"{name} is a pair, as ('01', '09501101530003'), not {pair!r}")
+    identifier, value = (_checks.text(f"each part of {name}", it).encode() for it in pair)
+    return Element(identifier, len(identifier), value, len(value))
+
+
+def string_of(elements: Any) -> bytes:
+    """The element string of elements, none of which may be wrong."""
+    out, count, place = _room(), ctypes.c_size_t(), ctypes.c_size_t()
+    answer = library.goq_gs1(elements, len(elements), out, MOST_BYTES, ctypes.byref(count),
+                             ctypes.byref(place))
+    _refuse(answer, f"elements[{place.value}]")
+    return bytes(out[:count.value])
+
+
+def _room() -> Any:
+    return ctypes.create_string_buffer(MOST_BYTES)
+
+
+def _refuse(answer: int, field: str) -> None:
+    """Raises what an answer of the library stands for."""
+    if answer in _CAUSES:
+        raise _CAUSES[answer](field)
+    if answer == 7:
+        raise NoRoom(f"no symbol holds a text of more than {MOST_BYTES:,} bytes")
+    refuse(answer)
+
+
+def choice(name: str, value: Any, choices: Tuple[Any, ...]) -> int:
+    """The library's number of a choice."""
+    if isinstance(value, bool) or value not in choices:
+        raise ValueError(f"{name} {value!r}: take one of {', '.join(map(repr, choices))}")
+    return choices.index(value)
+
+
+def scaled(name: str, value: Number, places: int) -> int:
+    """A number counted in the last of so many decimal places, which it may not pass."""
+    if isinstance(value, bool) or not isinstance(value, (int, float, str, decimal.Decimal)):
+        raise TypeError(f"{name} is a number, or one in a str, not {value!r}")
+    try:
+        exact = decimal.Decimal(str(value)).scaleb(places)
+        number = int(exact)
+    except (decimal.InvalidOperation, OverflowError, ValueError):
+        raise OutOfRange(name) from None
+    if number != exact:
+        raise OutOfRange(name)
+    return number
+
+
+def day(name: str, given: Any) -> int:
+    """A day as a number of eight digits."""
+    if not isinstance(given, datetime.date):
+        raise TypeError(f"{name} is a datetime.date or datetime.datetime, not {given!r}")
+    return (given.year * 100 + given.month) * 100 + given.day
+
+
+def moment(name: str, given: Any) -> int:
+    """A moment as a number of fourteen digits, in UTC."""
+    if not isinstance(given, datetime.datetime):
+        raise TypeError(f"{name} is a datetime.datetime, not {given!r}")
+    if given.tzinfo is None:
+        raise ValueError(f"{name}: {given} has no time zone: take .astimezone(), or "
+                         ".replace(tzinfo=datetime.timezone.utc)")
+    utc = given.astimezone(datetime.timezone.utc)
+    return ((day(name, utc) * 100 + utc.hour) * 100 + utc.minute) * 100 + utc.second

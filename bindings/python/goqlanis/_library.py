@@ -1,0 +1,110 @@
+"""The library for C, by ctypes: its structs and calls, as bindings/c/goqlanis.h has them."""
+import ctypes
+import ctypes.util
+import os
+from typing import Any, Callable, Dict, List
+
+MOST_MODULES = 177 * 177
+MOST_BYTES = 7089
+MOST_SYMBOLS = 16
+
+_number, _size, _data, _place = (ctypes.c_uint32, ctypes.c_size_t, ctypes.c_char_p,
+                                 ctypes.c_void_p)
+
+
+class Known(ctypes.Structure):
+    """goq_symbol."""
+    _fields_ = [("version", _number), ("level", _number), ("width", _number)]
+
+
+class Options(ctypes.Structure):
+    """goq_options."""
+    _fields_ = [("size", _number), ("level", _number), ("manner", _number), ("version", _number),
+                ("least_version", _number), ("boost", _number), ("mask", _number)]
+
+
+class Several(ctypes.Structure):
+    """goq_several."""
+    _fields_ = [("size", _number), ("level", _number), ("manner", _number),
+                ("least_version", _number), ("greatest_version", _number), ("count", _number)]
+
+
+class Drawing(ctypes.Structure):
+    """goq_drawing."""
+    _fields_ = [("size", _number), ("format", _number), ("zone", _number), ("scale", _number),
+                ("dark", _number), ("light", _number), ("dpi", _number)]
+
+
+class Segment(ctypes.Structure):
+    """goq_segment."""
+    _fields_ = [("kind", _number), ("number", _number), ("bytes", _data), ("length", _size)]
+
+
+class Read(ctypes.Structure):
+    """goq_reading."""
+    _fields_ = [("version", _number), ("level", _number), ("mask", _number), ("wrong", _size),
+                ("length", _size)]
+
+
+class AnyRead(ctypes.Structure):
+    """goq_any_reading."""
+    _fields_ = [("reading", Read), ("position", _number)]
+
+
+class Field(ctypes.Structure):
+    """goq_field."""
+    _fields_ = [("number", ctypes.c_int64), ("bytes", _data), ("length", _size)]
+
+
+class Element(ctypes.Structure):
+    """goq_element."""
+    _fields_ = [("identifier", _data), ("identifier_length", _size), ("value", _data),
+                ("value_length", _size)]
+
+
+_to = ctypes.POINTER
+_IN, _OUT, _COUNT = [_data, _size], [_place, _size], _to(_size)
+_CALLS: Dict[str, List[Any]] = {
+    "goq_encode_with": [*_IN, _to(Options), *_OUT, _to(Known)],
+    "goq_encode_several": [*_IN, _to(Several), *_OUT, _to(Known), _COUNT],
+    "goq_encode_segments": [_to(Segment), _size, _number, _number, *_OUT, _to(Known)],
+    "goq_encode_gs1": [_to(Element), _size, _to(Options), *_OUT, _to(Known), _COUNT],
+    "goq_least_version_of_segments": [_to(Segment), _size, _number, _to(_number)],
+    "goq_width": [_number],
+    "goq_is_functional": [_number, _number, _number],
+    "goq_draw_with": [*_IN, _number, _to(Drawing), *_OUT, _COUNT],
+    "goq_draw_with_length": [*_IN, _number, _to(Drawing), _COUNT],
+    "goq_read": [*_IN, *_OUT, _to(Read)],
+    "goq_read_any": [*_IN, *_OUT, _to(AnyRead)],
+    "goq_read_text": [*_IN, *_OUT, _to(Read)],
+    "goq_mask": [*_IN, _to(_number)],
+    "goq_content": [_number, _to(Field), _size, *_OUT, _COUNT, _COUNT],
+    "goq_gs1": [_to(Element), _size, *_OUT, _COUNT, _COUNT],
+}
+
+
+def _load() -> ctypes.CDLL:
+    """The library: that of GOQLANIS_LIB, or the one beside this file, or the system's."""
+    beside = os.path.join(os.path.dirname(os.path.abspath(__file__)), "libgoqlanis.so.1")
+    beside = beside if os.path.exists(beside) else ""
+    found = os.environ.get("GOQLANIS_LIB") or beside or ctypes.util.find_library("goqlanis")
+    if not found:
+        raise ImportError("libgoqlanis.so.1 is not there: set GOQLANIS_LIB to its path")
+    loaded = ctypes.CDLL(found)
+    for name, arguments in _CALLS.items():
+        if not hasattr(loaded, name):
+            setattr(loaded, name, _lacking(found, name))
+        call = getattr(loaded, name)
+        call.argtypes, call.restype = arguments, _number
+    loaded.goq_is_functional.restype = ctypes.c_bool
+    return loaded
+
+
+def _lacking(found: str, name: str) -> Callable[..., int]:
+    """What stands for a call that an older library does not have."""
+    def call(*given: Any) -> int:
+        raise NotImplementedError(f"{found} has no {name}: it is older than this package")
+    return call
+
+
+library = _load()

@@ -1,0 +1,102 @@
+"""What a refusal says: what, why, and what would help."""
+from typing import Any
+
+from ._asked import AS_MARKED_TEXT, Data, Parts, Segments
+from ._checks import LEVELS, version_name
+from .errors import Error, refusal
+
+LEVEL_NOT_IN_VERSION, NO_MODE, NO_ROOM, NOT_IN_MODE = 3, 5, 6, 14
+MODES = ("numeric writes digits", "alphanumeric writes digits, capitals, space and $%*+-./:", "",
+         "kanji writes pairs of Shift JIS, 8140 to 9ffc and e040 to ebbf,")
+
+
+def of(asked: Any, answer: int, said: str) -> Error:
+    """The refusal of a symbol of data that is called so."""
+    texts = {LEVEL_NOT_IN_VERSION: _no_level, NO_MODE: _no_mode, NOT_IN_MODE: _not_in_mode}
+    if answer == NO_ROOM:
+        return refusal(answer, _no_room(asked, said))
+    return refusal(answer, texts[answer](asked) if answer in texts else "")
+
+
+def _no_level(asked: Any) -> str:
+    levels = {41: "L alone", 44: "L, M and Q"}.get(asked.version, "L and M")
+    return (f"version {version_name(asked.version)} has no level {LEVELS[asked.level]}; "
+            f"it has {levels}")
+
+
+def _no_mode(asked: Any) -> str:
+    name = version_name(asked.version)
+    if isinstance(asked, Segments) and any(row.kind >= len(MODES) for row in asked.rows):
+        return f"version {name} has no headers, as all of Micro QR; take 1 to 40"
+    if isinstance(asked, Segments):
+        return f"version {name} has not all modes of the segments; M3, M4 and 1 to 40 have"
+    if isinstance(asked, Data) and asked.manner >= AS_MARKED_TEXT:
+        return (f"version {name} cannot say which character set it holds; leave out marked and "
+                "eci, or take 1 to 40")
+    modes = "digits" if name == "M1" else "digits, capitals and $%*+-./:"
+    return f"version {name} writes {modes} alone; M3, M4 and 1 to 40 write any bytes"
+
+
+def _not_in_mode(asked: Segments) -> str:
+    """The first segment that is refused by itself."""
+    for at, row in enumerate(asked.rows):
+        if asked._replace(rows=[row], version=0).answer()[0] == NOT_IN_MODE:
+            return f"segment {at + 1}: {MODES[row.kind]} alone"
+    return ""
+
+
+def _no_room(asked: Any, said: str) -> str:
+    level, name = LEVELS[asked.level], version_name(asked.version)
+    if isinstance(asked, Data):
+        where = f"version {name} and level {level}" if asked.version else f"level {level}"
+        text, most = f"{said} at {where}", _most(asked)
+        text += f": at most {most:,} unless they are digits or capitals" if most else ": too many"
+    elif asked.version:
+        text = f"version {name} at level {level} does not hold {said}"
+    else:
+        text = f"no version holds {said} at level {level}"
+    helps = _helps(asked)
+    if helps:
+        return f"{text}; {helps} holds them"
+    if isinstance(asked, Data) and asked.manner < AS_MARKED_TEXT and _are_held(asked):
+        return f"{text}; no level holds them: encode_sequence parts them between symbols"
+    return f"{text}; no level holds them"
+
+
+def _are_held(asked: Data) -> bool:
+    """Whether several symbols hold data between them."""
+    return Parts(asked.data, 0, asked.manner, 1, 40, 0).answer()[0] == 0
+
+
+def _helps(asked: Any) -> str:
+    """The version, and the highest level, that hold what was refused."""
+    found = []
+    if asked.version:
+        _, symbols = asked.of_any_version().answer()
+        found += [f"version {symbol.version}" for symbol in symbols]
+    below = (asked._replace(level=level) for level in range(asked.level - 1, -1, -1))
+    held = next((it.level for it in below if it.answer()[0] == 0), None)
+    found += [] if held is None else [f"level {LEVELS[held]}"]
+    return " or ".join(found)
+
+
+def _most(asked: Data) -> int:
+    """The most bytes, of any kind, that the version holds, or the greatest one."""
+    at = asked._replace(version=asked.version or 40, boost=0)
+    most, beyond = 0, 2954
+    while beyond - most > 1:
+        middle = (most + beyond) // 2
+        is_held = at._replace(data=bytes(middle)).answer()[0] == 0
+        most, beyond = (middle, beyond) if is_held else (most, middle)
+    return most
+
+
+def of_parts(asked: Parts, answer: int) -> Error:
+    """The refusal of several symbols."""
+    level, last = LEVELS[asked.level], version_name(asked.greatest_version)
+    if answer == NO_ROOM:
+        return refusal(answer, f"{len(asked.data):,} bytes: {asked.wanted or 16} symbols up to "
+                       f"version {last} at level {level} do not hold them; take a greater version "
+                       "or a lower level" + (", or more symbols" if asked.wanted % 16 else ""))
+    return refusal(answer, f"versions {version_name(asked.least_version)} to {last}: several "
+                   "symbols are of 1 to 40, the least version first" if answer == 2 else "")

@@ -1,0 +1,224 @@
+"""Data, texts and segments to symbols."""
+from typing import Any, Iterable, List, Optional, Tuple, Union
+
+from . import _asked, _checks, _refusals
+from ._asked import AS_BYTES, AS_MARKED_TEXT, AS_TEXT, MICRO_1
+from ._library import MOST_SYMBOLS, Segment, library
+from ._fields import elements_of, string_of
+from .errors import NoSuchNumber
+from .symbol import Symbol
+
+Data = Union[str, bytes, bytearray, memoryview]
+Version = Union[str, int]
+Segments = Iterable[Tuple[str, Union[bytes, int, None]]]
+Elements = Iterable[Tuple[str, str]]
+
+KINDS = ("numeric", "alphanumeric", "byte", "kanji", "eci", "fnc1_first", "fnc1_second")
+MODES, ECI, FNC1_SECOND = 4, 4, 6
+UTF_8, MOST_SET = 26, 999_999
+
+
+def _one(asked: Any, said: str) -> Symbol:
+    """The symbol that is asked for, of data that a refusal calls so."""
+    answer, symbols = asked.answer()
+    if answer:
+        raise _refusals.of(asked, answer, said)
+    symbol: Symbol = symbols[0]
+    return symbol
+
+
+def encode(data: Data, level: str = "M", version: Optional[Version] = None, *,
+           least_version: Optional[Version] = None, micro: bool = False, boost: bool = False,
+           marked: bool = False, eci: Optional[int] = None) -> Symbol:
+    """The symbol of a text or of bytes at a level ("L", "M", "Q", "H"), of the least version of
+    Normal QR that holds it, or of a `version`.
+
+    - `micro`: takes Micro QR, where it holds the data;
+    - `least_version`: takes no lesser version;
+    - `boost`: takes the highest level, from `level` on, for which the least version has room;
+    - `marked`: writes in front that the text is UTF-8, for readers that guess;
+    - `eci`: writes in front the number of the character set of the bytes, as 7 for ISO 8859-2.
+
+    >>> encode("https://example.org")
+    <goqlanis.Symbol 2-M>
+    >>> encode(bytes([0, 255]), "H", version=7)
+    <goqlanis.Symbol 7-H>
+    >>> encode("HELLO", micro=True), encode("HELLO", boost=True)
+    (<goqlanis.Symbol M2-M>, <goqlanis.Symbol 1-H>)
+    >>> encode("Größe: 5 m²").version, encode("Größe: 5 m²", marked=True).version
+    ('1', '2')
+    >>> encode("Živjo".encode("iso8859_2"), eci=7).version
+    '1'
+    >>> encode(42)
+    Traceback (most recent call last):
+        ...
+    TypeError: data is a str or bytes, not the int 42: take str(42)
+    >>> encode(bytes(2000), "H")
+    Traceback (most recent call last):
+        ...
+    goqlanis.NoRoom: 2,000 bytes at level H: at most 1,273 unless they are digits or capitals; \
+level M holds them
+    """
+    octets, is_text = _checks.data(data)
+    manner, versions = _manner(is_text, marked, eci), _versions(version, least_version, micro)
+    if _checks.flag("boost", boost) and version is not None:
+        raise ValueError("version and boost: take least_version in place of version")
+    if eci is None or is_text:
+        return _one(_asked.Data(octets, _checks.level(level), manner, *versions, boost),
+                    f"{len(octets):,} bytes")
+    if least_version is not None or micro or boost:
+        raise ValueError("bytes behind eci: give no more than level and version beside it")
+    return encode_segments([("eci", eci), ("byte", octets)], level, version)
+
+
+def _manner(is_text: bool, marked: bool, eci: Optional[int]) -> int:
+    """How data is written that is no bytes behind a number."""
+    if _checks.flag("marked", marked) and not is_text:
+        raise TypeError("marked is of a str; of bytes eci=26 says that they are UTF-8")
+    number = None if eci is None else _checks.whole("eci", eci, 0, MOST_SET, NoSuchNumber)
+    if is_text and number not in (None, UTF_8):
+        raise ValueError(f"eci={number} is of bytes: give data.encode(..) in that character set")
+    return AS_MARKED_TEXT if marked or number else AS_TEXT if is_text else AS_BYTES
+
+
+def _versions(version: Optional[Version], least: Optional[Version], micro: bool) -> Tuple[int, int]:
+    """The version that is asked for, or 0, and the least."""
+    given = [version is not None, least is not None, _checks.flag("micro", micro)]
+    if sum(given) > 1:
+        raise ValueError("version, least_version and micro: give one of them; version='M2' and "
+                         "least_version='M2' are Micro QR")
+    asked = 0 if version is None else _checks.version(version)
+    first = MICRO_1 if micro else 1 if least is None else _checks.version(least)
+    return asked, first
+
+
+def encode_text(text: str, level: str = "M", marked: bool = False) -> Symbol:
+    """What `encode` makes of a str; bytes are refused.
+
+    >>> encode_text("Größe: 5 m²", marked=True).version
+    '2'
+    """
+    return encode(_checks.text("text", text), level, marked=marked)
+
+
+def encode_sequence(data: Data, level: str = "M", version: Optional[Version] = None, *,
+                    count: Optional[int] = None, least_version: Optional[Version] = None,
+                    greatest_version: Optional[Version] = None) -> List[Symbol]:
+    """The symbols between which data is parted (structured append), at most 16: as few as there can
+    be, and these of the least version; or `count` of them. They are of a `version` of Normal QR, or
+    of one from `least_version` to `greatest_version`. A single symbol has no header.
+
+    >>> encode_sequence("All that is gold does not glitter", "L", count=3)
+    [<goqlanis.Symbol 1-L>, <goqlanis.Symbol 1-L>, <goqlanis.Symbol 1-L>]
+    """
+    octets, is_text = _checks.data(data)
+    if version is not None and (least_version is not None or greatest_version is not None):
+        raise ValueError("version beside least_version or greatest_version: give one of them")
+    least, most = (1 if least_version is None else least_version,
+                   40 if greatest_version is None else greatest_version)
+    first, last = (_checks.version(it if version is None else version) for it in (least, most))
+    wanted = 0 if count is None else _checks.whole("count", count, 1, MOST_SYMBOLS)
+    asked = _asked.Parts(octets, _checks.level(level), AS_TEXT if is_text else AS_BYTES, first,
+                         last, wanted)
+    answer, symbols = asked.answer()
+    if answer:
+        raise _refusals.of_parts(asked, answer)
+    return symbols
+
+
+def encode_segments(segments: Segments, level: str = "M",
+                    version: Optional[Version] = None) -> Symbol:
+    """The symbol of segments, one behind the other: of a version, or of the least version of Normal
+    QR that holds them. A segment is a mode with its bytes, `("numeric", b"..")`, `"alphanumeric"`,
+    `"byte"` or `"kanji"` (pairs of bytes of Shift JIS); or a header: `("eci", 26)`,
+    `("fnc1_first", None)`, `("fnc1_second", 37)`.
+
+    >>> encode_segments([("eci", 7), ("byte", "Živjo".encode("iso8859_2"))]).version
+    '1'
+    >>> encode_segments([("fnc1_first", None), ("numeric", b"0109501101530003")], "Q").version
+    '1'
+    >>> encode_segments([("byte", b"a"), ("numeric", b"12a")])
+    Traceback (most recent call last):
+        ...
+    goqlanis.NotInMode: segment 2: numeric writes digits alone
+    >>> encode_segments([("eci", "26")])
+    Traceback (most recent call last):
+        ...
+    TypeError: segment 1: the number of eci is a whole number from 0 to 999,999, not '26': take 26
+    """
+    given = 0 if version is None else _checks.version(version)
+    return _one(_asked.Segments(_listed(segments), _checks.level(level), given), "the segments")
+
+
+def _listed(segments: Segments) -> List[Segment]:
+    """Segments as the library takes them."""
+    given = _checks.listed("segments", segments, "pairs, as ('byte', b'..')")
+    return [_segment(f"segment {at + 1}", it) for at, it in enumerate(given)]
+
+
+def _segment(name: str, given: Any) -> Segment:
+    if not isinstance(given, (tuple, list)) or len(given) != 2:
+        raise TypeError(f"{name} is a pair, as ('byte', b'..') or ('eci', 26), not {given!r}")
+    kind, value = given
+    if not isinstance(kind, str) or kind not in KINDS:
+        raise ValueError(f"{name}: no kind {kind!r}: take one of {', '.join(KINDS)}")
+    at = KINDS.index(kind)
+    if at < MODES:
+        data = _checks.binary(f"{name}: what is behind {kind!r}", value)
+        return Segment(at, 0, data, len(data))
+    if at in (ECI, FNC1_SECOND):
+        most = MOST_SET if at == ECI else 255
+        what = f"{name}: the number of {kind}"
+        return Segment(at, _checks.whole(what, value, 0, most, NoSuchNumber), b"", 0)
+    if value is not None:
+        raise TypeError(f"{name} is ('fnc1_first', None), not {given!r}")
+    return Segment(at, 0, b"", 0)
+
+
+def encode_gs1(elements: Elements, level: str = "M", version: Optional[Version] = None, *,
+               least_version: Optional[Version] = None) -> Symbol:
+    """The smallest symbol of elements of GS1, as `contents.gs1` takes them.
+
+    >>> encode_gs1([("01", "03453120000011"), ("17", "191125"), ("10", "ABCD1234")]).version
+    '2'
+    >>> encode_gs1([("20", "123")])
+    Traceback (most recent call last):
+        ...
+    goqlanis.contents.WrongLength: elements[0]: its value has too few or too many characters
+    """
+    given, versions = elements_of(elements), _versions(version, least_version, False)
+    string_of(given)
+    return _one(_asked.Elements(given, _checks.level(level), *versions), "the elements")
+
+
+def least_version(data: Data, level: str = "M") -> str:
+    """The least version of Normal QR that holds a text or bytes at a level.
+
+    >>> least_version(bytes(2953), "L")
+    '40'
+    """
+    return encode(data, level).version
+
+
+def least_version_of_segments(segments: Segments, level: str = "M") -> str:
+    """The least version of Normal QR that holds segments, as `encode_segments` takes them, at a
+    level.
+
+    >>> least_version_of_segments([("eci", 26), ("byte", bytes(2952))], "L")
+    '40'
+    """
+    return encode_segments(segments, level).version
+
+
+def is_functional(version: Version, x: int, y: int) -> bool:
+    """Whether the module in column x and row y of a version belongs to a pattern or to the format
+    word; False where it has no such module.
+
+    >>> is_functional("1", 0, 0), is_functional("1", 20, 20)
+    (True, False)
+    """
+    number, most = _checks.version(version), 2**63
+    x, y = _checks.whole("x", x, -most, most), _checks.whole("y", y, -most, most)
+    width = library.goq_width(number)
+    inside = 0 <= x < width and 0 <= y < width
+    return inside and bool(library.goq_is_functional(number, x, y))

@@ -1,0 +1,117 @@
+"""What the library refuses, each cause under its own name."""
+from typing import Dict, Tuple, Type
+
+__all__ = ["Error", "NoSuchLevel", "NoSuchVersion", "LevelNotInVersion", "TooLong", "NoMode",
+           "NoRoom", "OutOfMemory", "NoSuchSize", "NotInFormat", "NotInMode",
+           "NoSuchNumber", "Unread", "NoSuchSide", "NoFormat", "Damaged", "NotSpelled", "NotShown"]
+
+
+class Error(Exception):
+    """The library refused; the text says what would help."""
+
+
+class NoSuchLevel(Error, ValueError):
+    """The level is none of L, M, Q and H."""
+
+
+class NoSuchVersion(Error, ValueError):
+    """The version is none of 1 to 40 and M1 to M4."""
+
+
+class LevelNotInVersion(Error, ValueError):
+    """The version lacks the level."""
+
+
+class TooLong(Error, ValueError):
+    """The data is more than 1,048,576 bytes."""
+
+
+class NoMode(Error, ValueError):
+    """The data needs a mode that the version lacks."""
+
+
+class NoRoom(Error, ValueError):
+    """No symbol of the asked kind holds the data."""
+
+
+class OutOfMemory(Error, MemoryError):
+    """Memory was refused."""
+
+
+class NoSuchSize(Error, ValueError):
+    """The scale or the quiet zone is out of its range, or the picture would be too wide."""
+
+
+class NotInFormat(Error, ValueError):
+    """The format has no such colours, or no dots per inch."""
+
+
+class NotInMode(Error, ValueError):
+    """The mode of a segment lacks one of its bytes."""
+
+
+class NoSuchNumber(Error, ValueError):
+    """The number of a character set is above 999,999, or that of an application above 255."""
+
+
+class Unread(Error, ValueError):
+    """A square of modules is not read."""
+
+
+class NoSuchSide(Unread):
+    """No version has so many modules."""
+
+
+class NoFormat(Unread):
+    """No level and mask are within three bits of each copy of the format word."""
+
+
+class Damaged(Unread):
+    """A block has too many wrong codewords."""
+
+
+class NotSpelled(Unread):
+    """The data bits are not segments and an end, as where a header stands in front."""
+
+
+class NotShown(Unread):
+    """The data bits are not a text that readers show."""
+
+
+_CAUSES: Dict[int, Tuple[Type[Error], str]] = {
+    1: (NoSuchLevel, "the levels are L, M, Q and H"),
+    2: (NoSuchVersion, "the versions are 1 to 40 and M1 to M4"),
+    3: (LevelNotInVersion, "the version lacks the level"),
+    4: (TooLong, "no symbol holds more than 7,089 bytes"),
+    5: (NoMode, "the version lacks a mode that the data needs; M3, M4 and 1 to 40 have all"),
+    6: (NoRoom, "no symbol of the asked kind holds the data"),
+    8: (OutOfMemory, "memory was refused"),
+    11: (NoSuchSize, "the picture would have more than 65,535 pixels along a side"),
+    14: (NotInMode, "the mode of a segment lacks one of its bytes"),
+    15: (NoSuchNumber, "character sets have numbers up to 999,999, applications up to 255"),
+    16: (NoSuchSide, "no version has so many modules: give them without a quiet zone"),
+    17: (NoFormat, "no format word is near each of its copies; read_any tries all positions"),
+    18: (Damaged, "a block has too many wrong codewords"),
+    19: (NotSpelled, "the bits are not segments and an end, as behind a header; "
+         "read_text reads a text that says that it is UTF-8"),
+    23: (NotInFormat, "PNG and SVG have colours, EPS opaque ones, and PNG alone has dpi"),
+    24: (NotShown, "the bits are not a text that readers show; read gives the bytes"),
+    30: (Unread, "the square is read in none of the sixteen positions"),
+}
+
+# They are shown as the package exports them.
+for _name in __all__:
+    globals()[_name].__module__ = "goqlanis"
+
+
+def refusal(answer: int, text: str = "") -> Error:
+    """The exception that an answer of the library stands for, with a text of its own or the usual
+    one."""
+    kind, usual = _CAUSES.get(answer, (Error, f"answer {answer} of the library"))
+    return kind(text or usual)
+
+
+def refuse(answer: int) -> None:
+    """Raises what an answer of the library stands for, unless that is success."""
+    if answer:
+        raise refusal(answer)

@@ -1,0 +1,116 @@
+"""Squares of modules, read back."""
+import ctypes
+import os
+from typing import Any, Iterable, NamedTuple, Sequence, Union
+
+from . import _checks
+from ._checks import LEVELS, version_name
+from ._library import MOST_BYTES, AnyRead, Read, library
+from .errors import NoSuchSide, refuse
+from .symbol import Symbol
+
+Modules = Union[Symbol, Sequence[Sequence[bool]]]
+POSITIONS = ("upright", "turned left", "upside down", "turned right", "mirrored", "flipped",
+             "transposed", "antitransposed")
+
+
+class Reading(NamedTuple):
+    """What is read of a square: its bytes, version and level, the number of its mask, and how many
+    codewords were wrong."""
+    data: bytes
+    version: str
+    level: str
+    mask: int
+    wrong: int
+
+
+class AnyReading(NamedTuple):
+    """The same of a square in any position: "upright", "turned left" (by a quarter, against the
+    clock), "upside down", "turned right", "mirrored" (left and right exchanged), "flipped" (top and
+    bottom exchanged), "transposed" (columns and rows exchanged) or "antitransposed" (the same from
+    the other corner), and whether dark and light are exchanged."""
+    data: bytes
+    version: str
+    level: str
+    mask: int
+    wrong: int
+    position: str
+    is_inverted: bool
+
+
+def read(square: Modules) -> Reading:
+    """What a square of modules says: of a symbol, or of rows of modules, True or 1 where one is
+    dark, without a quiet zone.
+
+    >>> from goqlanis import encode
+    >>> rows = [list(row) for row in encode(b"01234567", "H").matrix]
+    >>> rows[20][20] = not rows[20][20]
+    >>> found = read(rows)
+    >>> found.data, found.version, found.level, found.wrong
+    (b'01234567', '1', 'H', 1)
+    >>> read([[True] * 21] * 21)
+    Traceback (most recent call last):
+        ...
+    goqlanis.NoFormat: no format word is near each of its copies; read_any tries all positions
+    """
+    modules, out, found = _modules_of(square), _bytes(), Read()
+    refuse(library.goq_read(modules, len(modules), out, len(out), ctypes.byref(found)))
+    return _reading(out, found)
+
+
+def read_any(square: Modules) -> AnyReading:
+    """What a square of modules says that may be turned, mirrored or inverted.
+
+    >>> from goqlanis import encode
+    >>> found = read_any([row[::-1] for row in encode("01234567").matrix])
+    >>> found.data, found.position, found.is_inverted
+    (b'01234567', 'mirrored', False)
+    """
+    modules, out, found = _modules_of(square), _bytes(), AnyRead()
+    refuse(library.goq_read_any(modules, len(modules), out, len(out), ctypes.byref(found)))
+    is_inverted, position = divmod(found.position, len(POSITIONS))
+    return AnyReading(*_reading(out, found.reading), POSITIONS[position], bool(is_inverted))
+
+
+def read_text(square: Modules) -> str:
+    """The text that readers show of a square: that of a symbol that `encode` made of a str.
+
+    >>> from goqlanis import encode
+    >>> read_text(encode("Größe: 5 m²", marked=True))
+    'Größe: 5 m²'
+    """
+    modules, out, found = _modules_of(square), _bytes(), Read()
+    refuse(library.goq_read_text(modules, len(modules), out, len(out), ctypes.byref(found)))
+    return bytes(out[:found.length]).decode()
+
+
+def _bytes() -> Any:
+    return ctypes.create_string_buffer(MOST_BYTES)
+
+
+def _reading(out: Any, found: Read) -> Reading:
+    return Reading(out[:found.length], version_name(found.version), LEVELS[found.level],
+                   found.mask, found.wrong)
+
+
+def _modules_of(square: Modules) -> bytes:
+    """The modules of a square, a byte each."""
+    if isinstance(square, Symbol):
+        return square.modules
+    if isinstance(square, (str, bytes, os.PathLike)):
+        raise TypeError(f"square is a Symbol or rows of modules, not {square!r}: a picture is read "
+                        "by the program `goqlanis read`")
+    given = _checks.listed("square", square, "rows of modules, or a Symbol")
+    rows = [_row(f"row {at + 1} of the square", it) for at, it in enumerate(given)]
+    if any(len(row) != len(rows) for row in rows):
+        raise NoSuchSide(f"{len(rows)} rows, and not all of them have {len(rows)} modules")
+    return b"".join(rows)
+
+
+def _row(name: str, given: Any) -> bytes:
+    if isinstance(given, str) or not isinstance(given, Iterable):
+        raise TypeError(f"{name} is a list of True and False, not {given!r}")
+    modules = list(given)
+    if any(module not in (0, 1) for module in modules):
+        raise ValueError(f"{name} has something else than True or 1 (dark) and False or 0 (light)")
+    return bytes(map(bool, modules))

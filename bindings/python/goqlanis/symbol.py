@@ -1,0 +1,208 @@
+"""A symbol, and how it is drawn."""
+import base64
+import ctypes
+import math
+import os
+import sys
+import urllib.parse
+from dataclasses import dataclass
+from typing import IO, Any, Optional, Tuple, Union
+
+from . import _drawing, _files
+from ._colours import Colour
+from ._drawing import Look
+from ._library import library
+from .errors import refuse
+
+Path = Union[str, bytes, "os.PathLike[str]"]
+BLACK_ON_WHITE, USUAL_COLOURS = "\x1b[38;5;16;48;5;231m", "\x1b[0m"
+
+
+@dataclass(frozen=True, repr=False)
+class Symbol:
+    """A QR or Micro QR symbol: `version` is "1" to "40" or "M1" to "M4", `level` "L", "M", "Q" or
+    "H", and `modules` has a byte for each module, row by row, 1 for a dark one. Equal symbols are
+    equal, and may be kept in sets.
+
+    What draws it takes the same arguments everywhere:
+
+    - `scale`: the pixels of a module;
+    - `border`, or `quiet_zone`: its light modules at each side, 4 unless you say otherwise, and 2
+      for Micro QR;
+    - `dark`, `light`: a colour of CSS by its name, "#rgb", "#rrggbb", "#rrggbbaa", a tuple of red,
+      green, blue and perhaps opacity (0 to 255), or None for a transparent one. EPS has no
+      transparent ones.
+
+    >>> from goqlanis import encode
+    >>> symbol = encode("01234567")
+    >>> symbol, symbol.width, symbol.mask
+    (<goqlanis.Symbol 1-M>, 21, 2)
+    >>> symbol == encode(b"01234567")
+    True
+    """
+    modules: bytes
+    version: str
+    level: str
+
+    @property
+    def width(self) -> int:
+        """The modules along a side."""
+        return math.isqrt(len(self.modules))
+
+    @property
+    def mask(self) -> int:
+        """The number of the mask: 0 to 7, and of Micro QR 0 to 3."""
+        found = ctypes.c_uint32()
+        refuse(library.goq_mask(self.modules, len(self.modules), ctypes.byref(found)))
+        return found.value
+
+    @property
+    def matrix(self) -> Tuple[Tuple[bool, ...], ...]:
+        """The rows of modules, True where one is dark, without a quiet zone.
+
+        >>> from goqlanis import encode
+        >>> encode("01234567").matrix[0][:8]
+        (True, True, True, True, True, True, True, False)
+        """
+        rows = range(0, len(self.modules), self.width)
+        return tuple(tuple(map(bool, self.modules[at:at + self.width])) for at in rows)
+
+    @property
+    def quiet_zone(self) -> int:
+        """The modules of the quiet zone at each side that the standard asks for."""
+        return 2 if self.version.startswith("M") else 4
+
+    def save(self, out: Union[Path, IO[Any]], kind: Optional[str] = None, *,
+             scale: Optional[int] = None, border: Optional[int] = None,
+             quiet_zone: Optional[int] = None, dark: Colour = "black", light: Colour = "white",
+             dpi: Optional[int] = None) -> None:
+        """Writes a file, whole or not at all: its ending is png, svg, eps, pbm, pgm, pic or txt, or
+        else `kind` names one of these. `out` may also be a file that is open. A PNG file may name
+        its dots per inch by `dpi`.
+
+        >>> from goqlanis import encode
+        >>> encode("01234567").save("ticket.png", scale=8, border=4, dark="#008", light=None)
+        >>> encode("01234567").save("ticket.jpg")
+        Traceback (most recent call last):
+            ...
+        ValueError: 'ticket.jpg': its ending is none of txt, png, svg, eps, pic, pbm, pgm: add \
+kind='png', or another one
+        """
+        if not hasattr(out, "write") and not isinstance(out, (str, bytes, os.PathLike)):
+            raise TypeError(f"out is a path or a file that is open for writing, not {out!r}")
+        name = _drawing.kind_of(out, kind)
+        data = self._drawn(name, Look(scale, border, quiet_zone, dark, light, dpi))
+        data += b"\n" if name == "txt" else b""
+        _files.write(out, data, _drawing.KINDS[name].is_text)
+
+    def png(self, scale: int = 8, quiet_zone: Optional[int] = None, *,
+            border: Optional[int] = None, dark: Colour = "black", light: Colour = "white",
+            dpi: Optional[int] = None) -> bytes:
+        """The bytes of a PNG file of at most 65,535 pixels a side.
+
+        >>> from goqlanis import encode
+        >>> encode("01234567").png()[:8]
+        b'\\x89PNG\\r\\n\\x1a\\n'
+        """
+        return self._drawn("png", Look(scale, border, quiet_zone, dark, light, dpi))
+
+    def svg(self, scale: int = 8, quiet_zone: Optional[int] = None, *,
+            border: Optional[int] = None, dark: Colour = "black",
+            light: Colour = "white") -> str:
+        """The text of an SVG file, one path.
+
+        >>> from goqlanis import encode
+        >>> encode("01234567").svg().startswith("<?xml")
+        True
+        """
+        return self._drawn("svg", Look(scale, border, quiet_zone, dark, light)).decode()
+
+    def eps(self, scale: int = 8, quiet_zone: Optional[int] = None, *,
+            border: Optional[int] = None, dark: Colour = "black",
+            light: Colour = "white") -> str:
+        """Encapsulated PostScript, a point a pixel.
+
+        >>> from goqlanis import encode
+        >>> encode("01234567").eps(scale=2).splitlines()[1]
+        '%%BoundingBox: 0 0 58 58'
+        """
+        return self._drawn("eps", Look(scale, border, quiet_zone, dark, light)).decode()
+
+    def pbm(self, scale: int = 8, quiet_zone: Optional[int] = None, *,
+            border: Optional[int] = None) -> bytes:
+        """A PBM file: black and white pixels, eight in a byte.
+
+        >>> from goqlanis import encode
+        >>> encode("01234567").pbm(scale=1, border=0)[:10]
+        b'P4\\n21 21\\n\\xfe'
+        """
+        return self._drawn("pbm", Look(scale, border, quiet_zone))
+
+    def grey(self, scale: int = 8, quiet_zone: Optional[int] = None, *,
+             border: Optional[int] = None) -> bytes:
+        """Rows of pixels, a byte each: 0 for a dark one and 255 for a light one."""
+        return self._drawn("grey", Look(scale, border, quiet_zone))
+
+    def pic(self, scale: int = 1, quiet_zone: Optional[int] = None, *,
+            border: Optional[int] = None) -> str:
+        """A PIC text."""
+        return self._drawn("pic", Look(scale, border, quiet_zone)).decode()
+
+    def text(self, light: bool = False, quiet_zone: Optional[int] = None, *,
+             border: Optional[int] = None) -> str:
+        """Half blocks, two modules a character; `light` for light text on a dark ground."""
+        if not isinstance(light, bool):
+            raise TypeError(f"light is True or False, not {light!r}: half blocks have no colours")
+        name = "light" if light else "txt"
+        return self._drawn(name, Look(1, border, quiet_zone)).decode()
+
+    def terminal(self, out: Optional[IO[str]] = None, *, border: Optional[int] = None) -> None:
+        """Prints the symbol, or writes it to `out`: black on white whatever the colours of the
+        terminal are; and half blocks alone where that is no terminal, or NO_COLOR is set."""
+        out = sys.stdout if out is None else out
+        lines = self.text(border=border).split("\n")
+        if out.isatty() and not os.environ.get("NO_COLOR"):
+            lines = [f"{BLACK_ON_WHITE}{line}{USUAL_COLOURS}" for line in lines]
+        out.write("\n".join(lines) + "\n")
+
+    def svg_inline(self, **drawing: Any) -> str:
+        """What `svg` gives, without the XML head, to stand in a page of HTML.
+
+        >>> from goqlanis import encode
+        >>> encode("01234567").svg_inline(scale=4, dark="navy")[:4]
+        '<svg'
+        """
+        return self.svg(**drawing).partition("?>")[2]
+
+    def svg_data_uri(self, **drawing: Any) -> str:
+        """What `svg` gives as a data URI, for `src` and `href` of HTML and `url(..)` of CSS.
+
+        >>> from goqlanis import encode
+        >>> encode("01234567").svg_data_uri()[:24]
+        'data:image/svg+xml,%3Csv'
+        """
+        return "data:image/svg+xml," + urllib.parse.quote(self.svg_inline(**drawing), safe="/:=,")
+
+    def png_data_uri(self, **drawing: Any) -> str:
+        """What `png` gives as a data URI.
+
+        >>> from goqlanis import encode
+        >>> encode("01234567").png_data_uri(scale=4, dpi=300)[:32]
+        'data:image/png;base64,iVBORw0KGg'
+        """
+        return "data:image/png;base64," + base64.b64encode(self.png(**drawing)).decode()
+
+    def _drawn(self, name: str, look: Look) -> bytes:
+        return _drawing.drawn(self.modules, self.width, self.quiet_zone, name, look)
+
+    def _repr_svg_(self) -> str:
+        return self.svg()
+
+    def _repr_png_(self) -> bytes:
+        return self.png()
+
+    def __str__(self) -> str:
+        return self.text()
+
+    def __repr__(self) -> str:
+        return f"<goqlanis.Symbol {self.version}-{self.level}>"
