@@ -14,7 +14,7 @@ use Rattle.goqlanis_draw.specs.Scans.{IsUnreadIn, IsUnreadPicture, unread_as}
 use Rattle.goqlanis_draw.specs.declared.scanning.Unread.{Unread}
 use Rattle.goqlanis_draw.specs.declared.scanning.Unread.TheVariants.{Unscanned, NoSquare, NoSymbol, OutOfMemory}
 
-abbrev HasNone : ℕ → List Color → Type 0
+abbrev pub HasNone : ℕ → List Color → Type 0
 HasNone side modules = (p : Position) (is_inverted : Bool) (bytes : List ℕ) (parts : List Part) → ¬ ReadsParts (seen side p is_inverted modules) bytes parts
 
 -- the square that pixels show is not read
