@@ -5,7 +5,7 @@ use crate::scenarios::symbols::of_digits;
 use qrcode::QrCode;
 use qrcode::render::{pbm, pgm, unicode};
 use qrcode::types::{Color, QrError, QrResult, Version};
-use qrcode_reader::scan::{Unscanned, pixels_of, square_of};
+use qrcode_reader::scan::{Pixels, Unscanned, pixels_of, square_of};
 use std::alloc::Global;
 
 /// A form of pictures.
@@ -21,26 +21,30 @@ pub enum Form {
 }
 
 /// The inverted pixels of a picture of the symbol of digits, whose modules are found in it.
-pub fn run(alloc: Global, version: Version, size: u32, form: &Form) -> QrResult<Digest> {
+pub fn run(alloc: Global, version: Version, size: u16, form: &Form) -> QrResult<Digest> {
     let code = of_digits(alloc, version)?;
-    let picture = picture(alloc, &code, size.min(64), form)?;
+    let picture = picture(alloc, &code, size, form)?;
     match pixels_of(alloc, &picture) {
-        Ok(pixels) => {
-            let inverted = pixels.inverted(alloc)?;
-            match square_of(alloc, &pixels)? {
-                Some(square) if square.modules.as_slice() == code.colors() => {
-                    Ok(Digest::of(inverted.marks()))
-                }
-                _ => Err(QrError::InvalidCharacter),
-            }
-        }
+        Ok(pixels) => of_pixels(alloc, &pixels, code.colors()),
         Err(Unscanned::OutOfMemory) => Err(QrError::OutOfMemory),
         Err(_) => Err(QrError::InvalidCharacter),
     }
 }
 
+// The inverted pixels of a picture in which these modules are found.
+fn of_pixels(alloc: Global, pixels: &Pixels, colors: &[Color]) -> QrResult<Digest> {
+    let Some(square) = square_of(alloc, pixels)? else {
+        return Err(QrError::InvalidCharacter);
+    };
+    if square.modules.as_slice() != colors {
+        return Err(QrError::InvalidCharacter);
+    }
+    Ok(Digest::of(pixels.inverted(alloc)?.marks()))
+}
+
 // A picture of a symbol, with so many pixels a module where its form has pixels of any number.
-fn picture(alloc: Global, code: &QrCode, size: u32, form: &Form) -> QrResult<Vec<u8>> {
+fn picture(alloc: Global, code: &QrCode, size: u16, form: &Form) -> QrResult<Vec<u8>> {
+    let size = u32::from(size);
     match form {
         Form::Figures => figures(alloc, code),
         Form::Bits => code.render::<pbm::Bit>().module_size(size).build(alloc),

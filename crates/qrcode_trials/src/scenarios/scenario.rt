@@ -105,7 +105,7 @@ pub enum Single {
     /// `grey` of so many pixels across and down.
     Grey(u16, u16),
     /// A scan of a picture of the symbol of a version, with so many pixels a module.
-    Scan(Version, u32, Form),
+    Scan(Version, u16, Form),
     /// Symbols of each pair of a version and a level, drawn.
     Sweep,
 }

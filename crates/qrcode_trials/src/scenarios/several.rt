@@ -74,14 +74,13 @@ fn joined(alloc: Global, data: &[u8], last: u8, size: usize) -> QrResult<Digest>
     let mut parts = Vec::new(alloc);
     let mut rest = data;
     for place in 0..last {
-        let (bytes, behind) = rest.split_at(size.min(rest.len()));
         parts.push(Part {
             place,
             last,
             parity,
-            bytes,
+            bytes: rest.get(..size).unwrap_or(rest),
         })?;
-        rest = behind;
+        rest = rest.get(size..).unwrap_or(&[]);
     }
     parts.push(Part {
         place: last,

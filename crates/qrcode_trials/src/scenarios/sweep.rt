@@ -38,8 +38,8 @@ fn of_version(alloc: Global, version: Version) -> QrResult<Digest> {
 
 // The same of a pair.
 fn of_pair(alloc: Global, version: Version, level: EcLevel) -> QrResult<Digest> {
-    let most = most_digits(alloc, version, level)?.min(7999);
-    let digits = Vec::from_elem(alloc, b'7', most + 1)?;
+    let most = most_digits(alloc, version, level)?;
+    let digits = Vec::from_elem(alloc, b'7', most.saturating_add(1))?;
     draw(alloc, &[], version, level)?;
     draw(alloc, b"7", version, level)?;
     draw(alloc, digits.get(..most).unwrap_or(&digits), version, level)?;
