@@ -196,8 +196,8 @@ pub(crate) fn versions_of(
     };
     match (least, greatest) {
         (Version::Normal(least), Version::Normal(greatest)) if least <= greatest => Ok(Versions {
-            least: least as usize,
-            greatest: greatest as usize,
+            least: least.unsigned_abs() as usize,
+            greatest: greatest.unsigned_abs() as usize,
         }),
         _ => usage(
             alloc,
