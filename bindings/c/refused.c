@@ -39,7 +39,8 @@ static uint32_t content(int number)
 static uint32_t by_options(int number)
 {
     const goq_element lot = {(const uint8_t *)"10", 2, (const uint8_t *)"ABCD1234", 8}, parts[] = {lot, lot};
-    const goq_several several = {sizeof several, GOQ_M, GOQ_AS_BYTES, 1, 10, 0}, three = {sizeof several, GOQ_M, GOQ_AS_TEXT, 1, 10, 3};
+    const goq_several fewest = {sizeof fewest, GOQ_M, GOQ_AS_BYTES, 1, 10, 0};
+    const goq_several three = {sizeof three, GOQ_M, GOQ_AS_TEXT, 1, 10, 3};
     const goq_drawing drawing = {sizeof drawing, GOQ_SVG_PATH, 4, 1, 0x123456, GOQ_TRANSPARENT, 0};
     const size_t modules = (size_t)known.width * known.width, room = sizeof outputs.buffer;
     goq_options options = GOQ_OPTIONS;
@@ -48,8 +49,12 @@ static uint32_t by_options(int number)
     switch (number) {
     case 0: return goq_encode_with(data, sizeof data, &options, out, room, &outputs.symbol);
     case 1: return goq_encode_gs1(parts, 2, &options, out, room, &outputs.symbol, &outputs.place);
-    case 2: return goq_encode_several(data, sizeof data, &several, out, room, &outputs.symbol, &outputs.count);
-    case 3: return goq_encode_several(text, sizeof text, &three, out, room, &outputs.symbol, &outputs.count);
+    case 2:
+        return goq_encode_several(data, sizeof data, &fewest, out, room, &outputs.symbol,
+            &outputs.count);
+    case 3:
+        return goq_encode_several(text, sizeof text, &three, out, room, &outputs.symbol,
+            &outputs.count);
     case 4: return goq_draw_with(square, modules, known.width, &drawing, out, room, &outputs.count);
     case 5: return goq_read_any(square, modules, out, room, &outputs.any);
     case 6: return goq_read_text(shown, sizeof shown, out, room, &outputs.reading);

@@ -1,6 +1,5 @@
 -- Several symbols between which data is parted.
 use Rattle.std.specs.Prelude.{◌≡◌, ◌≢◌, ◌≤◌, ◌<◌, ⊤, ℕ, zero, suc, pos, List, [], ◌∷◌, length, flat_map, IsTrue, IsUtf8, Option, Some, None, slice_get}
-use Rattle.qrcode_types.specs.declared.types.EcLevel.{EcLevel}
 use Rattle.qrcode_types.specs.declared.types.Version.TheVariants.{Normal}
 use Rattle.qrcode_bits.specs.Manners.{is_text}
 use Rattle.qrcode_bits.specs.declared.bits.manner.Manner.{Manner}
@@ -8,7 +7,6 @@ use Rattle.qrcode_bits.specs.declared.bits.manner.Manner.TheVariants.{Bytes, Tex
 use Rattle.qrcode.specs.Code.{Code}
 use Rattle.qrcode_several.specs.Fewest.{IsAmong, AreCounted, AreFewest}
 use Rattle.qrcode_several.specs.Symbols.{HoldSeveral}
-use Rattle.qrcode_several.specs.declared.choice.Versions.{Versions}
 use Rattle.goqlanis_buffers.specs.Names.{level_named}
 use Rattle.goqlanis_buffers.specs.Outputs.{module_bytes, IsDescribed, IsFilled}
 use Rattle.goqlanis_buffers.specs.declared.answers.Refusal.{Refusal}

@@ -2,7 +2,6 @@
 
 ghost use Rattle.std.specs.Prelude.{◌≡◌, ◌⊎◌, ◌<◌, ◌++◌, ℕ, List, length, IfOk, IfErr, OnOk, OnErr, IsOkUnless};
 ghost use Rattle.qrcode_types.specs.declared.types.QrError.TheVariants.{OutOfMemory};
-ghost use Rattle.goqlanis_buffers.specs.Calls.{Tells};
 ghost use Rattle.goqlanis_buffers.specs.Outputs.{module_bytes, IsDescribed};
 ghost use Rattle.goqlanis_buffers.specs.Several.{modules_of, AreAsked, AreOf, AreSymbolsWith, AreUnheld, AreWritten, IsSeveralCause};
 
@@ -51,12 +50,12 @@ pub struct Made {
     pub count: usize,
 }
 
-/// Writes the symbols between which data is parted at the beginning of a buffer, one behind the other,
-/// and answers what each is beside its modules, and how many there are.
+/// Writes the symbols between which data is parted at the beginning of a buffer, one behind the
+/// other, and answers what each is beside its modules, and how many there are.
 ///
 /// An error is the first that applies of `NoSuchStruct`, `NoSuchLevel`, `NoSuchVersion`,
-/// `NoSuchManner`, `NoSuchNumber`, `NotText`, `NoRoom` and `SmallBuffer`, or `OutOfMemory`; then the
-/// buffer is as it was.
+/// `NoSuchManner`, `NoSuchNumber`, `NotText`, `NoRoom` and `SmallBuffer`, or `OutOfMemory`; then
+/// the buffer is as it was.
 pub fn encode_several(
     alloc: Global,
     bytes: &[u8],

@@ -8,13 +8,13 @@ use goqlanis_buffers::several::{Several, encode_several};
 use goqlanis_buffers::symbols::Symbol;
 use std::alloc::Global;
 
-/// The symbols between which data is parted (structured append), in order: the modules of each behind
-/// those of the one before, at the beginning of `modules`; what each is beside them; and how many there
-/// are, to `count`.
+/// The symbols between which data is parted (structured append), in order: the modules of each
+/// behind those of the one before, at the beginning of `modules`; what each is beside them; and how
+/// many there are, to `count`.
 ///
-/// 0, or the number of a `Refusal`, of which the first that applies is told: `NoSuchStruct`,
-/// `NoSuchLevel`, `NoSuchVersion`, `NoSuchManner`, `NoSuchNumber`, `NotText`, `NoRoom`, `SmallBuffer`;
-/// or `OutOfMemory`. Then the outputs are as they were.
+/// 0, or the number of a `Refusal`, of which the first that applies is reported: `NoSuchStruct`,
+/// `NoSuchLevel`, `NoSuchVersion`, `NoSuchManner`, `NoSuchNumber`, `NotText`, `NoRoom`,
+/// `SmallBuffer`; or `OutOfMemory`. Then the outputs are as they were.
 #[unsafe(no_mangle)]
 pub extern "C" fn goq_encode_several(
     alloc: Global,
