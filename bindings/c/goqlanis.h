@@ -37,7 +37,7 @@ enum {
     GOQ_NOT_TEXT = 12, /* the text is not UTF-8 */
     GOQ_NO_SUCH_KIND = 13, /* no kind of segment has the number */
     GOQ_NOT_IN_MODE = 14, /* the mode of a segment lacks one of its bytes */
-    GOQ_NO_SUCH_NUMBER = 15, /* a character set above 999,999, or an application above 255 */
+    GOQ_NO_SUCH_NUMBER = 15, /* a set above 999,999, an application above 255, a count above 16 */
     GOQ_NO_SUCH_SIDE = 16, /* no version has so many modules */
     GOQ_NO_FORMAT = 17, /* no level and mask are within three bits of each copy of the format word */
     GOQ_DAMAGED = 18, /* a block has too many wrong codewords */
@@ -255,6 +255,21 @@ typedef struct {
 
 #define GOQ_OPTIONS {sizeof(goq_options), GOQ_M, GOQ_AS_BYTES, 0, 1, 0, 0}
 
+/* How symbols are asked for between which data is parted: as few as one of the versions allows, of
+   the least version that allows so few; or so many, of the least version that holds them. */
+typedef struct {
+    uint32_t size; /* sizeof(goq_several) */
+    uint32_t level;
+    uint32_t manner; /* GOQ_AS_BYTES or GOQ_AS_TEXT */
+    uint32_t least_version; /* of Normal */
+    uint32_t greatest_version;
+    uint32_t count; /* 1 to GOQ_SEVERAL_MAX, or 0 for as few as there can be */
+} goq_several;
+
+#define GOQ_SEVERAL {sizeof(goq_several), GOQ_M, GOQ_AS_BYTES, 1, 40, 0}
+
+enum { GOQ_SEVERAL_MAX = 16 };
+
 /* How modules are drawn. Begin with GOQ_DRAWING, and change what you like. A colour is 0xRRGGBB, to
    which a transparency is added: 0x80000000 for half of it, GOQ_TRANSPARENT for all. SVG and PNG
    have all colours, EPS has opaque ones; other formats take black on white alone. */
@@ -361,6 +376,15 @@ uint32_t goq_encode_in(
    GOQ_OUT_OF_MEMORY. */
 uint32_t goq_encode_with(const uint8_t *data, size_t data_length, const goq_options *options,
     uint8_t *modules, size_t modules_length, goq_symbol *symbol);
+
+/* The symbols between which data is parted (structured append), in order, one behind the other in
+   `modules`: each has symbol->width * symbol->width of them, and `symbol` is what each of them is.
+   How many there are goes to `count`. A single one has no header. GOQ_NO_SUCH_STRUCT,
+   GOQ_NO_SUCH_LEVEL, GOQ_NO_SUCH_VERSION (also of Micro, or the least above the greatest),
+   GOQ_NO_SUCH_MANNER, GOQ_NO_SUCH_NUMBER (a count above GOQ_SEVERAL_MAX), GOQ_NOT_TEXT,
+   GOQ_NO_ROOM, GOQ_SMALL_BUFFER; GOQ_OUT_OF_MEMORY. */
+uint32_t goq_encode_several(const uint8_t *data, size_t data_length, const goq_several *options,
+    uint8_t *modules, size_t modules_length, goq_symbol *symbol, size_t *count);
 
 /* The symbol of segments, one behind the other, of a version and level. Of several causes
    the first is told, in this order: GOQ_NO_SUCH_LEVEL, GOQ_NO_SUCH_VERSION, GOQ_LEVEL_NOT_IN_VERSION; of each segment GOQ_NO_SUCH_KIND, GOQ_NOT_IN_MODE,

@@ -225,6 +225,45 @@ static void elements(void)
     expect(symbol.version == 1 && place == 77, "in the least version");
 }
 
+/* Normal 2 holds 32 bytes at L, and 20 bits of a header leave room for 30 (272 bits, table 7). */
+static void several(void)
+{
+    goq_several o = {sizeof o, GOQ_L, GOQ_AS_BYTES, 2, 2, 0};
+    uint8_t bytes[64], part[64];
+    goq_reading reading;
+    memset(bytes, 'a', 64);
+    count = 5;
+    expect(goq_encode_several(bytes, 32, &o, modules, sizeof modules, &symbol, &count) == GOQ_OK
+        && count == 1 && symbol.version == 2, "one");
+    expect(goq_read(modules, 625, part, 64, &reading) == GOQ_OK && reading.length == 32, "alone");
+    expect(goq_encode_several(bytes, 60, &o, modules, 1250, &symbol, &count) == GOQ_OK
+        && count == 2 && symbol.width == 25, "two");
+    expect(goq_read(modules, 625, part, 64, &reading) == GOQ_NOT_SPELLED, "a header in front");
+    expect(goq_encode_several(bytes, 61, &o, modules, sizeof modules, &symbol, &count) == GOQ_OK
+        && count == 3, "three");
+    o.count = 4;
+    o.least_version = 1;
+    o.manner = GOQ_AS_TEXT;
+    expect(goq_encode_several(bytes, 56, &o, modules, sizeof modules, &symbol, &count) == GOQ_OK
+        && count == 4 && symbol.version == 1, "four of 14 bytes: 20 + 12 + 112 of 152 bits");
+    count = 5;
+    symbol.version = 99;
+    memset(modules, 7, sizeof modules);
+    expect(goq_encode_several(bytes, 56, &o, modules, 1763, &symbol, &count) == GOQ_SMALL_BUFFER,
+        "a module too few");
+    bytes[0] = 0xff;
+    struct { goq_several given; uint32_t answer; } wrong_ones[] = {
+        {{23, 0, 0, 1, 2, 0}, GOQ_NO_SUCH_STRUCT}, {{24, 4, 0, 1, 2, 0}, GOQ_NO_SUCH_LEVEL},
+        {{24, 0, 0, 0, 2, 0}, GOQ_NO_SUCH_VERSION}, {{24, 0, 0, 1, 41, 0}, GOQ_NO_SUCH_VERSION},
+        {{24, 0, 0, 3, 2, 0}, GOQ_NO_SUCH_VERSION}, {{24, 0, 2, 1, 2, 0}, GOQ_NO_SUCH_MANNER},
+        {{24, 0, 0, 1, 2, 17}, GOQ_NO_SUCH_NUMBER}, {{24, 0, 1, 1, 2, 0}, GOQ_NOT_TEXT},
+        {{24, 0, 0, 1, 1, 2}, GOQ_NO_ROOM}};
+    for (size_t i = 0; i < sizeof wrong_ones / sizeof wrong_ones[0]; i++)
+        expect(goq_encode_several(bytes, 64, &wrong_ones[i].given, modules, sizeof modules,
+            &symbol, &count) == wrong_ones[i].answer, "several that are refused");
+    expect(modules[0] == 7 && symbol.version == 99 && count == 5, "untouched");
+}
+
 int main(void)
 {
     choices();
@@ -233,6 +272,7 @@ int main(void)
     drawings();
     positions();
     elements();
+    several();
     printf("%d wrong\n", wrong);
     return wrong != 0;
 }

@@ -8,7 +8,7 @@ extern size_t pool_requests, pool_refused, pool_most;
 size_t pool_live(void);
 
 /* The last number of a call below, how many contents follow, and how many calls with options. */
-enum { LAST = 9 + GOQ_FORMATS, CONTENTS = 5, OPTIONS = 6 };
+enum { LAST = 9 + GOQ_FORMATS, CONTENTS = 5, OPTIONS = 8 };
 
 static uint8_t data[500], text[500], square[GOQ_MODULES_MAX], shown[21 * 21];
 static goq_symbol known;
@@ -39,6 +39,8 @@ static uint32_t content(int number)
 static uint32_t by_options(int number)
 {
     const goq_element lot = {(const uint8_t *)"10", 2, (const uint8_t *)"ABCD1234", 8}, parts[] = {lot, lot};
+    const goq_several fewest = {sizeof fewest, GOQ_M, GOQ_AS_BYTES, 1, 10, 0};
+    const goq_several three = {sizeof three, GOQ_M, GOQ_AS_TEXT, 1, 10, 3};
     const goq_drawing drawing = {sizeof drawing, GOQ_SVG_PATH, 4, 1, 0x123456, GOQ_TRANSPARENT, 0};
     const size_t modules = (size_t)known.width * known.width, room = sizeof outputs.buffer;
     goq_options options = GOQ_OPTIONS;
@@ -47,9 +49,15 @@ static uint32_t by_options(int number)
     switch (number) {
     case 0: return goq_encode_with(data, sizeof data, &options, out, room, &outputs.symbol);
     case 1: return goq_encode_gs1(parts, 2, &options, out, room, &outputs.symbol, &outputs.place);
-    case 2: return goq_draw_with(square, modules, known.width, &drawing, out, room, &outputs.count);
-    case 3: return goq_read_any(square, modules, out, room, &outputs.any);
-    case 4: return goq_read_text(shown, sizeof shown, out, room, &outputs.reading);
+    case 2:
+        return goq_encode_several(data, sizeof data, &fewest, out, room, &outputs.symbol,
+            &outputs.count);
+    case 3:
+        return goq_encode_several(text, sizeof text, &three, out, room, &outputs.symbol,
+            &outputs.count);
+    case 4: return goq_draw_with(square, modules, known.width, &drawing, out, room, &outputs.count);
+    case 5: return goq_read_any(square, modules, out, room, &outputs.any);
+    case 6: return goq_read_text(shown, sizeof shown, out, room, &outputs.reading);
     default: return goq_mask(square, modules, &outputs.version);
     }
 }

@@ -4,5 +4,6 @@ pub mod Least
 pub mod Taken
 pub mod Told
 pub mod Fields
+mod Joined
 pub mod Parts
 pub mod Refused

@@ -8,5 +8,6 @@ pub mod Options
 pub mod Outputs
 pub mod Readings
 pub mod Segments
+pub mod Several
 pub mod Symbols
 pub mod contents

@@ -39,7 +39,7 @@ pub enum Refusal {
     NoSuchKind,
     /// A segment's mode lacks one of its bytes.
     NotInMode,
-    /// A character set has no number above 999,999, and an application none above 255.
+    /// A character set above 999,999, an application above 255, or a count above 16.
     NoSuchNumber,
     /// No version has so many modules.
     NoSuchSide,

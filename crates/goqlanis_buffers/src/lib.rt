@@ -12,5 +12,6 @@ pub mod options;
 pub mod pictures;
 pub mod reading;
 pub mod segments;
+pub mod several;
 pub mod symbols;
 pub mod texts;

@@ -9,5 +9,6 @@ mod encoding;
 mod pictures;
 mod reading;
 mod segments;
+mod several;
 mod shape;
 mod texts;

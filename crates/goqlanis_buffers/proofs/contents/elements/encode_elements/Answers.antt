@@ -1,4 +1,4 @@
-use Rattle.std.proofs.Common.{length, refl}
+use Rattle.std.proofs.Common.{length}
 use Rattle.goqlanis_buffers.proofs.contents.elements.encode_elements.Goals as goal
 
 pub returns-in-Err-clause-causes : goal.returns-in-Err-clause-causes

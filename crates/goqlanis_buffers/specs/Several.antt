@@ -1,0 +1,86 @@
+-- Several symbols between which data is parted.
+use Rattle.std.specs.Prelude.{◌≡◌, ◌≢◌, ◌≤◌, ◌<◌, ⊤, ℕ, zero, suc, pos, List, [], ◌∷◌, length, flat_map, IsTrue, IsUtf8, Option, Some, None, slice_get}
+use Rattle.qrcode_types.specs.declared.types.Version.TheVariants.{Normal}
+use Rattle.qrcode_bits.specs.Manners.{is_text}
+use Rattle.qrcode_bits.specs.declared.bits.manner.Manner.{Manner}
+use Rattle.qrcode_bits.specs.declared.bits.manner.Manner.TheVariants.{Bytes, Text}
+use Rattle.qrcode.specs.Code.{Code}
+use Rattle.qrcode_several.specs.Fewest.{IsAmong, AreCounted, AreFewest}
+use Rattle.qrcode_several.specs.Symbols.{HoldSeveral}
+use Rattle.goqlanis_buffers.specs.Names.{level_named}
+use Rattle.goqlanis_buffers.specs.Outputs.{module_bytes, IsDescribed, IsFilled}
+use Rattle.goqlanis_buffers.specs.declared.answers.Refusal.{Refusal}
+use Rattle.goqlanis_buffers.specs.declared.answers.Refusal.TheVariants.{NoSuchLevel, NoSuchVersion, NoSuchStruct, NoSuchManner, NoSuchNumber, NotText, NoRoom, SmallBuffer, OutOfMemory}
+use Rattle.goqlanis_buffers.specs.declared.several.Named.{Named}
+use Rattle.goqlanis_buffers.specs.declared.several.Several.{Several}
+use Rattle.goqlanis_buffers.specs.declared.symbols.Symbol.{Symbol}
+
+abbrev pub manner_of : ℕ → Option Manner  -- the manner of a number, in this order from 0 on
+manner_of n = slice_get (Bytes ∷ Text ∷ []) n
+
+-- there are versions of Normal from one number to another
+pub record IsRange (s : Several) : Type 0 where
+  pub some : 1 ≤ s.least_version
+  pub ordered : s.least_version ≤ s.greatest_version
+  pub most : s.greatest_version ≤ 40
+
+-- what is asked for
+pub record AreAsked (s : Several) (a : Named) : Type 0 where
+  pub size : s.size ≡ 24
+  pub level : level_named s.level ≡ Some a.level
+  pub manner : manner_of s.manner ≡ Some a.manner
+  pub range : IsRange s
+  pub versions : a.versions ≡ record { least = s.least_version; greatest = s.greatest_version }
+  pub count : s.count ≤ 16
+
+-- the symbols of as few parts as there can be, or of a count
+abbrev pub AreOf : ℕ → Named → List ℕ → List Code → Type 0
+AreOf zero a bytes codes = AreFewest a.manner a.versions a.level bytes codes
+AreOf (suc n) a bytes codes = AreCounted a.manner a.versions a.level bytes (suc n) codes
+
+-- the symbols of data that are asked for; a text is UTF-8
+pub record AreSymbolsWith (s : Several) (bytes : List ℕ) (codes : List Code) : Type 0 where
+  pub asked : Named
+  pub named : AreAsked s asked
+  pub text : IsTrue (is_text asked.manner) → IsUtf8 bytes
+  pub made : AreOf s.count asked bytes codes
+
+abbrev pub modules_of : List Code → List ℕ  -- the modules of symbols as bytes, one behind the other
+modules_of codes = flat_map (λ c. module_bytes c.modules) codes
+
+-- symbols that are asked for in a buffer, what the first of them, and so each, is beside its modules, and how many there are
+pub record AreWritten (Asked : List Code → Type 0) (old new : List ℕ) (symbol : Symbol) (count : ℕ) : Type 0 where
+  pub codes : List Code
+  pub asked : Asked codes
+  pub filled : IsFilled old new (modules_of codes)
+  pub first : Code
+  pub at : slice_get codes 0 ≡ Some first
+  pub described : IsDescribed first symbol
+  pub counted : count ≡ length codes
+
+abbrev pub IsCount : ℕ → ℕ → Type 0  -- the count is the one that is asked for, where one is
+IsCount zero count = ⊤
+IsCount (suc n) count = count ≡ suc n
+
+-- none of the versions holds the data in as many symbols
+abbrev pub AreUnheld : ℕ → Named → List ℕ → Type 0
+AreUnheld wanted a bytes = (n count : ℕ) → IsAmong a.versions n → IsCount wanted count → ¬ HoldSeveral a.manner (Normal (pos n)) a.level bytes count
+
+-- the same of what is asked for
+pub record HaveNoRoom (s : Several) (bytes : List ℕ) : Type 0 where
+  pub asked : Named
+  pub named : AreAsked s asked
+  pub none : AreUnheld s.count asked bytes
+
+-- why data has no symbols that are asked for, where the buffer has so much room
+abbrev pub IsSeveralCause : Several → List ℕ → ℕ → Refusal → Type 0
+IsSeveralCause s bytes room NoSuchStruct = s.size ≢ 24
+IsSeveralCause s bytes room NoSuchLevel = level_named s.level ≡ None
+IsSeveralCause s bytes room NoSuchVersion = ¬ IsRange s
+IsSeveralCause s bytes room NoSuchManner = manner_of s.manner ≡ None
+IsSeveralCause s bytes room NoSuchNumber = 16 < s.count
+IsSeveralCause s bytes room NotText = ¬ IsUtf8 bytes
+IsSeveralCause s bytes room NoRoom = HaveNoRoom s bytes
+IsSeveralCause s bytes room SmallBuffer = (codes : List Code) × (AreSymbolsWith s bytes codes × (room < length (modules_of codes)))
+IsSeveralCause s bytes room OutOfMemory = ⊤
+IsSeveralCause s bytes room refusal = ⊥

@@ -1,0 +1,181 @@
+//! Several symbols between which data is parted, in a buffer.
+
+ghost use Rattle.std.specs.Prelude.{◌≡◌, ◌⊎◌, ◌<◌, ◌++◌, ℕ, List, length, IfOk, IfErr, OnOk, OnErr, IsOkUnless};
+ghost use Rattle.qrcode_types.specs.declared.types.QrError.TheVariants.{OutOfMemory};
+ghost use Rattle.goqlanis_buffers.specs.Outputs.{module_bytes, IsDescribed};
+ghost use Rattle.goqlanis_buffers.specs.Several.{modules_of, AreAsked, AreOf, AreSymbolsWith, AreUnheld, AreWritten, IsSeveralCause};
+
+use crate::answers::Refusal;
+use crate::names::level_named;
+use crate::options::is_sound;
+use crate::symbols::{Symbol, described, fill};
+use qrcode::QrCode;
+use qrcode::bits::Manner;
+use qrcode::types::{Color, EcLevel, QrError, QrResult};
+use qrcode_several::{Versions, encode_among, encode_counted};
+use std::alloc::Global;
+
+/// What C asks of several symbols.
+#[repr(C)]
+#[derive(Clone, Copy)]
+pub struct Several {
+    /// The bytes of this.
+    pub size: u32,
+    /// 0 for `L`, 1 for `M`, 2 for `Q`, 3 for `H`.
+    pub level: u32,
+    /// 0 for `Bytes`, 1 for `Text`.
+    pub manner: u32,
+    /// The versions that may be taken, of Normal, from one to another.
+    pub least_version: u32,
+    pub greatest_version: u32,
+    /// How many symbols, or 0 for as few as there can be.
+    pub count: u32,
+}
+
+// The bytes of that.
+const SIZE: u32 = 24;
+
+// What it names.
+#[derive(Clone, Copy)]
+pub struct Named {
+    pub level: EcLevel,
+    pub manner: Manner,
+    pub versions: Versions,
+}
+
+/// What symbols are beside their modules, and how many there are.
+#[derive(Clone, Copy)]
+pub struct Made {
+    pub symbol: Symbol,
+    pub count: usize,
+}
+
+/// Writes the symbols between which data is parted at the beginning of a buffer, one behind the
+/// other, and answers what each is beside its modules, and how many there are.
+///
+/// An error is the first that applies of `NoSuchStruct`, `NoSuchLevel`, `NoSuchVersion`,
+/// `NoSuchManner`, `NoSuchNumber`, `NotText`, `NoRoom` and `SmallBuffer`, or `OutOfMemory`; then
+/// the buffer is as it was.
+pub fn encode_several(
+    alloc: Global,
+    bytes: &[u8],
+    options: &Several,
+    modules: &mut [u8],
+) -> Result<Made, Refusal>
+    ensures made { IfOk result (λ made. AreWritten (AreSymbolsWith options.now bytes.now)
+        modules.old modules.new made.symbol made.count) }
+    ensures unchanged { OnErr result (modules.new ≡ modules.old) }
+    ensures causes { IfErr result (IsSeveralCause options.now bytes.now (length modules.old)) }
+{
+    let codes = match symbols_with(alloc, bytes, options) {
+        Ok(codes) => codes,
+        Err(refusal) => return Err(refusal),
+    };
+    let Ok(all) = modules_of(alloc, &codes) else {
+        return Err(Refusal::OutOfMemory);
+    };
+    if modules.len() < all.len() {
+        return Err(Refusal::SmallBuffer);
+    }
+    fill(modules, &all);
+    Ok(Made {
+        symbol: described(&codes[0]),
+        count: codes.len(),
+    })
+}
+
+// The symbols between which data is parted.
+fn symbols_with(alloc: Global, bytes: &[u8], options: &Several) -> Result<Vec<QrCode>, Refusal>
+    ensures made { IfOk result (λ codes. AreSymbolsWith options.now bytes.now codes.items) }
+    ensures some { IfOk result (λ codes. 0 < length codes.items) }
+    ensures causes { (room : ℕ) → IfErr result (IsSeveralCause options.now bytes.now room) }
+{
+    let asked = match named_by(options) {
+        Ok(asked) => asked,
+        Err(refusal) => return Err(refusal),
+    };
+    if !is_sound(asked.manner, bytes) {
+        return Err(Refusal::NotText);
+    }
+    match symbols_of(alloc, bytes, asked, options.count) {
+        Ok(codes) => Ok(codes),
+        Err(QrError::OutOfMemory) => Err(Refusal::OutOfMemory),
+        Err(_) => Err(Refusal::NoRoom),
+    }
+}
+
+// The symbols of so many parts, or of as few as there can be where that is 0.
+fn symbols_of(alloc: Global, bytes: &[u8], asked: Named, count: u32) -> QrResult<Vec<QrCode>>
+    ensures made { IfOk result (λ codes. AreOf count asked bytes.now codes.items) }
+    ensures some { IfOk result (λ codes. 0 < length codes.items) }
+    ensures causes { IfErr result (λ e. (e ≡ OutOfMemory) ⊎ AreUnheld count asked bytes.now) }
+{
+    let Named {
+        level,
+        manner,
+        versions,
+    } = asked;
+    if count == 0 {
+        return encode_among(alloc, bytes, manner, versions, level);
+    }
+    encode_counted(alloc, bytes, manner, versions, level, count as usize)
+}
+
+// What is asked for.
+fn named_by(options: &Several) -> Result<Named, Refusal>
+    ensures made { IfOk result (AreAsked options.now) }
+    ensures causes { (bytes : List ℕ) (room : ℕ)
+        → IfErr result (IsSeveralCause options.now bytes room) }
+{
+    if options.size != SIZE {
+        return Err(Refusal::NoSuchStruct);
+    }
+    let Some(level) = level_named(options.level) else {
+        return Err(Refusal::NoSuchLevel);
+    };
+    let (least, greatest) = (options.least_version, options.greatest_version);
+    if least == 0 || least > greatest || greatest > 40 {
+        return Err(Refusal::NoSuchVersion);
+    }
+    let manner = match options.manner {
+        0 => Manner::Bytes,
+        1 => Manner::Text,
+        _ => return Err(Refusal::NoSuchManner),
+    };
+    if options.count > 16 {
+        return Err(Refusal::NoSuchNumber);
+    }
+    let versions = Versions {
+        least: least as usize,
+        greatest: greatest as usize,
+    };
+    Ok(Named {
+        level,
+        manner,
+        versions,
+    })
+}
+
+// The modules of symbols as bytes, one behind the other.
+#[tactic(auto, using(crate::proofs::Joined::flat_map_more))]
+fn modules_of(alloc: Global, codes: &[QrCode]) -> QrResult<Vec<u8>>
+    ensures value { IfOk result (λ all. all.items ≡ modules_of codes.now) }
+    ensures memory { IsOkUnless result OutOfMemory }
+{
+    let mut all = Vec::new(alloc);
+    for code in codes {
+        push_modules(&mut all, code.colors())?;
+    }
+    Ok(all)
+}
+
+// Appends modules as bytes.
+fn push_modules(all: &mut Vec<u8>, colors: &[Color]) -> QrResult<()>
+    ensures appends { OnOk result (all.new.items ≡ all.old.items ++ module_bytes colors.now) }
+    ensures memory { IsOkUnless result OutOfMemory }
+{
+    for color in colors {
+        all.push(color.select(1, 0))?;
+    }
+    Ok(())
+}
