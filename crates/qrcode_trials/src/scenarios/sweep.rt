@@ -38,19 +38,20 @@ fn of_version(alloc: Global, version: Version) -> QrResult<Digest> {
 
 // The same of a pair.
 fn of_pair(alloc: Global, version: Version, level: EcLevel) -> QrResult<Digest> {
-    let most = most_digits(alloc, version, level)?;
+    let count = most_digits(alloc, version, level)?;
+    let most = count as usize;
     let digits = Vec::from_elem(alloc, b'7', most.saturating_add(1))?;
     draw(alloc, &[], version, level)?;
     draw(alloc, b"7", version, level)?;
     draw(alloc, digits.get(..most).unwrap_or(&digits), version, level)?;
     match QrCode::with_version(alloc, &digits, version, level) {
-        Err(QrError::DataTooLong) => Ok(Digest::of(&[most as u32])),
+        Err(QrError::DataTooLong) => Ok(Digest::of(&[count])),
         _ => Err(QrError::InvalidCharacter),
     }
 }
 
 // The most digits that have room.
-fn most_digits(alloc: Global, version: Version, level: EcLevel) -> QrResult<usize> {
+fn most_digits(alloc: Global, version: Version, level: EcLevel) -> QrResult<u32> {
     if !version.is_valid() {
         return Err(QrError::InvalidVersion);
     }
@@ -59,8 +60,8 @@ fn most_digits(alloc: Global, version: Version, level: EcLevel) -> QrResult<usiz
         .max_len(level)?
         .saturating_sub(header);
     let mut most = 0;
-    for count in 1..8000 {
-        if Mode::Numeric.data_bits_count(count) <= room {
+    for count in 1..8000u32 {
+        if Mode::Numeric.data_bits_count(count as usize) <= room {
             most = count;
         }
     }
