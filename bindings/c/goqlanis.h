@@ -360,12 +360,12 @@ typedef struct {
 uint32_t goq_encode(const uint8_t *data, size_t data_length, uint32_t level, uint8_t *modules, size_t modules_length, goq_symbol *symbol);
 
 /* The symbol of a text in UTF-8 at a level, of the least Normal version that holds it. Readers show it as the text, where they take bytes for UTF-8; for readers
-   that guess, goq_encode_marked_text writes in front that they are (12 bits). Of several causes the first is told, in this order:
+   that guess, goq_encode_marked_text writes in front that they are (12 bits). Of several causes the first is reported, in this order:
    GOQ_NO_SUCH_LEVEL, GOQ_NOT_TEXT, GOQ_NO_ROOM, GOQ_SMALL_BUFFER; GOQ_OUT_OF_MEMORY. */
 uint32_t goq_encode_text(const uint8_t *text, size_t text_length, uint32_t level, uint8_t *modules, size_t modules_length, goq_symbol *symbol);
 uint32_t goq_encode_marked_text(const uint8_t *text, size_t text_length, uint32_t level, uint8_t *modules, size_t modules_length, goq_symbol *symbol);
 
-/* The symbol of data, of a version and level. Of several causes the first is told, in this order:
+/* The symbol of data, of a version and level. Of several causes the first is reported, in this order:
    GOQ_NO_SUCH_LEVEL, GOQ_NO_SUCH_VERSION, GOQ_TOO_LONG, GOQ_NO_MODE, GOQ_LEVEL_NOT_IN_VERSION, GOQ_NO_ROOM, GOQ_SMALL_BUFFER; GOQ_OUT_OF_MEMORY. */
 uint32_t goq_encode_in(
     const uint8_t *data, size_t data_length, uint32_t version, uint32_t level, uint8_t *modules, size_t modules_length, goq_symbol *symbol);
@@ -387,7 +387,7 @@ uint32_t goq_encode_several(const uint8_t *data, size_t data_length, const goq_s
     uint8_t *modules, size_t modules_length, goq_symbol *symbol, size_t *count);
 
 /* The symbol of segments, one behind the other, of a version and level. Of several causes
-   the first is told, in this order: GOQ_NO_SUCH_LEVEL, GOQ_NO_SUCH_VERSION, GOQ_LEVEL_NOT_IN_VERSION; of each segment GOQ_NO_SUCH_KIND, GOQ_NOT_IN_MODE,
+   the first is reported, in this order: GOQ_NO_SUCH_LEVEL, GOQ_NO_SUCH_VERSION, GOQ_LEVEL_NOT_IN_VERSION; of each segment GOQ_NO_SUCH_KIND, GOQ_NOT_IN_MODE,
    GOQ_NO_MODE, GOQ_NO_SUCH_NUMBER, GOQ_NO_ROOM; then GOQ_NO_ROOM, GOQ_SMALL_BUFFER; GOQ_OUT_OF_MEMORY. */
 uint32_t goq_encode_segments(const goq_segment *segments, size_t segments_length, uint32_t version, uint32_t level, uint8_t *modules, size_t modules_length,
     goq_symbol *symbol);
@@ -395,7 +395,7 @@ uint32_t goq_encode_segments(const goq_segment *segments, size_t segments_length
 /* The least Normal version that holds data at a level. GOQ_NO_SUCH_LEVEL, GOQ_NO_ROOM, GOQ_OUT_OF_MEMORY. */
 uint32_t goq_least_version(const uint8_t *data, size_t data_length, uint32_t level, uint32_t *version);
 
-/* The least Normal version that holds segments, one behind the other, at a level. Of several causes the first is told, in this order: GOQ_NO_SUCH_LEVEL;
+/* The least Normal version that holds segments, one behind the other, at a level. Of several causes the first is reported, in this order: GOQ_NO_SUCH_LEVEL;
    of each segment GOQ_NO_SUCH_KIND, GOQ_NOT_IN_MODE, GOQ_NO_SUCH_NUMBER, where a version has room for those before it; GOQ_NO_ROOM; GOQ_OUT_OF_MEMORY. */
 uint32_t goq_least_version_of_segments(const goq_segment *segments, size_t segments_length, uint32_t level, uint32_t *version);
 
@@ -423,7 +423,7 @@ uint32_t goq_draw_with_length(const uint8_t *modules, size_t modules_length, uin
 
 /* The bytes of a square of modules, row by row from the top left corner, dark where a byte is not zero, without a quiet zone: at the beginning of `bytes`, and
    what it is beside them. Each copy of the format word may have three wrong bits, and each block half as many wrong codewords as it has for error correction.
-   Of several causes the first is told, in this order: GOQ_NO_SUCH_SIDE, GOQ_NO_FORMAT, GOQ_DAMAGED, GOQ_NOT_SPELLED, GOQ_SMALL_BUFFER; GOQ_OUT_OF_MEMORY. */
+   Of several causes the first is reported, in this order: GOQ_NO_SUCH_SIDE, GOQ_NO_FORMAT, GOQ_DAMAGED, GOQ_NOT_SPELLED, GOQ_SMALL_BUFFER; GOQ_OUT_OF_MEMORY. */
 uint32_t goq_read(const uint8_t *modules, size_t modules_length, uint8_t *bytes, size_t bytes_length, goq_reading *reading);
 
 /* How many bytes goq_read would write, to `count`. GOQ_NO_SUCH_SIDE, GOQ_NO_FORMAT, GOQ_DAMAGED, GOQ_NOT_SPELLED, GOQ_OUT_OF_MEMORY. */
@@ -445,7 +445,7 @@ uint32_t goq_read_text(const uint8_t *modules, size_t modules_length, uint8_t *t
 uint32_t goq_mask(const uint8_t *modules, size_t modules_length, uint32_t *mask);
 
 /* The text of a kind of content, to be encoded by goq_encode_text: at the beginning of `out`, and its length to `count`, with no zero behind it. No symbol holds
-   a text of more than GOQ_BYTES_MAX bytes. Fields behind those given are empty or 0. Of several causes the first is told, in this order: GOQ_NO_SUCH_CONTENT; of
+   a text of more than GOQ_BYTES_MAX bytes. Fields behind those given are empty or 0. Of several causes the first is reported, in this order: GOQ_NO_SUCH_CONTENT; of
    each field GOQ_NO_SUCH_FIELD, GOQ_NOT_TEXT, GOQ_FIELD_RANGE, GOQ_FIELD_CHARACTER, where it is wrong by itself; what the format refuses, GOQ_FIELD_EMPTY ..
    GOQ_FIELD_UNUSED; GOQ_SMALL_BUFFER; GOQ_OUT_OF_MEMORY. Where a field is wrong, its place goes to `place`, GOQ_PAYMENT_FIELDS for a payment that is too long as
    a whole; otherwise `place` is as it was. */
@@ -453,7 +453,7 @@ uint32_t goq_content(
     uint32_t kind, const goq_field *fields, size_t fields_length, uint8_t *out, size_t out_length, size_t *count, size_t *place);
 
 /* The element string of GS1, to be encoded by goq_encode_segments as GOQ_BYTES behind GOQ_FNC1_FIRST: at the beginning of `out`, and its length to `count`, with a
-   separator (byte 29) behind each element whose length is not predefined and that another one follows. The first element that is wrong is told by its place, to
+   separator (byte 29) behind each element whose length is not predefined and that another one follows. The first element that is wrong is reported by its place, to
    `place`: GOQ_NOT_TEXT; else GOQ_NO_SUCH_IDENTIFIER, GOQ_ELEMENT_LENGTH, GOQ_FIELD_CHARACTER, GOQ_FIELD_CHECK_DIGITS. GOQ_SMALL_BUFFER, GOQ_OUT_OF_MEMORY. */
 uint32_t goq_gs1(const goq_element *elements, size_t elements_length, uint8_t *out, size_t out_length, size_t *count, size_t *place);
 

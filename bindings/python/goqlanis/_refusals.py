@@ -5,7 +5,8 @@ from ._asked import AS_MARKED_TEXT, Data, Parts, Segments
 from ._checks import LEVELS, version_name
 from .errors import Error, refusal
 
-LEVEL_NOT_IN_VERSION, NO_MODE, NO_ROOM, NOT_IN_MODE = 3, 5, 6, 14
+LEVEL_NOT_IN_VERSION, TOO_LONG, NO_MODE, NO_ROOM, NOT_IN_MODE = 3, 4, 5, 6, 14
+LIMIT = 1_048_576
 MODES = ("numeric writes digits", "alphanumeric writes digits, capitals, space and $%*+-./:", "",
          "kanji writes pairs of Shift JIS, 8140 to 9ffc and e040 to ebbf,")
 
@@ -13,6 +14,9 @@ MODES = ("numeric writes digits", "alphanumeric writes digits, capitals, space a
 def of(asked: Any, answer: int, said: str) -> Error:
     """The refusal of a symbol of data that is called so."""
     texts = {LEVEL_NOT_IN_VERSION: _no_level, NO_MODE: _no_mode, NOT_IN_MODE: _not_in_mode}
+    is_refused = answer in (LEVEL_NOT_IN_VERSION, NO_MODE, NO_ROOM)
+    if is_refused and isinstance(asked, Data) and asked.version and len(asked.data) > LIMIT:
+        return refusal(TOO_LONG)
     if answer == NO_ROOM:
         return refusal(answer, _no_room(asked, said))
     return refusal(answer, texts[answer](asked) if answer in texts else "")
