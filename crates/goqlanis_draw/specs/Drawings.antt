@@ -1,11 +1,13 @@
 -- What a request shows of a symbol.
-use Rattle.std.specs.Prelude.{ℕ, ◌+◌, ◌*◌, ◌/◌, true, max, unwrap_or}
+use Rattle.std.specs.Prelude.{ℕ, ◌+◌, ◌*◌, ◌/◌, List, true, max, unwrap_or}
 use Rattle.std.specs.Option.{option_map}
 use Rattle.qrcode_types.specs.Versions.{side}
+use Rattle.qrcode_types.specs.declared.types.Color.{Color}
 use Rattle.qrcode_types.specs.declared.types.Version.{Version}
 use Rattle.qrcode_render.specs.Layout.{Layout, layout}
 use Rattle.qrcode.specs.Pictures.{quiet_zone}
 use Rattle.goqlanis_draw.specs.Formats.{View, shade_of, IsDrawnIn}
+use Rattle.goqlanis_draw.specs.Masks.{AreUnder}
 use Rattle.goqlanis_draw.specs.declared.drawing.Drawing.{Drawing}
 use Rattle.goqlanis_draw.specs.declared.request.Request.{Request}
 
@@ -24,5 +26,7 @@ layout_for r v = layout (side v) (zone_for r v) (max (scale_for r v) 1) (max (sc
 abbrev pub view_for : Request → View
 view_for r = record { dark = shade_of r.dark; light = shade_of r.light; is_inverted = r.is_inverted; dpi = r.dpi; ends_lines = true }
 
-abbrev pub IsShownIn : Request → Drawing → Type 0  -- bytes that show their symbol as a request asks for it
-IsShownIn r d = IsDrawnIn r.format (view_for r) (layout_for r d.code.version) d.code.modules d.bytes.items
+-- bytes that show their symbol, under the mask that is asked for, as a request asks for it
+abbrev pub IsShownIn : Request → Drawing → Type 0
+IsShownIn r d =
+    (s : List Color) × (AreUnder r.mask d.code s × IsDrawnIn r.format (view_for r) (layout_for r d.code.version) s d.bytes.items)

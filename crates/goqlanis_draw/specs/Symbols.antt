@@ -9,6 +9,7 @@ use Rattle.qrcode_bits.specs.Manners.{IsLeastFrom}
 use Rattle.qrcode_bits.specs.declared.bits.manner.Manner.{Manner}
 use Rattle.qrcode.specs.Code.{Code}
 use Rattle.qrcode.specs.Texts.{IsSymbolAs, IsBoostedAs}
+use Rattle.goqlanis_draw.specs.Masks.{IsMaskless}
 use Rattle.goqlanis_draw.specs.declared.request.Choice.{Choice}
 use Rattle.goqlanis_draw.specs.declared.request.Choice.TheVariants.{From, Boosted, At}
 use Rattle.goqlanis_draw.specs.declared.request.Request.{Request}
@@ -33,5 +34,6 @@ IsRefusalFrom (At version) m l bytes e = IsRefusedIn m version l bytes e
 abbrev pub IsRefusedFor : Choice → Manner → EcLevel → List ℕ → QrError → Type 0
 IsRefusedFor choice m l bytes e = (e ≡ OutOfMemory) ⊎ IsRefusalFrom choice m l bytes e
 
-abbrev pub IsRefusalOf : Request → List ℕ → QrError → Type 0  -- why there is no drawing
-IsRefusalOf r bytes e = IsRefusedFor r.choice r.manner r.level bytes e
+-- why there is no drawing: there is no symbol, or its version has no mask of the number that is asked for
+abbrev pub IsRefusalOf : Request → List ℕ → QrError → Type 0
+IsRefusalOf r bytes e = IsRefusedFor r.choice r.manner r.level bytes e ⊎ ((e ≡ InvalidVersion) × IsMaskless r.mask (IsSymbolOf r bytes))

@@ -1,15 +1,18 @@
 //! Drawings for requests.
 
-ghost use Rattle.std.specs.Prelude.{◌≡◌, ◌≤◌, map, unwrap_or, IfOk, IfErr, IsOkUnless};
-ghost use Rattle.qrcode_types.specs.declared.types.QrError.TheVariants.{OutOfMemory};
+ghost use Rattle.std.specs.Prelude.{◌≡◌, ◌≤◌, ◌⊎◌, map, unwrap_or, IfOk, IfErr};
+ghost use Rattle.qrcode_types.specs.declared.types.QrError.TheVariants.{InvalidVersion, OutOfMemory};
 ghost use Rattle.qrcode.specs.Pictures.{quiet_zone};
 ghost use Rattle.qrcode_gs1.specs.Items.{item};
+ghost use Rattle.qrcode_gs1.specs.declared.symbol.errors.SymbolError.TheVariants.{Symbol};
 ghost use Rattle.goqlanis_draw.specs.Drawings.{IsShownIn, scale_for};
 ghost use Rattle.goqlanis_draw.specs.Elements.{IsElementsIn, IsElementsRefused, IsApplicationIn, IsApplicationRefused};
+ghost use Rattle.goqlanis_draw.specs.Masks.{IsMaskless, LacksMask};
 ghost use Rattle.goqlanis_draw.specs.Segments.{IsSymbolOfPieces, pieces_of};
 ghost use Rattle.goqlanis_draw.specs.Symbols.{IsSymbolIn, IsSymbolOf, IsRefusedFor, IsRefusalOf};
 
 use crate::elements::{symbol_for_application, symbol_of_elements};
+use crate::masking::modules_under;
 use crate::picture::Picture;
 use crate::render::draw_in;
 use crate::request::{Choice, Request};
@@ -21,9 +24,10 @@ use qrcode_gs1::elements::Element;
 use qrcode_gs1::symbol::errors::SymbolResult;
 use std::alloc::Global;
 
-/// A symbol, and the bytes that show it.
+/// A symbol, and the bytes that show it under the mask that is asked for.
 #[derive(Drop)]
 pub struct Drawing {
+    /// The symbol under the mask of least penalty.
     pub code: QrCode,
     pub bytes: Vec<u8>,
 }
@@ -31,7 +35,8 @@ pub struct Drawing {
 /// The drawing of data that a request asks for.
 ///
 /// It is refused where no version that may be taken holds the data, by the causes of `QrCode::at_least`,
-/// `QrCode::at_least_boosted` or `QrCode::in_version`; `OutOfMemory`: memory was refused.
+/// `QrCode::at_least_boosted` or `QrCode::in_version`; `InvalidVersion`: the version has no mask of
+/// the number that is asked for; `OutOfMemory`: memory was refused.
 pub fn draw(alloc: Global, request: &Request<'_>, bytes: &[u8]) -> QrResult<Drawing>
     ensures symbol { IfOk result (λ drawing. IsSymbolOf request.now bytes.now drawing.code) }
     ensures shown { IfOk result (IsShownIn request.now) }
@@ -45,8 +50,9 @@ pub fn draw(alloc: Global, request: &Request<'_>, bytes: &[u8]) -> QrResult<Draw
 /// are tried in their order, and a choice with levels to be raised keeps the level.
 ///
 /// `DataTooLong`: no version that may be taken holds them. `UnsupportedCharacterSet`,
-/// `InvalidVersion`: the version that is asked for lacks a mode, or the level. `InvalidCharacter`:
-/// the mode of a segment of digits or Kanji cannot write it. `OutOfMemory`: memory was refused.
+/// `InvalidVersion`: the version that is asked for lacks a mode, or the level or the mask.
+/// `InvalidCharacter`: the mode of a segment of digits or Kanji cannot write it. `OutOfMemory`:
+/// memory was refused.
 pub fn draw_segments(
     alloc: Global,
     request: &Request<'_>,
@@ -64,7 +70,8 @@ pub fn draw_segments(
 /// levels to be raised keeps the level.
 ///
 /// `Elements`: which element is refused first, and why. `Symbol(DataTooLong)`: no version that may be
-/// taken holds them; none of Micro does. `OutOfMemory`, in either: memory was refused.
+/// taken holds them; none of Micro does. `Symbol(InvalidVersion)`: there is no mask of the number.
+/// `OutOfMemory`, in either: memory was refused.
 pub fn draw_elements(
     alloc: Global,
     request: &Request<'_>,
@@ -73,8 +80,10 @@ pub fn draw_elements(
     ensures symbol { IfOk result (λ drawing. IsElementsIn request.now.choice request.now.level
         (map item elements.now) drawing.code) }
     ensures shown { IfOk result (IsShownIn request.now) }
-    ensures causes { IfErr result
-        (IsElementsRefused request.now.choice request.now.level (map item elements.now)) }
+    ensures causes { IfErr result (λ e.
+        IsElementsRefused request.now.choice request.now.level (map item elements.now) e
+        ⊎ ((e ≡ Symbol InvalidVersion) × IsMaskless request.now.mask
+        (IsElementsIn request.now.choice request.now.level (map item elements.now)))) }
 {
     let code = symbol_of_elements(alloc, request.choice, request.level, elements)?;
     Ok(drawing_of(alloc, request, code)?)
@@ -84,8 +93,8 @@ pub fn draw_elements(
 /// indicator, that a request asks for; its manner is not looked at, and a choice with levels to be
 /// raised keeps the level. Byte 29 is the separator.
 ///
-/// `DataTooLong`: no version that may be taken holds the data; none of Micro does. `OutOfMemory`:
-/// memory was refused.
+/// `DataTooLong`: no version that may be taken holds the data; none of Micro does. `InvalidVersion`:
+/// there is no mask of the number. `OutOfMemory`: memory was refused.
 pub fn draw_for_application(
     alloc: Global,
     request: &Request<'_>,
@@ -95,8 +104,10 @@ pub fn draw_for_application(
     ensures symbol { IfOk result (λ drawing. IsApplicationIn request.now.choice application
         request.now.level bytes.now drawing.code) }
     ensures shown { IfOk result (IsShownIn request.now) }
-    ensures causes { IfErr result
-        (IsApplicationRefused request.now.choice application request.now.level bytes.now) }
+    ensures causes { IfErr result (λ e.
+        IsApplicationRefused request.now.choice application request.now.level bytes.now e
+        ⊎ ((e ≡ InvalidVersion) × IsMaskless request.now.mask
+        (IsApplicationIn request.now.choice application request.now.level bytes.now))) }
 {
     let (choice, level) = (request.choice, request.level);
     let code = symbol_for_application(alloc, choice, level, application, bytes)?;
@@ -124,12 +135,15 @@ pub fn symbol_in(
 }
 
 /// A symbol, drawn as a request asks for.
+///
+/// `InvalidVersion`: its version has no mask of the number. `OutOfMemory`: memory was refused.
 pub fn drawing_of(alloc: Global, request: &Request<'_>, code: QrCode) -> QrResult<Drawing>
     ensures symbol { IfOk result (λ drawing. drawing.code ≡ code) }
     ensures shown { IfOk result (IsShownIn request.now) }
-    ensures memory { IsOkUnless result OutOfMemory }
+    ensures causes { IfErr result (λ e. (e ≡ OutOfMemory)
+        ⊎ ((e ≡ InvalidVersion) × LacksMask request.now.mask code.version)) }
 {
-    let modules = code.to_colors(alloc)?;
+    let modules = modules_under(alloc, &code, request.mask)?;
     let picture = Picture {
         modules: &modules,
         width: code.width() as u32,

@@ -6,6 +6,7 @@ mod drawing;
 mod elements;
 pub mod formats;
 pub mod laws;
+pub mod masking;
 pub mod picture;
 mod refusal;
 pub mod render;

@@ -28,9 +28,14 @@ pub fn refusal_text(
         (QrError::UnsupportedCharacterSet, Choice::At(version)) => {
             no_mode_text(alloc, request.manner, version)
         }
-        (QrError::InvalidVersion, Choice::At(version)) => {
+        (QrError::InvalidVersion, Choice::At(version))
+            if tables::capacity(version, request.level).is_none() => {
             no_level_text(alloc, version, request.level)
         }
+        (QrError::InvalidVersion, _) => String::from_str(
+            alloc,
+            "Micro QR has masks 0 to 3; take one of these, or a version of 1 to 40",
+        ),
         (error, _) => format!(in alloc; "{error}"),
     }
 }

@@ -27,6 +27,9 @@ pub struct Request<'a> {
     pub manner: Manner,
     pub choice: Choice,
     pub level: EcLevel,
+    /// The number of the mask, 0 to 7, of Micro 0 to 3; the first of least penalty where it is not
+    /// given.
+    pub mask: Option<usize>,
     pub format: Format,
     /// The modules of the quiet zone at each side; the standard's where it is not given.
     pub zone: Option<u8>,
