@@ -1,4 +1,5 @@
 mod Choices
 mod Pieces
+mod Plain
 mod Segmented
 mod WhyUnread

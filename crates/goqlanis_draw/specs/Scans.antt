@@ -7,7 +7,7 @@ use Rattle.qrcode_reader.specs.scan.Squares.{has_dark_edge, inverted, IsSquareIn
 use Rattle.qrcode_reader.specs.declared.spell.headers.Header.{Header}
 use Rattle.qrcode_reader.specs.declared.spell.parts.Part.{Part}
 use Rattle.qrcode_reader.specs.declared.spell.parts.Part.TheVariants.{Front, Bytes}
-use Rattle.qrcode_reader.specs.Positions.{seen, IsFirstPartsReading}
+use Rattle.qrcode_reader.specs.Positions.{seen, IsFirstReading, IsFirstPartsReading}
 use Rattle.qrcode_reader.specs.Readings.{IsPartsCause, ReadsParts}
 use Rattle.qrcode_reader.specs.declared.positions.Position.{Position}
 use Rattle.qrcode_reader.specs.declared.refusals.Unread as reading
@@ -25,15 +25,16 @@ header_in (Bytes m n) = []
 abbrev pub headers_in : List Part → List Header  -- the headers among parts
 headers_in parts = flat_map header_in parts
 
--- The reading of that square: that of the headers and segments in the first position in which there are some, and its headers. Where there is no header the
--- bytes are those of the segments; which bytes are handed on otherwise is not said.
+-- The reading of that square: that of the headers and segments in the first position in which there are some, and its headers. Where there is no header it is
+-- the reading as bytes in the first position in which the square has one; which bytes are handed on otherwise is not said.
 pub record IsReadAs (scan : Scan) : Type 0 where
   pub bytes : List ℕ
   pub parts : List Part
   pub first : IsFirstPartsReading scan.square.count scan.square.modules.items scan.any.position scan.any.is_inverted scan.any.reading.version
       scan.any.reading.ec_level scan.any.reading.mask bytes parts scan.any.reading.wrong.items
   pub among : scan.headers.items ≡ headers_in parts
-  pub plain : scan.headers.items ≡ [] → scan.any.reading.data.items ≡ bytes
+  pub plain : scan.headers.items ≡ [] → IsFirstReading scan.square.count scan.square.modules.items scan.any.position scan.any.is_inverted
+      scan.any.reading.version scan.any.reading.ec_level scan.any.reading.mask scan.any.reading.data.items scan.any.reading.wrong.items
 
 -- what the bytes of a picture are read as: the square of modules that its pixels show, with dark and light exchanged where their first row is dark, and
 -- that square's reading

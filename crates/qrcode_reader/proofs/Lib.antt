@@ -20,7 +20,7 @@ pub mod Unspelled
 pub mod Spelled
 mod Headings
 mod NoHeader
-mod Parted
+pub mod Parted
 mod ShownBytes
 mod BlockCorrections
 mod Locators

@@ -140,7 +140,7 @@ fn is_memory(error: Unread) -> bool
 /// first with the colours as they are and then with the colours exchanged. `None`: it is read in none
 /// of them.
 ///
-/// It fails for want of memory alone.
+/// It fails only where memory runs out.
 pub fn read_any(alloc: Global, modules: &[Color]) -> Result<Option<AnyReading>, AllocError>
     ensures square { IfOk result (λ found. IfSome found (λ any. (side : ℕ)
         × (side * side ≡ length modules.now))) }

@@ -7,7 +7,7 @@ is_white c = c == 32 || (nat_le 9 c && nat_le c 13)
 abbrev pub is_digit : ℕ → Bool  -- a decimal digit
 is_digit c = nat_le 48 c && nat_le c 57
 
--- what follows white space and comments, of which each goes from # to the end of its line; whether the bytes begin within one is told
+-- what follows white space and comments, of which each goes from # to the end of its line; whether the bytes begin within one is given
 unfoldable pub after_space : Bool → List ℕ → List ℕ
 after_space within [] = []
 after_space true (c ∷ rest) = after_space (not (c == 10)) rest

@@ -105,7 +105,7 @@ impl Pixels {
 
     /// The pixels with dark and light exchanged.
     ///
-    /// It fails for want of memory alone.
+    /// It fails only where memory runs out.
     pub fn inverted(&self, alloc: Global) -> Result<Pixels, AllocError>
         ensures { IfOk result (λ pixels. pixels ≡ inverted self.now) }
     {

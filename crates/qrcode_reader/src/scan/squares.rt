@@ -31,7 +31,7 @@ pub struct Square {
 /// least number of modules along a side, where it shows several. `None`: it shows no square of at
 /// most `GREATEST_COUNT` modules a side whose first row has a dark one.
 ///
-/// It fails for want of memory alone.
+/// It fails only where memory runs out.
 pub fn square_of(alloc: Global, pixels: &Pixels) -> Result<Option<Square>, AllocError>
     ensures value { IfOk result (λ found. IfSome found (λ square.
         IsSquareIn pixels.now square.count square.zone square.scale square.modules.items)) }
