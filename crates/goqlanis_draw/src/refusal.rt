@@ -1,5 +1,6 @@
 //! What a refusal says: what, why, and what would help.
 
+use crate::drawing::symbol_in;
 use crate::elements::{symbol_for_application, symbol_of_elements};
 use crate::request::{Choice, Request};
 use crate::segments::{Segment, symbol_of};
@@ -11,20 +12,15 @@ use qrcode_types::tables;
 use std::alloc::{AllocError, Global};
 use std::fmt;
 
-/// The text of a refusal of so many bytes.
+/// The text of a refusal of bytes: what is asked for, and what would hold them.
 pub fn refusal_text(
     alloc: Global,
     request: &Request<'_>,
-    count: usize,
+    bytes: &[u8],
     error: QrError,
 ) -> Result<String, AllocError> {
     match (error, request.choice) {
-        (QrError::DataTooLong, Choice::From(_) | Choice::Boosted(_)) => {
-            no_version_text(alloc, request, count)
-        }
-        (QrError::DataTooLong, Choice::At(version)) => {
-            no_room_text(alloc, request, version, count)
-        }
+        (QrError::DataTooLong, _) => too_long_text(alloc, request, bytes),
         (QrError::UnsupportedCharacterSet, Choice::At(version)) => {
             no_mode_text(alloc, request.manner, version)
         }
@@ -60,7 +56,7 @@ pub fn segments_refusal_text(
                 "version {name} has not all modes of the segments; M3, M4 and 1 to 40 have"
             )
         }
-        (error, _) => refusal_text(alloc, request, 0, error),
+        (error, _) => refusal_text(alloc, request, &[], error),
     }
 }
 
@@ -141,39 +137,47 @@ fn room_refusal_text(
     Ok(text)
 }
 
-// No version that may be taken holds so many bytes.
-fn no_version_text(
-    alloc: Global,
-    request: &Request<'_>,
-    count: usize,
-) -> Result<String, AllocError> {
-    let (level, manner) = (request.level, request.manner);
-    let most = Grouped(byte_room(manner, Version::Normal(40), level));
-    let bytes = Grouped(count);
-    let mut text = format!(in alloc; "{bytes} bytes at level {level:?}: at most {most}")?;
-    push_levels(&mut text, manner, count)?;
+// No version that may be taken holds the bytes.
+fn too_long_text(alloc: Global, request: &Request<'_>, bytes: &[u8]) -> Result<String, AllocError> {
+    let (level, count) = (request.level, Grouped(bytes.len()));
+    let mut text = format!(in alloc; "{count} bytes at ")?;
+    let version = match request.choice {
+        Choice::At(version) => {
+            let name = Name(version);
+            write!(text, "version {name} and ")?;
+            version
+        }
+        _ => Version::Normal(40),
+    };
+    match byte_room(request.manner, version, level) {
+        0 => write!(text, "level {level:?}: too many")?,
+        most => {
+            let most = Grouped(most);
+            write!(
+                text,
+                "level {level:?}: at most {most} unless digits or capitals"
+            )?;
+        }
+    }
+    push_help(&mut text, request, bytes)?;
     Ok(text)
 }
 
-// The version that is asked for does not hold so many bytes.
-fn no_room_text(
-    alloc: Global,
-    request: &Request<'_>,
-    version: Version,
-    count: usize,
-) -> Result<String, AllocError> {
-    let (level, manner) = (request.level, request.manner);
-    let (name, bytes) = (Name(version), Grouped(count));
-    let mut text = format!(in alloc;
-        "{bytes} bytes at version {name} and level {level:?}: too many"
-    )?;
-    let most = byte_room(manner, version, level);
-    if most > 0 {
-        let most = Grouped(most);
-        write!(text, ", at most {most} unless they are digits or capitals")?;
+// What holds the bytes: a later version, a lower level, or several symbols.
+fn push_help(text: &mut String, request: &Request<'_>, bytes: &[u8]) -> Result<(), AllocError> {
+    let (alloc, manner) = (*text.allocator(), request.manner);
+    let from = Choice::From(least_version(request.choice));
+    if let Some(version) = version_of(symbol_in(alloc, from, manner, request.level, bytes)) {
+        let name = Name(version);
+        return write!(text, "; version {name} holds them");
     }
-    push_version(&mut text, manner, count, level)?;
-    Ok(text)
+    for level in [EcLevel::Q, EcLevel::M, EcLevel::L] {
+        let any = Choice::From(Version::Normal(1));
+        if symbol_in(alloc, any, manner, level, bytes).is_ok() {
+            return write!(text, "; level {level:?} holds them");
+        }
+    }
+    text.push_str("; goqlanis several parts data between symbols")
 }
 
 // The version that is asked for lacks the level.
@@ -214,45 +218,6 @@ fn byte_room(manner: Manner, version: Version, level: EcLevel) -> usize {
     }
 }
 
-static LEVELS: [EcLevel; 4] = [EcLevel::H, EcLevel::Q, EcLevel::M, EcLevel::L];
-
-// Which levels hold so many bytes, at Normal 40.
-fn push_levels(text: &mut String, manner: Manner, count: usize) -> Result<(), AllocError> {
-    let (mut start, mut holds, mut is_held) = ("; level ", " holds", false);
-    for level in &LEVELS {
-        let room = byte_room(manner, Version::Normal(40), *level);
-        if room >= count {
-            let room = Grouped(room);
-            write!(text, "{start}{level:?}{holds} {room}")?;
-            start = ", ";
-            holds = "";
-            is_held = true;
-        }
-    }
-    if is_held {
-        return Ok(());
-    }
-    let most = Grouped(byte_room(manner, Version::Normal(40), EcLevel::L));
-    write!(text, "; no level holds more than {most}")
-}
-
-// The least Normal version that holds so many bytes at a level.
-fn push_version(
-    text: &mut String,
-    manner: Manner,
-    count: usize,
-    level: EcLevel,
-) -> Result<(), AllocError> {
-    for number in 1..41i16 {
-        let room = byte_room(manner, Version::Normal(number), level);
-        if room >= count {
-            let room = Grouped(room);
-            return write!(text, "; version {number} holds {room}");
-        }
-    }
-    write!(text, "; no version holds them at level {level:?}")
-}
-
 // A version by its number, or by M and its number.
 #[derive(Clone, Copy)]
 struct Name(Version);
@@ -266,9 +231,9 @@ impl fmt::Display for Name {
     }
 }
 
-// A number below a thousand millions, with a comma before each three digits.
+/// A number below a thousand millions, with a comma before each three digits.
 #[derive(Clone, Copy)]
-struct Grouped(usize);
+pub struct Grouped(pub usize);
 
 impl fmt::Display for Grouped {
     fn fmt<W: fmt::Write>(&self, f: &mut fmt::Formatter<W>) -> fmt::Result {

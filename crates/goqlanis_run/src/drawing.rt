@@ -37,7 +37,7 @@ pub(crate) fn draw_one(
         Ok(drawing) => drawing,
         Err(QrError::OutOfMemory) => return Err(Failure::OutOfMemory),
         Err(error) => {
-            let why = refusal_text(alloc, &request, bytes.len(), error)?;
+            let why = refusal_text(alloc, &request, bytes, error)?;
             return Err(Failure::Refused(why));
         }
     };
