@@ -51,7 +51,7 @@ rules =
     characters 8002 8002 1 20 ∷ mixed 8003 8003 14 30 14 14 ∷ characters 8004 8004 1 30 ∷
     digits 8005 8005 6 6 ∷ mixed 8006 8006 18 18 18 14 ∷ characters 8007 8007 1 34 ∷
     digits 8008 8008 8 12 ∷ characters 8009 8009 1 50 ∷ digits 8011 8011 1 12 ∷
-    characters 8012 8012 1 20 ∷ characters 8013 8013 1 25 ∷ with_check_digit 8017 8018 18 ∷
+    characters 8012 8012 1 20 ∷ characters 8013 8014 1 25 ∷ with_check_digit 8017 8018 18 ∷
     digits 8019 8019 1 10 ∷ characters 8020 8020 1 25 ∷ mixed 8026 8026 18 18 18 14 ∷
     characters 8110 8110 1 70 ∷ digits 8111 8111 4 4 ∷ characters 8112 8112 1 70 ∷
     characters 8200 8200 1 70 ∷ characters 90 90 1 30 ∷ characters 91 99 1 90 ∷ []
