@@ -9,15 +9,26 @@ LEVELS = "LMQH"
 BINARY = (bytes, bytearray, memoryview)
 
 
+def cut(said: str) -> str:
+    """The first 40 characters of what is quoted in a message."""
+    return said if len(said) <= 40 else f"{said[:38]}.."
+
+
+def shown(value: Any) -> str:
+    """A value as Python writes it, cut."""
+    return cut(repr(value))
+
+
 def whole(name: str, value: Any, least: int, most: int,
           error: Callable[[str], Exception] = ValueError) -> int:
     """A whole number in a range. Those of numpy are taken; True and 2.0 are none."""
     number = _index(value)
     if number is None:
-        raise TypeError(f"{name} is a whole number from {least:,} to {most:,}, not {value!r}"
+        raise TypeError(f"{name} is a whole number from {least:,} to {most:,}, not {shown(value)}"
                         f"{_whole_of(value)}")
     if not least <= number <= most:
-        raise error(f"{name} is a whole number from {least:,} to {most:,}, not {number:,}")
+        raise error(f"{name} is a whole number from {least:,} to {most:,}, not "
+                    f"{cut(f'{number:,}')}")
     return number
 
 
@@ -34,14 +45,14 @@ def _whole_of(value: Any) -> str:
     if isinstance(value, float) and abs(value) < 2**53:
         return f": take {round(value)}"
     if isinstance(value, str) and value.strip().isdecimal():
-        return f": take {int(value)}"
+        return f": take {cut(str(int(value)))}"
     return ""
 
 
 def flag(name: str, value: Any) -> bool:
     """True or False."""
     if not isinstance(value, bool):
-        raise TypeError(f"{name} is True or False, not {value!r}")
+        raise TypeError(f"{name} is True or False, not {shown(value)}")
     return value
 
 
@@ -51,7 +62,7 @@ def text(name: str, value: Any) -> str:
         return value
     if isinstance(value, BINARY):
         raise TypeError(f"{name} is a str, not bytes: take {name}.decode()")
-    raise TypeError(f"{name} is a str, not {value!r}: take str(..)")
+    raise TypeError(f"{name} is a str, not {shown(value)}: take str(..)")
 
 
 def binary(name: str, value: Any) -> bytes:
@@ -60,7 +71,7 @@ def binary(name: str, value: Any) -> bytes:
         return bytes(value)
     if isinstance(value, str):
         raise TypeError(f"{name} is bytes, not a str: take {value[:20]!r}.encode()")
-    raise TypeError(f"{name} is bytes, not {_shown(value)}{_bytes_of(value)}")
+    raise TypeError(f"{name} is bytes, not {_typed(value)}{_bytes_of(value)}")
 
 
 def data(value: Any) -> Tuple[bytes, bool]:
@@ -69,19 +80,18 @@ def data(value: Any) -> Tuple[bytes, bool]:
         return value.encode(), True
     if isinstance(value, BINARY):
         return bytes(value), False
-    raise TypeError(f"data is a str or bytes, not {_shown(value)}{_bytes_of(value)}")
+    raise TypeError(f"data is a str or bytes, not {_typed(value)}{_bytes_of(value)}")
 
 
-def _shown(value: Any) -> str:
-    """A value in few words."""
-    kind, said = type(value).__name__, repr(value)
-    return said if value is None else f"the {kind} {said if len(said) <= 40 else '..'}"
+def _typed(value: Any) -> str:
+    """A value with its type."""
+    return "None" if value is None else f"the {type(value).__name__} {shown(value)}"
 
 
 def _bytes_of(value: Any) -> str:
     """What would make data of a value, where something does."""
     if isinstance(value, numbers.Number):
-        return f": take str({value})"
+        return f": take str({cut(str(value))})"
     if hasattr(value, "read_bytes"):
         return ": take str(..) for the path, or .read_bytes() for what is in the file"
     if hasattr(value, "read"):
@@ -94,9 +104,9 @@ def _bytes_of(value: Any) -> str:
 def level(value: Any) -> int:
     """The library's number of a level."""
     if not isinstance(value, str):
-        raise TypeError(f"level is one of 'L', 'M', 'Q' and 'H', not {value!r}")
+        raise TypeError(f"level is one of 'L', 'M', 'Q' and 'H', not {shown(value)}")
     if len(value) != 1 or value.upper() not in LEVELS:
-        raise NoSuchLevel(f"no level {value!r}: take L, M, Q or H")
+        raise NoSuchLevel(f"no level {shown(value)}: take L, M, Q or H")
     return LEVELS.index(value.upper())
 
 
@@ -104,12 +114,12 @@ def version(value: Any) -> int:
     """The library's number of a version, which is a text or, of Normal, a number."""
     name = value if isinstance(value, str) else str(_index(value))
     if name == "None":
-        raise TypeError(f"a version is '1' to '40' or 'M1' to 'M4', not {value!r}")
+        raise TypeError(f"a version is '1' to '40' or 'M1' to 'M4', not {shown(value)}")
     is_micro = name[:1] in ("M", "m")
     digits, most = (name[1:], 4) if is_micro else (name, 40)
     number = int(digits) if digits.isascii() and digits.isdigit() and len(digits) < 3 else 0
     if not 1 <= number <= most:
-        raise NoSuchVersion(f"no version {value!r}: take 1 to 40 or M1 to M4")
+        raise NoSuchVersion(f"no version {shown(value)}: take 1 to 40 or M1 to M4")
     return 40 + number if is_micro else number
 
 
@@ -121,5 +131,5 @@ def version_name(number: int) -> str:
 def listed(name: str, value: Any, of: str) -> List[Any]:
     """A list of what an iterable gives, which is no text."""
     if isinstance(value, (str, *BINARY)) or not isinstance(value, Iterable):
-        raise TypeError(f"{name}: a list of {of}, not {_shown(value)}")
+        raise TypeError(f"{name}: a list of {of}, not {_typed(value)}")
     return list(value)

@@ -2,6 +2,7 @@
 from typing import Any, Tuple, Union
 
 from . import _checks
+from ._checks import shown
 
 Colour = Union[str, Tuple[int, int, int], Tuple[int, int, int, int], None]
 TRANSPARENT = 0xFF000000
@@ -49,7 +50,7 @@ def colour(name: str, value: Any) -> int:
     elif isinstance(value, str):
         parts = _parts(name, value.strip().lower())
     else:
-        raise TypeError(f"{name} is a colour, not {value!r}: take a name, '#rgb', '#rrggbb', "
+        raise TypeError(f"{name} is a colour, not {shown(value)}: take a name, '#rgb', '#rrggbb', "
                         "'#rrggbbaa', (red, green, blue), or None for none")
     red, green, blue, opacity = (parts + b"\xff")[:4]
     return (255 - opacity) << 24 | red << 16 | green << 8 | blue
@@ -60,7 +61,7 @@ def _parts(name: str, word: str) -> bytes:
     digits = _NAMES.get(word, word[1:] if word.startswith("#") else "")
     if len(digits) not in (3, 4, 6, 8) or not _is_hexadecimal(digits):
         is_bare = len(word) in (3, 6) and _is_hexadecimal(word)
-        raise ValueError(f"{name}: {word!r} is no colour: take "
+        raise ValueError(f"{name}: {shown(word)} is no colour: take "
                          + (f"'#{word}'" if is_bare else "'#rrggbb', or a name as CSS has it"))
     return bytes.fromhex(digits if len(digits) > 4 else "".join(it * 2 for it in digits))
 

@@ -4,6 +4,7 @@ import os
 from typing import Any, NamedTuple, Optional, Tuple
 
 from . import _checks
+from ._checks import shown
 from ._colours import colour
 from ._library import Drawing, library
 from .errors import NoSuchSize, NotInFormat, OutOfMemory, refuse
@@ -73,9 +74,8 @@ def _zone(look: Look, usual: int) -> int:
 
 def _scale(look: Look, kind: Kind) -> int:
     """The pixels of a module."""
-    if isinstance(look.scale, (str, os.PathLike)):
-        raise TypeError(f"scale is a whole number, not {look.scale!r}: symbol.save({look.scale!r}) "
-                        "writes a file")
+    if _ending(look.scale) in KINDS:
+        raise TypeError(f"scale is a whole number: symbol.save({shown(look.scale)}) writes a file")
     return kind.scale if look.scale is None else \
         _checks.whole("scale", look.scale, 1, MOST_SIDE, NoSuchSize)
 
@@ -88,7 +88,8 @@ def _ink(look: Look, name: str) -> Tuple[int, int, int]:
     if name == "eps" and max(dark, light) > 0xFFFFFF:
         raise NotInFormat("EPS has opaque colours alone; PNG and SVG have transparent ones")
     if dark == light:
-        raise ValueError(f"dark and light are one colour, {look.dark!r}: nobody sees the symbol")
+        raise ValueError(f"dark and light are one colour, {shown(look.dark)}: nobody sees the "
+                         "symbol")
     if look.dpi is not None and name != "png":
         raise NotInFormat(f"{name.upper()} names no dots per inch: PNG alone has dpi")
     return dark, light, 0 if look.dpi is None else _checks.whole("dpi", look.dpi, 1, MOST_SIDE)
@@ -100,11 +101,21 @@ def kind_of(out: Any, kind: Optional[str]) -> str:
     if kind is not None:
         found = _checks.text("kind", kind).lstrip(".").lower()
         if found not in KINDS:
-            raise ValueError(f"no kind {kind!r}: take one of {known}")
+            raise ValueError(f"no kind {shown(kind)}: take one of {known}")
         return found
     name = getattr(out, "name", "") if hasattr(out, "write") else os.fsdecode(out)
-    ending = os.path.splitext(name)[1] if isinstance(name, str) else ""
-    if ending[1:].lower() not in KINDS:
-        what = f"{name!r}: its ending is none of" if ending else "nothing names the format, one of"
-        raise ValueError(f"{what} {known}: add kind='png', or another one")
-    return ending[1:].lower()
+    ending = _ending(name)
+    if not ending:
+        raise ValueError(f"nothing names the format, one of {known}: add kind='png', or another "
+                         "one")
+    if ending not in KINDS:
+        file = os.path.basename(name)
+        raise ValueError(f"{shown(file)}: its ending is none of {known}: save "
+                         f"{shown(os.path.splitext(file)[0] + '.png')}, and convert that")
+    return ending
+
+
+def _ending(name: Any) -> str:
+    """The ending of the name of a file, in small letters; empty where it has none."""
+    is_name = isinstance(name, (str, bytes, os.PathLike))
+    return os.path.splitext(os.fsdecode(name))[1][1:].lower() if is_name else ""

@@ -5,6 +5,7 @@ import decimal
 from typing import Any, Sequence, Tuple, Union
 
 from . import _checks
+from ._checks import shown
 from ._library import MOST_BYTES, Element, Field, library
 from .errors import Error, NoRoom, refuse
 
@@ -111,7 +112,7 @@ def elements_of(elements: Any) -> Any:
 
 def _element(name: str, pair: Any) -> Element:
     if not isinstance(pair, (tuple, list)) or len(pair) != 2:
-        raise TypeError(f"{name} is a pair, as ('01', '09501101530003'), not {pair!r}")
+        raise TypeError(f"{name} is a pair, as ('01', '09501101530003'), not {shown(pair)}")
     identifier, value = (_checks.text(f"each part of {name}", it).encode() for it in pair)
     return Element(identifier, len(identifier), value, len(value))
 
@@ -141,14 +142,14 @@ def _refuse(answer: int, field: str) -> None:
 def choice(name: str, value: Any, choices: Tuple[Any, ...]) -> int:
     """The library's number of a choice."""
     if isinstance(value, bool) or value not in choices:
-        raise ValueError(f"{name} {value!r}: take one of {', '.join(map(repr, choices))}")
+        raise ValueError(f"{name} {shown(value)}: take one of {', '.join(map(repr, choices))}")
     return choices.index(value)
 
 
 def scaled(name: str, value: Number, places: int) -> int:
     """A number counted in the last of so many decimal places, which it may not pass."""
     if isinstance(value, bool) or not isinstance(value, (int, float, str, decimal.Decimal)):
-        raise TypeError(f"{name} is a number, or one in a str, not {value!r}")
+        raise TypeError(f"{name} is a number, or one in a str, not {shown(value)}")
     try:
         exact = decimal.Decimal(str(value)).scaleb(places)
         number = int(exact)
@@ -162,14 +163,14 @@ def scaled(name: str, value: Number, places: int) -> int:
 def day(name: str, given: Any) -> int:
     """A day as a number of eight digits."""
     if not isinstance(given, datetime.date):
-        raise TypeError(f"{name} is a datetime.date or datetime.datetime, not {given!r}")
+        raise TypeError(f"{name} is a datetime.date or datetime.datetime, not {shown(given)}")
     return (given.year * 100 + given.month) * 100 + given.day
 
 
 def moment(name: str, given: Any) -> int:
     """A moment as a number of fourteen digits, in UTC."""
     if not isinstance(given, datetime.datetime):
-        raise TypeError(f"{name} is a datetime.datetime, not {given!r}")
+        raise TypeError(f"{name} is a datetime.datetime, not {shown(given)}")
     if given.tzinfo is None:
         raise ValueError(f"{name}: {given} has no time zone: take .astimezone(), or "
                          ".replace(tzinfo=datetime.timezone.utc)")

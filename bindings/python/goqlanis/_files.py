@@ -9,7 +9,11 @@ from typing import Any
 def write(out: Any, data: bytes, is_text: bool) -> None:
     """Writes data to a path, or to a file that is open."""
     if not hasattr(out, "write"):
-        _write_whole(os.fsdecode(out), data)
+        path = os.fsdecode(out)
+        try:
+            _write_whole(path, data)
+        except OSError as error:
+            raise OSError(error.errno, error.strerror, path) from None
     elif not isinstance(out, io.TextIOBase):
         out.write(data)
     elif is_text:
@@ -31,7 +35,8 @@ def _write_whole(path: str, data: bytes) -> None:
     try:
         descriptor, beside = tempfile.mkstemp(prefix=".goqlanis-", dir=folder)
     except OSError as error:
-        raise OSError(error.errno, f"{error.strerror} in the folder {folder}", path) from None
+        why = f"{error.strerror} in the folder" if os.path.isdir(folder) else "there is no folder"
+        raise OSError(error.errno, f"{why} {folder}") from None
     try:
         with open(descriptor, "wb") as file:
             file.write(data)

@@ -21,6 +21,7 @@ import datetime
 from typing import Any, Iterable, List, NamedTuple, Optional, Tuple
 
 from . import _checks
+from ._checks import shown
 from ._fields import (ControlCharacter, EmptyField, Number, OutOfRange, TooLong, TooShort,
                       UnknownIdentifier, Unused, WrongCharacter, WrongCheckDigits, WrongField,
                       WrongLength, choice, day, elements_of, moment, scaled, string_of, text_of)
@@ -128,7 +129,7 @@ def bill(iban: str, creditor: Party, amount: Optional[Number] = None, currency: 
 def _party(who: str, party: Any) -> Iterable[Tuple[str, str]]:
     """The fields of a party."""
     if not isinstance(party, Party):
-        raise TypeError(f"{who} is a contents.Party(name, street, ..), not {party!r}")
+        raise TypeError(f"{who} is a contents.Party(name, street, ..), not {shown(party)}")
     return ((f"{who}.{name}", value) for name, value in zip(Party._fields, party))
 
 

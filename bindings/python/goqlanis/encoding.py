@@ -158,20 +158,21 @@ def _listed(segments: Segments) -> List[Segment]:
 
 def _segment(name: str, given: Any) -> Segment:
     if not isinstance(given, (tuple, list)) or len(given) != 2:
-        raise TypeError(f"{name} is a pair, as ('byte', b'..') or ('eci', 26), not {given!r}")
+        raise TypeError(f"{name} is a pair, as ('byte', b'..') or ('eci', 26), not "
+                        f"{_checks.shown(given)}")
     kind, value = given
     if not isinstance(kind, str) or kind not in KINDS:
-        raise ValueError(f"{name}: no kind {kind!r}: take one of {', '.join(KINDS)}")
+        raise ValueError(f"{name}: no kind {_checks.shown(kind)}: take one of {', '.join(KINDS)}")
     at = KINDS.index(kind)
     if at < MODES:
-        data = _checks.binary(f"{name}: what is behind {kind!r}", value)
+        data = _checks.binary(f"{name}: what is behind {_checks.shown(kind)}", value)
         return Segment(at, 0, data, len(data))
     if at in (ECI, FNC1_SECOND):
         most = MOST_SET if at == ECI else 255
         what = f"{name}: the number of {kind}"
         return Segment(at, _checks.whole(what, value, 0, most, NoSuchNumber), b"", 0)
     if value is not None:
-        raise TypeError(f"{name} is ('fnc1_first', None), not {given!r}")
+        raise TypeError(f"{name} is ('fnc1_first', None), not {_checks.shown(given)}")
     return Segment(at, 0, b"", 0)
 
 

@@ -98,8 +98,8 @@ def _modules_of(square: Modules) -> bytes:
     if isinstance(square, Symbol):
         return square.modules
     if isinstance(square, (str, bytes, os.PathLike)):
-        raise TypeError(f"square is a Symbol or rows of modules, not {square!r}: a picture is read "
-                        "by the program `goqlanis read`")
+        raise TypeError("square is a Symbol, or rows of modules, each True or False, not "
+                        f"{_checks.shown(square)}: the program's `goqlanis read` reads pictures")
     given = _checks.listed("square", square, "rows of modules, or a Symbol")
     rows = [_row(f"row {at + 1} of the square", it) for at, it in enumerate(given)]
     if any(len(row) != len(rows) for row in rows):
@@ -109,7 +109,7 @@ def _modules_of(square: Modules) -> bytes:
 
 def _row(name: str, given: Any) -> bytes:
     if isinstance(given, str) or not isinstance(given, Iterable):
-        raise TypeError(f"{name} is a list of True and False, not {given!r}")
+        raise TypeError(f"{name} is a list of True and False, not {_checks.shown(given)}")
     modules = list(given)
     if any(module not in (0, 1) for module in modules):
         raise ValueError(f"{name} has something else than True or 1 (dark) and False or 0 (light)")

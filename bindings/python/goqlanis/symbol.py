@@ -9,6 +9,7 @@ from dataclasses import dataclass
 from typing import IO, Any, Optional, Tuple, Union
 
 from . import _drawing, _files
+from ._checks import shown
 from ._colours import Colour
 from ._drawing import Look
 from ._library import library
@@ -85,11 +86,11 @@ class Symbol:
         >>> encode("01234567").save("ticket.jpg")
         Traceback (most recent call last):
             ...
-        ValueError: 'ticket.jpg': its ending is none of txt, png, svg, eps, pic, pbm, pgm: add \
-kind='png', or another one
+        ValueError: 'ticket.jpg': its ending is none of txt, png, svg, eps, pic, pbm, pgm: save \
+'ticket.png', and convert that
         """
         if not hasattr(out, "write") and not isinstance(out, (str, bytes, os.PathLike)):
-            raise TypeError(f"out is a path or a file that is open for writing, not {out!r}")
+            raise TypeError(f"out is a path or a file that is open for writing, not {shown(out)}")
         name = _drawing.kind_of(out, kind)
         data = self._drawn(name, Look(scale, border, quiet_zone, dark, light, dpi))
         data += b"\n" if name == "txt" else b""
@@ -152,7 +153,8 @@ kind='png', or another one
              border: Optional[int] = None) -> str:
         """Half blocks, two modules a character; `light` for light text on a dark ground."""
         if not isinstance(light, bool):
-            raise TypeError(f"light is True or False, not {light!r}: half blocks have no colours")
+            raise TypeError(f"light is True or False, not {shown(light)}: half blocks have no "
+                            "colours")
         name = "light" if light else "txt"
         return self._drawn(name, Look(1, border, quiet_zone)).decode()
 
