@@ -2,12 +2,13 @@
 import ctypes
 import os
 import re
+import warnings
 from fractions import Fraction
 from typing import Any, NamedTuple, Optional, Tuple, Union
 
 from . import _checks
 from ._checks import shown
-from ._colours import colour
+from ._colours import are_close, colour
 from ._library import Drawing, library
 from .errors import NoSuchSize, NotInFormat, OutOfMemory, refuse
 
@@ -121,6 +122,9 @@ def _ink(look: Look, name: str) -> Tuple[int, int, int]:
                          "symbol")
     if look.dpi is not None and name != "png":
         raise NotInFormat(f"{name.upper()} names no dots per inch: PNG alone has dpi")
+    if are_close(dark, light):
+        warnings.warn(f"dark modules in {shown(look.dark)}, light ones in {shown(look.light)}: "
+                      "many readers want dark ones that are much darker", stacklevel=5)
     return dark, light, 0 if look.dpi is None else _checks.whole("dpi", look.dpi, 1, MOST_SIDE)
 
 

@@ -34,7 +34,7 @@ class Symbol:
       for Micro QR;
     - `dark`, `light`: a colour of CSS by its name, "#rgb", "#rrggbb", "#rrggbbaa", a tuple of red,
       green, blue and perhaps opacity (0 to 255), or None for a transparent one. EPS has no
-      transparent ones.
+      transparent ones. Of colours that many readers do not tell apart a UserWarning says so.
 
     >>> from goqlanis import encode
     >>> symbol = encode("01234567")
