@@ -9,13 +9,13 @@ from ._library import MOST_BYTES, AnyRead, Read, library
 from .errors import NoSuchSide, refuse
 from .symbol import Symbol
 
+HEADED = ("a header is in front, of several symbols, GS1 or another character set than UTF-8: save "
+          "a.pbm, and the program's `goqlanis read a.pbm` reads it; `goqlanis join` reads several")
+# Answers of calls for which another call reads the square, unless there is such a header.
+OTHERS = {19: library.goq_read_text, 24: library.goq_read}
 Modules = Union[Symbol, Sequence[Sequence[bool]]]
 POSITIONS = ("upright", "turned left", "upside down", "turned right", "mirrored", "flipped",
              "transposed", "antitransposed")
-HEADED = ("a header is in front, of several symbols, GS1 or another character set than UTF-8: save "
-          "a.pbm, and the program's `goqlanis read a.pbm` reads it; `goqlanis join` reads several")
-# The answers of calls for which another call reads the square, unless there is such a header.
-OTHERS = {19: library.goq_read_text, 24: library.goq_read}
 
 
 class Reading(NamedTuple):
