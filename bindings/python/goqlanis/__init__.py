@@ -47,6 +47,8 @@ level holds them: encode_sequence parts them between symbols
 
 help(goqlanis.encode), help(goqlanis.Symbol) and help(goqlanis.contents) say all that may be asked.
 """
+from typing import TYPE_CHECKING
+
 from . import contents
 from .encoding import (encode, encode_gs1, encode_segments, encode_sequence, encode_text,
                        is_functional, least_version, least_version_of_segments)
@@ -60,3 +62,14 @@ __version__ = "1.0.0"
 __all__ = ["contents", "Symbol", "encode", "encode_sequence", "encode_segments", "encode_gs1",
            "encode_text", "read", "read_any", "read_text", "least_version",
            "least_version_of_segments", "is_functional"]
+
+# Names that other packages have.
+_HERE = {"make": "encode(data)", "make_qr": "encode(data)", "QRCode": "encode(data)",
+         "QrCode": "encode(data)", "make_micro": "encode(data, micro=True)",
+         "make_sequence": "encode_sequence(data)", "helpers": "contents",
+         **{name: f"contents.{name}" for name in contents.__all__}}
+
+if not TYPE_CHECKING:
+    def __getattr__(name):
+        helps = f": take goqlanis.{_HERE[name]}" if name in _HERE else ""
+        raise AttributeError(f"module 'goqlanis' has no attribute {name!r}{helps}")

@@ -6,6 +6,9 @@ from ._checks import shown
 
 Colour = Union[str, Tuple[int, int, int], Tuple[int, int, int, int], None]
 TRANSPARENT = 0xFF000000
+# The least difference of brightness, of 255: two fifths, below which ISO/IEC 15415 grades the
+# contrast of a symbol D or F.
+CONTRAST = 102
 
 # The names of CSS Color Module Level 4, each with its red, green and blue.
 _TABLE = """
@@ -54,6 +57,17 @@ def colour(name: str, value: Any) -> int:
                         "'#rrggbbaa', (red, green, blue), or None for none")
     red, green, blue, opacity = (parts + b"\xff")[:4]
     return (255 - opacity) << 24 | red << 16 | green << 8 | blue
+
+
+def are_close(dark: int, light: int) -> bool:
+    """Whether dark modules are too bright beside light ones, neither of which is transparent."""
+    return max(dark, light) < TRANSPARENT and _brightness(light) < _brightness(dark) + CONTRAST
+
+
+def _brightness(number: int) -> int:
+    """How bright a colour is, 0 to 255, by the weights of ITU-R BT.601."""
+    red, green, blue = number >> 16 & 255, number >> 8 & 255, number & 255
+    return (299 * red + 587 * green + 114 * blue) // 1000
 
 
 def _parts(name: str, word: str) -> bytes:

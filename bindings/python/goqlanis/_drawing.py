@@ -1,11 +1,14 @@
 """How symbols are drawn: the formats, and what may be asked of each."""
 import ctypes
 import os
-from typing import Any, NamedTuple, Optional, Tuple
+import re
+import warnings
+from fractions import Fraction
+from typing import Any, NamedTuple, Optional, Tuple, Union
 
 from . import _checks
 from ._checks import shown
-from ._colours import colour
+from ._colours import are_close, colour
 from ._library import Drawing, library
 from .errors import NoSuchSize, NotInFormat, OutOfMemory, refuse
 
@@ -23,6 +26,7 @@ KINDS = {"txt": Kind(0, True, 1), "png": Kind(5, False, 8), "svg": Kind(8, True,
 # Formats that are no files: half blocks for dark grounds, and rows of pixels.
 OTHERS = {"light": Kind(1, True, 1), "grey": Kind(4, False, 8)}
 MOST_SIDE = 65535
+Size = Union[int, str, None]
 
 
 class Look(NamedTuple):
@@ -33,17 +37,20 @@ class Look(NamedTuple):
     dark: Any = "black"
     light: Any = "white"
     dpi: Any = None
+    size: Any = None
 
 
 def drawn(modules: bytes, width: int, usual_zone: int, name: str, look: Look) -> bytes:
     """The drawing of modules in a format."""
     kind = KINDS.get(name) or OTHERS[name]
-    zone, scale = _zone(look, usual_zone), _scale(look, kind)
+    zone = _zone(look, usual_zone)
+    across = width + 2 * zone
+    scale = _scale(look, kind) if look.size is None else _fitted(look, name, across)
     dark, light, dpi = _ink(look, name)
-    side = (width + 2 * zone) * scale
+    side = across * scale
     if name == "png" and side > MOST_SIDE:
         raise NoSuchSize(f"a PNG file of {side:,} pixels a side has more than {MOST_SIDE:,}: take "
-                         f"scale={MOST_SIDE // (width + 2 * zone)} or less")
+                         f"scale={MOST_SIDE // across} or less")
     drawing = Drawing(ctypes.sizeof(Drawing), kind.number, zone, scale, dark, light, dpi)
     given, count = (modules, len(modules), width, ctypes.byref(drawing)), ctypes.c_size_t()
     refuse(library.goq_draw_with_length(*given, ctypes.byref(count)))
@@ -80,6 +87,29 @@ def _scale(look: Look, kind: Kind) -> int:
         _checks.whole("scale", look.scale, 1, MOST_SIDE, NoSuchSize)
 
 
+def _fitted(look: Look, name: str, across: int) -> int:
+    """The pixels of a module where so many are to fit in a size."""
+    if look.scale is not None:
+        raise TypeError("scale and size: give one of them")
+    pixels = _pixels(look, 72 if name == "eps" else look.dpi)
+    if pixels < across:
+        raise NoSuchSize(f"a side of {pixels} pixels: the symbol and its quiet zone have {across} "
+                         "modules a side: take a larger size, or a smaller border")
+    return pixels // across
+
+
+def _pixels(look: Look, dots: Any) -> int:
+    """The pixels of a size, of which so many are an inch."""
+    size = look.size
+    found = isinstance(size, str) and re.fullmatch(r"([0-9]+([.][0-9]+)?)mm", size)
+    if found and dots is None:
+        raise ValueError(f"size={shown(size)}: how many pixels are these? Take PNG and dpi=300, or "
+                         "EPS, in points")
+    if found:
+        size = int(Fraction(found[1]) * _checks.whole("dpi", dots, 1, MOST_SIDE) * 10 / 254)
+    return _checks.whole("size in pixels", size, 1, MOST_SIDE, NoSuchSize)
+
+
 def _ink(look: Look, name: str) -> Tuple[int, int, int]:
     """The colours of dark and light modules, and the dots per inch, 0 for none."""
     dark, light = colour("dark", look.dark), colour("light", look.light)
@@ -92,6 +122,9 @@ def _ink(look: Look, name: str) -> Tuple[int, int, int]:
                          "symbol")
     if look.dpi is not None and name != "png":
         raise NotInFormat(f"{name.upper()} names no dots per inch: PNG alone has dpi")
+    if are_close(dark, light):
+        warnings.warn(f"dark modules in {shown(look.dark)}, light ones in {shown(look.light)}: "
+                      "many readers want dark ones that are much darker", stacklevel=5)
     return dark, light, 0 if look.dpi is None else _checks.whole("dpi", look.dpi, 1, MOST_SIDE)
 
 

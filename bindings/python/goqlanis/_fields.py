@@ -21,12 +21,12 @@ class WrongField(Error, ValueError):
 
     why = "the format cannot say it"
 
-    def __init__(self, field: str):
-        super().__init__(field)
-        self.field = field
+    def __init__(self, field: str, said: str = ""):
+        super().__init__(field, said)
+        self.field, self.said = field, said
 
     def __str__(self) -> str:
-        return f"{self.field}: {self.why}"
+        return self.said or f"{self.field}: {self.why}"
 
 
 class EmptyField(WrongField):
@@ -107,7 +107,10 @@ def _field(name: str, value: Union[str, int]) -> Field:
 def elements_of(elements: Any) -> Any:
     """Elements of GS1 as the library takes them."""
     pairs = _checks.listed("elements", elements, "pairs, as ('01', '09501101530003')")
-    return (Element * len(pairs))(*(_element(f"elements[{at}]", it) for at, it in enumerate(pairs)))
+    if not pairs:
+        raise EmptyField("elements")
+    return (Element * len(pairs))(*(_element(f"element {at + 1}", it)
+                                    for at, it in enumerate(pairs)))
 
 
 def _element(name: str, pair: Any) -> Element:
@@ -119,11 +122,40 @@ def _element(name: str, pair: Any) -> Element:
 
 def string_of(elements: Any) -> bytes:
     """The element string of elements, none of which may be wrong."""
+    answer, data, at = _string(elements)
+    if answer in _CAUSES:
+        said = f"element {at + 1}{_wrong(answer, elements[at])}"
+        raise _CAUSES[answer](f"elements[{at}]", said)
+    _refuse(answer, "")
+    return data
+
+
+def _string(elements: Any) -> Tuple[int, bytes, int]:
+    """What the library answers, the element string, and the place of an element that is wrong."""
     out, count, place = _room(), ctypes.c_size_t(), ctypes.c_size_t()
     answer = library.goq_gs1(elements, len(elements), out, MOST_BYTES, ctypes.byref(count),
                              ctypes.byref(place))
-    _refuse(answer, f"elements[{place.value}]")
-    return bytes(out[:count.value])
+    return answer, bytes(out[:count.value]), place.value
+
+
+def _wrong(answer: int, element: Element) -> str:
+    """What is wrong with an element."""
+    identifier, why = element.identifier.decode(), _CAUSES[answer].why
+    if answer == 42 and identifier.startswith("("):
+        return f": write {_checks.cut(identifier.strip('()'))} without brackets"
+    if answer == 42:
+        why = "no such identifier is known; they have two to four digits, as 01, 414 and 3103"
+    if answer == 43:
+        why = (f"its value has {element.value_length:,} characters; it wants "
+               f"{_lengths(element.identifier)}")
+    return f", ({_checks.cut(identifier)}): {why}"
+
+
+def _lengths(identifier: bytes) -> str:
+    """How many characters a value may have: one number, or from one to another."""
+    tried = (Element(identifier, len(identifier), b"0" * count, count) for count in range(91))
+    taken = [it.value_length for it in tried if _string((Element * 1)(it))[0] != 43]
+    return " to ".join(map(str, sorted({taken[0], taken[-1]})))
 
 
 def _room() -> Any:

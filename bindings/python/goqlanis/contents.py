@@ -32,7 +32,7 @@ __all__ = ["Party", "wifi", "mecard", "vcard", "payment", "bill", "mail", "geo",
            "UnknownIdentifier", "WrongLength"]
 
 WIFI, MECARD, VCARD, PAYMENT, BILL, MAIL, GEO, TEL, SMS, TOTP, HOTP, EVENT, DAYS = range(13)
-SECURITIES = (None, "open", "WEP", "WPA", "WPA3")
+SECURITIES = {None: 0, "open": 1, "nopass": 1, "WEP": 2, "WPA": 3, "WPA2": 3, "WPA3": 4}
 CURRENCIES = ("CHF", "EUR")
 ALGORITHMS = ("SHA1", "SHA256", "SHA512")
 DIGITS = (6, 8)
@@ -40,14 +40,15 @@ DIGITS = (6, 8)
 
 def wifi(ssid: str, password: str = "", security: Optional[str] = None,
          hidden: bool = False) -> str:
-    """The text that joins a wireless network: `security` is "open", "WEP", "WPA" or "WPA3", and
-    else WPA with a password and open without.
+    """The text that joins a wireless network: `security` is "open" or "nopass", "WEP", "WPA" or
+    "WPA2", or "WPA3", and else WPA with a password and open without.
 
     >>> wifi('"foo;bar\\\\baz"', hidden=True)
     'WIFI:T:nopass;S:\\\\"foo\\\\;bar\\\\\\\\baz\\\\";H:true;;'
     """
+    at = choice("security", security, tuple(SECURITIES))
     return text_of(WIFI, [("ssid", ssid), ("password", password),
-                          ("security", choice("security", security, SECURITIES)),
+                          ("security", [*SECURITIES.values()][at]),
                           ("hidden", int(_checks.flag("hidden", hidden)))])
 
 
@@ -230,7 +231,7 @@ def event(uid: str, stamp: datetime.datetime, begin: datetime.date, end: datetim
 
 def gs1(elements: Iterable[Tuple[str, str]]) -> bytes:
     """The element string of GS1, of application identifiers without parentheses and their values;
-    `goqlanis.encode_gs1` makes the symbol of it. A wrong element is reported by its place, as
+    `goqlanis.encode_gs1` makes the symbol of it. `field` of a wrong element is its place, as
     `elements[1]`.
 
     >>> gs1([("01", "03453120000011"), ("17", "191125"), ("10", "ABCD1234"), ("21", "10")])

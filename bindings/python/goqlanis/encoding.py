@@ -83,13 +83,14 @@ def _manner(is_text: bool, marked: bool, eci: Optional[int]) -> int:
 
 def _versions(version: Optional[Version], least: Optional[Version], micro: bool) -> Tuple[int, int]:
     """The version that is asked for, or 0, and the least."""
-    given = [version is not None, least is not None, _checks.flag("micro", micro)]
-    if sum(given) > 1:
-        raise ValueError("version, least_version and micro: give one of them; version='M2' and "
-                         "least_version='M2' are Micro QR")
     asked = 0 if version is None else _checks.version(version)
-    first = MICRO_1 if micro else 1 if least is None else _checks.version(least)
-    return asked, first
+    first = 1 if least is None else _checks.version(least)
+    if _checks.flag("micro", micro) and max(asked, first) >= MICRO_1:
+        name, value = ("version", version) if asked else ("least_version", least)
+        raise ValueError(f"leave out micro: {name}={value!r} is Micro QR")
+    if (version is not None) + (least is not None) + micro > 1:
+        raise ValueError("version, least_version and micro: give one of them")
+    return asked, MICRO_1 if micro else first
 
 
 def encode_text(text: str, level: str = "M", marked: bool = False) -> Symbol:
@@ -185,7 +186,7 @@ def encode_gs1(elements: Elements, level: str = "M", version: Optional[Version] 
     >>> encode_gs1([("20", "123")])
     Traceback (most recent call last):
         ...
-    goqlanis.contents.WrongLength: elements[0]: its value has too few or too many characters
+    goqlanis.contents.WrongLength: element 1, (20): its value has 3 characters; it wants 2
     """
     given, versions = elements_of(elements), _versions(version, least_version, False)
     string_of(given)

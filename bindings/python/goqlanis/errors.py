@@ -96,7 +96,8 @@ _CAUSES: Dict[int, Tuple[Type[Error], str]] = {
          "read_text reads a text that says that it is UTF-8"),
     23: (NotInFormat, "PNG and SVG have colours, EPS opaque ones, and PNG alone has dpi"),
     24: (NotShown, "the bits are not a text that readers show; read gives the bytes"),
-    30: (Unread, "the square is read in none of the sixteen positions"),
+    30: (Unread, "the square is read in none of the sixteen positions, or has a header: "
+         "read says more, once it is upright"),
 }
 
 # They are shown as the package exports them.

@@ -3,12 +3,16 @@ import ctypes
 import os
 from typing import Any, Iterable, NamedTuple, Sequence, Union
 
-from . import _checks
+from . import _checks, errors
 from ._checks import LEVELS, version_name
 from ._library import MOST_BYTES, AnyRead, Read, library
 from .errors import NoSuchSide, refuse
 from .symbol import Symbol
 
+HEADED = ("a header is in front, of several symbols, GS1 or another character set than UTF-8: save "
+          "a.pbm, and the program's `goqlanis read a.pbm` reads it; `goqlanis join` reads several")
+# Answers of calls for which another call reads the square, unless there is such a header.
+OTHERS = {19: library.goq_read_text, 24: library.goq_read}
 Modules = Union[Symbol, Sequence[Sequence[bool]]]
 POSITIONS = ("upright", "turned left", "upside down", "turned right", "mirrored", "flipped",
              "transposed", "antitransposed")
@@ -54,7 +58,7 @@ def read(square: Modules) -> Reading:
     goqlanis.NoFormat: no format word is near each of its copies; read_any tries all positions
     """
     modules, out, found = _modules_of(square), _bytes(), Read()
-    refuse(library.goq_read(modules, len(modules), out, len(out), ctypes.byref(found)))
+    _refuse(library.goq_read(modules, len(modules), out, len(out), ctypes.byref(found)), modules)
     return _reading(out, found)
 
 
@@ -80,12 +84,21 @@ def read_text(square: Modules) -> str:
     'Größe: 5 m²'
     """
     modules, out, found = _modules_of(square), _bytes(), Read()
-    refuse(library.goq_read_text(modules, len(modules), out, len(out), ctypes.byref(found)))
+    answer = library.goq_read_text(modules, len(modules), out, len(out), ctypes.byref(found))
+    _refuse(answer, modules)
     return bytes(out[:found.length]).decode()
 
 
 def _bytes() -> Any:
     return ctypes.create_string_buffer(MOST_BYTES)
+
+
+def _refuse(answer: int, modules: bytes) -> None:
+    """Raises what an answer stands for, and says what reads the modules."""
+    other = OTHERS.get(answer)
+    if other and other(modules, len(modules), _bytes(), MOST_BYTES, ctypes.byref(Read())):
+        raise errors.refusal(answer, HEADED)
+    refuse(answer)
 
 
 def _reading(out: Any, found: Read) -> Reading:

@@ -11,7 +11,7 @@ from typing import IO, Any, Optional, Tuple, Union
 from . import _drawing, _files
 from ._checks import shown
 from ._colours import Colour
-from ._drawing import Look
+from ._drawing import Look, Size
 from ._library import library
 from .errors import refuse
 
@@ -27,12 +27,14 @@ class Symbol:
 
     What draws it takes the same arguments everywhere:
 
-    - `scale`: the pixels of a module;
+    - `scale`: the pixels of a module, 8 unless you say otherwise, and 1 in texts and PIC;
+    - `size`, in place of it: pixels that a side may have, or millimetres, as "30mm", of EPS, and of
+      PNG with `dpi`. Modules are as large as there is room for: the picture is at most so wide;
     - `border`, or `quiet_zone`: its light modules at each side, 4 unless you say otherwise, and 2
       for Micro QR;
     - `dark`, `light`: a colour of CSS by its name, "#rgb", "#rrggbb", "#rrggbbaa", a tuple of red,
       green, blue and perhaps opacity (0 to 255), or None for a transparent one. EPS has no
-      transparent ones.
+      transparent ones. Of colours that many readers do not tell apart a UserWarning says so.
 
     >>> from goqlanis import encode
     >>> symbol = encode("01234567")
@@ -76,7 +78,7 @@ class Symbol:
     def save(self, out: Union[Path, IO[Any]], kind: Optional[str] = None, *,
              scale: Optional[int] = None, border: Optional[int] = None,
              quiet_zone: Optional[int] = None, dark: Colour = "black", light: Colour = "white",
-             dpi: Optional[int] = None) -> None:
+             dpi: Optional[int] = None, size: Size = None) -> None:
         """Writes a file, whole or not at all: its ending is png, svg, eps, pbm, pgm, pic or txt, or
         else `kind` names one of these. `out` may also be a file that is open. A PNG file may name
         its dots per inch by `dpi`.
@@ -92,62 +94,62 @@ class Symbol:
         if not hasattr(out, "write") and not isinstance(out, (str, bytes, os.PathLike)):
             raise TypeError(f"out is a path or a file that is open for writing, not {shown(out)}")
         name = _drawing.kind_of(out, kind)
-        data = self._drawn(name, Look(scale, border, quiet_zone, dark, light, dpi))
+        data = self._drawn(name, Look(scale, border, quiet_zone, dark, light, dpi, size))
         data += b"\n" if name == "txt" else b""
         _files.write(out, data, _drawing.KINDS[name].is_text)
 
-    def png(self, scale: int = 8, quiet_zone: Optional[int] = None, *,
+    def png(self, scale: Optional[int] = None, quiet_zone: Optional[int] = None, *,
             border: Optional[int] = None, dark: Colour = "black", light: Colour = "white",
-            dpi: Optional[int] = None) -> bytes:
+            dpi: Optional[int] = None, size: Size = None) -> bytes:
         """The bytes of a PNG file of at most 65,535 pixels a side.
 
         >>> from goqlanis import encode
         >>> encode("01234567").png()[:8]
         b'\\x89PNG\\r\\n\\x1a\\n'
         """
-        return self._drawn("png", Look(scale, border, quiet_zone, dark, light, dpi))
+        return self._drawn("png", Look(scale, border, quiet_zone, dark, light, dpi, size))
 
-    def svg(self, scale: int = 8, quiet_zone: Optional[int] = None, *,
+    def svg(self, scale: Optional[int] = None, quiet_zone: Optional[int] = None, *,
             border: Optional[int] = None, dark: Colour = "black",
-            light: Colour = "white") -> str:
+            light: Colour = "white", size: Size = None) -> str:
         """The text of an SVG file, one path.
 
         >>> from goqlanis import encode
         >>> encode("01234567").svg().startswith("<?xml")
         True
         """
-        return self._drawn("svg", Look(scale, border, quiet_zone, dark, light)).decode()
+        return self._drawn("svg", Look(scale, border, quiet_zone, dark, light, size=size)).decode()
 
-    def eps(self, scale: int = 8, quiet_zone: Optional[int] = None, *,
+    def eps(self, scale: Optional[int] = None, quiet_zone: Optional[int] = None, *,
             border: Optional[int] = None, dark: Colour = "black",
-            light: Colour = "white") -> str:
+            light: Colour = "white", size: Size = None) -> str:
         """Encapsulated PostScript, a point a pixel.
 
         >>> from goqlanis import encode
         >>> encode("01234567").eps(scale=2).splitlines()[1]
         '%%BoundingBox: 0 0 58 58'
         """
-        return self._drawn("eps", Look(scale, border, quiet_zone, dark, light)).decode()
+        return self._drawn("eps", Look(scale, border, quiet_zone, dark, light, size=size)).decode()
 
-    def pbm(self, scale: int = 8, quiet_zone: Optional[int] = None, *,
-            border: Optional[int] = None) -> bytes:
+    def pbm(self, scale: Optional[int] = None, quiet_zone: Optional[int] = None, *,
+            border: Optional[int] = None, size: Size = None) -> bytes:
         """A PBM file: black and white pixels, eight in a byte.
 
         >>> from goqlanis import encode
         >>> encode("01234567").pbm(scale=1, border=0)[:10]
         b'P4\\n21 21\\n\\xfe'
         """
-        return self._drawn("pbm", Look(scale, border, quiet_zone))
+        return self._drawn("pbm", Look(scale, border, quiet_zone, size=size))
 
-    def grey(self, scale: int = 8, quiet_zone: Optional[int] = None, *,
-             border: Optional[int] = None) -> bytes:
+    def grey(self, scale: Optional[int] = None, quiet_zone: Optional[int] = None, *,
+             border: Optional[int] = None, size: Size = None) -> bytes:
         """Rows of pixels, a byte each: 0 for a dark one and 255 for a light one."""
-        return self._drawn("grey", Look(scale, border, quiet_zone))
+        return self._drawn("grey", Look(scale, border, quiet_zone, size=size))
 
-    def pic(self, scale: int = 1, quiet_zone: Optional[int] = None, *,
-            border: Optional[int] = None) -> str:
+    def pic(self, scale: Optional[int] = None, quiet_zone: Optional[int] = None, *,
+            border: Optional[int] = None, size: Size = None) -> str:
         """A PIC text."""
-        return self._drawn("pic", Look(scale, border, quiet_zone)).decode()
+        return self._drawn("pic", Look(scale, border, quiet_zone, size=size)).decode()
 
     def text(self, light: bool = False, quiet_zone: Optional[int] = None, *,
              border: Optional[int] = None) -> str:
