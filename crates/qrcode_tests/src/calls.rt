@@ -1,15 +1,15 @@
 //! Calls that make a symbol, each row with what it makes or why it refuses.
 
-use crate::common::{Row, check, is_drawn, of_pushes};
+use crate::common::{Row, are_digits, check, is_drawn, of_pushes};
 use crate::squares::{
     BOOSTED, DIGITS_MICRO, DIGITS_NORMAL, IN_5, MARKED, MARKED_IN_2, MICRO, PARTS, TEXT, TEXT_IN_2,
 };
 use qrcode::EcLevel::{self, H, L, M, Q};
+use qrcode::QrCode;
 use qrcode::Version::{self, Micro, Normal};
 use qrcode::bits::Manner;
 use qrcode::types::QrError::{self, DataTooLong, InvalidVersion, UnsupportedCharacterSet};
 use qrcode::types::QrResult;
-use qrcode::{Color, QrCode};
 use qrcode_pushes::Push;
 use std::alloc::Global;
 
@@ -124,20 +124,6 @@ fn made(alloc: Global, call: Call, data: &[u8]) -> QrResult<QrCode> {
         Pushed(pushes, version, level) => of_pushes(alloc, version, level, pushes),
         _ => of_text(alloc, call, str::from_utf8(data).unwrap_or("")),
     }
-}
-
-// Whether modules are dark where hexadecimal digits have a one.
-fn are_digits(colors: &[Color], digits: &str) -> bool {
-    for (i, color) in colors.iter().enumerate() {
-        let digit = match digits.as_bytes().get(i / 4).copied() {
-            Some(digit) => char::from(digit).to_digit(16).unwrap_or(0),
-            None => return false,
-        };
-        if (*color == Color::Dark) != (digit >> (3 - i % 4) as u32 & 1 == 1) {
-            return false;
-        }
-    }
-    digits.len() == colors.len().div_ceil(4)
 }
 
 // Whether a symbol is the expected one.

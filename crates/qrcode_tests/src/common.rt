@@ -77,6 +77,20 @@ pub fn is_drawn(alloc: Global, code: &QrCode, drawing: &str) -> bool {
     }
 }
 
+/// Whether modules are dark where hexadecimal digits have a one.
+pub fn are_digits(colors: &[Color], digits: &str) -> bool {
+    for (i, color) in colors.iter().enumerate() {
+        let digit = match digits.as_bytes().get(i / 4).copied() {
+            Some(digit) => char::from(digit).to_digit(16).unwrap_or(0),
+            None => return false,
+        };
+        if (*color == Color::Dark) != (digit >> (3 - i % 4) as u32 & 1 == 1) {
+            return false;
+        }
+    }
+    digits.len() == colors.len().div_ceil(4)
+}
+
 /// Whether colours and modules are dark where a drawing says so, by `#` or by `*`.
 pub fn are_dark(drawing: &str, colors: &[Color], modules: &[bool]) -> bool {
     let mut i = 0usize;

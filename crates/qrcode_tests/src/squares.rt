@@ -39,6 +39,41 @@ pub const IN_5: &str =
 
 pub const MICRO: &str = "feab052eeb3dd67ba29045ff8e803f89d2568ffa6bda5f0ac259ad628";
 
+// segno's symbols of digits of pi in two parts, of a text alone and of one in three parts, and
+// libqrencode's of an application's letter.
+
+pub const PI_1: &str =
+    "fe2bfc12506eaebb74a5dba5aec13107faafe01700efae25823208f70b68c40a72fd804e3bfa31b05a28\
+    babecdd1e3aeb4c305a59fe9d88";
+
+pub const PI_2: &str =
+    "fe2bfc17d06ea8bb74b5dbaf2ec17907faafe01000d33bb7e6e609960e78c990f205806133fbfa10447c\
+    ba44ddd7626e9c23051b3fe8460";
+
+pub const HELLO: &str =
+    "fec3fc14906ea6bb7505dbaa2ec11107faafe010006b0afa07844dd8b0da6ae8abba806917fa85904b68\
+    baa3fdd2a8aea5d30578bfe1708";
+
+pub const WORDS_1: &str =
+    "fe8bfc11506e86bb7455dba5aec13107faafe01000da320fc67d40de3ee3b0acbdac8065b3f83f504c84\
+    bada6dd4712e9fd705250fee4f0";
+
+pub const WORDS_2: &str =
+    "fe8bfc11506e86bb7455dba5aec13107faafe01000da320dcb5d5aae5f1a30a733ec804933f9ca504720\
+    bad66dd4e9ae9377051f4fed0f0";
+
+pub const WORDS_3: &str =
+    "fe2bfc17506e8abb7595dba5aec14d07faafe00800fb9d51cd113acb0d21aeaee7eb0062affa6c904afd\
+    baa725d7ac6ea2f105997fed260";
+
+pub const LETTER_A: &str =
+    "fe0bfc17106e8abb7405dbabaec13907faafe00400aa68924792dea53e08b867273280425ff92cb04828\
+    baef3dd39ceeb439047b4fe9280";
+
+pub const LETTER_Z: &str =
+    "fe2bfc15d06e8cbb74d5dba9aec11907faafe00c00aa4890eb92f4e53ee2f86da93280725ff9acb0482b\
+    baef35d39c2eb43d04fb4fe9280";
+
 pub const DIGITS_NORMAL: &str = "\
 #######..#.##.#######
 #.....#..####.#.....#

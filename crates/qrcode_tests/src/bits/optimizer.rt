@@ -134,13 +134,6 @@ fn data_is_cut(rt: HostRuntime) {
     check(&rt, rt.alloc(), &CUTS);
 }
 
-#[test]
-fn the_longest_data_is_cut(rt: HostRuntime) {
-    let data = Vec::from_elem(rt.alloc(), b'a', 1_048_576).expect(&rt, "memory");
-    let least = segments(rt.alloc(), &data, Normal(40), Least).expect(&rt, "segments");
-    assert!(rt; are_cuts(&least, &[(Byte, 0, 1_048_576)]));
-}
-
 // Whether segments are joined into these in Normal 1.
 fn joins(alloc: Global, given: &[Segment], cuts: &[Cut]) -> bool
     requires joinable { IsJoinable given.now }

@@ -263,15 +263,8 @@ fn lists_are_limited(rt: HostRuntime) {
 struct LeastVersion(&'static [u8], usize, EcLevel, QrResult<Version>);
 
 #[rattlefmt::skip]
-static LEAST_VERSIONS: [LeastVersion; 15] = [
-    LeastVersion(b"", 1, EcLevel::M, Ok(Normal(1))),
-    LeastVersion(b"HELLO WORLD", 1, EcLevel::Q, Ok(Normal(1))),
-    LeastVersion(b"HELLO WORLD", 1, EcLevel::H, Ok(Normal(2))),
+static LEAST_VERSIONS: [LeastVersion; 8] = [
     LeastVersion(b"This is a mixed data test. 1234567890", 1, EcLevel::H, Ok(Normal(4))),
-    LeastVersion(b"a1234bc", 1, EcLevel::H, Ok(Normal(1))),
-    LeastVersion(b"aABCDEF", 30, EcLevel::L, Ok(Normal(9))),
-    LeastVersion(b"7", 432, EcLevel::M, Ok(Normal(9))),
-    LeastVersion(b"7", 433, EcLevel::M, Ok(Normal(10))),
     LeastVersion(b"7", 7089, EcLevel::L, Ok(Normal(40))),
     LeastVersion(b"7", 7090, EcLevel::L, Err(DataTooLong)),
     LeastVersion(b"a", 2331, EcLevel::M, Ok(Normal(40))),

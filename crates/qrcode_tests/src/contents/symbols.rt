@@ -1,6 +1,7 @@
 //! The symbols of elements.
 
-use crate::common::{Row, check, is_drawn, of_pushes};
+use crate::common::{Row, are_digits, check, of_pushes};
+use crate::squares::{LETTER_A, LETTER_Z};
 use qrcode::QrCode;
 use qrcode::types::{EcLevel, QrError, QrResult, Version};
 use qrcode_gs1::elements::Element;
@@ -166,53 +167,7 @@ fn indicators_are_those_that_zxing_reads(rt: HostRuntime) {
 // letter in front.
 struct OfLetter(&'static [u8], &'static str);
 
-static OF_LETTERS: [OfLetter; 2] = [OfLetter(b"A", OF_A), OfLetter(b"z", OF_Z)];
-
-const OF_A: &str = "\
-#######.....#.#######
-#.....#.###...#.....#
-#.###.#...#.#.#.###.#
-#.###.#.......#.###.#
-#.###.#.#.###.#.###.#
-#.....#..###..#.....#
-#######.#.#.#.#######
-..........#..........
-#.#.#.#..##.#...#..#.
-.#..#...####..#..#.##
-.####.#.#..#.#..#####
-.....#...#.###....##.
-.###..#..###..##..#.#
-........#....#..#.###
-#######..#..#.##..#.#
-#.....#..#.....#.#...
-#.###.#.###.####..###
-#.###.#..###..###..##
-#.###.#.##.#....###..
-#.....#...####.##.#..
-#######.#..#..#.#....";
-
-const OF_Z: &str = "\
-#######...#.#.#######
-#.....#.#.###.#.....#
-#.###.#...##..#.###.#
-#.###.#..##.#.#.###.#
-#.###.#.#..##.#.###.#
-#.....#...##..#.....#
-#######.#.#.#.#######
-.........##..........
-#.#.#.#..#..#...#..#.
-...###.#.###..#..#.##
-##.#..###..#.#..#####
-.###...#.#####....##.
-##.##.#.#..#..##..#.#
-........###..#..#.###
-#######..##.#.##..#.#
-#.....#..#.....#.#.##
-#.###.#.###.####..##.
-#.###.#..###..###....
-#.###.#.##.#....####.
-#.....#..#####.##.#..
-#######.#..#..#.#....";
+static OF_LETTERS: [OfLetter; 2] = [OfLetter(b"A", LETTER_A), OfLetter(b"z", LETTER_Z)];
 
 impl Row for OfLetter {
     fn holds(&self, alloc: Global) -> bool {
@@ -220,7 +175,7 @@ impl Row for OfLetter {
             return false;
         };
         match for_application(alloc, application, b"AA1234BBB112", EcLevel::M) {
-            Ok(code) => is_drawn(alloc, &code, self.1),
+            Ok(code) => are_digits(code.colors(), self.1),
             Err(_) => false,
         }
     }

@@ -51,10 +51,10 @@ static BITS: [Row<pbm::Bit, File>; 4] = [
 
 #[rattlefmt::skip]
 static GREYS: [Row<pgm::Grey, File>; 3] = [
-    Row(DIAGONAL, Changed(4, 1), Both(pgm::Grey(0), pgm::Grey(200)), Same(1), File(b"P5\n4 4\n255\n", &[
+    Row(DIAGONAL, Changed(4, 1), Both(pgm::Grey(40), pgm::Grey(200)), Same(1), File(b"P5\n4 4\n255\n", &[
         200, 200, 200, 200,
-        200, 0, 200, 200,
-        200, 200, 0, 200,
+        200, 40, 200, 200,
+        200, 200, 40, 200,
         200, 200, 200, 200,
     ])),
     // What netpbm makes of the picture.
@@ -75,6 +75,12 @@ const BROWN: eps::Color = eps::Color {
     blue: 0,
 };
 
+const CREAM: eps::Color = eps::Color {
+    red: 250,
+    green: 240,
+    blue: 200,
+};
+
 const WHITE: eps::Color = eps::Color {
     red: 255,
     green: 255,
@@ -83,11 +89,11 @@ const WHITE: eps::Color = eps::Color {
 
 #[rattlefmt::skip]
 static EPS: [Row<eps::Color, Text>; 2] = [
-    Row(DIAGONAL, On(1), Dark(BROWN), Of(3, 2), Is("%!PS-Adobe-3.0 EPSF-3.0
+    Row(DIAGONAL, On(1), Both(BROWN, CREAM), Of(3, 2), Is("%!PS-Adobe-3.0 EPSF-3.0
 %%BoundingBox: 0 0 12 8
 %%LanguageLevel: 2
 %%EndComments
-255 255 div 255 255 div 255 255 div setrgbcolor
+250 255 div 240 255 div 200 255 div setrgbcolor
 0 0 12 8 rectfill
 0 8 translate 1 -1 scale
 128 255 div 64 255 div 0 255 div setrgbcolor
@@ -112,10 +118,10 @@ showpage
 
 #[rattlefmt::skip]
 static PATHS: [Row<svg::Path<'static>, Text>; 2] = [
-    Row(Drawing(2, "##\n.#"), On(1), Dark(svg::Path("a\"b<c&d>")), Of(3, 2), Is(concat!(
+    Row(Drawing(2, "##\n.#"), On(1), Both(svg::Path("a\"b<c&d>"), svg::Path("t&n")), Of(3, 2), Is(concat!(
         "<?xml version=\"1.0\" standalone=\"yes\"?><svg xmlns=\"http://www.w3.org/2000/svg\" version=\"1.1\"",
         " width=\"12\" height=\"8\" viewBox=\"0 0 4 4\" preserveAspectRatio=\"none\" shape-rendering=\"crispEdges\">",
-        "<rect width=\"4\" height=\"4\" fill=\"#fff\"/>",
+        "<rect width=\"4\" height=\"4\" fill=\"t&amp;n\"/>",
         "<path fill=\"a&quot;b&lt;c&amp;d>\" d=\"m1 1h2v1h-2m1 0h1v1h-1\"/></svg>"
     ))),
     Row(DARK, On(1), Usual, Default, Is(concat!(

@@ -1,8 +1,8 @@
 //! Pictures as rows of pixels, and their sides.
 
 use crate::common::check_row;
-use crate::render::drawings::{DIAGONAL, Drawing, MICRO_2, NONE, NORMAL_1};
-use crate::render::pictures::Colors::Usual;
+use crate::render::drawings::{DIAGONAL, Drawing, NONE, NORMAL_1};
+use crate::render::pictures::Colors::{Both, Usual};
 use crate::render::pictures::Size::{AtLeast, AtMost, Default, Of, Same};
 use crate::render::pictures::Zone::{Off, On};
 use crate::render::pictures::{Pixels, Row, paints};
@@ -53,7 +53,7 @@ static GREYS_WITH_OPACITY: [Row<LumaA, Pixels>; 1] = [
 #[rattlefmt::skip]
 static COLORS: [Row<Rgb, Pixels>; 2] = [
     Row(DIAGONAL, On(0), Usual, Same(1), Pixels((2, 2), 12, &[0, 0, 0, 255, 255, 255, 255, 255, 255, 0, 0, 0])),
-    Row(MICRO_2, On(2), Usual, AtLeast(200, 200), Pixels((204, 204), 124848, &[255])),
+    Row(DIAGONAL, On(0), Both(Rgb([1, 2, 3]), Rgb([4, 5, 6])), Same(1), Pixels((2, 2), 12, &[1, 2, 3, 4, 5, 6, 4, 5, 6, 1, 2, 3])),
 ];
 
 #[rattlefmt::skip]

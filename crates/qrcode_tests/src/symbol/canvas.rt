@@ -6,9 +6,7 @@ ghost use Rattle.qrcode_types.specs.Versions.{is_valid, has_level};
 use crate::common::{Row, are_dark, check, check_row};
 use crate::squares::{DIGITS_MICRO, DIGITS_NORMAL};
 use crate::symbol::drawings::{
-    DATA_OF_MICRO_1, DATA_OF_NORMAL_2, HALF_CODEWORD_OF_MICRO_3, LIGHT_MICRO_1, MOST_OF_NORMAL_2,
-    NORMAL_1_UNDER_CHECKERBOARD, NORMAL_1_UNDER_VERTICAL_LINES, PATTERNS_OF_MICRO_1,
-    PATTERNS_OF_NORMAL_2, PATTERNS_OF_NORMAL_7,
+    DATA_OF_MICRO_1, LIGHT_MICRO_1, NORMAL_1_UNDER_CHECKERBOARD, PATTERNS_OF_NORMAL_2,
 };
 use qrcode_symbol::canvas::{Canvas, MaskPattern, Module, is_functional};
 use qrcode_types::types::{Color, EcLevel, QrResult, Version};
@@ -183,30 +181,17 @@ const LINES: Option<MaskPattern> = Some(MaskPattern::VerticalLines);
 
 // Canvases and their letters.
 #[rattlefmt::skip]
-static DRAWN: [(Drawing, &str); 11] = [
+static DRAWN: [(Drawing, &str); 5] = [
     // Bits without a codeword stay empty.
-    (Drawing(Version::Normal(2), EcLevel::L, Start::Patterns, EMPTY, [None, None]), PATTERNS_OF_NORMAL_2),
     (Drawing(Version::Normal(2), EcLevel::L, Start::Over(18, 18), EMPTY, [None, None]), PATTERNS_OF_NORMAL_2),
-    (Drawing(Version::Normal(7), EcLevel::L, Start::Patterns, EMPTY, [None, None]), PATTERNS_OF_NORMAL_7),
-    (Drawing(Version::Micro(1), EcLevel::L, Start::Patterns, EMPTY, [None, None]), PATTERNS_OF_MICRO_1),
     (Drawing(
         Version::Micro(1), EcLevel::L, Start::Patterns, (&[0xa5, 0x3c, 0x70], &[0x81, 0xe6]), [None, None],
     ), DATA_OF_MICRO_1),
-    (Drawing(
-        Version::Normal(2), EcLevel::L, Start::Patterns, (MOST_OF_NORMAL_2, &[0x6d, 0xb6]), [None, None],
-    ), DATA_OF_NORMAL_2),
-    // Of the data 84 bits are drawn, of the error correction 48, and no module stays empty.
-    (Drawing(
-        Version::Micro(3), EcLevel::L, Start::Patterns, (&[0; 11], &[0xff; 6]), [None, None],
-    ), HALF_CODEWORD_OF_MICRO_3),
     (Drawing(Version::Normal(1), EcLevel::M, Start::Patterns, DIGITS, [LINES, None]), DIGITS_NORMAL),
     (Drawing(
         Version::Micro(2), EcLevel::L, Start::Patterns, (b"\x40\x18\xac\xc3\x00", b"\x86\x0d\x22\xae\x30"),
         [Some(MaskPattern::LargeCheckerboard), None],
     ), DIGITS_MICRO),
-    (Drawing(
-        Version::Normal(1), EcLevel::M, Start::Patterns, EMPTY, [LINES, None],
-    ), NORMAL_1_UNDER_VERTICAL_LINES),
     // A second mask changes the places of the format word.
     (Drawing(
         Version::Normal(1), EcLevel::M, Start::Patterns, EMPTY, [LINES, Some(MaskPattern::Checkerboard)],
@@ -294,34 +279,18 @@ fn functional(version: Version, x: i16, y: i16) -> Option<bool> {
     }
 }
 
-// A version, a place, and whether it has a pattern.
+// A version, a place, counted from the lower right corner where it is below 0, and whether it has a
+// pattern. All others are asked by `bindings/c/facts`.
 struct Place(Version, i16, i16, bool);
 
-static PLACES: [Place; 25] = [
-    Place(Version::Normal(7), 0, 0, true),
-    Place(Version::Normal(7), 9, 0, false),
-    Place(Version::Normal(7), 33, 0, false),
-    Place(Version::Normal(7), 34, 0, true),
-    Place(Version::Normal(7), 36, 3, true),
-    Place(Version::Normal(7), 4, 36, true),
-    Place(Version::Normal(7), 36, 6, true),
-    Place(Version::Normal(7), 33, 5, false),
+static PLACES: [Place; 8] = [
     Place(Version::Normal(7), -7, -7, true),
     Place(Version::Normal(7), -9, -9, true),
     Place(Version::Normal(7), -10, -7, false),
     Place(Version::Normal(7), 8, -8, true),
-    Place(Version::Normal(7), 22, 22, true),
-    Place(Version::Normal(7), 6, 22, true),
-    Place(Version::Normal(7), 25, 22, false),
     Place(Version::Normal(7), 6, -16, true),
     Place(Version::Normal(7), 5, -12, false),
-    Place(Version::Normal(7), 44, 8, true),
-    Place(Version::Normal(7), 44, 9, false),
     Place(Version::Normal(7), -45, -45, true),
-    Place(Version::Micro(2), 12, 0, true),
-    Place(Version::Micro(2), 12, 1, false),
-    Place(Version::Micro(2), 8, 7, true),
-    Place(Version::Micro(2), 9, 8, false),
     Place(Version::Micro(2), 0, -1, true),
 ];
 

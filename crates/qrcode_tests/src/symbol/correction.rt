@@ -90,48 +90,20 @@ const INTERLEAVED_CORRECTION_OF_5_Q: [u8; 72] = [
     0x6f, 0x78, 0xc0, 0xb2, 0x27, 0x85, 0x8d, 0xec,
 ];
 
-// Bytes that count themselves.
-const COUNTED_34: [u8; 34] = [
-    0, 1, 2, 3, 4, 5, 6, 7, 8, 9, 10, 11, 12, 13, 14, 15, 16, 17, 18, 19, 20, 21, 22, 23, 24, 25,
-    26, 27, 28, 29, 30, 31, 32, 33,
-];
-
-// The same by turns from two blocks of 17.
-const INTERLEAVED_34: [u8; 34] = [
-    0, 17, 1, 18, 2, 19, 3, 20, 4, 21, 5, 22, 6, 23, 7, 24, 8, 25, 9, 26, 10, 27, 11, 28, 12, 29,
-    13, 30, 14, 31, 15, 32, 16, 33,
-];
-
-// Bytes that count themselves.
-const COUNTED_62: [u8; 62] = [
-    0, 1, 2, 3, 4, 5, 6, 7, 8, 9, 10, 11, 12, 13, 14, 15, 16, 17, 18, 19, 20, 21, 22, 23, 24, 25,
-    26, 27, 28, 29, 30, 31, 32, 33, 34, 35, 36, 37, 38, 39, 40, 41, 42, 43, 44, 45, 46, 47, 48, 49,
-    50, 51, 52, 53, 54, 55, 56, 57, 58, 59, 60, 61,
-];
-
-// The same by turns from two blocks of 15 and two of 16.
-const INTERLEAVED_62: [u8; 62] = [
-    0, 15, 30, 46, 1, 16, 31, 47, 2, 17, 32, 48, 3, 18, 33, 49, 4, 19, 34, 50, 5, 20, 35, 51, 6,
-    21, 36, 52, 7, 22, 37, 53, 8, 23, 38, 54, 9, 24, 39, 55, 10, 25, 40, 56, 11, 26, 41, 57, 12,
-    27, 42, 58, 13, 28, 43, 59, 14, 29, 44, 60, 45, 61,
-];
-
 // A version and a level, data bytes that fill it, the same by turns from each block, and their
-// correction bytes by turns, where they are known.
+// correction bytes by turns.
 struct Interleaved(
     Version,
     EcLevel,
     &'static [u8],
     &'static [u8],
-    Option<&'static [u8]>,
+    &'static [u8],
 );
 
 #[rattlefmt::skip]
-static INTERLEAVED: [Interleaved; 4] = [
-    Interleaved(Version::Normal(1), EcLevel::M, &DATA_OF_1_M, &DATA_OF_1_M, Some(&CORRECTION_OF_1_M)),
-    Interleaved(Version::Normal(5), EcLevel::Q, &DATA_OF_5_Q, &INTERLEAVED_DATA_OF_5_Q, Some(&INTERLEAVED_CORRECTION_OF_5_Q)),
-    Interleaved(Version::Normal(3), EcLevel::Q, &COUNTED_34, &INTERLEAVED_34, None),
-    Interleaved(Version::Normal(5), EcLevel::Q, &COUNTED_62, &INTERLEAVED_62, None),
+static INTERLEAVED: [Interleaved; 2] = [
+    Interleaved(Version::Normal(1), EcLevel::M, &DATA_OF_1_M, &DATA_OF_1_M, &CORRECTION_OF_1_M),
+    Interleaved(Version::Normal(5), EcLevel::Q, &DATA_OF_5_Q, &INTERLEAVED_DATA_OF_5_Q, &INTERLEAVED_CORRECTION_OF_5_Q),
 ];
 
 impl Row for Interleaved {
@@ -142,9 +114,7 @@ impl Row for Interleaved {
             _ => return false,
         }
         match construct_codewords(alloc, data, *version, *level) {
-            Ok((found, ec)) => {
-                found.as_slice() == *words && ec.as_slice() == correction.unwrap_or(&ec)
-            }
+            Ok((found, ec)) => { found.as_slice() == *words && ec.as_slice() == *correction }
             Err(_) => false,
         }
     }
@@ -158,47 +128,14 @@ fn blocks_are_interleaved(rt: HostRuntime) {
 // A version, a level, and how many errors it allows, where the version has it.
 struct Allowed(Version, EcLevel, Option<usize>);
 
-static ALLOWED: [Allowed; 40] = [
+static ALLOWED: [Allowed; 7] = [
     Allowed(Version::Micro(1), EcLevel::L, Some(0)),
     Allowed(Version::Micro(1), EcLevel::M, None),
-    Allowed(Version::Micro(1), EcLevel::Q, None),
-    Allowed(Version::Micro(1), EcLevel::H, None),
-    Allowed(Version::Micro(2), EcLevel::L, Some(1)),
-    Allowed(Version::Micro(2), EcLevel::M, Some(2)),
-    Allowed(Version::Micro(2), EcLevel::Q, None),
-    Allowed(Version::Micro(2), EcLevel::H, None),
-    Allowed(Version::Micro(3), EcLevel::L, Some(2)),
-    Allowed(Version::Micro(3), EcLevel::M, Some(4)),
-    Allowed(Version::Micro(3), EcLevel::Q, None),
-    Allowed(Version::Micro(3), EcLevel::H, None),
-    Allowed(Version::Micro(4), EcLevel::L, Some(3)),
-    Allowed(Version::Micro(4), EcLevel::M, Some(5)),
     Allowed(Version::Micro(4), EcLevel::Q, Some(7)),
-    Allowed(Version::Micro(4), EcLevel::H, None),
     Allowed(Version::Normal(1), EcLevel::L, Some(2)),
-    Allowed(Version::Normal(1), EcLevel::M, Some(4)),
-    Allowed(Version::Normal(1), EcLevel::Q, Some(6)),
-    Allowed(Version::Normal(1), EcLevel::H, Some(8)),
-    Allowed(Version::Normal(2), EcLevel::L, Some(4)),
-    Allowed(Version::Normal(2), EcLevel::M, Some(8)),
-    Allowed(Version::Normal(2), EcLevel::Q, Some(11)),
-    Allowed(Version::Normal(2), EcLevel::H, Some(14)),
-    Allowed(Version::Normal(3), EcLevel::L, Some(7)),
-    Allowed(Version::Normal(3), EcLevel::M, Some(13)),
-    Allowed(Version::Normal(3), EcLevel::Q, Some(18)),
-    Allowed(Version::Normal(3), EcLevel::H, Some(22)),
-    Allowed(Version::Normal(4), EcLevel::L, Some(10)),
-    Allowed(Version::Normal(4), EcLevel::M, Some(18)),
-    Allowed(Version::Normal(4), EcLevel::Q, Some(26)),
-    Allowed(Version::Normal(4), EcLevel::H, Some(32)),
-    Allowed(Version::Normal(40), EcLevel::L, Some(375)),
-    Allowed(Version::Normal(40), EcLevel::M, Some(686)),
     Allowed(Version::Normal(40), EcLevel::Q, Some(1020)),
     Allowed(Version::Normal(40), EcLevel::H, Some(1215)),
     Allowed(Version::Normal(41), EcLevel::L, None),
-    Allowed(Version::Normal(41), EcLevel::M, None),
-    Allowed(Version::Normal(41), EcLevel::Q, None),
-    Allowed(Version::Normal(41), EcLevel::H, None),
 ];
 
 impl Row for Allowed {

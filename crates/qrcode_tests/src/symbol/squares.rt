@@ -155,7 +155,7 @@ const PUBLISHED: [u32; 21] = [
     0x0eacb6, 0x15dd51, 0x144b00, 0x06857f, 0x02da41, 0x1fc55d, 0x08aa5d, 0x12f15d, 0x1a2d41, 0x10f07f,
 ];
 
-// Light but for its last row and column, whose 9 and 9 light modules behind the first cost 18 and 150 in Micro.
+// Light except for its last row and column, whose 9 and 9 light modules behind the first cost 18 and 150 in Micro.
 #[rattlefmt::skip]
 const SIDES: [u32; 17] = [
     0x10000, 0x10000, 0x10000, 0, 0, 0x10000, 0x10000, 0, 0x10000, 0, 0x10000, 0, 0x10000, 0, 0, 0x10000, 0x02539,
