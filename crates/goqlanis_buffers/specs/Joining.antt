@@ -1,5 +1,5 @@
 -- The data of several symbols, read from squares.
-use Rattle.std.specs.Prelude.{◌≡◌, ◌≢◌, ◌<◌, ⊤, ℕ, List, [], ◌∷◌, length, map, take, Some, slice_get}
+use Rattle.std.specs.Prelude.{◌≡◌, ◌≢◌, ◌<◌, ⊤, ℕ, List, ◌∷◌, length, map, take, Some, slice_get}
 use Rattle.std.specs.List.{AllZip}
 use Rattle.qrcode_places.specs.declared.masks.MaskPattern.{MaskPattern}
 use Rattle.qrcode_reader.specs.Readings.{HasNoVersion, HasNoFormat, HasDamagedBlock, HoldsNoParts, IsPartsReading}
