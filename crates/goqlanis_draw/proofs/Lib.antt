@@ -1,4 +1,5 @@
 mod Choices
+mod Held
 mod Pieces
 mod Plain
 mod Segmented

@@ -8,7 +8,7 @@ ghost use Rattle.qrcode_gs1.specs.declared.symbol.errors.SymbolError.TheVariants
 ghost use Rattle.goqlanis_draw.specs.Drawings.{IsShownIn, scale_for};
 ghost use Rattle.goqlanis_draw.specs.Elements.{IsElementsIn, IsElementsRefused, IsApplicationIn, IsApplicationRefused};
 ghost use Rattle.goqlanis_draw.specs.Masks.{IsMaskless, LacksMask};
-ghost use Rattle.goqlanis_draw.specs.Segments.{IsSymbolOfPieces, pieces_of};
+ghost use Rattle.goqlanis_draw.specs.Segments.{AreRefused, IsLeastHeld, IsSymbolOfSegments};
 ghost use Rattle.goqlanis_draw.specs.Symbols.{IsSymbolIn, IsSymbolOf, IsRefusedFor, IsRefusalOf};
 
 use crate::elements::{symbol_for_application, symbol_of_elements};
@@ -46,21 +46,29 @@ pub fn draw(alloc: Global, request: &Request<'_>, bytes: &[u8]) -> QrResult<Draw
     drawing_of(alloc, request, code)
 }
 
-/// The drawing of segments by hand that a request asks for; its manner is not looked at. Versions
-/// are tried in their order, and a choice with levels to be raised keeps the level.
+/// The drawing of segments by hand that a request asks for, of the least version that may be taken
+/// and holds them; its manner is not looked at, and a choice with levels to be raised keeps the level.
 ///
-/// `DataTooLong`: no version that may be taken holds them. `UnsupportedCharacterSet`,
-/// `InvalidVersion`: the version that is asked for lacks a mode, or the level or the mask.
-/// `InvalidCharacter`: the mode of a segment of digits or Kanji cannot write it. `OutOfMemory`:
-/// memory was refused.
+/// `InvalidVersion`: the choice names no version, or the version has no mask of the number. Where
+/// none that may be taken holds the segments, the error is the first cause in the last of these:
+/// `InvalidCharacter`, a mode cannot write its segment; `InvalidEciDesignator`, the number of a
+/// character set is above 999,999; `UnsupportedCharacterSet`, the version lacks a mode, or character
+/// sets; `InvalidVersion`, it lacks the level; `DataTooLong`, it has no room. `OutOfMemory`: memory
+/// was refused.
 pub fn draw_segments(
     alloc: Global,
     request: &Request<'_>,
     segments: &[Segment<'_>],
 ) -> QrResult<Drawing>
+    ensures version { IfOk result (λ drawing.
+        IsLeastHeld request.now.choice request.now.level segments.now drawing.code.version) }
     ensures symbol { IfOk result (λ drawing.
-        IsSymbolOfPieces request.now.level (pieces_of segments.now) drawing.code) }
+        IsSymbolOfSegments request.now.level segments.now drawing.code) }
     ensures shown { IfOk result (IsShownIn request.now) }
+    ensures causes { IfErr result (λ e.
+        AreRefused request.now.choice request.now.level segments.now e
+        ⊎ ((e ≡ InvalidVersion) × IsMaskless request.now.mask (λ code.
+        IsLeastHeld request.now.choice request.now.level segments.now code.version))) }
 {
     let code = symbol_of(alloc, request.choice, request.level, segments)?;
     drawing_of(alloc, request, code)

@@ -3,7 +3,7 @@
 use crate::drawing::symbol_in;
 use crate::elements::{symbol_for_application, symbol_of_elements};
 use crate::request::{Choice, Request};
-use crate::segments::{Segment, symbol_of};
+use crate::segments::{Segment, first_of, symbol_of};
 use qrcode::QrCode;
 use qrcode::bits::Manner;
 use qrcode::types::{EcLevel, Mode, QrError, Version};
@@ -46,18 +46,33 @@ pub fn segments_refusal_text(
 ) -> Result<String, AllocError> {
     match (error, request.choice) {
         (QrError::DataTooLong, choice) => {
-            let from = Choice::From(least_version(choice));
+            let from = Choice::From(first_of(choice));
             let least = version_of(symbol_of(alloc, from, request.level, segments));
             room_refusal_text(alloc, request, "segments", least)
         }
         (QrError::UnsupportedCharacterSet, Choice::At(version)) => {
-            let name = Name(version);
-            format!(in alloc;
-                "version {name} has not all modes of the segments; M3, M4 and 1 to 40 have"
-            )
+            no_segment_text(alloc, version, segments)
         }
         (error, _) => refusal_text(alloc, request, &[], error),
     }
+}
+
+// The version that is asked for cannot write a segment.
+fn no_segment_text(
+    alloc: Global,
+    version: Version,
+    segments: &[Segment<'_>],
+) -> Result<String, AllocError> {
+    let name = Name(version);
+    if segments
+        .iter()
+        .any(|segment| matches!(segment, Segment::CharacterSet(_)))
+    {
+        return format!(in alloc;
+            "version {name} cannot say which character set it holds; take 1 to 40"
+        );
+    }
+    format!(in alloc; "version {name} has not all modes of the segments; M3, M4 and 1 to 40 have")
 }
 
 /// The text of a refusal of elements of GS1 that no version that may be taken holds.
@@ -66,7 +81,7 @@ pub fn elements_refusal_text(
     request: &Request<'_>,
     elements: &[Element<'_>],
 ) -> Result<String, AllocError> {
-    let from = Choice::From(least_version(request.choice));
+    let from = Choice::From(first_of(request.choice));
     let least = version_of(symbol_of_elements(alloc, from, request.level, elements));
     marked_refusal_text(alloc, request, "elements", least)
 }
@@ -78,15 +93,9 @@ pub fn application_refusal_text(
     application: u8,
     bytes: &[u8],
 ) -> Result<String, AllocError> {
-    let (from, level) = (Choice::From(least_version(request.choice)), request.level);
+    let (from, level) = (Choice::From(first_of(request.choice)), request.level);
     let least = version_of(symbol_for_application(alloc, from, level, application, bytes));
     marked_refusal_text(alloc, request, "data", least)
-}
-
-// The version of a choice.
-fn least_version(choice: Choice) -> Version {
-    let (Choice::From(version) | Choice::Boosted(version) | Choice::At(version)) = choice;
-    version
 }
 
 // The version of a symbol that is made.

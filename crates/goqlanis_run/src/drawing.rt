@@ -3,7 +3,7 @@
 use crate::asked::{Asked, Target, Writing};
 use crate::contents::Elements;
 use crate::failure::{Failure, refused};
-use crate::segments::{Pieces, characters_of};
+use crate::segments::{characters_of, pieces, segments};
 use crate::streams::{print, write_file};
 use goqlanis_draw::{
     Drawing, Request, Segment, application_refusal_text, draw, draw_elements, draw_for_application,
@@ -55,14 +55,14 @@ pub(crate) fn check_empty(alloc: Global, asked: &Asked<'_>, bytes: &[u8]) -> Res
     )
 }
 
-/// The drawing of segments by hand, of words MODE:TEXT.
+/// The drawing of segments by hand, of words MODE:TEXT or eci:NUMBER.
 pub(crate) fn segments_drawing(
     alloc: Global,
     request: &Request<'_>,
     words: &[&str],
 ) -> Result<Drawing, Failure> {
-    let pieces = Pieces::read(alloc, words)?;
-    drawing_of_segments(alloc, request, &pieces.segments(alloc)?)
+    let pieces = pieces(alloc, words)?;
+    drawing_of_segments(alloc, request, &segments(alloc, &pieces)?)
 }
 
 // The drawing of segments, unless the mode of one cannot write it.
@@ -73,8 +73,8 @@ fn drawing_of_segments(
 ) -> Result<Drawing, Failure> {
     if let Some(place) = unwritable(segments) {
         let why = match segments.get(place) {
-            Some(segment) => characters_of(segment.mode),
-            None => "",
+            Some(Segment::Data(mode, _)) => characters_of(*mode),
+            _ => "",
         };
         let number = place.saturating_add(1);
         return Err(Failure::Refused(format!(in alloc; "segment {number}: {why}")?));

@@ -7,61 +7,84 @@ use goqlanis_draw::Segment;
 use qrcode::types::Mode;
 use std::alloc::{AllocError, Global};
 
-/// Segments by hand: their bytes one after the other, and of each its mode and where it ends.
+/// A segment by hand.
 #[derive(Drop)]
-pub(crate) struct Pieces {
-    bytes: Vec<u8>,
-    ends: Vec<(Mode, usize)>,
+pub(crate) enum Piece {
+    Data(Mode, Vec<u8>),
+    CharacterSet(u32),
 }
 
-impl Pieces {
-    /// The segments of words MODE:TEXT, of which the text of Kanji is Shift JIS in digits to the
-    /// base 16.
-    pub(crate) fn read(alloc: Global, words: &[&str]) -> Result<Pieces, Failure> {
-        let mut pieces = Pieces {
-            bytes: Vec::new(alloc),
-            ends: Vec::new(alloc),
-        };
-        for word in words {
-            pieces.push(alloc, word)?;
+impl Piece {
+    // The segment of a word MODE:TEXT, of which the text of Kanji is Shift JIS in digits to the
+    // base 16; or of eci:NUMBER, the number of a character set.
+    fn read(alloc: Global, word: &str) -> Result<Piece, Failure> {
+        match word.split_once(':') {
+            Some((name, number)) if name.eq_ignore_ascii_case("eci") => {
+                character_set(alloc, word, number)
+            }
+            Some((name, text)) => match mode_named(name) {
+                Some(Mode::Kanji) => pairs(alloc, word, text),
+                Some(mode) => Ok(Piece::Data(mode, Vec::from_slice(alloc, text.as_bytes())?)),
+                None => no_segment(alloc, word),
+            },
+            None => no_segment(alloc, word),
         }
-        Ok(pieces)
     }
 
-    // Appends the segment of a word.
-    fn push(&mut self, alloc: Global, word: &str) -> Result<(), Failure> {
-        let Some((mode, text)) = parts(word) else {
-            return Err(Failure::Usage(format!(in alloc;
-                "--segment {word}: it wants MODE:TEXT, \
-                of the modes numeric, alphanumeric, byte and kanji"
-            )?));
-        };
-        if mode != Mode::Kanji {
-            self.bytes.extend_from_slice(text.as_bytes())?;
-        } else if !push_digits(&mut self.bytes, text.as_bytes())? {
-            return Err(Failure::Usage(format!(in alloc;
-                "--segment {word}: the text of kanji is Shift JIS in pairs of digits 0 to f, \
-                as 935f"
-            )?));
+    // The segment.
+    fn segment(&self) -> Segment<'_> {
+        match self {
+            Piece::Data(mode, bytes) => Segment::Data(*mode, bytes),
+            Piece::CharacterSet(number) => Segment::CharacterSet(*number),
         }
-        self.ends.push((mode, self.bytes.len()))?;
-        Ok(())
     }
+}
 
-    /// The segments.
-    pub(crate) fn segments(&self, alloc: Global) -> Result<Vec<Segment<'_>>, AllocError> {
-        let mut segments = Vec::with_capacity(alloc, self.ends.len())?;
-        let mut rest = self.bytes.as_slice();
-        let mut start = 0;
-        for (mode, end) in &self.ends {
-            let count = end.saturating_sub(start).min(rest.len());
-            let (bytes, more) = rest.split_at(count);
-            segments.push(Segment { mode: *mode, bytes })?;
-            rest = more;
-            start = *end;
-        }
-        Ok(segments)
+/// The segments of words.
+pub(crate) fn pieces(alloc: Global, words: &[&str]) -> Result<Vec<Piece>, Failure> {
+    let mut pieces = Vec::with_capacity(alloc, words.len())?;
+    for word in words {
+        pieces.push(Piece::read(alloc, word)?)?;
     }
+    Ok(pieces)
+}
+
+/// The same, as they are drawn.
+pub(crate) fn segments(alloc: Global, pieces: &[Piece]) -> Result<Vec<Segment<'_>>, AllocError> {
+    let mut segments = Vec::with_capacity(alloc, pieces.len())?;
+    for piece in pieces {
+        segments.push(piece.segment())?;
+    }
+    Ok(segments)
+}
+
+// The number of a character set.
+fn character_set(alloc: Global, word: &str, number: &str) -> Result<Piece, Failure> {
+    match number.parse::<u32>() {
+        Ok(number) if number <= 999_999 => Ok(Piece::CharacterSet(number)),
+        _ => Err(Failure::Usage(format!(in alloc;
+            "--segment {word}: the number of a character set is one of 0 to 999999, as 26 of UTF-8"
+        )?)),
+    }
+}
+
+// Pairs of Shift JIS, of their digits.
+fn pairs(alloc: Global, word: &str, digits: &str) -> Result<Piece, Failure> {
+    let mut bytes = Vec::new(alloc);
+    if push_digits(&mut bytes, digits.as_bytes())? {
+        return Ok(Piece::Data(Mode::Kanji, bytes));
+    }
+    Err(Failure::Usage(format!(in alloc;
+        "--segment {word}: the text of kanji is Shift JIS in pairs of digits 0 to f, as 935f"
+    )?))
+}
+
+// A word that is no segment.
+fn no_segment(alloc: Global, word: &str) -> Result<Piece, Failure> {
+    Err(Failure::Usage(format!(in alloc;
+        "--segment {word}: it wants MODE:TEXT, of the modes numeric, alphanumeric, byte and kanji, \
+        or eci:NUMBER"
+    )?))
 }
 
 // Names of modes.
@@ -72,12 +95,11 @@ static MODES: &[(&str, Mode)] = &[
     ("kanji", Mode::Kanji),
 ];
 
-// The mode of a word MODE:TEXT, and its text.
-fn parts(word: &str) -> Option<(Mode, &str)> {
-    let (name, text) = word.split_once(':')?;
+// The mode of a name.
+fn mode_named(name: &str) -> Option<Mode> {
     for (known, mode) in MODES {
         if known.eq_ignore_ascii_case(name) {
-            return Some((*mode, text));
+            return Some(*mode);
         }
     }
     None

@@ -44,7 +44,7 @@ pub(crate) static DRAWING: Task = Task {
         entry!("eci", Nothing, "Write in front that the data is UTF-8, for readers that guess"),
         entry!("segment", Texts("MODE:TEXT"),
             "Write a segment by hand, once for each: numeric, alphanumeric, byte, or kanji with \
-            Shift JIS as 935f"),
+            Shift JIS as 935f; or eci:NUMBER, the character set of those behind it"),
         entry!("quiet-zone", 'q', Number(0, 255),
             "Modules of the quiet zone at each side; otherwise 4, and 2 for Micro QR"),
         entry!("scale", 's', Number(1, 1000),
