@@ -233,7 +233,10 @@ fn push_levels(text: &mut String, manner: Manner, count: usize) -> Result<(), Al
         return Ok(());
     }
     let most = Grouped(byte_room(manner, Version::Normal(40), EcLevel::L));
-    write!(text, "; no level holds more than {most}")
+    write!(
+        text,
+        "; no level holds more than {most}; goqlanis several parts data between symbols"
+    )
 }
 
 // The least Normal version that holds so many bytes at a level.
@@ -266,9 +269,9 @@ impl fmt::Display for Name {
     }
 }
 
-// A number below a thousand millions, with a comma before each three digits.
+/// A number below a thousand millions, with a comma before each three digits.
 #[derive(Clone, Copy)]
-struct Grouped(usize);
+pub struct Grouped(pub usize);
 
 impl fmt::Display for Grouped {
     fn fmt<W: fmt::Write>(&self, f: &mut fmt::Formatter<W>) -> fmt::Result {
