@@ -250,7 +250,7 @@ fn request_in<'a>(
         manner: Manner::Text,
         choice,
         level: level(given.get_str("level")),
-        mask: None,
+        mask: given.get_one::<u8>("mask").map(usize::from),
         format,
         zone: given.get_one::<u8>("quiet-zone"),
         scale,

@@ -57,6 +57,8 @@ pub(crate) static TEXTS: &[Entry] = &[
 /// How a symbol is drawn.
 #[rattlefmt::skip]
 pub(crate) static LOOKS: &[Entry] = &[
+    entry!("mask", Number("0 to 7", 0, 7),
+        "Mask of the symbol, of Micro QR 0 to 3; otherwise the one of least penalty"),
     entry!("output", 'o', Path, "Write to a file, whole or not at all; - is standard output"),
     entry!("format", 'f', Word(FORMATS),
         "What to write; otherwise by the ending of the file: .txt .png .svg .eps .pic .pbm .pgm"),
