@@ -1,7 +1,7 @@
 //! What is said of words that `clap` refuses, where there is more to say, and its help within lines
 //! of 80 characters.
 
-use crate::options::{ADVICE, Takes, Task};
+use crate::options::{ADVICE, Task};
 use clap::error::Error;
 use std::alloc::{AllocError, Global};
 
@@ -18,12 +18,9 @@ pub(crate) fn advice(
     if let Some(word) = between(text, "unexpected argument '", "' found") {
         return on_word(alloc, task, words, word);
     }
-    match (
-        between(text, "invalid value '", "' for"),
-        between(text, "' for '--", " <"),
-    ) {
-        (Some(value), Some(option)) => on_value(alloc, task, option, value),
-        _ => Ok(None),
+    match between(text, "invalid value '", "' for") {
+        Some(value) => help_with(alloc, task, value),
+        None => Ok(None),
     }
 }
 
@@ -63,26 +60,6 @@ fn help_with(alloc: Global, task: &Task, word: &str) -> Result<Option<String>, A
         }
     }
     Ok(None)
-}
-
-// What is said of a wrong value of an option.
-fn on_value(
-    alloc: Global,
-    task: &Task,
-    option: &str,
-    value: &str,
-) -> Result<Option<String>, AllocError> {
-    for entry in &task.all_options(alloc)? {
-        if let Takes::Number(least, most) = entry.takes {
-            if entry.long == option {
-                let help = entry.help;
-                return Ok(Some(format!(in alloc;
-                    "--{option} {value}: it wants a whole number, {least} to {most} ({help})"
-                )?));
-            }
-        }
-    }
-    help_with(alloc, task, value)
 }
 
 // The most characters of a line of help.

@@ -250,7 +250,7 @@ fn request_in<'a>(
         manner: Manner::Text,
         choice,
         level: level(given.get_str("level")),
-        mask: None,
+        mask: given.get_one::<u8>("mask").map(usize::from),
         format,
         zone: given.get_one::<u8>("quiet-zone"),
         scale,
@@ -334,7 +334,7 @@ fn size(alloc: Global, text: &str, dots: Option<u16>) -> Result<u16, Failure> {
     match pixels {
         Some(pixels) if pixels > 0 => Ok(pixels),
         _ => Err(Failure::Usage(format!(in alloc;
-            "--size {text}: it wants pixels, 1 to 65535, or millimetres, as 30mm with --dpi"
+            "--size {text}: it wants pixels, 1 to 65,535, or millimetres, as 30mm with --dpi"
         )?)),
     }
 }
@@ -396,7 +396,8 @@ pub(crate) fn ending_format(path: &str) -> Option<Format> {
     format_of_ending(ending)
 }
 
-// A colour: # and three or six digits to the base 16, or in SVG a name of letters.
+// A colour: # and three or six digits to the base 16; in SVG also a name, and in PNG and SVG
+// transparent.
 fn ink<'a>(
     alloc: Global,
     given: Option<&'a str>,
@@ -404,58 +405,54 @@ fn ink<'a>(
     format: Format,
 ) -> Result<Ink<'a>, Failure> {
     let name = given.unwrap_or(default);
-    if let Some(ink) = ink_of(name) {
+    let found = match format {
+        Format::Png | Format::Svg if name.eq_ignore_ascii_case("transparent") => Some(TRANSPARENT),
+        Format::Svg if is_name(name) => Some(Ink {
+            name,
+            ..TRANSPARENT
+        }),
+        _ => ink_of(name),
+    };
+    if let Some(ink) = found {
         return Ok(ink);
     }
-    let is_name = !name.is_empty() && name.as_bytes().iter().all(u8::is_ascii_alphabetic);
-    if is_name && format == Format::Svg {
-        return Ok(Ink {
-            name,
-            red: 0,
-            green: 0,
-            blue: 0,
-            opacity: 255,
-        });
-    }
-    let names = if format == Format::Svg {
-        ", or a name"
-    } else {
-        "; names are for SVG"
+    let others = match format {
+        Format::Svg => ", or a name",
+        Format::Png => ", or transparent; names are for SVG",
+        _ => "; names are for SVG, and transparent for PNG and SVG",
     };
     Err(Failure::Usage(format!(in alloc;
-        "{name} is no colour: # and three or six digits 0 to f{names}"
+        "{name} is no colour: # and three or six digits 0 to f{others}"
     )?))
+}
+
+// No colour.
+const TRANSPARENT: Ink<'static> = Ink {
+    name: "none",
+    red: 255,
+    green: 255,
+    blue: 255,
+    opacity: 0,
+};
+
+// Whether a colour may be a name of SVG: letters, and not digits to the base 16 alone.
+fn is_name(name: &str) -> bool {
+    let bytes = name.as_bytes();
+    bytes.iter().all(u8::is_ascii_alphabetic) && !bytes.iter().all(u8::is_ascii_hexdigit)
 }
 
 // The colour of # and three or six digits to the base 16.
 fn ink_of(name: &str) -> Option<Ink<'_>> {
-    match name.strip_prefix('#')?.as_bytes() {
-        [r, g, b] => ink_with(
-            name,
-            two_digits(*r, *r),
-            two_digits(*g, *g),
-            two_digits(*b, *b),
-        ),
-        [r, s, g, h, b, c] => ink_with(
-            name,
-            two_digits(*r, *s),
-            two_digits(*g, *h),
-            two_digits(*b, *c),
-        ),
-        _ => None,
-    }
-}
-
-// The colour of red, green and blue, where each is a number.
-fn ink_with(name: &str, red: Option<u8>, green: Option<u8>, blue: Option<u8>) -> Option<Ink<'_>> {
-    match (red, green, blue) {
-        (Some(red), Some(green), Some(blue)) => Some(Ink {
-            name,
-            red,
-            green,
-            blue,
-            opacity: 255,
-        }),
-        _ => None,
-    }
+    let (red, green, blue) = match name.strip_prefix('#')?.as_bytes() {
+        [r, g, b] => (two_digits(*r, *r), two_digits(*g, *g), two_digits(*b, *b)),
+        [r, s, g, h, b, c] => (two_digits(*r, *s), two_digits(*g, *h), two_digits(*b, *c)),
+        _ => return None,
+    };
+    Some(Ink {
+        name,
+        red: red?,
+        green: green?,
+        blue: blue?,
+        opacity: 255,
+    })
 }

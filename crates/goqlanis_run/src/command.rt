@@ -1,20 +1,36 @@
 //! The command line, as `clap` reads it.
 
-use crate::options::{EXAMPLES, Entry, OTHER_NAMES, Takes, Task};
+use crate::options::{EXAMPLES, Entry, OTHER_NAMES, Takes, Task, worded_tasks};
 use clap::builder::ValueParser;
 use clap::{Arg, ArgAction, Command};
 use std::alloc::{AllocError, Global};
 
-/// The command line of a task, unless memory runs out.
-pub(crate) fn command_of<'a>(alloc: Global, task: &Task) -> Result<Command<'a>, AllocError> {
-    let command = Command::new(alloc, "goqlanis")
-        .about(task.about)
-        .args(arguments(alloc, task)?)?;
+/// The command line of a task, whose help ends with a text, unless memory runs out.
+pub(crate) fn command_of<'a>(
+    alloc: Global,
+    task: &Task,
+    end: &'a str,
+) -> Result<Command<'a>, AllocError> {
+    Ok(
+        Command::new(alloc, "goqlanis")
+            .about(task.about)
+            .args(arguments(alloc, task)?)?
+            .after_help(end),
+    )
+}
+
+/// The end of a task's help: of drawing the words that ask for other tasks, and examples.
+pub(crate) fn end_of_help(alloc: Global, task: &Task) -> Result<String, AllocError> {
+    let mut text = String::new(alloc);
     if task.word.is_empty() {
-        Ok(command.after_help(EXAMPLES))
-    } else {
-        Ok(command)
+        text.push_str("Words, each with a help of its own, as goqlanis wifi --help:\n")?;
+        for other in worded_tasks() {
+            let (word, about) = (other.word, other.about);
+            write!(text, "  {word:7}  {about}\n")?;
+        }
+        write!(text, "\n{EXAMPLES}")?;
     }
+    Ok(text)
 }
 
 // What a task takes: a word beside options, and these.
@@ -28,14 +44,14 @@ fn arguments<'a>(alloc: Global, task: &Task) -> Result<Vec<Arg<'a>>, AllocError>
             arg
         })?;
     }
-    for entry in &task.all_options(alloc)? {
+    for entry in task.all_options(alloc)? {
         arguments.push(argument(alloc, entry)?)?;
     }
     Ok(arguments)
 }
 
 // An option. A negative number behind it is its value.
-fn argument<'a>(alloc: Global, entry: &'static Entry) -> Result<Arg<'a>, AllocError> {
+fn argument<'a>(alloc: Global, entry: Entry) -> Result<Arg<'a>, AllocError> {
     let arg = Arg::new(alloc, entry.long)
         .long(entry.long)
         .help(entry.help)
@@ -56,8 +72,8 @@ fn with_values<'a>(arg: Arg<'a>, takes: Takes) -> Arg<'a> {
         Takes::Texts(name) => arg.value_name(name).action(ArgAction::Append),
         Takes::Path => arg.value_name("FILE"),
         Takes::Word(words) => arg.value_parser(words).ignore_case(true),
-        Takes::Number(least, most) => arg
-            .value_name("NUMBER")
+        Takes::Number(name, least, most) => arg
+            .value_name(name)
             .value_parser(ValueParser::unsigned(least, most)),
     }
 }

@@ -12,7 +12,6 @@ use goqlanis_draw::{
 };
 use qrcode::bits::Manner;
 use qrcode::types::QrError;
-use qrcode_gs1::elements::Element;
 use qrcode_gs1::errors::Gs1Error;
 use qrcode_gs1::symbol::errors::SymbolError;
 use qrcode_gs1::symbol::indicator_of;
@@ -96,23 +95,14 @@ pub(crate) fn elements_drawing(
     text: &str,
 ) -> Result<Drawing, Failure> {
     let read = Elements::read(alloc, text)?;
-    drawing_of_elements(alloc, request, &read, &read.elements(alloc)?)
-}
-
-// The drawing of elements, which were read.
-fn drawing_of_elements(
-    alloc: Global,
-    request: &Request<'_>,
-    read: &Elements,
-    elements: &[Element<'_>],
-) -> Result<Drawing, Failure> {
-    match draw_elements(alloc, request, elements) {
+    let elements = read.elements(alloc)?;
+    match draw_elements(alloc, request, &elements) {
         Ok(drawing) => Ok(drawing),
         Err(SymbolError::Elements(Gs1Error::Refused(index, cause))) => {
             Err(Failure::Refused(read.refusal(alloc, index, cause)?))
         }
         Err(SymbolError::Symbol(QrError::DataTooLong)) => {
-            let why = elements_refusal_text(alloc, request, elements)?;
+            let why = elements_refusal_text(alloc, request, &elements)?;
             Err(Failure::Refused(why))
         }
         Err(SymbolError::Elements(_) | SymbolError::Symbol(_)) => Err(Failure::OutOfMemory),
@@ -187,8 +177,8 @@ fn check_size(alloc: Global, request: &Request<'_>, drawing: &Drawing) -> Result
     }
 }
 
-// How data is written.
-fn manner(alloc: Global, writing: Writing, bytes: &[u8]) -> Result<Manner, Failure> {
+/// How data is written.
+pub(crate) fn manner(alloc: Global, writing: Writing, bytes: &[u8]) -> Result<Manner, Failure> {
     match (writing, manner_of(bytes)) {
         (Writing::ByItself, manner) => Ok(manner),
         (Writing::Bytes, _) => Ok(Manner::Bytes),

@@ -1,54 +1,27 @@
 //! Files: data whole, and drawings whole or not at all.
 
-use std::alloc::{AllocError, AllocFailed, Global};
+use std::alloc::{AllocError, Global};
 use std::fs::{Metadata, OpenFile, OpenOptions, Permissions};
 use std::io::{ErrorKind, Write};
 use std::os::unix::fs::{MetadataExt, OpenOptionsExt, PermissionsExt, chown};
 use std::rt::Files;
-use std::{fmt, fs, io};
+use std::{fs, io};
+use thiserror::Error;
 
 /// Why a file is not written.
-#[derive(Drop)]
+#[derive(Debug, Drop, Error)]
 pub(crate) enum Unwritten {
     /// What stands under its name takes no data, or nothing can be told of it.
-    File(io::Error),
+    #[error("{0}")]
+    File(#[from] io::Error),
     /// No file can be made in this folder, which is to hold it.
+    #[error("no file can be made in its folder {0}: {1}")]
     Folder(String, io::Error),
     /// It was written beside its place, and cannot be put there.
+    #[error("another file cannot take its place: {0}")]
     Place(io::Error),
-    /// Memory ran out.
-    OutOfMemory,
-}
-
-impl fmt::Display for Unwritten {
-    fn fmt<W: fmt::Write>(&self, f: &mut fmt::Formatter<W>) -> fmt::Result {
-        match self {
-            Unwritten::File(error) => write!(f, "{error}"),
-            Unwritten::Folder(folder, error) => {
-                write!(f, "no file can be made in its folder {folder}: {error}")
-            }
-            Unwritten::Place(error) => write!(f, "another file cannot take its place: {error}"),
-            Unwritten::OutOfMemory => f.write_str("out of memory"),
-        }
-    }
-}
-
-impl From<io::Error> for Unwritten {
-    fn from(error: io::Error) -> Unwritten {
-        Unwritten::File(error)
-    }
-}
-
-impl From<AllocError> for Unwritten {
-    fn from(_error: AllocError) -> Unwritten {
-        Unwritten::OutOfMemory
-    }
-}
-
-impl<T: Drop> From<AllocFailed<T>> for Unwritten {
-    fn from(_error: AllocFailed<T>) -> Unwritten {
-        Unwritten::OutOfMemory
-    }
+    #[error("out of memory")]
+    OutOfMemory(#[from(alloc)] AllocError),
 }
 
 // The most links that are followed, as Linux does.

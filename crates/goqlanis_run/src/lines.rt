@@ -5,6 +5,7 @@ use crate::drawing::draw_one;
 use crate::failure::Failure;
 use crate::progress::Progress;
 use crate::streams::{ask, shown, unread};
+use goqlanis_draw::Grouped;
 use std::alloc::Global;
 use std::fs;
 use std::io::{BufRead, BufReader, IsTerminal, Read};
@@ -92,10 +93,13 @@ fn next_line<R: BufRead>(
     {
         Ok(0) => Ok(false),
         Ok(_) if line.len() < MOST_IN_LINE || line.ends_with(b"\n") => Ok(true),
-        Ok(_) => Err(Failure::Refused(format!(in alloc;
-            "cannot read {name}: line {number} has more than {MOST_IN_LINE} bytes; \
-            neither it nor the lines behind it are drawn"
-        )?)),
+        Ok(_) => {
+            let most = Grouped(MOST_IN_LINE);
+            Err(Failure::Refused(format!(in alloc;
+                "cannot read {name}: line {number} has more than {most} bytes; \
+                neither it nor the lines behind it are drawn"
+            )?))
+        }
         Err(error) => unread(alloc, name, &error),
     }
 }

@@ -1,6 +1,5 @@
 //! The manual page.
 
-use crate::completions::joined;
 use crate::options::{DRAWING, EXAMPLES, Entry, Takes, Task, worded_tasks};
 use std::alloc::{AllocError, Global};
 
@@ -36,7 +35,7 @@ static END: &str = ".SH EXIT STATUS
 /// The manual page, in the language of `man`, unless memory runs out.
 pub(crate) fn manual_page(alloc: Global) -> Result<String, AllocError> {
     let mut text = String::from_str(alloc, START)?;
-    push_options(&mut text, DRAWING.options)?;
+    push_options(&mut text, &DRAWING.all_options(alloc)?)?;
     text.push_str(WORDS)?;
     for task in worded_tasks() {
         push_task(&mut text, task)?;
@@ -85,13 +84,13 @@ fn push_option(text: &mut String, entry: &Entry) -> Result<(), AllocError> {
 fn push_value(text: &mut String, takes: Takes) -> Result<(), AllocError> {
     match takes {
         Takes::Nothing => Ok(()),
-        Takes::Text(name) | Takes::Wanted(name) | Takes::Texts(name) => write!(text, " {name}"),
+        Takes::Text(name) | Takes::Wanted(name) | Takes::Texts(name) | Takes::Number(name, _, _) =>
+            write!(text, " {name}"),
         Takes::Path => text.push_str(" FILE"),
         Takes::Word(words) => {
-            let words = joined(*text.allocator(), words, "|")?;
+            let words = words.join(*text.allocator(), "|")?;
             write!(text, " {words}")
         }
-        Takes::Number(least, most) => write!(text, " {least}..{most}"),
     }
 }
 

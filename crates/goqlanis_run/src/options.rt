@@ -31,7 +31,7 @@ mod symbols;
 
 use fields::{BILL, ELEMENTS, EVENT, MAIL, MECARD, OTP, PAYMENT, PLACE, SMS, TEL, VCARD, WIFI};
 pub(crate) use habits::{ADVICE, OTHER_NAMES};
-use symbols::{JOINING, READING, SEVERAL};
+use symbols::{ALONE, DATA, JOINING, LEVELS, LOOKS, READING, SEVERAL, TEXTS};
 pub(crate) use symbols::{DRAWING, EXAMPLES};
 
 /// What an option takes.
@@ -49,8 +49,8 @@ pub(crate) enum Takes {
     Path,
     /// One of some words.
     Word(&'static [&'static str]),
-    /// A whole number from one to another.
-    Number(u64, u64),
+    /// A whole number from one to another, which are named so.
+    Number(&'static str, u64, u64),
 }
 
 /// An option.
@@ -152,37 +152,6 @@ pub(crate) fn task_of(word: &str) -> &'static Task {
     &DRAWING
 }
 
-// The options of drawing that give the data, or have a text about the program printed.
-static DATA_OPTIONS: &[&str] = &[
-    "input",
-    "trim",
-    "lines",
-    "bytes",
-    "segment",
-    "allow-empty",
-    "completions",
-    "manual",
-    "version",
-];
-
-// Those that go with data in one symbol alone.
-static ALONE_OPTIONS: &[&str] = &[
-    "lines",
-    "segment",
-    "micro",
-    "boost",
-    "eci",
-    "completions",
-    "manual",
-    "version",
-];
-
-// Those that say the level and the version alone.
-static LEVEL_OPTIONS: &[&str] = &["level", "symbol-version", "least-version"];
-
-// Those that go with texts alone.
-static TEXT_OPTIONS: &[&str] = &["micro", "boost", "eci"];
-
 impl Task {
     /// Whether it draws.
     pub(crate) fn draws(&self) -> bool {
@@ -222,32 +191,24 @@ impl Task {
 
     /// All options that it takes, unless memory runs out: its own, and those of drawing that go
     /// with it.
-    pub(crate) fn all_options(&self, alloc: Global) -> Result<Vec<&'static Entry>, AllocError> {
-        let mut all = Vec::new(alloc);
-        for entry in self.options {
-            all.push(entry)?;
-        }
-        for entry in DRAWING.options {
-            if self.goes_with(entry.long) {
-                all.push(entry)?;
-            }
+    pub(crate) fn all_options(&self, alloc: Global) -> Result<Vec<Entry>, AllocError> {
+        let mut all = Vec::from_slice(alloc, self.options)?;
+        for group in self.groups() {
+            all.extend_from_slice(group)?;
         }
         Ok(all)
     }
 
-    // Whether an option of drawing goes with its own: none that gives the data, none that says the
-    // level where the format does, and for elements none that goes with texts alone.
-    fn goes_with(&self, option: &'static str) -> bool {
-        let gives_data = DATA_OPTIONS.contains(&option);
-        let is_for_texts = TEXT_OPTIONS.contains(&option);
+    // The options of drawing that go with its own: none that gives the data where its own do, and
+    // none that says the level where the format does.
+    fn groups(&self) -> [&'static [Entry]; 5] {
         match self.purpose {
-            Purpose::Draw | Purpose::Read | Purpose::Join => false,
-            Purpose::Several => !ALONE_OPTIONS.contains(&option),
-            Purpose::Content(Kind::Payment | Kind::Bill) => {
-                !gives_data && !is_for_texts && !LEVEL_OPTIONS.contains(&option)
-            }
-            Purpose::Content(_) => !gives_data,
-            Purpose::Elements => !gives_data && !is_for_texts,
+            Purpose::Draw => [DATA, LEVELS, TEXTS, LOOKS, ALONE],
+            Purpose::Several => [DATA, LEVELS, LOOKS, &[], &[]],
+            Purpose::Read | Purpose::Join => [&[], &[], &[], &[], &[]],
+            Purpose::Content(Kind::Payment | Kind::Bill) => [LOOKS, &[], &[], &[], &[]],
+            Purpose::Content(_) => [LEVELS, TEXTS, LOOKS, &[], &[]],
+            Purpose::Elements => [LEVELS, LOOKS, &[], &[], &[]],
         }
     }
 }

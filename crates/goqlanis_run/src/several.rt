@@ -1,17 +1,17 @@
 //! `goqlanis several`: data in several symbols; and `goqlanis join`: the data of such symbols.
 
-use crate::asked::{Asked, Writing, check_one_behind_another, versions_of};
-use crate::drawing::{check_empty, write_drawing};
+use crate::asked::{Asked, check_one_behind_another, versions_of};
+use crate::drawing::{check_empty, manner, write_drawing};
 use crate::failure::{Failure, refused};
 use crate::reading::scan_of;
 use crate::streams::{MOST_DATA, MOST_PICTURE, print, read_file, write_file};
 use clap::ArgMatches;
 use goqlanis_draw::{Scan, drawing_of};
 use qrcode::QrCode;
-use qrcode::types::{QrError, QrResult};
+use qrcode::types::QrError;
 use qrcode_reader::spell::Header;
 use qrcode_several::errors::JoinError;
-use qrcode_several::{Part, Versions, encode_several_within, encode_text_several_within, join};
+use qrcode_several::{Part, encode_among, encode_counted, join};
 use std::alloc::{AllocError, Global};
 use std::process::ExitCode;
 
@@ -28,9 +28,16 @@ pub(crate) fn draw_several(
     let alloc = rt.alloc();
     check_one_behind_another(alloc, asked)?;
     check_empty(alloc, asked, bytes)?;
-    let versions = versions_of(alloc, given, asked.request.choice)?;
-    let most = given.get_one::<u8>("count");
-    match symbols(alloc, asked, bytes, versions, most) {
+    let (versions, level) = (
+        versions_of(alloc, given, asked.request.choice)?,
+        asked.request.level,
+    );
+    let manner = manner(alloc, asked.writing, bytes)?;
+    let made = match given.get_one::<u8>("count") {
+        None => encode_among(alloc, bytes, manner, versions, level),
+        Some(count) => encode_counted(alloc, bytes, manner, versions, level, count as usize),
+    };
+    match made {
         Ok(codes) => draw_each(rt, asked, codes),
         Err(QrError::DataTooLong) => refused(
             alloc,
@@ -38,45 +45,6 @@ pub(crate) fn draw_several(
             greater versions, or a lower --level",
         ),
         Err(_) => Err(Failure::OutOfMemory),
-    }
-}
-
-// The symbols of data: as few as there can be; or, where there may be so many, of the least version.
-fn symbols(
-    alloc: Global,
-    asked: &Asked<'_>,
-    bytes: &[u8],
-    versions: Versions,
-    most: Option<u8>,
-) -> QrResult<Vec<QrCode>> {
-    let Some(most) = most else {
-        return symbols_within(alloc, asked, bytes, versions);
-    };
-    for number in versions.least..versions.greatest.saturating_add(1) {
-        let version = Versions {
-            least: number,
-            greatest: number,
-        };
-        match symbols_within(alloc, asked, bytes, version) {
-            Ok(codes) if codes.len() <= most as usize => return Ok(codes),
-            Ok(_) | Err(QrError::DataTooLong) => {}
-            Err(error) => return Err(error),
-        }
-    }
-    Err(QrError::DataTooLong)
-}
-
-// The symbols of data, as few as versions allow: of a text unless bytes are asked for.
-fn symbols_within(
-    alloc: Global,
-    asked: &Asked<'_>,
-    bytes: &[u8],
-    versions: Versions,
-) -> QrResult<Vec<QrCode>> {
-    let level = asked.request.level;
-    match (asked.writing, str::from_utf8(bytes)) {
-        (Writing::ByItself, Ok(text)) => encode_text_several_within(alloc, text, versions, level),
-        _ => encode_several_within(alloc, bytes, versions, level),
     }
 }
 

@@ -2,6 +2,7 @@
 
 use crate::failure::Failure;
 use crate::files::{Unwritten, write_whole};
+use goqlanis_draw::Grouped;
 use std::alloc::Global;
 use std::io::{ErrorKind, IsTerminal, Read, Write};
 use std::process::ExitCode;
@@ -35,7 +36,7 @@ pub(crate) fn print(rt: &HostRuntime, bytes: &[u8]) -> Result<ExitCode, Failure>
 pub(crate) fn write_file(rt: &HostRuntime, path: &str, bytes: &[u8]) -> Result<ExitCode, Failure> {
     match write_whole(rt, path, bytes) {
         Ok(()) => Ok(ExitCode::SUCCESS),
-        Err(Unwritten::OutOfMemory) => Err(Failure::OutOfMemory),
+        Err(Unwritten::OutOfMemory(_)) => Err(Failure::OutOfMemory),
         Err(error) => {
             Err(Failure::Unwritten(format!(in rt.alloc(); "cannot write {path}: {error}")?))
         }
@@ -79,9 +80,17 @@ fn read_all<R: Read + Drop>(
         .take((most as u64).saturating_add(1))
         .read_to_end(&mut bytes)
     {
-        Ok(_) if bytes.len() > most => Err(Failure::Refused(format!(in alloc;
-            "cannot read {name}: it has more than {most} bytes, the most that are taken"
-        )?)),
+        Ok(_) if bytes.len() > most => {
+            let help = if most == MOST_DATA {
+                "; goqlanis several takes more"
+            } else {
+                ""
+            };
+            let most = Grouped(most);
+            Err(Failure::Refused(format!(in alloc;
+                "cannot read {name}: it has more than {most} bytes, the most that are taken{help}"
+            )?))
+        }
         Ok(_) => Ok(bytes),
         Err(error) => unread(alloc, name, &error),
     }

@@ -2,7 +2,7 @@
 
 use crate::advice::{advice, wrapped};
 use crate::asked::{Asked, Source, asked_for};
-use crate::command::command_of;
+use crate::command::{command_of, end_of_help};
 use crate::completions::completions_of;
 use crate::contents::text_of;
 use crate::drawing::{
@@ -23,6 +23,9 @@ use qrcode_contents::bill;
 use std::alloc::{AllocError, Global};
 use std::process::ExitCode;
 use std::{env, io};
+
+// The version of the program and of all that is installed with it.
+const VERSION: &str = "1.0.0";
 
 /// Does what the command line asks for, and returns the exit status. A failure is reported in a
 /// line on standard error.
@@ -59,7 +62,8 @@ fn all_words(rt: &HostRuntime) -> Result<Vec<String>, Failure> {
 
 // Does a task as words say it, of which the first is the program's name.
 fn run_task(rt: &HostRuntime, task: &Task, words: &[String]) -> Result<ExitCode, Failure> {
-    match command_of(rt.alloc(), task)?.try_get_matches_from(words) {
+    let help_end = end_of_help(rt.alloc(), task)?;
+    match command_of(rt.alloc(), task, help_end.as_str())?.try_get_matches_from(words) {
         Ok(given) => obey(rt, task, &given),
         Err(error) => match advice(rt.alloc(), task, words, &error)? {
             Some(why) => Err(Failure::Usage(why)),
@@ -112,7 +116,7 @@ fn text_about(alloc: Global, given: &ArgMatches<'_>) -> Result<Option<String>, A
     } else if given.get_flag("manual") {
         Ok(Some(manual_page(alloc)?))
     } else if given.get_flag("version") {
-        Ok(Some(String::from_str(alloc, "goqlanis 1\n")?))
+        Ok(Some(format!(in alloc; "goqlanis {VERSION}\n")?))
     } else {
         Ok(None)
     }

@@ -3,19 +3,19 @@
 use crate::failure::Failure;
 use crate::options::Kind;
 use qrcode_contents::fields::errors::{Cause, ContentError, Field};
-use std::alloc::Global;
+use std::alloc::{AllocError, Global};
 
 /// The refusal of a kind's text, for an error of its format.
-pub(crate) fn refusal_of(alloc: Global, kind: Kind, error: ContentError) -> Failure {
-    match error {
-        ContentError::Refused(field, cause) => wrong(
-            alloc,
-            option_of(kind, field),
-            told(cause),
-            help_of(field, cause),
-        ),
-        ContentError::OutOfMemory => Failure::OutOfMemory,
-    }
+pub(crate) fn refusal_of(
+    alloc: Global,
+    kind: Kind,
+    error: ContentError,
+) -> Result<Failure, AllocError> {
+    let ContentError::Refused(field, cause) = error else {
+        return Ok(Failure::OutOfMemory);
+    };
+    let option = option_of(alloc, kind, field)?;
+    Ok(wrong(alloc, option.as_str(), told(cause), help_of(field, cause)))
 }
 
 /// The refusal of an option, with what is wrong and what would help.
@@ -26,56 +26,23 @@ pub(crate) fn wrong(alloc: Global, option: &str, what: &str, help: &str) -> Fail
     }
 }
 
-// The option that gives a field.
-fn option_of(kind: Kind, field: Field) -> &'static str {
-    match field {
-        Field::Ssid => "--ssid",
-        Field::Password => "--password",
-        Field::Bic => "--bic",
-        Field::Name if matches!(kind, Kind::Mecard) => "--family",
-        Field::Name => "--name",
-        Field::Family => "--family",
-        Field::Given => "--given",
-        Field::Organisation => "--organisation",
-        Field::Phone => "--phone",
-        Field::Email => "--email",
-        Field::Url => "--url",
-        Field::Birthday => "--birthday",
-        Field::Note => "--note",
-        Field::Street => "--street",
-        Field::Number => "--number",
-        Field::City => "--city",
-        Field::Region => "--region",
-        Field::PostalCode => "--code",
-        Field::Country => "--country",
-        Field::DebtorName => "--debtor-name",
-        Field::DebtorStreet => "--debtor-street",
-        Field::DebtorNumber => "--debtor-number",
-        Field::DebtorPostalCode => "--debtor-code",
-        Field::DebtorCity => "--debtor-city",
-        Field::DebtorCountry => "--debtor-country",
-        Field::Iban => "--iban",
-        Field::Amount => "--amount",
-        Field::Purpose => "--purpose",
-        Field::Reference => "--reference",
-        Field::Message => "--message",
-        Field::Information => "--information",
-        Field::Subject => "--subject",
-        Field::Latitude => "--latitude",
-        Field::Longitude => "--longitude",
-        Field::Secret => "--secret",
-        Field::Issuer => "--issuer",
-        Field::Account => "--account",
-        Field::Period => "--period",
-        Field::Uid => "--uid",
-        Field::Stamp => "--stamp",
-        Field::Begin => "--begin",
-        Field::End => "--end",
-        Field::Summary => "--summary",
-        Field::Location => "--location",
-        Field::Description => "--description",
-        Field::Whole => "the whole text",
+// The option that gives a field: its name in small letters, with hyphens.
+fn option_of(alloc: Global, kind: Kind, field: Field) -> Result<String, AllocError> {
+    let name = match (kind, field) {
+        (_, Field::Whole) => return String::from_str(alloc, "the whole text"),
+        (Kind::Mecard, Field::Name) => String::from_str(alloc, "Family")?,
+        (_, Field::PostalCode) => String::from_str(alloc, "Code")?,
+        (_, Field::DebtorPostalCode) => String::from_str(alloc, "DebtorCode")?,
+        _ => format!(in alloc; "{field:?}")?,
+    };
+    let mut option = String::from_str(alloc, "-")?;
+    for letter in name.chars() {
+        if letter.is_ascii_uppercase() {
+            option.push('-')?;
+        }
+        option.push(letter.to_ascii_lowercase())?;
     }
+    Ok(option)
 }
 
 // What is wrong, by its cause.

@@ -59,7 +59,7 @@ fn told(alloc: Global, kind: Kind, answer: ContentResult<String>) -> Result<Stri
 {
     match answer {
         Ok(text) => Ok(text),
-        Err(error) => Err(refusal_of(alloc, kind, error)),
+        Err(error) => Err(refusal_of(alloc, kind, error)?),
     }
 }
 

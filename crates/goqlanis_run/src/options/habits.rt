@@ -11,6 +11,7 @@ pub(crate) static OTHER_NAMES: &[(&str, &str)] = &[
     ("m", "quiet-zone"), ("margin", "quiet-zone"), ("border", "quiet-zone"),
     ("color", "colour"), ("dark", "colour"), ("foreground", "colour"), ("fg", "colour"),
     ("light", "background"), ("bg", "background"),
+    ("p", "mask"), ("pattern", "mask"),
 ];
 
 /// Words that are not taken, and what would help.
