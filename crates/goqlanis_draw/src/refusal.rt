@@ -175,7 +175,7 @@ fn too_long_text(alloc: Global, request: &Request<'_>, bytes: &[u8]) -> Result<S
 // What holds the bytes: a later version, a lower level, or several symbols.
 fn push_help(text: &mut String, request: &Request<'_>, bytes: &[u8]) -> Result<(), AllocError> {
     let (alloc, manner) = (*text.allocator(), request.manner);
-    let from = Choice::From(least_version(request.choice));
+    let from = Choice::From(first_of(request.choice));
     if let Some(version) = version_of(symbol_in(alloc, from, manner, request.level, bytes)) {
         let name = Name(version);
         return write!(text, "; version {name} holds them");
