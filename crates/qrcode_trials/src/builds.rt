@@ -22,7 +22,7 @@ use qrcode_types::tables::Blocks;
 use std::alloc::Global;
 use std::io;
 
-/// Builds the case of a name so many times, with modules of so many pixels where they are told, and prints the
+/// Builds the case of a name so many times, with modules of so many pixels where that is given, and prints the
 /// digest of what was built; without a name lists the cases. Whether it could be done.
 pub fn obey(
     rt: &HostRuntime,
@@ -217,7 +217,7 @@ fn in_format(
     }
 }
 
-// The picture of a symbol, of up to ten pixels a module where they are told.
+// The picture of a symbol, of up to ten pixels a module where that is given.
 fn picture<P: Pixel>(alloc: Global, code: &QrCode, pixels: Option<u32>) -> QrResult<P::Image>
     requires across { P.unit.0 ≤ 8 }
     requires down { P.unit.1 ≤ 8 }

@@ -17,7 +17,7 @@ pub enum Build {
     OfData(Made),
     /// Canvases of a version at level L under their best masks.
     BestMask(Version),
-    /// Pictures of the symbol of the data, of so many pixels a module where they are told.
+    /// Pictures of the symbol of the data, of so many pixels a module where that is given.
     Picture(Format, Option<u32>),
 }
 

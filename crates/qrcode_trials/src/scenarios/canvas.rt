@@ -9,7 +9,7 @@ use qrcode::canvas::{Canvas, MaskPattern, is_functional};
 use qrcode::types::{Color, EcLevel, QrError, QrResult, Version};
 use std::alloc::Global;
 
-/// A call of a canvas with patterns and data, but for the first.
+/// A call of a canvas with patterns and data, except for the first.
 pub enum CanvasCall {
     /// `new`: a canvas on which nothing is drawn.
     New,

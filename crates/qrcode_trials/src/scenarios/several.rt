@@ -3,10 +3,11 @@
 use crate::digest::Digest;
 use crate::scenarios::texts::text_of;
 use qrcode::QrCode;
+use qrcode::bits::Manner;
 use qrcode::types::{EcLevel, QrError, QrResult, Version};
 use qrcode_several::errors::JoinError;
 use qrcode_several::{
-    Part, Versions, encode_several, encode_several_within, encode_text_several,
+    Part, Versions, encode_counted, encode_several, encode_several_within, encode_text_several,
     encode_text_several_within, join,
 };
 use std::alloc::Global;
@@ -21,7 +22,9 @@ pub enum SeveralCall {
     BytesWithin(EcLevel),
     /// `encode_text_several_within` of all versions.
     TextWithin(EcLevel),
-    /// `join` of parts up to a last place, of so many bytes each but for the last.
+    /// `encode_counted` of so many symbols of any version.
+    Counted(EcLevel, usize),
+    /// `join` of parts up to a last place, of so many bytes each except for the last.
     Join(u8, usize),
 }
 
@@ -45,6 +48,9 @@ pub fn run(alloc: Global, data: &[u8], call: &SeveralCall) -> QrResult<Digest> {
         )),
         SeveralCall::TextWithin(level) => {
             of_codes(encode_text_several_within(alloc, text_of(data), ALL, *level))
+        }
+        SeveralCall::Counted(level, count) => {
+            of_codes(encode_counted(alloc, data, Manner::Bytes, ALL, *level, *count))
         }
         SeveralCall::Join(last, size) => joined(alloc, data, *last, *size),
     }

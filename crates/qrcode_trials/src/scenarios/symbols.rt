@@ -3,6 +3,7 @@
 use crate::digest::Digest;
 use qrcode::QrCode;
 use qrcode::bits::Bits;
+use qrcode::canvas::MaskPattern;
 use qrcode::types::{Color, EcLevel, QrError, QrResult, Version};
 use qrcode_pushes::{Push, make_push};
 use std::alloc::Global;
@@ -21,6 +22,8 @@ pub enum SymbolCall {
     ToDebugStr,
     /// `clone`.
     Clone,
+    /// `under_mask`.
+    UnderMask,
     /// What takes no memory.
     Asked,
 }
@@ -82,6 +85,15 @@ fn cloned(code: QrCode) -> QrResult<Digest> {
     Ok(Digest::of(&code.into_colors()).and(Digest::of(&other.into_colors())))
 }
 
+// The digest of a symbol's modules under a mask that all versions have.
+fn under_mask(alloc: Global, code: &QrCode) -> QrResult<Digest> {
+    let mask = MaskPattern::Diamonds;
+    if !mask.exists_in(code.version()) {
+        return Err(QrError::InvalidVersion);
+    }
+    of_colors(code.under_mask(alloc, mask))
+}
+
 // Makes all pushes.
 fn push_all(bits: &mut Bits, pushes: &[Push<'_>]) -> QrResult<()> {
     for push in pushes {
@@ -129,6 +141,7 @@ pub fn run(alloc: Global, version: Version, call: &SymbolCall) -> QrResult<Diges
         SymbolCall::IntoColors => of_code(Ok(code)),
         SymbolCall::ToDebugStr => of_text(code.to_debug_str(alloc, '#', '.')),
         SymbolCall::Clone => cloned(code),
+        SymbolCall::UnderMask => under_mask(alloc, &code),
         SymbolCall::Asked => asked(&code, version),
     }
 }

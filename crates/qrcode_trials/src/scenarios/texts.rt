@@ -33,7 +33,7 @@ pub enum Way {
     AtLeast,
     /// The same at the highest level with which it has room: `at_least_boosted`, and `encode_boosted`.
     Boosted,
-    /// The one that is told: `in_version`, and `encode_in`.
+    /// The one that is given: `in_version`, and `encode_in`.
     InVersion,
 }
 

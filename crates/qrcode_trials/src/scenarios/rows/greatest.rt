@@ -1,7 +1,7 @@
 //! Calls at their greatest input.
 
 use crate::scenarios::contents::ContentCall::{
-    Card, Contact, Event, Mail, Message, Network, Number, OneTime,
+    Card, Contact, Event, Mail, Message, Network, Number, OneTime, WrittenTo,
 };
 use crate::scenarios::data::Data::Times;
 use crate::scenarios::elements::ElementCall;
@@ -16,7 +16,7 @@ use crate::scenarios::scenario::DataCall::{
 use crate::scenarios::scenario::Memory::{Ample, Takes};
 use crate::scenarios::scenario::Scenario;
 use crate::scenarios::scenario::Single::{Density, Grey, Scan, Sweep};
-use crate::scenarios::several::SeveralCall::{self, BytesWithin, Join, TextWithin};
+use crate::scenarios::several::SeveralCall::{self, BytesWithin, Counted, Join, TextWithin};
 use crate::scenarios::symbols::Constructor::{New, WithLevel};
 use crate::scenarios::texts::TextCall::{In, MarkedIn, Of, OfMarked};
 use crate::scenarios::texts::Told;
@@ -48,7 +48,7 @@ pub static OF_BITS: [Scenario; 13] = [
 /// Symbols of the most digits that Normal 40 holds (Table 7), or behind a header, several symbols, and
 /// readings.
 #[rattlefmt::skip]
-pub static OF_SYMBOLS: [Scenario; 24] = [
+pub static OF_SYMBOLS: [Scenario; 26] = [
     Scenario("sweep", Ample, None, Once(Sweep)),
     Scenario("greatest: QrCode::new", Ample, None, OfData(Times(b'7', 5_596), Code(New))),
     Scenario("greatest: QrCode::with_error_correction_level", Ample, None, OfData(Times(b'7', 3_057), Code(WithLevel(H)))),
@@ -65,11 +65,13 @@ pub static OF_SYMBOLS: [Scenario; 24] = [
     Scenario("greatest: encode_several_within", Ample, None, OfData(Times(b'7', 113_328), Several(BytesWithin(L)))),
     Scenario("past it: encode_several_within", Ample, Some(DataTooLong), OfData(Times(b'7', 113_329), Several(BytesWithin(L)))),
     Scenario("greatest: encode_text_several_within", Ample, None, OfData(Times(b'7', 113_328), Several(TextWithin(L)))),
+    Scenario("greatest: encode_counted", Ample, None, OfData(Times(b'7', 113_328), Several(Counted(L, 16)))),
     Scenario("greatest: join", Ample, None, OfData(Times(b'a', 1_048_576), Several(Join(15, 65_536)))),
     Scenario("greatest: read", Ample, None, OfData(Times(b'7', 7_089), Read(Normal(40), ReadCall::Bytes))),
     Scenario("greatest: read_bits", Ample, None, OfData(Times(b'7', 7_089), Read(Normal(40), ReadCall::Bits))),
     Scenario("greatest: read_text", Ample, None, OfData(Times(b'7', 7_089), Read(Normal(40), ReadCall::Text))),
     Scenario("greatest: read_any", Ample, None, OfData(Times(b'7', 7_089), Read(Normal(40), ReadCall::Any))),
+    Scenario("greatest: read_any_parts", Ample, None, OfData(Times(b'7', 7_089), Read(Normal(40), ReadCall::Parts))),
     Scenario("greatest: pieces", Ample, None, OfData(Times(b'7', 7_089), Read(Normal(40), ReadCall::Pieces))),
     Scenario("greatest: for_application", Ample, None, OfData(Times(b'7', 7_085), Application(L))),
     Scenario("past it: for_application", Ample, Some(DataTooLong), OfData(Times(b'7', 7_086), Application(L))),
@@ -78,7 +80,7 @@ pub static OF_SYMBOLS: [Scenario; 24] = [
 /// Elements of the longest value, more than a symbol holds, and as many digits as zint says; and
 /// contents, of which each field that has no bound is longer than what a symbol holds.
 #[rattlefmt::skip]
-pub static OF_CONTENTS: [Scenario; 11] = [
+pub static OF_CONTENTS: [Scenario; 12] = [
     Scenario("greatest: element_string", Ample, None, OfData(Times(b'A', 90), Elements(100, ElementCall::String))),
     Scenario("greatest: gs1", Ample, None, OfData(Times(b'7', 90), Elements(68, ElementCall::Symbol(L)))),
     Scenario("past it: gs1", Ample, Some(DataTooLong), OfData(Times(b'7', 90), Elements(69, ElementCall::Symbol(L)))),
@@ -87,6 +89,7 @@ pub static OF_CONTENTS: [Scenario; 11] = [
     Scenario("greatest: a contact", Ample, None, OfData(Times(b';', 8_000), Content(Contact))),
     Scenario("greatest: a card", Ample, None, OfData(Times(b';', 8_000), Content(Card))),
     Scenario("greatest: a number", Ample, None, OfData(Times(b'7', 8_000), Content(Number))),
+    Scenario("greatest: a number to write to", Ample, None, OfData(Times(b'7', 8_000), Content(WrittenTo))),
     Scenario("greatest: a message", Ample, None, OfData(Times(b'7', 8_000), Content(Message))),
     Scenario("greatest: a key", Ample, None, OfData(Times(b'A', 8_000), Content(OneTime))),
     Scenario("greatest: an event", Ample, None, OfData(Times(b';', 8_000), Content(Event))),

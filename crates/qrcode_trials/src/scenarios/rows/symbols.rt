@@ -59,13 +59,14 @@ pub static REFUSED: [Scenario; 10] = [
 
 /// Calls of symbols.
 #[rattlefmt::skip]
-pub static CALLED: [Scenario; 19] = [
+pub static CALLED: [Scenario; 21] = [
     Scenario("QrCode::to_vec", Takes, None, Once(Symbol(Micro(2), SymbolCall::ToVec))),
     Scenario("QrCode::into_vec", Takes, None, Once(Symbol(Micro(2), SymbolCall::IntoVec))),
     Scenario("QrCode::to_colors", Takes, None, Once(Symbol(Micro(2), SymbolCall::ToColors))),
     Scenario("QrCode::into_colors", NoMoreThan("QrCode::with_version: Micro"), None, Once(Symbol(Micro(2), SymbolCall::IntoColors))),
     Scenario("QrCode::to_debug_str", Takes, None, Once(Symbol(Micro(2), SymbolCall::ToDebugStr))),
     Scenario("QrCode::clone", Takes, None, Once(Symbol(Micro(2), SymbolCall::Clone))),
+    Scenario("QrCode::under_mask", Takes, None, Once(Symbol(Micro(2), SymbolCall::UnderMask))),
     Scenario("QrCode::to_vec: Micro 1", Takes, None, Once(Symbol(Micro(1), SymbolCall::ToVec))),
     Scenario("QrCode::into_vec: Micro 1", Takes, None, Once(Symbol(Micro(1), SymbolCall::IntoVec))),
     Scenario("QrCode::to_colors: Micro 1", Takes, None, Once(Symbol(Micro(1), SymbolCall::ToColors))),
@@ -78,5 +79,6 @@ pub static CALLED: [Scenario; 19] = [
     Scenario("QrCode::into_colors: Normal 40", Takes, None, Once(Symbol(Normal(40), SymbolCall::IntoColors))),
     Scenario("QrCode::to_debug_str: Normal 40", Takes, None, Once(Symbol(Normal(40), SymbolCall::ToDebugStr))),
     Scenario("QrCode::clone: Normal 40", Takes, None, Once(Symbol(Normal(40), SymbolCall::Clone))),
+    Scenario("QrCode::under_mask: Normal 40", Takes, None, Once(Symbol(Normal(40), SymbolCall::UnderMask))),
     Scenario("QrCode: asked", NoMoreThan("QrCode::with_version: Micro"), None, Once(Symbol(Micro(2), SymbolCall::Asked))),
 ];
