@@ -7,7 +7,8 @@
    and all outputs are as they were, except that a call with `place` writes there which field,
    element or square is wrong. A pointer with length 0 may be NULL.
 
-   The library asks for memory by rattle_alloc, rattle_realloc and rattle_dealloc, which stand over malloc unless the program has its own. */
+   The library asks for memory by rattle_alloc, rattle_realloc and rattle_dealloc, which stand over
+   malloc unless the program has its own. */
 #ifndef GOQLANIS_H
 #define GOQLANIS_H
 
@@ -33,20 +34,29 @@ enum {
     GOQ_OUT_OF_MEMORY = 8, /* memory was refused */
     GOQ_NO_SUCH_FORMAT = 9, /* no format has the number */
     GOQ_NOT_SQUARE = 10, /* the modules are not as many as the square of their width */
-    GOQ_NO_SUCH_SIZE = 11, /* a scale of 0 or above 65,535, or more than 65,535 modules along a side with the quiet zone; or a PNG with a side of 0 or above 65,535 pixels */
+    GOQ_NO_SUCH_SIZE = 11, /* a scale of 0 or above 65,535, or more than 65,535 modules along a side
+                              with the quiet zone; or a PNG with a side of 0 or above 65,535
+                              pixels */
     GOQ_NOT_TEXT = 12, /* the text is not UTF-8 */
     GOQ_NO_SUCH_KIND = 13, /* no kind of segment has the number */
     GOQ_NOT_IN_MODE = 14, /* the mode of a segment lacks one of its bytes */
     GOQ_NO_SUCH_NUMBER = 15, /* a set above 999,999, an application above 255, a count above 16 */
     GOQ_NO_SUCH_SIDE = 16, /* no version has so many modules */
-    GOQ_NO_FORMAT = 17, /* no level and mask are within three bits of each copy of the format word */
+    GOQ_NO_FORMAT = 17, /* no level and mask are within three bits of each copy of the format
+                           word */
     GOQ_DAMAGED = 18, /* a block has too many wrong codewords */
-    GOQ_NOT_SPELLED = 19, /* the data bits are not segments and an end, as where a header stands in front */
+    GOQ_NOT_SPELLED = 19, /* the data bits are not segments and an end, as where a header stands in
+                             front */
     GOQ_NO_SUCH_STRUCT = 20, /* the field `size` is not the size of the struct */
     GOQ_NO_SUCH_MANNER = 21, /* no manner has the number */
-    GOQ_NO_SUCH_MASK = 22, /* the mask is another than 0 */
+    GOQ_NO_SUCH_MASK = 22, /* the version of the symbol has no mask of the number */
     GOQ_NOT_IN_FORMAT = 23, /* the format has no such colours, or no dots per inch */
     GOQ_NOT_SHOWN = 24, /* the data bits are not a text that readers show */
+    GOQ_NOT_SEVERAL = 25, /* the square has no header of one of several symbols in front */
+    GOQ_STRANGER = 26, /* the square is a part of other data than the first */
+    GOQ_MISSING = 27, /* no square has the part at this place */
+    GOQ_TWICE = 28, /* more than one square has the part at this place */
+    GOQ_PARITY = 29, /* the parts are not those of the data that their headers name */
     GOQ_NOT_READ = 30, /* the square is read in none of the sixteen positions */
     GOQ_NO_SUCH_CONTENT = 32, /* no kind of content has the number */
     GOQ_NO_SUCH_FIELD = 33, /* the kind has no field at this place */
@@ -54,7 +64,8 @@ enum {
     GOQ_FIELD_TOO_LONG = 35, /* the field, or the whole text, is longer than the format allows */
     GOQ_FIELD_TOO_SHORT = 36, /* the field is shorter than the format allows */
     GOQ_FIELD_CONTROL = 37, /* the field has a line break or another control character */
-    GOQ_FIELD_CHARACTER = 38, /* the field has a character that the format does not allow there, or a number has bytes */
+    GOQ_FIELD_CHARACTER = 38, /* the field has a character that the format does not allow there, or
+                                 a number has bytes */
     GOQ_FIELD_CHECK_DIGITS = 39, /* the check digits are wrong */
     GOQ_FIELD_RANGE = 40, /* the number is outside what the format allows; that of a text is 0 */
     GOQ_FIELD_UNUSED = 41, /* the field has no place beside what else is given */
@@ -88,18 +99,23 @@ enum {
     GOQ_ALPHANUMERIC = 1, /* digits, capitals, the space and $%*+-./: */
     GOQ_BYTES = 2, /* any bytes */
     GOQ_KANJI = 3, /* pairs of bytes of Shift JIS */
-    GOQ_ECI = 4, /* a header: `number` is that of the character set of what follows, below 1,000,000 */
+    GOQ_ECI = 4, /* a header: `number` is that of the character set of what follows, below
+                    1,000,000 */
     GOQ_FNC1_FIRST = 5, /* a header: FNC1 in the first position, as GS1 wants it */
-    GOQ_FNC1_SECOND = 6 /* a header: FNC1 in the second position, `number` being the indicator of the application, below 256 */
+    GOQ_FNC1_SECOND = 6 /* a header: FNC1 in the second position, `number` being the indicator of
+                           the application, below 256 */
 };
 
-/* Kinds of content, whose fields stand in the order of the names below: a text in UTF-8, or a number where a comment says so. What is not given is empty or 0. */
+/* Kinds of content, whose fields stand in the order of the names below: a text in UTF-8, or a
+   number where a comment says so. What is not given is empty or 0. */
 enum {
     GOQ_WIFI = 0, /* joins a wireless network */
     GOQ_MECARD = 1, /* a contact as MECARD */
     GOQ_VCARD = 2, /* a contact as vCard 3.0 */
-    GOQ_PAYMENT = 3, /* a SEPA credit transfer (EPC069-12), for a symbol of level M and at most version 13 */
-    GOQ_BILL = 4, /* a Swiss QR bill, for a symbol of level M and at most version 25, without its cross */
+    GOQ_PAYMENT = 3, /* a SEPA credit transfer (EPC069-12), for a symbol of level M and at most
+                        version 13 */
+    GOQ_BILL = 4, /* a Swiss QR bill, for a symbol of level M and at most version 25, without its
+                     cross */
     GOQ_MAIL = 5,
     GOQ_GEO = 6, /* a place on the earth */
     GOQ_TEL = 7, /* a call */
@@ -191,7 +207,8 @@ enum { GOQ_CHF = 0, GOQ_EUR = 1 };
 
 enum { GOQ_MAIL_ADDRESS, GOQ_MAIL_SUBJECT, GOQ_MAIL_BODY, GOQ_MAIL_FIELDS };
 
-/* Numbers: millionths of a degree north of the equator and east of Greenwich, below 0 to the south and west. */
+/* Numbers: millionths of a degree north of the equator and east of Greenwich, below 0 to the south
+   and west. */
 enum { GOQ_GEO_LATITUDE, GOQ_GEO_LONGITUDE, GOQ_GEO_FIELDS };
 
 enum { GOQ_TEL_NUMBER, GOQ_TEL_FIELDS };
@@ -220,7 +237,8 @@ enum {
 enum { GOQ_SHA1 = 0, GOQ_SHA256 = 1, GOQ_SHA512 = 2 };
 enum { GOQ_SIX_DIGITS = 0, GOQ_EIGHT_DIGITS = 1 };
 
-/* GOQ_EVENT and GOQ_DAYS have the same fields. Moments are numbers of fourteen digits, as 19970714170000 in UTC, and days of eight, as 19970714. */
+/* GOQ_EVENT and GOQ_DAYS have the same fields. Moments are numbers of fourteen digits, as
+   19970714170000 in UTC, and days of eight, as 19970714. */
 enum {
     GOQ_EVENT_UID, /* an identifier that no other event has */
     GOQ_EVENT_STAMP, /* when this was written, a moment in both */
@@ -236,8 +254,12 @@ enum {
 enum {
     GOQ_AS_BYTES = 0, /* as goq_encode writes it */
     GOQ_AS_TEXT = 1, /* as goq_encode_text does: it has to be UTF-8 */
-    GOQ_AS_MARKED_TEXT = 2 /* as goq_encode_marked_text does: UTF-8, and Micro has no such symbols */
+    GOQ_AS_MARKED_TEXT = 2 /* as goq_encode_marked_text does: UTF-8, and Micro has no such
+                              symbols */
 };
+
+/* A mask by its number: 0 to 7, of Micro 0 to 3. goq_mask reads the number back. */
+#define GOQ_MASK(number) (1 + (number))
 
 /* What is asked of a symbol. Begin with GOQ_OPTIONS, and change what you like. Later versions of
    this library may have more fields at the end; `size` says which ones you know. */
@@ -250,7 +272,8 @@ typedef struct {
                                Normal, so that GOQ_MICRO(1) gives the least of all */
     uint32_t boost; /* where `version` is 0: 1 for the highest level, from `level` on, at which the
                        least version holds the data */
-    uint32_t mask; /* 0, for the one of least penalty */
+    uint32_t mask; /* GOQ_MASK(number), of the version that results; or 0 for the one of least
+                      penalty */
 } goq_options;
 
 #define GOQ_OPTIONS {sizeof(goq_options), GOQ_M, GOQ_AS_BYTES, 0, 1, 0, 0}
@@ -304,7 +327,8 @@ typedef struct {
 typedef struct {
     uint32_t kind;
     uint32_t number; /* of GOQ_ECI and GOQ_FNC1_SECOND; not looked at in others */
-    const uint8_t *bytes; /* of the modes; not looked at in headers; may be NULL where the length is 0 */
+    const uint8_t *bytes; /* of the modes; not looked at in headers; may be NULL where the length is
+                             0 */
     size_t length;
 } goq_segment;
 
@@ -319,7 +343,8 @@ typedef struct {
 #define GOQ_TEXT(text) {0, (const uint8_t *)(text), strlen(text)}
 #define GOQ_NUMBER(number) {(number), NULL, 0}
 
-/* An element of GS1: the digits of its application identifier, without parentheses, and its value, with the check digit where it has one. */
+/* An element of GS1: the digits of its application identifier, without parentheses, and its value,
+   with the check digit where it has one. */
 typedef struct {
     const uint8_t *identifier;
     size_t identifier_length;
@@ -355,25 +380,36 @@ typedef struct {
     uint32_t position;
 } goq_any_reading;
 
-/* The symbol of data at a level, of the least Normal version that holds it: its modules, row by row, 1 for a dark one, at the beginning of `modules`.
-   GOQ_NO_SUCH_LEVEL, GOQ_NO_ROOM, GOQ_SMALL_BUFFER, GOQ_OUT_OF_MEMORY. */
-uint32_t goq_encode(const uint8_t *data, size_t data_length, uint32_t level, uint8_t *modules, size_t modules_length, goq_symbol *symbol);
+/* A square of modules, as goq_read takes it. */
+typedef struct {
+    const uint8_t *modules;
+    size_t length;
+} goq_square;
 
-/* The symbol of a text in UTF-8 at a level, of the least Normal version that holds it. Readers show it as the text, where they take bytes for UTF-8; for readers
-   that guess, goq_encode_marked_text writes in front that they are (12 bits). Of several causes the first is reported, in this order:
+/* The symbol of data at a level, of the least Normal version that holds it: its modules, row by
+   row, 1 for a dark one, at the beginning of `modules`. GOQ_NO_SUCH_LEVEL, GOQ_NO_ROOM,
+   GOQ_SMALL_BUFFER, GOQ_OUT_OF_MEMORY. */
+uint32_t goq_encode(const uint8_t *data, size_t data_length, uint32_t level, uint8_t *modules,
+    size_t modules_length, goq_symbol *symbol);
+
+/* The symbol of a text in UTF-8 at a level, of the least Normal version that holds it. Readers show
+   it as the text, where they take bytes for UTF-8; for readers that guess, goq_encode_marked_text
+   writes in front that they are (12 bits). Of several causes the first is reported, in this order:
    GOQ_NO_SUCH_LEVEL, GOQ_NOT_TEXT, GOQ_NO_ROOM, GOQ_SMALL_BUFFER; GOQ_OUT_OF_MEMORY. */
-uint32_t goq_encode_text(const uint8_t *text, size_t text_length, uint32_t level, uint8_t *modules, size_t modules_length, goq_symbol *symbol);
-uint32_t goq_encode_marked_text(const uint8_t *text, size_t text_length, uint32_t level, uint8_t *modules, size_t modules_length, goq_symbol *symbol);
+uint32_t goq_encode_text(const uint8_t *text, size_t text_length, uint32_t level, uint8_t *modules,
+    size_t modules_length, goq_symbol *symbol);
+uint32_t goq_encode_marked_text(const uint8_t *text, size_t text_length, uint32_t level,
+    uint8_t *modules, size_t modules_length, goq_symbol *symbol);
 
-/* The symbol of data, of a version and level. Of several causes the first is reported, in this order:
-   GOQ_NO_SUCH_LEVEL, GOQ_NO_SUCH_VERSION, GOQ_TOO_LONG, GOQ_NO_MODE, GOQ_LEVEL_NOT_IN_VERSION, GOQ_NO_ROOM, GOQ_SMALL_BUFFER; GOQ_OUT_OF_MEMORY. */
-uint32_t goq_encode_in(
-    const uint8_t *data, size_t data_length, uint32_t version, uint32_t level, uint8_t *modules, size_t modules_length, goq_symbol *symbol);
+/* The symbol of data, of a version and level. Of several causes the first is reported, in this
+   order: GOQ_NO_SUCH_LEVEL, GOQ_NO_SUCH_VERSION, GOQ_TOO_LONG, GOQ_NO_MODE,
+   GOQ_LEVEL_NOT_IN_VERSION, GOQ_NO_ROOM, GOQ_SMALL_BUFFER; GOQ_OUT_OF_MEMORY. */
+uint32_t goq_encode_in(const uint8_t *data, size_t data_length, uint32_t version, uint32_t level,
+    uint8_t *modules, size_t modules_length, goq_symbol *symbol);
 
 /* The symbol of data that options ask for. GOQ_NO_SUCH_STRUCT, GOQ_NO_SUCH_LEVEL,
-   GOQ_NO_SUCH_VERSION, GOQ_NO_SUCH_MANNER, GOQ_NO_SUCH_MASK, GOQ_NOT_TEXT; where a version is
-   asked for GOQ_NO_MODE, GOQ_LEVEL_NOT_IN_VERSION; GOQ_NO_ROOM, GOQ_SMALL_BUFFER;
-   GOQ_OUT_OF_MEMORY. */
+   GOQ_NO_SUCH_VERSION, GOQ_NO_SUCH_MANNER, GOQ_NOT_TEXT; where a version is asked for GOQ_NO_MODE,
+   GOQ_LEVEL_NOT_IN_VERSION; GOQ_NO_ROOM, GOQ_NO_SUCH_MASK, GOQ_SMALL_BUFFER; GOQ_OUT_OF_MEMORY. */
 uint32_t goq_encode_with(const uint8_t *data, size_t data_length, const goq_options *options,
     uint8_t *modules, size_t modules_length, goq_symbol *symbol);
 
@@ -386,33 +422,44 @@ uint32_t goq_encode_with(const uint8_t *data, size_t data_length, const goq_opti
 uint32_t goq_encode_several(const uint8_t *data, size_t data_length, const goq_several *options,
     uint8_t *modules, size_t modules_length, goq_symbol *symbol, size_t *count);
 
-/* The symbol of segments, one behind the other, of a version and level. Of several causes
-   the first is reported, in this order: GOQ_NO_SUCH_LEVEL, GOQ_NO_SUCH_VERSION, GOQ_LEVEL_NOT_IN_VERSION; of each segment GOQ_NO_SUCH_KIND, GOQ_NOT_IN_MODE,
-   GOQ_NO_MODE, GOQ_NO_SUCH_NUMBER, GOQ_NO_ROOM; then GOQ_NO_ROOM, GOQ_SMALL_BUFFER; GOQ_OUT_OF_MEMORY. */
-uint32_t goq_encode_segments(const goq_segment *segments, size_t segments_length, uint32_t version, uint32_t level, uint8_t *modules, size_t modules_length,
-    goq_symbol *symbol);
+/* The symbol of segments, one behind the other, of a version and level. Of several causes the first
+   is reported, in this order: GOQ_NO_SUCH_LEVEL, GOQ_NO_SUCH_VERSION, GOQ_LEVEL_NOT_IN_VERSION; of
+   each segment GOQ_NO_SUCH_KIND, GOQ_NOT_IN_MODE, GOQ_NO_MODE, GOQ_NO_SUCH_NUMBER, GOQ_NO_ROOM;
+   then GOQ_NO_ROOM, GOQ_SMALL_BUFFER; GOQ_OUT_OF_MEMORY. */
+uint32_t goq_encode_segments(const goq_segment *segments, size_t segments_length, uint32_t version,
+    uint32_t level, uint8_t *modules, size_t modules_length, goq_symbol *symbol);
 
-/* The least Normal version that holds data at a level. GOQ_NO_SUCH_LEVEL, GOQ_NO_ROOM, GOQ_OUT_OF_MEMORY. */
-uint32_t goq_least_version(const uint8_t *data, size_t data_length, uint32_t level, uint32_t *version);
+/* The least Normal version that holds data at a level. GOQ_NO_SUCH_LEVEL, GOQ_NO_ROOM,
+   GOQ_OUT_OF_MEMORY. */
+uint32_t goq_least_version(const uint8_t *data, size_t data_length, uint32_t level,
+    uint32_t *version);
 
-/* The least Normal version that holds segments, one behind the other, at a level. Of several causes the first is reported, in this order: GOQ_NO_SUCH_LEVEL;
-   of each segment GOQ_NO_SUCH_KIND, GOQ_NOT_IN_MODE, GOQ_NO_SUCH_NUMBER, where a version has room for those before it; GOQ_NO_ROOM; GOQ_OUT_OF_MEMORY. */
-uint32_t goq_least_version_of_segments(const goq_segment *segments, size_t segments_length, uint32_t level, uint32_t *version);
+/* The least Normal version that holds segments, one behind the other, at a level. Of several causes
+   the first is reported, in this order: GOQ_NO_SUCH_LEVEL; of each segment GOQ_NO_SUCH_KIND,
+   GOQ_NOT_IN_MODE, GOQ_NO_SUCH_NUMBER, where a version has room for those before it; GOQ_NO_ROOM;
+   GOQ_OUT_OF_MEMORY. */
+uint32_t goq_least_version_of_segments(const goq_segment *segments, size_t segments_length,
+    uint32_t level, uint32_t *version);
 
 /* The modules along a side of a version; 0 where there is no such version. */
 uint32_t goq_width(uint32_t version);
 
-/* Whether the module in column x and row y of a version belongs to a pattern or to the format word; false where there is no such version or module. */
+/* Whether the module in column x and row y of a version belongs to a pattern or to the format word;
+   false where there is no such version or module. */
 bool goq_is_functional(uint32_t version, uint32_t x, uint32_t y);
 
-/* The picture of modules, `width` along a side, dark where a byte is not zero, with a quiet zone of `zone` modules at each side and `scale` pixels a module:
-   at the beginning of `out`, and its length in bytes to `count`. A text has no zero behind it. GOQ_MODULES_MAX * 80 + 400 bytes are room for any SVG, PIC or EPS.
-   GOQ_NO_SUCH_FORMAT, GOQ_NOT_SQUARE, GOQ_NO_SUCH_SIZE, GOQ_SMALL_BUFFER, GOQ_OUT_OF_MEMORY. */
-uint32_t goq_draw(const uint8_t *modules, size_t modules_length, uint32_t width, uint32_t zone, uint32_t scale, uint32_t format, uint8_t *out,
-    size_t out_length, size_t *count);
+/* The picture of modules, `width` along a side, dark where a byte is not zero, with a quiet zone of
+   `zone` modules at each side and `scale` pixels a module: at the beginning of `out`, and its
+   length in bytes to `count`. A text has no zero behind it. GOQ_MODULES_MAX * 80 + 400 bytes are
+   room for any SVG, PIC or EPS. GOQ_NO_SUCH_FORMAT, GOQ_NOT_SQUARE, GOQ_NO_SUCH_SIZE,
+   GOQ_SMALL_BUFFER, GOQ_OUT_OF_MEMORY. */
+uint32_t goq_draw(const uint8_t *modules, size_t modules_length, uint32_t width, uint32_t zone,
+    uint32_t scale, uint32_t format, uint8_t *out, size_t out_length, size_t *count);
 
-/* The length that goq_draw would write, to `count`. GOQ_NO_SUCH_FORMAT, GOQ_NOT_SQUARE, GOQ_NO_SUCH_SIZE, GOQ_OUT_OF_MEMORY. */
-uint32_t goq_draw_length(const uint8_t *modules, size_t modules_length, uint32_t width, uint32_t zone, uint32_t scale, uint32_t format, size_t *count);
+/* The length that goq_draw would write, to `count`. GOQ_NO_SUCH_FORMAT, GOQ_NOT_SQUARE,
+   GOQ_NO_SUCH_SIZE, GOQ_OUT_OF_MEMORY. */
+uint32_t goq_draw_length(const uint8_t *modules, size_t modules_length, uint32_t width,
+    uint32_t zone, uint32_t scale, uint32_t format, size_t *count);
 
 /* The same of a drawing with colours and dots per inch. GOQ_NO_SUCH_STRUCT, GOQ_NO_SUCH_FORMAT,
    GOQ_NOT_SQUARE, GOQ_NO_SUCH_SIZE, GOQ_NOT_IN_FORMAT, GOQ_SMALL_BUFFER; GOQ_OUT_OF_MEMORY. */
@@ -421,12 +468,16 @@ uint32_t goq_draw_with(const uint8_t *modules, size_t modules_length, uint32_t w
 uint32_t goq_draw_with_length(const uint8_t *modules, size_t modules_length, uint32_t width,
     const goq_drawing *drawing, size_t *count);
 
-/* The bytes of a square of modules, row by row from the top left corner, dark where a byte is not zero, without a quiet zone: at the beginning of `bytes`, and
-   what it is beside them. Each copy of the format word may have three wrong bits, and each block half as many wrong codewords as it has for error correction.
-   Of several causes the first is reported, in this order: GOQ_NO_SUCH_SIDE, GOQ_NO_FORMAT, GOQ_DAMAGED, GOQ_NOT_SPELLED, GOQ_SMALL_BUFFER; GOQ_OUT_OF_MEMORY. */
-uint32_t goq_read(const uint8_t *modules, size_t modules_length, uint8_t *bytes, size_t bytes_length, goq_reading *reading);
+/* The bytes of a square of modules, row by row from the top left corner, dark where a byte is not
+   zero, without a quiet zone: at the beginning of `bytes`, and what it is beside them. Each copy of
+   the format word may have three wrong bits, and each block half as many wrong codewords as it has
+   for error correction. Of several causes the first is reported, in this order: GOQ_NO_SUCH_SIDE,
+   GOQ_NO_FORMAT, GOQ_DAMAGED, GOQ_NOT_SPELLED, GOQ_SMALL_BUFFER; GOQ_OUT_OF_MEMORY. */
+uint32_t goq_read(const uint8_t *modules, size_t modules_length, uint8_t *bytes,
+    size_t bytes_length, goq_reading *reading);
 
-/* How many bytes goq_read would write, to `count`. GOQ_NO_SUCH_SIDE, GOQ_NO_FORMAT, GOQ_DAMAGED, GOQ_NOT_SPELLED, GOQ_OUT_OF_MEMORY. */
+/* How many bytes goq_read would write, to `count`. GOQ_NO_SUCH_SIDE, GOQ_NO_FORMAT, GOQ_DAMAGED,
+   GOQ_NOT_SPELLED, GOQ_OUT_OF_MEMORY. */
 uint32_t goq_read_length(const uint8_t *modules, size_t modules_length, size_t *count);
 
 /* The same of a square in any position, in the first of the sixteen in which it is read.
@@ -444,24 +495,39 @@ uint32_t goq_read_text(const uint8_t *modules, size_t modules_length, uint8_t *t
    GOQ_NO_SUCH_SIDE, GOQ_NO_FORMAT; GOQ_OUT_OF_MEMORY. */
 uint32_t goq_mask(const uint8_t *modules, size_t modules_length, uint32_t *mask);
 
-/* The text of a kind of content, to be encoded by goq_encode_text: at the beginning of `out`, and its length to `count`, with no zero behind it. No symbol holds
-   a text of more than GOQ_BYTES_MAX bytes. Fields behind those given are empty or 0. Of several causes the first is reported, in this order: GOQ_NO_SUCH_CONTENT; of
-   each field GOQ_NO_SUCH_FIELD, GOQ_NOT_TEXT, GOQ_FIELD_RANGE, GOQ_FIELD_CHARACTER, where it is wrong by itself; what the format refuses, GOQ_FIELD_EMPTY ..
-   GOQ_FIELD_UNUSED; GOQ_SMALL_BUFFER; GOQ_OUT_OF_MEMORY. Where a field is wrong, its place goes to `place`, GOQ_PAYMENT_FIELDS for a payment that is too long as
-   a whole; otherwise `place` is as it was. */
-uint32_t goq_content(
-    uint32_t kind, const goq_field *fields, size_t fields_length, uint8_t *out, size_t out_length, size_t *count, size_t *place);
+/* The data of several symbols, whose squares come in any order: at the beginning of `out`, and its
+   length to `count`. GOQ_SEVERAL_MAX * GOQ_BYTES_MAX bytes are room for all data. Of the first
+   square that is no part GOQ_NO_SUCH_SIDE, GOQ_NO_FORMAT, GOQ_DAMAGED, GOQ_NOT_SPELLED,
+   GOQ_NOT_SEVERAL; then GOQ_STRANGER; each with the place of the square, from 0 on. GOQ_MISSING,
+   GOQ_TWICE, with the place of the part; GOQ_PARITY, GOQ_SMALL_BUFFER; GOQ_OUT_OF_MEMORY. */
+uint32_t goq_join(const goq_square *squares, size_t squares_length, uint8_t *out,
+    size_t out_length, size_t *count, size_t *place);
 
-/* The element string of GS1, to be encoded by goq_encode_segments as GOQ_BYTES behind GOQ_FNC1_FIRST: at the beginning of `out`, and its length to `count`, with a
-   separator (byte 29) behind each element whose length is not predefined and that another one follows. The first element that is wrong is reported by its place, to
-   `place`: GOQ_NOT_TEXT; else GOQ_NO_SUCH_IDENTIFIER, GOQ_ELEMENT_LENGTH, GOQ_FIELD_CHARACTER, GOQ_FIELD_CHECK_DIGITS. GOQ_SMALL_BUFFER, GOQ_OUT_OF_MEMORY. */
-uint32_t goq_gs1(const goq_element *elements, size_t elements_length, uint8_t *out, size_t out_length, size_t *count, size_t *place);
+/* The text of a kind of content, to be encoded by goq_encode_text: at the beginning of `out`, and
+   its length to `count`, with no zero behind it. No symbol holds a text of more than GOQ_BYTES_MAX
+   bytes. Fields behind those given are empty or 0. Of several causes the first is reported, in this
+   order: GOQ_NO_SUCH_CONTENT; of each field GOQ_NO_SUCH_FIELD, GOQ_NOT_TEXT, GOQ_FIELD_RANGE,
+   GOQ_FIELD_CHARACTER, where it is wrong by itself; what the format refuses, GOQ_FIELD_EMPTY ..
+   GOQ_FIELD_UNUSED; GOQ_SMALL_BUFFER; GOQ_OUT_OF_MEMORY. Where a field is wrong, its place goes to
+   `place`, GOQ_PAYMENT_FIELDS for a payment that is too long as a whole; otherwise `place` is as it
+   was. */
+uint32_t goq_content(uint32_t kind, const goq_field *fields, size_t fields_length, uint8_t *out,
+    size_t out_length, size_t *count, size_t *place);
+
+/* The element string of GS1, to be encoded by goq_encode_segments as GOQ_BYTES behind
+   GOQ_FNC1_FIRST: at the beginning of `out`, and its length to `count`, with a separator (byte 29)
+   behind each element whose length is not predefined and that another one follows. The first
+   element that is wrong is reported by its place, to `place`: GOQ_NOT_TEXT; else
+   GOQ_NO_SUCH_IDENTIFIER, GOQ_ELEMENT_LENGTH, GOQ_FIELD_CHARACTER, GOQ_FIELD_CHECK_DIGITS.
+   GOQ_SMALL_BUFFER, GOQ_OUT_OF_MEMORY. */
+uint32_t goq_gs1(const goq_element *elements, size_t elements_length, uint8_t *out,
+    size_t out_length, size_t *count, size_t *place);
 
 /* The symbol of elements of GS1 that options ask for, in segments of the fewest bits; their manner
    and boost are not looked at. Of the first element that is wrong, with its place, GOQ_NOT_TEXT;
    else GOQ_NO_SUCH_IDENTIFIER, GOQ_ELEMENT_LENGTH, GOQ_FIELD_CHARACTER, GOQ_FIELD_CHECK_DIGITS.
-   Before these GOQ_NO_SUCH_STRUCT, GOQ_NO_SUCH_LEVEL, GOQ_NO_SUCH_VERSION, GOQ_NO_SUCH_MANNER,
-   GOQ_NO_SUCH_MASK; behind them GOQ_NO_ROOM (Micro has no such symbols), GOQ_SMALL_BUFFER;
+   Before these GOQ_NO_SUCH_STRUCT, GOQ_NO_SUCH_LEVEL, GOQ_NO_SUCH_VERSION, GOQ_NO_SUCH_MANNER;
+   behind them GOQ_NO_ROOM (Micro has no such symbols), GOQ_NO_SUCH_MASK, GOQ_SMALL_BUFFER;
    GOQ_OUT_OF_MEMORY. */
 uint32_t goq_encode_gs1(const goq_element *elements, size_t elements_length,
     const goq_options *options, uint8_t *modules, size_t modules_length, goq_symbol *symbol,

@@ -86,19 +86,31 @@ static void refusals(void)
     refuses("01234567890", (goq_options){sizeof o, 0, 0, GOQ_MICRO(2), 1, 0, 0}, GOQ_NO_ROOM,
         "11 digits in M2");
     refuses(long_text, (goq_options){sizeof o, 0, 0, 0, 1, 0, 0}, GOQ_NO_ROOM, "2,954 bytes");
-    refuses("1", (goq_options){sizeof o, 1, 0, 0, 1, 0, 9}, GOQ_NO_SUCH_MASK, "mask 9");
+    refuses("1", (goq_options){sizeof o, 1, 0, 0, 1, 0, GOQ_MASK(8)}, GOQ_NO_SUCH_MASK, "mask 8");
+    refuses("1", (goq_options){sizeof o, 1, 0, 0, 1, 0, UINT32_MAX}, GOQ_NO_SUCH_MASK, "no mask");
+    refuses("1", (goq_options){sizeof o, 0, 0, GOQ_MICRO(2), 1, 0, GOQ_MASK(4)}, GOQ_NO_SUCH_MASK,
+        "mask 4 of M2");
     expect(goq_encode_with((const uint8_t *)"1", 1, &o, modules, 440, &symbol) == GOQ_SMALL_BUFFER,
         "a module too few");
 }
 
+/* Each mask is the one that its format word names. */
 static void masks(void)
 {
+    goq_options o = GOQ_OPTIONS;
     uint8_t bytes[8];
     goq_reading reading;
     uint32_t mask = 77;
-    goq_encode((const uint8_t *)"0123", 4, GOQ_M, modules, sizeof modules, &symbol);
-    expect(goq_read(modules, 441, bytes, 8, &reading) == GOQ_OK, "a reading");
-    expect(goq_mask(modules, 441, &mask) == GOQ_OK && mask == reading.mask, "its mask");
+    for (uint32_t version = 1; version <= GOQ_MICRO(4); version += 43)
+        for (uint32_t number = 0; number < (version == 1 ? 8 : 4); number++) {
+            o.version = version;
+            o.mask = GOQ_MASK(number);
+            expect(encode("0123", &o) == GOQ_OK, "a mask");
+            size_t square = symbol.width * symbol.width;
+            expect(goq_mask(modules, square, &mask) == GOQ_OK && mask == number, "its number");
+            expect(goq_read(modules, square, bytes, 8, &reading) == GOQ_OK && reading.length == 4
+                && reading.mask == number && !memcmp(bytes, "0123", 4), "it is read");
+        }
     mask = 77;
     expect(goq_mask(modules, 440, &mask) == GOQ_NO_SUCH_SIDE && mask == 77, "440 modules");
     memset(modules, 1, 441);
@@ -150,7 +162,7 @@ static void drawings(void)
     drawn((goq_drawing){size, GOQ_SVG, 4, 2, 0x0080ff, 0xffffff, 0}, "\"#0080ff\"", 9, "blue");
     drawn((goq_drawing){size, GOQ_SVG_PATH, 4, 2, half | 0x0a0b0c, none, 0}, "\"#0a0b0c7f\"", 11,
         "half transparent");
-    expect(has("viewBox=\"0 0 29 29\"", 19) && has("\"#00000000\"", 11), "one path, by modules");
+    expect(has("viewBox=\"0 0 29 29\"", 19) && has("\"none\"", 6), "one path, by modules");
     drawn((goq_drawing){size, GOQ_EPS, 4, 2, 0x0080ff, 0xffffff, 0},
         "\n0 255 div 128 255 div 255 255 div setrgbcolor\n", 46, "blue in EPS");
     drawn((goq_drawing){size, GOQ_PNG, 4, 2, 0x0080ff, none | 0x010203, 300},
@@ -223,6 +235,11 @@ static void elements(void)
     o.level = GOQ_L;
     expect(goq_encode_gs1(parts, 3, &o, modules, 441, &symbol, &place) == GOQ_OK, "elements");
     expect(symbol.version == 1 && place == 77, "in the least version");
+    o.mask = GOQ_MASK(7);
+    expect(goq_encode_gs1(parts, 3, &o, modules, 441, &symbol, &place) == GOQ_OK, "under a mask");
+    expect(goq_mask(modules, 441, &o.version) == GOQ_OK && o.version == 7, "which it names");
+    o = (goq_options){sizeof o, GOQ_L, 0, 0, 1, 0, GOQ_MASK(8)};
+    expect(goq_encode_gs1(parts, 3, &o, modules, 441, &symbol, &place) == GOQ_NO_SUCH_MASK, "8");
 }
 
 /* Normal 2 holds 32 bytes at L, and 20 bits of a header leave room for 30 (272 bits, table 7). */
@@ -264,6 +281,44 @@ static void several(void)
     expect(modules[0] == 7 && symbol.version == 99 && count == 5, "untouched");
 }
 
+static uint32_t join(const goq_square *squares, size_t length, size_t room, size_t place)
+{
+    size_t where = 77;
+    memset(out, 9, sizeof out);
+    count = 5;
+    uint32_t answer = goq_join(squares, length, out, room, &count, &where);
+    expect(where == place && (answer == GOQ_OK || (count == 5 && out[0] == 9)), "outputs of a join");
+    return answer;
+}
+
+/* Twice two parts of two bytes: both have the parity 0, and "ab" with "cd" has another. */
+static void joined(void)
+{
+    static uint8_t more[3 * 441];
+    goq_several o = {sizeof o, GOQ_L, GOQ_AS_BYTES, 1, 1, 2};
+    const uint8_t *ab = (const uint8_t *)"abab", *cd = (const uint8_t *)"cdcd";
+    expect(!goq_encode_several(ab, 4, &o, modules, sizeof modules, &symbol, &count), "two of ab");
+    expect(!goq_encode_several(cd, 4, &o, more, sizeof more, &symbol, &count), "two of cd");
+    goq_encode(ab, 4, GOQ_L, other, sizeof other, &symbol);
+    const goq_square first = {modules, 441}, last = {modules + 441, 441}, alone = {other, 441};
+    const goq_square strange = {more + 441, 441}, none = {NULL, 0};
+    struct { goq_square squares[3]; size_t length, place; uint32_t answer; } rows[] = {
+        {{last, first}, 2, 77, GOQ_OK}, {{first, strange}, 2, 77, GOQ_PARITY},
+        {{first}, 1, 1, GOQ_MISSING}, {{last}, 1, 0, GOQ_MISSING}, {{none}, 0, 0, GOQ_MISSING},
+        {{first, last, first}, 3, 0, GOQ_TWICE}, {{first, alone}, 2, 1, GOQ_NOT_SEVERAL},
+        {{first, last, none}, 3, 2, GOQ_NO_SUCH_SIDE}};
+    for (size_t i = 0; i < sizeof rows / sizeof rows[0]; i++)
+        expect(join(rows[i].squares, rows[i].length, 4, rows[i].place) == rows[i].answer, "a join");
+    expect(join(rows[0].squares, 2, 4, 77) == GOQ_OK && count == 4 && !memcmp(out, ab, 4), "abab");
+    expect(join(rows[0].squares, 2, 3, 77) == GOQ_SMALL_BUFFER, "three bytes of room");
+    expect(join(NULL, 0, 4, 0) == GOQ_MISSING, "no squares");
+    memset(other, 1, 441);
+    expect(join(&alone, 1, 4, 0) == GOQ_NO_FORMAT, "a dark square");
+    o.count = 3;
+    expect(!goq_encode_several(ab, 3, &o, more, sizeof more, &symbol, &count), "three of aba");
+    expect(join((goq_square[]){first, {more, 441}}, 2, 4, 1) == GOQ_STRANGER, "other data");
+}
+
 int main(void)
 {
     choices();
@@ -273,6 +328,7 @@ int main(void)
     positions();
     elements();
     several();
+    joined();
     printf("%d wrong\n", wrong);
     return wrong != 0;
 }

@@ -8,9 +8,10 @@ extern size_t pool_requests, pool_refused, pool_most;
 size_t pool_live(void);
 
 /* The last number of a call below, how many contents follow, and how many calls with options. */
-enum { LAST = 9 + GOQ_FORMATS, CONTENTS = 5, OPTIONS = 8 };
+enum { LAST = 9 + GOQ_FORMATS, CONTENTS = 5, OPTIONS = 10 };
 
 static uint8_t data[500], text[500], square[GOQ_MODULES_MAX], shown[21 * 21];
+static uint8_t parts[2 * 21 * 21];
 static goq_symbol known;
 static struct outputs {
     uint8_t buffer[700000]; /* room for any picture of the symbol's width */
@@ -38,7 +39,8 @@ static uint32_t content(int number)
 
 static uint32_t by_options(int number)
 {
-    const goq_element lot = {(const uint8_t *)"10", 2, (const uint8_t *)"ABCD1234", 8}, parts[] = {lot, lot};
+    const goq_element lot = {(const uint8_t *)"10", 2, (const uint8_t *)"ABCD1234", 8}, lots[] = {lot, lot};
+    const goq_square squares[] = {{parts, 21 * 21}, {parts + 21 * 21, 21 * 21}};
     const goq_several fewest = {sizeof fewest, GOQ_M, GOQ_AS_BYTES, 1, 10, 0};
     const goq_several three = {sizeof three, GOQ_M, GOQ_AS_TEXT, 1, 10, 3};
     const goq_drawing drawing = {sizeof drawing, GOQ_SVG_PATH, 4, 1, 0x123456, GOQ_TRANSPARENT, 0};
@@ -48,7 +50,7 @@ static uint32_t by_options(int number)
     options.boost = 1;
     switch (number) {
     case 0: return goq_encode_with(data, sizeof data, &options, out, room, &outputs.symbol);
-    case 1: return goq_encode_gs1(parts, 2, &options, out, room, &outputs.symbol, &outputs.place);
+    case 1: return goq_encode_gs1(lots, 2, &options, out, room, &outputs.symbol, &outputs.place);
     case 2:
         return goq_encode_several(data, sizeof data, &fewest, out, room, &outputs.symbol,
             &outputs.count);
@@ -58,7 +60,11 @@ static uint32_t by_options(int number)
     case 4: return goq_draw_with(square, modules, known.width, &drawing, out, room, &outputs.count);
     case 5: return goq_read_any(square, modules, out, room, &outputs.any);
     case 6: return goq_read_text(shown, sizeof shown, out, room, &outputs.reading);
-    default: return goq_mask(square, modules, &outputs.version);
+    case 7: return goq_join(squares, 2, out, room, &outputs.count, &outputs.place);
+    case 8: return goq_mask(square, modules, &outputs.version);
+    default:
+        options.mask = GOQ_MASK(2);
+        return goq_encode_with(data, sizeof data, &options, out, room, &outputs.symbol);
     }
 }
 
@@ -93,6 +99,9 @@ int main(void)
     memset(text, 'a', sizeof text);
     for (size_t i = 0; i < sizeof data; i++)
         data[i] = (uint8_t)(i * 37);
+    const goq_several two = {sizeof two, GOQ_L, GOQ_AS_BYTES, 1, 1, 2};
+    if (goq_encode_several(text, 20, &two, parts, sizeof parts, &known, &outputs.count) != GOQ_OK)
+        return 1;
     if (goq_encode_text(text, 9, GOQ_M, shown, sizeof shown, &known) != GOQ_OK)
         return 1;
     if (goq_encode(data, sizeof data, GOQ_M, square, sizeof square, &known) != GOQ_OK)

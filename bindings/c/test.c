@@ -229,20 +229,42 @@ static void readings(void)
     expect(goq_read(modules, GOQ_MODULES_MAX, found, sizeof found, &reading) == GOQ_OK && reading.length == GOQ_BYTES_MAX && !memcmp(found, out, GOQ_BYTES_MAX), "all of them");
 }
 
-/* A symbol of each pair of version and level of `digits` digits, as lines: version, level, width and a sum over its modules. */
+/* A line of a symbol: version, level, width and a sum over its modules; or the answer that refuses it. */
+static void print_sum(uint32_t answer)
+{
+    uint32_t sum = 0;
+    for (uint32_t i = 0; answer == GOQ_OK && i < symbol.width * symbol.width; i++)
+        sum = sum * 31 + modules[i] + 1;
+    if (answer == GOQ_OK)
+        printf("%u %u %u %08x\n", symbol.version, symbol.level, symbol.width, sum);
+    else
+        printf("answer %u\n", answer);
+}
+
+/* Such a line for each pair of version and level, of five digits. */
 static void pairs(void)
 {
     for (uint32_t version = 1; version <= GOQ_MICRO(4); version++)
         for (uint32_t level = GOQ_L; level <= GOQ_H; level++) {
-            uint32_t answer = goq_encode_in((const uint8_t *)"20061", 5, version, level, modules, sizeof modules, &symbol), sum = 0;
+            uint32_t answer = goq_encode_in((const uint8_t *)"20061", 5, version, level, modules, sizeof modules, &symbol);
             if (answer == GOQ_LEVEL_NOT_IN_VERSION)
                 continue;
             expect(goq_read(modules, symbol.width * symbol.width, found, sizeof found, &reading) == GOQ_OK, "a symbol of each pair is read");
             expect(reading.version == version && reading.level == level && reading.length == 5 && !memcmp(found, "20061", 5), "as what it was made of");
-            for (uint32_t i = 0; answer == GOQ_OK && i < symbol.width * symbol.width; i++)
-                sum = sum * 31 + modules[i] + 1;
-            printf("%u %u %u %08x\n", version, level, answer == GOQ_OK ? symbol.width : 0, answer == GOQ_OK ? sum : answer);
+            print_sum(answer);
         }
+}
+
+/* The same in 7-Q and in M4-Q under each mask, behind its number. */
+static void masks(void)
+{
+    goq_options o = {sizeof o, GOQ_Q, GOQ_AS_BYTES, 0, 1, 0, 0};
+    for (uint32_t i = 0; i < 12; i++) {
+        o.version = i < 8 ? 7 : GOQ_MICRO(4);
+        o.mask = GOQ_MASK(i % 8);
+        printf("mask %u: ", i % 8);
+        print_sum(goq_encode_with((const uint8_t *)"20061", 5, &o, modules, sizeof modules, &symbol));
+    }
 }
 
 int main(void)
@@ -255,5 +277,6 @@ int main(void)
     least_of_segments();
     readings();
     pairs();
+    masks();
     return wrong != 0;
 }

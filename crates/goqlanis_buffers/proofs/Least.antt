@@ -27,14 +27,14 @@ not_held v l segments why held = elim why [
   | inr c ↦ absurd (omega (arith, c.1, held.room))
 ]
 
--- a refusal by what the test for want of room says of it
+-- a refusal by what the test for lack of room says of it
 pub not_room : (r : Refusal) → true ≡ not (sameb the_type r NoRoom) → r ≢ NoRoom
 not_room r found = differs_true the_type r NoRoom (sym found)
 
 is_room : (r : Refusal) → false ≡ not (sameb the_type r NoRoom) → r ≡ NoRoom
 is_room r found = differs_false the_type tt r NoRoom (sym found)
 
--- segments that are refused for want of room in a version that has the level
+-- segments that are refused for lack of room in a version that has the level
 no_room : (v : Version) (l : EcLevel) (segments : List Segment) → IsTrue (has_level v l) → AreUnheld v l segments NoRoom → HasNoRoom v l segments
 no_room v l segments exists why = elim why [
   | inl memory ↦ let same : NoRoom ≡ OutOfMemory = memory in absurd cc

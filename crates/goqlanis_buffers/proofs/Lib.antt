@@ -7,3 +7,5 @@ pub mod Fields
 mod Joined
 pub mod Parts
 pub mod Refused
+pub mod Squares
+pub mod Masked

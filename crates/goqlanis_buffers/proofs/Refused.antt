@@ -1,15 +1,17 @@
 -- Why data has no symbol that options ask for.
-use Rattle.std.proofs.Common.{◌≡◌, ℕ, List, refl, sym, subst}
+use Rattle.std.proofs.Common.{◌≡◌, ℕ, List, refl, sym, subst, inl, inr}
 use Rattle.qrcode_types.specs.declared.types.QrError.{QrError}
 use Rattle.qrcode_types.specs.declared.types.QrError.TheVariants.{DataTooLong, InvalidVersion, UnsupportedCharacterSet, InvalidEciDesignator, InvalidCharacter, OutOfMemory}
+use Rattle.qrcode.specs.Code.{Code}
 use Rattle.goqlanis_draw.specs.Symbols.{IsRefusedFor}
-use Rattle.goqlanis_buffers.specs.Options.{HasNoSymbol, IsAsked, IsOptionsCause}
+use Rattle.goqlanis_buffers.specs.Options.{HasNoSymbol, IsAsked, IsMadeAs, IsOptionsCause}
 use Rattle.goqlanis_buffers.specs.Segments.{refusal_in}
+use Rattle.goqlanis_buffers.specs.Symbols.{IsMaskingCause}
 use Rattle.goqlanis_buffers.specs.declared.answers.Refusal.{Refusal}
 use Rattle.goqlanis_buffers.specs.declared.options.Asked.{Asked}
 use Rattle.goqlanis_buffers.specs.declared.options.Options.{Options}
 
--- an error of the library is told as its refusal
+-- an error of the library is reported as its refusal
 no_symbol : (o : Options) (bytes : List ℕ) (room : ℕ) (e : QrError) → HasNoSymbol o bytes (refusal_in e) → IsOptionsCause o bytes room (refusal_in e)
 no_symbol o bytes room DataTooLong h = h
 no_symbol o bytes room InvalidVersion h = h
@@ -22,3 +24,14 @@ pub refused_as : (o : Options) (a : Asked) (bytes : List ℕ) (e : QrError) (ref
     → (room : ℕ) → IsOptionsCause o bytes room refusal
 refused_as o a bytes e refusal is named cause room =
     subst (IsOptionsCause o bytes room) (sym is) (no_symbol o bytes room e (record { asked = a; named = named; error = e; told = refl; cause = cause }))
+
+-- what refuses a symbol its mask, or its place in the buffer, refuses what options ask for
+pub masked_as : (o : Options) (a : Asked) (bytes : List ℕ) (own : Code) (room : ℕ) (refusal : Refusal) → IsAsked o a → IsMadeAs a bytes own → IsMaskingCause a.mask own room refusal
+    → IsOptionsCause o bytes room refusal
+masked_as o a bytes own room refusal named made (inl is) =
+    subst (IsOptionsCause o bytes room) (sym is) (record { asked = a; named = named; error = OutOfMemory; told = refl; cause = inl refl })
+masked_as o a bytes own room refusal named made (inr (inl lacks)) =
+    subst (IsOptionsCause o bytes room) (sym lacks.0) (record { asked = a; named = named; lacks = (own, (made, lacks.1)) })
+masked_as o a bytes own room refusal named made (inr (inr small)) =
+    subst (IsOptionsCause o bytes room) (sym small.0)
+    (small.1.0, (record { asked = a; named = named; own = own; made = made; masked = small.1.1.0 }, small.1.1.1))

@@ -1,4 +1,4 @@
--- What C is told of a result.
+-- What C gets of a result.
 use Rattle.std.proofs.Common.{◌≡◌, ℕ, Some, None, ap, sym, subst, ◌∙◌}
 use Rattle.std.specs.Prelude.{Result, Ok, Err, IsSomeAnd}
 use Rattle.goqlanis_buffers.specs.Answers.{refusal_of}

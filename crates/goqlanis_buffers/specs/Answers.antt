@@ -90,7 +90,7 @@ pub record IsLasting (l : EcLevel) (segments : List by_hand.Segment) (refusal : 
   pub before : (n : ℕ) → 1 ≤ n → n < number → HasNoRoom (Normal (pos n)) l segments
   pub refused : IsFirstRefused (Normal (pos number)) segments refusal
 
--- why no least version of segments is told at a level: want of memory; no such level; one of the segments is refused, whose cause no version mends; or no
+-- why no least version of segments is answered at a level: memory ran out; no such level; one of the segments is refused, whose cause no version mends; or no
 -- Normal version has room for them
 abbrev pub IsLeastCause : ℕ → List by_hand.Segment → Refusal → Type 0
 IsLeastCause level segments refusal =

@@ -1,4 +1,4 @@
--- What each call does, and what C is told of it.
+-- What each call does, and what C gets of it.
 use Rattle.std.specs.Prelude.{◌≡◌, ◌≢◌, ℕ, List, length, Some, IsSomeAnd, Result, Ok, Err, IfOk, IfErr, OnErr}
 use Rattle.qrcode_bits.specs.Choice.{IsLeastHolding}
 use Rattle.qrcode_bits.specs.declared.bits.manner.Manner.{Manner}
@@ -19,7 +19,7 @@ use Rattle.goqlanis_buffers.specs.declared.reading.Reading.{Reading}
 use Rattle.goqlanis_buffers.specs.declared.segments.Segment.{Segment}
 use Rattle.goqlanis_buffers.specs.declared.symbols.Symbol.{Symbol}
 
--- what C is told of a result, whose value goes to an output: 0, and the value; or the number of the refusal, and the output as it was
+-- what C gets of a result, whose value goes to an output: 0, and the value; or the number of the refusal, and the output as it was
 pub record IsAnswer {T : Type 0} (result : Result T Refusal) (number : ℕ) (old new : T) : Type 0 where
   pub ok : IfOk result (λ value. (number ≡ 0) × (new ≡ value))
   pub err : IfErr result (λ refusal. (refusal_of number ≡ Some refusal) × (new ≡ old))

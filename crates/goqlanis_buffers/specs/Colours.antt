@@ -23,12 +23,13 @@ hex_text n = digit_glyph false (n / 16) ∷ digit_glyph false (n % 16) ∷ []
 abbrev pub digits_of : ℕ → List ℕ  -- red, green and blue to the base 16
 digits_of colour = codes "#" ++ hex_text (red_of colour) ++ hex_text (green_of colour) ++ hex_text (blue_of colour)
 
--- what SVG writes for a colour: how opaque it is stands behind where it is not
+-- what SVG writes for a colour: how opaque it is stands behind where it is so in part
 abbrev pub colour_name : ℕ → List ℕ
 colour_name colour =
     if colour == 0 then codes "#000"
     else (if colour == 0xffffff then codes "#fff"
-    else (if opacity_of colour == 255 then digits_of colour else digits_of colour ++ hex_text (opacity_of colour)))
+    else (if opacity_of colour == 255 then digits_of colour
+    else (if opacity_of colour == 0 then codes "none" else digits_of colour ++ hex_text (opacity_of colour))))
 
 abbrev pub colour_shade : ℕ → Shade  -- a colour and its name
 colour_shade colour = record {

@@ -3,6 +3,7 @@ pub mod Asking
 pub mod Calls
 pub mod Colours
 pub mod Drawings
+pub mod Joining
 pub mod Names
 pub mod Options
 pub mod Outputs

@@ -1,5 +1,5 @@
 -- Symbols by options.
-use Rattle.std.specs.Prelude.{◌≡◌, ◌≢◌, ℕ, List, [], ◌∷◌, ◌==◌, IsTrue, IsUtf8, Option, Some, None, slice_get, if◌then◌else◌}
+use Rattle.std.specs.Prelude.{◌≡◌, ◌≢◌, ◌-◌, ℕ, List, [], ◌∷◌, ◌==◌, IsTrue, IsUtf8, Option, Some, None, slice_get, if◌then◌else◌}
 use Rattle.std.specs.Option.{option_map}
 use Rattle.qrcode_types.specs.declared.types.QrError.{QrError}
 use Rattle.qrcode_types.specs.declared.types.Version.{Version}
@@ -7,12 +7,13 @@ use Rattle.qrcode_bits.specs.Manners.{is_text}
 use Rattle.qrcode_bits.specs.declared.bits.manner.Manner.{Manner}
 use Rattle.qrcode_bits.specs.declared.bits.manner.Manner.TheVariants.{Bytes, Text, MarkedText}
 use Rattle.qrcode.specs.Code.{Code}
+use Rattle.goqlanis_draw.specs.Masks.{IsMaskless}
 use Rattle.goqlanis_draw.specs.Symbols.{IsSymbolIn, IsRefusedFor}
 use Rattle.goqlanis_draw.specs.declared.request.Choice.{Choice}
 use Rattle.goqlanis_draw.specs.declared.request.Choice.TheVariants.{From, Boosted, At}
 use Rattle.goqlanis_buffers.specs.Names.{level_named, version_named}
 use Rattle.goqlanis_buffers.specs.Segments.{refusal_in}
-use Rattle.goqlanis_buffers.specs.Symbols.{ExceedsRoom}
+use Rattle.goqlanis_buffers.specs.Symbols.{ExceedsRoom, IsMasked}
 use Rattle.goqlanis_buffers.specs.declared.answers.Refusal.{Refusal}
 use Rattle.goqlanis_buffers.specs.declared.answers.Refusal.TheVariants.{NoSuchLevel, NoSuchVersion, NoSuchStruct, NoSuchManner, NoSuchMask, NotText, SmallBuffer}
 use Rattle.goqlanis_buffers.specs.declared.options.Asked.{Asked}
@@ -27,20 +28,35 @@ from_on boost v = if boost == 0 then From v else Boosted v
 abbrev pub choice_named : Options → Option Choice  -- which symbol options ask for
 choice_named o = if o.version == 0 then option_map (from_on o.boost) (version_named o.least_version) else option_map At (version_named o.version)
 
+abbrev pub mask_named : ℕ → Option ℕ  -- the number of a mask that options name
+mask_named n = if n == 0 then None else Some (n - 1)
+
 -- what options name
 pub record IsAsked (o : Options) (a : Asked) : Type 0 where
   pub size : o.size ≡ 28
   pub level : level_named o.level ≡ Some a.level
   pub choice : choice_named o ≡ Some a.choice
   pub manner : manner_named o.manner ≡ Some a.manner
-  pub mask : o.mask ≡ 0
+  pub mask : mask_named o.mask ≡ a.mask
 
--- the symbol of data that options ask for; a text is UTF-8
+-- the symbol of data that is asked for, under the mask of least penalty; a text is UTF-8
+pub record IsMadeAs (a : Asked) (bytes : List ℕ) (code : Code) : Type 0 where
+  pub text : IsTrue (is_text a.manner) → IsUtf8 bytes
+  pub made : IsSymbolIn a.choice a.manner a.level bytes code
+
+-- the symbol of data that options ask for, under the mask that they ask for
 pub record IsSymbolWith (o : Options) (bytes : List ℕ) (code : Code) : Type 0 where
   pub asked : Asked
   pub named : IsAsked o asked
-  pub text : IsTrue (is_text asked.manner) → IsUtf8 bytes
-  pub made : IsSymbolIn asked.choice asked.manner asked.level bytes code
+  pub own : Code
+  pub made : IsMadeAs asked bytes own
+  pub masked : IsMasked asked.mask own code
+
+-- the version of the symbol has no mask of the number that is asked for
+pub record HasNoMask (o : Options) (bytes : List ℕ) : Type 0 where
+  pub asked : Asked
+  pub named : IsAsked o asked
+  pub lacks : IsMaskless asked.mask (IsMadeAs asked bytes)
 
 -- what is asked for has no symbol
 pub record HasNoSymbol (o : Options) (bytes : List ℕ) (refusal : Refusal) : Type 0 where
@@ -56,7 +72,7 @@ IsOptionsCause o bytes room NoSuchStruct = o.size ≢ 28
 IsOptionsCause o bytes room NoSuchLevel = level_named o.level ≡ None
 IsOptionsCause o bytes room NoSuchVersion = choice_named o ≡ None
 IsOptionsCause o bytes room NoSuchManner = manner_named o.manner ≡ None
-IsOptionsCause o bytes room NoSuchMask = o.mask ≢ 0
+IsOptionsCause o bytes room NoSuchMask = HasNoMask o bytes
 IsOptionsCause o bytes room NotText = ¬ IsUtf8 bytes
 IsOptionsCause o bytes room SmallBuffer = ExceedsRoom (IsSymbolWith o bytes) room
 IsOptionsCause o bytes room refusal = HasNoSymbol o bytes refusal

@@ -37,7 +37,7 @@ place_of Antitransposed = 7
 abbrev pub position_number : Position → Bool → ℕ  -- the same, and 8 more where colours are exchanged
 position_number p is_inverted = if is_inverted then place_of p + 8 else place_of p
 
--- what is told of a reading beside its bytes
+-- what C gets of a reading beside its bytes
 pub record IsTold (v : Version) (l : EcLevel) (mask : MaskPattern) (wrong count : ℕ) (reading : Reading) : Type 0 where
   pub version : version_named reading.version ≡ Some v
   pub level : level_named reading.level ≡ Some l

@@ -33,7 +33,7 @@ bits_in v bytes n CharacterSet = number_bits 4 7 ++ eci_bits n
 bits_in v bytes n FirstPosition = number_bits 4 5
 bits_in v bytes n SecondPosition = number_bits 4 9 ++ number_bits 8 n
 
--- what an error of a push, or of a constructor whose version is valid, is told as
+-- what an error of a push, or of a constructor whose version is valid, is reported as
 abbrev pub refusal_in : QrError → Refusal
 refusal_in UnsupportedCharacterSet = NoMode
 refusal_in InvalidVersion = LevelNotInVersion
@@ -100,7 +100,7 @@ HaveNoRoom v l segments = AreTaken v segments (length segments) × (capacity v l
 abbrev pub HasNoRoom : Version → EcLevel → List Segment → Type 0
 HasNoRoom v l segments = IsFirstRefused v segments NoRoom ⊎ HaveNoRoom v l segments
 
--- why segments are not held, or want of memory
+-- why segments are not held, or that memory ran out
 abbrev pub AreUnheld : Version → EcLevel → List Segment → Refusal → Type 0
 AreUnheld v l segments refusal =
     (refusal ≡ OutOfMemory)

@@ -1,5 +1,5 @@
 -- The symbols that the calls for C make.
-use Rattle.std.specs.Prelude.{◌≡◌, ◌<◌, ℕ, pos, List, length, Some}
+use Rattle.std.specs.Prelude.{◌≡◌, ◌⊎◌, ◌<◌, ℕ, pos, List, length, Option, Some}
 use Rattle.qrcode_types.specs.declared.types.Color.{Color}
 use Rattle.qrcode_types.specs.declared.types.EcLevel.{EcLevel}
 use Rattle.qrcode_types.specs.declared.types.Version.{Version}
@@ -9,8 +9,11 @@ use Rattle.qrcode_bits.specs.declared.bits.manner.Manner.{Manner}
 use Rattle.qrcode.specs.Acceptance.{IsChosenSymbol, IsLeastSymbol}
 use Rattle.qrcode.specs.Code.{Code}
 use Rattle.qrcode.specs.Texts.{IsSymbolAs}
+use Rattle.goqlanis_draw.specs.Masks.{AreUnder, LacksMask}
 use Rattle.goqlanis_buffers.specs.Names.{level_named, version_named}
 use Rattle.goqlanis_buffers.specs.Segments.{IsSymbolOfSegments}
+use Rattle.goqlanis_buffers.specs.declared.answers.Refusal.{Refusal}
+use Rattle.goqlanis_buffers.specs.declared.answers.Refusal.TheVariants.{NoSuchMask, OutOfMemory, SmallBuffer}
 use Rattle.goqlanis_buffers.specs.declared.segments.Segment.{Segment}
 
 -- the symbol of data in a manner, of the least Normal version that holds it
@@ -42,3 +45,14 @@ pub record IsSegmentsSymbol (version level : ℕ) (segments : List Segment) (cod
 -- the symbol that is asked for has more modules than a buffer has room for
 abbrev pub ExceedsRoom : (Code → Type 0) → ℕ → Type 0
 ExceedsRoom Asked room = (code : Code) × (Asked code × (room < length code.modules))
+
+-- a symbol under the mask of a number, which its version has; where none is given, as it is
+pub record IsMasked (mask : Option ℕ) (own code : Code) : Type 0 where
+  pub version : code.version ≡ own.version
+  pub level : code.level ≡ own.level
+  pub under : AreUnder mask own code.modules
+
+-- why a symbol is not written under a mask: its version has no mask of the number, or the buffer no room; or memory was refused
+abbrev pub IsMaskingCause : Option ℕ → Code → ℕ → Refusal → Type 0
+IsMaskingCause mask own room refusal =
+    (refusal ≡ OutOfMemory) ⊎ (((refusal ≡ NoSuchMask) × LacksMask mask own.version) ⊎ ((refusal ≡ SmallBuffer) × ExceedsRoom (IsMasked mask own) room))

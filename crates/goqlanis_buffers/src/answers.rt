@@ -114,7 +114,7 @@ impl Refusal {
     }
 }
 
-/// What an error is told as: of a push, or of a constructor whose version is valid and whose bytes are
+/// What an error is reported as: of a push, or of a constructor whose version is valid and whose bytes are
 /// within the limit.
 impl From<QrError> for Refusal {
     ghost from_gives = { λ e refusal. refusal ≡ refusal_in e };
@@ -131,7 +131,7 @@ impl From<QrError> for Refusal {
     }
 }
 
-/// What C is told of a result: 0, and its value in an output; or the number of the refusal, with the
+/// What C gets of a result: 0, and its value in an output; or the number of the refusal, with the
 /// output as it was.
 pub fn answer<T: Copy>(made: Result<T, Refusal>, output: &mut T) -> u32
     ensures { IsAnswer made result output.old output.new }

@@ -59,6 +59,9 @@ pub(crate) fn name_of(alloc: Global, colour: u32) -> QrResult<String>
         return Ok(String::from_str(alloc, "#fff")?);
     }
     let ink = ink_of("", colour);
+    if ink.opacity == 0 {
+        return Ok(String::from_str(alloc, "none")?);
+    }
     let mut text = String::from_str(alloc, "#")?;
     push_byte(&mut text, ink.red)?;
     push_byte(&mut text, ink.green)?;

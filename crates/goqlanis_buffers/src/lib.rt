@@ -6,6 +6,7 @@ pub mod answers;
 mod colours;
 pub mod contents;
 pub mod encoding;
+pub mod joining;
 pub mod laws;
 pub mod names;
 pub mod options;

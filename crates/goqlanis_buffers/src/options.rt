@@ -2,12 +2,13 @@
 
 ghost use Rattle.std.specs.Prelude.{◌≡◌, ℕ, List, false, IfOk, IfErr, IsTrue, IsUtf8};
 ghost use Rattle.qrcode_bits.specs.Manners.{is_text};
-ghost use Rattle.goqlanis_buffers.specs.Calls.{Tells, WritesWith};
-ghost use Rattle.goqlanis_buffers.specs.Options.{choice_named, manner_named, IsAsked, IsOptionsCause, IsSymbolWith};
+ghost use Rattle.goqlanis_buffers.specs.Calls.{WritesWith};
+ghost use Rattle.goqlanis_buffers.specs.Options.{choice_named, manner_named, mask_named, IsAsked, IsMadeAs, IsOptionsCause};
+ghost use Rattle.goqlanis_buffers.specs.declared.options.Options.{Options};
 
 use crate::answers::Refusal;
 use crate::names::{level_named, version_named};
-use crate::symbols::{Symbol, write_symbol};
+use crate::symbols::{Symbol, write_masked};
 use goqlanis_draw::{Choice, symbol_in};
 use qrcode::QrCode;
 use qrcode::bits::Manner;
@@ -30,7 +31,8 @@ pub struct Options {
     pub least_version: u32,
     /// Other than 0 for the highest level at which that version holds the data.
     pub boost: u32,
-    /// One more than the number of a mask, or 0 for the one of least penalty.
+    /// One more than the number of a mask, which the version of the symbol has; or 0 for the first of
+    /// least penalty.
     pub mask: u32,
 }
 
@@ -43,14 +45,17 @@ pub struct Asked {
     pub choice: Choice,
     pub level: EcLevel,
     pub manner: Manner,
+    /// The number of a mask.
+    pub mask: Option<usize>,
 }
 
 /// Writes the symbol of data that options ask for at the beginning of a buffer, and answers what it is
 /// beside its modules.
 ///
 /// An error is the first that applies of `NoSuchStruct`, `NoSuchLevel`, `NoSuchVersion`,
-/// `NoSuchManner`, `NotText`, `NoMode`, `LevelNotInVersion`, `NoRoom` and `SmallBuffer`, or
-/// `OutOfMemory`; then the buffer is as it was.
+/// `NoSuchManner`, `NotText`, `NoMode`, `LevelNotInVersion`, `NoRoom`, `NoSuchMask` and
+/// `SmallBuffer`, or `OutOfMemory`; then the buffer is as it was.
+#[tactic(auto, using(crate::proofs::Refused::masked_as))]
 pub fn encode_with(
     alloc: Global,
     bytes: &[u8],
@@ -59,22 +64,23 @@ pub fn encode_with(
 ) -> Result<Symbol, Refusal>
     ensures { WritesWith options.now bytes.now modules.old modules.new result }
 {
-    match symbol_with(alloc, bytes, options) {
-        Ok(code) => write_symbol(code, modules),
-        Err(refusal) => Err(refusal),
-    }
-}
-
-// The symbol of data that options ask for.
-#[tactic(auto, using(crate::proofs::Refused::refused_as))]
-fn symbol_with(alloc: Global, bytes: &[u8], options: &Options) -> Result<QrCode, Refusal>
-    ensures { Tells (IsSymbolWith options.now bytes.now)
-        (λ refusal. (room : ℕ) → IsOptionsCause options.now bytes.now room refusal) result }
-{
     let asked = match asked_by(options) {
         Ok(asked) => asked,
         Err(refusal) => return Err(refusal),
     };
+    match symbol_of(alloc, bytes, asked) {
+        Ok(code) => write_masked(alloc, &code, asked.mask, modules),
+        Err(refusal) => Err(refusal),
+    }
+}
+
+// The symbol of data that is asked for, under the mask of least penalty.
+#[tactic(auto, using(crate::proofs::Refused::refused_as))]
+fn symbol_of(alloc: Global, bytes: &[u8], asked: Asked) -> Result<QrCode, Refusal>
+    ensures made { IfOk result (IsMadeAs asked bytes.now) }
+    ensures causes { (options : Options) (room : ℕ) → IsAsked options asked
+        → IfErr result (IsOptionsCause options bytes.now room) }
+{
     if !is_sound(asked.manner, bytes) {
         return Err(Refusal::NotText);
     }
@@ -86,8 +92,8 @@ fn symbol_with(alloc: Global, bytes: &[u8], options: &Options) -> Result<QrCode,
 
 /// What options name.
 ///
-/// An error is the first that applies of `NoSuchStruct`, `NoSuchLevel`, `NoSuchVersion`,
-/// `NoSuchManner` and `NoSuchMask`.
+/// An error is the first that applies of `NoSuchStruct`, `NoSuchLevel`, `NoSuchVersion` and
+/// `NoSuchManner`.
 pub(crate) fn asked_by(options: &Options) -> Result<Asked, Refusal>
     ensures made { IfOk result (IsAsked options.now) }
     ensures causes { (bytes : List ℕ) (room : ℕ)
@@ -105,13 +111,11 @@ pub(crate) fn asked_by(options: &Options) -> Result<Asked, Refusal>
     let Some(manner) = manner_named(options.manner) else {
         return Err(Refusal::NoSuchManner);
     };
-    if options.mask != 0 {
-        return Err(Refusal::NoSuchMask);
-    }
     Ok(Asked {
         choice,
         level,
         manner,
+        mask: mask_named(options.mask),
     })
 }
 
@@ -142,6 +146,17 @@ fn choice_named(options: &Options) -> Option<Choice>
     } else {
         Choice::Boosted(from)
     })
+}
+
+// The number of a mask that options name.
+fn mask_named(mask: u32) -> Option<usize>
+    ensures value { result ≡ mask_named mask }
+{
+    if mask == 0 {
+        None
+    } else {
+        Some(mask as usize - 1)
+    }
 }
 
 // The manner of a number.

@@ -277,7 +277,7 @@ fn read_shown(alloc: Global, modules: &[u8]) -> Result<TextReading, Refusal>
     }
 }
 
-// What is told of a reading beside its bytes.
+// What C gets of a reading beside its bytes.
 fn told(
     version: Version,
     ec_level: EcLevel,

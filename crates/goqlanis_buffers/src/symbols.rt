@@ -3,13 +3,15 @@
 ghost use Rattle.std.specs.Prelude.{◌≡◌, ◌<◌, ◌≤◌, length, IfOk, IfErr, IsOkUnless, OnErr};
 ghost use Rattle.qrcode_types.specs.declared.types.QrError.TheVariants.{OutOfMemory};
 ghost use Rattle.qrcode_render.specs.Shades.{colors_of};
-ghost use Rattle.goqlanis_buffers.specs.Outputs.{module_bytes, IsDescribed, IsFilled, IsWritten};
+ghost use Rattle.goqlanis_buffers.specs.Outputs.{module_bytes, IsDescribed, IsFilled, IsWritten, IsWrittenAs};
+ghost use Rattle.goqlanis_buffers.specs.Symbols.{IsMasked, IsMaskingCause};
 ghost use Rattle.goqlanis_buffers.specs.declared.answers.Refusal.TheVariants.{SmallBuffer};
 
 use crate::answers::Refusal;
 use crate::names::{level_number, version_number};
+use goqlanis_draw::masking::modules_under;
 use qrcode::QrCode;
-use qrcode::types::{Color, QrResult};
+use qrcode::types::{Color, QrError, QrResult};
 use std::alloc::Global;
 
 /// What a symbol is beside its modules.
@@ -39,6 +41,35 @@ pub(crate) fn write_symbol(code: QrCode, modules: &mut [u8]) -> Result<Symbol, R
     }
     fill_modules(modules, &colors);
     Ok(symbol)
+}
+
+/// Writes a symbol under the mask of a number, where one is given, at the beginning of a buffer, and
+/// answers what it is beside its modules.
+///
+/// An error is `NoSuchMask`, where the version has none of the number, `SmallBuffer` or `OutOfMemory`;
+/// then the buffer is as it was.
+#[tactic(auto, using(crate::proofs::Masked::written))]
+pub(crate) fn write_masked(
+    alloc: Global,
+    code: &QrCode,
+    mask: Option<usize>,
+    modules: &mut [u8],
+) -> Result<Symbol, Refusal>
+    ensures written { IfOk result
+        (IsWrittenAs (IsMasked mask code.now) modules.old modules.new) }
+    ensures unchanged { OnErr result (modules.new ≡ modules.old) }
+    ensures causes { IfErr result (IsMaskingCause mask code.now (length modules.old)) }
+{
+    let colors = match modules_under(alloc, code, mask) {
+        Ok(colors) => colors,
+        Err(QrError::OutOfMemory) => return Err(Refusal::OutOfMemory),
+        Err(_) => return Err(Refusal::NoSuchMask),
+    };
+    if modules.len() < colors.len() {
+        return Err(Refusal::SmallBuffer);
+    }
+    fill_modules(modules, &colors);
+    Ok(described(code))
 }
 
 /// What a symbol is beside its modules.

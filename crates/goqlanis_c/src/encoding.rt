@@ -31,7 +31,7 @@ pub extern "C" fn goq_encode(
 /// The symbol of bytes, of a version and level of these numbers: its modules row by row, 1 for a dark
 /// one, at the beginning of `modules`, and what it is beside them.
 ///
-/// 0, or the number of a `Refusal`, of which the first that applies is told: `NoSuchLevel`,
+/// 0, or the number of a `Refusal`, of which the first that applies is reported: `NoSuchLevel`,
 /// `NoSuchVersion`, `TooLong`, `NoMode`, `LevelNotInVersion`, `NoRoom`, `SmallBuffer`; or
 /// `OutOfMemory`. Then the outputs are as they were.
 #[unsafe(no_mangle)]
@@ -52,7 +52,7 @@ pub extern "C" fn goq_encode_in(
 /// The symbol of data that options ask for: its modules row by row, 1 for a dark one, at the beginning
 /// of `modules`, and what it is beside them.
 ///
-/// 0, or the number of a `Refusal`, of which the first that applies is told: `NoSuchStruct`,
+/// 0, or the number of a `Refusal`, of which the first that applies is reported: `NoSuchStruct`,
 /// `NoSuchLevel`, `NoSuchVersion`, `NoSuchManner`, `NotText`, `NoMode`, `LevelNotInVersion`,
 /// `NoRoom`, `SmallBuffer`; or `OutOfMemory`. Then the outputs are as they were.
 #[unsafe(no_mangle)]

@@ -10,7 +10,7 @@ use std::alloc::Global;
 /// The symbol of segments, one behind the other, of a version and level of these numbers: its modules
 /// row by row, 1 for a dark one, at the beginning of `modules`, and what it is beside them.
 ///
-/// 0, or the number of a `Refusal`, of which the first that applies is told: `NoSuchLevel`,
+/// 0, or the number of a `Refusal`, of which the first that applies is reported: `NoSuchLevel`,
 /// `NoSuchVersion`, `LevelNotInVersion`; of each segment in order `NoSuchKind`, `NotInMode`, `NoMode`,
 /// `NoSuchNumber`, `NoRoom`; then `NoRoom`, `SmallBuffer`; or `OutOfMemory`. Then the outputs are as
 /// they were.

@@ -13,7 +13,7 @@ use std::alloc::Global;
 /// `goq_encode` writes them. Readers show the text, where they take bytes for UTF-8; for readers that
 /// guess there is `goq_encode_marked_text`.
 ///
-/// 0, or the number of a `Refusal`, of which the first that applies is told: `NoSuchLevel`, `NotText`,
+/// 0, or the number of a `Refusal`, of which the first that applies is reported: `NoSuchLevel`, `NotText`,
 /// `NoRoom`, `SmallBuffer`; or `OutOfMemory`. Then the outputs are as they were.
 #[unsafe(no_mangle)]
 pub extern "C" fn goq_encode_text(

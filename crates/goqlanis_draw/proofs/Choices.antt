@@ -8,7 +8,7 @@ use Rattle.qrcode_types.specs.declared.types.Version.TheVariants.{Normal}
 use Rattle.qrcode.specs.Code.{Code}
 use Rattle.qrcode_gs1.specs.Elements.{Item, element_string}
 use Rattle.qrcode_gs1.specs.symbol.Elements.{IsGs1Refused}
-use Rattle.qrcode_gs1.specs.symbol.Symbols.{HoldsMarked, IsMarkedSymbol, IsMarkedRefused}
+use Rattle.qrcode_gs1.specs.symbol.Symbols.{IsMarkedSymbol, IsMarkedRefused}
 use Rattle.qrcode_gs1.specs.declared.symbol.Position.{Position}
 use Rattle.qrcode_gs1.specs.declared.symbol.Position.TheVariants.{First}
 use Rattle.qrcode_gs1.specs.declared.symbol.errors.SymbolError.{SymbolError}

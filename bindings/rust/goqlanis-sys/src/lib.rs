@@ -27,6 +27,11 @@ pub const GOQ_NO_SUCH_MANNER: u32 = 21;
 pub const GOQ_NO_SUCH_MASK: u32 = 22;
 pub const GOQ_NOT_IN_FORMAT: u32 = 23;
 pub const GOQ_NOT_SHOWN: u32 = 24;
+pub const GOQ_NOT_SEVERAL: u32 = 25;
+pub const GOQ_STRANGER: u32 = 26;
+pub const GOQ_MISSING: u32 = 27;
+pub const GOQ_TWICE: u32 = 28;
+pub const GOQ_PARITY: u32 = 29;
 pub const GOQ_NOT_READ: u32 = 30;
 pub const GOQ_NO_SUCH_CONTENT: u32 = 32;
 pub const GOQ_NO_SUCH_FIELD: u32 = 33;
@@ -90,6 +95,28 @@ pub struct goq_options {
     pub least_version: u32,
     pub boost: u32,
     pub mask: u32,
+}
+
+/// What is asked of symbols between which data is parted.
+#[repr(C)]
+#[derive(Clone, Copy, Debug)]
+pub struct goq_several {
+    pub size: u32,
+    pub level: u32,
+    pub manner: u32,
+    pub least_version: u32,
+    pub greatest_version: u32,
+    pub count: u32,
+}
+
+pub const GOQ_SEVERAL_MAX: usize = 16;
+
+/// A square of modules.
+#[repr(C)]
+#[derive(Clone, Copy, Debug)]
+pub struct goq_square {
+    pub modules: *const u8,
+    pub length: usize,
 }
 
 /// How modules are drawn.
@@ -184,6 +211,8 @@ extern "C" {
     pub fn goq_draw_length(modules: *const u8, modules_length: usize, width: u32, zone: u32, scale: u32, format: u32, count: *mut usize) -> u32;
     pub fn goq_encode_with(data: *const u8, data_length: usize, options: *const goq_options, modules: *mut u8, modules_length: usize, symbol: *mut goq_symbol) -> u32;
     pub fn goq_encode_gs1(elements: *const goq_element, elements_length: usize, options: *const goq_options, modules: *mut u8, modules_length: usize, symbol: *mut goq_symbol, place: *mut usize) -> u32;
+    pub fn goq_encode_several(data: *const u8, data_length: usize, options: *const goq_several, modules: *mut u8, modules_length: usize, symbol: *mut goq_symbol, count: *mut usize) -> u32;
+    pub fn goq_join(squares: *const goq_square, squares_length: usize, out: *mut u8, out_length: usize, count: *mut usize, place: *mut usize) -> u32;
     pub fn goq_draw_with(modules: *const u8, modules_length: usize, width: u32, drawing: *const goq_drawing, out: *mut u8, out_length: usize, count: *mut usize) -> u32;
     pub fn goq_draw_with_length(modules: *const u8, modules_length: usize, width: u32, drawing: *const goq_drawing, count: *mut usize) -> u32;
     pub fn goq_read_any(modules: *const u8, modules_length: usize, bytes: *mut u8, bytes_length: usize, reading: *mut goq_any_reading) -> u32;

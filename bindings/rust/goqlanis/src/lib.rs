@@ -18,6 +18,7 @@ use std::ops::Index;
 pub mod contents;
 pub mod reading;
 pub mod render;
+pub mod several;
 
 pub use reading::{read, read_any, read_text, Position, Reading, Unread};
 
@@ -26,7 +27,7 @@ pub use reading::{read, read_any, read_text, Position, Reading, Unread};
 pub enum QrError {
     /// No symbol of the asked kind holds the data, or it is more than 1,048,576 bytes.
     DataTooLong,
-    /// There is no such version, or it lacks the level.
+    /// There is no such version, or it lacks the level or the mask.
     InvalidVersion,
     /// The data needs a mode that the version lacks.
     UnsupportedCharacterSet,
@@ -59,7 +60,9 @@ pub type QrResult<T> = Result<T, QrError>;
 fn accepted(answer: u32) -> QrResult<()> {
     match answer {
         sys::GOQ_OK => Ok(()),
-        sys::GOQ_NO_SUCH_VERSION | sys::GOQ_LEVEL_NOT_IN_VERSION => Err(QrError::InvalidVersion),
+        sys::GOQ_NO_SUCH_VERSION | sys::GOQ_LEVEL_NOT_IN_VERSION | sys::GOQ_NO_SUCH_MASK => {
+            Err(QrError::InvalidVersion)
+        }
         sys::GOQ_NOT_IN_MODE | sys::GOQ_NOT_TEXT => Err(QrError::InvalidCharacter),
         sys::GOQ_NO_SUCH_NUMBER => Err(QrError::InvalidEciDesignator),
         sys::GOQ_NO_MODE => Err(QrError::UnsupportedCharacterSet),
@@ -189,6 +192,8 @@ pub struct Options {
     pub least_version: Version,
     /// Whether the level is the highest, from `ec_level` on, at which that version holds the data.
     pub boost: bool,
+    /// The number of the mask, 0 to 7, of Micro 0 to 3, or none for the one of least penalty.
+    pub mask: Option<u32>,
 }
 
 impl Default for Options {
@@ -199,6 +204,7 @@ impl Default for Options {
             version: None,
             least_version: Version::Normal(1),
             boost: false,
+            mask: None,
         }
     }
 }
@@ -219,7 +225,7 @@ impl Options {
             }),
             least_version: self.least_version.number(),
             boost: u32::from(self.boost),
-            mask: 0,
+            mask: self.mask.map_or(0, |number| number.saturating_add(1)),
         }
     }
 }
@@ -366,10 +372,13 @@ impl QrCode {
         let mut modules = vec![0; sys::GOQ_MODULES_MAX];
         let mut known = sys::goq_symbol::default();
         accepted(encode(&mut modules, &mut known))?;
-        let width = known.width as usize;
-        modules.truncate(width * width);
+        modules.truncate((known.width * known.width) as usize);
+        Ok(Self::named(modules, known))
+    }
+
+    fn named(modules: Vec<u8>, known: sys::goq_symbol) -> Self {
         let (version, ec_level) = (Version::named(known.version), EcLevel::named(known.level));
-        Ok(QrCode { modules, version, ec_level, width })
+        QrCode { modules, version, ec_level, width: known.width as usize }
     }
 
     pub fn version(&self) -> Version {

@@ -129,17 +129,28 @@ fn read_by<T: Default>(
     colors: &[Color],
     call: impl FnOnce(&[u8], &mut [u8], &mut T) -> u32,
 ) -> Result<(Vec<u8>, T), Unread> {
-    let modules: Vec<u8> = colors.iter().map(|color| u8::from(*color == Color::Dark)).collect();
     let mut data = vec![0; sys::GOQ_BYTES_MAX];
     let mut known = T::default();
-    match call(&modules, &mut data, &mut known) {
+    match call(&modules(colors), &mut data, &mut known) {
         sys::GOQ_OK => Ok((data, known)),
-        sys::GOQ_NO_SUCH_SIDE => Err(Unread::NoSuchSide),
-        sys::GOQ_NO_FORMAT => Err(Unread::NoFormat),
-        sys::GOQ_DAMAGED => Err(Unread::Damaged),
-        sys::GOQ_NOT_SPELLED => Err(Unread::NotSpelled),
-        sys::GOQ_NOT_SHOWN => Err(Unread::NotShown),
-        sys::GOQ_NOT_READ => Err(Unread::NotRead),
-        _ => Err(Unread::OutOfMemory),
+        answer => Err(unread(answer)),
+    }
+}
+
+// Modules as the library takes them.
+pub(crate) fn modules(colors: &[Color]) -> Vec<u8> {
+    colors.iter().map(|color| u8::from(*color == Color::Dark)).collect()
+}
+
+// What an answer other than success means.
+pub(crate) fn unread(answer: u32) -> Unread {
+    match answer {
+        sys::GOQ_NO_SUCH_SIDE => Unread::NoSuchSide,
+        sys::GOQ_NO_FORMAT => Unread::NoFormat,
+        sys::GOQ_DAMAGED => Unread::Damaged,
+        sys::GOQ_NOT_SPELLED => Unread::NotSpelled,
+        sys::GOQ_NOT_SHOWN => Unread::NotShown,
+        sys::GOQ_NOT_READ => Unread::NotRead,
+        _ => Unread::OutOfMemory,
     }
 }

@@ -1,4 +1,5 @@
 use goqlanis::render::{eps, pbm, pic, png, svg, svg_path, unicode, Luma, Rgba};
+use goqlanis::several::{encode_several, join, Several, Unjoined};
 use goqlanis::{read, read_any, read_text, Color, EcLevel, Options, QrCode, QrError, Segment, Unread};
 use goqlanis::{Version, Writing};
 
@@ -61,7 +62,7 @@ fn colours() {
     assert!(has(&file, b"PLTE\x00\x80\xff\xff\xff\xff") && has(&file, b"tRNS\xff\x00"));
     assert!(has(&file, b"pHYs\x00\x00\x2e\x23\x00\x00\x2e\x23\x01"));
     let text = code.render::<svg_path::Color>().dark_color(blue).light_color(none).build();
-    assert!(text.contains("\"#0080ff\"") && text.contains("\"#ffffff00\""));
+    assert!(text.contains("\"#0080ff\"") && text.contains("\"none\""));
     assert!(code.render::<svg::Color>().build().contains("fill=\"#000\""));
 }
 
@@ -78,6 +79,32 @@ fn options() {
     assert_eq!(made(given(Some(Version::Normal(0)), first)).unwrap_err(), QrError::InvalidVersion);
     let text = Options { writing: Writing::Text, ..Options::default() };
     assert_eq!(QrCode::with_options(b"\xff", &text).unwrap_err(), QrError::InvalidCharacter);
+    let masked = |number| made(Options { mask: Some(number), ..Options::default() });
+    assert_eq!(masked(5).unwrap().mask(), 5);
+    assert_eq!(masked(8).unwrap_err(), QrError::InvalidVersion);
+    assert_eq!(masked(u32::MAX).unwrap_err(), QrError::InvalidVersion);
+}
+
+#[test]
+fn several() {
+    let squares = |data: &str, count| -> Vec<_> {
+        let codes = encode_several(data, &Several { count: Some(count), ..Several::default() });
+        codes.unwrap().iter().map(QrCode::to_colors).collect()
+    };
+    let (ab, cd) = (squares("abab", 2), squares("cdcd", 2));
+    assert_eq!(join(&[&ab[1], &ab[0]]), Ok(b"abab".to_vec()));
+    assert_eq!(join(&[&ab[0], &cd[1]]), Err(Unjoined::Parity));
+    assert_eq!(join(&ab[..1]), Err(Unjoined::Missing(1)));
+    assert_eq!(join(&[&ab[0], &ab[0]]), Err(Unjoined::Twice(0)));
+    assert_eq!(join(&[&ab[0], &squares("abc", 3)[0]]), Err(Unjoined::Stranger(1)));
+    assert_eq!(join(&[&ab[0], &squares("abab", 1)[0]]), Err(Unjoined::NotSeveral(1)));
+    let empty = vec![];
+    assert_eq!(join(&[&ab[0], &empty]), Err(Unjoined::Square(1, Unread::NoSuchSide)));
+    let refused = |several| encode_several(b"\xff", &several).unwrap_err();
+    let plain = Several::default();
+    assert_eq!(refused(Several { count: Some(17), ..plain }), QrError::DataTooLong);
+    assert_eq!(refused(Several { is_text: true, ..plain }), QrError::InvalidCharacter);
+    assert_eq!(refused(Several { least_version: Version::Micro(1), ..plain }), QrError::InvalidVersion);
 }
 
 #[test]

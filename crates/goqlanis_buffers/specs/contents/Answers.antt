@@ -34,7 +34,7 @@ IsNumberOf (Wrong place cause) n = n ≡ cause_number cause
 IsNumberOf (NotElement place cause) n = n ≡ element_number cause
 IsNumberOf (NoSymbol refusal) n = refusal_of n ≡ Some refusal
 
--- the place that is told: that of the field that is wrong, and otherwise the one before
+-- the place that C gets: that of the field that is wrong, and otherwise the one before
 abbrev pub place_told : Refusal → ℕ → ℕ
 place_told (NotText place) before = place
 place_told (NoSuchField place) before = place

@@ -121,7 +121,7 @@ IsOtherCause number given room refusal = ⊥
 abbrev pub IsCause : ℕ → List Item → ℕ → Refusal → Type 0
 IsCause number given room refusal = AreRefused number given refusal ⊎ IsOtherCause number given room refusal
 
--- an answer, and the place that is told in place of the one before, are those of a refusal that has its cause
+-- an answer, and the place that replaces the one before, are those of a refusal that has its cause
 pub record IsRefused (number : ℕ) (given : List Item) (room answer before after : ℕ) : Type 0 where
   pub refusal : Refusal
   pub cause : IsCause number given room refusal

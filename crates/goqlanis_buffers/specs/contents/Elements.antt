@@ -8,7 +8,8 @@ use Rattle.qrcode_types.specs.declared.types.QrError.TheVariants.{DataTooLong}
 use Rattle.qrcode.specs.Code.{Code}
 use Rattle.goqlanis_draw.specs.Elements.{IsElementsIn, IsElementsRefused}
 use Rattle.goqlanis_buffers.specs.Options.{IsAsked, IsOptionsCause}
-use Rattle.goqlanis_buffers.specs.Symbols.{ExceedsRoom}
+use Rattle.goqlanis_buffers.specs.Symbols.{IsMasked, IsMaskingCause}
+use Rattle.goqlanis_buffers.specs.declared.answers.Refusal as of_symbols
 use Rattle.goqlanis_buffers.specs.declared.answers.Refusal.TheVariants.{NoRoom}
 use Rattle.goqlanis_buffers.specs.declared.options.Asked.{Asked}
 use Rattle.goqlanis_buffers.specs.declared.options.Options.{Options}
@@ -58,12 +59,26 @@ IsElementsCause parts room SmallBuffer = (bytes : List ℕ) × (IsString parts b
 IsElementsCause parts room OutOfMemory = ⊤
 IsElementsCause parts room refusal = ⊥
 
--- the symbol of elements that options ask for
+-- the symbol of elements that is asked for, under the mask of least penalty
+pub record AreMadeAs (a : Asked) (parts : List Part) (code : Code) : Type 0 where
+  pub texts : AreTexts parts (length parts)
+  pub made : IsElementsIn a.choice a.level (items_of parts) code
+
+-- the symbol of elements that options ask for, under the mask that they ask for
 pub record IsElementsSymbol (o : Options) (parts : List Part) (code : Code) : Type 0 where
   pub asked : Asked
   pub named : IsAsked o asked
-  pub texts : AreTexts parts (length parts)
-  pub made : IsElementsIn asked.choice asked.level (items_of parts) code
+  pub own : Code
+  pub made : AreMadeAs asked parts own
+  pub masked : IsMasked asked.mask own code
+
+-- it is not written under the mask that they ask for, into a buffer of so much room
+pub record AreNotWritten (o : Options) (parts : List Part) (room : ℕ) (refusal : of_symbols.Refusal) : Type 0 where
+  pub asked : Asked
+  pub named : IsAsked o asked
+  pub own : Code
+  pub made : AreMadeAs asked parts own
+  pub cause : IsMaskingCause asked.mask own room refusal
 
 -- no version that options allow holds elements
 pub record HaveNoVersion (o : Options) (parts : List Part) : Type 0 where
@@ -74,22 +89,22 @@ pub record HaveNoVersion (o : Options) (parts : List Part) : Type 0 where
 -- why elements have no symbol in a buffer of so much room
 abbrev pub IsElementsSymbolCause : Options → List Part → ℕ → Refusal → Type 0
 IsElementsSymbolCause o parts room (NoSymbol refusal) =
-    ((refusal ≡ NoRoom) × HaveNoVersion o parts) ⊎ ((bytes : List ℕ) (room : ℕ) → IsOptionsCause o bytes room refusal)
+    ((refusal ≡ NoRoom) × HaveNoVersion o parts) ⊎ (AreNotWritten o parts room refusal
+    ⊎ ((bytes : List ℕ) (room : ℕ) → IsOptionsCause o bytes room refusal))
 IsElementsSymbolCause o parts room (NotText place) = IsFirstNoText parts place
 IsElementsSymbolCause o parts room (NotElement place cause) =
     AreTexts parts (length parts) × (refusal_from 0 (items_of parts) ≡ Some (Refused place cause))
-IsElementsSymbolCause o parts room SmallBuffer = ExceedsRoom (IsElementsSymbol o parts) room
 IsElementsSymbolCause o parts room OutOfMemory = ⊤
 IsElementsSymbolCause o parts room refusal = ⊥
 
--- an answer, and the place that is told in place of the one before, are those of a refusal that has its cause
+-- an answer, and the place that replaces the one before, are those of a refusal that has its cause
 pub record IsElementsSymbolRefused (o : Options) (parts : List Part) (room answer before after : ℕ) : Type 0 where
   pub refusal : Refusal
   pub cause : IsElementsSymbolCause o parts room refusal
   pub answered : IsNumberOf refusal answer
   pub told : after ≡ place_told refusal before
 
--- an answer, and the place that is told in place of the one before, are those of a refusal that has its cause
+-- an answer, and the place that replaces the one before, are those of a refusal that has its cause
 pub record AreElementsRefused (parts : List Part) (room answer before after : ℕ) : Type 0 where
   pub refusal : Refusal
   pub cause : IsElementsCause parts room refusal

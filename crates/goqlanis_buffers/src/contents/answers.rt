@@ -24,7 +24,7 @@ pub enum Refusal {
     Wrong(usize, Cause),
     /// The element of GS1 at this place is refused, for this cause.
     NotElement(usize, ElementCause),
-    /// No symbol is asked for, or none holds the elements.
+    /// No symbol is asked for, or none holds the elements, or it is not written.
     NoSymbol(OfSymbols),
 }
 

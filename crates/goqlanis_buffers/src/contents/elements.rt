@@ -2,13 +2,15 @@
 
 ghost use Rattle.std.specs.Prelude.{◌≡◌, ℕ, length, map, IfOk, IfErr, OnOk, OnErr, OnSome, IfSome, IfNone};
 ghost use Rattle.qrcode_gs1.specs.Items.{item};
-ghost use Rattle.goqlanis_buffers.specs.contents.Elements.{item_of, items_of, IsText, AreTexts, IsFirstNoText, IsString, IsStringIn, IsElementsCause, IsElementsSymbol, IsElementsSymbolCause};
+ghost use Rattle.goqlanis_buffers.specs.contents.Elements.{item_of, items_of, IsText, AreTexts, IsFirstNoText, IsString, IsStringIn, IsElementsCause, IsElementsSymbol, IsElementsSymbolCause, AreMadeAs};
+ghost use Rattle.goqlanis_buffers.specs.Options.{IsAsked};
+ghost use Rattle.goqlanis_buffers.specs.declared.options.Options.{Options};
 ghost use Rattle.goqlanis_buffers.specs.Outputs.{IsWrittenAs};
 
 use crate::answers::Refusal as OfSymbols;
 use crate::contents::answers::Refusal;
-use crate::options::{Options, asked_by};
-use crate::symbols::{Symbol, fill, write_symbol};
+use crate::options::{Asked, Options, asked_by};
+use crate::symbols::{Symbol, fill, write_masked};
 use goqlanis_draw::symbol_of_elements;
 use qrcode::QrCode;
 use qrcode::types::QrError;
@@ -49,8 +51,7 @@ pub fn write_elements(alloc: Global, parts: &[Part<'_>], out: &mut [u8]) -> Resu
 /// Writes the symbol of elements that options ask for at the beginning of a buffer, and answers what
 /// it is beside its modules. Manner and boost are not looked at.
 ///
-/// An error is `NoSymbol`, `NotText`, `NotElement`, `SmallBuffer` or `OutOfMemory`. Then the buffer is
-/// as it was.
+/// An error is `NoSymbol`, `NotText`, `NotElement` or `OutOfMemory`. Then the buffer is as it was.
 pub fn encode_elements(
     alloc: Global,
     parts: &[Part<'_>],
@@ -63,26 +64,26 @@ pub fn encode_elements(
     ensures causes { IfErr result
         (IsElementsSymbolCause options.now parts.now (length modules.old)) }
 {
-    let code = match symbol_of(alloc, parts, options) {
-        Ok(code) => code,
-        Err(refusal) => return Err(refusal),
-    };
-    match write_symbol(code, modules) {
-        Ok(symbol) => Ok(symbol),
-        Err(_) => Err(Refusal::SmallBuffer),
-    }
-}
-
-// The symbol of elements that options ask for.
-fn symbol_of(alloc: Global, parts: &[Part<'_>], options: &Options) -> Result<QrCode, Refusal>
-    ensures made { IfOk result (IsElementsSymbol options.now parts.now) }
-    ensures causes { (room : ℕ)
-        → IfErr result (IsElementsSymbolCause options.now parts.now room) }
-{
     let asked = match asked_by(options) {
         Ok(asked) => asked,
         Err(refusal) => return Err(Refusal::NoSymbol(refusal)),
     };
+    let code = match symbol_of(alloc, parts, asked) {
+        Ok(code) => code,
+        Err(refusal) => return Err(refusal),
+    };
+    match write_masked(alloc, &code, asked.mask, modules) {
+        Ok(symbol) => Ok(symbol),
+        Err(refusal) => Err(Refusal::NoSymbol(refusal)),
+    }
+}
+
+// The symbol of elements that is asked for, under the mask of least penalty.
+fn symbol_of(alloc: Global, parts: &[Part<'_>], asked: Asked) -> Result<QrCode, Refusal>
+    ensures made { IfOk result (AreMadeAs asked parts.now) }
+    ensures causes { (options : Options) (room : ℕ) → IsAsked options asked
+        → IfErr result (IsElementsSymbolCause options parts.now room) }
+{
     let elements = match elements_of(alloc, parts) {
         Ok(elements) => elements,
         Err(Some(place)) => return Err(Refusal::NotText(place)),

@@ -1,0 +1,135 @@
+//! Several symbols between which data is parted (structured append), and their data joined again.
+use crate::reading::unread;
+use crate::{accepted, Color, EcLevel, QrCode, QrError, QrResult, Unread, Version};
+use goqlanis_sys as sys;
+use std::fmt;
+
+/// What is asked of symbols between which data is parted.
+#[derive(Clone, Copy, Debug)]
+pub struct Several {
+    pub ec_level: EcLevel,
+    /// Whether the data is a text in UTF-8, of which no character is divided.
+    pub is_text: bool,
+    /// The versions of Normal that may be taken, from one to another.
+    pub least_version: Version,
+    pub greatest_version: Version,
+    /// How many symbols, up to 16, or none for as few as there can be.
+    pub count: Option<u32>,
+}
+
+impl Default for Several {
+    fn default() -> Self {
+        Several {
+            ec_level: EcLevel::M,
+            is_text: false,
+            least_version: Version::Normal(1),
+            greatest_version: Version::Normal(40),
+            count: None,
+        }
+    }
+}
+
+impl Several {
+    fn given(&self) -> sys::goq_several {
+        sys::goq_several {
+            size: std::mem::size_of::<sys::goq_several>() as u32,
+            level: self.ec_level as u32,
+            manner: if self.is_text { sys::GOQ_AS_TEXT } else { sys::GOQ_AS_BYTES },
+            least_version: self.least_version.number(),
+            greatest_version: self.greatest_version.number(),
+            count: self.count.unwrap_or(0),
+        }
+    }
+}
+
+/// The symbols between which data is parted, in order; a single one has no header. More than 16 are
+/// refused as `DataTooLong`.
+///
+/// ```
+/// use goqlanis::several::{encode_several, join, Several};
+///
+/// let data = "All that is gold does not glitter";
+/// let codes = encode_several(data, &Several { count: Some(3), ..Several::default() })?;
+/// let squares: Vec<_> = codes.iter().rev().map(|code| code.to_colors()).collect();
+/// assert_eq!(join(&squares)?, data.as_bytes());
+/// # Ok::<(), Box<dyn std::error::Error>>(())
+/// ```
+pub fn encode_several<D: AsRef<[u8]>>(data: D, several: &Several) -> QrResult<Vec<QrCode>> {
+    let (data, given) = (data.as_ref(), several.given());
+    let mut modules = vec![0; sys::GOQ_SEVERAL_MAX * sys::GOQ_MODULES_MAX];
+    let (mut known, mut count) = (sys::goq_symbol::default(), 0);
+    let answer = unsafe {
+        let (out, room) = (modules.as_mut_ptr(), modules.len());
+        sys::goq_encode_several(data.as_ptr(), data.len(), &given, out, room, &mut known, &mut count)
+    };
+    if answer == sys::GOQ_NO_SUCH_NUMBER {
+        return Err(QrError::DataTooLong);
+    }
+    accepted(answer)?;
+    let square = (known.width * known.width) as usize;
+    let codes = modules.chunks(square).take(count);
+    Ok(codes.map(|modules| QrCode::named(modules.to_vec(), known)).collect())
+}
+
+/// Why squares are not joined. Places are counted from 0.
+#[derive(Clone, Copy, Debug, PartialEq, Eq)]
+pub enum Unjoined {
+    /// The square at this place is not read.
+    Square(usize, Unread),
+    /// The square at this place has no header of one of several symbols in front.
+    NotSeveral(usize),
+    /// The square at this place is a part of other data than the first.
+    Stranger(usize),
+    /// No square has the part at this place.
+    Missing(usize),
+    /// More than one square has the part at this place.
+    Twice(usize),
+    /// The parts are not those of the data that their headers name.
+    Parity,
+    /// Memory was refused.
+    OutOfMemory,
+}
+
+impl fmt::Display for Unjoined {
+    fn fmt(&self, out: &mut fmt::Formatter<'_>) -> fmt::Result {
+        match self {
+            Unjoined::Square(place, why) => write!(out, "square {place}: {why}"),
+            Unjoined::NotSeveral(place) => write!(out, "square {place} is none of several symbols"),
+            Unjoined::Stranger(place) => write!(out, "square {place} is a part of other data"),
+            Unjoined::Missing(place) => write!(out, "part {place} is missing"),
+            Unjoined::Twice(place) => write!(out, "part {place} is there twice"),
+            Unjoined::Parity => out.write_str("the parts are not those of the data that they name"),
+            Unjoined::OutOfMemory => out.write_str("out of memory"),
+        }
+    }
+}
+
+impl std::error::Error for Unjoined {}
+
+/// The data of several symbols, whose squares come in any order, each as `read` takes it.
+pub fn join<S: AsRef<[Color]>>(squares: &[S]) -> Result<Vec<u8>, Unjoined> {
+    let modules: Vec<_> = squares.iter().map(|square| crate::reading::modules(square.as_ref())).collect();
+    let given: Vec<_> = modules
+        .iter()
+        .map(|square| sys::goq_square { modules: square.as_ptr(), length: square.len() })
+        .collect();
+    let mut data = vec![0; sys::GOQ_SEVERAL_MAX * sys::GOQ_BYTES_MAX];
+    let (mut count, mut place) = (0, 0);
+    let answer = unsafe {
+        let (out, room) = (data.as_mut_ptr(), data.len());
+        sys::goq_join(given.as_ptr(), given.len(), out, room, &mut count, &mut place)
+    };
+    match answer {
+        sys::GOQ_OK => {
+            data.truncate(count);
+            Ok(data)
+        }
+        sys::GOQ_NOT_SEVERAL => Err(Unjoined::NotSeveral(place)),
+        sys::GOQ_STRANGER => Err(Unjoined::Stranger(place)),
+        sys::GOQ_MISSING => Err(Unjoined::Missing(place)),
+        sys::GOQ_TWICE => Err(Unjoined::Twice(place)),
+        sys::GOQ_PARITY => Err(Unjoined::Parity),
+        sys::GOQ_OUT_OF_MEMORY => Err(Unjoined::OutOfMemory),
+        answer => Err(Unjoined::Square(place, unread(answer))),
+    }
+}

@@ -1,0 +1,24 @@
+-- Squares that are read one behind the other.
+use Rattle.std.proofs.Common.{ℕ, ◌+◌, ◌<◌, List, [], ◌∷◌, ◌++◌, length, map, take, get_or, sym, subst}
+use Rattle.std.specs.List.{AllZip}
+use Rattle.std.proofs.lemmas.List.{take_more, map-append}
+use Rattle.qrcode_render.specs.Shades.{colors_of}
+use Rattle.goqlanis_buffers.specs.Joining.{found_part, ArePartsOf, IsPartOf}
+use Rattle.goqlanis_buffers.specs.declared.joining.Found.{Found}
+use Rattle.goqlanis_buffers.specs.declared.joining.Square.{Square}
+
+-- a relation of two lists, place by place, with one item more in each
+zip_more : {A B : Type 0} (R : A → B → Type 0) (xs : List A) (ys : List B) (x : A) (y : B) → AllZip R xs ys → R x y → AllZip R (xs ++ x ∷ []) (ys ++ y ∷ [])
+zip_more R [] [] x y all here = (here, tt)
+zip_more R [] (b ∷ ys) x y all here = absurd all
+zip_more R (a ∷ xs) [] x y all here = absurd all
+zip_more R (a ∷ xs) (b ∷ ys) x y all here = (all.0, zip_more R xs ys x y all.1 here)
+
+-- one square more is read
+pub parts_more : (squares : List Square) (found : List Found) (i : ℕ) (d : Square) (f : Found) → i < length squares
+    → ArePartsOf (take i squares) (map found_part found) → IsPartOf (colors_of (get_or squares i d).modules.now) (found_part f)
+    → ArePartsOf (take (i + 1) squares) (map found_part (found ++ f ∷ []))
+parts_more squares found i d f inside before here =
+    subst (λ s. ArePartsOf s (map found_part (found ++ f ∷ []))) (sym (take_more squares i d inside))
+    (subst (ArePartsOf (take i squares ++ get_or squares i d ∷ [])) (sym (map-append found_part found (f ∷ [])))
+    (zip_more (λ s p. IsPartOf (colors_of s.modules.now) p) (take i squares) (map found_part found) (get_or squares i d) (found_part f) before here))

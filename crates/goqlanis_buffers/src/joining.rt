@@ -1,0 +1,171 @@
+//! The data of several symbols, read from squares.
+
+ghost use Rattle.std.specs.Prelude.{◌≡◌, ◌≢◌, ℕ, Some, length, map, IfOk, IfErr, IfSome, OnErr};
+ghost use Rattle.qrcode_render.specs.Shades.{colors_of};
+ghost use Rattle.goqlanis_buffers.specs.Answers.{refusal_of};
+ghost use Rattle.goqlanis_buffers.specs.Joining.{part_of, found_part, place_told, refusal_told, ArePartsOf, IsNoPart, IsPartOf, IsUnjoined, IsJoinedInto};
+
+use crate::answers::Refusal;
+use crate::symbols::{colors_of, fill};
+use qrcode_reader::spell::{Header, Part as Piece};
+use qrcode_reader::{Unread, read_parts};
+use qrcode_several::errors::JoinError;
+use qrcode_several::{Part, join};
+use std::alloc::{AllocError, Global};
+
+/// A square of modules, which are bytes in row order, dark where they are not zero.
+#[repr(C)]
+#[derive(Clone, Copy)]
+pub struct Square<'a> {
+    pub modules: &'a [u8],
+}
+
+/// What a square is read as.
+#[derive(Drop)]
+pub struct Found {
+    pub place: u8,
+    pub last: u8,
+    pub parity: u8,
+    pub bytes: Vec<u8>,
+}
+
+/// Why squares are not joined.
+#[derive(Clone, Copy, Drop)]
+pub enum Unjoined {
+    /// The square at this place is the first that is no part.
+    Square(usize, Refusal),
+    /// The parts are not all those of the same data.
+    Parts(JoinError),
+    /// The buffer is too small for the data.
+    SmallBuffer,
+    /// Memory was refused.
+    OutOfMemory,
+}
+
+impl Unjoined {
+    /// The number that C sees.
+    pub fn number(self) -> u32
+        ensures value { refusal_of result ≡ Some (refusal_told self) }
+        ensures not_made { result ≢ 0 }
+    {
+        let refusal = match self {
+            Unjoined::Square(_, refusal) => refusal,
+            Unjoined::Parts(JoinError::Stranger(_)) => Refusal::Stranger,
+            Unjoined::Parts(JoinError::Missing(_)) => Refusal::Missing,
+            Unjoined::Parts(JoinError::Twice(_)) => Refusal::Twice,
+            Unjoined::Parts(JoinError::Parity) => Refusal::Parity,
+            Unjoined::SmallBuffer => Refusal::SmallBuffer,
+            Unjoined::Parts(JoinError::OutOfMemory) | Unjoined::OutOfMemory => Refusal::OutOfMemory,
+        };
+        refusal.number()
+    }
+
+    /// The place of the square or of the part, or else the one before.
+    pub fn place(self, before: usize) -> usize
+        ensures value { result ≡ place_told self before }
+    {
+        match self {
+            Unjoined::Square(place, _) => place,
+            Unjoined::Parts(
+                JoinError::Stranger(place) | JoinError::Missing(place) | JoinError::Twice(place),
+            ) => place,
+            _ => before,
+        }
+    }
+}
+
+/// Writes the data of several symbols, whose squares come in any order, at the beginning of a buffer,
+/// and answers its length. After an error the buffer is as it was.
+pub fn join_into(alloc: Global, squares: &[Square<'_>], out: &mut [u8]) -> Result<usize, Unjoined>
+    ensures made { IfOk result (IsJoinedInto squares.now out.old out.new) }
+    ensures unchanged { OnErr result (out.new ≡ out.old) }
+    ensures causes { IfErr result (IsUnjoined squares.now (length out.old)) }
+{
+    let found = match found_in(alloc, squares) {
+        Ok(found) => found,
+        Err(why) => return Err(why),
+    };
+    let Ok(parts) = lent(alloc, &found) else {
+        return Err(Unjoined::OutOfMemory);
+    };
+    let bytes = match join(alloc, &parts) {
+        Ok(bytes) => bytes,
+        Err(error) => return Err(Unjoined::Parts(error)),
+    };
+    if out.len() < bytes.len() {
+        return Err(Unjoined::SmallBuffer);
+    }
+    fill(out, &bytes);
+    Ok(bytes.len())
+}
+
+// What squares are read as.
+fn found_in(alloc: Global, squares: &[Square<'_>]) -> Result<Vec<Found>, Unjoined>
+    ensures read { IfOk result (λ found. ArePartsOf squares.now (map found_part found.items)) }
+    ensures causes { (room : ℕ) → IfErr result (IsUnjoined squares.now room) }
+{
+    let mut all = Vec::new(alloc);
+    for place in 0..squares.len() {
+        let found = match found_of(alloc, squares[place].modules) {
+            Ok(found) => found,
+            Err(None) => return Err(Unjoined::OutOfMemory),
+            Err(Some(refusal)) => return Err(Unjoined::Square(place, refusal)),
+        };
+        if all.push(found).is_err() {
+            return Err(Unjoined::OutOfMemory);
+        }
+    }
+    Ok(all)
+}
+
+// What a square is read as, or why it is no part; `None` where memory was refused.
+fn found_of(alloc: Global, modules: &[u8]) -> Result<Found, Option<Refusal>>
+    ensures read { IfOk result (λ found. IsPartOf (colors_of modules.now) (found_part found)) }
+    ensures causes { IfErr result (λ refusal.
+        IfSome refusal (IsNoPart (colors_of modules.now))) }
+{
+    let Ok(colors) = colors_of(alloc, modules) else {
+        return Err(None);
+    };
+    let parts = match read_parts(alloc, &colors) {
+        Ok(read) => read.parts,
+        Err(Unread::NoSuchSide) => return Err(Some(Refusal::NoSuchSide)),
+        Err(Unread::NoFormat) => return Err(Some(Refusal::NoFormat)),
+        Err(Unread::Damaged(_)) => return Err(Some(Refusal::Damaged)),
+        Err(Unread::NotSpelled) => return Err(Some(Refusal::NotSpelled)),
+        Err(Unread::OutOfMemory) => return Err(None),
+    };
+    match parts.parts.first() {
+        Some(
+            Piece::Front(
+                Header::StructuredAppend {
+                    place,
+                    last,
+                    parity,
+                },
+            ),
+        ) => Ok(Found {
+            place: *place,
+            last: *last,
+            parity: *parity,
+            bytes: parts.bytes,
+        }),
+        _ => Err(Some(Refusal::NotSeveral)),
+    }
+}
+
+// The same, whose bytes are lent.
+fn lent<'a>(alloc: Global, found: &'a [Found]) -> Result<Vec<Part<'a>>, AllocError>
+    ensures same { IfOk result (λ parts. map part_of parts.items ≡ map found_part found.now) }
+{
+    let mut parts = Vec::new(alloc);
+    for i in 0..found.len() {
+        parts.push(Part {
+            place: found[i].place,
+            last: found[i].last,
+            parity: found[i].parity,
+            bytes: &found[i].bytes,
+        })?;
+    }
+    Ok(parts)
+}
