@@ -55,12 +55,12 @@ from .encoding import (encode, encode_gs1, encode_segments, encode_sequence, enc
 from .errors import *  # noqa: F403 - its __all__ alone
 from .reading import AnyReading as AnyReading
 from .reading import Reading as Reading
-from .reading import read, read_any, read_text
+from .reading import join, read, read_any, read_text
 from .symbol import Symbol
 
 __version__ = "1.0.0"
 __all__ = ["contents", "Symbol", "encode", "encode_sequence", "encode_segments", "encode_gs1",
-           "encode_text", "read", "read_any", "read_text", "least_version",
+           "encode_text", "read", "read_any", "read_text", "join", "least_version",
            "least_version_of_segments", "is_functional"]
 
 # Names that other packages have.

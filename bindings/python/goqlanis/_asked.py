@@ -27,16 +27,18 @@ def _made(call: Any, *given: Any, behind: Sequence[Any] = (), most: int = 1) -> 
 
 
 class Data(NamedTuple):
-    """The symbol of data: of a version, or of the least, which is 0."""
+    """The symbol of data: of a version, or of the least, which is 0; under the mask of least
+    penalty, which is 0, or under another, which is its number and 1."""
     data: bytes
     level: int
     manner: int
     version: int
     least_version: int
     boost: int
+    mask: int
 
     def options(self) -> Options:
-        return Options(ctypes.sizeof(Options), *self[1:], 0)
+        return Options(ctypes.sizeof(Options), *self[1:])
 
     def answer(self) -> Answer:
         options = ctypes.byref(self.options())
@@ -44,7 +46,7 @@ class Data(NamedTuple):
 
     def of_any_version(self) -> "Data":
         least = MICRO_1 if self.version > 40 else 1
-        return self._replace(version=0, least_version=least, boost=0)
+        return self._replace(version=0, least_version=least, boost=0, mask=0)
 
 
 class Parts(NamedTuple):
@@ -93,12 +95,13 @@ class Elements(NamedTuple):
     level: int
     version: int
     least_version: int
+    mask: int
 
     def answer(self) -> Answer:
-        _, level, version, least = self
-        options = Data(b"", level, AS_BYTES, version, least, 0).options()
+        _, level, version, least, mask = self
+        options = Data(b"", level, AS_BYTES, version, least, 0, mask).options()
         given = self.elements, len(self.elements), ctypes.byref(options)
         return _made(library.goq_encode_gs1, *given, behind=[ctypes.c_size_t()])
 
     def of_any_version(self) -> "Elements":
-        return self._replace(version=0, least_version=1)
+        return self._replace(version=0, least_version=1, mask=0)

@@ -51,6 +51,11 @@ class AnyRead(ctypes.Structure):
     _fields_ = [("reading", Read), ("position", _number)]
 
 
+class Square(ctypes.Structure):
+    """goq_square."""
+    _fields_ = [("modules", _data), ("length", _size)]
+
+
 class Field(ctypes.Structure):
     """goq_field."""
     _fields_ = [("number", ctypes.c_int64), ("bytes", _data), ("length", _size)]
@@ -78,6 +83,7 @@ _CALLS: Dict[str, List[Any]] = {
     "goq_read_any": [*_IN, *_OUT, _to(AnyRead)],
     "goq_read_text": [*_IN, *_OUT, _to(Read)],
     "goq_mask": [*_IN, _to(_number)],
+    "goq_join": [_to(Square), _size, *_OUT, _COUNT, _COUNT],
     "goq_content": [_number, _to(Field), _size, *_OUT, _COUNT, _COUNT],
     "goq_gs1": [_to(Element), _size, *_OUT, _COUNT, _COUNT],
 }

@@ -5,7 +5,7 @@ from ._asked import AS_MARKED_TEXT, Data, Parts, Segments
 from ._checks import LEVELS, version_name
 from .errors import Error, refusal
 
-LEVEL_NOT_IN_VERSION, TOO_LONG, NO_MODE, NO_ROOM, NOT_IN_MODE = 3, 4, 5, 6, 14
+LEVEL_NOT_IN_VERSION, TOO_LONG, NO_MODE, NO_ROOM, NOT_IN_MODE, NO_SUCH_MASK = 3, 4, 5, 6, 14, 22
 LIMIT = 1_048_576
 MODES = ("numeric writes digits", "alphanumeric writes digits, capitals, space and $%*+-./:", "",
          "kanji writes pairs of Shift JIS, 8140 to 9ffc and e040 to ebbf,")
@@ -13,7 +13,8 @@ MODES = ("numeric writes digits", "alphanumeric writes digits, capitals, space a
 
 def of(asked: Any, answer: int, said: str) -> Error:
     """The refusal of a symbol of data that is called so."""
-    texts = {LEVEL_NOT_IN_VERSION: _no_level, NO_MODE: _no_mode, NOT_IN_MODE: _not_in_mode}
+    texts = {LEVEL_NOT_IN_VERSION: _no_level, NO_MODE: _no_mode, NOT_IN_MODE: _not_in_mode,
+             NO_SUCH_MASK: _no_mask}
     is_refused = answer in (LEVEL_NOT_IN_VERSION, NO_MODE, NO_ROOM)
     if is_refused and isinstance(asked, Data) and asked.version and len(asked.data) > LIMIT:
         return refusal(TOO_LONG)
@@ -47,6 +48,12 @@ def _not_in_mode(asked: Segments) -> str:
         if asked._replace(rows=[row], version=0).answer()[0] == NOT_IN_MODE:
             return f"segment {at + 1}: {MODES[row.kind]} alone"
     return ""
+
+
+def _no_mask(asked: Any) -> str:
+    _, symbols = asked._replace(mask=0).answer()
+    name = symbols[0].version if symbols else version_name(asked.version)
+    return f"version {name} has no mask {asked.mask - 1}: take one of 0 to 3"
 
 
 def _no_room(asked: Any, said: str) -> str:
@@ -86,7 +93,7 @@ def _helps(asked: Any) -> str:
 
 def _most(asked: Data) -> int:
     """The most bytes, of any kind, that the version holds, or the greatest one."""
-    at = asked._replace(version=asked.version or 40, boost=0)
+    at = asked._replace(version=asked.version or 40, boost=0, mask=0)
     most, beyond = 0, 2954
     while beyond - most > 1:
         middle = (most + beyond) // 2

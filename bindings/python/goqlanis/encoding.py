@@ -29,13 +29,14 @@ def _one(asked: Any, said: str) -> Symbol:
 
 def encode(data: Data, level: str = "M", version: Optional[Version] = None, *,
            least_version: Optional[Version] = None, micro: bool = False, boost: bool = False,
-           marked: bool = False, eci: Optional[int] = None) -> Symbol:
+           mask: Optional[int] = None, marked: bool = False, eci: Optional[int] = None) -> Symbol:
     """The symbol of a text or of bytes at a level ("L", "M", "Q", "H"), of the least version of
     Normal QR that holds it, or of a `version`.
 
     - `micro`: takes Micro QR, where it holds the data;
     - `least_version`: takes no lesser version;
     - `boost`: takes the highest level, from `level` on, for which the least version has room;
+    - `mask`: takes the mask of this number, 0 to 7, of Micro 0 to 3, and not that of least penalty;
     - `marked`: writes in front that the text is UTF-8, for readers that guess;
     - `eci`: writes in front the number of the character set of the bytes, as 7 for ISO 8859-2.
 
@@ -43,8 +44,8 @@ def encode(data: Data, level: str = "M", version: Optional[Version] = None, *,
     <goqlanis.Symbol 2-M>
     >>> encode(bytes([0, 255]), "H", version=7)
     <goqlanis.Symbol 7-H>
-    >>> encode("HELLO", micro=True), encode("HELLO", boost=True)
-    (<goqlanis.Symbol M2-M>, <goqlanis.Symbol 1-H>)
+    >>> encode("HELLO", micro=True), encode("HELLO", boost=True), encode("HELLO", mask=3).mask
+    (<goqlanis.Symbol M2-M>, <goqlanis.Symbol 1-H>, 3)
     >>> encode("Größe: 5 m²").version, encode("Größe: 5 m²", marked=True).version
     ('1', '2')
     >>> encode("Živjo".encode("iso8859_2"), eci=7).version
@@ -63,10 +64,11 @@ level M holds them
     manner, versions = _manner(is_text, marked, eci), _versions(version, least_version, micro)
     if _checks.flag("boost", boost) and version is not None:
         raise ValueError("version and boost: take least_version in place of version")
+    number = _mask(mask)
     if eci is None or is_text:
-        return _one(_asked.Data(octets, _checks.level(level), manner, *versions, boost),
+        return _one(_asked.Data(octets, _checks.level(level), manner, *versions, boost, number),
                     f"{len(octets):,} bytes")
-    if least_version is not None or micro or boost:
+    if least_version is not None or micro or boost or number:
         raise ValueError("bytes behind eci: give no more than level and version beside it")
     return encode_segments([("eci", eci), ("byte", octets)], level, version)
 
@@ -93,6 +95,10 @@ def _versions(version: Optional[Version], least: Optional[Version], micro: bool)
     return asked, MICRO_1 if micro else first
 
 
+def _mask(mask: Optional[int]) -> int:
+    return 0 if mask is None else 1 + _checks.whole("mask", mask, 0, 7)
+
+
 def encode_text(text: str, level: str = "M", marked: bool = False) -> Symbol:
     """What `encode` makes of a str; bytes are refused.
 
@@ -107,10 +113,15 @@ def encode_sequence(data: Data, level: str = "M", version: Optional[Version] = N
                     greatest_version: Optional[Version] = None) -> List[Symbol]:
     """The symbols between which data is parted (structured append), at most 16: as few as there can
     be, and these of the least version; or `count` of them. They are of a `version` of Normal QR, or
-    of one from `least_version` to `greatest_version`. A single symbol has no header.
+    of one from `least_version` to `greatest_version`. A single symbol has no header. `join` reads
+    them back.
 
-    >>> encode_sequence("All that is gold does not glitter", "L", count=3)
+    >>> from goqlanis import join
+    >>> symbols = encode_sequence("All that is gold does not glitter", "L", count=3)
+    >>> symbols
     [<goqlanis.Symbol 1-L>, <goqlanis.Symbol 1-L>, <goqlanis.Symbol 1-L>]
+    >>> join(symbols)
+    b'All that is gold does not glitter'
     """
     octets, is_text = _checks.data(data)
     if version is not None and (least_version is not None or greatest_version is not None):
@@ -178,7 +189,7 @@ def _segment(name: str, given: Any) -> Segment:
 
 
 def encode_gs1(elements: Elements, level: str = "M", version: Optional[Version] = None, *,
-               least_version: Optional[Version] = None) -> Symbol:
+               least_version: Optional[Version] = None, mask: Optional[int] = None) -> Symbol:
     """The smallest symbol of elements of GS1, as `contents.gs1` takes them.
 
     >>> encode_gs1([("01", "03453120000011"), ("17", "191125"), ("10", "ABCD1234")]).version
@@ -190,7 +201,8 @@ def encode_gs1(elements: Elements, level: str = "M", version: Optional[Version] 
     """
     given, versions = elements_of(elements), _versions(version, least_version, False)
     string_of(given)
-    return _one(_asked.Elements(given, _checks.level(level), *versions), "the elements")
+    return _one(_asked.Elements(given, _checks.level(level), *versions, _mask(mask)),
+                "the elements")
 
 
 def least_version(data: Data, level: str = "M") -> str:

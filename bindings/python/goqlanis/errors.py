@@ -2,8 +2,9 @@
 from typing import Dict, Tuple, Type
 
 __all__ = ["Error", "NoSuchLevel", "NoSuchVersion", "LevelNotInVersion", "TooLong", "NoMode",
-           "NoRoom", "OutOfMemory", "NoSuchSize", "NotInFormat", "NotInMode",
-           "NoSuchNumber", "Unread", "NoSuchSide", "NoFormat", "Damaged", "NotSpelled", "NotShown"]
+           "NoRoom", "NoSuchMask", "OutOfMemory", "NoSuchSize", "NotInFormat", "NotInMode",
+           "NoSuchNumber", "Unread", "NoSuchSide", "NoFormat", "Damaged", "NotSpelled", "NotShown",
+           "NotJoined"]
 
 
 class Error(Exception):
@@ -32,6 +33,10 @@ class NoMode(Error, ValueError):
 
 class NoRoom(Error, ValueError):
     """No symbol of the asked kind holds the data."""
+
+
+class NoSuchMask(Error, ValueError):
+    """The version has no mask of the number."""
 
 
 class OutOfMemory(Error, MemoryError):
@@ -78,6 +83,10 @@ class NotShown(Unread):
     """The data bits are not a text that readers show."""
 
 
+class NotJoined(Error, ValueError):
+    """Squares are not all the parts of one sequence."""
+
+
 _CAUSES: Dict[int, Tuple[Type[Error], str]] = {
     1: (NoSuchLevel, "the levels are L, M, Q and H"),
     2: (NoSuchVersion, "the versions are 1 to 40 and M1 to M4"),
@@ -92,8 +101,9 @@ _CAUSES: Dict[int, Tuple[Type[Error], str]] = {
     16: (NoSuchSide, "no version has so many modules: give them without a quiet zone"),
     17: (NoFormat, "no format word is near each of its copies; read_any tries all positions"),
     18: (Damaged, "a block has too many wrong codewords"),
-    19: (NotSpelled, "the bits are not segments and an end, as behind a header; "
-         "read_text reads a text that says that it is UTF-8"),
+    19: (NotSpelled, "the bits are not segments and an end, as behind a header; join reads "
+         "several symbols, read_text a text that says that it is UTF-8"),
+    22: (NoSuchMask, "the masks are 0 to 7, in Micro 0 to 3"),
     23: (NotInFormat, "PNG and SVG have colours, EPS opaque ones, and PNG alone has dpi"),
     24: (NotShown, "the bits are not a text that readers show; read gives the bytes"),
     30: (Unread, "the square is read in none of the sixteen positions, or has a header: "
@@ -105,14 +115,14 @@ for _name in __all__:
     globals()[_name].__module__ = "goqlanis"
 
 
-def refusal(answer: int, text: str = "") -> Error:
+def refusal(answer: int, text: str = "", of: str = "") -> Error:
     """The exception that an answer of the library stands for, with a text of its own or the usual
-    one."""
+    one, behind what it is of."""
     kind, usual = _CAUSES.get(answer, (Error, f"answer {answer} of the library"))
-    return kind(text or usual)
+    return kind(of + (text or usual))
 
 
-def refuse(answer: int) -> None:
+def refuse(answer: int, of: str = "") -> None:
     """Raises what an answer of the library stands for, unless that is success."""
     if answer:
-        raise refusal(answer)
+        raise refusal(answer, of=of)

@@ -5,8 +5,8 @@ from typing import Any, Iterable, NamedTuple, Sequence, Union
 
 from . import _checks, errors
 from ._checks import LEVELS, version_name
-from ._library import MOST_BYTES, AnyRead, Read, library
-from .errors import NoSuchSide, refuse
+from ._library import MOST_BYTES, MOST_SYMBOLS, AnyRead, Read, Square, library
+from .errors import NoSuchSide, NotJoined, refuse
 from .symbol import Symbol
 
 HEADED = ("a header is in front, of several symbols, GS1 or another character set than UTF-8: save "
@@ -16,6 +16,10 @@ OTHERS = {19: library.goq_read_text, 24: library.goq_read}
 Modules = Union[Symbol, Sequence[Sequence[bool]]]
 POSITIONS = ("upright", "turned left", "upside down", "turned right", "mirrored", "flipped",
              "transposed", "antitransposed")
+JOINS = {25: "square {place} has no header of one of several symbols",
+         26: "square {place} is a part of other data than the first",
+         27: "part {place} is missing", 28: "part {place} is there twice",
+         29: "the parts are not those of the data that their headers name"}
 
 
 class Reading(NamedTuple):
@@ -89,8 +93,31 @@ def read_text(square: Modules) -> str:
     return bytes(out[:found.length]).decode()
 
 
-def _bytes() -> Any:
-    return ctypes.create_string_buffer(MOST_BYTES)
+def join(squares: Iterable[Modules]) -> bytes:
+    """The data of several symbols, which `encode_sequence` made, in any order.
+
+    >>> from goqlanis import encode_sequence
+    >>> symbols = encode_sequence(b"01234567", count=2)
+    >>> join(symbols[::-1])
+    b'01234567'
+    >>> join(symbols[:1])
+    Traceback (most recent call last):
+        ...
+    goqlanis.NotJoined: part 2 is missing
+    """
+    given = [_modules_of(it) for it in _checks.listed("squares", squares, "symbols or squares")]
+    rows = (Square * len(given))(*(Square(it, len(it)) for it in given))
+    out, count, place = _bytes(MOST_SYMBOLS), ctypes.c_size_t(), ctypes.c_size_t()
+    answer = library.goq_join(rows, len(rows), out, len(out), ctypes.byref(count),
+                              ctypes.byref(place))
+    if answer in JOINS:
+        raise NotJoined(JOINS[answer].format(place=place.value + 1))
+    refuse(answer, f"square {place.value + 1}: ")
+    return bytes(out[:count.value])
+
+
+def _bytes(count: int = 1) -> Any:
+    return ctypes.create_string_buffer(count * MOST_BYTES)
 
 
 def _refuse(answer: int, modules: bytes) -> None:
