@@ -101,8 +101,8 @@ _CAUSES: Dict[int, Tuple[Type[Error], str]] = {
     16: (NoSuchSide, "no version has so many modules: give them without a quiet zone"),
     17: (NoFormat, "no format word is near each of its copies; read_any tries all positions"),
     18: (Damaged, "a block has too many wrong codewords"),
-    19: (NotSpelled, "the bits are not segments and an end, as behind a header; join reads "
-         "several symbols, read_text a text that says that it is UTF-8"),
+    19: (NotSpelled, "the bits are not segments and an end, as behind a header; read_text "
+         "reads a text that says that it is UTF-8"),
     22: (NoSuchMask, "the masks are 0 to 7, in Micro 0 to 3"),
     23: (NotInFormat, "PNG and SVG have colours, EPS opaque ones, and PNG alone has dpi"),
     24: (NotShown, "the bits are not a text that readers show; read gives the bytes"),

@@ -9,8 +9,8 @@ from ._library import MOST_BYTES, MOST_SYMBOLS, AnyRead, Read, Square, library
 from .errors import NoSuchSide, NotJoined, refuse
 from .symbol import Symbol
 
-HEADED = ("a header is in front, of several symbols, GS1 or another character set than UTF-8: save "
-          "a.pbm, and the program's `goqlanis read a.pbm` reads it; `goqlanis join` reads several")
+HEADED = ("a header is in front, of several symbols, GS1 or another character set than UTF-8: join "
+          "reads several; save a.pbm, and the program's `goqlanis read a.pbm` reads the others")
 # Answers of calls for which another call reads the square, unless there is such a header.
 OTHERS = {19: library.goq_read_text, 24: library.goq_read}
 Modules = Union[Symbol, Sequence[Sequence[bool]]]
