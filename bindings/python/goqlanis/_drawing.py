@@ -59,8 +59,7 @@ def drawn(modules: bytes, width: int, usual_zone: int, name: str, look: Look) ->
     refuse(library.goq_draw_with(*given, place, len(out), ctypes.byref(count)))
     if name == "pgm":
         return b"P5\n%d %d\n255\n" % (side, side) + out
-    # Renderers that know no opacity in a colour know this one.
-    return bytes(out).replace(b'"#00000000"', b'"none"') if name == "svg" else bytes(out)
+    return bytes(out)
 
 
 def _room(count: int) -> bytearray:

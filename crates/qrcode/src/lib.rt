@@ -207,6 +207,8 @@ impl QrCode {
         requires mask_exists { IsTrue (exists_in self.now.version mask) }
         ensures symbol { IfOk result (λ modules. IsUnderMask
             self.now.version self.now.level mask self.now.modules modules.items) }
+        ensures square { IfOk result (λ modules.
+            length modules.items ≡ length self.now.modules) }
         ensures memory { IsOkUnless result OutOfMemory }
     {
         let mut modules = Vec::from_slice(alloc, &self.content)?;

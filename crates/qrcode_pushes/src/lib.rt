@@ -48,7 +48,7 @@ pub fn make_push(bits: &mut Bits, push: Push<'_>) -> QrResult<()>
 pub enum Fault {
     /// A call refused.
     Refused(QrError),
-    /// A call refused for want of memory, and left another list than it may leave.
+    /// A call refused because memory ran out, and left another list than it may leave.
     Corrupted,
 }
 
