@@ -1,5 +1,6 @@
 mod Choices
 mod Held
+mod Marked
 mod Pieces
 mod Plain
 mod Segmented

@@ -1,6 +1,7 @@
 pub mod Drawings
 pub mod Elements
 pub mod Formats
+pub mod HandedOn
 pub mod Masks
 pub mod Scans
 pub mod Segments

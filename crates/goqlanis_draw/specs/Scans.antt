@@ -1,7 +1,9 @@
 -- What is read of a picture.
-use Rattle.std.specs.Prelude.{◌≡◌, ◌<◌, ℕ, List, [], ◌∷◌, Bool, flat_map, if◌then◌else◌}
+use Rattle.std.specs.Prelude.{◌≡◌, ◌<◌, ℕ, List, [], ◌∷◌, Bool, false, flat_map, if◌then◌else◌}
 use Rattle.qrcode_types.specs.declared.types.Color.{Color}
 use Rattle.qrcode_render.specs.Bitmap.{Bitmap}
+use Rattle.qrcode_gs1.specs.declared.symbol.Position as gs1
+use Rattle.qrcode_gs1.specs.symbol.Reading.{ReadsMarkedOnly}
 use Rattle.qrcode_reader.specs.scan.Files.{IsSeenIn, IsUnscanned}
 use Rattle.qrcode_reader.specs.scan.Squares.{has_dark_edge, inverted, IsSquareIn, IsFramedIn}
 use Rattle.qrcode_reader.specs.declared.spell.headers.Header.{Header}
@@ -11,6 +13,7 @@ use Rattle.qrcode_reader.specs.Positions.{seen, IsFirstReading, IsFirstPartsRead
 use Rattle.qrcode_reader.specs.Readings.{IsPartsCause, ReadsParts}
 use Rattle.qrcode_reader.specs.declared.positions.Position.{Position}
 use Rattle.qrcode_reader.specs.declared.refusals.Unread as reading
+use Rattle.goqlanis_draw.specs.HandedOn.{fnc1, handed_on}
 use Rattle.goqlanis_draw.specs.declared.scanning.Scan.{Scan}
 use Rattle.goqlanis_draw.specs.declared.scanning.Unread.{Unread}
 use Rattle.goqlanis_draw.specs.declared.scanning.Unread.TheVariants.{Unscanned, NoSquare, NoSymbol, OutOfMemory}
@@ -25,16 +28,20 @@ header_in (Bytes m n) = []
 abbrev pub headers_in : List Part → List Header  -- the headers among parts
 headers_in parts = flat_map header_in parts
 
--- The reading of that square: that of the headers and segments in the first position in which there are some, and its headers. Where there is no header it is
--- the reading as bytes in the first position in which the square has one; which bytes are handed on otherwise is not said.
+-- The reading of that square: that of the headers and segments in the first position in which there are some, and its headers. The bytes are those of the
+-- segments as readers hand them on: where there is no header the reading as bytes in the first position in which the square has one, and where FNC1 stands in
+-- front, and no other header, what a reader finds behind it.
 pub record IsReadAs (scan : Scan) : Type 0 where
   pub bytes : List ℕ
   pub parts : List Part
   pub first : IsFirstPartsReading scan.square.count scan.square.modules.items scan.any.position scan.any.is_inverted scan.any.reading.version
       scan.any.reading.ec_level scan.any.reading.mask bytes parts scan.any.reading.wrong.items
   pub among : scan.headers.items ≡ headers_in parts
+  pub handed : scan.any.reading.data.items ≡ handed_on false parts bytes
   pub plain : scan.headers.items ≡ [] → IsFirstReading scan.square.count scan.square.modules.items scan.any.position scan.any.is_inverted
       scan.any.reading.version scan.any.reading.ec_level scan.any.reading.mask scan.any.reading.data.items scan.any.reading.wrong.items
+  pub marked : (p : gs1.Position) (segments : List Part) → parts ≡ Front (fnc1 p) ∷ segments → headers_in segments ≡ []
+      → ReadsMarkedOnly (seen scan.square.count scan.any.position scan.any.is_inverted scan.square.modules.items) p scan.any.reading.data.items
 
 -- what the bytes of a picture are read as: the square of modules that its pixels show, with dark and light exchanged where their first row is dark, and
 -- that square's reading

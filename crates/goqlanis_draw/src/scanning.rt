@@ -1,9 +1,11 @@
 //! Pictures, read.
 
-ghost use Rattle.std.specs.Prelude.{◌≡◌, ◌++◌, true, IsTrue, IfOk, IfErr, OnOk};
+ghost use Rattle.std.specs.Prelude.{◌≡◌, ◌++◌, true, false, IfOk, IfErr, OnOk};
+ghost use Rattle.qrcode_gs1.specs.symbol.Characters.{undoubled};
 ghost use Rattle.qrcode_reader.specs.scan.Squares.{inverted};
 ghost use Rattle.qrcode_reader.specs.Positions.{IsFirstPartsReading};
 ghost use Rattle.goqlanis_draw.specs.declared.scanning.Unread.TheVariants.{OutOfMemory};
+ghost use Rattle.goqlanis_draw.specs.HandedOn.{byte_count, is_fnc1, part_on, handed_on};
 ghost use Rattle.goqlanis_draw.specs.Scans.{header_in, headers_in, IsReadAs, IsScanOf, IsSquareOf, IsUnreadPicture, IsUnreadIn, unread_as};
 
 use qrcode::types::Mode;
@@ -150,7 +152,7 @@ fn scan_of(
 {
     let read = any.reading;
     let headers = headers_of(alloc, &read.parts.parts)?;
-    let data = data_of(alloc, read.parts, headers.is_empty())?;
+    let data = handed_on(alloc, &read.parts)?;
     Ok(Scan {
         square,
         is_inverted,
@@ -191,56 +193,77 @@ fn push_header(headers: &mut Vec<Header>, part: Part) -> Result<(), AllocError>
     Ok(())
 }
 
-// The bytes of a symbol's parts, as readers hand them on.
-fn data_of(alloc: Global, parts: Parts, is_plain: bool) -> Result<Vec<u8>, AllocError>
-    ensures { IfOk result (λ bytes. IsTrue is_plain → bytes.items ≡ parts.bytes.items) }
+// The bytes of parts as readers hand them on (ISO/IEC 18004:2006, 6.4.8.1).
+fn handed_on(alloc: Global, found: &Parts) -> Result<Vec<u8>, AllocError>
+    ensures { IfOk result (λ bytes. bytes.items
+        ≡ handed_on false found.now.parts.items found.now.bytes.items) }
 {
-    if is_plain {
-        Ok(parts.bytes)
-    } else {
-        as_handed_on(alloc, &parts)
-    }
-}
-
-// The bytes of parts with headers, as readers hand them on (ISO/IEC 18004:2006, 6.4.8): behind FNC1 a percent
-// sign of the mode Alphanumeric is a separator, byte 29, and two of them are a percent sign.
-fn as_handed_on(alloc: Global, found: &Parts) -> Result<Vec<u8>, AllocError> {
     let mut bytes = Vec::with_capacity(alloc, found.bytes.len())?;
     let mut rest = found.bytes.as_slice();
     let mut is_marked = false;
     for part in &found.parts {
-        match *part {
-            Part::Front(Header::Fnc1First | Header::Fnc1Second(_)) => is_marked = true,
-            Part::Front(_) => {}
-            Part::Bytes(mode, count) => {
-                let (chunk, more) = rest.split_at(count.min(rest.len()));
-                if is_marked && mode == Mode::Alphanumeric {
-                    push_undoubled(&mut bytes, chunk)?;
-                } else {
-                    bytes.extend_from_slice(chunk)?;
-                }
-                rest = more;
-            }
-        }
+        let (chunk, behind) = rest.split_at(byte_count(*part).min(rest.len()));
+        push_part(&mut bytes, is_marked, *part, chunk)?;
+        is_marked = is_fnc1(*part) | is_marked;
+        rest = behind;
     }
     Ok(bytes)
 }
 
-// Appends alphanumeric characters, of which a percent sign is a separator and two are a percent sign.
-fn push_undoubled(bytes: &mut Vec<u8>, characters: &[u8]) -> Result<(), AllocError> {
-    let mut is_open = false;
-    for byte in characters {
-        let is_sign = *byte == b'%';
-        if is_open && !is_sign {
-            bytes.push(29)?;
-        }
-        if is_open || !is_sign {
-            bytes.push(*byte)?;
-        }
-        is_open = is_sign && !is_open;
+// How many of the bytes are those of a part.
+fn byte_count(part: Part) -> usize
+    ensures { result ≡ byte_count part }
+{
+    match part {
+        Part::Front(_) => 0,
+        Part::Bytes(_, count) => count,
     }
-    if is_open {
-        bytes.push(29)?;
+}
+
+// Whether a part is FNC1, in either position.
+fn is_fnc1(part: Part) -> bool
+    ensures { result ≡ is_fnc1 part }
+{
+    matches!(part, Part::Front(Header::Fnc1First | Header::Fnc1Second(_)))
+}
+
+// Appends what is handed on of a part of these bytes, behind FNC1 or not.
+fn push_part(
+    bytes: &mut Vec<u8>,
+    is_marked: bool,
+    part: Part,
+    chunk: &[u8],
+) -> Result<(), AllocError>
+    ensures { OnOk result (bytes.new.items
+        ≡ bytes.old.items ++ part_on is_marked part chunk.now) }
+{
+    match part {
+        Part::Front(_) => Ok(()),
+        Part::Bytes(Mode::Alphanumeric, _) if is_marked => push_undoubled(bytes, chunk),
+        Part::Bytes(_, _) => bytes.extend_from_slice(chunk),
+    }
+}
+
+// The separator of elements.
+const SEPARATOR: u8 = 29;
+
+// Appends alphanumeric characters behind FNC1: a percent sign is a separator, and two of them are a
+// percent sign.
+fn push_undoubled(bytes: &mut Vec<u8>, characters: &[u8]) -> Result<(), AllocError>
+    ensures { OnOk result (bytes.new.items ≡ bytes.old.items ++ undoubled characters.now) }
+{
+    let mut rest = characters;
+    while let [character, behind @ ..] = rest {
+        rest = behind;
+        let byte = match (*character, rest) {
+            (b'%', [b'%', behind @ ..]) => {
+                rest = behind;
+                b'%'
+            }
+            (b'%', _) => SEPARATOR,
+            (character, _) => character,
+        };
+        bytes.push(byte)?;
     }
     Ok(())
 }

@@ -1,0 +1,34 @@
+-- The bytes of headers and segments as readers hand them on (ISO/IEC 18004:2006, 6.4.8.1): those of the segments, except that behind FNC1 the characters
+-- of the mode Alphanumeric stand for others.
+use Rattle.std.specs.Prelude.{ℕ, Bool, true, false, ◌||◌, List, [], ◌∷◌, ◌++◌, take, drop, if◌then◌else◌}
+use Rattle.qrcode_gs1.specs.declared.symbol.Position.{Position}
+use Rattle.qrcode_gs1.specs.declared.symbol.Position.TheVariants.{First, Second}
+use Rattle.qrcode_gs1.specs.symbol.Characters.{shown_in}
+use Rattle.qrcode_reader.specs.declared.spell.headers.Header.{Header}
+use Rattle.qrcode_reader.specs.declared.spell.headers.Header.TheVariants.{Eci, Fnc1First, Fnc1Second, StructuredAppend}
+use Rattle.qrcode_reader.specs.declared.spell.parts.Part.{Part}
+use Rattle.qrcode_reader.specs.declared.spell.parts.Part.TheVariants.{Front, Bytes}
+
+abbrev pub fnc1 : Position → Header  -- FNC1 in a position
+fnc1 First = Fnc1First
+fnc1 (Second n) = Fnc1Second n
+
+abbrev pub is_fnc1 : Part → Bool  -- a part is FNC1, in either position
+is_fnc1 (Front (Eci n)) = false
+is_fnc1 (Front Fnc1First) = true
+is_fnc1 (Front (Fnc1Second n)) = true
+is_fnc1 (Front (StructuredAppend place last parity)) = false
+is_fnc1 (Bytes m n) = false
+
+abbrev pub byte_count : Part → ℕ  -- how many of the bytes are those of a part
+byte_count (Front h) = 0
+byte_count (Bytes m n) = n
+
+abbrev pub part_on : Bool → Part → List ℕ → List ℕ  -- what is handed on of a part of these bytes, behind FNC1 or not
+part_on is_marked (Front h) chunk = []
+part_on is_marked (Bytes m n) chunk = if is_marked then shown_in m chunk else chunk
+
+abbrev pub handed_on : Bool → List Part → List ℕ → List ℕ  -- what is handed on of parts and their bytes
+handed_on is_marked [] bytes = []
+handed_on is_marked (p ∷ parts) bytes =
+    part_on is_marked p (take (byte_count p) bytes) ++ handed_on (is_fnc1 p || is_marked) parts (drop (byte_count p) bytes)
