@@ -25,7 +25,7 @@ pub ended : (version level : ℕ) (v : Version) (l : EcLevel) (segments : List S
     → ((x : QrError) → terminator_refusal list.version l (length list.bits) ≡ Some x → r ≡ Err x)
     → IsSegmentsCause version level segments room (refusal_in e)
 ended version level v l segments list e r room named levelled exists same written taken given accepted refused =
-    let told_as = λ (x : QrError). IsSegmentsCause version level segments room (refusal_in x) in
+    let reported_as = λ (x : QrError). IsSegmentsCause version level segments room (refusal_in x) in
     let used = length (written_segments v segments) in
     let refusal = ap₂ (λ u bits. terminator_refusal u l (length bits)) same written ∙ ap (by_level used (capacity v l)) exists in
     elim (cases_lt (capacity v l) used) [
@@ -33,8 +33,8 @@ ended version level v l segments list e r room named levelled exists same writte
           let long = refused DataTooLong (refusal ∙ ap (λ (b : Bool). if b then None else Some DataTooLong) (lt-leb used (capacity v l) more)) in
           let both = sym given ∙ long in
           let is : e ≡ DataTooLong = cc in
-          subst told_as (sym is) (inr (l, (v, (levelled, (named, (taken, more))))))
+          subst reported_as (sym is) (inr (l, (v, (levelled, (named, (taken, more))))))
       | inr less ↦
           let is = accepted (refusal ∙ ap (λ (b : Bool). if b then None else Some DataTooLong) (le-leb used (capacity v l) less)) in
-          subst told_as (sym is) (inr tt)
+          subst reported_as (sym is) (inr tt)
     ]

@@ -2,7 +2,7 @@ pub mod Ended
 pub mod Known
 pub mod Least
 pub mod Taken
-pub mod Told
+pub mod Reported
 pub mod Fields
 mod Joined
 pub mod Parts

@@ -23,13 +23,13 @@ no_symbol o bytes room OutOfMemory h = h
 pub refused_as : (o : Options) (a : Asked) (bytes : List ℕ) (e : QrError) (refusal : Refusal) → refusal ≡ refusal_in e → IsAsked o a → IsRefusedFor a.choice a.manner a.level bytes e
     → (room : ℕ) → IsOptionsCause o bytes room refusal
 refused_as o a bytes e refusal is named cause room =
-    subst (IsOptionsCause o bytes room) (sym is) (no_symbol o bytes room e (record { asked = a; named = named; error = e; told = refl; cause = cause }))
+    subst (IsOptionsCause o bytes room) (sym is) (no_symbol o bytes room e (record { asked = a; named = named; error = e; reported = refl; cause = cause }))
 
 -- what refuses a symbol its mask, or its place in the buffer, refuses what options ask for
 pub masked_as : (o : Options) (a : Asked) (bytes : List ℕ) (own : Code) (room : ℕ) (refusal : Refusal) → IsAsked o a → IsMadeAs a bytes own → IsMaskingCause a.mask own room refusal
     → IsOptionsCause o bytes room refusal
 masked_as o a bytes own room refusal named made (inl is) =
-    subst (IsOptionsCause o bytes room) (sym is) (record { asked = a; named = named; error = OutOfMemory; told = refl; cause = inl refl })
+    subst (IsOptionsCause o bytes room) (sym is) (record { asked = a; named = named; error = OutOfMemory; reported = refl; cause = inl refl })
 masked_as o a bytes own room refusal named made (inr (inl lacks)) =
     subst (IsOptionsCause o bytes room) (sym lacks.0) (record { asked = a; named = named; lacks = (own, (made, lacks.1)) })
 masked_as o a bytes own room refusal named made (inr (inr small)) =

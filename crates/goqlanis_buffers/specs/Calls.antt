@@ -25,7 +25,7 @@ pub record IsAnswer {T : Type 0} (result : Result T Refusal) (number : ℕ) (old
   pub err : IfErr result (λ refusal. (refusal_of number ≡ Some refusal) × (new ≡ old))
 
 -- what a call does that answers C: by 0, and a value in an output; or by the number of a refusal, with the output as it was
-pub record IsTold {T : Type 0} (Does : Result T Refusal → Type 0) (number : ℕ) (old new : T) : Type 0 where
+pub record IsReported {T : Type 0} (Does : Result T Refusal → Type 0) (number : ℕ) (old new : T) : Type 0 where
   pub made : number ≡ 0 → Does (Ok new)
   pub refused : number ≢ 0 → IsSomeAnd (refusal_of number) (λ refusal. Does (Err refusal))
   pub unchanged : number ≢ 0 → new ≡ old

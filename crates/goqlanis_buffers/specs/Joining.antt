@@ -96,30 +96,30 @@ IsUnjoined squares room (unjoined.Parts e) = (parts : List Part) × (ArePartsOf 
 IsUnjoined squares room SmallBuffer = (bytes : List ℕ) × (IsDataOf squares bytes × (room < length bytes))
 IsUnjoined squares room OutOfMemory = ⊤
 
-abbrev pub refusal_told : Unjoined → Refusal  -- what C gets of it
-refusal_told (unjoined.Square place refusal) = refusal
-refusal_told (unjoined.Parts (join.Stranger place)) = refusals.Stranger
-refusal_told (unjoined.Parts (join.Missing place)) = refusals.Missing
-refusal_told (unjoined.Parts (join.Twice place)) = refusals.Twice
-refusal_told (unjoined.Parts join.Parity) = refusals.Parity
-refusal_told (unjoined.Parts join.OutOfMemory) = refusals.OutOfMemory
-refusal_told SmallBuffer = refusals.SmallBuffer
-refusal_told OutOfMemory = refusals.OutOfMemory
+abbrev pub refusal_reported : Unjoined → Refusal  -- what C gets of it
+refusal_reported (unjoined.Square place refusal) = refusal
+refusal_reported (unjoined.Parts (join.Stranger place)) = refusals.Stranger
+refusal_reported (unjoined.Parts (join.Missing place)) = refusals.Missing
+refusal_reported (unjoined.Parts (join.Twice place)) = refusals.Twice
+refusal_reported (unjoined.Parts join.Parity) = refusals.Parity
+refusal_reported (unjoined.Parts join.OutOfMemory) = refusals.OutOfMemory
+refusal_reported SmallBuffer = refusals.SmallBuffer
+refusal_reported OutOfMemory = refusals.OutOfMemory
 
 -- the place that C gets: that of the square or the part, and otherwise the one before
-abbrev pub place_told : Unjoined → ℕ → ℕ
-place_told (unjoined.Square place refusal) before = place
-place_told (unjoined.Parts (join.Stranger place)) before = place
-place_told (unjoined.Parts (join.Missing place)) before = place
-place_told (unjoined.Parts (join.Twice place)) before = place
-place_told (unjoined.Parts join.Parity) before = before
-place_told (unjoined.Parts join.OutOfMemory) before = before
-place_told SmallBuffer before = before
-place_told OutOfMemory before = before
+abbrev pub place_reported : Unjoined → ℕ → ℕ
+place_reported (unjoined.Square place refusal) before = place
+place_reported (unjoined.Parts (join.Stranger place)) before = place
+place_reported (unjoined.Parts (join.Missing place)) before = place
+place_reported (unjoined.Parts (join.Twice place)) before = place
+place_reported (unjoined.Parts join.Parity) before = before
+place_reported (unjoined.Parts join.OutOfMemory) before = before
+place_reported SmallBuffer before = before
+place_reported OutOfMemory before = before
 
 -- an answer, and the place that replaces the one before, are those of a refusal that has its cause
 pub record IsJoinRefusal (squares : List Square) (room answer before after : ℕ) : Type 0 where
   pub why : Unjoined
   pub cause : IsUnjoined squares room why
-  pub answered : refusal_of answer ≡ Some (refusal_told why)
-  pub told : after ≡ place_told why before
+  pub answered : refusal_of answer ≡ Some (refusal_reported why)
+  pub reported : after ≡ place_reported why before

@@ -63,7 +63,7 @@ pub record HasNoSymbol (o : Options) (bytes : List ℕ) (refusal : Refusal) : Ty
   pub asked : Asked
   pub named : IsAsked o asked
   pub error : QrError
-  pub told : refusal ≡ refusal_in error
+  pub reported : refusal ≡ refusal_in error
   pub cause : IsRefusedFor asked.choice asked.manner asked.level bytes error
 
 -- why data has no symbol that options ask for, where the buffer has so much room

@@ -38,11 +38,11 @@ abbrev pub position_number : Position → Bool → ℕ  -- the same, and 8 more 
 position_number p is_inverted = if is_inverted then place_of p + 8 else place_of p
 
 -- what C gets of a reading beside its bytes
-pub record IsTold (v : Version) (l : EcLevel) (mask : MaskPattern) (wrong count : ℕ) (reading : Reading) : Type 0 where
+pub record IsReported (v : Version) (l : EcLevel) (mask : MaskPattern) (wrong count : ℕ) (reading : Reading) : Type 0 where
   pub version : version_named reading.version ≡ Some v
   pub level : level_named reading.level ≡ Some l
-  pub mask_told : reading.mask ≡ mask_number_in v mask
-  pub wrong_told : reading.wrong ≡ wrong
+  pub mask_reported : reading.mask ≡ mask_number_in v mask
+  pub wrong_reported : reading.wrong ≡ wrong
   pub counted : reading.length ≡ count
 
 -- the only reading of a square of modules, in buffers: its bytes at the beginning of one, and what it is beside them
@@ -54,7 +54,7 @@ pub record IsReadInto (modules old new : List ℕ) (reading : Reading) : Type 0 
   pub wrong : List WrongCodeword
   pub read : IsReading (colors_of modules) version level mask bytes wrong
   pub filled : IsFilled old new bytes
-  pub told : IsTold version level mask (length wrong) (length bytes) reading
+  pub reported : IsReported version level mask (length wrong) (length bytes) reading
 
 -- a square is read in no position
 pub record IsReadNowhere (s : List Color) : Type 0 where
@@ -77,8 +77,8 @@ pub record IsAnyReadInto (modules old new : List ℕ) (any : AnyReading) : Type 
   pub wrong : List WrongCodeword
   pub read : IsReadAnywhere (colors_of modules) position is_inverted version level mask bytes wrong
   pub filled : IsFilled old new bytes
-  pub told : IsTold version level mask (length wrong) (length bytes) any.reading
-  pub position_told : any.position ≡ position_number position is_inverted
+  pub reported : IsReported version level mask (length wrong) (length bytes) any.reading
+  pub position_reported : any.position ≡ position_number position is_inverted
 
 -- the text that readers show of a square of modules, and no other, in buffers
 pub record IsTextReadInto (modules old new : List ℕ) (reading : Reading) : Type 0 where
@@ -89,7 +89,7 @@ pub record IsTextReadInto (modules old new : List ℕ) (reading : Reading) : Typ
   pub wrong : List WrongCodeword
   pub read : IsTextReading (colors_of modules) version level mask (chars bytes) wrong
   pub filled : IsFilled old new bytes
-  pub told : IsTold version level mask (length wrong) (length bytes) reading
+  pub reported : IsReported version level mask (length wrong) (length bytes) reading
 
 -- the mask that the format word of a square of modules names, by its number
 pub record IsMaskNumber (modules : List ℕ) (number : ℕ) : Type 0 where
@@ -98,4 +98,4 @@ pub record IsMaskNumber (modules : List ℕ) (number : ℕ) : Type 0 where
   pub mask : MaskPattern
   pub square : length (colors_of modules) ≡ side version * side version
   pub named : HasFormat version (colors_of modules) level mask
-  pub told : number ≡ mask_number_in version mask
+  pub reported : number ≡ mask_number_in version mask

@@ -3,7 +3,7 @@
 ghost use Rattle.std.specs.Prelude.{◌≡◌, ◌≢◌, ℕ, Some, length, map, IfOk, IfErr, IfSome, OnErr};
 ghost use Rattle.qrcode_render.specs.Shades.{colors_of};
 ghost use Rattle.goqlanis_buffers.specs.Answers.{refusal_of};
-ghost use Rattle.goqlanis_buffers.specs.Joining.{part_of, found_part, place_told, refusal_told, ArePartsOf, IsNoPart, IsPartOf, IsUnjoined, IsJoinedInto};
+ghost use Rattle.goqlanis_buffers.specs.Joining.{part_of, found_part, place_reported, refusal_reported, ArePartsOf, IsNoPart, IsPartOf, IsUnjoined, IsJoinedInto};
 
 use crate::answers::Refusal;
 use crate::symbols::{colors_of, fill};
@@ -45,7 +45,7 @@ pub enum Unjoined {
 impl Unjoined {
     /// The number that C sees.
     pub fn number(self) -> u32
-        ensures value { refusal_of result ≡ Some (refusal_told self) }
+        ensures value { refusal_of result ≡ Some (refusal_reported self) }
         ensures not_made { result ≢ 0 }
     {
         let refusal = match self {
@@ -62,7 +62,7 @@ impl Unjoined {
 
     /// The place of the square or of the part, or else the one before.
     pub fn place(self, before: usize) -> usize
-        ensures value { result ≡ place_told self before }
+        ensures value { result ≡ place_reported self before }
     {
         match self {
             Unjoined::Square(place, _) => place,

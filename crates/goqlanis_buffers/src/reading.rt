@@ -10,7 +10,7 @@ ghost use Rattle.goqlanis_buffers.specs.Answers.{IsAnyReadingCause, IsMaskCause,
 ghost use Rattle.goqlanis_buffers.specs.Calls.{TellsMask, TellsReadLength, WritesAnyReading, WritesReading, WritesTextReading};
 ghost use Rattle.qrcode_render.specs.Shades.{colors_of};
 ghost use Rattle.goqlanis_buffers.specs.declared.answers.Refusal.TheVariants.{NoFormat};
-ghost use Rattle.goqlanis_buffers.specs.Readings.{mask_number_in, position_number, IsReadAnywhere, IsReadNowhere, IsTold};
+ghost use Rattle.goqlanis_buffers.specs.Readings.{mask_number_in, position_number, IsReadAnywhere, IsReadNowhere, IsReported};
 
 use crate::answers::Refusal;
 use crate::names::{level_number, version_number};
@@ -64,7 +64,7 @@ pub fn read_into(alloc: Global, modules: &[u8], bytes: &mut [u8]) -> Result<Read
         return Err(Refusal::SmallBuffer);
     }
     fill(bytes, &found.data);
-    Ok(told(
+    Ok(reported(
         found.version,
         found.ec_level,
         found.mask,
@@ -89,7 +89,7 @@ pub fn read_any_into(alloc: Global, modules: &[u8], bytes: &mut [u8]) -> Result<
     }
     fill(bytes, &read.data);
     Ok(AnyReading {
-        reading: told(
+        reading: reported(
             read.version,
             read.ec_level,
             read.mask,
@@ -117,7 +117,7 @@ pub fn read_text_into(alloc: Global, modules: &[u8], text: &mut [u8]) -> Result<
         return Err(Refusal::SmallBuffer);
     }
     fill(text, bytes);
-    Ok(told(
+    Ok(reported(
         found.version,
         found.ec_level,
         found.mask,
@@ -278,7 +278,7 @@ fn read_shown(alloc: Global, modules: &[u8]) -> Result<TextReading, Refusal>
 }
 
 // What C gets of a reading beside its bytes.
-fn told(
+fn reported(
     version: Version,
     ec_level: EcLevel,
     mask: MaskPattern,
@@ -286,7 +286,7 @@ fn told(
     length: usize,
 ) -> Reading
     requires exists { IsTrue (has_level version ec_level) }
-    ensures value { IsTold version ec_level mask wrong length result }
+    ensures value { IsReported version ec_level mask wrong length result }
 {
     Reading {
         version: version_number(version),

@@ -1,6 +1,6 @@
 //! Symbols of bytes.
 
-ghost use Rattle.goqlanis_buffers.specs.Calls.{IsTold, WritesAutomatic, WritesIn, WritesWith};
+ghost use Rattle.goqlanis_buffers.specs.Calls.{IsReported, WritesAutomatic, WritesIn, WritesWith};
 
 use goqlanis_buffers::answers::answer;
 use goqlanis_buffers::encoding::{encode, encode_in};
@@ -22,7 +22,7 @@ pub extern "C" fn goq_encode(
     modules: &mut [u8],
     symbol: &mut Symbol,
 ) -> u32
-    ensures { IsTold (WritesAutomatic level bytes.now modules.old modules.new)
+    ensures { IsReported (WritesAutomatic level bytes.now modules.old modules.new)
         result symbol.old symbol.new }
 {
     answer(encode(alloc, bytes, level, modules), symbol)
@@ -43,7 +43,7 @@ pub extern "C" fn goq_encode_in(
     modules: &mut [u8],
     symbol: &mut Symbol,
 ) -> u32
-    ensures { IsTold (WritesIn version level bytes.now modules.old modules.new)
+    ensures { IsReported (WritesIn version level bytes.now modules.old modules.new)
         result symbol.old symbol.new }
 {
     answer(encode_in(alloc, bytes, version, level, modules), symbol)
@@ -63,7 +63,7 @@ pub extern "C" fn goq_encode_with(
     modules: &mut [u8],
     symbol: &mut Symbol,
 ) -> u32
-    ensures { IsTold (WritesWith options.now bytes.now modules.old modules.new)
+    ensures { IsReported (WritesWith options.now bytes.now modules.old modules.new)
         result symbol.old symbol.new }
 {
     answer(encode_with(alloc, bytes, options, modules), symbol)

@@ -1,7 +1,7 @@
 //! Symbols, and the texts that they carry, for programs in C: the exported functions alone. Each call works in
 //! buffers that its caller gives, keeps nothing, and may run in any threads at once; where it refuses, all its
 //! outputs are as they were, except for the place of what is wrong in a content or in elements of GS1.
-#![tactic(auto, using(goqlanis_buffers::proofs::Told::told))]
+#![tactic(auto, using(goqlanis_buffers::proofs::Reported::reported))]
 
 mod contents;
 mod elements;

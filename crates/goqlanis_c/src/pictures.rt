@@ -1,6 +1,6 @@
 //! Pictures in buffers.
 
-ghost use Rattle.goqlanis_buffers.specs.Calls.{IsTold, TellsLength, WritesPicture};
+ghost use Rattle.goqlanis_buffers.specs.Calls.{IsReported, TellsLength, WritesPicture};
 ghost use Rattle.goqlanis_buffers.specs.Drawings.{plain};
 
 use goqlanis_buffers::answers::answer;
@@ -24,7 +24,7 @@ pub extern "C" fn goq_draw(
     out: &mut [u8],
     count: &mut usize,
 ) -> u32
-    ensures { IsTold (WritesPicture modules.now width (plain zone scale format) out.old out.new)
+    ensures { IsReported (WritesPicture modules.now width (plain zone scale format) out.old out.new)
         result count.old count.new }
 {
     goq_draw_with(
@@ -52,7 +52,7 @@ pub extern "C" fn goq_draw_length(
     format: u32,
     count: &mut usize,
 ) -> u32
-    ensures { IsTold (TellsLength modules.now width (plain zone scale format))
+    ensures { IsReported (TellsLength modules.now width (plain zone scale format))
         result count.old count.new }
 {
     goq_draw_with_length(alloc, modules, width, &plain(zone, scale, format), count)
@@ -71,7 +71,7 @@ pub extern "C" fn goq_draw_with(
     out: &mut [u8],
     count: &mut usize,
 ) -> u32
-    ensures { IsTold (WritesPicture modules.now width drawing.now out.old out.new)
+    ensures { IsReported (WritesPicture modules.now width drawing.now out.old out.new)
         result count.old count.new }
 {
     let drawing = *drawing;
@@ -94,7 +94,7 @@ pub extern "C" fn goq_draw_with_length(
     drawing: &Drawing,
     count: &mut usize,
 ) -> u32
-    ensures { IsTold (TellsLength modules.now width drawing.now) result count.old count.new }
+    ensures { IsReported (TellsLength modules.now width drawing.now) result count.old count.new }
 {
     let drawing = *drawing;
     let asked = Asked {

@@ -1,6 +1,6 @@
 //! Squares of modules read back.
 
-ghost use Rattle.goqlanis_buffers.specs.Calls.{IsTold, TellsMask, TellsReadLength, WritesAnyReading, WritesReading, WritesTextReading};
+ghost use Rattle.goqlanis_buffers.specs.Calls.{IsReported, TellsMask, TellsReadLength, WritesAnyReading, WritesReading, WritesTextReading};
 
 use goqlanis_buffers::answers::answer;
 use goqlanis_buffers::reading::{
@@ -22,7 +22,7 @@ pub extern "C" fn goq_read(
     bytes: &mut [u8],
     reading: &mut Reading,
 ) -> u32
-    ensures { IsTold (WritesReading modules.now bytes.old bytes.new)
+    ensures { IsReported (WritesReading modules.now bytes.old bytes.new)
         result reading.old reading.new }
 {
     answer(read_into(alloc, modules, bytes), reading)
@@ -34,7 +34,7 @@ pub extern "C" fn goq_read(
 /// Then `count` is as it was.
 #[unsafe(no_mangle)]
 pub extern "C" fn goq_read_length(alloc: Global, modules: &[u8], count: &mut usize) -> u32
-    ensures { IsTold (TellsReadLength modules.now) result count.old count.new }
+    ensures { IsReported (TellsReadLength modules.now) result count.old count.new }
 {
     answer(read_length(alloc, modules), count)
 }
@@ -50,7 +50,7 @@ pub extern "C" fn goq_read_any(
     bytes: &mut [u8],
     reading: &mut AnyReading,
 ) -> u32
-    ensures { IsTold (WritesAnyReading modules.now bytes.old bytes.new)
+    ensures { IsReported (WritesAnyReading modules.now bytes.old bytes.new)
         result reading.old reading.new }
 {
     answer(read_any_into(alloc, modules, bytes), reading)
@@ -67,7 +67,7 @@ pub extern "C" fn goq_read_text(
     text: &mut [u8],
     reading: &mut Reading,
 ) -> u32
-    ensures { IsTold (WritesTextReading modules.now text.old text.new)
+    ensures { IsReported (WritesTextReading modules.now text.old text.new)
         result reading.old reading.new }
 {
     answer(read_text_into(alloc, modules, text), reading)
@@ -79,7 +79,7 @@ pub extern "C" fn goq_read_text(
 /// was.
 #[unsafe(no_mangle)]
 pub extern "C" fn goq_mask(alloc: Global, modules: &[u8], mask: &mut u32) -> u32
-    ensures { IsTold (TellsMask modules.now) result mask.old mask.new }
+    ensures { IsReported (TellsMask modules.now) result mask.old mask.new }
 {
     answer(mask_of(alloc, modules), mask)
 }

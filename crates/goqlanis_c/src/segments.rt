@@ -1,6 +1,6 @@
 //! Symbols of segments whose modes the caller names, and of headers.
 
-ghost use Rattle.goqlanis_buffers.specs.Calls.{IsTold, TellsLeastOfSegments, WritesSegments};
+ghost use Rattle.goqlanis_buffers.specs.Calls.{IsReported, TellsLeastOfSegments, WritesSegments};
 
 use goqlanis_buffers::answers::answer;
 use goqlanis_buffers::segments::{Segment, encode_segments, least_version};
@@ -23,7 +23,7 @@ pub extern "C" fn goq_encode_segments(
     modules: &mut [u8],
     symbol: &mut Symbol,
 ) -> u32
-    ensures { IsTold (WritesSegments version level segments.now modules.old modules.new)
+    ensures { IsReported (WritesSegments version level segments.now modules.old modules.new)
         result symbol.old symbol.new }
 {
     let written = encode_segments(alloc, segments, version, level, modules);
@@ -42,7 +42,7 @@ pub extern "C" fn goq_least_version_of_segments(
     level: u32,
     version: &mut u32,
 ) -> u32
-    ensures { IsTold (TellsLeastOfSegments level segments.now) result version.old version.new }
+    ensures { IsReported (TellsLeastOfSegments level segments.now) result version.old version.new }
 {
     answer(least_version(alloc, segments, level), version)
 }

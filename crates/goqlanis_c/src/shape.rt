@@ -3,7 +3,7 @@
 ghost use Rattle.std.specs.Prelude.{◌≡◌, ◌&&◌, nat_lt, false, None, IfSome};
 ghost use Rattle.qrcode_types.specs.Versions.{side};
 ghost use Rattle.qrcode_places.specs.Patterns.{is_functional_place};
-ghost use Rattle.goqlanis_buffers.specs.Calls.{IsTold, TellsLeast};
+ghost use Rattle.goqlanis_buffers.specs.Calls.{IsReported, TellsLeast};
 ghost use Rattle.goqlanis_buffers.specs.Names.{version_named};
 
 use goqlanis_buffers::answers::answer;
@@ -55,7 +55,7 @@ pub extern "C" fn goq_least_version(
     level: u32,
     version: &mut u32,
 ) -> u32
-    ensures { IsTold (TellsLeast level bytes.now) result version.old version.new }
+    ensures { IsReported (TellsLeast level bytes.now) result version.old version.new }
 {
     answer(least_version(alloc, bytes, level), version)
 }

@@ -1,7 +1,7 @@
 //! Symbols of texts.
 
 ghost use Rattle.qrcode_bits.specs.declared.bits.manner.Manner.TheVariants.{MarkedText, Text};
-ghost use Rattle.goqlanis_buffers.specs.Calls.{IsTold, WritesText};
+ghost use Rattle.goqlanis_buffers.specs.Calls.{IsReported, WritesText};
 
 use goqlanis_buffers::answers::answer;
 use goqlanis_buffers::symbols::Symbol;
@@ -23,7 +23,7 @@ pub extern "C" fn goq_encode_text(
     modules: &mut [u8],
     symbol: &mut Symbol,
 ) -> u32
-    ensures { IsTold (WritesText Text level text.now modules.old modules.new)
+    ensures { IsReported (WritesText Text level text.now modules.old modules.new)
         result symbol.old symbol.new }
 {
     let written = encode_text(alloc, text, Manner::Text, level, modules);
@@ -39,7 +39,7 @@ pub extern "C" fn goq_encode_marked_text(
     modules: &mut [u8],
     symbol: &mut Symbol,
 ) -> u32
-    ensures { IsTold (WritesText MarkedText level text.now modules.old modules.new)
+    ensures { IsReported (WritesText MarkedText level text.now modules.old modules.new)
         result symbol.old symbol.new }
 {
     let written = encode_text(alloc, text, Manner::MarkedText, level, modules);

@@ -12,7 +12,7 @@ use Rattle.std.proofs.lemmas.List.Filters.{length-filter_more}
 use Rattle.qrcode_bits.specs.StructuredAppend.{parity}
 use Rattle.qrcode_several.specs.declared.errors.JoinError.{JoinError}
 use Rattle.qrcode_several.specs.declared.errors.JoinError.TheVariants.{Stranger, Missing, Twice, Parity, OutOfMemory}
-use Rattle.qrcode_several.specs.Joining.{IsJoinRefused, last_told, parity_told, belongs, first_stranger, parts_at, bytes_at, joined_to, IsShare, AreShares}
+use Rattle.qrcode_several.specs.Joining.{IsJoinRefused, last_named, parity_named, belongs, first_stranger, parts_at, bytes_at, joined_to, IsShare, AreShares}
 use Rattle.qrcode_several.specs.declared.joining.Part.{Part}
 
 -- what is found among parts: nothing where there is none, and else the bytes of the only one
@@ -80,33 +80,33 @@ range_more f n =
     ap (λ k. flat_map f (range_with_len 0 k)) e ∙ range_behind f 0 n ∙ ap (λ k. flat_map f (range_with_len 0 n) ++ f k) d
 
 -- what the first of the parts of data names
-told_of : (bytes : List ℕ) (count : ℕ) (part : ℕ → List ℕ) (parts : List Part) → AreShares bytes count part parts → (last_told parts + 1 ≡ count) × (parity_told parts ≡ parity bytes)
-told_of bytes count part [] s = absurd (omega (arith, s.once 0 s.some))
-told_of bytes count part (p ∷ parts) s = (omega (arith, s.each.0.last, s.some), s.each.0.parity)
+named_of : (bytes : List ℕ) (count : ℕ) (part : ℕ → List ℕ) (parts : List Part) → AreShares bytes count part parts → (last_named parts + 1 ≡ count) × (parity_named parts ≡ parity bytes)
+named_of bytes count part [] s = absurd (omega (arith, s.once 0 s.some))
+named_of bytes count part (p ∷ parts) s = (omega (arith, s.each.0.last, s.some), s.each.0.parity)
 
 -- the parts of data are joined to it
-pub shares_joined : (bytes : List ℕ) (count : ℕ) (part : ℕ → List ℕ) (parts : List Part) → AreShares bytes count part parts → joined_to parts (last_told parts) ≡ bytes
+pub shares_joined : (bytes : List ℕ) (count : ℕ) (part : ℕ → List ℕ) (parts : List Part) → AreShares bytes count part parts → joined_to parts (last_named parts) ≡ bytes
 shares_joined bytes count part parts s =
-    ap (λ n. flat_map (bytes_at parts) (range_with_len 0 n)) (told_of bytes count part parts s).0
+    ap (λ n. flat_map (bytes_at parts) (range_with_len 0 n)) (named_of bytes count part parts s).0
     ∙ flat_map_same (bytes_at parts) part 0 count (λ k least most. only_at bytes count part k (parts_at parts k) (s.once k (omega arith)) (all_at (IsShare bytes count part) k parts s.each))
     ∙ s.joined
 
 belongs_of : (last parity : ℕ) (p : Part) → p.last ≡ last → p.parity ≡ parity → p.place ≤ last → belongs last parity p ≡ true
 belongs_of last parity p a b c = grind (arith, nat_tests)
 
-none_strange : (bytes : List ℕ) (count : ℕ) (part : ℕ → List ℕ) (last told i : ℕ) (parts : List Part) → last + 1 ≡ count → told ≡ parity bytes → AllByRecursion (IsShare bytes count part) parts
-    → first_stranger last told i parts ≡ None
-none_strange bytes count part last told i [] a b each = refl
-none_strange bytes count part last told i (p ∷ parts) a b each =
-    let here : belongs last told p ≡ true = belongs_of last told p (omega (arith, each.0.last, a)) (each.0.parity ∙ sym b) (omega (arith, each.0.inside, a)) in
-    ap (λ (t : Bool). if t then first_stranger last told (i + 1) parts else Some i) here ∙ none_strange bytes count part last told (i + 1) parts a b each.1
+none_strange : (bytes : List ℕ) (count : ℕ) (part : ℕ → List ℕ) (last named i : ℕ) (parts : List Part) → last + 1 ≡ count → named ≡ parity bytes → AllByRecursion (IsShare bytes count part) parts
+    → first_stranger last named i parts ≡ None
+none_strange bytes count part last named i [] a b each = refl
+none_strange bytes count part last named i (p ∷ parts) a b each =
+    let here : belongs last named p ≡ true = belongs_of last named p (omega (arith, each.0.last, a)) (each.0.parity ∙ sym b) (omega (arith, each.0.inside, a)) in
+    ap (λ (t : Bool). if t then first_stranger last named (i + 1) parts else Some i) here ∙ none_strange bytes count part last named (i + 1) parts a b each.1
 
 -- the parts of data are refused only where memory is
 pub shares_taken : (bytes : List ℕ) (count : ℕ) (part : ℕ → List ℕ) (parts : List Part) (e : JoinError) → AreShares bytes count part parts → IsJoinRefused parts e → e ≡ OutOfMemory
 shares_taken bytes count part parts (Stranger k) s r =
-    let told = told_of bytes count part parts s in
-    absurd (none-some k (sym (none_strange bytes count part (last_told parts) (parity_told parts) 0 parts told.0 told.1 s.each) ∙ r))
-shares_taken bytes count part parts (Missing k) s r = absurd (omega (arith, s.once k (omega (arith, r.1.0, (told_of bytes count part parts s).0)), ap length r.1.1.1))
-shares_taken bytes count part parts (Twice k) s r = absurd (omega (arith, s.once k (omega (arith, r.1.0, (told_of bytes count part parts s).0)), r.1.1.1))
-shares_taken bytes count part parts Parity s r = absurd (r.1.1 (ap parity (shares_joined bytes count part parts s) ∙ sym (told_of bytes count part parts s).1))
+    let named = named_of bytes count part parts s in
+    absurd (none-some k (sym (none_strange bytes count part (last_named parts) (parity_named parts) 0 parts named.0 named.1 s.each) ∙ r))
+shares_taken bytes count part parts (Missing k) s r = absurd (omega (arith, s.once k (omega (arith, r.1.0, (named_of bytes count part parts s).0)), ap length r.1.1.1))
+shares_taken bytes count part parts (Twice k) s r = absurd (omega (arith, s.once k (omega (arith, r.1.0, (named_of bytes count part parts s).0)), r.1.1.1))
+shares_taken bytes count part parts Parity s r = absurd (r.1.1 (ap parity (shares_joined bytes count part parts s) ∙ sym (named_of bytes count part parts s).1))
 shares_taken bytes count part parts OutOfMemory s r = refl

@@ -6,13 +6,13 @@ use Rattle.qrcode_several.specs.declared.errors.JoinError.{JoinError}
 use Rattle.qrcode_several.specs.declared.errors.JoinError.TheVariants.{Stranger, Missing, Twice, Parity, OutOfMemory}
 use Rattle.qrcode_several.specs.declared.joining.Part.{Part}
 
-abbrev pub last_told : List Part → ℕ  -- the last place that the first part names
-last_told [] = 0
-last_told (p ∷ parts) = p.last
+abbrev pub last_named : List Part → ℕ  -- the last place that the first part names
+last_named [] = 0
+last_named (p ∷ parts) = p.last
 
-abbrev pub parity_told : List Part → ℕ  -- the parity that it names
-parity_told [] = 0
-parity_told (p ∷ parts) = p.parity
+abbrev pub parity_named : List Part → ℕ  -- the parity that it names
+parity_named [] = 0
+parity_named (p ∷ parts) = p.parity
 
 abbrev pub belongs : ℕ → ℕ → Part → Bool  -- a part names this last place and parity, and a place up to it
 belongs last parity p = (p.last == last) && (p.parity == parity) && nat_le p.place last
@@ -22,7 +22,7 @@ first_stranger last parity index [] = None
 first_stranger last parity index (p ∷ parts) = if belongs last parity p then first_stranger last parity (index + 1) parts else Some index
 
 abbrev pub stranger_in : List Part → Option ℕ  -- the first part of other data than the first
-stranger_in parts = first_stranger (last_told parts) (parity_told parts) 0 parts
+stranger_in parts = first_stranger (last_named parts) (parity_named parts) 0 parts
 
 abbrev pub parts_at : List Part → ℕ → List Part  -- the parts that have a place
 parts_at parts place = filter (λ p. p.place == place) parts
@@ -57,18 +57,18 @@ IsPlaceRefused parts last OutOfMemory = ⊤
 -- all parts are of the same data, one has each place, and the bytes are theirs in the order of places, with the parity that they name
 pub record IsJoined (parts : List Part) (bytes : List ℕ) : Type 0 where
   pub same : stranger_in parts ≡ None
-  pub once : IsOnceBelow parts (last_told parts + 1)
-  pub joined : bytes ≡ joined_to parts (last_told parts)
-  pub parity : parity bytes ≡ parity_told parts
+  pub once : IsOnceBelow parts (last_named parts + 1)
+  pub joined : bytes ≡ joined_to parts (last_named parts)
+  pub parity : parity bytes ≡ parity_named parts
 
 -- why they are not joined: the first part of other data; else the first place of which there is no part, or more than one; else their
 -- parity; or memory was refused
 abbrev pub IsJoinRefused : List Part → JoinError → Type 0
 IsJoinRefused parts (Stranger k) = stranger_in parts ≡ Some k
-IsJoinRefused parts (Missing k) = (stranger_in parts ≡ None) × IsPlaceRefused parts (last_told parts) (Missing k)
-IsJoinRefused parts (Twice k) = (stranger_in parts ≡ None) × IsPlaceRefused parts (last_told parts) (Twice k)
+IsJoinRefused parts (Missing k) = (stranger_in parts ≡ None) × IsPlaceRefused parts (last_named parts) (Missing k)
+IsJoinRefused parts (Twice k) = (stranger_in parts ≡ None) × IsPlaceRefused parts (last_named parts) (Twice k)
 IsJoinRefused parts Parity =
-    (stranger_in parts ≡ None) × (IsOnceBelow parts (last_told parts + 1) × (parity (joined_to parts (last_told parts)) ≢ parity_told parts))
+    (stranger_in parts ≡ None) × (IsOnceBelow parts (last_named parts + 1) × (parity (joined_to parts (last_named parts)) ≢ parity_named parts))
 IsJoinRefused parts OutOfMemory = ⊤
 
 -- a part of so many of these bytes, with the header that a symbol has

@@ -1,7 +1,7 @@
 //! The data of parts, in whatever order they come.
 
 ghost use Rattle.std.specs.Prelude.{◌≡◌, ℕ, ◌+◌, List, IfOk, IfErr, IsOkUnless};
-ghost use Rattle.qrcode_several.specs.Joining.{belongs, first_stranger, IsPartAt, IsNoPartAt, joined_to, IsOnceBelow, IsJoined, IsJoinRefused, IsPlaceRefused, AreShares, last_told, parity_told};
+ghost use Rattle.qrcode_several.specs.Joining.{belongs, first_stranger, IsPartAt, IsNoPartAt, joined_to, IsOnceBelow, IsJoined, IsJoinRefused, IsPlaceRefused, AreShares, last_named, parity_named};
 ghost use Rattle.qrcode_several.specs.declared.errors.JoinError.TheVariants.{OutOfMemory};
 
 use crate::division::parity_of;
@@ -36,7 +36,7 @@ pub fn join(alloc: Global, parts: &[Part<'_>]) -> Result<Vec<u8>, JoinError>
     ensures accepts { (bytes : List ℕ) (count : ℕ) (part : ℕ → List ℕ)
         → AreShares bytes count part parts.now → IsOkUnless result OutOfMemory }
 {
-    let (last, parity) = told(parts);
+    let (last, parity) = named(parts);
     if let Some(index) = stranger(parts, last, parity) {
         return Err(JoinError::Stranger(index));
     }
@@ -49,9 +49,9 @@ pub fn join(alloc: Global, parts: &[Part<'_>]) -> Result<Vec<u8>, JoinError>
 }
 
 // The last place and the parity that the first part names; zeros where there is none.
-fn told(parts: &[Part<'_>]) -> (u8, u8)
-    ensures last { result.0 ≡ last_told parts.now }
-    ensures parity { result.1 ≡ parity_told parts.now }
+fn named(parts: &[Part<'_>]) -> (u8, u8)
+    ensures last { result.0 ≡ last_named parts.now }
+    ensures parity { result.1 ≡ parity_named parts.now }
 {
     match parts {
         [first, ..] => (first.last, first.parity),

@@ -74,12 +74,12 @@ fn number(word: Option<&str>) -> Option<u32> {
 }
 
 // Builds a case so many times, and gives the digest of what was built.
-fn build(alloc: Global, case: &Case, count: u32, told: Option<u32>) -> QrResult<Digest> {
+fn build(alloc: Global, case: &Case, count: u32, wanted: Option<u32>) -> QrResult<Digest> {
     let data = case.1.repeated(alloc, case.2)?;
     match &case.3 {
         Build::OfData(made) => of_data(alloc, &data, made, count),
         Build::BestMask(version) => best_masks(alloc, &data, *version, count),
-        Build::Picture(format, pixels) => pictures(alloc, &data, format, told.or(*pixels), count),
+        Build::Picture(format, pixels) => pictures(alloc, &data, format, wanted.or(*pixels), count),
     }
 }
 

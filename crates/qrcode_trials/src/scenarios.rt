@@ -89,7 +89,7 @@ fn of_bytes(alloc: Global, bytes: &[u8], call: &DataCall) -> QrResult<Digest> {
             correction::codewords(alloc, bytes, *version, *level)
         }
         DataCall::Code(constructor) => symbols::construct(alloc, bytes, constructor),
-        DataCall::InManner(way, told) => texts::run_of_data(alloc, bytes, *way, *told),
+        DataCall::InManner(way, wanted) => texts::run_of_data(alloc, bytes, *way, *wanted),
         DataCall::LeastOfText(version) => texts::least(alloc, bytes, *version),
         DataCall::Text(call) => texts::run(alloc, bytes, call),
         DataCall::Read(version, call) => readings::run(alloc, bytes, *version, call),

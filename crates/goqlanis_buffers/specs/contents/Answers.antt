@@ -35,12 +35,12 @@ IsNumberOf (NotElement place cause) n = n ≡ element_number cause
 IsNumberOf (NoSymbol refusal) n = refusal_of n ≡ Some refusal
 
 -- the place that C gets: that of the field that is wrong, and otherwise the one before
-abbrev pub place_told : Refusal → ℕ → ℕ
-place_told (NotText place) before = place
-place_told (NoSuchField place) before = place
-place_told (Wrong place cause) before = place
-place_told (NotElement place cause) before = place
-place_told SmallBuffer before = before
-place_told OutOfMemory before = before
-place_told NoSuchContent before = before
-place_told (NoSymbol refusal) before = before
+abbrev pub place_reported : Refusal → ℕ → ℕ
+place_reported (NotText place) before = place
+place_reported (NoSuchField place) before = place
+place_reported (Wrong place cause) before = place
+place_reported (NotElement place cause) before = place
+place_reported SmallBuffer before = before
+place_reported OutOfMemory before = before
+place_reported NoSuchContent before = before
+place_reported (NoSymbol refusal) before = before

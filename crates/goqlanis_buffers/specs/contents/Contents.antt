@@ -15,7 +15,7 @@ use Rattle.qrcode_contents.specs.Payment.{payment_refusal, payment_text, read_pa
 use Rattle.qrcode_contents.specs.Phone.{phone_refusal, message_text, read_message}
 use Rattle.qrcode_contents.specs.Wifi.{wifi_refusal, wifi_text, read_wifi}
 use Rattle.qrcode_contents.specs.Event.{event_refusal, event_text, read_event}
-use Rattle.goqlanis_buffers.specs.contents.Answers.{place_told, IsNumberOf}
+use Rattle.goqlanis_buffers.specs.contents.Answers.{place_reported, IsNumberOf}
 use Rattle.goqlanis_buffers.specs.contents.Forms.{kind_named, forms_of, AreTaken, IsFirstWrong, IsPlaceOf}
 use Rattle.goqlanis_buffers.specs.contents.Given.{text_at}
 use Rattle.goqlanis_buffers.specs.contents.Values.{network_in, person_in, contact_in, transfer_in, invoice_in, letter_in, place_in, time_in, counter_in, key_in, times_in, days_in, happening_in}
@@ -126,4 +126,4 @@ pub record IsRefused (number : ℕ) (given : List Item) (room answer before afte
   pub refusal : Refusal
   pub cause : IsCause number given room refusal
   pub answered : IsNumberOf refusal answer
-  pub told : after ≡ place_told refusal before
+  pub reported : after ≡ place_reported refusal before

@@ -13,7 +13,7 @@ use Rattle.goqlanis_buffers.specs.declared.answers.Refusal as of_symbols
 use Rattle.goqlanis_buffers.specs.declared.answers.Refusal.TheVariants.{NoRoom}
 use Rattle.goqlanis_buffers.specs.declared.options.Asked.{Asked}
 use Rattle.goqlanis_buffers.specs.declared.options.Options.{Options}
-use Rattle.goqlanis_buffers.specs.contents.Answers.{place_told, IsNumberOf}
+use Rattle.goqlanis_buffers.specs.contents.Answers.{place_reported, IsNumberOf}
 use Rattle.goqlanis_buffers.specs.declared.contents.answers.Refusal.{Refusal}
 use Rattle.goqlanis_buffers.specs.declared.contents.answers.Refusal.TheVariants.{SmallBuffer, OutOfMemory, NotText, NotElement, NoSymbol}
 use Rattle.goqlanis_buffers.specs.declared.contents.elements.Part.{Part}
@@ -102,11 +102,11 @@ pub record IsElementsSymbolRefused (o : Options) (parts : List Part) (room answe
   pub refusal : Refusal
   pub cause : IsElementsSymbolCause o parts room refusal
   pub answered : IsNumberOf refusal answer
-  pub told : after ≡ place_told refusal before
+  pub reported : after ≡ place_reported refusal before
 
 -- an answer, and the place that replaces the one before, are those of a refusal that has its cause
 pub record AreElementsRefused (parts : List Part) (room answer before after : ℕ) : Type 0 where
   pub refusal : Refusal
   pub cause : IsElementsCause parts room refusal
   pub answered : IsNumberOf refusal answer
-  pub told : after ≡ place_told refusal before
+  pub reported : after ≡ place_reported refusal before

@@ -1,7 +1,7 @@
 //! What the call answers.
 
 ghost use Rattle.std.specs.Prelude.{◌≡◌, ◌≢◌};
-ghost use Rattle.goqlanis_buffers.specs.contents.Answers.{cause_number, element_number, place_told, IsNumberOf};
+ghost use Rattle.goqlanis_buffers.specs.contents.Answers.{cause_number, element_number, place_reported, IsNumberOf};
 
 use crate::answers::Refusal as OfSymbols;
 use qrcode_contents::fields::errors::Cause;
@@ -78,7 +78,7 @@ impl Refusal {
 
     /// The place of the field that is wrong, or else the one before.
     pub fn place(self, before: usize) -> usize
-        ensures value { result ≡ place_told self before }
+        ensures value { result ≡ place_reported self before }
     {
         match self {
             Refusal::NotText(place) | Refusal::NoSuchField(place) => place,

@@ -10,7 +10,7 @@ use std::alloc::Global;
 use std::fmt::Display;
 
 // Whether a refusal has this text.
-fn tells<E: Display>(alloc: Global, error: &E, text: &str) -> bool {
+fn reads_as<E: Display>(alloc: Global, error: &E, text: &str) -> bool {
     match format!(in alloc; "{error}") {
         Ok(shown) => shown.as_str() == text,
         Err(_) => false,
@@ -22,21 +22,21 @@ fn contents_tell_field_and_cause(rt: HostRuntime) {
     let alloc = rt.alloc();
     let iban = ContentError::Refused(Field::Iban, Cause::CheckDigits);
     let town = ContentError::Refused(Field::DebtorCity, Cause::Empty);
-    assert!(rt; tells(alloc, &iban, "Iban: CheckDigits"));
-    assert!(rt; tells(alloc, &town, "DebtorCity: Empty"));
-    assert!(rt; tells(alloc, &ContentError::OutOfMemory, "out of memory"));
+    assert!(rt; reads_as(alloc, &iban, "Iban: CheckDigits"));
+    assert!(rt; reads_as(alloc, &town, "DebtorCity: Empty"));
+    assert!(rt; reads_as(alloc, &ContentError::OutOfMemory, "out of memory"));
 }
 
 #[test]
 fn elements_tell_index_and_cause(rt: HostRuntime) {
     let alloc = rt.alloc();
     let wrong = Gs1Error::Refused(2, ElementCause::CheckDigit);
-    assert!(rt; tells(alloc, &wrong, "element 2: CheckDigit"));
+    assert!(rt; reads_as(alloc, &wrong, "element 2: CheckDigit"));
     let wrong = SymbolError::Elements(wrong);
-    assert!(rt; tells(alloc, &wrong, "element 2: CheckDigit"));
-    assert!(rt; tells(alloc, &Gs1Error::OutOfMemory, "out of memory"));
+    assert!(rt; reads_as(alloc, &wrong, "element 2: CheckDigit"));
+    assert!(rt; reads_as(alloc, &Gs1Error::OutOfMemory, "out of memory"));
     let long = SymbolError::Symbol(QrError::DataTooLong);
-    assert!(rt; tells(alloc, &long, "data too long"));
+    assert!(rt; reads_as(alloc, &long, "data too long"));
 }
 
 // Why parts are not joined, and the text of that.
@@ -52,6 +52,6 @@ static OF_PARTS: [(JoinError, &str); 5] = [
 #[test]
 fn parts_tell_their_place(rt: HostRuntime) {
     for (i, (error, text)) in OF_PARTS.iter().enumerate() {
-        check_row(&rt, i, tells(rt.alloc(), error, *text));
+        check_row(&rt, i, reads_as(rt.alloc(), error, *text));
     }
 }

@@ -11,7 +11,7 @@ use crate::scenarios::readings::ReadCall;
 use crate::scenarios::scans::Form;
 use crate::scenarios::several::SeveralCall;
 use crate::scenarios::symbols::{Constructor, SymbolCall};
-use crate::scenarios::texts::{TextCall, Told, Way};
+use crate::scenarios::texts::{TextCall, Wanted, Way};
 use qrcode::types::{EcLevel, QrError, QrResult, Version};
 use qrcode_pushes::{Fault, Push};
 
@@ -65,7 +65,7 @@ pub enum DataCall {
     /// A constructor.
     Code(Constructor),
     /// A symbol of data in a manner, and its bits.
-    InManner(Way, Told),
+    InManner(Way, Wanted),
     /// `least_segments_in` of the modes of texts.
     LeastOfText(Version),
     /// A symbol of a text.

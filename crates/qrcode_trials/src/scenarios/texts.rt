@@ -39,7 +39,7 @@ pub enum Way {
 
 /// The manner, version and level of data.
 #[derive(Clone, Copy)]
-pub struct Told(pub Manner, pub Version, pub EcLevel);
+pub struct Wanted(pub Manner, pub Version, pub EcLevel);
 
 /// Makes a call of texts.
 pub fn run(alloc: Global, data: &[u8], call: &TextCall) -> QrResult<Digest> {
@@ -55,15 +55,15 @@ pub fn run(alloc: Global, data: &[u8], call: &TextCall) -> QrResult<Digest> {
 }
 
 /// The bits and the symbol of data in a manner.
-pub fn run_of_data(alloc: Global, data: &[u8], way: Way, told: Told) -> QrResult<Digest> {
-    let bits = digest_of(bits_of(alloc, data, way, told)?);
-    let code = of_code(symbol_of(alloc, data, way, told))?;
+pub fn run_of_data(alloc: Global, data: &[u8], way: Way, wanted: Wanted) -> QrResult<Digest> {
+    let bits = digest_of(bits_of(alloc, data, way, wanted)?);
+    let code = of_code(symbol_of(alloc, data, way, wanted))?;
     Ok(bits.and(code))
 }
 
 // The bits of data.
-fn bits_of(alloc: Global, data: &[u8], way: Way, told: Told) -> QrResult<Bits> {
-    let Told(manner, version, level) = told;
+fn bits_of(alloc: Global, data: &[u8], way: Way, wanted: Wanted) -> QrResult<Bits> {
+    let Wanted(manner, version, level) = wanted;
     match way {
         Way::AtLeast => encode_from(alloc, data, manner, version, level),
         Way::Boosted => Ok(encode_boosted(alloc, data, manner, version, level)?.0),
@@ -72,8 +72,8 @@ fn bits_of(alloc: Global, data: &[u8], way: Way, told: Told) -> QrResult<Bits> {
 }
 
 // The symbol of data.
-fn symbol_of(alloc: Global, data: &[u8], way: Way, told: Told) -> QrResult<QrCode> {
-    let Told(manner, version, level) = told;
+fn symbol_of(alloc: Global, data: &[u8], way: Way, wanted: Wanted) -> QrResult<QrCode> {
+    let Wanted(manner, version, level) = wanted;
     match way {
         Way::AtLeast => QrCode::at_least(alloc, data, manner, version, level),
         Way::Boosted => QrCode::at_least_boosted(alloc, data, manner, version, level),

@@ -17,7 +17,7 @@ returns-in_err-push_terminator-clause-causes c = λ room.
     let v = c.in-Some-version_named in
     let l = c.in-Some in
     let segments = c.args.segments.now in
-    let told = c.from_residual-in_err-push_terminator in
+    let reported = c.from_residual-in_err-push_terminator in
     let version = ap (λ (b : BitList). b.version) c.new-bits.ensures.empty in
     let pushed = c.in_ok-push_all.ensures in
     let ends = c.in_err-push_terminator.ensures.ends in
@@ -25,4 +25,4 @@ returns-in_err-push_terminator-clause-causes c = λ room.
     (sym c.level_named.ensures.value ∙ l.is) (sym (c.in_ok-max_len.ensures.exists ∙ ap (λ w. has_level w l.ec_level) version))
     (pushed.version ∙ version) (pushed.written ∙ ap (λ w. written_segments w segments) version)
     (subst (λ w. AreTaken w segments (length segments)) version pushed.taken) refl ends.accepted ends.refused in
-    handed_on told.result _ (IsSegmentsCause c.args.version c.args.level segments room) told.ensures cause
+    handed_on reported.result _ (IsSegmentsCause c.args.version c.args.level segments room) reported.ensures cause

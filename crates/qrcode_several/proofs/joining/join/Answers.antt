@@ -7,5 +7,5 @@ use Rattle.qrcode_several.proofs.joining.join.Goals as goal
 pub returns-in-Some-clause-accepts : goal.returns-in-Some-clause-accepts
 returns-in-Some-clause-accepts c = λ bytes count part s.
     let parts = c.args.parts.now in
-    let told = c.told-last.ensures in
-    shares_taken bytes count part parts (Stranger c.in-Some.index) s (sym (ap₂ (λ (last parity : ℕ). first_stranger last parity 0 parts) told.last told.parity) ∙ sym c.stranger.ensures ∙ c.in-Some.is)
+    let named = c.named-last.ensures in
+    shares_taken bytes count part parts (Stranger c.in-Some.index) s (sym (ap₂ (λ (last parity : ℕ). first_stranger last parity 0 parts) named.last named.parity) ∙ sym c.stranger.ensures ∙ c.in-Some.is)

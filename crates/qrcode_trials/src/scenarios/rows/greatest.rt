@@ -19,7 +19,7 @@ use crate::scenarios::scenario::Single::{Density, Grey, Scan, Sweep};
 use crate::scenarios::several::SeveralCall::{self, BytesWithin, Counted, Join, TextWithin};
 use crate::scenarios::symbols::Constructor::{New, WithLevel};
 use crate::scenarios::texts::TextCall::{In, MarkedIn, Of, OfMarked};
-use crate::scenarios::texts::Told;
+use crate::scenarios::texts::Wanted;
 use crate::scenarios::texts::Way::{AtLeast, Boosted, InVersion};
 use qrcode::bits::Manner;
 use qrcode::types::EcLevel::{H, L, M};
@@ -56,9 +56,9 @@ pub static OF_SYMBOLS: [Scenario; 26] = [
     Scenario("greatest: QrCode::of_marked_text", Ample, None, OfData(Times(b'7', 7_085), Symbol(OfMarked(L)))),
     Scenario("greatest: QrCode::of_text_in", Ample, None, OfData(Times(b'7', 7_089), Symbol(In(Normal(40), L)))),
     Scenario("greatest: QrCode::of_marked_text_in", Ample, None, OfData(Times(b'7', 7_085), Symbol(MarkedIn(Normal(40), L)))),
-    Scenario("greatest: QrCode::at_least", Ample, None, OfData(Times(b'7', 7_089), InManner(AtLeast, Told(Manner::Text, Micro(1), L)))),
-    Scenario("greatest: QrCode::at_least_boosted", Ample, None, OfData(Times(b'7', 7_085), InManner(Boosted, Told(Manner::MarkedText, Normal(1), L)))),
-    Scenario("greatest: QrCode::in_version", Ample, None, OfData(Times(b'7', 7_089), InManner(InVersion, Told(Manner::Bytes, Normal(40), L)))),
+    Scenario("greatest: QrCode::at_least", Ample, None, OfData(Times(b'7', 7_089), InManner(AtLeast, Wanted(Manner::Text, Micro(1), L)))),
+    Scenario("greatest: QrCode::at_least_boosted", Ample, None, OfData(Times(b'7', 7_085), InManner(Boosted, Wanted(Manner::MarkedText, Normal(1), L)))),
+    Scenario("greatest: QrCode::in_version", Ample, None, OfData(Times(b'7', 7_089), InManner(InVersion, Wanted(Manner::Bytes, Normal(40), L)))),
     Scenario("greatest: encode_several", Ample, None, OfData(Times(b'7', 113_328), Several(SeveralCall::Bytes(Normal(40), L)))),
     Scenario("past it: encode_several", Ample, Some(DataTooLong), OfData(Times(b'7', 113_329), Several(SeveralCall::Bytes(Normal(40), L)))),
     Scenario("greatest: encode_text_several", Ample, None, OfData(Times(b'7', 113_328), Several(SeveralCall::Text(Normal(40), L)))),
