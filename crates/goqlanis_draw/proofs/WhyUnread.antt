@@ -4,13 +4,13 @@ use Rattle.std.specs.Prelude.{if◌then◌else◌}
 use Rattle.qrcode_types.specs.declared.types.Color.{Color}
 use Rattle.qrcode_render.specs.Bitmap.{Bitmap}
 use Rattle.qrcode_reader.specs.scan.Files.{IsSeenIn}
-use Rattle.qrcode_reader.specs.scan.Squares.{has_dark_edge, inverted, IsSquareIn}
+use Rattle.qrcode_reader.specs.scan.Squares.{has_dark_edge, inverted}
 use Rattle.qrcode_reader.specs.Positions.{seen}
 use Rattle.qrcode_reader.specs.Readings.{IsPartsCause, ReadsParts}
 use Rattle.qrcode_reader.specs.declared.positions.Position.{Position}
 use Rattle.qrcode_reader.specs.declared.spell.parts.Part.{Part}
 use Rattle.qrcode_reader.specs.declared.refusals.Unread as reading
-use Rattle.goqlanis_draw.specs.Scans.{IsUnreadIn, IsUnreadPicture, unread_as}
+use Rattle.goqlanis_draw.specs.Scans.{IsLeastSquareIn, IsUnreadIn, IsUnreadPicture, unread_as}
 use Rattle.goqlanis_draw.specs.declared.scanning.Unread.{Unread}
 use Rattle.goqlanis_draw.specs.declared.scanning.Unread.TheVariants.{Unscanned, NoSquare, NoSymbol, OutOfMemory}
 
@@ -18,11 +18,11 @@ abbrev pub HasNone : ℕ → List Color → Type 0
 HasNone side modules = (p : Position) (is_inverted : Bool) (bytes : List ℕ) (parts : List Part) → ¬ ReadsParts (seen side p is_inverted modules) bytes parts
 
 -- the square that pixels show is not read
-pub unread_square : (b : Bitmap) (count zone scale : ℕ) (modules : List Color) (e : reading.Unread) → IsSquareIn b count zone scale modules
+pub unread_square : (b : Bitmap) (count zone scale : ℕ) (modules : List Color) (e : reading.Unread) → IsLeastSquareIn b count zone scale modules
     → (e ≡ reading.TheVariants.OutOfMemory) ⊎ (IsPartsCause modules e × ((side : ℕ) → side * side ≡ length modules → HasNone side modules)) → IsUnreadIn b (unread_as count e)
 unread_square b count zone scale modules e square why = elim why [
   | inl memory ↦ subst (λ e. IsUnreadIn b (unread_as count e)) (sym memory) tt
-  | inr other ↦ caused e other.0 (other.1 count (sym square.square))
+  | inr other ↦ caused e other.0 (other.1 count (sym square.square.square))
 ] where
   caused : (e : reading.Unread) → IsPartsCause modules e → HasNone count modules → IsUnreadIn b (unread_as count e)
   caused reading.TheVariants.NoSuchSide cause none = record { zone = zone; scale = scale; modules = modules; square = square; cause = cause; none = none }

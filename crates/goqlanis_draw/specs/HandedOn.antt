@@ -1,5 +1,5 @@
--- The bytes of headers and segments as readers hand them on (ISO/IEC 18004:2006, 6.4.8.1): those of the segments, except that behind FNC1 the characters
--- of the mode Alphanumeric stand for others.
+-- The bytes that are read of headers and segments (ISO/IEC 18004:2006, 6.4.8): those of the segments, except that behind FNC1 the characters of the mode
+-- Alphanumeric stand for others. Headers give none, not even an application's indicator.
 use Rattle.std.specs.Prelude.{ℕ, Bool, true, false, ◌||◌, List, [], ◌∷◌, ◌++◌, take, drop, if◌then◌else◌}
 use Rattle.qrcode_gs1.specs.declared.symbol.Position.{Position}
 use Rattle.qrcode_gs1.specs.declared.symbol.Position.TheVariants.{First, Second}

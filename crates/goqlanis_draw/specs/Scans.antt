@@ -1,5 +1,5 @@
 -- What is read of a picture.
-use Rattle.std.specs.Prelude.{◌≡◌, ◌<◌, ℕ, List, [], ◌∷◌, Bool, false, flat_map, if◌then◌else◌}
+use Rattle.std.specs.Prelude.{◌≡◌, ◌<◌, ◌≤◌, ℕ, List, [], ◌∷◌, Bool, false, flat_map, if◌then◌else◌}
 use Rattle.qrcode_types.specs.declared.types.Color.{Color}
 use Rattle.qrcode_render.specs.Bitmap.{Bitmap}
 use Rattle.qrcode_gs1.specs.declared.symbol.Position as gs1
@@ -18,8 +18,13 @@ use Rattle.goqlanis_draw.specs.declared.scanning.Scan.{Scan}
 use Rattle.goqlanis_draw.specs.declared.scanning.Unread.{Unread}
 use Rattle.goqlanis_draw.specs.declared.scanning.Unread.TheVariants.{Unscanned, NoSquare, NoSymbol, OutOfMemory}
 
-abbrev pub IsSquareOf : Scan → Bitmap → Type 0  -- the square of modules that pixels show
-IsSquareOf scan b = IsSquareIn b scan.square.count scan.square.zone scan.square.scale scan.square.modules.items
+-- the square of modules that pixels show: no square whose first row has a dark module has fewer modules a side
+pub record IsLeastSquareIn (b : Bitmap) (count zone scale : ℕ) (modules : List Color) : Type 0 where
+  pub square : IsSquareIn b count zone scale modules
+  pub least : (other around size column : ℕ) (others : List Color) → IsFramedIn b other around size column others → count ≤ other
+
+abbrev pub IsSquareOf : Scan → Bitmap → Type 0  -- what is read is that square
+IsSquareOf scan b = IsLeastSquareIn b scan.square.count scan.square.zone scan.square.scale scan.square.modules.items
 
 abbrev pub header_in : Part → List Header  -- the header that a part is
 header_in (Front h) = h ∷ []
@@ -29,7 +34,7 @@ abbrev pub headers_in : List Part → List Header  -- the headers among parts
 headers_in parts = flat_map header_in parts
 
 -- The reading of that square: that of the headers and segments in the first position in which there are some, and its headers. The bytes are those of the
--- segments as readers hand them on: where there is no header the reading as bytes in the first position in which the square has one, and where FNC1 stands in
+-- segments, behind FNC1 with separators: where there is no header the reading as bytes in the first position in which the square has one, and where FNC1 stands in
 -- front, and no other header, what a reader finds behind it.
 pub record IsReadAs (scan : Scan) : Type 0 where
   pub bytes : List ℕ
@@ -52,12 +57,12 @@ pub record IsScanOf (bytes : List ℕ) (scan : Scan) : Type 0 where
   pub square : IsSquareOf scan (if scan.is_inverted then inverted pixels else pixels)
   pub read : IsReadAs scan
 
--- pixels show a square of so many modules a side, which has no headers and segments in any position; this is why it has none as it stands
+-- the square that pixels show is of so many modules a side, and has no headers and segments in any position; this is why it has none as it stands
 pub record ShowsNoSymbol (b : Bitmap) (count : ℕ) (e : reading.Unread) : Type 0 where
   pub zone : ℕ
   pub scale : ℕ
   pub modules : List Color
-  pub square : IsSquareIn b count zone scale modules
+  pub square : IsLeastSquareIn b count zone scale modules
   pub cause : IsPartsCause modules e
   pub none : (p : Position) (is_inverted : Bool) (bytes : List ℕ) (parts : List Part) → ¬ ReadsParts (seen count p is_inverted modules) bytes parts
 

@@ -22,9 +22,11 @@ pub struct Scan {
     pub square: Square,
     /// Whether the picture has dark and light exchanged.
     pub is_inverted: bool,
-    /// What the square is read as, and in which position: the bytes as readers hand them on.
+    /// What the square is read as, and in which position: the bytes of the segments, behind FNC1
+    /// with separators.
     pub any: AnyReading,
-    /// The headers between the segments, as the number of a character set, in their order.
+    /// The headers between the segments, as the number of a character set or the indicator of an
+    /// application, in their order.
     pub headers: Vec<Header>,
 }
 
@@ -193,7 +195,7 @@ fn push_header(headers: &mut Vec<Header>, part: Part) -> Result<(), AllocError>
     Ok(())
 }
 
-// The bytes of parts as readers hand them on (ISO/IEC 18004:2006, 6.4.8.1).
+// The bytes that are read of parts (ISO/IEC 18004:2006, 6.4.8).
 fn handed_on(alloc: Global, found: &Parts) -> Result<Vec<u8>, AllocError>
     ensures { IfOk result (λ bytes. bytes.items
         ≡ handed_on false found.now.parts.items found.now.bytes.items) }

@@ -4,7 +4,7 @@ use Rattle.qrcode_reader.specs.scan.Squares.{IsSquareIn}
 use Rattle.qrcode_reader.specs.Positions.{IsFirstPartsReading}
 use Rattle.qrcode_reader.specs.Readings.{IsPartsCause}
 use Rattle.qrcode_reader.specs.declared.refusals.Unread as reading
-use Rattle.goqlanis_draw.specs.Scans.{IsUnreadIn}
+use Rattle.goqlanis_draw.specs.Scans.{IsLeastSquareIn, IsUnreadIn}
 use Rattle.goqlanis_draw.proofs.WhyUnread.{HasNone, unread_square}
 use Rattle.goqlanis_draw.proofs.scanning.read_pixels.Goals as goal
 
@@ -12,7 +12,7 @@ pub returns-in-Err-clause-causes : goal.returns-in-Err-clause-causes
 returns-in-Err-clause-causes c =
     let s = c.in-Some.square in
     let e = c.in-Err.error in
-    let square : IsSquareIn c.args.pixels.now s.count s.zone s.scale s.modules.items = search rules in
+    let square : IsLeastSquareIn c.args.pixels.now s.count s.zone s.scale s.modules.items = search rules in
     let same : c.deref.result.now ≡ s.modules.items = search rules in
     subst (IsUnreadIn c.args.pixels.now) (sym c.no_symbol.ensures)
     (unread_square c.args.pixels.now s.count s.zone s.scale s.modules.items e square
