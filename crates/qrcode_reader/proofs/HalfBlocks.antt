@@ -1,8 +1,40 @@
 -- Texts that are taken apart into half blocks, and their rows.
-use Rattle.std.proofs.Common.{◌≡◌, ◌+◌, ℕ, Bool, false, List, [], ◌∷◌, ◌++◌, get_or, arith, sym, ap, ap₂, subst, ◌∙◌, append_assoc}
-use Rattle.std.proofs.lemmas.List.FromFn.{map-range_with_len_more}
-use Rattle.qrcode_reader.specs.scan.Halves.{IsHalf, AreHalves, padded}
+use Rattle.std.proofs.Common.{◌≡◌, ◌⊎◌, inl, inr, ◌+◌, ◌*◌, ◌/◌, ◌<◌, ◌≤◌, ◌==◌, ◌&&◌, not, ℕ, length, take, drop, refl, length-append, Option, Some, None, Bool, true, false, List, [], ◌∷◌, ◌++◌, get_or, arith, sym, ap, ap₂, subst, ◌∙◌, append_assoc}
+use Rattle.std.proofs.lemmas.List.FromFn.{map-range_with_len_more, length-map-range_with_len}
+use Rattle.std.proofs.lemmas.Bool.{and_parts, eqb-true}
+use Rattle.std.proofs.lemmas.List.{length-take-le}
+use Rattle.std.proofs.lemmas.Nat.{div-mul-add}
+use Rattle.std.specs.List.{list_all}
+use Rattle.std.specs.Prelude.{if◌then◌else◌}
+use Rattle.std.proofs.lemmas.Option.{none-some}
+use Rattle.qrcode_reader.specs.scan.Halves.{half_in, colours_of, IsHalf, AreHalves, padded, rows_from, without_last}
 use Rattle.qrcode_reader.specs.declared.scan.halves.Half.{Half}
+use Rattle.qrcode_reader.specs.declared.scan.halves.Half.TheVariants.{Pair, End, Return, Colours}
+
+-- what a text begins with is found
+half_of : (h : Half) (text rest : List ℕ) → IsHalf h text rest → half_in text ≡ Some (h, rest)
+half_of (Pair false false) text rest is = ap half_in is
+half_of (Pair true false) text rest is = ap half_in is
+half_of (Pair false true) text rest is = ap half_in is
+half_of (Pair true true) text rest is = ap half_in is
+half_of End text rest is = ap half_in is
+half_of Return text rest is = ap half_in is
+half_of Colours text rest is = ap half_in is.1.0 ∙ ap colours_of is.1.1
+
+abbrev behind : Option (Half × List ℕ) → List ℕ  -- what follows what is found
+behind None = []
+behind (Some found) = found.1
+
+-- a text that begins with nothing of half blocks consists of none
+pub no_halves : (text : List ℕ) → half_in text ≡ None → (text ≡ [] → ⊥) → (halves : List Half) → AreHalves halves text → ⊥
+no_halves text none some [] are = some are
+no_halves text none some (h ∷ hs) are = absurd (none-some (h, are.0) (sym none ∙ half_of h text are.0 are.1.0))
+
+-- what follows the first of those of which a text consists
+pub halves_past : (h : Half) (text rest : List ℕ) → IsHalf h text rest → (text ≡ [] → ⊥) → (halves : List Half) → AreHalves halves text → (more : List Half) × AreHalves more rest
+halves_past h text rest is some [] are = absurd (some are)
+halves_past h text rest is some (g ∷ gs) are =
+    (gs, subst (AreHalves gs) (ap behind (sym (half_of g text are.0 are.1.0) ∙ half_of h text rest is)) are.1.1)
 
 -- one more
 pub halves_on : (done : List Half) (h : Half) (text rest behind : List ℕ) → IsHalf h rest behind → ((more : List Half) → AreHalves more rest → AreHalves (done ++ more) text)
@@ -14,3 +46,73 @@ pub row_on : (old new marks row : List Bool) (x : ℕ) (mark : Bool) → new ≡
 row_on old new marks row x mark pushed so is =
     pushed ∙ ap₂ (λ (xs : List Bool) (m : Bool). xs ++ m ∷ []) so is ∙ append_assoc old (padded x row) (get_or row x false ∷ [])
     ∙ ap (λ (xs : List Bool). old ++ xs) (sym (map-range_with_len_more (λ k. get_or row k false) 0 x x (omega arith)))
+
+-- a row has so many pixels
+padded_length : (across : ℕ) (row : List Bool) → length (padded across row) ≡ across
+padded_length across row = length-map-range_with_len (λ x. get_or row x false) 0 across
+
+-- two rows more
+two_more : (across n : ℕ) (upper lower rest : List Bool) → length rest ≡ across * n → length (padded across upper ++ (padded across lower ++ rest)) ≡ across * (n + 2)
+two_more across n upper lower rest is =
+    omega (arith, length-append (padded across upper) (padded across lower ++ rest), length-append (padded across lower) rest, padded_length across upper, padded_length across lower, is)
+
+-- the rows of the last line, which may be none
+last_line : (is_none : Bool) (across : ℕ) (upper lower : List Bool) → (n : ℕ) × (length (if is_none then [] else padded across upper ++ padded across lower) ≡ across * n)
+last_line true across upper lower = (0, omega arith)
+last_line false across upper lower =
+    (2, omega (arith, length-append (padded across upper) (padded across lower), padded_length across upper, padded_length across lower))
+
+-- rows have the same number of pixels each
+rows_whole : (across : ℕ) (upper lower : List Bool) (halves : List Half) → (n : ℕ) × (length (rows_from across upper lower halves) ≡ across * n)
+unfolding rows_from
+rows_whole across upper lower [] = last_line (length upper == 0) across upper lower
+rows_whole across upper lower (Pair a b ∷ halves) = rows_whole across (upper ++ a ∷ []) (lower ++ b ∷ []) halves
+rows_whole across upper lower (End ∷ halves) =
+    let rest = rows_whole across [] [] halves in
+    (rest.0 + 2, two_more across rest.0 upper lower (rows_from across [] [] halves) rest.1)
+rows_whole across upper lower (Return ∷ halves) = rows_whole across upper lower halves
+rows_whole across upper lower (Colours ∷ halves) = rows_whole across upper lower halves
+
+-- at most a row is left out
+left_out : (b : Bool) (across : ℕ) (marks : List Bool) → (b ≡ true → length marks ≡ across * (across + 1))
+    → (length marks ≡ length (if b then take (across * across) marks else marks)) ⊎ ((length marks ≡ across * (across + 1)) × (length (if b then take (across * across) marks else marks) ≡ across * across))
+left_out true across marks is = inr (is refl, length-take-le (across * across) marks (omega (arith, is refl)))
+left_out false across marks is = inl refl
+
+without_cases : (across : ℕ) (marks : List Bool) → (length marks ≡ length (without_last across marks))
+    ⊎ ((length marks ≡ across * (across + 1)) × (length (without_last across marks) ≡ across * across))
+without_cases across marks =
+    let odd = length marks == across * (across + 1) in
+    let light = list_all not (drop (across * across) marks) in
+    left_out (odd && light) across marks (λ is. eqb-true (length marks) (across * (across + 1)) (and_parts odd light is).0)
+
+divided : (across n count : ℕ) → 0 < across → count ≡ across * n → count ≡ across * (count / across)
+divided across n count some is =
+    let by : count / across ≡ n = ap (λ k. k / across) (omega (arith, is)) ∙ div-mul-add n across 0 some in
+    is ∙ ap (λ k. across * k) (sym by)
+
+-- the pixels of a text are rows of so many
+pub text_rows : (across : ℕ) (halves : List Half) → 0 < across
+    → length (without_last across (rows_from across [] [] halves)) ≡ across * (length (without_last across (rows_from across [] [] halves)) / across)
+text_rows across halves some =
+    let all = rows_whole across [] [] halves in
+    let count = length (without_last across (rows_from across [] [] halves)) in
+    elim (without_cases across (rows_from across [] [] halves)) [
+      | inl same ↦ divided across all.0 count some (sym same ∙ all.1)
+      | inr less ↦ divided across across count some less.1
+    ]
+
+-- so many pixels that two rows more are too many
+pub too_many : (across : ℕ) (marks rest all : List Bool) → marks ++ rest ≡ all → across ≤ length rest → 4096 * across < length marks → 4096 * across < length (without_last across all)
+too_many across marks rest all is room many =
+    let total : length marks + length rest ≡ length all = sym (length-append marks rest) ∙ ap length is in
+    elim (without_cases across all) [
+      | inl same ↦ omega (arith, total, same, room, many)
+      | inr less ↦ omega (arith, total, less.0, less.1, room, many)
+    ]
+
+-- the two rows of a line that ends
+pub line_room : (across : ℕ) (upper lower : List Bool) (halves : List Half) → across ≤ length (rows_from across upper lower (End ∷ halves))
+unfolding rows_from
+line_room across upper lower halves =
+    omega (arith, length-append (padded across upper) (padded across lower ++ rows_from across [] [] halves), padded_length across upper)

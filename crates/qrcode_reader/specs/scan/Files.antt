@@ -2,7 +2,7 @@
 use Rattle.std.specs.Prelude.{◌≡◌, ◌≢◌, ℕ, ◌+◌, ◌-◌, ◌*◌, ◌/◌, ◌%◌, ◌^◌, ◌≤◌, ◌<◌, ◌==◌, ◌||◌, nat_lt, Bool, true, false, List, [], ◌∷◌, length, map, flat_map, drop, take, take_while, codes, slice_index, if◌then◌else◌}
 use Rattle.std.specs.List.{range_with_len}
 use Rattle.qrcode_render.specs.Bitmap.{Bitmap}
-use Rattle.qrcode_reader.specs.scan.Halves.{IsHalfBlocks}
+use Rattle.qrcode_reader.specs.scan.Halves.{IsHalfBlocks, IsHalvesRefusal}
 use Rattle.qrcode_reader.specs.scan.Heads.{is_white, is_ended, sides_of, greatest_of, HasSides, HasGrey}
 use Rattle.qrcode_reader.specs.declared.scan.pixels.Unscanned.{Unscanned}
 use Rattle.qrcode_reader.specs.declared.scan.pixels.Unscanned.TheVariants.{NotPicture, NoSide, NoGrey, NotPixel, TooShort, OutOfMemory}
@@ -97,8 +97,9 @@ pub record IsSeenIn (file : List ℕ) (b : Bitmap) : Type 0 where
   pub greys : take 2 file ≡ codes "P5" → IsGreysFile file × (b ≡ greys_file file)
   pub halves : take 2 file ≢ codes "P1" → take 2 file ≢ codes "P4" → take 2 file ≢ codes "P5" → IsHalfBlocks file b
 
--- why the bytes of a picture are refused: of a file, by its first two bytes, what it lacks to be one, or that memory ran out
+-- why the bytes of a picture are refused: what they lack to be a file, by its first two bytes, or else half blocks; or that memory ran out
 pub record IsUnscanned (file : List ℕ) (e : Unscanned) : Type 0 where
   pub figures : take 2 file ≡ codes "P1" → IsFiguresRefusal file e
   pub bits : take 2 file ≡ codes "P4" → IsBitsRefusal file e
   pub greys : take 2 file ≡ codes "P5" → IsGreysRefusal file e
+  pub halves : take 2 file ≢ codes "P1" → take 2 file ≢ codes "P4" → take 2 file ≢ codes "P5" → IsHalvesRefusal file e

@@ -1,9 +1,11 @@
 -- The pixels of texts of half blocks.
-use Rattle.std.specs.Prelude.{◌≡◌, ℕ, ◌+◌, ◌*◌, ◌==◌, ◌&&◌, ◌||◌, nat_le, max, not, Bool, true, false, List, [], ◌∷◌, ◌++◌, Option, Some, None, length, map, take, drop, slice_index_or, if◌then◌else◌}
+use Rattle.std.specs.Prelude.{◌≡◌, ◌⊎◌, ◌<◌, ℕ, ◌+◌, ◌*◌, ◌==◌, ◌&&◌, ◌||◌, nat_le, max, not, Bool, true, false, List, [], ◌∷◌, ◌++◌, Option, Some, None, length, map, take, drop, slice_index_or, if◌then◌else◌}
 use Rattle.std.specs.List.{range_with_len, list_all}
 use Rattle.qrcode_render.specs.Bitmap.{Bitmap}
 use Rattle.qrcode_reader.specs.declared.scan.halves.Half.{Half}
 use Rattle.qrcode_reader.specs.declared.scan.halves.Half.TheVariants.{Pair, End, Return, Colours}
+use Rattle.qrcode_reader.specs.declared.scan.pixels.Unscanned.{Unscanned}
+use Rattle.qrcode_reader.specs.declared.scan.pixels.Unscanned.TheVariants.{NotPicture, NoSide, NoGrey, NotPixel, TooShort, OutOfMemory}
 
 -- the characters of two pixels, one above the other, dark or not: a space, and U+2580, U+2584 and U+2588 in UTF-8
 abbrev pub block : Bool → Bool → List ℕ
@@ -26,6 +28,32 @@ IsHalf (Pair a b) text rest = text ≡ block a b ++ rest
 IsHalf End text rest = text ≡ 10 ∷ rest
 IsHalf Return text rest = text ≡ 13 ∷ rest
 IsHalf Colours text rest = (more : List ℕ) × ((text ≡ 27 ∷ 91 ∷ more) × (behind_colour more ≡ Some rest))
+
+abbrev pub colours_of : Option (List ℕ) → Option (Half × List ℕ)
+colours_of None = None
+colours_of (Some rest) = Some (Colours, rest)
+
+abbrev pub pair_in : List ℕ → Option (Half × List ℕ)  -- two pixels behind the first byte of U+2580, U+2584 or U+2588
+pair_in [] = None
+pair_in (b ∷ []) = None
+pair_in (b ∷ c ∷ rest) =
+    if b == 150 then
+    if c == 128 then Some (Pair true false, rest) else if c == 132 then Some (Pair false true, rest) else if c == 136 then Some (Pair true true, rest) else None
+    else None
+
+abbrev pub colours_in : List ℕ → Option (Half × List ℕ)  -- a control sequence behind its first byte
+colours_in [] = None
+colours_in (b ∷ rest) = if b == 91 then colours_of (behind_colour rest) else None
+
+abbrev pub half_in : List ℕ → Option (Half × List ℕ)  -- what a text begins with, and what follows it
+half_in [] = None
+half_in (a ∷ rest) =
+    if a == 32 then Some (Pair false false, rest)
+    else if a == 10 then Some (End, rest)
+    else if a == 13 then Some (Return, rest)
+    else if a == 226 then pair_in rest
+    else if a == 27 then colours_in rest
+    else None
 
 abbrev pub AreHalves : List Half → List ℕ → Type 0  -- a text is these, one behind the other
 AreHalves [] text = text ≡ []
@@ -61,3 +89,17 @@ pub record IsHalfBlocks (text : List ℕ) (b : Bitmap) : Type 0 where
   pub shown : AreHalves halves text
   pub across : b.across ≡ longest 0 0 halves
   pub marks : b.marks ≡ without_last b.across (rows_from b.across [] [] halves)
+
+-- a text of these shows no pixels: it has no column, or more than 4,096, or more than 4,096 rows
+abbrev pub HasNoSide : List Half → Type 0
+HasNoSide halves =
+    let across = longest 0 0 halves in
+    (across ≡ 0) ⊎ ((4096 < across) ⊎ (4096 * across < length (without_last across (rows_from across [] [] halves))))
+
+abbrev pub IsHalvesRefusal : List ℕ → Unscanned → Type 0  -- why a text of half blocks shows no pixels
+IsHalvesRefusal text NotPicture = (halves : List Half) → ¬ AreHalves halves text
+IsHalvesRefusal text NoSide = (halves : List Half) × (AreHalves halves text × HasNoSide halves)
+IsHalvesRefusal text OutOfMemory = Unit
+IsHalvesRefusal text NoGrey = ⊥
+IsHalvesRefusal text NotPixel = ⊥
+IsHalvesRefusal text TooShort = ⊥

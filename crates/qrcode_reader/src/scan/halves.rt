@@ -1,8 +1,10 @@
 //! Texts of half blocks.
 
-ghost use Rattle.std.specs.Prelude.{◌≡◌, ◌<◌, ◌≤◌, ◌++◌, [], Some, false, not, length, slice_index_or, IfOk, OnOk};
+ghost use Rattle.std.specs.Prelude.{◌≡◌, ◌⊎◌, ◌*◌, ◌<◌, List, ◌≤◌, ◌++◌, [], Some, false, not, length, slice_index_or, IfOk, IfErr, OnOk, None};
 ghost use Rattle.std.specs.List.{list_all};
-ghost use Rattle.qrcode_reader.specs.scan.Halves.{IsHalf, AreHalves, IsHalfBlocks, behind_colour, longest, rows_from, padded, without_last};
+ghost use Rattle.qrcode_reader.specs.scan.Halves.{half_in, IsHalf, AreHalves, IsHalfBlocks, IsHalvesRefusal, behind_colour, longest, rows_from, padded, without_last};
+ghost use Rattle.qrcode_reader.specs.declared.scan.pixels.Unscanned.TheVariants.{NotPicture, NoSide, OutOfMemory};
+ghost use Rattle.qrcode_reader.specs.declared.scan.halves.Half.{Half};
 
 use crate::scan::pixels::{Pixels, Unscanned};
 use std::alloc::{AllocError, Global};
@@ -31,7 +33,8 @@ pub(crate) enum Half {
 /// `NoSide`: there is no pixel, or there are more than 4,096 along a side. `NotPicture`: it is no
 /// such text. `OutOfMemory` is the only other error.
 pub(crate) fn half_block_pixels(alloc: Global, text: &[u8]) -> Result<Pixels, Unscanned>
-    ensures { IfOk result (IsHalfBlocks text.now) }
+    ensures value { IfOk result (IsHalfBlocks text.now) }
+    ensures causes { IfErr result (IsHalvesRefusal text.now) }
 {
     let halves = halves_of(alloc, text)?;
     let across = width(&halves);
@@ -40,7 +43,7 @@ pub(crate) fn half_block_pixels(alloc: Global, text: &[u8]) -> Result<Pixels, Un
     }
     let marks = square_rows(rows(alloc, &halves, across)?, across);
     let down = marks.len() / across;
-    if down > GREATEST_HALVES || down * across != marks.len() {
+    if down > GREATEST_HALVES {
         return Err(Unscanned::NoSide);
     }
     Ok(Pixels::new(across, down, marks))
@@ -48,7 +51,9 @@ pub(crate) fn half_block_pixels(alloc: Global, text: &[u8]) -> Result<Pixels, Un
 
 // What a text consists of.
 fn halves_of(alloc: Global, text: &[u8]) -> Result<Vec<Half>, Unscanned>
-    ensures { IfOk result (λ halves. AreHalves halves.items text.now) }
+    ensures value { IfOk result (λ halves. AreHalves halves.items text.now) }
+    ensures causes { IfErr result (λ e. (e ≡ OutOfMemory) ⊎ ((e ≡ NotPicture)
+        × ((halves : List Half) → ¬ AreHalves halves text.now))) }
 {
     let mut halves = Vec::new(alloc);
     let mut rest = text;
@@ -65,6 +70,7 @@ fn next_half(text: &[u8]) -> Result<(Half, &[u8]), Unscanned>
     requires { 1 ≤ length text.now }
     ensures value { IfOk result (λ found. IsHalf found.0 text.now found.1.now) }
     ensures at_most { IfOk result (λ found. length found.1.now < length text.now) }
+    ensures none { IfErr result (λ e. (e ≡ NotPicture) × (half_in text.now ≡ None)) }
 {
     match text {
         [b' ', more @ ..] => Ok((Half::Pair(false, false), more)),
@@ -83,6 +89,7 @@ fn next_half(text: &[u8]) -> Result<(Half, &[u8]), Unscanned>
 fn behind_colour(text: &[u8]) -> Result<&[u8], Unscanned>
     ensures value { IfOk result (λ rest. behind_colour text.now ≡ Some rest.now) }
     ensures at_most { IfOk result (λ rest. length rest.now ≤ length text.now) }
+    ensures none { IfErr result (λ e. (e ≡ NotPicture) × (behind_colour text.now ≡ None)) }
 {
     let mut rest = text;
     while let [first, more @ ..] = rest {
@@ -119,7 +126,9 @@ fn width(halves: &[Half]) -> usize
 #[tactic(auto, unfolding(crate::specs::scan::Halves::rows_from))]
 fn rows(alloc: Global, halves: &[Half], across: usize) -> Result<Vec<bool>, Unscanned>
     requires { across ≤ 4096 }
-    ensures { IfOk result (λ marks. marks.items ≡ rows_from across [] [] halves.now) }
+    ensures value { IfOk result (λ marks. marks.items ≡ rows_from across [] [] halves.now) }
+    ensures causes { IfErr result (λ e. (e ≡ OutOfMemory) ⊎ ((e ≡ NoSide) × (4096 * across
+        < length (without_last across (rows_from across [] [] halves.now))))) }
 {
     let mut marks = Vec::new(alloc);
     let (mut upper, mut lower) = (Vec::new(alloc), Vec::new(alloc));

@@ -1,10 +1,9 @@
-use Rattle.std.proofs.Common.{◌≡◌, ◌≤◌, ◌*◌, ◌+◌, ◌-◌, ◌%◌, ℕ, List, Bool, arith, sym, ap, ◌∙◌, subst, length}
+use Rattle.std.proofs.Common.{◌≡◌, ◌≤◌, ◌*◌, ◌+◌, ◌-◌, ◌%◌, ℕ, arith, sym, subst, length}
 use Rattle.std.specs.Prelude.{slice_range}
 use Rattle.std.proofs.Math.Nat.{mul-le-mul_right}
 use Rattle.std.proofs.lemmas.Slice.Eq.{slice_eq-Decides}
 use Rattle.std.specs.Cmp.{booleans_Decides}
 use Rattle.qrcode_render.specs.Layout.{layout}
-use Rattle.qrcode_reader.specs.scan.Squares.{IsRowOf}
 use Rattle.qrcode_reader.proofs.ShownSquares.{row_again, rows_same, some_row}
 use Rattle.qrcode_reader.proofs.scan.squares.is_row_shown.Goals as goal
 

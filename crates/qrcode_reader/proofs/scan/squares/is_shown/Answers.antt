@@ -1,4 +1,4 @@
-use Rattle.std.proofs.Common.{◌≡◌, ◌*◌, ◌<◌, ℕ, length, get_or, false, below_more, arith, sym, subst, ap, ap₂, ◌∙◌}
+use Rattle.std.proofs.Common.{◌≡◌, ◌*◌, ℕ, length, get_or, false, below_more, arith, sym, subst, ap, ap₂, ◌∙◌}
 use Rattle.qrcode_render.specs.Layout.{layout, pixels_across}
 use Rattle.qrcode_reader.specs.scan.Squares.{IsRowOf}
 use Rattle.qrcode_reader.proofs.Framed.{row_shown, rows_shown}
