@@ -4,11 +4,10 @@ use Rattle.std.proofs.Math.Nat.{pow-suc, pow-le-pow_right, div-mul-le_self}
 use Rattle.std.proofs.lemmas.Bool.{cases_lt}
 use Rattle.std.proofs.lemmas.Nat.{le-div}
 use Rattle.std.proofs.lemmas.List.{map-append, get_or_past, get_or-map, length-map}
-use Rattle.std.specs.List.{flat_map, range_with_len}
-use Rattle.qrcode_render.specs.Bitmap.{row_of}
-use Rattle.qrcode_render.specs.Files.{inked, black_bit, bits_from, packed}
-use Rattle.qrcode_render.specs.Grid.{Grid, all_rows, cell_row, pixels_of, each, repeated}
-use Rattle.qrcode_render.proofs.Grids.{length-each, get_or-each, row_of-pixels, flat_range_same, cell_rows, range_append}
+use Rattle.std.specs.List.{range_with_len}
+use Rattle.qrcode_render.specs.Files.{inked, black_bit, bits_from}
+use Rattle.qrcode_render.specs.Grid.{each}
+use Rattle.qrcode_render.proofs.Grids.{length-each, get_or-each, range_append}
 
 bit_small : (blacks : List Bool) (x : ℕ) → black_bit blacks x < 2
 bit_small blacks x = small (get_or blacks x false)
@@ -97,13 +96,3 @@ pub bytes_more : (blacks : List Bool) (i : ℕ) → map (λ k. bits_from blacks 
 bytes_more blacks i =
     let f : ℕ → ℕ = λ k. bits_from blacks (8 * k) 8 in
     sym (map-append f (range_with_len 0 i) (i ∷ [])) ∙ ap (map f) (sym (range_append 0 i 1 ∙ ap (λ k. range_with_len 0 i ++ k ∷ []) (omega arith)))
-
--- the rows of pixels in bytes, by rows of cells
-pub packed_cell_rows : (marked other : Bool) (g : Grid) → 0 < g.across → 0 < g.down
-    → flat_map (λ y. packed (inked marked other (row_of (pixels_of g) y))) (range_with_len 0 (all_rows g * g.down))
-    ≡ flat_map (λ row. repeated g.down (packed (inked marked other (each g.across (cell_row g row))))) (range_with_len 0 (all_rows g))
-packed_cell_rows marked other g some_wide some_high =
-    let bytes : ℕ → List ℕ = λ row. packed (inked marked other (each g.across (cell_row g row))) in
-    flat_range_same (λ y. packed (inked marked other (row_of (pixels_of g) y))) (λ y. bytes (y / g.down)) (all_rows g * g.down) (λ y inside.
-    ap (λ marks. packed (inked marked other marks)) (row_of-pixels g y some_wide some_high inside))
-    ∙ cell_rows bytes g.down (all_rows g)
