@@ -125,12 +125,9 @@ static NOT_TOGETHER: &[(&str, &str, &str)] = &[
 
 // What is said of options that do not go together.
 fn not_together(given: &ArgMatches<'_>) -> Option<&'static str> {
-    for (one, other, text) in NOT_TOGETHER {
-        if is_given(given, one) && is_given(given, other) {
-            return Some(*text);
-        }
-    }
-    None
+    let (_, _, text) = NOT_TOGETHER.iter().find(|(one, other, _)| is_given(given, one)
+        && is_given(given, other))?;
+    Some(*text)
 }
 
 // Whether the command line has an option, or the word beside options. (A flag that it lacks has a
@@ -234,18 +231,7 @@ fn request_of<'a>(
     if let Some(text) = wrong_for(given, format) {
         return usage(alloc, text);
     }
-    request_in(alloc, given, choice, format)
-}
-
-// The request in a format, by which version is taken.
-fn request_in<'a>(
-    alloc: Global,
-    given: &ArgMatches<'a>,
-    choice: Choice,
-    format: Format,
-) -> Result<Request<'a>, Failure> {
     let (scale, size) = sizes(alloc, given, format)?;
-    let (dark, light) = inks(alloc, given, format)?;
     Ok(Request {
         manner: Manner::Text,
         choice,
@@ -256,21 +242,10 @@ fn request_in<'a>(
         scale,
         size,
         dpi: given.get_one::<u16>("dpi"),
-        dark,
-        light,
+        dark: ink(alloc, given.get_str("colour"), "#000", format)?,
+        light: ink(alloc, given.get_str("background"), "#fff", format)?,
         is_inverted: given.get_flag("invert"),
     })
-}
-
-// The colours of dark and of light modules.
-fn inks<'a>(
-    alloc: Global,
-    given: &ArgMatches<'a>,
-    format: Format,
-) -> Result<(Ink<'a>, Ink<'a>), Failure> {
-    let dark = ink(alloc, given.get_str("colour"), "#000", format)?;
-    let light = ink(alloc, given.get_str("background"), "#fff", format)?;
-    Ok((dark, light))
 }
 
 // What is said of options that a format does not have.
@@ -361,10 +336,7 @@ fn version(name: &str) -> Option<Version> {
         Some(number) => number.parse::<i16>().map(Version::Micro),
         None => name.parse::<i16>().map(Version::Normal),
     };
-    match version {
-        Ok(version) if version.is_valid() => Some(version),
-        _ => None,
-    }
+    version.ok().filter(|version| version.is_valid())
 }
 
 // The format that is named, or else that of the file's ending, or else that of the terminal.

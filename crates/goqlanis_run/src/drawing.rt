@@ -32,15 +32,10 @@ pub(crate) fn draw_one(
         manner: manner(alloc, asked.writing, bytes)?,
         ..asked.request
     };
-    let drawing = match draw(alloc, &request, bytes) {
-        Ok(drawing) => drawing,
-        Err(QrError::OutOfMemory) => return Err(Failure::OutOfMemory),
-        Err(error) => {
-            let why = refusal_text(alloc, &request, bytes, error)?;
-            return Err(Failure::Refused(why));
-        }
-    };
-    write_drawing(rt, asked, &drawing, number)
+    match draw(alloc, &request, bytes) {
+        Ok(drawing) => write_drawing(rt, asked, &drawing, number),
+        Err(error) => Err(Failure::Refused(refusal_text(alloc, &request, bytes, error)?)),
+    }
 }
 
 /// Refuses data that is empty, unless that is allowed.
@@ -80,7 +75,6 @@ fn drawing_of_segments(
     }
     match draw_segments(alloc, request, segments) {
         Ok(drawing) => Ok(drawing),
-        Err(QrError::OutOfMemory) => Err(Failure::OutOfMemory),
         Err(error) => {
             let why = segments_refusal_text(alloc, request, segments, error)?;
             Err(Failure::Refused(why))

@@ -35,8 +35,5 @@ impl Progress {
 
 // Whether the terminal takes no control sequences.
 fn is_dumb(rt: &HostRuntime) -> bool {
-    match env::var(rt, "TERM") {
-        Ok(name) => name.as_str() == "dumb",
-        Err(_) => false,
-    }
+    env::var(rt, "TERM").is_ok_and(|name| name.as_str() == "dumb")
 }

@@ -50,9 +50,8 @@ pub(crate) fn draw_several(
 
 // Draws symbols one after the other.
 fn draw_each(rt: &HostRuntime, asked: &Asked<'_>, codes: Vec<QrCode>) -> Result<ExitCode, Failure> {
-    let mut number = 0usize;
-    for code in codes {
-        number = number.saturating_add(1);
+    for (index, code) in codes.into_iter().enumerate() {
+        let number = index.saturating_add(1);
         match drawing_of(rt.alloc(), &asked.request, code) {
             Ok(drawing) => write_drawing(rt, asked, &drawing, Some(number))?,
             Err(_) => return Err(Failure::OutOfMemory),
