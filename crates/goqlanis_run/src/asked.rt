@@ -33,23 +33,14 @@ pub(crate) enum Target<'a> {
     File(&'a str),
 }
 
-/// How data is written.
-#[derive(Clone, Copy)]
-pub(crate) enum Writing {
-    /// What is UTF-8 as a text, and other bytes as bytes.
-    ByItself,
-    /// As bytes.
-    Bytes,
-    /// As a text, with the number of UTF-8 in front.
-    Marked,
-}
-
 /// What is asked for.
 #[derive(Clone, Copy)]
 pub(crate) struct Asked<'a> {
-    /// Its manner is that of data that is written as a text; `writing` decides.
+    /// Its manner is that of data that is written as a text; `manner` decides.
     pub request: Request<'a>,
-    pub writing: Writing,
+    /// How the data is written, where that is asked for: as bytes, or as a text with the number of
+    /// UTF-8 in front. Otherwise what is UTF-8 is written as a text, and other bytes as bytes.
+    pub manner: Option<Manner>,
     pub source: Source<'a>,
     pub target: Target<'a>,
     /// Whether a newline at the end of the data is left out.
@@ -73,7 +64,7 @@ pub(crate) fn asked_for<'a>(
     let request = request_of(alloc, given, target, has_colours(rt))?;
     let asked = Asked {
         request,
-        writing: writing_of(given),
+        manner: manner_of(given),
         source: source_of(given),
         target,
         trims: given.get_flag("trim"),
@@ -152,13 +143,13 @@ fn target_of<'a>(given: &ArgMatches<'a>) -> Target<'a> {
     }
 }
 
-fn writing_of(given: &ArgMatches<'_>) -> Writing {
+fn manner_of(given: &ArgMatches<'_>) -> Option<Manner> {
     if given.get_flag("bytes") {
-        Writing::Bytes
+        Some(Manner::Bytes)
     } else if given.get_flag("eci") {
-        Writing::Marked
+        Some(Manner::MarkedText)
     } else {
-        Writing::ByItself
+        None
     }
 }
 

@@ -1,6 +1,6 @@
 //! Drawings, made and written.
 
-use crate::asked::{Asked, Target, Writing};
+use crate::asked::{Asked, Target};
 use crate::contents::Elements;
 use crate::failure::{Failure, refused};
 use crate::segments::{characters_of, pieces, segments};
@@ -29,7 +29,7 @@ pub(crate) fn draw_one(
     let alloc = rt.alloc();
     check_empty(alloc, asked, bytes)?;
     let request = Request {
-        manner: manner(alloc, asked.writing, bytes)?,
+        manner: manner(alloc, asked, bytes)?,
         ..asked.request
     };
     match draw(alloc, &request, bytes) {
@@ -56,16 +56,8 @@ pub(crate) fn segments_drawing(
     words: &[&str],
 ) -> Result<Drawing, Failure> {
     let pieces = pieces(alloc, words)?;
-    drawing_of_segments(alloc, request, &segments(alloc, &pieces)?)
-}
-
-// The drawing of segments, unless the mode of one cannot write it.
-fn drawing_of_segments(
-    alloc: Global,
-    request: &Request<'_>,
-    segments: &[Segment<'_>],
-) -> Result<Drawing, Failure> {
-    if let Some(place) = unwritable(segments) {
+    let segments = segments(alloc, &pieces)?;
+    if let Some(place) = unwritable(&segments) {
         let why = match segments.get(place) {
             Some(Segment::Data(mode, _)) => characters_of(*mode),
             _ => "",
@@ -73,10 +65,10 @@ fn drawing_of_segments(
         let number = place.saturating_add(1);
         return Err(Failure::Refused(format!(in alloc; "segment {number}: {why}")?));
     }
-    match draw_segments(alloc, request, segments) {
+    match draw_segments(alloc, request, &segments) {
         Ok(drawing) => Ok(drawing),
         Err(error) => {
-            let why = segments_refusal_text(alloc, request, segments, error)?;
+            let why = segments_refusal_text(alloc, request, &segments, error)?;
             Err(Failure::Refused(why))
         }
     }
@@ -172,14 +164,12 @@ fn check_size(alloc: Global, request: &Request<'_>, drawing: &Drawing) -> Result
 }
 
 /// How data is written.
-pub(crate) fn manner(alloc: Global, writing: Writing, bytes: &[u8]) -> Result<Manner, Failure> {
-    match (writing, manner_of(bytes)) {
-        (Writing::ByItself, manner) => Ok(manner),
-        (Writing::Bytes, _) => Ok(Manner::Bytes),
-        (Writing::Marked, Manner::Bytes) => {
+pub(crate) fn manner(alloc: Global, asked: &Asked<'_>, bytes: &[u8]) -> Result<Manner, Failure> {
+    match (asked.manner, manner_of(bytes)) {
+        (Some(Manner::MarkedText), Manner::Bytes) => {
             refused(alloc, "the data is not UTF-8: leave out --eci")
         }
-        (Writing::Marked, _) => Ok(Manner::MarkedText),
+        (manner, otherwise) => Ok(manner.unwrap_or(otherwise)),
     }
 }
 

@@ -49,11 +49,7 @@ pub(crate) fn pieces(alloc: Global, words: &[&str]) -> Result<Vec<Piece>, Failur
 
 /// The same, as they are drawn.
 pub(crate) fn segments(alloc: Global, pieces: &[Piece]) -> Result<Vec<Segment<'_>>, AllocError> {
-    let mut segments = Vec::with_capacity(alloc, pieces.len())?;
-    for piece in pieces {
-        segments.push(piece.segment())?;
-    }
-    Ok(segments)
+    pieces.iter().map(|piece| piece.segment()).collect(alloc)
 }
 
 // The number of a character set.

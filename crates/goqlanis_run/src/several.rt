@@ -28,11 +28,9 @@ pub(crate) fn draw_several(
     let alloc = rt.alloc();
     check_one_behind_another(alloc, asked)?;
     check_empty(alloc, asked, bytes)?;
-    let (versions, level) = (
-        versions_of(alloc, given, asked.request.choice)?,
-        asked.request.level,
-    );
-    let manner = manner(alloc, asked.writing, bytes)?;
+    let versions = versions_of(alloc, given, asked.request.choice)?;
+    let level = asked.request.level;
+    let manner = manner(alloc, asked, bytes)?;
     let made = match given.get_one::<u8>("count") {
         None => encode_among(alloc, bytes, manner, versions, level),
         Some(count) => encode_counted(alloc, bytes, manner, versions, level, count as usize),
@@ -52,10 +50,10 @@ pub(crate) fn draw_several(
 fn draw_each(rt: &HostRuntime, asked: &Asked<'_>, codes: Vec<QrCode>) -> Result<ExitCode, Failure> {
     for (index, code) in codes.into_iter().enumerate() {
         let number = index.saturating_add(1);
-        match drawing_of(rt.alloc(), &asked.request, code) {
-            Ok(drawing) => write_drawing(rt, asked, &drawing, Some(number))?,
-            Err(_) => return Err(Failure::OutOfMemory),
-        };
+        let drawing = drawing_of(rt.alloc(), &asked.request, code).map_err(
+            |_| Failure::OutOfMemory,
+        )?;
+        write_drawing(rt, asked, &drawing, Some(number))?;
     }
     Ok(ExitCode::SUCCESS)
 }
