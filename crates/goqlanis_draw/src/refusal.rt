@@ -136,11 +136,9 @@ fn room_refusal_text(
     };
     let name = Name(version);
     let mut text = format!(in alloc; "version {name} at level {level:?} does not hold the {what}")?;
-    if let Some(least) = least {
-        if least != version {
-            let name = Name(least);
-            write!(text, "; version {name} does")?;
-        }
+    if let Some(least) = least.filter(|least| *least != version) {
+        let name = Name(least);
+        write!(text, "; version {name} does")?;
     }
     Ok(text)
 }

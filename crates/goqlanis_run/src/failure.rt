@@ -34,15 +34,12 @@ impl<T: Drop> From<AllocFailed<T>> for Failure {
 /// The exit status of a run, whose failure is reported in a line on standard error, unless it is that
 /// nobody reads.
 pub(crate) fn status(rt: &HostRuntime, run: Result<ExitCode, Failure>) -> ExitCode {
-    let failure = match run {
-        Ok(code) => return code,
-        Err(failure) => failure,
-    };
-    let (code, why) = match &failure {
-        Failure::Usage(why) => (ExitCode::from(2), why.as_str()),
-        Failure::Refused(why) | Failure::Unwritten(why) => (ExitCode::FAILURE, why.as_str()),
-        Failure::Unheard => return ExitCode::FAILURE,
-        Failure::OutOfMemory => (ExitCode::FAILURE, "out of memory"),
+    let (code, why) = match &run {
+        Ok(code) => return *code,
+        Err(Failure::Usage(why)) => (ExitCode::from(2), why.as_str()),
+        Err(Failure::Refused(why) | Failure::Unwritten(why)) => (ExitCode::FAILURE, why.as_str()),
+        Err(Failure::Unheard) => return ExitCode::FAILURE,
+        Err(Failure::OutOfMemory) => (ExitCode::FAILURE, "out of memory"),
     };
     let why = shown(why);
     let _ = eprintln!(rt; "goqlanis: {why}");

@@ -13,8 +13,9 @@ pub(crate) struct Progress {
 impl Progress {
     /// No line is done.
     pub(crate) fn new(rt: &HostRuntime, is_drawn_there: bool) -> Progress {
+        let is_dumb = env::var(rt, "TERM").is_ok_and(|name| name.as_str() == "dumb");
         Progress {
-            is_shown: !is_drawn_there && rt.stderr().is_terminal() && !is_dumb(rt),
+            is_shown: !is_drawn_there && rt.stderr().is_terminal() && !is_dumb,
         }
     }
 
@@ -31,9 +32,4 @@ impl Progress {
             let _ = eprint!(rt; "\r\x1b[K");
         }
     }
-}
-
-// Whether the terminal takes no control sequences.
-fn is_dumb(rt: &HostRuntime) -> bool {
-    env::var(rt, "TERM").is_ok_and(|name| name.as_str() == "dumb")
 }

@@ -124,10 +124,8 @@ fn not_joined(alloc: Global, names: &[&str], error: JoinError) -> Result<Failure
             format!(in alloc; "there are two pictures of symbol {number}; leave one out")?
         }
         JoinError::Parity => {
-            String::from_str(
-                alloc,
-                "the pictures are not parts of the same data: parity differs",
-            )?
+            let why = "the pictures are not parts of the same data: parity differs";
+            String::from_str(alloc, why)?
         }
     };
     Ok(Failure::Refused(text))
