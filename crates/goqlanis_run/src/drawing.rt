@@ -1,5 +1,12 @@
 //! Drawings, made and written.
 
+ghost use Rattle.std.specs.Prelude.{◌≡◌, ℕ, List, Some, IfOk};
+ghost use Rattle.qrcode_gs1.specs.Elements.{Item};
+ghost use Rattle.qrcode_gs1.specs.symbol.Indicators.{indicator_of};
+ghost use Rattle.goqlanis_draw.specs.Drawings.{IsShownIn};
+ghost use Rattle.goqlanis_draw.specs.Elements.{IsApplicationIn, IsElementsIn};
+ghost use Rattle.goqlanis_run.specs.Labels.{label_text};
+
 use crate::asked::{Asked, Target};
 use crate::contents::Elements;
 use crate::failure::{Failure, refused};
@@ -54,7 +61,9 @@ pub(crate) fn segments_drawing(
     alloc: Global,
     request: &Request<'_>,
     words: &[&str],
-) -> Result<Drawing, Failure> {
+) -> Result<Drawing, Failure>
+    ensures { IfOk result (IsShownIn request.now) }
+{
     let pieces = pieces(alloc, words)?;
     let segments = segments(alloc, &pieces)?;
     if let Some(place) = unwritable(&segments) {
@@ -79,7 +88,11 @@ pub(crate) fn elements_drawing(
     alloc: Global,
     request: &Request<'_>,
     text: &str,
-) -> Result<Drawing, Failure> {
+) -> Result<Drawing, Failure>
+    ensures symbol { IfOk result (λ drawing. (items : List Item) × ((label_text items ≡ text.now)
+        × IsElementsIn request.now.choice request.now.level items drawing.code)) }
+    ensures shown { IfOk result (IsShownIn request.now) }
+{
     let read = Elements::read(alloc, text)?;
     let elements = read.elements(alloc)?;
     match draw_elements(alloc, request, &elements) {
@@ -101,7 +114,12 @@ pub(crate) fn application_drawing(
     request: &Request<'_>,
     indicator: &str,
     data: &str,
-) -> Result<Drawing, Failure> {
+) -> Result<Drawing, Failure>
+    ensures symbol { IfOk result (λ drawing. (application : ℕ)
+        × ((indicator_of indicator.now ≡ Some application)
+        × IsApplicationIn request.now.choice application request.now.level data.now drawing.code)) }
+    ensures shown { IfOk result (IsShownIn request.now) }
+{
     let Some(application) = indicator_of(indicator.as_bytes()) else {
         return Err(Failure::Usage(format!(in alloc;
             "--application {indicator}: an indicator is two digits or one letter, as 37 or a"

@@ -1,5 +1,7 @@
 //! Why the program does not do what it is asked.
 
+ghost use Rattle.std.specs.Prelude.{IsErr};
+
 use crate::streams::shown;
 use std::alloc::{AllocError, AllocFailed, Global};
 use std::process::ExitCode;
@@ -47,11 +49,15 @@ pub(crate) fn status(rt: &HostRuntime, run: Result<ExitCode, Failure>) -> ExitCo
 }
 
 /// A wrong command line, by its reason.
-pub(crate) fn usage<T>(alloc: Global, why: &str) -> Result<T, Failure> {
+pub(crate) fn usage<T>(alloc: Global, why: &str) -> Result<T, Failure>
+    ensures { IsErr result }
+{
     Err(Failure::Usage(String::from_str(alloc, why)?))
 }
 
 /// A refusal, by its reason.
-pub(crate) fn refused<T>(alloc: Global, why: &str) -> Result<T, Failure> {
+pub(crate) fn refused<T>(alloc: Global, why: &str) -> Result<T, Failure>
+    ensures { IsErr result }
+{
     Err(Failure::Refused(String::from_str(alloc, why)?))
 }
