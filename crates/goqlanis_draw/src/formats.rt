@@ -97,25 +97,19 @@ pub fn format_numbered(number: u32) -> Option<Format>
 
 /// The format of a name, in capitals or not.
 pub fn format_named(name: &str) -> Option<Format> {
-    for row in FORMATS {
-        if row.name.eq_ignore_ascii_case(name) {
-            return Some(row.format);
-        }
-    }
-    None
+    let row = FORMATS
+        .iter()
+        .find(|row| row.name.eq_ignore_ascii_case(name))?;
+    Some(row.format)
 }
 
 /// The format of the ending of a file's name, in capitals or not.
 pub fn format_of_ending(ending: &str) -> Option<Format> {
-    for row in FORMATS {
-        if row
-            .ending
-            .is_some_and(|known| known.eq_ignore_ascii_case(ending))
-        {
-            return Some(row.format);
-        }
-    }
-    None
+    let has_ending = |known: &str| known.eq_ignore_ascii_case(ending);
+    let row = FORMATS
+        .iter()
+        .find(|row| row.ending.is_some_and(has_ending))?;
+    Some(row.format)
 }
 
 impl Format {
@@ -126,18 +120,14 @@ impl Format {
 
     /// Whether it is a text; others are for files.
     pub fn is_text(self) -> bool {
-        matches!(
-            self.row().map(|row| row.kind),
-            Some(Kind::Text | Kind::ColouredText)
-        )
+        let kind = self.row().map(|row| row.kind);
+        matches!(kind, Some(Kind::Text | Kind::ColouredText))
     }
 
     /// Whether its caller chooses its colours.
     pub fn has_colours(self) -> bool {
-        matches!(
-            self.row().map(|row| row.kind),
-            Some(Kind::ColouredText | Kind::ColouredFile)
-        )
+        let kind = self.row().map(|row| row.kind);
+        matches!(kind, Some(Kind::ColouredText | Kind::ColouredFile))
     }
 
     /// The pixels of a module where nothing else is asked for.

@@ -12,7 +12,8 @@ use qrcode_types::tables;
 use std::alloc::{AllocError, Global};
 use std::fmt;
 
-/// The text of a refusal of bytes: what is asked for, and what would hold them.
+/// The text of a refusal of bytes: what is asked for, and what would hold them. There is none where
+/// memory ran out.
 pub fn refusal_text(
     alloc: Global,
     request: &Request<'_>,
@@ -32,12 +33,13 @@ pub fn refusal_text(
             alloc,
             "Micro QR has masks 0 to 3; take one of these, or a version of 1 to 40",
         ),
+        (QrError::OutOfMemory, _) => Err(AllocError),
         (error, _) => format!(in alloc; "{error}"),
     }
 }
 
 /// The text of a refusal of segments by hand; of one version that has no room for them it names the
-/// least behind it that has.
+/// least behind it that has. There is none where memory ran out.
 pub fn segments_refusal_text(
     alloc: Global,
     request: &Request<'_>,
@@ -100,10 +102,7 @@ pub fn application_refusal_text(
 
 // The version of a symbol that is made.
 fn version_of<E: Drop>(made: Result<QrCode, E>) -> Option<Version> {
-    match made {
-        Ok(code) => Some(code.version()),
-        Err(_) => None,
-    }
+    made.ok().map(|code| code.version())
 }
 
 // The text of a refusal of what stands behind FNC1, by the least version that holds it from the one that
@@ -137,11 +136,9 @@ fn room_refusal_text(
     };
     let name = Name(version);
     let mut text = format!(in alloc; "version {name} at level {level:?} does not hold the {what}")?;
-    if let Some(least) = least {
-        if least != version {
-            let name = Name(least);
-            write!(text, "; version {name} does")?;
-        }
+    if let Some(least) = least.filter(|least| *least != version) {
+        let name = Name(least);
+        write!(text, "; version {name} does")?;
     }
     Ok(text)
 }
@@ -221,10 +218,8 @@ fn byte_room(manner: Manner, version: Version, level: EcLevel) -> usize {
         return 0;
     }
     let head = version.mode_bits_count() + Mode::Byte.length_bits_count(version);
-    match tables::capacity(version, level) {
-        Some(bits) => bits.saturating_sub(manner.front_length() + head) / 8,
-        None => 0,
-    }
+    let room = tables::capacity(version, level).unwrap_or(0);
+    room.saturating_sub(manner.front_length() + head) / 8
 }
 
 // A version by its number, or by M and its number.

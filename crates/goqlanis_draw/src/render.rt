@@ -30,26 +30,19 @@ pub fn draw_in(alloc: Global, format: Format, picture: &Picture<'_>) -> QrResult
     match format {
         Format::HalfBlocks => lines(picture, half_blocks(alloc, picture)?),
         Format::LightHalfBlocks => {
-            lines(
-                picture,
-                drawn(alloc, picture, Dense1x2::Light, Dense1x2::Dark)?,
-            )
+            let text = drawn(alloc, picture, Dense1x2::Light, Dense1x2::Dark)?;
+            lines(picture, text)
         }
         Format::Terminal => coloured(alloc, &half_blocks(alloc, picture)?),
         Format::Chars => lines(picture, drawn(alloc, picture, '\u{2588}', ' ')?),
         Format::Png => png(alloc, picture),
         Format::Svg => {
-            let text = drawn(
-                alloc,
-                picture,
-                svg::Color(dark.name),
-                svg::Color(light.name),
-            )?;
-            Ok(text.into_bytes())
+            let (dark, light) = (svg::Color(dark.name), svg::Color(light.name));
+            Ok(drawn(alloc, picture, dark, light)?.into_bytes())
         }
         Format::SvgPath => {
-            let text = drawn(alloc, picture, svg::Path(dark.name), svg::Path(light.name))?;
-            Ok(text.into_bytes())
+            let (dark, light) = (svg::Path(dark.name), svg::Path(light.name));
+            Ok(drawn(alloc, picture, dark, light)?.into_bytes())
         }
         Format::Eps => Ok(drawn(alloc, picture, eps_ink(dark), eps_ink(light))?.into_bytes()),
         Format::Pic => Ok(drawn(alloc, picture, pic::Color, pic::Color)?.into_bytes()),

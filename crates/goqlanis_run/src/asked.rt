@@ -33,23 +33,14 @@ pub(crate) enum Target<'a> {
     File(&'a str),
 }
 
-/// How data is written.
-#[derive(Clone, Copy)]
-pub(crate) enum Writing {
-    /// What is UTF-8 as a text, and other bytes as bytes.
-    ByItself,
-    /// As bytes.
-    Bytes,
-    /// As a text, with the number of UTF-8 in front.
-    Marked,
-}
-
 /// What is asked for.
 #[derive(Clone, Copy)]
 pub(crate) struct Asked<'a> {
-    /// Its manner is that of data that is written as a text; `writing` decides.
+    /// Its manner is that of data that is written as a text; `manner` decides.
     pub request: Request<'a>,
-    pub writing: Writing,
+    /// How the data is written, where that is asked for: as bytes, or as a text with the number of
+    /// UTF-8 in front. Otherwise what is UTF-8 is written as a text, and other bytes as bytes.
+    pub manner: Option<Manner>,
     pub source: Source<'a>,
     pub target: Target<'a>,
     /// Whether a newline at the end of the data is left out.
@@ -73,7 +64,7 @@ pub(crate) fn asked_for<'a>(
     let request = request_of(alloc, given, target, has_colours(rt))?;
     let asked = Asked {
         request,
-        writing: writing_of(given),
+        manner: manner_of(given),
         source: source_of(given),
         target,
         trims: given.get_flag("trim"),
@@ -125,12 +116,9 @@ static NOT_TOGETHER: &[(&str, &str, &str)] = &[
 
 // What is said of options that do not go together.
 fn not_together(given: &ArgMatches<'_>) -> Option<&'static str> {
-    for (one, other, text) in NOT_TOGETHER {
-        if is_given(given, one) && is_given(given, other) {
-            return Some(*text);
-        }
-    }
-    None
+    let (_, _, text) = NOT_TOGETHER.iter().find(|(one, other, _)| is_given(given, one)
+        && is_given(given, other))?;
+    Some(*text)
 }
 
 // Whether the command line has an option, or the word beside options. (A flag that it lacks has a
@@ -155,13 +143,13 @@ fn target_of<'a>(given: &ArgMatches<'a>) -> Target<'a> {
     }
 }
 
-fn writing_of(given: &ArgMatches<'_>) -> Writing {
+fn manner_of(given: &ArgMatches<'_>) -> Option<Manner> {
     if given.get_flag("bytes") {
-        Writing::Bytes
+        Some(Manner::Bytes)
     } else if given.get_flag("eci") {
-        Writing::Marked
+        Some(Manner::MarkedText)
     } else {
-        Writing::ByItself
+        None
     }
 }
 
@@ -234,18 +222,7 @@ fn request_of<'a>(
     if let Some(text) = wrong_for(given, format) {
         return usage(alloc, text);
     }
-    request_in(alloc, given, choice, format)
-}
-
-// The request in a format, by which version is taken.
-fn request_in<'a>(
-    alloc: Global,
-    given: &ArgMatches<'a>,
-    choice: Choice,
-    format: Format,
-) -> Result<Request<'a>, Failure> {
     let (scale, size) = sizes(alloc, given, format)?;
-    let (dark, light) = inks(alloc, given, format)?;
     Ok(Request {
         manner: Manner::Text,
         choice,
@@ -256,21 +233,10 @@ fn request_in<'a>(
         scale,
         size,
         dpi: given.get_one::<u16>("dpi"),
-        dark,
-        light,
+        dark: ink(alloc, given.get_str("colour"), "#000", format)?,
+        light: ink(alloc, given.get_str("background"), "#fff", format)?,
         is_inverted: given.get_flag("invert"),
     })
-}
-
-// The colours of dark and of light modules.
-fn inks<'a>(
-    alloc: Global,
-    given: &ArgMatches<'a>,
-    format: Format,
-) -> Result<(Ink<'a>, Ink<'a>), Failure> {
-    let dark = ink(alloc, given.get_str("colour"), "#000", format)?;
-    let light = ink(alloc, given.get_str("background"), "#fff", format)?;
-    Ok((dark, light))
 }
 
 // What is said of options that a format does not have.
@@ -361,10 +327,7 @@ fn version(name: &str) -> Option<Version> {
         Some(number) => number.parse::<i16>().map(Version::Micro),
         None => name.parse::<i16>().map(Version::Normal),
     };
-    match version {
-        Ok(version) if version.is_valid() => Some(version),
-        _ => None,
-    }
+    version.ok().filter(|version| version.is_valid())
 }
 
 // The format that is named, or else that of the file's ending, or else that of the terminal.

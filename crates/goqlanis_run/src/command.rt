@@ -79,8 +79,7 @@ fn with_values<'a>(arg: Arg<'a>, takes: Takes) -> Arg<'a> {
 }
 
 // The option of a name, with the letters and names that other programs have for it.
-fn with_other_names<'a>(arg: Arg<'a>, name: &str) -> Result<Arg<'a>, AllocError> {
-    let mut arg = arg;
+fn with_other_names<'a>(mut arg: Arg<'a>, name: &str) -> Result<Arg<'a>, AllocError> {
     for (other, option) in OTHER_NAMES {
         if *option == name {
             arg = match other.as_bytes() {

@@ -1,6 +1,13 @@
 //! Drawings, made and written.
 
-use crate::asked::{Asked, Target, Writing};
+ghost use Rattle.std.specs.Prelude.{◌≡◌, ℕ, List, Some, IfOk};
+ghost use Rattle.qrcode_gs1.specs.Elements.{Item};
+ghost use Rattle.qrcode_gs1.specs.symbol.Indicators.{indicator_of};
+ghost use Rattle.goqlanis_draw.specs.Drawings.{IsShownIn};
+ghost use Rattle.goqlanis_draw.specs.Elements.{IsApplicationIn, IsElementsIn};
+ghost use Rattle.goqlanis_run.specs.Labels.{label_text};
+
+use crate::asked::{Asked, Target};
 use crate::contents::Elements;
 use crate::failure::{Failure, refused};
 use crate::segments::{characters_of, pieces, segments};
@@ -29,18 +36,13 @@ pub(crate) fn draw_one(
     let alloc = rt.alloc();
     check_empty(alloc, asked, bytes)?;
     let request = Request {
-        manner: manner(alloc, asked.writing, bytes)?,
+        manner: manner(alloc, asked, bytes)?,
         ..asked.request
     };
-    let drawing = match draw(alloc, &request, bytes) {
-        Ok(drawing) => drawing,
-        Err(QrError::OutOfMemory) => return Err(Failure::OutOfMemory),
-        Err(error) => {
-            let why = refusal_text(alloc, &request, bytes, error)?;
-            return Err(Failure::Refused(why));
-        }
-    };
-    write_drawing(rt, asked, &drawing, number)
+    match draw(alloc, &request, bytes) {
+        Ok(drawing) => write_drawing(rt, asked, &drawing, number),
+        Err(error) => Err(Failure::Refused(refusal_text(alloc, &request, bytes, error)?)),
+    }
 }
 
 /// Refuses data that is empty, unless that is allowed.
@@ -59,18 +61,12 @@ pub(crate) fn segments_drawing(
     alloc: Global,
     request: &Request<'_>,
     words: &[&str],
-) -> Result<Drawing, Failure> {
+) -> Result<Drawing, Failure>
+    ensures { IfOk result (IsShownIn request.now) }
+{
     let pieces = pieces(alloc, words)?;
-    drawing_of_segments(alloc, request, &segments(alloc, &pieces)?)
-}
-
-// The drawing of segments, unless the mode of one cannot write it.
-fn drawing_of_segments(
-    alloc: Global,
-    request: &Request<'_>,
-    segments: &[Segment<'_>],
-) -> Result<Drawing, Failure> {
-    if let Some(place) = unwritable(segments) {
+    let segments = segments(alloc, &pieces)?;
+    if let Some(place) = unwritable(&segments) {
         let why = match segments.get(place) {
             Some(Segment::Data(mode, _)) => characters_of(*mode),
             _ => "",
@@ -78,11 +74,10 @@ fn drawing_of_segments(
         let number = place.saturating_add(1);
         return Err(Failure::Refused(format!(in alloc; "segment {number}: {why}")?));
     }
-    match draw_segments(alloc, request, segments) {
+    match draw_segments(alloc, request, &segments) {
         Ok(drawing) => Ok(drawing),
-        Err(QrError::OutOfMemory) => Err(Failure::OutOfMemory),
         Err(error) => {
-            let why = segments_refusal_text(alloc, request, segments, error)?;
+            let why = segments_refusal_text(alloc, request, &segments, error)?;
             Err(Failure::Refused(why))
         }
     }
@@ -93,7 +88,11 @@ pub(crate) fn elements_drawing(
     alloc: Global,
     request: &Request<'_>,
     text: &str,
-) -> Result<Drawing, Failure> {
+) -> Result<Drawing, Failure>
+    ensures symbol { IfOk result (λ drawing. (items : List Item) × ((label_text items ≡ text.now)
+        × IsElementsIn request.now.choice request.now.level items drawing.code)) }
+    ensures shown { IfOk result (IsShownIn request.now) }
+{
     let read = Elements::read(alloc, text)?;
     let elements = read.elements(alloc)?;
     match draw_elements(alloc, request, &elements) {
@@ -115,7 +114,12 @@ pub(crate) fn application_drawing(
     request: &Request<'_>,
     indicator: &str,
     data: &str,
-) -> Result<Drawing, Failure> {
+) -> Result<Drawing, Failure>
+    ensures symbol { IfOk result (λ drawing. (application : ℕ)
+        × ((indicator_of indicator.now ≡ Some application)
+        × IsApplicationIn request.now.choice application request.now.level data.now drawing.code)) }
+    ensures shown { IfOk result (IsShownIn request.now) }
+{
     let Some(application) = indicator_of(indicator.as_bytes()) else {
         return Err(Failure::Usage(format!(in alloc;
             "--application {indicator}: an indicator is two digits or one letter, as 37 or a"
@@ -178,14 +182,12 @@ fn check_size(alloc: Global, request: &Request<'_>, drawing: &Drawing) -> Result
 }
 
 /// How data is written.
-pub(crate) fn manner(alloc: Global, writing: Writing, bytes: &[u8]) -> Result<Manner, Failure> {
-    match (writing, manner_of(bytes)) {
-        (Writing::ByItself, manner) => Ok(manner),
-        (Writing::Bytes, _) => Ok(Manner::Bytes),
-        (Writing::Marked, Manner::Bytes) => {
+pub(crate) fn manner(alloc: Global, asked: &Asked<'_>, bytes: &[u8]) -> Result<Manner, Failure> {
+    match (asked.manner, manner_of(bytes)) {
+        (Some(Manner::MarkedText), Manner::Bytes) => {
             refused(alloc, "the data is not UTF-8: leave out --eci")
         }
-        (Writing::Marked, _) => Ok(Manner::MarkedText),
+        (manner, otherwise) => Ok(manner.unwrap_or(otherwise)),
     }
 }
 

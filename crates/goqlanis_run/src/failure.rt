@@ -1,5 +1,7 @@
 //! Why the program does not do what it is asked.
 
+ghost use Rattle.std.specs.Prelude.{IsErr};
+
 use crate::streams::shown;
 use std::alloc::{AllocError, AllocFailed, Global};
 use std::process::ExitCode;
@@ -34,15 +36,12 @@ impl<T: Drop> From<AllocFailed<T>> for Failure {
 /// The exit status of a run, whose failure is reported in a line on standard error, unless it is that
 /// nobody reads.
 pub(crate) fn status(rt: &HostRuntime, run: Result<ExitCode, Failure>) -> ExitCode {
-    let failure = match run {
-        Ok(code) => return code,
-        Err(failure) => failure,
-    };
-    let (code, why) = match &failure {
-        Failure::Usage(why) => (ExitCode::from(2), why.as_str()),
-        Failure::Refused(why) | Failure::Unwritten(why) => (ExitCode::FAILURE, why.as_str()),
-        Failure::Unheard => return ExitCode::FAILURE,
-        Failure::OutOfMemory => (ExitCode::FAILURE, "out of memory"),
+    let (code, why) = match &run {
+        Ok(code) => return *code,
+        Err(Failure::Usage(why)) => (ExitCode::from(2), why.as_str()),
+        Err(Failure::Refused(why) | Failure::Unwritten(why)) => (ExitCode::FAILURE, why.as_str()),
+        Err(Failure::Unheard) => return ExitCode::FAILURE,
+        Err(Failure::OutOfMemory) => (ExitCode::FAILURE, "out of memory"),
     };
     let why = shown(why);
     let _ = eprintln!(rt; "goqlanis: {why}");
@@ -50,11 +49,15 @@ pub(crate) fn status(rt: &HostRuntime, run: Result<ExitCode, Failure>) -> ExitCo
 }
 
 /// A wrong command line, by its reason.
-pub(crate) fn usage<T>(alloc: Global, why: &str) -> Result<T, Failure> {
+pub(crate) fn usage<T>(alloc: Global, why: &str) -> Result<T, Failure>
+    ensures { IsErr result }
+{
     Err(Failure::Usage(String::from_str(alloc, why)?))
 }
 
 /// A refusal, by its reason.
-pub(crate) fn refused<T>(alloc: Global, why: &str) -> Result<T, Failure> {
+pub(crate) fn refused<T>(alloc: Global, why: &str) -> Result<T, Failure>
+    ensures { IsErr result }
+{
     Err(Failure::Refused(String::from_str(alloc, why)?))
 }

@@ -50,7 +50,8 @@ pub(crate) fn write_whole<R: Files + AllocGlobal>(
             Err(error) => return Err(Unwritten::File(error)),
         }
     }
-    write_straight(rt, path, bytes)
+    let mut file = fs::create(rt, path)?;
+    Ok(file.write_all(bytes)?)
 }
 
 // Whether a path names a file that is open in this process or another one, as /dev/stdout does.
@@ -76,12 +77,6 @@ fn folder_of(path: &str) -> &str {
         Some((folder, _)) => path.get(..folder.len().saturating_add(1)).unwrap_or(""),
         None => "",
     }
-}
-
-// Writes what is no regular file.
-fn write_straight<R: Files>(rt: &R, path: &str, bytes: &[u8]) -> Result<(), Unwritten> {
-    let mut file = fs::create(rt, path)?;
-    Ok(file.write_all(bytes)?)
 }
 
 // Writes a new file in the folder of a path, under the first name that is free, and renames it to the
@@ -126,12 +121,11 @@ fn no_file_in(alloc: Global, folder: &str, error: io::Error) -> Result<Unwritten
 // the old file once it has the data.
 fn fill<R: Files>(
     rt: &R,
-    file: R::File,
+    mut file: R::File,
     path: &str,
     old: Option<Metadata>,
     bytes: &[u8],
 ) -> io::Result<()> {
-    let mut file = file;
     file.write_all(bytes)?;
     if let Some(old) = old {
         file.set_permissions(Permissions::from_mode(kept_mode(rt, path, &old)))?;

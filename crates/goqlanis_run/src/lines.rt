@@ -41,10 +41,10 @@ fn draw_from<R: BufRead + Drop>(
     rt: &HostRuntime,
     asked: &Asked<'_>,
     name: &str,
-    from: R,
+    mut from: R,
 ) -> Result<ExitCode, Failure> {
-    let mut from = from;
-    let progress = Progress::new(rt, is_drawn_to_terminal(rt, asked));
+    let goes_to_file = matches!(asked.target, Target::File(_));
+    let progress = Progress::new(rt, !goes_to_file && rt.stdout().is_terminal());
     let drawn = draw_each(rt, asked, name, &mut from, progress);
     progress.clear(rt);
     drawn
@@ -68,7 +68,8 @@ fn draw_each<R: BufRead>(
             Ok(_) => progress.show(rt, number),
             Err(Failure::Refused(why)) => {
                 progress.clear(rt);
-                report(rt, number, why.as_str());
+                let why = shown(why.as_str());
+                let _ = eprintln!(rt; "goqlanis: line {number}: {why}");
                 code = ExitCode::FAILURE;
             }
             Err(failure) => return Err(failure),
@@ -109,19 +110,5 @@ fn without_ending(line: &[u8]) -> &[u8] {
     match line {
         [text @ .., b'\r', b'\n'] | [text @ .., b'\n'] => text,
         _ => line,
-    }
-}
-
-// Reports why a line is refused.
-fn report(rt: &HostRuntime, number: usize, why: &str) {
-    let why = shown(why);
-    let _ = eprintln!(rt; "goqlanis: line {number}: {why}");
-}
-
-// Whether drawings go to a terminal.
-fn is_drawn_to_terminal(rt: &HostRuntime, asked: &Asked<'_>) -> bool {
-    match asked.target {
-        Target::File(_) => false,
-        Target::Terminal | Target::StandardOutput => rt.stdout().is_terminal(),
     }
 }

@@ -97,20 +97,12 @@ fn push_value(text: &mut String, takes: Takes) -> Result<(), AllocError> {
 // Text whose hyphens are hyphens, and no line of which is a request.
 fn push_plain(text: &mut String, plain: &str) -> Result<(), AllocError> {
     for character in plain.chars() {
-        match escaped(character) {
-            Some(escaped) => text.push_str(escaped)?,
-            None => text.push(character)?,
+        match character {
+            '-' => text.push_str("\\-")?,
+            '\\' => text.push_str("\\e")?,
+            '.' => text.push_str("\\&.")?,
+            _ => text.push(character)?,
         }
     }
     Ok(())
-}
-
-// What stands for a character that is not taken as it is.
-fn escaped(character: char) -> Option<&'static str> {
-    match character {
-        '-' => Some("\\-"),
-        '\\' => Some("\\e"),
-        '.' => Some("\\&."),
-        _ => None,
-    }
 }

@@ -144,12 +144,10 @@ pub(crate) fn worded_tasks() -> [&'static Task; 15] {
 
 /// What the first word behind the program's name asks for.
 pub(crate) fn task_of(word: &str) -> &'static Task {
-    for task in worded_tasks() {
-        if task.word == word {
-            return task;
-        }
-    }
-    &DRAWING
+    worded_tasks()
+        .into_iter()
+        .find(|task| task.word == word)
+        .unwrap_or(&DRAWING)
 }
 
 impl Task {

@@ -13,8 +13,9 @@ pub(crate) struct Progress {
 impl Progress {
     /// No line is done.
     pub(crate) fn new(rt: &HostRuntime, is_drawn_there: bool) -> Progress {
+        let is_dumb = env::var(rt, "TERM").is_ok_and(|name| name.as_str() == "dumb");
         Progress {
-            is_shown: !is_drawn_there && rt.stderr().is_terminal() && !is_dumb(rt),
+            is_shown: !is_drawn_there && rt.stderr().is_terminal() && !is_dumb,
         }
     }
 
@@ -30,13 +31,5 @@ impl Progress {
         if self.is_shown {
             let _ = eprint!(rt; "\r\x1b[K");
         }
-    }
-}
-
-// Whether the terminal takes no control sequences.
-fn is_dumb(rt: &HostRuntime) -> bool {
-    match env::var(rt, "TERM") {
-        Ok(name) => name.as_str() == "dumb",
-        Err(_) => false,
     }
 }

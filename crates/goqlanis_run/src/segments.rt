@@ -1,7 +1,5 @@
 //! `--segment`: data in segments by hand.
 
-ghost use Rattle.std.specs.Prelude.{◌≤◌, IfSome};
-
 use crate::failure::Failure;
 use goqlanis_draw::Segment;
 use qrcode::types::Mode;
@@ -51,11 +49,7 @@ pub(crate) fn pieces(alloc: Global, words: &[&str]) -> Result<Vec<Piece>, Failur
 
 /// The same, as they are drawn.
 pub(crate) fn segments(alloc: Global, pieces: &[Piece]) -> Result<Vec<Segment<'_>>, AllocError> {
-    let mut segments = Vec::with_capacity(alloc, pieces.len())?;
-    for piece in pieces {
-        segments.push(piece.segment())?;
-    }
-    Ok(segments)
+    pieces.iter().map(|piece| piece.segment()).collect(alloc)
 }
 
 // The number of a character set.
@@ -97,12 +91,10 @@ static MODES: &[(&str, Mode)] = &[
 
 // The mode of a name.
 fn mode_named(name: &str) -> Option<Mode> {
-    for (known, mode) in MODES {
-        if known.eq_ignore_ascii_case(name) {
-            return Some(*mode);
-        }
-    }
-    None
+    let (_, mode) = MODES
+        .iter()
+        .find(|(known, _)| known.eq_ignore_ascii_case(name))?;
+    Some(*mode)
 }
 
 // Appends the bytes of pairs of digits to the base 16, and says whether they are such.
@@ -120,22 +112,9 @@ fn push_digits(bytes: &mut Vec<u8>, digits: &[u8]) -> Result<bool, AllocError> {
 
 /// The number of two digits to the base 16.
 pub(crate) fn two_digits(high: u8, low: u8) -> Option<u8> {
-    match (digit(high), digit(low)) {
-        (Some(high), Some(low)) => Some(16 * high + low),
-        _ => None,
-    }
-}
-
-// The number of a digit to the base 16.
-fn digit(byte: u8) -> Option<u8>
-    ensures { IfSome result (λ digit. digit ≤ 15) }
-{
-    match byte {
-        b'0'..=b'9' => Some(byte - b'0'),
-        b'a'..=b'f' => Some(byte - b'a' + 10),
-        b'A'..=b'F' => Some(byte - b'A' + 10),
-        _ => None,
-    }
+    let high = char::from(high).to_digit(16)?;
+    let low = char::from(low).to_digit(16)?;
+    Some((16 * high + low) as u8)
 }
 
 /// Why a mode does not write a text.

@@ -28,11 +28,9 @@ pub(crate) fn draw_several(
     let alloc = rt.alloc();
     check_one_behind_another(alloc, asked)?;
     check_empty(alloc, asked, bytes)?;
-    let (versions, level) = (
-        versions_of(alloc, given, asked.request.choice)?,
-        asked.request.level,
-    );
-    let manner = manner(alloc, asked.writing, bytes)?;
+    let versions = versions_of(alloc, given, asked.request.choice)?;
+    let level = asked.request.level;
+    let manner = manner(alloc, asked, bytes)?;
     let made = match given.get_one::<u8>("count") {
         None => encode_among(alloc, bytes, manner, versions, level),
         Some(count) => encode_counted(alloc, bytes, manner, versions, level, count as usize),
@@ -50,13 +48,12 @@ pub(crate) fn draw_several(
 
 // Draws symbols one after the other.
 fn draw_each(rt: &HostRuntime, asked: &Asked<'_>, codes: Vec<QrCode>) -> Result<ExitCode, Failure> {
-    let mut number = 0usize;
-    for code in codes {
-        number = number.saturating_add(1);
-        match drawing_of(rt.alloc(), &asked.request, code) {
-            Ok(drawing) => write_drawing(rt, asked, &drawing, Some(number))?,
-            Err(_) => return Err(Failure::OutOfMemory),
-        };
+    for (index, code) in codes.into_iter().enumerate() {
+        let number = index.saturating_add(1);
+        let drawing = drawing_of(rt.alloc(), &asked.request, code).map_err(
+            |_| Failure::OutOfMemory,
+        )?;
+        write_drawing(rt, asked, &drawing, Some(number))?;
     }
     Ok(ExitCode::SUCCESS)
 }
@@ -127,10 +124,8 @@ fn not_joined(alloc: Global, names: &[&str], error: JoinError) -> Result<Failure
             format!(in alloc; "there are two pictures of symbol {number}; leave one out")?
         }
         JoinError::Parity => {
-            String::from_str(
-                alloc,
-                "the pictures are not parts of the same data: parity differs",
-            )?
+            let why = "the pictures are not parts of the same data: parity differs";
+            String::from_str(alloc, why)?
         }
     };
     Ok(Failure::Refused(text))

@@ -37,10 +37,7 @@ pub fn run(rt: &HostRuntime) -> ExitCode {
 // reads the words behind it.
 fn run_words(rt: &HostRuntime) -> Result<ExitCode, Failure> {
     let mut words = all_words(rt)?;
-    let task = match words.get(1) {
-        Some(word) => task_of(word.as_str()),
-        None => task_of(""),
-    };
+    let task = task_of(words.get(1).map_or("", String::as_str));
     if words.len() > 1 && !task.word.is_empty() {
         let word = words.remove(1);
         words[0] = format!(in rt.alloc(); "goqlanis {word}")?;

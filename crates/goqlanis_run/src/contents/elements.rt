@@ -137,23 +137,21 @@ fn ends_with_backslash(value: &str) -> bool
 
 // A value with one more character.
 #[tactic(auto, using(crate::proofs::Labelling::value_more))]
-fn with_character(value: String, character: char) -> Result<String, Failure>
+fn with_character(mut value: String, character: char) -> Result<String, Failure>
     requires { character ≢ 40 }
     ensures appends { IfOk result (λ more. value_text (string_bytes more)
         ≡ value_text (string_bytes value) ++ encode_utf8 character) }
 {
-    let mut value = value;
     value.push(character)?;
     Ok(value)
 }
 
 // A value with an opening bracket in place of the backslash at its end, which is written as both.
-fn with_bracket(value: String) -> Result<String, Failure>
+fn with_bracket(mut value: String) -> Result<String, Failure>
     requires { ends_with_backslash (string_bytes value) ≡ true }
     ensures appends { IfOk result (λ more. value_text (string_bytes more)
         ≡ value_text (string_bytes value) ++ 40 ∷ []) }
 {
-    let mut value = value;
     value.pop();
     value.push('(')?;
     Ok(value)

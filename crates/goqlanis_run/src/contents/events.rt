@@ -85,14 +85,11 @@ fn day_of(bytes: &[u8]) -> Option<Day>
     let [a, b, c, d, e, f, g, h] = bytes else {
         return None;
     };
-    match (pair(*a, *b), pair(*c, *d), pair(*e, *f), pair(*g, *h)) {
-        (Some(century), Some(year), Some(month), Some(day)) => Some(Day {
-            year: u16::from(century) * 100 + u16::from(year),
-            month,
-            day,
-        }),
-        _ => None,
-    }
+    Some(Day {
+        year: u16::from(pair(*a, *b)?) * 100 + u16::from(pair(*c, *d)?),
+        month: pair(*e, *f)?,
+        day: pair(*g, *h)?,
+    })
 }
 
 // A moment: a day, T, six digits and Z.
@@ -102,28 +99,17 @@ fn moment_of(bytes: &[u8]) -> Option<Moment>
     let [_, _, _, _, _, _, _, _, b'T', a, b, c, d, e, f, b'Z'] = bytes else {
         return None;
     };
-    match (
-        day_of(&bytes[..8]),
-        pair(*a, *b),
-        pair(*c, *d),
-        pair(*e, *f),
-    ) {
-        (Some(day), Some(hour), Some(minute), Some(second)) => Some(Moment {
-            day,
-            hour,
-            minute,
-            second,
-        }),
-        _ => None,
-    }
+    Some(Moment {
+        day: day_of(&bytes[..8])?,
+        hour: pair(*a, *b)?,
+        minute: pair(*c, *d)?,
+        second: pair(*e, *f)?,
+    })
 }
 
 // The number of two digits.
 fn pair(tens: u8, ones: u8) -> Option<u8>
     ensures { IfSome result (λ number. number ≡ digits_value 10 (tens ∷ ones ∷ [])) }
 {
-    match (digit(tens), digit(ones)) {
-        (Some(tens), Some(ones)) => Some(10 * tens + ones),
-        _ => None,
-    }
+    Some(10 * digit(tens)? + digit(ones)?)
 }

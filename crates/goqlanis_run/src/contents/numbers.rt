@@ -49,12 +49,11 @@ fn parts(text: &str) -> (&str, &str)
 }
 
 // A number with more digits behind it.
-fn with_digits(number: u64, digits: &str) -> Option<u64>
+fn with_digits(mut number: u64, digits: &str) -> Option<u64>
     ensures value { (before : List ℕ) → number ≡ at_most_u64 (digits_value 10 before)
         → result ≡ (if list_all is_digit digits.now
         then Some (at_most_u64 (digits_value 10 (before ++ digits.now))) else None) }
 {
-    let mut number = number;
     for byte in digits.as_bytes() {
         number = with_digit(number, digit(*byte)?);
     }
@@ -62,11 +61,10 @@ fn with_digits(number: u64, digits: &str) -> Option<u64>
 }
 
 // A number with zeros behind it.
-fn with_zeros(number: u64, count: usize) -> u64
+fn with_zeros(mut number: u64, count: usize) -> u64
     ensures value { (before : List ℕ) → number ≡ at_most_u64 (digits_value 10 before)
         → result ≡ at_most_u64 (digits_value 10 (before ++ replicate count 48)) }
 {
-    let mut number = number;
     for _ in 0..count {
         number = with_digit(number, 0);
     }

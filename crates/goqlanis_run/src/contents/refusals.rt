@@ -15,7 +15,8 @@ pub(crate) fn refusal_of(
         return Ok(Failure::OutOfMemory);
     };
     let option = option_of(alloc, kind, field)?;
-    Ok(wrong(alloc, option.as_str(), told(cause), help_of(field, cause)))
+    let (what, help) = (cause_text(cause), help_of(field, cause));
+    Ok(wrong(alloc, option.as_str(), what, help))
 }
 
 /// The refusal of an option, with what is wrong and what would help.
@@ -46,7 +47,7 @@ fn option_of(alloc: Global, kind: Kind, field: Field) -> Result<String, AllocErr
 }
 
 // What is wrong, by its cause.
-fn told(cause: Cause) -> &'static str {
+fn cause_text(cause: Cause) -> &'static str {
     match cause {
         Cause::Empty => "it is missing or empty",
         Cause::TooLong => "it is longer than the format allows",

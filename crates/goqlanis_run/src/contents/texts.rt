@@ -50,13 +50,6 @@ pub(crate) fn text_of(alloc: Global, kind: Kind, given: &ArgMatches<'_>) -> Resu
         Kind::Otp => passwords(alloc, given)?.text(alloc),
         Kind::Event => event(alloc, given)?.text(alloc),
     };
-    told(alloc, kind, answer)
-}
-
-// The text that a format gives, or its refusal, by the option of the kind.
-fn told(alloc: Global, kind: Kind, answer: ContentResult<String>) -> Result<String, Failure>
-    ensures { IfOk result (λ text. answer ≡ Ok text) }
-{
     match answer {
         Ok(text) => Ok(text),
         Err(error) => Err(refusal_of(alloc, kind, error)?),
@@ -303,17 +296,17 @@ fn passwords<'a>(alloc: Global, given: &ArgMatches<'a>) -> Result<OneTime<'a>, F
 fn cents(alloc: Global, amount: Option<&str>) -> Result<Option<u64>, Failure>
     ensures { IfOk result (λ cents. cents ≡ hundredths_of (option_text amount.entry)) }
 {
-    match amount {
-        Some(text) => match decimal(text, 2) {
-            Some(cents) => Ok(Some(cents)),
-            None => Err(wrong(
-                alloc,
-                "--amount",
-                "it is no number",
-                "; write it as 12 or 12.30",
-            )),
-        },
-        None => Ok(None),
+    let Some(text) = amount else {
+        return Ok(None);
+    };
+    match decimal(text, 2) {
+        Some(cents) => Ok(Some(cents)),
+        None => Err(wrong(
+            alloc,
+            "--amount",
+            "it is no number",
+            "; write it as 12 or 12.30",
+        )),
     }
 }
 
