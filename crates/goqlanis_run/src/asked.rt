@@ -7,13 +7,13 @@ use crate::streams::has_colours;
 use crate::warnings::warn;
 use clap::ArgMatches;
 use clap::parser::ValueSource;
-use goqlanis_draw::formats::{format_named, format_of_ending};
+use goqlanis_draw::formats::{FORMATS, format_named, format_of_ending};
 use goqlanis_draw::{Choice, Format, Ink, Request};
 use qrcode::bits::Manner;
 use qrcode::types::{EcLevel, Version};
 use qrcode_png::GREATEST_SIDE;
 use qrcode_several::Versions;
-use std::alloc::Global;
+use std::alloc::{AllocError, Global};
 
 /// Where the data comes from.
 #[derive(Clone, Copy)]
@@ -345,12 +345,24 @@ fn format(
         Target::Terminal | Target::StandardOutput => Ok(Format::HalfBlocks),
         Target::File(path) => match ending_format(path) {
             Some(format) => Ok(format),
-            None => Err(Failure::Usage(format!(in alloc;
-                "--output {path}: its ending is none of .txt .png .svg .eps .pic .pbm .pgm; \
-                take one of these, and convert it where need be, or add --format"
-            )?)),
+            None => {
+                let endings = all_endings(alloc)?;
+                Err(Failure::Usage(format!(in alloc;
+                    "--output {path}: its ending is none of{endings}; \
+                    take one of these, and convert it where need be, or add --format"
+                )?))
+            }
         },
     }
+}
+
+// The endings of files, each behind a space and a point.
+fn all_endings(alloc: Global) -> Result<String, AllocError> {
+    let mut text = String::new(alloc);
+    for ending in FORMATS.iter().filter_map(|row| row.ending) {
+        write!(text, " .{ending}")?;
+    }
+    Ok(text)
 }
 
 /// The format of the ending of a file's name.
