@@ -7,9 +7,35 @@ use Rattle.std.proofs.lemmas.Nat.{div-mul-add}
 use Rattle.std.specs.List.{list_all}
 use Rattle.std.specs.Prelude.{if◌then◌else◌}
 use Rattle.std.proofs.lemmas.Option.{none-some}
-use Rattle.qrcode_reader.specs.scan.Halves.{half_in, colours_of, IsHalf, AreHalves, padded, rows_from, without_last}
+use Rattle.qrcode_reader.specs.scan.Halves.{behind_colour, IsHalf, AreHalves, padded, rows_from, without_last}
 use Rattle.qrcode_reader.specs.declared.scan.halves.Half.{Half}
 use Rattle.qrcode_reader.specs.declared.scan.halves.Half.TheVariants.{Pair, End, Return, Colours}
+
+abbrev colours_of : Option (List ℕ) → Option (Half × List ℕ)  -- a control sequence, where it ends
+colours_of None = None
+colours_of (Some rest) = Some (Colours, rest)
+
+abbrev pair_in : List ℕ → Option (Half × List ℕ)  -- two pixels behind the first byte of U+2580, U+2584 or U+2588
+pair_in [] = None
+pair_in (b ∷ []) = None
+pair_in (b ∷ c ∷ rest) =
+    if b == 150 then
+    if c == 128 then Some (Pair true false, rest) else if c == 132 then Some (Pair false true, rest) else if c == 136 then Some (Pair true true, rest) else None
+    else None
+
+abbrev colours_in : List ℕ → Option (Half × List ℕ)  -- a control sequence behind its first byte
+colours_in [] = None
+colours_in (b ∷ rest) = if b == 91 then colours_of (behind_colour rest) else None
+
+abbrev pub half_in : List ℕ → Option (Half × List ℕ)  -- what a text begins with, and what follows it
+half_in [] = None
+half_in (a ∷ rest) =
+    if a == 32 then Some (Pair false false, rest)
+    else if a == 10 then Some (End, rest)
+    else if a == 13 then Some (Return, rest)
+    else if a == 226 then pair_in rest
+    else if a == 27 then colours_in rest
+    else None
 
 -- what a text begins with is found
 half_of : (h : Half) (text rest : List ℕ) → IsHalf h text rest → half_in text ≡ Some (h, rest)
@@ -25,10 +51,14 @@ abbrev behind : Option (Half × List ℕ) → List ℕ  -- what follows what is 
 behind None = []
 behind (Some found) = found.1
 
+-- nothing that is not found
+pub no_half : (text : List ℕ) → half_in text ≡ None → (half : Half) (rest : List ℕ) → ¬ IsHalf half text rest
+no_half text none half rest is = none-some (half, rest) (sym none ∙ half_of half text rest is)
+
 -- a text that begins with nothing of half blocks consists of none
-pub no_halves : (text : List ℕ) → half_in text ≡ None → (text ≡ [] → ⊥) → (halves : List Half) → AreHalves halves text → ⊥
+pub no_halves : (text : List ℕ) → ((half : Half) (rest : List ℕ) → ¬ IsHalf half text rest) → (text ≡ [] → ⊥) → (halves : List Half) → AreHalves halves text → ⊥
 no_halves text none some [] are = some are
-no_halves text none some (h ∷ hs) are = absurd (none-some (h, are.0) (sym none ∙ half_of h text are.0 are.1.0))
+no_halves text none some (h ∷ hs) are = none h are.0 are.1.0
 
 -- what follows the first of those of which a text consists
 pub halves_past : (h : Half) (text rest : List ℕ) → IsHalf h text rest → (text ≡ [] → ⊥) → (halves : List Half) → AreHalves halves text → (more : List Half) × AreHalves more rest

@@ -29,32 +29,6 @@ IsHalf End text rest = text ≡ 10 ∷ rest
 IsHalf Return text rest = text ≡ 13 ∷ rest
 IsHalf Colours text rest = (more : List ℕ) × ((text ≡ 27 ∷ 91 ∷ more) × (behind_colour more ≡ Some rest))
 
-abbrev pub colours_of : Option (List ℕ) → Option (Half × List ℕ)
-colours_of None = None
-colours_of (Some rest) = Some (Colours, rest)
-
-abbrev pub pair_in : List ℕ → Option (Half × List ℕ)  -- two pixels behind the first byte of U+2580, U+2584 or U+2588
-pair_in [] = None
-pair_in (b ∷ []) = None
-pair_in (b ∷ c ∷ rest) =
-    if b == 150 then
-    if c == 128 then Some (Pair true false, rest) else if c == 132 then Some (Pair false true, rest) else if c == 136 then Some (Pair true true, rest) else None
-    else None
-
-abbrev pub colours_in : List ℕ → Option (Half × List ℕ)  -- a control sequence behind its first byte
-colours_in [] = None
-colours_in (b ∷ rest) = if b == 91 then colours_of (behind_colour rest) else None
-
-abbrev pub half_in : List ℕ → Option (Half × List ℕ)  -- what a text begins with, and what follows it
-half_in [] = None
-half_in (a ∷ rest) =
-    if a == 32 then Some (Pair false false, rest)
-    else if a == 10 then Some (End, rest)
-    else if a == 13 then Some (Return, rest)
-    else if a == 226 then pair_in rest
-    else if a == 27 then colours_in rest
-    else None
-
 abbrev pub AreHalves : List Half → List ℕ → Type 0  -- a text is these, one behind the other
 AreHalves [] text = text ≡ []
 AreHalves (h ∷ hs) text = (rest : List ℕ) × (IsHalf h text rest × AreHalves hs rest)

@@ -1,8 +1,8 @@
 //! Texts of half blocks.
 
-ghost use Rattle.std.specs.Prelude.{◌≡◌, ◌⊎◌, ◌*◌, ◌<◌, List, ◌≤◌, ◌++◌, [], Some, false, not, length, slice_index_or, IfOk, IfErr, OnOk, None};
+ghost use Rattle.std.specs.Prelude.{◌≡◌, ◌⊎◌, ℕ, ◌*◌, ◌<◌, List, ◌≤◌, ◌++◌, [], Some, false, not, length, slice_index_or, IfOk, IfErr, OnOk, None};
 ghost use Rattle.std.specs.List.{list_all};
-ghost use Rattle.qrcode_reader.specs.scan.Halves.{half_in, IsHalf, AreHalves, IsHalfBlocks, IsHalvesRefusal, behind_colour, longest, rows_from, padded, without_last};
+ghost use Rattle.qrcode_reader.specs.scan.Halves.{IsHalf, AreHalves, IsHalfBlocks, IsHalvesRefusal, behind_colour, longest, rows_from, padded, without_last};
 ghost use Rattle.qrcode_reader.specs.declared.scan.pixels.Unscanned.TheVariants.{NotPicture, NoSide, OutOfMemory};
 ghost use Rattle.qrcode_reader.specs.declared.scan.halves.Half.{Half};
 
@@ -66,11 +66,13 @@ fn halves_of(alloc: Global, text: &[u8]) -> Result<Vec<Half>, Unscanned>
 }
 
 // What a text begins with, and what follows it.
+#[tactic(auto, using(crate::proofs::HalfBlocks::no_half))]
 fn next_half(text: &[u8]) -> Result<(Half, &[u8]), Unscanned>
     requires { 1 ≤ length text.now }
     ensures value { IfOk result (λ found. IsHalf found.0 text.now found.1.now) }
     ensures at_most { IfOk result (λ found. length found.1.now < length text.now) }
-    ensures none { IfErr result (λ e. (e ≡ NotPicture) × (half_in text.now ≡ None)) }
+    ensures none { IfErr result (λ e. (e ≡ NotPicture)
+        × ((half : Half) (rest : List ℕ) → ¬ IsHalf half text.now rest)) }
 {
     match text {
         [b' ', more @ ..] => Ok((Half::Pair(false, false), more)),
