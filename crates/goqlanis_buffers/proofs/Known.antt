@@ -6,7 +6,7 @@ use Rattle.qrcode_types.specs.Versions.{has_level, is_valid, side}
 use Rattle.qrcode_types.specs.declared.types.Color.{Color}
 use Rattle.qrcode_types.specs.declared.types.EcLevel.{EcLevel}
 use Rattle.qrcode_types.specs.declared.types.Version.{Version}
-use Rattle.qrcode_places.specs.declared.masks.MaskPattern.{MaskPattern}
+use Rattle.qrcode_layout.specs.declared.masks.MaskPattern.{MaskPattern}
 use Rattle.qrcode.specs.Reading.{ReadsOnly}
 use Rattle.qrcode.specs.Texts.{ShowsTextOnly}
 use Rattle.qrcode_render.specs.Shades.{colors_of}

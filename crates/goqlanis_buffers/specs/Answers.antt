@@ -16,11 +16,11 @@ use Rattle.qrcode_reader.specs.Positions.{seen}
 use Rattle.qrcode_reader.specs.Readings.{HasNoVersion, HasNoFormat, HasDamagedBlock, ShowsNothing, SpellsNothing}
 use Rattle.qrcode_reader.specs.declared.positions.Position.{Position}
 use Rattle.qrcode_render.specs.Shades.{colors_of}
-use Rattle.goqlanis_draw.specs.Formats.{format_numbered}
+use Rattle.goqlanis_core.specs.Formats.{format_numbered}
 use Rattle.goqlanis_buffers.specs.Drawings.{is_sayable, IsDrawn}
 use Rattle.goqlanis_buffers.specs.declared.pictures.Drawing.{Drawing}
-use Rattle.goqlanis_draw.specs.declared.formats.Format.{Format}
-use Rattle.goqlanis_draw.specs.declared.formats.Format.TheVariants.{Png}
+use Rattle.goqlanis_core.specs.declared.formats.Format.{Format}
+use Rattle.goqlanis_core.specs.declared.formats.Format.TheVariants.{Png}
 use Rattle.goqlanis_buffers.specs.Names.{level_named, version_named}
 use Rattle.goqlanis_buffers.specs.Readings.{IsReadNowhere}
 use Rattle.goqlanis_buffers.specs.Segments.{HasNoRoom, HaveNoRoom, IsFirstRefused}

@@ -1,7 +1,7 @@
 -- What is asked to be drawn.
 use Rattle.std.specs.Prelude.{◌≡◌, ◌+◌, ◌*◌, ◌^◌, ◌<◌, ◌≤◌, ℕ, List, length, Some}
-use Rattle.goqlanis_draw.specs.Formats.{format_numbered}
-use Rattle.goqlanis_draw.specs.declared.formats.Format.{Format}
+use Rattle.goqlanis_core.specs.Formats.{format_numbered}
+use Rattle.goqlanis_core.specs.declared.formats.Format.{Format}
 use Rattle.goqlanis_buffers.specs.Answers.{IsDrawingCause}
 use Rattle.goqlanis_buffers.specs.Drawings.{IsDrawn}
 use Rattle.goqlanis_buffers.specs.declared.answers.Refusal.{Refusal}

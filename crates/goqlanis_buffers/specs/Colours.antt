@@ -1,9 +1,9 @@
 -- Colours of drawings: transparency, red, green and blue in the four bytes of a number.
 use Rattle.std.specs.Prelude.{ℕ, ◌-◌, ◌/◌, ◌%◌, ◌^◌, ◌==◌, nat_lt, ◌&&◌, Bool, true, false, List, [], ◌∷◌, ◌++◌, codes, if◌then◌else◌}
 use Rattle.std.specs.Fmt.{digit_glyph}
-use Rattle.goqlanis_draw.specs.Formats.{Shade}
-use Rattle.goqlanis_draw.specs.declared.formats.Format.{Format}
-use Rattle.goqlanis_draw.specs.declared.formats.Format.TheVariants.{Png, Svg, SvgPath, Eps}
+use Rattle.goqlanis_core.specs.Formats.{Shade}
+use Rattle.goqlanis_core.specs.declared.formats.Format.{Format}
+use Rattle.goqlanis_core.specs.declared.formats.Format.TheVariants.{Png, Svg, SvgPath, Eps}
 
 abbrev pub red_of : ℕ → ℕ
 red_of colour = colour / 65536 % 256

@@ -2,9 +2,9 @@
 use Rattle.std.specs.Prelude.{ℕ, ◌==◌, nat_le, ◌&&◌, Bool, false, List, IsTrue, Option, None, Some, if◌then◌else◌}
 use Rattle.qrcode_render.specs.Layout.{layout}
 use Rattle.qrcode_render.specs.Shades.{colors_of}
-use Rattle.goqlanis_draw.specs.Formats.{View, IsDrawnIn}
-use Rattle.goqlanis_draw.specs.declared.formats.Format.{Format}
-use Rattle.goqlanis_draw.specs.declared.formats.Format.TheVariants.{Png}
+use Rattle.goqlanis_core.specs.Formats.{View, IsDrawnIn}
+use Rattle.goqlanis_core.specs.declared.formats.Format.{Format}
+use Rattle.goqlanis_core.specs.declared.formats.Format.TheVariants.{Png}
 use Rattle.goqlanis_buffers.specs.Colours.{colour_shade, has_colours}
 use Rattle.goqlanis_buffers.specs.declared.pictures.Drawing.{Drawing}
 

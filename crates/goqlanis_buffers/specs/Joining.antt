@@ -1,16 +1,16 @@
 -- The data of several symbols, read from squares.
 use Rattle.std.specs.Prelude.{◌≡◌, ◌≢◌, ◌<◌, ⊤, ℕ, List, ◌∷◌, length, map, take, Some, slice_get}
 use Rattle.std.specs.List.{AllZip}
-use Rattle.qrcode_places.specs.declared.masks.MaskPattern.{MaskPattern}
+use Rattle.qrcode_layout.specs.declared.masks.MaskPattern.{MaskPattern}
 use Rattle.qrcode_reader.specs.Readings.{HasNoVersion, HasNoFormat, HasDamagedBlock, HoldsNoParts, IsPartsReading}
 use Rattle.qrcode_reader.specs.declared.correction.WrongCodeword.{WrongCodeword}
 use Rattle.qrcode_reader.specs.declared.spell.headers.Header.TheVariants.{StructuredAppend}
 use Rattle.qrcode_reader.specs.declared.spell.parts.Part as piece
 use Rattle.qrcode_reader.specs.declared.spell.parts.Part.TheVariants.{Front}
 use Rattle.qrcode_render.specs.Shades.{colors_of}
-use Rattle.qrcode_several.specs.Joining.{IsJoined, IsJoinRefused}
-use Rattle.qrcode_several.specs.declared.errors.JoinError.TheVariants as join
-use Rattle.qrcode_several.specs.declared.joining.Part.{Part}
+use Rattle.qrcode_append.specs.Joining.{IsJoined, IsJoinRefused}
+use Rattle.qrcode_append.specs.declared.errors.JoinError.TheVariants as join
+use Rattle.qrcode_append.specs.declared.joining.Part.{Part}
 use Rattle.qrcode_types.specs.declared.types.Color.{Color}
 use Rattle.qrcode_types.specs.declared.types.EcLevel.{EcLevel}
 use Rattle.qrcode_types.specs.declared.types.Version.{Version}

@@ -6,9 +6,9 @@ use Rattle.qrcode_types.specs.declared.types.Color.{Color}
 use Rattle.qrcode_types.specs.declared.types.EcLevel.{EcLevel}
 use Rattle.qrcode_types.specs.declared.types.Version.{Version}
 use Rattle.qrcode.specs.Code.{Code}
-use Rattle.goqlanis_draw.specs.Formats.{format_numbered}
+use Rattle.goqlanis_core.specs.Formats.{format_numbered}
 use Rattle.goqlanis_buffers.specs.Drawings.{IsDrawn}
-use Rattle.goqlanis_draw.specs.declared.formats.Format.{Format}
+use Rattle.goqlanis_core.specs.declared.formats.Format.{Format}
 use Rattle.goqlanis_buffers.specs.Names.{level_named, version_named}
 use Rattle.goqlanis_buffers.specs.declared.pictures.Drawing.{Drawing}
 use Rattle.goqlanis_buffers.specs.declared.symbols.Symbol.{Symbol}

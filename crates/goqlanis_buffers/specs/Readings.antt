@@ -4,8 +4,8 @@ use Rattle.qrcode_types.specs.declared.types.EcLevel.{EcLevel}
 use Rattle.qrcode_types.specs.declared.types.Version.{Version}
 use Rattle.qrcode_types.specs.declared.types.Version.TheVariants.{Normal, Micro}
 use Rattle.qrcode_types.specs.Versions.{side}
-use Rattle.qrcode_places.specs.Masks.{mask_number, micro_mask_number}
-use Rattle.qrcode_places.specs.declared.masks.MaskPattern.{MaskPattern}
+use Rattle.qrcode_layout.specs.Masks.{mask_number, micro_mask_number}
+use Rattle.qrcode_layout.specs.declared.masks.MaskPattern.{MaskPattern}
 use Rattle.qrcode_types.specs.declared.types.Color.{Color}
 use Rattle.qrcode.specs.Reading.{Reads}
 use Rattle.qrcode_reader.specs.Formats.{HasFormat}

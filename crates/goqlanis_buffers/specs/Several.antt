@@ -5,8 +5,8 @@ use Rattle.qrcode_bits.specs.Manners.{is_text}
 use Rattle.qrcode_bits.specs.declared.bits.manner.Manner.{Manner}
 use Rattle.qrcode_bits.specs.declared.bits.manner.Manner.TheVariants.{Bytes, Text}
 use Rattle.qrcode.specs.Code.{Code}
-use Rattle.qrcode_several.specs.Fewest.{IsAmong, AreCounted, AreFewest}
-use Rattle.qrcode_several.specs.Symbols.{HoldSeveral}
+use Rattle.qrcode_append.specs.Fewest.{IsAmong, AreCounted, AreFewest}
+use Rattle.qrcode_append.specs.Symbols.{HoldSeveral}
 use Rattle.goqlanis_buffers.specs.Names.{level_named}
 use Rattle.goqlanis_buffers.specs.Outputs.{module_bytes, IsDescribed, IsFilled}
 use Rattle.goqlanis_buffers.specs.declared.answers.Refusal.{Refusal}

@@ -9,7 +9,7 @@ use Rattle.qrcode_bits.specs.declared.bits.manner.Manner.{Manner}
 use Rattle.qrcode.specs.Acceptance.{IsChosenSymbol, IsLeastSymbol}
 use Rattle.qrcode.specs.Code.{Code}
 use Rattle.qrcode.specs.Texts.{IsSymbolAs}
-use Rattle.goqlanis_draw.specs.Masks.{AreUnder, LacksMask}
+use Rattle.goqlanis_core.specs.Masks.{AreUnder, LacksMask}
 use Rattle.goqlanis_buffers.specs.Names.{level_named, version_named}
 use Rattle.goqlanis_buffers.specs.Segments.{IsSymbolOfSegments}
 use Rattle.goqlanis_buffers.specs.declared.answers.Refusal.{Refusal}

@@ -7,10 +7,10 @@ ghost use Rattle.goqlanis_buffers.specs.Joining.{part_of, found_part, place_repo
 
 use crate::answers::Refusal;
 use crate::symbols::{colors_of, fill};
+use qrcode_append::errors::JoinError;
+use qrcode_append::{Part, join};
 use qrcode_reader::spell::{Header, Part as Piece};
 use qrcode_reader::{Unread, read_parts};
-use qrcode_several::errors::JoinError;
-use qrcode_several::{Part, join};
 use std::alloc::{AllocError, Global};
 
 /// A square of modules, which are bytes in row order, dark where they are not zero.

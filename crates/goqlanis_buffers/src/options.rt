@@ -9,7 +9,7 @@ ghost use Rattle.goqlanis_buffers.specs.declared.options.Options.{Options};
 use crate::answers::Refusal;
 use crate::names::{level_named, version_named};
 use crate::symbols::{Symbol, write_masked};
-use goqlanis_draw::{Choice, symbol_in};
+use goqlanis_core::{Choice, symbol_in};
 use qrcode::QrCode;
 use qrcode::bits::Manner;
 use qrcode::types::EcLevel;

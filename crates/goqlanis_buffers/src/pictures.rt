@@ -4,7 +4,7 @@ ghost use Rattle.std.specs.Prelude.{◌≡◌, ◌<◌, ◌^◌, ℕ, Some, IfOk
 ghost use Rattle.std.specs.Bool.{OnTrue};
 ghost use Rattle.qrcode_types.specs.declared.types.QrError.TheVariants.{OutOfMemory};
 ghost use Rattle.qrcode_render.specs.Shades.{colors_of};
-ghost use Rattle.goqlanis_draw.specs.Formats.{format_numbered};
+ghost use Rattle.goqlanis_core.specs.Formats.{format_numbered};
 ghost use Rattle.goqlanis_buffers.specs.Colours.{colour_name};
 ghost use Rattle.goqlanis_buffers.specs.Calls.{TellsLength, WritesPicture};
 ghost use Rattle.goqlanis_buffers.specs.Asking.{IsCauseFor, IsPictureFor, IsWithinLimits};
@@ -13,9 +13,9 @@ ghost use Rattle.goqlanis_buffers.specs.Drawings.{density, is_sayable, plain, Is
 use crate::answers::Refusal;
 use crate::colours::{BLACK, WHITE, has_colours, ink_of, name_of};
 use crate::symbols::{colors_of, fill};
-use goqlanis_draw::formats::{Format, format_numbered};
-use goqlanis_draw::picture::Picture;
-use goqlanis_draw::render::draw_in;
+use goqlanis_core::formats::{Format, format_numbered};
+use goqlanis_core::picture::Picture;
+use goqlanis_core::render::draw_in;
 use qrcode::types::{Color, QrResult};
 use std::alloc::Global;
 

@@ -12,7 +12,7 @@ use crate::symbols::{Symbol, described, fill};
 use qrcode::QrCode;
 use qrcode::bits::Manner;
 use qrcode::types::{Color, EcLevel, QrError, QrResult};
-use qrcode_several::{Versions, encode_among, encode_counted};
+use qrcode_append::{Versions, encode_among, encode_counted};
 use std::alloc::Global;
 
 /// What C asks of several symbols.

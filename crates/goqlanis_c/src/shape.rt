@@ -2,7 +2,7 @@
 
 ghost use Rattle.std.specs.Prelude.{◌≡◌, ◌&&◌, nat_lt, false, None, IfSome};
 ghost use Rattle.qrcode_types.specs.Versions.{side};
-ghost use Rattle.qrcode_places.specs.Patterns.{is_functional_place};
+ghost use Rattle.qrcode_layout.specs.Patterns.{is_functional_place};
 ghost use Rattle.goqlanis_buffers.specs.Calls.{IsReported, TellsLeast};
 ghost use Rattle.goqlanis_buffers.specs.Names.{version_named};
 

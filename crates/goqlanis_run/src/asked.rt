@@ -7,12 +7,12 @@ use crate::streams::has_colours;
 use crate::warnings::warn;
 use clap::ArgMatches;
 use clap::parser::ValueSource;
-use goqlanis_draw::formats::{FORMATS, format_named, format_of_ending};
-use goqlanis_draw::{Choice, Format, Ink, Request};
+use goqlanis_core::formats::{FORMATS, format_named, format_of_ending};
+use goqlanis_core::{Choice, Format, Ink, Request};
 use qrcode::bits::Manner;
 use qrcode::types::{EcLevel, Version};
+use qrcode_append::Versions;
 use qrcode_png::GREATEST_SIDE;
-use qrcode_several::Versions;
 use std::alloc::{AllocError, Global};
 
 /// Where the data comes from.

@@ -3,8 +3,8 @@
 ghost use Rattle.std.specs.Prelude.{◌≡◌, ℕ, List, Some, IfOk};
 ghost use Rattle.qrcode_gs1.specs.Elements.{Item};
 ghost use Rattle.qrcode_gs1.specs.symbol.Indicators.{indicator_of};
-ghost use Rattle.goqlanis_draw.specs.Drawings.{IsShownIn};
-ghost use Rattle.goqlanis_draw.specs.Elements.{IsApplicationIn, IsElementsIn};
+ghost use Rattle.goqlanis_core.specs.Drawings.{IsShownIn};
+ghost use Rattle.goqlanis_core.specs.Elements.{IsApplicationIn, IsElementsIn};
 ghost use Rattle.goqlanis_run.specs.Labels.{label_text};
 
 use crate::asked::{Asked, Target};
@@ -12,7 +12,7 @@ use crate::contents::Elements;
 use crate::failure::{Failure, refused};
 use crate::segments::{characters_of, pieces, segments};
 use crate::streams::{print, write_file};
-use goqlanis_draw::{
+use goqlanis_core::{
     Drawing, Request, Segment, application_refusal_text, draw, draw_elements, draw_for_application,
     draw_segments, elements_refusal_text, manner_of, quiet_zone, refusal_text,
     segments_refusal_text, unwritable,

@@ -5,7 +5,7 @@ use crate::drawing::draw_one;
 use crate::failure::Failure;
 use crate::progress::Progress;
 use crate::streams::{ask, shown, unread};
-use goqlanis_draw::Grouped;
+use goqlanis_core::Grouped;
 use std::alloc::Global;
 use std::fs;
 use std::io::{BufRead, BufReader, IsTerminal, Read};

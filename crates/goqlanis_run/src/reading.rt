@@ -3,7 +3,7 @@
 use crate::failure::Failure;
 use crate::streams::{Escaped, MOST_PICTURE, print, read_file, read_standard_input, write_file};
 use clap::ArgMatches;
-use goqlanis_draw::{Scan, Unread, read_picture};
+use goqlanis_core::{Scan, Unread, read_picture};
 use qrcode::types::Version;
 use qrcode_reader::spell::Header;
 use qrcode_reader::{Position, Reading, WrongCodeword};

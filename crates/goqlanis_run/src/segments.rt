@@ -1,7 +1,7 @@
 //! `--segment`: data in segments by hand.
 
 use crate::failure::Failure;
-use goqlanis_draw::Segment;
+use goqlanis_core::Segment;
 use qrcode::types::Mode;
 use std::alloc::{AllocError, Global};
 

@@ -6,12 +6,12 @@ use crate::failure::{Failure, refused};
 use crate::reading::scan_of;
 use crate::streams::{MOST_DATA, MOST_PICTURE, print, read_file, write_file};
 use clap::ArgMatches;
-use goqlanis_draw::{Scan, drawing_of};
+use goqlanis_core::{Scan, drawing_of};
 use qrcode::QrCode;
 use qrcode::types::QrError;
+use qrcode_append::errors::JoinError;
+use qrcode_append::{Part, encode_among, encode_counted, join};
 use qrcode_reader::spell::Header;
-use qrcode_several::errors::JoinError;
-use qrcode_several::{Part, encode_among, encode_counted, join};
 use std::alloc::{AllocError, Global};
 use std::process::ExitCode;
 

@@ -2,7 +2,7 @@
 
 use crate::failure::Failure;
 use crate::files::{Unwritten, write_whole};
-use goqlanis_draw::Grouped;
+use goqlanis_core::Grouped;
 use std::alloc::Global;
 use std::io::{ErrorKind, IsTerminal, Read, Write};
 use std::process::ExitCode;

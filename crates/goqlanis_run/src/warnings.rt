@@ -2,7 +2,7 @@
 
 use crate::asked::{Asked, Target, ending_format};
 use crate::streams::shown;
-use goqlanis_draw::{Format, Ink};
+use goqlanis_core::{Format, Ink};
 
 /// Warns of colours that readers hardly tell apart, and of a picture in a file whose ending is that
 /// of another format.

@@ -9,15 +9,15 @@ use Rattle.qrcode_types.specs.declared.types.Version.{Version}
 use Rattle.qrcode_types.specs.declared.types.Version.TheVariants.{Normal, Micro}
 use Rattle.qrcode_types.specs.declared.types.EcLevel.{EcLevel}
 use Rattle.qrcode_types.specs.declared.types.Color.{Color}
-use Rattle.qrcode_places.specs.Masks.{mask_number, micro_mask_number, exists_in, nth_mask}
-use Rattle.qrcode_places.specs.Patterns.{format_copies}
-use Rattle.qrcode_places.specs.Stream.{color_at}
-use Rattle.qrcode_places.specs.Words.{with_check_bits, format_bits, format_word}
-use Rattle.qrcode_places.specs.declared.masks.MaskPattern.{MaskPattern}
-use Rattle.qrcode_places.proofs.Below.{passes_below, below}
-use Rattle.qrcode_places.proofs.Formats.{mask_number-lt, format_bits_small}
-use Rattle.qrcode_places.proofs.MaskLists.{number_lt, nth_of_number}
-use Rattle.qrcode_places.proofs.WordTables.{word}
+use Rattle.qrcode_layout.specs.Masks.{mask_number, micro_mask_number, exists_in, nth_mask}
+use Rattle.qrcode_layout.specs.Patterns.{format_copies}
+use Rattle.qrcode_layout.specs.Stream.{color_at}
+use Rattle.qrcode_layout.specs.Words.{with_check_bits, format_bits, format_word}
+use Rattle.qrcode_layout.specs.declared.masks.MaskPattern.{MaskPattern}
+use Rattle.qrcode_layout.proofs.Below.{passes_below, below}
+use Rattle.qrcode_layout.proofs.Formats.{mask_number-lt, format_bits_small}
+use Rattle.qrcode_layout.proofs.MaskLists.{number_lt, nth_of_number}
+use Rattle.qrcode_layout.proofs.WordTables.{word}
 use Rattle.qrcode_symbol.specs.Symbol.{HasPatterns}
 
 -- a bit as a number

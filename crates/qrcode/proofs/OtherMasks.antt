@@ -8,10 +8,10 @@ use Rattle.qrcode_types.specs.declared.types.EcLevel.{EcLevel}
 use Rattle.qrcode_types.specs.declared.types.Color.{Color}
 use Rattle.qrcode_ec.specs.Codes.{distance}
 use Rattle.qrcode_ec.specs.Blocks.{codewords}
-use Rattle.qrcode_places.specs.Masks.{exists_in}
-use Rattle.qrcode_places.specs.Patterns.{format_copies}
-use Rattle.qrcode_places.specs.Stream.{stream}
-use Rattle.qrcode_places.specs.declared.masks.MaskPattern.{MaskPattern}
+use Rattle.qrcode_layout.specs.Masks.{exists_in}
+use Rattle.qrcode_layout.specs.Patterns.{format_copies}
+use Rattle.qrcode_layout.specs.Stream.{stream}
+use Rattle.qrcode_layout.specs.declared.masks.MaskPattern.{MaskPattern}
 use Rattle.qrcode_symbol.specs.Symbol.{bits_at, blocks_in, IsSymbol, IsDamaged}
 use Rattle.qrcode_symbol.proofs.Codewords.{codewords_are_bytes}
 use Rattle.qrcode_bits.specs.Spelling.{Spells}

@@ -12,12 +12,12 @@ use Rattle.qrcode_types.specs.declared.types.Color.{Color}
 use Rattle.qrcode_ec.specs.Codes.{Corrects, Vanishes, distance}
 use Rattle.qrcode_ec.specs.Blocks.{codewords, data_bits}
 use Rattle.qrcode_ec.proofs.Distances.{distance_above}
-use Rattle.qrcode_places.specs.Masks.{exists_in}
-use Rattle.qrcode_places.specs.Words.{format_word}
-use Rattle.qrcode_places.specs.Patterns.{format_copies, first_format_place, micro_format_place}
-use Rattle.qrcode_places.specs.Stream.{stream}
-use Rattle.qrcode_places.specs.declared.masks.MaskPattern.{MaskPattern}
-use Rattle.qrcode_places.proofs.WordLaws.{format_words_are_apart}
+use Rattle.qrcode_layout.specs.Masks.{exists_in}
+use Rattle.qrcode_layout.specs.Words.{format_word}
+use Rattle.qrcode_layout.specs.Patterns.{format_copies, first_format_place, micro_format_place}
+use Rattle.qrcode_layout.specs.Stream.{stream}
+use Rattle.qrcode_layout.specs.declared.masks.MaskPattern.{MaskPattern}
+use Rattle.qrcode_layout.proofs.WordLaws.{format_words_are_apart}
 use Rattle.qrcode_symbol.specs.Symbol.{bits_at, blocks_in, IsSymbol, IsDamaged}
 use Rattle.qrcode_symbol.specs.Reading.{ReadsBits, ReadsBitsOnly}
 use Rattle.qrcode_bits.specs.Spelling.{Spells}

@@ -12,7 +12,7 @@ use Rattle.qrcode_types.specs.declared.types.EcLevel.{EcLevel}
 use Rattle.qrcode_types.specs.declared.types.Color.{Color}
 use Rattle.qrcode_ec.specs.Codes.{Vanishes}
 use Rattle.qrcode_ec.specs.Blocks.{blocks, data_bytes, data_bits, AreCodewords}
-use Rattle.qrcode_places.specs.declared.masks.MaskPattern.{MaskPattern}
+use Rattle.qrcode_layout.specs.declared.masks.MaskPattern.{MaskPattern}
 use Rattle.qrcode_symbol.specs.Canvas.{colors_of, drawn_bits, with_mask}
 use Rattle.qrcode_symbol.specs.Carried.{AreCarried, HasZeroHalf, drawn_modules}
 use Rattle.qrcode_symbol.specs.Masking.{AreBestColors}

@@ -3,8 +3,8 @@ use Rattle.std.specs.Prelude.{ℕ, List, IsTrue}
 use Rattle.qrcode_types.specs.declared.types.Version.{Version}
 use Rattle.qrcode_types.specs.declared.types.EcLevel.{EcLevel}
 use Rattle.qrcode_types.specs.declared.types.Color.{Color}
-use Rattle.qrcode_places.specs.Masks.{exists_in}
-use Rattle.qrcode_places.specs.declared.masks.MaskPattern.{MaskPattern}
+use Rattle.qrcode_layout.specs.Masks.{exists_in}
+use Rattle.qrcode_layout.specs.declared.masks.MaskPattern.{MaskPattern}
 use Rattle.qrcode_symbol.specs.Symbol.{HasPatterns, Carries}
 use Rattle.qrcode_symbol.specs.Penalties.{IsFirstLeast}
 

@@ -7,8 +7,8 @@ ghost use Rattle.qrcode_types.specs.declared.types.QrError.TheVariants.{OutOfMem
 ghost use Rattle.qrcode_types.specs.Colors.{is_dark};
 ghost use Rattle.qrcode_types.specs.declared.types.EcLevel.TheVariants.{M};
 ghost use Rattle.qrcode_ec.specs.Allowed.{misdecode_protection};
-ghost use Rattle.qrcode_places.specs.Masks.{exists_in};
-ghost use Rattle.qrcode_places.specs.Patterns.{is_functional_place};
+ghost use Rattle.qrcode_layout.specs.Masks.{exists_in};
+ghost use Rattle.qrcode_layout.specs.Patterns.{is_functional_place};
 ghost use Rattle.qrcode_symbol.specs.Patterned.{IsDrawn};
 ghost use Rattle.qrcode_symbol.specs.Symbol.{IsSymbol};
 ghost use Rattle.qrcode_bits.specs.Choice.{Holds};
@@ -48,7 +48,7 @@ pub struct QrCode {
 impl Model for QrCode {
     ghost use Rattle.std.specs.Prelude.{◌≡◌, ◌*◌, length, IsTrue};
     ghost use Rattle.qrcode_types.specs.Versions.{side, has_level};
-    ghost use Rattle.qrcode_places.specs.declared.masks.MaskPattern.{MaskPattern};
+    ghost use Rattle.qrcode_layout.specs.declared.masks.MaskPattern.{MaskPattern};
     ghost use Rattle.qrcode.specs.Code.{Code};
     ghost use Rattle.qrcode.specs.Drawing.{IsMaskOf};
 

@@ -4,14 +4,14 @@ ghost use Rattle.std.specs.Prelude.{◌≡◌, ◌<◌, ◌≤◌, IsTrue, if◌
 ghost use Rattle.qrcode_types.specs.Colors.{is_dark};
 ghost use Rattle.qrcode_types.specs.Versions.{is_valid, has_level};
 ghost use Rattle.qrcode_types.specs.declared.types.EcLevel.{EcLevel};
-ghost use Rattle.qrcode_places.specs.Masks.{exists_in};
-ghost use Rattle.qrcode_places.specs.Stream.{color_at};
-ghost use Rattle.qrcode_places.specs.declared.masks.MaskPattern.{MaskPattern};
+ghost use Rattle.qrcode_layout.specs.Masks.{exists_in};
+ghost use Rattle.qrcode_layout.specs.Stream.{color_at};
+ghost use Rattle.qrcode_layout.specs.declared.masks.MaskPattern.{MaskPattern};
 ghost use Rattle.qrcode_symbol.specs.Symbol.{HasPatterns};
 
 use crate::canvas::MaskPattern;
 use crate::types::{Color, Version};
-use qrcode_places::masks::nth_mask;
+use qrcode_layout::masks::nth_mask;
 
 // One where the module in column `x` of row 8 is dark, and else zero.
 fn bit_at(version: Version, modules: &[Color], x: usize) -> usize

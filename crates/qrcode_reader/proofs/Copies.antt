@@ -10,9 +10,9 @@ use Rattle.qrcode_types.specs.declared.types.Version.{Version}
 use Rattle.qrcode_types.specs.declared.types.Version.TheVariants.{Normal, Micro}
 use Rattle.qrcode_types.specs.declared.types.EcLevel.{EcLevel}
 use Rattle.qrcode_types.specs.declared.types.Color.{Color}
-use Rattle.qrcode_places.specs.Patterns.{format_copies}
-use Rattle.qrcode_places.specs.Stream.{color_at}
-use Rattle.qrcode_places.specs.declared.masks.MaskPattern.{MaskPattern}
+use Rattle.qrcode_layout.specs.Patterns.{format_copies}
+use Rattle.qrcode_layout.specs.Stream.{color_at}
+use Rattle.qrcode_layout.specs.declared.masks.MaskPattern.{MaskPattern}
 use Rattle.qrcode_symbol.specs.Symbol.{bits_at}
 use Rattle.qrcode_reader.specs.Formats.{NamesFormat, HasFormat, first_copy, last_copy}
 

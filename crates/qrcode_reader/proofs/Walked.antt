@@ -10,10 +10,10 @@ use Rattle.qrcode_types.specs.Colors.{is_dark}
 use Rattle.qrcode_types.specs.Versions.{side}
 use Rattle.qrcode_types.specs.declared.types.Version.{Version}
 use Rattle.qrcode_types.specs.declared.types.Color.{Color}
-use Rattle.qrcode_places.specs.Masks.{turns, turned_if}
-use Rattle.qrcode_places.specs.Patterns.{is_functional_place}
-use Rattle.qrcode_places.specs.Stream.{color_at, zigzag_place, zigzag, free_places, stream, right_column}
-use Rattle.qrcode_places.specs.declared.masks.MaskPattern.{MaskPattern}
+use Rattle.qrcode_layout.specs.Masks.{turns, turned_if}
+use Rattle.qrcode_layout.specs.Patterns.{is_functional_place}
+use Rattle.qrcode_layout.specs.Stream.{color_at, zigzag_place, zigzag, free_places, stream, right_column}
+use Rattle.qrcode_layout.specs.declared.masks.MaskPattern.{MaskPattern}
 use Rattle.qrcode_symbol.specs.Filling.{row_of_step}
 use Rattle.qrcode_symbol.specs.Canvas.{is_empty, with_patterns, blank}
 use Rattle.qrcode_symbol.specs.declared.canvas.Module.{Module}

@@ -7,10 +7,10 @@ use Rattle.qrcode_types.specs.declared.types.Version.{Version}
 use Rattle.qrcode_types.specs.declared.types.Version.TheVariants.{Normal, Micro}
 use Rattle.qrcode_types.specs.declared.types.EcLevel.{EcLevel}
 use Rattle.qrcode_types.specs.declared.types.Color.{Color}
-use Rattle.qrcode_places.specs.Masks.{exists_in}
-use Rattle.qrcode_places.specs.Words.{format_word}
-use Rattle.qrcode_places.specs.Patterns.{format_copies, first_format_place, second_format_place, micro_format_place}
-use Rattle.qrcode_places.specs.declared.masks.MaskPattern.{MaskPattern}
+use Rattle.qrcode_layout.specs.Masks.{exists_in}
+use Rattle.qrcode_layout.specs.Words.{format_word}
+use Rattle.qrcode_layout.specs.Patterns.{format_copies, first_format_place, second_format_place, micro_format_place}
+use Rattle.qrcode_layout.specs.declared.masks.MaskPattern.{MaskPattern}
 use Rattle.qrcode_symbol.specs.Symbol.{bits_at}
 use Rattle.qrcode_reader.specs.declared.formats.FormatCopy.{FormatCopy}
 use Rattle.qrcode_reader.specs.declared.formats.FormatCopy.TheVariants.{First, Last}

@@ -5,10 +5,10 @@ use Rattle.qrcode_types.specs.Colors.{is_dark}
 use Rattle.qrcode_types.specs.declared.types.Version.{Version}
 use Rattle.qrcode_types.specs.declared.types.Color.{Color}
 use Rattle.qrcode_types.specs.declared.types.EcLevel.TheVariants.{L}
-use Rattle.qrcode_places.specs.Masks.{turns, turned_if}
-use Rattle.qrcode_places.specs.Patterns.{is_functional_place}
-use Rattle.qrcode_places.specs.Stream.{color_at, zigzag_place}
-use Rattle.qrcode_places.specs.declared.masks.MaskPattern.{MaskPattern}
+use Rattle.qrcode_layout.specs.Masks.{turns, turned_if}
+use Rattle.qrcode_layout.specs.Patterns.{is_functional_place}
+use Rattle.qrcode_layout.specs.Stream.{color_at, zigzag_place}
+use Rattle.qrcode_layout.specs.declared.masks.MaskPattern.{MaskPattern}
 use Rattle.qrcode_symbol.specs.Canvas.{Drawing, blank, with_patterns}
 
 abbrev pub patterned_canvas : Version → Drawing  -- a canvas on which the patterns alone are drawn

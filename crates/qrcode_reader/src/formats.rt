@@ -5,15 +5,15 @@ ghost use Rattle.std.specs.List.{range_with_len};
 ghost use Rattle.qrcode_types.specs.Bits.{has_bit, number_bits, bit_distance};
 ghost use Rattle.qrcode_types.specs.Versions.{is_valid};
 ghost use Rattle.qrcode_types.specs.Colors.{is_dark};
-ghost use Rattle.qrcode_places.specs.Stream.{color_at};
+ghost use Rattle.qrcode_layout.specs.Stream.{color_at};
 ghost use Rattle.qrcode_types.specs.declared.types.EcLevel.{EcLevel};
-ghost use Rattle.qrcode_places.specs.declared.masks.MaskPattern.{MaskPattern};
+ghost use Rattle.qrcode_layout.specs.declared.masks.MaskPattern.{MaskPattern};
 ghost use Rattle.qrcode_symbol.specs.Symbol.{bits_at};
 ghost use Rattle.qrcode_reader.specs.Formats.{NamesFormat, HasFormat, first_copy, copy_place};
 
 use crate::walk::side;
-use qrcode_places::masks::{MaskPattern, mask_count, nth_mask};
-use qrcode_places::words::format_word;
+use qrcode_layout::masks::{MaskPattern, mask_count, nth_mask};
+use qrcode_layout::words::format_word;
 use qrcode_types::types::{Color, EcLevel, Version};
 
 // A copy of the format word; in Micro the two are one.

@@ -7,7 +7,7 @@ use crate::correction::WrongCodeword;
 use crate::reading::read_bits;
 use crate::refusals::Unread;
 use crate::spell::{Parts, pieces};
-use qrcode_places::masks::MaskPattern;
+use qrcode_layout::masks::MaskPattern;
 use qrcode_types::types::{Color, EcLevel, Version};
 use std::alloc::Global;
 

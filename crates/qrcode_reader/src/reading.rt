@@ -6,7 +6,7 @@ ghost use Rattle.qrcode_types.specs.declared.types.Version.{Version};
 ghost use Rattle.qrcode_types.specs.declared.types.EcLevel.{EcLevel};
 ghost use Rattle.qrcode_types.specs.declared.types.Color.{Color};
 ghost use Rattle.qrcode_ec.specs.Blocks as interleaved;
-ghost use Rattle.qrcode_places.specs.Stream as walked;
+ghost use Rattle.qrcode_layout.specs.Stream as walked;
 ghost use Rattle.qrcode_symbol.specs.Symbol.{IsDamaged};
 ghost use Rattle.qrcode_symbol.specs.Reading.{ReadsBits};
 ghost use Rattle.qrcode.specs.Reading.{Reads, EncodesBits, EncodesBytes};
@@ -21,7 +21,7 @@ use crate::sizes::version_of;
 use crate::spell::spell;
 use crate::walk::stream;
 use crate::words::codewords;
-use qrcode_places::masks::MaskPattern;
+use qrcode_layout::masks::MaskPattern;
 use qrcode_types::types::{Color, EcLevel, Version};
 use std::alloc::{AllocError, Global};
 

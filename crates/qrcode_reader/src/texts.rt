@@ -14,7 +14,7 @@ use crate::correction::WrongCodeword;
 use crate::reading::read_bits;
 use crate::refusals::UnreadText;
 use crate::spell::text_of;
-use qrcode_places::masks::MaskPattern;
+use qrcode_layout::masks::MaskPattern;
 use qrcode_types::types::{Color, EcLevel, Version};
 use std::alloc::Global;
 

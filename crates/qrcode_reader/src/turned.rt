@@ -1,9 +1,9 @@
 //! Which modules a mask turns.
 
 ghost use Rattle.std.specs.Prelude.{◌≡◌, ℕ, ◌%◌, ◌<◌, ◌≤◌, [], false, slice_index_or, pos};
-ghost use Rattle.qrcode_places.specs.Masks.{turns};
+ghost use Rattle.qrcode_layout.specs.Masks.{turns};
 
-use qrcode_places::masks::MaskPattern;
+use qrcode_layout::masks::MaskPattern;
 
 // The modules along the side of the largest square.
 const LONGEST: usize = 177;

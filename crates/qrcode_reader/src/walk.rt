@@ -3,14 +3,14 @@
 ghost use Rattle.std.specs.Prelude.{◌≡◌, ℕ, ◌+◌, ◌*◌, ◌%◌, ◌<◌, ◌≤◌, ◌++◌, false, length, take, slice_index_or, IsTrue, OnOk, IfOk, pos};
 ghost use Rattle.qrcode_types.specs.Colors.{is_dark};
 ghost use Rattle.qrcode_types.specs.Versions.{is_valid, side};
-ghost use Rattle.qrcode_places.specs.Masks.{turns, turned_if};
-ghost use Rattle.qrcode_places.specs.Stream.{stream};
+ghost use Rattle.qrcode_layout.specs.Masks.{turns, turned_if};
+ghost use Rattle.qrcode_layout.specs.Stream.{stream};
 ghost use Rattle.qrcode_symbol.specs.Filling.{row_of_step};
 ghost use Rattle.qrcode_reader.specs.Streams.{patterned_canvas, bits_turned, bits_walked};
 
 use crate::turned::{Turned, coordinate};
-use qrcode_places::masks::MaskPattern;
-use qrcode_places::walk::right_column;
+use qrcode_layout::masks::MaskPattern;
+use qrcode_layout::walk::right_column;
 use qrcode_symbol::canvas::{Canvas, Module};
 use qrcode_types::types::{Color, EcLevel, Version};
 use std::alloc::{AllocError, Global};

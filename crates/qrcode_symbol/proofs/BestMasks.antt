@@ -5,10 +5,10 @@ use Rattle.qrcode_types.specs.Colors.{color_of}
 use Rattle.qrcode_types.specs.Versions.{side}
 use Rattle.qrcode_types.specs.declared.types.Version.{Version}
 use Rattle.qrcode_types.specs.declared.types.EcLevel.{EcLevel}
-use Rattle.qrcode_masks.specs.Rows.{Shows, dark_in}
-use Rattle.qrcode_places.specs.Masks.{exists_in, nth_mask, mask_count}
-use Rattle.qrcode_places.specs.Words.{format_word}
-use Rattle.qrcode_places.specs.declared.masks.MaskPattern.{MaskPattern}
+use Rattle.qrcode_penalty.specs.Rows.{Shows, dark_in}
+use Rattle.qrcode_layout.specs.Masks.{exists_in, nth_mask, mask_count}
+use Rattle.qrcode_layout.specs.Words.{format_word}
+use Rattle.qrcode_layout.specs.declared.masks.MaskPattern.{MaskPattern}
 use Rattle.qrcode_symbol.specs.declared.canvas.Module.{Module}
 use Rattle.qrcode_symbol.specs.declared.canvas.Module.TheVariants.{Masked}
 use Rattle.qrcode_types.specs.declared.types.Color.{Color}

@@ -13,15 +13,15 @@ use Rattle.qrcode_types.specs.declared.types.Version.{Version}
 use Rattle.qrcode_types.specs.declared.types.Version.TheVariants.{Normal, Micro}
 use Rattle.qrcode_types.specs.declared.types.Color.{Color}
 use Rattle.qrcode_types.specs.declared.types.Color.TheVariants.{Light}
-use Rattle.qrcode_places.specs.Patterns.{pattern, format_index, color_if, finder_at, finder, alignment, alignment_between, centres, is_near, timing, dark_module, version_copy, version_pattern, is_corner_centre}
+use Rattle.qrcode_layout.specs.Patterns.{pattern, format_index, color_if, finder_at, finder, alignment, alignment_between, centres, is_near, timing, dark_module, version_copy, version_pattern, is_corner_centre}
 use Rattle.qrcode_symbol.specs.Canvas.{pattern_module}
 use Rattle.qrcode_symbol.specs.Patterned.{IsBlockAt, IsCentre}
 use Rattle.qrcode_symbol.specs.declared.canvas.Module.{Module}
 use Rattle.qrcode_symbol.specs.declared.canvas.Module.TheVariants.{Masked}
 use Rattle.qrcode_symbol.specs.declared.canvas.drawing.blocks.TheConstants.{NORMAL_TOP_LEFT, NORMAL_TOP_RIGHT, NORMAL_BOTTOM_LEFT, MICRO_TOP_LEFT, ALIGNMENT}
 use Rattle.qrcode_symbol.proofs.Centres.{IsGood, centre_good, centre_found, centre_inside, found}
-use Rattle.qrcode_places.proofs.FormatPlaces.{normal_index, micro_index}
-use Rattle.qrcode_places.proofs.Corners.{no_where, no_or, or_none, far_finder}
+use Rattle.qrcode_layout.proofs.FormatPlaces.{normal_index, micro_index}
+use Rattle.qrcode_layout.proofs.Corners.{no_where, no_or, or_none, far_finder}
 use Rattle.qrcode_symbol.proofs.Covered.{no_copy, no_if, no_timing}
 
 -- the colour of a pattern, or else of a format place

@@ -12,17 +12,17 @@ use Rattle.qrcode_types.specs.declared.types.Version.{Version}
 use Rattle.qrcode_types.specs.declared.types.EcLevel.{EcLevel}
 use Rattle.qrcode_types.specs.declared.types.Color.{Color}
 use Rattle.qrcode_types.specs.declared.types.Color.TheVariants.{Light}
-use Rattle.qrcode_places.specs.Masks.{turns, turned_if}
-use Rattle.qrcode_places.specs.Words.{format_word}
-use Rattle.qrcode_places.specs.Patterns.{is_functional_place, pattern, format_index, dark_module, format_copies}
-use Rattle.qrcode_places.specs.Stream.{zigzag, zigzag_place, free_places, stream, color_at}
-use Rattle.qrcode_places.specs.Laws.{IsInside, IsFormatCopy}
-use Rattle.qrcode_places.specs.declared.masks.MaskPattern.{MaskPattern}
-use Rattle.qrcode_places.proofs.Formats.{valid_of}
-use Rattle.qrcode_places.proofs.Zigzag.{walk_is_inside}
-use Rattle.qrcode_places.proofs.FormatPlaces.{format_copies_are_indexed}
-use Rattle.qrcode_places.proofs.PatternsApart.{format_places_are_no_patterns, dark_module_is_in_the_pattern}
-use Rattle.qrcode_places.proofs.FreeCounts.{free_places_are_filled}
+use Rattle.qrcode_layout.specs.Masks.{turns, turned_if}
+use Rattle.qrcode_layout.specs.Words.{format_word}
+use Rattle.qrcode_layout.specs.Patterns.{is_functional_place, pattern, format_index, dark_module, format_copies}
+use Rattle.qrcode_layout.specs.Stream.{zigzag, zigzag_place, free_places, stream, color_at}
+use Rattle.qrcode_layout.specs.Laws.{IsInside, IsFormatCopy}
+use Rattle.qrcode_layout.specs.declared.masks.MaskPattern.{MaskPattern}
+use Rattle.qrcode_layout.proofs.Formats.{valid_of}
+use Rattle.qrcode_layout.proofs.Zigzag.{walk_is_inside}
+use Rattle.qrcode_layout.proofs.FormatPlaces.{format_copies_are_indexed}
+use Rattle.qrcode_layout.proofs.PatternsApart.{format_places_are_no_patterns, dark_module_is_in_the_pattern}
+use Rattle.qrcode_layout.proofs.FreeCounts.{free_places_are_filled}
 use Rattle.qrcode_symbol.specs.Canvas.{color_of_module, colors_of, is_empty, masked_module, mask_module, empty_places, with_bits_drawn, with_patterns, with_mask, blank, drawn_bits}
 use Rattle.qrcode_symbol.specs.Carried.{HasZeroHalf}
 use Rattle.qrcode_symbol.specs.Symbol.{bits_at, HasPatterns, Carries}

@@ -7,8 +7,8 @@ use Rattle.std.proofs.lemmas.Bool.Decides.{nat_tests}
 use Rattle.qrcode_types.specs.Versions.{side}
 use Rattle.qrcode_types.specs.declared.types.Version.{Version}
 use Rattle.qrcode_types.specs.declared.types.Version.TheVariants.{Normal, Micro}
-use Rattle.qrcode_places.specs.Centres.{centre_table}
-use Rattle.qrcode_places.specs.Patterns.{centres, is_near}
+use Rattle.qrcode_layout.specs.Centres.{centre_table}
+use Rattle.qrcode_layout.specs.Patterns.{centres, is_near}
 use Rattle.qrcode_symbol.specs.Patterned.{IsCentre}
 
 -- a centre is far from the edges, except the first coordinate and the last

@@ -1,9 +1,9 @@
 -- The choice of the first least cost, and of the mask that has it.
 use Rattle.std.proofs.Common.{◌≡◌, ℕ, List, ◌-◌, ◌<◌, ◌≤◌, ◌^◌, IsTrue, ap, ◌∙◌, arith}
 use Rattle.qrcode_types.specs.declared.types.Version.{Version}
-use Rattle.qrcode_places.specs.Masks.{exists_in, nth_mask, mask_count}
-use Rattle.qrcode_places.specs.declared.masks.MaskPattern.{MaskPattern}
-use Rattle.qrcode_places.proofs.MaskLists.{number_in, number_lt, nth_of_number, number_of_nth, number_order}
+use Rattle.qrcode_layout.specs.Masks.{exists_in, nth_mask, mask_count}
+use Rattle.qrcode_layout.specs.declared.masks.MaskPattern.{MaskPattern}
+use Rattle.qrcode_layout.proofs.MaskLists.{number_in, number_lt, nth_of_number, number_of_nth, number_order}
 use Rattle.qrcode_symbol.specs.Masking.{IsFirstLeastCost}
 use Rattle.qrcode_types.specs.declared.types.EcLevel.{EcLevel}
 use Rattle.qrcode_symbol.specs.declared.canvas.Module.{Module}

@@ -10,13 +10,13 @@ use Rattle.qrcode_types.specs.declared.types.Version.{Version}
 use Rattle.qrcode_types.specs.declared.types.Version.TheVariants.{Normal, Micro}
 use Rattle.qrcode_types.specs.declared.types.Color.{Color}
 use Rattle.qrcode_types.specs.declared.types.Color.TheVariants.{Light}
-use Rattle.qrcode_places.specs.Patterns.{pattern, format_index, finder_at, finder, alignment, centres, is_near, timing, dark_module, version_copy, version_pattern, is_corner_centre}
+use Rattle.qrcode_layout.specs.Patterns.{pattern, format_index, finder_at, finder, alignment, centres, is_near, timing, dark_module, version_copy, version_pattern, is_corner_centre}
 use Rattle.qrcode_symbol.specs.Patterned.{IsPatterned, IsRectanglePatterned, AreAlignmentsPatterned}
 use Rattle.qrcode_symbol.specs.declared.canvas.Module.{Module}
 use Rattle.qrcode_symbol.specs.declared.canvas.Module.TheVariants.{Masked}
 use Rattle.qrcode_symbol.proofs.Centres.{found, centre_inside}
-use Rattle.qrcode_places.proofs.FormatPlaces.{normal_index, micro_index}
-use Rattle.qrcode_places.proofs.Corners.{no_where, no_or, far_finder}
+use Rattle.qrcode_layout.proofs.FormatPlaces.{normal_index, micro_index}
+use Rattle.qrcode_layout.proofs.Corners.{no_where, no_or, far_finder}
 
 -- the place is in none of the rectangles of Normal but those of alignment
 pub record IsOutside (w x y : ℕ) : Type 0 where

@@ -10,10 +10,10 @@ use Rattle.qrcode_types.specs.Colors.{is_dark}
 use Rattle.qrcode_types.specs.Versions.{side, is_micro}
 use Rattle.qrcode_types.specs.declared.types.Version.{Version}
 use Rattle.qrcode_types.specs.declared.types.Version.TheVariants.{Normal, Micro}
-use Rattle.qrcode_masks.specs.Rows.{is_set, dark_in}
-use Rattle.qrcode_masks.proofs.Places.{has_shr, has_above, below_from_places}
-use Rattle.qrcode_places.specs.Patterns.{dark_module, decided_bit, format_index}
-use Rattle.qrcode_places.proofs.FormatPlaces.{normal_cases, micro_cases, normal_index, micro_index}
+use Rattle.qrcode_penalty.specs.Rows.{is_set, dark_in}
+use Rattle.qrcode_penalty.proofs.Places.{has_shr, has_above, below_from_places}
+use Rattle.qrcode_layout.specs.Patterns.{dark_module, decided_bit, format_index}
+use Rattle.qrcode_layout.proofs.FormatPlaces.{normal_cases, micro_cases, normal_index, micro_index}
 use Rattle.qrcode_symbol.specs.Deciding.{IsPutInRow, IsPutInColumn, AreDecided}
 
 -- rows with one bit more of those that are put into column 8

@@ -4,12 +4,12 @@ use Rattle.std.proofs.lemmas.Bool.Decides.{nat_tests}
 use Rattle.qrcode_types.specs.Versions.{side, is_micro}
 use Rattle.qrcode_types.specs.declared.types.Version.{Version}
 use Rattle.qrcode_types.specs.declared.types.Version.TheVariants.{Normal, Micro}
-use Rattle.qrcode_masks.specs.Rows.{is_set, dark_in, inside}
-use Rattle.qrcode_masks.specs.Penalty.{normal_penalty, micro_penalty}
-use Rattle.qrcode_places.specs.Masks.{turns, turned_if}
-use Rattle.qrcode_places.specs.Patterns.{decided_bit}
-use Rattle.qrcode_places.specs.declared.masks.MaskPattern.{MaskPattern}
-use Rattle.qrcode_places.proofs.FormatPlaces.{micro_cases}
+use Rattle.qrcode_penalty.specs.Rows.{is_set, dark_in, inside}
+use Rattle.qrcode_penalty.specs.Penalty.{normal_penalty, micro_penalty}
+use Rattle.qrcode_layout.specs.Masks.{turns, turned_if}
+use Rattle.qrcode_layout.specs.Patterns.{decided_bit}
+use Rattle.qrcode_layout.specs.declared.masks.MaskPattern.{MaskPattern}
+use Rattle.qrcode_layout.proofs.FormatPlaces.{micro_cases}
 use Rattle.qrcode_symbol.specs.Masking.{masked_dark}
 use Rattle.qrcode_symbol.specs.Penalties.{penalty_of}
 use Rattle.qrcode_symbol.proofs.Decided.{micro_none}

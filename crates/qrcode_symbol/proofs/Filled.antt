@@ -11,9 +11,9 @@ use Rattle.std.proofs.lemmas.Simd.{map-map}
 use Rattle.qrcode_types.specs.Colors.{color_of}
 use Rattle.qrcode_types.specs.Versions.{side, is_valid}
 use Rattle.qrcode_types.specs.declared.types.Version.{Version}
-use Rattle.qrcode_places.specs.Patterns.{is_functional_place}
-use Rattle.qrcode_places.specs.Stream.{zigzag, zigzag_place, free_places}
-use Rattle.qrcode_places.proofs.Zigzag.{walk_is_inside}
+use Rattle.qrcode_layout.specs.Patterns.{is_functional_place}
+use Rattle.qrcode_layout.specs.Stream.{zigzag, zigzag_place, free_places}
+use Rattle.qrcode_layout.proofs.Zigzag.{walk_is_inside}
 use Rattle.qrcode_symbol.specs.Canvas.{is_empty, put_bits, empty_places, with_bits_drawn, with_patterns, blank}
 use Rattle.qrcode_symbol.specs.Filling.{place_index}
 use Rattle.qrcode_symbol.specs.declared.canvas.Module.{Module}

@@ -6,7 +6,7 @@ use Rattle.qrcode_types.specs.Versions.{side}
 use Rattle.qrcode_types.specs.declared.types.Version.{Version}
 use Rattle.qrcode_types.specs.declared.types.Color.{Color}
 use Rattle.qrcode_types.specs.declared.types.Color.TheVariants.{Light}
-use Rattle.qrcode_places.specs.Patterns.{pattern, format_index, is_functional_place}
+use Rattle.qrcode_layout.specs.Patterns.{pattern, format_index, is_functional_place}
 use Rattle.qrcode_symbol.specs.Canvas.{pattern_module, with_patterns, blank, is_empty}
 use Rattle.qrcode_symbol.specs.Patterned.{IsDrawn}
 use Rattle.qrcode_symbol.specs.declared.canvas.Module.{Module}

@@ -4,14 +4,14 @@ use Rattle.std.proofs.Math.Nat.{mul-add}
 use Rattle.std.proofs.lemmas.Nat.{shr_split}
 use Rattle.std.proofs.lemmas.Nat.Bits.{bit_at_cat_low}
 use Rattle.std.specs.Int.{bit_at}
-use Rattle.qrcode_masks.specs.Rows.{is_set}
-use Rattle.qrcode_masks.specs.Penalty.{same}
-use Rattle.qrcode_places.specs.Masks.{turns, mask_number}
+use Rattle.qrcode_penalty.specs.Rows.{is_set}
+use Rattle.qrcode_penalty.specs.Penalty.{same}
+use Rattle.qrcode_layout.specs.Masks.{turns, mask_number}
 use Rattle.qrcode_symbol.specs.Masking.{three_words}
 use borrow.Author.Tests.{ltb-true}
 use Rattle.qrcode_symbol.specs.declared.canvas.masked_rows.TheConstants.{TURNED, TURNED_COLUMNS}
-use Rattle.qrcode_places.specs.declared.masks.MaskPattern.{MaskPattern}
-use Rattle.qrcode_places.specs.declared.masks.MaskPattern.TheVariants.{Checkerboard, HorizontalLines, VerticalLines, DiagonalLines, LargeCheckerboard, Fields, Diamonds, Meadow}
+use Rattle.qrcode_layout.specs.declared.masks.MaskPattern.{MaskPattern}
+use Rattle.qrcode_layout.specs.declared.masks.MaskPattern.TheVariants.{Checkerboard, HorizontalLines, VerticalLines, DiagonalLines, LargeCheckerboard, Fields, Diamonds, Meadow}
 
 -- the places of a number that is cut
 pub has_mod : (n room k : ℕ) → k < room → is_set (n % 2 ^ room) k ≡ is_set n k

@@ -16,18 +16,18 @@ use Rattle.qrcode_types.specs.declared.types.Version.TheVariants.{Normal, Micro}
 use Rattle.qrcode_types.specs.declared.types.EcLevel.{EcLevel}
 use Rattle.qrcode_types.specs.declared.types.Color.{Color}
 use Rattle.qrcode_types.specs.declared.types.Color.TheVariants.{Light, Dark}
-use Rattle.qrcode_masks.specs.Rows.{Shows, inside, dark_in}
-use Rattle.qrcode_places.specs.Masks.{turns, turned_if, nth_mask}
-use Rattle.qrcode_places.specs.Words.{format_word}
-use Rattle.qrcode_places.specs.Patterns.{format_index, dark_module}
-use Rattle.qrcode_places.specs.Stream.{color_at}
-use Rattle.qrcode_places.specs.declared.masks.MaskPattern.{MaskPattern}
+use Rattle.qrcode_penalty.specs.Rows.{Shows, inside, dark_in}
+use Rattle.qrcode_layout.specs.Masks.{turns, turned_if, nth_mask}
+use Rattle.qrcode_layout.specs.Words.{format_word}
+use Rattle.qrcode_layout.specs.Patterns.{format_index, dark_module}
+use Rattle.qrcode_layout.specs.Stream.{color_at}
+use Rattle.qrcode_layout.specs.declared.masks.MaskPattern.{MaskPattern}
 use Rattle.qrcode_symbol.specs.declared.canvas.Module.{Module}
 use Rattle.qrcode_symbol.specs.declared.canvas.Module.TheVariants.{Empty, Masked, Unmasked}
 use Rattle.std.specs.Option.{option_map, option_map_or, option_or}
 use Rattle.qrcode_symbol.specs.Canvas.{color_of_module, colors_of, masked_module, mask_module, with_mask}
 use Rattle.qrcode_symbol.specs.Penalties.{penalty, penalty_of}
-use Rattle.qrcode_places.specs.Patterns.{decided_bit}
+use Rattle.qrcode_layout.specs.Patterns.{decided_bit}
 use Rattle.qrcode_symbol.specs.Masking.{is_dark_module, is_free, masked_dark, nth_cost, ShowsModules}
 
 pub dark_color : (b : Bool) → is_dark (color_of b) ≡ b

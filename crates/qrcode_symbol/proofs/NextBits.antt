@@ -1,8 +1,8 @@
 -- The next bit of bytes that are drawn.
 use Rattle.std.proofs.Common.{◌≡◌, ℕ, zero, suc, ◌+◌, ◌-◌, ◌*◌, ◌/◌, ◌%◌, ◌^◌, ◌<◌, ◌≤◌, Bool, true, false, cond, List, [], ◌∷◌, ◌++◌, length, get_or, take, drop, refl, ap, ap₂, sym, ◌∙◌, arith, append_assoc, ◌⊎◌, inl, inr}
 use Rattle.std.proofs.lemmas.Bool.Decides.{nat_tests}
-use Rattle.qrcode_masks.specs.Rows.{is_set}
-use Rattle.qrcode_masks.proofs.Places.{has_shr}
+use Rattle.qrcode_penalty.specs.Rows.{is_set}
+use Rattle.qrcode_penalty.proofs.Places.{has_shr}
 use Rattle.qrcode_symbol.proofs.MaskRows.{has_mod}
 use Rattle.qrcode_types.specs.Bits.{number_bits, bits_of, has_bit}
 

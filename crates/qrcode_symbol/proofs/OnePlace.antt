@@ -1,8 +1,8 @@
 -- A row with one place as given.
 use Rattle.std.proofs.Common.{◌≡◌, ◌≢◌, ℕ, suc, ◌+◌, ◌-◌, ◌^◌, Bool, true, false, not, ◌&&◌, ◌||◌, refl, ap, ap₂, ◌∙◌, arith, bit_or, bit_and, bit_xor, inl, inr}
 use Rattle.std.proofs.lemmas.Bool.Decides.{leb_tells}
-use Rattle.qrcode_masks.specs.Rows.{is_set}
-use Rattle.qrcode_masks.proofs.Places.{has_or, has_without, has_first, has_first_above}
+use Rattle.qrcode_penalty.specs.Rows.{is_set}
+use Rattle.qrcode_penalty.proofs.Places.{has_or, has_without, has_first, has_first_above}
 
 -- the number with one place, as the code makes it
 abbrev pub one : ℕ → ℕ

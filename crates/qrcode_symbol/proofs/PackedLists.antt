@@ -8,7 +8,7 @@ use Rattle.std.proofs.lemmas.Bool.{eqb-true}
 use Rattle.std.proofs.Math.ListN.{length-set}
 use lib.Lanes.{mask_l}
 use borrow.Rule.Slice.PartMut.{put_mid, post_of}
-use Rattle.qrcode_masks.specs.Rows.{is_set}
+use Rattle.qrcode_penalty.specs.Rows.{is_set}
 use Rattle.qrcode_types.specs.Colors.{is_dark, color_of}
 use Rattle.qrcode_symbol.specs.Cells.{module_of_byte}
 use Rattle.qrcode_symbol.specs.declared.canvas.Module.TheVariants.{Empty, Masked, Unmasked}

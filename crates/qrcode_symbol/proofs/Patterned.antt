@@ -13,7 +13,7 @@ use Rattle.qrcode_types.specs.declared.types.Version.{Version}
 use Rattle.qrcode_types.specs.declared.types.Version.TheVariants.{Normal, Micro}
 use Rattle.qrcode_types.specs.declared.types.Color.{Color}
 use Rattle.qrcode_types.specs.declared.types.Color.TheVariants.{Light}
-use Rattle.qrcode_places.specs.Patterns.{pattern, format_index}
+use Rattle.qrcode_layout.specs.Patterns.{pattern, format_index}
 use Rattle.qrcode_symbol.specs.Canvas.{pattern_module, with_patterns}
 use Rattle.qrcode_symbol.specs.Patterned.{IsPatterned, DrawsTowards, IsRectanglePatterned}
 use Rattle.qrcode_symbol.specs.declared.canvas.Module.{Module}

@@ -14,15 +14,15 @@ use Rattle.qrcode_types.specs.declared.types.Color.{Color}
 use Rattle.qrcode_types.specs.declared.types.Color.TheVariants.{Light}
 use Rattle.qrcode_ec.specs.Codes.{Vanishes}
 use Rattle.qrcode_ec.specs.Blocks.{codewords, blocks, data_bits}
-use Rattle.qrcode_masks.specs.Penalty.{same}
-use Rattle.qrcode_places.specs.Masks.{turns, turned_if}
-use Rattle.qrcode_places.specs.Words.{format_word}
-use Rattle.qrcode_places.specs.Patterns.{pattern, format_index, format_copies, is_functional_place}
-use Rattle.qrcode_places.specs.Stream.{color_at, free_places, stream}
-use Rattle.qrcode_places.specs.Laws.{IsFormatCopy}
-use Rattle.qrcode_places.specs.declared.masks.MaskPattern.{MaskPattern}
-use Rattle.qrcode_places.proofs.Formats.{valid_of}
-use Rattle.qrcode_places.proofs.FormatPlaces.{format_copies_are_indexed}
+use Rattle.qrcode_penalty.specs.Penalty.{same}
+use Rattle.qrcode_layout.specs.Masks.{turns, turned_if}
+use Rattle.qrcode_layout.specs.Words.{format_word}
+use Rattle.qrcode_layout.specs.Patterns.{pattern, format_index, format_copies, is_functional_place}
+use Rattle.qrcode_layout.specs.Stream.{color_at, free_places, stream}
+use Rattle.qrcode_layout.specs.Laws.{IsFormatCopy}
+use Rattle.qrcode_layout.specs.declared.masks.MaskPattern.{MaskPattern}
+use Rattle.qrcode_layout.proofs.Formats.{valid_of}
+use Rattle.qrcode_layout.proofs.FormatPlaces.{format_copies_are_indexed}
 use Rattle.qrcode_symbol.specs.Penalties.{remasked_at, remasked}
 use Rattle.qrcode_symbol.specs.Symbol.{bits_at, HasPatterns, IsSymbol}
 use Rattle.qrcode_symbol.proofs.BitLists.{length_number_bits, number_bits_at}

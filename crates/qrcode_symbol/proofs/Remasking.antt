@@ -13,12 +13,12 @@ use Rattle.qrcode_types.specs.declared.types.Version.{Version}
 use Rattle.qrcode_types.specs.declared.types.EcLevel.{EcLevel}
 use Rattle.qrcode_types.specs.declared.types.Color.{Color}
 use Rattle.qrcode_types.specs.declared.types.Color.TheVariants.{Light}
-use Rattle.qrcode_masks.specs.Penalty.{same}
-use Rattle.qrcode_places.specs.Masks.{turns, turned_if}
-use Rattle.qrcode_places.specs.Words.{format_word}
-use Rattle.qrcode_places.specs.Patterns.{finder, alignment, timing, version_pattern, pattern, format_index, dark_module}
-use Rattle.qrcode_places.specs.Stream.{zigzag}
-use Rattle.qrcode_places.specs.declared.masks.MaskPattern.{MaskPattern}
+use Rattle.qrcode_penalty.specs.Penalty.{same}
+use Rattle.qrcode_layout.specs.Masks.{turns, turned_if}
+use Rattle.qrcode_layout.specs.Words.{format_word}
+use Rattle.qrcode_layout.specs.Patterns.{finder, alignment, timing, version_pattern, pattern, format_index, dark_module}
+use Rattle.qrcode_layout.specs.Stream.{zigzag}
+use Rattle.qrcode_layout.specs.declared.masks.MaskPattern.{MaskPattern}
 use Rattle.qrcode_symbol.specs.declared.canvas.Module.{Module}
 use Rattle.qrcode_symbol.specs.declared.canvas.Module.TheVariants.{Empty, Masked, Unmasked}
 use Rattle.qrcode_symbol.specs.Canvas.{blank, color_of_module, colors_of, is_empty, masked_module, mask_module, pattern_module, with_patterns, put_bits, empty_places, with_bits_drawn, with_mask, IsBestMask}

@@ -3,11 +3,11 @@ use Rattle.std.proofs.Common.{◌≡◌, ◌&&◌, ◌++◌, ℕ, true, false, r
 use Rattle.std.proofs.lemmas.Nat.{mul-add-lt, xor_lt, and_le_l}
 use Rattle.std.proofs.lemmas.List.{get_or-take, get_or-drop, get_or_append_left, get_or-append-add}
 use borrow.Rule.Slice.PartMut.{put_mid, post_of}
-use Rattle.qrcode_masks.specs.Rows.{is_set, dark_in, FitsWidth}
-use Rattle.qrcode_masks.proofs.Places.{differ, has_and, has_xor}
-use Rattle.qrcode_masks.proofs.RowLists.{rows_fit}
-use Rattle.qrcode_places.specs.Masks.{turns, turned_if}
-use Rattle.qrcode_places.specs.declared.masks.MaskPattern.{MaskPattern}
+use Rattle.qrcode_penalty.specs.Rows.{is_set, dark_in, FitsWidth}
+use Rattle.qrcode_penalty.proofs.Places.{differ, has_and, has_xor}
+use Rattle.qrcode_penalty.proofs.RowLists.{rows_fit}
+use Rattle.qrcode_layout.specs.Masks.{turns, turned_if}
+use Rattle.qrcode_layout.specs.declared.masks.MaskPattern.{MaskPattern}
 use Rattle.qrcode_symbol.specs.declared.canvas.Module.{Module}
 use Rattle.qrcode_symbol.specs.declared.canvas.Module.TheVariants.{Empty}
 use Rattle.qrcode_symbol.specs.Masking.{packed, ShowsModules, IsTurnedRow}

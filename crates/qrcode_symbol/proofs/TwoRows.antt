@@ -3,7 +3,7 @@ use Rattle.std.proofs.Common.{◌≡◌, ℕ, zero, suc, ◌-◌, ◌%◌, ◌<�
 use Rattle.std.proofs.lemmas.List.{map-set}
 use Rattle.qrcode_types.specs.Bits.{has_bit, number_bits}
 use Rattle.qrcode_types.specs.Colors.{color_of}
-use Rattle.qrcode_masks.specs.Rows.{is_set}
+use Rattle.qrcode_penalty.specs.Rows.{is_set}
 use Rattle.qrcode_symbol.specs.Canvas.{put_bits}
 use Rattle.qrcode_symbol.specs.Filling.{row_places}
 use Rattle.qrcode_symbol.specs.declared.canvas.Module.{Module}

@@ -11,12 +11,12 @@ use Rattle.std.proofs.Math.Nat.{mul-le-mul_left}
 use Rattle.std.proofs.lemmas.Simd.{map-map}
 use Rattle.qrcode_types.specs.Bits.{number_bits}
 use Rattle.qrcode_types.specs.Colors.{color_of}
-use Rattle.qrcode_masks.specs.Rows.{is_set}
-use Rattle.qrcode_masks.proofs.Places.{has_shr}
+use Rattle.qrcode_penalty.specs.Rows.{is_set}
+use Rattle.qrcode_penalty.proofs.Places.{has_shr}
 use Rattle.qrcode_types.specs.Versions.{side, is_valid}
 use Rattle.qrcode_types.specs.declared.types.Version.{Version}
-use Rattle.qrcode_places.specs.Stream.{zigzag, zigzag_place, right_column}
-use Rattle.qrcode_places.proofs.Zigzag.{walk_is_inside, walk_is_apart}
+use Rattle.qrcode_layout.specs.Stream.{zigzag, zigzag_place, right_column}
+use Rattle.qrcode_layout.proofs.Zigzag.{walk_is_inside, walk_is_apart}
 use Rattle.qrcode_symbol.specs.Canvas.{is_empty, put_bits, with_bits_drawn}
 use Rattle.qrcode_symbol.specs.Filling.{row_of_step, row_index, row_places, place_index, empty_from, filled_from, drawn_if, left_if, is_empty_at}
 use Rattle.qrcode_symbol.specs.declared.canvas.Module.{Module}

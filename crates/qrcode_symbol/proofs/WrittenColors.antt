@@ -6,8 +6,8 @@ use Rattle.std.proofs.lemmas.List.{length-append, get_or_append_left, get_or-app
 use Rattle.qrcode_types.specs.Colors.{color_of}
 use Rattle.qrcode_types.specs.declared.types.Color.{Color}
 use Rattle.qrcode_types.specs.declared.types.Color.TheVariants.{Light}
-use Rattle.qrcode_masks.specs.Rows.{is_set}
-use Rattle.qrcode_masks.proofs.Places.{has_shr}
+use Rattle.qrcode_penalty.specs.Rows.{is_set}
+use Rattle.qrcode_penalty.proofs.Places.{has_shr}
 use Rattle.qrcode_symbol.specs.Unpacking.{IsRowWritten}
 use Rattle.qrcode_symbol.proofs.MaskRows.{has_mod}
 

@@ -9,11 +9,11 @@ use Rattle.qrcode_types.specs.declared.types.Version.{Version}
 use Rattle.qrcode_types.specs.declared.types.EcLevel.{EcLevel}
 use Rattle.qrcode_types.specs.declared.types.Color.{Color}
 use Rattle.qrcode_types.specs.declared.types.Color.TheVariants.{Light}
-use Rattle.qrcode_places.specs.Masks.{turns, turned_if, exists_in, mask_number}
-use Rattle.qrcode_places.specs.Words.{format_word}
-use Rattle.qrcode_places.specs.Patterns.{pattern, format_index, decided_bit}
-use Rattle.qrcode_places.specs.Stream.{zigzag}
-use Rattle.qrcode_places.specs.declared.masks.MaskPattern.{MaskPattern}
+use Rattle.qrcode_layout.specs.Masks.{turns, turned_if, exists_in, mask_number}
+use Rattle.qrcode_layout.specs.Words.{format_word}
+use Rattle.qrcode_layout.specs.Patterns.{pattern, format_index, decided_bit}
+use Rattle.qrcode_layout.specs.Stream.{zigzag}
+use Rattle.qrcode_layout.specs.declared.masks.MaskPattern.{MaskPattern}
 use Rattle.qrcode_symbol.specs.Penalties.{penalty}
 use Rattle.qrcode_symbol.specs.declared.canvas.Module.{Module}
 use Rattle.qrcode_symbol.specs.declared.canvas.Module.TheVariants.{Empty, Masked, Unmasked}

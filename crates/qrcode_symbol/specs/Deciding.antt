@@ -1,8 +1,8 @@
 -- Bits that no mask decides, written into packed rows.
 use Rattle.std.specs.Prelude.{◌≡◌, ◌≢◌, ℕ, ◌+◌, ◌<◌, ◌≤◌, Bool, List, unwrap_or}
 use Rattle.qrcode_types.specs.declared.types.Version.{Version}
-use Rattle.qrcode_masks.specs.Rows.{is_set, dark_in}
-use Rattle.qrcode_places.specs.Patterns.{decided_bit}
+use Rattle.qrcode_penalty.specs.Rows.{is_set, dark_in}
+use Rattle.qrcode_layout.specs.Patterns.{decided_bit}
 
 -- a row with so many bits from a place on
 pub record IsPutInRow (row first count : ℕ) (bit : ℕ → Bool) (new : ℕ) : Type 0 where

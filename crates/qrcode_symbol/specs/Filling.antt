@@ -5,7 +5,7 @@ use Rattle.qrcode_types.specs.Bits.{number_bits}
 use Rattle.qrcode_types.specs.Colors.{color_of}
 use Rattle.qrcode_types.specs.Versions.{side}
 use Rattle.qrcode_types.specs.declared.types.Version.{Version}
-use Rattle.qrcode_places.specs.Stream.{zigzag_place, right_column}
+use Rattle.qrcode_layout.specs.Stream.{zigzag_place, right_column}
 use Rattle.qrcode_symbol.specs.Canvas.{is_empty, put_bits}
 use Rattle.qrcode_symbol.specs.declared.canvas.Module.{Module}
 use Rattle.qrcode_symbol.specs.declared.canvas.Module.TheVariants.{Empty, Unmasked}

@@ -4,7 +4,7 @@ use Rattle.qrcode_types.specs.Versions.{side}
 use Rattle.qrcode_types.specs.declared.types.Version.{Version}
 use Rattle.qrcode_types.specs.declared.types.Color.{Color}
 use Rattle.qrcode_types.specs.declared.types.Color.TheVariants.{Light}
-use Rattle.qrcode_places.specs.Patterns.{centres, is_corner_centre}
+use Rattle.qrcode_layout.specs.Patterns.{centres, is_corner_centre}
 use Rattle.qrcode_symbol.specs.Canvas.{blank, pattern_module, with_patterns}
 use Rattle.qrcode_symbol.specs.declared.canvas.Module.{Module}
 use Rattle.qrcode_symbol.specs.declared.canvas.Module.TheVariants.{Empty, Masked}

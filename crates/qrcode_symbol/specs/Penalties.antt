@@ -9,13 +9,13 @@ use Rattle.qrcode_types.specs.declared.types.Version.TheVariants.{Normal, Micro}
 use Rattle.qrcode_types.specs.declared.types.EcLevel.{EcLevel}
 use Rattle.qrcode_types.specs.declared.types.Color.{Color}
 use Rattle.qrcode_types.specs.declared.types.Color.TheVariants.{Light}
-use Rattle.qrcode_masks.specs.Penalty.{same, normal_penalty, micro_penalty}
-use Rattle.qrcode_masks.specs.Rows.{inside}
-use Rattle.qrcode_places.specs.Masks.{turns, turned_if, exists_in, mask_number}
-use Rattle.qrcode_places.specs.Words.{format_word}
-use Rattle.qrcode_places.specs.Patterns.{format_index, pattern}
-use Rattle.qrcode_places.specs.Stream.{color_at}
-use Rattle.qrcode_places.specs.declared.masks.MaskPattern.{MaskPattern}
+use Rattle.qrcode_penalty.specs.Penalty.{same, normal_penalty, micro_penalty}
+use Rattle.qrcode_penalty.specs.Rows.{inside}
+use Rattle.qrcode_layout.specs.Masks.{turns, turned_if, exists_in, mask_number}
+use Rattle.qrcode_layout.specs.Words.{format_word}
+use Rattle.qrcode_layout.specs.Patterns.{format_index, pattern}
+use Rattle.qrcode_layout.specs.Stream.{color_at}
+use Rattle.qrcode_layout.specs.declared.masks.MaskPattern.{MaskPattern}
 
 -- the place, by column and row, is inside and dark
 abbrev pub is_dark_at : Version → List Color → ℕ → ℕ → Bool

@@ -8,10 +8,10 @@ use Rattle.qrcode_types.specs.declared.types.EcLevel.{EcLevel}
 use Rattle.qrcode_types.specs.declared.types.Color.{Color}
 use Rattle.qrcode_ec.specs.Codes.{Corrects}
 use Rattle.qrcode_ec.specs.Blocks.{data_bits}
-use Rattle.qrcode_places.specs.Masks.{exists_in}
-use Rattle.qrcode_places.specs.Words.{format_word}
-use Rattle.qrcode_places.specs.Patterns.{format_copies}
-use Rattle.qrcode_places.specs.declared.masks.MaskPattern.{MaskPattern}
+use Rattle.qrcode_layout.specs.Masks.{exists_in}
+use Rattle.qrcode_layout.specs.Words.{format_word}
+use Rattle.qrcode_layout.specs.Patterns.{format_copies}
+use Rattle.qrcode_layout.specs.declared.masks.MaskPattern.{MaskPattern}
 use Rattle.qrcode_symbol.specs.Symbol.{bits_at, blocks_in}
 
 -- a reader finds these bits: each copy of the format word has at most three wrong bits, and each block can be corrected

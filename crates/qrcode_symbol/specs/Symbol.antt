@@ -9,10 +9,10 @@ use Rattle.qrcode_types.specs.declared.types.EcLevel.{EcLevel}
 use Rattle.qrcode_types.specs.declared.types.Color.{Color}
 use Rattle.qrcode_ec.specs.Codes.{Vanishes, distance}
 use Rattle.qrcode_ec.specs.Blocks.{codewords, blocks, data_bits}
-use Rattle.qrcode_places.specs.Words.{format_word}
-use Rattle.qrcode_places.specs.Patterns.{pattern, format_copies}
-use Rattle.qrcode_places.specs.Stream.{color_at, stream}
-use Rattle.qrcode_places.specs.declared.masks.MaskPattern.{MaskPattern}
+use Rattle.qrcode_layout.specs.Words.{format_word}
+use Rattle.qrcode_layout.specs.Patterns.{pattern, format_copies}
+use Rattle.qrcode_layout.specs.Stream.{color_at, stream}
+use Rattle.qrcode_layout.specs.declared.masks.MaskPattern.{MaskPattern}
 
 -- the bits of colours at places
 abbrev pub bits_at : Version → List Color → List (ℕ × ℕ) → List Bool

@@ -3,10 +3,10 @@
 ghost use Rattle.std.specs.Prelude.{◌≡◌, ◌+◌, ◌*◌, ◌%◌, ◌<◌, ◌≤◌, pos, neg_ℤ, ◌≤ℤ◌, ◌<ℤ◌, nat_abs, length, map, slice_index_or, slice_set, ◌↔◌, IsTrue, IfOk, IsOkUnless};
 ghost use Rattle.std.specs.Borrow.{sem};
 ghost use Rattle.qrcode_types.specs.Versions.{is_valid, has_level, side};
-ghost use Rattle.qrcode_places.specs.Masks.{exists_in};
-ghost use Rattle.qrcode_places.specs.Patterns.{is_functional_place};
-ghost use Rattle.qrcode_places.specs.Stream.{FreePlacesAreFilled};
-ghost use Rattle.qrcode_places.specs.Words.{VersionWordsAreApart, FormatWordsAreApart};
+ghost use Rattle.qrcode_layout.specs.Masks.{exists_in};
+ghost use Rattle.qrcode_layout.specs.Patterns.{is_functional_place};
+ghost use Rattle.qrcode_layout.specs.Stream.{FreePlacesAreFilled};
+ghost use Rattle.qrcode_layout.specs.Words.{VersionWordsAreApart, FormatWordsAreApart};
 ghost use Rattle.qrcode_types.specs.Colors.{is_dark};
 ghost use Rattle.qrcode_types.specs.declared.types.QrError.TheVariants.{OutOfMemory};
 ghost use Rattle.qrcode_symbol.specs.Canvas.{IsCoordinate, IsOnCanvas, wrapped, module_index, blank, color_of_module, colors_of, masked_module, drawn_bits, with_bits_drawn, with_patterns, with_mask};
@@ -16,8 +16,8 @@ ghost use Rattle.qrcode_symbol.specs.Masking.{IsBestMasked, AreBestColors};
 ghost use Rattle.qrcode_symbol.specs.Patterned.{IsDrawn};
 ghost use Rattle.qrcode_symbol.specs.declared.canvas.Module.TheVariants.{Empty, Masked};
 
-pub use qrcode_places::mask_functions;
-pub use qrcode_places::masks::MaskPattern;
+pub use qrcode_layout::mask_functions;
+pub use qrcode_layout::masks::MaskPattern;
 
 mod applying;
 mod cells;
@@ -39,7 +39,7 @@ use codewords::Codewords;
 use drawing::{draw_patterns, is_functional_place};
 use filling::draw_codewords;
 use pattern_places::PatternPlaces;
-use qrcode_places::laws;
+use qrcode_layout::laws;
 use qrcode_types::types::{Color, EcLevel, QrResult, Version};
 pub use remasking::remask;
 use std::alloc::Global;

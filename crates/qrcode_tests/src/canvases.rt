@@ -8,7 +8,7 @@ use qrcode::render::unicode::Dense1x2;
 use qrcode::render::{self, Canvas as _, Renderer, fill_rect, image, pic, string, svg, unicode};
 use qrcode::types::{QrError, QrResult};
 use qrcode::{Color, EcLevel, Version};
-use qrcode_uses::label::{Bar, Dot, Label};
+use qrcode_examples::label::{Bar, Dot, Label};
 use std::alloc::Global;
 use std::process::Abort;
 

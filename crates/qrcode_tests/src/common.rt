@@ -7,8 +7,8 @@ use qrcode::optimize::Segment;
 use qrcode::types::QrError::InvalidVersion;
 use qrcode::types::{Mode, QrResult};
 use qrcode::{Color, EcLevel, QrCode, Version};
+use qrcode_examples::label::Bar;
 use qrcode_pushes::{Push, make_push};
-use qrcode_uses::label::Bar;
 use std::alloc::Global;
 use std::process::Abort;
 

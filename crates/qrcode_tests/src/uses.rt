@@ -4,12 +4,12 @@ use crate::common::{Row, are_bars, check};
 use qrcode::render::image::Rgba;
 use qrcode::types::{QrError, QrResult};
 use qrcode::{EcLevel, QrCode, Version};
-use qrcode_uses::charset::{greek_bits, greek_symbol};
-use qrcode_uses::drawings::{as_chars, as_grey_map, as_half_blocks, as_pairs, as_pic, as_svg};
-use qrcode_uses::label::label_bars;
-use qrcode_uses::payment::{Payment, payment_picture};
-use qrcode_uses::ticket::ticket_blocks;
-use qrcode_uses::{plain, texts};
+use qrcode_examples::charset::{greek_bits, greek_symbol};
+use qrcode_examples::drawings::{as_chars, as_grey_map, as_half_blocks, as_pairs, as_pic, as_svg};
+use qrcode_examples::label::label_bars;
+use qrcode_examples::payment::{Payment, payment_picture};
+use qrcode_examples::ticket::ticket_blocks;
+use qrcode_examples::{plain, texts};
 use std::alloc::Global;
 
 static PAYMENT: Payment<'static> = Payment {

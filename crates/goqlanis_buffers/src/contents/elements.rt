@@ -11,7 +11,7 @@ use crate::answers::Refusal as OfSymbols;
 use crate::contents::answers::Refusal;
 use crate::options::{Asked, Options, asked_by};
 use crate::symbols::{Symbol, fill, write_masked};
-use goqlanis_draw::symbol_of_elements;
+use goqlanis_core::symbol_of_elements;
 use qrcode::QrCode;
 use qrcode::types::QrError;
 use qrcode_gs1::elements::{Element, element_string};

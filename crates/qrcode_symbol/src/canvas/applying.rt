@@ -2,14 +2,14 @@
 
 ghost use Rattle.std.specs.Prelude.{◌≡◌, ◌*◌, ◌<◌, length, IsTrue};
 ghost use Rattle.qrcode_types.specs.Versions.{has_level, side};
-ghost use Rattle.qrcode_places.specs.Masks.{exists_in};
+ghost use Rattle.qrcode_layout.specs.Masks.{exists_in};
 ghost use Rattle.qrcode_symbol.specs.Canvas.{mask_module, with_mask};
 
 use super::layer::{Layer, fixed_bit};
 use super::{Module, side};
-use qrcode_places::masks::MaskPattern;
-use qrcode_places::patterns::color_of;
-use qrcode_places::words::format_word;
+use qrcode_layout::masks::MaskPattern;
+use qrcode_layout::patterns::color_of;
+use qrcode_layout::words::format_word;
 use qrcode_types::types::{EcLevel, Version};
 
 // A module after a mask: the bit of the format word, the dark module, or the module masked.

@@ -3,7 +3,7 @@
 
 ghost use Rattle.std.specs.Prelude.{◌≡◌, ℕ, ◌+◌, ◌-◌, ◌*◌, ◌<◌, ◌≤◌, length, map, slice_index, true, false, ◌↔◌, IsTrue};
 ghost use Rattle.qrcode_types.specs.Versions.{is_valid, is_micro, side};
-ghost use Rattle.qrcode_places.specs.Patterns.{centres, is_functional_place, is_corner_centre};
+ghost use Rattle.qrcode_layout.specs.Patterns.{centres, is_functional_place, is_corner_centre};
 ghost use Rattle.qrcode_symbol.specs.Canvas.{pattern_module, with_patterns};
 ghost use Rattle.qrcode_symbol.specs.Patterned.{DrawsTowards, IsRectanglePatterned, AreAlignmentsPatterned, IsBlockAt, IsCentre, IsDrawn};
 ghost use Rattle.qrcode_symbol.specs.declared.canvas.Module.TheVariants.{Masked};
@@ -14,11 +14,11 @@ use super::Module;
 use super::cells::Cell;
 use super::pattern_places::PatternPlaces;
 use blocks::{ALIGNMENT, MICRO_TOP_LEFT, NORMAL_BOTTOM_LEFT, NORMAL_TOP_LEFT, NORMAL_TOP_RIGHT};
-use qrcode_places::patterns::{format_index, is_corner_centre, near_centre, pattern, timing};
+use qrcode_layout::patterns::{format_index, is_corner_centre, near_centre, pattern, timing};
 use qrcode_types::types::{Color, Version};
 
 /// Whether a pattern or the format word has a place.
-#[tactic(auto, unfolding(qrcode_places::specs::Patterns::is_functional_place))]
+#[tactic(auto, unfolding(qrcode_layout::specs::Patterns::is_functional_place))]
 pub(super) fn is_functional_place(places: PatternPlaces, x: usize, y: usize) -> bool
     requires column { x < side places.version }
     requires row { y < side places.version }

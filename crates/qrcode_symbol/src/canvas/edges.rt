@@ -2,14 +2,14 @@
 
 ghost use Rattle.std.specs.Prelude.{◌≡◌, ◌-◌, ◌%◌, ◌<◌, ◌^◌, bit_and, bit_xor, true};
 ghost use Rattle.qrcode_types.specs.Versions.{is_micro};
-ghost use Rattle.qrcode_places.specs.Masks.{mask_count};
+ghost use Rattle.qrcode_layout.specs.Masks.{mask_count};
 ghost use Rattle.qrcode_symbol.specs.Masking.{three_words, nth_cost, IsLastColumn};
 
 use super::masked_rows::{long_row, turned_column, turned_row};
 use super::packing::PackedModules;
-use qrcode_masks::penalty::{last_column, micro_penalty_by_edges};
-use qrcode_masks::row::PackedRow;
-use qrcode_places::masks::nth_mask;
+use qrcode_layout::masks::nth_mask;
+use qrcode_penalty::penalty::{last_column, micro_penalty_by_edges};
+use qrcode_penalty::row::PackedRow;
 
 /// The last column of a square, bit y standing for row y: which modules are dark, and which a mask
 /// may turn.

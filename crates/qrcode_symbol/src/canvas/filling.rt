@@ -5,15 +5,15 @@ ghost use Rattle.std.specs.Prelude.{◌≡◌, ◌&&◌, [], ◌∷◌, ◌+◌,
 ghost use Rattle.std.specs.List.{range_with_len};
 ghost use Rattle.qrcode_types.specs.Bits.{number_bits};
 ghost use Rattle.qrcode_types.specs.Versions.{is_valid, side};
-ghost use Rattle.qrcode_places.specs.Stream.{right_column};
+ghost use Rattle.qrcode_layout.specs.Stream.{right_column};
 ghost use Rattle.qrcode_symbol.specs.Canvas.{put_bits, with_bits_drawn};
 ghost use Rattle.qrcode_symbol.specs.Filling.{filled_from, drawn_if, left_if, is_empty_at, row_of_step, row_places, row_index};
 
 use super::cells::Cell;
 use super::codewords::Codewords;
 use super::{Module, side};
-use qrcode_places::patterns::color_of;
-use qrcode_places::walk::right_column;
+use qrcode_layout::patterns::color_of;
+use qrcode_layout::walk::right_column;
 use qrcode_types::types::{Color, Version};
 
 // Light, its name short so that two rows can be seen.

@@ -2,10 +2,10 @@
 
 ghost use Rattle.std.specs.Prelude.{◌≡◌, ◌<◌, ◌≤◌, IsTrue};
 ghost use Rattle.qrcode_types.specs.Versions.{is_valid, side};
-ghost use Rattle.qrcode_places.specs.Patterns.{decided_bit};
+ghost use Rattle.qrcode_layout.specs.Patterns.{decided_bit};
 
-use qrcode_places::masks::MaskPattern;
-use qrcode_places::patterns::decided_bit;
+use qrcode_layout::masks::MaskPattern;
+use qrcode_layout::patterns::decided_bit;
 use qrcode_types::types::Version;
 
 /// A mask of a symbol, with its format word.

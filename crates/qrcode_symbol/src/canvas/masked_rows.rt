@@ -3,17 +3,17 @@
 ghost use Rattle.std.specs.Prelude.{◌≡◌, ◌≢◌, ℕ, ◌+◌, ◌-◌, ◌%◌, ◌<◌, ◌≤◌, ◌^◌, ◌&&◌, length, map, slice_index_or, true, false, IsTrue};
 ghost use Rattle.qrcode_types.specs.Bits.{has_bit};
 ghost use Rattle.qrcode_types.specs.Versions.{is_micro};
-ghost use Rattle.qrcode_masks.specs.Rows.{FitsWidth, IsSquare, is_set, dark_in, Shows};
-ghost use Rattle.qrcode_places.specs.Masks.{turns, turned_if, exists_in};
-ghost use Rattle.qrcode_places.specs.Words.{format_word};
+ghost use Rattle.qrcode_penalty.specs.Rows.{FitsWidth, IsSquare, is_set, dark_in, Shows};
+ghost use Rattle.qrcode_layout.specs.Masks.{turns, turned_if, exists_in};
+ghost use Rattle.qrcode_layout.specs.Words.{format_word};
 ghost use Rattle.qrcode_symbol.specs.Masking.{masked_dark, next_places, three_words, AreTurned};
 ghost use Rattle.qrcode_symbol.specs.Deciding.{IsPutInRow, IsPutInColumn, AreDecided};
 
 use super::layer::Layer;
 use super::packing::PackedModules;
-use qrcode_masks::row::PackedRow;
-use qrcode_places::masks::MaskPattern;
-use qrcode_places::words::format_word;
+use qrcode_layout::masks::MaskPattern;
+use qrcode_layout::words::format_word;
+use qrcode_penalty::row::PackedRow;
 use qrcode_types::types::Version;
 
 // The places that each mask turns in six columns of twelve rows, column x at bit x. All masks go on

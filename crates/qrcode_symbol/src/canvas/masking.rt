@@ -4,7 +4,7 @@
 ghost use Rattle.std.specs.Prelude.{◌≡◌, ◌+◌, ◌*◌, ◌<◌, ◌≤◌, ◌^◌, false, length, map, IsTrue, IfOk, IsOkUnless};
 ghost use Rattle.qrcode_types.specs.Versions.{is_micro, has_level, side};
 ghost use Rattle.qrcode_types.specs.declared.types.QrError.TheVariants.{OutOfMemory};
-ghost use Rattle.qrcode_places.specs.Masks.{mask_count};
+ghost use Rattle.qrcode_layout.specs.Masks.{mask_count};
 ghost use Rattle.qrcode_symbol.specs.Masking.{nth_cost, IsFirstLeastCost, IsLastColumn, AreBestColors};
 
 use super::cells::Cell;
@@ -13,10 +13,10 @@ use super::masked_rows::mask_rows;
 use super::packing::{PackedModules, pack_rows};
 use super::side;
 use super::unpacking::unpack_rows;
-use qrcode_masks::penalty::normal_penalty;
-use qrcode_masks::row::{PackedRow, Row128, Row192};
-use qrcode_masks::square::PackedSquare;
-use qrcode_places::masks::{mask_count, nth_mask};
+use qrcode_layout::masks::{mask_count, nth_mask};
+use qrcode_penalty::penalty::normal_penalty;
+use qrcode_penalty::row::{PackedRow, Row128, Row192};
+use qrcode_penalty::square::PackedSquare;
 use qrcode_types::types::{Color, EcLevel, QrResult, Version};
 use std::alloc::Global;
 

@@ -2,14 +2,14 @@
 
 ghost use Rattle.std.specs.Prelude.{◌≡◌, ◌==◌, ◌+◌, ◌*◌, ◌%◌, ◌<◌, ◌≤◌, ◌^◌, nat_lt, bit_and, length, map, take, IsTrue};
 ghost use Rattle.qrcode_types.specs.Versions.{is_valid, has_level, side};
-ghost use Rattle.qrcode_masks.specs.Rows.{IsSquare};
+ghost use Rattle.qrcode_penalty.specs.Rows.{IsSquare};
 ghost use Rattle.qrcode_symbol.specs.Cells.{module_of_byte};
 ghost use Rattle.qrcode_symbol.specs.Masking.{is_dark_module, is_free, digit, packed, ShowsModules};
 
 use super::Module;
 use super::cells::Cell;
-use qrcode_masks::row::PackedRow;
-use qrcode_masks::square::PackedSquare;
+use qrcode_penalty::row::PackedRow;
+use qrcode_penalty::square::PackedSquare;
 use qrcode_types::types::{EcLevel, Version};
 use std::simd::prelude::*;
 

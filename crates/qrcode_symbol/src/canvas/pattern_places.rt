@@ -2,10 +2,10 @@
 
 ghost use Rattle.std.specs.Prelude.{◌≡◌, ◌≤◌, IsTrue};
 ghost use Rattle.qrcode_types.specs.Versions.{is_valid, side};
-ghost use Rattle.qrcode_places.specs.Patterns.{centres};
+ghost use Rattle.qrcode_layout.specs.Patterns.{centres};
 
 use super::side;
-use qrcode_places::centres::centres;
+use qrcode_layout::centres::centres;
 use qrcode_types::types::Version;
 
 /// A version with its width and the coordinates of its alignment centres.

@@ -3,8 +3,8 @@
 ghost use Rattle.std.specs.Prelude.{◌≡◌, ◌*◌, ◌<◌, Bool, List, not, length, IsTrue};
 ghost use Rattle.qrcode_types.specs.Colors.{is_dark, color_of};
 ghost use Rattle.qrcode_types.specs.Versions.{has_level, side};
-ghost use Rattle.qrcode_places.specs.Masks.{exists_in, turns, turned_if};
-ghost use Rattle.qrcode_masks.specs.Penalty.{same};
+ghost use Rattle.qrcode_layout.specs.Masks.{exists_in, turns, turned_if};
+ghost use Rattle.qrcode_penalty.specs.Penalty.{same};
 ghost use Rattle.qrcode_symbol.specs.Penalties.{remasked_at, remasked};
 ghost use Rattle.qrcode_symbol.specs.Symbol.{IsSymbol};
 
@@ -12,9 +12,9 @@ use super::drawing::is_functional_place;
 use super::layer::Layer;
 use super::pattern_places::PatternPlaces;
 use super::side;
-use qrcode_places::masks::MaskPattern;
-use qrcode_places::patterns::{color_of, format_index};
-use qrcode_places::words::format_word;
+use qrcode_layout::masks::MaskPattern;
+use qrcode_layout::patterns::{color_of, format_index};
+use qrcode_layout::words::format_word;
 use qrcode_types::types::{Color, EcLevel, Version};
 
 // A colour, turned where just one of two masks turns its place.

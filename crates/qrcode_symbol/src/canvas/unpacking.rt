@@ -4,11 +4,11 @@ ghost use Rattle.std.specs.Prelude.{◌≡◌, ℕ, ◌+◌, ◌*◌, ◌<◌, �
 ghost use Rattle.qrcode_types.specs.Colors.{color_of};
 ghost use Rattle.qrcode_types.specs.declared.types.Color.TheVariants.{Light};
 ghost use Rattle.qrcode_types.specs.declared.types.QrError.TheVariants.{OutOfMemory};
-ghost use Rattle.qrcode_masks.specs.Rows.{is_set, dark_in};
+ghost use Rattle.qrcode_penalty.specs.Rows.{is_set, dark_in};
 ghost use Rattle.qrcode_symbol.specs.Unpacking.{IsRowWritten};
 
-use qrcode_masks::row::PackedRow;
-use qrcode_places::patterns::color_of;
+use qrcode_layout::patterns::color_of;
+use qrcode_penalty::row::PackedRow;
 use qrcode_types::types::{Color, QrResult};
 
 // The colours of the places of a word. From the bits of its bytes LLVM makes sixteen at a time.

@@ -1,8 +1,8 @@
 //! Parts of data joined in each order, and each cause for which others are not.
 
 use crate::common::{Row, check};
-use qrcode_several::errors::JoinError;
-use qrcode_several::{Part, join};
+use qrcode_append::errors::JoinError;
+use qrcode_append::{Part, join};
 use std::alloc::Global;
 
 const DIGITS: &[u8] = b"31415926535897932";

@@ -2,10 +2,10 @@
 
 use crate::common::check_row;
 use qrcode::types::QrError;
+use qrcode_append::errors::JoinError;
 use qrcode_contents::errors::{Cause, ContentError, Field};
 use qrcode_gs1::errors::{Cause as ElementCause, Gs1Error};
 use qrcode_gs1::symbol::errors::SymbolError;
-use qrcode_several::errors::JoinError;
 use std::alloc::Global;
 use std::fmt::Display;
 

@@ -6,11 +6,11 @@ use crate::common::{Row, are_digits, check};
 use crate::squares::{HELLO, PI_1, PI_2, WORDS_1, WORDS_2, WORDS_3};
 use qrcode::types::{QrError, QrResult};
 use qrcode::{EcLevel, QrCode, Version};
-use qrcode_several::{
+use qrcode_append::{
     Versions, encode_several, encode_several_within, encode_text_several,
     encode_text_several_within,
 };
-use qrcode_uses::contents::several::{leaflets, pages};
+use qrcode_examples::contents::several::{leaflets, pages};
 use std::alloc::Global;
 
 const DIGITS: &str = "314159265358979323846264338327950288419716939937510582097494";

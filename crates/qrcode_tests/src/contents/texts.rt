@@ -13,9 +13,9 @@ use qrcode_contents::one_time::OneTime;
 use qrcode_contents::payment::Payment;
 use qrcode_contents::phone::Phone;
 use qrcode_contents::wifi::Wifi;
+use qrcode_examples::contents as uses;
+use qrcode_examples::contents::examples;
 use qrcode_gs1::elements::Element;
-use qrcode_uses::contents as uses;
-use qrcode_uses::contents::examples;
 use std::alloc::Global;
 
 // A bill of the Swiss Implementation Guidelines QR-bill.

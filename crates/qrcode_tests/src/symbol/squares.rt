@@ -1,12 +1,12 @@
 //! Squares that are no symbols of the library, packed into rows of each type, and what they cost.
 
 ghost use Rattle.std.specs.Prelude.{◌≡◌, ◌+◌, ◌<◌, ◌≤◌, length, map, IfOk};
-ghost use Rattle.qrcode_masks.specs.Rows.{FitsWidth, IsSquare};
+ghost use Rattle.qrcode_penalty.specs.Rows.{FitsWidth, IsSquare};
 
 use crate::common::{Row, check};
-use qrcode_masks::penalty::{micro_penalty, normal_penalty};
-use qrcode_masks::row::{PackedRow, Row128, Row192};
-use qrcode_masks::square::PackedSquare;
+use qrcode_penalty::penalty::{micro_penalty, normal_penalty};
+use qrcode_penalty::row::{PackedRow, Row128, Row192};
+use qrcode_penalty::square::PackedSquare;
 use qrcode_types::types::QrResult;
 use std::alloc::Global;
 
@@ -72,7 +72,7 @@ fn changed<R: PackedRow>(row: R, first: u32, past: u32) -> R
 }
 
 // The first `width` places of a row.
-#[tactic(auto, using(qrcode_masks::proofs::RowLists::cut_fits))]
+#[tactic(auto, using(qrcode_penalty::proofs::RowLists::cut_fits))]
 fn cut<R: PackedRow>(row: R, width: u32) -> R
     requires { width < R.room }
     ensures { FitsWidth width (R.bits result) }

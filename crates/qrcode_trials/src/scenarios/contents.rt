@@ -11,7 +11,7 @@ use qrcode_contents::mail::Mail;
 use qrcode_contents::one_time::OneTime;
 use qrcode_contents::phone::Phone;
 use qrcode_contents::wifi::Wifi;
-use qrcode_uses::contents::examples::{BILL, EVENT, MAIL, NETWORK, ONE_TIME, PAYMENT, PLACE};
+use qrcode_examples::contents::examples::{BILL, EVENT, MAIL, NETWORK, ONE_TIME, PAYMENT, PLACE};
 use std::alloc::Global;
 
 /// A kind of content.

@@ -9,7 +9,7 @@ use qrcode::render::string::Str;
 use qrcode::render::unicode::Dense1x2;
 use qrcode::render::{Canvas, Pixel, Renderer, eps, fill_rect, pbm, pgm, pic, svg};
 use qrcode::types::{Color, QrError, QrResult, Version};
-use qrcode_uses::label::Dot;
+use qrcode_examples::label::Dot;
 use std::alloc::Global;
 
 /// A kind of picture, by its pixels.

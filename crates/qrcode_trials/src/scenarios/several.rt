@@ -5,8 +5,8 @@ use crate::scenarios::texts::text_of;
 use qrcode::QrCode;
 use qrcode::bits::Manner;
 use qrcode::types::{EcLevel, QrError, QrResult, Version};
-use qrcode_several::errors::JoinError;
-use qrcode_several::{
+use qrcode_append::errors::JoinError;
+use qrcode_append::{
     Part, Versions, encode_counted, encode_several, encode_several_within, encode_text_several,
     encode_text_several_within, join,
 };

@@ -2,7 +2,7 @@ use Rattle.std.proofs.Common.{◌≡◌, ◌⊎◌, ℕ, List, inl, inr}
 use Rattle.std.proofs.lemmas.Result.{IfErr-weaker}
 use Rattle.qrcode_types.specs.declared.types.QrError.{QrError}
 use Rattle.qrcode_types.specs.declared.types.QrError.TheVariants.{OutOfMemory}
-use Rattle.qrcode_several.specs.Fewest.{AreNotHeld}
+use Rattle.qrcode_append.specs.Fewest.{AreNotHeld}
 use Rattle.goqlanis_buffers.specs.Several.{AreUnheld}
 use Rattle.goqlanis_buffers.specs.declared.several.Named.{Named}
 use Rattle.goqlanis_buffers.proofs.several.symbols_of.Goals as goal

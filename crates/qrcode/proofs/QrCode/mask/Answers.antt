@@ -1,5 +1,5 @@
 use Rattle.std.proofs.Common.{◌≡◌, IsTrue, sym, subst}
-use Rattle.qrcode_places.specs.Masks.{exists_in}
+use Rattle.qrcode_layout.specs.Masks.{exists_in}
 use Rattle.qrcode_symbol.specs.Symbol.{HasPatterns}
 use Rattle.qrcode.specs.Code.{Code}
 use Rattle.qrcode.specs.Drawing.{IsMaskOf}

@@ -1,6 +1,6 @@
 use Rattle.std.proofs.Common.{◌≡◌, ℕ, ◌++◌, length, take, drop, IsTrue, sym, subst, rules}
 use Rattle.std.proofs.Math.Seq.{take-append_seam}
-use Rattle.qrcode_places.specs.Masks.{exists_in}
+use Rattle.qrcode_layout.specs.Masks.{exists_in}
 use Rattle.qrcode_symbol.specs.Symbol.{IsSymbol}
 use Rattle.qrcode.specs.Code.{Code}
 use Rattle.qrcode.specs.Reading.{IsUnderMask}

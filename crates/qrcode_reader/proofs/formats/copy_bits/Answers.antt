@@ -1,6 +1,6 @@
 use Rattle.std.proofs.Common.{◌≢◌, ◌<◌, ℕ, length, ap, ◌∙◌, arith, below_more, get_or-set_other, get_or-set_same, length-set}
 use Rattle.qrcode_types.specs.Colors.{is_dark}
-use Rattle.qrcode_places.specs.Stream.{color_at}
+use Rattle.qrcode_layout.specs.Stream.{color_at}
 use Rattle.qrcode_reader.specs.Formats.{copy_place}
 use Rattle.qrcode_reader.proofs.Copies.{copied}
 use Rattle.qrcode_reader.proofs.formats.copy_bits.Goals as goal

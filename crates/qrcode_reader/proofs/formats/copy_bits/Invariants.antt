@@ -1,6 +1,6 @@
 use Rattle.std.proofs.Common.{◌≡◌, ℕ, ◌<◌, get_or, false, length}
 use Rattle.qrcode_types.specs.Colors.{is_dark}
-use Rattle.qrcode_places.specs.Stream.{color_at}
+use Rattle.qrcode_layout.specs.Stream.{color_at}
 use Rattle.qrcode_reader.specs.Formats.{copy_place}
 use Rattle.qrcode_reader.proofs.formats.copy_bits.Given as goal
 

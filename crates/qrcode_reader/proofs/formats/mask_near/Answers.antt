@@ -1,5 +1,5 @@
 use Rattle.std.proofs.Common.{subst, sym, arith}
-use Rattle.qrcode_places.proofs.MaskLists.{number_in, number_lt, nth_of_number}
+use Rattle.qrcode_layout.proofs.MaskLists.{number_in, number_lt, nth_of_number}
 use Rattle.qrcode_reader.specs.Formats.{NamesFormat}
 use Rattle.qrcode_reader.proofs.formats.mask_near.Goals as goal
 

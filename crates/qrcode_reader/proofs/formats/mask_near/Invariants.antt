@@ -1,5 +1,5 @@
 use Rattle.std.proofs.Common.{ℕ, ◌<◌}
-use Rattle.qrcode_places.specs.Masks.{nth_mask}
+use Rattle.qrcode_layout.specs.Masks.{nth_mask}
 use Rattle.qrcode_reader.specs.Formats.{NamesFormat}
 use Rattle.qrcode_reader.proofs.formats.mask_near.Given as goal
 

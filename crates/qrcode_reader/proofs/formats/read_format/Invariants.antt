@@ -1,6 +1,6 @@
 use Rattle.std.proofs.Common.{ℕ, ◌<◌, get_or}
 use Rattle.qrcode_types.specs.declared.types.EcLevel.TheVariants.{L}
-use Rattle.qrcode_places.specs.declared.masks.MaskPattern.{MaskPattern}
+use Rattle.qrcode_layout.specs.declared.masks.MaskPattern.{MaskPattern}
 use Rattle.qrcode_reader.specs.Formats.{HasFormat}
 use Rattle.qrcode_reader.proofs.formats.read_format.Given as goal
 

@@ -3,7 +3,7 @@ use Rattle.std.proofs.lemmas.Result.{err_from_is_err_and}
 use Rattle.qrcode_types.specs.Bits.{bits_of}
 use Rattle.qrcode_types.specs.Versions.{capacity, block_lengths}
 use Rattle.qrcode_ec.specs.Blocks.{codewords}
-use Rattle.qrcode_places.specs.Stream.{stream}
+use Rattle.qrcode_layout.specs.Stream.{stream}
 use Rattle.qrcode_reader.specs.Corrected.{AreCorrected}
 use Rattle.qrcode_reader.specs.Readings.{IsBitCause}
 use Rattle.qrcode_reader.specs.declared.refusals.Unread.TheVariants.{NoFormat}

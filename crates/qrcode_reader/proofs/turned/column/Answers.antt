@@ -1,6 +1,6 @@
 use Rattle.std.proofs.Common.{rules, arith, ◌<◌, ◌≢◌, ◌≡◌, ◌≤ℤ◌, nat_abs, subst, ℕ, Bool, ℤ, pos, to_z, of_z, w16, length, sym, ap₂, ◌∙◌, below_more, get_or-set_other, get_or-set_same, length-set}
-use Rattle.qrcode_places.specs.Masks.{turns}
-use Rattle.qrcode_places.specs.declared.masks.MaskPattern.{MaskPattern}
+use Rattle.qrcode_layout.specs.Masks.{turns}
+use Rattle.qrcode_layout.specs.declared.masks.MaskPattern.{MaskPattern}
 use Rattle.qrcode_reader.proofs.Walked.{signed}
 use Rattle.qrcode_reader.proofs.turned.column.Goals as goal
 

@@ -1,5 +1,5 @@
 use Rattle.std.proofs.Common.{◌≡◌, ◌<◌, ℕ, false, length, get_or}
-use Rattle.qrcode_places.specs.Masks.{turns}
+use Rattle.qrcode_layout.specs.Masks.{turns}
 use Rattle.qrcode_reader.proofs.turned.column.Given as goal
 
 abbrev pub invariant-loop-y : goal.invariant-loop-y

@@ -2,7 +2,7 @@ use Rattle.std.proofs.Common.{◌≡◌, ℕ, ℤ, to_z, of_z, w16, ◌++◌, �
 use Rattle.std.proofs.lemmas.List.{take_more_set}
 use Rattle.qrcode_types.specs.declared.types.Color.TheVariants.{Light}
 use Rattle.qrcode_types.specs.Colors.{is_dark}
-use Rattle.qrcode_places.specs.Masks.{turned_if}
+use Rattle.qrcode_layout.specs.Masks.{turned_if}
 use Rattle.qrcode_types.specs.Versions.{side}
 use Rattle.qrcode_symbol.specs.Canvas.{Drawing, module_index, with_patterns, blank}
 use Rattle.qrcode_symbol.specs.declared.canvas.Module.TheVariants.{Empty}

@@ -1,6 +1,6 @@
 use Rattle.std.proofs.Common.{◌≡◌, ◌/◌, ◌%◌, ap, ◌∙◌, arith}
 use Rattle.qrcode_types.specs.Versions.{side}
-use Rattle.qrcode_places.specs.Stream.{stream}
+use Rattle.qrcode_layout.specs.Stream.{stream}
 use Rattle.qrcode_reader.proofs.Walked.{none_walked, all_walked, whole_walk}
 use Rattle.qrcode_reader.proofs.walk.stream.Goals as goal
 

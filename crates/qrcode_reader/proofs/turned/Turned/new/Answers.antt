@@ -1,5 +1,5 @@
 use Rattle.std.proofs.Common.{◌≡◌, ◌<◌, ◌%◌, ◌∷◌, ℕ, zero, suc, [], false, get_or, ◌∙◌, arith}
-use Rattle.qrcode_places.specs.Masks.{turns}
+use Rattle.qrcode_layout.specs.Masks.{turns}
 use Rattle.qrcode_symbol.proofs.MaskRows.{periodic}
 use Rattle.qrcode_reader.proofs.turned.Turned.new.Goals as goal
 

@@ -1,6 +1,6 @@
 use Rattle.std.proofs.Common.{◌≡◌, ℕ, ◌-◌, true, false, map, List, get_or, sym, subst, ◌∙◌, arith, below_more, true≢false}
 use Rattle.qrcode_types.specs.Versions.{side}
-use Rattle.qrcode_places.specs.Patterns.{centres, is_corner_centre}
+use Rattle.qrcode_layout.specs.Patterns.{centres, is_corner_centre}
 use Rattle.qrcode_symbol.specs.Patterned.{IsRectanglePatterned, IsCentre}
 use Rattle.qrcode_symbol.proofs.Blocks.{alignment_shown}
 use Rattle.qrcode_symbol.proofs.Centres.{centre_at, centre_inside}

@@ -1,6 +1,6 @@
 use Rattle.std.proofs.Common.{◌≡◌, ℕ, ◌-◌, ◌<◌, false, map, get_or}
 use Rattle.qrcode_types.specs.Versions.{side}
-use Rattle.qrcode_places.specs.Patterns.{centres, is_corner_centre}
+use Rattle.qrcode_layout.specs.Patterns.{centres, is_corner_centre}
 use Rattle.qrcode_symbol.specs.Patterned.{DrawsTowards, IsRectanglePatterned}
 use Rattle.qrcode_symbol.proofs.canvas.drawing.draw_alignment_row.Given as goal
 

@@ -1,6 +1,6 @@
 use Rattle.std.proofs.Common.{◌≡◌, ℕ, ◌-◌, ◌<◌, false, map, List, length, get_or, subst, arith, below_more}
 use Rattle.qrcode_types.specs.Versions.{side}
-use Rattle.qrcode_places.specs.Patterns.{centres, is_corner_centre}
+use Rattle.qrcode_layout.specs.Patterns.{centres, is_corner_centre}
 use Rattle.qrcode_symbol.specs.Patterned.{IsRectanglePatterned}
 use Rattle.qrcode_symbol.proofs.Centres.{centre_at}
 use Rattle.qrcode_symbol.proofs.Patterned.{towards_more, rectangle_kept}

@@ -1,8 +1,8 @@
 use Rattle.std.proofs.Common.{◌≡◌, ℕ, Some, refl, sym, ◌∙◌}
 use Rattle.qrcode_types.specs.declared.types.Color.{Color}
 use Rattle.qrcode_types.specs.declared.types.Version.{Version}
-use Rattle.qrcode_places.specs.Patterns.{pattern}
-use Rattle.qrcode_places.proofs.PatternsApart.{rules_agree}
+use Rattle.qrcode_layout.specs.Patterns.{pattern}
+use Rattle.qrcode_layout.proofs.PatternsApart.{rules_agree}
 use Rattle.qrcode_symbol.specs.Canvas.{pattern_module}
 use Rattle.qrcode_symbol.specs.declared.canvas.Module.{Module}
 use Rattle.qrcode_symbol.specs.declared.canvas.Module.TheVariants.{Masked}

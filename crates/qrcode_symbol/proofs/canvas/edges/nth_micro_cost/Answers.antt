@@ -1,8 +1,8 @@
 use Rattle.std.proofs.Common.{ℕ, Bool, ◌%◌, ◌^◌, ◌≡◌, ◌∙◌, ap, sym, arith}
-use Rattle.qrcode_masks.specs.Rows.{inside}
-use Rattle.qrcode_masks.specs.Penalty.{micro_penalty}
-use Rattle.qrcode_places.specs.Words.{format_word}
-use Rattle.qrcode_places.specs.declared.masks.MaskPattern.{MaskPattern}
+use Rattle.qrcode_penalty.specs.Rows.{inside}
+use Rattle.qrcode_penalty.specs.Penalty.{micro_penalty}
+use Rattle.qrcode_layout.specs.Words.{format_word}
+use Rattle.qrcode_layout.specs.declared.masks.MaskPattern.{MaskPattern}
 use Rattle.qrcode_symbol.specs.Masking.{nth_cost, masked_dark, three_words}
 use Rattle.qrcode_symbol.specs.Penalties.{penalty_of}
 use Rattle.qrcode_symbol.proofs.MaskRows.{has_mod}

@@ -1,8 +1,8 @@
 use Rattle.std.proofs.Common.{◌≡◌, ◌∙◌, ap, sym, subst, arith, map, List, ℕ, slice_index_or, unwrap_or}
 use Rattle.std.proofs.lemmas.List.{map-set, length-map}
-use Rattle.qrcode_masks.specs.Rows.{is_set, dark_in}
-use Rattle.qrcode_masks.proofs.RowLists.{read}
-use Rattle.qrcode_places.specs.Patterns.{decided_bit}
+use Rattle.qrcode_penalty.specs.Rows.{is_set, dark_in}
+use Rattle.qrcode_penalty.proofs.RowLists.{read}
+use Rattle.qrcode_layout.specs.Patterns.{decided_bit}
 use Rattle.qrcode_symbol.specs.Deciding.{AreDecided}
 use Rattle.qrcode_symbol.proofs.Decided.{micro_row, micro_column, both_lines, kept_behind}
 use Rattle.qrcode_symbol.proofs.canvas.masked_rows.decide_micro.Goals as goal

@@ -1,9 +1,9 @@
 use Rattle.std.proofs.Common.{◌≡◌, ◌-◌, ◌/◌, ◌^◌, ◌∙◌, ap, sym, subst, arith, map, List, ℕ, slice_index_or, unwrap_or}
 use Rattle.std.proofs.lemmas.List.{map-set, length-map}
 use Rattle.qrcode_types.specs.Bits.{has_bit}
-use Rattle.qrcode_masks.specs.Rows.{is_set, dark_in}
-use Rattle.qrcode_masks.proofs.RowLists.{read}
-use Rattle.qrcode_places.specs.Patterns.{decided_bit}
+use Rattle.qrcode_penalty.specs.Rows.{is_set, dark_in}
+use Rattle.qrcode_penalty.proofs.RowLists.{read}
+use Rattle.qrcode_layout.specs.Patterns.{decided_bit}
 use Rattle.qrcode_symbol.specs.Deciding.{IsPutInRow, IsPutInColumn, AreDecided}
 use Rattle.qrcode_symbol.proofs.Decided.{normal_row, normal_column, both_lines, kept_before, kept_behind, above}
 use Rattle.qrcode_symbol.proofs.canvas.masked_rows.decide_normal.Goals as goal

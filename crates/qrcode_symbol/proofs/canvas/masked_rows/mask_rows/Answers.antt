@@ -1,8 +1,8 @@
 use Rattle.std.proofs.Common.{arith, ap, sym, map, ◌&&◌, ◌∙◌, unwrap_or}
 use Rattle.std.proofs.lemmas.List.{length-map}
-use Rattle.qrcode_masks.specs.Rows.{dark_in}
-use Rattle.qrcode_places.specs.Masks.{turns, turned_if}
-use Rattle.qrcode_places.specs.Patterns.{decided_bit}
+use Rattle.qrcode_penalty.specs.Rows.{dark_in}
+use Rattle.qrcode_layout.specs.Masks.{turns, turned_if}
+use Rattle.qrcode_layout.specs.Patterns.{decided_bit}
 use Rattle.qrcode_symbol.specs.Masking.{masked_dark}
 use Rattle.qrcode_symbol.proofs.Decided.{decided_fits}
 use Rattle.qrcode_symbol.proofs.canvas.masked_rows.mask_rows.Goals as goal

@@ -1,5 +1,5 @@
 use Rattle.std.proofs.Common.{◌≡◌, bit_and, bit_or, bit_xor, ap, sym, ◌∙◌}
-use Rattle.qrcode_masks.specs.Rows.{is_set}
+use Rattle.qrcode_penalty.specs.Rows.{is_set}
 use Rattle.qrcode_symbol.proofs.OnePlace.{one, set_here, set_other, unset_here, unset_other}
 use Rattle.qrcode_symbol.proofs.canvas.masked_rows.put.Goals as goal
 

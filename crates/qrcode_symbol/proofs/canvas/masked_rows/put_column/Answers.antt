@@ -1,8 +1,8 @@
 use Rattle.std.proofs.Common.{◌+◌, ◌∙◌, ap, sym, subst, arith, map, List, ℕ}
 use Rattle.std.proofs.lemmas.List.{map-set, length-map}
 use Rattle.qrcode_types.specs.Bits.{has_bit}
-use Rattle.qrcode_masks.specs.Rows.{is_set}
-use Rattle.qrcode_masks.proofs.RowLists.{read}
+use Rattle.qrcode_penalty.specs.Rows.{is_set}
+use Rattle.qrcode_penalty.proofs.RowLists.{read}
 use Rattle.qrcode_symbol.specs.Deciding.{IsPutInColumn}
 use Rattle.qrcode_symbol.proofs.Decided.{column_more}
 use Rattle.qrcode_symbol.proofs.canvas.masked_rows.put_column.Goals as goal

@@ -1,9 +1,9 @@
 use Rattle.std.proofs.Common.{◌&&◌, ◌∙◌, map, ap, arith}
 use Rattle.std.proofs.lemmas.List.{length-map}
-use Rattle.qrcode_masks.specs.Rows.{dark_in}
-use Rattle.qrcode_masks.proofs.RowLists.{rows_fit}
-use Rattle.qrcode_places.specs.Masks.{turns, turned_if}
-use Rattle.qrcode_places.specs.declared.masks.MaskPattern.{MaskPattern}
+use Rattle.qrcode_penalty.specs.Rows.{dark_in}
+use Rattle.qrcode_penalty.proofs.RowLists.{rows_fit}
+use Rattle.qrcode_layout.specs.Masks.{turns, turned_if}
+use Rattle.qrcode_layout.specs.declared.masks.MaskPattern.{MaskPattern}
 use Rattle.qrcode_symbol.proofs.canvas.masked_rows.turn_rows.Goals as goal
 
 pub loop-k-init : goal.loop-k-init

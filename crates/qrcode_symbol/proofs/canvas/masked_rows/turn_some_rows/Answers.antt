@@ -1,7 +1,7 @@
 use Rattle.std.proofs.Common.{◌≡◌, ◌+◌, ◌%◌, ◌^◌, ◌<◌, ◌∙◌, ℕ, map, ap, sym, subst, bit_xor, arith, slice_index_or}
 use Rattle.std.proofs.lemmas.List.{get_or-map}
-use Rattle.qrcode_masks.specs.Rows.{is_set}
-use Rattle.qrcode_masks.proofs.RowLists.{rows_more}
+use Rattle.qrcode_penalty.specs.Rows.{is_set}
+use Rattle.qrcode_penalty.proofs.RowLists.{rows_more}
 use Rattle.qrcode_symbol.specs.Masking.{three_words, IsTurnedRow}
 use Rattle.qrcode_symbol.proofs.MaskRows.{has_mod}
 use Rattle.qrcode_symbol.proofs.RowLists.{turned_row_is}

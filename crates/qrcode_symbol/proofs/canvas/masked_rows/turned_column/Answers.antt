@@ -1,5 +1,5 @@
 use Rattle.std.proofs.Common.{◌%◌, ◌∙◌, [], ap, arith, slice_index_or}
-use Rattle.qrcode_masks.specs.Rows.{is_set}
+use Rattle.qrcode_penalty.specs.Rows.{is_set}
 use Rattle.qrcode_symbol.specs.declared.canvas.masked_rows.TheConstants.{TURNED_COLUMNS}
 use Rattle.qrcode_symbol.proofs.MaskRows.{twelve_repeated, twelve_at, periodic}
 use Rattle.qrcode_symbol.proofs.canvas.masked_rows.turned_column.Goals as goal

@@ -1,5 +1,5 @@
 use Rattle.std.proofs.Common.{◌<◌, ◌%◌, ◌∙◌, ℕ, [], ap, sym, subst, arith, slice_index_or}
-use Rattle.qrcode_masks.specs.Rows.{is_set}
+use Rattle.qrcode_penalty.specs.Rows.{is_set}
 use Rattle.qrcode_symbol.specs.declared.canvas.masked_rows.TheConstants.{TURNED}
 use Rattle.qrcode_symbol.proofs.MaskRows.{six_at, six_small, periodic, rows_periodic}
 use Rattle.qrcode_symbol.proofs.canvas.masked_rows.turned_row.Goals as goal

@@ -1,8 +1,8 @@
 use Rattle.std.proofs.Common.{◌≡◌, ◌<◌, ◌%◌, ◌∙◌, ℕ, refl, arith}
 use Rattle.std.proofs.Math.ListN.{length-set}
-use Rattle.qrcode_masks.specs.Rows.{is_set}
-use Rattle.qrcode_masks.proofs.RowLists.{rows_more}
-use Rattle.qrcode_places.specs.Masks.{turns}
+use Rattle.qrcode_penalty.specs.Rows.{is_set}
+use Rattle.qrcode_penalty.proofs.RowLists.{rows_more}
+use Rattle.qrcode_layout.specs.Masks.{turns}
 use Rattle.qrcode_symbol.specs.Masking.{three_words}
 use Rattle.qrcode_symbol.proofs.MaskRows.{rows_periodic}
 use Rattle.qrcode_symbol.proofs.canvas.masked_rows.turned_rows.Goals as goal

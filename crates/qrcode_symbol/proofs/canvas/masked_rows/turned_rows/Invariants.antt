@@ -1,6 +1,6 @@
 use Rattle.std.proofs.Common.{◌≡◌, ◌<◌, ℕ, length, map, slice_index_or}
-use Rattle.qrcode_masks.specs.Rows.{is_set}
-use Rattle.qrcode_places.specs.Masks.{turns}
+use Rattle.qrcode_penalty.specs.Rows.{is_set}
+use Rattle.qrcode_layout.specs.Masks.{turns}
 use Rattle.qrcode_symbol.specs.Masking.{three_words}
 use Rattle.qrcode_symbol.proofs.canvas.masked_rows.turned_rows.Given as goal
 

@@ -1,7 +1,7 @@
 use Rattle.std.proofs.Common.{◌≡◌, List, ap, subst, sym, ◌∙◌, arith, map}
 use Rattle.std.proofs.lemmas.List.{take_at}
-use Rattle.qrcode_masks.specs.Rows.{PackedRows, Shows}
-use Rattle.qrcode_places.specs.Words.{format_word}
+use Rattle.qrcode_penalty.specs.Rows.{PackedRows, Shows}
+use Rattle.qrcode_layout.specs.Words.{format_word}
 use Rattle.qrcode_symbol.specs.declared.canvas.Module.{Module}
 use Rattle.qrcode_symbol.specs.Masking.{is_dark_module, is_free, masked_dark, ShowsModules}
 use Rattle.qrcode_symbol.proofs.BestMasks.{best_shown}

@@ -1,9 +1,9 @@
 use Rattle.std.proofs.Common.{ℕ, Bool, ap, sym, subst, ◌∙◌}
 use Rattle.qrcode_types.specs.Versions.{side}
-use Rattle.qrcode_places.specs.Words.{format_word}
-use Rattle.qrcode_masks.specs.Penalty.{normal_penalty}
-use Rattle.qrcode_masks.specs.Rows.{PackedRows, Shows, inside}
-use Rattle.qrcode_places.specs.declared.masks.MaskPattern.{MaskPattern}
+use Rattle.qrcode_layout.specs.Words.{format_word}
+use Rattle.qrcode_penalty.specs.Penalty.{normal_penalty}
+use Rattle.qrcode_penalty.specs.Rows.{PackedRows, Shows, inside}
+use Rattle.qrcode_layout.specs.declared.masks.MaskPattern.{MaskPattern}
 use Rattle.qrcode_symbol.specs.Masking.{nth_cost, masked_dark}
 use Rattle.qrcode_symbol.specs.Penalties.{penalty_of}
 use Rattle.qrcode_symbol.proofs.Edges.{normal_cost_of}

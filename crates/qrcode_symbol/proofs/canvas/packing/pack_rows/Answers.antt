@@ -1,7 +1,7 @@
 use Rattle.std.proofs.Common.{◌≡◌, length, ◌-◌, ◌*◌, take, drop, map, ap, sym, ◌∙◌, arith, length-drop}
 use Rattle.std.proofs.lemmas.List.{length-map, drop-map, take_all}
 use Rattle.qrcode_symbol.specs.Masking.{is_dark_module, is_free, packed}
-use Rattle.qrcode_masks.proofs.RowLists.{rows_more}
+use Rattle.qrcode_penalty.proofs.RowLists.{rows_more}
 use Rattle.qrcode_symbol.proofs.RowLists.{shows_packed, fits_packed, modules_of_row}
 use Rattle.qrcode_symbol.proofs.canvas.packing.pack_rows.Goals as goal
 

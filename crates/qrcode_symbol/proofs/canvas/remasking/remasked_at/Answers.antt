@@ -2,9 +2,9 @@ use Rattle.std.proofs.Common.{◌≡◌, ℕ, Bool, true, false, not, Option, So
 use Rattle.qrcode_types.specs.Colors.{is_dark, color_of}
 use Rattle.qrcode_types.specs.declared.types.Version.{Version}
 use Rattle.qrcode_types.specs.declared.types.Color.{Color}
-use Rattle.qrcode_masks.specs.Penalty.{same}
-use Rattle.qrcode_places.specs.Masks.{turns, turned_if}
-use Rattle.qrcode_places.specs.Patterns.{pattern, format_index, is_functional_place}
+use Rattle.qrcode_penalty.specs.Penalty.{same}
+use Rattle.qrcode_layout.specs.Masks.{turns, turned_if}
+use Rattle.qrcode_layout.specs.Patterns.{pattern, format_index, is_functional_place}
 use Rattle.qrcode_symbol.specs.Penalties.{remasked_at}
 use Rattle.qrcode_symbol.proofs.Remasking.{remask_of}
 use Rattle.qrcode_symbol.proofs.canvas.remasking.remasked_at.Goals as goal

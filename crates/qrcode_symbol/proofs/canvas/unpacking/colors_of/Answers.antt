@@ -2,7 +2,7 @@ use Rattle.std.proofs.Common.{◌≡◌, ◌/◌, ◌%◌, slice_index_or, slice
 use Rattle.std.proofs.Math.ListN.{length-set}
 use Rattle.std.proofs.lemmas.List.{get_or-set_same, get_or-set_other}
 use Rattle.qrcode_types.specs.Colors.{color_of}
-use Rattle.qrcode_masks.specs.Rows.{is_set}
+use Rattle.qrcode_penalty.specs.Rows.{is_set}
 use Rattle.qrcode_types.specs.declared.types.Color.TheVariants.{Light}
 use Rattle.qrcode_symbol.proofs.WrittenColors.{bit_in_byte}
 use Rattle.qrcode_symbol.proofs.canvas.unpacking.colors_of.Goals as goal

@@ -1,8 +1,8 @@
 use Rattle.std.proofs.Common.{◌≡◌, ℕ, ◌+◌, ◌*◌, ap, ◌∙◌, arith, below_more, slice_index_or, length, mul_comm, map}
 use Rattle.std.proofs.lemmas.Nat.{mul-add-lt}
 use Rattle.qrcode_types.specs.Colors.{color_of}
-use Rattle.qrcode_masks.specs.Rows.{is_set, dark_in}
-use Rattle.qrcode_masks.proofs.RowLists.{read}
+use Rattle.qrcode_penalty.specs.Rows.{is_set, dark_in}
+use Rattle.qrcode_penalty.proofs.RowLists.{read}
 use Rattle.qrcode_types.specs.declared.types.Color.TheVariants.{Light}
 use Rattle.qrcode_symbol.proofs.canvas.unpacking.unpack_rows.Goals as goal
 

@@ -1,6 +1,6 @@
 use Rattle.std.proofs.Common.{◌≡◌, ℕ, ◌<◌, ◌+◌, ◌*◌, length, map, slice_index_or}
 use Rattle.qrcode_types.specs.Colors.{color_of}
-use Rattle.qrcode_masks.specs.Rows.{dark_in}
+use Rattle.qrcode_penalty.specs.Rows.{dark_in}
 use Rattle.qrcode_types.specs.declared.types.Color.TheVariants.{Light}
 use Rattle.qrcode_symbol.proofs.canvas.unpacking.unpack_rows.Given as goal
 

@@ -1,6 +1,6 @@
 use Rattle.std.proofs.Common.{◌≡◌, length, ◌^◌, ◌<◌, map, ◌∙◌, arith}
 use Rattle.std.proofs.lemmas.List.{length-map}
-use Rattle.qrcode_masks.proofs.RowLists.{rows_more, rows_fit}
+use Rattle.qrcode_penalty.proofs.RowLists.{rows_more, rows_fit}
 use Rattle.qrcode_tests.proofs.symbol.squares.fill.Goals as goal
 
 pub loop-y-preserved : goal.loop-y-preserved

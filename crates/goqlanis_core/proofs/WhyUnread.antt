@@ -1,0 +1,39 @@
+-- Why pictures are not read.
+use Rattle.std.proofs.Common.{◌≡◌, ◌*◌, ℕ, Bool, List, length, sym, subst, ◌⊎◌, inl, inr}
+use Rattle.std.specs.Prelude.{if◌then◌else◌}
+use Rattle.qrcode_types.specs.declared.types.Color.{Color}
+use Rattle.qrcode_render.specs.Bitmap.{Bitmap}
+use Rattle.qrcode_reader.specs.scan.Files.{IsSeenIn}
+use Rattle.qrcode_reader.specs.scan.Squares.{has_dark_edge, inverted}
+use Rattle.qrcode_reader.specs.Positions.{seen}
+use Rattle.qrcode_reader.specs.Readings.{IsPartsCause, ReadsParts}
+use Rattle.qrcode_reader.specs.declared.positions.Position.{Position}
+use Rattle.qrcode_reader.specs.declared.spell.parts.Part.{Part}
+use Rattle.qrcode_reader.specs.declared.refusals.Unread as reading
+use Rattle.goqlanis_core.specs.Scans.{IsLeastSquareIn, IsUnreadIn, IsUnreadPicture, unread_as}
+use Rattle.goqlanis_core.specs.declared.scanning.Unread.{Unread}
+use Rattle.goqlanis_core.specs.declared.scanning.Unread.TheVariants.{Unscanned, NoSquare, NoSymbol, OutOfMemory}
+
+abbrev pub HasNone : ℕ → List Color → Type 0
+HasNone side modules = (p : Position) (is_inverted : Bool) (bytes : List ℕ) (parts : List Part) → ¬ ReadsParts (seen side p is_inverted modules) bytes parts
+
+-- the square that pixels show is not read
+pub unread_square : (b : Bitmap) (count zone scale : ℕ) (modules : List Color) (e : reading.Unread) → IsLeastSquareIn b count zone scale modules
+    → (e ≡ reading.TheVariants.OutOfMemory) ⊎ (IsPartsCause modules e × ((side : ℕ) → side * side ≡ length modules → HasNone side modules)) → IsUnreadIn b (unread_as count e)
+unread_square b count zone scale modules e square why = elim why [
+  | inl memory ↦ subst (λ e. IsUnreadIn b (unread_as count e)) (sym memory) tt
+  | inr other ↦ caused e other.0 (other.1 count (sym square.square.square))
+] where
+  caused : (e : reading.Unread) → IsPartsCause modules e → HasNone count modules → IsUnreadIn b (unread_as count e)
+  caused reading.TheVariants.NoSuchSide cause none = record { zone = zone; scale = scale; modules = modules; square = square; cause = cause; none = none }
+  caused reading.TheVariants.NoFormat cause none = record { zone = zone; scale = scale; modules = modules; square = square; cause = cause; none = none }
+  caused (reading.TheVariants.Damaged n) cause none = record { zone = zone; scale = scale; modules = modules; square = square; cause = cause; none = none }
+  caused reading.TheVariants.NotSpelled cause none = record { zone = zone; scale = scale; modules = modules; square = square; cause = cause; none = none }
+  caused reading.TheVariants.OutOfMemory cause none = tt
+
+-- the pixels that a picture shows are not read
+pub unread_picture : (bytes : List ℕ) (b : Bitmap) (e : Unread) → IsSeenIn bytes b → IsUnreadIn (if has_dark_edge b then inverted b else b) e → IsUnreadPicture bytes e
+unread_picture bytes b (Unscanned e) seen unread = absurd unread
+unread_picture bytes b NoSquare seen unread = record { pixels = b; seen = seen; unread = unread }
+unread_picture bytes b (NoSymbol count e) seen unread = record { pixels = b; seen = seen; unread = unread }
+unread_picture bytes b OutOfMemory seen unread = tt

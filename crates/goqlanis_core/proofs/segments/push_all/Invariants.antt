@@ -1,0 +1,10 @@
+use Rattle.std.proofs.Common.{◌≡◌, None, take}
+use Rattle.goqlanis_core.specs.Segments.{segments_refusal, written_segments}
+use Rattle.goqlanis_core.proofs.segments.push_all.Given as goal
+
+-- so many segments are taken and written
+abbrev pub invariant-loop-segment : goal.invariant-loop-segment
+invariant-loop-segment l =
+    (l.bits.version ≡ l.initial.bits.version)
+    × ((l.bits.bits ≡ written_segments l.initial.bits.version (take l.segment-index l.fn.segments))
+    × (segments_refusal l.initial.bits.version 0 (take l.segment-index l.fn.segments) ≡ None))

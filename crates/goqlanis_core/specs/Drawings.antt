@@ -1,0 +1,32 @@
+-- What a request shows of a symbol.
+use Rattle.std.specs.Prelude.{ℕ, ◌+◌, ◌*◌, ◌/◌, List, true, max, unwrap_or}
+use Rattle.std.specs.Option.{option_map}
+use Rattle.qrcode_types.specs.Versions.{side}
+use Rattle.qrcode_types.specs.declared.types.Color.{Color}
+use Rattle.qrcode_types.specs.declared.types.Version.{Version}
+use Rattle.qrcode_render.specs.Layout.{Layout, layout}
+use Rattle.qrcode.specs.Pictures.{quiet_zone}
+use Rattle.goqlanis_core.specs.Formats.{View, shade_of, IsDrawnIn}
+use Rattle.goqlanis_core.specs.Masks.{AreUnder}
+use Rattle.goqlanis_core.specs.declared.drawing.Drawing.{Drawing}
+use Rattle.goqlanis_core.specs.declared.request.Request.{Request}
+
+abbrev pub zone_for : Request → Version → ℕ  -- the quiet zone: what is asked for, or the standard's
+zone_for r v = unwrap_or r.zone (quiet_zone v)
+
+-- the pixels of a module: as many as a side of so many pixels has room for, where that is asked for
+abbrev pub scale_for : Request → Version → ℕ
+scale_for r v = unwrap_or (option_map (λ size. size / (side v + 2 * zone_for r v)) r.size) r.scale
+
+-- where modules stand: behind the quiet zone, and of so many pixels a side, at least 1
+abbrev pub layout_for : Request → Version → Layout
+layout_for r v = layout (side v) (zone_for r v) (max (scale_for r v) 1) (max (scale_for r v) 1)
+
+-- how the drawing looks; lines end with a newline
+abbrev pub view_for : Request → View
+view_for r = record { dark = shade_of r.dark; light = shade_of r.light; is_inverted = r.is_inverted; dpi = r.dpi; ends_lines = true }
+
+-- bytes that show their symbol, under the mask that is asked for, as a request asks for it
+abbrev pub IsShownIn : Request → Drawing → Type 0
+IsShownIn r d =
+    (s : List Color) × (AreUnder r.mask d.code s × IsDrawnIn r.format (view_for r) (layout_for r d.code.version) s d.bytes.items)

@@ -1,0 +1,105 @@
+-- What each format draws of a square of modules.
+use Rattle.std.specs.Prelude.{◌≡◌, ℕ, ◌+◌, ◌*◌, ◌/◌, Bool, true, false, List, [], ◌∷◌, ◌++◌, Option, codes, encode_utf8, slice_get, if◌then◌else◌}
+use Rattle.std.specs.Option.{option_map}
+use Rattle.qrcode_types.specs.declared.types.Color.{Color}
+use Rattle.qrcode_render.specs.Eps.{eps_text}
+use Rattle.qrcode_render.specs.Files.{pgm_file, pbm_file}
+use Rattle.qrcode_render.specs.Layout.{Layout, layout}
+use Rattle.qrcode_render.specs.Paths.{xml_head, IsPathOf}
+use Rattle.qrcode_render.specs.Picture.{picture}
+use Rattle.qrcode_render.specs.Setting.{Setting}
+use Rattle.qrcode_render.specs.Texts.{text_of, dense_text, raw_bytes}
+use Rattle.qrcode_render.specs.Pic.{pic_text}
+use Rattle.qrcode_render.specs.Svg.{svg_text}
+use Rattle.qrcode_render.specs.declared.eps.Color as eps
+use Rattle.qrcode_png.specs.Shown.{IsFileOf}
+use Rattle.qrcode_png.specs.declared.picture.Color as png
+use Rattle.goqlanis_core.specs.Terminal.{coloured_text}
+use Rattle.goqlanis_core.specs.declared.formats.Format.{Format}
+use Rattle.goqlanis_core.specs.declared.formats.Format.TheVariants.{HalfBlocks, LightHalfBlocks, Terminal, Chars, Png, Svg, SvgPath, Eps, Pic, Pbm, Pgm, Grey}
+use Rattle.goqlanis_core.specs.declared.picture.Ink.{Ink}
+use Rattle.goqlanis_core.specs.declared.picture.Picture.{Picture}
+
+abbrev pub format_numbered : ℕ → Option Format  -- the format of a number in C, in this order from 0 on
+format_numbered n = slice_get (HalfBlocks ∷ LightHalfBlocks ∷ Svg ∷ Pic ∷ Grey ∷ Png ∷ Eps ∷ Pbm ∷ SvgPath ∷ []) n
+
+-- a colour: what SVG writes; red, green and blue; and how opaque it is in PNG
+pub record Shade : Type 0 where
+  pub name : List ℕ
+  pub red : ℕ
+  pub green : ℕ
+  pub blue : ℕ
+  pub opacity : ℕ
+
+-- how a drawing looks: its colours, whether they are exchanged, the dots per inch that it names, and whether its lines end with a newline
+pub record View : Type 0 where
+  pub dark : Shade
+  pub light : Shade
+  pub is_inverted : Bool
+  pub dpi : Option ℕ
+  pub ends_lines : Bool
+
+abbrev pub shade_of : Ink → Shade
+shade_of c = record { name = c.name.now; red = c.red; green = c.green; blue = c.blue; opacity = c.opacity }
+
+abbrev pub view_of : Picture → View
+view_of p = record { dark = shade_of p.dark; light = shade_of p.light; is_inverted = p.is_inverted; dpi = p.dpi; ends_lines = p.ends_lines }
+
+abbrev pub layout_of : Picture → Layout  -- where its modules stand
+layout_of p = layout p.width p.zone p.scale p.scale
+
+-- what stands for dark modules, of what does for dark and for light ones unless these are exchanged
+abbrev pub dark_of : {A : Type 0} → View → A → A → A
+dark_of v dark light = if v.is_inverted then light else dark
+
+abbrev pub light_of : {A : Type 0} → View → A → A → A  -- what stands for light modules
+light_of v dark light = if v.is_inverted then dark else light
+
+-- what the renderer of a picture is set to, of what stands for dark and for light unless these are exchanged
+abbrev pub setting_of : {P : Type 0} → Picture → P → P → Setting P
+setting_of p dark light = record {
+  content = p.modules.now;
+  count = p.width;
+  zone = p.zone;
+  across = p.scale;
+  down = p.scale;
+  dark = dark_of (view_of p) dark light;
+  light = light_of (view_of p) dark light;
+  whole_zone = p.zone;
+}
+
+abbrev pub eps_ink : Shade → eps.Color  -- a colour of EPS
+eps_ink c = record { red = c.red; green = c.green; blue = c.blue }
+
+abbrev pub png_ink : Shade → png.Color  -- a colour of PNG
+png_ink c = record { 0 = c.red ∷ c.green ∷ c.blue ∷ c.opacity ∷ [] }
+
+abbrev pub per_metre : ℕ → ℕ  -- dots per inch as dots per metre, to the nearest: an inch is 0.0254 metres
+per_metre dpi = (10000 * dpi + 127) / 254
+
+abbrev pub ended : View → List ℕ → List ℕ  -- lines of characters, with a newline at the end where there is to be one
+ended v lines = if v.ends_lines then lines ++ codes "\n" else lines
+
+-- half blocks, by whether those of dark and of light pixels are drawn
+abbrev pub half_block_text : View → Bool → Bool → Layout → List Color → List ℕ
+half_block_text v dark light at s = dense_text (dark_of v dark light) (light_of v dark light) (picture at s)
+
+-- a character for each pixel
+abbrev pub char_text : View → List ℕ → List ℕ → Layout → List Color → List ℕ
+char_text v dark light at s = text_of (dark_of v dark light) (light_of v dark light) (picture at s)
+
+-- what each format draws: bytes are the text of modules, or their pixels, or a file that shows these
+abbrev pub IsDrawnIn : Format → View → Layout → List Color → List ℕ → Type 0
+IsDrawnIn HalfBlocks v at s bytes = bytes ≡ ended v (half_block_text v true false at s)
+IsDrawnIn LightHalfBlocks v at s bytes = bytes ≡ ended v (half_block_text v false true at s)
+IsDrawnIn Terminal v at s bytes = bytes ≡ coloured_text (half_block_text v true false at s)
+IsDrawnIn Chars v at s bytes = bytes ≡ ended v (char_text v (encode_utf8 0x2588) (encode_utf8 32) at s)
+IsDrawnIn Png v at s bytes =
+    IsFileOf (picture at s) (dark_of v (png_ink v.dark) (png_ink v.light)) (light_of v (png_ink v.dark) (png_ink v.light)) (option_map per_metre v.dpi) bytes
+IsDrawnIn Svg v at s bytes = bytes ≡ svg_text at s (dark_of v v.dark.name v.light.name) (light_of v v.dark.name v.light.name)
+IsDrawnIn SvgPath v at s bytes = IsPathOf xml_head (dark_of v v.dark.name v.light.name) (light_of v v.dark.name v.light.name) (picture at s) bytes
+IsDrawnIn Eps v at s bytes = bytes ≡ eps_text at s (dark_of v (eps_ink v.dark) (eps_ink v.light)) (light_of v (eps_ink v.dark) (eps_ink v.light))
+IsDrawnIn Pic v at s bytes = bytes ≡ pic_text at s
+IsDrawnIn Pbm v at s bytes = bytes ≡ pbm_file (dark_of v true false) (light_of v true false) (picture at s)
+IsDrawnIn Pgm v at s bytes = bytes ≡ pgm_file (dark_of v 0 255) (light_of v 0 255) (picture at s)
+IsDrawnIn Grey v at s bytes = bytes ≡ raw_bytes (dark_of v (0 ∷ []) (255 ∷ [])) (light_of v (0 ∷ []) (255 ∷ [])) (picture at s)

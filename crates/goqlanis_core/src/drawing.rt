@@ -1,0 +1,194 @@
+//! Drawings for requests.
+
+ghost use Rattle.std.specs.Prelude.{◌≡◌, ◌≤◌, ◌⊎◌, map, unwrap_or, IfOk, IfErr};
+ghost use Rattle.qrcode_types.specs.declared.types.QrError.TheVariants.{InvalidVersion, OutOfMemory};
+ghost use Rattle.qrcode.specs.Pictures.{quiet_zone};
+ghost use Rattle.qrcode_gs1.specs.Items.{item};
+ghost use Rattle.qrcode_gs1.specs.declared.symbol.errors.SymbolError.TheVariants.{Symbol};
+ghost use Rattle.goqlanis_core.specs.Drawings.{IsShownIn, scale_for};
+ghost use Rattle.goqlanis_core.specs.Elements.{IsElementsIn, IsElementsRefused, IsApplicationIn, IsApplicationRefused};
+ghost use Rattle.goqlanis_core.specs.Masks.{IsMaskless, LacksMask};
+ghost use Rattle.goqlanis_core.specs.Segments.{AreRefused, IsLeastHeld, IsSymbolOfSegments};
+ghost use Rattle.goqlanis_core.specs.Symbols.{IsSymbolIn, IsSymbolOf, IsRefusedFor, IsRefusalOf};
+
+use crate::elements::{symbol_for_application, symbol_of_elements};
+use crate::masking::modules_under;
+use crate::picture::Picture;
+use crate::render::draw_in;
+use crate::request::{Choice, Request};
+use crate::segments::{Segment, symbol_of};
+use qrcode::QrCode;
+use qrcode::bits::Manner;
+use qrcode::types::{EcLevel, QrResult};
+use qrcode_gs1::elements::Element;
+use qrcode_gs1::symbol::errors::SymbolResult;
+use std::alloc::Global;
+
+/// A symbol, and the bytes that show it under the mask that is asked for.
+#[derive(Drop)]
+pub struct Drawing {
+    /// The symbol under the mask of least penalty.
+    pub code: QrCode,
+    pub bytes: Vec<u8>,
+}
+
+/// The drawing of data that a request asks for.
+///
+/// It is refused where no version that may be taken holds the data, by the causes of `QrCode::at_least`,
+/// `QrCode::at_least_boosted` or `QrCode::in_version`; `InvalidVersion`: the version has no mask of
+/// the number that is asked for; `OutOfMemory`: memory was refused.
+pub fn draw(alloc: Global, request: &Request<'_>, bytes: &[u8]) -> QrResult<Drawing>
+    ensures symbol { IfOk result (λ drawing. IsSymbolOf request.now bytes.now drawing.code) }
+    ensures shown { IfOk result (IsShownIn request.now) }
+    ensures causes { IfErr result (IsRefusalOf request.now bytes.now) }
+{
+    let code = symbol_in(alloc, request.choice, request.manner, request.level, bytes)?;
+    drawing_of(alloc, request, code)
+}
+
+/// The drawing of segments by hand that a request asks for, of the least version that may be taken
+/// and holds them; its manner is not looked at, and a choice with levels to be raised keeps the level.
+///
+/// `InvalidVersion`: the choice names no version, or the version has no mask of the number. Where
+/// none that may be taken holds the segments, the error is the first cause in the last of these:
+/// `InvalidCharacter`, a mode cannot write its segment; `InvalidEciDesignator`, the number of a
+/// character set is above 999,999; `UnsupportedCharacterSet`, the version lacks a mode, or character
+/// sets; `InvalidVersion`, it lacks the level; `DataTooLong`, it has no room. `OutOfMemory`: memory
+/// was refused.
+pub fn draw_segments(
+    alloc: Global,
+    request: &Request<'_>,
+    segments: &[Segment<'_>],
+) -> QrResult<Drawing>
+    ensures version { IfOk result (λ drawing.
+        IsLeastHeld request.now.choice request.now.level segments.now drawing.code.version) }
+    ensures symbol { IfOk result (λ drawing.
+        IsSymbolOfSegments request.now.level segments.now drawing.code) }
+    ensures shown { IfOk result (IsShownIn request.now) }
+    ensures causes { IfErr result (λ e.
+        AreRefused request.now.choice request.now.level segments.now e
+        ⊎ ((e ≡ InvalidVersion) × IsMaskless request.now.mask (λ code.
+        IsLeastHeld request.now.choice request.now.level segments.now code.version))) }
+{
+    let code = symbol_of(alloc, request.choice, request.level, segments)?;
+    drawing_of(alloc, request, code)
+}
+
+/// The drawing of elements of GS1 that a request asks for; its manner is not looked at, and a choice with
+/// levels to be raised keeps the level.
+///
+/// `Elements`: which element is refused first, and why. `Symbol(DataTooLong)`: no version that may be
+/// taken holds them; none of Micro does. `Symbol(InvalidVersion)`: there is no mask of the number.
+/// `OutOfMemory`, in either: memory was refused.
+pub fn draw_elements(
+    alloc: Global,
+    request: &Request<'_>,
+    elements: &[Element<'_>],
+) -> SymbolResult<Drawing>
+    ensures symbol { IfOk result (λ drawing. IsElementsIn request.now.choice request.now.level
+        (map item elements.now) drawing.code) }
+    ensures shown { IfOk result (IsShownIn request.now) }
+    ensures causes { IfErr result (λ e.
+        IsElementsRefused request.now.choice request.now.level (map item elements.now) e
+        ⊎ ((e ≡ Symbol InvalidVersion) × IsMaskless request.now.mask
+        (IsElementsIn request.now.choice request.now.level (map item elements.now)))) }
+{
+    let code = symbol_of_elements(alloc, request.choice, request.level, elements)?;
+    Ok(drawing_of(alloc, request, code)?)
+}
+
+/// The drawing of data of an application, behind FNC1 in second position and the application's
+/// indicator, that a request asks for; its manner is not looked at, and a choice with levels to be
+/// raised keeps the level. Byte 29 is the separator.
+///
+/// `DataTooLong`: no version that may be taken holds the data; none of Micro does. `InvalidVersion`:
+/// there is no mask of the number. `OutOfMemory`: memory was refused.
+pub fn draw_for_application(
+    alloc: Global,
+    request: &Request<'_>,
+    application: u8,
+    bytes: &[u8],
+) -> QrResult<Drawing>
+    ensures symbol { IfOk result (λ drawing. IsApplicationIn request.now.choice application
+        request.now.level bytes.now drawing.code) }
+    ensures shown { IfOk result (IsShownIn request.now) }
+    ensures causes { IfErr result (λ e.
+        IsApplicationRefused request.now.choice application request.now.level bytes.now e
+        ⊎ ((e ≡ InvalidVersion) × IsMaskless request.now.mask
+        (IsApplicationIn request.now.choice application request.now.level bytes.now))) }
+{
+    let (choice, level) = (request.choice, request.level);
+    let code = symbol_for_application(alloc, choice, level, application, bytes)?;
+    drawing_of(alloc, request, code)
+}
+
+/// The symbol of data in a manner, of a choice at a level.
+///
+/// It is refused by the causes of `draw`, `OutOfMemory` among them.
+pub fn symbol_in(
+    alloc: Global,
+    choice: Choice,
+    manner: Manner,
+    level: EcLevel,
+    bytes: &[u8],
+) -> QrResult<QrCode>
+    ensures symbol { IfOk result (IsSymbolIn choice manner level bytes.now) }
+    ensures causes { IfErr result (IsRefusedFor choice manner level bytes.now) }
+{
+    match choice {
+        Choice::From(version) => QrCode::at_least(alloc, bytes, manner, version, level),
+        Choice::Boosted(version) => QrCode::at_least_boosted(alloc, bytes, manner, version, level),
+        Choice::At(version) => QrCode::in_version(alloc, bytes, manner, version, level),
+    }
+}
+
+/// A symbol, drawn as a request asks for.
+///
+/// `InvalidVersion`: its version has no mask of the number. `OutOfMemory`: memory was refused.
+pub fn drawing_of(alloc: Global, request: &Request<'_>, code: QrCode) -> QrResult<Drawing>
+    ensures symbol { IfOk result (λ drawing. drawing.code ≡ code) }
+    ensures shown { IfOk result (IsShownIn request.now) }
+    ensures causes { IfErr result (λ e. (e ≡ OutOfMemory)
+        ⊎ ((e ≡ InvalidVersion) × LacksMask request.now.mask code.version)) }
+{
+    let modules = modules_under(alloc, &code, request.mask)?;
+    let picture = Picture {
+        modules: &modules,
+        width: code.width() as u32,
+        zone: quiet_zone(request, &code),
+        scale: scale(request, &code).max(1),
+        dark: request.dark,
+        light: request.light,
+        is_inverted: request.is_inverted,
+        dpi: request.dpi,
+        ends_lines: true,
+    };
+    let bytes = draw_in(alloc, request.format, &picture)?;
+    Ok(Drawing { code, bytes })
+}
+
+/// The modules of the quiet zone at each side.
+pub fn quiet_zone(request: &Request<'_>, code: &QrCode) -> u32
+    ensures value { result ≡ unwrap_or request.now.zone (quiet_zone code.now.version) }
+    ensures at_most { result ≤ 255 }
+{
+    match request.zone {
+        Some(zone) => zone as u32,
+        None if code.version().is_micro() => 2,
+        None => 4,
+    }
+}
+
+// The pixels of a module, as many as there is room for where the pixels of a side are given.
+fn scale(request: &Request<'_>, code: &QrCode) -> u32
+    ensures value { result ≡ scale_for request.now code.now.version }
+    ensures at_most { result ≤ 65535 }
+{
+    match request.size {
+        None => request.scale as u32,
+        Some(size) => {
+            let side = code.width() as u32 + 2 * quiet_zone(request, code);
+            size as u32 / side
+        }
+    }
+}

@@ -1,0 +1,138 @@
+//! How each format draws a picture.
+
+ghost use Rattle.std.specs.Prelude.{◌≡◌, ◌^◌, ◌<◌, true, false, string_bytes, IsTrue, IfOk, IsOkUnless};
+ghost use Rattle.qrcode_types.specs.declared.types.QrError.TheVariants.{OutOfMemory};
+ghost use Rattle.qrcode_render.specs.Setting.{fits};
+ghost use Rattle.goqlanis_core.specs.Formats.{IsDrawnIn, ended, eps_ink, half_block_text, layout_of, per_metre, png_ink, setting_of, shade_of, view_of};
+ghost use Rattle.goqlanis_core.specs.declared.formats.Format.TheVariants.{Png};
+
+use crate::formats::Format;
+use crate::picture::{Ink, Picture};
+use crate::terminal::coloured;
+use qrcode::render::image::Luma;
+use qrcode::render::pbm::Bit;
+use qrcode::render::unicode::Dense1x2;
+use qrcode::render::{Pixel, Renderer, eps, pgm, pic, svg};
+use qrcode::types::QrResult;
+use qrcode_png::with_density;
+use std::alloc::Global;
+
+/// A picture in a format.
+///
+/// `OutOfMemory`: memory was refused, or a PNG file would have no pixel, or more than 65,535 along a
+/// side.
+pub fn draw_in(alloc: Global, format: Format, picture: &Picture<'_>) -> QrResult<Vec<u8>>
+    ensures drawing { IfOk result (λ drawing. IsDrawnIn format (view_of picture.now)
+        (layout_of picture.now) picture.now.modules.now drawing.items) }
+    ensures memory { IsOkUnless result OutOfMemory }
+{
+    let (dark, light) = (picture.dark, picture.light);
+    match format {
+        Format::HalfBlocks => lines(picture, half_blocks(alloc, picture)?),
+        Format::LightHalfBlocks => {
+            let text = drawn(alloc, picture, Dense1x2::Light, Dense1x2::Dark)?;
+            lines(picture, text)
+        }
+        Format::Terminal => coloured(alloc, &half_blocks(alloc, picture)?),
+        Format::Chars => lines(picture, drawn(alloc, picture, '\u{2588}', ' ')?),
+        Format::Png => png(alloc, picture),
+        Format::Svg => {
+            let (dark, light) = (svg::Color(dark.name), svg::Color(light.name));
+            Ok(drawn(alloc, picture, dark, light)?.into_bytes())
+        }
+        Format::SvgPath => {
+            let (dark, light) = (svg::Path(dark.name), svg::Path(light.name));
+            Ok(drawn(alloc, picture, dark, light)?.into_bytes())
+        }
+        Format::Eps => Ok(drawn(alloc, picture, eps_ink(dark), eps_ink(light))?.into_bytes()),
+        Format::Pic => Ok(drawn(alloc, picture, pic::Color, pic::Color)?.into_bytes()),
+        Format::Pbm => drawn(alloc, picture, Bit::Black, Bit::White),
+        Format::Pgm => drawn(alloc, picture, pgm::Grey(0), pgm::Grey(255)),
+        Format::Grey => Ok(drawn(alloc, picture, Luma([0]), Luma([255]))?.into_raw()),
+    }
+}
+
+// A picture of pixels that stand for dark and light unless these are exchanged.
+fn drawn<P: Pixel>(alloc: Global, picture: &Picture<'_>, dark: P, light: P) -> QrResult<P::Image>
+    ensures picture { IfOk result (P.Canvas.is_picture (setting_of picture.now dark light)) }
+    ensures memory { IsOkUnless result OutOfMemory }
+{
+    renderer(picture, dark, light).build(alloc)
+}
+
+// The renderer of a picture, of these pixels.
+fn renderer<'a, P: Pixel>(picture: &Picture<'a>, dark: P, light: P) -> Renderer<'a, P>
+    ensures value { result ≡ setting_of picture.now dark light }
+    ensures fits { IsTrue (fits result) }
+{
+    let (dark, light) = if picture.is_inverted {
+        (light, dark)
+    } else {
+        (dark, light)
+    };
+    let mut renderer = Renderer::new(picture.modules, picture.width as usize, picture.zone);
+    renderer.dark_color(dark);
+    renderer.light_color(light);
+    renderer.module_size(picture.scale);
+    renderer
+}
+
+// Half blocks, of which those of dark pixels are drawn.
+fn half_blocks(alloc: Global, picture: &Picture<'_>) -> QrResult<String>
+    ensures value { IfOk result (λ text. string_bytes text ≡ half_block_text
+        (view_of picture.now) true false (layout_of picture.now) picture.now.modules.now) }
+    ensures memory { IsOkUnless result OutOfMemory }
+{
+    drawn(alloc, picture, Dense1x2::Dark, Dense1x2::Light)
+}
+
+// A PNG file.
+fn png(alloc: Global, picture: &Picture<'_>) -> QrResult<Vec<u8>>
+    ensures shows { IfOk result (λ file. IsDrawnIn Png (view_of picture.now)
+        (layout_of picture.now) picture.now.modules.now file.items) }
+    ensures memory { IsOkUnless result OutOfMemory }
+{
+    let renderer = renderer(picture, png_ink(picture.dark), png_ink(picture.light));
+    match picture.dpi {
+        None => renderer.build(alloc),
+        Some(dpi) => with_density(alloc, &renderer, per_metre(dpi)),
+    }
+}
+
+// Dots per inch as dots per metre, to the nearest; an inch is 0.0254 metres.
+fn per_metre(dpi: u16) -> u32
+    ensures value { result ≡ per_metre dpi }
+    ensures at_most { result < 2 ^ 31 }
+{
+    (10000 * dpi as u32 + 127) / 254
+}
+
+// Lines of characters, with a newline at the end where there is to be one.
+fn lines(picture: &Picture<'_>, mut text: String) -> QrResult<Vec<u8>>
+    ensures value { IfOk result (λ lines.
+        lines.items ≡ ended (view_of picture.now) (string_bytes text)) }
+    ensures memory { IsOkUnless result OutOfMemory }
+{
+    if picture.ends_lines {
+        text.push('\n')?;
+    }
+    Ok(text.into_bytes())
+}
+
+// A colour of EPS.
+fn eps_ink(ink: Ink<'_>) -> eps::Color
+    ensures value { result ≡ eps_ink (shade_of ink.entry) }
+{
+    eps::Color {
+        red: ink.red,
+        green: ink.green,
+        blue: ink.blue,
+    }
+}
+
+// A colour of PNG.
+fn png_ink(ink: Ink<'_>) -> qrcode_png::Color
+    ensures value { result ≡ png_ink (shade_of ink.entry) }
+{
+    qrcode_png::Color([ink.red, ink.green, ink.blue, ink.opacity])
+}

@@ -1,0 +1,271 @@
+//! Pictures, read.
+
+ghost use Rattle.std.specs.Prelude.{◌≡◌, ◌++◌, true, false, IfOk, IfErr, OnOk};
+ghost use Rattle.qrcode_gs1.specs.symbol.Characters.{undoubled};
+ghost use Rattle.qrcode_reader.specs.scan.Squares.{inverted};
+ghost use Rattle.qrcode_reader.specs.Positions.{IsFirstPartsReading};
+ghost use Rattle.goqlanis_core.specs.declared.scanning.Unread.TheVariants.{OutOfMemory};
+ghost use Rattle.goqlanis_core.specs.HandedOn.{byte_count, is_fnc1, part_on, handed_on};
+ghost use Rattle.goqlanis_core.specs.Scans.{header_in, headers_in, IsReadAs, IsScanOf, IsSquareOf, IsUnreadPicture, IsUnreadIn, unread_as};
+
+use qrcode::types::Mode;
+use qrcode_reader::scan::{Pixels, Square, Unscanned, pixels_of, square_of};
+use qrcode_reader::spell::{Header, Part, Parts};
+use qrcode_reader::{AnyPartsReading, AnyReading, Reading, read_any_parts};
+use std::alloc::{AllocError, Global};
+use std::fmt;
+
+/// A picture, read.
+#[derive(Drop)]
+pub struct Scan {
+    /// The square of modules that it shows.
+    pub square: Square,
+    /// Whether the picture has dark and light exchanged.
+    pub is_inverted: bool,
+    /// What the square is read as, and in which position: the bytes of the segments, behind FNC1
+    /// with separators.
+    pub any: AnyReading,
+    /// The headers between the segments, as the number of a character set or the indicator of an
+    /// application, in their order.
+    pub headers: Vec<Header>,
+}
+
+/// Why a picture is not read.
+#[derive(Clone, Copy)]
+pub enum Unread {
+    /// There are no pixels.
+    Unscanned(Unscanned),
+    /// The pixels show no square of modules.
+    NoSquare,
+    /// The square of so many modules a side, as it stands, is not read, and in no other position.
+    NoSymbol(usize, qrcode_reader::Unread),
+    /// Memory was refused.
+    OutOfMemory,
+}
+
+impl From<AllocError> for Unread {
+    ghost from_gives = { λ _ e. e ≡ OutOfMemory };
+
+    fn from(_error: AllocError) -> Unread {
+        Unread::OutOfMemory
+    }
+}
+
+impl fmt::Display for Unread {
+    fn fmt<W: fmt::Write>(&self, f: &mut fmt::Formatter<W>) -> fmt::Result {
+        match self {
+            Unread::Unscanned(cause) => f.write_str(cause_text(*cause)),
+            Unread::NoSquare => f.write_str(
+                "its pixels are no square of modules of one size in a margin that is as wide at each side",
+            ),
+            Unread::NoSymbol(count, error) => {
+                write!(f, "{count} by {count} modules are no symbol: {error}")
+            }
+            Unread::OutOfMemory => f.write_str("out of memory"),
+        }
+    }
+}
+
+// Why there are no pixels.
+fn cause_text(cause: Unscanned) -> &'static str {
+    match cause {
+        Unscanned::NotPicture =>
+            "it is neither a PBM or PGM file nor half blocks; convert it to PBM",
+        Unscanned::NoSide => {
+            "it has no pixels, or more than 65,535 along a side, of half blocks 4,096"
+        }
+        Unscanned::NoGrey => "its greatest grey is not one of 1 to 255; convert it to PBM",
+        Unscanned::NotPixel => "something that is no pixel stands before its last pixel",
+        Unscanned::TooShort => "it ends before its last pixel",
+        Unscanned::OutOfMemory => "out of memory",
+    }
+}
+
+/// Reads a picture: its pixels, the square of modules that these show, and the symbol that the
+/// square is in one of the positions.
+#[tactic(auto, using(crate::proofs::WhyUnread::unread_picture))]
+pub fn read_picture(alloc: Global, bytes: &[u8]) -> Result<Scan, Unread>
+    ensures value { IfOk result (IsScanOf bytes.now) }
+    ensures causes { IfErr result (IsUnreadPicture bytes.now) }
+{
+    let pixels = match pixels_of(alloc, bytes) {
+        Ok(pixels) => pixels,
+        Err(cause) => return Err(Unread::Unscanned(cause)),
+    };
+    if pixels.has_dark_edge() {
+        read_inverted(alloc, &pixels)
+    } else {
+        read_pixels(alloc, &pixels, false)
+    }
+}
+
+// Reads pixels with dark and light exchanged.
+fn read_inverted(alloc: Global, pixels: &Pixels) -> Result<Scan, Unread>
+    ensures square { IfOk result (λ scan. IsSquareOf scan (inverted pixels.now)) }
+    ensures inverted { IfOk result (λ scan. scan.is_inverted ≡ true) }
+    ensures read { IfOk result IsReadAs }
+    ensures causes { IfErr result (IsUnreadIn (inverted pixels.now)) }
+{
+    let pixels = pixels.inverted(alloc)?;
+    read_pixels(alloc, &pixels, true)
+}
+
+// Reads pixels, which may have dark and light exchanged.
+#[tactic(auto, using(crate::proofs::WhyUnread::unread_square))]
+fn read_pixels(alloc: Global, pixels: &Pixels, is_inverted: bool) -> Result<Scan, Unread>
+    ensures square { IfOk result (λ scan. IsSquareOf scan pixels.now) }
+    ensures inverted { IfOk result (λ scan. scan.is_inverted ≡ is_inverted) }
+    ensures read { IfOk result IsReadAs }
+    ensures causes { IfErr result (IsUnreadIn pixels.now) }
+{
+    let Some(square) = square_of(alloc, pixels)? else {
+        return Err(Unread::NoSquare);
+    };
+    let any = match read_any_parts(alloc, &square.modules) {
+        Ok(any) => any,
+        Err(error) => return Err(no_symbol(square.count, error)),
+    };
+    Ok(scan_of(alloc, square, is_inverted, any)?)
+}
+
+// Why a square of so many modules a side is not read.
+fn no_symbol(count: usize, error: qrcode_reader::Unread) -> Unread
+    ensures { result ≡ unread_as count error }
+{
+    match error {
+        qrcode_reader::Unread::OutOfMemory => Unread::OutOfMemory,
+        error => Unread::NoSymbol(count, error),
+    }
+}
+
+// What is read of a picture, by the headers and segments of its square.
+fn scan_of(
+    alloc: Global,
+    square: Square,
+    is_inverted: bool,
+    any: AnyPartsReading,
+) -> Result<Scan, AllocError>
+    requires { IsFirstPartsReading square.count square.modules.items any.position any.is_inverted
+        any.reading.version any.reading.ec_level any.reading.mask any.reading.parts.bytes.items
+        any.reading.parts.parts.items any.reading.wrong.items }
+    ensures square { IfOk result (λ scan. scan.square ≡ square) }
+    ensures inverted { IfOk result (λ scan. scan.is_inverted ≡ is_inverted) }
+    ensures read { IfOk result IsReadAs }
+{
+    let read = any.reading;
+    let headers = headers_of(alloc, &read.parts.parts)?;
+    let data = handed_on(alloc, &read.parts)?;
+    Ok(Scan {
+        square,
+        is_inverted,
+        any: AnyReading {
+            position: any.position,
+            is_inverted: any.is_inverted,
+            reading: Reading {
+                version: read.version,
+                ec_level: read.ec_level,
+                mask: read.mask,
+                data,
+                wrong: read.wrong,
+            },
+        },
+        headers,
+    })
+}
+
+// The headers among parts.
+fn headers_of(alloc: Global, parts: &[Part]) -> Result<Vec<Header>, AllocError>
+    ensures { IfOk result (λ headers. headers.items ≡ headers_in parts.now) }
+{
+    let mut headers = Vec::new(alloc);
+    for part in parts {
+        push_header(&mut headers, *part)?;
+    }
+    Ok(headers)
+}
+
+// Appends the header that a part is; a segment is none.
+fn push_header(headers: &mut Vec<Header>, part: Part) -> Result<(), AllocError>
+    ensures { OnOk result (headers.new.items ≡ headers.old.items ++ header_in part) }
+{
+    match part {
+        Part::Front(header) => headers.push(header)?,
+        Part::Bytes(_, _) => {}
+    }
+    Ok(())
+}
+
+// The bytes that are read of parts (ISO/IEC 18004:2006, 6.4.8).
+fn handed_on(alloc: Global, found: &Parts) -> Result<Vec<u8>, AllocError>
+    ensures { IfOk result (λ bytes. bytes.items
+        ≡ handed_on false found.now.parts.items found.now.bytes.items) }
+{
+    let mut bytes = Vec::with_capacity(alloc, found.bytes.len())?;
+    let mut rest = found.bytes.as_slice();
+    let mut is_marked = false;
+    for part in &found.parts {
+        let (chunk, behind) = rest.split_at(byte_count(*part).min(rest.len()));
+        push_part(&mut bytes, is_marked, *part, chunk)?;
+        is_marked = is_fnc1(*part) | is_marked;
+        rest = behind;
+    }
+    Ok(bytes)
+}
+
+// How many of the bytes are those of a part.
+fn byte_count(part: Part) -> usize
+    ensures { result ≡ byte_count part }
+{
+    match part {
+        Part::Front(_) => 0,
+        Part::Bytes(_, count) => count,
+    }
+}
+
+// Whether a part is FNC1, in either position.
+fn is_fnc1(part: Part) -> bool
+    ensures { result ≡ is_fnc1 part }
+{
+    matches!(part, Part::Front(Header::Fnc1First | Header::Fnc1Second(_)))
+}
+
+// Appends what is handed on of a part of these bytes, behind FNC1 or not.
+fn push_part(
+    bytes: &mut Vec<u8>,
+    is_marked: bool,
+    part: Part,
+    chunk: &[u8],
+) -> Result<(), AllocError>
+    ensures { OnOk result (bytes.new.items
+        ≡ bytes.old.items ++ part_on is_marked part chunk.now) }
+{
+    match part {
+        Part::Front(_) => Ok(()),
+        Part::Bytes(Mode::Alphanumeric, _) if is_marked => push_undoubled(bytes, chunk),
+        Part::Bytes(_, _) => bytes.extend_from_slice(chunk),
+    }
+}
+
+// The separator of elements.
+const SEPARATOR: u8 = 29;
+
+// Appends alphanumeric characters behind FNC1: a percent sign is a separator, and two of them are a
+// percent sign.
+fn push_undoubled(bytes: &mut Vec<u8>, characters: &[u8]) -> Result<(), AllocError>
+    ensures { OnOk result (bytes.new.items ≡ bytes.old.items ++ undoubled characters.now) }
+{
+    let mut rest = characters;
+    while let [character, behind @ ..] = rest {
+        rest = behind;
+        let byte = match (*character, rest) {
+            (b'%', [b'%', behind @ ..]) => {
+                rest = behind;
+                b'%'
+            }
+            (b'%', _) => SEPARATOR,
+            (character, _) => character,
+        };
+        bytes.push(byte)?;
+    }
+    Ok(())
+}

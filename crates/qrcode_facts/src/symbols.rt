@@ -1,0 +1,76 @@
+//! Printed symbols, and what is counted and computed in them.
+
+ghost use Rattle.std.specs.Prelude.{◌≡◌, pos, false, [], ◌∷◌, ◌++◌, map, length};
+ghost use Rattle.std.specs.List.{range_with_len};
+ghost use Rattle.qrcode_types.specs.declared.types.Version.TheVariants.{Normal, Micro};
+ghost use Rattle.qrcode_types.specs.declared.types.EcLevel.TheVariants.{L, M};
+ghost use Rattle.qrcode_ec.specs.Codes.{Vanishes};
+ghost use Rattle.qrcode_layout.specs.Stream.{free_places};
+ghost use Rattle.qrcode_layout.specs.declared.masks.MaskPattern.TheVariants.{VerticalLines, LargeCheckerboard};
+ghost use Rattle.qrcode_penalty.specs.Penalty.{normal_penalty};
+ghost use Rattle.qrcode_symbol.specs.Symbol.{IsSymbol, IsDamaged};
+ghost use Rattle.qrcode_symbol.specs.Penalties.{penalty, remasked, IsFirstLeast};
+ghost use Rattle.qrcode_symbol.specs.Reading.{ReadsBits};
+ghost use Rattle.qrcode_facts.specs.Printed.{masks, micro_masks};
+ghost use Rattle.qrcode_facts.specs.Data.{normal_bits, micro_bits, hello_data};
+ghost use Rattle.qrcode_facts.specs.Squares.{normal_square, micro_square, damaged_square, too_damaged_square, wrong_format_square};
+
+/// How many places are free in Normal 1 and in the four versions of Micro.
+pub fn free_places()
+    ensures normal { length (free_places (Normal (pos 1))) ≡ 208 }
+    ensures micro { map (λ n. length (free_places (Micro (pos n)))) (range_with_len 1 4)
+        ≡ 36 ∷ 80 ∷ 132 ∷ 192 ∷ [] }
+{}
+
+/// Published error correction: data, and then the bytes with which it vanishes.
+pub fn corrections()
+    ensures ten { Vanishes
+        (hello_data ++ (0x11 ∷ 0xEC ∷ 0x11
+        ∷ 0xC4 ∷ 0x23 ∷ 0x27 ∷ 0x77 ∷ 0xEB ∷ 0xD7 ∷ 0xE7 ∷ 0xE2 ∷ 0x5D ∷ 0x17 ∷ [])) 10 }
+    ensures thirteen { Vanishes
+        (hello_data ++ (0xA8 ∷ 0x48 ∷ 0x16 ∷ 0x52 ∷ 0xD9 ∷ 0x36 ∷ 0x9C ∷ 0x00 ∷ 0x2E ∷ 0x0F
+        ∷ 0xB4 ∷ 0x7A ∷ 0x10 ∷ [])) 13 }
+{}
+
+/// The penalties of a light square, and of the printed symbols under each mask.
+pub fn penalties()
+    ensures light { normal_penalty 21 (λ x y. false) ≡ 2098 }
+    ensures normal { map (λ k. penalty (Normal (pos 1))
+        (remasked (Normal (pos 1)) M VerticalLines k normal_square)) masks
+        ≡ 1058 ∷ 1097 ∷ 1040 ∷ 1054 ∷ 1137 ∷ 1202 ∷ 1102 ∷ 1046 ∷ [] }
+    ensures micro { map (λ k. penalty (Micro (pos 2))
+        (remasked (Micro (pos 2)) L LargeCheckerboard k micro_square)) micro_masks
+        ≡ 132 ∷ 68 ∷ 68 ∷ 136 ∷ [] }
+{}
+
+/// The printed symbol of digits in Normal 1 is the symbol of their bits under the first mask of least
+/// penalty, and is read as these bits.
+pub fn normal_symbol()
+    ensures symbol { IsSymbol (Normal (pos 1)) M normal_bits VerticalLines normal_square }
+    ensures first_least { IsFirstLeast (Normal (pos 1)) M VerticalLines normal_square }
+    ensures read { ReadsBits normal_square (Normal (pos 1)) M normal_bits }
+{}
+
+/// A square that differs from that symbol in five codewords, in three bits of each copy of the format
+/// word and in all finder patterns is one of its damaged squares, and is read as the same bits.
+pub fn damaged_symbol()
+    ensures damaged { IsDamaged (Normal (pos 1)) M VerticalLines normal_square damaged_square }
+    ensures read { ReadsBits damaged_square (Normal (pos 1)) M normal_bits }
+{}
+
+/// With a sixth wrong codeword, one more than half of its error correction codewords, it is none of them.
+pub fn too_damaged_symbol()
+    ensures { ¬ IsDamaged (Normal (pos 1)) M VerticalLines normal_square too_damaged_square }
+{}
+
+/// Nor with a fourth wrong bit in a copy of the format word.
+pub fn wrong_format()
+    ensures { ¬ IsDamaged (Normal (pos 1)) M VerticalLines normal_square wrong_format_square }
+{}
+
+/// The printed symbol of the same digits in Micro 2.
+pub fn micro_symbol()
+    ensures symbol { IsSymbol (Micro (pos 2)) L micro_bits LargeCheckerboard micro_square }
+    ensures first_least { IsFirstLeast (Micro (pos 2)) L LargeCheckerboard micro_square }
+    ensures read { ReadsBits micro_square (Micro (pos 2)) L micro_bits }
+{}

@@ -1,0 +1,71 @@
+-- Laws of the places.
+use Rattle.std.specs.Prelude.{◌≡◌, ◌≢◌, ℕ, ◌-◌, ◌*◌, ◌<◌, List, [], length, slice_index_or, Some, None, IsTrue, false}
+use Rattle.std.specs.List.{AllByRecursion, AllPairs, Contains}
+use Rattle.qrcode_types.specs.Versions.{is_valid, side}
+use Rattle.qrcode_types.specs.declared.types.Version.{Version}
+use Rattle.qrcode_types.specs.declared.types.Version.TheVariants.{Normal, Micro}
+use Rattle.qrcode_types.specs.declared.types.Color.{Color}
+use Rattle.qrcode_layout.specs.Patterns.{finder, alignment, timing, dark_module, version_pattern, pattern, format_copies, format_index, is_functional_place}
+use Rattle.qrcode_layout.specs.Stream.{zigzag_place, free_places}
+
+abbrev pub IsInside : Version → ℕ → ℕ → Type 0  -- column and row lie in the square
+IsInside v x y = (x < side v) × (y < side v)
+
+abbrev pub FormatPlacesAreNoPatterns : Type 0  -- a place of the format word belongs to no pattern
+FormatPlacesAreNoPatterns =
+    (v : Version) (x y i : ℕ) → IsTrue (is_valid v) → format_index v x y ≡ Some i → pattern v x y ≡ None
+
+-- each rule of patterns that has a place gives it the colour of the pattern: where two rules meet they agree
+pub record RulesAgree (v : Version) (x y : ℕ) (c : Color) : Type 0 where
+  pub finders : finder v x y ≡ Some c → pattern v x y ≡ Some c
+  pub alignments : alignment v x y ≡ Some c → pattern v x y ≡ Some c
+  pub timings : timing v x y ≡ Some c → pattern v x y ≡ Some c
+  pub dark : dark_module v x y ≡ Some c → pattern v x y ≡ Some c
+  pub versions : version_pattern v x y ≡ Some c → pattern v x y ≡ Some c
+
+-- fifteen places in the square, of which the i-th is that of bit i of the format word
+pub record IsFormatCopy (v : Version) (places : List (ℕ × ℕ)) : Type 0 where
+  pub count : length places ≡ 15
+  pub inside : (i : ℕ) → i < 15 → let p = slice_index_or places i (0, 0) in IsInside v p.0 p.1
+  pub index :
+      (i : ℕ) → i < 15 → let p = slice_index_or places i (0, 0) in format_index v p.0 p.1 ≡ Some i
+
+abbrev pub FormatCopiesAreIndexed : Type 0  -- each copy of the format word has its bits in turn
+FormatCopiesAreIndexed = (v : Version) → IsTrue (is_valid v) → AllByRecursion (IsFormatCopy v) (format_copies v)
+
+abbrev pub FormatPlacesAreInCopies : Type 0  -- a place of bit i of the format word is the i-th place of a copy
+FormatPlacesAreInCopies =
+    (v : Version) (x y i : ℕ) → IsTrue (is_valid v) → format_index v x y ≡ Some i
+    → (i < 15) × ((copy : ℕ) × ((copy < length (format_copies v))
+    × (slice_index_or (slice_index_or (format_copies v) copy []) i (0, 0) ≡ (x, y))))
+
+abbrev pub left_out : Version → ℕ  -- the column that the walk leaves out
+left_out (Normal v) = 6
+left_out (Micro v) = 0
+
+abbrev pub WalkIsInside : Type 0  -- the walk stays in the square
+WalkIsInside =
+    (v : Version) (t : ℕ) → IsTrue (is_valid v) → t < side v * (side v - 1)
+    → IsInside v (zigzag_place v t).0 (zigzag_place v t).1
+
+abbrev pub WalkIsApart : Type 0  -- the walk comes to no place twice
+WalkIsApart =
+    (v : Version) (s t : ℕ) → IsTrue (is_valid v) → s < side v * (side v - 1)
+    → t < side v * (side v - 1) → zigzag_place v s ≡ zigzag_place v t → s ≡ t
+
+abbrev pub WalkIsWhole : Type 0  -- the walk comes to each place of the other columns
+WalkIsWhole =
+    (v : Version) (x y : ℕ) → IsTrue (is_valid v) → IsInside v x y → x ≢ left_out v
+    → (t : ℕ) × ((t < side v * (side v - 1)) × (zigzag_place v t ≡ (x, y)))
+
+abbrev pub LeftOutIsFunctional : Type 0  -- no place of the column that the walk leaves out is free
+LeftOutIsFunctional =
+    (v : Version) (y : ℕ) → IsTrue (is_valid v) → y < side v → IsTrue (is_functional_place v (left_out v) y)
+
+abbrev pub FreePlacesAreApart : Type 0  -- the list of free places has each once
+FreePlacesAreApart = (v : Version) → IsTrue (is_valid v) → AllPairs (λ p q. p ≢ q) (free_places v)
+
+abbrev pub FreePlacesAreWhole : Type 0  -- the list of free places has all of them
+FreePlacesAreWhole =
+    (v : Version) (x y : ℕ) → IsTrue (is_valid v) → IsInside v x y
+    → is_functional_place v x y ≡ false → Contains (free_places v) (x, y)
