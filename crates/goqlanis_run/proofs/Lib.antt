@@ -1,3 +1,2 @@
 mod Dating
 mod Labelling
-mod Placing

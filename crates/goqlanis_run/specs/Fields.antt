@@ -32,9 +32,9 @@ use Rattle.qrcode_contents.specs.declared.event.Span.TheVariants.{Days, Times}
 use Rattle.qrcode_contents.specs.declared.times.Moment.{Moment}
 use Rattle.clap.specs.Words.{first_value, found_of}
 use Rattle.clap.specs.declared.parser.matches.ArgMatches.{ArgMatches}
-use Rattle.goqlanis_run.specs.declared.options.Kind.{Kind}
-use Rattle.goqlanis_run.specs.declared.options.Kind.TheVariants.{Wifi, Mecard, Vcard, Payment, Bill, Mail, Place, Tel, Sms, Otp, Event}
-use Rattle.goqlanis_run.specs.Numbers.{scaled_value, degrees_of}
+use Rattle.goqlanis_options.specs.declared.options.Kind.{Kind}
+use Rattle.goqlanis_options.specs.declared.options.Kind.TheVariants.{Wifi, Mecard, Vcard, Payment, Bill, Mail, Place, Tel, Sms, Otp, Event}
+use Rattle.goqlanis_options.specs.Numbers.{scaled_value, degrees_of}
 
 abbrev pub option_text : Option (Bor (List ℕ)) → Option (List ℕ)  -- the bytes of a text, where there is one
 option_text text = option_map (λ t. t.now) text

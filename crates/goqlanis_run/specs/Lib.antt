@@ -1,3 +1,2 @@
 pub mod Fields
 pub mod Labels
-pub mod Numbers

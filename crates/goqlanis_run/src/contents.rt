@@ -6,13 +6,11 @@ ghost use Rattle.goqlanis_run.specs.Fields.{text_for};
 
 mod elements;
 mod events;
-mod numbers;
 mod refusals;
 mod texts;
 
 use clap::ArgMatches;
 pub(crate) use elements::Elements;
-pub(crate) use numbers::decimal;
 pub(crate) use texts::text_of;
 
 /// What is given for an option, or an empty text.

@@ -7,16 +7,16 @@ ghost use Rattle.goqlanis_core.specs.Drawings.{IsShownIn};
 ghost use Rattle.goqlanis_core.specs.Elements.{IsApplicationIn, IsElementsIn};
 ghost use Rattle.goqlanis_run.specs.Labels.{label_text};
 
-use crate::asked::{Asked, Target};
 use crate::contents::Elements;
-use crate::failure::{Failure, refused};
 use crate::segments::{characters_of, pieces, segments};
-use crate::streams::{print, write_file};
 use goqlanis_core::{
     Drawing, Request, Segment, application_refusal_text, draw, draw_elements, draw_for_application,
     draw_segments, elements_refusal_text, manner_of, quiet_zone, refusal_text,
     segments_refusal_text, unwritable,
 };
+use goqlanis_files::failure::{Failure, refused};
+use goqlanis_files::streams::{print, write_file};
+use goqlanis_options::asked::{Asked, Target};
 use qrcode::bits::Manner;
 use qrcode::types::QrError;
 use qrcode_gs1::errors::Gs1Error;

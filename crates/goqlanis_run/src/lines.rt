@@ -1,11 +1,11 @@
 //! A symbol of each line.
 
-use crate::asked::{Asked, Source, Target};
 use crate::drawing::draw_one;
-use crate::failure::Failure;
-use crate::progress::Progress;
-use crate::streams::{ask, shown, unread};
 use goqlanis_core::Grouped;
+use goqlanis_files::failure::Failure;
+use goqlanis_files::progress::Progress;
+use goqlanis_files::streams::{ask, shown, unread};
+use goqlanis_options::asked::{Asked, Source, Target};
 use std::alloc::Global;
 use std::fs;
 use std::io::{BufRead, BufReader, IsTerminal, Read};

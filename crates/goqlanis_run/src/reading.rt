@@ -1,9 +1,11 @@
 //! `goqlanis read`: a picture, read back.
 
-use crate::failure::Failure;
-use crate::streams::{Escaped, MOST_PICTURE, print, read_file, read_standard_input, write_file};
 use clap::ArgMatches;
 use goqlanis_core::{Scan, Unread, read_picture};
+use goqlanis_files::failure::Failure;
+use goqlanis_files::streams::{
+    Escaped, MOST_PICTURE, print, read_file, read_standard_input, write_file,
+};
 use qrcode::types::Version;
 use qrcode_reader::spell::Header;
 use qrcode_reader::{Position, Reading, WrongCodeword};

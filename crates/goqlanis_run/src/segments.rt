@@ -1,7 +1,8 @@
 //! `--segment`: data in segments by hand.
 
-use crate::failure::Failure;
 use goqlanis_core::Segment;
+use goqlanis_files::failure::Failure;
+use goqlanis_options::numbers::two_digits;
 use qrcode::types::Mode;
 use std::alloc::{AllocError, Global};
 
@@ -108,13 +109,6 @@ fn push_digits(bytes: &mut Vec<u8>, digits: &[u8]) -> Result<bool, AllocError> {
         rest = more;
     }
     Ok(rest.is_empty())
-}
-
-/// The number of two digits to the base 16.
-pub(crate) fn two_digits(high: u8, low: u8) -> Option<u8> {
-    let high = char::from(high).to_digit(16)?;
-    let low = char::from(low).to_digit(16)?;
-    Some((16 * high + low) as u8)
 }
 
 /// Why a mode does not write a text.

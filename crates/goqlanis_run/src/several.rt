@@ -1,12 +1,12 @@
 //! `goqlanis several`: data in several symbols; and `goqlanis join`: the data of such symbols.
 
-use crate::asked::{Asked, check_one_behind_another, versions_of};
 use crate::drawing::{check_empty, manner, write_drawing};
-use crate::failure::{Failure, refused};
 use crate::reading::scan_of;
-use crate::streams::{MOST_DATA, MOST_PICTURE, print, read_file, write_file};
 use clap::ArgMatches;
 use goqlanis_core::{Scan, drawing_of};
+use goqlanis_files::failure::{Failure, refused};
+use goqlanis_files::streams::{MOST_DATA, MOST_PICTURE, print, read_file, write_file};
+use goqlanis_options::asked::{Asked, check_one_behind_another, versions_of};
 use qrcode::QrCode;
 use qrcode::types::QrError;
 use qrcode_append::errors::JoinError;

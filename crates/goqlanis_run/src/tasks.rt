@@ -1,22 +1,22 @@
 //! What the command line asks for, done.
 
-use crate::advice::{advice, wrapped};
-use crate::asked::{Asked, Source, asked_for};
-use crate::command::{command_of, end_of_help};
-use crate::completions::completions_of;
 use crate::contents::text_of;
 use crate::drawing::{
     application_drawing, draw_one, elements_drawing, segments_drawing, write_drawing,
 };
-use crate::failure::{Failure, refused, status};
 use crate::lines::draw_lines;
-use crate::manual::manual_page;
-use crate::options::{Kind, Purpose, Task, task_of};
 use crate::reading::read;
 use crate::several::{MOST_IN_SEVERAL, draw_several, join_pictures};
-use crate::streams::{Escaped, MOST_DATA, print, read_file, read_standard_input};
 use clap::ArgMatches;
 use clap::error::{Error, ErrorKind};
+use goqlanis_files::failure::{Failure, refused, status};
+use goqlanis_files::streams::{Escaped, MOST_DATA, print, read_file, read_standard_input};
+use goqlanis_options::advice::{advice, wrapped};
+use goqlanis_options::asked::{Asked, Source, asked_for};
+use goqlanis_options::command::{command_of, end_of_help};
+use goqlanis_options::completions::completions_of;
+use goqlanis_options::manual::manual_page;
+use goqlanis_options::options::{Kind, Purpose, Task, task_of};
 use qrcode::QrCode;
 use qrcode::types::QrError;
 use qrcode_contents::bill;

@@ -5,7 +5,7 @@ ghost use Rattle.qrcode_gs1.specs.Items.{item};
 ghost use Rattle.goqlanis_run.specs.Labels.{ends_with_backslash, items_of, label_text, read_text, value_text};
 
 use super::refusals::wrong;
-use crate::failure::Failure;
+use goqlanis_files::failure::Failure;
 use qrcode_gs1::checks::cause_of;
 use qrcode_gs1::elements::Element;
 use qrcode_gs1::errors::Cause;

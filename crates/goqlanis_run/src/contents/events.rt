@@ -6,11 +6,11 @@ ghost use Rattle.qrcode_contents.specs.Event.{happening_of};
 ghost use Rattle.qrcode_contents.specs.Times.{read_day, read_moment};
 ghost use Rattle.goqlanis_run.specs.Fields.{text_for, IsSpanOf, IsWhen, happening_in};
 
-use super::numbers::digit;
 use super::refusals::wrong;
 use super::text;
-use crate::failure::Failure;
 use clap::ArgMatches;
+use goqlanis_files::failure::Failure;
+use goqlanis_options::numbers::digit;
 use qrcode_contents::event::{Event, Span};
 use qrcode_contents::times::{Day, Moment};
 use std::alloc::Global;

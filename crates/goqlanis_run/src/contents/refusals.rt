@@ -1,7 +1,7 @@
 //! Why there is no text: which option is wrong, and what would help.
 
-use crate::failure::Failure;
-use crate::options::Kind;
+use goqlanis_files::failure::Failure;
+use goqlanis_options::options::Kind;
 use qrcode_contents::fields::errors::{Cause, ContentError, Field};
 use std::alloc::{AllocError, Global};
 

@@ -1,0 +1,7 @@
+//! What comes in and goes out of `goqlanis`: files, standard input and output, and failures.
+#![tactic(auto)]
+
+pub mod failure;
+pub mod files;
+pub mod progress;
+pub mod streams;

@@ -1,0 +1,88 @@
+//! The command line, as `clap` reads it.
+
+use crate::options::{EXAMPLES, Entry, OTHER_NAMES, Takes, Task, worded_tasks};
+use clap::builder::ValueParser;
+use clap::{Arg, ArgAction, Command};
+use std::alloc::{AllocError, Global};
+
+/// The command line of a task, whose help ends with a text, unless memory runs out.
+pub fn command_of<'a>(alloc: Global, task: &Task, end: &'a str) -> Result<Command<'a>, AllocError> {
+    Ok(
+        Command::new(alloc, "goqlanis")
+            .about(task.about)
+            .args(arguments(alloc, task)?)?
+            .after_help(end),
+    )
+}
+
+/// The end of a task's help: of drawing the words that ask for other tasks, and examples.
+pub fn end_of_help(alloc: Global, task: &Task) -> Result<String, AllocError> {
+    let mut text = String::new(alloc);
+    if task.word.is_empty() {
+        text.push_str("Words, each with a help of its own, as goqlanis wifi --help:\n")?;
+        for other in worded_tasks() {
+            let (word, about) = (other.word, other.about);
+            write!(text, "  {word:7}  {about}\n")?;
+        }
+        write!(text, "\n{EXAMPLES}")?;
+    }
+    Ok(text)
+}
+
+// What a task takes: a word beside options, and these.
+fn arguments<'a>(alloc: Global, task: &Task) -> Result<Vec<Arg<'a>>, AllocError> {
+    let mut arguments = Vec::new(alloc);
+    if let Some(operand) = task.operand() {
+        let arg = Arg::new(alloc, operand.name).help(operand.help);
+        arguments.push(if operand.is_many {
+            arg.num_args(1..).action(ArgAction::Append).required(true)
+        } else {
+            arg
+        })?;
+    }
+    for entry in task.all_options(alloc)? {
+        arguments.push(argument(alloc, entry)?)?;
+    }
+    Ok(arguments)
+}
+
+// An option. A negative number behind it is its value.
+fn argument<'a>(alloc: Global, entry: Entry) -> Result<Arg<'a>, AllocError> {
+    let arg = Arg::new(alloc, entry.long)
+        .long(entry.long)
+        .help(entry.help)
+        .allow_negative_numbers(true);
+    let arg = match entry.short {
+        Some(letter) => arg.short(letter),
+        None => arg,
+    };
+    Ok(with_values(with_other_names(arg, entry.long)?, entry.takes))
+}
+
+// An option with what it takes.
+fn with_values<'a>(arg: Arg<'a>, takes: Takes) -> Arg<'a> {
+    match takes {
+        Takes::Nothing => arg.action(ArgAction::SetTrue),
+        Takes::Text(name) => arg.value_name(name),
+        Takes::Wanted(name) => arg.value_name(name).required(true),
+        Takes::Texts(name) => arg.value_name(name).action(ArgAction::Append),
+        Takes::Path => arg.value_name("FILE"),
+        Takes::Word(words) => arg.value_parser(words).ignore_case(true),
+        Takes::Number(name, least, most) => arg
+            .value_name(name)
+            .value_parser(ValueParser::unsigned(least, most)),
+    }
+}
+
+// The option of a name, with the letters and names that other programs have for it.
+fn with_other_names<'a>(mut arg: Arg<'a>, name: &str) -> Result<Arg<'a>, AllocError> {
+    for (other, option) in OTHER_NAMES {
+        if *option == name {
+            arg = match other.as_bytes() {
+                [letter] => arg.short_alias(char::from(*letter))?,
+                _ => arg.alias(other)?,
+            };
+        }
+    }
+    Ok(arg)
+}

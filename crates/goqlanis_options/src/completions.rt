@@ -1,0 +1,156 @@
+//! The completions of shells, made from the tables of options.
+
+use crate::options::{DRAWING, Entry, Takes, Task, worded_tasks};
+use std::alloc::{AllocError, Global};
+
+// A shell.
+#[derive(Clone, Copy)]
+enum Shell {
+    Bash,
+    Zsh,
+    Fish,
+}
+
+// What stands before the words that ask for tasks, and behind them.
+static BASH: (&str, &str) = (
+    "_goqlanis_option() {
+  names+=\" $2\"
+  if [[ $# -gt 2 && ($before == \"$1\" || $before == \"$2\") ]]; then values=$3; fi
+}
+_goqlanis() {
+  local word=${COMP_WORDS[COMP_CWORD]} before=${COMP_WORDS[COMP_CWORD-1]} names=--help values
+  unset values
+  [[ $COMP_CWORD -gt 1 ]] || names+='",
+    "'
+  case ${COMP_WORDS[1]} in
+",
+);
+
+static BASH_END: &str = "  esac
+  COMPREPLY=($(compgen -W \"${values-$names}\" -- \"$word\"))
+}
+complete -o default -F _goqlanis goqlanis
+";
+
+static ZSH: (&str, &str) = (
+    "#compdef goqlanis
+local tasks=(",
+    ")
+case $words[2] in
+",
+);
+
+static FISH: (&str, &str) = (
+    "complete -c goqlanis -f
+complete -c goqlanis -n '__fish_seen_subcommand_from read join' -F
+complete -c goqlanis -n __fish_use_subcommand -a '",
+    "'\n",
+);
+
+/// The completions of `bash`, `zsh` or `fish`, unless memory runs out.
+pub fn completions_of(alloc: Global, name: &str) -> Result<String, AllocError> {
+    let (shell, (start, middle), end) = match name {
+        "zsh" => (Shell::Zsh, ZSH, "esac\n"),
+        "fish" => (Shell::Fish, FISH, ""),
+        _ => (Shell::Bash, BASH, BASH_END),
+    };
+    let words = all_words(alloc)?;
+    let mut text = format!(in alloc; "{start}{words}{middle}")?;
+    for task in worded_tasks() {
+        push_task(&mut text, shell, task, task.word)?;
+    }
+    push_task(&mut text, shell, &DRAWING, words.as_str())?;
+    text.push_str(end)?;
+    Ok(text)
+}
+
+// The words that ask for tasks.
+fn all_words(alloc: Global) -> Result<String, AllocError> {
+    let mut words = String::new(alloc);
+    for task in worded_tasks() {
+        let word = task.word;
+        write!(words, " {word}")?;
+    }
+    Ok(words)
+}
+
+// The options of a task, which these words ask for. Drawing stands last, for all other words.
+fn push_task(text: &mut String, shell: Shell, task: &Task, words: &str) -> Result<(), AllocError> {
+    let (pattern, not) = if task.word.is_empty() {
+        ("*", "not ")
+    } else {
+        (words, "")
+    };
+    let files = if task.draws() {
+        ""
+    } else {
+        " '*:picture:_files'"
+    };
+    match shell {
+        Shell::Bash => write!(text, "    {pattern})\n")?,
+        Shell::Zsh => write!(
+            text,
+            "  {pattern})\n    _arguments '1:text or word:($tasks)'{files}"
+        )?,
+        Shell::Fish => {}
+    }
+    let seen = format!(in *text.allocator(); "{not}__fish_seen_subcommand_from {words}")?;
+    for entry in &task.all_options(*text.allocator())? {
+        push_option(text, shell, seen.as_str(), entry)?;
+    }
+    match shell {
+        Shell::Bash => text.push_str("      ;;\n"),
+        Shell::Zsh => text.push_str(" '--help[Print help]' ;;\n"),
+        Shell::Fish => Ok(()),
+    }
+}
+
+// An option, and what may stand behind it; for fish, where these words are seen.
+fn push_option(
+    text: &mut String,
+    shell: Shell,
+    seen: &str,
+    entry: &Entry,
+) -> Result<(), AllocError> {
+    let (long, help) = (entry.long, entry.help);
+    let value = value_of(*text.allocator(), shell, entry.takes)?;
+    let many = if matches!(entry.takes, Takes::Texts(_)) {
+        "*"
+    } else {
+        ""
+    };
+    match (shell, entry.short) {
+        (Shell::Bash, Some(letter)) => {
+            write!(text, "      _goqlanis_option -{letter} --{long}{value}\n")
+        }
+        (Shell::Bash, None) => write!(text, "      _goqlanis_option '' --{long}{value}\n"),
+        (Shell::Zsh, Some(letter)) => {
+            write!(text, " \\\n      {{-{letter},--{long}}}'[{help}]{value}'")
+        }
+        (Shell::Zsh, None) => write!(text, " \\\n      '{many}--{long}[{help}]{value}'"),
+        (Shell::Fish, Some(letter)) => write!(
+            text,
+            "complete -c goqlanis -n '{seen}' -l {long} -s {letter}{value} -d '{help}'\n"
+        ),
+        (Shell::Fish, None) => write!(
+            text,
+            "complete -c goqlanis -n '{seen}' -l {long}{value} -d '{help}'\n"
+        ),
+    }
+}
+
+// What may stand behind an option, as a shell wants it said.
+fn value_of(alloc: Global, shell: Shell, takes: Takes) -> Result<String, AllocError> {
+    let words = match takes {
+        Takes::Word(words) => words.join(alloc, " ")?,
+        _ => String::new(alloc),
+    };
+    match (shell, takes) {
+        (_, Takes::Nothing) => Ok(words),
+        (Shell::Bash, _) => format!(in alloc; " '{words}'"),
+        (Shell::Zsh, Takes::Path) => String::from_str(alloc, ":file:_files"),
+        (Shell::Zsh, _) => format!(in alloc; ":value:({words})"),
+        (Shell::Fish, Takes::Path) => String::from_str(alloc, " -r -F"),
+        (Shell::Fish, _) => format!(in alloc; " -x -a '{words}'"),
+    }
+}

@@ -1,0 +1,11 @@
+//! The command line of `goqlanis`: its options, as tables, and what they ask for.
+#![tactic(auto)]
+
+pub mod advice;
+pub mod asked;
+pub mod command;
+pub mod completions;
+pub mod manual;
+pub mod numbers;
+pub mod options;
+pub mod warnings;

@@ -1,0 +1,108 @@
+//! The manual page.
+
+use crate::options::{DRAWING, EXAMPLES, Entry, Takes, Task, worded_tasks};
+use std::alloc::{AllocError, Global};
+
+static START: &str = ".TH GOQLANIS 1
+.SH NAME
+goqlanis \\- Draws QR and Micro QR symbols
+.SH SYNOPSIS
+.B goqlanis
+[OPTIONS] [TEXT]
+.br
+.B goqlanis read
+[OPTIONS] [PICTURE]
+.br
+.B goqlanis wifi
+[OPTIONS], and so on under WORDS
+.SH DESCRIPTION
+Draws the symbol of TEXT, or of a file, or of standard input, in the terminal or to a file.
+Input is taken byte by byte as it is.
+.SH OPTIONS
+";
+
+static WORDS: &str = ".SH WORDS
+Behind one of these words options say other things. From wifi on they give the fields of a text,
+and those of drawing say what is drawn of it.
+";
+
+static END: &str = ".SH EXIT STATUS
+0: all was drawn. 1: something was refused. 2: the command line is wrong.
+.SH EXAMPLES
+.nf
+";
+
+/// The manual page, in the language of `man`, unless memory runs out.
+pub fn manual_page(alloc: Global) -> Result<String, AllocError> {
+    let mut text = String::from_str(alloc, START)?;
+    push_options(&mut text, &DRAWING.all_options(alloc)?)?;
+    text.push_str(WORDS)?;
+    for task in worded_tasks() {
+        push_task(&mut text, task)?;
+    }
+    text.push_str(END)?;
+    push_plain(&mut text, EXAMPLES.trim_start_matches("Examples:\n"))?;
+    text.push_str(".fi\n")?;
+    Ok(text)
+}
+
+// What a word asks for, and its own options.
+fn push_task(text: &mut String, task: &Task) -> Result<(), AllocError> {
+    let (word, about) = (task.word, task.about);
+    write!(text, ".SS goqlanis {word}\n{about}.\n")?;
+    if let Some(operand) = task.operand() {
+        let (name, help) = (operand.name, operand.help);
+        write!(text, "{name}: {help}.\n")?;
+    }
+    push_options(text, task.options)
+}
+
+// Options and what they do.
+fn push_options(text: &mut String, entries: &[Entry]) -> Result<(), AllocError> {
+    for entry in entries {
+        push_option(text, entry)?;
+    }
+    Ok(())
+}
+
+// An option and what it does.
+fn push_option(text: &mut String, entry: &Entry) -> Result<(), AllocError> {
+    let alloc = *text.allocator();
+    let (long, help) = (entry.long, entry.help);
+    let mut plain = String::new(alloc);
+    if let Some(letter) = entry.short {
+        write!(plain, "-{letter}, ")?;
+    }
+    write!(plain, "--{long}")?;
+    push_value(&mut plain, entry.takes)?;
+    write!(plain, "\n{help}\n")?;
+    text.push_str(".TP\n.B ")?;
+    push_plain(text, plain.as_str())
+}
+
+// What an option takes, behind its name.
+fn push_value(text: &mut String, takes: Takes) -> Result<(), AllocError> {
+    match takes {
+        Takes::Nothing => Ok(()),
+        Takes::Text(name) | Takes::Wanted(name) | Takes::Texts(name) | Takes::Number(name, _, _) =>
+            write!(text, " {name}"),
+        Takes::Path => text.push_str(" FILE"),
+        Takes::Word(words) => {
+            let words = words.join(*text.allocator(), "|")?;
+            write!(text, " {words}")
+        }
+    }
+}
+
+// Text whose hyphens are hyphens, and no line of which is a request.
+fn push_plain(text: &mut String, plain: &str) -> Result<(), AllocError> {
+    for character in plain.chars() {
+        match character {
+            '-' => text.push_str("\\-")?,
+            '\\' => text.push_str("\\e")?,
+            '.' => text.push_str("\\&.")?,
+            _ => text.push(character)?,
+        }
+    }
+    Ok(())
+}
