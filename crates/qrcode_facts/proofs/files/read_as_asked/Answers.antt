@@ -1,8 +1,8 @@
 use Rattle.std.proofs.Common.{refl}
 use Rattle.qrcode_png.specs.Checks.{crc_of, adler_of}
-use Rattle.qrcode_png.specs.Reading.{low_bits, high_bits, stream_of, number_of, number_at, numbers_at}
-use Rattle.qrcode_png.specs.Codes.{code_number, code_of, symbol_at}
-use Rattle.qrcode_png.specs.Inflate.{copied, field_at, copy_at, symbols_at, stored_at, block_at, blocks_at, inflated_at, alphabet_at, lengths_at, more_lengths_at}
+use Rattle.qrcode_inflate.specs.Reading.{low_bits, high_bits, stream_of, number_of, number_at, numbers_at}
+use Rattle.qrcode_inflate.specs.Codes.{code_number, code_of, symbol_at}
+use Rattle.qrcode_inflate.specs.Inflate.{copied, field_at, copy_at, symbols_at, stored_at, block_at, blocks_at, inflated_at, alphabet_at, lengths_at, more_lengths_at}
 use Rattle.qrcode_png.specs.Zlib.{unzipped}
 use Rattle.qrcode_png.specs.Chunks.{chunk_at, chunks_at, chunks_of, are_ordered}
 use Rattle.qrcode_png.specs.Rows.{rows_at, unfiltered}
