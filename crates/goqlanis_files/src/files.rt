@@ -1,10 +1,9 @@
 //! Files: data whole, and drawings whole or not at all.
 
 use std::alloc::{AllocError, Global};
-use std::fs::{Metadata, OpenFile, OpenOptions, Permissions};
+use std::fs::{File, Metadata, OpenOptions, Permissions};
 use std::io::{ErrorKind, Write};
-use std::os::unix::fs::{MetadataExt, OpenOptionsExt, PermissionsExt, chown};
-use std::rt::Files;
+use std::os::unix::fs::{MetadataExt, OpenOptionsExt, PermissionsExt, fchown};
 use std::{fs, io};
 use thiserror::Error;
 
@@ -20,6 +19,12 @@ pub enum Unwritten {
     /// It was written beside its place, and cannot be put there.
     #[error("another file cannot take its place: {0}")]
     Place(io::Error),
+    /// Its owner could not read what takes its place.
+    #[error("it belongs to another user, who could not read the new one: remove it first")]
+    Owner,
+    /// Another user's link stands there, in a folder that everybody writes to.
+    #[error("it is another user's link in a folder for everybody: remove it, or take another name")]
+    Link,
     #[error("out of memory")]
     OutOfMemory(#[from(alloc)] AllocError),
 }
@@ -27,21 +32,17 @@ pub enum Unwritten {
 // The most links that are followed, as Linux does.
 const LINKS: u32 = 40;
 
-/// Writes a file whole or not at all: beside it under another name, and renamed into its place, with
-/// the permissions and the group of the file that stood there. Links are followed. What is no regular
-/// file, as a pipe, and what is open already, is written straight.
-pub fn write_whole<R: Files + AllocGlobal>(
-    rt: &R,
-    path: &str,
-    bytes: &[u8],
-) -> Result<(), Unwritten> {
+/// Writes a file atomically: next to it under another name, where only its owner can read it, and
+/// renamed into its place. Links are followed, but not another user's in a folder for everybody.
+/// What is no regular file, such as a pipe, and what is open already, is written directly.
+pub fn write_whole(rt: &HostRuntime, path: &str, bytes: &[u8]) -> Result<(), Unwritten> {
     let mut place = String::from_str(rt.alloc(), path)?;
     for _ in 0..LINKS {
         if is_open_file(place.as_str()) {
             break;
         }
         match fs::symlink_metadata(rt, place.as_str()) {
-            Ok(old) if old.is_symlink() => place = followed(rt, place.as_str())?,
+            Ok(old) if old.is_symlink() => place = followed(rt, place.as_str(), &old)?,
             Ok(old) if old.is_file() => return replace(rt, place.as_str(), Some(old), bytes),
             Ok(_) => break,
             Err(error) if error.kind() == ErrorKind::NotFound => {
@@ -50,8 +51,7 @@ pub fn write_whole<R: Files + AllocGlobal>(
             Err(error) => return Err(Unwritten::File(error)),
         }
     }
-    let mut file = fs::create(rt, path)?;
-    Ok(file.write_all(bytes)?)
+    write_straight(rt, place.as_str(), bytes)
 }
 
 // Whether a path names a file that is open in this process or another one, as /dev/stdout does.
@@ -59,8 +59,21 @@ fn is_open_file(path: &str) -> bool {
     path.starts_with("/proc/") || path.starts_with("/dev/fd/")
 }
 
-// What a link names.
-fn followed<R: Files + AllocGlobal>(rt: &R, link: &str) -> Result<String, Unwritten> {
+/// Whether a path names no file of its own: a folder, a pipe, a device, or what is open already, as
+/// /dev/stdout.
+pub fn is_stream(rt: &HostRuntime, path: &str) -> bool {
+    let is_open = match fs::read_link(rt, path) {
+        Ok(named) => is_open_file(named.as_path().as_str()),
+        Err(_) => is_open_file(path),
+    };
+    is_open || fs::metadata(rt, path).is_ok_and(|found| !found.is_file())
+}
+
+// What a link names, of which this was found.
+fn followed(rt: &HostRuntime, link: &str, found: &Metadata) -> Result<String, Unwritten> {
+    if is_strange(rt, folder_of(link), found)? {
+        return Err(Unwritten::Link);
+    }
     let named = fs::read_link(rt, link)?;
     let target = named.as_path().as_str();
     let folder = if target.starts_with('/') {
@@ -71,6 +84,16 @@ fn followed<R: Files + AllocGlobal>(rt: &R, link: &str) -> Result<String, Unwrit
     Ok(format!(in rt.alloc(); "{folder}{target}")?)
 }
 
+// Whether a link is neither of this user nor of its folder's owner, in a folder where everybody can
+// make one and nobody can remove another's (sticky). Linux itself follows no such link.
+fn is_strange(rt: &HostRuntime, folder: &str, link: &Metadata) -> io::Result<bool> {
+    let folder = fs::metadata(rt, if folder.is_empty() { "." } else { folder })?;
+    if folder.mode() & 0o1002 != 0o1002 || link.uid() == folder.uid() {
+        return Ok(false);
+    }
+    Ok(link.uid() != fs::metadata(rt, "/proc/self")?.uid())
+}
+
 // The folder of a path, with the slash behind it; nothing where the path has none.
 fn folder_of(path: &str) -> &str {
     match path.rsplit_once('/') {
@@ -79,10 +102,24 @@ fn folder_of(path: &str) -> &str {
     }
 }
 
+// Writes what is no regular file, or after what is in a file that is open already. A regular file
+// that took its place meanwhile is left alone.
+fn write_straight(rt: &HostRuntime, place: &str, bytes: &[u8]) -> Result<(), Unwritten> {
+    let is_open = is_open_file(place);
+    let mut file = OpenOptions::new()
+        .write(true)
+        .append(is_open)
+        .open(rt, place)?;
+    if !is_open && file.metadata()?.is_file() {
+        return Err(Unwritten::File(io::Error::from(ErrorKind::AlreadyExists)));
+    }
+    Ok(file.write_all(bytes)?)
+}
+
 // Writes a new file in the folder of a path, under the first name that is free, and renames it to the
 // path, where an old file may stand.
-fn replace<R: Files + AllocGlobal>(
-    rt: &R,
+fn replace(
+    rt: &HostRuntime,
     path: &str,
     old: Option<Metadata>,
     bytes: &[u8],
@@ -90,9 +127,9 @@ fn replace<R: Files + AllocGlobal>(
     let folder = folder_of(path);
     for number in 0..u32::MAX {
         let beside = format!(in rt.alloc(); "{folder}goqlanis-{number}.new")?;
-        match opened(rt, beside.as_str(), old.is_some()) {
-            Ok(file) => {
-                let filled = fill(rt, file, beside.as_str(), old, bytes);
+        match private_file(rt, beside.as_str(), old.as_ref()) {
+            Ok((file, rights)) => {
+                let filled = fill(file, rights, old.as_ref(), bytes);
                 return settle(rt, filled, beside.as_str(), path);
             }
             Err(error) if error.kind() == ErrorKind::AlreadyExists => {}
@@ -102,57 +139,85 @@ fn replace<R: Files + AllocGlobal>(
     Err(Unwritten::File(io::Error::from(ErrorKind::AlreadyExists)))
 }
 
-// A new file: of its owner alone, where it is to take the place of another one.
-fn opened<R: Files>(rt: &R, path: &str, is_private: bool) -> io::Result<R::File> {
-    OpenOptions::new()
-        .write(true)
-        .create_new(true)
-        .mode(if is_private { 0o600 } else { 0o666 })
-        .open(rt, path)
-}
-
 // Why no file can be made in a folder.
 fn no_file_in(alloc: Global, folder: &str, error: io::Error) -> Result<Unwritten, AllocError> {
     let name = if folder.is_empty() { "./" } else { folder };
     Ok(Unwritten::Folder(String::from_str(alloc, name)?, error))
 }
 
-// Writes all of a new file of a path, and waits until it lies on the disk. It gets the permissions of
-// the old file once it has the data.
-fn fill<R: Files>(
-    rt: &R,
-    mut file: R::File,
-    path: &str,
-    old: Option<Metadata>,
-    bytes: &[u8],
-) -> io::Result<()> {
-    file.write_all(bytes)?;
-    if let Some(old) = old {
-        file.set_permissions(Permissions::from_mode(kept_mode(rt, path, &old)))?;
-    }
-    file.sync_all()
+// A new file of its owner alone, and the permissions that it gets once it has the data.
+fn private_file(rt: &HostRuntime, path: &str, old: Option<&Metadata>) -> io::Result<(File, u32)> {
+    let rights = match old {
+        Some(old) => kept_rights(old.mode()),
+        None => usual_rights(rt, path)?,
+    };
+    Ok((created(rt, path, 0o600)?, rights))
 }
 
-// The permissions of an old file that the new one of a path keeps: to read, to write and to run it;
-// those of the group only where it gets that group.
-fn kept_mode<R: Files>(rt: &R, path: &str, old: &Metadata) -> u32 {
-    let mode = old.permissions().mode() & 0o777;
-    match chown(rt, path, None, Some(old.gid())) {
-        Ok(()) => mode,
-        Err(_) => mode & 0o707,
+// The permissions of an old file that are kept: those of its owner, and what group and others both
+// had. What shows as the group's may be that of single users (ACL), which std cannot ask.
+fn kept_rights(mode: u32) -> u32 {
+    let shared = mode & mode >> 3 & 0o7;
+    mode & 0o700 | shared << 3 | shared
+}
+
+// The permissions that a new file gets by itself: of one without data, which is removed.
+fn usual_rights(rt: &HostRuntime, path: &str) -> io::Result<u32> {
+    let mode = created(rt, path, 0o666)?.metadata()?.mode();
+    fs::remove_file(rt, path)?;
+    Ok(mode & 0o777)
+}
+
+// A new file.
+fn created(rt: &HostRuntime, path: &str, mode: u32) -> io::Result<File> {
+    OpenOptions::new()
+        .write(true)
+        .create_new(true)
+        .mode(mode)
+        .open(rt, path)
+}
+
+// Writes all of a new file, and waits until it is on the disk. Between opening and renaming nothing
+// is done by its name, which others may have given to another file.
+fn fill(
+    mut file: File,
+    rights: u32,
+    old: Option<&Metadata>,
+    bytes: &[u8],
+) -> Result<(), Unwritten> {
+    if let Some(old) = old {
+        keep_owner(&file, old)?;
+    }
+    file.write_all(bytes)?;
+    file.set_permissions(Permissions::from_mode(rights))?;
+    Ok(file.sync_all()?)
+}
+
+// Gives a new file the owner and the group of the old one, where that is allowed. If it is not, the
+// owner of the old one has to be able to read the new one.
+fn keep_owner(file: &File, old: &Metadata) -> Result<(), Unwritten> {
+    if fchown(file, Some(old.uid()), Some(old.gid())).is_ok()
+        || kept_rights(old.mode()) & 0o4 != 0
+    {
+        return Ok(());
+    }
+    if file.metadata()?.uid() == old.uid() {
+        Ok(())
+    } else {
+        Err(Unwritten::Owner)
     }
 }
 
 // Renames a new file to a path, where it is filled; else, and where that fails, takes it away.
-fn settle<R: Files>(
-    rt: &R,
-    filled: io::Result<()>,
+fn settle(
+    rt: &HostRuntime,
+    filled: Result<(), Unwritten>,
     beside: &str,
     path: &str,
 ) -> Result<(), Unwritten> {
     let done = match filled {
         Ok(()) => fs::rename(rt, beside, path).map_err(Unwritten::Place),
-        Err(error) => Err(Unwritten::File(error)),
+        Err(error) => Err(error),
     };
     if done.is_err() {
         let _ = fs::remove_file(rt, beside);

@@ -43,6 +43,30 @@ pub fn write_file(rt: &HostRuntime, path: &str, bytes: &[u8]) -> Result<ExitCode
     }
 }
 
+/// Writes data that was read to the named output, or to standard output; to a terminal that is not
+/// named, with escapes, in which line breaks and tabs stay.
+pub fn write_data(
+    rt: &HostRuntime,
+    output: Option<&str>,
+    data: &[u8],
+) -> Result<ExitCode, Failure> {
+    match output {
+        None if rt.stdout().is_terminal() => show(rt, data),
+        None | Some("-") => print(rt, data),
+        Some(path) => write_file(rt, path, data),
+    }
+}
+
+// Writes data to a terminal.
+fn show(rt: &HostRuntime, data: &[u8]) -> Result<ExitCode, Failure> {
+    let shown = Escaped {
+        bytes: data,
+        has_lines: true,
+    };
+    let text = format!(in rt.alloc(); "{shown}")?;
+    print(rt, text.as_bytes())
+}
+
 /// All of a file, unless it has more than so many bytes.
 pub fn read_file(rt: &HostRuntime, path: &str, most: usize) -> Result<Vec<u8>, Failure> {
     match fs::open(rt, path) {
@@ -97,8 +121,8 @@ pub fn unread<T>(alloc: Global, name: &str, error: &io::Error) -> Result<T, Fail
     Err(Failure::Refused(format!(in alloc; "cannot read {name}: {error}")?))
 }
 
-/// Bytes as a terminal may see them: control characters as escapes, as \u{1b}, and bytes that are not
-/// UTF-8 too, as \xff.
+/// Bytes as a terminal may see them: characters that control it, hide or reorder others as escapes,
+/// such as \u{1b}, and bytes that are not UTF-8 too, such as \xff.
 #[derive(Clone, Copy)]
 pub struct Escaped<'a> {
     pub bytes: &'a [u8],
@@ -124,14 +148,34 @@ impl fmt::Display for Escaped<'_> {
     }
 }
 
-// Writes a text with its control characters as escapes.
+/// Whether a character may hide, or hide or reorder others: a control or format character (the
+/// categories Cc and Cf of Unicode 15), or a separator of lines.
+pub fn is_unseen(character: char) -> bool {
+    let code = character as u32;
+    let is_format = FORMATS
+        .iter()
+        .any(|(first, last)| *first <= code && code <= *last);
+    character.is_control() || is_format
+}
+
+// The ranges of format characters, and of the separators U+2028 and U+2029.
+#[rattlefmt::skip]
+static FORMATS: &[(u32, u32)] = &[
+    (0xad, 0xad), (0x600, 0x605), (0x61c, 0x61c), (0x6dd, 0x6dd), (0x70f, 0x70f),
+    (0x890, 0x891), (0x8e2, 0x8e2), (0x180e, 0x180e), (0x200b, 0x200f), (0x2028, 0x202e),
+    (0x2060, 0x2064), (0x2066, 0x206f), (0xfeff, 0xfeff), (0xfff9, 0xfffb), (0x110bd, 0x110bd),
+    (0x110cd, 0x110cd), (0x13430, 0x1343f), (0x1bca0, 0x1bca3), (0x1d173, 0x1d17a),
+    (0xe0001, 0xe0001), (0xe0020, 0xe007f),
+];
+
+// Writes a text with its unseen characters as escapes.
 fn write_text<W: fmt::Write>(
     f: &mut fmt::Formatter<W>,
     text: &str,
     has_lines: bool,
 ) -> fmt::Result {
     for character in text.chars() {
-        if !character.is_control() || (has_lines && matches!(character, '\n' | '\t')) {
+        if !is_unseen(character) || (has_lines && matches!(character, '\n' | '\t')) {
             write!(f, "{character}")?;
         } else {
             write!(f, "{}", character.escape_default())?;
