@@ -49,7 +49,7 @@ fn push_ec(bytes: &mut Vec<u8>, words: &[u8], blocks: Blocks, b: usize) -> Resul
 
 /// Block b of the codewords, of which there are as many as the version has at the level: its data
 /// bytes, and then its error correction bytes (ISO/IEC 18004:2006, 6.6).
-pub(crate) fn block(
+pub fn block(
     alloc: Global,
     words: &[u8],
     version: Version,

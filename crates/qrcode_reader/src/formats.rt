@@ -16,10 +16,12 @@ use qrcode_layout::masks::{MaskPattern, mask_count, nth_mask};
 use qrcode_layout::words::format_word;
 use qrcode_types::types::{Color, EcLevel, Version};
 
-// A copy of the format word; in Micro the two are one.
+/// A copy of the format word; in Micro the two are one.
 #[derive(Copy, Clone)]
-enum FormatCopy {
+pub enum FormatCopy {
+    /// Around the upper left finder pattern.
     First,
+    /// Next to the other two finder patterns.
     Last,
 }
 
@@ -68,8 +70,8 @@ fn first_place(version: Version, i: usize) -> (usize, usize)
     }
 }
 
-// The place of a bit of a copy.
-fn copy_place(copy: FormatCopy, version: Version, i: usize) -> (usize, usize)
+/// The place of a bit of a copy.
+pub fn copy_place(copy: FormatCopy, version: Version, i: usize) -> (usize, usize)
     requires valid { IsTrue (is_valid version) }
     requires at_most { i < 15 }
     ensures { result ≡ copy_place copy version i }

@@ -3,10 +3,10 @@
 #![tactic(auto)]
 
 mod bits;
-mod blocks;
+pub mod blocks;
 pub mod correct;
 mod correction;
-mod formats;
+pub mod formats;
 pub mod laws;
 mod parts;
 mod positions;
@@ -17,8 +17,8 @@ mod sizes;
 pub mod spell;
 mod texts;
 mod turned;
-mod walk;
-mod words;
+pub mod walk;
+pub mod words;
 
 pub use correction::WrongCodeword;
 pub use formats::read_format;

@@ -15,8 +15,8 @@ use qrcode_symbol::canvas::{Canvas, Module};
 use qrcode_types::types::{Color, EcLevel, Version};
 use std::alloc::{AllocError, Global};
 
-// The modules along a side.
-pub(crate) fn side(version: Version) -> usize
+/// The modules along a side.
+pub fn side(version: Version) -> usize
     requires { IsTrue (is_valid version) }
     ensures value { result ≡ side version }
     ensures at_least { 11 ≤ result }

@@ -1,0 +1,79 @@
+//! The marks of an area at the free places, along the walk.
+
+ghost use Rattle.std.specs.Prelude.{◌≡◌, ◌-◌, ◌*◌, ◌<◌, ◌++◌, IsTrue, OnOk, IfOk};
+ghost use Rattle.qrcode_types.specs.Versions.{is_valid, side};
+ghost use Rattle.qrcode_layout.specs.Patterns.{is_functional_place};
+ghost use Rattle.qrcode_layout.specs.Stream.{zigzag_place};
+ghost use Rattle.qrcode_area.specs.Areas.{covers, marks};
+ghost use Rattle.qrcode_area.specs.Counting.{mark_at};
+
+use crate::areas::{Rectangle, covers};
+use qrcode_layout::walk::right_column;
+use qrcode_reader::walk::side;
+use qrcode_symbol::canvas;
+use qrcode_types::types::Version;
+use std::alloc::{AllocError, Global};
+
+// The place at a step of the walk.
+fn place(version: Version, t: usize) -> (usize, usize)
+    requires valid { IsTrue (is_valid version) }
+    requires inside { t < side version * (side version - 1) }
+    ensures value { result ≡ zigzag_place version t }
+    ensures column { result.0 < side version }
+    ensures row { result.1 < side version }
+{
+    let width = side(version);
+    let pair = t / (2 * width);
+    let step = t % (2 * width);
+    let column = right_column(version, width, pair) - step % 2;
+    let row = if pair % 2 == 0 {
+        width - 1 - step / 2
+    } else {
+        step / 2
+    };
+    (column, row)
+}
+
+// Whether a pattern or the format word has a place.
+fn is_functional(version: Version, x: usize, y: usize) -> bool
+    requires valid { IsTrue (is_valid version) }
+    requires column { x < side version }
+    requires row { y < side version }
+    ensures { result ≡ is_functional_place version x y }
+{
+    canvas::is_functional(version, side(version) as i16, x as i16, y as i16)
+}
+
+// Appends the mark of a place, where it is free.
+fn push_mark(
+    marks: &mut Vec<bool>,
+    version: Version,
+    area: &[Rectangle],
+    x: usize,
+    y: usize,
+) -> Result<(), AllocError>
+    requires valid { IsTrue (is_valid version) }
+    requires column { x < side version }
+    requires row { y < side version }
+    ensures { OnOk result (marks.new.items
+        ≡ marks.old.items ++ mark_at version (covers area.now) (x, y)) }
+{
+    if !is_functional(version, x, y) {
+        marks.push(covers(area, x, y))?;
+    }
+    Ok(())
+}
+
+/// The free places of a version in their order: for each whether the area has it.
+pub fn marks(alloc: Global, version: Version, area: &[Rectangle]) -> Result<Vec<bool>, AllocError>
+    requires { IsTrue (is_valid version) }
+    ensures { IfOk result (λ found. found.items ≡ marks version (covers area.now)) }
+{
+    let width = side(version);
+    let mut found = Vec::new(alloc);
+    for t in 0..width * (width - 1) {
+        let (x, y) = place(version, t);
+        push_mark(&mut found, version, area, x, y)?;
+    }
+    Ok(found)
+}
