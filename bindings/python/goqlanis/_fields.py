@@ -55,8 +55,8 @@ class WrongCharacter(WrongField):
 
 
 class WrongCheckDigits(WrongField):
-    """The check digits are wrong."""
-    why = "the check digits are wrong; look for a digit that is wrong or exchanged"
+    """The check digits do not match."""
+    why = "the check digits do not match: look for a mistyped or swapped digit"
 
 
 class OutOfRange(WrongField):
@@ -186,9 +186,11 @@ def scaled(name: str, value: Number, places: int) -> int:
         exact = decimal.Decimal(str(value)).scaleb(places)
         number = int(exact)
     except (decimal.InvalidOperation, OverflowError, ValueError):
-        raise OutOfRange(name) from None
+        raise WrongCharacter(name, f"{name}: {shown(value)} is not a number: write it with a point "
+                                   "and without other marks, as 12.30") from None
     if number != exact:
-        raise OutOfRange(name)
+        raise OutOfRange(name, f"{name}: {shown(value)} has more than {places} digits after the "
+                               f"point: round it, as by round({name}, {places})")
     return number
 
 

@@ -14,8 +14,8 @@ What a format cannot say is an exception, which says which field is wrong and wh
 >>> contents.payment("Red Cross of Belgium", "BE72000000001617", "1.00")
 Traceback (most recent call last):
     ...
-goqlanis.contents.WrongCheckDigits: iban: the check digits are wrong; look for a digit that is \
-wrong or exchanged
+goqlanis.contents.WrongCheckDigits: iban: the check digits do not match: look for a mistyped or \
+swapped digit
 """
 import datetime
 from typing import Any, Iterable, List, NamedTuple, Optional, Tuple
