@@ -3,9 +3,10 @@
    Data may be any bytes. Each call works in buffers that its caller gives, keeps nothing and uses
    nothing that is shared, so that calls may run in any threads at once, each with buffers of its
    own. There is nothing to free. Every call that answers GOQ_OK has written all its outputs. Every
-   other answer has one cause, the first that applies in the order in which its comment names them,
-   and all outputs are as they were, except that a call with `place` writes there which field,
-   element or square is wrong. A pointer with length 0 may be NULL.
+   other answer has one cause, the first that applies in the order in which its comment names them;
+   GOQ_OUT_OF_MEMORY may come instead of those that take memory to find out. All outputs are then
+   as they were, except that a call with `place` writes there which field, element or square is
+   wrong. A pointer with length 0 may be NULL.
 
    The library asks for memory by rattle_alloc, rattle_realloc and rattle_dealloc, which stand over
    malloc unless the program has its own. */
@@ -21,57 +22,83 @@
 extern "C" {
 #endif
 
-/* Answers. */
+/* The version of this header. */
+#define GOQ_VERSION_MAJOR 1
+#define GOQ_VERSION_MINOR 0
+#define GOQ_VERSION_PATCH 0
+#define GOQ_VERSION (GOQ_VERSION_MAJOR * 10000 + GOQ_VERSION_MINOR * 100 + GOQ_VERSION_PATCH)
+
+/* What a struct begins with, in initialisers and in assignments. */
+#ifdef __cplusplus
+#define GOQ_INITIAL(type, ...) type{sizeof(type), __VA_ARGS__}
+#else
+#define GOQ_INITIAL(type, ...) ((type){sizeof(type), __VA_ARGS__})
+#endif
+
+/* What a call answers: GOQ_OK, or why it refuses. goq_strerror gives the text of an answer. */
+typedef uint32_t goq_answer;
+
+#define GOQ_ANSWERS(X) \
+    X(OK, 0, "done") \
+    X(NO_SUCH_LEVEL, 1, "no error correction level has the number: take GOQ_L to GOQ_H") \
+    X(NO_SUCH_VERSION, 2, "no version has the number: take 1 to 40 or GOQ_MICRO(1 to 4)") \
+    X(LEVEL_NOT_IN_VERSION, 3, "the version lacks the level") \
+    X(TOO_LONG, 4, "the data is more than 1,048,576 bytes") \
+    X(NO_MODE, 5, "the data needs a mode that the version lacks") \
+    X(NO_ROOM, 6, "no symbol of the asked kind holds the data") \
+    X(SMALL_BUFFER, 7, "the buffer is too small for what would be written") \
+    X(OUT_OF_MEMORY, 8, "memory was refused") \
+    X(NO_SUCH_FORMAT, 9, "no format has the number") \
+    X(NOT_SQUARE, 10, "the modules are not as many as the square of their width") \
+    X(NO_SUCH_SIZE, 11, "the picture would be too large, or have no pixel: take a smaller scale") \
+    X(NOT_TEXT, 12, "the text is not UTF-8") \
+    X(NO_SUCH_KIND, 13, "no kind of segment has the number") \
+    X(NOT_IN_MODE, 14, "the mode of a segment lacks one of its bytes") \
+    X(NO_SUCH_NUMBER, 15, "a set is above 999,999, an application above 255, or a count above 16") \
+    X(NO_SUCH_SIDE, 16, "no version has that many modules: give them without a quiet zone") \
+    X(NO_FORMAT, 17, "no level and mask are within three bits of each copy of the format word") \
+    X(DAMAGED, 18, "a block has too many wrong codewords") \
+    X(NOT_SPELLED, 19, "the data bits are not segments and an end, as after a header") \
+    X(NO_SUCH_STRUCT, 20, "the field `size` is not the size of the struct") \
+    X(NO_SUCH_MANNER, 21, "no manner has the number") \
+    X(NO_SUCH_MASK, 22, "the version of the symbol has no mask of the number") \
+    X(NOT_IN_FORMAT, 23, "the format has no such colours, or no dots per inch") \
+    X(NOT_SHOWN, 24, "the data bits are not a text that readers show") \
+    X(NOT_SEVERAL, 25, "the square has no header of one of several symbols in front") \
+    X(STRANGER, 26, "the square is a part of other data than the first") \
+    X(MISSING, 27, "no square has the part at this place") \
+    X(TWICE, 28, "more than one square has the part at this place") \
+    X(PARITY, 29, "the parts are not those of the data that their headers name") \
+    X(NOT_READ, 30, "the square is read in none of the sixteen positions") \
+    X(NO_SUCH_CONTENT, 32, "no kind of content has the number") \
+    X(NO_SUCH_FIELD, 33, "the kind has no field at this place") \
+    X(FIELD_EMPTY, 34, "the field may not be empty") \
+    X(FIELD_TOO_LONG, 35, "the field, or the whole text, is longer than the format allows") \
+    X(FIELD_TOO_SHORT, 36, "the field is shorter than the format allows") \
+    X(FIELD_CONTROL, 37, "the field has a line break or another control character") \
+    X(FIELD_CHARACTER, 38, "the field has a character that the format does not allow there") \
+    X(FIELD_CHECK_DIGITS, 39, "the check digits do not match: look for a mistyped digit") \
+    X(FIELD_RANGE, 40, "the number is outside what the format allows") \
+    X(FIELD_UNUSED, 41, "the field cannot be given next to the others") \
+    X(NO_SUCH_IDENTIFIER, 42, "the application identifier of an element is not in the table") \
+    X(ELEMENT_LENGTH, 43, "the value of an element has too few or too many characters")
+
 enum {
-    GOQ_OK = 0,
-    GOQ_NO_SUCH_LEVEL = 1, /* no level has the number */
-    GOQ_NO_SUCH_VERSION = 2, /* no version has the number */
-    GOQ_LEVEL_NOT_IN_VERSION = 3, /* the version lacks the level */
-    GOQ_TOO_LONG = 4, /* the data is more than 1,048,576 bytes */
-    GOQ_NO_MODE = 5, /* the data needs a mode that the version lacks */
-    GOQ_NO_ROOM = 6, /* no symbol of the asked kind holds the data */
-    GOQ_SMALL_BUFFER = 7, /* the buffer is too small for what would be written */
-    GOQ_OUT_OF_MEMORY = 8, /* memory was refused */
-    GOQ_NO_SUCH_FORMAT = 9, /* no format has the number */
-    GOQ_NOT_SQUARE = 10, /* the modules are not as many as the square of their width */
-    GOQ_NO_SUCH_SIZE = 11, /* a scale of 0 or above 65,535, or more than 65,535 modules along a side
-                              with the quiet zone; or a PNG with a side of 0 or above 65,535
-                              pixels */
-    GOQ_NOT_TEXT = 12, /* the text is not UTF-8 */
-    GOQ_NO_SUCH_KIND = 13, /* no kind of segment has the number */
-    GOQ_NOT_IN_MODE = 14, /* the mode of a segment lacks one of its bytes */
-    GOQ_NO_SUCH_NUMBER = 15, /* a set above 999,999, an application above 255, a count above 16 */
-    GOQ_NO_SUCH_SIDE = 16, /* no version has so many modules */
-    GOQ_NO_FORMAT = 17, /* no level and mask are within three bits of each copy of the format
-                           word */
-    GOQ_DAMAGED = 18, /* a block has too many wrong codewords */
-    GOQ_NOT_SPELLED = 19, /* the data bits are not segments and an end, as where a header stands in
-                             front */
-    GOQ_NO_SUCH_STRUCT = 20, /* the field `size` is not the size of the struct */
-    GOQ_NO_SUCH_MANNER = 21, /* no manner has the number */
-    GOQ_NO_SUCH_MASK = 22, /* the version of the symbol has no mask of the number */
-    GOQ_NOT_IN_FORMAT = 23, /* the format has no such colours, or no dots per inch */
-    GOQ_NOT_SHOWN = 24, /* the data bits are not a text that readers show */
-    GOQ_NOT_SEVERAL = 25, /* the square has no header of one of several symbols in front */
-    GOQ_STRANGER = 26, /* the square is a part of other data than the first */
-    GOQ_MISSING = 27, /* no square has the part at this place */
-    GOQ_TWICE = 28, /* more than one square has the part at this place */
-    GOQ_PARITY = 29, /* the parts are not those of the data that their headers name */
-    GOQ_NOT_READ = 30, /* the square is read in none of the sixteen positions */
-    GOQ_NO_SUCH_CONTENT = 32, /* no kind of content has the number */
-    GOQ_NO_SUCH_FIELD = 33, /* the kind has no field at this place */
-    GOQ_FIELD_EMPTY = 34, /* the field may not be empty */
-    GOQ_FIELD_TOO_LONG = 35, /* the field, or the whole text, is longer than the format allows */
-    GOQ_FIELD_TOO_SHORT = 36, /* the field is shorter than the format allows */
-    GOQ_FIELD_CONTROL = 37, /* the field has a line break or another control character */
-    GOQ_FIELD_CHARACTER = 38, /* the field has a character that the format does not allow there, or
-                                 a number has bytes */
-    GOQ_FIELD_CHECK_DIGITS = 39, /* the check digits are wrong */
-    GOQ_FIELD_RANGE = 40, /* the number is outside what the format allows; that of a text is 0 */
-    GOQ_FIELD_UNUSED = 41, /* the field has no place beside what else is given */
-    GOQ_NO_SUCH_IDENTIFIER = 42, /* the application identifier of an element is not in the table */
-    GOQ_ELEMENT_LENGTH = 43 /* the value of an element has too few or too many characters */
+#define GOQ_NAMED(name, number, text) GOQ_##name = number,
+    GOQ_ANSWERS(GOQ_NAMED)
+#undef GOQ_NAMED
 };
+
+/* The text of an answer, for those who read programs: what is wrong, and mostly what would help. */
+static inline const char *goq_strerror(goq_answer answer)
+{
+    switch (answer) {
+#define GOQ_CASE(name, number, text) case number: return text;
+        GOQ_ANSWERS(GOQ_CASE)
+#undef GOQ_CASE
+        default: return "no answer of this library";
+    }
+}
 
 /* Error correction levels. */
 enum { GOQ_L = 0, GOQ_M = 1, GOQ_Q = 2, GOQ_H = 3 };
@@ -276,7 +303,7 @@ typedef struct {
                       penalty */
 } goq_options;
 
-#define GOQ_OPTIONS {sizeof(goq_options), GOQ_M, GOQ_AS_BYTES, 0, 1, 0, 0}
+#define GOQ_OPTIONS GOQ_INITIAL(goq_options, GOQ_M, GOQ_AS_BYTES, 0, 1, 0, 0)
 
 /* How symbols are asked for between which data is parted: as few as one of the versions allows, of
    the least version that allows so few; or so many, of the least version that holds them. */
@@ -289,7 +316,7 @@ typedef struct {
     uint32_t count; /* 1 to GOQ_SEVERAL_MAX, or 0 for as few as there can be */
 } goq_several;
 
-#define GOQ_SEVERAL {sizeof(goq_several), GOQ_M, GOQ_AS_BYTES, 1, 40, 0}
+#define GOQ_SEVERAL GOQ_INITIAL(goq_several, GOQ_M, GOQ_AS_BYTES, 1, 40, 0)
 
 enum { GOQ_SEVERAL_MAX = 16 };
 
@@ -306,7 +333,7 @@ typedef struct {
     uint32_t dpi; /* the dots per inch that a PNG file names, up to 65,535; 0 for none */
 } goq_drawing;
 
-#define GOQ_DRAWING {sizeof(goq_drawing), GOQ_PNG, 4, 8, 0x000000, 0xffffff, 0}
+#define GOQ_DRAWING GOQ_INITIAL(goq_drawing, GOQ_PNG, 4, 8, 0x000000, 0xffffff, 0)
 
 #define GOQ_TRANSPARENT 0xff000000u
 
@@ -327,7 +354,7 @@ typedef struct {
 typedef struct {
     uint32_t kind;
     uint32_t number; /* of GOQ_ECI and GOQ_FNC1_SECOND; not looked at in others */
-    const uint8_t *bytes; /* of the modes; not looked at in headers; may be NULL where the length is
+    const void *bytes; /* of the modes; not looked at in headers; may be NULL where the length is
                              0 */
     size_t length;
 } goq_segment;
@@ -335,20 +362,20 @@ typedef struct {
 /* A field of a content: a text in UTF-8, whose number is 0; or a number, whose length is 0. */
 typedef struct {
     int64_t number;
-    const uint8_t *bytes; /* may be NULL where the length is 0 */
+    const void *bytes; /* may be NULL where the length is 0 */
     size_t length;
 } goq_field;
 
 /* The field of a text that ends with a zero, and that of a number. */
-#define GOQ_TEXT(text) {0, (const uint8_t *)(text), strlen(text)}
+#define GOQ_TEXT(text) {0, (text), strlen(text)}
 #define GOQ_NUMBER(number) {(number), NULL, 0}
 
 /* An element of GS1: the digits of its application identifier, without parentheses, and its value,
    with the check digit where it has one. */
 typedef struct {
-    const uint8_t *identifier;
+    const void *identifier;
     size_t identifier_length;
-    const uint8_t *value;
+    const void *value;
     size_t value_length;
 } goq_element;
 
@@ -389,28 +416,29 @@ typedef struct {
 /* The symbol of data at a level, of the least Normal version that holds it: its modules, row by
    row, 1 for a dark one, at the beginning of `modules`. GOQ_NO_SUCH_LEVEL, GOQ_NO_ROOM,
    GOQ_SMALL_BUFFER, GOQ_OUT_OF_MEMORY. */
-uint32_t goq_encode(const uint8_t *data, size_t data_length, uint32_t level, uint8_t *modules,
+goq_answer goq_encode(const void *data, size_t data_length, uint32_t level, uint8_t *modules,
     size_t modules_length, goq_symbol *symbol);
 
 /* The symbol of a text in UTF-8 at a level, of the least Normal version that holds it. Readers show
    it as the text, where they take bytes for UTF-8; for readers that guess, goq_encode_marked_text
    writes in front that they are (12 bits). Of several causes the first is reported, in this order:
    GOQ_NO_SUCH_LEVEL, GOQ_NOT_TEXT, GOQ_NO_ROOM, GOQ_SMALL_BUFFER; GOQ_OUT_OF_MEMORY. */
-uint32_t goq_encode_text(const uint8_t *text, size_t text_length, uint32_t level, uint8_t *modules,
+goq_answer goq_encode_text(const void *text, size_t text_length, uint32_t level, uint8_t *modules,
     size_t modules_length, goq_symbol *symbol);
-uint32_t goq_encode_marked_text(const uint8_t *text, size_t text_length, uint32_t level,
+goq_answer goq_encode_marked_text(const void *text, size_t text_length, uint32_t level,
     uint8_t *modules, size_t modules_length, goq_symbol *symbol);
 
 /* The symbol of data, of a version and level. Of several causes the first is reported, in this
    order: GOQ_NO_SUCH_LEVEL, GOQ_NO_SUCH_VERSION, GOQ_TOO_LONG, GOQ_NO_MODE,
    GOQ_LEVEL_NOT_IN_VERSION, GOQ_NO_ROOM, GOQ_SMALL_BUFFER; GOQ_OUT_OF_MEMORY. */
-uint32_t goq_encode_in(const uint8_t *data, size_t data_length, uint32_t version, uint32_t level,
+goq_answer goq_encode_in(const void *data, size_t data_length, uint32_t version, uint32_t level,
     uint8_t *modules, size_t modules_length, goq_symbol *symbol);
 
 /* The symbol of data that options ask for. GOQ_NO_SUCH_STRUCT, GOQ_NO_SUCH_LEVEL,
    GOQ_NO_SUCH_VERSION, GOQ_NO_SUCH_MANNER, GOQ_NOT_TEXT; where a version is asked for GOQ_NO_MODE,
-   GOQ_LEVEL_NOT_IN_VERSION; GOQ_NO_ROOM, GOQ_NO_SUCH_MASK, GOQ_SMALL_BUFFER; GOQ_OUT_OF_MEMORY. */
-uint32_t goq_encode_with(const uint8_t *data, size_t data_length, const goq_options *options,
+   GOQ_LEVEL_NOT_IN_VERSION; GOQ_NO_ROOM, GOQ_NO_SUCH_MASK, GOQ_SMALL_BUFFER; GOQ_OUT_OF_MEMORY.
+   More than 1,048,576 bytes are GOQ_NO_ROOM, whatever the version. */
+goq_answer goq_encode_with(const void *data, size_t data_length, const goq_options *options,
     uint8_t *modules, size_t modules_length, goq_symbol *symbol);
 
 /* The symbols between which data is parted (structured append), in order, one behind the other in
@@ -419,26 +447,26 @@ uint32_t goq_encode_with(const uint8_t *data, size_t data_length, const goq_opti
    GOQ_NO_SUCH_LEVEL, GOQ_NO_SUCH_VERSION (also of Micro, or the least above the greatest),
    GOQ_NO_SUCH_MANNER, GOQ_NO_SUCH_NUMBER (a count above GOQ_SEVERAL_MAX), GOQ_NOT_TEXT,
    GOQ_NO_ROOM, GOQ_SMALL_BUFFER; GOQ_OUT_OF_MEMORY. */
-uint32_t goq_encode_several(const uint8_t *data, size_t data_length, const goq_several *options,
+goq_answer goq_encode_several(const void *data, size_t data_length, const goq_several *options,
     uint8_t *modules, size_t modules_length, goq_symbol *symbol, size_t *count);
 
 /* The symbol of segments, one behind the other, of a version and level. Of several causes the first
    is reported, in this order: GOQ_NO_SUCH_LEVEL, GOQ_NO_SUCH_VERSION, GOQ_LEVEL_NOT_IN_VERSION; of
    each segment GOQ_NO_SUCH_KIND, GOQ_NOT_IN_MODE, GOQ_NO_MODE, GOQ_NO_SUCH_NUMBER, GOQ_NO_ROOM;
    then GOQ_NO_ROOM, GOQ_SMALL_BUFFER; GOQ_OUT_OF_MEMORY. */
-uint32_t goq_encode_segments(const goq_segment *segments, size_t segments_length, uint32_t version,
-    uint32_t level, uint8_t *modules, size_t modules_length, goq_symbol *symbol);
+goq_answer goq_encode_segments(const goq_segment *segments, size_t segments_length,
+    uint32_t version, uint32_t level, uint8_t *modules, size_t modules_length, goq_symbol *symbol);
 
 /* The least Normal version that holds data at a level. GOQ_NO_SUCH_LEVEL, GOQ_NO_ROOM,
    GOQ_OUT_OF_MEMORY. */
-uint32_t goq_least_version(const uint8_t *data, size_t data_length, uint32_t level,
+goq_answer goq_least_version(const void *data, size_t data_length, uint32_t level,
     uint32_t *version);
 
 /* The least Normal version that holds segments, one behind the other, at a level. Of several causes
    the first is reported, in this order: GOQ_NO_SUCH_LEVEL; of each segment GOQ_NO_SUCH_KIND,
    GOQ_NOT_IN_MODE, GOQ_NO_SUCH_NUMBER, where a version has room for those before it; GOQ_NO_ROOM;
    GOQ_OUT_OF_MEMORY. */
-uint32_t goq_least_version_of_segments(const goq_segment *segments, size_t segments_length,
+goq_answer goq_least_version_of_segments(const goq_segment *segments, size_t segments_length,
     uint32_t level, uint32_t *version);
 
 /* The modules along a side of a version; 0 where there is no such version. */
@@ -451,21 +479,22 @@ bool goq_is_functional(uint32_t version, uint32_t x, uint32_t y);
 /* The picture of modules, `width` along a side, dark where a byte is not zero, with a quiet zone of
    `zone` modules at each side and `scale` pixels a module: at the beginning of `out`, and its
    length in bytes to `count`. A text has no zero behind it. GOQ_MODULES_MAX * 80 + 400 bytes are
-   room for any SVG, PIC or EPS. GOQ_NO_SUCH_FORMAT, GOQ_NOT_SQUARE, GOQ_NO_SUCH_SIZE,
-   GOQ_SMALL_BUFFER, GOQ_OUT_OF_MEMORY. */
-uint32_t goq_draw(const uint8_t *modules, size_t modules_length, uint32_t width, uint32_t zone,
-    uint32_t scale, uint32_t format, uint8_t *out, size_t out_length, size_t *count);
+   room for any SVG, PIC or EPS. Sizes are a scale of 1 to 65,535 and at most 65,535 modules along a
+   side with the quiet zone; of a PNG file 1 to 65,535 pixels a side. GOQ_NO_SUCH_FORMAT, GOQ_NOT_SQUARE, GOQ_NO_SUCH_SIZE,
+   GOQ_SMALL_BUFFER; GOQ_OUT_OF_MEMORY. */
+goq_answer goq_draw(const uint8_t *modules, size_t modules_length, uint32_t width, uint32_t zone,
+    uint32_t scale, uint32_t format, void *out, size_t out_length, size_t *count);
 
 /* The length that goq_draw would write, to `count`. GOQ_NO_SUCH_FORMAT, GOQ_NOT_SQUARE,
-   GOQ_NO_SUCH_SIZE, GOQ_OUT_OF_MEMORY. */
-uint32_t goq_draw_length(const uint8_t *modules, size_t modules_length, uint32_t width,
+   GOQ_NO_SUCH_SIZE; GOQ_OUT_OF_MEMORY. */
+goq_answer goq_draw_length(const uint8_t *modules, size_t modules_length, uint32_t width,
     uint32_t zone, uint32_t scale, uint32_t format, size_t *count);
 
 /* The same of a drawing with colours and dots per inch. GOQ_NO_SUCH_STRUCT, GOQ_NO_SUCH_FORMAT,
    GOQ_NOT_SQUARE, GOQ_NO_SUCH_SIZE, GOQ_NOT_IN_FORMAT, GOQ_SMALL_BUFFER; GOQ_OUT_OF_MEMORY. */
-uint32_t goq_draw_with(const uint8_t *modules, size_t modules_length, uint32_t width,
-    const goq_drawing *drawing, uint8_t *out, size_t out_length, size_t *count);
-uint32_t goq_draw_with_length(const uint8_t *modules, size_t modules_length, uint32_t width,
+goq_answer goq_draw_with(const uint8_t *modules, size_t modules_length, uint32_t width,
+    const goq_drawing *drawing, void *out, size_t out_length, size_t *count);
+goq_answer goq_draw_with_length(const uint8_t *modules, size_t modules_length, uint32_t width,
     const goq_drawing *drawing, size_t *count);
 
 /* The bytes of a square of modules, row by row from the top left corner, dark where a byte is not
@@ -473,34 +502,34 @@ uint32_t goq_draw_with_length(const uint8_t *modules, size_t modules_length, uin
    the format word may have three wrong bits, and each block half as many wrong codewords as it has
    for error correction. Of several causes the first is reported, in this order: GOQ_NO_SUCH_SIDE,
    GOQ_NO_FORMAT, GOQ_DAMAGED, GOQ_NOT_SPELLED, GOQ_SMALL_BUFFER; GOQ_OUT_OF_MEMORY. */
-uint32_t goq_read(const uint8_t *modules, size_t modules_length, uint8_t *bytes,
+goq_answer goq_read(const uint8_t *modules, size_t modules_length, void *bytes,
     size_t bytes_length, goq_reading *reading);
 
 /* How many bytes goq_read would write, to `count`. GOQ_NO_SUCH_SIDE, GOQ_NO_FORMAT, GOQ_DAMAGED,
    GOQ_NOT_SPELLED, GOQ_OUT_OF_MEMORY. */
-uint32_t goq_read_length(const uint8_t *modules, size_t modules_length, size_t *count);
+goq_answer goq_read_length(const uint8_t *modules, size_t modules_length, size_t *count);
 
 /* The same of a square in any position, in the first of the sixteen in which it is read.
    GOQ_NOT_READ, GOQ_SMALL_BUFFER; GOQ_OUT_OF_MEMORY. */
-uint32_t goq_read_any(const uint8_t *modules, size_t modules_length, uint8_t *bytes,
+goq_answer goq_read_any(const uint8_t *modules, size_t modules_length, void *bytes,
     size_t bytes_length, goq_any_reading *reading);
 
 /* The text that readers show of a square, in UTF-8: that of a symbol of goq_encode_text or
    goq_encode_marked_text. GOQ_NO_SUCH_SIDE, GOQ_NO_FORMAT, GOQ_DAMAGED, GOQ_NOT_SHOWN,
    GOQ_SMALL_BUFFER; GOQ_OUT_OF_MEMORY. */
-uint32_t goq_read_text(const uint8_t *modules, size_t modules_length, uint8_t *text,
+goq_answer goq_read_text(const uint8_t *modules, size_t modules_length, void *text,
     size_t text_length, goq_reading *reading);
 
 /* The number of the mask that the format word of a square names: 0 to 7, in Micro 0 to 3.
    GOQ_NO_SUCH_SIDE, GOQ_NO_FORMAT; GOQ_OUT_OF_MEMORY. */
-uint32_t goq_mask(const uint8_t *modules, size_t modules_length, uint32_t *mask);
+goq_answer goq_mask(const uint8_t *modules, size_t modules_length, uint32_t *mask);
 
 /* The data of several symbols, whose squares come in any order: at the beginning of `out`, and its
    length to `count`. GOQ_SEVERAL_MAX * GOQ_BYTES_MAX bytes are room for all data. Of the first
    square that is no part GOQ_NO_SUCH_SIDE, GOQ_NO_FORMAT, GOQ_DAMAGED, GOQ_NOT_SPELLED,
    GOQ_NOT_SEVERAL; then GOQ_STRANGER; each with the place of the square, from 0 on. GOQ_MISSING,
    GOQ_TWICE, with the place of the part; GOQ_PARITY, GOQ_SMALL_BUFFER; GOQ_OUT_OF_MEMORY. */
-uint32_t goq_join(const goq_square *squares, size_t squares_length, uint8_t *out,
+goq_answer goq_join(const goq_square *squares, size_t squares_length, void *out,
     size_t out_length, size_t *count, size_t *place);
 
 /* The text of a kind of content, to be encoded by goq_encode_text: at the beginning of `out`, and
@@ -511,7 +540,7 @@ uint32_t goq_join(const goq_square *squares, size_t squares_length, uint8_t *out
    GOQ_FIELD_UNUSED; GOQ_SMALL_BUFFER; GOQ_OUT_OF_MEMORY. Where a field is wrong, its place goes to
    `place`, GOQ_PAYMENT_FIELDS for a payment that is too long as a whole; otherwise `place` is as it
    was. */
-uint32_t goq_content(uint32_t kind, const goq_field *fields, size_t fields_length, uint8_t *out,
+goq_answer goq_content(uint32_t kind, const goq_field *fields, size_t fields_length, void *out,
     size_t out_length, size_t *count, size_t *place);
 
 /* The element string of GS1, to be encoded by goq_encode_segments as GOQ_BYTES behind
@@ -520,7 +549,7 @@ uint32_t goq_content(uint32_t kind, const goq_field *fields, size_t fields_lengt
    element that is wrong is reported by its place, to `place`: GOQ_NOT_TEXT; else
    GOQ_NO_SUCH_IDENTIFIER, GOQ_ELEMENT_LENGTH, GOQ_FIELD_CHARACTER, GOQ_FIELD_CHECK_DIGITS.
    GOQ_SMALL_BUFFER, GOQ_OUT_OF_MEMORY. */
-uint32_t goq_gs1(const goq_element *elements, size_t elements_length, uint8_t *out,
+goq_answer goq_gs1(const goq_element *elements, size_t elements_length, void *out,
     size_t out_length, size_t *count, size_t *place);
 
 /* The symbol of elements of GS1 that options ask for, in segments of the fewest bits; their manner
@@ -529,7 +558,7 @@ uint32_t goq_gs1(const goq_element *elements, size_t elements_length, uint8_t *o
    Before these GOQ_NO_SUCH_STRUCT, GOQ_NO_SUCH_LEVEL, GOQ_NO_SUCH_VERSION, GOQ_NO_SUCH_MANNER;
    behind them GOQ_NO_ROOM (Micro has no such symbols), GOQ_NO_SUCH_MASK, GOQ_SMALL_BUFFER;
    GOQ_OUT_OF_MEMORY. */
-uint32_t goq_encode_gs1(const goq_element *elements, size_t elements_length,
+goq_answer goq_encode_gs1(const goq_element *elements, size_t elements_length,
     const goq_options *options, uint8_t *modules, size_t modules_length, goq_symbol *symbol,
     size_t *place);
 

@@ -211,7 +211,7 @@ static void positions(void)
     expect(any.reading.length == 98 && bytes[0] == text[0], "untouched by refusals");
 }
 
-#define WORD(text) (const uint8_t *)(text), sizeof(text) - 1
+#define WORD(text) (text), sizeof(text) - 1
 
 /* 24 digits, "10ABCD" and the mark take 98 + 46 + 4 bits at least, and Normal 1 has 152 at L. */
 static void elements(void)
@@ -231,7 +231,7 @@ static void elements(void)
     o.level = 4;
     expect(goq_encode_gs1(parts, 3, &o, modules, 441, &symbol, &place) == GOQ_NO_SUCH_LEVEL, "4");
     expect(place == 77 && modules[0] == 7, "untouched");
-    o = (goq_options)GOQ_OPTIONS;
+    o = GOQ_OPTIONS;
     o.level = GOQ_L;
     expect(goq_encode_gs1(parts, 3, &o, modules, 441, &symbol, &place) == GOQ_OK, "elements");
     expect(symbol.version == 1 && place == 77, "in the least version");

@@ -29,7 +29,7 @@ static uint32_t content(int number)
     const goq_field card[GOQ_VCARD_FIELDS] = {[GOQ_VCARD_NAME] = GOQ_TEXT("Frank Dawson"), [GOQ_VCARD_FAMILY] = GOQ_TEXT("Dawson, F.")};
     const goq_field key[] = {GOQ_TEXT("alice@google.com"), GOQ_TEXT("JBSWY3DPEHPK3PXP"), GOQ_TEXT("Example"), GOQ_NUMBER(GOQ_SHA256)};
     const goq_field days[] = {GOQ_TEXT("AF23B2@example.com"), GOQ_NUMBER(19970610172345), GOQ_NUMBER(20000228), GOQ_NUMBER(20000229)};
-    const goq_element lot = {(const uint8_t *)"10", 2, (const uint8_t *)"ABCD1234", 8}, elements[] = {lot, lot};
+    const goq_element lot = {"10", 2, "ABCD1234", 8}, elements[] = {lot, lot};
     if (number == CONTENTS - 1)
         return goq_gs1(elements, 2, outputs.buffer, sizeof outputs.buffer, &outputs.count, &outputs.place);
     const struct { uint32_t kind; const goq_field *fields; size_t count; } all[] = {
@@ -39,7 +39,7 @@ static uint32_t content(int number)
 
 static uint32_t by_options(int number)
 {
-    const goq_element lot = {(const uint8_t *)"10", 2, (const uint8_t *)"ABCD1234", 8}, lots[] = {lot, lot};
+    const goq_element lot = {"10", 2, "ABCD1234", 8}, lots[] = {lot, lot};
     const goq_square squares[] = {{parts, 21 * 21}, {parts + 21 * 21, 21 * 21}};
     const goq_several fewest = {sizeof fewest, GOQ_M, GOQ_AS_BYTES, 1, 10, 0};
     const goq_several three = {sizeof three, GOQ_M, GOQ_AS_TEXT, 1, 10, 3};

@@ -4,6 +4,7 @@ offline: the package, and the shared library in it.
 The library is that of GOQLANIS_LIB, where that is set, or else what `bindings/c/build` makes. The
 tag names the least glibc that has all that the library takes from it.
 """
+import ast
 import base64
 import hashlib
 import os
@@ -17,12 +18,16 @@ HERE = Path(__file__).resolve().parent
 NAME = "goqlanis"
 VERSION = re.search('__version__ = "(.*)"', (HERE / NAME / "__init__.py").read_text())[1]
 INFO = f"{NAME}-{VERSION}.dist-info"
+SAID = ast.get_docstring(ast.parse((HERE / NAME / "__init__.py").read_text()))
 METADATA = f"""Metadata-Version: 2.1
 Name: {NAME}
 Version: {VERSION}
 Summary: QR and Micro QR symbols by a library that is proved correct
 Requires-Python: >=3.8
 License: MIT OR Apache-2.0
+Description-Content-Type: text/plain
+
+{SAID}
 """
 WHEEL = """Wheel-Version: 1.0
 Generator: goqlanis

@@ -50,6 +50,7 @@ help(goqlanis.encode), help(goqlanis.Symbol) and help(goqlanis.contents) say all
 from typing import TYPE_CHECKING
 
 from . import contents
+from ._checks import Version as Version
 from .encoding import (encode, encode_gs1, encode_segments, encode_sequence, encode_text,
                        is_functional, least_version, least_version_of_segments)
 from .errors import *  # noqa: F403 - its __all__ alone

@@ -3,10 +3,10 @@ import ctypes
 from typing import Any, List, NamedTuple, Sequence, Tuple
 
 from ._checks import LEVELS, version_name
-from ._library import MOST_MODULES, MOST_SYMBOLS, Known, Options, Segment, Several, library
+from ._library import Known, Options, Segment, Several, library
+from ._numbers import AS_BYTES, MODULES_MAX, SEVERAL_MAX
 from .symbol import Symbol
 
-AS_BYTES, AS_TEXT, AS_MARKED_TEXT = range(3)
 MICRO_1 = 41
 
 Answer = Tuple[int, List[Symbol]]
@@ -16,7 +16,7 @@ def _made(call: Any, *given: Any, behind: Sequence[Any] = (), most: int = 1) -> 
     """What a call answers that fills modules, and the symbols where that is 0: one, or as many as
     `behind` says."""
     known = Known()
-    modules: Any = ctypes.create_string_buffer(most * MOST_MODULES)
+    modules: Any = ctypes.create_string_buffer(most * MODULES_MAX)
     answer = call(*given, modules, len(modules), ctypes.byref(known), *map(ctypes.byref, behind))
     if answer:
         return answer, []
@@ -61,7 +61,7 @@ class Parts(NamedTuple):
     def answer(self) -> Answer:
         options = ctypes.byref(Several(ctypes.sizeof(Several), *self[1:]))
         given, count = (self.data, len(self.data), options), ctypes.c_size_t()
-        return _made(library.goq_encode_several, *given, behind=[count], most=MOST_SYMBOLS)
+        return _made(library.goq_encode_several, *given, behind=[count], most=SEVERAL_MAX)
 
 
 class Segments(NamedTuple):

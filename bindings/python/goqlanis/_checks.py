@@ -1,10 +1,19 @@
 """What a caller gives, checked before the library sees it."""
+import functools
+import inspect
 import numbers
 import operator
-from typing import Any, Callable, Iterable, List, Optional, Tuple
+from typing import Any, Callable, Iterable, List, Optional, Tuple, TypeVar
 
 from .errors import NoSuchLevel, NoSuchVersion
 
+Call = TypeVar("Call", bound=Callable[..., Any])
+# What other packages call arguments, and what is taken here.
+OTHERS = {"error": "level='H'", "error_correction": "level='H'", "boost_error": "boost=True",
+          "mask_pattern": "mask=3", "encoding": "data.encode(..)", "symbol_count": "count=3",
+          "mode": "encode_segments", "unit": "size='30mm'", "box_size": "scale=8",
+          "fill_color": "dark='navy'", "back_color": "light='white'", "color": "dark='navy'",
+          "background": "light='white'", "omitsize": "svg_inline", "xmldecl": "svg_inline"}
 LEVELS = "LMQH"
 BINARY = (bytes, bytearray, memoryview)
 
@@ -17,6 +26,21 @@ def cut(said: str) -> str:
 def shown(value: Any) -> str:
     """A value as Python writes it, cut."""
     return cut(repr(value))
+
+
+def named(call: Call) -> Call:
+    """A call that says what to take instead of an argument that it does not have."""
+    known = inspect.signature(call).parameters
+
+    @functools.wraps(call)
+    def checked(*given: Any, **more: Any) -> Any:
+        for name in more:
+            if name not in known:
+                helps = f"take {OTHERS[name]}" if name in OTHERS else \
+                    "it takes " + ", ".join(it for it in known if it != "self")
+                raise TypeError(f"{call.__name__} has no argument {shown(name)}: {helps}")
+        return call(*given, **more)
+    return checked  # type: ignore[return-value]
 
 
 def whole(name: str, value: Any, least: int, most: int,
@@ -123,9 +147,33 @@ def version(value: Any) -> int:
     return 40 + number if is_micro else number
 
 
-def version_name(number: int) -> str:
+def _compared(holds: Callable[[int, int], bool]) -> Callable[[Any, Any], Any]:
+    """A comparison of versions by their sizes."""
+    def compare(self: Any, other: Any) -> Any:
+        return holds(_rank(self), _rank(other)) if isinstance(other, str) else NotImplemented
+    return compare
+
+
+def _rank(name: str) -> int:
+    """The place of a version in the order M1 to M4, 1 to 40."""
+    number = version(name)
+    return number - 44 if number > 40 else number
+
+
+class Version(str):
+    """The name of a version, "1" to "40" or "M1" to "M4": a str that is ordered by size.
+
+    >>> Version("9") < "10", max(Version("M4"), Version("1")), Version("7") == "7"
+    (True, '1', True)
+    """
+    __slots__ = ()
+    __lt__, __le__ = _compared(operator.lt), _compared(operator.le)
+    __gt__, __ge__ = _compared(operator.gt), _compared(operator.ge)
+
+
+def version_name(number: int) -> Version:
     """A version's name by the library's number."""
-    return str(number) if number <= 40 else f"M{number - 40}"
+    return Version(number) if number <= 40 else Version(f"M{number - 40}")
 
 
 def listed(name: str, value: Any, of: str) -> List[Any]:

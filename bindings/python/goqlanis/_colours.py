@@ -60,14 +60,15 @@ def colour(name: str, value: Any) -> int:
 
 
 def are_close(dark: int, light: int) -> bool:
-    """Whether dark modules are too bright beside light ones, neither of which is transparent."""
-    return max(dark, light) < TRANSPARENT and _brightness(light) < _brightness(dark) + CONTRAST
+    """Whether dark modules are too bright beside light ones, on white paper."""
+    return _brightness(light) < _brightness(dark) + CONTRAST
 
 
 def _brightness(number: int) -> int:
-    """How bright a colour is, 0 to 255, by the weights of ITU-R BT.601."""
+    """How bright a colour is on white, 0 to 255, by the weights of ITU-R BT.601."""
     red, green, blue = number >> 16 & 255, number >> 8 & 255, number & 255
-    return (299 * red + 587 * green + 114 * blue) // 1000
+    own, clear = (299 * red + 587 * green + 114 * blue) // 1000, number >> 24
+    return (own * (255 - clear) + 255 * clear) // 255
 
 
 def _parts(name: str, word: str) -> bytes:

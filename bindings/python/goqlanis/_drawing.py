@@ -7,6 +7,7 @@ from fractions import Fraction
 from typing import Any, NamedTuple, Optional, Tuple, Union
 
 from . import _checks
+from . import _numbers as goq
 from ._checks import shown
 from ._colours import are_close, colour
 from ._library import Drawing, library
@@ -20,11 +21,12 @@ class Kind(NamedTuple):
     scale: int
 
 
-KINDS = {"txt": Kind(0, True, 1), "png": Kind(5, False, 8), "svg": Kind(8, True, 8),
-         "eps": Kind(6, True, 8), "pic": Kind(3, True, 1), "pbm": Kind(7, False, 8),
-         "pgm": Kind(4, False, 8)}
+KINDS = {"txt": Kind(goq.HALF_BLOCKS, True, 1), "png": Kind(goq.PNG, False, 8),
+         "svg": Kind(goq.SVG_PATH, True, 8), "eps": Kind(goq.EPS, True, 8),
+         "pic": Kind(goq.PIC, True, 1), "pbm": Kind(goq.PBM, False, 8),
+         "pgm": Kind(goq.GREY, False, 8)}
 # Formats that are no files: half blocks for dark grounds, and rows of pixels.
-OTHERS = {"light": Kind(1, True, 1), "grey": Kind(4, False, 8)}
+OTHERS = {"light": Kind(goq.LIGHT_HALF_BLOCKS, True, 1), "grey": Kind(goq.GREY, False, 8)}
 MOST_SIDE = 65535
 Size = Union[int, str, None]
 
@@ -123,7 +125,7 @@ def _ink(look: Look, name: str) -> Tuple[int, int, int]:
         raise NotInFormat(f"{name.upper()} names no dots per inch: PNG alone has dpi")
     if are_close(dark, light):
         warnings.warn(f"dark modules in {shown(look.dark)}, light ones in {shown(look.light)}: "
-                      "many readers want dark ones that are much darker", stacklevel=5)
+                      "many readers want dark ones that are much darker", stacklevel=6)
     return dark, light, 0 if look.dpi is None else _checks.whole("dpi", look.dpi, 1, MOST_SIDE)
 
 

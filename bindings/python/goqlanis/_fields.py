@@ -5,9 +5,11 @@ import decimal
 from typing import Any, Sequence, Tuple, Union
 
 from . import _checks
+from . import _numbers as goq
 from ._checks import shown
-from ._library import MOST_BYTES, Element, Field, library
-from .errors import Error, NoRoom, refuse
+from ._library import Element, Field, library
+from ._numbers import BYTES_MAX
+from .errors import NoRoom, TooLong, WrongField, refuse
 
 Number = Union[int, float, str, decimal.Decimal]
 
@@ -16,27 +18,9 @@ NUMBERS = {"security", "hidden", "amount", "currency", "latitude", "longitude", 
            "digits", "period", "counter", "stamp", "begin", "end"}
 
 
-class WrongField(Error, ValueError):
-    """The format cannot say a field: `field` is its name, or `text` for the text as a whole."""
-
-    why = "the format cannot say it"
-
-    def __init__(self, field: str, said: str = ""):
-        super().__init__(field, said)
-        self.field, self.said = field, said
-
-    def __str__(self) -> str:
-        return self.said or f"{self.field}: {self.why}"
-
-
 class EmptyField(WrongField):
     """The field may not be empty."""
     why = "it may not be empty"
-
-
-class TooLong(WrongField):
-    """The field is longer than the format allows."""
-    why = "it is longer than the format allows"
 
 
 class TooShort(WrongField):
@@ -79,18 +63,21 @@ class WrongLength(WrongField):
     why = "its value has too few or too many characters"
 
 
-_CAUSES = {34: EmptyField, 35: TooLong, 36: TooShort, 37: ControlCharacter, 38: WrongCharacter,
-           39: WrongCheckDigits, 40: OutOfRange, 41: Unused, 42: UnknownIdentifier,
-           43: WrongLength}
+_CAUSES = {goq.FIELD_EMPTY: EmptyField, goq.FIELD_TOO_LONG: TooLong,
+           goq.FIELD_TOO_SHORT: TooShort, goq.FIELD_CONTROL: ControlCharacter,
+           goq.FIELD_CHARACTER: WrongCharacter, goq.FIELD_CHECK_DIGITS: WrongCheckDigits,
+           goq.FIELD_RANGE: OutOfRange, goq.FIELD_UNUSED: Unused,
+           goq.NO_SUCH_IDENTIFIER: UnknownIdentifier, goq.ELEMENT_LENGTH: WrongLength}
 for _each in (WrongField, *_CAUSES.values()):
-    _each.__module__ = "goqlanis.contents"
+    if _each is not TooLong:
+        _each.__module__ = "goqlanis.contents"
 
 
 def text_of(kind: int, fields: Sequence[Tuple[str, Union[str, int]]]) -> str:
     """The text of a kind, of names and values in the library's order."""
     rows = (Field * len(fields))(*(_field(name, value) for name, value in fields))
     out, count, place = _room(), ctypes.c_size_t(), ctypes.c_size_t()
-    answer = library.goq_content(kind, rows, len(rows), out, MOST_BYTES, ctypes.byref(count),
+    answer = library.goq_content(kind, rows, len(rows), out, BYTES_MAX, ctypes.byref(count),
                                  ctypes.byref(place))
     _refuse(answer, fields[place.value][0] if place.value < len(fields) else "text")
     return bytes(out[:count.value]).decode()
@@ -133,7 +120,7 @@ def string_of(elements: Any) -> bytes:
 def _string(elements: Any) -> Tuple[int, bytes, int]:
     """What the library answers, the element string, and the place of an element that is wrong."""
     out, count, place = _room(), ctypes.c_size_t(), ctypes.c_size_t()
-    answer = library.goq_gs1(elements, len(elements), out, MOST_BYTES, ctypes.byref(count),
+    answer = library.goq_gs1(elements, len(elements), out, BYTES_MAX, ctypes.byref(count),
                              ctypes.byref(place))
     return answer, bytes(out[:count.value]), place.value
 
@@ -159,7 +146,7 @@ def _lengths(identifier: bytes) -> str:
 
 
 def _room() -> Any:
-    return ctypes.create_string_buffer(MOST_BYTES)
+    return ctypes.create_string_buffer(BYTES_MAX)
 
 
 def _refuse(answer: int, field: str) -> None:
@@ -167,7 +154,7 @@ def _refuse(answer: int, field: str) -> None:
     if answer in _CAUSES:
         raise _CAUSES[answer](field)
     if answer == 7:
-        raise NoRoom(f"no symbol holds a text of more than {MOST_BYTES:,} bytes")
+        raise NoRoom(f"no symbol holds a text of more than {BYTES_MAX:,} bytes")
     refuse(answer)
 
 

@@ -4,9 +4,6 @@ import ctypes.util
 import os
 from typing import Any, Callable, Dict, List
 
-MOST_MODULES = 177 * 177
-MOST_BYTES = 7089
-MOST_SYMBOLS = 16
 
 _number, _size, _data, _place = (ctypes.c_uint32, ctypes.c_size_t, ctypes.c_char_p,
                                  ctypes.c_void_p)

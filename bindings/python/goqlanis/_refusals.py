@@ -1,11 +1,12 @@
 """What a refusal says: what, why, and what would help."""
 from typing import Any
 
-from ._asked import AS_MARKED_TEXT, Data, Parts, Segments
+from ._asked import Data, Parts, Segments
 from ._checks import LEVELS, version_name
+from ._numbers import (AS_MARKED_TEXT, LEVEL_NOT_IN_VERSION, NO_MODE, NO_ROOM, NO_SUCH_MASK,
+                       NO_SUCH_VERSION, NOT_IN_MODE, TOO_LONG)
 from .errors import Error, refusal
 
-LEVEL_NOT_IN_VERSION, TOO_LONG, NO_MODE, NO_ROOM, NOT_IN_MODE, NO_SUCH_MASK = 3, 4, 5, 6, 14, 22
 LIMIT = 1_048_576
 MODES = ("numeric writes digits", "alphanumeric writes digits, capitals, space and $%*+-./:", "",
          "kanji writes pairs of Shift JIS, 8140 to 9ffc and e040 to ebbf,")
@@ -109,5 +110,7 @@ def of_parts(asked: Parts, answer: int) -> Error:
         return refusal(answer, f"{len(asked.data):,} bytes: {asked.wanted or 16} symbols up to "
                        f"version {last} at level {level} do not hold them; take a greater version "
                        "or a lower level" + (", or more symbols" if asked.wanted % 16 else ""))
-    return refusal(answer, f"versions {version_name(asked.least_version)} to {last}: several "
-                   "symbols are of 1 to 40, the least version first" if answer == 2 else "")
+    if answer == NO_SUCH_VERSION:
+        return refusal(answer, f"versions {version_name(asked.least_version)} to {last}: several "
+                       "symbols are of 1 to 40, the least version first")
+    return refusal(answer)

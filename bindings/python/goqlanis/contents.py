@@ -21,6 +21,7 @@ import datetime
 from typing import Any, Iterable, List, NamedTuple, Optional, Tuple
 
 from . import _checks
+from . import _numbers as goq
 from ._checks import shown
 from ._fields import (ControlCharacter, EmptyField, Number, OutOfRange, TooLong, TooShort,
                       UnknownIdentifier, Unused, WrongCharacter, WrongCheckDigits, WrongField,
@@ -31,8 +32,8 @@ __all__ = ["Party", "wifi", "mecard", "vcard", "payment", "bill", "mail", "geo",
            "ControlCharacter", "WrongCharacter", "WrongCheckDigits", "OutOfRange", "Unused",
            "UnknownIdentifier", "WrongLength"]
 
-WIFI, MECARD, VCARD, PAYMENT, BILL, MAIL, GEO, TEL, SMS, TOTP, HOTP, EVENT, DAYS = range(13)
-SECURITIES = {None: 0, "open": 1, "nopass": 1, "WEP": 2, "WPA": 3, "WPA2": 3, "WPA3": 4}
+SECURITIES = {None: goq.BY_PASSWORD, "open": goq.OPEN, "nopass": goq.OPEN, "WEP": goq.WEP,
+              "WPA": goq.WPA, "WPA2": goq.WPA, "WPA3": goq.WPA3}
 CURRENCIES = ("CHF", "EUR")
 ALGORITHMS = ("SHA1", "SHA256", "SHA512")
 DIGITS = (6, 8)
@@ -47,9 +48,9 @@ def wifi(ssid: str, password: str = "", security: Optional[str] = None,
     'WIFI:T:nopass;S:\\\\"foo\\\\;bar\\\\\\\\baz\\\\";H:true;;'
     """
     at = choice("security", security, tuple(SECURITIES))
-    return text_of(WIFI, [("ssid", ssid), ("password", password),
-                          ("security", [*SECURITIES.values()][at]),
-                          ("hidden", int(_checks.flag("hidden", hidden)))])
+    return text_of(goq.WIFI, [("ssid", ssid), ("password", password),
+                              ("security", [*SECURITIES.values()][at]),
+                              ("hidden", int(_checks.flag("hidden", hidden)))])
 
 
 def mecard(family: str, given: str = "", phone: str = "", email: str = "", url: str = "",
@@ -61,10 +62,10 @@ def mecard(family: str, given: str = "", phone: str = "", email: str = "", url: 
     >>> mecard("Owen", "Sean", email="srowen@example.com")
     'MECARD:N:Owen,Sean;EMAIL:srowen@example.com;;'
     """
-    return text_of(MECARD, [("family", family), ("given", given), ("phone", phone),
-                            ("email", email), ("url", url), ("birthday", birthday),
-                            ("note", note), ("street", street), ("city", city),
-                            ("region", region), ("code", code), ("country", country)])
+    return text_of(goq.MECARD, [("family", family), ("given", given), ("phone", phone),
+                                ("email", email), ("url", url), ("birthday", birthday),
+                                ("note", note), ("street", street), ("city", city),
+                                ("region", region), ("code", code), ("country", country)])
 
 
 def vcard(name: str, family: str, given: str = "", organisation: str = "", phone: str = "",
@@ -75,10 +76,10 @@ def vcard(name: str, family: str, given: str = "", organisation: str = "", phone
     >>> vcard("Frank Dawson", "Dawson", "Frank", email="fdawson@earthlink.net").splitlines()[2:5]
     ['N:Dawson;Frank;;;', 'FN:Frank Dawson', 'EMAIL:fdawson@earthlink.net']
     """
-    return text_of(VCARD, [("name", name), ("family", family), ("given", given),
-                           ("organisation", organisation), ("phone", phone), ("email", email),
-                           ("url", url), ("street", street), ("city", city), ("region", region),
-                           ("code", code), ("country", country), ("note", note)])
+    return text_of(goq.VCARD, [("name", name), ("family", family), ("given", given),
+                               ("organisation", organisation), ("phone", phone), ("email", email),
+                               ("url", url), ("street", street), ("city", city), ("region", region),
+                               ("code", code), ("country", country), ("note", note)])
 
 
 def payment(name: str, iban: str, amount: Number, bic: str = "", purpose: str = "",
@@ -91,10 +92,10 @@ def payment(name: str, iban: str, amount: Number, bic: str = "", purpose: str = 
     >>> text.splitlines()[4:8]
     ['BPOTBEB1', 'Red Cross of Belgium', 'BE72000000001616', 'EUR1.00']
     """
-    return text_of(PAYMENT, [("name", name), ("iban", iban),
-                             ("amount", scaled("amount", amount, 2)), ("bic", bic),
-                             ("purpose", purpose), ("reference", reference),
-                             ("message", message), ("information", information)])
+    return text_of(goq.PAYMENT, [("name", name), ("iban", iban),
+                                 ("amount", scaled("amount", amount, 2)), ("bic", bic),
+                                 ("purpose", purpose), ("reference", reference),
+                                 ("message", message), ("information", information)])
 
 
 class Party(NamedTuple):
@@ -121,10 +122,10 @@ def bill(iban: str, creditor: Party, amount: Optional[Number] = None, currency: 
     cents = 0 if amount is None else scaled("amount", amount, 2)
     if amount is not None and cents == 0:
         raise OutOfRange("amount")
-    return text_of(BILL, [("iban", iban), *_party("creditor", creditor), ("amount", cents),
-                          ("currency", choice("currency", currency, CURRENCIES)),
-                          ("reference", reference), ("message", message),
-                          *(() if debtor is None else _party("debtor", debtor))])
+    return text_of(goq.BILL, [("iban", iban), *_party("creditor", creditor), ("amount", cents),
+                              ("currency", choice("currency", currency, CURRENCIES)),
+                              ("reference", reference), ("message", message),
+                              *(() if debtor is None else _party("debtor", debtor))])
 
 
 def _party(who: str, party: Any) -> Iterable[Tuple[str, str]]:
@@ -140,7 +141,7 @@ def mail(address: str, subject: str = "", body: str = "") -> str:
     >>> mail("infobot@example.com", body="send current-issue\\nsend index")
     'mailto:infobot@example.com?body=send%20current-issue%0D%0Asend%20index'
     """
-    return text_of(MAIL, [("address", address), ("subject", subject), ("body", body)])
+    return text_of(goq.MAIL, [("address", address), ("subject", subject), ("body", body)])
 
 
 def geo(latitude: Number, longitude: Number) -> str:
@@ -152,8 +153,8 @@ def geo(latitude: Number, longitude: Number) -> str:
     >>> geo(90, -22.43)
     'geo:90,-22.43'
     """
-    return text_of(GEO, [("latitude", scaled("latitude", latitude, 6)),
-                         ("longitude", scaled("longitude", longitude, 6))])
+    return text_of(goq.GEO, [("latitude", scaled("latitude", latitude, 6)),
+                             ("longitude", scaled("longitude", longitude, 6))])
 
 
 def tel(number: str) -> str:
@@ -162,7 +163,7 @@ def tel(number: str) -> str:
     >>> tel("+1-201-555-0123")
     'tel:+1-201-555-0123'
     """
-    return text_of(TEL, [("number", number)])
+    return text_of(goq.TEL, [("number", number)])
 
 
 def sms(number: str, body: str = "") -> str:
@@ -171,7 +172,7 @@ def sms(number: str, body: str = "") -> str:
     >>> sms("+15105550101", "hello there")
     'sms:+15105550101?body=hello%20there'
     """
-    return text_of(SMS, [("number", number), ("body", body)])
+    return text_of(goq.SMS, [("number", number), ("body", body)])
 
 
 def totp(account: str, secret: str, issuer: str = "", algorithm: str = "SHA1", digits: int = 6,
@@ -185,7 +186,7 @@ def totp(account: str, secret: str, issuer: str = "", algorithm: str = "SHA1", d
     if period == 0:
         raise OutOfRange("period")
     key = _key(account, secret, issuer, algorithm, digits)
-    return text_of(TOTP, [*key, ("period", period)])
+    return text_of(goq.TOTP, [*key, ("period", period)])
 
 
 def hotp(account: str, secret: str, issuer: str = "", algorithm: str = "SHA1", digits: int = 6,
@@ -196,7 +197,7 @@ def hotp(account: str, secret: str, issuer: str = "", algorithm: str = "SHA1", d
     'otpauth://hotp/alice@google.com?secret=JBSWY3DPEHPK3PXP&algorithm=SHA256&digits=8&counter=0'
     """
     key = _key(account, secret, issuer, algorithm, digits)
-    return text_of(HOTP, [*key, ("counter", counter)])
+    return text_of(goq.HOTP, [*key, ("counter", counter)])
 
 
 def _key(account: str, secret: str, issuer: str, algorithm: str,
@@ -223,7 +224,7 @@ def event(uid: str, stamp: datetime.datetime, begin: datetime.date, end: datetim
     if are_moments != isinstance(end, datetime.datetime):
         raise TypeError("begin and end are two moments or two dates")
     number = moment if are_moments else day
-    return text_of(EVENT if are_moments else DAYS, [
+    return text_of(goq.EVENT if are_moments else goq.DAYS, [
         ("uid", uid), ("stamp", moment("stamp", stamp)), ("begin", number("begin", begin)),
         ("end", number("end", end)), ("summary", summary), ("location", location),
         ("description", description)])

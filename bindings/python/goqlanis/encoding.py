@@ -2,8 +2,10 @@
 from typing import Any, Iterable, List, Optional, Tuple, Union
 
 from . import _asked, _checks, _refusals
-from ._asked import AS_BYTES, AS_MARKED_TEXT, AS_TEXT, MICRO_1
-from ._library import MOST_SYMBOLS, Segment, library
+from ._asked import MICRO_1
+from ._library import Segment, library
+from ._numbers import (ALPHANUMERIC, AS_BYTES, AS_MARKED_TEXT, AS_TEXT, BYTES, ECI, FNC1_FIRST,
+                       FNC1_SECOND, KANJI, NUMERIC, SEVERAL_MAX)
 from ._fields import elements_of, string_of
 from .errors import NoSuchNumber
 from .symbol import Symbol
@@ -13,8 +15,8 @@ Version = Union[str, int]
 Segments = Iterable[Tuple[str, Union[bytes, int, None]]]
 Elements = Iterable[Tuple[str, str]]
 
-KINDS = ("numeric", "alphanumeric", "byte", "kanji", "eci", "fnc1_first", "fnc1_second")
-MODES, ECI, FNC1_SECOND = 4, 4, 6
+MODES = {"numeric": NUMERIC, "alphanumeric": ALPHANUMERIC, "byte": BYTES, "kanji": KANJI}
+KINDS = {**MODES, "eci": ECI, "fnc1_first": FNC1_FIRST, "fnc1_second": FNC1_SECOND}
 UTF_8, MOST_SET = 26, 999_999
 
 
@@ -27,6 +29,7 @@ def _one(asked: Any, said: str) -> Symbol:
     return symbol
 
 
+@_checks.named
 def encode(data: Data, level: str = "M", version: Optional[Version] = None, *,
            least_version: Optional[Version] = None, micro: bool = False, boost: bool = False,
            mask: Optional[int] = None, marked: bool = False, eci: Optional[int] = None) -> Symbol:
@@ -108,6 +111,7 @@ def encode_text(text: str, level: str = "M", marked: bool = False) -> Symbol:
     return encode(_checks.text("text", text), level, marked=marked)
 
 
+@_checks.named
 def encode_sequence(data: Data, level: str = "M", version: Optional[Version] = None, *,
                     count: Optional[int] = None, least_version: Optional[Version] = None,
                     greatest_version: Optional[Version] = None) -> List[Symbol]:
@@ -129,7 +133,7 @@ def encode_sequence(data: Data, level: str = "M", version: Optional[Version] = N
     least, most = (1 if least_version is None else least_version,
                    40 if greatest_version is None else greatest_version)
     first, last = (_checks.version(it if version is None else version) for it in (least, most))
-    wanted = 0 if count is None else _checks.whole("count", count, 1, MOST_SYMBOLS)
+    wanted = 0 if count is None else _checks.whole("count", count, 1, SEVERAL_MAX)
     asked = _asked.Parts(octets, _checks.level(level), AS_TEXT if is_text else AS_BYTES, first,
                          last, wanted)
     answer, symbols = asked.answer()
@@ -138,6 +142,7 @@ def encode_sequence(data: Data, level: str = "M", version: Optional[Version] = N
     return symbols
 
 
+@_checks.named
 def encode_segments(segments: Segments, level: str = "M",
                     version: Optional[Version] = None) -> Symbol:
     """The symbol of segments, one behind the other: of a version, or of the least version of Normal
@@ -175,8 +180,8 @@ def _segment(name: str, given: Any) -> Segment:
     kind, value = given
     if not isinstance(kind, str) or kind not in KINDS:
         raise ValueError(f"{name}: no kind {_checks.shown(kind)}: take one of {', '.join(KINDS)}")
-    at = KINDS.index(kind)
-    if at < MODES:
+    at = KINDS[kind]
+    if kind in MODES:
         data = _checks.binary(f"{name}: what is behind {_checks.shown(kind)}", value)
         return Segment(at, 0, data, len(data))
     if at in (ECI, FNC1_SECOND):
@@ -188,6 +193,7 @@ def _segment(name: str, given: Any) -> Segment:
     return Segment(at, 0, b"", 0)
 
 
+@_checks.named
 def encode_gs1(elements: Elements, level: str = "M", version: Optional[Version] = None, *,
                least_version: Optional[Version] = None, mask: Optional[int] = None) -> Symbol:
     """The smallest symbol of elements of GS1, as `contents.gs1` takes them.

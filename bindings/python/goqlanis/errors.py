@@ -1,6 +1,8 @@
 """What the library refuses, each cause under its own name."""
 from typing import Dict, Tuple, Type
 
+from . import _numbers as goq
+
 __all__ = ["Error", "NoSuchLevel", "NoSuchVersion", "LevelNotInVersion", "TooLong", "NoMode",
            "NoRoom", "NoSuchMask", "OutOfMemory", "NoSuchSize", "NotInFormat", "NotInMode",
            "NoSuchNumber", "Unread", "NoSuchSide", "NoFormat", "Damaged", "NotSpelled", "NotShown",
@@ -9,6 +11,19 @@ __all__ = ["Error", "NoSuchLevel", "NoSuchVersion", "LevelNotInVersion", "TooLon
 
 class Error(Exception):
     """The library refused; the text says what would help."""
+
+
+class WrongField(Error, ValueError):
+    """The format cannot say a field: `field` is its name, or `text` for the text as a whole."""
+
+    why = "the format cannot say it"
+
+    def __init__(self, field: str, said: str = ""):
+        super().__init__(field, said)
+        self.field, self.said = field, said
+
+    def __str__(self) -> str:
+        return self.said or f"{self.field}: {self.why}"
 
 
 class NoSuchLevel(Error, ValueError):
@@ -23,8 +38,9 @@ class LevelNotInVersion(Error, ValueError):
     """The version lacks the level."""
 
 
-class TooLong(Error, ValueError):
-    """The data is more than 1,048,576 bytes."""
+class TooLong(WrongField):
+    """A field is longer than the format allows, or data is more than 1,048,576 bytes."""
+    why = "it is longer than the format allows"
 
 
 class NoMode(Error, ValueError):
@@ -88,26 +104,32 @@ class NotJoined(Error, ValueError):
 
 
 _CAUSES: Dict[int, Tuple[Type[Error], str]] = {
-    1: (NoSuchLevel, "the levels are L, M, Q and H"),
-    2: (NoSuchVersion, "the versions are 1 to 40 and M1 to M4"),
-    3: (LevelNotInVersion, "the version lacks the level"),
-    4: (TooLong, "no symbol holds more than 7,089 bytes"),
-    5: (NoMode, "the version lacks a mode that the data needs; M3, M4 and 1 to 40 have all"),
-    6: (NoRoom, "no symbol of the asked kind holds the data"),
-    8: (OutOfMemory, "memory was refused"),
-    11: (NoSuchSize, "the picture would have more than 65,535 pixels along a side"),
-    14: (NotInMode, "the mode of a segment lacks one of its bytes"),
-    15: (NoSuchNumber, "character sets have numbers up to 999,999, applications up to 255"),
-    16: (NoSuchSide, "no version has so many modules: give them without a quiet zone"),
-    17: (NoFormat, "no format word is near each of its copies; read_any tries all positions"),
-    18: (Damaged, "a block has too many wrong codewords"),
-    19: (NotSpelled, "the bits are not segments and an end, as behind a header; read_text "
-         "reads a text that says that it is UTF-8"),
-    22: (NoSuchMask, "the masks are 0 to 7, in Micro 0 to 3"),
-    23: (NotInFormat, "PNG and SVG have colours, EPS opaque ones, and PNG alone has dpi"),
-    24: (NotShown, "the bits are not a text that readers show; read gives the bytes"),
-    30: (Unread, "the square is read in none of the sixteen positions, or has a header: "
-         "read says more, once it is upright"),
+    goq.NO_SUCH_LEVEL: (NoSuchLevel, "the levels are L, M, Q and H"),
+    goq.NO_SUCH_VERSION: (NoSuchVersion, "the versions are 1 to 40 and M1 to M4"),
+    goq.LEVEL_NOT_IN_VERSION: (LevelNotInVersion, "the version lacks the level"),
+    goq.TOO_LONG: (TooLong, "no symbol holds more than 7,089 bytes"),
+    goq.NO_MODE: (NoMode, "the version lacks a mode that the data needs; M3, M4 and 1 to 40 have "
+                  "all"),
+    goq.NO_ROOM: (NoRoom, "no symbol of the asked kind holds the data"),
+    goq.OUT_OF_MEMORY: (OutOfMemory, "memory was refused"),
+    goq.NO_SUCH_SIZE: (NoSuchSize, "the picture would have more than 65,535 modules along a side: "
+                       "take a smaller border"),
+    goq.NOT_IN_MODE: (NotInMode, "the mode of a segment lacks one of its bytes"),
+    goq.NO_SUCH_NUMBER: (NoSuchNumber, "character sets have numbers up to 999,999, applications up "
+                         "to 255"),
+    goq.NO_SUCH_SIDE: (NoSuchSide, "no version has so many modules: give them without a quiet "
+                       "zone"),
+    goq.NO_FORMAT: (NoFormat, "no format word is near each of its copies; read_any tries all "
+                    "positions"),
+    goq.DAMAGED: (Damaged, "a block has too many wrong codewords"),
+    goq.NOT_SPELLED: (NotSpelled, "the bits are not segments and an end, as behind a header; "
+                      "read_text reads a text that says that it is UTF-8"),
+    goq.NO_SUCH_MASK: (NoSuchMask, "the masks are 0 to 7, in Micro 0 to 3"),
+    goq.NOT_IN_FORMAT: (NotInFormat, "PNG and SVG have colours, EPS opaque ones, and PNG alone has "
+                        "dpi"),
+    goq.NOT_SHOWN: (NotShown, "the bits are not a text that readers show; read gives the bytes"),
+    goq.NOT_READ: (Unread, "the square is read in none of the sixteen positions, or has a header: "
+                   "read says more, once it is upright"),
 }
 
 # They are shown as the package exports them.
@@ -119,7 +141,8 @@ def refusal(answer: int, text: str = "", of: str = "") -> Error:
     """The exception that an answer of the library stands for, with a text of its own or the usual
     one, behind what it is of."""
     kind, usual = _CAUSES.get(answer, (Error, f"answer {answer} of the library"))
-    return kind(of + (text or usual))
+    said = of + (text or usual)
+    return TooLong("data", said) if kind is TooLong else kind(said)
 
 
 def refuse(answer: int, of: str = "") -> None:

@@ -4,22 +4,25 @@ import os
 from typing import Any, Iterable, NamedTuple, Sequence, Union
 
 from . import _checks, errors
+from . import _numbers as goq
 from ._checks import LEVELS, version_name
-from ._library import MOST_BYTES, MOST_SYMBOLS, AnyRead, Read, Square, library
+from ._library import AnyRead, Read, Square, library
+from ._numbers import BYTES_MAX, SEVERAL_MAX
 from .errors import NoSuchSide, NotJoined, refuse
 from .symbol import Symbol
 
 HEADED = ("a header is in front, of several symbols, GS1 or another character set than UTF-8: join "
           "reads several; save a.pbm, and the program's `goqlanis read a.pbm` reads the others")
 # Answers of calls for which another call reads the square, unless there is such a header.
-OTHERS = {19: library.goq_read_text, 24: library.goq_read}
+OTHERS = {goq.NOT_SPELLED: library.goq_read_text, goq.NOT_SHOWN: library.goq_read}
 Modules = Union[Symbol, Sequence[Sequence[bool]]]
+# The positions in the order of their numbers.
 POSITIONS = ("upright", "turned left", "upside down", "turned right", "mirrored", "flipped",
              "transposed", "antitransposed")
-JOINS = {25: "square {place} has no header of one of several symbols",
-         26: "square {place} is a part of other data than the first",
-         27: "part {place} is missing", 28: "part {place} is there twice",
-         29: "the parts are not those of the data that their headers name"}
+JOINS = {goq.NOT_SEVERAL: "square {place} has no header of one of several symbols",
+         goq.STRANGER: "square {place} is a part of other data than the first",
+         goq.MISSING: "part {place} is missing", goq.TWICE: "part {place} is there twice",
+         goq.PARITY: "the parts are not those of the data that their headers name"}
 
 
 class Reading(NamedTuple):
@@ -107,7 +110,7 @@ def join(squares: Iterable[Modules]) -> bytes:
     """
     given = [_modules_of(it) for it in _checks.listed("squares", squares, "symbols or squares")]
     rows = (Square * len(given))(*(Square(it, len(it)) for it in given))
-    out, count, place = _bytes(MOST_SYMBOLS), ctypes.c_size_t(), ctypes.c_size_t()
+    out, count, place = _bytes(SEVERAL_MAX), ctypes.c_size_t(), ctypes.c_size_t()
     answer = library.goq_join(rows, len(rows), out, len(out), ctypes.byref(count),
                               ctypes.byref(place))
     if answer in JOINS:
@@ -117,13 +120,13 @@ def join(squares: Iterable[Modules]) -> bytes:
 
 
 def _bytes(count: int = 1) -> Any:
-    return ctypes.create_string_buffer(count * MOST_BYTES)
+    return ctypes.create_string_buffer(count * BYTES_MAX)
 
 
 def _refuse(answer: int, modules: bytes) -> None:
     """Raises what an answer stands for, and says what reads the modules."""
     other = OTHERS.get(answer)
-    if other and other(modules, len(modules), _bytes(), MOST_BYTES, ctypes.byref(Read())):
+    if other and other(modules, len(modules), _bytes(), BYTES_MAX, ctypes.byref(Read())):
         raise errors.refusal(answer, HEADED)
     refuse(answer)
 

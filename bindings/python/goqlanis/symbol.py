@@ -1,6 +1,7 @@
 """A symbol, and how it is drawn."""
 import base64
 import ctypes
+import io
 import math
 import os
 import sys
@@ -9,7 +10,7 @@ from dataclasses import dataclass
 from typing import IO, Any, Optional, Tuple, Union
 
 from . import _drawing, _files
-from ._checks import shown
+from ._checks import Version, named, shown
 from ._colours import Colour
 from ._drawing import Look, Size
 from ._library import library
@@ -47,6 +48,12 @@ class Symbol:
     version: str
     level: str
 
+    def __post_init__(self) -> None:
+        if len(self.modules) != self.width ** 2:
+            raise ValueError(f"modules: {len(self.modules)} bytes are no square: give a byte for each "
+                             "module, row by row")
+        object.__setattr__(self, "version", Version(self.version))
+
     @property
     def width(self) -> int:
         """The modules along a side."""
@@ -75,6 +82,7 @@ class Symbol:
         """The modules of the quiet zone at each side that the standard asks for."""
         return 2 if self.version.startswith("M") else 4
 
+    @named
     def save(self, out: Union[Path, IO[Any]], kind: Optional[str] = None, *,
              scale: Optional[int] = None, border: Optional[int] = None,
              quiet_zone: Optional[int] = None, dark: Colour = "black", light: Colour = "white",
@@ -98,6 +106,7 @@ class Symbol:
         data += b"\n" if name == "txt" else b""
         _files.write(out, data, _drawing.KINDS[name].is_text)
 
+    @named
     def png(self, scale: Optional[int] = None, quiet_zone: Optional[int] = None, *,
             border: Optional[int] = None, dark: Colour = "black", light: Colour = "white",
             dpi: Optional[int] = None, size: Size = None) -> bytes:
@@ -109,6 +118,7 @@ class Symbol:
         """
         return self._drawn("png", Look(scale, border, quiet_zone, dark, light, dpi, size))
 
+    @named
     def svg(self, scale: Optional[int] = None, quiet_zone: Optional[int] = None, *,
             border: Optional[int] = None, dark: Colour = "black",
             light: Colour = "white", size: Size = None) -> str:
@@ -120,6 +130,7 @@ class Symbol:
         """
         return self._drawn("svg", Look(scale, border, quiet_zone, dark, light, size=size)).decode()
 
+    @named
     def eps(self, scale: Optional[int] = None, quiet_zone: Optional[int] = None, *,
             border: Optional[int] = None, dark: Colour = "black",
             light: Colour = "white", size: Size = None) -> str:
@@ -131,6 +142,7 @@ class Symbol:
         """
         return self._drawn("eps", Look(scale, border, quiet_zone, dark, light, size=size)).decode()
 
+    @named
     def pbm(self, scale: Optional[int] = None, quiet_zone: Optional[int] = None, *,
             border: Optional[int] = None, size: Size = None) -> bytes:
         """A PBM file: black and white pixels, eight in a byte.
@@ -141,11 +153,13 @@ class Symbol:
         """
         return self._drawn("pbm", Look(scale, border, quiet_zone, size=size))
 
+    @named
     def grey(self, scale: Optional[int] = None, quiet_zone: Optional[int] = None, *,
              border: Optional[int] = None, size: Size = None) -> bytes:
         """Rows of pixels, a byte each: 0 for a dark one and 255 for a light one."""
         return self._drawn("grey", Look(scale, border, quiet_zone, size=size))
 
+    @named
     def pic(self, scale: Optional[int] = None, quiet_zone: Optional[int] = None, *,
             border: Optional[int] = None, size: Size = None) -> str:
         """A PIC text."""
@@ -168,6 +182,14 @@ class Symbol:
         if out.isatty() and not os.environ.get("NO_COLOR"):
             lines = [f"{BLACK_ON_WHITE}{line}{USUAL_COLOURS}" for line in lines]
         out.write("\n".join(lines) + "\n")
+
+    def to_pil(self, **drawing: Any) -> Any:
+        """What `png` gives as an image of Pillow, which has to be installed."""
+        try:
+            from PIL import Image
+        except ImportError:
+            raise ImportError("to_pil needs Pillow: pip install pillow, or take png()") from None
+        return Image.open(io.BytesIO(self.png(**drawing)))
 
     def svg_inline(self, **drawing: Any) -> str:
         """What `svg` gives, without the XML head, to stand in a page of HTML.

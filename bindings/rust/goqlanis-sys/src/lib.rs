@@ -2,6 +2,8 @@
 #![no_std]
 #![allow(non_camel_case_types)]
 
+// From goqlanis.h, by bindings/same:
+pub const GOQ_VERSION: u32 = 10000;
 pub const GOQ_OK: u32 = 0;
 pub const GOQ_NO_SUCH_LEVEL: u32 = 1;
 pub const GOQ_NO_SUCH_VERSION: u32 = 2;
@@ -45,7 +47,10 @@ pub const GOQ_FIELD_RANGE: u32 = 40;
 pub const GOQ_FIELD_UNUSED: u32 = 41;
 pub const GOQ_NO_SUCH_IDENTIFIER: u32 = 42;
 pub const GOQ_ELEMENT_LENGTH: u32 = 43;
-
+pub const GOQ_L: u32 = 0;
+pub const GOQ_M: u32 = 1;
+pub const GOQ_Q: u32 = 2;
+pub const GOQ_H: u32 = 3;
 pub const GOQ_HALF_BLOCKS: u32 = 0;
 pub const GOQ_LIGHT_HALF_BLOCKS: u32 = 1;
 pub const GOQ_SVG: u32 = 2;
@@ -55,7 +60,7 @@ pub const GOQ_PNG: u32 = 5;
 pub const GOQ_EPS: u32 = 6;
 pub const GOQ_PBM: u32 = 7;
 pub const GOQ_SVG_PATH: u32 = 8;
-
+pub const GOQ_FORMATS: u32 = 9;
 pub const GOQ_NUMERIC: u32 = 0;
 pub const GOQ_ALPHANUMERIC: u32 = 1;
 pub const GOQ_BYTES: u32 = 2;
@@ -63,7 +68,6 @@ pub const GOQ_KANJI: u32 = 3;
 pub const GOQ_ECI: u32 = 4;
 pub const GOQ_FNC1_FIRST: u32 = 5;
 pub const GOQ_FNC1_SECOND: u32 = 6;
-
 pub const GOQ_WIFI: u32 = 0;
 pub const GOQ_MECARD: u32 = 1;
 pub const GOQ_VCARD: u32 = 2;
@@ -77,16 +81,157 @@ pub const GOQ_TOTP: u32 = 9;
 pub const GOQ_HOTP: u32 = 10;
 pub const GOQ_EVENT: u32 = 11;
 pub const GOQ_DAYS: u32 = 12;
-
+pub const GOQ_WIFI_SSID: u32 = 0;
+pub const GOQ_WIFI_PASSWORD: u32 = 1;
+pub const GOQ_WIFI_SECURITY: u32 = 2;
+pub const GOQ_WIFI_HIDDEN: u32 = 3;
+pub const GOQ_WIFI_FIELDS: u32 = 4;
+pub const GOQ_BY_PASSWORD: u32 = 0;
+pub const GOQ_OPEN: u32 = 1;
+pub const GOQ_WEP: u32 = 2;
+pub const GOQ_WPA: u32 = 3;
+pub const GOQ_WPA3: u32 = 4;
+pub const GOQ_MECARD_FAMILY: u32 = 0;
+pub const GOQ_MECARD_GIVEN: u32 = 1;
+pub const GOQ_MECARD_PHONE: u32 = 2;
+pub const GOQ_MECARD_EMAIL: u32 = 3;
+pub const GOQ_MECARD_URL: u32 = 4;
+pub const GOQ_MECARD_BIRTHDAY: u32 = 5;
+pub const GOQ_MECARD_NOTE: u32 = 6;
+pub const GOQ_MECARD_STREET: u32 = 7;
+pub const GOQ_MECARD_CITY: u32 = 8;
+pub const GOQ_MECARD_REGION: u32 = 9;
+pub const GOQ_MECARD_CODE: u32 = 10;
+pub const GOQ_MECARD_COUNTRY: u32 = 11;
+pub const GOQ_MECARD_FIELDS: u32 = 12;
+pub const GOQ_VCARD_NAME: u32 = 0;
+pub const GOQ_VCARD_FAMILY: u32 = 1;
+pub const GOQ_VCARD_GIVEN: u32 = 2;
+pub const GOQ_VCARD_ORGANISATION: u32 = 3;
+pub const GOQ_VCARD_PHONE: u32 = 4;
+pub const GOQ_VCARD_EMAIL: u32 = 5;
+pub const GOQ_VCARD_URL: u32 = 6;
+pub const GOQ_VCARD_STREET: u32 = 7;
+pub const GOQ_VCARD_CITY: u32 = 8;
+pub const GOQ_VCARD_REGION: u32 = 9;
+pub const GOQ_VCARD_CODE: u32 = 10;
+pub const GOQ_VCARD_COUNTRY: u32 = 11;
+pub const GOQ_VCARD_NOTE: u32 = 12;
+pub const GOQ_VCARD_FIELDS: u32 = 13;
+pub const GOQ_PAYMENT_NAME: u32 = 0;
+pub const GOQ_PAYMENT_IBAN: u32 = 1;
+pub const GOQ_PAYMENT_AMOUNT: u32 = 2;
+pub const GOQ_PAYMENT_BIC: u32 = 3;
+pub const GOQ_PAYMENT_PURPOSE: u32 = 4;
+pub const GOQ_PAYMENT_REFERENCE: u32 = 5;
+pub const GOQ_PAYMENT_MESSAGE: u32 = 6;
+pub const GOQ_PAYMENT_INFORMATION: u32 = 7;
+pub const GOQ_PAYMENT_FIELDS: u32 = 8;
+pub const GOQ_BILL_IBAN: u32 = 0;
+pub const GOQ_BILL_NAME: u32 = 1;
+pub const GOQ_BILL_STREET: u32 = 2;
+pub const GOQ_BILL_NUMBER: u32 = 3;
+pub const GOQ_BILL_CODE: u32 = 4;
+pub const GOQ_BILL_CITY: u32 = 5;
+pub const GOQ_BILL_COUNTRY: u32 = 6;
+pub const GOQ_BILL_AMOUNT: u32 = 7;
+pub const GOQ_BILL_CURRENCY: u32 = 8;
+pub const GOQ_BILL_REFERENCE: u32 = 9;
+pub const GOQ_BILL_MESSAGE: u32 = 10;
+pub const GOQ_BILL_DEBTOR_NAME: u32 = 11;
+pub const GOQ_BILL_DEBTOR_STREET: u32 = 12;
+pub const GOQ_BILL_DEBTOR_NUMBER: u32 = 13;
+pub const GOQ_BILL_DEBTOR_CODE: u32 = 14;
+pub const GOQ_BILL_DEBTOR_CITY: u32 = 15;
+pub const GOQ_BILL_DEBTOR_COUNTRY: u32 = 16;
+pub const GOQ_BILL_FIELDS: u32 = 17;
+pub const GOQ_CHF: u32 = 0;
+pub const GOQ_EUR: u32 = 1;
+pub const GOQ_MAIL_ADDRESS: u32 = 0;
+pub const GOQ_MAIL_SUBJECT: u32 = 1;
+pub const GOQ_MAIL_BODY: u32 = 2;
+pub const GOQ_MAIL_FIELDS: u32 = 3;
+pub const GOQ_GEO_LATITUDE: u32 = 0;
+pub const GOQ_GEO_LONGITUDE: u32 = 1;
+pub const GOQ_GEO_FIELDS: u32 = 2;
+pub const GOQ_TEL_NUMBER: u32 = 0;
+pub const GOQ_TEL_FIELDS: u32 = 1;
+pub const GOQ_SMS_NUMBER: u32 = 0;
+pub const GOQ_SMS_BODY: u32 = 1;
+pub const GOQ_SMS_FIELDS: u32 = 2;
+pub const GOQ_TOTP_ACCOUNT: u32 = 0;
+pub const GOQ_TOTP_SECRET: u32 = 1;
+pub const GOQ_TOTP_ISSUER: u32 = 2;
+pub const GOQ_TOTP_ALGORITHM: u32 = 3;
+pub const GOQ_TOTP_DIGITS: u32 = 4;
+pub const GOQ_TOTP_PERIOD: u32 = 5;
+pub const GOQ_TOTP_FIELDS: u32 = 6;
+pub const GOQ_HOTP_ACCOUNT: u32 = 0;
+pub const GOQ_HOTP_SECRET: u32 = 1;
+pub const GOQ_HOTP_ISSUER: u32 = 2;
+pub const GOQ_HOTP_ALGORITHM: u32 = 3;
+pub const GOQ_HOTP_DIGITS: u32 = 4;
+pub const GOQ_HOTP_COUNTER: u32 = 5;
+pub const GOQ_HOTP_FIELDS: u32 = 6;
+pub const GOQ_SHA1: u32 = 0;
+pub const GOQ_SHA256: u32 = 1;
+pub const GOQ_SHA512: u32 = 2;
+pub const GOQ_SIX_DIGITS: u32 = 0;
+pub const GOQ_EIGHT_DIGITS: u32 = 1;
+pub const GOQ_EVENT_UID: u32 = 0;
+pub const GOQ_EVENT_STAMP: u32 = 1;
+pub const GOQ_EVENT_BEGIN: u32 = 2;
+pub const GOQ_EVENT_END: u32 = 3;
+pub const GOQ_EVENT_SUMMARY: u32 = 4;
+pub const GOQ_EVENT_LOCATION: u32 = 5;
+pub const GOQ_EVENT_DESCRIPTION: u32 = 6;
+pub const GOQ_EVENT_FIELDS: u32 = 7;
 pub const GOQ_AS_BYTES: u32 = 0;
 pub const GOQ_AS_TEXT: u32 = 1;
 pub const GOQ_AS_MARKED_TEXT: u32 = 2;
-
+pub const GOQ_SEVERAL_MAX: usize = 16;
+pub const GOQ_MODULES_MAX: usize = 31329;
+pub const GOQ_BYTES_MAX: usize = 7089;
+pub const GOQ_UPRIGHT: u32 = 0;
+pub const GOQ_TURNED_LEFT: u32 = 1;
+pub const GOQ_UPSIDE_DOWN: u32 = 2;
+pub const GOQ_TURNED_RIGHT: u32 = 3;
+pub const GOQ_MIRRORED: u32 = 4;
+pub const GOQ_FLIPPED: u32 = 5;
+pub const GOQ_TRANSPOSED: u32 = 6;
+pub const GOQ_ANTITRANSPOSED: u32 = 7;
 pub const GOQ_INVERTED: u32 = 8;
+pub const GOQ_OPTIONS: goq_options = goq_options {
+    size: core::mem::size_of::<goq_options>() as u32,
+    level: GOQ_M,
+    manner: GOQ_AS_BYTES,
+    version: 0,
+    least_version: 1,
+    boost: 0,
+    mask: 0,
+};
+pub const GOQ_SEVERAL: goq_several = goq_several {
+    size: core::mem::size_of::<goq_several>() as u32,
+    level: GOQ_M,
+    manner: GOQ_AS_BYTES,
+    least_version: 1,
+    greatest_version: 40,
+    count: 0,
+};
+pub const GOQ_DRAWING: goq_drawing = goq_drawing {
+    size: core::mem::size_of::<goq_drawing>() as u32,
+    format: GOQ_PNG,
+    zone: 4,
+    scale: 8,
+    dark: 0x000000,
+    light: 0xffffff,
+    dpi: 0,
+};
+// Up to here.
 
 /// What is asked of a symbol.
 #[repr(C)]
-#[derive(Clone, Copy, Debug)]
+#[derive(Clone, Copy, Debug, PartialEq, Eq)]
 pub struct goq_options {
     pub size: u32,
     pub level: u32,
@@ -99,7 +244,7 @@ pub struct goq_options {
 
 /// What is asked of symbols between which data is parted.
 #[repr(C)]
-#[derive(Clone, Copy, Debug)]
+#[derive(Clone, Copy, Debug, PartialEq, Eq)]
 pub struct goq_several {
     pub size: u32,
     pub level: u32,
@@ -108,8 +253,6 @@ pub struct goq_several {
     pub greatest_version: u32,
     pub count: u32,
 }
-
-pub const GOQ_SEVERAL_MAX: usize = 16;
 
 /// A square of modules.
 #[repr(C)]
@@ -121,7 +264,7 @@ pub struct goq_square {
 
 /// How modules are drawn.
 #[repr(C)]
-#[derive(Clone, Copy, Debug)]
+#[derive(Clone, Copy, Debug, PartialEq, Eq)]
 pub struct goq_drawing {
     pub size: u32,
     pub format: u32,
@@ -139,12 +282,6 @@ pub struct goq_any_reading {
     pub reading: goq_reading,
     pub position: u32,
 }
-
-/// This many bytes hold the modules of every symbol.
-pub const GOQ_MODULES_MAX: usize = 177 * 177;
-
-/// This many bytes hold what is read of every symbol.
-pub const GOQ_BYTES_MAX: usize = 7089;
 
 /// What a symbol is beside its modules.
 #[repr(C)]

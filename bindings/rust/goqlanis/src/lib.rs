@@ -13,7 +13,7 @@
 //! ```
 use goqlanis_sys as sys;
 use std::fmt;
-use std::ops::Index;
+use std::ops::{Index, Not};
 
 pub mod contents;
 pub mod reading;
@@ -72,7 +72,7 @@ fn accepted(answer: u32) -> QrResult<()> {
 }
 
 /// A version: `Normal` 1 to 40, `Micro` 1 to 4.
-#[derive(Clone, Copy, Debug, PartialEq, Eq)]
+#[derive(Clone, Copy, Debug, PartialEq, Eq, Hash)]
 pub enum Version {
     Normal(i16),
     Micro(i16),
@@ -96,6 +96,7 @@ impl Version {
         }
     }
 
+    /// Whether it is one of Micro QR.
     pub fn is_micro(self) -> bool {
         matches!(self, Version::Micro(_))
     }
@@ -122,7 +123,7 @@ impl Version {
 }
 
 /// An error correction level.
-#[derive(Clone, Copy, Debug, PartialEq, Eq, PartialOrd, Ord)]
+#[derive(Clone, Copy, Debug, PartialEq, Eq, PartialOrd, Ord, Hash)]
 pub enum EcLevel {
     L,
     M,
@@ -231,14 +232,37 @@ impl Options {
 }
 
 /// The colour of a module.
-#[derive(Clone, Copy, Debug, PartialEq, Eq)]
+#[derive(Clone, Copy, Debug, PartialEq, Eq, PartialOrd, Ord, Hash)]
 pub enum Color {
     Light,
     Dark,
 }
 
+impl Color {
+    /// The first for a dark module, and the second for a light one.
+    pub fn select<T>(self, dark: T, light: T) -> T {
+        match self {
+            Color::Dark => dark,
+            Color::Light => light,
+        }
+    }
+}
+
+impl Not for Color {
+    type Output = Color;
+
+    fn not(self) -> Color {
+        self.select(Color::Light, Color::Dark)
+    }
+}
+
+/// The types of symbols, as the crate `qrcode` has them.
+pub mod types {
+    pub use crate::{Color, EcLevel, QrError, QrResult, Version};
+}
+
 /// A symbol.
-#[derive(Clone, Debug)]
+#[derive(Clone, Debug, PartialEq, Eq, Hash)]
 pub struct QrCode {
     modules: Vec<u8>,
     version: Version,
@@ -381,10 +405,12 @@ impl QrCode {
         QrCode { modules, version, ec_level, width: known.width as usize }
     }
 
+    /// The version.
     pub fn version(&self) -> Version {
         self.version
     }
 
+    /// The error correction level.
     pub fn error_correction_level(&self) -> EcLevel {
         self.ec_level
     }
@@ -394,9 +420,10 @@ impl QrCode {
         self.width
     }
 
-    /// Whether a module belongs to a pattern or to the format word.
+    /// Whether a module belongs to a pattern or to the format word; `false` outside the symbol.
     pub fn is_functional(&self, x: usize, y: usize) -> bool {
-        unsafe { sys::goq_is_functional(self.version.number(), x as u32, y as u32) }
+        let is_inside = x < self.width && y < self.width;
+        is_inside && unsafe { sys::goq_is_functional(self.version.number(), x as u32, y as u32) }
     }
 
     /// Whether each module is dark, row by row.
@@ -404,9 +431,24 @@ impl QrCode {
         self.modules.iter().map(|module| *module != 0).collect()
     }
 
+    /// Whether each module is dark, row by row.
+    pub fn into_vec(self) -> Vec<bool> {
+        self.to_vec()
+    }
+
     /// The colour of each module, row by row.
     pub fn to_colors(&self) -> Vec<Color> {
         self.modules.iter().map(|module| if *module != 0 { Color::Dark } else { Color::Light }).collect()
+    }
+
+    /// The colour of each module, row by row.
+    pub fn into_colors(self) -> Vec<Color> {
+        self.to_colors()
+    }
+
+    /// The modules as lines of characters, without a quiet zone.
+    pub fn to_debug_str(&self, on_char: char, off_char: char) -> String {
+        self.render().quiet_zone(false).dark_color(on_char).light_color(off_char).build()
     }
 
     /// A renderer, with a quiet zone of four modules, or of two for Micro.
@@ -419,8 +461,18 @@ impl Index<(usize, usize)> for QrCode {
     type Output = Color;
 
     fn index(&self, (x, y): (usize, usize)) -> &Color {
-        assert!(x < self.width);
+        assert!(x < self.width && y < self.width, "({x}, {y}) is outside the symbol");
         if self.modules[y * self.width + x] != 0 { &Color::Dark } else { &Color::Light }
+    }
+}
+
+#[cfg(test)]
+mod tests {
+    use super::*;
+
+    #[test]
+    fn defaults() {
+        assert_eq!(Options::default().given(), sys::GOQ_OPTIONS);
     }
 }
 

@@ -1,131 +1,58 @@
-//! Pictures of a symbol: characters, half blocks, SVG, PIC, EPS, PNG, PBM and rows of grey pixels, drawn by the library.
+//! Pictures of a symbol: characters, half blocks, SVG, PIC, EPS, PNG, PBM, PGM and rows of grey pixels, drawn by the library.
 use goqlanis_sys as sys;
-use std::marker::PhantomData;
+use std::fmt;
 
 mod sealed {
     pub trait Sealed {}
 }
 
-/// What a picture is drawn in: one of the types of this module.
-pub trait Pixel: sealed::Sealed {
+/// Why a picture is not drawn.
+#[derive(Clone, Copy, Debug, PartialEq, Eq)]
+pub enum RenderError {
+    /// A PNG file would have more than 65,535 pixels a side, or any picture more than 65,535 modules a side.
+    TooLarge,
+    /// Memory was refused.
+    OutOfMemory,
+}
+
+impl fmt::Display for RenderError {
+    fn fmt(&self, out: &mut fmt::Formatter<'_>) -> fmt::Result {
+        out.write_str(match self {
+            RenderError::TooLarge => "the picture would be too large: take a smaller module size",
+            RenderError::OutOfMemory => "out of memory",
+        })
+    }
+}
+
+impl std::error::Error for RenderError {}
+
+/// What a picture is drawn in: one of the types of this module. A value of it stands for dark or for light modules.
+pub trait Pixel: Copy + sealed::Sealed {
     /// What a picture is.
     type Image;
 
     #[doc(hidden)]
-    const SCALE: u32;
+    const SIZE: u32;
 
     #[doc(hidden)]
-    fn format(inverted: bool) -> u32;
+    fn default_color(is_dark: bool) -> Self;
 
     #[doc(hidden)]
-    fn image(bytes: Vec<u8>, across: usize, chars: (char, char)) -> Self::Image;
-}
-
-// A type that names a format: the image that it gives, its pixels a module, its number, and how its bytes are the image.
-macro_rules! pixel {
-    ($type:path, $image:ty, $scale:expr, $format:expr, $made:expr) => {
-        impl sealed::Sealed for $type {}
-        impl Pixel for $type {
-            type Image = $image;
-            const SCALE: u32 = $scale;
-            fn format(inverted: bool) -> u32 {
-                $format(inverted)
-            }
-            fn image(bytes: Vec<u8>, _across: usize, _chars: (char, char)) -> $image {
-                $made(bytes)
-            }
-        }
-    };
-}
-
-// The same with the module that has the type.
-macro_rules! file_format {
-    ($about:literal, $module:ident::$type:ident, $image:ty, $scale:expr, $number:ident, $made:expr) => {
-        pub mod $module {
-            #[doc = $about]
-            pub struct $type;
-        }
-        pixel!($module::$type, $image, $scale, |_| sys::$number, $made);
-    };
-}
-
-fn text(bytes: Vec<u8>) -> String {
-    String::from_utf8(bytes).expect("the library writes UTF-8")
-}
-
-fn file(bytes: Vec<u8>) -> Vec<u8> {
-    bytes
-}
-
-file_format!("An SVG text.", svg::Color, String, 8, GOQ_SVG, text);
-file_format!("An SVG text of one path.", svg_path::Color, String, 8, GOQ_SVG_PATH, text);
-file_format!("A PIC text.", pic::Color, String, 8, GOQ_PIC, text);
-file_format!("An Encapsulated PostScript text.", eps::Color, String, 8, GOQ_EPS, text);
-file_format!("The bytes of a PNG file.", png::Color, Vec<u8>, 8, GOQ_PNG, file);
-file_format!("The bytes of a PBM file.", pbm::Bit, Vec<u8>, 8, GOQ_PBM, file);
-
-/// A colour, and how opaque it is, each from 0 to 255. EPS has opaque ones alone.
-#[derive(Clone, Copy, Debug, PartialEq, Eq)]
-pub struct Rgba(pub u8, pub u8, pub u8, pub u8);
-
-/// What has colours.
-pub trait Coloured: Pixel {}
-
-impl Coloured for svg::Color {}
-impl Coloured for svg_path::Color {}
-impl Coloured for eps::Color {}
-impl Coloured for png::Color {}
-
-/// Rows of pixels, a byte each.
-pub struct Luma;
-
-pixel!(Luma, Vec<u8>, 8, |_| sys::GOQ_GREY, file);
-
-pub mod unicode {
-    /// Two modules a character, one above the other.
-    #[derive(Clone, Copy, Debug, PartialEq, Eq)]
-    pub enum Dense1x2 {
-        Dark,
-        Light,
-    }
-}
-
-fn half_blocks(inverted: bool) -> u32 {
-    if inverted { sys::GOQ_LIGHT_HALF_BLOCKS } else { sys::GOQ_HALF_BLOCKS }
-}
-
-pixel!(unicode::Dense1x2, String, 1, half_blocks, text);
-
-impl sealed::Sealed for char {}
-
-/// A character a pixel, and a newline between two rows.
-impl Pixel for char {
-    type Image = String;
-    const SCALE: u32 = 1;
-
-    fn format(_inverted: bool) -> u32 {
-        sys::GOQ_GREY
-    }
-
-    fn image(bytes: Vec<u8>, across: usize, (dark, light): (char, char)) -> String {
-        let line = |row: &[u8]| row.iter().map(|grey| if *grey == 0 { dark } else { light }).collect::<String>();
-        bytes.chunks(across).map(line).collect::<Vec<_>>().join("\n")
-    }
+    fn picture(renderer: &Renderer<'_, Self>) -> Result<Self::Image, RenderError>;
 }
 
 /// Draws a symbol as it is set.
+#[derive(Clone, Copy, Debug)]
 pub struct Renderer<'a, P> {
     modules: &'a [u8],
     width: usize,
     zone: u32,
     whole_zone: u32,
-    scale: u32,
-    dark: u32,
-    light: u32,
+    across: u32,
+    down: u32,
+    dark: P,
+    light: P,
     dpi: u32,
-    inverted: bool,
-    chars: (char, char),
-    pixel: PhantomData<P>,
 }
 
 impl<'a, P: Pixel> Renderer<'a, P> {
@@ -135,14 +62,24 @@ impl<'a, P: Pixel> Renderer<'a, P> {
             width,
             zone,
             whole_zone: zone,
-            scale: P::SCALE,
-            dark: 0,
-            light: 0x00ff_ffff,
+            across: P::SIZE,
+            down: P::SIZE,
+            dark: P::default_color(true),
+            light: P::default_color(false),
             dpi: 0,
-            inverted: false,
-            chars: ('\u{2588}', ' '),
-            pixel: PhantomData,
         }
+    }
+
+    /// What stands for dark modules.
+    pub fn dark_color(&mut self, color: P) -> &mut Self {
+        self.dark = color;
+        self
+    }
+
+    /// What stands for light modules and the quiet zone.
+    pub fn light_color(&mut self, color: P) -> &mut Self {
+        self.light = color;
+        self
     }
 
     /// Switches the quiet zone on or off.
@@ -153,17 +90,18 @@ impl<'a, P: Pixel> Renderer<'a, P> {
 
     /// The pixels of a module across and down, 1 to 65,535.
     pub fn module_size(&mut self, size: u32) -> &mut Self {
-        self.scale = size.clamp(1, 65_535);
+        self.across = size.clamp(1, 65_535);
+        self.down = self.across;
         self
     }
 
-    /// The least module size at which the picture has so many pixels across and down. A module is as wide as it is high.
+    /// The smallest module size at which the picture has that many pixels across and down. A module is as wide as it is high.
     pub fn min_dimensions(&mut self, width: u32, height: u32) -> &mut Self {
         let side = self.side();
         self.module_size((width.max(height).max(1) - 1) / side + 1)
     }
 
-    /// The greatest module size at which the picture has no more pixels across and down, but at least 1.
+    /// The largest module size at which the picture has no more pixels across and down, but at least 1.
     pub fn max_dimensions(&mut self, width: u32, height: u32) -> &mut Self {
         let side = self.side();
         self.module_size(width.min(height) / side)
@@ -176,46 +114,171 @@ impl<'a, P: Pixel> Renderer<'a, P> {
 
     /// The picture.
     ///
-    /// Panics where memory is refused, a PNG file would have more than 65,535 pixels a side, or a
-    /// colour of EPS is not opaque.
+    /// # Panics
+    ///
+    /// Where `try_build` gives an error.
     pub fn build(&self) -> P::Image {
-        let drawing = sys::goq_drawing {
-            size: std::mem::size_of::<sys::goq_drawing>() as u32,
-            format: P::format(self.inverted),
-            zone: self.zone,
-            scale: self.scale,
-            dark: self.dark,
-            light: self.light,
-            dpi: self.dpi,
-        };
+        self.try_build().unwrap_or_else(|error| panic!("{error}"))
+    }
+
+    /// The picture, as `build` gives it.
+    pub fn to_image(&self) -> P::Image {
+        self.build()
+    }
+
+    /// The picture, or why it is not drawn.
+    pub fn try_build(&self) -> Result<P::Image, RenderError> {
+        P::picture(self)
+    }
+
+    // The bytes of the picture in a format of the library, in these colours.
+    fn drawn(&self, format: u32, dark: u32, light: u32) -> Result<Vec<u8>, RenderError> {
+        let drawing = sys::goq_drawing { format, zone: self.zone, scale: self.across, dark, light, dpi: self.dpi, ..sys::GOQ_DRAWING };
         let (modules, length, width) = (self.modules.as_ptr(), self.modules.len(), self.width as u32);
         let mut count = 0;
-        let answer = unsafe { sys::goq_draw_with_length(modules, length, width, &drawing, &mut count) };
-        assert_eq!(answer, sys::GOQ_OK, "memory was refused, or there is no such picture");
-        let mut bytes = vec![0; count];
+        // SAFETY: the lengths are those of the buffers.
+        accepted(unsafe { sys::goq_draw_with_length(modules, length, width, &drawing, &mut count) })?;
+        let mut bytes = Vec::new();
+        bytes.try_reserve_exact(count).map_err(|_| RenderError::OutOfMemory)?;
+        bytes.resize(count, 0);
         let out = bytes.as_mut_ptr();
-        let answer = unsafe { sys::goq_draw_with(modules, length, width, &drawing, out, count, &mut count) };
-        assert_eq!(answer, sys::GOQ_OK, "memory was refused");
-        P::image(bytes, (self.side() * self.scale) as usize, self.chars)
+        // SAFETY: the same.
+        accepted(unsafe { sys::goq_draw_with(modules, length, width, &drawing, out, count, &mut count) })?;
+        Ok(bytes)
+    }
+
+    // The same in black on white.
+    fn plain(&self, format: u32) -> Result<Vec<u8>, RenderError> {
+        self.drawn(format, sys::GOQ_DRAWING.dark, sys::GOQ_DRAWING.light)
+    }
+
+    // The same as a text.
+    fn text(&self, format: u32) -> Result<String, RenderError> {
+        Ok(String::from_utf8(self.plain(format)?).expect("the library writes UTF-8"))
     }
 }
 
-// A colour as the library takes it: its transparency, red, green and blue.
-fn word_of(Rgba(red, green, blue, opacity): Rgba) -> u32 {
-    u32::from_be_bytes([255 - opacity, red, green, blue])
+fn accepted(answer: u32) -> Result<(), RenderError> {
+    match answer {
+        sys::GOQ_OK => Ok(()),
+        sys::GOQ_NO_SUCH_SIZE => Err(RenderError::TooLarge),
+        _ => Err(RenderError::OutOfMemory),
+    }
 }
 
-impl<P: Coloured> Renderer<'_, P> {
-    /// The colour of dark modules.
-    pub fn dark_color(&mut self, color: Rgba) -> &mut Self {
-        self.dark = word_of(color);
-        self
+// A format whose values have no colours.
+macro_rules! file_format {
+    ($about:literal, $module:ident::$type:ident, $image:ty, $size:expr, $number:ident, $drawn:ident) => {
+        pub mod $module {
+            #[doc = $about]
+            #[derive(Clone, Copy, Debug, Default, PartialEq, Eq)]
+            pub struct $type;
+        }
+        impl sealed::Sealed for $module::$type {}
+        impl Pixel for $module::$type {
+            type Image = $image;
+            const SIZE: u32 = $size;
+            fn default_color(_is_dark: bool) -> Self {
+                $module::$type
+            }
+            fn picture(renderer: &Renderer<'_, Self>) -> Result<$image, RenderError> {
+                renderer.$drawn(sys::$number)
+            }
+        }
+    };
+}
+
+file_format!("A PIC text.", pic::Color, String, 8, GOQ_PIC, text);
+file_format!("The bytes of a PBM file.", pbm::Bit, Vec<u8>, 8, GOQ_PBM, plain);
+file_format!("Rows of pixels, a byte each: 0 for a dark one, 255 for a light one.", grey::Luma, Vec<u8>, 8, GOQ_GREY, plain);
+
+pub use grey::Luma;
+
+// A format of SVG, whose colours are texts.
+macro_rules! svg_format {
+    ($about:literal, $module:ident, $number:ident) => {
+        pub mod $module {
+            #[doc = $about]
+            #[derive(Clone, Copy, Debug, PartialEq, Eq)]
+            pub struct Color<'a>(pub &'a str);
+        }
+        impl sealed::Sealed for $module::Color<'_> {}
+        impl Pixel for $module::Color<'_> {
+            type Image = String;
+            const SIZE: u32 = 8;
+            fn default_color(is_dark: bool) -> Self {
+                $module::Color(if is_dark { "#000" } else { "#fff" })
+            }
+            fn picture(renderer: &Renderer<'_, Self>) -> Result<String, RenderError> {
+                Ok(filled(&renderer.text(sys::$number)?, renderer.dark.0, renderer.light.0))
+            }
+        }
+    };
+}
+
+svg_format!("A colour of an SVG text, as CSS has it: `svg::Color(\"#800000\")`, `svg::Color(\"navy\")`.", svg, GOQ_SVG);
+svg_format!("A colour of an SVG text of one path, as CSS has it.", svg_path, GOQ_SVG_PATH);
+
+// A black and white SVG text in other colours.
+fn filled(text: &str, dark: &str, light: &str) -> String {
+    let escaped = |color: &str| color.replace('&', "&amp;").replace('"', "&quot;").replace('<', "&lt;");
+    let parts: Vec<&str> = text.split("fill=\"#").collect();
+    let mut colored = String::from(parts[0]);
+    for part in &parts[1..] {
+        let color = if part.starts_with("000\"") { dark } else { light };
+        colored += &format!("fill=\"{}{}", escaped(color), &part[3..]);
+    }
+    colored
+}
+
+pub mod eps {
+    /// A colour of an Encapsulated PostScript text.
+    #[derive(Clone, Copy, Debug, PartialEq, Eq)]
+    pub struct Color {
+        pub red: u8,
+        pub green: u8,
+        pub blue: u8,
+    }
+}
+
+impl sealed::Sealed for eps::Color {}
+
+impl Pixel for eps::Color {
+    type Image = String;
+    const SIZE: u32 = 8;
+
+    fn default_color(is_dark: bool) -> Self {
+        let grey = if is_dark { 0 } else { 255 };
+        eps::Color { red: grey, green: grey, blue: grey }
     }
 
-    /// The colour of light modules and of the quiet zone.
-    pub fn light_color(&mut self, color: Rgba) -> &mut Self {
-        self.light = word_of(color);
-        self
+    fn picture(renderer: &Renderer<'_, Self>) -> Result<String, RenderError> {
+        let word = |it: eps::Color| u32::from_be_bytes([0, it.red, it.green, it.blue]);
+        let bytes = renderer.drawn(sys::GOQ_EPS, word(renderer.dark), word(renderer.light))?;
+        Ok(String::from_utf8(bytes).expect("the library writes UTF-8"))
+    }
+}
+
+pub mod png {
+    /// Red, green, blue and opacity of a PNG file, each from 0 to 255.
+    #[derive(Clone, Copy, Debug, PartialEq, Eq)]
+    pub struct Color(pub [u8; 4]);
+}
+
+impl sealed::Sealed for png::Color {}
+
+impl Pixel for png::Color {
+    type Image = Vec<u8>;
+    const SIZE: u32 = 8;
+
+    fn default_color(is_dark: bool) -> Self {
+        let grey = if is_dark { 0 } else { 255 };
+        png::Color([grey, grey, grey, 255])
+    }
+
+    fn picture(renderer: &Renderer<'_, Self>) -> Result<Vec<u8>, RenderError> {
+        let word = |png::Color([red, green, blue, opacity])| u32::from_be_bytes([255 - opacity, red, green, blue]);
+        renderer.drawn(sys::GOQ_PNG, word(renderer.dark), word(renderer.light))
     }
 }
 
@@ -227,30 +290,69 @@ impl Renderer<'_, png::Color> {
     }
 }
 
-impl Renderer<'_, unicode::Dense1x2> {
-    /// What stands for dark modules; light ones get the other.
-    pub fn dark_color(&mut self, color: unicode::Dense1x2) -> &mut Self {
-        self.inverted = color == unicode::Dense1x2::Light;
-        self
+pub mod unicode {
+    /// Half blocks, two modules a character: whether there is a block, or none.
+    #[derive(Clone, Copy, Debug, PartialEq, Eq)]
+    pub enum Dense1x2 {
+        /// A block.
+        Dark,
+        /// None.
+        Light,
+    }
+}
+
+use unicode::Dense1x2::{Dark, Light};
+
+impl sealed::Sealed for unicode::Dense1x2 {}
+
+impl Pixel for unicode::Dense1x2 {
+    type Image = String;
+    const SIZE: u32 = 1;
+
+    fn default_color(is_dark: bool) -> Self {
+        if is_dark { Dark } else { Light }
     }
 
-    /// What stands for light modules; dark ones get the other.
-    pub fn light_color(&mut self, color: unicode::Dense1x2) -> &mut Self {
-        self.inverted = color == unicode::Dense1x2::Dark;
-        self
+    fn picture(renderer: &Renderer<'_, Self>) -> Result<String, RenderError> {
+        match (renderer.dark, renderer.light) {
+            (Dark, Light) => renderer.text(sys::GOQ_HALF_BLOCKS),
+            (Light, Dark) => renderer.text(sys::GOQ_LIGHT_HALF_BLOCKS),
+            // One thing for all modules, as if all were dark or all light.
+            (one, _) => {
+                let side = renderer.side() as usize;
+                let modules = vec![u8::from(one == Dark); side * side];
+                Renderer { modules: &modules, width: side, zone: 0, ..*renderer }.text(sys::GOQ_HALF_BLOCKS)
+            }
+        }
+    }
+}
+
+impl sealed::Sealed for char {}
+
+/// A character a pixel, and a newline between two rows.
+impl Pixel for char {
+    type Image = String;
+    const SIZE: u32 = 1;
+
+    fn default_color(is_dark: bool) -> Self {
+        if is_dark { '\u{2588}' } else { ' ' }
+    }
+
+    fn picture(renderer: &Renderer<'_, Self>) -> Result<String, RenderError> {
+        let pixels = Renderer { across: 1, ..*renderer }.plain(sys::GOQ_GREY)?;
+        let wide = |grey: &u8| std::iter::repeat(if *grey == 0 { renderer.dark } else { renderer.light }).take(renderer.across as usize);
+        let line = |row: &[u8]| row.iter().flat_map(wide).collect::<String>();
+        let lines = pixels.chunks(renderer.side() as usize).map(line);
+        let lines: Vec<String> = lines.flat_map(|line| vec![line; renderer.down as usize]).collect();
+        Ok(lines.join("\n"))
     }
 }
 
 impl Renderer<'_, char> {
-    /// The character of dark pixels.
-    pub fn dark_color(&mut self, color: char) -> &mut Self {
-        self.chars.0 = color;
-        self
-    }
-
-    /// The character of light pixels.
-    pub fn light_color(&mut self, color: char) -> &mut Self {
-        self.chars.1 = color;
+    /// The characters of a module across and down, each 1 to 65,535.
+    pub fn module_dimensions(&mut self, width: u32, height: u32) -> &mut Self {
+        self.across = width.clamp(1, 65_535);
+        self.down = height.clamp(1, 65_535);
         self
     }
 }

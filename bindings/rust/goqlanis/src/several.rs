@@ -13,7 +13,7 @@ pub struct Several {
     /// The versions of Normal that may be taken, from one to another.
     pub least_version: Version,
     pub greatest_version: Version,
-    /// How many symbols, up to 16, or none for as few as there can be.
+    /// How many symbols, 1 to 16, or `None` for as few as there can be.
     pub count: Option<u32>,
 }
 
@@ -37,13 +37,14 @@ impl Several {
             manner: if self.is_text { sys::GOQ_AS_TEXT } else { sys::GOQ_AS_BYTES },
             least_version: self.least_version.number(),
             greatest_version: self.greatest_version.number(),
-            count: self.count.unwrap_or(0),
+            // 0 asks the library for as few as there can be; none hold any data.
+            count: self.count.map_or(0, |count| if count == 0 { u32::MAX } else { count }),
         }
     }
 }
 
-/// The symbols between which data is parted, in order; a single one has no header. More than 16 are
-/// refused as `DataTooLong`.
+/// The symbols between which data is parted, in order; a single one has no header. A count of 0 or
+/// above 16 is refused as `DataTooLong`.
 ///
 /// ```
 /// use goqlanis::several::{encode_several, join, Several};
@@ -131,5 +132,15 @@ pub fn join<S: AsRef<[Color]>>(squares: &[S]) -> Result<Vec<u8>, Unjoined> {
         sys::GOQ_PARITY => Err(Unjoined::Parity),
         sys::GOQ_OUT_OF_MEMORY => Err(Unjoined::OutOfMemory),
         answer => Err(Unjoined::Square(place, unread(answer))),
+    }
+}
+
+#[cfg(test)]
+mod tests {
+    use super::*;
+
+    #[test]
+    fn defaults() {
+        assert_eq!(Several::default().given(), sys::GOQ_SEVERAL);
     }
 }

@@ -1,4 +1,4 @@
-use goqlanis::render::{eps, pbm, pic, png, svg, svg_path, unicode, Luma, Rgba};
+use goqlanis::render::{eps, pbm, pic, png, svg, svg_path, unicode, Luma, RenderError};
 use goqlanis::several::{encode_several, join, Several, Unjoined};
 use goqlanis::{read, read_any, read_text, Color, EcLevel, Options, QrCode, QrError, Segment, Unread};
 use goqlanis::{Version, Writing};
@@ -11,7 +11,16 @@ fn symbols() {
     assert_eq!(code.to_vec().len(), 21 * 21);
     assert_eq!((code[(0, 0)], code[(7, 0)]), (Color::Dark, Color::Light));
     assert!(code.is_functional(0, 0) && !code.is_functional(20, 20));
+    assert!(!code.is_functional(1 << 32, 0) && !code.is_functional(0, usize::MAX));
     assert_eq!(QrCode::new(b"").unwrap().width(), 21);
+}
+
+#[test]
+fn places_outside() {
+    let code = QrCode::new(b"01234567").unwrap();
+    for (x, y) in [(21, 0), (0, 21), (0, usize::MAX / 21 + 1), (usize::MAX, usize::MAX)] {
+        assert!(std::panic::catch_unwind(|| code[(x, y)]).is_err());
+    }
 }
 
 #[test]
@@ -56,14 +65,37 @@ fn pictures() {
 #[test]
 fn colours() {
     let code = QrCode::new(b"01234567").unwrap();
-    let (blue, none) = (Rgba(0, 128, 255, 255), Rgba(255, 255, 255, 0));
+    let (blue, none) = (png::Color([0, 128, 255, 255]), png::Color([255, 255, 255, 0]));
     let has = |file: &[u8], bytes: &[u8]| file.windows(bytes.len()).any(|part| part == bytes);
     let file = code.render::<png::Color>().dark_color(blue).light_color(none).dots_per_inch(300).build();
     assert!(has(&file, b"PLTE\x00\x80\xff\xff\xff\xff") && has(&file, b"tRNS\xff\x00"));
     assert!(has(&file, b"pHYs\x00\x00\x2e\x23\x00\x00\x2e\x23\x01"));
-    let text = code.render::<svg_path::Color>().dark_color(blue).light_color(none).build();
-    assert!(text.contains("\"#0080ff\"") && text.contains("\"none\""));
+    let text = code.render().dark_color(svg_path::Color("navy")).light_color(svg_path::Color("a<\"&")).build();
+    assert!(text.contains("fill=\"navy\"") && text.contains("fill=\"a&lt;&quot;&amp;\"") && !text.contains("fill=\"#"));
+    let text = code.render().dark_color(svg::Color("#800000")).light_color(svg::Color("#ffff80")).build();
+    assert!(text.contains("fill=\"#800000\"") && text.contains("fill=\"#ffff80\""));
+    let red = eps::Color { red: 255, green: 0, blue: 0 };
+    assert!(code.render().dark_color(red).build().contains("255 255 div 0 255 div 0 255 div setrgbcolor"));
     assert!(code.render::<svg::Color>().build().contains("fill=\"#000\""));
+}
+
+#[test]
+fn too_large() {
+    let code = QrCode::new(b"01234567").unwrap();
+    assert_eq!(code.render::<png::Color>().module_size(2260).try_build(), Err(RenderError::TooLarge));
+}
+
+#[test]
+fn names_of_the_crate_qrcode() {
+    let code = QrCode::new(b"01234567").unwrap();
+    let lines = code.render::<char>().quiet_zone(false).module_dimensions(2, 1).build();
+    assert!(lines.starts_with("██████████████") && lines.lines().count() == 21);
+    assert!(code.to_debug_str('#', '.').starts_with("#######.") && code.to_vec() == code.clone().into_vec());
+    assert_eq!((code.clone().into_colors(), !Color::Dark), (code.to_colors(), Color::Light));
+    assert_eq!(goqlanis::types::Color::Dark.select(1, 2), 1);
+    assert!(code == QrCode::new(b"01234567").unwrap() && code != QrCode::new(b"1").unwrap());
+    let one = code.render().dark_color(unicode::Dense1x2::Dark).light_color(unicode::Dense1x2::Dark).build();
+    assert!(one.starts_with(&"█".repeat(29)) && one.ends_with(&"▀".repeat(29)));
 }
 
 #[test]
@@ -103,6 +135,7 @@ fn several() {
     let refused = |several| encode_several(b"\xff", &several).unwrap_err();
     let plain = Several::default();
     assert_eq!(refused(Several { count: Some(17), ..plain }), QrError::DataTooLong);
+    assert_eq!(refused(Several { count: Some(0), ..plain }), QrError::DataTooLong);
     assert_eq!(refused(Several { is_text: true, ..plain }), QrError::InvalidCharacter);
     assert_eq!(refused(Several { least_version: Version::Micro(1), ..plain }), QrError::InvalidVersion);
 }
