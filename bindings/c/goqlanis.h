@@ -481,8 +481,8 @@ bool goq_is_functional(uint32_t version, uint32_t x, uint32_t y);
    `zone` modules at each side and `scale` pixels a module: at the beginning of `out`, and its
    length in bytes to `count`. A text has no zero behind it. GOQ_MODULES_MAX * 80 + 400 bytes are
    room for any SVG, PIC or EPS. Sizes are a scale of 1 to 65,535 and at most 65,535 modules along a
-   side with the quiet zone; of a PNG file 1 to 65,535 pixels a side. GOQ_NO_SUCH_FORMAT, GOQ_NOT_SQUARE, GOQ_NO_SUCH_SIZE,
-   GOQ_SMALL_BUFFER; GOQ_OUT_OF_MEMORY. */
+   side with the quiet zone; of a PNG file 1 to 65,535 pixels a side. GOQ_NO_SUCH_FORMAT,
+   GOQ_NOT_SQUARE, GOQ_NO_SUCH_SIZE, GOQ_SMALL_BUFFER; GOQ_OUT_OF_MEMORY. */
 goq_answer goq_draw(const uint8_t *modules, size_t modules_length, uint32_t width, uint32_t zone,
     uint32_t scale, uint32_t format, void *out, size_t out_length, size_t *count);
 

@@ -50,8 +50,8 @@ class Symbol:
 
     def __post_init__(self) -> None:
         if len(self.modules) != self.width ** 2:
-            raise ValueError(f"modules: {len(self.modules)} bytes are no square: give a byte for each "
-                             "module, row by row")
+            raise ValueError(f"modules: {len(self.modules)} bytes are no square: give a byte for "
+                             "each module, row by row")
         object.__setattr__(self, "version", Version(self.version))
 
     @property
