@@ -175,7 +175,8 @@ impl QrCode {
         self.ec_level
     }
 
-    /// The mask of the symbol: the first of least penalty (ISO/IEC 18004:2006, 6.8.3).
+    /// The mask of the symbol: the first of least penalty (ISO/IEC 18004:2006, 6.8.3, but the
+    /// balance of dark modules as the Rust crate counts it).
     pub fn mask(&self) -> MaskPattern
         ensures value { IsMaskOf self.now.version self.now.level result self.now.modules }
 

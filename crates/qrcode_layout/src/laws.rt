@@ -5,21 +5,21 @@ ghost use Rattle.qrcode_layout.specs.Words.{VersionWordsAreApart, FormatWordsAre
 ghost use Rattle.qrcode_layout.specs.Stream.{FreePlacesAreFilled};
 ghost use Rattle.qrcode_layout.specs.Laws.{FormatCopiesAreIndexed, FormatPlacesAreInCopies, WalkIsInside, WalkIsApart, WalkIsWhole, LeftOutIsFunctional, FreePlacesAreApart, FreePlacesAreWhole};
 
-/// Words that name different things are far from one another.
+/// Theorem: words that name different things are far from one another.
 pub fn words()
     ensures versions { VersionWordsAreApart }
     ensures formats { FormatWordsAreApart }
 {}
 
-/// Each copy of the format word has its fifteen bits in turn, and no other place has one.
+/// Theorem: each copy of the format word has its fifteen bits in turn, and no other place has one.
 pub fn format_copies()
     ensures copies { FormatCopiesAreIndexed }
     ensures places { FormatPlacesAreInCopies }
 {}
 
-/// The walk goes to each place but those of one column, whose places are all functional, and to no
-/// place twice. So it comes to each free place once, and the codewords and the remainder bits of a
-/// version fill these.
+/// Theorem: the walk goes to each place but those of one column, whose places are all functional,
+/// and to no place twice. So it comes to each free place once, and the codewords and the remainder
+/// bits of a version fill these.
 pub fn free_places()
     ensures inside { WalkIsInside }
     ensures walk_apart { WalkIsApart }

@@ -10,7 +10,8 @@ use crate::row::PackedRow;
 use crate::rows::{dark_count, light_count, row_and_block_penalties};
 use crate::square::PackedSquare;
 
-/// The penalty of a square of a Normal version by its dark modules (ISO/IEC 18004:2006, 6.8.3).
+/// The penalty of a square of a Normal version by its dark modules (ISO/IEC 18004:2006, 6.8.3, but
+/// their balance as the Rust crate counts it, which is not in steps of 5 %).
 pub fn normal_penalty<R: PackedRow>(square: &PackedSquare<'_, R>) -> u32
     ensures value { result ≡ normal_penalty square.now.width (dark_in square.now.rows) }
     ensures at_most { result < 2 ^ 24 }

@@ -253,8 +253,8 @@ impl Canvas {
         mask_modules(self.version, self.ec_level, mask, &mut self.modules);
     }
 
-    /// The canvas under the first mask of least penalty (ISO/IEC 18004:2006, 6.8.3), the
-    /// format words being counted too.
+    /// The canvas under the first mask of least penalty (ISO/IEC 18004:2006, 6.8.3, but the balance
+    /// of dark modules as the Rust crate counts it), the format words being counted too.
     ///
     /// `OutOfMemory`: memory was refused.
     pub fn apply_best_mask(&self, alloc: Global) -> QrResult<Self>

@@ -5,7 +5,7 @@ ghost use Rattle.qrcode_symbol.specs.declared.canvas.Module.{Module};
 
 use crate::canvas::Module;
 
-/// Two modules are equal by `==` exactly when they are the same.
+/// Theorem: two modules are equal by `==` exactly when they are the same.
 pub fn equality()
     ensures { (a b : Module) → IsTrue (⟦<Module as PartialEq>⟧.eq a b) ↔ (a ≡ b) }
 {}
