@@ -1,4 +1,3 @@
 pub mod Charsets
-pub mod Payments
 pub mod Tickets
 mod Bounds

@@ -1,11 +1,12 @@
-//! Uses of `qrcode`, as a caller writes them.
+//! Calls of `qrcode`, to copy from.
 #![tactic(auto)]
 
 pub mod charset;
 pub mod contents;
 pub mod drawings;
 pub mod label;
-pub mod payment;
+pub mod payments;
 pub mod plain;
+pub mod several;
 pub mod texts;
 pub mod ticket;

@@ -1,6 +1,6 @@
 use Rattle.std.proofs.Common.{◌≡◌, ◌≤◌, length, sym, subst, refl, arith}
 use Rattle.qrcode_examples.proofs.Bounds.{text_held}
-use Rattle.qrcode_examples.proofs.contents.payment.Goals as goal
+use Rattle.qrcode_examples.proofs.payments.payment.Goals as goal
 
 pub returns-clause-accepts : goal.returns-clause-accepts
 returns-clause-accepts c = λ accepted.
