@@ -9,8 +9,9 @@ from forms import blocks, form
 from looks import answered, differs, judged, not_read, square_of, turn_format, turn_word
 from spelling import count_bits
 
-# Data, version, level, and the codewords of data, the last one filled with zeros. Those of `HELLO
-# WORLD` are printed in many places; `01234567` and the two pairs are examples of the standard; the
+# Data or segments, version, level, and the codewords of data, the last one filled with zeros. Those
+# of `HELLO WORLD` are printed in many places, and those of the text of coders in the chapter on
+# Reed-Solomon codes at Wikiversity; `01234567` and the two pairs are examples of the standard; the
 # others were written by hand.
 CODEWORDS = [
     (b"123A", "M2", "L", "18f72500ec"),
@@ -21,6 +22,24 @@ CODEWORDS = [
     (b"01234567", "1", "H", "10200c566180ec11ec"),
     (b"\x93\x5f\xe4\xaa", "1", "H", "8026cfeaa800ec11ec"),
     (b"\x93\x5f\xe4\xaa", "M4", "Q", "64d9fd550000ec11ec11"),
+    (b"", "1", "M", "00ec11ec11ec11ec11ec11ec11ec11ec"),
+    (b"'Twas brillig", "1", "M", "40d2754776173206272696c6c69670ec"),
+    ([("eci", 9), ("byte", b"\xca\xfe\xe4\xe9\xea\xe1\xf2 QR")], "1", "L",
+     "70940acafee4e9eae1f220515200ec11ec11ec"),
+    ([("eci", 899)], "1", "H", "783830ec11ec11ec11"),
+    ([("eci", 999999)], "1", "H", "7cf423f0ec11ec11ec"),
+    ([("fnc1_first", None)], "1", "H", "50ec11ec11ec11ec11"),
+    ([("fnc1_second", 37)], "1", "H", "9250ec11ec11ec11ec"),
+    ([("eci", 26), ("byte", "é".encode())], "1", "H", "71a402c3a900ec11ec"),
+    ([("numeric", b"0123456789012345")], "1", "Q", "10400c566a6e14ea50ec11ec11"),
+    ([("numeric", b"0123456789012345")], "M3", "M", "20062b35370a752800"),
+    ([("alphanumeric", b"AC-42")], "1", "H", "2029cee72100ec11ec"),
+    ([("byte", b"\x12\x34\x56\x78\x9a\xbc\xde\xf0")], "1", "Q", "408123456789abcdef00ec11ec"),
+    ([("numeric", b"9999")], "M1", "L", "9f3c80"),
+    ([("numeric", b"999")], "M1", "L", "7f3800"),
+    ([("numeric", b"")], "M1", "L", "00ec00"),
+    ([("numeric", b"1"), ("numeric", b"1")], "M1", "L", "224400"),
+    ([("numeric", b"12"), ("numeric", b"12")], "1", "H", "100860804300ec11ec"),
 ]
 
 
@@ -33,15 +52,18 @@ def printed_codewords():
     """Data bits are those that are printed"""
     found = []
     for data, version, level, words in CODEWORDS:
-        bits = reading.read_bits(square_of(goqlanis.encode(data, level, version))).bits
+        make = goqlanis.encode if isinstance(data, bytes) else goqlanis.encode_segments
+        bits = reading.read_bits(square_of(make(data, level, version))).bits
         found += [f"{data} in {version}-{level}: {hexadecimal(bits)}"] if hexadecimal(bits) != words else []
     return found, f"{len(CODEWORDS)} symbols"
 
 
 # Data, version, level, and the bits of its least cut, by hand: of thirty aABCDEF 204 bytes and six
 # letters take 1690 bits, and all bytes in one segment 1692. For the others one segment takes fewer
-# bits than any cut.
-LEAST = [(b"aABCDEF" * 30, "9", "L", 1690), (b"a1234b", "1", "L", 60), (b"1234567A", "1", "L", 57)]
+# bits than any cut, but of a byte and eight pairs of Kanji, and of digits and a letter in Micro.
+LEAST = [(b"aABCDEF" * 30, "9", "L", 1690), (b"a1234b", "1", "L", 60), (b"1234567A", "1", "L", 57),
+         (b"a1234bc", "1", "L", 68), (b"123A", "M2", "L", 25),
+         (b"\x81" + b"\x81\x40" * 8, "1", "L", 136)]
 
 
 def least_cuts():
@@ -105,14 +127,15 @@ def lists_are_ended():
 
 
 def segments_in_any_order():
-    """Segments in modes of no least cut are read; empty ones by the judge alone"""
+    """Segments in modes of no least cut are read; empty ones are left out"""
     segments = [("alphanumeric", b"AB"), ("numeric", b"12"), ("byte", b"2A"), ("numeric", b"12"),
                 ("kanji", b"\x93\x5f"), ("byte", b"\x93\x5f")]
     it = not_read(square_of(goqlanis.encode_segments(segments, "L", "2")), "2", "L",
                   b"AB122A12\x93\x5f\x93\x5f")
-    square = square_of(goqlanis.encode_segments([("byte", b""), *segments[:2], ("kanji", b"")],
-                                                "L", "2"))
-    empty = "" if reading.read_headed(square)[1].data == b"AB12" and answered(square) == "NotSpelled" else "segments without a character"
+    some = [("byte", b""), *segments[:2], ("kanji", b"")]
+    square, plain = (square_of(goqlanis.encode_segments(given, "L", "2"))
+                     for given in (some, segments[:2]))
+    empty = "" if square == plain else "segments without a character"
     return list(filter(None, (it, empty))), "2 symbols"
 
 
@@ -169,6 +192,26 @@ def without_finders():
     return [it] if it else [], "a symbol"
 
 
+# The error correction codewords that the standard and the chapter print of these.
+CORRECTION = [(b"01234567", "a524d4c1ed36c7872c55"), (b"'Twas brillig", "bc2a90136bafeffd4be0")]
+
+
+def wrong_codewords():
+    """Printed blocks are corrected wherever up to five codewords in a row of steps are wrong"""
+    shape, parts, found, count = form("1"), blocks("1", "M"), [], 0
+    for (data, printed), first, wrong in product(CORRECTION, range(26), range(6)):
+        square = square_of(goqlanis.encode(data, "M", "1"))
+        mask, count = reading.read_bits(square).mask, count + 1
+        words = reading.words_of(shape.stream(square, mask), len(shape.places), parts)
+        damaged = bytearray(square)
+        for k in range(wrong):
+            turn_word(damaged, shape, parts, (first + 5 * k) % 26, 0x5a)
+        said = answered(damaged)
+        if words[16:].hex() != printed or said != ("1", "M", mask, wrong, data):
+            found.append(f"{data} with {wrong} wrong from {first} on: {said}")
+    return found, f"{count} squares"
+
+
 def wrong_bits_of_a_copy():
     """Any three wrong bits of either copy of the format word are corrected; any four are refused"""
     square, found, count = square_of(goqlanis.encode(b"01234567", "M", "1")), [], 0
@@ -182,4 +225,4 @@ def wrong_bits_of_a_copy():
 
 
 TESTS = [printed_codewords, least_cuts, usual_symbols, headers_are_read, lists_are_ended,
-         segments_in_any_order, without_finders, wrong_bits_of_a_copy]
+         segments_in_any_order, without_finders, wrong_codewords, wrong_bits_of_a_copy]

@@ -1,16 +1,14 @@
-//! Canvases: each kind of picture is drawn on, a user's own too, and a canvas of modules is masked.
+//! Canvases of pictures: each kind is drawn on, a user's own too.
 
 use crate::common::are_bars;
-use qrcode::canvas::Canvas;
+use qrcode::Color;
 use qrcode::render::image::Luma;
 use qrcode::render::string::Str;
 use qrcode::render::unicode::Dense1x2;
 use qrcode::render::{self, Canvas as _, Renderer, fill_rect, image, pic, string, svg, unicode};
 use qrcode::types::{QrError, QrResult};
-use qrcode::{Color, EcLevel, Version};
 use qrcode_examples::label::{Bar, Dot, Label};
 use std::alloc::Global;
-use std::process::Abort;
 
 // A picture of four by four pixels with a dot, a rectangle and a filled rectangle.
 fn dotted<C: render::Canvas>(alloc: Global, dark: C::Pixel, light: C::Pixel) -> QrResult<C::Image> {
@@ -94,31 +92,4 @@ fn a_users_canvas_is_drawn_on(rt: HostRuntime) {
     assert!(rt; are_those(filled_bars(alloc), &[(2, 3, 2, 1), (2, 4, 2, 1)]));
     let bars = dotted::<Label>(alloc, Dot, Dot);
     assert!(rt; are_those(bars, &[(1, 0, 1, 1), (2, 1, 2, 2), (0, 3, 2, 1)]));
-}
-
-// The format word on the modules of Micro 1: from left to right in row 8, and upwards in column 8.
-fn word_on(modules: &[bool]) -> u32 {
-    let mut word = 0u32;
-    for i in 0..15usize {
-        let place = if i < 8 { 89 + i } else { 173 - 11 * i };
-        let is_dark = modules.get(place).copied().unwrap_or(false);
-        word = word.wrapping_mul(2).wrapping_add(is_dark as u32);
-    }
-    word
-}
-
-// The modules of Micro 1 under its best mask, of which nothing else is drawn.
-fn masked_modules(rt: &impl Abort, alloc: Global) -> Vec<bool> {
-    let (version, ec_level) = (Version::Micro(1), EcLevel::L);
-    assert!(rt; version.has_level(ec_level));
-    let canvas = Canvas::new(alloc, version, ec_level).expect(rt, "a canvas");
-    let masked = canvas.apply_best_mask(alloc).expect(rt, "a canvas");
-    masked.to_bools(alloc).expect(rt, "memory")
-}
-
-// The masks of the canvas have the penalties 80, 85, 68 and 85.
-#[test]
-fn an_empty_canvas_is_masked(rt: HostRuntime) {
-    let modules = masked_modules(&rt, rt.alloc());
-    assert!(rt; word_on(&modules) == 0x4e2b);
 }

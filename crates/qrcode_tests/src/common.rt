@@ -2,13 +2,12 @@
 
 ghost use Rattle.std.specs.Prelude.{◌≡◌};
 
-use qrcode::bits::Bits;
+use qrcode::bits::{Bits, ExtendedMode};
 use qrcode::optimize::Segment;
 use qrcode::types::QrError::InvalidVersion;
 use qrcode::types::{Mode, QrResult};
 use qrcode::{Color, EcLevel, QrCode, Version};
 use qrcode_examples::label::Bar;
-use qrcode_pushes::{Push, make_push};
 use std::alloc::Global;
 use std::process::Abort;
 
@@ -35,6 +34,39 @@ pub fn range(mode: Mode, begin: usize, end: usize) -> Segment
     ensures { result ≡ record { mode = mode; begin = begin; end = end } }
 {
     Segment { mode, begin, end }
+}
+
+/// A call that appends to a list of bits, or ends it.
+#[derive(Clone, Copy)]
+pub enum Push<'a> {
+    Indicator(ExtendedMode),
+    Designator(u32),
+    Numeric(&'a [u8]),
+    Alphanumeric(&'a [u8]),
+    Byte(&'a [u8]),
+    Kanji(&'a [u8]),
+    Text(&'a str),
+    MarkedText(&'a str),
+    FirstPosition,
+    SecondPosition(u8),
+    Terminator(EcLevel),
+}
+
+/// Makes a call.
+pub fn make_push(bits: &mut Bits, push: Push<'_>) -> QrResult<()> {
+    match push {
+        Push::Indicator(mode) => bits.push_mode_indicator(mode),
+        Push::Designator(number) => bits.push_eci_designator(number),
+        Push::Numeric(digits) => bits.push_numeric_data(digits),
+        Push::Alphanumeric(text) => bits.push_alphanumeric_data(text),
+        Push::Byte(bytes) => bits.push_byte_data(bytes),
+        Push::Kanji(pairs) => bits.push_kanji_data(pairs),
+        Push::Text(text) => bits.push_text(text),
+        Push::MarkedText(text) => bits.push_marked_text(text),
+        Push::FirstPosition => bits.push_fnc1_first_position(),
+        Push::SecondPosition(application) => bits.push_fnc1_second_position(application),
+        Push::Terminator(ec_level) => bits.push_terminator(ec_level),
+    }
 }
 
 // Makes all pushes.
@@ -69,26 +101,39 @@ pub fn of_pushes(
     }
 }
 
-/// Whether a symbol is drawn so, `#` for dark and `.` for light, a line for each row.
-pub fn is_drawn(alloc: Global, code: &QrCode, drawing: &str) -> bool {
-    match code.to_debug_str(alloc, '#', '.') {
-        Ok(text) => text.as_str() == drawing,
-        Err(_) => false,
+/// The checksum CRC-32 of zlib.
+pub fn checksum_of_bytes(bytes: &[u8]) -> u32 {
+    let mut crc = u32::MAX;
+    for byte in bytes {
+        crc = with_byte(crc, *byte);
     }
+    !crc
 }
 
-/// Whether modules are dark where hexadecimal digits have a one.
-pub fn are_digits(colors: &[Color], digits: &str) -> bool {
-    for (i, color) in colors.iter().enumerate() {
-        let digit = match digits.as_bytes().get(i / 4).copied() {
-            Some(digit) => char::from(digit).to_digit(16).unwrap_or(0),
-            None => return false,
-        };
-        if (*color == Color::Dark) != (digit >> (3 - i % 4) as u32 & 1 == 1) {
-            return false;
+/// That of modules as lines of `#` and `.`, so many along a side.
+pub fn checksum(width: usize, modules: &[bool]) -> u32 {
+    let mut crc = u32::MAX;
+    for (i, dark) in modules.iter().enumerate() {
+        if i > 0 && i % width.max(1) == 0 {
+            crc = with_byte(crc, b'\n');
         }
+        crc = with_byte(crc, if *dark { b'#' } else { b'.' });
     }
-    digits.len() == colors.len().div_ceil(4)
+    !crc
+}
+
+fn with_byte(crc: u32, byte: u8) -> u32 {
+    let mut crc = crc ^ u32::from(byte);
+    for _ in 0..8u32 {
+        let divisor = if crc & 1 == 1 { 0xedb8_8320 } else { 0 };
+        crc = (crc >> 1) ^ divisor;
+    }
+    crc
+}
+
+/// That of a symbol.
+pub fn checksum_of(alloc: Global, code: &QrCode) -> QrResult<u32> {
+    Ok(checksum(code.width(), &code.to_vec(alloc)?))
 }
 
 /// Whether colours and modules are dark where a drawing says so, by `#` or by `*`.

@@ -1,4 +1,4 @@
-//! The tests of contents: symbols of contents and of elements of GS1, data in several symbols, and the texts of refusals.
+//! The tests of contents: symbols of applications, data in several symbols, and texts of refusals.
 
 mod joining;
 mod refusals;

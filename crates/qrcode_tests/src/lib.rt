@@ -1,5 +1,5 @@
-//! The tests of the library's public calls, each with what other encoders or the standard's examples have: those that make symbols and pictures of them,
-//! below those the calls of bits, of what symbols are made of, and of pictures of modules, and above those the calls of contents.
+//! The tests of public calls that neither the library for C nor the program makes, each with what
+//! other encoders or the standard's examples have; and each call that makes a symbol, once.
 #![tactic(auto)]
 
 #[cfg(test)]

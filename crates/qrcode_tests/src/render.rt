@@ -1,4 +1,4 @@
-//! The tests of pictures of modules: tables of worked pictures, an element of a user, and plain code of callers.
+//! The tests of pictures of modules: worked pictures, an element of a user, plain code of callers.
 
 mod callers;
 mod drawings;

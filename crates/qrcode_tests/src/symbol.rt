@@ -1,9 +1,8 @@
-//! The tests of what symbols are made of: the types, which all layers speak of, error correction and the correction of blocks, penalties of squares of many
-//! kinds, and symbols as they are drawn on a canvas.
+//! The tests of what symbols are made of: types, error correction and the correction of blocks,
+//! penalties of squares of many kinds, and symbols as they are drawn on a canvas.
 
 mod canvas;
 mod correction;
-mod drawings;
 mod others;
 mod printed;
 mod segno;

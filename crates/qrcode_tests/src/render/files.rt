@@ -5,32 +5,12 @@ use crate::render::pictures::Colors::{Both, Dark, Usual};
 use crate::render::pictures::Size::{Default, Of, Same};
 use crate::render::pictures::Text::{Is, Starts};
 use crate::render::pictures::Zone::{Changed, On};
-use crate::render::pictures::{File, Row, Text, makes, writes};
+use crate::render::pictures::{Colors, File, Row, Text, makes, writes};
 use qrcode_render::{Pixel, eps, pbm, pgm, svg};
 use qrcode_types::types::Color;
 
 #[rattlefmt::skip]
-static BITS: [Row<pbm::Bit, File>; 4] = [
-    // What netpbm and ImageMagick make of the drawing.
-    Row(MICRO_2, On(2), Usual, Same(1), File(b"P4\n17 17\n", &[
-        0b0000_0000, 0b0000_0000, 0b0000_0000,
-        0b0000_0000, 0b0000_0000, 0b0000_0000,
-        0b0011_1111, 0b1010_1010, 0b0000_0000,
-        0b0010_0000, 0b1011_1010, 0b0000_0000,
-        0b0010_1110, 0b1001_1010, 0b0000_0000,
-        0b0010_1110, 0b1001_1110, 0b0000_0000,
-        0b0010_1110, 0b1011_1000, 0b0000_0000,
-        0b0010_0000, 0b1010_0010, 0b0000_0000,
-        0b0011_1111, 0b1001_1110, 0b0000_0000,
-        0b0000_0000, 0b0001_1000, 0b0000_0000,
-        0b0011_0100, 0b0010_0010, 0b0000_0000,
-        0b0001_1010, 0b1010_1010, 0b0000_0000,
-        0b0011_1001, 0b1111_1100, 0b0000_0000,
-        0b0000_0101, 0b0000_1100, 0b0000_0000,
-        0b0011_1010, 0b0110_1110, 0b0000_0000,
-        0b0000_0000, 0b0000_0000, 0b0000_0000,
-        0b0000_0000, 0b0000_0000, 0b0000_0000,
-    ])),
+static BITS: [Row<pbm::Bit, File>; 3] = [
     Row(DIAGONAL, On(0), Both(pbm::Bit::White, pbm::Bit::Black), Of(5, 2), File(b"P4\n10 4\n", &[
         0b0000_0111, 0b1100_0000,
         0b0000_0111, 0b1100_0000,
@@ -49,9 +29,11 @@ static BITS: [Row<pbm::Bit, File>; 4] = [
     Row(DARK, On(0), Usual, Default, File(b"P4\n8 8\n", &[0b1111_1111; 8])),
 ];
 
+const DIM: Colors<pgm::Grey> = Both(pgm::Grey(40), pgm::Grey(200));
+
 #[rattlefmt::skip]
 static GREYS: [Row<pgm::Grey, File>; 3] = [
-    Row(DIAGONAL, Changed(4, 1), Both(pgm::Grey(40), pgm::Grey(200)), Same(1), File(b"P5\n4 4\n255\n", &[
+    Row(DIAGONAL, Changed(4, 1), DIM, Same(1), File(b"P5\n4 4\n255\n", &[
         200, 200, 200, 200,
         200, 40, 200, 200,
         200, 200, 40, 200,
@@ -69,64 +51,47 @@ static GREYS: [Row<pgm::Grey, File>; 3] = [
     Row(DARK, On(0), Usual, Default, File(b"P5\n8 8\n255\n", &[0; 64])),
 ];
 
-const BROWN: eps::Color = eps::Color {
-    red: 128,
-    green: 64,
-    blue: 0,
-};
+#[rattlefmt::skip]
+const BROWN: eps::Color = eps::Color { red: 128, green: 64, blue: 0 };
 
-const CREAM: eps::Color = eps::Color {
-    red: 250,
-    green: 240,
-    blue: 200,
-};
+#[rattlefmt::skip]
+const CREAM: eps::Color = eps::Color { red: 250, green: 240, blue: 200 };
 
-const WHITE: eps::Color = eps::Color {
-    red: 255,
-    green: 255,
-    blue: 255,
-};
+#[rattlefmt::skip]
+const WHITE: eps::Color = eps::Color { red: 255, green: 255, blue: 255 };
 
 #[rattlefmt::skip]
 static EPS: [Row<eps::Color, Text>; 2] = [
-    Row(DIAGONAL, On(1), Both(BROWN, CREAM), Of(3, 2), Is("%!PS-Adobe-3.0 EPSF-3.0
-%%BoundingBox: 0 0 12 8
-%%LanguageLevel: 2
-%%EndComments
-250 255 div 240 255 div 200 255 div setrgbcolor
-0 0 12 8 rectfill
-0 8 translate 1 -1 scale
-128 255 div 64 255 div 0 255 div setrgbcolor
-3 2 3 2 rectfill
-6 4 3 2 rectfill
-showpage
-%%EOF
-")),
-    Row(DARK, On(1), Usual, Default, Is("%!PS-Adobe-3.0 EPSF-3.0
-%%BoundingBox: 0 0 24 24
-%%LanguageLevel: 2
-%%EndComments
-255 255 div 255 255 div 255 255 div setrgbcolor
-0 0 24 24 rectfill
-0 24 translate 1 -1 scale
-0 255 div 0 255 div 0 255 div setrgbcolor
-8 8 8 8 rectfill
-showpage
-%%EOF
-")),
+    Row(DIAGONAL, On(1), Both(BROWN, CREAM), Of(3, 2), Is(concat!(
+        "%!PS-Adobe-3.0 EPSF-3.0\n%%BoundingBox: 0 0 12 8\n%%LanguageLevel: 2\n%%EndComments\n",
+        "250 255 div 240 255 div 200 255 div setrgbcolor\n0 0 12 8 rectfill\n",
+        "0 8 translate 1 -1 scale\n128 255 div 64 255 div 0 255 div setrgbcolor\n",
+        "3 2 3 2 rectfill\n6 4 3 2 rectfill\nshowpage\n%%EOF\n"
+    ))),
+    Row(DARK, On(1), Usual, Default, Is(concat!(
+        "%!PS-Adobe-3.0 EPSF-3.0\n%%BoundingBox: 0 0 24 24\n%%LanguageLevel: 2\n%%EndComments\n",
+        "255 255 div 255 255 div 255 255 div setrgbcolor\n0 0 24 24 rectfill\n",
+        "0 24 translate 1 -1 scale\n0 255 div 0 255 div 0 255 div setrgbcolor\n",
+        "8 8 8 8 rectfill\nshowpage\n%%EOF\n"
+    ))),
 ];
 
 #[rattlefmt::skip]
 static PATHS: [Row<svg::Path<'static>, Text>; 2] = [
-    Row(Drawing(2, "##\n.#"), On(1), Both(svg::Path("a\"b<c&d>"), svg::Path("t&n")), Of(3, 2), Is(concat!(
-        "<?xml version=\"1.0\" standalone=\"yes\"?><svg xmlns=\"http://www.w3.org/2000/svg\" version=\"1.1\"",
-        " width=\"12\" height=\"8\" viewBox=\"0 0 4 4\" preserveAspectRatio=\"none\" shape-rendering=\"crispEdges\">",
-        "<rect width=\"4\" height=\"4\" fill=\"t&amp;n\"/>",
-        "<path fill=\"a&quot;b&lt;c&amp;d>\" d=\"m1 1h2v1h-2m1 0h1v1h-1\"/></svg>"
-    ))),
+    Row(
+        Drawing(2, "##\n.#"), On(1), Both(svg::Path("a\"b<c&d>"), svg::Path("t&n")), Of(3, 2),
+        Is(concat!(
+            "<?xml version=\"1.0\" standalone=\"yes\"?><svg xmlns=\"http://www.w3.org/2000/svg\" ",
+            "version=\"1.1\" width=\"12\" height=\"8\" viewBox=\"0 0 4 4\" ",
+            "preserveAspectRatio=\"none\" shape-rendering=\"crispEdges\">",
+            "<rect width=\"4\" height=\"4\" fill=\"t&amp;n\"/>",
+            "<path fill=\"a&quot;b&lt;c&amp;d>\" d=\"m1 1h2v1h-2m1 0h1v1h-1\"/></svg>"
+        )),
+    ),
     Row(DARK, On(1), Usual, Default, Is(concat!(
-        "<?xml version=\"1.0\" standalone=\"yes\"?><svg xmlns=\"http://www.w3.org/2000/svg\" version=\"1.1\"",
-        " width=\"24\" height=\"24\" viewBox=\"0 0 3 3\" preserveAspectRatio=\"none\" shape-rendering=\"crispEdges\">",
+        "<?xml version=\"1.0\" standalone=\"yes\"?><svg xmlns=\"http://www.w3.org/2000/svg\" ",
+        "version=\"1.1\" width=\"24\" height=\"24\" viewBox=\"0 0 3 3\" ",
+        "preserveAspectRatio=\"none\" shape-rendering=\"crispEdges\">",
         "<rect width=\"3\" height=\"3\" fill=\"#fff\"/><path fill=\"#000\" d=\"m1 1h1v1h-1\"/></svg>"
     ))),
 ];
@@ -134,14 +99,15 @@ static PATHS: [Row<svg::Path<'static>, Text>; 2] = [
 #[rattlefmt::skip]
 static ELEMENTS: [Row<svg::PathElement<'static>, Text>; 2] = [
     Row(MICRO_2, On(2), Dark(svg::PathElement("navy")), Default, Starts(concat!(
-        "<svg xmlns=\"http://www.w3.org/2000/svg\" version=\"1.1\" width=\"136\" height=\"136\" viewBox=\"0 0 17 17\"",
-        " preserveAspectRatio=\"none\" shape-rendering=\"crispEdges\"><rect width=\"17\" height=\"17\" fill=\"#fff\"/><path fill=\"navy\"",
-        " d=\"m2 2h7v1h-7m8-1h1v1h-1m2-1h1v1h-1m2-1h1v1h-1m-12 0h1v1h-1m6-1h1"
+        "<svg xmlns=\"http://www.w3.org/2000/svg\" version=\"1.1\" width=\"136\" height=\"136\" ",
+        "viewBox=\"0 0 17 17\" preserveAspectRatio=\"none\" shape-rendering=\"crispEdges\">",
+        "<rect width=\"17\" height=\"17\" fill=\"#fff\"/><path fill=\"navy\" d=\"m2 2h7v1h-7",
+        "m8-1h1v1h-1m2-1h1v1h-1m2-1h1v1h-1m-12 0h1v1h-1m6-1h1"
     ))),
     Row(DARK, On(1), Usual, Default, Is(concat!(
-        "<svg xmlns=\"http://www.w3.org/2000/svg\" version=\"1.1\" width=\"24\" height=\"24\" viewBox=\"0 0 3 3\"",
-        " preserveAspectRatio=\"none\" shape-rendering=\"crispEdges\"><rect width=\"3\" height=\"3\" fill=\"#fff\"/>",
-        "<path fill=\"#000\" d=\"m1 1h1v1h-1\"/></svg>"
+        "<svg xmlns=\"http://www.w3.org/2000/svg\" version=\"1.1\" width=\"24\" height=\"24\" ",
+        "viewBox=\"0 0 3 3\" preserveAspectRatio=\"none\" shape-rendering=\"crispEdges\">",
+        "<rect width=\"3\" height=\"3\" fill=\"#fff\"/><path fill=\"#000\" d=\"m1 1h1v1h-1\"/></svg>"
     ))),
 ];
 

@@ -1,7 +1,7 @@
 //! Pictures as rows of pixels, and their sides.
 
 use crate::common::check_row;
-use crate::render::drawings::{DIAGONAL, Drawing, NONE, NORMAL_1};
+use crate::render::drawings::{DIAGONAL, Drawing, MICRO_2, NONE, NORMAL_1};
 use crate::render::pictures::Colors::{Both, Usual};
 use crate::render::pictures::Size::{AtLeast, AtMost, Default, Of, Same};
 use crate::render::pictures::Zone::{Off, On};
@@ -11,14 +11,7 @@ use qrcode_render::{Pixel, Renderer};
 use qrcode_types::types::Color;
 
 #[rattlefmt::skip]
-static GREYS: [Row<Luma, Pixels>; 6] = [
-    Row(Drawing(3, ".##\n#..\n.#."), On(1), Usual, Of(1, 1), Pixels((5, 5), 25, &[
-        255, 255, 255, 255, 255,
-        255, 255, 0, 0, 255,
-        255, 0, 255, 255, 255,
-        255, 255, 0, 255, 255,
-        255, 255, 255, 255, 255,
-    ])),
+static GREYS: [Row<Luma, Pixels>; 5] = [
     Row(DIAGONAL, On(1), Usual, AtMost(10, 5), Pixels((8, 4), 32, &[
         255, 255, 255, 255, 255, 255, 255, 255,
         255, 255, 0, 0, 255, 255, 255, 255,
@@ -51,9 +44,14 @@ static GREYS_WITH_OPACITY: [Row<LumaA, Pixels>; 1] = [
 ];
 
 #[rattlefmt::skip]
-static COLORS: [Row<Rgb, Pixels>; 2] = [
-    Row(DIAGONAL, On(0), Usual, Same(1), Pixels((2, 2), 12, &[0, 0, 0, 255, 255, 255, 255, 255, 255, 0, 0, 0])),
-    Row(DIAGONAL, On(0), Both(Rgb([1, 2, 3]), Rgb([4, 5, 6])), Same(1), Pixels((2, 2), 12, &[1, 2, 3, 4, 5, 6, 4, 5, 6, 1, 2, 3])),
+static COLORS: [Row<Rgb, Pixels>; 3] = [
+    Row(DIAGONAL, On(0), Usual, Same(1), Pixels((2, 2), 12, &[
+        0, 0, 0, 255, 255, 255, 255, 255, 255, 0, 0, 0,
+    ])),
+    Row(DIAGONAL, On(0), Both(Rgb([1, 2, 3]), Rgb([4, 5, 6])), Same(1), Pixels((2, 2), 12, &[
+        1, 2, 3, 4, 5, 6, 4, 5, 6, 1, 2, 3,
+    ])),
+    Row(MICRO_2, On(2), Usual, AtLeast(200, 200), Pixels((204, 204), 124_848, &[255])),
 ];
 
 #[rattlefmt::skip]

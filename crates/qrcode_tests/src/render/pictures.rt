@@ -3,7 +3,7 @@
 ghost use Rattle.std.specs.Prelude.{◌≡◌, ◌*◌, ◌≤◌, length};
 ghost use Rattle.qrcode_render.specs.Setting.{side_of};
 
-use crate::common::check_row;
+use crate::common::{check_row, checksum_of_bytes};
 use crate::render::drawings::{Drawing, modules};
 use qrcode_render::image::{Channels, ImageBuffer};
 use qrcode_render::{Pixel, Renderer};
@@ -61,6 +61,8 @@ pub enum Text {
     Is(&'static str),
     /// This, and more after it.
     Starts(&'static str),
+    /// One with this checksum CRC-32.
+    Sum(u32),
 }
 
 /// What a file is: a head, and the bytes after it.
@@ -160,6 +162,7 @@ fn is_text(text: &str, expected: Text) -> bool {
     match expected {
         Text::Is(whole) => text == whole,
         Text::Starts(start) => text.starts_with(start),
+        Text::Sum(sum) => checksum_of_bytes(text.as_bytes()) == sum,
     }
 }
 

@@ -1,9 +1,9 @@
 //! Pictures of characters, texts and half blocks.
 
-use crate::render::drawings::{DARK, DIAGONAL, MICRO_2, NONE, NORMAL_1};
+use crate::render::drawings::{DARK, DIAGONAL, NONE, NORMAL_1};
 use crate::render::pictures::Colors::{Both, Usual};
-use crate::render::pictures::Size::{AtLeast, AtLeastSame, Default, Of, Same};
-use crate::render::pictures::Text::Is;
+use crate::render::pictures::Size::{AtLeast, AtLeastSame, Default, Of};
+use crate::render::pictures::Text::{Is, Sum};
 use crate::render::pictures::Zone::{Off, OffAfter, On};
 use crate::render::pictures::{Row, Text, writes};
 use crate::squares::DIGITS_NORMAL;
@@ -13,7 +13,7 @@ use qrcode_render::unicode::Dense1x2;
 use qrcode_types::types::{Color, QrResult};
 
 #[rattlefmt::skip]
-static CHARACTERS: [Row<char, Text>; 7] = [
+static CHARACTERS: [Row<char, Text>; 8] = [
     Row(DIAGONAL, On(1), Usual, Default, Is("    \n █  \n  █ \n    ")),
     Row(DIAGONAL, On(0), Usual, Of(2, 1), Is("██  \n  ██")),
     Row(NONE, On(0), Usual, Default, Is("")),
@@ -21,25 +21,27 @@ static CHARACTERS: [Row<char, Text>; 7] = [
     Row(NORMAL_1, Off(4), Both('#', '.'), Of(1, 1), Is(DIGITS_NORMAL)),
     // The order of setters: the quiet zone is on when the size is set, and off.
     Row(DARK, OffAfter(1), Usual, AtLeast(10, 10), Is("████\n████\n████\n████")),
-    Row(DARK, Off(1), Usual, AtLeastSame(10), Is("██████████\n██████████\n██████████\n██████████\n██████████\n██████████\n██████████\n██████████\n██████████\n██████████")),
+    Row(DARK, Off(1), Usual, AtLeastSame(10), Is(
+        "██████████\n██████████\n██████████\n██████████\n██████████\n\
+        ██████████\n██████████\n██████████\n██████████\n██████████"
+    )),
+    // The printed symbol, each module as two blocks or two spaces.
+    Row(NORMAL_1, Off(4), Usual, Of(2, 1), Sum(0x84fe_a9d7)),
 ];
 
 #[rattlefmt::skip]
 static TEXTS: [Row<Str<'static>, Text>; 2] = [
     Row(DIAGONAL, On(1), Usual, Default, Is("    \n █  \n  █ \n    ")),
     Row(DIAGONAL, On(1), Both(Str("!B!"), Str("A")), Of(2, 2), Is(
-        "AAAAAAAA\nAAAAAAAA\nAA!B!!B!AAAA\nAA!B!!B!AAAA\nAAAA!B!!B!AA\nAAAA!B!!B!AA\nAAAAAAAA\nAAAAAAAA"
+        "AAAAAAAA\nAAAAAAAA\nAA!B!!B!AAAA\nAA!B!!B!AAAA\n\
+        AAAA!B!!B!AA\nAAAA!B!!B!AA\nAAAAAAAA\nAAAAAAAA"
     )),
 ];
 
-#[rattlefmt::skip]
-static HALF_BLOCKS: [Row<Dense1x2, Text>; 4] = [
+// More half blocks are drawn by the library for C.
+static HALF_BLOCKS: [Row<Dense1x2, Text>; 2] = [
     Row(NONE, On(0), Usual, Default, Is("")),
     Row(DIAGONAL, On(1), Usual, Default, Is(" ▄  \n  ▀ ")),
-    Row(DIAGONAL, On(1), Usual, Same(2), Is("        \n  ██    \n    ██  \n        ")),
-    Row(MICRO_2, On(2), Both(Dense1x2::Light, Dense1x2::Dark), Default, Is(
-        "█████████████████\n██ ▄▄▄▄▄ █ ▀ █ ██\n██ █   █ ██  ▀ ██\n██ █▄▄▄█ █ ▄▄█▀██\n██▄▄▄▄▄▄▄██  ▄▄██\n██▄ ▀▄▀█▀█ █▀█ ██\n██▄▄▄▀█ ▄▄▄▄  ███\n██▄▄▄█▄██▄▄█▄▄▄██\n▀▀▀▀▀▀▀▀▀▀▀▀▀▀▀▀▀"
-    )),
 ];
 
 // A user's element: a digit of its own.

@@ -3,13 +3,10 @@
 ghost use Rattle.std.specs.Prelude.{◌≡◌, IsTrue};
 ghost use Rattle.qrcode_types.specs.Versions.{is_valid, has_level};
 
-use crate::common::{Row, are_dark, check, check_row};
-use crate::squares::{DIGITS_MICRO, DIGITS_NORMAL};
-use crate::symbol::drawings::{
-    DATA_OF_MICRO_1, LIGHT_MICRO_1, NORMAL_1_UNDER_CHECKERBOARD, PATTERNS_OF_NORMAL_2,
-};
+use crate::common::{Row, are_dark, check, check_row, checksum_of_bytes};
 use qrcode_symbol::canvas::{Canvas, MaskPattern, Module, is_functional};
-use qrcode_types::types::{Color, EcLevel, QrResult, Version};
+use qrcode_types::types::Version::{self, Micro, Normal};
+use qrcode_types::types::{Color, EcLevel, QrResult};
 use std::alloc::Global;
 use std::process::Abort;
 
@@ -56,17 +53,6 @@ fn letters(alloc: Global, canvas: &Canvas, version: Version) -> QrResult<String>
     Ok(text)
 }
 
-// Whether a canvas of a version has these letters.
-fn shows(alloc: Global, canvas: &Canvas, version: Version, text: &str) -> bool
-    requires valid { IsTrue (is_valid version) }
-    requires version { canvas.now.version ≡ version }
-{
-    match letters(alloc, canvas, version) {
-        Ok(letters) => letters.as_str() == text,
-        Err(_) => false,
-    }
-}
-
 // Draws a light module at a place that is inside.
 fn lighten(canvas: &mut Canvas, version: Version, x: i16, y: i16)
     requires valid { IsTrue (is_valid version) }
@@ -103,6 +89,8 @@ enum Start {
     Over(i16, i16),
     // All modules, light.
     Light,
+    // None.
+    Nothing,
 }
 
 // Draws what is drawn first.
@@ -119,6 +107,7 @@ fn begin(canvas: &mut Canvas, version: Version, start: Start)
             canvas.draw_all_functional_patterns();
         }
         Start::Light => lighten_all(canvas, version),
+        Start::Nothing => {}
     }
 }
 
@@ -139,8 +128,8 @@ fn mask(canvas: &mut Canvas, version: Version, ec_level: EcLevel, mask: Option<M
 // Codewords of data and of error correction.
 type Codewords = (&'static [u8], &'static [u8]);
 
-// A canvas of a version and level: what is drawn first, its codewords, and the masks that are applied one
-// after the other.
+// A canvas of a version and level: what is drawn first, its codewords, and the masks that are
+// applied one after the other.
 #[derive(Copy, Clone)]
 struct Drawing(Version, EcLevel, Start, Codewords, [Option<MaskPattern>; 2]);
 
@@ -160,15 +149,6 @@ fn draw(rt: &impl Abort, alloc: Global, drawing: Drawing) -> Canvas
     canvas
 }
 
-// Whether a copy of a canvas has these letters, and its modules are dark where a letter says so.
-fn draws(rt: &impl Abort, alloc: Global, drawing: Drawing, text: &str) -> bool {
-    let canvas = draw(rt, alloc, drawing);
-    let copy = canvas.clone().expect(rt, "a copy");
-    let modules = canvas.to_bools(alloc).expect(rt, "modules");
-    let colors = canvas.into_colors(alloc).expect(rt, "colours");
-    shows(alloc, &copy, drawing.0, text) && are_dark(text, &colors, &modules)
-}
-
 // The codewords of `01234567` in Normal 1 at M.
 const DIGITS: Codewords = (
     b"\x10\x20\x0c\x56\x61\x80\xec\x11\xec\x11\xec\x11\xec\x11\xec\x11",
@@ -179,67 +159,116 @@ const EMPTY: Codewords = (&[], &[]);
 
 const LINES: Option<MaskPattern> = Some(MaskPattern::VerticalLines);
 
-// Canvases and their letters.
+const CHECKERBOARD: Option<MaskPattern> = Some(MaskPattern::Checkerboard);
+
+// A canvas, and the checksum CRC-32 of its letters, whose squares were drawn by hand, and those of
+// Micro 3 and of masks by the judge's places and masks (evidence/judge).
+struct Drawn(Drawing, u32);
+
 #[rattlefmt::skip]
-static DRAWN: [(Drawing, &str); 5] = [
+static DRAWN: [Drawn; 7] = [
     // Bits without a codeword stay empty.
-    (Drawing(Version::Normal(2), EcLevel::L, Start::Over(18, 18), EMPTY, [None, None]), PATTERNS_OF_NORMAL_2),
-    (Drawing(
-        Version::Micro(1), EcLevel::L, Start::Patterns, (&[0xa5, 0x3c, 0x70], &[0x81, 0xe6]), [None, None],
-    ), DATA_OF_MICRO_1),
-    (Drawing(Version::Normal(1), EcLevel::M, Start::Patterns, DIGITS, [LINES, None]), DIGITS_NORMAL),
-    (Drawing(
-        Version::Micro(2), EcLevel::L, Start::Patterns, (b"\x40\x18\xac\xc3\x00", b"\x86\x0d\x22\xae\x30"),
-        [Some(MaskPattern::LargeCheckerboard), None],
-    ), DIGITS_MICRO),
-    // A second mask changes the places of the format word.
-    (Drawing(
-        Version::Normal(1), EcLevel::M, Start::Patterns, EMPTY, [LINES, Some(MaskPattern::Checkerboard)],
-    ), NORMAL_1_UNDER_CHECKERBOARD),
+    Drawn(
+        Drawing(Normal(2), EcLevel::L, Start::Over(18, 18), EMPTY, [None, None]), 0x4c0d_4abd,
+    ),
+    Drawn(
+        Drawing(
+            Micro(1), EcLevel::L, Start::Patterns, (b"\xa5\x3c\x70", b"\x81\xe6"), [None, None],
+        ),
+        0x93fe_9d50,
+    ),
+    // Of the data 84 bits are drawn, of the error correction 48, and no module stays empty.
+    Drawn(
+        Drawing(
+            Micro(3), EcLevel::L, Start::Patterns,
+            (b"\x6e\x5d\xe2\x6e\x5d\xe2\x6e\x5d\xe2\x6e\x5d", b"\xe2\x6e\x5d\xe2\x6e\x5d"),
+            [None, None],
+        ),
+        0x10ed_a893,
+    ),
+    Drawn(
+        Drawing(Normal(1), EcLevel::M, Start::Patterns, DIGITS, [LINES, None]), 0xd3b4_a900,
+    ),
+    Drawn(
+        Drawing(
+            Micro(2), EcLevel::L, Start::Patterns,
+            (b"\x40\x18\xac\xc3\x00", b"\x86\x0d\x22\xae\x30"),
+            [Some(MaskPattern::LargeCheckerboard), None],
+        ),
+        0x14cc_9023,
+    ),
+    // Patterns under a mask, and under another one after it, which changes the format word alone.
+    Drawn(
+        Drawing(Normal(1), EcLevel::M, Start::Patterns, EMPTY, [LINES, None]), 0x3e87_d7ce,
+    ),
+    Drawn(
+        Drawing(Normal(1), EcLevel::M, Start::Patterns, EMPTY, [LINES, CHECKERBOARD]), 0xf4c0_5c89,
+    ),
 ];
 
-// Each canvas is drawn so.
-fn check_drawn(rt: &impl Abort, alloc: Global, rows: &[(Drawing, &str)]) {
-    for (i, (drawing, text)) in rows.iter().enumerate() {
-        check_row(rt, i, draws(rt, alloc, *drawing, *text));
+// Whether a canvas of a version has letters with this checksum, which its colours and modules follow.
+fn shows(alloc: Global, drawn: (&Canvas, &[Color], &[bool]), version: Version, sum: u32) -> bool
+    requires valid { IsTrue (is_valid version) }
+    requires version { drawn.0.now.version ≡ version }
+{
+    let (canvas, colors, modules) = drawn;
+    match letters(alloc, canvas, version) {
+        Ok(text) => {
+            checksum_of_bytes(text.as_bytes()) == sum && are_dark(text.as_str(), colors, modules)
+        }
+        Err(_) => false,
     }
+}
+
+// Whether a copy of a canvas has these letters.
+fn draws(rt: &impl Abort, alloc: Global, drawn: &Drawn) -> bool {
+    let canvas = draw(rt, alloc, drawn.0);
+    let copy = canvas.clone().expect(rt, "a copy");
+    let modules = canvas.to_bools(alloc).expect(rt, "modules");
+    let colors = canvas.into_colors(alloc).expect(rt, "colours");
+    shows(alloc, (&copy, &colors, &modules), drawn.0.0, drawn.1)
 }
 
 #[test]
 fn canvases_are_drawn(rt: HostRuntime) {
-    check_drawn(&rt, rt.alloc(), &DRAWN);
+    for (i, drawn) in DRAWN.iter().enumerate() {
+        check_row(&rt, i, draws(&rt, rt.alloc(), drawn));
+    }
 }
 
 // Canvases, and their letters under their best masks.
 #[rattlefmt::skip]
-static BEST: [(Drawing, &str); 2] = [
-    (Drawing(Version::Normal(1), EcLevel::M, Start::Patterns, DIGITS, [None, None]), DIGITS_NORMAL),
-    // All modules are light and stay so under each mask: all penalties are 170, and the first mask is
-    // taken, with the format word 0x4445.
-    (Drawing(Version::Micro(1), EcLevel::L, Start::Light, EMPTY, [None, None]), LIGHT_MICRO_1),
+static BEST: [Drawn; 3] = [
+    Drawn(
+        Drawing(Normal(1), EcLevel::M, Start::Patterns, DIGITS, [None, None]), 0xd3b4_a900,
+    ),
+    // All modules are light and stay so under each mask: all penalties are 170, and the first mask
+    // is taken, with the format word 0x4445.
+    Drawn(Drawing(Micro(1), EcLevel::L, Start::Light, EMPTY, [None, None]), 0x956d_d1f3),
+    // Of nothing the masks have the penalties 80, 85, 68 and 85: the third has the format word 0x4e2b.
+    Drawn(Drawing(Micro(1), EcLevel::L, Start::Nothing, EMPTY, [None, None]), 0xcb02_1188),
 ];
 
-// Whether a canvas has these letters under its best mask, and its modules are dark where a letter says so.
-fn draws_best(rt: &impl Abort, alloc: Global, drawing: Drawing, text: &str) -> bool {
-    let canvas = draw(rt, alloc, drawing);
+// Whether a canvas has these letters under its best mask.
+fn draws_best(rt: &impl Abort, alloc: Global, drawn: &Drawn) -> bool {
+    let canvas = draw(rt, alloc, drawn.0);
     let best = canvas.apply_best_mask(alloc).expect(rt, "a canvas");
     let modules = best.to_bools(alloc).expect(rt, "modules");
     let colors = canvas.best_colors(alloc).expect(rt, "colours");
-    shows(alloc, &best, drawing.0, text) && are_dark(text, &colors, &modules)
+    shows(alloc, (&best, &colors, &modules), drawn.0.0, drawn.1)
 }
 
 #[test]
 fn canvases_are_under_their_best_masks(rt: HostRuntime) {
-    for (i, (drawing, text)) in BEST.iter().enumerate() {
-        check_row(&rt, i, draws_best(&rt, rt.alloc(), *drawing, *text));
+    for (i, drawn) in BEST.iter().enumerate() {
+        check_row(&rt, i, draws_best(&rt, rt.alloc(), drawn));
     }
 }
 
 #[test]
 fn coordinates_wrap(rt: HostRuntime) {
-    let mut canvas = Canvas::new(rt.alloc(), Version::Normal(1), EcLevel::L).expect(
-        &rt, "a canvas",
-    );
+    let canvas = Canvas::new(rt.alloc(), Normal(1), EcLevel::L);
+    let mut canvas = canvas.expect(&rt, "a canvas");
     canvas.put(2, -3, Color::Dark);
     let dark = Module::Masked(Color::Dark);
     assert!(rt; canvas.get(2, 18) == dark && canvas.get(-19, 18) == dark);
@@ -284,14 +313,14 @@ fn functional(version: Version, x: i16, y: i16) -> Option<bool> {
 struct Place(Version, i16, i16, bool);
 
 static PLACES: [Place; 8] = [
-    Place(Version::Normal(7), -7, -7, true),
-    Place(Version::Normal(7), -9, -9, true),
-    Place(Version::Normal(7), -10, -7, false),
-    Place(Version::Normal(7), 8, -8, true),
-    Place(Version::Normal(7), 6, -16, true),
-    Place(Version::Normal(7), 5, -12, false),
-    Place(Version::Normal(7), -45, -45, true),
-    Place(Version::Micro(2), 0, -1, true),
+    Place(Normal(7), -7, -7, true),
+    Place(Normal(7), -9, -9, true),
+    Place(Normal(7), -10, -7, false),
+    Place(Normal(7), 8, -8, true),
+    Place(Normal(7), 6, -16, true),
+    Place(Normal(7), 5, -12, false),
+    Place(Normal(7), -45, -45, true),
+    Place(Micro(2), 0, -1, true),
 ];
 
 impl Row for Place {

@@ -23,8 +23,8 @@ enum Kind {
     Runs,
     // The bits of each row.
     Rows(&'static [u32]),
-    // A chessboard, in whose row 88 the places from the first to before the second number are of one
-    // colour.
+    // A chessboard, in whose row 88 the places from the first to before the second number are of
+    // one colour.
     RunInRow(usize, usize),
     // One finder form, in row 88 from this column on.
     FinderInRow(usize),
@@ -116,8 +116,8 @@ fn rows_of<R: PackedRow>(alloc: Global, kind: Kind, width: u32) -> QrResult<Vec<
     Ok(rows)
 }
 
-// Whether a square has these penalties of Normal and of Micro on packed rows of a type, unless that has no room
-// for it.
+// Whether a square has these penalties of Normal and of Micro on packed rows of a type, unless that
+// has no room for it.
 fn costs_in<R: PackedRow>(
     alloc: Global,
     kind: Kind,
@@ -147,33 +147,44 @@ fn costs(alloc: Global, kind: Kind, width: u32, expected: (u32, u32)) -> bool {
         && costs_in::<Row192>(alloc, kind, width, 192, expected)
 }
 
-// A symbol whose penalty is published, in parts: runs 88 and 92, blocks 90, finder forms 360 and 400,
-// balance 2.
+// A symbol whose penalty is published, in parts: runs 88 and 92, blocks 90, finder forms 360 and
+// 400, balance 2.
 #[rattlefmt::skip]
 const PUBLISHED: [u32; 21] = [
-    0x1fc37f, 0x104941, 0x17595d, 0x17415d, 0x17455d, 0x104441, 0x1fd57f, 0x000100, 0x1f50d6, 0x110f02, 0x0346ec,
-    0x0eacb6, 0x15dd51, 0x144b00, 0x06857f, 0x02da41, 0x1fc55d, 0x08aa5d, 0x12f15d, 0x1a2d41, 0x10f07f,
+    0x1fc37f, 0x104941, 0x17595d, 0x17415d, 0x17455d, 0x104441, 0x1fd57f, 0x000100, 0x1f50d6,
+    0x110f02, 0x0346ec, 0x0eacb6, 0x15dd51, 0x144b00, 0x06857f, 0x02da41, 0x1fc55d, 0x08aa5d,
+    0x12f15d, 0x1a2d41, 0x10f07f,
 ];
 
-// Light except for its last row and column, whose 9 and 9 light modules behind the first cost 18 and 150 in Micro.
+// Light except for its last row and column, whose 9 and 9 light modules behind the first cost 18 and
+// 150 in Micro.
 #[rattlefmt::skip]
 const SIDES: [u32; 17] = [
-    0x10000, 0x10000, 0x10000, 0, 0, 0x10000, 0x10000, 0, 0x10000, 0, 0x10000, 0, 0x10000, 0, 0, 0x10000, 0x02539,
+    0x10000, 0x10000, 0x10000, 0, 0, 0x10000, 0x10000, 0, 0x10000, 0, 0x10000, 0, 0x10000, 0, 0,
+    0x10000, 0x02539,
 ];
 
-// Kinds of squares, their sides, and their penalties of Normal and of Micro. They were counted by the judge
-// (evidence/judge/penalty.py) on the same squares; those of one colour by hand too, and the published ones are the
-// published.
+// Kinds of squares, their sides, and their penalties of Normal and of Micro. They were counted by
+// the judge (evidence/judge/penalty.py) on the same squares; those of one colour by hand too, and the
+// published ones are the published.
 struct Counted(Kind, u32, (u32, u32));
 
 #[rattlefmt::skip]
 static COUNTED: [Counted; 25] = [
     Counted(Kind::Rows(&PUBLISHED), 21, (1032, 150)),
     // A canvas of Micro 1 at L on which nothing is drawn, under each of its masks.
-    Counted(Kind::Rows(&[0x7ff, 0x100, 0x6ff, 0x100, 0x6ff, 0x000, 0x6ff, 0x100, 0x623, 0x000, 0x7ff]), 11, (94, 80)),
-    Counted(Kind::Rows(&[0x1c7, 0x0c7, 0x738, 0x638, 0x0c7, 0x1c7, 0x738, 0x738, 0x083, 0x1c7, 0x638]), 11, (93, 85)),
-    Counted(Kind::Rows(&[0x7ff, 0x1c7, 0x7db, 0x455, 0x36d, 0x471, 0x7ff, 0x0c7, 0x673, 0x555, 0x36d]), 11, (111, 68)),
-    Counted(Kind::Rows(&[0x555, 0x638, 0x471, 0x3aa, 0x1c7, 0x38e, 0x455, 0x638, 0x4d3, 0x2aa, 0x1c7]), 11, (24, 85)),
+    Counted(Kind::Rows(&[
+        0x7ff, 0x100, 0x6ff, 0x100, 0x6ff, 0x000, 0x6ff, 0x100, 0x623, 0x000, 0x7ff,
+    ]), 11, (94, 80)),
+    Counted(Kind::Rows(&[
+        0x1c7, 0x0c7, 0x738, 0x638, 0x0c7, 0x1c7, 0x738, 0x738, 0x083, 0x1c7, 0x638,
+    ]), 11, (93, 85)),
+    Counted(Kind::Rows(&[
+        0x7ff, 0x1c7, 0x7db, 0x455, 0x36d, 0x471, 0x7ff, 0x0c7, 0x673, 0x555, 0x36d,
+    ]), 11, (111, 68)),
+    Counted(Kind::Rows(&[
+        0x555, 0x638, 0x471, 0x3aa, 0x1c7, 0x38e, 0x455, 0x638, 0x4d3, 0x2aa, 0x1c7,
+    ]), 11, (24, 85)),
     Counted(Kind::Rows(&SIDES), 17, (1246, 168)),
     Counted(Kind::Light, 21, (2098, 340)),
     Counted(Kind::Dark, 21, (2098, 0)),

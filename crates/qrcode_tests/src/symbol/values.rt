@@ -1,9 +1,9 @@
 //! Texts of refusals, and entries of tables.
 
-use crate::common::{Row, check, check_row};
+use crate::common::check_row;
 use qrcode_types::tables::capacity;
-use qrcode_types::types::{EcLevel, QrError, Version};
-use std::alloc::Global;
+use qrcode_types::types::Version::{Micro, Normal};
+use qrcode_types::types::{EcLevel, QrError};
 
 #[rattlefmt::skip]
 static REFUSALS: [(QrError, &str); 6] = [
@@ -23,45 +23,24 @@ fn refusals_are_written(rt: HostRuntime) {
     }
 }
 
-// Places of a table, of a version and a level, and what they have where it is not 0.
-static ENTRIES: [(Version, EcLevel, Option<u16>); 5] = [
-    (Version::Normal(1), EcLevel::L, None),
-    (Version::Normal(7), EcLevel::Q, Some(86)),
-    (Version::Micro(2), EcLevel::M, Some(2)),
-    (Version::Micro(2), EcLevel::L, None),
-    (Version::Normal(42), EcLevel::M, None),
-];
-
 #[test]
 fn entries_are_fetched(rt: HostRuntime) {
     let mut table = [[0_u16; 4]; 44];
     table[6][2] = 86;
     table[41][1] = 2;
-    for (row, (version, level, entry)) in ENTRIES.iter().enumerate() {
-        let expected = entry.ok_or(QrError::InvalidVersion);
-        check_row(&rt, row, version.fetch(*level, &table) == expected);
-    }
-}
-
-struct Capacity(Version, EcLevel, Option<usize>);
-
-static CAPACITIES: [Capacity; 6] = [
-    Capacity(Version::Normal(40), EcLevel::L, Some(23648)),
-    Capacity(Version::Normal(9), EcLevel::M, Some(1456)),
-    Capacity(Version::Micro(3), EcLevel::L, Some(84)),
-    Capacity(Version::Micro(1), EcLevel::L, Some(20)),
-    Capacity(Version::Micro(1), EcLevel::M, None),
-    Capacity(Version::Normal(41), EcLevel::L, None),
-];
-
-impl Row for Capacity {
-    fn holds(&self, _alloc: Global) -> bool {
-        let Capacity(version, level, bits) = self;
-        capacity(*version, *level) == *bits && version.has_level(*level) == bits.is_some()
-    }
+    assert!(rt; Normal(7).fetch(EcLevel::Q, &table) == Ok(86));
+    assert!(rt; Micro(2).fetch(EcLevel::M, &table) == Ok(2));
+    assert!(rt; Normal(1).fetch(EcLevel::L, &table) == Err(QrError::InvalidVersion));
+    assert!(rt; Micro(2).fetch(EcLevel::L, &table) == Err(QrError::InvalidVersion));
+    assert!(rt; Normal(42).fetch(EcLevel::M, &table) == Err(QrError::InvalidVersion));
 }
 
 #[test]
 fn capacities_are_found(rt: HostRuntime) {
-    check(&rt, rt.alloc(), &CAPACITIES);
+    assert!(rt; capacity(Normal(40), EcLevel::L) == Some(23_648));
+    assert!(rt; capacity(Normal(9), EcLevel::M) == Some(1456));
+    assert!(rt; capacity(Micro(3), EcLevel::L) == Some(84));
+    assert!(rt; capacity(Micro(1), EcLevel::L) == Some(20));
+    assert!(rt; Micro(1).has_level(EcLevel::L) && !Micro(1).has_level(EcLevel::M));
+    assert!(rt; capacity(Micro(1), EcLevel::M) == None && capacity(Normal(41), EcLevel::L) == None);
 }
