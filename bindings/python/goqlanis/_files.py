@@ -25,8 +25,8 @@ def write(out: Any, data: bytes, is_text: bool) -> None:
 
 
 def _write_whole(path: str, data: bytes) -> None:
-    """Writes a file under another name beside it, which nobody else may read, and renames that. Links
-    are followed; what is no regular file, or is open already, is written straight.
+    """Writes a file under another name beside it, which nobody else may read, and renames that.
+    Links are followed; what is no regular file, or is open already, is written straight.
     """
     place, old = _followed(path)
     is_open = place.startswith(_OPEN)
@@ -66,19 +66,21 @@ def _followed(path: str) -> Tuple[str, Optional[os.stat_result]]:
             found = os.lstat(path)
         except FileNotFoundError:
             return path, None
-        if path.startswith(_OPEN) or not stat.S_ISLNK(found.st_mode):
+        if path.startswith(_OPEN):
             return path, found
         folder = os.path.dirname(path)
-        _check_link(found, os.stat(folder or "."))
+        _check_owner(found, os.stat(folder or "."))
+        if not stat.S_ISLNK(found.st_mode):
+            return path, found
         path = os.path.join(folder, os.readlink(path))
     raise OSError(errno.ELOOP, os.strerror(errno.ELOOP))
 
 
-def _check_link(link: os.stat_result, folder: os.stat_result) -> None:
-    """Refuses a link that is neither of this user nor of the folder's owner, in a folder where
-    everybody can make one and nobody can take that of another away. Linux follows none by itself."""
-    if folder.st_mode & 0o1002 == 0o1002 and link.st_uid not in (folder.st_uid, os.geteuid()):
-        raise PermissionError(errno.EACCES, "it is another user's link in a folder for everybody: "
+def _check_owner(found: os.stat_result, folder: os.stat_result) -> None:
+    """Refuses what is neither this user's nor the folder's owner's, where everybody can make files
+    and nobody can remove another's (sticky)."""
+    if folder.st_mode & 0o1002 == 0o1002 and found.st_uid not in (folder.st_uid, os.geteuid()):
+        raise PermissionError(errno.EACCES, "it is another user's, in a folder for everybody: "
                               "remove it, or take another name")
 
 
@@ -111,8 +113,8 @@ def _usual_rights(folder: str) -> int:
 
 
 def _keep_owner(descriptor: int, old: os.stat_result) -> None:
-    """Gives a new file the owner and the group of the old one, where that can be. It is refused where
-    the owner of the old one could not read the new one."""
+    """Gives a new file the owner and the group of the old one, where that is allowed. If it is not,
+    the owner of the old one has to be able to read the new one."""
     try:
         os.fchown(descriptor, old.st_uid, old.st_gid)
     except OSError:

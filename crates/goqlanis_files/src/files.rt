@@ -22,9 +22,9 @@ pub enum Unwritten {
     /// Its owner could not read what takes its place.
     #[error("it belongs to another user, who could not read the new one: remove it first")]
     Owner,
-    /// Another user's link stands there, in a folder that everybody writes to.
-    #[error("it is another user's link in a folder for everybody: remove it, or take another name")]
-    Link,
+    /// What stands there is another user's, in a folder that everybody writes to.
+    #[error("it is another user's, in a folder for everybody: remove it, or take another name")]
+    Strange,
     #[error("out of memory")]
     OutOfMemory(#[from(alloc)] AllocError),
 }
@@ -33,23 +33,31 @@ pub enum Unwritten {
 const LINKS: u32 = 40;
 
 /// Writes a file atomically: next to it under another name, where only its owner can read it, and
-/// renamed into its place. Links are followed, but not another user's in a folder for everybody.
-/// What is no regular file, such as a pipe, and what is open already, is written directly.
+/// renamed into its place. Links are followed. What is no regular file, such as a pipe, and what is
+/// open already, is written directly. Nothing of another user is taken in a folder for everybody.
 pub fn write_whole(rt: &HostRuntime, path: &str, bytes: &[u8]) -> Result<(), Unwritten> {
     let mut place = String::from_str(rt.alloc(), path)?;
     for _ in 0..LINKS {
         if is_open_file(place.as_str()) {
             break;
         }
-        match fs::symlink_metadata(rt, place.as_str()) {
-            Ok(old) if old.is_symlink() => place = followed(rt, place.as_str(), &old)?,
-            Ok(old) if old.is_file() => return replace(rt, place.as_str(), Some(old), bytes),
-            Ok(_) => break,
+        let found = match fs::symlink_metadata(rt, place.as_str()) {
+            Ok(found) => found,
             Err(error) if error.kind() == ErrorKind::NotFound => {
                 return replace(rt, place.as_str(), None, bytes);
             }
             Err(error) => return Err(Unwritten::File(error)),
+        };
+        if is_strange(rt, folder_of(place.as_str()), &found)? {
+            return Err(Unwritten::Strange);
         }
+        if found.is_file() {
+            return replace(rt, place.as_str(), Some(found), bytes);
+        }
+        if !found.is_symlink() {
+            break;
+        }
+        place = followed(rt, place.as_str())?;
     }
     write_straight(rt, place.as_str(), bytes)
 }
@@ -69,11 +77,8 @@ pub fn is_stream(rt: &HostRuntime, path: &str) -> bool {
     is_open || fs::metadata(rt, path).is_ok_and(|found| !found.is_file())
 }
 
-// What a link names, of which this was found.
-fn followed(rt: &HostRuntime, link: &str, found: &Metadata) -> Result<String, Unwritten> {
-    if is_strange(rt, folder_of(link), found)? {
-        return Err(Unwritten::Link);
-    }
+// What a link names.
+fn followed(rt: &HostRuntime, link: &str) -> Result<String, Unwritten> {
     let named = fs::read_link(rt, link)?;
     let target = named.as_path().as_str();
     let folder = if target.starts_with('/') {
@@ -84,14 +89,15 @@ fn followed(rt: &HostRuntime, link: &str, found: &Metadata) -> Result<String, Un
     Ok(format!(in rt.alloc(); "{folder}{target}")?)
 }
 
-// Whether a link is neither of this user nor of its folder's owner, in a folder where everybody can
-// make one and nobody can remove another's (sticky). Linux itself follows no such link.
-fn is_strange(rt: &HostRuntime, folder: &str, link: &Metadata) -> io::Result<bool> {
+// Whether what was found in a folder is neither this user's nor its owner's, where everybody can make
+// files and nobody can remove another's (sticky). Linux refuses to open such links, pipes and files
+// for whoever would make one, but here it is not asked to.
+fn is_strange(rt: &HostRuntime, folder: &str, found: &Metadata) -> io::Result<bool> {
     let folder = fs::metadata(rt, if folder.is_empty() { "." } else { folder })?;
-    if folder.mode() & 0o1002 != 0o1002 || link.uid() == folder.uid() {
+    if folder.mode() & 0o1002 != 0o1002 || found.uid() == folder.uid() {
         return Ok(false);
     }
-    Ok(link.uid() != fs::metadata(rt, "/proc/self")?.uid())
+    Ok(found.uid() != fs::metadata(rt, "/proc/self")?.uid())
 }
 
 // The folder of a path, with the slash behind it; nothing where the path has none.
