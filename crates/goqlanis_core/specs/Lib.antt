@@ -1,8 +1,10 @@
+pub mod Colours
 pub mod Drawings
 pub mod Elements
 pub mod Formats
 pub mod HandedOn
 pub mod Masks
+pub mod Names
 pub mod Scans
 pub mod Segments
 pub mod Symbols

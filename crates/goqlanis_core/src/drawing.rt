@@ -179,8 +179,9 @@ pub fn quiet_zone(request: &Request<'_>, code: &QrCode) -> u32
     }
 }
 
-// The pixels of a module, as many as there is room for where the pixels of a side are given.
-fn scale(request: &Request<'_>, code: &QrCode) -> u32
+/// The pixels of a module, as many as there is room for where the pixels of a side are given; 0 where
+/// there is room for none.
+pub fn scale(request: &Request<'_>, code: &QrCode) -> u32
     ensures value { result ≡ scale_for request.now code.now.version }
     ensures at_most { result ≤ 65535 }
 {

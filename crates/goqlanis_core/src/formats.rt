@@ -1,12 +1,13 @@
-//! The formats of drawings: one table of what is known of each beside what it draws.
+//! The formats of drawings: what each is called, and what is known of it next to what it draws.
 
-ghost use Rattle.std.specs.Prelude.{◌≡◌};
+ghost use Rattle.std.specs.Prelude.{◌≡◌, map};
+ghost use Rattle.std.specs.Option.{option_map};
 ghost use Rattle.goqlanis_core.specs.Formats.{format_numbered};
+ghost use Rattle.goqlanis_core.specs.Names.{ending_among, format_named, format_of_ending, has_colours, is_known, is_text, named_among, pixels, row_of};
 
 use Format::{
     Chars, Eps, Grey, HalfBlocks, LightHalfBlocks, Pbm, Pgm, Pic, Png, Svg, SvgPath, Terminal,
 };
-use Kind::{ColouredFile, ColouredText, File, Text};
 
 /// How modules are drawn.
 #[derive(Clone, Copy, PartialEq, Eq)]
@@ -37,42 +38,27 @@ pub enum Format {
     Grey,
 }
 
-/// What a drawing is.
-#[derive(Clone, Copy)]
-pub enum Kind {
-    Text,
-    /// A text in colours that its caller chooses.
-    ColouredText,
-    /// Bytes for a file.
-    File,
-    /// Bytes for a file, in colours that its caller chooses.
-    ColouredFile,
-}
-
-/// What is known of a format of the program beside what it draws.
+/// What a format of the program is called.
 pub struct Row {
     pub format: Format,
     /// What `--format` calls it.
     pub name: &'static str,
-    /// The ending of its files, where it has one.
+    /// Its file extension, where it has one.
     pub ending: Option<&'static str>,
-    pub kind: Kind,
-    /// The pixels of a module where nothing else is asked for.
-    pub pixels: u16,
 }
 
 /// The formats of the program, in the order in which it lists them.
 #[rattlefmt::skip]
 pub static FORMATS: &[Row] = &[
-    Row { format: HalfBlocks, name: "half-blocks", ending: Some("txt"), kind: Text, pixels: 1 },
-    Row { format: Terminal, name: "terminal", ending: None, kind: Text, pixels: 1 },
-    Row { format: Chars, name: "text", ending: None, kind: Text, pixels: 1 },
-    Row { format: Png, name: "png", ending: Some("png"), kind: ColouredFile, pixels: 8 },
-    Row { format: Svg, name: "svg", ending: Some("svg"), kind: ColouredText, pixels: 8 },
-    Row { format: Eps, name: "eps", ending: Some("eps"), kind: ColouredText, pixels: 8 },
-    Row { format: Pic, name: "pic", ending: Some("pic"), kind: Text, pixels: 1 },
-    Row { format: Pbm, name: "pbm", ending: Some("pbm"), kind: File, pixels: 8 },
-    Row { format: Pgm, name: "pgm", ending: Some("pgm"), kind: File, pixels: 8 },
+    Row { format: HalfBlocks, name: "half-blocks", ending: Some("txt") },
+    Row { format: Terminal, name: "terminal", ending: None },
+    Row { format: Chars, name: "text", ending: None },
+    Row { format: Png, name: "png", ending: Some("png") },
+    Row { format: Svg, name: "svg", ending: Some("svg") },
+    Row { format: Eps, name: "eps", ending: Some("eps") },
+    Row { format: Pic, name: "pic", ending: Some("pic") },
+    Row { format: Pbm, name: "pbm", ending: Some("pbm") },
+    Row { format: Pgm, name: "pgm", ending: Some("pgm") },
 ];
 
 // The formats of the library for C, in the order of their numbers, from 0 on.
@@ -96,42 +82,75 @@ pub fn format_numbered(number: u32) -> Option<Format>
 }
 
 /// The format of a name, in capitals or not.
-pub fn format_named(name: &str) -> Option<Format> {
-    let row = FORMATS
-        .iter()
-        .find(|row| row.name.eq_ignore_ascii_case(name))?;
-    Some(row.format)
+pub fn format_named(name: &str) -> Option<Format>
+    ensures { result ≡ format_named name.now }
+{
+    named_among(FORMATS, name)
 }
 
-/// The format of the ending of a file's name, in capitals or not.
-pub fn format_of_ending(ending: &str) -> Option<Format> {
-    let has_ending = |known: &str| known.eq_ignore_ascii_case(ending);
-    let row = FORMATS
-        .iter()
-        .find(|row| row.ending.is_some_and(has_ending))?;
-    Some(row.format)
+// The first format among these with a name.
+fn named_among(rows: &[Row], name: &str) -> Option<Format>
+    ensures { result ≡ named_among (map row_of rows.now) name.now }
+{
+    for row in rows {
+        if is_known(Some(row.name), name) {
+            return Some(row.format);
+        }
+    }
+    None
+}
+
+/// The format of a file extension, in capitals or not.
+pub fn format_of_ending(ending: &str) -> Option<Format>
+    ensures { result ≡ format_of_ending ending.now }
+{
+    ending_among(FORMATS, ending)
+}
+
+// The first format among these with a file extension.
+fn ending_among(rows: &[Row], ending: &str) -> Option<Format>
+    ensures { result ≡ ending_among (map row_of rows.now) ending.now }
+{
+    for row in rows {
+        if is_known(row.ending, ending) {
+            return Some(row.format);
+        }
+    }
+    None
+}
+
+// Whether a name or a file extension is the known one, in capitals or not.
+fn is_known(known: Option<&str>, name: &str) -> bool
+    ensures { result ≡ is_known (option_map (λ text. text.now) known.entry) name.now }
+{
+    match known {
+        Some(known) => known.eq_ignore_ascii_case(name),
+        None => false,
+    }
 }
 
 impl Format {
-    // What the program knows of it, where it is one of the program's.
-    fn row(self) -> Option<&'static Row> {
-        FORMATS.iter().find(|row| row.format == self)
-    }
-
     /// Whether it is a text; others are for files.
-    pub fn is_text(self) -> bool {
-        let kind = self.row().map(|row| row.kind);
-        matches!(kind, Some(Kind::Text | Kind::ColouredText))
+    pub fn is_text(self) -> bool
+        ensures { result ≡ is_text self }
+    {
+        !matches!(self, Png | Pbm | Pgm | Grey)
     }
 
     /// Whether its caller chooses its colours.
-    pub fn has_colours(self) -> bool {
-        let kind = self.row().map(|row| row.kind);
-        matches!(kind, Some(Kind::ColouredText | Kind::ColouredFile))
+    pub fn has_colours(self) -> bool
+        ensures { result ≡ has_colours self }
+    {
+        matches!(self, Png | Svg | SvgPath | Eps)
     }
 
     /// The pixels of a module where nothing else is asked for.
-    pub fn pixels(self) -> u16 {
-        self.row().map_or(1, |row| row.pixels)
+    pub fn pixels(self) -> u16
+        ensures { result ≡ pixels self }
+    {
+        match self {
+            Png | Svg | SvgPath | Eps | Pbm | Pgm | Grey => 8,
+            HalfBlocks | LightHalfBlocks | Terminal | Chars | Pic => 1,
+        }
     }
 }

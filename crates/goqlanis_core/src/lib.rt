@@ -2,6 +2,7 @@
 //! either.
 #![tactic(auto)]
 
+pub mod colours;
 mod drawing;
 mod elements;
 pub mod formats;
@@ -17,7 +18,7 @@ mod terminal;
 
 pub use drawing::{
     Drawing, draw, draw_elements, draw_for_application, draw_segments, drawing_of, quiet_zone,
-    symbol_in,
+    scale, symbol_in,
 };
 pub use elements::symbol_of_elements;
 pub use formats::Format;

@@ -1,0 +1,7 @@
+use Rattle.goqlanis_core.specs.Names.{formats}
+use Rattle.goqlanis_core.proofs.formats.format_named.Goals as goal
+
+-- the table of the code is the defined one
+pub returns : goal.returns
+unfolding formats
+returns c = c.named_among.ensures
