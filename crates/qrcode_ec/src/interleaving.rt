@@ -91,8 +91,7 @@ impl<'a> DataBlocks<'a> {
         ensures { IfOk result (λ words.
             AreWordsOf self.now.blocks self.now.bytes.now words.0.items words.1.items) }
     {
-        // Not of zeros, which would be set byte by byte; all are written below.
-        let mut data = Vec::from_slice(alloc, self.bytes)?;
+        let mut data = vec![in alloc; 0; self.bytes.len()]?;
         self.write_data(&mut data);
         let mut ec = vec![in alloc; 0; self.blocks.total_ec_length()]?;
         self.write_ec(&mut ec);

@@ -15,7 +15,8 @@ use Rattle.qrcode_ec.specs.Field.{product, power}
 use Rattle.qrcode_ec.specs.Codes.{syndrome}
 use Rattle.qrcode_ec.specs.Blocks.{codewords, interleaved_place, block, blocks, data_bytes, data_bits}
 use Rattle.qrcode_layout.specs.Words.{with_check_bits, format_word}
-use Rattle.qrcode_layout.specs.Patterns.{finder, centres, alignment, timing, dark_module, version_pattern, pattern, format_copies, format_index, is_functional_place}
+use Rattle.qrcode_layout.specs.Figures.{figures, centres}
+use Rattle.qrcode_layout.specs.Patterns.{dark_module, pattern, format_copies, format_index, is_functional_place}
 use Rattle.qrcode_layout.specs.Stream.{color_at, zigzag_place, zigzag, free_places, stream}
 use Rattle.qrcode_layout.specs.declared.masks.MaskPattern.TheVariants.{VerticalLines, LargeCheckerboard}
 use Rattle.qrcode_bits.specs.Written.{padding, ending, terminated}
@@ -50,15 +51,15 @@ all_shown v s h x y wide high =
     shown (pattern v x y) (color_at v s x y) (below (is_shown v s y) (side v) (below (λ j. list_all (is_shown v s j) (range_with_len 0 (side v))) (side v) h y high) x wide)
 
 normal_patterns : HasPatterns (Normal (pos 1)) M VerticalLines normal_square
-unfolding number_bits number_of byte_at bytes_of carryless xor_sum block_table blocks_entry block_lengths data_length capacity total_ec_length remainder_from remainder product power syndrome codewords interleaved_place block blocks data_bytes data_bits with_check_bits format_word finder centres alignment timing dark_module version_pattern pattern format_copies format_index is_functional_place zigzag_place zigzag free_places stream padding ending terminated
+unfolding number_bits number_of byte_at bytes_of carryless xor_sum block_table blocks_entry block_lengths data_length capacity total_ec_length remainder_from remainder product power syndrome codewords interleaved_place block blocks data_bytes data_bits with_check_bits format_word figures centres dark_module pattern format_copies format_index is_functional_place zigzag_place zigzag free_places stream padding ending terminated
 normal_patterns = record { square = refl; pattern = all_shown (Normal (pos 1)) normal_square refl; format = (refl, (refl, tt)) }
 
 pub normal_symbol : IsSymbol (Normal (pos 1)) M normal_bits VerticalLines normal_square
-unfolding number_bits number_of byte_at bytes_of carryless xor_sum block_table blocks_entry block_lengths data_length capacity total_ec_length remainder_from remainder product power syndrome codewords interleaved_place block blocks data_bytes data_bits with_check_bits format_word finder centres alignment timing dark_module version_pattern pattern format_copies format_index is_functional_place zigzag_place zigzag free_places stream padding ending terminated
+unfolding number_bits number_of byte_at bytes_of carryless xor_sum block_table blocks_entry block_lengths data_length capacity total_ec_length remainder_from remainder product power syndrome codewords interleaved_place block blocks data_bytes data_bits with_check_bits format_word figures centres dark_module pattern format_copies format_index is_functional_place zigzag_place zigzag free_places stream padding ending terminated
 normal_symbol = record { patterns = normal_patterns; holds = refl; vanishes = (normal_vanishes, tt); remainder = refl }
 
 pub normal_read : ReadsBits normal_square (Normal (pos 1)) M normal_bits
-unfolding number_bits number_of byte_at bytes_of carryless xor_sum block_table blocks_entry block_lengths data_length capacity total_ec_length remainder_from remainder product power syndrome codewords interleaved_place block blocks data_bytes data_bits with_check_bits format_word finder centres alignment timing dark_module version_pattern pattern format_copies format_index is_functional_place zigzag_place zigzag free_places stream padding ending terminated
+unfolding number_bits number_of byte_at bytes_of carryless xor_sum block_table blocks_entry block_lengths data_length capacity total_ec_length remainder_from remainder product power syndrome codewords interleaved_place block blocks data_bytes data_bits with_check_bits format_word figures centres dark_module pattern format_copies format_index is_functional_place zigzag_place zigzag free_places stream padding ending terminated
 normal_read = record {
   exists = refl;
   square = refl;
@@ -71,15 +72,15 @@ normal_read = record {
 }
 
 micro_patterns : HasPatterns (Micro (pos 2)) L LargeCheckerboard micro_square
-unfolding number_bits number_of byte_at bytes_of carryless xor_sum block_table blocks_entry block_lengths data_length capacity total_ec_length remainder_from remainder product power syndrome codewords interleaved_place block blocks data_bytes data_bits with_check_bits format_word finder centres alignment timing dark_module version_pattern pattern format_copies format_index is_functional_place zigzag_place zigzag free_places stream padding ending terminated
+unfolding number_bits number_of byte_at bytes_of carryless xor_sum block_table blocks_entry block_lengths data_length capacity total_ec_length remainder_from remainder product power syndrome codewords interleaved_place block blocks data_bytes data_bits with_check_bits format_word figures centres dark_module pattern format_copies format_index is_functional_place zigzag_place zigzag free_places stream padding ending terminated
 micro_patterns = record { square = refl; pattern = all_shown (Micro (pos 2)) micro_square refl; format = (refl, tt) }
 
 pub micro_symbol : IsSymbol (Micro (pos 2)) L micro_bits LargeCheckerboard micro_square
-unfolding number_bits number_of byte_at bytes_of carryless xor_sum block_table blocks_entry block_lengths data_length capacity total_ec_length remainder_from remainder product power syndrome codewords interleaved_place block blocks data_bytes data_bits with_check_bits format_word finder centres alignment timing dark_module version_pattern pattern format_copies format_index is_functional_place zigzag_place zigzag free_places stream padding ending terminated
+unfolding number_bits number_of byte_at bytes_of carryless xor_sum block_table blocks_entry block_lengths data_length capacity total_ec_length remainder_from remainder product power syndrome codewords interleaved_place block blocks data_bytes data_bits with_check_bits format_word figures centres dark_module pattern format_copies format_index is_functional_place zigzag_place zigzag free_places stream padding ending terminated
 micro_symbol = record { patterns = micro_patterns; holds = refl; vanishes = (micro_vanishes, tt); remainder = refl }
 
 pub micro_read : ReadsBits micro_square (Micro (pos 2)) L micro_bits
-unfolding number_bits number_of byte_at bytes_of carryless xor_sum block_table blocks_entry block_lengths data_length capacity total_ec_length remainder_from remainder product power syndrome codewords interleaved_place block blocks data_bytes data_bits with_check_bits format_word finder centres alignment timing dark_module version_pattern pattern format_copies format_index is_functional_place zigzag_place zigzag free_places stream padding ending terminated
+unfolding number_bits number_of byte_at bytes_of carryless xor_sum block_table blocks_entry block_lengths data_length capacity total_ec_length remainder_from remainder product power syndrome codewords interleaved_place block blocks data_bytes data_bits with_check_bits format_word figures centres dark_module pattern format_copies format_index is_functional_place zigzag_place zigzag free_places stream padding ending terminated
 micro_read = record {
   exists = refl;
   square = refl;

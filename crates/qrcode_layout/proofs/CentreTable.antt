@@ -2,7 +2,7 @@
 use Rattle.std.proofs.Common.{◌≡◌, ℕ, zero, suc, ◌-◌, ◌≤◌, pos, List, [], ◌∷◌, map, get_or, Bor, refl, arith}
 use Rattle.std.proofs.lemmas.Bool.{le-leb}
 use Rattle.qrcode_layout.specs.Centres.{centre_table}
-use Rattle.qrcode_layout.specs.Patterns.{centres}
+use Rattle.qrcode_layout.specs.Figures.{centres}
 use Rattle.qrcode_types.specs.declared.types.Version.TheVariants.{Normal}
 
 row_now : (xs : List (Bor (List ℕ))) (i : ℕ) (d : Bor (List ℕ)) → d.now ≡ [] → (get_or xs i d).now ≡ get_or (map (λ r. r.now) xs) i []

@@ -1,5 +1,6 @@
 pub mod Below
 pub mod Formats
+pub mod Versions
 pub mod WordTables
 pub mod CentreTable
 pub mod MaskLists
@@ -7,11 +8,9 @@ pub mod Named
 pub mod WordLaws
 pub mod Zigzag
 pub mod FormatPlaces
-pub mod Corners
-pub mod Figures
+pub mod FigurePlaces
+pub mod Agreements
 pub mod LeftOut
-pub mod Near
-pub mod PatternsApart
 pub mod Totals
 pub mod Tallies
 pub mod WalkColumns

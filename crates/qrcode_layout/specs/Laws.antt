@@ -1,11 +1,13 @@
 -- Laws of the places.
-use Rattle.std.specs.Prelude.{◌≡◌, ◌≢◌, ℕ, ◌-◌, ◌*◌, ◌<◌, List, [], length, slice_index_or, Some, None, IsTrue, false}
-use Rattle.std.specs.List.{AllByRecursion, AllPairs, Contains}
+use Rattle.std.specs.Prelude.{◌≡◌, ◌≢◌, ℕ, ◌-◌, ◌*◌, ◌<◌, List, [], ◌++◌, length, slice_index_or, Some, None, IsTrue, false}
+use Rattle.std.specs.List.{list_all, AllByRecursion, AllPairs, Contains}
 use Rattle.qrcode_types.specs.Versions.{is_valid, side}
 use Rattle.qrcode_types.specs.declared.types.Version.{Version}
 use Rattle.qrcode_types.specs.declared.types.Version.TheVariants.{Normal, Micro}
-use Rattle.qrcode_types.specs.declared.types.Color.{Color}
-use Rattle.qrcode_layout.specs.Patterns.{finder, alignment, timing, dark_module, version_pattern, pattern, format_copies, format_index, is_functional_place}
+use Rattle.qrcode_types.specs.Colors.{color_of}
+use Rattle.qrcode_layout.specs.declared.figures.Figure.{Figure}
+use Rattle.qrcode_layout.specs.Figures.{has, is_dark_in, figures, format_figures, fits}
+use Rattle.qrcode_layout.specs.Patterns.{pattern, format_copies, format_index, is_functional_place}
 use Rattle.qrcode_layout.specs.Stream.{zigzag_place, free_places}
 
 abbrev pub IsInside : Version → ℕ → ℕ → Type 0  -- column and row lie in the square
@@ -15,13 +17,14 @@ abbrev pub FormatPlacesAreNoPatterns : Type 0  -- a place of the format word bel
 FormatPlacesAreNoPatterns =
     (v : Version) (x y i : ℕ) → IsTrue (is_valid v) → format_index v x y ≡ Some i → pattern v x y ≡ None
 
--- each rule of patterns that has a place gives it the colour of the pattern: where two rules meet they agree
-pub record RulesAgree (v : Version) (x y : ℕ) (c : Color) : Type 0 where
-  pub finders : finder v x y ≡ Some c → pattern v x y ≡ Some c
-  pub alignments : alignment v x y ≡ Some c → pattern v x y ≡ Some c
-  pub timings : timing v x y ≡ Some c → pattern v x y ≡ Some c
-  pub dark : dark_module v x y ≡ Some c → pattern v x y ≡ Some c
-  pub versions : version_pattern v x y ≡ Some c → pattern v x y ≡ Some c
+abbrev pub FiguresFit : Type 0  -- each figure lies in the symbol
+FiguresFit = (v : Version) → IsTrue (is_valid v) → IsTrue (list_all (fits v) (format_figures v ++ figures v))
+
+-- a figure that has a place gives it the colour of the pattern: where two figures meet they agree
+abbrev pub FiguresAgree : Type 0
+FiguresAgree =
+    (v : Version) (f : Figure) (x y : ℕ) → IsTrue (is_valid v) → Contains (figures v) f → IsTrue (has f x y)
+    → pattern v x y ≡ Some (color_of (is_dark_in v f x y))
 
 -- fifteen places in the square, of which the i-th is that of bit i of the format word
 pub record IsFormatCopy (v : Version) (places : List (ℕ × ℕ)) : Type 0 where

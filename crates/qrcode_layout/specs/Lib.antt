@@ -1,4 +1,5 @@
 pub mod Centres
+pub mod Figures
 pub mod Laws
 pub mod Masks
 pub mod Patterns

@@ -1,9 +1,10 @@
 //! Where alignment patterns have their centres.
 
 ghost use Rattle.std.specs.Prelude.{◌≡◌, ◌≤◌, pos, IsTrue};
-ghost use Rattle.qrcode_types.specs.Versions.{is_valid};
+ghost use Rattle.std.specs.List.{list_all};
+ghost use Rattle.qrcode_types.specs.Versions.{is_valid, side};
 ghost use Rattle.qrcode_types.specs.declared.types.Version.TheVariants.{Normal};
-ghost use Rattle.qrcode_layout.specs.Patterns.{centres};
+ghost use Rattle.qrcode_layout.specs.Figures.{centres, is_centre_inside};
 
 use qrcode_types::types::Version;
 
@@ -63,9 +64,11 @@ fn normal_centres(number: usize) -> &'static [u8]
 /// The coordinates, in columns and in rows alike, of the alignment centres of a version, in rising
 /// order, the first where finder patterns are (ISO/IEC 18004:2006, annex E). A version without
 /// alignment patterns has none. The version is one that exists.
+#[tactic(auto, using(crate::proofs::Agreements::centres_inside))]
 pub fn centres(version: Version) -> &'static [u8]
     requires { IsTrue (is_valid version) }
-    ensures { result.now ≡ centres version }
+    ensures value { result.now ≡ centres version }
+    ensures inside { IsTrue (list_all (is_centre_inside (side version)) result.now) }
 {
     match version {
         Version::Normal(v) => normal_centres(v as usize),

@@ -3,12 +3,20 @@
 
 ghost use Rattle.qrcode_layout.specs.Words.{VersionWordsAreApart, FormatWordsAreApart};
 ghost use Rattle.qrcode_layout.specs.Stream.{FreePlacesAreFilled};
-ghost use Rattle.qrcode_layout.specs.Laws.{FormatCopiesAreIndexed, FormatPlacesAreInCopies, WalkIsInside, WalkIsApart, WalkIsWhole, LeftOutIsFunctional, FreePlacesAreApart, FreePlacesAreWhole};
+ghost use Rattle.qrcode_layout.specs.Laws.{FiguresFit, FiguresAgree, FormatPlacesAreNoPatterns, FormatCopiesAreIndexed, FormatPlacesAreInCopies, WalkIsInside, WalkIsApart, WalkIsWhole, LeftOutIsFunctional, FreePlacesAreApart, FreePlacesAreWhole};
 
 /// Theorem: words that name different things are far from one another.
 pub fn words()
     ensures versions { VersionWordsAreApart }
     ensures formats { FormatWordsAreApart }
+{}
+
+/// Theorem: each figure lies in the symbol, where two meet they agree, and none of a pattern has a
+/// place of the format word.
+pub fn figures()
+    ensures fit { FiguresFit }
+    ensures agree { FiguresAgree }
+    ensures apart { FormatPlacesAreNoPatterns }
 {}
 
 /// Theorem: each copy of the format word has its fifteen bits in turn, and no other place has one.

@@ -3,6 +3,7 @@
 #![tactic(auto)]
 
 pub mod centres;
+pub mod figures;
 pub mod laws;
 pub mod mask_functions;
 pub mod masks;

@@ -21,7 +21,7 @@ use Rattle.qrcode_layout.specs.declared.masks.MaskPattern.{MaskPattern}
 use Rattle.qrcode_layout.proofs.Formats.{valid_of}
 use Rattle.qrcode_layout.proofs.Zigzag.{walk_is_inside}
 use Rattle.qrcode_layout.proofs.FormatPlaces.{format_copies_are_indexed}
-use Rattle.qrcode_layout.proofs.PatternsApart.{format_places_are_no_patterns, dark_module_is_in_the_pattern}
+use Rattle.qrcode_layout.proofs.Agreements.{format_places_are_no_patterns, dark_module_is_in_the_pattern, no_dark_module}
 use Rattle.qrcode_layout.proofs.FreeCounts.{free_places_are_filled}
 use Rattle.qrcode_symbol.specs.Canvas.{color_of_module, colors_of, is_empty, masked_module, mask_module, empty_places, with_bits_drawn, with_patterns, with_mask, blank, drawn_bits}
 use Rattle.qrcode_symbol.specs.Carried.{HasZeroHalf}
@@ -149,12 +149,6 @@ pub free_nothing : (v : Version) (x y : ℕ) → is_functional_place v x y ≡ f
 unfolding is_functional_place
 free_nothing v x y e = neither (pattern v x y) (format_index v x y) e
 
-no_dark_module : (v : Version) (x y : ℕ) → IsTrue (is_valid v) → pattern v x y ≡ None → dark_module v x y ≡ None
-no_dark_module v x y valid e = go (dark_module v x y) refl where
-  go : (d : Option Color) → dark_module v x y ≡ d → d ≡ None
-  go None h = refl
-  go (Some c) h = let some : pattern v x y ≡ Some c = dark_module_is_in_the_pattern v x y c valid h in cc
-
 pub free_inside : (v : Version) → IsTrue (is_valid v) → All (λ p. IsInside v p.0 p.1) (free_places v)
 unfolding free_places zigzag
 free_inside v valid =
@@ -184,7 +178,7 @@ stream_at v l k bits i valid lt =
     ap (λ (q : ℕ). get_or (with_bits_drawn v bits new) q Empty) (sym there) ∙ filled_at v bits new i valid (length_patterned v) (omega arith) in
     let masked : mask_module v (format_word v l k) k p.0 p.1 (drawn_at (slice_get bits i) Empty) ≡ masked_module (turns k p.0 p.1) (drawn_at (slice_get bits i) Empty) =
     after_is v (format_word v l k) k p.0 p.1 (drawn_at (slice_get bits i) Empty)
-    ∙ at_free (format_index v p.0 p.1) (dark_module v p.0 p.1) (format_word v l k) (turns k p.0 p.1) (drawn_at (slice_get bits i) Empty) free.1 (no_dark_module v p.0 p.1 valid free.0) in
+    ∙ at_free (format_index v p.0 p.1) (dark_module v p.0 p.1) (format_word v l k) (turns k p.0 p.1) (drawn_at (slice_get bits i) Empty) free.1 (no_dark_module v p.0 p.1 free.0) in
     get_or-map read (free_places v) i (0, 0) false lt
     ∙ ap (λ (c : Color). turned_if (turns k p.0 p.1) (is_dark c))
     (color_is v l k (with_bits_drawn v bits new) p.0 p.1 at.0 at.1 ∙ ap (λ (m : Module). color_of_module (mask_module v (format_word v l k) k p.0 p.1 m)) bit ∙ ap color_of_module masked)

@@ -31,21 +31,12 @@ emptiness v x y = by_cases (pattern v x y) (format_index v x y) where
   by_cases None (Some i) = ((λ t e. cc), (λ h. refl))
   by_cases None None = ((λ t. cc), (λ h. absurd (h refl)))
 
-pub drawn_there : (v : Version) (x y : ℕ) (b : Bool) → x < side v → y < side v → b ≡ is_functional_place v x y
-    → IsTrue b ↔ IsDrawn v x y
+pub drawn_there : (v : Version) (x y : ℕ) (b : Bool) → x < side v → y < side v → b ≡ is_functional_place v x y → IsTrue b ↔ IsDrawn v x y
 drawn_there v x y b xl yl e =
     let inside : y * side v + x < side v * side v = mul-add-lt y (side v) x (side v) yl xl in
     let there : slice_get (with_patterns v (blank v)) (y * side v + x) ≡ Some (pattern_module v x y Empty) =
     slice_get-get_or (with_patterns v (blank v)) (y * side v + x) Empty (omega (arith, length_patterned v)) ∙ ap Some (patterned_place v x y xl yl) in
     rw (there, e) (emptiness v x y)
-
-pub by_pattern : (v : Version) (x y : ℕ) (b : Bool) → b ≡ is_some (pattern v x y) → b ≡ true → b ≡ is_functional_place v x y
-unfolding is_functional_place
-by_pattern v x y b e t = let some : is_some (pattern v x y) ≡ true = sym e ∙ t in rw (t, some) refl
-
-pub by_format : (v : Version) (x y : ℕ) (b : Bool) → is_some (pattern v x y) ≡ false → b ≡ is_some (format_index v x y) → b ≡ is_functional_place v x y
-unfolding is_functional_place
-by_format v x y b none e = rw none e
 
 -- the test of the same
 pub empty_module : (v : Version) (x y : ℕ) → is_empty (pattern_module v x y Empty) ≡ not (is_functional_place v x y)

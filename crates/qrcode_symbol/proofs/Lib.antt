@@ -1,11 +1,8 @@
 pub mod BestMasks
 pub mod BitLists
-pub mod Blocks
 pub mod Carried
-pub mod Centres
 pub mod Choices
 pub mod Codewords
-pub mod Covered
 pub mod Decided
 pub mod Edges
 pub mod Filled

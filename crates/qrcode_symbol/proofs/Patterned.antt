@@ -1,209 +1,226 @@
--- One module after the other is given its functional pattern.
-use Rattle.std.proofs.Common.{◌≡◌, ℕ, zero, suc, ◌+◌, ◌-◌, ◌*◌, ◌/◌, ◌%◌, ◌<◌, ◌≤◌, List, ◌∷◌, ◌++◌, map, length, set, take, drop, length-take, get_or, arith, sym, ap, ap₂, subst, refl, ◌∙◌, Option, Some, None, inl, inr, ◌⊎◌}
-use Rattle.std.specs.List.{range_with_len}
-use Rattle.std.proofs.lemmas.Bool.{cases_eq, cases_lt}
-use Rattle.std.proofs.lemmas.List.{get_or-set_other, get_or-set_same, ext_get_or, get_or-drop, get_or-append-add}
-use Rattle.std.proofs.lemmas.List.FromFn.{length-map-range_with_len, get_or-map-range_with_len}
-use Rattle.std.proofs.lemmas.Nat.{div-mul-add, mod-mul-add, mul-add-lt, div-add-mod', mod_below}
-use Rattle.std.proofs.Math.Nat.{div-lt_iff_lt-mul}
-use borrow.Rule.Slice.PartMut.{put_mid, post_of}
-use Rattle.qrcode_symbol.proofs.RowLists.{part_before, part_inside}
-use Rattle.qrcode_types.specs.Versions.{side}
+-- The figures drawn one over the other are the functional patterns.
+use Rattle.std.proofs.Common.{◌≡◌, ℕ, ℤ, nat_abs, nat_le, zero, suc, ◌+◌, ◌-◌, ◌*◌, ◌/◌, ◌%◌, ◌<◌, ◌≤◌, ◌≢◌, Bool, true, false, ◌||◌, List, [], ◌∷◌, ◌++◌, map, fold, length, take, set, get_or, append-nil, arith, sym, ap, ap₂, refl, ◌∙◌, Option, Some, None, is_some, cond, inl, inr, IsTrue}
+use Rattle.std.specs.List.{range_with_len, filter, flat_map, list_all}
+use Rattle.std.proofs.lemmas.Bool.{and_parts, cases_eq}
+use Rattle.std.proofs.lemmas.Bool.Decides.{nat_tests}
+use Rattle.std.proofs.lemmas.List.{get_or-set_other, get_or-set_same, map-append, take_more}
+use Rattle.std.proofs.lemmas.List.Elements.{filter-append}
+use Rattle.std.proofs.lemmas.Grind.{flat_map-append}
+use Rattle.std.proofs.lemmas.List.Sums.{fold-append}
+use Rattle.std.proofs.lemmas.Nat.{div-mul-add, mod-mul-add, mul-add-lt, div-add-mod'}
+use Rattle.qrcode_types.specs.Colors.{color_of}
+use Rattle.qrcode_types.specs.Versions.{side, is_micro}
 use Rattle.qrcode_types.specs.declared.types.Version.{Version}
 use Rattle.qrcode_types.specs.declared.types.Version.TheVariants.{Normal, Micro}
 use Rattle.qrcode_types.specs.declared.types.Color.{Color}
 use Rattle.qrcode_types.specs.declared.types.Color.TheVariants.{Light}
-use Rattle.qrcode_layout.specs.Patterns.{pattern, format_index}
-use Rattle.qrcode_symbol.specs.Canvas.{pattern_module, with_patterns}
-use Rattle.qrcode_symbol.specs.Patterned.{IsPatterned, DrawsTowards, IsRectanglePatterned}
+use Rattle.qrcode_layout.specs.declared.figures.Coloring.{Coloring}
+use Rattle.qrcode_layout.specs.declared.figures.Coloring.TheVariants.{Squares, Turns, Dark, WordAcross, WordDown}
+use Rattle.qrcode_layout.specs.declared.figures.Coloring.TheVariants as coloring
+use Rattle.qrcode_layout.specs.declared.figures.Figure.{Figure}
+use Rattle.qrcode_layout.specs.Figures.{has, is_dark_by_rule, is_dark_in, number, figures, format_figures, micro_format_figures, micro_figures, normal_format_figures, normal_figures, version_figures, alignments}
+use Rattle.qrcode_layout.specs.Patterns.{drawn_over, pattern, format_index}
+use Rattle.qrcode_layout.proofs.FigurePlaces.{any_has, format_some}
+use Rattle.qrcode_symbol.specs.Canvas.{map_modules, pattern_module, with_patterns}
+use Rattle.qrcode_symbol.specs.Patterned.{module_over, with_figure, is_in_part, IsPartDrawn}
 use Rattle.qrcode_symbol.specs.declared.canvas.Module.{Module}
 use Rattle.qrcode_symbol.specs.declared.canvas.Module.TheVariants.{Empty, Masked}
+use Rattle.qrcode_symbol.proofs.Mapped.{length_mapped, mapped_index, all_mapped}
+
+-- One place after the other.
+
+-- the module at a place of a figure
+abbrev pub in_figure : Version → Figure → ℕ → ℕ → Module
+in_figure v f x y = Masked (color_of (is_dark_in v f x y))
+
+pub figure_at : (v : Version) (f : Figure) (i j : ℕ) → Masked (color_of (is_dark_by_rule (number v) f i j)) ≡ in_figure v f (f.left + i) (f.top + j)
+figure_at v f i j =
+    let x : f.left + i - f.left ≡ i = omega arith in
+    let y : f.top + j - f.top ≡ j = omega arith in
+    rw (x, y) refl
+
+-- before the first column, and before the first row
+pub no_column : (v : Version) (f : Figure) (from to : ℕ) (old : List Module) → IsPartDrawn v f from to 0 old old
+no_column v f from to old i lt = let none : is_in_part f from to 0 (i % side v) (i / side v) ≡ false = grind (arith, nat_tests) in rw none refl
+
+pub no_row : (v : Version) (f : Figure) (from across : ℕ) (old : List Module) → IsPartDrawn v f from from across old old
+no_row v f from across old i lt = let none : is_in_part f from from across (i % side v) (i / side v) ≡ false = grind (arith, nat_tests) in rw none refl
+
+-- one more column changes nothing at another place
+same_part : (f : Figure) (row column x y : ℕ) → (x ≡ f.left + column → y ≢ f.top + row) → is_in_part f row (row + 1) (column + 1) x y ≡ is_in_part f row (row + 1) column x y
+same_part f row column x y apart = elim (cases_eq x (f.left + column)) [
+  | inl e ↦ (let other : y ≢ f.top + row = apart e in grind (arith, nat_tests))
+  | inr other ↦ grind (arith, nat_tests)
+]
+
+-- one more place of a row
+pub place_more : (v : Version) (f : Figure) (row column index : ℕ) (old m : List Module) (new : Module) → length m ≡ side v * side v → f.left + column < side v → f.top + row < side v
+    → index ≡ (f.top + row) * side v + (f.left + column) → new ≡ in_figure v f (f.left + column) (f.top + row)
+    → IsPartDrawn v f row (row + 1) column old m → IsPartDrawn v f row (row + 1) (column + 1) old (set m index new)
+place_more v f row column index old m new square xl yl at is before i lt =
+    let w = side v in
+    let x = f.left + column in
+    let y = f.top + row in
+    elim (cases_eq i index) [
+      | inl e ↦
+          let column_is : i % w ≡ x = ap (λ k. k % w) (e ∙ at) ∙ mod-mul-add y w x xl in
+          let row_is : i / w ≡ y = ap (λ k. k / w) (e ∙ at) ∙ div-mul-add y w x xl in
+          let in_it : is_in_part f row (row + 1) (column + 1) (i % w) (i / w) ≡ true = grind (arith, nat_tests) in
+          rw in_it (ap (λ k. get_or (set m index new) k Empty) e ∙ get_or-set_same m index new Empty (omega (arith, mul-add-lt y w x w yl xl)) ∙ is ∙ rw (column_is, row_is) refl)
+      | inr other ↦
+          let apart = λ (column_is : i % w ≡ x) (row_is : i / w ≡ y). other (sym (div-add-mod' i w) ∙ ap₂ (λ b a. b * w + a) row_is column_is ∙ sym at) in
+          rw (same_part f row column (i % w) (i / w) apart) (get_or-set_other m index i new Empty other ∙ before i lt)
+    ]
+
+-- one more row
+pub part_more : (v : Version) (f : Figure) (row : ℕ) (old m new : List Module) → IsPartDrawn v f 0 row f.across old m → IsPartDrawn v f row (row + 1) f.across m new → IsPartDrawn v f 0 (row + 1) f.across old new
+part_more v f row old m new before here i lt =
+    here i lt
+    ∙ go (is_in_part f row (row + 1) f.across (i % side v) (i / side v)) (is_in_part f 0 row f.across (i % side v) (i / side v)) (is_in_part f 0 (row + 1) f.across (i % side v) (i / side v))
+    _ _ _ (before i lt) (grind (arith, nat_tests)) where
+      go : (a b c : Bool) (d n o : Module) → n ≡ cond b d o → c ≡ (a || b) → cond a d n ≡ cond c d o
+      go true b c d n o e f = rw f refl
+      go false b c d n o e f = rw f e
+
+-- a whole figure
+pub figure_drawn : (v : Version) (f : Figure) (old new : List Module) → length new ≡ side v * side v → IsPartDrawn v f 0 f.down f.across old new → new ≡ with_figure v old f
+unfolding with_figure
+figure_drawn v f old new square all =
+    all_mapped v (λ x y m. module_over v x y m f) old new (side v) refl square
+    (λ i lt.
+    let whole : is_in_part f 0 f.down f.across (i % side v) (i / side v) ≡ has f (i % side v) (i / side v) = grind (arith, nat_tests) in
+    all i lt ∙ rw whole refl)
+
+-- One figure after the other.
 
 -- functions that agree on a range have one list of values
-pub map_agree : {X : Type 0} (f g : ℕ → X) (a n : ℕ) → ((i : ℕ) → a ≤ i → i < a + n → f i ≡ g i) → map f (range_with_len a n) ≡ map g (range_with_len a n)
+map_agree : {X : Type 0} (f g : ℕ → X) (a n : ℕ) → ((i : ℕ) → a ≤ i → i < a + n → f i ≡ g i) → map f (range_with_len a n) ≡ map g (range_with_len a n)
 map_agree f g a zero same = refl
 map_agree {X = X} f g a (suc n) same =
     ap₂ (λ (x : X) (xs : List X). x ∷ xs) (same a (omega arith) (omega arith)) (map_agree f g (a + 1) n (λ i l h. same i (omega arith) (omega arith)))
 
--- a pattern drawn over itself changes nothing
-drawn_twice : (p : Option Color) (f : Option ℕ) (m : Module)
-    → let over : Module → Module = λ m. elim p as (λ _. Module) [ Some c ↦ Masked c | None ↦ elim f as (λ _. Module) [ Some i ↦ Masked Light | None ↦ m ] ] in over (over m) ≡ over m
-drawn_twice (Some c) f m = refl
-drawn_twice None (Some i) m = refl
-drawn_twice None None m = refl
+length_figure : (v : Version) (m : List Module) (f : Figure) → length (with_figure v m f) ≡ side v * side v
+unfolding with_figure
+length_figure v m f = length_mapped v (λ x y m. module_over v x y m f) m
 
-pattern_twice : (v : Version) (x y : ℕ) (m : Module) → pattern_module v x y (pattern_module v x y m) ≡ pattern_module v x y m
-pattern_twice v x y m = drawn_twice (pattern v x y) (format_index v x y) m
+-- a figure that is drawn before others
+drawn_before : (v : Version) (f : Figure) (fs : List Figure) (m : List Module)
+    → map_modules v (λ x y m. fold (module_over v x y) m fs) (with_figure v m f) ≡ map_modules v (λ x y m. fold (module_over v x y) (module_over v x y m f) fs) m
+unfolding with_figure
+drawn_before v f fs m =
+    map_agree
+    (λ i. fold (module_over v (i % side v) (i / side v)) (get_or (map_modules v (λ x y m. module_over v x y m f) m) i Empty) fs)
+    (λ i. fold (module_over v (i % side v) (i / side v)) (module_over v (i % side v) (i / side v) (get_or m i Empty) f) fs) 0 (side v * side v)
+    (λ i l h.
+    let lt : i < side v * side v = omega (arith, h) in
+    ap (λ n. fold (module_over v (i % side v) (i / side v)) n fs) (mapped_index v (λ x y m. module_over v x y m f) m i lt))
 
--- the module at index i, patterned
-at : Version → ℕ → Module → Module
-at v i m = pattern_module v (i % side v) (i / side v) m
+-- figures drawn on all modules are drawn on each
+each_drawn : (v : Version) (fs : List Figure) (m : List Module) → length m ≡ side v * side v → fold (with_figure v) m fs ≡ map_modules v (λ x y m. fold (module_over v x y) m fs) m
+each_drawn v [] m square = all_mapped v (λ x y m. m) m m (side v) refl square (λ i lt. refl)
+each_drawn v (f ∷ fs) m square = each_drawn v fs (with_figure v m f) (length_figure v m f) ∙ drawn_before v f fs m
 
-towards_index : (v : Version) (m : List Module) (i : ℕ) → i < length m → DrawsTowards v m (set m i (pattern_module v (i % side v) (i / side v) (get_or m i Empty)))
+-- a colour, or else the module below it
+abbrev shown : Option Color → Module → Module
+shown o m = elim o [ Some c ↦ Masked c | None ↦ m ]
+
+over_shown : (v : Version) (x y : ℕ) (fs : List Figure) (o : Option Color) (m : Module) → fold (module_over v x y) (shown o m) fs ≡ shown (fold (drawn_over v x y) o fs) m
+over_shown v x y [] o m = refl
+over_shown v x y (f ∷ fs) o m = ap (λ n. fold (module_over v x y) n fs) (go (has f x y) (color_of (is_dark_in v f x y))) ∙ over_shown v x y fs (drawn_over v x y o f) m where
+  go : (b : Bool) (c : Color) → cond b (Masked c) (shown o m) ≡ shown (cond b (Some c) o) m
+  go true c = refl
+  go false c = refl
+
+abbrev is_light : Figure → Bool
+is_light f = elim f.coloring [ Squares ↦ false | Turns ↦ false | coloring.Light ↦ true | Dark ↦ false | WordAcross ↦ false | WordDown ↦ false ]
+
+light_is : (v : Version) (f : Figure) (x y : ℕ) (c : Coloring) → f.coloring ≡ c → is_light f ≡ true → is_dark_in v f x y ≡ false
+light_is v f x y Squares e h = let no : false ≡ true = rw e at h in cc
+light_is v f x y Turns e h = let no : false ≡ true = rw e at h in cc
+light_is v f x y Dark e h = let no : false ≡ true = rw e at h in cc
+light_is v f x y WordAcross e h = let no : false ≡ true = rw e at h in cc
+light_is v f x y WordDown e h = let no : false ≡ true = rw e at h in cc
+light_is v f x y coloring.Light e h = rw e refl
+
+-- light figures make their places light
+light_drawn : (v : Version) (x y : ℕ) (m : Module) (fs : List Figure) (b : Bool) → list_all is_light fs ≡ true → fold (module_over v x y) (cond b (Masked Light) m) fs ≡ cond (any_has x y fs || b) (Masked Light) m
+light_drawn v x y m [] b all = refl
+light_drawn v x y m (f ∷ fs) b all =
+    let parts = and_parts _ _ all in
+    ap (λ n. fold (module_over v x y) n fs) (go (has f x y) b (is_dark_in v f x y) (light_is v f x y f.coloring refl parts.0))
+    ∙ light_drawn v x y m fs (has f x y || b) parts.1 ∙ ap (λ t. cond t (Masked Light) m) (turned (any_has x y fs) (has f x y) b) where
+      go : (h b d : Bool) → d ≡ false → cond h (Masked (color_of d)) (cond b (Masked Light) m) ≡ cond (h || b) (Masked Light) m
+      go true b d e = rw e refl
+      go false b d e = refl
+
+      turned : (r h b : Bool) → (r || (h || b)) ≡ ((h || r) || b)
+      turned true true b = refl
+      turned true false b = refl
+      turned false true b = refl
+      turned false false b = refl
+
+format_light : (v : Version) → list_all is_light (format_figures v) ≡ true
+unfolding format_figures
+format_light (Normal v) = refl
+format_light (Micro v) = refl
+
+format_drawn : (v : Version) (x y : ℕ) (m : Module) → fold (module_over v x y) m (format_figures v) ≡ elim (format_index v x y) as (λ _. Module) [ Some i ↦ Masked Light | None ↦ m ]
+format_drawn v x y m = light_drawn v x y m (format_figures v) false (format_light v) ∙ go (format_index v x y) (any_has x y (format_figures v)) (format_some v x y) where
+  go : (o : Option ℕ) (b : Bool) → is_some o ≡ b → cond (b || false) (Masked Light) m ≡ elim o as (λ _. Module) [ Some i ↦ Masked Light | None ↦ m ]
+  go (Some i) b e = rw (← e) refl
+  go None b e = rw (← e) refl
+
+place_drawn : (v : Version) (x y : ℕ) (m : Module) → fold (module_over v x y) m (format_figures v ++ figures v) ≡ pattern_module v x y m
+unfolding pattern
+place_drawn v x y m =
+    fold-append (module_over v x y) m (format_figures v) (figures v)
+    ∙ ap (λ n. fold (module_over v x y) n (figures v)) (format_drawn v x y m)
+    ∙ over_shown v x y (figures v) None _
+
+pub patterns_drawn : (v : Version) (m : List Module) → length m ≡ side v * side v → fold (with_figure v) m (format_figures v ++ figures v) ≡ with_patterns v m
 unfolding with_patterns
-towards_index v m i lt = record {
-  same = map_agree
-      (λ j. pattern_module v (j % side v) (j / side v) (get_or new j Empty)) (λ j. pattern_module v (j % side v) (j / side v) (get_or m j Empty)) 0 (side v * side v)
-      (λ j l h. elim (cases_eq j i) [
-        | inl e ↦ rw e (rw here (pattern_twice v (i % side v) (i / side v) (get_or m i Empty)))
-        | inr ne ↦ ap (pattern_module v (j % side v) (j / side v)) (get_or-set_other m i j _ Empty ne)
-      ]);
-  kept = λ j is. elim (cases_eq j i) [
-    | inl e ↦ rw e (rw here (pattern_twice v (i % side v) (i / side v) (get_or m i Empty)))
-    | inr ne ↦ rw (get_or-set_other m i j _ Empty ne) is
-  ];
-} where
-  new : List Module
-  new = set m i (pattern_module v (i % side v) (i / side v) (get_or m i Empty))
+patterns_drawn v m square =
+    each_drawn v (format_figures v ++ figures v) m square
+    ∙ map_agree
+    (λ i. fold (module_over v (i % side v) (i / side v)) (get_or m i Empty) (format_figures v ++ figures v)) (λ i. pattern_module v (i % side v) (i / side v) (get_or m i Empty)) 0 (side v * side v)
+    (λ i l h. place_drawn v (i % side v) (i / side v) (get_or m i Empty))
 
-  here : get_or (set m i (pattern_module v (i % side v) (i / side v) (get_or m i Empty))) i Empty ≡ pattern_module v (i % side v) (i / side v) (get_or m i Empty)
-  here = get_or-set_same m i _ Empty lt
+pub micro_drawn : (v : Version) (m : List Module) (w : ℕ) → is_micro v ≡ true → w ≡ side v → length m ≡ side v * side v → fold (with_figure v) m (micro_format_figures ++ micro_figures w) ≡ with_patterns v m
+unfolding figures format_figures
+micro_drawn (Normal n) m w micro e square = absurd (cc)
+micro_drawn (Micro n) m w micro e square = rw e (patterns_drawn (Micro n) m square)
 
-pub towards_more : (v : Version) (a b c : List Module) → DrawsTowards v a b → DrawsTowards v b c → DrawsTowards v a c
-towards_more v a b c p q = record { same = q.same ∙ p.same; kept = λ i is. q.kept i (p.kept i is) }
+pub normal_drawn : (v : Version) (m : List Module) (w : ℕ) → is_micro v ≡ false → w ≡ side v → length m ≡ side v * side v
+    → let g = with_figure v in fold g (fold g (fold g m (normal_format_figures w ++ normal_figures w)) (version_figures w)) (alignments v) ≡ with_patterns v m
+unfolding figures format_figures
+normal_drawn (Micro n) m w normal e square = absurd (cc)
+normal_drawn (Normal n) m w normal e square =
+    let g = with_figure (Normal n) in
+    let first = normal_format_figures (side (Normal n)) ++ normal_figures (side (Normal n)) in
+    let words = version_figures (side (Normal n)) in
+    rw e
+    (sym (fold-append g (fold g m first) words (alignments (Normal n)))
+    ∙ sym (fold-append g m first (words ++ alignments (Normal n)))
+    ∙ patterns_drawn (Normal n) m square)
 
--- one place
-towards_at : (v : Version) (m : List Module) (i x y : ℕ) → i < length m → i % side v ≡ x → i / side v ≡ y
-    → DrawsTowards v m (set m i (pattern_module v x y (get_or m i Empty))) × IsPatterned v (set m i (pattern_module v x y (get_or m i Empty))) i
-towards_at v m i x y lt ex ey =
-    rw (← ex, ← ey) (towards_index v m i lt, rw (get_or-set_same m i (pattern_module v (i % side v) (i / side v) (get_or m i Empty)) Empty lt) (pattern_twice v (i % side v) (i / side v) (get_or m i Empty)))
+-- the alignment patterns of one more column, and of one more row
+pub column_more : {A : Type 0} (g : A → Figure → A) (m : A) (f : ℕ → Figure) (test : ℕ → Bool) (cs : List ℕ) (i d : ℕ) → i < length cs → let so_far = fold g m (map f (filter test (take i cs))) in
+    fold g m (map f (filter test (take (i + 1) cs))) ≡ cond (test (get_or cs i d)) (g so_far (f (get_or cs i d))) so_far
+column_more g m f test cs i d lt =
+    let c = get_or cs i d in
+    ap (λ l. fold g m (map f (filter test l))) (take_more cs i d lt)
+    ∙ ap (λ l. fold g m (map f l)) (filter-append test (take i cs) (c ∷ []))
+    ∙ ap (fold g m) (map-append f (filter test (take i cs)) (filter test (c ∷ [])))
+    ∙ fold-append g m (map f (filter test (take i cs))) (map f (filter test (c ∷ []))) ∙ go (test c) where
+      go : (b : Bool) → fold g (fold g m (map f (filter test (take i cs)))) (map f (cond b (get_or cs i d ∷ []) []))
+          ≡ cond b (g (fold g m (map f (filter test (take i cs)))) (f (get_or cs i d))) (fold g m (map f (filter test (take i cs))))
+      go true = refl
+      go false = refl
 
-pub towards_place : (v : Version) (m : List Module) (x y : ℕ) → x < side v → y < side v → length m ≡ side v * side v
-    → DrawsTowards v m (set m (y * side v + x) (pattern_module v x y (get_or m (y * side v + x) Empty))) × IsPatterned v (set m (y * side v + x) (pattern_module v x y (get_or m (y * side v + x) Empty))) (y * side v + x)
-towards_place v m x y xl yl square =
-    let inside : y * side v + x < side v * side v = mul-add-lt y (side v) x (side v) yl xl in
-    towards_at v m (y * side v + x) x y (omega arith) (mod-mul-add y (side v) x xl) (div-mul-add y (side v) x xl)
-
--- one more place of a row
-pub row_more : (v : Version) (m : List Module) (left y n x : ℕ) → IsRectanglePatterned v m left y n 1 → x ≡ left + n → IsPatterned v m (y * side v + x) → IsRectanglePatterned v m left y (n + 1) 1
-row_more v m left y n x before e here a b l h t u = elim (cases_eq a x) [
-  | inl same ↦ let row : b ≡ y = omega arith in rw (same, row) here
-  | inr other ↦ before a b l (omega arith) t u
-]
-
--- one more row
-pub rows_more : (v : Version) (m : List Module) (left top across n : ℕ) → IsRectanglePatterned v m left top across n → IsRectanglePatterned v m left (top + n) across 1 → IsRectanglePatterned v m left top across (n + 1)
-rows_more v m left top across n before here a b l h t u = elim (cases_lt b (top + n)) [
-  | inl less ↦ before a b l h t less
-  | inr more ↦ here a b l h more (omega arith)
-]
-
--- what is patterned stays so
-pub rectangle_kept : (v : Version) (m n : List Module) (left top across down : ℕ) → DrawsTowards v m n → IsRectanglePatterned v m left top across down → IsRectanglePatterned v n left top across down
-rectangle_kept v m n left top across down towards is a b l h t u = towards.kept (b * side v + a) (is a b l h t u)
-
--- modules that are all patterned are those that the patterns make
-pub patterned_all : (v : Version) (m : List Module) → length m ≡ side v * side v → 0 < side v → ((x y : ℕ) → x < side v → y < side v → IsPatterned v m (y * side v + x)) → with_patterns v m ≡ m
-unfolding with_patterns
-patterned_all v m square some all =
-    let w = side v in
-    let f = λ (i : ℕ). pattern_module v (i % side v) (i / side v) (get_or m i Empty) in
-    ext_get_or Empty (map f (range_with_len 0 (w * w))) m (length-map-range_with_len f 0 (w * w) ∙ sym square)
-    (λ i h.
-    let lt : i < w * w = subst (λ (n : ℕ). i < n) (length-map-range_with_len f 0 (w * w)) h in
-    let e : i / w * w + i % w ≡ i = div-add-mod' i w in
-    let row : i / w < w = (div-lt_iff_lt-mul {k = w} {x = i} {y = w} some).1 lt in
-    let is : IsPatterned v m i = subst (λ (j : ℕ). IsPatterned v m j) e (all (i % w) (i / w) (mod_below i w some) row) in
-    get_or-map-range_with_len f 0 (w * w) i i Empty lt (omega arith) ∙ is)
-
--- a step along a row
-pub row_step : (v : Version) (first m : List Module) (left y n x w : ℕ) (p : Module) → w ≡ side v → x ≡ left + n → x < side v → y < side v → length m ≡ side v * side v
-    → p ≡ pattern_module v x y (get_or m (y * w + x) Empty) → DrawsTowards v first m → IsRectanglePatterned v m left y n 1
-    → DrawsTowards v first (set m (y * w + x) p) × IsRectanglePatterned v (set m (y * w + x) p) left y (n + 1) 1
-row_step v first m left y n x w p ew ex xl yl square ep towards before =
-    let place = towards_place v m x y xl yl square in
-    let new = set m (y * side v + x) (pattern_module v x y (get_or m (y * side v + x) Empty)) in
-    rw (ep, ew) (towards_more v first m new towards place.0, row_more v new left y n x (rectangle_kept v m new left y n 1 place.0 before) ex place.1)
-
--- each module as it was, or given its pattern
-towards_each : (v : Version) (m new : List Module)
-    → ((i : ℕ) → get_or new i Empty ≡ get_or m i Empty ⊎ get_or new i Empty ≡ pattern_module v (i % side v) (i / side v) (get_or m i Empty)) → DrawsTowards v m new
-unfolding with_patterns
-towards_each v m new each = record {
-  same = map_agree
-      (λ i. pattern_module v (i % side v) (i / side v) (get_or new i Empty)) (λ i. pattern_module v (i % side v) (i / side v) (get_or m i Empty)) 0 (side v * side v)
-      (λ i l h. elim (each i) [
-        | inl e ↦ ap (pattern_module v (i % side v) (i / side v)) e
-        | inr e ↦ rw e (pattern_twice v (i % side v) (i / side v) (get_or m i Empty))
-      ]);
-  kept = λ i is. elim (each i) [
-    | inl e ↦ rw e is
-    | inr e ↦ rw e (pattern_twice v (i % side v) (i / side v) (get_or m i Empty))
-  ];
-}
-
--- the modules after a part that was written
-part_after : (a k : ℕ) (xs ys : List Module) (i : ℕ) → a + k ≤ length xs → length ys ≡ k → a + k ≤ i → get_or (put_mid a k xs ys) i Empty ≡ get_or xs i Empty
-part_after a k xs ys i room long after =
-    let j = i - a - k in
-    let e : i ≡ a + (k + j) = omega arith in
-    let f : a ≡ length (take a xs) = omega (arith, length-take a xs) in
-    ap (λ n. get_or (put_mid a k xs ys) n Empty) e
-    ∙ ap (λ n. get_or (put_mid a k xs ys) (n + (k + j)) Empty) f
-    ∙ get_or-append-add (take a xs) (ys ++ post_of a k xs) (k + j) Empty
-    ∙ ap (λ n. get_or (ys ++ post_of a k xs) (n + j) Empty) (sym long)
-    ∙ get_or-append-add ys (post_of a k xs) j Empty
-    ∙ get_or-drop k (drop a xs) j Empty
-    ∙ get_or-drop a xs (k + j) Empty
-    ∙ ap (λ n. get_or xs n Empty) (sym e)
-
--- a row of a block is within the square
-pub row_inside : (w left across y : ℕ) → left + across ≤ w → y < w → y * w + (left + across) ≤ w * w
-row_inside w left across y fits high = elim (cases_eq (left + across) 0) [
-  | inl none ↦ omega (arith, mul-add-lt y w 0 w high (omega arith))
-  | inr some ↦ omega (arith, mul-add-lt y w (left + across - 1) w high (omega arith))
-]
-
--- one more row of a block
-pub block_row : (v : Version) (first m row : List Module) (left top across n start : ℕ) → start ≡ (top + n) * side v + left → left + across ≤ side v → top + n < side v
-    → length m ≡ side v * side v → length row ≡ across → ((i : ℕ) → i < across → (x : Module) → pattern_module v (left + i) (top + n) x ≡ get_or row i Empty)
-    → DrawsTowards v first m → IsRectanglePatterned v m left top across n
-    → DrawsTowards v first (put_mid start across m row) × IsRectanglePatterned v (put_mid start across m row) left top across (n + 1)
-block_row v first m row left top across n start es fits high square long shows towards before = (towards_more v first m new towards step, rows) where
-  new : List Module
-  new = put_mid start across m row
-
-  room : start + across ≤ length m
-  room = omega (arith, row_inside (side v) left across (top + n) fits high, es, square)
-
-  -- a place of the row
-  at_place : (i : ℕ) → i < across → get_or new ((top + n) * side v + (left + i)) Empty ≡ get_or row i Empty
-  at_place i lt =
-      let e : (top + n) * side v + (left + i) ≡ start + i = omega arith in
-      ap (λ k. get_or new k Empty) e ∙ part_inside Empty start across m row i (omega (arith, room)) (omega arith)
-
-  drawn : (i : ℕ) → i < across → (x : Module) → get_or new ((top + n) * side v + (left + i)) Empty
-      ≡ pattern_module v (((top + n) * side v + (left + i)) % side v) (((top + n) * side v + (left + i)) / side v) x
-  drawn i lt x =
-      rw (mod-mul-add (top + n) (side v) (left + i) (omega arith), div-mul-add (top + n) (side v) (left + i) (omega arith))
-      (at_place i lt ∙ sym (shows i lt x))
-
-  step : DrawsTowards v m new
-  step = towards_each v m new
-      (λ k. elim (cases_lt k start) [
-        | inl less ↦ inl (part_before Empty start across m row k less (omega (arith, room)))
-        | inr from ↦ elim (cases_lt k (start + across)) [
-          | inl inside ↦
-              let e : (top + n) * side v + (left + (k - start)) ≡ k = omega arith in
-              inr (subst (λ (j : ℕ). get_or new j Empty ≡ pattern_module v (j % side v) (j / side v) (get_or m k Empty)) e (drawn (k - start) (omega arith) (get_or m k Empty)))
-          | inr beyond ↦ inl (part_after start across m row k room long beyond)
-        ]
-      ])
-
-  here : IsRectanglePatterned v new left (top + n) across 1
-  here a b l h t u =
-      let row_is : b ≡ top + n = omega arith in
-      let e : left + (a - left) ≡ a = omega arith in
-      rw row_is (subst (λ (j : ℕ). IsPatterned v new ((top + n) * side v + j)) e
-      (sym (drawn (a - left) (omega arith) (get_or new ((top + n) * side v + (left + (a - left))) Empty))))
-
-  rows : IsRectanglePatterned v new left top across (n + 1)
-  rows = rows_more v new left top across n (rectangle_kept v m new left top across n step before) here
-
-some_side : (v : Version) → 0 < side v
-some_side (Normal n) = omega arith
-some_side (Micro n) = omega arith
-
--- where all is patterned, the patterns are drawn
-pub drawn_all : (v : Version) (first m : List Module) → DrawsTowards v first m → length m ≡ side v * side v → ((x y : ℕ) → x < side v → y < side v → IsPatterned v m (y * side v + x)) → m ≡ with_patterns v first
-drawn_all v first m towards square all = sym (patterned_all v m square (some_side v) all) ∙ towards.same
+pub row_more : {A : Type 0} (g : A → Figure → A) (m : A) (f : ℕ → List Figure) (cs : List ℕ) (i d : ℕ) → i < length cs
+    → fold g m (flat_map f (take (i + 1) cs)) ≡ fold g (fold g m (flat_map f (take i cs))) (f (get_or cs i d))
+row_more g m f cs i d lt =
+    let c = get_or cs i d in
+    ap (λ l. fold g m (flat_map f l)) (take_more cs i d lt)
+    ∙ ap (fold g m) (flat_map-append f (take i cs) (c ∷ []) ∙ ap (λ l. flat_map f (take i cs) ++ l) (append-nil (f c)))
+    ∙ fold-append g m (flat_map f (take i cs)) (f c)

@@ -5,7 +5,6 @@ use Rattle.std.proofs.Math.ListN.{get_or-map}
 use Rattle.std.proofs.lemmas.List.{ext_get_or, get_or-replicate, get_or-set_same, get_or-set_other, get_or_past, length-map}
 use Rattle.std.proofs.lemmas.List.FromFn.{get_or-map-range_with_len, length-map-range_with_len}
 use Rattle.std.proofs.lemmas.Bool.Decides.{leb_tells, eqb_tells}
-use Rattle.std.specs.Option.{option_or}
 use Rattle.qrcode_types.specs.Bits.{has_bit}
 use Rattle.qrcode_types.specs.Colors.{is_dark, color_of}
 use Rattle.qrcode_types.specs.Versions.{side}
@@ -16,9 +15,10 @@ use Rattle.qrcode_types.specs.declared.types.Color.TheVariants.{Light}
 use Rattle.qrcode_penalty.specs.Penalty.{same}
 use Rattle.qrcode_layout.specs.Masks.{turns, turned_if}
 use Rattle.qrcode_layout.specs.Words.{format_word}
-use Rattle.qrcode_layout.specs.Patterns.{finder, alignment, timing, version_pattern, pattern, format_index, dark_module}
+use Rattle.qrcode_layout.specs.Patterns.{pattern, format_index, dark_module}
 use Rattle.qrcode_layout.specs.Stream.{zigzag}
 use Rattle.qrcode_layout.specs.declared.masks.MaskPattern.{MaskPattern}
+use Rattle.qrcode_layout.proofs.Agreements.{no_dark_module}
 use Rattle.qrcode_symbol.specs.declared.canvas.Module.{Module}
 use Rattle.qrcode_symbol.specs.declared.canvas.Module.TheVariants.{Empty, Masked, Unmasked}
 use Rattle.qrcode_symbol.specs.Canvas.{blank, color_of_module, colors_of, is_empty, masked_module, mask_module, pattern_module, with_patterns, put_bits, empty_places, with_bits_drawn, with_mask, IsBestMask}
@@ -80,19 +80,6 @@ patterns_at v i h =
     get_or-map-range_with_len (λ i. pattern_module v (i % side v) (i / side v) (slice_index_or (blank v) i Empty)) 0 (side v * side v) i i Empty h (omega arith)
     ∙ ap (pattern_module v (i % side v) (i / side v)) (get_or-replicate (side v * side v) i Empty Empty h)
 
-or_none : (a b : Option Color) → option_or a b ≡ None → (a ≡ None) × (b ≡ None)
-or_none (Some c) b e = absurd (cc)
-or_none None b e = (refl, e)
-
--- where no pattern is, the dark module is not
-dark_module_in_pattern : (v : Version) (x y : ℕ) → pattern v x y ≡ None → dark_module v x y ≡ None
-unfolding pattern
-dark_module_in_pattern v x y e =
-    let a = or_none (finder v x y) (option_or (alignment v x y) (option_or (timing v x y) (option_or (dark_module v x y) (version_pattern v x y)))) e in
-    let b = or_none (alignment v x y) (option_or (timing v x y) (option_or (dark_module v x y) (version_pattern v x y))) a.1 in
-    let c = or_none (timing v x y) (option_or (dark_module v x y) (version_pattern v x y)) b.1 in
-    (or_none (dark_module v x y) (version_pattern v x y) c.1).0
-
 abbrev base : Option Color → Option ℕ → Module
 base p o = elim p [ Some c ↦ Masked c | None ↦ elim o [ Some i ↦ Masked Light | None ↦ Empty ] ]
 
@@ -144,7 +131,7 @@ module _ (v : Version) (l : EcLevel) (modules : List Module) (bits : List Bool) 
       get_or-map color_of_module (with_mask v l k modules) i Empty ∙ ap color_of_module (with_mask_at v l modules k i h) in
       ap (remask_of (format_word v l j) (format_index v x y) (pattern v x y) (turns k x y) (turns j x y)) (color ∙ ap color_of_module (module_is v (format_word v l k) k x y m))
       ∙ remask_place (format_word v l k) (format_word v l j) (format_index v x y) (pattern v x y) (dark_module v x y) (turns k x y) (turns j x y) m
-      (dark_module_in_pattern v x y)
+      (no_dark_module v x y)
       (λ f. (kept_at i).stays (ap is_empty e ∙ f) ∙ e)
       (λ f. (kept_at i).free (ap is_empty e ∙ f))
       ∙ ap color_of_module (sym (module_is v (format_word v l j) j x y m))

@@ -1,8 +1,7 @@
 -- Lists of rows, as their numbers.
 use Rattle.std.proofs.Common.{◌≡◌, ◌&&◌, ◌++◌, ℕ, true, false, refl, ap₂, bit_and, bit_xor, ◌+◌, ◌*◌, ◌^◌, ◌<◌, ◌≤◌, Bool, List, length, take, drop, slice_index_or, ap, sym, ◌∙◌, arith, subst, length-take, length-drop}
 use Rattle.std.proofs.lemmas.Nat.{mul-add-lt, xor_lt, and_le_l}
-use Rattle.std.proofs.lemmas.List.{get_or-take, get_or-drop, get_or_append_left, get_or-append-add}
-use borrow.Rule.Slice.PartMut.{put_mid, post_of}
+use Rattle.std.proofs.lemmas.List.{get_or-take, get_or-drop}
 use Rattle.qrcode_penalty.specs.Rows.{is_set, dark_in, FitsWidth}
 use Rattle.qrcode_penalty.proofs.Places.{differ, has_and, has_xor}
 use Rattle.qrcode_penalty.proofs.RowLists.{rows_fit}
@@ -57,12 +56,3 @@ turned_row_is w mask dark free k row d f m p q e dark_ends free_ends turned = re
       ∙ ap₂ (λ (a b : ℕ). turned_if (is_set b x && turns mask x k) (is_set a x)) p q;
   ends = subst (λ (n : ℕ). n < 2 ^ w) (sym e) (xor_lt w d (bit_and f m) dark_ends (omega (arith, and_le_l f m, free_ends)));
 }
-
--- the places of a square after a part of it was written
-pub part_before : {A : Type 0} (d : A) (a k : ℕ) (xs ys : List A) (i : ℕ) → i < a → a ≤ length xs → slice_index_or (put_mid a k xs ys) i d ≡ slice_index_or xs i d
-part_before d a k xs ys i h l = get_or_append_left (take a xs) (ys ++ post_of a k xs) d i (omega (arith, length-take a xs)) ∙ get_or-take a xs i d h
-
-pub part_inside : {A : Type 0} (d : A) (a k : ℕ) (xs ys : List A) (j : ℕ) → a ≤ length xs → j < length ys → slice_index_or (put_mid a k xs ys) (a + j) d ≡ slice_index_or ys j d
-part_inside d a k xs ys j l h =
-    let e : a ≡ length (take a xs) = omega (arith, length-take a xs) in
-    ap (λ n. slice_index_or (put_mid a k xs ys) (n + j) d) e ∙ get_or-append-add (take a xs) (ys ++ post_of a k xs) j d ∙ get_or_append_left ys (post_of a k xs) d j h

@@ -1,7 +1,6 @@
 -- Lists of what shows modules.
 use Rattle.std.proofs.Common.{◌≡◌, ℕ, zero, suc, ◌<◌, Bool, List, [], ◌∷◌, ◌++◌, map, length, take, drop, replicate, get_or, slice_get, Option, Some, true, set, refl, ap, ap₂, sym, ◌∙◌, arith}
-use Rattle.std.proofs.lemmas.List.{get_or-map, map-set, map-append, take-map, drop-map}
-use borrow.Rule.Slice.PartMut.{put_mid, post_of}
+use Rattle.std.proofs.lemmas.List.{get_or-map, map-set}
 use Rattle.qrcode_symbol.specs.declared.canvas.Module.{Module}
 use Rattle.qrcode_symbol.specs.declared.canvas.Module.TheVariants.{Empty}
 use Rattle.qrcode_symbol.specs.declared.canvas.Module.TheVariants.{Unmasked}
@@ -13,12 +12,6 @@ use Rattle.qrcode_symbol.specs.Masking.{packed}
 -- what is read at an index shows the module there
 pub shown_at : {A : Type 0} (shows : A → Module) (xs : List A) (i : ℕ) (x : A) → i < length xs → x ≡ get_or xs i x → shows x ≡ get_or (map shows xs) i Empty
 shown_at shows xs i x h is = ap shows is ∙ sym (get_or-map shows xs i x Empty h)
-
--- a part that is written
-pub map-put_mid : {A : Type 0} (shows : A → Module) (a k : ℕ) (xs ys : List A) → map shows (put_mid a k xs ys) ≡ put_mid a k (map shows xs) (map shows ys)
-map-put_mid shows a k xs ys =
-    map-append shows (take a xs) (ys ++ post_of a k xs)
-    ∙ ap₂ (λ (l r : List Module). l ++ r) (sym (take-map shows a xs)) (map-append shows ys (post_of a k xs) ∙ ap (λ (l : List Module). map shows ys ++ l) (sym (ap (drop k) (drop-map shows a xs) ∙ drop-map shows k (drop a xs))))
 
 -- a test of the modules that are shown
 pub packed_map : {A B : Type 0} (test : B → Bool) (shows : A → B) (xs : List A) → packed (λ x. test (shows x)) xs ≡ packed test (map shows xs)

@@ -1,43 +1,31 @@
 -- Modules on the way to the functional patterns.
-use Rattle.std.specs.Prelude.{◌≡◌, ◌≢◌, ℕ, ◌+◌, ◌-◌, ◌*◌, ◌/◌, ◌%◌, ◌<◌, ◌≤◌, false, List, [], length, slice_get, slice_index_or, IfSome}
+use Rattle.std.specs.Prelude.{◌≡◌, ◌≢◌, ℕ, ◌+◌, ◌*◌, ◌/◌, ◌%◌, ◌<◌, ◌&&◌, nat_le, nat_lt, Bool, List, slice_get, slice_index_or, IfSome, if◌then◌else◌}
+use Rattle.qrcode_types.specs.Colors.{color_of}
 use Rattle.qrcode_types.specs.Versions.{side}
 use Rattle.qrcode_types.specs.declared.types.Version.{Version}
-use Rattle.qrcode_types.specs.declared.types.Color.{Color}
-use Rattle.qrcode_types.specs.declared.types.Color.TheVariants.{Light}
-use Rattle.qrcode_layout.specs.Patterns.{centres, is_corner_centre}
-use Rattle.qrcode_symbol.specs.Canvas.{blank, pattern_module, with_patterns}
+use Rattle.qrcode_layout.specs.declared.figures.Figure.{Figure}
+use Rattle.qrcode_layout.specs.Figures.{has, is_dark_in}
+use Rattle.qrcode_symbol.specs.Canvas.{blank, map_modules, with_patterns}
 use Rattle.qrcode_symbol.specs.declared.canvas.Module.{Module}
 use Rattle.qrcode_symbol.specs.declared.canvas.Module.TheVariants.{Empty, Masked}
 
--- the functional patterns leave the module at index i as it is
-abbrev pub IsPatterned : Version → List Module → ℕ → Type 0
-IsPatterned v modules i = let m = slice_index_or modules i Empty in pattern_module v (i % side v) (i / side v) m ≡ m
+-- a module after a figure is drawn over it
+abbrev pub module_over : Version → ℕ → ℕ → Module → Figure → Module
+module_over v x y m f = if has f x y then Masked (color_of (is_dark_in v f x y)) else m
 
--- between two lists of modules, some places have been given their functional patterns
-pub record DrawsTowards (v : Version) (old new : List Module) : Type 0 where
-  pub same : with_patterns v new ≡ with_patterns v old
-  pub kept : (i : ℕ) → IsPatterned v old i → IsPatterned v new i
+-- all modules after a figure is drawn
+unfoldable pub with_figure : Version → List Module → Figure → List Module
+with_figure v modules f = map_modules v (λ x y m. module_over v x y m f) modules
 
--- the functional patterns leave as they are all modules of so many columns and rows, from a column and a row on
-abbrev pub IsRectanglePatterned : Version → List Module → ℕ → ℕ → ℕ → ℕ → Type 0
-IsRectanglePatterned v modules left top across down =
-    (x y : ℕ) → left ≤ x → x < left + across → top ≤ y → y < top + down → IsPatterned v modules (y * side v + x)
+-- the place is in the first so many columns of a figure, and in its rows from one on and up to another
+abbrev pub is_in_part : Figure → ℕ → ℕ → ℕ → ℕ → ℕ → Bool
+is_in_part f from to across x y = nat_le f.left x && nat_lt x (f.left + across) && (nat_le (f.top + from) y && nat_lt y (f.top + to))
 
--- a block of colours, row by row, shows the functional patterns from a column and a row on
-abbrev pub IsBlockAt : Version → List (List Color) → ℕ → ℕ → ℕ → Type 0
-IsBlockAt v block across left top =
-    (i j : ℕ) → i < across → j < length block → (m : Module) → pattern_module v (left + i) (top + j) m ≡ Masked (slice_index_or (slice_index_or block j []) i Light)
-
--- one of the coordinates of the alignment centres
-abbrev pub IsCentre : Version → ℕ → Type 0
-IsCentre v a = (i : ℕ) × ((i < length (centres v)) × (slice_index_or (centres v) i 0 ≡ a))
-
--- the alignment patterns in the first so many rows of centres have been drawn
-abbrev pub AreAlignmentsPatterned : Version → List Module → ℕ → Type 0
-AreAlignmentsPatterned v modules rows =
-    let cs = centres v in
-    (j : ℕ) → j < rows → (i : ℕ) → i < length cs → is_corner_centre (side v) (slice_index_or cs i 0) (slice_index_or cs j 0) ≡ false
-    → IsRectanglePatterned v modules (slice_index_or cs i 0 - 2) (slice_index_or cs j 0 - 2) 5 5
+-- such a part of a figure is drawn
+abbrev pub IsPartDrawn : Version → Figure → ℕ → ℕ → ℕ → List Module → List Module → Type 0
+IsPartDrawn v f from to across old new =
+    (i : ℕ) → i < side v * side v → let x = i % side v in let y = i / side v in
+    slice_index_or new i Empty ≡ (if is_in_part f from to across x y then Masked (color_of (is_dark_in v f x y)) else slice_index_or old i Empty)
 
 -- the patterns on a new canvas leave no empty module in column x and row y
 abbrev pub IsDrawn : Version → ℕ → ℕ → Type 0

@@ -29,17 +29,16 @@ mod layer;
 mod masked_rows;
 mod masking;
 mod packing;
-mod pattern_places;
 mod remasking;
 mod unpacking;
 
 use applying::mask_modules;
 use cells::Cell;
 use codewords::Codewords;
-use drawing::{draw_patterns, is_functional_place};
+use drawing::draw_patterns;
 use filling::draw_codewords;
-use pattern_places::PatternPlaces;
 use qrcode_layout::laws;
+use qrcode_layout::patterns::is_functional_place;
 use qrcode_types::types::{Color, EcLevel, QrResult, Version};
 pub use remasking::remask;
 use std::alloc::Global;
@@ -367,6 +366,17 @@ pub fn drawn_colors(
     masking::best_colors(alloc, version, ec_level, cells)
 }
 
+// Whether a functional pattern or the format word has the module in column x and row y.
+fn is_functional_at(version: Version, x: usize, y: usize) -> bool
+    requires valid { IsTrue (is_valid version) }
+    requires column { x < side version }
+    requires row { y < side version }
+    ensures place { result ≡ is_functional_place version x y }
+    ensures drawn { IsTrue result ↔ IsDrawn version x y }
+{
+    is_functional_place(version, side(version), x, y)
+}
+
 /// Whether a functional pattern or the format word has the module in column `x` and row `y` of a
 /// version, each from `-width` to `width - 1`; negative ones count from the far side.
 pub fn is_functional(version: Version, width: i16, x: i16, y: i16) -> bool
@@ -380,9 +390,5 @@ pub fn is_functional(version: Version, width: i16, x: i16, y: i16) -> bool
     ensures drawn { IsTrue result
         ↔ IsDrawn version (wrapped (side version) x) (wrapped (side version) y) }
 {
-    is_functional_place(
-        PatternPlaces::new(version),
-        wrapped(width, x),
-        wrapped(width, y),
-    )
+    is_functional_at(version, wrapped(width, x), wrapped(width, y))
 }

@@ -7,8 +7,8 @@ ghost use Rattle.qrcode_symbol.specs.Canvas.{mask_module, with_mask};
 
 use super::layer::{Layer, fixed_bit};
 use super::{Module, side};
+use qrcode_layout::figures::color_of;
 use qrcode_layout::masks::MaskPattern;
-use qrcode_layout::patterns::color_of;
 use qrcode_layout::words::format_word;
 use qrcode_types::types::{EcLevel, Version};
 

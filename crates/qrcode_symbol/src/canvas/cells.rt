@@ -9,7 +9,7 @@ ghost use Rattle.qrcode_symbol.specs.declared.canvas.Module.{Module};
 
 use super::Module;
 use super::packing::{pack_bytes, pack_modules};
-use qrcode_layout::patterns::color_of;
+use qrcode_layout::figures::color_of;
 
 /// What shows a module.
 pub(super) trait Cell: Copy {

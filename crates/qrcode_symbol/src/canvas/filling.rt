@@ -12,7 +12,7 @@ ghost use Rattle.qrcode_symbol.specs.Filling.{filled_from, drawn_if, left_if, is
 use super::cells::Cell;
 use super::codewords::Codewords;
 use super::{Module, side};
-use qrcode_layout::patterns::color_of;
+use qrcode_layout::figures::color_of;
 use qrcode_layout::walk::right_column;
 use qrcode_types::types::{Color, Version};
 

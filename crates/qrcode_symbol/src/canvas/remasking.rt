@@ -8,12 +8,11 @@ ghost use Rattle.qrcode_penalty.specs.Penalty.{same};
 ghost use Rattle.qrcode_symbol.specs.Penalties.{remasked_at, remasked};
 ghost use Rattle.qrcode_symbol.specs.Symbol.{IsSymbol};
 
-use super::drawing::is_functional_place;
 use super::layer::Layer;
-use super::pattern_places::PatternPlaces;
 use super::side;
+use qrcode_layout::figures::color_of;
 use qrcode_layout::masks::MaskPattern;
-use qrcode_layout::patterns::{color_of, format_index};
+use qrcode_layout::patterns::{format_index, is_functional_place};
 use qrcode_layout::words::format_word;
 use qrcode_types::types::{Color, EcLevel, Version};
 
@@ -40,7 +39,7 @@ fn remasked_at(layer: Layer, old: MaskPattern, x: usize, y: usize, color: Color)
     if let Some(i) = format_index(layer.version, layer.width, x, y) {
         return color_of((layer.word >> (14 - i)) % 2 == 1);
     }
-    if is_functional_place(PatternPlaces::new(layer.version), x, y) {
+    if is_functional_place(layer.version, layer.width, x, y) {
         return color;
     }
     turned(old, layer.mask, x, y, color)

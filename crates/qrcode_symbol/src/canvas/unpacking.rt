@@ -7,7 +7,7 @@ ghost use Rattle.qrcode_types.specs.declared.types.QrError.TheVariants.{OutOfMem
 ghost use Rattle.qrcode_penalty.specs.Rows.{is_set, dark_in};
 ghost use Rattle.qrcode_symbol.specs.Unpacking.{IsRowWritten};
 
-use qrcode_layout::patterns::color_of;
+use qrcode_layout::figures::color_of;
 use qrcode_penalty::row::PackedRow;
 use qrcode_types::types::{Color, QrResult};
 

@@ -1,4 +1,4 @@
-use Rattle.qrcode_layout.proofs.PatternsApart.{apart_where_some}
+use Rattle.qrcode_layout.proofs.Agreements.{apart_where_some}
 use Rattle.qrcode_layout.proofs.patterns.format_index.Goals as goal
 
 pub returns-in-Normal-clause-apart : goal.returns-in-Normal-clause-apart

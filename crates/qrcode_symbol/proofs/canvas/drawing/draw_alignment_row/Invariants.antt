@@ -1,12 +1,11 @@
-use Rattle.std.proofs.Common.{◌≡◌, ℕ, ◌-◌, ◌<◌, false, map, get_or}
+use Rattle.std.proofs.Common.{◌≡◌, fold, map, take, not}
+use Rattle.std.specs.List.{filter}
 use Rattle.qrcode_types.specs.Versions.{side}
-use Rattle.qrcode_layout.specs.Patterns.{centres, is_corner_centre}
-use Rattle.qrcode_symbol.specs.Patterned.{DrawsTowards, IsRectanglePatterned}
+use Rattle.qrcode_layout.specs.Figures.{alignment, centres, is_corner_centre}
+use Rattle.qrcode_symbol.specs.Patterned.{with_figure}
 use Rattle.qrcode_symbol.proofs.canvas.drawing.draw_alignment_row.Given as goal
 
 abbrev pub invariant-loop-a : goal.invariant-loop-a
-invariant-loop-a g l = record {
-  towards : DrawsTowards l.places.version (map g.C.Cell.shows l.initial.modules) (map g.C.Cell.shows l.modules);
-  drawn : (i : ℕ) → i < l.a-index → is_corner_centre (side l.places.version) (get_or (centres l.places.version) i 0) l.b ≡ false
-      → IsRectanglePatterned l.places.version (map g.C.Cell.shows l.modules) (get_or (centres l.places.version) i 0 - 2) (l.b - 2) 5 5;
-}
+invariant-loop-a g l =
+    map g.C.Cell.shows l.modules ≡ fold (with_figure l.version) (map g.C.Cell.shows l.initial.modules)
+    (map (λ a. alignment a l.b) (filter (λ a. not (is_corner_centre (side l.version) a l.b)) (take l.a-index (centres l.version))))

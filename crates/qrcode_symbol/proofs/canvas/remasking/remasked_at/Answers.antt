@@ -1,6 +1,5 @@
 use Rattle.std.proofs.Common.{◌≡◌, ℕ, Bool, true, false, not, Option, Some, None, is_some, ◌||◌, refl, sym, ◌∙◌, ap, true≢false}
 use Rattle.qrcode_types.specs.Colors.{is_dark, color_of}
-use Rattle.qrcode_types.specs.declared.types.Version.{Version}
 use Rattle.qrcode_types.specs.declared.types.Color.{Color}
 use Rattle.qrcode_penalty.specs.Penalty.{same}
 use Rattle.qrcode_layout.specs.Masks.{turns, turned_if}
@@ -41,7 +40,7 @@ returns-then-is_functional_place c =
     let y = c.args.y in
     stays layer.word (format_index layer.version x y) (pattern layer.version x y) (turns c.args.old x y) (turns layer.mask x y) c.args.color
     (sym c.format_index.ensures.value ∙ none_of c.format_index.result c.in_default.not-Some)
-    (ap (λ (v : Version). is_functional_place v x y) (sym c.new.ensures) ∙ sym c.is_functional_place.ensures.place ∙ c.if-is_functional_place.true)
+    (sym c.is_functional_place.ensures ∙ c.if-is_functional_place.true)
 
 pub returns : goal.returns
 unfolding remasked_at is_functional_place
@@ -52,4 +51,4 @@ returns c =
     c.turned.ensures
     ∙ is_turned layer.word (format_index layer.version x y) (pattern layer.version x y) (turns c.args.old x y) (turns layer.mask x y) c.args.color
     (sym c.format_index.ensures.value ∙ none_of c.format_index.result c.in_default.not-Some)
-    (ap (λ (v : Version). is_functional_place v x y) (sym c.new.ensures) ∙ sym c.is_functional_place.ensures.place ∙ c.if-is_functional_place.false)
+    (sym c.is_functional_place.ensures ∙ c.if-is_functional_place.false)

@@ -1,9 +1,0 @@
-use Rattle.std.proofs.Common.{map}
-use Rattle.qrcode_symbol.specs.Patterned.{DrawsTowards, IsRectanglePatterned}
-use Rattle.qrcode_symbol.proofs.canvas.drawing.draw_block.Given as goal
-
-abbrev pub invariant-loop-row : goal.invariant-loop-row
-invariant-loop-row g l = record {
-  towards : DrawsTowards l.places.version (map g.C.Cell.shows l.initial.modules) (map g.C.Cell.shows l.modules);
-  drawn : IsRectanglePatterned l.places.version (map g.C.Cell.shows l.modules) l.left l.top g.row.ACROSS l.row;
-}
