@@ -46,6 +46,8 @@ pub struct Asked<'a> {
     pub trims: bool,
     /// Whether each line is data of its own.
     pub is_by_line: bool,
+    /// What stands between the fields of a line, of which names of files are made.
+    pub delimiter: &'a str,
     /// Whether data that is empty is drawn.
     pub allows_empty: bool,
 }
@@ -65,6 +67,7 @@ pub fn asked_for<'a>(rt: &HostRuntime, given: &ArgMatches<'a>) -> Result<Asked<'
         target,
         trims: given.get_flag("trim"),
         is_by_line: given.get_flag("lines"),
+        delimiter: given.get_str("delimiter").unwrap_or(","),
         allows_empty: given.get_flag("allow-empty"),
     };
     if asked.is_by_line {

@@ -22,16 +22,15 @@ use qrcode::types::QrError;
 use qrcode_gs1::errors::Gs1Error;
 use qrcode_gs1::symbol::errors::SymbolError;
 use qrcode_gs1::symbol::indicator_of;
-use std::alloc::{AllocError, Global};
+use std::alloc::Global;
 use std::io::IsTerminal;
 use std::process::ExitCode;
 
-/// Draws one symbol, and writes it: of a line, to the file of its number.
+/// Draws one symbol, and writes it.
 pub(crate) fn draw_one(
     rt: &HostRuntime,
     asked: &Asked<'_>,
     bytes: &[u8],
-    number: Option<usize>,
 ) -> Result<ExitCode, Failure> {
     let alloc = rt.alloc();
     check_empty(alloc, asked, bytes)?;
@@ -40,7 +39,7 @@ pub(crate) fn draw_one(
         ..asked.request
     };
     match draw(alloc, &request, bytes) {
-        Ok(drawing) => write_drawing(rt, asked, &drawing, number),
+        Ok(drawing) => write_drawing(rt, asked, &drawing),
         Err(error) => Err(Failure::Refused(refusal_text(alloc, &request, bytes, error)?)),
     }
 }
@@ -145,29 +144,24 @@ pub(crate) fn application_drawing(
     }
 }
 
-/// Writes a drawing: of a line, to the file of its number.
+/// Writes a drawing.
 pub(crate) fn write_drawing(
     rt: &HostRuntime,
     asked: &Asked<'_>,
     drawing: &Drawing,
-    number: Option<usize>,
 ) -> Result<ExitCode, Failure> {
     check_size(rt.alloc(), &asked.request, drawing)?;
     let bytes = drawing.bytes.as_slice();
-    match (asked.target, number) {
-        (Target::File(path), None) => write_file(rt, path, bytes),
-        (Target::File(path), Some(number)) => {
-            let path = numbered(rt.alloc(), path, number)?;
-            write_file(rt, path.as_str(), bytes)
-        }
-        (Target::Terminal, _) if !asked.request.format.is_text() && rt.stdout().is_terminal() => {
+    match asked.target {
+        Target::File(path) => write_file(rt, path, bytes),
+        Target::Terminal if !asked.request.format.is_text() && rt.stdout().is_terminal() => {
             refused(
                 rt.alloc(),
                 "a picture of bytes is not for a terminal: \
                 add --output FILE, or --output - to see it",
             )
         }
-        (Target::Terminal | Target::StandardOutput, _) => print(rt, bytes),
+        Target::Terminal | Target::StandardOutput => print(rt, bytes),
     }
 }
 
@@ -191,15 +185,5 @@ pub(crate) fn manner(alloc: Global, asked: &Asked<'_>, bytes: &[u8]) -> Result<M
             refused(alloc, "the data is not UTF-8: leave out --eci")
         }
         (manner, otherwise) => Ok(manner.unwrap_or(otherwise)),
-    }
-}
-
-// A path with the number of a line before its ending.
-fn numbered(alloc: Global, path: &str, number: usize) -> Result<String, AllocError> {
-    match path.rsplit_once('.') {
-        Some((stem, ending)) if !ending.contains('/') => {
-            format!(in alloc; "{stem}-{number:06}.{ending}")
-        }
-        _ => format!(in alloc; "{path}-{number:06}"),
     }
 }

@@ -4,6 +4,7 @@
 mod contents;
 mod drawing;
 mod lines;
+mod names;
 mod reading;
 mod segments;
 mod several;

@@ -1,6 +1,7 @@
 //! A symbol of each line.
 
 use crate::drawing::draw_one;
+use crate::names::{Item, Names, check_names};
 use goqlanis_core::Grouped;
 use goqlanis_files::failure::Failure;
 use goqlanis_files::progress::Progress;
@@ -19,6 +20,7 @@ const MOST_IN_LINE: usize = 100_000;
 /// written, the lines behind it are not drawn.
 pub(crate) fn draw_lines(rt: &HostRuntime, asked: &Asked<'_>) -> Result<ExitCode, Failure> {
     let alloc = rt.alloc();
+    check_names(rt, asked)?;
     match asked.source {
         Source::Text(text) => draw_from(rt, asked, "TEXT", text.as_bytes()),
         Source::File(path) => match fs::open(rt, path) {
@@ -59,12 +61,13 @@ fn draw_each<R: BufRead>(
     progress: Progress,
 ) -> Result<ExitCode, Failure> {
     let mut code = ExitCode::SUCCESS;
+    let mut names = Names::new(rt.alloc());
     let mut line = Vec::new(rt.alloc());
     for number in 1..usize::MAX {
         if !next_line(rt.alloc(), name, from, &mut line, number)? {
             return Ok(code);
         }
-        match draw_one(rt, asked, without_ending(&line), Some(number)) {
+        match draw_line(rt, asked, &mut names, without_ending(&line), number) {
             Ok(_) => progress.show(rt, number),
             Err(Failure::Refused(why)) => {
                 progress.clear(rt);
@@ -78,6 +81,28 @@ fn draw_each<R: BufRead>(
     Ok(code)
 }
 
+// Draws a line, to the file of its name where drawings go to files.
+fn draw_line(
+    rt: &HostRuntime,
+    asked: &Asked<'_>,
+    names: &mut Names,
+    line: &[u8],
+    number: usize,
+) -> Result<ExitCode, Failure> {
+    let Target::File(path) = asked.target else {
+        return draw_one(rt, asked, line);
+    };
+    let text = String::from_utf8_lossy(rt.alloc(), line)?;
+    let item = Item {
+        number,
+        text: text.as_str(),
+        delimiter: asked.delimiter,
+    };
+    let name = names.take(rt.alloc(), path, item)?;
+    let target = Target::File(name.as_str());
+    draw_one(rt, &Asked { target, ..*asked }, line)
+}
+
 // Reads a line with its ending, in place of another one. At the end there is none.
 fn next_line<R: BufRead>(
     alloc: Global,
@@ -89,11 +114,11 @@ fn next_line<R: BufRead>(
     line.clear();
     match from
         .by_ref()
-        .take(MOST_IN_LINE as u64)
+        .take(MOST_IN_LINE as u64 + 2)
         .read_until(b'\n', line)
     {
         Ok(0) => Ok(false),
-        Ok(_) if line.len() < MOST_IN_LINE || line.ends_with(b"\n") => Ok(true),
+        Ok(_) if without_ending(line).len() <= MOST_IN_LINE => Ok(true),
         Ok(_) => {
             let most = Grouped(MOST_IN_LINE);
             Err(Failure::Refused(format!(in alloc;

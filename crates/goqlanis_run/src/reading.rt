@@ -3,52 +3,33 @@
 use clap::ArgMatches;
 use goqlanis_core::{Scan, Unread, read_picture};
 use goqlanis_files::failure::Failure;
-use goqlanis_files::streams::{
-    Escaped, MOST_PICTURE, print, read_file, read_standard_input, write_file,
-};
+use goqlanis_files::streams::{MOST_PICTURE, read_file, read_standard_input, write_data};
 use qrcode::types::Version;
 use qrcode_reader::spell::Header;
 use qrcode_reader::{Position, Reading, WrongCodeword};
 use std::alloc::{AllocError, Global};
-use std::io::IsTerminal;
 use std::process::ExitCode;
 
 /// Reads the picture that the command line names, and writes its data.
 pub(crate) fn read(rt: &HostRuntime, given: &ArgMatches<'_>) -> Result<ExitCode, Failure> {
-    let (name, bytes) = match given.get_str("PICTURE") {
-        None | Some("-") => (
-            "standard input",
-            read_standard_input(rt, "a picture", MOST_PICTURE)?,
-        ),
-        Some(path) => (path, read_file(rt, path, MOST_PICTURE)?),
-    };
-    let scan = scan_of(rt.alloc(), name, &bytes)?;
+    let scan = scan_of(rt, given.get_str("PICTURE").unwrap_or("-"))?;
     if given.get_flag("verbose") {
         let text = description(rt.alloc(), &scan)?;
         let _ = eprint!(rt; "{text}");
     }
-    let data = scan.any.reading.data.as_slice();
-    match given.get_str("output") {
-        None if rt.stdout().is_terminal() => show(rt, data),
-        None | Some("-") => print(rt, data),
-        Some(path) => write_file(rt, path, data),
-    }
+    write_data(rt, given.get_str("output"), &scan.any.reading.data)
 }
 
-// Writes data to a terminal, where its control characters other than line breaks and tabs are shown
-// as escapes.
-fn show(rt: &HostRuntime, data: &[u8]) -> Result<ExitCode, Failure> {
-    let shown = Escaped {
-        bytes: data,
-        has_lines: true,
+/// What is read of a picture, which a file holds, or standard input where its name is -.
+pub(crate) fn scan_of(rt: &HostRuntime, path: &str) -> Result<Scan, Failure> {
+    let alloc = rt.alloc();
+    let (name, bytes) = if path == "-" {
+        let bytes = read_standard_input(rt, "a picture", MOST_PICTURE)?;
+        ("standard input", bytes)
+    } else {
+        (path, read_file(rt, path, MOST_PICTURE)?)
     };
-    let text = format!(in rt.alloc(); "{shown}")?;
-    print(rt, text.as_bytes())
-}
-
-/// What is read of a picture of a name.
-pub(crate) fn scan_of(alloc: Global, name: &str, bytes: &[u8]) -> Result<Scan, Failure> {
-    match read_picture(alloc, bytes) {
+    match read_picture(alloc, &bytes) {
         Ok(scan) => Ok(scan),
         Err(Unread::OutOfMemory) => Err(Failure::OutOfMemory),
         Err(error) => { Err(Failure::Refused(format!(in alloc; "cannot read {name}: {error}")?)) }

@@ -1,22 +1,27 @@
 //! `goqlanis several`: data in several symbols; and `goqlanis join`: the data of such symbols.
 
 use crate::drawing::{check_empty, manner, write_drawing};
+use crate::names::{Item, check_names, name_of};
 use crate::reading::scan_of;
 use clap::ArgMatches;
-use goqlanis_core::{Scan, drawing_of};
+use goqlanis_core::{Drawing, Grouped, Scan, drawing_of};
 use goqlanis_files::failure::{Failure, refused};
-use goqlanis_files::streams::{MOST_DATA, MOST_PICTURE, print, read_file, write_file};
-use goqlanis_options::asked::{Asked, check_one_behind_another, versions_of};
+use goqlanis_files::streams::{MOST_DATA, shown, write_data};
+use goqlanis_options::asked::{Asked, Target, check_one_behind_another, versions_of};
 use qrcode::QrCode;
 use qrcode::types::QrError;
 use qrcode_append::errors::JoinError;
 use qrcode_append::{Part, encode_among, encode_counted, join};
 use qrcode_reader::spell::Header;
 use std::alloc::{AllocError, Global};
+use std::fs;
 use std::process::ExitCode;
 
+// The most symbols of one text.
+const MOST_SYMBOLS: usize = 16;
+
 /// The most bytes of data that are read: as many as for 16 symbols.
-pub(crate) const MOST_IN_SEVERAL: usize = 16 * MOST_DATA;
+pub(crate) const MOST_IN_SEVERAL: usize = MOST_SYMBOLS * MOST_DATA;
 
 /// Draws data in several symbols, each to the file of its number.
 pub(crate) fn draw_several(
@@ -27,6 +32,7 @@ pub(crate) fn draw_several(
 ) -> Result<ExitCode, Failure> {
     let alloc = rt.alloc();
     check_one_behind_another(alloc, asked)?;
+    check_names(rt, asked)?;
     check_empty(alloc, asked, bytes)?;
     let versions = versions_of(alloc, given, asked.request.choice)?;
     let level = asked.request.level;
@@ -48,28 +54,86 @@ pub(crate) fn draw_several(
 
 // Draws symbols one after the other.
 fn draw_each(rt: &HostRuntime, asked: &Asked<'_>, codes: Vec<QrCode>) -> Result<ExitCode, Failure> {
+    let count = codes.len();
     for (index, code) in codes.into_iter().enumerate() {
         let number = index.saturating_add(1);
         let drawing = drawing_of(rt.alloc(), &asked.request, code).map_err(
             |_| Failure::OutOfMemory,
         )?;
-        write_drawing(rt, asked, &drawing, Some(number))?;
+        write_part(rt, asked, &drawing, number)?;
+    }
+    if let Target::File(path) = asked.target {
+        warn_of_others(rt, path, count)?;
     }
     Ok(ExitCode::SUCCESS)
 }
 
-/// Joins the data of the symbols that pictures show, and writes it.
+// Writes the symbol of a number, to the file of its name where drawings go to files.
+fn write_part(
+    rt: &HostRuntime,
+    asked: &Asked<'_>,
+    drawing: &Drawing,
+    number: usize,
+) -> Result<ExitCode, Failure> {
+    let Target::File(path) = asked.target else {
+        return write_drawing(rt, asked, drawing);
+    };
+    let name = name_of(rt.alloc(), path, item(number))?;
+    let target = Target::File(name.as_str());
+    write_drawing(rt, &Asked { target, ..*asked }, drawing)
+}
+
+// What the name of the file of a number is made of.
+fn item(number: usize) -> Item<'static> {
+    Item {
+        number,
+        text: "",
+        delimiter: "",
+    }
+}
+
+// Says which files of further numbers there are, as of an earlier run: they are of other data.
+fn warn_of_others(rt: &HostRuntime, path: &str, count: usize) -> Result<(), Failure> {
+    let mut others = String::new(rt.alloc());
+    for number in count.saturating_add(1)..MOST_SYMBOLS + 1 {
+        let name = name_of(rt.alloc(), path, item(number))?;
+        if fs::exists(rt, name.as_str()).unwrap_or(false) {
+            write!(others, " {name}")?;
+        }
+    }
+    if !others.is_empty() {
+        let others = shown(others.as_str());
+        let _ = eprintln!(rt; "goqlanis: from an earlier run, not part of this data:{others}");
+    }
+    Ok(())
+}
+
+/// Joins the data of the symbols that pictures show, and writes it. A single one may be without a
+/// place, as `several` draws it.
 pub(crate) fn join_pictures(rt: &HostRuntime, given: &ArgMatches<'_>) -> Result<ExitCode, Failure> {
     let names = given.get_strs("PICTURE").unwrap_or(&[]);
+    let output = given.get_str("output");
+    if names.len() > MOST_SYMBOLS {
+        let count = Grouped(names.len());
+        return Err(Failure::Refused(format!(in rt.alloc();
+            "{count} pictures: data has at most {MOST_SYMBOLS}; name those of one text"
+        )?));
+    }
     let mut scans = Vec::new(rt.alloc());
     for name in names {
-        scans.push(scan_of(rt.alloc(), name, &read_file(rt, name, MOST_PICTURE)?)?)?;
+        scans.push(scan_of(rt, name)?)?;
     }
-    let data = joined(rt.alloc(), names, &scans)?;
-    match given.get_str("output") {
-        None | Some("-") => print(rt, &data),
-        Some(path) => write_file(rt, path, &data),
+    match scans.as_slice() {
+        [only] if only.headers.iter().all(|header| !is_place(*header)) => {
+            write_data(rt, output, &only.any.reading.data)
+        }
+        scans => write_data(rt, output, &joined(rt.alloc(), names, scans)?),
     }
+}
+
+// Whether a header is the place of one of several symbols.
+fn is_place(header: Header) -> bool {
+    matches!(header, Header::StructuredAppend { .. })
 }
 
 // The data of pictures of these names, one behind the other by their headers.
@@ -80,7 +144,7 @@ fn joined(alloc: Global, names: &[&str], scans: &[Scan]) -> Result<Vec<u8>, Fail
     }
     match join(alloc, &parts) {
         Ok(data) => Ok(data),
-        Err(error) => Err(not_joined(alloc, names, error)?),
+        Err(error) => Err(not_joined(alloc, names, &parts, error)?),
     }
 }
 
@@ -107,13 +171,19 @@ fn part_of<'a>(alloc: Global, name: &str, scan: &'a Scan) -> Result<Part<'a>, Fa
     )?))
 }
 
-// Why pictures of these names are not joined.
-fn not_joined(alloc: Global, names: &[&str], error: JoinError) -> Result<Failure, AllocError> {
+// Why pictures of these names, which show these parts, are not joined.
+fn not_joined(
+    alloc: Global,
+    names: &[&str],
+    parts: &[Part<'_>],
+    error: JoinError,
+) -> Result<Failure, AllocError> {
     let text = match error {
         JoinError::OutOfMemory => return Ok(Failure::OutOfMemory),
         JoinError::Stranger(index) => {
+            let first = names.first().unwrap_or(&"");
             let name = names.get(index).unwrap_or(&"");
-            format!(in alloc; "{name}: it is a part of other data than the first picture")?
+            format!(in alloc; "{name}: it is a part of other data than {first}")?
         }
         JoinError::Missing(place) => {
             let number = place.saturating_add(1);
@@ -121,7 +191,8 @@ fn not_joined(alloc: Global, names: &[&str], error: JoinError) -> Result<Failure
         }
         JoinError::Twice(place) => {
             let number = place.saturating_add(1);
-            format!(in alloc; "there are two pictures of symbol {number}; leave one out")?
+            let both = names_at(alloc, names, parts, place)?;
+            format!(in alloc; "there are two pictures of symbol {number}:{both}; leave one out")?
         }
         JoinError::Parity => {
             let why = "the pictures are not parts of the same data: parity differs";
@@ -129,4 +200,20 @@ fn not_joined(alloc: Global, names: &[&str], error: JoinError) -> Result<Failure
         }
     };
     Ok(Failure::Refused(text))
+}
+
+// The names of the pictures that show parts of a place, each behind a space.
+fn names_at(
+    alloc: Global,
+    names: &[&str],
+    parts: &[Part<'_>],
+    place: usize,
+) -> Result<String, AllocError> {
+    let mut text = String::new(alloc);
+    for (name, part) in names.iter().zip(parts) {
+        if part.place as usize == place {
+            write!(text, " {name}")?;
+        }
+    }
+    Ok(text)
 }

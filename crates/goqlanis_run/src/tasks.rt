@@ -51,7 +51,8 @@ fn all_words(rt: &HostRuntime) -> Result<Vec<String>, Failure> {
         Ok(words) => Ok(words.collect(rt.alloc())?),
         Err(error) if error.kind() == io::ErrorKind::InvalidData => refused(
             rt.alloc(),
-            "an argument is not UTF-8: put the data into a file, and name it by --input",
+            "an argument is not UTF-8: \
+            give data by --input or standard input, and name files in UTF-8",
         ),
         Err(_) => Err(Failure::OutOfMemory),
     }
@@ -127,12 +128,12 @@ fn draw_asked(
 ) -> Result<ExitCode, Failure> {
     if let Some(words) = given.get_strs("segment") {
         let drawing = segments_drawing(rt.alloc(), asked, words)?;
-        return write_drawing(rt, asked, &drawing, None);
+        return write_drawing(rt, asked, &drawing);
     }
     if asked.is_by_line {
         return draw_lines(rt, asked);
     }
-    draw_one(rt, asked, &data(rt, asked, MOST_DATA)?, None)
+    draw_one(rt, asked, &data(rt, asked, MOST_DATA)?)
 }
 
 // Draws data in several symbols.
@@ -149,7 +150,7 @@ fn draw_content(rt: &HostRuntime, kind: Kind, given: &ArgMatches<'_>) -> Result<
     if matches!(kind, Kind::Bill) {
         check_bill(alloc, text.as_str())?;
     }
-    draw_one(rt, &asked, text.as_bytes(), None)
+    draw_one(rt, &asked, text.as_bytes())
 }
 
 // The bytes that a symbol of a bill's level and largest version always holds.
@@ -182,7 +183,7 @@ fn draw_gs1(rt: &HostRuntime, given: &ArgMatches<'_>) -> Result<ExitCode, Failur
         None => elements_drawing(alloc, &asked.request, text)?,
         Some(indicator) => application_drawing(alloc, &asked.request, indicator, text)?,
     };
-    write_drawing(rt, &asked, &drawing, None)
+    write_drawing(rt, &asked, &drawing)
 }
 
 // The data that is asked about, of at most so many bytes where it is read.

@@ -81,7 +81,11 @@ pub static LOOKS: &[Entry] = &[
 /// What goes with data in one symbol, or with none.
 #[rattlefmt::skip]
 pub static ALONE: &[Entry] = &[
-    entry!("lines", Nothing, "Draw a symbol of each line of the data; files are numbered"),
+    entry!("lines", Nothing,
+        "Make one code for each line; output files are numbered, or named by it: {} in --output is \
+        its number, {text} the line, {1} its first field"),
+    entry!("delimiter", Text("TEXT"),
+        "What separates the fields of a line in file names [default: ,]"),
     entry!("segment", Texts("MODE:TEXT"),
         "Write a segment by hand, once for each: numeric, alphanumeric, byte, or kanji with Shift \
         JIS as 935f; or eci:NUMBER, the character set of those behind it"),

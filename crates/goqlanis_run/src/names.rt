@@ -1,0 +1,188 @@
+//! The names of several files, made of the one that the command line gives.
+
+use goqlanis_files::failure::{Failure, refused, usage};
+use goqlanis_files::files::is_stream;
+use goqlanis_files::streams::is_unseen;
+use goqlanis_options::asked::{Asked, Target};
+use std::alloc::{AllocError, Global};
+use std::collections::BTreeSet;
+
+// The most bytes of a file's name, as Linux has it.
+const MOST_IN_NAME: usize = 255;
+
+/// What the name of one of the files is made of.
+#[derive(Clone, Copy)]
+pub(crate) struct Item<'a> {
+    /// Counted from 1.
+    pub(crate) number: usize,
+    /// The text of the line.
+    pub(crate) text: &'a str,
+    /// What stands between its fields.
+    pub(crate) delimiter: &'a str,
+}
+
+// What a path has a place for.
+#[derive(Clone, Copy)]
+enum Place {
+    Number,
+    Text,
+    /// A field of the text, counted from 1.
+    Field(usize),
+}
+
+/// Refuses a path of which no names of files can be made.
+pub(crate) fn check_names(rt: &HostRuntime, asked: &Asked<'_>) -> Result<(), Failure> {
+    let Target::File(path) = asked.target else {
+        return Ok(());
+    };
+    let folder = path.rsplit_once('/').map_or("", |(folder, _)| folder);
+    if is_stream(rt, path) {
+        Err(Failure::Usage(format!(in rt.alloc();
+            "--output {path}: each code gets a file of its own; \
+            name one, as a.png, or leave --output out to draw text"
+        )?))
+    } else if folder.contains("{}") || has_text(folder) {
+        usage(
+            rt.alloc(),
+            "--output: {}, {text} and {1} are for the file name, not for its folder",
+        )
+    } else if has_text(path) && !asked.is_by_line {
+        usage(
+            rt.alloc(),
+            "--output: {text} and {1} are for --lines; {} is the number",
+        )
+    } else {
+        Ok(())
+    }
+}
+
+/// The names of files that were made of texts, so that no two are the same.
+#[derive(Drop)]
+pub(crate) struct Names {
+    taken: BTreeSet<String>,
+}
+
+impl Names {
+    pub(crate) fn new(alloc: Global) -> Names {
+        Names {
+            taken: BTreeSet::new(alloc),
+        }
+    }
+
+    /// The file of an item.
+    pub(crate) fn take(
+        &mut self,
+        alloc: Global,
+        path: &str,
+        item: Item<'_>,
+    ) -> Result<String, Failure> {
+        let name = name_of(alloc, path, item)?;
+        if !has_text(path) || self.taken.insert(String::from_str(alloc, name.as_str())?)? {
+            return Ok(name);
+        }
+        Err(Failure::Refused(format!(in alloc;
+            "{name} is the file of an earlier line; {{}} in --output is the number of the line"
+        )?))
+    }
+}
+
+/// The file of an item: a path with the item in its places, or with its number before its file
+/// extension.
+pub(crate) fn name_of(alloc: Global, path: &str, item: Item<'_>) -> Result<String, Failure> {
+    if !path.contains("{}") && !has_text(path) {
+        return Ok(numbered(alloc, path, item.number)?);
+    }
+    let mut name = String::from_str(alloc, path.split('{').next().unwrap_or(""))?;
+    for piece in path.split('{').skip(1) {
+        push_piece(&mut name, piece, item)?;
+    }
+    check_name(alloc, name.as_str())?;
+    Ok(name)
+}
+
+// Refuses a path whose file can have no such name.
+fn check_name(alloc: Global, path: &str) -> Result<(), Failure> {
+    let name = path.rsplit('/').next().unwrap_or("");
+    if name.len() > MOST_IN_NAME {
+        refused(alloc, "its file name would have more than 255 bytes")
+    } else if matches!(name, "" | "." | "..") {
+        refused(alloc, "its file would have no name, or that of a folder")
+    } else {
+        Ok(())
+    }
+}
+
+// A path with a number before its file extension.
+fn numbered(alloc: Global, path: &str, number: usize) -> Result<String, AllocError> {
+    match path.rsplit_once('.') {
+        Some((stem, ending)) if !ending.contains('/') => {
+            format!(in alloc; "{stem}-{number:06}.{ending}")
+        }
+        _ => format!(in alloc; "{path}-{number:06}"),
+    }
+}
+
+// Whether a path has a place for text.
+fn has_text(path: &str) -> bool {
+    path.split('{').skip(1).any(|piece| matches!(
+        place_of(piece),
+        Some((Place::Text | Place::Field(_), _))
+    ))
+}
+
+// The place whose opening bracket stands before a piece, and what stands behind it.
+fn place_of(piece: &str) -> Option<(Place, &str)> {
+    let (word, rest) = piece.split_once('}')?;
+    let place = match (word, word.parse::<usize>()) {
+        ("", _) => Place::Number,
+        ("text", _) => Place::Text,
+        (_, Ok(number)) if number > 0 => Place::Field(number),
+        _ => return None,
+    };
+    Some((place, rest))
+}
+
+// Writes what stands in the place that a piece of a path begins with, and the rest of the piece; or,
+// if there is none, the piece after its bracket.
+fn push_piece(name: &mut String, piece: &str, item: Item<'_>) -> Result<(), Failure> {
+    match place_of(piece) {
+        Some((place, rest)) => {
+            push_place(name, place, item)?;
+            name.push_str(rest)?;
+        }
+        None => write!(name, "{{{piece}")?,
+    }
+    Ok(())
+}
+
+// Writes what stands in a place.
+fn push_place(name: &mut String, place: Place, item: Item<'_>) -> Result<(), Failure> {
+    match place {
+        Place::Number => {
+            let number = item.number;
+            write!(name, "{number}")?;
+        }
+        Place::Text => push_clean(name, item.text)?,
+        Place::Field(number) => {
+            let index = number.saturating_sub(1);
+            push_clean(
+                name,
+                item.text.split(item.delimiter).nth(index).unwrap_or(""),
+            )?;
+        }
+    }
+    Ok(())
+}
+
+// Writes a text, in which what a file name cannot have on some system is a _.
+fn push_clean(name: &mut String, text: &str) -> Result<(), AllocError> {
+    for character in text.chars() {
+        let is_clean = !is_unseen(character)
+            && !matches!(
+                character,
+                '/' | '\\' | ':' | '*' | '?' | '"' | '<' | '>' | '|'
+            );
+        name.push(if is_clean { character } else { '_' })?;
+    }
+    Ok(())
+}
