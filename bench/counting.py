@@ -11,6 +11,7 @@ import re
 import subprocess
 import sys
 import tempfile
+import zlib
 from concurrent.futures import ThreadPoolExecutor
 from pathlib import Path
 
@@ -20,7 +21,25 @@ sys.dont_write_bytecode = True
 sys.path += [str(TOP / it) for it in ("tools", "bindings/python", "evidence/judge")]
 from sums import CRATES, all_below  # noqa: E402
 
-TRIALS = CRATES / "qrcode_trials" / "out" / "qrcode_trials"
+DIGITS = b"0123456789" * 709
+WORDS = b"the quick brown fox jumps over the lazy dog, " * 60
+KANJI = b"\x93\xfa\x96\x7b\x8c\xea\x93\x5f\xe4\xaa\x93\xfa\x96\x7b\x8c\xea"
+MIXED = b"left at noon: ORDER 7 OF 12, no. 2026112208150042 %s, paid EUR 149.90; " % KANJI * 20
+FORMATS = {"half-blocks": 0, "svg": 2, "pic": 3, "pixels": 4, "png": 5, "eps": 6, "pbm": 7,
+           "path": 8}
+# The bytes of the pictures' symbols at level M, by what stands behind the name of the format.
+SYMBOLS = {"1": WORDS[:14], "10": WORDS[:213], "17": WORDS[:504], "40": WORDS[:2331],
+           "100": WORDS[:100]}
+CASES = {
+    "micro-2-digits": ("symbol", DIGITS[:8], 42, 0),
+    "normal-1-digits": ("symbol", DIGITS[:8], 1, 1),
+    "bytes-100": ("symbol", WORDS[:100], 0, 1),
+    "bytes-1000": ("symbol", WORDS[:1000], 0, 1),
+    "bytes-2331": ("symbol", WORDS[:2331], 0, 1),
+    "digits-7089": ("symbol", DIGITS[:7089], 0, 0),
+    "mixed-1000": ("symbol", MIXED[:1000], 0, 1),
+    "least-mixed-1000": ("least", MIXED[:1000], 0, 1),
+}
 # The symbols that are read: a name, the version, and how many bytes they hold at level M.
 READ = {"read-1": ("1", 14), "read-10": ("10", 213), "read-40": ("40", 2331)}
 
@@ -31,18 +50,29 @@ def exit_if_not_there(*paths):
             sys.exit(f"bench: there is no {path.relative_to(TOP)}: run `./test`, which makes it")
 
 
-def trial(case, *words):
-    """The command of a case of qrcode_trials."""
-    return lambda count: [TRIALS, "built", case, count, *words]
+def command_of(folder, kind, data, *numbers):
+    """The command of a call of the library for C (bench/calls.c)."""
+    program, file = build_calls(folder), folder / f"{zlib.crc32(data):08x}"
+    file.write_bytes(data)
+    return lambda count: [program, kind, count, file, *numbers]
 
 
-def valgrind(tool, words, *flags, given="", setting={}, cwd=None):
+def case(folder, name, pixels=None):
+    """The command of a case: of a symbol, or of a picture with 8 by 8 pixels a module, 1 in half
+    blocks, or with so many, as in `png-40-at-3`."""
+    if name in CASES:
+        return command_of(folder, *CASES[name])
+    form, symbol, at = re.fullmatch(r"(\D+)-(\d+)(?:-at-(\d+))?", name).groups()
+    scale = pixels or at or (1 if form == "half-blocks" else 8)
+    return command_of(folder, "picture", SYMBOLS[symbol], 0, 1, FORMATS[form], scale)
+
+
+def valgrind(tool, words, *flags, given=b"", cwd=None):
     """What a tool of valgrind writes to its file and says of a run, or None if the run fails."""
     with tempfile.NamedTemporaryFile() as out:
         command = ["valgrind", f"--tool={tool}", f"--{tool}-out-file={out.name}", *flags, *words]
-        ran = subprocess.run(list(map(str, command)), input=given, capture_output=True, text=True,
-                             env={**os.environ, **setting}, cwd=cwd)
-        return None if ran.returncode else (Path(out.name).read_text(), ran.stderr)
+        ran = subprocess.run(list(map(str, command)), input=given, capture_output=True, cwd=cwd)
+        return None if ran.returncode else (Path(out.name).read_text(), ran.stderr.decode())
 
 
 def run_instructions(words, **how):
@@ -79,11 +109,12 @@ def heap_from_then_on(command):
     return max(held for _, held in one[same:]) - one[same - 1][1]
 
 
-def growth():
+def growth(folder):
     """The instructions of a symbol of each Normal version that bytes fill at level M."""
-    with ThreadPoolExecutor() as pool:
-        totals = list(pool.map(lambda it: run_instructions(trial("growth")(it)), range(41)))
-    return [after - before for before, after in zip(totals, totals[1:])]
+    answers = (TOP / "evidence" / "oracle" / "answers").read_text()
+    most = re.findall(r"(?m)^most normal (\d+) M: \d+ \d+ (\d+) \d+$", answers)
+    return [instructions(command_of(folder, "symbol", WORDS[:int(count)], version, 1))
+            for version, count in most]
 
 
 def greatest_step(spent):
@@ -115,7 +146,7 @@ def squares(folder):
         square = looks.square_of(goqlanis.encode(data, "M", version))
         worst, _ = looks.damaged(square, version, "M", chance)
         for each, modules in ((name, square), (f"{name}-damaged", worst)):
-            found[each] = "".join("01"[it] for it in modules)
+            found[each] = b"".join(b"%d" % it for it in modules)
     return found
 
 

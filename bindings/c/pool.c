@@ -1,5 +1,6 @@
-/* The library's memory from a static pool, with no malloc: the three functions that it asks. Requests are served one behind the other; what is given back
-   last, and all when nothing is out, is free again. It is for one thread. The last request of the pool can be refused, for tests. */
+/* The library's memory from a static pool, with no malloc: the three functions that it asks.
+   Requests are served one behind the other; when nothing is out, all is free again. It is for one
+   thread. For tests some requests can be refused, from a number on. */
 #include <stdbool.h>
 #include <stddef.h>
 #include <string.h>
@@ -9,9 +10,13 @@ struct rattle_request {
     unsigned char *bytes; /* not null, even where it is not served */
 };
 
-static _Alignas(16) unsigned char pool[1024 * 1024];
+#ifndef POOL_BYTES
+#define POOL_BYTES (1024 * 1024)
+#endif
+
+static _Alignas(16) unsigned char pool[POOL_BYTES];
 static size_t used, live;
-size_t pool_requests, pool_refused = (size_t)-1, pool_most;
+size_t pool_requests, pool_refused = (size_t)-1, pool_refusals = 1, pool_most;
 
 static struct rattle_request answer(unsigned char *bytes)
 {
@@ -21,7 +26,8 @@ static struct rattle_request answer(unsigned char *bytes)
 struct rattle_request rattle_alloc(size_t size, size_t alignment)
 {
     size_t start = (used + alignment - 1) / alignment * alignment;
-    if (pool_requests++ == pool_refused || size > sizeof pool || start > sizeof pool - size)
+    size_t number = pool_requests++;
+    if (number - pool_refused < pool_refusals || size > sizeof pool || start > sizeof pool - size)
         return answer(NULL);
     used = start + size;
     pool_most = used > pool_most ? used : pool_most;

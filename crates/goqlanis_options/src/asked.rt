@@ -225,7 +225,7 @@ fn request_of<'a>(
     Ok(Request {
         manner: Manner::Text,
         choice,
-        level: level(given.get_str("level")),
+        level: level(alloc, given.get_str("level"))?,
         mask: given.get_one::<u8>("mask").map(usize::from),
         format,
         zone: given.get_one::<u8>("quiet-zone"),
@@ -310,14 +310,26 @@ fn pixels_along(millimetres: &str, dots: u16) -> Option<u16> {
     u16::try_from(hundredths.saturating_mul(dots as u64) / 2540).ok()
 }
 
-fn level(name: Option<&str>) -> EcLevel {
-    match name {
-        Some("L" | "l") => EcLevel::L,
-        Some("Q" | "q") => EcLevel::Q,
-        Some("H" | "h") => EcLevel::H,
-        _ => EcLevel::M,
+// The level of a name; M where none is named.
+fn level(alloc: Global, name: Option<&str>) -> Result<EcLevel, Failure> {
+    let found = match name {
+        Some(name) => LEVELS
+            .iter()
+            .find(|(known, _)| known.eq_ignore_ascii_case(name)),
+        None => return Ok(EcLevel::M),
+    };
+    match found {
+        Some((_, level)) => Ok(*level),
+        None => usage(alloc, "--level: there are L, M, Q and H"),
     }
 }
+
+static LEVELS: &[(&str, EcLevel)] = &[
+    ("L", EcLevel::L),
+    ("M", EcLevel::M),
+    ("Q", EcLevel::Q),
+    ("H", EcLevel::H),
+];
 
 // The version of a name: 1 to 40, or M1 to M4.
 fn version(name: &str) -> Option<Version> {
@@ -337,7 +349,10 @@ fn format(
     has_colours: bool,
 ) -> Result<Format, Failure> {
     if let Some(name) = name {
-        return Ok(format_named(name).unwrap_or(Format::HalfBlocks));
+        return match format_named(name) {
+            Some(format) => Ok(format),
+            None => usage(alloc, "--format: --help lists the formats"),
+        };
     }
     match target {
         Target::Terminal if has_colours => Ok(Format::Terminal),

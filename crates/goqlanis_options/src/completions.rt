@@ -3,12 +3,25 @@
 use crate::options::{DRAWING, Entry, Takes, Task, worded_tasks};
 use std::alloc::{AllocError, Global};
 
-// A shell.
+/// A shell.
 #[derive(Clone, Copy)]
-enum Shell {
+pub enum Shell {
     Bash,
     Zsh,
     Fish,
+}
+
+/// The shell of a name, in capitals or not.
+pub fn shell_named(name: &str) -> Option<Shell> {
+    if name.eq_ignore_ascii_case("bash") {
+        Some(Shell::Bash)
+    } else if name.eq_ignore_ascii_case("zsh") {
+        Some(Shell::Zsh)
+    } else if name.eq_ignore_ascii_case("fish") {
+        Some(Shell::Fish)
+    } else {
+        None
+    }
 }
 
 // What stands before the words that ask for tasks, and behind them.
@@ -47,12 +60,12 @@ complete -c goqlanis -n __fish_use_subcommand -a '",
     "'\n",
 );
 
-/// The completions of `bash`, `zsh` or `fish`, unless memory runs out.
-pub fn completions_of(alloc: Global, name: &str) -> Result<String, AllocError> {
-    let (shell, (start, middle), end) = match name {
-        "zsh" => (Shell::Zsh, ZSH, "esac\n"),
-        "fish" => (Shell::Fish, FISH, ""),
-        _ => (Shell::Bash, BASH, BASH_END),
+/// The completions of a shell, unless memory runs out.
+pub fn completions_of(alloc: Global, shell: Shell) -> Result<String, AllocError> {
+    let ((start, middle), end) = match shell {
+        Shell::Bash => (BASH, BASH_END),
+        Shell::Zsh => (ZSH, "esac\n"),
+        Shell::Fish => (FISH, ""),
     };
     let words = all_words(alloc)?;
     let mut text = format!(in alloc; "{start}{words}{middle}")?;

@@ -1,8 +1,8 @@
 -- What options give: the values of the formats, and their texts.
-use Rattle.std.specs.Prelude.{◌≡◌, ℕ, ◌||◌, Bool, List, [], ◌++◌, codes, Option, Some, None, unwrap_or, if◌then◌else◌}
+use Rattle.std.specs.Prelude.{◌≡◌, ℕ, List, [], ◌++◌, codes, Option, Some, None, unwrap_or, if◌then◌else◌}
 use Rattle.std.specs.Borrow.{Bor}
 use Rattle.std.specs.Option.{option_and_then, option_map}
-use Rattle.std.specs.Str.{bytes_eq}
+use Rattle.std.specs.Str.{bytes_eq, str_eq_ignore_ascii_case}
 use Rattle.std.specs.Str.Parse.{digits_value, without_leading_plus}
 use Rattle.qrcode_contents.specs.fields.Entries.{is_empty}
 use Rattle.qrcode_contents.specs.Bill.{Addressee, Invoice, bill_text}
@@ -45,20 +45,21 @@ given_for given name = first_value (found_of given) name
 abbrev pub text_for : ArgMatches → List ℕ → List ℕ  -- the same, or an empty text
 text_for given name = unwrap_or (given_for given name) []
 
-abbrev pub is_either : List ℕ → List ℕ → List ℕ → Bool  -- a word, in capitals or in small letters
-is_either word one other = bytes_eq word one || bytes_eq word other
+abbrev pub security_named : List ℕ → Option Security  -- how a network is secured, by its name in capitals or not
+security_named word =
+    if str_eq_ignore_ascii_case word (codes "open") then Some Open
+    else (if str_eq_ignore_ascii_case word (codes "WEP") then Some Wep
+    else (if str_eq_ignore_ascii_case word (codes "WPA") then Some Wpa
+    else (if str_eq_ignore_ascii_case word (codes "WPA3") then Some Wpa3 else None)))
 
--- how a network is secured: as a word says, and without one by WPA with a password and not at all without
-abbrev pub security_of : List ℕ → List ℕ → Security
-security_of word password =
-    if is_either word (codes "WEP") (codes "wep") then Wep
-    else (if is_either word (codes "WPA") (codes "wpa") then Wpa
-    else (if is_either word (codes "WPA3") (codes "wpa3") then Wpa3
-    else (if is_either word (codes "open") (codes "OPEN") || is_empty password then Open else Wpa)))
+-- the same where it need not be named: then it is WPA with a password, and open without
+abbrev pub security_for : Option (List ℕ) → List ℕ → Option Security
+security_for None password = Some (if is_empty password then Open else Wpa)
+security_for (Some word) password = security_named word
 
-abbrev pub network_in : ArgMatches → Network  -- a network
+abbrev pub network_in : ArgMatches → Network  -- a network; a word that names no security is refused
 network_in given = record {
-  security = security_of (text_for given (codes "security")) (text_for given (codes "password"));
+  security = unwrap_or (security_for (given_for given (codes "security")) (text_for given (codes "password"))) Open;
   ssid = text_for given (codes "ssid");
   password = text_for given (codes "password");
   hidden = bytes_eq (text_for given (codes "hidden")) (codes "true");
@@ -133,15 +134,21 @@ debtor_in given = record {
   country = text_for given (codes "debtor-country");
 }
 
-abbrev pub currency_of : List ℕ → Currency  -- euros where the word says so, and else Swiss francs
-currency_of word = if is_either word (codes "EUR") (codes "eur") then Euro else Franc
+abbrev pub currency_named : List ℕ → Option Currency  -- a currency, by its name in capitals or not
+currency_named word =
+    if str_eq_ignore_ascii_case word (codes "CHF") then Some Franc
+    else (if str_eq_ignore_ascii_case word (codes "EUR") then Some Euro else None)
 
-abbrev pub invoice_in : ArgMatches → Invoice  -- a bill
+abbrev pub currency_for : Option (List ℕ) → Option Currency  -- the same; Swiss francs where none is named
+currency_for None = Some Franc
+currency_for (Some word) = currency_named word
+
+abbrev pub invoice_in : ArgMatches → Invoice  -- a bill; a word that names no currency is refused
 invoice_in given = record {
   iban = text_for given (codes "iban");
   creditor = creditor_in given;
   cents = hundredths_of (given_for given (codes "amount"));
-  currency = currency_of (text_for given (codes "currency"));
+  currency = unwrap_or (currency_for (given_for given (codes "currency"))) Franc;
   debtor = debtor_in given;
   reference = text_for given (codes "reference");
   message = text_for given (codes "message");
@@ -164,13 +171,20 @@ abbrev pub sms_text : List ℕ → Option (List ℕ) → List ℕ
 sms_text number None = codes "sms:" ++ number
 sms_text number (Some body) = message_text number body
 
-abbrev pub algorithm_of : List ℕ → Algorithm  -- the hash of passwords: as a word says, and else SHA1
-algorithm_of word =
-    if is_either word (codes "SHA256") (codes "sha256") then Sha256
-    else (if is_either word (codes "SHA512") (codes "sha512") then Sha512 else Sha1)
+abbrev pub algorithm_named : List ℕ → Option Algorithm  -- the hash of passwords, by its name in capitals or not
+algorithm_named word =
+    if str_eq_ignore_ascii_case word (codes "SHA1") then Some Sha1
+    else (if str_eq_ignore_ascii_case word (codes "SHA256") then Some Sha256
+    else (if str_eq_ignore_ascii_case word (codes "SHA512") then Some Sha512 else None))
 
-abbrev pub digits_of : List ℕ → Digits  -- how many digits a password has
-digits_of word = if bytes_eq word (codes "8") then Eight else Six
+abbrev pub algorithm_for : Option (List ℕ) → Option Algorithm  -- the same; SHA1 where none is named
+algorithm_for None = Some Sha1
+algorithm_for (Some word) = algorithm_named word
+
+abbrev pub digits_for : Option (List ℕ) → Option Digits  -- how many digits a password has, six unless it is said
+digits_for None = Some Six
+digits_for (Some word) =
+    if bytes_eq word (codes "6") then Some Six else (if bytes_eq word (codes "8") then Some Eight else None)
 
 -- what passwords change with: a counter where one is given, and else the time, in so many seconds
 abbrev pub factor_of : Option (List ℕ) → List ℕ → Factor
@@ -184,8 +198,8 @@ key_in given = record {
   issuer = text_for given (codes "issuer");
   account = text_for given (codes "account");
   secret = text_for given (codes "secret");
-  algorithm = algorithm_of (text_for given (codes "algorithm"));
-  digits = digits_of (text_for given (codes "digits"));
+  algorithm = unwrap_or (algorithm_for (given_for given (codes "algorithm"))) Sha1;
+  digits = unwrap_or (digits_for (given_for given (codes "digits"))) Six;
 }
 
 -- an event lasts from one text to another, which both are days or both are moments

@@ -14,7 +14,7 @@ use goqlanis_files::streams::{Escaped, MOST_DATA, print, read_file, read_standar
 use goqlanis_options::advice::{advice, wrapped};
 use goqlanis_options::asked::{Asked, Source, asked_for};
 use goqlanis_options::command::{command_of, end_of_help};
-use goqlanis_options::completions::completions_of;
+use goqlanis_options::completions::{completions_of, shell_named};
 use goqlanis_options::manual::manual_page;
 use goqlanis_options::options::{Kind, Purpose, Task, task_of};
 use qrcode::QrCode;
@@ -109,7 +109,7 @@ fn draw_data(rt: &HostRuntime, given: &ArgMatches<'_>) -> Result<ExitCode, Failu
 
 // The text about the program that is asked for, where one is.
 fn text_about(alloc: Global, given: &ArgMatches<'_>) -> Result<Option<String>, AllocError> {
-    if let Some(shell) = given.get_str("completions") {
+    if let Some(shell) = given.get_str("completions").and_then(shell_named) {
         Ok(Some(completions_of(alloc, shell)?))
     } else if given.get_flag("manual") {
         Ok(Some(manual_page(alloc)?))

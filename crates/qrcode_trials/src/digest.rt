@@ -68,6 +68,14 @@ impl Digest {
         }
     }
 
+    /// The digest of a list with this checksum.
+    pub fn of_sum(length: usize, sum: u32) -> Digest {
+        Digest {
+            length,
+            sum: u64::from(sum) % PRIME,
+        }
+    }
+
     /// The digest of two digests.
     pub fn and(self, other: Digest) -> Digest {
         Digest {

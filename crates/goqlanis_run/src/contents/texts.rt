@@ -9,7 +9,7 @@ ghost use Rattle.qrcode_contents.specs.OneTime.{key_of};
 ghost use Rattle.qrcode_contents.specs.Payment.{payment_fields};
 ghost use Rattle.qrcode_contents.specs.Wifi.{wifi_fields};
 ghost use Rattle.goqlanis_options.specs.Numbers.{degrees_of};
-ghost use Rattle.goqlanis_run.specs.Fields.{option_text, text_for, is_either, security_of, network_in, person_in, contact_in, hundredths_of, transfer_in, creditor_in, debtor_in, currency_of, invoice_in, letter_in, IsPlaceIn, sms_text, algorithm_of, digits_of, factor_of, key_in, IsTextOf};
+ghost use Rattle.goqlanis_run.specs.Fields.{option_text, text_for, security_named, security_for, network_in, person_in, contact_in, hundredths_of, transfer_in, creditor_in, debtor_in, currency_named, currency_for, invoice_in, letter_in, IsPlaceIn, sms_text, algorithm_named, algorithm_for, digits_for, factor_of, key_in, IsTextOf};
 
 use super::events::event;
 use super::refusals::{refusal_of, wrong};
@@ -30,6 +30,9 @@ use qrcode_contents::phone::Phone;
 use qrcode_contents::wifi::{Security, Wifi};
 use std::alloc::Global;
 
+// What is said of a word that an option does not have.
+const NO_SUCH_WORD: &str = "--help lists the words that it takes";
+
 /// The text of a kind, of the options that are given. An option that is not given is an empty
 /// field.
 ///
@@ -38,7 +41,7 @@ pub(crate) fn text_of(alloc: Global, kind: Kind, given: &ArgMatches<'_>) -> Resu
     ensures { IfOk result (λ text. IsTextOf kind given.now (string_bytes text)) }
 {
     let answer = match kind {
-        Kind::Wifi => network(given).text(alloc),
+        Kind::Wifi => network(alloc, given)?.text(alloc),
         Kind::Mecard => contact(given).mecard(alloc),
         Kind::Vcard => card(given).text(alloc),
         Kind::Payment => payment(alloc, given)?.text(alloc),
@@ -67,41 +70,47 @@ fn sms(alloc: Global, phone: Phone<'_>, body: Option<&str>) -> ContentResult<Str
     }
 }
 
-// How a network is secured: as the word says, and without one by WPA with a password and not at all
-// without.
-fn security_of(word: &str, password: &str) -> Security
-    ensures { result ≡ security_of word.now password.now }
+// How a network is secured, by its name in capitals or not.
+fn security_named(word: &str) -> Option<Security>
+    ensures { result ≡ security_named word.now }
 {
-    if is_either(word, "WEP", "wep") {
-        Security::Wep
-    } else if is_either(word, "WPA", "wpa") {
-        Security::Wpa
-    } else if is_either(word, "WPA3", "wpa3") {
-        Security::Wpa3
-    } else if is_either(word, "open", "OPEN") || password.is_empty() {
-        Security::Open
+    if word.eq_ignore_ascii_case("open") {
+        Some(Security::Open)
+    } else if word.eq_ignore_ascii_case("WEP") {
+        Some(Security::Wep)
+    } else if word.eq_ignore_ascii_case("WPA") {
+        Some(Security::Wpa)
+    } else if word.eq_ignore_ascii_case("WPA3") {
+        Some(Security::Wpa3)
     } else {
-        Security::Wpa
+        None
     }
 }
 
-// Whether a word is one of two spellings.
-fn is_either(word: &str, one: &str, other: &str) -> bool
-    ensures { result ≡ is_either word.now one.now other.now }
+// The same where it need not be named: then it is WPA with a password, and open without.
+fn security_for(word: Option<&str>, password: &str) -> Option<Security>
+    ensures { result ≡ security_for (option_text word.entry) password.now }
 {
-    word == one || word == other
+    match word {
+        Some(word) => security_named(word),
+        None if password.is_empty() => Some(Security::Open),
+        None => Some(Security::Wpa),
+    }
 }
 
-fn network<'a>(given: &ArgMatches<'a>) -> Wifi<'a>
-    ensures { wifi_fields result ≡ network_in given.now }
+fn network<'a>(alloc: Global, given: &ArgMatches<'a>) -> Result<Wifi<'a>, Failure>
+    ensures { IfOk result (λ network. wifi_fields network ≡ network_in given.now) }
 {
     let password = text(given, "password");
-    Wifi {
-        security: security_of(text(given, "security"), password),
+    let Some(security) = security_for(given.get_str("security"), password) else {
+        return Err(wrong(alloc, "--security", NO_SUCH_WORD, ""));
+    };
+    Ok(Wifi {
+        security,
         ssid: text(given, "ssid"),
         password,
         hidden: text(given, "hidden") == "true",
-    }
+    })
 }
 
 fn contact<'a>(given: &ArgMatches<'a>) -> Contact<'a>
@@ -189,25 +198,40 @@ fn debtor<'a>(given: &ArgMatches<'a>) -> Party<'a>
     }
 }
 
-// The currency that a word says, francs without one.
-fn currency_of(word: &str) -> Currency
-    ensures { result ≡ currency_of word.now }
+// A currency, by its name in capitals or not.
+fn currency_named(word: &str) -> Option<Currency>
+    ensures { result ≡ currency_named word.now }
+{
+    if word.eq_ignore_ascii_case("CHF") {
+        Some(Currency::Franc)
+    } else if word.eq_ignore_ascii_case("EUR") {
+        Some(Currency::Euro)
+    } else {
+        None
+    }
+}
+
+// The same; Swiss francs where none is named.
+fn currency_for(word: Option<&str>) -> Option<Currency>
+    ensures { result ≡ currency_for (option_text word.entry) }
 {
     match word {
-        "EUR" | "eur" => Currency::Euro,
-        _ => Currency::Franc,
+        Some(word) => currency_named(word),
+        None => Some(Currency::Franc),
     }
 }
 
 fn bill<'a>(alloc: Global, given: &ArgMatches<'a>) -> Result<Bill<'a>, Failure>
-    ensures { IfOk result (λ bill. invoice_of bill
-        ≡ invoice_in given.now) }
+    ensures { IfOk result (λ bill. invoice_of bill ≡ invoice_in given.now) }
 {
+    let Some(currency) = currency_for(given.get_str("currency")) else {
+        return Err(wrong(alloc, "--currency", NO_SUCH_WORD, ""));
+    };
     Ok(Bill {
         iban: text(given, "iban"),
         creditor: creditor(given),
         cents: cents(alloc, given.get_str("amount"))?,
-        currency: currency_of(text(given, "currency")),
+        currency,
         debtor: debtor(given),
         reference: text(given, "reference"),
         message: text(given, "message"),
@@ -257,38 +281,59 @@ fn factor_of(alloc: Global, counter: Option<&str>, period: &str) -> Result<Facto
     }
 }
 
-// The hash that a word says, SHA1 without one.
-fn algorithm_of(word: &str) -> Algorithm
-    ensures { result ≡ algorithm_of word.now }
+// The hash of passwords, by its name in capitals or not.
+fn algorithm_named(word: &str) -> Option<Algorithm>
+    ensures { result ≡ algorithm_named word.now }
 {
-    match word {
-        "SHA256" | "sha256" => Algorithm::Sha256,
-        "SHA512" | "sha512" => Algorithm::Sha512,
-        _ => Algorithm::Sha1,
+    if word.eq_ignore_ascii_case("SHA1") {
+        Some(Algorithm::Sha1)
+    } else if word.eq_ignore_ascii_case("SHA256") {
+        Some(Algorithm::Sha256)
+    } else if word.eq_ignore_ascii_case("SHA512") {
+        Some(Algorithm::Sha512)
+    } else {
+        None
     }
 }
 
-// How many digits a password has, six unless eight are said.
-fn digits_of(word: &str) -> Digits
-    ensures { result ≡ digits_of word.now }
+// The same; SHA1 where none is named.
+fn algorithm_for(word: Option<&str>) -> Option<Algorithm>
+    ensures { result ≡ algorithm_for (option_text word.entry) }
 {
     match word {
-        "8" => Digits::Eight,
-        _ => Digits::Six,
+        Some(word) => algorithm_named(word),
+        None => Some(Algorithm::Sha1),
+    }
+}
+
+// How many digits a password has, six unless it is said.
+fn digits_for(word: Option<&str>) -> Option<Digits>
+    ensures { result ≡ digits_for (option_text word.entry) }
+{
+    match word {
+        None | Some("6") => Some(Digits::Six),
+        Some("8") => Some(Digits::Eight),
+        Some(_) => None,
     }
 }
 
 fn passwords<'a>(alloc: Global, given: &ArgMatches<'a>) -> Result<OneTime<'a>, Failure>
     ensures { IfOk result (λ passwords. key_of passwords ≡ key_in given.now) }
 {
+    let Some(algorithm) = algorithm_for(given.get_str("algorithm")) else {
+        return Err(wrong(alloc, "--algorithm", NO_SUCH_WORD, ""));
+    };
+    let Some(digits) = digits_for(given.get_str("digits")) else {
+        return Err(wrong(alloc, "--digits", NO_SUCH_WORD, ""));
+    };
     let period = given.get_str("period").unwrap_or("30");
     Ok(OneTime {
         factor: factor_of(alloc, given.get_str("counter"), period)?,
         issuer: text(given, "issuer"),
         account: text(given, "account"),
         secret: text(given, "secret"),
-        algorithm: algorithm_of(text(given, "algorithm")),
-        digits: digits_of(text(given, "digits")),
+        algorithm,
+        digits,
     })
 }
 

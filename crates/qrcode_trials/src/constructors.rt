@@ -1,0 +1,84 @@
+//! Constructors of symbols that stand on those which the library for C calls, and parts that are
+//! joined.
+
+use crate::digest::Digest;
+use crate::words::Asked;
+use qrcode::QrCode;
+use qrcode::types::{QrError, QrResult};
+use qrcode_append::errors::JoinError;
+use qrcode_append::{Part, encode_several, encode_text_several, join};
+use qrcode_gs1::elements::Element;
+use qrcode_gs1::errors::Gs1Error;
+use qrcode_gs1::symbol::errors::SymbolError;
+use qrcode_gs1::symbol::{for_application, gs1};
+use std::alloc::Global;
+
+/// The digest of one symbol, or of several.
+pub fn run(alloc: Global, asked: &Asked<'_>) -> QrResult<Digest> {
+    let (version, level) = (asked.version(), asked.level());
+    match asked.kind {
+        "several" => Ok(of_codes(&encode_several(alloc, asked.data(), version, level)?)),
+        "text-several" => {
+            Ok(of_codes(&encode_text_several(alloc, asked.text(), version, level)?))
+        }
+        "join" => joined(alloc, asked.data(), (asked.number(1) % 256) as u8),
+        _ => Ok(Digest::of(constructed(alloc, asked)?.colors())),
+    }
+}
+
+// A symbol.
+fn constructed(alloc: Global, asked: &Asked<'_>) -> QrResult<QrCode> {
+    let (data, text) = (asked.data(), asked.text());
+    let (version, level) = (asked.version(), asked.level());
+    match asked.kind {
+        "text" => QrCode::of_text(alloc, text, level),
+        "marked-text" => QrCode::of_marked_text(alloc, text, level),
+        "text-in" => QrCode::of_text_in(alloc, text, version, level),
+        "marked-text-in" => QrCode::of_marked_text_in(alloc, text, version, level),
+        "in" => QrCode::with_version(alloc, data, version, level),
+        "application" => for_application(alloc, 37, data, level),
+        "gs1" => of_elements(alloc, asked),
+        _ => QrCode::new(alloc, data),
+    }
+}
+
+// The symbol of two elements with this value.
+fn of_elements(alloc: Global, asked: &Asked<'_>) -> QrResult<QrCode> {
+    let element = Element {
+        identifier: "91",
+        value: asked.text(),
+    };
+    match gs1(alloc, &[element, element], asked.level()) {
+        Ok(code) => Ok(code),
+        Err(SymbolError::Symbol(error)) => Err(error),
+        Err(SymbolError::Elements(Gs1Error::OutOfMemory)) => Err(QrError::OutOfMemory),
+        Err(_) => Err(QrError::InvalidCharacter),
+    }
+}
+
+// The digest of symbols.
+fn of_codes(codes: &[QrCode]) -> Digest {
+    let mut digest = Digest::of::<u8>(&[]);
+    for code in codes {
+        digest = digest.and(Digest::of(code.colors()));
+    }
+    digest
+}
+
+// So many parts joined, an even number or of no bytes, each with this data.
+fn joined(alloc: Global, data: &[u8], count: u8) -> QrResult<Digest> {
+    let mut parts = Vec::new(alloc);
+    for place in 0..count {
+        parts.push(Part {
+            place,
+            last: count.saturating_sub(1),
+            parity: 0,
+            bytes: data,
+        })?;
+    }
+    match join(alloc, &parts) {
+        Ok(bytes) => Ok(Digest::of(&bytes)),
+        Err(JoinError::OutOfMemory) => Err(QrError::OutOfMemory),
+        Err(_) => Err(QrError::InvalidCharacter),
+    }
+}

@@ -1,0 +1,123 @@
+//! Pictures of each kind.
+
+use crate::digest::Digest;
+use crate::symbols::of_digits;
+use crate::word::Word;
+use crate::words::{Asked, number};
+use qrcode::render::image::{ImageBuffer, Luma, LumaA, Rgb, Rgba};
+use qrcode::render::string::Str;
+use qrcode::render::unicode::Dense1x2;
+use qrcode::render::{Canvas, Pixel, Renderer, eps, fill_rect, pbm, pgm, pic, svg};
+use qrcode::types::{Color, QrError, QrResult, Version};
+use qrcode_examples::label::Dot;
+use std::alloc::Global;
+
+/// The digest of a picture.
+pub fn run(alloc: Global, asked: &Asked<'_>) -> QrResult<Digest> {
+    match asked.kind {
+        "Luma" => pixels::<Luma>(alloc, asked),
+        "LumaA" => pixels::<LumaA>(alloc, asked),
+        "Rgb" => pixels::<Rgb>(alloc, asked),
+        "Rgba" => pixels::<Rgba>(alloc, asked),
+        "Dot" => bars(alloc, asked),
+        "to-image" => image(alloc, asked),
+        "pbm" => file::<pbm::Bit>(alloc, asked),
+        "pgm" => file::<pgm::Grey>(alloc, asked),
+        "png" => file::<qrcode_png::Color>(alloc, asked),
+        _ => text_of(alloc, asked),
+    }
+}
+
+// The digest of a picture that is a text.
+fn text_of(alloc: Global, asked: &Asked<'_>) -> QrResult<Digest> {
+    match asked.kind {
+        "char" => text::<char>(alloc, asked),
+        "Str" => text::<Str<'_>>(alloc, asked),
+        "Word" => text::<Word>(alloc, asked),
+        "Dense1x2" => text::<Dense1x2>(alloc, asked),
+        "svg" => text::<svg::Color<'_>>(alloc, asked),
+        "svg-path" => text::<svg::Path<'_>>(alloc, asked),
+        "svg-path-element" => text::<svg::PathElement<'_>>(alloc, asked),
+        "pic" => text::<pic::Color>(alloc, asked),
+        _ => text::<eps::Color>(alloc, asked),
+    }
+}
+
+// A picture that is a text.
+fn text<P: Pixel<Image = String>>(alloc: Global, asked: &Asked<'_>) -> QrResult<Digest> {
+    Ok(Digest::of(picture::<P>(alloc, asked)?.as_bytes()))
+}
+
+// A picture that is a file.
+fn file<P: Pixel<Image = Vec<u8>>>(alloc: Global, asked: &Asked<'_>) -> QrResult<Digest> {
+    Ok(Digest::of(&picture::<P>(alloc, asked)?))
+}
+
+// A picture that is bytes of pixels.
+fn pixels<P: Pixel<Image = ImageBuffer<P>>>(alloc: Global, asked: &Asked<'_>) -> QrResult<Digest> {
+    Ok(Digest::of(&picture::<P>(alloc, asked)?.into_raw()))
+}
+
+// A picture that is bars.
+fn bars(alloc: Global, asked: &Asked<'_>) -> QrResult<Digest> {
+    let mut digest = Digest::of::<u8>(&[]);
+    for bar in &picture::<Dot>(alloc, asked)? {
+        digest = digest.and(Digest::of(&[bar.left, bar.top, bar.width, bar.height]));
+    }
+    Ok(digest)
+}
+
+// A picture: of no module, of a wide symbol, of each call of the canvas, or of the symbol of digits
+// of a version.
+fn picture<P: Pixel>(alloc: Global, asked: &Asked<'_>) -> QrResult<P::Image> {
+    match asked.version {
+        "none" => built(alloc, &Renderer::<P>::new(&[], 0, 0)),
+        "wide" => wide::<P>(alloc, number(asked.level)),
+        "calls" => drawn::<P>(alloc),
+        _ => built(alloc, &of_digits(alloc, asked.version())?.render::<P>()),
+    }
+}
+
+// The picture of a renderer, where it fits.
+fn built<P: Pixel>(alloc: Global, renderer: &Renderer<P>) -> QrResult<P::Image> {
+    if !renderer.fits() {
+        return Err(QrError::DataTooLong);
+    }
+    renderer.build(alloc)
+}
+
+// The picture of a symbol of Normal 40 and five modules around, with so many pixels a module.
+fn wide<P: Pixel>(alloc: Global, size: u32) -> QrResult<P::Image> {
+    let colors = of_digits(alloc, Version::Normal(40))?.into_colors();
+    if colors.len() != 177 * 177 {
+        return Err(QrError::InvalidVersion);
+    }
+    let mut renderer = Renderer::<P>::new(&colors, 177, 5);
+    renderer.module_size(size);
+    built(alloc, &renderer)
+}
+
+// The picture of a symbol in grey pixels, by another call.
+fn image(alloc: Global, asked: &Asked<'_>) -> QrResult<Digest> {
+    let code = of_digits(alloc, asked.version())?;
+    let renderer = code.render::<Luma>();
+    if !renderer.fits() {
+        return Err(QrError::DataTooLong);
+    }
+    Ok(Digest::of(&renderer.to_image(alloc)?.into_raw()))
+}
+
+// A row of modules.
+static LINE: [Color; 4] = [Color::Dark, Color::Light, Color::Dark, Color::Dark];
+
+// What each call of a canvas of nine by nine pixels draws.
+fn drawn<P: Pixel>(alloc: Global) -> QrResult<P::Image> {
+    let dark = P::default_color(Color::Dark);
+    let light = P::default_color(Color::Light);
+    let mut canvas = P::Canvas::new(alloc, 9, 9, dark, light)?;
+    canvas.draw_dark_pixel(0, 0)?;
+    canvas.draw_dark_rect(1, 1, 3, 2)?;
+    canvas.draw_dark_modules(&LINE, 1, 4, 2, 2)?;
+    fill_rect(&mut canvas, 6, 6, 2, 3)?;
+    canvas.into_image()
+}

@@ -1,0 +1,57 @@
+//! Readings of squares that no call for C makes by itself.
+
+use crate::digest::Digest;
+use crate::words::Asked;
+use qrcode::QrCode;
+use qrcode::types::{Color, EcLevel, QrError, QrResult};
+use qrcode_reader::spell::{Unspelled, pieces};
+use qrcode_reader::{BitReading, Unread, read_any_parts, read_bits};
+use std::alloc::Global;
+
+/// Reads the symbol of data of a version at level L, its last module turned over.
+pub fn run(alloc: Global, asked: &Asked<'_>) -> QrResult<Digest> {
+    let code = QrCode::with_version(alloc, asked.data(), asked.version(), EcLevel::L)?;
+    let mut colors = code.into_colors();
+    if let Some(last) = colors.last_mut() {
+        *last = !*last;
+    }
+    match asked.kind {
+        "bits" => {
+            let read = bits_of(alloc, &colors)?;
+            Ok(Digest::of(&read.bits).and(Digest::of_one(read.wrong.len(), true)))
+        }
+        "pieces" => of_pieces(alloc, &bits_of(alloc, &colors)?),
+        _ => of_parts(alloc, &colors),
+    }
+}
+
+// What is read as headers and segments, in any position.
+fn of_parts(alloc: Global, colors: &[Color]) -> QrResult<Digest> {
+    let read = read_any_parts(alloc, colors).map_err(refusal)?.reading;
+    Ok(Digest::of(&read.parts.bytes).and(Digest::of_one(read.wrong.len(), true)))
+}
+
+// What is read as bits.
+fn bits_of(alloc: Global, colors: &[Color]) -> QrResult<BitReading> {
+    read_bits(alloc, colors).map_err(refusal)
+}
+
+// The headers and segments of bits.
+fn of_pieces(alloc: Global, read: &BitReading) -> QrResult<Digest> {
+    if !read.version.is_valid() {
+        return Err(QrError::InvalidVersion);
+    }
+    match pieces(alloc, &read.bits, read.version) {
+        Ok(found) => Ok(Digest::of(&found.bytes)),
+        Err(Unspelled::OutOfMemory) => Err(QrError::OutOfMemory),
+        Err(_) => Err(QrError::InvalidCharacter),
+    }
+}
+
+// The refusal in the words of symbols.
+fn refusal(unread: Unread) -> QrError {
+    match unread {
+        Unread::OutOfMemory => QrError::OutOfMemory,
+        _ => QrError::InvalidCharacter,
+    }
+}

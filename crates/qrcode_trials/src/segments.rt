@@ -1,0 +1,45 @@
+//! Data in segments.
+
+ghost use Rattle.std.specs.Iterator.{IsFinite};
+
+use crate::digest::Digest;
+use crate::words::Asked;
+use qrcode::bits::DATA_LIMIT;
+use qrcode::optimize::{Modes, Parser, Segment, least_segments, least_segments_in};
+use qrcode::types::{QrError, QrResult};
+use std::alloc::Global;
+
+/// Segments of data in a version.
+pub fn run(alloc: Global, asked: &Asked<'_>) -> QrResult<Digest> {
+    let (data, version) = (asked.data(), asked.version());
+    if !version.is_valid() {
+        return Err(QrError::InvalidVersion);
+    }
+    if data.len() > DATA_LIMIT {
+        return Err(QrError::DataTooLong);
+    }
+    match asked.kind {
+        "least" => Ok(of_segments(least_segments(alloc, data, version)?.into_iter())),
+        "least-text" => {
+            Ok(of_segments(least_segments_in(alloc, data, version, Modes::TEXT)?.into_iter()))
+        }
+        _ => Ok(of_segments(Parser::new(data).optimize(version))),
+    }
+}
+
+// The digest of segments: of each a number for the mode, and its ends.
+fn of_segments<I: Iterator<Item = Segment> + Drop>(segments: I) -> Digest
+    requires can { I.can_next segments }
+    requires finite { IsFinite (I.remaining segments) }
+{
+    let mut digest = Digest::of::<u8>(&[]);
+    for segment in segments {
+        let mode = segment.mode.data_bits_count(100) % 256;
+        digest = digest.and(Digest::of(&[
+            mode as u32,
+            (segment.begin % 4_294_967_296) as u32,
+            (segment.end % 4_294_967_296) as u32,
+        ]));
+    }
+    digest
+}

@@ -1,0 +1,60 @@
+//! Calls of a symbol.
+
+use crate::digest::Digest;
+use crate::words::Asked;
+use qrcode::QrCode;
+use qrcode::canvas::MaskPattern;
+use qrcode::types::{Color, EcLevel, QrError, QrResult, Version};
+use std::alloc::Global;
+
+/// The symbol of a digit of a version at level L, and of eight where it has room.
+pub fn of_digits(alloc: Global, version: Version) -> QrResult<QrCode> {
+    let digits = match version {
+        Version::Micro(1) => b"1".as_slice(),
+        _ => b"01234567".as_slice(),
+    };
+    QrCode::with_version(alloc, digits, version, EcLevel::L)
+}
+
+/// Makes a call of the symbol of digits of a version.
+pub fn run(alloc: Global, asked: &Asked<'_>) -> QrResult<Digest> {
+    let version = asked.version();
+    let code = of_digits(alloc, version)?;
+    match asked.kind {
+        "to-vec" => Ok(Digest::of(&code.to_vec(alloc)?)),
+        "into-vec" => Ok(Digest::of(&code.into_vec(alloc)?)),
+        "to-colors" => Ok(Digest::of(&code.to_colors(alloc)?)),
+        "into-colors" => Ok(Digest::of(&code.into_colors())),
+        "to-debug-str" => Ok(Digest::of(code.to_debug_str(alloc, '#', '.')?.as_bytes())),
+        "clone" => Ok(Digest::of(code.colors()).and(Digest::of(code.clone()?.colors()))),
+        "under-mask" => under_mask(alloc, &code),
+        _ => asked_of(&code, version),
+    }
+}
+
+// The digest of a symbol's modules under a mask that all versions have.
+fn under_mask(alloc: Global, code: &QrCode) -> QrResult<Digest> {
+    let mask = MaskPattern::Diamonds;
+    if !mask.exists_in(code.version()) {
+        return Err(QrError::InvalidVersion);
+    }
+    Ok(Digest::of(&code.under_mask(alloc, mask)?))
+}
+
+// What takes no memory.
+fn asked_of(code: &QrCode, version: Version) -> QrResult<Digest> {
+    let Some(last) = code.width().checked_sub(1) else {
+        return Err(QrError::InvalidVersion);
+    };
+    let is_level_l = code.error_correction_level() == EcLevel::L;
+    let is_of_version = code.version() == version;
+    Ok(Digest::of(&[
+        is_level_l,
+        is_of_version,
+        last == 12,
+        code.max_allowed_errors() == 1,
+        code.mask().micro_number() == 1,
+        code.is_functional(0, last),
+        code[(last, last)] == Color::Dark,
+    ]))
+}
