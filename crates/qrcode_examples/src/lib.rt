@@ -2,7 +2,6 @@
 #![tactic(auto)]
 
 pub mod charset;
-pub mod contents;
 pub mod drawings;
 pub mod label;
 pub mod payments;

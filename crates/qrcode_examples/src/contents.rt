@@ -1,3 +1,0 @@
-//! Values of contents, which the scenarios of refused memory take.
-
-pub mod examples;
