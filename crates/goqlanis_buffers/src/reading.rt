@@ -184,12 +184,16 @@ struct Format {
 }
 
 // The format word of a square of modules.
+#[tactic(auto, using(crate::proofs::Known::no_side))]
 fn format_of(alloc: Global, modules: &[u8]) -> Result<Format, Refusal>
     ensures square { IfOk result (λ f.
         length (colors_of modules.now) ≡ side f.version * side f.version) }
     ensures named { IfOk result (λ f. HasFormat f.version (colors_of modules.now) f.level f.mask) }
     ensures causes { IfErr result (IsMaskCause modules.now) }
 {
+    if version_of(modules.len()).is_none() {
+        return Err(Refusal::NoSuchSide);
+    }
     let Ok(colors) = colors_of(alloc, modules) else {
         return Err(Refusal::OutOfMemory);
     };
@@ -219,6 +223,7 @@ fn format_in(version: Version, colors: &[Color]) -> Result<Format, Refusal>
 }
 
 // What is read of a square in any position.
+#[tactic(auto, using(crate::proofs::Known::nowhere))]
 fn read_any_square(alloc: Global, modules: &[u8]) -> Result<FoundAnywhere, Refusal>
     ensures reading { IfOk result (λ any. IsReadAnywhere (colors_of modules.now) any.position
         any.is_inverted any.reading.version any.reading.ec_level any.reading.mask
@@ -227,6 +232,9 @@ fn read_any_square(alloc: Global, modules: &[u8]) -> Result<FoundAnywhere, Refus
         IsTrue (has_level any.reading.version any.reading.ec_level)) }
     ensures causes { (room : ℕ) → IfErr result (IsAnyReadingCause modules.now room) }
 {
+    if version_of(modules.len()).is_none() {
+        return Err(Refusal::NotRead);
+    }
     let Ok(colors) = colors_of(alloc, modules) else {
         return Err(Refusal::OutOfMemory);
     };
@@ -255,7 +263,7 @@ fn first_reading(alloc: Global, colors: &[Color]) -> Result<Option<FoundAnywhere
 }
 
 // The text that readers show of a square.
-#[tactic(auto, using(crate::proofs::Known::shown_existing, crate::proofs::Known::only_shown))]
+#[tactic(auto, using(crate::proofs::Known::shown_existing, crate::proofs::Known::only_shown, crate::proofs::Known::no_side))]
 fn read_shown(alloc: Global, modules: &[u8]) -> Result<TextReading, Refusal>
     ensures reading { IfOk result (λ read. IsTextReading (colors_of modules.now) read.version
         read.ec_level read.mask (chars (string_bytes read.text)) read.wrong.items) }
@@ -264,6 +272,9 @@ fn read_shown(alloc: Global, modules: &[u8]) -> Result<TextReading, Refusal>
     ensures exists { IfOk result (λ read. IsTrue (has_level read.version read.ec_level)) }
     ensures causes { (room : ℕ) → IfErr result (IsTextReadingCause modules.now room) }
 {
+    if version_of(modules.len()).is_none() {
+        return Err(Refusal::NoSuchSide);
+    }
     let Ok(colors) = colors_of(alloc, modules) else {
         return Err(Refusal::OutOfMemory);
     };
