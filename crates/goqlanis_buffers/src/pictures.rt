@@ -65,7 +65,7 @@ pub struct Asked<'a> {
     pub modules: &'a [u8],
     /// The modules along a side.
     pub width: u32,
-    pub drawing: Drawing,
+    pub drawing: &'a Drawing,
 }
 
 /// Writes a picture at the beginning of a buffer, and answers its length.
@@ -73,7 +73,7 @@ pub struct Asked<'a> {
 /// An error is `NoSuchStruct`, `NoSuchFormat`, `NotSquare`, `NoSuchSize`, `NotInFormat`,
 /// `SmallBuffer` or `OutOfMemory`; then the buffer is as it was.
 pub fn put_picture(alloc: Global, asked: &Asked<'_>, out: &mut [u8]) -> Result<usize, Refusal>
-    ensures { WritesPicture asked.now.modules.now asked.now.width asked.now.drawing
+    ensures { WritesPicture asked.now.modules.now asked.now.width asked.now.drawing.now
         out.old out.new result }
 {
     let bytes = match picture_of(alloc, asked) {
@@ -92,7 +92,7 @@ pub fn put_picture(alloc: Global, asked: &Asked<'_>, out: &mut [u8]) -> Result<u
 /// An error is `NoSuchStruct`, `NoSuchFormat`, `NotSquare`, `NoSuchSize`, `NotInFormat` or
 /// `OutOfMemory`.
 pub fn length_of(alloc: Global, asked: &Asked<'_>) -> Result<usize, Refusal>
-    ensures { TellsLength asked.now.modules.now asked.now.width asked.now.drawing result }
+    ensures { TellsLength asked.now.modules.now asked.now.width asked.now.drawing.now result }
 {
     match picture_of(alloc, asked) {
         Ok(bytes) => Ok(bytes.len()),
@@ -118,12 +118,12 @@ fn picture_of(alloc: Global, asked: &Asked<'_>) -> Result<Vec<u8>, Refusal>
 // The format of a number, where modules are a square and the picture is within the limits.
 fn format_of(asked: &Asked<'_>) -> Result<Format, Refusal>
     ensures format { IfOk result (λ format.
-        format_numbered asked.now.drawing.format ≡ Some format) }
-    ensures sayable { IfOk result (λ format. IsTrue (is_sayable format asked.now.drawing)) }
+        format_numbered asked.now.drawing.now.format ≡ Some format) }
+    ensures sayable { IfOk result (λ format. IsTrue (is_sayable format asked.now.drawing.now)) }
     ensures limits { OnOk result (IsWithinLimits asked.now) }
     ensures causes { (room : ℕ) → IfErr result (IsCauseFor asked.now room) }
 {
-    let drawing = &asked.drawing;
+    let drawing = asked.drawing;
     if drawing.size != SIZE {
         return Err(Refusal::NoSuchStruct);
     }
@@ -163,9 +163,9 @@ fn is_sayable(format: Format, drawing: &Drawing) -> bool
 // A picture in a format. Refuses with `OutOfMemory` alone.
 fn drawn(alloc: Global, asked: &Asked<'_>, format: Format) -> QrResult<Vec<u8>>
     requires limits { IsWithinLimits asked.now }
-    requires sayable { IsTrue (is_sayable format asked.now.drawing) }
+    requires sayable { IsTrue (is_sayable format asked.now.drawing.now) }
     ensures drawing { IfOk result (λ bytes. IsDrawn format asked.now.modules.now asked.now.width
-        asked.now.drawing bytes.items) }
+        asked.now.drawing.now bytes.items) }
     ensures memory { IsOkUnless result OutOfMemory }
 {
     let colors = colors_of(alloc, asked.modules)?;
@@ -183,15 +183,15 @@ fn draw_named<'a>(
     names: (&'a str, &'a str),
 ) -> QrResult<Vec<u8>>
     requires limits { IsWithinLimits asked.now }
-    requires sayable { IsTrue (is_sayable format asked.now.drawing) }
+    requires sayable { IsTrue (is_sayable format asked.now.drawing.now) }
     requires modules { modules.now ≡ colors_of asked.now.modules.now }
-    requires dark { names.0.now ≡ colour_name asked.now.drawing.dark }
-    requires light { names.1.now ≡ colour_name asked.now.drawing.light }
+    requires dark { names.0.now ≡ colour_name asked.now.drawing.now.dark }
+    requires light { names.1.now ≡ colour_name asked.now.drawing.now.light }
     ensures drawing { IfOk result (λ bytes. IsDrawn format asked.now.modules.now asked.now.width
-        asked.now.drawing bytes.items) }
+        asked.now.drawing.now bytes.items) }
     ensures memory { IsOkUnless result OutOfMemory }
 {
-    let drawing = &asked.drawing;
+    let drawing = asked.drawing;
     let dark = ink_of(names.0, drawing.dark);
     let light = ink_of(names.1, drawing.light);
     let picture = Picture {

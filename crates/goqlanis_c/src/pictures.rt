@@ -74,7 +74,6 @@ pub extern "C" fn goq_draw_with(
     ensures { IsReported (WritesPicture modules.now width drawing.now out.old out.new)
         result count.old count.new }
 {
-    let drawing = *drawing;
     let asked = Asked {
         modules,
         width,
@@ -96,7 +95,6 @@ pub extern "C" fn goq_draw_with_length(
 ) -> u32
     ensures { IsReported (TellsLength modules.now width drawing.now) result count.old count.new }
 {
-    let drawing = *drawing;
     let asked = Asked {
         modules,
         width,
