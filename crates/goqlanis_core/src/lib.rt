@@ -24,7 +24,8 @@ pub use elements::symbol_of_elements;
 pub use formats::Format;
 pub use picture::Ink;
 pub use refusal::{
-    Grouped, application_refusal_text, elements_refusal_text, refusal_text, segments_refusal_text,
+    Grouped, VersionName, application_refusal_text, elements_refusal_text, refusal_text,
+    segments_refusal_text,
 };
 pub use request::{Choice, Request, manner_of};
 pub use scanning::{Scan, Unread, read_picture};

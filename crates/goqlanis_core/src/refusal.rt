@@ -31,7 +31,7 @@ pub fn refusal_text(
         }
         (QrError::InvalidVersion, _) => String::from_str(
             alloc,
-            "Micro QR has masks 0 to 3; take one of these, or a version of 1 to 40",
+            "Micro QR has masks 0 to 3; use one of these, or a version of 1 to 40",
         ),
         (QrError::OutOfMemory, _) => Err(AllocError),
         (error, _) => format!(in alloc; "{error}"),
@@ -65,16 +65,14 @@ fn no_segment_text(
     version: Version,
     segments: &[Segment<'_>],
 ) -> Result<String, AllocError> {
-    let name = Name(version);
+    let name = VersionName(version);
     if segments
         .iter()
         .any(|segment| matches!(segment, Segment::CharacterSet(_)))
     {
-        return format!(in alloc;
-            "version {name} cannot say which character set it holds; take 1 to 40"
-        );
+        return format!(in alloc; "version {name} has no ECI; use a version of 1 to 40");
     }
-    format!(in alloc; "version {name} has not all modes of the segments; M3, M4 and 1 to 40 have")
+    format!(in alloc; "version {name} lacks a mode of the segments; M3, M4 and 1 to 40 have all")
 }
 
 /// The text of a refusal of elements of GS1 that no version that may be taken holds.
@@ -115,8 +113,10 @@ fn marked_refusal_text(
 ) -> Result<String, AllocError> {
     match request.choice {
         Choice::At(version) if version.is_micro() => {
-            let name = Name(version);
-            format!(in alloc; "version {name} has no FNC1, as all of Micro QR; take 1 to 40")
+            let name = VersionName(version);
+            format!(in alloc;
+                "version {name} has no FNC1, like all of Micro QR; use a version of 1 to 40"
+            )
         }
         _ => room_refusal_text(alloc, request, what, least),
     }
@@ -134,10 +134,10 @@ fn room_refusal_text(
     let Choice::At(version) = request.choice else {
         return format!(in alloc; "no version holds the {what} at level {level:?}");
     };
-    let name = Name(version);
+    let name = VersionName(version);
     let mut text = format!(in alloc; "version {name} at level {level:?} does not hold the {what}")?;
     if let Some(least) = least.filter(|least| *least != version) {
-        let name = Name(least);
+        let name = VersionName(least);
         write!(text, "; version {name} does")?;
     }
     Ok(text)
@@ -149,7 +149,7 @@ fn too_long_text(alloc: Global, request: &Request<'_>, bytes: &[u8]) -> Result<S
     let mut text = format!(in alloc; "{count} bytes at ")?;
     let version = match request.choice {
         Choice::At(version) => {
-            let name = Name(version);
+            let name = VersionName(version);
             write!(text, "version {name} and ")?;
             version
         }
@@ -161,7 +161,7 @@ fn too_long_text(alloc: Global, request: &Request<'_>, bytes: &[u8]) -> Result<S
             let most = Grouped(most);
             write!(
                 text,
-                "level {level:?}: at most {most} unless digits or capitals"
+                "level {level:?}: at most {most} fit, more of digits or capitals"
             )?;
         }
     }
@@ -174,7 +174,7 @@ fn push_help(text: &mut String, request: &Request<'_>, bytes: &[u8]) -> Result<(
     let (alloc, manner) = (*text.allocator(), request.manner);
     let from = Choice::From(first_of(request.choice));
     if let Some(version) = version_of(symbol_in(alloc, from, manner, request.level, bytes)) {
-        let name = Name(version);
+        let name = VersionName(version);
         return write!(text, "; version {name} holds them");
     }
     for level in [EcLevel::Q, EcLevel::M, EcLevel::L] {
@@ -183,14 +183,14 @@ fn push_help(text: &mut String, request: &Request<'_>, bytes: &[u8]) -> Result<(
             return write!(text, "; level {level:?} holds them");
         }
     }
-    text.push_str("; goqlanis several parts data between symbols")
+    text.push_str("; goqlanis split splits them over several codes")
 }
 
 // The version that is asked for lacks the level.
 fn no_level_text(alloc: Global, version: Version, level: EcLevel) -> Result<String, AllocError> {
-    let name = Name(version);
+    let name = VersionName(version);
     let levels = match version {
-        Version::Micro(1) => "L alone",
+        Version::Micro(1) => "only L",
         Version::Micro(4) => "L, M and Q",
         _ => "L and M",
     };
@@ -199,17 +199,17 @@ fn no_level_text(alloc: Global, version: Version, level: EcLevel) -> Result<Stri
 
 // The version that is asked for cannot write the data.
 fn no_mode_text(alloc: Global, manner: Manner, version: Version) -> Result<String, AllocError> {
-    let name = Name(version);
+    let name = VersionName(version);
     if manner == Manner::MarkedText {
         return format!(in alloc;
-            "version {name} cannot say which character set it holds; leave out --eci, or take 1 to 40"
+            "version {name} has no ECI: leave out --eci, or use a version of 1 to 40"
         );
     }
     let modes = match version {
-        Version::Micro(1) => "digits alone",
-        _ => "digits, capitals and $%*+-./: alone",
+        Version::Micro(1) => "digits",
+        _ => "digits, capitals, spaces and $%*+-./:",
     };
-    format!(in alloc; "version {name} writes {modes}; M3, M4 and 1 to 40 write any bytes")
+    format!(in alloc; "version {name} holds only {modes}; M3, M4 and 1 to 40 hold any bytes")
 }
 
 // The most bytes that a symbol holds in one segment of bytes, or 0 where it has no such segment.
@@ -222,11 +222,11 @@ fn byte_room(manner: Manner, version: Version, level: EcLevel) -> usize {
     room.saturating_sub(manner.front_length() + head) / 8
 }
 
-// A version by its number, or by M and its number.
+/// A version by its number, or by M and its number.
 #[derive(Clone, Copy)]
-struct Name(Version);
+pub struct VersionName(pub Version);
 
-impl fmt::Display for Name {
+impl fmt::Display for VersionName {
     fn fmt<W: fmt::Write>(&self, f: &mut fmt::Formatter<W>) -> fmt::Result {
         match self.0 {
             Version::Normal(number) => write!(f, "{number}"),

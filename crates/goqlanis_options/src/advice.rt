@@ -1,12 +1,13 @@
 //! What is said of words that `clap` refuses, where there is more to say, and its help within lines
 //! of 80 characters.
 
-use crate::options::{ADVICE, Task};
+use crate::nearest::Nearest;
+use crate::options::{ADVICE, Task, task_named, worded_tasks};
 use clap::error::Error;
 use std::alloc::{AllocError, Global};
 
-/// What is wrong with words of a task that `clap` refuses, and what would help, where it does not
-/// say so itself.
+/// What is wrong with words of a task that `clap` refuses, and what to write instead, where `clap` does
+/// not say so itself.
 pub fn advice(
     alloc: Global,
     task: &Task,
@@ -15,13 +16,22 @@ pub fn advice(
 ) -> Result<Option<String>, AllocError> {
     let text = format!(in alloc; "{error}")?;
     let text = text.as_str();
-    if let Some(word) = between(text, "unexpected argument '", "' found") {
-        return on_word(alloc, task, words, word);
+    if let Some(value) = between(text, "invalid value '", "' for") {
+        return known_help(alloc, task, value);
     }
-    match between(text, "invalid value '", "' for") {
-        Some(value) => help_with(alloc, task, value),
-        None => Ok(None),
+    let Some(word) = between(text, "unexpected argument '", "' found") else {
+        return Ok(None);
+    };
+    if let Some(help) = known_help(alloc, task, word)? {
+        return Ok(Some(help));
     }
+    if let Some(help) = command_help(alloc, task, words)? {
+        return Ok(Some(help));
+    }
+    if text.contains("a similar argument exists") {
+        return Ok(None);
+    }
+    Ok(Some(other_help(alloc, task, words, word)?))
 }
 
 // What stands between two texts in another one.
@@ -31,29 +41,8 @@ fn between<'a>(text: &'a str, start: &str, end: &str) -> Option<&'a str> {
     Some(found)
 }
 
-// What is said of a word that is not taken.
-fn on_word(
-    alloc: Global,
-    task: &Task,
-    words: &[String],
-    word: &str,
-) -> Result<Option<String>, AllocError> {
-    match task.operand() {
-        Some(operand) if !word.starts_with('-') => {
-            let name = operand.name;
-            let help = if words.iter().any(|word| word.as_str() == "--version") {
-                "--version says that of the program; that of a symbol is -v"
-            } else {
-                "put quotes round what has spaces, as \"hello world\""
-            };
-            Ok(Some(format!(in alloc; "{word}: {name} is one word; {help}")?))
-        }
-        _ => help_with(alloc, task, word),
-    }
-}
-
-// What would help with a word that other programs take, where a task draws.
-fn help_with(alloc: Global, task: &Task, word: &str) -> Result<Option<String>, AllocError> {
+// What to write instead of a word that other programs take, where a task draws.
+fn known_help(alloc: Global, task: &Task, word: &str) -> Result<Option<String>, AllocError> {
     for (known, help) in ADVICE {
         if task.draws() && known.split(' ').any(|known| known == word) {
             return Ok(Some(format!(in alloc; "{word}: {help}")?));
@@ -62,11 +51,75 @@ fn help_with(alloc: Global, task: &Task, word: &str) -> Result<Option<String>, A
     Ok(None)
 }
 
+// What is said of words without a command, where the first is nearly one, or a later one is one.
+fn command_help(
+    alloc: Global,
+    task: &Task,
+    words: &[String],
+) -> Result<Option<String>, AllocError> {
+    let word = words.get(1).map_or("", String::as_str);
+    if !task.word.is_empty() {
+        return Ok(None);
+    }
+    if word.starts_with('-') {
+        return later_command(alloc, words);
+    }
+    let mut nearest = Nearest::to(word);
+    for task in worded_tasks() {
+        nearest.consider(alloc, task.word)?;
+    }
+    match nearest.name() {
+        Some(name) => Ok(Some(format!(in alloc;
+            "{word}: no such command; did you mean goqlanis {name}?"
+        )?)),
+        None => Ok(None),
+    }
+}
+
+// What is said of options before a command.
+fn later_command(alloc: Global, words: &[String]) -> Result<Option<String>, AllocError> {
+    for word in words {
+        if let Some(task) = task_named(word.as_str()) {
+            let name = task.word;
+            return Ok(Some(format!(in alloc;
+                "{word}: the command comes first, before options: goqlanis {name} .."
+            )?));
+        }
+    }
+    Ok(None)
+}
+
+// What is said of any other word that is not taken.
+fn other_help(
+    alloc: Global,
+    task: &Task,
+    words: &[String],
+    word: &str,
+) -> Result<String, AllocError> {
+    let name = task.word;
+    let space = if name.is_empty() { "" } else { " " };
+    match task.operand() {
+        _ if word.starts_with('-') => {
+            format!(in alloc; "{word}: no such option; goqlanis{space}{name} --help lists them")
+        }
+        _ if words.iter().any(|word| word.as_str() == "--version") => format!(in alloc;
+            "{word}: --version is of the program; for that of the code, use -v"
+        ),
+        Some(operand) => {
+            let name = operand.name;
+            format!(in alloc;
+                "{word}: only one {name}; put quotes around one with spaces, e.g. \"hello world\""
+            )
+        }
+        None => format!(in alloc; "{word}: goqlanis {name} takes only options; --help lists them"),
+    }
+}
+
 // The most characters of a line of help.
 const WIDTH: usize = 80;
 
 /// The text of help, in which long lines go on below their last column.
-pub fn wrapped(alloc: Global, help: &str) -> Result<String, AllocError> {
+pub fn wrapped_help(alloc: Global, help: &str) -> Result<String, AllocError> {
     let mut text = String::new(alloc);
     for line in help.trim_end().split('\n') {
         push_wrapped(&mut text, line)?;

@@ -1,17 +1,17 @@
 //! From the command line to what is asked for.
 
-use crate::numbers::{decimal, two_digits};
+use crate::colours::{Colours, check_transparency};
+use crate::sizes::{Sizes, sizes_of};
 use crate::warnings::warn;
 use clap::ArgMatches;
 use clap::parser::ValueSource;
 use goqlanis_core::formats::{FORMATS, format_named, format_of_ending};
-use goqlanis_core::{Choice, Format, Ink, Request};
+use goqlanis_core::{Choice, Format, Request};
 use goqlanis_files::failure::{Failure, usage};
 use goqlanis_files::streams::has_colours;
 use qrcode::bits::Manner;
 use qrcode::types::{EcLevel, Version};
 use qrcode_append::Versions;
-use qrcode_png::GREATEST_SIDE;
 use std::alloc::{AllocError, Global};
 
 /// Where the data comes from.
@@ -32,6 +32,13 @@ pub enum Target<'a> {
     File(&'a str),
 }
 
+/// How what was drawn is reported on standard error.
+#[derive(Clone, Copy)]
+pub enum Reporting {
+    Lines,
+    Json,
+}
+
 /// What is asked for.
 #[derive(Clone, Copy)]
 pub struct Asked<'a> {
@@ -50,18 +57,33 @@ pub struct Asked<'a> {
     pub delimiter: &'a str,
     /// Whether data that is empty is drawn.
     pub allows_empty: bool,
+    /// The side that is asked for in hundredths of millimetres, where it is.
+    pub hundredths: Option<u64>,
+    /// The pixels of a printed inch, where they are known.
+    pub dots: Option<u16>,
+    pub reporting: Option<Reporting>,
 }
 
-/// What is asked for by the options that are given. What is doubtful is said on standard error.
-pub fn asked_for<'a>(rt: &HostRuntime, given: &ArgMatches<'a>) -> Result<Asked<'a>, Failure> {
+/// What is asked for by the options that are given, in these colours. What is doubtful is said on
+/// standard error.
+pub fn asked_for<'a>(
+    rt: &HostRuntime,
+    given: &ArgMatches<'a>,
+    colours: &'a Colours,
+) -> Result<Asked<'a>, Failure> {
     let alloc = rt.alloc();
-    if let Some(text) = not_together(given) {
+    if let Some(text) = conflict(given) {
         return usage(alloc, text);
     }
     let target = target_of(given);
-    let request = request_of(alloc, given, target, has_colours(rt))?;
+    let format = format(alloc, given.get_str("format"), target, has_colours(rt))?;
+    let sizes = sizes_of(alloc, given, format)?;
+    let request = request_of(alloc, given, format, &sizes, colours)?;
     let asked = Asked {
         request,
+        hundredths: sizes.hundredths,
+        dots: sizes.dots,
+        reporting: reporting_of(given),
         manner: manner_of(given),
         source: source_of(given),
         target,
@@ -83,39 +105,39 @@ pub fn check_one_behind_another(alloc: Global, asked: &Asked<'_>) -> Result<(), 
         (Target::File(_), _) | (_, Format::HalfBlocks | Format::Terminal | Format::Chars) => Ok(()),
         _ => usage(
             alloc,
-            "pictures are not written one behind another: \
-            add --output, as -o a.png, and files are numbered",
+            "only text formats go to standard output one after another: \
+            add --output, e.g. -o a.png, and files are numbered",
         ),
     }
 }
 
 // Options that do not go together, and what is said of them.
 #[rattlefmt::skip]
-static NOT_TOGETHER: &[(&str, &str, &str)] = &[
-    ("segment", "TEXT", "--segment is the data: leave out TEXT and --input"),
-    ("segment", "input", "--segment is the data: leave out TEXT and --input"),
-    ("TEXT", "input", "TEXT and --input: one of them is enough"),
-    ("bytes", "eci", "--bytes and --eci: one of them is enough"),
-    ("symbol-version", "least-version",
-        "--symbol-version and --least-version: one of them is enough"),
-    ("scale", "size", "--scale and --size: one of them is enough"),
-    ("segment", "trim", "--segment and --trim: one of them is enough"),
-    ("segment", "lines", "--segment and --lines: one of them is enough"),
-    ("segment", "bytes", "--segment and --bytes: one of them is enough"),
-    ("segment", "eci", "--segment and --eci: one of them is enough"),
-    ("segment", "boost", "--segment and --boost: one of them is enough"),
-    ("symbol-version", "greatest-version",
-        "--symbol-version and --greatest-version: one of them is enough"),
+static CONFLICTS: &[(&str, &str, &str)] = &[
+    ("segment", "TEXT", "--segment gives the data: leave out TEXT and --input"),
+    ("segment", "input", "--segment gives the data: leave out TEXT and --input"),
+    ("TEXT", "input", "TEXT and --input do not go together: use one of them"),
+    ("bytes", "eci", "--bytes and --eci do not go together: use one of them"),
+    ("symbol-version", "min-version",
+        "--symbol-version and --min-version do not go together: use one of them"),
+    ("scale", "size", "--scale and --size do not go together: use one of them"),
+    ("segment", "trim", "--segment and --trim do not go together: use one of them"),
+    ("segment", "lines", "--segment and --lines do not go together: use one of them"),
+    ("segment", "bytes", "--segment and --bytes do not go together: use one of them"),
+    ("segment", "eci", "--segment and --eci do not go together: use one of them"),
+    ("segment", "boost", "--segment and --boost do not go together: use one of them"),
+    ("symbol-version", "max-version",
+        "--symbol-version and --max-version do not go together: use one of them"),
     ("symbol-version", "micro",
-        "--symbol-version and --micro: --symbol-version M1 to M4 is Micro QR"),
+        "--symbol-version and --micro do not go together: M1 to M4 are Micro QR"),
     ("symbol-version", "boost",
-        "--symbol-version and --boost: take --least-version in place of --symbol-version"),
-    ("least-version", "micro", "--least-version and --micro: --micro is --least-version M1"),
+        "--symbol-version and --boost do not go together: use --min-version instead"),
+    ("min-version", "micro", "--min-version and --micro do not go together: --micro is --min-version M1"),
 ];
 
 // What is said of options that do not go together.
-fn not_together(given: &ArgMatches<'_>) -> Option<&'static str> {
-    let (_, _, text) = NOT_TOGETHER.iter().find(|(one, other, _)| is_given(given, one)
+fn conflict(given: &ArgMatches<'_>) -> Option<&'static str> {
+    let (_, _, text) = CONFLICTS.iter().find(|(one, other, _)| is_given(given, one)
         && is_given(given, other))?;
     Some(*text)
 }
@@ -162,7 +184,7 @@ fn choice_of(alloc: Global, given: &ArgMatches<'_>) -> Result<Choice, Failure> {
     } else {
         Version::Normal(1)
     };
-    let least = version_of(alloc, given, "least-version")?.unwrap_or(first);
+    let least = version_of(alloc, given, "min-version")?.unwrap_or(first);
     if given.get_flag("boost") {
         Ok(Choice::Boosted(least))
     } else {
@@ -176,7 +198,7 @@ pub fn versions_of(
     given: &ArgMatches<'_>,
     choice: Choice,
 ) -> Result<Versions, Failure> {
-    let most = version_of(alloc, given, "greatest-version")?.unwrap_or(Version::Normal(40));
+    let most = version_of(alloc, given, "max-version")?.unwrap_or(Version::Normal(40));
     let (least, greatest) = match choice {
         Choice::At(version) => (version, version),
         Choice::From(version) | Choice::Boosted(version) => (version, most),
@@ -188,7 +210,7 @@ pub fn versions_of(
         }),
         _ => usage(
             alloc,
-            "several symbols have versions of 1 to 40, the greatest not below the least",
+            "a split has versions 1 to 40, and --max-version is not below --min-version",
         ),
     }
 }
@@ -205,109 +227,62 @@ fn version_of(
     match version(name) {
         Some(version) => Ok(Some(version)),
         None => Err(Failure::Usage(format!(in alloc;
-            "--{option} {name}: there are 1 to 40, and M1 to M4"
+            "--{option} {name}: versions are 1 to 40, and M1 to M4"
         )?)),
+    }
+}
+
+fn reporting_of(given: &ArgMatches<'_>) -> Option<Reporting> {
+    if given.get_flag("json") {
+        Some(Reporting::Json)
+    } else if given.get_flag("verbose") {
+        Some(Reporting::Lines)
+    } else {
+        None
     }
 }
 
 fn request_of<'a>(
     alloc: Global,
     given: &ArgMatches<'a>,
-    target: Target<'a>,
-    has_colours: bool,
+    format: Format,
+    sizes: &Sizes,
+    colours: &'a Colours,
 ) -> Result<Request<'a>, Failure> {
-    let choice = choice_of(alloc, given)?;
-    let format = format(alloc, given.get_str("format"), target, has_colours)?;
-    if let Some(text) = wrong_for(given, format) {
+    if let Some(text) = unsuitable_option(given, format) {
         return usage(alloc, text);
     }
-    let (scale, size) = sizes(alloc, given, format)?;
+    check_transparency(alloc, format, colours)?;
     Ok(Request {
         manner: Manner::Text,
-        choice,
+        choice: choice_of(alloc, given)?,
         level: level(alloc, given.get_str("level"))?,
         mask: given.get_one::<u8>("mask").map(usize::from),
         format,
         zone: given.get_one::<u8>("quiet-zone"),
-        scale,
-        size,
+        scale: sizes.scale,
+        size: sizes.side,
         dpi: given.get_one::<u16>("dpi"),
-        dark: ink(alloc, given.get_str("colour"), "#000", format)?,
-        light: ink(alloc, given.get_str("background"), "#fff", format)?,
+        dark: colours.dark.ink(),
+        light: colours.light.ink(),
         is_inverted: given.get_flag("invert"),
     })
 }
 
 // What is said of options that a format does not have.
-fn wrong_for(given: &ArgMatches<'_>, format: Format) -> Option<&'static str> {
+fn unsuitable_option(given: &ArgMatches<'_>, format: Format) -> Option<&'static str> {
     let has_colours = format.has_colours();
-    if !has_colours && given.contains_id("colour") {
-        Some("--colour: PNG, SVG and EPS alone have colours; add --format png, svg or eps")
-    } else if !has_colours && given.contains_id("background") {
-        Some("--background: PNG, SVG and EPS alone have colours; add --format png, svg or eps")
+    if !has_colours && given.contains_id("dark") {
+        Some("--dark: only PNG, SVG and EPS have colours; add --format png, svg or eps")
+    } else if !has_colours && given.contains_id("light") {
+        Some("--light: only PNG, SVG and EPS have colours; add --format png, svg or eps")
     } else if format != Format::Png && given.contains_id("dpi") {
-        Some("--dpi: PNG alone names its dots per inch; EPS has a point for a pixel, 72 to an inch")
+        Some("--dpi: only PNG has a resolution; in EPS a pixel is a point, 72 to an inch")
     } else if format == Format::Pic && given.get_flag("invert") {
-        Some("--invert: PIC draws no light modules; take another --format")
+        Some("--invert: PIC draws no light modules; use another --format")
     } else {
         None
     }
-}
-
-// The pixels of a module, and those of a side where they are asked for.
-fn sizes(
-    alloc: Global,
-    given: &ArgMatches<'_>,
-    format: Format,
-) -> Result<(u16, Option<u16>), Failure> {
-    let size = match given.get_str("size") {
-        Some(text) => Some(size(alloc, text, dots(given, format))?),
-        None => None,
-    };
-    let scale = given.get_one::<u16>("scale").unwrap_or(format.pixels());
-    let zone = given.get_one::<u8>("quiet-zone").unwrap_or(4);
-    let most = GREATEST_SIDE / (177 + 2 * zone as u32);
-    if format == Format::Png && scale as u32 > most {
-        return Err(Failure::Usage(format!(in alloc;
-            "--scale {scale}: a PNG file has at most 65,535 pixels a side; \
-            take --scale {most} or less"
-        )?));
-    }
-    Ok((scale, size))
-}
-
-// The dots of an inch, where they are known: of EPS, whose pixels are points, always.
-fn dots(given: &ArgMatches<'_>, format: Format) -> Option<u16> {
-    match format {
-        Format::Eps => Some(72),
-        _ => given.get_one::<u16>("dpi"),
-    }
-}
-
-// The pixels of a side that a text says: a number of them, or of millimetres.
-fn size(alloc: Global, text: &str, dots: Option<u16>) -> Result<u16, Failure> {
-    let pixels = match (text.strip_suffix("mm"), dots) {
-        (None, _) => text.parse::<u16>().ok(),
-        (Some(number), Some(dots)) => pixels_along(number, dots),
-        (Some(_), None) => {
-            return Err(Failure::Usage(format!(in alloc;
-                "--size {text}: how many pixels are these? Say it by --format png and --dpi 300, \
-                or take --format eps, in points"
-            )?));
-        }
-    };
-    match pixels {
-        Some(pixels) if pixels > 0 => Ok(pixels),
-        _ => Err(Failure::Usage(format!(in alloc;
-            "--size {text}: it wants pixels, 1 to 65,535, or millimetres, as 30mm with --dpi"
-        )?)),
-    }
-}
-
-// The whole pixels along a number of millimetres, of which an inch has 25.4.
-fn pixels_along(millimetres: &str, dots: u16) -> Option<u16> {
-    let hundredths = decimal(millimetres, 2)?;
-    u16::try_from(hundredths.saturating_mul(dots as u64) / 2540).ok()
 }
 
 // The level of a name; M where none is named.
@@ -341,7 +316,7 @@ fn version(name: &str) -> Option<Version> {
     version.ok().filter(|version| version.is_valid())
 }
 
-// The format that is named, or else that of the file's ending, or else that of the terminal.
+// The format that is named, or that of the file extension, or that of the terminal.
 fn format(
     alloc: Global,
     name: Option<&str>,
@@ -362,15 +337,15 @@ fn format(
             None => {
                 let endings = all_endings(alloc)?;
                 Err(Failure::Usage(format!(in alloc;
-                    "--output {path}: its ending is none of{endings}; \
-                    take one of these, and convert it where need be, or add --format"
+                    "--output {path}: the file extension is none of{endings}; \
+                    use one of these and convert the file, or add --format"
                 )?))
             }
         },
     }
 }
 
-// The endings of files, each behind a space and a point.
+// The file extensions, each after a space and a point.
 fn all_endings(alloc: Global) -> Result<String, AllocError> {
     let mut text = String::new(alloc);
     for ending in FORMATS.iter().filter_map(|row| row.ending) {
@@ -379,69 +354,8 @@ fn all_endings(alloc: Global) -> Result<String, AllocError> {
     Ok(text)
 }
 
-/// The format of the ending of a file's name.
+/// The format of the file extension of a path.
 pub fn ending_format(path: &str) -> Option<Format> {
     let (_, ending) = path.rsplit_once('.')?;
     format_of_ending(ending)
-}
-
-// A colour: # and three or six digits to the base 16; in SVG also a name, and in PNG and SVG
-// transparent.
-fn ink<'a>(
-    alloc: Global,
-    given: Option<&'a str>,
-    default: &'a str,
-    format: Format,
-) -> Result<Ink<'a>, Failure> {
-    let name = given.unwrap_or(default);
-    let found = match format {
-        Format::Png | Format::Svg if name.eq_ignore_ascii_case("transparent") => Some(TRANSPARENT),
-        Format::Svg if is_name(name) => Some(Ink {
-            name,
-            ..TRANSPARENT
-        }),
-        _ => ink_of(name),
-    };
-    if let Some(ink) = found {
-        return Ok(ink);
-    }
-    let others = match format {
-        Format::Svg => ", or a name",
-        Format::Png => ", or transparent; names are for SVG",
-        _ => "; names are for SVG, and transparent for PNG and SVG",
-    };
-    Err(Failure::Usage(format!(in alloc;
-        "{name} is no colour: # and three or six digits 0 to f{others}"
-    )?))
-}
-
-// No colour.
-const TRANSPARENT: Ink<'static> = Ink {
-    name: "none",
-    red: 255,
-    green: 255,
-    blue: 255,
-    opacity: 0,
-};
-
-// Whether a colour may be a name of SVG: letters, and not digits to the base 16 alone.
-fn is_name(name: &str) -> bool {
-    let bytes = name.as_bytes();
-    bytes.iter().all(u8::is_ascii_alphabetic) && !bytes.iter().all(u8::is_ascii_hexdigit)
-}
-
-// The colour of # and three or six digits to the base 16.
-fn ink_of(name: &str) -> Option<Ink<'_>> {
-    let (red, green, blue) = match name.strip_prefix('#')?.as_bytes() {
-        [r, g, b] => (two_digits(*r, *r), two_digits(*g, *g), two_digits(*b, *b)),
-        [r, s, g, h, b, c] => (two_digits(*r, *s), two_digits(*g, *h), two_digits(*b, *c)),
-        _ => return None,
-    };
-    Some(Ink {
-        name,
-        red: red?,
-        green: green?,
-        blue: blue?,
-        opacity: 255,
-    })
 }

@@ -1,25 +1,29 @@
 //! The command line, as `clap` reads it.
 
-use crate::options::{EXAMPLES, Entry, OTHER_NAMES, Takes, Task, worded_tasks};
+use crate::options::{EXAMPLES, Entry, Group, OTHER_NAMES, Takes, Task, worded_tasks};
 use clap::builder::ValueParser;
 use clap::{Arg, ArgAction, Command};
 use std::alloc::{AllocError, Global};
 
 /// The command line of a task, whose help ends with a text, unless memory runs out.
 pub fn command_of<'a>(alloc: Global, task: &Task, end: &'a str) -> Result<Command<'a>, AllocError> {
-    Ok(
-        Command::new(alloc, "goqlanis")
-            .about(task.about)
-            .args(arguments(alloc, task)?)?
-            .after_help(end),
-    )
+    let command = Command::new(alloc, "goqlanis")
+        .about(task.about)
+        .disable_help_flag(true)
+        .args(arguments(alloc, task)?)?
+        .after_help(end);
+    if task.word.is_empty() {
+        let usage = "goqlanis [OPTIONS] [TEXT]\n       goqlanis <COMMAND> [OPTIONS]";
+        return Ok(command.override_usage(usage));
+    }
+    Ok(command)
 }
 
-/// The end of a task's help: of drawing the words that ask for other tasks, and examples.
+/// The end of a task's help: of plain codes the commands, and examples.
 pub fn end_of_help(alloc: Global, task: &Task) -> Result<String, AllocError> {
     let mut text = String::new(alloc);
     if task.word.is_empty() {
-        text.push_str("Words, each with a help of its own, as goqlanis wifi --help:\n")?;
+        text.push_str("Commands (goqlanis wifi --help lists the options of wifi):\n")?;
         for other in worded_tasks() {
             let (word, about) = (other.word, other.about);
             write!(text, "  {word:7}  {about}\n")?;
@@ -29,7 +33,7 @@ pub fn end_of_help(alloc: Global, task: &Task) -> Result<String, AllocError> {
     Ok(text)
 }
 
-// What a task takes: a word beside options, and these.
+// What a task takes: its operand, and options.
 fn arguments<'a>(alloc: Global, task: &Task) -> Result<Vec<Arg<'a>>, AllocError> {
     let mut arguments = Vec::new(alloc);
     if let Some(operand) = task.operand() {
@@ -40,10 +44,27 @@ fn arguments<'a>(alloc: Global, task: &Task) -> Result<Vec<Arg<'a>>, AllocError>
             arg
         })?;
     }
-    for entry in task.all_options(alloc)? {
-        arguments.push(argument(alloc, entry)?)?;
+    for group in task.groups() {
+        push_group(alloc, &mut arguments, group)?;
     }
+    let help = Arg::new(alloc, "help")
+        .short('h')
+        .long("help")
+        .help("Print help");
+    arguments.push(help.action(ArgAction::Help).help_heading("Other"))?;
     Ok(arguments)
+}
+
+// Appends options under their heading.
+fn push_group<'a>(
+    alloc: Global,
+    arguments: &mut Vec<Arg<'a>>,
+    group: Group,
+) -> Result<(), AllocError> {
+    for entry in group.options {
+        arguments.push(argument(alloc, *entry)?.help_heading(group.heading))?;
+    }
+    Ok(())
 }
 
 // An option. A negative number behind it is its value.
@@ -67,7 +88,7 @@ fn with_values<'a>(arg: Arg<'a>, takes: Takes) -> Arg<'a> {
         Takes::Wanted(name) => arg.value_name(name).required(true),
         Takes::Texts(name) => arg.value_name(name).action(ArgAction::Append),
         Takes::Path => arg.value_name("FILE"),
-        Takes::Word(words) => arg.value_parser(words).ignore_case(true),
+        Takes::Word(name, words) => arg.value_name(name).value_parser(words).ignore_case(true),
         Takes::Number(name, least, most) => arg
             .value_name(name)
             .value_parser(ValueParser::unsigned(least, most)),

@@ -24,7 +24,7 @@ pub fn shell_named(name: &str) -> Option<Shell> {
     }
 }
 
-// What stands before the words that ask for tasks, and behind them.
+// What stands before the commands, and after them.
 static BASH: (&str, &str) = (
     "_goqlanis_option() {
   names+=\" $2\"
@@ -77,7 +77,7 @@ pub fn completions_of(alloc: Global, shell: Shell) -> Result<String, AllocError>
     Ok(text)
 }
 
-// The words that ask for tasks.
+// The commands.
 fn all_words(alloc: Global) -> Result<String, AllocError> {
     let mut words = String::new(alloc);
     for task in worded_tasks() {
@@ -87,7 +87,7 @@ fn all_words(alloc: Global) -> Result<String, AllocError> {
     Ok(words)
 }
 
-// The options of a task, which these words ask for. Drawing stands last, for all other words.
+// The options of a task, which these commands ask for. Plain codes stand last, for all other words.
 fn push_task(text: &mut String, shell: Shell, task: &Task, words: &str) -> Result<(), AllocError> {
     let (pattern, not) = if task.word.is_empty() {
         ("*", "not ")
@@ -103,7 +103,7 @@ fn push_task(text: &mut String, shell: Shell, task: &Task, words: &str) -> Resul
         Shell::Bash => write!(text, "    {pattern})\n")?,
         Shell::Zsh => write!(
             text,
-            "  {pattern})\n    _arguments '1:text or word:($tasks)'{files}"
+            "  {pattern})\n    _arguments '1:text or command:($tasks)'{files}"
         )?,
         Shell::Fish => {}
     }
@@ -125,7 +125,8 @@ fn push_option(
     seen: &str,
     entry: &Entry,
 ) -> Result<(), AllocError> {
-    let (long, help) = (entry.long, entry.help);
+    let long = entry.long;
+    let help = quoted_help(*text.allocator(), shell, entry.help)?;
     let value = value_of(*text.allocator(), shell, entry.takes)?;
     let many = if matches!(entry.takes, Takes::Texts(_)) {
         "*"
@@ -155,7 +156,7 @@ fn push_option(
 // What may stand behind an option, as a shell wants it said.
 fn value_of(alloc: Global, shell: Shell, takes: Takes) -> Result<String, AllocError> {
     let words = match takes {
-        Takes::Word(words) => words.join(alloc, " ")?,
+        Takes::Word(_, words) => words.join(alloc, " ")?,
         _ => String::new(alloc),
     };
     match (shell, takes) {
@@ -166,4 +167,16 @@ fn value_of(alloc: Global, shell: Shell, takes: Takes) -> Result<String, AllocEr
         (Shell::Fish, Takes::Path) => String::from_str(alloc, " -r -F"),
         (Shell::Fish, _) => format!(in alloc; " -x -a '{words}'"),
     }
+}
+
+// What help says of an option, as a shell wants it between single quotes.
+fn quoted_help(alloc: Global, shell: Shell, help: &str) -> Result<String, AllocError> {
+    let mut text = String::new(alloc);
+    for character in help.chars() {
+        if matches!((shell, character), (Shell::Zsh, '[' | ']' | ':')) {
+            text.push('\\')?;
+        }
+        text.push(character)?;
+    }
+    Ok(text)
 }

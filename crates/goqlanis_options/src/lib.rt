@@ -3,9 +3,13 @@
 
 pub mod advice;
 pub mod asked;
+pub mod colours;
 pub mod command;
 pub mod completions;
 pub mod manual;
+pub mod nearest;
 pub mod numbers;
 pub mod options;
+pub mod report;
+pub mod sizes;
 pub mod warnings;

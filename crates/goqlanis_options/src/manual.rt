@@ -5,29 +5,25 @@ use std::alloc::{AllocError, Global};
 
 static START: &str = ".TH GOQLANIS 1
 .SH NAME
-goqlanis \\- Draws QR and Micro QR symbols
+goqlanis \\- Make QR and Micro QR codes, and read them back
 .SH SYNOPSIS
 .B goqlanis
 [OPTIONS] [TEXT]
 .br
-.B goqlanis read
-[OPTIONS] [PICTURE]
-.br
-.B goqlanis wifi
-[OPTIONS], and so on under WORDS
+.B goqlanis
+COMMAND [OPTIONS]
 .SH DESCRIPTION
-Draws the symbol of TEXT, or of a file, or of standard input, in the terminal or to a file.
-Input is taken byte by byte as it is.
+Makes a QR code of TEXT, of a file, or of standard input, and shows it in the terminal or writes it
+to a file. Input is encoded byte for byte.
 .SH OPTIONS
 ";
 
-static WORDS: &str = ".SH WORDS
-Behind one of these words options say other things. From wifi on they give the fields of a text,
-and those of drawing say what is drawn of it.
+static WORDS: &str = ".SH COMMANDS
+The commands from wifi on make payloads; most options above work with them too.
 ";
 
 static END: &str = ".SH EXIT STATUS
-0: all was drawn. 1: something was refused. 2: the command line is wrong.
+0: success. 1: something was refused. 2: the command line is wrong.
 .SH EXAMPLES
 .nf
 ";
@@ -46,13 +42,14 @@ pub fn manual_page(alloc: Global) -> Result<String, AllocError> {
     Ok(text)
 }
 
-// What a word asks for, and its own options.
+// A command, and its own options.
 fn push_task(text: &mut String, task: &Task) -> Result<(), AllocError> {
     let (word, about) = (task.word, task.about);
     write!(text, ".SS goqlanis {word}\n{about}.\n")?;
     if let Some(operand) = task.operand() {
         let (name, help) = (operand.name, operand.help);
-        write!(text, "{name}: {help}.\n")?;
+        let plain = format!(in *text.allocator(); "{name}: {help}.\n")?;
+        push_plain(text, plain.as_str())?;
     }
     push_options(text, task.options)
 }
@@ -87,7 +84,7 @@ fn push_value(text: &mut String, takes: Takes) -> Result<(), AllocError> {
         Takes::Text(name) | Takes::Wanted(name) | Takes::Texts(name) | Takes::Number(name, _, _) =>
             write!(text, " {name}"),
         Takes::Path => text.push_str(" FILE"),
-        Takes::Word(words) => {
+        Takes::Word(_, words) => {
             let words = words.join(*text.allocator(), "|")?;
             write!(text, " {words}")
         }

@@ -1,6 +1,6 @@
 //! What the program can be asked for, with the options of each task: the tables from which the
 //! command line, the manual page and the completions of shells are made. (A command of `clap` tells
-//! neither the names of values nor which values are paths, so that they cannot be made from it.)
+//! neither the names of values nor which values are paths, so they cannot be made from it.)
 
 use std::alloc::{AllocError, Global};
 
@@ -30,8 +30,10 @@ mod habits;
 mod symbols;
 
 use fields::{BILL, ELEMENTS, EVENT, MAIL, MECARD, OTP, PAYMENT, PLACE, SMS, TEL, VCARD, WIFI};
-pub use habits::{ADVICE, OTHER_NAMES};
-use symbols::{ALONE, DATA, JOINING, LEVELS, LOOKS, READING, SEVERAL, TEXTS};
+pub use habits::{ADVICE, OTHER_NAMES, OTHER_WORDS};
+use symbols::{
+    ABOUT, DATA, JOINING, LEVELS, LOOKS, MARKS, MASKS, ONE_CODE, READING, SEVERAL, TEXTS,
+};
 pub use symbols::{DRAWING, EXAMPLES};
 
 /// What an option takes.
@@ -47,8 +49,8 @@ pub enum Takes {
     Texts(&'static str),
     /// The path of a file.
     Path,
-    /// One of some words.
-    Word(&'static [&'static str]),
+    /// One of some words, by the name that stands for it.
+    Word(&'static str, &'static [&'static str]),
     /// A whole number from one to another, which are named so.
     Number(&'static str, u64, u64),
 }
@@ -64,6 +66,13 @@ pub struct Entry {
     pub takes: Takes,
     /// What help and the manual say of it.
     pub help: &'static str,
+}
+
+/// Options under a heading of the help.
+#[derive(Clone, Copy)]
+pub struct Group {
+    pub heading: &'static str,
+    pub options: &'static [Entry],
 }
 
 /// What a text is of.
@@ -93,20 +102,20 @@ pub enum Kind {
     Event,
 }
 
-/// What is done.
+/// What a task does.
 #[derive(Clone, Copy)]
 pub enum Purpose {
-    /// Data is drawn.
+    /// It makes a code of data.
     Draw,
-    /// Data is drawn in several symbols.
+    /// It splits data over several codes.
     Several,
-    /// A picture is read.
+    /// It reads a picture.
     Read,
-    /// Pictures of several symbols are read.
+    /// It reads the pictures of a split.
     Join,
-    /// The text of fields is drawn, which options give.
+    /// It makes a code of a payload, whose fields options give.
     Content(Kind),
-    /// Elements of GS1 are drawn.
+    /// It makes a code of a GS1 element string.
     Elements,
 }
 
@@ -124,7 +133,7 @@ pub struct Operand {
 /// What the program can be asked for.
 #[derive(Clone, Copy)]
 pub struct Task {
-    /// The word that asks for it; empty for drawing, for which no word asks.
+    /// The command that asks for it; empty for a plain code, which needs none.
     pub word: &'static str,
     /// What help and the manual say of it.
     pub about: &'static str,
@@ -142,12 +151,11 @@ pub fn worded_tasks() -> [&'static Task; 15] {
     ]
 }
 
-/// What the first word behind the program's name asks for.
-pub fn task_of(word: &str) -> &'static Task {
-    worded_tasks()
-        .into_iter()
-        .find(|task| task.word == word)
-        .unwrap_or(&DRAWING)
+/// The task of a command, by its name or by an older one, where there is such a command.
+pub fn task_named(word: &str) -> Option<&'static Task> {
+    let older = OTHER_WORDS.iter().find(|(older, _)| *older == word);
+    let word = older.map_or(word, |(_, newer)| *newer);
+    worded_tasks().into_iter().find(|task| task.word == word)
 }
 
 impl Task {
@@ -161,21 +169,20 @@ impl Task {
         let (name, help) = match self.purpose {
             Purpose::Draw | Purpose::Several => (
                 "TEXT",
-                "The text; standard input where there is neither it nor --input",
+                "Text to encode; standard input if neither TEXT nor --input is given",
             ),
             Purpose::Read => (
                 "PICTURE",
-                "A PBM file, a PGM file of bytes, or half blocks; \
-                standard input where there is none",
+                "A PBM or PGM file, or half blocks; standard input if none is given",
             ),
             Purpose::Join => (
                 "PICTURE",
-                "Pictures of all symbols of the data, in any order, as goqlanis read takes them",
+                "Pictures of all the codes, in any order, in the formats of goqlanis read",
             ),
             Purpose::Elements => (
                 "ELEMENTS",
-                "Each identifier in round brackets, and behind it its value, in which a backslash \
-                stands before an opening bracket; with --application the data",
+                "Each application identifier (AI) in round brackets, and its value after it; write \
+                ( in a value as \\(. With --application, the data",
             ),
             Purpose::Content(_) => return None,
         };
@@ -187,26 +194,59 @@ impl Task {
         })
     }
 
-    /// All options that it takes, unless memory runs out: its own, and those of drawing that go
-    /// with it.
+    /// All options that it takes, unless memory runs out.
     pub fn all_options(&self, alloc: Global) -> Result<Vec<Entry>, AllocError> {
-        let mut all = Vec::from_slice(alloc, self.options)?;
+        let mut all = Vec::new(alloc);
         for group in self.groups() {
-            all.extend_from_slice(group)?;
+            all.extend_from_slice(group.options)?;
         }
         Ok(all)
     }
 
-    // The options of drawing that go with its own: none that gives the data where its own do, and
-    // none that says the level where the format does.
-    fn groups(&self) -> [&'static [Entry]; 5] {
+    /// Its own options, and those of drawing that go with them: none that gives the data where its
+    /// own do, and none that says the level where the format does.
+    pub fn groups(&self) -> [Group; 9] {
+        let (data, mark, level, text, one) = match self.purpose {
+            Purpose::Draw => (DATA, MARKS, LEVELS, TEXTS, ONE_CODE),
+            Purpose::Several => (DATA, NONE, LEVELS, NONE, NONE),
+            Purpose::Content(Kind::Payment | Kind::Bill) | Purpose::Read | Purpose::Join => {
+                (NONE, NONE, NONE, NONE, NONE)
+            }
+            Purpose::Content(_) => (NONE, MARKS, LEVELS, TEXTS, NONE),
+            Purpose::Elements => (NONE, NONE, LEVELS, NONE, NONE),
+        };
+        let (code, output) = if self.draws() {
+            (MASKS, LOOKS)
+        } else {
+            (NONE, NONE)
+        };
+        let about = if self.word.is_empty() { ABOUT } else { NONE };
+        [
+            options_under("Input", data),
+            options_under(self.heading(), self.options),
+            options_under("Input", mark),
+            options_under("Input", one),
+            options_under("Code", level),
+            options_under("Code", text),
+            options_under("Code", code),
+            options_under("Output", output),
+            options_under("Other", about),
+        ]
+    }
+
+    // The heading of its own options.
+    fn heading(&self) -> &'static str {
         match self.purpose {
-            Purpose::Draw => [DATA, LEVELS, TEXTS, LOOKS, ALONE],
-            Purpose::Several => [DATA, LEVELS, LOOKS, &[], &[]],
-            Purpose::Read | Purpose::Join => [&[], &[], &[], &[], &[]],
-            Purpose::Content(Kind::Payment | Kind::Bill) => [LOOKS, &[], &[], &[], &[]],
-            Purpose::Content(_) => [LEVELS, TEXTS, LOOKS, &[], &[]],
-            Purpose::Elements => [LEVELS, LOOKS, &[], &[], &[]],
+            Purpose::Draw | Purpose::Several => "Code",
+            Purpose::Read | Purpose::Join => "Output",
+            Purpose::Content(_) | Purpose::Elements => "Input",
         }
     }
 }
+
+fn options_under(heading: &'static str, options: &'static [Entry]) -> Group {
+    Group { heading, options }
+}
+
+// No options.
+const NONE: &[Entry] = &[];

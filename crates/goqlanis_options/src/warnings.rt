@@ -1,34 +1,79 @@
-//! What is said on standard error though all is drawn.
+//! Warnings on standard error, after which the code is drawn.
 
 use crate::asked::{Asked, Target, ending_format};
 use goqlanis_core::{Format, Ink};
 use goqlanis_files::streams::shown;
+use std::fmt;
 
-/// Warns of colours that readers hardly tell apart, and of a picture in a file whose ending is that
+/// Warns of colours that readers hardly tell apart, and of a picture in a file whose extension is that
 /// of another format.
 pub fn warn(rt: &HostRuntime, asked: &Asked<'_>) {
     let request = &asked.request;
     let (dark, light) = (request.dark, request.light);
-    if are_known(dark, light) && are_close(dark, light, request.is_inverted) {
-        let (dark, light) = (dark.name, light.name);
+    if are_close(dark, light, request.is_inverted) {
+        let (dark, light) = (name_of(dark), name_of(light));
         let _ = eprintln!(rt;
-            "goqlanis: dark modules in {dark}, light ones in {light}: many readers want dark ones \
-            that are much darker"
+            "goqlanis: warning: dark modules {dark} on light modules {light} have less than 40 % \
+            contrast, which many readers need"
         );
     }
     if let Target::File(path) = asked.target {
         if is_named_otherwise(path, request.format) {
             let path = shown(path);
             let _ = eprintln!(rt;
-                "goqlanis: --output {path}: its format is that of --format, not that of its ending"
+                "goqlanis: warning: {path} has the file extension of another format than --format"
             );
         }
     }
 }
 
-// Whether both colours are numbers, and no names.
-fn are_known(dark: Ink<'_>, light: Ink<'_>) -> bool {
-    dark.name.starts_with('#') && light.name.starts_with('#')
+/// Warns of a side in millimetres that differs from the one that is asked for by a tenth or more, of a
+/// code of so many modules a side with its quiet zone.
+pub fn warn_of_size(rt: &HostRuntime, asked: &Asked<'_>, modules: u32) {
+    let (Some(wanted), Some(dots), Some(side)) = (asked.hundredths, asked.dots, asked.request.size)
+    else {
+        return;
+    };
+    if modules == 0 {
+        return;
+    }
+    let scale = side as u32 / modules;
+    let made = hundredths_of(modules.saturating_mul(scale), dots);
+    if !asked.is_by_line && made.saturating_add(10) <= wanted {
+        let (wanted, made) = (Decimal(wanted), Decimal(made));
+        let _ = eprintln!(rt;
+            "goqlanis: warning: --size {wanted}mm comes out at {made} mm: \
+            {modules} modules of {scale} whole pixels"
+        );
+    }
+}
+
+/// The hundredths of millimetres of so many pixels, of which an inch has so many.
+pub fn hundredths_of(pixels: u32, dots: u16) -> u64 {
+    if dots == 0 {
+        return 0;
+    }
+    pixels as u64 * 2540 / dots as u64
+}
+
+/// Hundredths, as a number with two digits after its point.
+#[derive(Clone, Copy)]
+pub struct Decimal(pub u64);
+
+impl fmt::Display for Decimal {
+    fn fmt<W: fmt::Write>(&self, f: &mut fmt::Formatter<W>) -> fmt::Result {
+        let (whole, part) = (self.0 / 100, self.0 % 100);
+        write!(f, "{whole}.{part:02}")
+    }
+}
+
+// What a colour is called.
+fn name_of(ink: Ink<'_>) -> &str {
+    if ink.opacity == 0 {
+        "transparent"
+    } else {
+        ink.name
+    }
 }
 
 // The least difference of brightness, of 255: two fifths, below which ISO/IEC 15415 grades the
@@ -44,12 +89,22 @@ fn are_close(dark: Ink<'_>, light: Ink<'_>, is_inverted: bool) -> bool {
     !is_dark && !(is_inverted && is_light)
 }
 
-// How bright a colour is, 0 to 255, by the weights of ITU-R BT.601.
+// How bright a colour is on white, 0 to 255, by the weights of ITU-R BT.601.
 fn brightness(ink: Ink<'_>) -> u32 {
-    (299 * ink.red as u32 + 587 * ink.green as u32 + 114 * ink.blue as u32) / 1000
+    let red = on_white(ink.red, ink.opacity).saturating_mul(299);
+    let green = on_white(ink.green, ink.opacity).saturating_mul(587);
+    let blue = on_white(ink.blue, ink.opacity).saturating_mul(114);
+    red.saturating_add(green).saturating_add(blue) / 1000
 }
 
-// Whether a path has the ending of a format that is another one. A .txt file may have any text.
+// How bright a part of a colour is on white, 0 to 255.
+fn on_white(part: u8, opacity: u8) -> u32 {
+    let opacity = opacity as u32;
+    let white = 255 * (255 - opacity);
+    (part as u32).saturating_mul(opacity).saturating_add(white) / 255
+}
+
+// Whether a path has the file extension of another format. A .txt file may have any text.
 fn is_named_otherwise(path: &str, format: Format) -> bool {
     match ending_format(path) {
         Some(Format::HalfBlocks) => !format.is_text(),

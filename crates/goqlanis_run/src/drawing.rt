@@ -17,6 +17,7 @@ use goqlanis_core::{
 use goqlanis_files::failure::{Failure, refused};
 use goqlanis_files::streams::{print, write_file};
 use goqlanis_options::asked::{Asked, Target};
+use goqlanis_options::report::show_report;
 use qrcode::bits::Manner;
 use qrcode::types::QrError;
 use qrcode_gs1::errors::Gs1Error;
@@ -51,7 +52,7 @@ pub(crate) fn check_empty(alloc: Global, asked: &Asked<'_>, bytes: &[u8]) -> Res
     }
     refused(
         alloc,
-        "there is nothing to draw, as of a variable that is not set; --allow-empty draws it",
+        "the input is empty, e.g. of a variable that is not set; --allow-empty accepts it",
     )
 }
 
@@ -151,14 +152,15 @@ pub(crate) fn write_drawing(
     drawing: &Drawing,
 ) -> Result<ExitCode, Failure> {
     check_size(rt.alloc(), &asked.request, drawing)?;
+    show_report(rt, asked, drawing)?;
     let bytes = drawing.bytes.as_slice();
     match asked.target {
         Target::File(path) => write_file(rt, path, bytes),
         Target::Terminal if !asked.request.format.is_text() && rt.stdout().is_terminal() => {
             refused(
                 rt.alloc(),
-                "a picture of bytes is not for a terminal: \
-                add --output FILE, or --output - to see it",
+                "this format is not for a terminal: \
+                add --output FILE, or --output - to write it there anyway",
             )
         }
         Target::Terminal | Target::StandardOutput => print(rt, bytes),
@@ -171,8 +173,8 @@ fn check_size(alloc: Global, request: &Request<'_>, drawing: &Drawing) -> Result
     let side = code.width() as u32 + 2 * quiet_zone(request, code);
     match request.size {
         Some(size) if (size as u32) < side => Err(Failure::Refused(format!(in alloc;
-            "a side of {size} pixels: the symbol and its quiet zone have {side} modules a side; \
-            take --size {side} or more, or a smaller --quiet-zone"
+            "a side of {size} pixels is too small: the code and its quiet zone have {side} modules a \
+            side; use --size {side} or more, or a smaller --quiet-zone"
         )?)),
         _ => Ok(()),
     }

@@ -66,7 +66,7 @@ fn character_set(alloc: Global, word: &str, number: &str) -> Result<Piece, Failu
     match number.parse::<u32>() {
         Ok(number) if number <= 999_999 => Ok(Piece::CharacterSet(number)),
         _ => Err(Failure::Usage(format!(in alloc;
-            "--segment {word}: the number of a character set is one of 0 to 999999, as 26 of UTF-8"
+            "--segment {word}: an ECI number is 0 to 999999, e.g. 26 for UTF-8"
         )?)),
     }
 }
@@ -78,15 +78,15 @@ fn pairs(alloc: Global, word: &str, digits: &str) -> Result<Piece, Failure> {
         return Ok(Piece::Data(Mode::Kanji, bytes));
     }
     Err(Failure::Usage(format!(in alloc;
-        "--segment {word}: the text of kanji is Shift JIS in pairs of digits 0 to f, as 935f"
+        "--segment {word}: the data of kanji is Shift JIS in hex, e.g. 935f"
     )?))
 }
 
 // A word that is no segment.
 fn no_segment(alloc: Global, word: &str) -> Result<Piece, Failure> {
     Err(Failure::Usage(format!(in alloc;
-        "--segment {word}: it wants MODE:TEXT, of the modes numeric, alphanumeric, byte and kanji, \
-        or eci:NUMBER"
+        "--segment {word}: use MODE:DATA with the mode numeric, alphanumeric, byte or kanji, or \
+        eci:NUMBER"
     )?))
 }
 
@@ -122,9 +122,9 @@ fn push_digits(bytes: &mut Vec<u8>, digits: &[u8]) -> Result<bool, AllocError> {
 /// Why a mode does not write a text.
 pub(crate) fn characters_of(mode: Mode) -> &'static str {
     match mode {
-        Mode::Numeric => "numeric writes digits alone",
-        Mode::Alphanumeric => "alphanumeric writes digits, capitals, space and $%*+-./: alone",
-        Mode::Byte => "byte writes any text",
-        Mode::Kanji => "kanji writes pairs of Shift JIS, 8140 to 9ffc and e040 to ebbf",
+        Mode::Numeric => "numeric holds only digits",
+        Mode::Alphanumeric => "alphanumeric holds only digits, capitals, spaces and $%*+-./:",
+        Mode::Byte => "byte holds any text",
+        Mode::Kanji => "kanji holds only Shift JIS, 8140 to 9ffc and e040 to ebbf",
     }
 }

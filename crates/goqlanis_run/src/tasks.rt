@@ -11,12 +11,13 @@ use clap::ArgMatches;
 use clap::error::{Error, ErrorKind};
 use goqlanis_files::failure::{Failure, refused, status};
 use goqlanis_files::streams::{Escaped, MOST_DATA, print, read_file, read_standard_input};
-use goqlanis_options::advice::{advice, wrapped};
+use goqlanis_options::advice::{advice, wrapped_help};
 use goqlanis_options::asked::{Asked, Source, asked_for};
+use goqlanis_options::colours::Colours;
 use goqlanis_options::command::{command_of, end_of_help};
 use goqlanis_options::completions::{completions_of, shell_named};
 use goqlanis_options::manual::manual_page;
-use goqlanis_options::options::{Kind, Purpose, Task, task_of};
+use goqlanis_options::options::{DRAWING, Kind, Purpose, Task, task_named};
 use qrcode::QrCode;
 use qrcode::types::QrError;
 use qrcode_contents::bill;
@@ -33,16 +34,31 @@ pub fn run(rt: &HostRuntime) -> ExitCode {
     status(rt, run_words(rt))
 }
 
-// The same, unless it fails. The first word behind the program's name may ask for a task; `clap`
-// reads the words behind it.
+// The same, unless it fails. The first word after the program's name may be a command; `clap` reads
+// the words after it.
 fn run_words(rt: &HostRuntime) -> Result<ExitCode, Failure> {
     let mut words = all_words(rt)?;
-    let task = task_of(words.get(1).map_or("", String::as_str));
-    if words.len() > 1 && !task.word.is_empty() {
-        let word = words.remove(1);
-        words[0] = format!(in rt.alloc(); "goqlanis {word}")?;
+    if words.len() > 1 && words[1].as_str() == "help" {
+        words.remove(1);
+        words.push(String::from_str(rt.alloc(), "--help")?)?;
     }
-    run_task(rt, task, &words)
+    match named_task(&words) {
+        Some(task) if words.len() > 1 => {
+            words.remove(1);
+            let word = task.word;
+            words[0] = format!(in rt.alloc(); "goqlanis {word}")?;
+            run_task(rt, task, &words)
+        }
+        _ => run_task(rt, &DRAWING, &words),
+    }
+}
+
+// The task of the command that words begin with, where they do.
+fn named_task(words: &[String]) -> Option<&'static Task> {
+    match words.get(1) {
+        Some(word) => task_named(word.as_str()),
+        None => None,
+    }
 }
 
 // The words of the command line.
@@ -51,8 +67,7 @@ fn all_words(rt: &HostRuntime) -> Result<Vec<String>, Failure> {
         Ok(words) => Ok(words.collect(rt.alloc())?),
         Err(error) if error.kind() == io::ErrorKind::InvalidData => refused(
             rt.alloc(),
-            "an argument is not UTF-8: \
-            give data by --input or standard input, and name files in UTF-8",
+            "an argument is not UTF-8: use --input FILE for other data, and UTF-8 in file names",
         ),
         Err(_) => Err(Failure::OutOfMemory),
     }
@@ -62,22 +77,22 @@ fn all_words(rt: &HostRuntime) -> Result<Vec<String>, Failure> {
 fn run_task(rt: &HostRuntime, task: &Task, words: &[String]) -> Result<ExitCode, Failure> {
     let help_end = end_of_help(rt.alloc(), task)?;
     match command_of(rt.alloc(), task, help_end.as_str())?.try_get_matches_from(words) {
-        Ok(given) => obey(rt, task, &given),
+        Ok(given) => perform(rt, task, &given),
         Err(error) => match advice(rt.alloc(), task, words, &error)? {
             Some(why) => Err(Failure::Usage(why)),
-            None => end(rt, &error),
+            None => exit_status(rt, &error),
         },
     }
 }
 
 // The exit status of words that `clap` refuses, or answers by a text itself, as `--help`.
-fn end(rt: &HostRuntime, error: &Error) -> Result<ExitCode, Failure> {
+fn exit_status(rt: &HostRuntime, error: &Error) -> Result<ExitCode, Failure> {
     if error.kind() == ErrorKind::OutOfMemory {
         return Err(Failure::OutOfMemory);
     }
     let text = format!(in rt.alloc(); "{error}")?;
     if !error.use_stderr() {
-        return print(rt, wrapped(rt.alloc(), text.as_str())?.as_bytes());
+        return print(rt, wrapped_help(rt.alloc(), text.as_str())?.as_bytes());
     }
     let shown = Escaped {
         bytes: text.as_bytes(),
@@ -88,22 +103,27 @@ fn end(rt: &HostRuntime, error: &Error) -> Result<ExitCode, Failure> {
 }
 
 // Does a task with the options that are given.
-fn obey(rt: &HostRuntime, task: &Task, given: &ArgMatches<'_>) -> Result<ExitCode, Failure> {
+fn perform(rt: &HostRuntime, task: &Task, given: &ArgMatches<'_>) -> Result<ExitCode, Failure> {
     match task.purpose {
-        Purpose::Draw => draw_data(rt, given),
-        Purpose::Several => draw_parts(rt, given),
         Purpose::Read => read(rt, given),
         Purpose::Join => join_pictures(rt, given),
-        Purpose::Content(kind) => draw_content(rt, kind, given),
-        Purpose::Elements => draw_gs1(rt, given),
+        Purpose::Draw => match text_about(rt.alloc(), given)? {
+            Some(text) => print(rt, text.as_bytes()),
+            None => make(rt, task.purpose, given),
+        },
+        purpose => make(rt, purpose, given),
     }
 }
 
-// Draws data, unless a text about the program is asked for.
-fn draw_data(rt: &HostRuntime, given: &ArgMatches<'_>) -> Result<ExitCode, Failure> {
-    match text_about(rt.alloc(), given)? {
-        Some(text) => print(rt, text.as_bytes()),
-        None => draw_asked(rt, given, &asked_for(rt, given)?),
+// Makes codes.
+fn make(rt: &HostRuntime, purpose: Purpose, given: &ArgMatches<'_>) -> Result<ExitCode, Failure> {
+    let colours = Colours::of(rt.alloc(), given)?;
+    let asked = asked_for(rt, given, &colours)?;
+    match purpose {
+        Purpose::Several => { draw_several(rt, given, &asked, &data(rt, &asked, MOST_IN_SEVERAL)?) }
+        Purpose::Content(kind) => draw_content(rt, kind, given, &asked),
+        Purpose::Elements => draw_gs1(rt, given, &asked),
+        _ => draw_asked(rt, given, &asked),
     }
 }
 
@@ -136,21 +156,19 @@ fn draw_asked(
     draw_one(rt, asked, &data(rt, asked, MOST_DATA)?)
 }
 
-// Draws data in several symbols.
-fn draw_parts(rt: &HostRuntime, given: &ArgMatches<'_>) -> Result<ExitCode, Failure> {
-    let asked = asked_for(rt, given)?;
-    draw_several(rt, given, &asked, &data(rt, &asked, MOST_IN_SEVERAL)?)
-}
-
 // Draws the text of a kind, of the fields that are given.
-fn draw_content(rt: &HostRuntime, kind: Kind, given: &ArgMatches<'_>) -> Result<ExitCode, Failure> {
+fn draw_content(
+    rt: &HostRuntime,
+    kind: Kind,
+    given: &ArgMatches<'_>,
+    asked: &Asked<'_>,
+) -> Result<ExitCode, Failure> {
     let alloc = rt.alloc();
-    let asked = asked_for(rt, given)?;
     let text = text_of(alloc, kind, given)?;
     if matches!(kind, Kind::Bill) {
         check_bill(alloc, text.as_str())?;
     }
-    draw_one(rt, &asked, text.as_bytes())
+    draw_one(rt, asked, text.as_bytes())
 }
 
 // The bytes that a symbol of a bill's level and largest version always holds.
@@ -175,15 +193,18 @@ fn check_bill(alloc: Global, text: &str) -> Result<(), Failure> {
 }
 
 // Draws elements of GS1, or data of an application.
-fn draw_gs1(rt: &HostRuntime, given: &ArgMatches<'_>) -> Result<ExitCode, Failure> {
+fn draw_gs1(
+    rt: &HostRuntime,
+    given: &ArgMatches<'_>,
+    asked: &Asked<'_>,
+) -> Result<ExitCode, Failure> {
     let alloc = rt.alloc();
-    let asked = asked_for(rt, given)?;
     let text = given.get_str("ELEMENTS").unwrap_or("");
     let drawing = match given.get_str("application") {
         None => elements_drawing(alloc, &asked.request, text)?,
         Some(indicator) => application_drawing(alloc, &asked.request, indicator, text)?,
     };
-    write_drawing(rt, &asked, &drawing)
+    write_drawing(rt, asked, &drawing)
 }
 
 // The data that is asked about, of at most so many bytes where it is read.

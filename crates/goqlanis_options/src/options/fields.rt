@@ -7,12 +7,12 @@ use super::{Entry, Kind, Purpose, Task};
 #[rattlefmt::skip]
 pub static ELEMENTS: Task = Task {
     word: "gs1",
-    about: "Draws the symbol of elements of GS1, behind FNC1 in first position",
+    about: "GS1 element string",
     purpose: Purpose::Elements,
     options: &[
         entry!("application", Text("INDICATOR"),
-            "Draw data of an application in place of elements, behind FNC1 in second position: two \
-            digits or a letter"),
+            "Encode data of another application instead (FNC1 in second position): two digits or a \
+            letter, assigned by AIM"),
     ],
 };
 
@@ -20,12 +20,12 @@ pub static ELEMENTS: Task = Task {
 #[rattlefmt::skip]
 pub static WIFI: Task = Task {
     word: "wifi",
-    about: "Draws the symbol that joins a wireless network",
+    about: "Wi-Fi network",
     purpose: Purpose::Content(Kind::Wifi),
     options: &[
         entry!("ssid", Wanted("NAME"), "The name of the network, 1 to 32 bytes"),
         entry!("password", Text("TEXT"), "Its password; none for an open network"),
-        entry!("security", Word(&["open", "WEP", "WPA", "WPA3"]),
+        entry!("security", Word("SECURITY", &["open", "WEP", "WPA", "WPA3"]),
             "How it is secured; otherwise WPA with a password, and open without"),
         entry!("hidden", Nothing, "Say that the network does not tell its name"),
     ],
@@ -35,7 +35,7 @@ pub static WIFI: Task = Task {
 #[rattlefmt::skip]
 pub static MECARD: Task = Task {
     word: "mecard",
-    about: "Draws the symbol of a contact, as MECARD",
+    about: "Contact (MECARD)",
     purpose: Purpose::Content(Kind::Mecard),
     options: &[
         entry!("family", Wanted("NAME"), "The family name"),
@@ -57,7 +57,7 @@ pub static MECARD: Task = Task {
 #[rattlefmt::skip]
 pub static VCARD: Task = Task {
     word: "vcard",
-    about: "Draws the symbol of a contact, as vCard 3.0",
+    about: "Contact (vCard 3.0)",
     purpose: Purpose::Content(Kind::Vcard),
     options: &[
         entry!("name", Wanted("NAME"), "The whole name, as it is shown"),
@@ -79,8 +79,8 @@ pub static VCARD: Task = Task {
 /// A SEPA credit transfer.
 #[rattlefmt::skip]
 pub static PAYMENT: Task = Task {
-    word: "payment",
-    about: "Draws the symbol of a SEPA credit transfer (EPC069-12), of level M",
+    word: "epc",
+    about: "SEPA credit transfer (EPC QR code)",
     purpose: Purpose::Content(Kind::Payment),
     options: &[
         entry!("name", Wanted("NAME"), "Who is paid, up to 70 characters"),
@@ -99,7 +99,7 @@ pub static PAYMENT: Task = Task {
 #[rattlefmt::skip]
 pub static BILL: Task = Task {
     word: "bill",
-    about: "Draws the symbol of a Swiss QR bill, of level M, without its cross",
+    about: "Swiss QR-bill, without its cross",
     purpose: Purpose::Content(Kind::Bill),
     options: &[
         entry!("iban", Wanted("IBAN"), "The account in Switzerland or Liechtenstein, without spaces"),
@@ -110,7 +110,7 @@ pub static BILL: Task = Task {
         entry!("city", Wanted("TEXT"), "The town"),
         entry!("country", Wanted("CODE"), "The country, two capitals, as CH"),
         entry!("amount", Text("NUMBER"), "The amount, as 1949.75; otherwise it is left open"),
-        entry!("currency", Word(&["CHF", "EUR"]), "The currency; CHF unless said otherwise"),
+        entry!("currency", Word("CURRENCY", &["CHF", "EUR"]), "The currency; CHF unless said otherwise"),
         entry!("debtor-name", Text("NAME"),
             "Who pays; nobody is named where all of these are left out"),
         entry!("debtor-street", Text("TEXT"), "The street of who pays"),
@@ -127,8 +127,8 @@ pub static BILL: Task = Task {
 /// A mail.
 #[rattlefmt::skip]
 pub static MAIL: Task = Task {
-    word: "mail",
-    about: "Draws the symbol that writes a mail",
+    word: "email",
+    about: "E-mail",
     purpose: Purpose::Content(Kind::Mail),
     options: &[
         entry!("email", Wanted("ADDRESS"), "To whom it goes"),
@@ -140,8 +140,8 @@ pub static MAIL: Task = Task {
 /// A place on the earth.
 #[rattlefmt::skip]
 pub static PLACE: Task = Task {
-    word: "place",
-    about: "Draws the symbol of a place on the earth",
+    word: "geo",
+    about: "Location",
     purpose: Purpose::Content(Kind::Place),
     options: &[
         entry!("latitude", Wanted("DEGREES"),
@@ -154,7 +154,7 @@ pub static PLACE: Task = Task {
 #[rattlefmt::skip]
 pub static TEL: Task = Task {
     word: "tel",
-    about: "Draws the symbol that dials a number",
+    about: "Phone call",
     purpose: Purpose::Content(Kind::Tel),
     options: &[
         entry!("phone", Wanted("NUMBER"), "The number, as +41441234567"),
@@ -165,7 +165,7 @@ pub static TEL: Task = Task {
 #[rattlefmt::skip]
 pub static SMS: Task = Task {
     word: "sms",
-    about: "Draws the symbol that writes a message to a telephone",
+    about: "Text message",
     purpose: Purpose::Content(Kind::Sms),
     options: &[
         entry!("phone", Wanted("NUMBER"), "The number, as +41441234567"),
@@ -177,15 +177,15 @@ pub static SMS: Task = Task {
 #[rattlefmt::skip]
 pub static OTP: Task = Task {
     word: "otp",
-    about: "Draws the symbol of one-time passwords, for programs that show them",
+    about: "One-time password for authenticator apps",
     purpose: Purpose::Content(Kind::Otp),
     options: &[
         entry!("account", Wanted("NAME"), "For which account they are"),
         entry!("secret", Wanted("SECRET"), "The secret in base 32, without spaces and ="),
         entry!("issuer", Text("NAME"), "Who issues them"),
-        entry!("algorithm", Word(&["SHA1", "SHA256", "SHA512"]),
+        entry!("algorithm", Word("HASH", &["SHA1", "SHA256", "SHA512"]),
             "The hash; SHA1 unless said otherwise"),
-        entry!("digits", Word(&["6", "8"]),
+        entry!("digits", Word("N", &["6", "8"]),
             "How many digits a password has; 6 unless said otherwise"),
         entry!("period", Text("SECONDS"), "How long one holds; 30 unless said otherwise"),
         entry!("counter", Text("NUMBER"),
@@ -197,7 +197,7 @@ pub static OTP: Task = Task {
 #[rattlefmt::skip]
 pub static EVENT: Task = Task {
     word: "event",
-    about: "Draws the symbol of an event of a calendar",
+    about: "Calendar event",
     purpose: Purpose::Content(Kind::Event),
     options: &[
         entry!("begin", Wanted("TIME"),

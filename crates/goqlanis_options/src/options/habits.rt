@@ -1,35 +1,50 @@
-//! What people type who know other programs.
+//! What people type who know other programs, or older names.
 
-/// Letters and names that other programs have for an option. They are taken too, and no help names
-/// them.
+/// Letters and names for an option that are taken too, and that no help shows.
 #[rattlefmt::skip]
 pub static OTHER_NAMES: &[(&str, &str)] = &[
     ("r", "input"), ("read-from", "input"),
     ("t", "format"), ("type", "format"), ("filetype", "format"),
-    ("error", "level"),
+    ("error", "level"), ("ecc", "level"), ("error-correction", "level"),
     ("symversion", "symbol-version"), ("vers", "symbol-version"),
+    ("least-version", "min-version"), ("greatest-version", "max-version"),
     ("m", "quiet-zone"), ("margin", "quiet-zone"), ("border", "quiet-zone"),
-    ("color", "colour"), ("dark", "colour"), ("foreground", "colour"), ("fg", "colour"),
-    ("light", "background"), ("bg", "background"),
+    ("color", "dark"), ("colour", "dark"), ("foreground", "dark"), ("fg", "dark"),
+    ("background", "light"), ("bg", "light"),
     ("p", "mask"), ("pattern", "mask"),
+    ("org", "organisation"),
 ];
 
-/// Words that are not taken, and what would help.
+/// Older names of commands, and other spellings, that are taken too, and that no help shows.
+#[rattlefmt::skip]
+pub static OTHER_WORDS: &[(&str, &str)] = &[
+    ("several", "split"), ("payment", "epc"), ("mail", "email"), ("place", "geo"),
+];
+
+/// Words that are not taken, and what to write instead.
 #[rattlefmt::skip]
 pub static ADVICE: &[(&str, &str)] = &[
-    ("-M", "Micro QR is --micro"),
-    ("-d", "dots per inch are --dpi; a text needs no option, as goqlanis \"some text\""),
-    ("-8 --8bit", "the fewest bits are --bytes; one segment of bytes is --segment byte:TEXT"),
-    ("-k --kanji", "Kanji need no option; by hand they are --segment kanji:935f, in Shift JIS"),
-    ("-e", "the level is --level"),
-    ("-b", "the quiet zone is --quiet-zone"),
-    ("-S --structured", "a text in several symbols is goqlanis several"),
-    ("--width", "the pixels of a side are --size"),
-    ("--logo", "no picture is laid over a symbol: draw with --level H, and lay it there yourself"),
-    ("txt", "a .txt file has --format half-blocks; text has a character for each module"),
-    ("utf8 UTF8 unicode", "this is --format half-blocks, or terminal, in black on white"),
-    ("ansi ANSI ansiutf8 ANSIUTF8", "this is --format terminal"),
-    ("ascii ASCII", "a character for each module is --format text"),
-    ("pdf PDF", "write --format svg or eps, and convert that"),
-    ("jpg JPG jpeg JPEG gif GIF", "write --format png, and convert that"),
+    ("-M", "for Micro QR, add --micro"),
+    ("-d", "for pixels per inch, add --dpi; a text needs no option: goqlanis \"some text\""),
+    ("-8 --8bit", "for the fewest bits, add --bytes; for one byte segment, --segment byte:TEXT"),
+    ("-k --kanji", "Kanji need no option; to choose the segment, --segment kanji:935f (Shift JIS)"),
+    ("-e", "for the error correction level, add --level"),
+    ("-b", "for the quiet zone, add --quiet-zone"),
+    ("-c", "upper and lower case are always kept; leave it out"),
+    ("--secure", "for the error correction level, add --level L, M, Q or H"),
+    ("--file", "to encode a file, add --input FILE; to write one, --output FILE"),
+    ("-w", "for the quiet zone, add --quiet-zone"),
+    ("--gs1 --gs1parens", "for a GS1 element string: goqlanis gs1 \"(01)09521234543213\""),
+    ("-S --structured --seq --structapp --symbol-count",
+        "to split data over several codes: goqlanis split"),
+    ("--rle", "leave it out: SVG files are small as they are"),
+    ("--encoding", "text is UTF-8; to say so to readers, add --eci; for other bytes, --input FILE"),
+    ("--width", "for pixels per side, add --size"),
+    ("--logo", "no picture is laid over a code: use --level H, and add the logo yourself"),
+    ("txt", "for .txt files, --format half-blocks; text has a character per module"),
+    ("utf8 UTF8 unicode", "for this, --format half-blocks; terminal adds black on white"),
+    ("ansi ANSI ansiutf8 ANSIUTF8", "for this, --format terminal"),
+    ("ascii ASCII", "for a character per module, --format text"),
+    ("pdf PDF", "use --format svg or eps, and convert that"),
+    ("jpg JPG jpeg JPEG gif GIF", "use --format png, and convert that"),
 ];

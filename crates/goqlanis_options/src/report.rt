@@ -1,0 +1,114 @@
+//! What was made, on standard error: `--verbose` and `--json`.
+
+use crate::asked::{Asked, Reporting};
+use crate::warnings::{Decimal, hundredths_of, warn_of_size};
+use goqlanis_core::{Drawing, VersionName, quiet_zone, scale};
+use qrcode::types::EcLevel;
+use std::alloc::{AllocError, Global};
+
+// What is reported of a code.
+#[derive(Clone, Copy)]
+struct Report {
+    version: VersionName,
+    level: EcLevel,
+    mask: usize,
+    // The modules of a side, those of the quiet zone at each side, and the pixels of a module.
+    modules: u32,
+    zone: u32,
+    scale: u32,
+    // The pixels of a side, and those of a printed inch where they are known.
+    side: u32,
+    dots: Option<u16>,
+}
+
+/// Says on standard error what was made, where that is asked for, and warns of a size that differs from
+/// the one that is asked for.
+pub fn show_report(
+    rt: &HostRuntime,
+    asked: &Asked<'_>,
+    drawing: &Drawing,
+) -> Result<(), AllocError> {
+    let report = report_of(asked, drawing);
+    let zone = report.zone.saturating_mul(2);
+    warn_of_size(rt, asked, report.modules.saturating_add(zone));
+    let text = match asked.reporting {
+        None => return Ok(()),
+        Some(Reporting::Lines) => lines(rt.alloc(), &report)?,
+        Some(Reporting::Json) => json(rt.alloc(), &report)?,
+    };
+    let _ = eprint!(rt; "{text}");
+    Ok(())
+}
+
+fn report_of(asked: &Asked<'_>, drawing: &Drawing) -> Report {
+    let (request, code) = (&asked.request, &drawing.code);
+    let version = code.version();
+    let own = if version.is_micro() {
+        code.mask().micro_number()
+    } else {
+        code.mask().number()
+    };
+    let (modules, zone) = (code.width() as u32, quiet_zone(request, code));
+    let scale = scale(request, code).max(1);
+    Report {
+        version: VersionName(version),
+        level: code.error_correction_level(),
+        mask: request.mask.unwrap_or(own),
+        modules,
+        zone,
+        scale,
+        side: modules
+            .saturating_add(zone.saturating_mul(2))
+            .saturating_mul(scale),
+        dots: asked.dots,
+    }
+}
+
+// A report in lines.
+fn lines(alloc: Global, report: &Report) -> Result<String, AllocError> {
+    let Report {
+        version,
+        level,
+        mask,
+        modules,
+        zone,
+        scale,
+        side,
+        dots,
+    } = report;
+    let mut text = format!(in alloc;
+        "version {version}, level {level:?}, mask {mask}
+modules: {modules} by {modules}; pixels of a module: {scale}; quiet zone: {zone}
+size: {side} by {side} pixels"
+    )?;
+    if let Some(dots) = *dots {
+        let side = Decimal(hundredths_of(*side, dots));
+        write!(text, ", {side} mm at {dots} per inch")?;
+    }
+    text.push_str("\n")?;
+    Ok(text)
+}
+
+// A report as a line of JSON.
+fn json(alloc: Global, report: &Report) -> Result<String, AllocError> {
+    let Report {
+        version,
+        level,
+        mask,
+        modules,
+        zone,
+        scale,
+        side,
+        dots,
+    } = report;
+    let mut text = format!(in alloc;
+        "{{\"version\": \"{version}\", \"level\": \"{level:?}\", \"mask\": {mask}, \
+        \"modules\": {modules}, \"quiet_zone\": {zone}, \"scale\": {scale}, \"pixels\": {side}"
+    )?;
+    if let Some(dots) = *dots {
+        let side = Decimal(hundredths_of(*side, dots));
+        write!(text, ", \"millimetres\": {side}")?;
+    }
+    text.push_str("}\n")?;
+    Ok(text)
+}
