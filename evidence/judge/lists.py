@@ -84,10 +84,10 @@ def written(shape, count):
 
 def lists_of_each_length(shape, room):
     """For each length up to the room that lists of segments of digits can have, the counts of
-    digits in one such list."""
+    digits in one such list. A segment without digits is left out."""
     most, found = 2 ** count_bits(shape, "numeric"), {0: []}
     for length in range(room + 1):
-        for count in range(most if length in found else 0):
+        for count in range(1, most if length in found else 0):
             longer = length + len(written(shape, count))
             if longer <= room:
                 found.setdefault(longer, found[length] + [count])
@@ -123,7 +123,7 @@ def lists_are_ended():
             it = not_ended(square, ended(shape, bits, room))
             found += [f"{counted} in {version}-{level}: {it}"] if it else []
         counts.append(len(lists))
-    return found + ([] if counts == [15, 67, 51] else [f"{counts} lengths"]), f"{sum(counts)} lists"
+    return found + ([] if counts == [7, 63, 47] else [f"{counts} lengths"]), f"{sum(counts)} lists"
 
 
 def segments_in_any_order():
