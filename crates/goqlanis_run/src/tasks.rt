@@ -34,22 +34,38 @@ pub fn run(rt: &HostRuntime) -> ExitCode {
     status(rt, run_words(rt))
 }
 
-// The same, unless it fails. The first word after the program's name may be a command; `clap` reads
-// the words after it.
+// The same, unless it fails.
 fn run_words(rt: &HostRuntime) -> Result<ExitCode, Failure> {
     let mut words = all_words(rt)?;
+    let task = take_command(rt.alloc(), &mut words)?;
+    let help_end = end_of_help(rt.alloc(), task)?;
+    let given = match command_of(rt.alloc(), task, help_end.as_str())?.try_get_matches_from(
+        &words,
+    ) {
+        Ok(given) => given,
+        Err(error) => return refuse(rt, task, &words, &error),
+    };
+    let colours = Colours::of(rt.alloc(), &given)?;
+    let done = perform(rt, task, &given, &colours);
+    drop(given);
+    done
+}
+
+// The task of the command line. The first word after the program's name may be a command, which then
+// goes into that name; `clap` reads the words after it.
+fn take_command(alloc: Global, words: &mut Vec<String>) -> Result<&'static Task, AllocError> {
     if words.len() > 1 && words[1].as_str() == "help" {
         words.remove(1);
-        words.push(String::from_str(rt.alloc(), "--help")?)?;
+        words.push(String::from_str(alloc, "--help")?)?;
     }
-    match named_task(&words) {
+    match named_task(words) {
         Some(task) if words.len() > 1 => {
             words.remove(1);
             let word = task.word;
-            words[0] = format!(in rt.alloc(); "goqlanis {word}")?;
-            run_task(rt, task, &words)
+            words[0] = format!(in alloc; "goqlanis {word}")?;
+            Ok(task)
         }
-        _ => run_task(rt, &DRAWING, &words),
+        _ => Ok(&DRAWING),
     }
 }
 
@@ -73,15 +89,16 @@ fn all_words(rt: &HostRuntime) -> Result<Vec<String>, Failure> {
     }
 }
 
-// Does a task as words say it, of which the first is the program's name.
-fn run_task(rt: &HostRuntime, task: &Task, words: &[String]) -> Result<ExitCode, Failure> {
-    let help_end = end_of_help(rt.alloc(), task)?;
-    match command_of(rt.alloc(), task, help_end.as_str())?.try_get_matches_from(words) {
-        Ok(given) => perform(rt, task, &given),
-        Err(error) => match advice(rt.alloc(), task, words, &error)? {
-            Some(why) => Err(Failure::Usage(why)),
-            None => exit_status(rt, &error),
-        },
+// Says what is wrong with words that `clap` refuses, or writes its text.
+fn refuse(
+    rt: &HostRuntime,
+    task: &Task,
+    words: &[String],
+    error: &Error,
+) -> Result<ExitCode, Failure> {
+    match advice(rt.alloc(), task, words, error)? {
+        Some(why) => Err(Failure::Usage(why)),
+        None => exit_status(rt, error),
     }
 }
 
@@ -103,22 +120,31 @@ fn exit_status(rt: &HostRuntime, error: &Error) -> Result<ExitCode, Failure> {
 }
 
 // Does a task with the options that are given.
-fn perform(rt: &HostRuntime, task: &Task, given: &ArgMatches<'_>) -> Result<ExitCode, Failure> {
+fn perform<'a>(
+    rt: &HostRuntime,
+    task: &Task,
+    given: &ArgMatches<'a>,
+    colours: &'a Colours,
+) -> Result<ExitCode, Failure> {
     match task.purpose {
         Purpose::Read => read(rt, given),
         Purpose::Join => join_pictures(rt, given),
         Purpose::Draw => match text_about(rt.alloc(), given)? {
             Some(text) => print(rt, text.as_bytes()),
-            None => make(rt, task.purpose, given),
+            None => make(rt, task.purpose, given, colours),
         },
-        purpose => make(rt, purpose, given),
+        purpose => make(rt, purpose, given, colours),
     }
 }
 
 // Makes codes.
-fn make(rt: &HostRuntime, purpose: Purpose, given: &ArgMatches<'_>) -> Result<ExitCode, Failure> {
-    let colours = Colours::of(rt.alloc(), given)?;
-    let asked = asked_for(rt, given, &colours)?;
+fn make<'a>(
+    rt: &HostRuntime,
+    purpose: Purpose,
+    given: &ArgMatches<'a>,
+    colours: &'a Colours,
+) -> Result<ExitCode, Failure> {
+    let asked = asked_for(rt, given, colours)?;
     match purpose {
         Purpose::Several => { draw_several(rt, given, &asked, &data(rt, &asked, MOST_IN_SEVERAL)?) }
         Purpose::Content(kind) => draw_content(rt, kind, given, &asked),
