@@ -1,6 +1,6 @@
 //! From the command line to what is asked for.
 
-use crate::numbers::{decimal, two_digits};
+use crate::numbers::two_digits;
 use crate::warnings::warn;
 use clap::ArgMatches;
 use clap::parser::ValueSource;
@@ -11,6 +11,7 @@ use goqlanis_files::streams::has_colours;
 use qrcode::bits::Manner;
 use qrcode::types::{EcLevel, Version};
 use qrcode_append::Versions;
+use qrcode_payloads::numbers::decimal;
 use qrcode_png::GREATEST_SIDE;
 use std::alloc::{AllocError, Global};
 

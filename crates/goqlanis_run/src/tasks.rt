@@ -1,6 +1,6 @@
 //! What the command line asks for, done.
 
-use crate::contents::text_of;
+use crate::contents::payload_of;
 use crate::drawing::{
     application_drawing, draw_one, elements_drawing, segments_drawing, write_drawing,
 };
@@ -16,10 +16,11 @@ use goqlanis_options::asked::{Asked, Source, asked_for};
 use goqlanis_options::command::{command_of, end_of_help};
 use goqlanis_options::completions::completions_of;
 use goqlanis_options::manual::manual_page;
-use goqlanis_options::options::{Kind, Purpose, Task, task_of};
+use goqlanis_options::options::{Purpose, Task, task_of};
 use qrcode::QrCode;
 use qrcode::types::QrError;
 use qrcode_contents::bill;
+use qrcode_payloads::kinds::Kind;
 use std::alloc::{AllocError, Global};
 use std::process::ExitCode;
 use std::{env, io};
@@ -145,7 +146,7 @@ fn draw_parts(rt: &HostRuntime, given: &ArgMatches<'_>) -> Result<ExitCode, Fail
 fn draw_content(rt: &HostRuntime, kind: Kind, given: &ArgMatches<'_>) -> Result<ExitCode, Failure> {
     let alloc = rt.alloc();
     let asked = asked_for(rt, given)?;
-    let text = text_of(alloc, kind, given)?;
+    let text = payload_of(alloc, kind, given)?;
     if matches!(kind, Kind::Bill) {
         check_bill(alloc, text.as_str())?;
     }

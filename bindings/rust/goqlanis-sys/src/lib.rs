@@ -45,6 +45,8 @@ pub const GOQ_FIELD_RANGE: u32 = 40;
 pub const GOQ_FIELD_UNUSED: u32 = 41;
 pub const GOQ_NO_SUCH_IDENTIFIER: u32 = 42;
 pub const GOQ_ELEMENT_LENGTH: u32 = 43;
+pub const GOQ_FIELD_DECIMALS: u32 = 44;
+pub const GOQ_FIELD_WORD: u32 = 45;
 
 pub const GOQ_HALF_BLOCKS: u32 = 0;
 pub const GOQ_LIGHT_HALF_BLOCKS: u32 = 1;
@@ -73,10 +75,8 @@ pub const GOQ_MAIL: u32 = 5;
 pub const GOQ_GEO: u32 = 6;
 pub const GOQ_TEL: u32 = 7;
 pub const GOQ_SMS: u32 = 8;
-pub const GOQ_TOTP: u32 = 9;
-pub const GOQ_HOTP: u32 = 10;
-pub const GOQ_EVENT: u32 = 11;
-pub const GOQ_DAYS: u32 = 12;
+pub const GOQ_OTP: u32 = 9;
+pub const GOQ_EVENT: u32 = 10;
 
 pub const GOQ_AS_BYTES: u32 = 0;
 pub const GOQ_AS_TEXT: u32 = 1;
@@ -165,11 +165,10 @@ pub struct goq_segment {
     pub length: usize,
 }
 
-/// A field of a content: a text in UTF-8, whose number is 0; or a number, whose length is 0.
+/// A field of a payload: a text in UTF-8, empty where none is given.
 #[repr(C)]
 #[derive(Clone, Copy, Debug)]
 pub struct goq_field {
-    pub number: i64,
     pub bytes: *const u8,
     pub length: usize,
 }

@@ -171,7 +171,7 @@ pub const MORNING: Moment = Moment {
 /// A party from an evening until the next morning.
 pub const EVENT: Event<'static> = Event {
     uid: "19970610T172345Z-AF23B2@example.com",
-    stamp: STAMP,
+    stamp: Some(STAMP),
     span: Span::Times(EVENING, MORNING),
     summary: "Bastille Day Party",
     location: "",
