@@ -55,7 +55,7 @@ class Square(ctypes.Structure):
 
 class Field(ctypes.Structure):
     """goq_field."""
-    _fields_ = [("number", ctypes.c_int64), ("bytes", _data), ("length", _size)]
+    _fields_ = [("bytes", _data), ("length", _size)]
 
 
 class Element(ctypes.Structure):

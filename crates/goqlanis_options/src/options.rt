@@ -2,6 +2,7 @@
 //! command line, the manual page and the completions of shells are made. (A command of `clap` tells
 //! neither the names of values nor which values are paths, so they cannot be made from it.)
 
+use qrcode_payloads::kinds::Kind;
 use std::alloc::{AllocError, Global};
 
 // A row of a table of options: its name, its letter where it has one, what it takes and what help
@@ -73,33 +74,6 @@ pub struct Entry {
 pub struct Group {
     pub heading: &'static str,
     pub options: &'static [Entry],
-}
-
-/// What a text is of.
-#[derive(Clone, Copy)]
-pub enum Kind {
-    /// A wireless network.
-    Wifi,
-    /// A contact, as MECARD.
-    Mecard,
-    /// A contact, as vCard.
-    Vcard,
-    /// A SEPA credit transfer.
-    Payment,
-    /// A Swiss QR bill.
-    Bill,
-    /// A mail.
-    Mail,
-    /// A place on the earth.
-    Place,
-    /// A call.
-    Tel,
-    /// A message to a telephone.
-    Sms,
-    /// One-time passwords.
-    Otp,
-    /// An event of a calendar.
-    Event,
 }
 
 /// What a task does.

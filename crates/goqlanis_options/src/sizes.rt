@@ -1,9 +1,9 @@
 //! Sizes of the command line.
 
-use crate::numbers::decimal;
 use clap::ArgMatches;
 use goqlanis_core::Format;
 use goqlanis_files::failure::Failure;
+use qrcode_payloads::numbers::decimal;
 use qrcode_png::GREATEST_SIDE;
 use std::alloc::Global;
 

@@ -1,6 +1,7 @@
--- Amounts that may be left open.
-use Rattle.std.proofs.Common.{◌≡◌, ℕ, Option, Some, None, Decides, nat_eq, refl, ap}
+-- Amounts and moments that may be left open.
+use Rattle.std.proofs.Common.{◌≡◌, ℕ, Bool, Option, Some, None, Decides, nat_eq, refl, ap}
 use Rattle.std.specs.Option.{option_eq}
+use Rattle.qrcode_contents.specs.declared.times.Moment.{Moment}
 use Rattle.std.proofs.lemmas.Bool.Decides.{Decides-eqb}
 
 -- two of them are equal where both are left open, or both are the same
@@ -9,3 +10,9 @@ amounts_equal None None = ((λ is. refl), (λ e. refl))
 amounts_equal None (Some y) = ((λ is. cc), (λ e. cc))
 amounts_equal (Some x) None = ((λ is. cc), (λ e. cc))
 amounts_equal (Some x) (Some y) = ((λ is. ap Some ((Decides-eqb x y).0 is)), (λ e. (Decides-eqb x y).1 (let same : x ≡ y = cc in same)))
+
+pub moments_equal : (E : Moment → Moment → Bool) → ((x y : Moment) → Decides (E x y) (x ≡ y)) → (a b : Option Moment) → Decides (option_eq E a b) (a ≡ b)
+moments_equal E decides None None = ((λ is. refl), (λ e. refl))
+moments_equal E decides None (Some y) = ((λ is. cc), (λ e. cc))
+moments_equal E decides (Some x) None = ((λ is. cc), (λ e. cc))
+moments_equal E decides (Some x) (Some y) = ((λ is. ap Some ((decides x y).0 is)), (λ e. (decides x y).1 (let same : x ≡ y = cc in same)))

@@ -152,6 +152,9 @@ IsPlain-moment m is =
     subst IsPlain (sym (moment_written m (short_moment m is)))
     (plain_day m.day (clock_digits m) (record { no_return = time.no_return; no_feed = time.no_feed }))
 
+pub filled_moment : (m : Moment) → is_moment m ≡ true → is_filled (moment_text m) ≡ true
+filled_moment m is = ap is_filled (moment_written m (short_moment m is))
+
 -- it says something
 pub filled_day : (d : Day) → is_day d ≡ true → is_filled (day_text d) ≡ true
 filled_day d is = ap is_filled (day_digits d (small_day d is))

@@ -5,7 +5,7 @@ use Rattle.std.specs.Str.{chars}
 use Rattle.std.specs.Option.{option_map}
 use Rattle.qrcode_contents.specs.declared.contact.Contact.{Contact}
 use Rattle.qrcode_contents.specs.declared.fields.errors.ContentError.{ContentError}
-use Rattle.qrcode_contents.specs.declared.fields.errors.Field.TheVariants.{Name, Given, Phone, Email, Url, Birthday, Note, Street, City, Region, PostalCode, Country}
+use Rattle.qrcode_contents.specs.declared.fields.errors.Field.TheVariants.{Family, Given, Phone, Email, Url, Birthday, Note, Street, City, Region, PostalCode, Country}
 use Rattle.qrcode_contents.specs.declared.fields.errors.Cause.TheVariants.{Empty, TooShort, TooLong, Character}
 use Rattle.qrcode_contents.specs.fields.Characters.{is_digit, control_refusal}
 use Rattle.qrcode_contents.specs.fields.Entries.{Entry, single, is_empty, is_filled, marked_text, key_of, behind_key, read_entry, read_entries, value_of, part_of}
@@ -44,12 +44,12 @@ person_of c = record {
 
 unfoldable pub person_controls : Person → Option ContentError  -- line breaks and other control characters
 person_controls p = control_refusal (
-    (Name, p.family) ∷ (Given, p.given) ∷ (Phone, p.phone) ∷ (Email, p.email) ∷ (Url, p.url) ∷ (Note, p.note)
+    (Family, p.family) ∷ (Given, p.given) ∷ (Phone, p.phone) ∷ (Email, p.email) ∷ (Url, p.url) ∷ (Note, p.note)
     ∷ (Street, p.street) ∷ (City, p.city) ∷ (Region, p.region) ∷ (PostalCode, p.code) ∷ (Country, p.country) ∷ [])
 
 unfoldable pub person_checks : Person → Option ContentError  -- a missing name, and what is no birthday
 person_checks p = first_refusal (
-    refused_if (is_empty p.family) Name Empty
+    refused_if (is_empty p.family) Family Empty
     ∷ refused_if (not (list_all is_digit p.birthday)) Birthday Character
     ∷ refused_if (is_filled p.birthday && nat_lt (length (chars p.birthday)) 8) Birthday TooShort
     ∷ refused_if (nat_lt 8 (length (chars p.birthday))) Birthday TooLong

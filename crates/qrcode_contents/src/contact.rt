@@ -47,7 +47,7 @@ impl Contact<'_> {
         ensures { result ≡ checked (person_controls (person_of self.now)) }
     {
         refuse_first(&[
-            controls(Field::Name, self.family),
+            controls(Field::Family, self.family),
             controls(Field::Given, self.given),
             controls(Field::Phone, self.phone),
             controls(Field::Email, self.email),
@@ -69,7 +69,7 @@ impl Contact<'_> {
         let wrong = !are_digits(self.birthday.as_bytes());
         let short = !self.birthday.is_empty() & (character_count(self.birthday) < 8);
         refuse_first(&[
-            (self.family.is_empty(), Field::Name, Cause::Empty),
+            (self.family.is_empty(), Field::Family, Cause::Empty),
             (wrong, Field::Birthday, Cause::Character),
             (short, Field::Birthday, Cause::TooShort),
             too_long(Field::Birthday, self.birthday, 8),

@@ -47,6 +47,8 @@ pub const GOQ_FIELD_RANGE: u32 = 40;
 pub const GOQ_FIELD_UNUSED: u32 = 41;
 pub const GOQ_NO_SUCH_IDENTIFIER: u32 = 42;
 pub const GOQ_ELEMENT_LENGTH: u32 = 43;
+pub const GOQ_FIELD_DECIMALS: u32 = 44;
+pub const GOQ_FIELD_WORD: u32 = 45;
 pub const GOQ_L: u32 = 0;
 pub const GOQ_M: u32 = 1;
 pub const GOQ_Q: u32 = 2;
@@ -77,20 +79,13 @@ pub const GOQ_MAIL: u32 = 5;
 pub const GOQ_GEO: u32 = 6;
 pub const GOQ_TEL: u32 = 7;
 pub const GOQ_SMS: u32 = 8;
-pub const GOQ_TOTP: u32 = 9;
-pub const GOQ_HOTP: u32 = 10;
-pub const GOQ_EVENT: u32 = 11;
-pub const GOQ_DAYS: u32 = 12;
+pub const GOQ_OTP: u32 = 9;
+pub const GOQ_EVENT: u32 = 10;
 pub const GOQ_WIFI_SSID: u32 = 0;
 pub const GOQ_WIFI_PASSWORD: u32 = 1;
 pub const GOQ_WIFI_SECURITY: u32 = 2;
 pub const GOQ_WIFI_HIDDEN: u32 = 3;
 pub const GOQ_WIFI_FIELDS: u32 = 4;
-pub const GOQ_BY_PASSWORD: u32 = 0;
-pub const GOQ_OPEN: u32 = 1;
-pub const GOQ_WEP: u32 = 2;
-pub const GOQ_WPA: u32 = 3;
-pub const GOQ_WPA3: u32 = 4;
 pub const GOQ_MECARD_FAMILY: u32 = 0;
 pub const GOQ_MECARD_GIVEN: u32 = 1;
 pub const GOQ_MECARD_PHONE: u32 = 2;
@@ -145,8 +140,6 @@ pub const GOQ_BILL_DEBTOR_CODE: u32 = 14;
 pub const GOQ_BILL_DEBTOR_CITY: u32 = 15;
 pub const GOQ_BILL_DEBTOR_COUNTRY: u32 = 16;
 pub const GOQ_BILL_FIELDS: u32 = 17;
-pub const GOQ_CHF: u32 = 0;
-pub const GOQ_EUR: u32 = 1;
 pub const GOQ_MAIL_ADDRESS: u32 = 0;
 pub const GOQ_MAIL_SUBJECT: u32 = 1;
 pub const GOQ_MAIL_BODY: u32 = 2;
@@ -159,32 +152,21 @@ pub const GOQ_TEL_FIELDS: u32 = 1;
 pub const GOQ_SMS_NUMBER: u32 = 0;
 pub const GOQ_SMS_BODY: u32 = 1;
 pub const GOQ_SMS_FIELDS: u32 = 2;
-pub const GOQ_TOTP_ACCOUNT: u32 = 0;
-pub const GOQ_TOTP_SECRET: u32 = 1;
-pub const GOQ_TOTP_ISSUER: u32 = 2;
-pub const GOQ_TOTP_ALGORITHM: u32 = 3;
-pub const GOQ_TOTP_DIGITS: u32 = 4;
-pub const GOQ_TOTP_PERIOD: u32 = 5;
-pub const GOQ_TOTP_FIELDS: u32 = 6;
-pub const GOQ_HOTP_ACCOUNT: u32 = 0;
-pub const GOQ_HOTP_SECRET: u32 = 1;
-pub const GOQ_HOTP_ISSUER: u32 = 2;
-pub const GOQ_HOTP_ALGORITHM: u32 = 3;
-pub const GOQ_HOTP_DIGITS: u32 = 4;
-pub const GOQ_HOTP_COUNTER: u32 = 5;
-pub const GOQ_HOTP_FIELDS: u32 = 6;
-pub const GOQ_SHA1: u32 = 0;
-pub const GOQ_SHA256: u32 = 1;
-pub const GOQ_SHA512: u32 = 2;
-pub const GOQ_SIX_DIGITS: u32 = 0;
-pub const GOQ_EIGHT_DIGITS: u32 = 1;
-pub const GOQ_EVENT_UID: u32 = 0;
-pub const GOQ_EVENT_STAMP: u32 = 1;
-pub const GOQ_EVENT_BEGIN: u32 = 2;
-pub const GOQ_EVENT_END: u32 = 3;
-pub const GOQ_EVENT_SUMMARY: u32 = 4;
-pub const GOQ_EVENT_LOCATION: u32 = 5;
-pub const GOQ_EVENT_DESCRIPTION: u32 = 6;
+pub const GOQ_OTP_ACCOUNT: u32 = 0;
+pub const GOQ_OTP_SECRET: u32 = 1;
+pub const GOQ_OTP_ISSUER: u32 = 2;
+pub const GOQ_OTP_ALGORITHM: u32 = 3;
+pub const GOQ_OTP_DIGITS: u32 = 4;
+pub const GOQ_OTP_PERIOD: u32 = 5;
+pub const GOQ_OTP_COUNTER: u32 = 6;
+pub const GOQ_OTP_FIELDS: u32 = 7;
+pub const GOQ_EVENT_BEGIN: u32 = 0;
+pub const GOQ_EVENT_END: u32 = 1;
+pub const GOQ_EVENT_SUMMARY: u32 = 2;
+pub const GOQ_EVENT_LOCATION: u32 = 3;
+pub const GOQ_EVENT_DESCRIPTION: u32 = 4;
+pub const GOQ_EVENT_UID: u32 = 5;
+pub const GOQ_EVENT_STAMP: u32 = 6;
 pub const GOQ_EVENT_FIELDS: u32 = 7;
 pub const GOQ_AS_BYTES: u32 = 0;
 pub const GOQ_AS_TEXT: u32 = 1;
@@ -302,11 +284,10 @@ pub struct goq_segment {
     pub length: usize,
 }
 
-/// A field of a content: a text in UTF-8, whose number is 0; or a number, whose length is 0.
+/// A field of a payload: a text in UTF-8, empty where none is given.
 #[repr(C)]
 #[derive(Clone, Copy, Debug)]
 pub struct goq_field {
-    pub number: i64,
     pub bytes: *const u8,
     pub length: usize,
 }

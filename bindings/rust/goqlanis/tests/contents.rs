@@ -52,9 +52,9 @@ fn passwords_and_events_are_the_printed_ones() {
     assert_eq!(key.text().unwrap(), "otpauth://totp/Example:alice@google.com?secret=JBSWY3DPEHPK3PXP&issuer=Example");
     assert_eq!(OneTime { factor: Factor::Time(0), ..key }.text(), Err(ContentError::Refused("period", Cause::Range)));
     let end = Moment { day: Day { day: 15, ..MOMENT.day }, hour: 4, ..MOMENT };
-    let event = Event { uid: "AF23B2@example.com", stamp: MOMENT, span: Span::Times(MOMENT, end), summary: "Bastille Day Party", location: "", description: "" };
+    let event = Event { uid: "AF23B2@example.com", stamp: Some(MOMENT), span: Span::Times(MOMENT, end), summary: "Bastille Day Party", location: "", description: "" };
     assert!(event.text().unwrap().contains("\r\nDTSTART:19970714T170000Z\r\nDTEND:19970715T040000Z\r\nSUMMARY:Bastille Day Party\r\n"));
     assert!(Event { span: Span::Days(MOMENT.day, end.day), ..event }.text().unwrap().contains("\r\nDTEND;VALUE=DATE:19970715\r\n"));
     assert_eq!(Event { span: Span::Times(end, end), ..event }.text(), Err(ContentError::Refused("end", Cause::Range)));
-    assert_eq!(Event { stamp: Moment { hour: 200, ..MOMENT }, ..event }.text(), Err(ContentError::Refused("stamp", Cause::Range)));
+    assert_eq!(Event { stamp: Some(Moment { hour: 24, ..MOMENT }), ..event }.text(), Err(ContentError::Refused("stamp", Cause::Range)));
 }

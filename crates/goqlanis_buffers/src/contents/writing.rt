@@ -4,11 +4,12 @@ ghost use Rattle.std.specs.Prelude.{◌≡◌, ℕ, length, string_bytes, IfOk, 
 ghost use Rattle.goqlanis_buffers.specs.contents.Contents.{IsCause, IsContent, IsContentIn};
 
 use crate::contents::answers::Refusal;
-use crate::contents::forms::{check, forms_of, kind_named, place_of};
-use crate::contents::given::Item;
-use crate::contents::texts::text_of;
+use crate::contents::checks::check;
+use crate::contents::given::{Item, Placed};
 use crate::symbols::fill;
 use qrcode_contents::fields::errors::ContentError;
+use qrcode_payloads::kinds::{fields_of, kind_named, place_of};
+use qrcode_payloads::texts::text_of;
 use std::alloc::Global;
 
 /// Writes the text of fields of the kind of a number at the beginning of a buffer, and answers its
@@ -39,12 +40,12 @@ fn content(alloc: Global, kind: u32, given: &[Item<'_>]) -> Result<String, Refus
     let Some(kind) = kind_named(kind) else {
         return Err(Refusal::NoSuchContent);
     };
-    let forms = forms_of(kind);
-    check(forms, given)?;
-    match text_of(alloc, kind, given) {
+    let fields = fields_of(kind);
+    check(fields.len(), given)?;
+    match text_of(alloc, kind, &Placed { kind, given }) {
         Ok(text) => Ok(text),
         Err(ContentError::Refused(field, cause)) => {
-            Err(Refusal::Wrong(place_of(forms, field), cause))
+            Err(Refusal::Wrong(place_of(fields, field), cause))
         }
         Err(ContentError::OutOfMemory) => Err(Refusal::OutOfMemory),
     }

@@ -1,7 +1,8 @@
-//! Texts of fields and elements of GS1, with the options that give them.
+//! Payloads, with the options that give their fields.
 
 use super::Takes::{Nothing, Text, Wanted, Word};
-use super::{Entry, Kind, Purpose, Task};
+use super::{Entry, Purpose, Task};
+use qrcode_payloads::kinds::Kind;
 
 /// Elements of GS1.
 #[rattlefmt::skip]
@@ -25,9 +26,10 @@ pub static WIFI: Task = Task {
     options: &[
         entry!("ssid", Wanted("NAME"), "The name of the network, 1 to 32 bytes"),
         entry!("password", Text("TEXT"), "Its password; none for an open network"),
-        entry!("security", Word("SECURITY", &["open", "WEP", "WPA", "WPA3"]),
-            "How it is secured; otherwise WPA with a password, and open without"),
-        entry!("hidden", Nothing, "Say that the network does not tell its name"),
+        entry!("security",
+            Word("SECURITY", &["open", "nopass", "none", "WEP", "WPA", "WPA2", "WPA3", "SAE"]),
+            "How it is secured [default: WPA if there is a password]"),
+        entry!("hidden", Nothing, "The network does not broadcast its name"),
     ],
 };
 
@@ -41,11 +43,11 @@ pub static MECARD: Task = Task {
         entry!("family", Wanted("NAME"), "The family name"),
         entry!("given", Text("NAME"), "The given name"),
         entry!("phone", Text("NUMBER"), "A telephone number"),
-        entry!("email", Text("ADDRESS"), "An address of mail"),
-        entry!("url", Text("URL"), "An address of the web"),
-        entry!("birthday", Text("DATE"), "The birthday, as 19700131"),
+        entry!("email", Text("ADDRESS"), "An e-mail address"),
+        entry!("url", Text("URL"), "A web address"),
+        entry!("birthday", Text("DATE"), "The birthday, e.g. 1970-01-31"),
         entry!("note", Text("TEXT"), "A note"),
-        entry!("street", Text("TEXT"), "The street with the number of the house"),
+        entry!("street", Text("TEXT"), "The street and house number"),
         entry!("city", Text("TEXT"), "The town"),
         entry!("region", Text("TEXT"), "The region"),
         entry!("code", Text("TEXT"), "The postal code"),
@@ -60,14 +62,14 @@ pub static VCARD: Task = Task {
     about: "Contact (vCard 3.0)",
     purpose: Purpose::Content(Kind::Vcard),
     options: &[
-        entry!("name", Wanted("NAME"), "The whole name, as it is shown"),
+        entry!("name", Wanted("NAME"), "The full name, as it is shown"),
         entry!("family", Wanted("NAME"), "The family name"),
         entry!("given", Text("NAME"), "The given names"),
         entry!("organisation", Text("NAME"), "The organisation"),
         entry!("phone", Text("NUMBER"), "A telephone number"),
-        entry!("email", Text("ADDRESS"), "An address of mail"),
-        entry!("url", Text("URL"), "An address of the web"),
-        entry!("street", Text("TEXT"), "The street with the number of the house"),
+        entry!("email", Text("ADDRESS"), "An e-mail address"),
+        entry!("url", Text("URL"), "A web address"),
+        entry!("street", Text("TEXT"), "The street and house number"),
         entry!("city", Text("TEXT"), "The town"),
         entry!("region", Text("TEXT"), "The region"),
         entry!("code", Text("TEXT"), "The postal code"),
@@ -84,14 +86,14 @@ pub static PAYMENT: Task = Task {
     purpose: Purpose::Content(Kind::Payment),
     options: &[
         entry!("name", Wanted("NAME"), "Who is paid, up to 70 characters"),
-        entry!("iban", Wanted("IBAN"), "The account, without spaces"),
-        entry!("amount", Wanted("EUROS"), "The amount in euros, as 12.30"),
+        entry!("iban", Wanted("IBAN"), "The account"),
+        entry!("amount", Wanted("EUROS"), "The amount in euros, e.g. 12.30"),
         entry!("bic", Text("BIC"),
-            "The identifier of the bank, which makes the text one of version 001; otherwise 002"),
-        entry!("purpose", Text("CODE"), "The code of the purpose, up to four capitals and digits"),
-        entry!("reference", Text("TEXT"), "The reference, of ISO 11649"),
-        entry!("message", Text("TEXT"), "A message in place of a reference, up to 140 characters"),
-        entry!("information", Text("TEXT"), "What is told to who pays, up to 70 characters"),
+            "The bank (BIC), which makes the text one of version 001 instead of 002"),
+        entry!("purpose", Text("CODE"), "The purpose code, up to four letters and digits"),
+        entry!("reference", Text("TEXT"), "The reference (ISO 11649), e.g. RF18 5390 0754 7034"),
+        entry!("message", Text("TEXT"), "A message instead of a reference, up to 140 characters"),
+        entry!("information", Text("TEXT"), "A note to the payer, up to 70 characters"),
     ],
 };
 
@@ -102,24 +104,24 @@ pub static BILL: Task = Task {
     about: "Swiss QR-bill, without its cross",
     purpose: Purpose::Content(Kind::Bill),
     options: &[
-        entry!("iban", Wanted("IBAN"), "The account in Switzerland or Liechtenstein, without spaces"),
+        entry!("iban", Wanted("IBAN"), "The account in Switzerland or Liechtenstein"),
         entry!("name", Wanted("NAME"), "Who is paid, up to 70 characters"),
-        entry!("street", Text("TEXT"), "The street of who is paid"),
-        entry!("number", Text("TEXT"), "The number of the house"),
+        entry!("street", Text("TEXT"), "Their street"),
+        entry!("number", Text("TEXT"), "Their house number"),
         entry!("code", Wanted("TEXT"), "The postal code"),
         entry!("city", Wanted("TEXT"), "The town"),
-        entry!("country", Wanted("CODE"), "The country, two capitals, as CH"),
-        entry!("amount", Text("NUMBER"), "The amount, as 1949.75; otherwise it is left open"),
-        entry!("currency", Word("CURRENCY", &["CHF", "EUR"]), "The currency; CHF unless said otherwise"),
+        entry!("country", Wanted("CODE"), "The country, two letters, e.g. CH"),
+        entry!("amount", Text("NUMBER"), "The amount, e.g. 1949.75 [default: left open]"),
+        entry!("currency", Word("CURRENCY", &["CHF", "EUR"]), "The currency [default: CHF]"),
         entry!("debtor-name", Text("NAME"),
-            "Who pays; nobody is named where all of these are left out"),
-        entry!("debtor-street", Text("TEXT"), "The street of who pays"),
-        entry!("debtor-number", Text("TEXT"), "The number of the house of who pays"),
-        entry!("debtor-code", Text("TEXT"), "The postal code of who pays"),
-        entry!("debtor-city", Text("TEXT"), "The town of who pays"),
-        entry!("debtor-country", Text("CODE"), "The country of who pays"),
+            "Who pays; leave out all of these to name nobody"),
+        entry!("debtor-street", Text("TEXT"), "The payer's street"),
+        entry!("debtor-number", Text("TEXT"), "The payer's house number"),
+        entry!("debtor-code", Text("TEXT"), "The payer's postal code"),
+        entry!("debtor-city", Text("TEXT"), "The payer's town"),
+        entry!("debtor-country", Text("CODE"), "The payer's country"),
         entry!("reference", Text("TEXT"),
-            "The reference without spaces: 27 digits for a QR-IBAN, RF.. or none for another"),
+            "The reference: 27 digits for a QR-IBAN, RF.. or none for another"),
         entry!("message", Text("TEXT"), "A message, up to 140 characters"),
     ],
 };
@@ -131,9 +133,9 @@ pub static MAIL: Task = Task {
     about: "E-mail",
     purpose: Purpose::Content(Kind::Mail),
     options: &[
-        entry!("email", Wanted("ADDRESS"), "To whom it goes"),
+        entry!("email", Wanted("ADDRESS"), "The address it goes to"),
         entry!("subject", Text("TEXT"), "Its subject"),
-        entry!("message", Text("TEXT"), "What it says"),
+        entry!("message", Text("TEXT"), "The text"),
     ],
 };
 
@@ -142,10 +144,10 @@ pub static MAIL: Task = Task {
 pub static PLACE: Task = Task {
     word: "geo",
     about: "Location",
-    purpose: Purpose::Content(Kind::Place),
+    purpose: Purpose::Content(Kind::Geo),
     options: &[
         entry!("latitude", Wanted("DEGREES"),
-            "Degrees north of the equator, -90 to 90, as -33.8568"),
+            "Degrees north of the equator, -90 to 90, e.g. -33.8568"),
         entry!("longitude", Wanted("DEGREES"), "Degrees east of Greenwich, -180 to 180"),
     ],
 };
@@ -157,7 +159,7 @@ pub static TEL: Task = Task {
     about: "Phone call",
     purpose: Purpose::Content(Kind::Tel),
     options: &[
-        entry!("phone", Wanted("NUMBER"), "The number, as +41441234567"),
+        entry!("phone", Wanted("NUMBER"), "The number, e.g. +41 44 123 45 67"),
     ],
 };
 
@@ -168,8 +170,8 @@ pub static SMS: Task = Task {
     about: "Text message",
     purpose: Purpose::Content(Kind::Sms),
     options: &[
-        entry!("phone", Wanted("NUMBER"), "The number, as +41441234567"),
-        entry!("message", Text("TEXT"), "What it says"),
+        entry!("phone", Wanted("NUMBER"), "The number, e.g. +41 44 123 45 67"),
+        entry!("message", Text("TEXT"), "The text"),
     ],
 };
 
@@ -180,16 +182,16 @@ pub static OTP: Task = Task {
     about: "One-time password for authenticator apps",
     purpose: Purpose::Content(Kind::Otp),
     options: &[
-        entry!("account", Wanted("NAME"), "For which account they are"),
-        entry!("secret", Wanted("SECRET"), "The secret in base 32, without spaces and ="),
-        entry!("issuer", Text("NAME"), "Who issues them"),
+        entry!("account", Wanted("NAME"), "The account"),
+        entry!("secret", Wanted("SECRET"), "The secret in base 32"),
+        entry!("issuer", Text("NAME"), "The service that issues them"),
         entry!("algorithm", Word("HASH", &["SHA1", "SHA256", "SHA512"]),
-            "The hash; SHA1 unless said otherwise"),
+            "The hash [default: SHA1]"),
         entry!("digits", Word("N", &["6", "8"]),
-            "How many digits a password has; 6 unless said otherwise"),
-        entry!("period", Text("SECONDS"), "How long one holds; 30 unless said otherwise"),
+            "The number of digits of a password [default: 6]"),
+        entry!("period", Text("SECONDS"), "How long a password is valid [default: 30]"),
         entry!("counter", Text("NUMBER"),
-            "Change with a counter that begins here, and not with the time"),
+            "Use a counter that begins here instead of the time"),
     ],
 };
 
@@ -201,12 +203,12 @@ pub static EVENT: Task = Task {
     purpose: Purpose::Content(Kind::Event),
     options: &[
         entry!("begin", Wanted("TIME"),
-            "When it begins, in UTC as 19970714T170000Z, or a day as 19970714"),
-        entry!("end", Wanted("TIME"), "When it ends; of whole days the day behind the last"),
+            "When it begins, in UTC as 2026-11-28T14:00Z, or a day as 2026-11-28"),
+        entry!("end", Wanted("TIME"), "When it ends; for whole days the day after the last"),
         entry!("summary", Text("TEXT"), "What it is"),
         entry!("location", Text("TEXT"), "Where it is"),
-        entry!("description", Text("TEXT"), "What is told of it"),
-        entry!("uid", Wanted("TEXT"), "Its identifier, which no other event has"),
-        entry!("stamp", Wanted("TIME"), "When this was written, in UTC"),
+        entry!("description", Text("TEXT"), "A description"),
+        entry!("uid", Text("TEXT"), "An identifier that no other event has"),
+        entry!("stamp", Text("TIME"), "When this was written, in UTC"),
     ],
 };

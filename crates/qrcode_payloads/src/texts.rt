@@ -1,0 +1,295 @@
+//! The texts of payloads.
+
+ghost use Rattle.std.specs.Prelude.{◌≡◌, IfOk, string_bytes};
+ghost use Rattle.qrcode_contents.specs.Bill.{addressee_of};
+ghost use Rattle.qrcode_contents.specs.Phone.{phone_refusal};
+ghost use Rattle.qrcode_contents.specs.fields.Refusals.{Answers};
+ghost use Rattle.qrcode_contents.specs.declared.fields.errors.Field.TheVariants.{Country, DebtorCountry};
+ghost use Rattle.qrcode_payloads.specs.Plain.{plain};
+ghost use Rattle.qrcode_payloads.specs.declared.plain.Between.TheVariants as between;
+ghost use Rattle.qrcode_payloads.specs.Values.{creditor_in, debtor_in};
+ghost use Rattle.qrcode_payloads.specs.Texts.{payload_refusal, payload_text, sms_text, IsReadAs, IsReadAsSms};
+ghost use Rattle.qrcode_payloads.specs.declared.kinds.Kind.TheVariants.{Wifi, Mecard, Vcard, Payment, Bill, Mail, Geo, Tel, Sms, Otp, Event};
+
+use crate::given::Given;
+use crate::kinds::Kind;
+use crate::plain::{Between, plain};
+use crate::values;
+use qrcode_contents::bill;
+use qrcode_contents::card::Card;
+use qrcode_contents::contact::Contact;
+use qrcode_contents::event;
+use qrcode_contents::fields::errors::{ContentResult, Field};
+use qrcode_contents::geo::Place;
+use qrcode_contents::mail;
+use qrcode_contents::one_time::OneTime;
+use qrcode_contents::payment;
+use qrcode_contents::phone::Phone;
+use qrcode_contents::wifi;
+use std::alloc::Global;
+
+// The text of a network.
+fn wifi_text<G: Given>(alloc: Global, given: &G) -> ContentResult<String>
+    ensures reads { Answers (payload_refusal Wifi (G.fields given.now)) result (IsReadAs Wifi (G.fields given.now)) }
+    ensures value { IfOk result (λ text. string_bytes text ≡ payload_text Wifi (G.fields given.now)) }
+{
+    let security = values::security(given)?;
+    let hidden = values::hidden(given.text(Field::Hidden))?;
+    let network = wifi::Wifi {
+        security,
+        ssid: given.text(Field::Ssid),
+        password: given.text(Field::Password),
+        hidden,
+    };
+    network.text(alloc)
+}
+
+// The text of a payment.
+fn payment_text<G: Given>(alloc: Global, given: &G) -> ContentResult<String>
+    ensures reads { Answers (payload_refusal Payment (G.fields given.now)) result (IsReadAs Payment (G.fields given.now)) }
+    ensures value { IfOk result (λ text. string_bytes text ≡ payload_text Payment (G.fields given.now)) }
+{
+    let amount = plain(alloc, given.text(Field::Amount), Between::Amount)?;
+    let iban = plain(alloc, given.text(Field::Iban), Between::Spaces)?;
+    let bic = plain(alloc, given.text(Field::Bic), Between::Spaces)?;
+    let purpose = plain(alloc, given.text(Field::Purpose), Between::Spaces)?;
+    let reference = plain(alloc, given.text(Field::Reference), Between::Spaces)?;
+    let cents = values::amount(amount.as_str())?;
+    let payment = payment::Payment {
+        version: payment::PaymentVersion::for_bic(bic.as_str()),
+        bic: bic.as_str(),
+        name: given.text(Field::Name),
+        iban: iban.as_str(),
+        cents,
+        purpose: purpose.as_str(),
+        reference: reference.as_str(),
+        message: given.text(Field::Message),
+        information: given.text(Field::Information),
+    };
+    payment.text(alloc)
+}
+
+// The link to a location.
+fn geo_text<G: Given>(alloc: Global, given: &G) -> ContentResult<String>
+    ensures reads { Answers (payload_refusal Geo (G.fields given.now)) result (IsReadAs Geo (G.fields given.now)) }
+    ensures value { IfOk result (λ text. string_bytes text ≡ payload_text Geo (G.fields given.now)) }
+{
+    let north = plain(alloc, given.text(Field::Latitude), Between::Degrees)?;
+    let east = plain(alloc, given.text(Field::Longitude), Between::Degrees)?;
+    let latitude = values::coordinate(north.as_str(), Field::Latitude)?;
+    let longitude = values::coordinate(east.as_str(), Field::Longitude)?;
+    let place = Place {
+        latitude,
+        longitude,
+    };
+    place.text(alloc)
+}
+
+// The text of a contact, as MECARD.
+fn mecard_text<G: Given>(alloc: Global, given: &G) -> ContentResult<String>
+    ensures reads { Answers (payload_refusal Mecard (G.fields given.now)) result (IsReadAs Mecard (G.fields given.now)) }
+    ensures value { IfOk result (λ text. string_bytes text ≡ payload_text Mecard (G.fields given.now)) }
+{
+    let birthday = plain(alloc, given.text(Field::Birthday), Between::Time)?;
+    let contact = Contact {
+        family: given.text(Field::Family),
+        given: given.text(Field::Given),
+        phone: given.text(Field::Phone),
+        email: given.text(Field::Email),
+        url: given.text(Field::Url),
+        birthday: birthday.as_str(),
+        note: given.text(Field::Note),
+        street: given.text(Field::Street),
+        city: given.text(Field::City),
+        region: given.text(Field::Region),
+        code: given.text(Field::PostalCode),
+        country: given.text(Field::Country),
+    };
+    contact.mecard(alloc)
+}
+
+// The text of a contact, as vCard.
+fn vcard_text<G: Given>(alloc: Global, given: &G) -> ContentResult<String>
+    ensures reads { Answers (payload_refusal Vcard (G.fields given.now)) result (IsReadAs Vcard (G.fields given.now)) }
+    ensures value { IfOk result (λ text. string_bytes text ≡ payload_text Vcard (G.fields given.now)) }
+{
+    let card = Card {
+        name: given.text(Field::Name),
+        family: given.text(Field::Family),
+        given: given.text(Field::Given),
+        organisation: given.text(Field::Organisation),
+        phone: given.text(Field::Phone),
+        email: given.text(Field::Email),
+        url: given.text(Field::Url),
+        street: given.text(Field::Street),
+        city: given.text(Field::City),
+        region: given.text(Field::Region),
+        code: given.text(Field::PostalCode),
+        country: given.text(Field::Country),
+        note: given.text(Field::Note),
+    };
+    card.text(alloc)
+}
+
+// Who is paid by a bill, of a country.
+fn creditor<'a, G: Given>(given: &'a G, country: &'a str) -> bill::Party<'a>
+    ensures { country.now ≡ plain between.Spaces (G.fields given.now Country)
+        → addressee_of result ≡ creditor_in (G.fields given.now) }
+{
+    bill::Party {
+        name: given.text(Field::Name),
+        street: given.text(Field::Street),
+        number: given.text(Field::Number),
+        code: given.text(Field::PostalCode),
+        city: given.text(Field::City),
+        country,
+    }
+}
+
+// Who pays it, of a country.
+fn debtor<'a, G: Given>(given: &'a G, country: &'a str) -> bill::Party<'a>
+    ensures { country.now ≡ plain between.Spaces (G.fields given.now DebtorCountry)
+        → addressee_of result ≡ debtor_in (G.fields given.now) }
+{
+    bill::Party {
+        name: given.text(Field::DebtorName),
+        street: given.text(Field::DebtorStreet),
+        number: given.text(Field::DebtorNumber),
+        code: given.text(Field::DebtorPostalCode),
+        city: given.text(Field::DebtorCity),
+        country,
+    }
+}
+
+// The text of a bill.
+fn bill_text<G: Given>(alloc: Global, given: &G) -> ContentResult<String>
+    ensures reads { Answers (payload_refusal Bill (G.fields given.now)) result (IsReadAs Bill (G.fields given.now)) }
+    ensures value { IfOk result (λ text. string_bytes text ≡ payload_text Bill (G.fields given.now)) }
+{
+    let amount = plain(alloc, given.text(Field::Amount), Between::Amount)?;
+    let iban = plain(alloc, given.text(Field::Iban), Between::Spaces)?;
+    let country = plain(alloc, given.text(Field::Country), Between::Spaces)?;
+    let other = plain(alloc, given.text(Field::DebtorCountry), Between::Spaces)?;
+    let reference = plain(alloc, given.text(Field::Reference), Between::Spaces)?;
+    let cents = values::open_amount(amount.as_str())?;
+    let currency = values::currency(given.text(Field::Currency))?;
+    let bill = bill::Bill {
+        iban: iban.as_str(),
+        creditor: creditor(given, country.as_str()),
+        cents,
+        currency,
+        debtor: debtor(given, other.as_str()),
+        reference: reference.as_str(),
+        message: given.text(Field::Message),
+    };
+    bill.text(alloc)
+}
+
+// The link that writes an e-mail.
+fn mail_text<G: Given>(alloc: Global, given: &G) -> ContentResult<String>
+    ensures reads { Answers (payload_refusal Mail (G.fields given.now)) result (IsReadAs Mail (G.fields given.now)) }
+    ensures value { IfOk result (λ text. string_bytes text ≡ payload_text Mail (G.fields given.now)) }
+{
+    let mail = mail::Mail {
+        address: given.text(Field::Email),
+        subject: given.text(Field::Subject),
+        body: given.text(Field::Message),
+    };
+    mail.text(alloc)
+}
+
+// The link that calls a number.
+fn tel_text<G: Given>(alloc: Global, given: &G) -> ContentResult<String>
+    ensures reads { Answers (payload_refusal Tel (G.fields given.now)) result (IsReadAs Tel (G.fields given.now)) }
+    ensures value { IfOk result (λ text. string_bytes text ≡ payload_text Tel (G.fields given.now)) }
+{
+    let number = plain(alloc, given.text(Field::Phone), Between::Phone)?;
+    let phone = Phone {
+        number: number.as_str(),
+    };
+    phone.tel(alloc)
+}
+
+// The link that writes to a number, without a message where it is empty.
+fn message_text(alloc: Global, number: &str, body: &str) -> ContentResult<String>
+    ensures reads { Answers (phone_refusal number.now) result (IsReadAsSms number.now body.now) }
+    ensures value { IfOk result (λ text. string_bytes text ≡ sms_text number.now body.now) }
+{
+    let phone = Phone { number };
+    if body.is_empty() {
+        return phone.sms(alloc);
+    }
+    phone.message(alloc, body)
+}
+
+// The link that writes to a number.
+fn sms_text<G: Given>(alloc: Global, given: &G) -> ContentResult<String>
+    ensures reads { Answers (payload_refusal Sms (G.fields given.now)) result (IsReadAs Sms (G.fields given.now)) }
+    ensures value { IfOk result (λ text. string_bytes text ≡ payload_text Sms (G.fields given.now)) }
+{
+    let number = plain(alloc, given.text(Field::Phone), Between::Phone)?;
+    message_text(alloc, number.as_str(), given.text(Field::Message))
+}
+
+// The link of one-time passwords.
+fn otp_text<G: Given>(alloc: Global, given: &G) -> ContentResult<String>
+    ensures reads { Answers (payload_refusal Otp (G.fields given.now)) result (IsReadAs Otp (G.fields given.now)) }
+    ensures value { IfOk result (λ text. string_bytes text ≡ payload_text Otp (G.fields given.now)) }
+{
+    let secret = plain(alloc, given.text(Field::Secret), Between::Secret)?;
+    let factor = values::factor(given.text(Field::Counter), given.text(Field::Period))?;
+    let algorithm = values::algorithm(given.text(Field::Algorithm))?;
+    let digits = values::digits(given.text(Field::Digits))?;
+    let passwords = OneTime {
+        factor,
+        issuer: given.text(Field::Issuer),
+        account: given.text(Field::Account),
+        secret: secret.as_str(),
+        algorithm,
+        digits,
+    };
+    passwords.text(alloc)
+}
+
+// The text of an event.
+fn event_text<G: Given>(alloc: Global, given: &G) -> ContentResult<String>
+    ensures reads { Answers (payload_refusal Event (G.fields given.now)) result (IsReadAs Event (G.fields given.now)) }
+    ensures value { IfOk result (λ text. string_bytes text ≡ payload_text Event (G.fields given.now)) }
+{
+    let begin = plain(alloc, given.text(Field::Begin), Between::Time)?;
+    let end = plain(alloc, given.text(Field::End), Between::Time)?;
+    let written = plain(alloc, given.text(Field::Stamp), Between::Time)?;
+    let span = values::span(begin.as_str(), end.as_str())?;
+    let stamp = values::stamp(written.as_str())?;
+    let event = event::Event {
+        uid: given.text(Field::Uid),
+        stamp,
+        span,
+        summary: given.text(Field::Summary),
+        location: given.text(Field::Location),
+        description: given.text(Field::Description),
+    };
+    event.text(alloc)
+}
+
+/// The text of a kind of payload, of what is given for its fields.
+///
+/// An error names the first field that the format refuses and why, or is `OutOfMemory`.
+pub fn text_of<G: Given>(alloc: Global, kind: Kind, given: &G) -> ContentResult<String>
+    ensures reads { Answers (payload_refusal kind (G.fields given.now)) result (IsReadAs kind (G.fields given.now)) }
+    ensures value { IfOk result (λ text. string_bytes text ≡ payload_text kind (G.fields given.now)) }
+{
+    match kind {
+        Kind::Wifi => wifi_text(alloc, given),
+        Kind::Mecard => mecard_text(alloc, given),
+        Kind::Vcard => vcard_text(alloc, given),
+        Kind::Payment => payment_text(alloc, given),
+        Kind::Bill => bill_text(alloc, given),
+        Kind::Mail => mail_text(alloc, given),
+        Kind::Geo => geo_text(alloc, given),
+        Kind::Tel => tel_text(alloc, given),
+        Kind::Sms => sms_text(alloc, given),
+        Kind::Otp => otp_text(alloc, given),
+        Kind::Event => event_text(alloc, given),
+    }
+}
