@@ -1,6 +1,6 @@
-"""Payloads of QR codes: networks, contacts, payments, links and events. Each is read back as exactly
-its fields. Account numbers, references, telephone numbers and secrets may have spaces and small
-letters, and amounts a comma.
+"""Payloads of QR codes: networks, contacts, payments, links and events. Each is read back as
+exactly its fields. Account numbers, references, telephone numbers and secrets may have spaces and
+small letters, and amounts a comma.
 
 >>> import goqlanis
 >>> from goqlanis import contents
@@ -25,8 +25,8 @@ from . import _numbers as goq
 from ._checks import shown
 from ._fields import (ControlCharacter, EmptyField, Number, OutOfRange, Time, TooLong,
                       TooManyDecimals, TooShort, UnknownIdentifier, UnknownWord, Unused,
-                      WrongCharacter, WrongCheckDigits, WrongField, WrongLength, elements_of, number,
-                      string_of, text_of, time)
+                      WrongCharacter, WrongCheckDigits, WrongField, WrongLength, elements_of,
+                      number, string_of, text_of, time)
 
 __all__ = ["Party", "wifi", "mecard", "vcard", "payment", "bill", "mail", "geo", "tel", "sms",
            "totp", "hotp", "event", "gs1", "WrongField", "EmptyField", "TooLong", "TooShort",
@@ -114,7 +114,8 @@ def bill(iban: str, creditor: Party, amount: Optional[Number] = None, currency: 
     """
     given = "" if amount is None else number("amount", amount)
     return text_of(goq.BILL, [("iban", iban), *_party("creditor", creditor), ("amount", given),
-                              ("currency", currency), ("reference", reference), ("message", message),
+                              ("currency", currency), ("reference", reference),
+                              ("message", message),
                               *(() if debtor is None else _party("debtor", debtor))])
 
 
