@@ -6,10 +6,7 @@ use qrcode_contents::fields::errors::{Cause, ContentError, Field};
 use std::alloc::{AllocError, Global};
 
 /// The refusal of a kind's text, for an error of its format.
-pub(crate) fn refusal_of(
-    alloc: Global,
-    error: ContentError,
-) -> Result<Failure, AllocError> {
+pub(crate) fn refusal_of(alloc: Global, error: ContentError) -> Result<Failure, AllocError> {
     let ContentError::Refused(field, cause) = error else {
         return Ok(Failure::OutOfMemory);
     };
@@ -43,8 +40,7 @@ fn cause_text(cause: Cause) -> &'static str {
         Cause::ControlCharacter =>
             "it has a line break or another control character; leave that out",
         Cause::Character => "it has a character that the format does not allow there",
-        Cause::CheckDigits =>
-            "the check digits do not match: look for a mistyped or swapped digit",
+        Cause::CheckDigits => "the check digits do not match: look for a mistyped or swapped digit",
         Cause::Range => "it is outside what the format allows",
         Cause::Unused => "it cannot be given together with the other options; leave it out",
         Cause::Decimals => "it has too many digits after the point",
