@@ -1,15 +1,15 @@
-/* QR and Micro QR symbols, by a library that is proved correct.
+/* QR and Micro QR codes, by a library that is proved correct.
 
-   Data may be any bytes. Each call works in buffers that its caller gives, keeps nothing and uses
-   nothing that is shared, so that calls may run in any threads at once, each with buffers of its
-   own. There is nothing to free. Every call that answers GOQ_OK has written all its outputs. Every
-   other answer has one cause, the first that applies in the order in which its comment names them;
-   GOQ_OUT_OF_MEMORY may come instead of those that take memory to find out. All outputs are then
-   as they were, except that a call with `place` writes there which field, element or square is
-   wrong. A pointer with length 0 may be NULL.
+   Data may be any bytes. Calls work in buffers that the caller gives, keep nothing and share
+   nothing: they may run in any threads at once, each with its own buffers. There is nothing to
+   free. A call that answers GOQ_OK has written all its outputs. Any other answer has one cause, the
+   first that applies in the order of the call's comment; GOQ_OUT_OF_MEMORY may come instead of
+   those that take memory to find out. All outputs are then unchanged, except that a call with
+   `place` writes there which field, element or square is wrong. A pointer with length 0 may be
+   NULL.
 
-   The library asks for memory by rattle_alloc, rattle_realloc and rattle_dealloc, which stand over
-   malloc unless the program has its own. */
+   The library gets memory by rattle_alloc, rattle_realloc and rattle_dealloc, which call malloc and
+   its like unless the program defines its own. */
 #ifndef GOQLANIS_H
 #define GOQLANIS_H
 
@@ -128,9 +128,9 @@ enum {
     GOQ_ALPHANUMERIC = 1, /* digits, capitals, the space and $%*+-./: */
     GOQ_BYTES = 2, /* any bytes */
     GOQ_KANJI = 3, /* pairs of bytes of Shift JIS */
-    GOQ_ECI = 4, /* a header: `number` is that of the character set of what follows, below
+    GOQ_ECI = 4, /* a header: `number` is the character set of what follows, below
                     1,000,000 */
-    GOQ_FNC1_FIRST = 5, /* a header: FNC1 in the first position, as GS1 wants it */
+    GOQ_FNC1_FIRST = 5, /* a header: FNC1 in the first position, for GS1 */
     GOQ_FNC1_SECOND = 6 /* a header: FNC1 in the second position, `number` being the indicator of
                            the application, below 256 */
 };
@@ -196,22 +196,22 @@ enum {
 };
 
 enum {
-    GOQ_PAYMENT_NAME, /* who is paid, up to 70 characters */
+    GOQ_PAYMENT_NAME, /* the payee, up to 70 characters */
     GOQ_PAYMENT_IBAN,
     GOQ_PAYMENT_AMOUNT, /* in euros, as "12.30": 0.01 to 999999999.99 */
     GOQ_PAYMENT_BIC, /* makes the text one of version 001; 002 without */
     GOQ_PAYMENT_PURPOSE, /* up to four letters and digits */
     GOQ_PAYMENT_REFERENCE, /* of ISO 11649 */
     GOQ_PAYMENT_MESSAGE, /* instead of a reference, up to 140 characters */
-    GOQ_PAYMENT_INFORMATION, /* for the payer, up to 70 characters */
+    GOQ_PAYMENT_INFORMATION, /* a note to the payer, up to 70 characters */
     GOQ_PAYMENT_FIELDS
 };
 
 enum {
     GOQ_BILL_IBAN, /* of Switzerland or Liechtenstein */
-    GOQ_BILL_NAME, /* who is paid, up to 70 characters */
+    GOQ_BILL_NAME, /* the payee, up to 70 characters */
     GOQ_BILL_STREET,
-    GOQ_BILL_NUMBER, /* of the house */
+    GOQ_BILL_NUMBER, /* the house number */
     GOQ_BILL_CODE, /* the postal code */
     GOQ_BILL_CITY,
     GOQ_BILL_COUNTRY, /* two letters, as "CH" */
@@ -219,7 +219,7 @@ enum {
     GOQ_BILL_CURRENCY, /* "CHF" or "EUR"; empty: CHF */
     GOQ_BILL_REFERENCE, /* 27 digits for a QR-IBAN; RF.. or none for another */
     GOQ_BILL_MESSAGE, /* up to 140 characters */
-    GOQ_BILL_DEBTOR_NAME, /* who pays: all six empty name nobody */
+    GOQ_BILL_DEBTOR_NAME, /* the payer; all six may be empty */
     GOQ_BILL_DEBTOR_STREET,
     GOQ_BILL_DEBTOR_NUMBER,
     GOQ_BILL_DEBTOR_CODE,
@@ -251,7 +251,7 @@ enum {
 /* Times are in UTC, as "2026-11-28T14:00Z", and begin and end may both be days, as "2026-11-28". */
 enum {
     GOQ_EVENT_BEGIN,
-    GOQ_EVENT_END, /* of whole days the day after the last */
+    GOQ_EVENT_END, /* for whole days, the day after the last */
     GOQ_EVENT_SUMMARY,
     GOQ_EVENT_LOCATION,
     GOQ_EVENT_DESCRIPTION,
@@ -260,7 +260,7 @@ enum {
     GOQ_EVENT_FIELDS
 };
 
-/* How the data of a symbol is written. */
+/* How data is written. */
 enum {
     GOQ_AS_BYTES = 0, /* as goq_encode writes it */
     GOQ_AS_TEXT = 1, /* as goq_encode_text does: it has to be UTF-8 */
@@ -271,32 +271,31 @@ enum {
 /* A mask by its number: 0 to 7, of Micro 0 to 3. goq_mask reads the number back. */
 #define GOQ_MASK(number) (1 + (number))
 
-/* What is asked of a symbol. Begin with GOQ_OPTIONS, and change what you like. Later versions of
-   this library may have more fields at the end; `size` says which ones you know. */
+/* Options for a code. Begin with GOQ_OPTIONS, and change what you like. Later versions of this
+   library may have more fields at the end; `size` says which ones you know. */
 typedef struct {
     uint32_t size; /* sizeof(goq_options) */
     uint32_t level; /* GOQ_L .. GOQ_H */
     uint32_t manner; /* GOQ_AS_BYTES .. GOQ_AS_MARKED_TEXT */
-    uint32_t version; /* this one; or 0 for the least that holds the data */
-    uint32_t least_version; /* the first that is tried where `version` is 0; then Micro comes before
-                               Normal, so that GOQ_MICRO(1) gives the least of all */
-    uint32_t boost; /* where `version` is 0: 1 for the highest level, from `level` on, at which the
-                       least version holds the data */
-    uint32_t mask; /* GOQ_MASK(number), of the version that results; or 0 for the one of least
-                      penalty */
+    uint32_t version; /* this one; or 0 for the smallest that fits */
+    uint32_t least_version; /* the smallest to try if `version` is 0; Micro comes before Normal, so
+                               that GOQ_MICRO(1) gives the smallest of all */
+    uint32_t boost; /* if `version` is 0: 1 for the highest level, from `level` on, that fits the
+                       version */
+    uint32_t mask; /* GOQ_MASK(number), of the version that results; or 0 for the lowest penalty */
 } goq_options;
 
 #define GOQ_OPTIONS GOQ_INITIAL(goq_options, GOQ_M, GOQ_AS_BYTES, 0, 1, 0, 0)
 
-/* How symbols are asked for between which data is parted: as few as one of the versions allows, of
-   the least version that allows so few; or so many, of the least version that holds them. */
+/* Options for structured append: as few codes as any of the versions allows, in the smallest
+   version that allows so few; or `count` codes, in the smallest version that holds them. */
 typedef struct {
     uint32_t size; /* sizeof(goq_several) */
     uint32_t level;
     uint32_t manner; /* GOQ_AS_BYTES or GOQ_AS_TEXT */
     uint32_t least_version; /* of Normal */
     uint32_t greatest_version;
-    uint32_t count; /* 1 to GOQ_SEVERAL_MAX, or 0 for as few as there can be */
+    uint32_t count; /* 1 to GOQ_SEVERAL_MAX, or 0 for as few as possible */
 } goq_several;
 
 #define GOQ_SEVERAL GOQ_INITIAL(goq_several, GOQ_M, GOQ_AS_BYTES, 1, 40, 0)
@@ -309,10 +308,10 @@ enum { GOQ_SEVERAL_MAX = 16 };
 typedef struct {
     uint32_t size; /* sizeof(goq_drawing) */
     uint32_t format;
-    uint32_t zone; /* the modules of the quiet zone at each side */
-    uint32_t scale; /* the pixels of a module */
+    uint32_t zone; /* the quiet zone on each side, in modules */
+    uint32_t scale; /* pixels per module */
     uint32_t dark; /* the colour of dark modules, 0x000000 for black */
-    uint32_t light; /* that of light ones and of the quiet zone, 0xffffff for white */
+    uint32_t light; /* the colour of light ones and of the quiet zone, 0xffffff for white */
     uint32_t dpi; /* the dots per inch that a PNG file names, up to 65,535; 0 for none */
 } goq_drawing;
 
@@ -326,15 +325,15 @@ enum { GOQ_MODULES_MAX = 177 * 177 };
 /* This many bytes hold what is read of every symbol. */
 enum { GOQ_BYTES_MAX = 7089 };
 
-/* What a symbol is beside its modules. */
+/* A symbol, apart from its modules. */
 typedef struct {
     uint32_t version;
     uint32_t level;
     uint32_t width; /* the modules along a side */
 } goq_symbol;
 
-/* A segment: bytes in a mode, or a header for what stands after it. Without bytes it is left out,
-   since digits without any are the terminator of Micro QR. */
+/* A segment: bytes in a mode, or a header for what follows. A mode without bytes is left out, since
+   numeric without digits is the terminator of Micro QR. */
 typedef struct {
     uint32_t kind;
     uint32_t number; /* of GOQ_ECI and GOQ_FNC1_SECOND; not looked at in others */
@@ -349,7 +348,7 @@ typedef struct {
     size_t length;
 } goq_field;
 
-/* The field of a text that ends with a zero. */
+/* A field made of a zero-terminated text. */
 #define GOQ_TEXT(text) {(text), strlen(text)}
 
 /* An element of GS1: the digits of its application identifier, without parentheses, and its value,
@@ -361,19 +360,19 @@ typedef struct {
     size_t value_length;
 } goq_element;
 
-/* What is read of a square beside its bytes. */
+/* What is read of a square, apart from its bytes. */
 typedef struct {
     uint32_t version;
     uint32_t level;
     uint32_t mask; /* its number: 0 to 7, in Micro 0 to 3 */
-    size_t wrong; /* how many codewords were wrong */
+    size_t wrong; /* how many codewords were corrected */
     size_t length; /* how many bytes there are */
 } goq_reading;
 
-/* How the symbol of a square stands. GOQ_INVERTED is added where dark and light are exchanged. */
+/* The position of a symbol. GOQ_INVERTED is added if dark and light are exchanged. */
 enum {
     GOQ_UPRIGHT = 0,
-    GOQ_TURNED_LEFT = 1, /* by a quarter, against the clock */
+    GOQ_TURNED_LEFT = 1, /* by a quarter, counterclockwise */
     GOQ_UPSIDE_DOWN = 2,
     GOQ_TURNED_RIGHT = 3,
     GOQ_MIRRORED = 4, /* left and right exchanged */
@@ -383,7 +382,7 @@ enum {
     GOQ_INVERTED = 8
 };
 
-/* What is read of a square in any position beside its bytes. */
+/* What is read of a square in any position, apart from its bytes. */
 typedef struct {
     goq_reading reading;
     uint32_t position;
@@ -395,59 +394,56 @@ typedef struct {
     size_t length;
 } goq_square;
 
-/* The symbol of data at a level, of the least Normal version that holds it: its modules, row by
-   row, 1 for a dark one, at the beginning of `modules`. GOQ_NO_SUCH_LEVEL, GOQ_NO_ROOM,
+/* Encodes data at a level, in the smallest Normal version that holds it. The modules go to the
+   beginning of `modules`, row by row, 1 for a dark one. GOQ_NO_SUCH_LEVEL, GOQ_NO_ROOM,
    GOQ_SMALL_BUFFER, GOQ_OUT_OF_MEMORY. */
 goq_answer goq_encode(const void *data, size_t data_length, uint32_t level, uint8_t *modules,
     size_t modules_length, goq_symbol *symbol);
 
-/* The symbol of a text in UTF-8 at a level, of the least Normal version that holds it. Readers show
-   it as the text, where they take bytes for UTF-8; for readers that guess, goq_encode_marked_text
-   writes in front that they are (12 bits). Of several causes the first is reported, in this order:
-   GOQ_NO_SUCH_LEVEL, GOQ_NOT_TEXT, GOQ_NO_ROOM, GOQ_SMALL_BUFFER; GOQ_OUT_OF_MEMORY. */
+/* Encodes a text in UTF-8 at a level, in the smallest Normal version that holds it. Readers show
+   the text if they take bytes for UTF-8; for readers that guess, goq_encode_marked_text says so
+   before the data (ECI 26, 12 bits). GOQ_NO_SUCH_LEVEL, GOQ_NOT_TEXT, GOQ_NO_ROOM,
+   GOQ_SMALL_BUFFER; GOQ_OUT_OF_MEMORY. */
 goq_answer goq_encode_text(const void *text, size_t text_length, uint32_t level, uint8_t *modules,
     size_t modules_length, goq_symbol *symbol);
 goq_answer goq_encode_marked_text(const void *text, size_t text_length, uint32_t level,
     uint8_t *modules, size_t modules_length, goq_symbol *symbol);
 
-/* The symbol of data, of a version and level. Of several causes the first is reported, in this
-   order: GOQ_NO_SUCH_LEVEL, GOQ_NO_SUCH_VERSION, GOQ_TOO_LONG, GOQ_NO_MODE,
-   GOQ_LEVEL_NOT_IN_VERSION, GOQ_NO_ROOM, GOQ_SMALL_BUFFER; GOQ_OUT_OF_MEMORY. */
+/* Encodes data in a version and level. GOQ_NO_SUCH_LEVEL, GOQ_NO_SUCH_VERSION, GOQ_TOO_LONG,
+   GOQ_NO_MODE, GOQ_LEVEL_NOT_IN_VERSION, GOQ_NO_ROOM, GOQ_SMALL_BUFFER; GOQ_OUT_OF_MEMORY. */
 goq_answer goq_encode_in(const void *data, size_t data_length, uint32_t version, uint32_t level,
     uint8_t *modules, size_t modules_length, goq_symbol *symbol);
 
-/* The symbol of data that options ask for. GOQ_NO_SUCH_STRUCT, GOQ_NO_SUCH_LEVEL,
-   GOQ_NO_SUCH_VERSION, GOQ_NO_SUCH_MANNER, GOQ_NOT_TEXT; where a version is asked for GOQ_NO_MODE,
+/* Encodes data by options. GOQ_NO_SUCH_STRUCT, GOQ_NO_SUCH_LEVEL, GOQ_NO_SUCH_VERSION,
+   GOQ_NO_SUCH_MANNER, GOQ_NOT_TEXT; where a version is asked for GOQ_NO_MODE,
    GOQ_LEVEL_NOT_IN_VERSION; GOQ_NO_ROOM, GOQ_NO_SUCH_MASK, GOQ_SMALL_BUFFER; GOQ_OUT_OF_MEMORY.
    More than 1,048,576 bytes are GOQ_NO_ROOM, whatever the version. */
 goq_answer goq_encode_with(const void *data, size_t data_length, const goq_options *options,
     uint8_t *modules, size_t modules_length, goq_symbol *symbol);
 
-/* The symbols between which data is parted (structured append), in order, one behind the other in
-   `modules`: each has symbol->width * symbol->width of them, and `symbol` is what each of them is.
-   How many there are goes to `count`. A single one has no header. GOQ_NO_SUCH_STRUCT,
-   GOQ_NO_SUCH_LEVEL, GOQ_NO_SUCH_VERSION (also of Micro, or the least above the greatest),
+/* Splits data over several symbols (structured append), which go to `modules` one after the other:
+   each has symbol->width * symbol->width modules, and all are as `symbol` says. How many there are
+   goes to `count`. A single one has no header. GOQ_NO_SUCH_STRUCT, GOQ_NO_SUCH_LEVEL,
+   GOQ_NO_SUCH_VERSION (also for Micro, or if the smallest is above the largest),
    GOQ_NO_SUCH_MANNER, GOQ_NO_SUCH_NUMBER (a count above GOQ_SEVERAL_MAX), GOQ_NOT_TEXT,
    GOQ_NO_ROOM, GOQ_SMALL_BUFFER; GOQ_OUT_OF_MEMORY. */
 goq_answer goq_encode_several(const void *data, size_t data_length, const goq_several *options,
     uint8_t *modules, size_t modules_length, goq_symbol *symbol, size_t *count);
 
-/* The symbol of segments, one behind the other, of a version and level. Of several causes the first
-   is reported, in this order: GOQ_NO_SUCH_LEVEL, GOQ_NO_SUCH_VERSION, GOQ_LEVEL_NOT_IN_VERSION; of
-   each segment GOQ_NO_SUCH_KIND, GOQ_NOT_IN_MODE, GOQ_NO_MODE, GOQ_NO_SUCH_NUMBER, GOQ_NO_ROOM;
-   then GOQ_NO_ROOM, GOQ_SMALL_BUFFER; GOQ_OUT_OF_MEMORY. */
+/* Encodes segments in a version and level. GOQ_NO_SUCH_LEVEL, GOQ_NO_SUCH_VERSION,
+   GOQ_LEVEL_NOT_IN_VERSION; of each segment GOQ_NO_SUCH_KIND, GOQ_NOT_IN_MODE, GOQ_NO_MODE,
+   GOQ_NO_SUCH_NUMBER, GOQ_NO_ROOM; then GOQ_NO_ROOM, GOQ_SMALL_BUFFER; GOQ_OUT_OF_MEMORY. */
 goq_answer goq_encode_segments(const goq_segment *segments, size_t segments_length,
     uint32_t version, uint32_t level, uint8_t *modules, size_t modules_length, goq_symbol *symbol);
 
-/* The least Normal version that holds data at a level. GOQ_NO_SUCH_LEVEL, GOQ_NO_ROOM,
+/* The smallest Normal version that holds data at a level. GOQ_NO_SUCH_LEVEL, GOQ_NO_ROOM,
    GOQ_OUT_OF_MEMORY. */
 goq_answer goq_least_version(const void *data, size_t data_length, uint32_t level,
     uint32_t *version);
 
-/* The least Normal version that holds segments, one behind the other, at a level. Of several causes
-   the first is reported, in this order: GOQ_NO_SUCH_LEVEL; of each segment GOQ_NO_SUCH_KIND,
-   GOQ_NOT_IN_MODE, GOQ_NO_SUCH_NUMBER, where a version has room for those before it; GOQ_NO_ROOM;
-   GOQ_OUT_OF_MEMORY. */
+/* The smallest Normal version that holds segments at a level. GOQ_NO_SUCH_LEVEL; of each segment
+   GOQ_NO_SUCH_KIND, GOQ_NOT_IN_MODE, GOQ_NO_SUCH_NUMBER, where a version has room for those before
+   it; GOQ_NO_ROOM; GOQ_OUT_OF_MEMORY. */
 goq_answer goq_least_version_of_segments(const goq_segment *segments, size_t segments_length,
     uint32_t level, uint32_t *version);
 
@@ -458,11 +454,11 @@ uint32_t goq_width(uint32_t version);
    false where there is no such version or module. */
 bool goq_is_functional(uint32_t version, uint32_t x, uint32_t y);
 
-/* The picture of modules, `width` along a side, dark where a byte is not zero, with a quiet zone of
-   `zone` modules at each side and `scale` pixels a module: at the beginning of `out`, and its
-   length in bytes to `count`. A text has no zero behind it. GOQ_MODULES_MAX * 80 + 400 bytes are
-   room for any SVG, PIC or EPS. Sizes are a scale of 1 to 65,535 and at most 65,535 modules along a
-   side with the quiet zone; of a PNG file 1 to 65,535 pixels a side. GOQ_NO_SUCH_FORMAT,
+/* Draws modules, `width` along a side, dark where a byte is not zero, with a quiet zone of `zone`
+   modules on each side and `scale` pixels per module. The picture goes to the beginning of `out`,
+   and its length in bytes to `count`. A text has no zero at its end. GOQ_MODULES_MAX * 80 + 400
+   bytes are enough for any SVG, PIC or EPS. A scale is 1 to 65,535; a side has at most 65,535
+   modules with the quiet zone, and in a PNG file 1 to 65,535 pixels. GOQ_NO_SUCH_FORMAT,
    GOQ_NOT_SQUARE, GOQ_NO_SUCH_SIZE, GOQ_SMALL_BUFFER; GOQ_OUT_OF_MEMORY. */
 goq_answer goq_draw(const uint8_t *modules, size_t modules_length, uint32_t width, uint32_t zone,
     uint32_t scale, uint32_t format, void *out, size_t out_length, size_t *count);
@@ -472,17 +468,17 @@ goq_answer goq_draw(const uint8_t *modules, size_t modules_length, uint32_t widt
 goq_answer goq_draw_length(const uint8_t *modules, size_t modules_length, uint32_t width,
     uint32_t zone, uint32_t scale, uint32_t format, size_t *count);
 
-/* The same of a drawing with colours and dots per inch. GOQ_NO_SUCH_STRUCT, GOQ_NO_SUCH_FORMAT,
+/* The same with colours and dots per inch. GOQ_NO_SUCH_STRUCT, GOQ_NO_SUCH_FORMAT,
    GOQ_NOT_SQUARE, GOQ_NO_SUCH_SIZE, GOQ_NOT_IN_FORMAT, GOQ_SMALL_BUFFER; GOQ_OUT_OF_MEMORY. */
 goq_answer goq_draw_with(const uint8_t *modules, size_t modules_length, uint32_t width,
     const goq_drawing *drawing, void *out, size_t out_length, size_t *count);
 goq_answer goq_draw_with_length(const uint8_t *modules, size_t modules_length, uint32_t width,
     const goq_drawing *drawing, size_t *count);
 
-/* The bytes of a square of modules, row by row from the top left corner, dark where a byte is not
-   zero, without a quiet zone: at the beginning of `bytes`, and what it is beside them. Each copy of
-   the format word may have three wrong bits, and each block half as many wrong codewords as it has
-   for error correction. Of several causes the first is reported, in this order: GOQ_NO_SUCH_SIDE,
+/* Decodes a square of modules, row by row from the top left corner, dark where a byte is not zero,
+   without a quiet zone. Its bytes go to the beginning of `bytes`, the rest to `reading`. Each copy
+   of the format word may have three wrong bits, and each block half as many wrong codewords as it
+   has error correction codewords. GOQ_NO_SUCH_SIDE,
    GOQ_NO_FORMAT, GOQ_DAMAGED, GOQ_NOT_SPELLED, GOQ_SMALL_BUFFER; GOQ_OUT_OF_MEMORY. */
 goq_answer goq_read(const uint8_t *modules, size_t modules_length, void *bytes,
     size_t bytes_length, goq_reading *reading);
@@ -491,12 +487,12 @@ goq_answer goq_read(const uint8_t *modules, size_t modules_length, void *bytes,
    GOQ_NOT_SPELLED, GOQ_OUT_OF_MEMORY. */
 goq_answer goq_read_length(const uint8_t *modules, size_t modules_length, size_t *count);
 
-/* The same of a square in any position, in the first of the sixteen in which it is read.
+/* The same for a square in any position: the first of the sixteen in which it can be read.
    GOQ_NOT_READ, GOQ_SMALL_BUFFER; GOQ_OUT_OF_MEMORY. */
 goq_answer goq_read_any(const uint8_t *modules, size_t modules_length, void *bytes,
     size_t bytes_length, goq_any_reading *reading);
 
-/* The text that readers show of a square, in UTF-8: that of a symbol of goq_encode_text or
+/* The text that readers show of a square, in UTF-8, e.g. of a symbol by goq_encode_text or
    goq_encode_marked_text. GOQ_NO_SUCH_SIDE, GOQ_NO_FORMAT, GOQ_DAMAGED, GOQ_NOT_SHOWN,
    GOQ_SMALL_BUFFER; GOQ_OUT_OF_MEMORY. */
 goq_answer goq_read_text(const uint8_t *modules, size_t modules_length, void *text,
@@ -506,38 +502,38 @@ goq_answer goq_read_text(const uint8_t *modules, size_t modules_length, void *te
    GOQ_NO_SUCH_SIDE, GOQ_NO_FORMAT; GOQ_OUT_OF_MEMORY. */
 goq_answer goq_mask(const uint8_t *modules, size_t modules_length, uint32_t *mask);
 
-/* The data of several symbols, whose squares come in any order: at the beginning of `out`, and its
-   length to `count`. GOQ_SEVERAL_MAX * GOQ_BYTES_MAX bytes are room for all data. Of the first
-   square that is no part GOQ_NO_SUCH_SIDE, GOQ_NO_FORMAT, GOQ_DAMAGED, GOQ_NOT_SPELLED,
+/* Joins the data of several symbols, whose squares may come in any order. It goes to the beginning
+   of `out`, and its length to `count`. GOQ_SEVERAL_MAX * GOQ_BYTES_MAX bytes are always enough. For
+   the first square that is no part GOQ_NO_SUCH_SIDE, GOQ_NO_FORMAT, GOQ_DAMAGED, GOQ_NOT_SPELLED,
    GOQ_NOT_SEVERAL; then GOQ_STRANGER; each with the place of the square, from 0 on. GOQ_MISSING,
    GOQ_TWICE, with the place of the part; GOQ_PARITY, GOQ_SMALL_BUFFER; GOQ_OUT_OF_MEMORY. */
 goq_answer goq_join(const goq_square *squares, size_t squares_length, void *out,
     size_t out_length, size_t *count, size_t *place);
 
-/* The text of a kind of payload, to be encoded by goq_encode_text: at the beginning of `out`, and
-   its length to `count`, with no zero behind it. No symbol holds a text of more than GOQ_BYTES_MAX
-   bytes. Fields behind those given are empty. Of several causes the first is reported, in this
-   order: GOQ_NO_SUCH_CONTENT; of each field GOQ_NO_SUCH_FIELD, GOQ_NOT_TEXT; what the format
-   refuses, GOQ_FIELD_EMPTY .. GOQ_FIELD_UNUSED, GOQ_FIELD_DECIMALS, GOQ_FIELD_WORD;
-   GOQ_SMALL_BUFFER; GOQ_OUT_OF_MEMORY. Where a field is wrong, its place goes to `place`,
-   GOQ_PAYMENT_FIELDS for a payment that is too long as a whole; otherwise `place` is as it was. */
+/* The text of a payload, to be encoded by goq_encode_text. It goes to the beginning of `out`, with
+   no zero at its end, and its length to `count`. No symbol holds a text of more than GOQ_BYTES_MAX
+   bytes. Fields after those given are empty. GOQ_NO_SUCH_CONTENT; of each field GOQ_NO_SUCH_FIELD,
+   GOQ_NOT_TEXT; what the format refuses, GOQ_FIELD_EMPTY .. GOQ_FIELD_UNUSED, GOQ_FIELD_DECIMALS,
+   GOQ_FIELD_WORD; GOQ_SMALL_BUFFER; GOQ_OUT_OF_MEMORY. Where a field is wrong, its place goes to
+   `place`, GOQ_PAYMENT_FIELDS for a payment that is too long as a whole; otherwise `place` is
+   unchanged. */
 goq_answer goq_content(uint32_t kind, const goq_field *fields, size_t fields_length, void *out,
     size_t out_length, size_t *count, size_t *place);
 
-/* The element string of GS1, to be encoded by goq_encode_segments as GOQ_BYTES behind
-   GOQ_FNC1_FIRST: at the beginning of `out`, and its length to `count`, with a separator (byte 29)
-   behind each element whose length is not predefined and that another one follows. The first
-   element that is wrong is reported by its place, to `place`: GOQ_NOT_TEXT; else
+/* A GS1 element string, to be encoded by goq_encode_segments as GOQ_BYTES after GOQ_FNC1_FIRST. It
+   goes to the beginning of `out`, and its length to `count`, with a separator (byte 29) after each
+   element whose length is not predefined, except for the last. The place of the first wrong element
+   goes to `place`: GOQ_NOT_TEXT; else
    GOQ_NO_SUCH_IDENTIFIER, GOQ_ELEMENT_LENGTH, GOQ_FIELD_CHARACTER, GOQ_FIELD_CHECK_DIGITS.
    GOQ_SMALL_BUFFER, GOQ_OUT_OF_MEMORY. */
 goq_answer goq_gs1(const goq_element *elements, size_t elements_length, void *out,
     size_t out_length, size_t *count, size_t *place);
 
-/* The symbol of elements of GS1 that options ask for, in segments of the fewest bits; their manner
-   and boost are not looked at. Of the first element that is wrong, with its place, GOQ_NOT_TEXT;
+/* Encodes a GS1 element string by options, in the fewest bits; their manner and boost are ignored.
+   For the first wrong element, with its place, GOQ_NOT_TEXT;
    else GOQ_NO_SUCH_IDENTIFIER, GOQ_ELEMENT_LENGTH, GOQ_FIELD_CHARACTER, GOQ_FIELD_CHECK_DIGITS.
    Before these GOQ_NO_SUCH_STRUCT, GOQ_NO_SUCH_LEVEL, GOQ_NO_SUCH_VERSION, GOQ_NO_SUCH_MANNER;
-   behind them GOQ_NO_ROOM (Micro has no such symbols), GOQ_NO_SUCH_MASK, GOQ_SMALL_BUFFER;
+   after them GOQ_NO_ROOM (Micro has no such symbols), GOQ_NO_SUCH_MASK, GOQ_SMALL_BUFFER;
    GOQ_OUT_OF_MEMORY. */
 goq_answer goq_encode_gs1(const goq_element *elements, size_t elements_length,
     const goq_options *options, uint8_t *modules, size_t modules_length, goq_symbol *symbol,

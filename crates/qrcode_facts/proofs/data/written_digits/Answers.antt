@@ -10,7 +10,7 @@ pub returns-clause-spelled : goal.returns-clause-spelled
 unfolding number_bits block_table blocks_entry block_lengths data_length capacity padding ending terminated
 returns-clause-spelled c = record {
   pieces = digits ∷ [];
-  read = (drop 41 normal_bits, (refl, (refl, (record { mode_exists = refl; writable = refl; nonempty = lit< tt; counted = lit< tt }, refl))));
+  read = (drop 41 normal_bits, (refl, (refl, (record { mode_exists = refl; writable = refl; counted = lit< tt }, refl))));
   joined = refl;
 }
 
@@ -18,6 +18,6 @@ pub returns-clause-micro_spelled : goal.returns-clause-micro_spelled
 unfolding number_bits block_table blocks_entry block_lengths data_length capacity padding ending terminated
 returns-clause-micro_spelled c = record {
   pieces = digits ∷ [];
-  read = (drop 32 micro_bits, (refl, (refl, (record { mode_exists = refl; writable = refl; nonempty = lit< tt; counted = lit< tt }, refl))));
+  read = (drop 32 micro_bits, (refl, (refl, (record { mode_exists = refl; writable = refl; counted = lit< tt }, refl))));
   joined = refl;
 }
