@@ -6,7 +6,8 @@
    other answer has one cause, the first that applies in the order in which its comment names them;
    GOQ_OUT_OF_MEMORY may come instead of those that take memory to find out. All outputs are then
    as they were, except that a call with `place` writes there which field, element or square is
-   wrong. A pointer with length 0 may be NULL.
+   wrong. A pointer with length 0 may be NULL. Of a struct that begins with its size no more is read
+   than that, where the size is not the one that this header knows.
 
    The library asks for memory by rattle_alloc, rattle_realloc and rattle_dealloc, which stand over
    malloc unless the program has its own. */
@@ -22,11 +23,14 @@
 extern "C" {
 #endif
 
-/* The version of this header. */
+/* The version of this header. goq_version() gives that of the library: it has what a header of the
+   same or a lower one declares, as long as the first number is the same. */
 #define GOQ_VERSION_MAJOR 1
 #define GOQ_VERSION_MINOR 0
 #define GOQ_VERSION_PATCH 0
 #define GOQ_VERSION (GOQ_VERSION_MAJOR * 10000 + GOQ_VERSION_MINOR * 100 + GOQ_VERSION_PATCH)
+
+uint32_t goq_version(void);
 
 /* What a struct begins with, in initialisers and in assignments. */
 #ifdef __cplusplus
@@ -117,6 +121,7 @@ enum {
     GOQ_EPS = 6, /* Encapsulated PostScript text, black on white, a point a pixel */
     GOQ_PBM = 7, /* a PBM file */
     GOQ_SVG_PATH = 8, /* SVG text of one path, by the runs of dark modules; shorter than GOQ_SVG */
+    GOQ_PGM = 9, /* a PGM file, a byte a pixel */
     GOQ_FORMATS /* how many there are */
 };
 
@@ -480,7 +485,8 @@ bool goq_is_functional(uint32_t version, uint32_t x, uint32_t y);
    `zone` modules at each side and `scale` pixels a module: at the beginning of `out`, and its
    length in bytes to `count`. A text has no zero behind it. GOQ_MODULES_MAX * 80 + 400 bytes are
    room for any SVG, PIC or EPS. Sizes are a scale of 1 to 65,535 and at most 65,535 modules along a
-   side with the quiet zone; of a PNG file 1 to 65,535 pixels a side. GOQ_NO_SUCH_FORMAT, GOQ_NOT_SQUARE, GOQ_NO_SUCH_SIZE,
+   side with the quiet zone; of a PNG file 1 to 65,535 pixels a side, and of half blocks, which are
+   for terminals and pages, at most 4,096. GOQ_NO_SUCH_FORMAT, GOQ_NOT_SQUARE, GOQ_NO_SUCH_SIZE,
    GOQ_SMALL_BUFFER; GOQ_OUT_OF_MEMORY. */
 goq_answer goq_draw(const uint8_t *modules, size_t modules_length, uint32_t width, uint32_t zone,
     uint32_t scale, uint32_t format, void *out, size_t out_length, size_t *count);

@@ -12,6 +12,8 @@ use Rattle.qrcode.specs.Texts.{ShowsTextOnly}
 use Rattle.qrcode_render.specs.Shades.{colors_of}
 use Rattle.qrcode_reader.specs.Readings.{IsReading, IsTextReading, HasNoVersion}
 use Rattle.qrcode_reader.specs.declared.correction.WrongCodeword.{WrongCodeword}
+use Rattle.qrcode_reader.proofs.Positioned.{unread_of_no_version}
+use Rattle.goqlanis_buffers.specs.Readings.{IsReadNowhere}
 
 -- no other bytes are read
 pub only_these : (s : List Color) (v : Version) (l : EcLevel) (k : MaskPattern) (bytes : List ℕ) (wrong : List WrongCodeword)
@@ -36,3 +38,7 @@ existing s v l k bytes wrong reading = reading.read.only.found.exists
 -- bytes whose number is that of no square are the colours of none
 pub no_side : (bytes : List ℕ) → ((v : Version) → IsTrue (is_valid v) → length bytes ≢ side v * side v) → HasNoVersion (colors_of bytes)
 no_side bytes none v valid same = none v valid (sym (length-map bytes _) ∙ same)
+
+-- nor are they read in any position
+pub nowhere : (bytes : List ℕ) → ((v : Version) → IsTrue (is_valid v) → length bytes ≢ side v * side v) → IsReadNowhere (colors_of bytes)
+nowhere bytes none = record { none = λ w square. unread_of_no_version (colors_of bytes) (no_side bytes none) w square }

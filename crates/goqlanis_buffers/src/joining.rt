@@ -10,7 +10,7 @@ use crate::symbols::{colors_of, fill};
 use qrcode_append::errors::JoinError;
 use qrcode_append::{Part, join};
 use qrcode_reader::spell::{Header, Part as Piece};
-use qrcode_reader::{Unread, read_parts};
+use qrcode_reader::{Unread, read_parts, version_of};
 use std::alloc::{AllocError, Global};
 
 /// A square of modules, which are bytes in row order, dark where they are not zero.
@@ -119,11 +119,15 @@ fn found_in(alloc: Global, squares: &[Square<'_>]) -> Result<Vec<Found>, Unjoine
 }
 
 // What a square is read as, or why it is no part; `None` where memory was refused.
+#[tactic(auto, using(crate::proofs::Known::no_side))]
 fn found_of(alloc: Global, modules: &[u8]) -> Result<Found, Option<Refusal>>
     ensures read { IfOk result (λ found. IsPartOf (colors_of modules.now) (found_part found)) }
     ensures causes { IfErr result (λ refusal.
         IfSome refusal (IsNoPart (colors_of modules.now))) }
 {
+    if version_of(modules.len()).is_none() {
+        return Err(Some(Refusal::NoSuchSide));
+    }
     let Ok(colors) = colors_of(alloc, modules) else {
         return Err(None);
     };

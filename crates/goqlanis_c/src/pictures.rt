@@ -37,8 +37,7 @@ pub extern "C" fn goq_draw(
     )
 }
 
-/// The length of the picture that `goq_draw` would write, to `count`; of PNG that of a file that shows
-/// the picture.
+/// The length of the picture that `goq_draw` would write, to `count`.
 ///
 /// 0, or the number of a `Refusal`: `NoSuchFormat`, `NotSquare`, `NoSuchSize` or `OutOfMemory`. Then
 /// `count` is as it was.
@@ -74,7 +73,6 @@ pub extern "C" fn goq_draw_with(
     ensures { IsReported (WritesPicture modules.now width drawing.now out.old out.new)
         result count.old count.new }
 {
-    let drawing = *drawing;
     let asked = Asked {
         modules,
         width,
@@ -96,7 +94,6 @@ pub extern "C" fn goq_draw_with_length(
 ) -> u32
     ensures { IsReported (TellsLength modules.now width drawing.now) result count.old count.new }
 {
-    let drawing = *drawing;
     let asked = Asked {
         modules,
         width,

@@ -1,7 +1,7 @@
 //! The formats of drawings: one table of what is known of each beside what it draws.
 
 ghost use Rattle.std.specs.Prelude.{◌≡◌};
-ghost use Rattle.goqlanis_core.specs.Formats.{format_numbered};
+ghost use Rattle.goqlanis_core.specs.Formats.{format_numbered, greatest_side};
 
 use Format::{
     Chars, Eps, Grey, HalfBlocks, LightHalfBlocks, Pbm, Pgm, Pic, Png, Svg, SvgPath, Terminal,
@@ -86,6 +86,7 @@ static IN_C: &[Format] = &[
     Eps,
     Pbm,
     SvgPath,
+    Pgm,
 ];
 
 /// The format of a number in C.
@@ -133,5 +134,17 @@ impl Format {
     /// The pixels of a module where nothing else is asked for.
     pub fn pixels(self) -> u16 {
         self.row().map_or(1, |row| row.pixels)
+    }
+
+    /// The most pixels along a side: of PNG what a file may have, and of characters more than a
+    /// terminal or a page shows.
+    pub fn greatest_side(self) -> u32
+        ensures { result ≡ greatest_side self }
+    {
+        match self {
+            Png => 65_535,
+            HalfBlocks | LightHalfBlocks | Terminal | Chars => 4_096,
+            Svg | SvgPath | Eps | Pic | Pbm | Pgm | Grey => u32::MAX,
+        }
     }
 }

@@ -11,7 +11,6 @@ use goqlanis_files::streams::has_colours;
 use qrcode::bits::Manner;
 use qrcode::types::{EcLevel, Version};
 use qrcode_append::Versions;
-use qrcode_png::GREATEST_SIDE;
 use std::alloc::{AllocError, Global};
 
 /// Where the data comes from.
@@ -263,14 +262,20 @@ fn sizes(
     };
     let scale = given.get_one::<u16>("scale").unwrap_or(format.pixels());
     let zone = given.get_one::<u8>("quiet-zone").unwrap_or(4);
-    let most = GREATEST_SIDE / (177 + 2 * zone as u32);
-    if format == Format::Png && scale as u32 > most {
+    let side = format.greatest_side();
+    let most = side / (177 + 2 * zone as u32);
+    if scale as u32 > most {
         return Err(Failure::Usage(format!(in alloc;
-            "--scale {scale}: a PNG file has at most 65,535 pixels a side; \
+            "--scale {scale}: in this format a picture has at most {side} pixels a side; \
             take --scale {most} or less"
         )?));
     }
-    Ok((scale, size))
+    match size {
+        Some(pixels) if pixels as u32 > side => Err(Failure::Usage(format!(in alloc;
+            "--size {pixels}: in this format a picture has at most {side} pixels a side"
+        )?)),
+        _ => Ok((scale, size)),
+    }
 }
 
 // The dots of an inch, where they are known: of EPS, whose pixels are points, always.

@@ -60,7 +60,8 @@ pub const GOQ_PNG: u32 = 5;
 pub const GOQ_EPS: u32 = 6;
 pub const GOQ_PBM: u32 = 7;
 pub const GOQ_SVG_PATH: u32 = 8;
-pub const GOQ_FORMATS: u32 = 9;
+pub const GOQ_PGM: u32 = 9;
+pub const GOQ_FORMATS: u32 = 10;
 pub const GOQ_NUMERIC: u32 = 0;
 pub const GOQ_ALPHANUMERIC: u32 = 1;
 pub const GOQ_BYTES: u32 = 2;
@@ -342,6 +343,7 @@ extern "C" {
     pub fn goq_read_length(modules: *const u8, modules_length: usize, count: *mut usize) -> u32;
     pub fn goq_least_version(data: *const u8, data_length: usize, level: u32, version: *mut u32) -> u32;
     pub fn goq_least_version_of_segments(segments: *const goq_segment, segments_length: usize, level: u32, version: *mut u32) -> u32;
+    pub fn goq_version() -> u32;
     pub fn goq_width(version: u32) -> u32;
     pub fn goq_is_functional(version: u32, x: u32, y: u32) -> bool;
     pub fn goq_draw(modules: *const u8, modules_length: usize, width: u32, zone: u32, scale: u32, format: u32, out: *mut u8, out_length: usize, count: *mut usize) -> u32;
