@@ -323,7 +323,8 @@ typedef struct {
     uint32_t width; /* the modules along a side */
 } goq_symbol;
 
-/* A segment: bytes in a mode, or a header for what stands behind it. */
+/* A segment: bytes in a mode, or a header for what stands after it. Without bytes it is left out,
+   since digits without any are the terminator of Micro QR. */
 typedef struct {
     uint32_t kind;
     uint32_t number; /* of GOQ_ECI and GOQ_FNC1_SECOND; not looked at in others */

@@ -139,6 +139,18 @@ static uint32_t encode_one(uint32_t kind, uint32_t number, const char *bytes, si
     return goq_encode_segments(&segment, 1, version, level, modules, sizeof modules, &symbol);
 }
 
+/* An empty segment is left out: the square is that of segno.make("12", version="M2", error="L"). */
+static void empty_segments(void)
+{
+    static const char twelve[] = "#######.#.#.##.....#..##.##.###.#..#..##.###.#..#..##.###.#..#.###.....#...##########...###........#...###.######.##...###.......####.#...#####.##.##..###.##..#..##.####";
+    goq_segment segments[] = {{GOQ_NUMERIC, 0, NULL, 0}, {GOQ_BYTES, 0, NULL, 0}, {GOQ_NUMERIC, 0, (const uint8_t *)"12", 2}};
+    int same = goq_encode_segments(segments, 3, GOQ_MICRO(2), GOQ_L, modules, sizeof modules, &symbol) == GOQ_OK && symbol.width == 13;
+    for (int i = 0; i < 169; i++)
+        same = same && modules[i] == (twelve[i] == '#');
+    expect(same, "empty segments in front of digits in Micro 2");
+    expect(encode_one(GOQ_BYTES, 0, NULL, 0, 1, GOQ_L) == GOQ_OK && symbol.width == 21, "an empty segment alone");
+}
+
 /* Segments by hand. That their symbols are those of other encoders bindings/c/facts says. */
 static void by_hand(void)
 {
@@ -147,6 +159,7 @@ static void by_hand(void)
     expect(goq_encode_segments(segments, 4, 1, GOQ_M, modules, sizeof modules, &symbol) == GOQ_OK && symbol.width == 21 && modules[441] == 7, "segments and headers");
     mark();
     expect(goq_encode_segments(NULL, 0, 1, GOQ_M, modules, sizeof modules, &symbol) == GOQ_OK, "no segments, from NULL");
+    empty_segments();
     mark();
     refuses(encode_one(GOQ_BYTES, 0, "a", 1, 1, 4), GOQ_NO_SUCH_LEVEL, "level 4 of segments");
     refuses(encode_one(GOQ_BYTES, 0, "a", 1, 0, GOQ_L), GOQ_NO_SUCH_VERSION, "version 0 of segments");

@@ -111,10 +111,9 @@ def read_headed(square):
 
 
 def read(square):
-    """The bits and bytes of a square without headers and without an empty segment, as the library
-    reads it."""
+    """The bits and bytes of a square without headers, as the library reads it."""
     bits, found = read_headed(square)
-    if found.headers or not found.are_filled:
+    if found.headers:
         raise NotSpelled
     return bits, found.data
 

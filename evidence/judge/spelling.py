@@ -12,13 +12,11 @@ class Unspelled(Exception):
 
 class Spelled(NamedTuple):
     """The bytes of all segments; the headers before them, `("ECI", 26)`, `("FNC1",)`,
-    `("FNC1", 37)`, `("symbol", place, last, parity)`; how many bits they take; and whether no
-    segment is empty."""
+    `("FNC1", 37)`, `("symbol", place, last, parity)`; and how many bits they take."""
 
     data: bytes
     headers: list
     length: int
-    are_filled: bool
 
 
 class Front:
@@ -116,7 +114,7 @@ def header(indicator, front):
 
 def spelled(form, bits):
     """What data bits of a version spell."""
-    front, data, headers, are_filled = Front(bits), b"", [], True
+    front, data, headers = Front(bits), b"", []
     while not front.is_end(form.number * 2 + 1 if form.is_micro else 4):
         indicator = front.number(form.number - 1 if form.is_micro else 4)
         known = indicator < 4 if form.is_micro else indicator in MODES
@@ -125,10 +123,9 @@ def spelled(form, bits):
             width = count_bits(form, mode)
             if width == 0:
                 raise Unspelled
-            count = front.number(width)
-            data, are_filled = data + READERS[mode](front, count), are_filled and count > 0
+            data += READERS[mode](front, front.number(width))
         elif form.is_micro:
             raise Unspelled
         else:
             headers.append(header(indicator, front))
-    return Spelled(data, headers, front.at, are_filled)
+    return Spelled(data, headers, front.at)

@@ -143,7 +143,7 @@ def encode_segments(segments: Segments, level: str = "M",
     """The symbol of segments, one behind the other: of a version, or of the least version of Normal
     QR that holds them. A segment is a mode with its bytes, `("numeric", b"..")`, `"alphanumeric"`,
     `"byte"` or `"kanji"` (pairs of bytes of Shift JIS); or a header: `("eci", 26)`,
-    `("fnc1_first", None)`, `("fnc1_second", 37)`.
+    `("fnc1_first", None)`, `("fnc1_second", 37)`. A segment without bytes is left out.
 
     >>> encode_segments([("eci", 7), ("byte", "Živjo".encode("iso8859_2"))]).version
     '1'

@@ -1,5 +1,5 @@
 -- Segments whose modes C names, and headers: their bits, and what refuses them.
-use Rattle.std.specs.Prelude.{◌≡◌, ◌⊎◌, ℕ, pos, ◌<◌, ◌≤◌, nat_lt, not, false, IsTrue, Bool, List, [], ◌∷◌, ◌++◌, length, take, flat_map, slice_get, Option, Some, None, unwrap_or, if◌then◌else◌}
+use Rattle.std.specs.Prelude.{◌≡◌, ◌⊎◌, ℕ, pos, ◌==◌, ◌<◌, ◌≤◌, nat_lt, not, false, IsTrue, Bool, List, [], ◌∷◌, ◌++◌, length, take, flat_map, slice_get, Option, Some, None, unwrap_or, if◌then◌else◌}
 use Rattle.std.specs.List.{AllByRecursion}
 use Rattle.std.specs.Option.{option_map}
 use Rattle.qrcode_types.specs.Bits.{number_bits}
@@ -14,7 +14,7 @@ use Rattle.qrcode_types.specs.Versions.{has_level, capacity}
 use Rattle.qrcode_types.specs.declared.types.Version.{Version}
 use Rattle.qrcode_types.specs.declared.types.Version.TheVariants.{Normal}
 use Rattle.qrcode_bits.specs.Refusals.{append_refusal, eci_refusal, indicator_bits, piece_refusal}
-use Rattle.qrcode_bits.specs.Spelling.{IsReadable, SpellsOnly}
+use Rattle.qrcode_bits.specs.Spelling.{IsReadBack, SpellsOnly}
 use Rattle.qrcode_bits.specs.Written.{Piece, eci_bits, terminated, written, written_piece}
 use Rattle.qrcode_bits.specs.declared.bits.ExtendedMode.TheVariants.{Fnc1First, Fnc1Second}
 use Rattle.qrcode.specs.Reading.{EncodesBits}
@@ -27,8 +27,8 @@ use Rattle.goqlanis_buffers.specs.declared.segments.Segment.{Segment}
 abbrev pub kind_named : ℕ → Option Kind  -- the kind of a number, in this order from 0 on
 kind_named n = slice_get (Data Numeric ∷ Data Alphanumeric ∷ Data Byte ∷ Data Kanji ∷ CharacterSet ∷ FirstPosition ∷ SecondPosition ∷ []) n
 
-abbrev pub bits_in : Version → List ℕ → ℕ → Kind → List Bool  -- the bits of bytes or a number in a kind
-bits_in v bytes n (Data m) = written_piece v (record { mode = m; chunk = bytes })
+abbrev pub bits_in : Version → List ℕ → ℕ → Kind → List Bool  -- the bits of bytes or a number in a kind; none where there are no bytes
+bits_in v bytes n (Data m) = if length bytes == 0 then [] else written_piece v (record { mode = m; chunk = bytes })
 bits_in v bytes n CharacterSet = number_bits 4 7 ++ eci_bits n
 bits_in v bytes n FirstPosition = number_bits 4 5
 bits_in v bytes n SecondPosition = number_bits 4 9 ++ number_bits 8 n
@@ -42,10 +42,10 @@ refusal_in DataTooLong = NoRoom
 refusal_in InvalidEciDesignator = NoSuchNumber
 refusal_in InvalidCharacter = NotInMode
 
--- what refuses bytes or a number in a kind, behind so many bits
+-- what refuses bytes or a number in a kind, behind so many bits; nothing refuses no bytes
 abbrev pub kind_refusal : Version → ℕ → List ℕ → ℕ → Kind → Option Refusal
 kind_refusal v used bytes n (Data m) =
-    if not (can_write m bytes) then Some NotInMode else option_map refusal_in (piece_refusal v used (record { mode = m; chunk = bytes }))
+    if length bytes == 0 then None else if not (can_write m bytes) then Some NotInMode else option_map refusal_in (piece_refusal v used (record { mode = m; chunk = bytes }))
 kind_refusal v used bytes n CharacterSet = option_map refusal_in (eci_refusal v used n)
 kind_refusal v used bytes n FirstPosition = option_map refusal_in (append_refusal used (indicator_bits v Fnc1First))
 kind_refusal v used bytes n SecondPosition =
@@ -79,11 +79,11 @@ pub record IsFirstRefused (v : Version) (segments : List Segment) (r : Refusal) 
 abbrev pub bits_of_segments : Version → EcLevel → List Segment → List Bool  -- the bits that a symbol of segments holds
 bits_of_segments v l segments = terminated v l (written_segments v segments)
 
--- the symbol of segments, none of which is refused; where they are pieces that a reader takes, it is read as their bytes and as no others
+-- the symbol of segments, none of which is refused; where they are pieces that are read back, it is read as their bytes and as no others
 pub record IsSymbolOfSegments (v : Version) (l : EcLevel) (segments : List Segment) (s : List Color) : Type 0 where
   pub taken : AreTaken v segments (length segments)
   pub encodes : EncodesBits v l (bits_of_segments v l segments) s
-  pub spelled : (pieces : List Piece) → AllByRecursion (IsReadable v) pieces → written_segments v segments ≡ written v pieces
+  pub spelled : (pieces : List Piece) → AllByRecursion (IsReadBack v) pieces → written_segments v segments ≡ written v pieces
       → SpellsOnly v (bits_of_segments v l segments) (flat_map (λ p. p.chunk) pieces)
 
 -- the version has the level, none of the segments is refused, and the symbol has room for their bits

@@ -7,7 +7,7 @@ ghost use Rattle.goqlanis_buffers.specs.declared.contents.answers.Refusal as of_
 use crate::answers::Refusal;
 use crate::contents::answers::Refusal as ContentRefusal;
 
-/// Two refusals are equal by `==` exactly when they are the same.
+/// A theorem: two refusals are equal by `==` exactly when they are the same.
 pub fn equality()
     ensures refusals { (a b : Refusal) → IsTrue (⟦<Refusal as PartialEq>⟧.eq a b) ↔ (a ≡ b) }
     ensures of_contents { (a b : of_contents.Refusal)

@@ -33,7 +33,8 @@ pub struct Segment<'a> {
 /// What a segment is.
 #[derive(Clone, Copy)]
 pub enum Kind {
-    /// Bytes in a mode.
+    /// Bytes in a mode. Without bytes the segment is left out, since digits without any are the
+    /// terminator of Micro.
     Data(Mode),
     /// The number of a character set, below 1,000,000 (ECI).
     CharacterSet,
@@ -166,7 +167,7 @@ fn push_all(bits: &mut Bits, segments: &[Segment<'_>]) -> Result<(), Refusal>
     Ok(())
 }
 
-// Appends a segment.
+// Appends a segment, which is left out where it has no bytes.
 fn push(bits: &mut Bits, segment: &Segment<'_>) -> Result<(), Refusal>
     ensures version { bits.new.version ≡ bits.old.version }
     ensures appends { OnOk result (bits.new.bits
@@ -178,6 +179,7 @@ fn push(bits: &mut Bits, segment: &Segment<'_>) -> Result<(), Refusal>
 {
     match kind_named(segment.kind) {
         None => return Err(Refusal::NoSuchKind),
+        Some(Kind::Data(_)) if segment.bytes.is_empty() => {}
         Some(Kind::Data(mode)) => {
             if !can_write(mode, segment.bytes) {
                 return Err(Refusal::NotInMode);

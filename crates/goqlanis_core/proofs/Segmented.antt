@@ -11,7 +11,7 @@ use Rattle.qrcode_types.specs.declared.types.Version.{Version}
 use Rattle.qrcode_bits.specs.BitList.{BitList}
 use Rattle.qrcode_bits.specs.Pushes.{Changes}
 use Rattle.qrcode_bits.specs.Refusals.{terminator_refusal}
-use Rattle.qrcode_bits.specs.Spelling.{IsReadable, SpellsOnly}
+use Rattle.qrcode_bits.specs.Spelling.{IsReadBack, SpellsOnly}
 use Rattle.qrcode_bits.specs.Written.{Piece, written, terminated}
 use Rattle.qrcode.specs.Code.{Code}
 use Rattle.qrcode.specs.Reading.{EncodesBits}
@@ -88,7 +88,7 @@ handed_on (Err x) e P h p = subst P (sym h.1) p
 pub symbol_of_segments : (l : EcLevel) (segments : List Segment) (v : Version) (b : BitList) (result : Result Code QrError)
     → b ≡ record { version = v; bits = terminated v l (written_segments v segments) }
     → IfOk result (λ code. code.version ≡ b.version) → IfOk result (λ code. code.level ≡ l) → IfOk result (λ code. EncodesBits b.version l b.bits code.modules)
-    → ((pieces : List Piece) → AllByRecursion (IsReadable v) pieces → written_segments v segments ≡ written v pieces → SpellsOnly b.version b.bits (flat_map (λ p. p.chunk) pieces))
+    → ((pieces : List Piece) → AllByRecursion (IsReadBack v) pieces → written_segments v segments ≡ written v pieces → SpellsOnly b.version b.bits (flat_map (λ p. p.chunk) pieces))
     → IfOk result (IsSymbolOfSegments l segments)
 symbol_of_segments l segments v b (Err e) is version level encodes spelled = tt
 symbol_of_segments l segments v b (Ok code) is version level encodes spelled =
@@ -97,7 +97,7 @@ symbol_of_segments l segments v b (Ok code) is version level encodes spelled =
     record {
       level = level;
       encodes = subst (λ u. EncodesBits u l (bits u) code.modules) (sym here) (subst (λ (x : BitList). EncodesBits x.version l x.bits code.modules) is encodes);
-      spelled = subst (λ u. (pieces : List Piece) → AllByRecursion (IsReadable u) pieces → written_segments u segments ≡ written u pieces
+      spelled = subst (λ u. (pieces : List Piece) → AllByRecursion (IsReadBack u) pieces → written_segments u segments ≡ written u pieces
           → SpellsOnly u (bits u) (flat_map (λ p. p.chunk) pieces)) (sym here)
           (λ pieces readable same. subst (λ (x : BitList). SpellsOnly x.version x.bits (flat_map (λ p. p.chunk) pieces)) is (spelled pieces readable same));
     }

@@ -1,5 +1,5 @@
 -- Symbols of segments by hand.
-use Rattle.std.specs.Prelude.{◌≡◌, ◌≤◌, ◌⊎◌, ℕ, ◌+◌, pos, not, false, Bool, List, [], ◌∷◌, ◌++◌, length, flat_map, Option, Some, None, if◌then◌else◌}
+use Rattle.std.specs.Prelude.{◌≡◌, ◌≤◌, ◌⊎◌, ℕ, ◌+◌, ◌==◌, pos, not, false, Bool, List, [], ◌∷◌, ◌++◌, length, flat_map, Option, Some, None, if◌then◌else◌}
 use Rattle.std.specs.List.{AllByRecursion}
 use Rattle.std.specs.Option.{option_or}
 use Rattle.qrcode_types.specs.Bits.{number_bits}
@@ -13,7 +13,7 @@ use Rattle.qrcode_types.specs.declared.types.Version.TheVariants.{Normal}
 use Rattle.qrcode_bits.specs.Choice.{IfCause}
 use Rattle.qrcode_bits.specs.Manners.{rank}
 use Rattle.qrcode_bits.specs.Refusals.{piece_refusal, eci_refusal, terminator_refusal}
-use Rattle.qrcode_bits.specs.Spelling.{IsReadable, SpellsOnly}
+use Rattle.qrcode_bits.specs.Spelling.{IsReadBack, SpellsOnly}
 use Rattle.qrcode_bits.specs.Written.{Piece, written, written_piece, eci_bits, terminated}
 use Rattle.qrcode.specs.Code.{Code}
 use Rattle.qrcode.specs.Reading.{EncodesBits}
@@ -22,8 +22,9 @@ use Rattle.goqlanis_core.specs.declared.request.Choice.TheVariants.{From, Booste
 use Rattle.goqlanis_core.specs.declared.segments.Segment.{Segment}
 use Rattle.goqlanis_core.specs.declared.segments.Segment.TheVariants.{Data, CharacterSet}
 
-abbrev pub segment_bits : Version → Segment → List Bool  -- the bits of a segment, or of a character set's number
-segment_bits v (Data m bytes) = written_piece v (record { mode = m; chunk = bytes.now })
+-- the bits of a segment, or of a character set's number; an empty segment is left out
+abbrev pub segment_bits : Version → Segment → List Bool
+segment_bits v (Data m bytes) = if length bytes.now == 0 then [] else written_piece v (record { mode = m; chunk = bytes.now })
 segment_bits v (CharacterSet n) = number_bits 4 7 ++ eci_bits n
 
 abbrev pub written_segments : Version → List Segment → List Bool  -- the bits of segments one after the other
@@ -33,9 +34,10 @@ abbrev pub is_unwritable : Segment → Bool  -- its mode cannot write a segment
 is_unwritable (Data m bytes) = not (can_write m bytes.now)
 is_unwritable (CharacterSet n) = false
 
--- what refuses a segment behind so many bits: its mode cannot write it, or what refuses the piece, or the number
+-- what refuses a segment behind so many bits: nothing, where it is empty; its mode cannot write it, or what refuses the piece, or the number
 abbrev pub segment_refusal : Version → ℕ → Segment → Option QrError
-segment_refusal v used (Data m bytes) = if can_write m bytes.now then piece_refusal v used (record { mode = m; chunk = bytes.now }) else Some InvalidCharacter
+segment_refusal v used (Data m bytes) =
+    if length bytes.now == 0 then None else if can_write m bytes.now then piece_refusal v used (record { mode = m; chunk = bytes.now }) else Some InvalidCharacter
 segment_refusal v used (CharacterSet n) = eci_refusal v used n
 
 -- the first refusal of segments one after the other, behind so many bits
@@ -80,9 +82,9 @@ pub record AreUnheld (choice : Choice) (l : EcLevel) (segments : List Segment) (
 abbrev pub AreRefused : Choice → EcLevel → List Segment → QrError → Type 0
 AreRefused choice l segments e = (e ≡ OutOfMemory) ⊎ IfCause (is_valid (first_of choice) ≡ false) (e ≡ InvalidVersion) (AreUnheld choice l segments e)
 
--- the symbol of segments one after the other; where they are pieces that a reader takes, it is read as their bytes and as no others
+-- the symbol of segments one after the other; where they are pieces that are read back, it is read as their bytes and as no others
 pub record IsSymbolOfSegments (l : EcLevel) (segments : List Segment) (code : Code) : Type 0 where
   pub level : code.level ≡ l
   pub encodes : EncodesBits code.version l (terminated code.version l (written_segments code.version segments)) code.modules
-  pub spelled : (pieces : List Piece) → AllByRecursion (IsReadable code.version) pieces → written_segments code.version segments ≡ written code.version pieces
+  pub spelled : (pieces : List Piece) → AllByRecursion (IsReadBack code.version) pieces → written_segments code.version segments ≡ written code.version pieces
       → SpellsOnly code.version (terminated code.version l (written_segments code.version segments)) (flat_map (λ p. p.chunk) pieces)

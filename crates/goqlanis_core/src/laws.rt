@@ -5,7 +5,7 @@ ghost use Rattle.goqlanis_core.specs.declared.formats.Format.{Format};
 
 use crate::formats::Format;
 
-/// Two values are equal by `==` exactly when they are the same.
+/// A theorem: two values are equal by `==` exactly when they are the same.
 pub fn equality()
     ensures formats { (a b : Format) → IsTrue (⟦<Format as PartialEq>⟧.eq a b) ↔ (a ≡ b) }
 {}

@@ -18,7 +18,8 @@ use std::alloc::Global;
 /// What is written by hand, one after the other.
 #[derive(Clone, Copy)]
 pub enum Segment<'a> {
-    /// Bytes in a mode; of Kanji, pairs of bytes of Shift JIS.
+    /// Bytes in a mode; of Kanji, pairs of bytes of Shift JIS. Without bytes it is left out, since
+    /// digits without any are the terminator of Micro.
     Data(Mode, &'a [u8]),
     /// The number of a character set, at most 999,999, for what stands behind it (ECI).
     CharacterSet(u32),
@@ -151,13 +152,14 @@ fn push_all(bits: &mut Bits, segments: &[Segment<'_>]) -> QrResult<()>
     Ok(())
 }
 
-// Appends a segment.
+// Appends a segment, which is left out where it is empty.
 fn push(bits: &mut Bits, segment: &Segment<'_>) -> QrResult<()>
     ensures { Appends (segment_refusal bits.old.version (length bits.old.bits) segment.now)
         (segment_bits bits.old.version segment.now) bits.old bits.new result }
 {
     match *segment {
         Segment::CharacterSet(number) => bits.push_eci_designator(number),
+        Segment::Data(_, bytes) if bytes.is_empty() => Ok(()),
         Segment::Data(mode, bytes) if can_write(mode, bytes) => push_data(bits, mode, bytes),
         Segment::Data(_, _) => Err(QrError::InvalidCharacter),
     }

@@ -8,7 +8,7 @@ ghost use Rattle.goqlanis_core.specs.Elements.{IsApplicationIn, IsElementsIn};
 ghost use Rattle.goqlanis_run.specs.Labels.{label_text};
 
 use crate::contents::Elements;
-use crate::segments::{characters_of, pieces, segments};
+use crate::segments::{characters_of, is_empty, pieces, segments};
 use goqlanis_core::{
     Drawing, Request, Segment, application_refusal_text, draw, draw_elements, draw_for_application,
     draw_segments, elements_refusal_text, manner_of, quiet_zone, refusal_text,
@@ -59,13 +59,16 @@ pub(crate) fn check_empty(alloc: Global, asked: &Asked<'_>, bytes: &[u8]) -> Res
 /// The drawing of segments by hand, of words MODE:TEXT or eci:NUMBER.
 pub(crate) fn segments_drawing(
     alloc: Global,
-    request: &Request<'_>,
+    asked: &Asked<'_>,
     words: &[&str],
 ) -> Result<Drawing, Failure>
-    ensures { IfOk result (IsShownIn request.now) }
+    ensures { IfOk result (IsShownIn asked.now.request) }
 {
     let pieces = pieces(alloc, words)?;
     let segments = segments(alloc, &pieces)?;
+    if segments.iter().all(|segment| is_empty(segment)) {
+        check_empty(alloc, asked, &[])?;
+    }
     if let Some(place) = unwritable(&segments) {
         let why = match segments.get(place) {
             Some(Segment::Data(mode, _)) => characters_of(*mode),
@@ -74,10 +77,10 @@ pub(crate) fn segments_drawing(
         let number = place.saturating_add(1);
         return Err(Failure::Refused(format!(in alloc; "segment {number}: {why}")?));
     }
-    match draw_segments(alloc, request, &segments) {
+    match draw_segments(alloc, &asked.request, &segments) {
         Ok(drawing) => Ok(drawing),
         Err(error) => {
-            let why = segments_refusal_text(alloc, request, &segments, error)?;
+            let why = segments_refusal_text(alloc, &asked.request, &segments, error)?;
             Err(Failure::Refused(why))
         }
     }

@@ -53,6 +53,14 @@ pub(crate) fn segments(alloc: Global, pieces: &[Piece]) -> Result<Vec<Segment<'_
     pieces.iter().map(|piece| piece.segment()).collect(alloc)
 }
 
+/// Whether a segment writes no data: it is empty, or the number of a character set.
+pub(crate) fn is_empty(segment: &Segment<'_>) -> bool {
+    match *segment {
+        Segment::Data(_, bytes) => bytes.is_empty(),
+        Segment::CharacterSet(_) => true,
+    }
+}
+
 // The number of a character set.
 fn character_set(alloc: Global, word: &str, number: &str) -> Result<Piece, Failure> {
     match number.parse::<u32>() {

@@ -126,7 +126,7 @@ fn draw_asked(
     asked: &Asked<'_>,
 ) -> Result<ExitCode, Failure> {
     if let Some(words) = given.get_strs("segment") {
-        let drawing = segments_drawing(rt.alloc(), &asked.request, words)?;
+        let drawing = segments_drawing(rt.alloc(), asked, words)?;
         return write_drawing(rt, asked, &drawing, None);
     }
     if asked.is_by_line {

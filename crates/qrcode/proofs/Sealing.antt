@@ -10,7 +10,7 @@ use Rattle.qrcode_bits.specs.BitList.{BitList}
 use Rattle.qrcode_bits.specs.Encoded.{IsChosenList}
 use Rattle.qrcode_bits.specs.Optimal.{PushesLeast}
 use Rattle.qrcode_bits.specs.Segments.{total_cost}
-use Rattle.qrcode_bits.specs.Spelling.{IsReadable, Spells, SpellsOnly}
+use Rattle.qrcode_bits.specs.Spelling.{IsReadBack, Spells, SpellsOnly}
 use Rattle.qrcode_bits.specs.Written.{Piece, written, terminator_length, ending, terminated, pieces_of}
 use Rattle.qrcode_bits.specs.declared.optimize.Segment.{Segment}
 use Rattle.qrcode.specs.Acceptance.{IsLeastSymbol, IsChosenSymbol}
@@ -22,28 +22,6 @@ use Rattle.qrcode.proofs.Symbols.{encodes_bytes}
 encodes_cut : (v : Version) (l : EcLevel) (bytes : List ℕ) (segments : List Segment) (bits : List Bool) (s : List Color) → bits ≡ terminated v l (written v (pieces_of bytes segments))
     → Spells v bits bytes → EncodesBits v l bits s → EncodesBytes v l (terminated v l (written v (pieces_of bytes segments))) bytes s
 encodes_cut v l bytes segments bits s is spelled encodes = subst (λ b. EncodesBytes v l b bytes s) is (encodes_bytes v l bits s bytes encodes spelled)
-
-terminated-longer : (v : Version) (l : EcLevel) (bits : List Bool) → length bits ≤ length (terminated v l bits)
-unfolding terminated
-terminated-longer v l bits = omega (arith, length-append bits (ending (terminator_length v) (length bits) (capacity v l)))
-
--- the symbol of data that was written in segments of a least cut and ended
-pub ended_symbol : (v : Version) (l : EcLevel) (bytes : List ℕ) (bits : List Bool) (ended : BitList) (code : Result Code QrError) → PushesLeast v [] bytes bits
-    → ended ≡ record { version = v; bits = terminated v l bits } → length ended.bits ≡ capacity v l
-    → ((pieces : List Piece) → AllByRecursion (IsReadable v) pieces → bits ≡ written v pieces → SpellsOnly ended.version ended.bits (flat_map (λ p. p.chunk) pieces))
-    → IfOk code (λ code. EncodesBits ended.version l ended.bits code.modules) → IfOk code (λ code. IsLeastSymbol v l bytes code.modules)
-ended_symbol v l bytes bits ended (Err e) least is fills spelled encodes = tt
-ended_symbol v l bytes bits ended (Ok code) least is fills spelled encodes =
-    let bits_are : ended.bits ≡ terminated v l bits = ap (λ (b : BitList). b.bits) is in
-    let version : ended.version ≡ v = ap (λ (b : BitList). b.version) is in
-    let fits : total_cost v least.segments ≤ capacity v l = omega (arith, least.pushed.longer, terminated-longer v l bits, ap length bits_are, fills) in
-    let found = subst (Spells ended.version ended.bits) least.joined (spelled (pieces_of bytes least.segments) (least.readable l fits) least.pushed.bits).found in
-    record {
-      segments = least.segments;
-      least = least.least;
-      encodes = encodes_cut v l bytes least.segments ended.bits code.modules (bits_are ∙ ap (terminated v l) least.pushed.bits) (subst (λ u. Spells u ended.bits bytes) version found)
-          (subst (λ u. EncodesBits u l ended.bits code.modules) version encodes);
-    }
 
 -- the symbol of data in the version and segments that are chosen
 pub chosen_symbol : (l : EcLevel) (bytes : List ℕ) (list : BitList) (code : Result Code QrError) → IsChosenList l bytes list → IfOk code (λ code. code.version ≡ list.version)

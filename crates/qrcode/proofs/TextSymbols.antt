@@ -61,7 +61,7 @@ spelled_as m l bytes list made none =
     let room : total_cost v ss ≤ capacity v l = omega (arith, made.least.least fits.0 fits.1.0, fits.1.1) in
     let valid = valid_of v l made.holds.exists in
     let pieces = cut_pieces v l bytes ss valid made.least.reached.cut room in
-    subst (λ b. Spells v (terminated v l (b ++ written v ps)) bytes) (sym none) (subst (Spells v (terminated v l (written v ps))) pieces.2 (spells_terminated v l ps valid pieces.0 pieces.1))
+    subst (λ b. Spells v (terminated v l (b ++ written v ps)) bytes) (sym none) (subst (Spells v (terminated v l (written v ps))) pieces.2 (spells_terminated v l ps pieces.0 pieces.1))
 
 -- the symbol of such a list
 pub symbol_as : (m : Manner) (l : EcLevel) (bytes : List ℕ) (list : BitList) (s : List Color) → IsListAs m l bytes list → EncodesBits list.version l list.bits s → IsSymbolAs m list.version l bytes s

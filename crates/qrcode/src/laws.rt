@@ -4,14 +4,14 @@
 ghost use Rattle.qrcode.specs.Reading.{BitsAreReadOneWay, BytesAreReadOneWay};
 ghost use Rattle.qrcode.specs.Texts.{TextsAreShown};
 
-/// No square at all, a symbol or not, damaged or not, is read in two ways: neither as other bits,
-/// nor of another version or level, nor as other bytes.
+/// A theorem: no square at all, a symbol or not, damaged or not, is read in two ways, neither as
+/// other bits, nor of another version or level, nor as other bytes.
 pub fn reading()
     ensures bits { BitsAreReadOneWay }
     ensures bytes { BytesAreReadOneWay }
 {}
 
-/// Of each damaged symbol of bits that a reader shows as a text, it shows this text.
+/// A theorem: of each damaged symbol of bits that a reader shows as a text, it shows this text.
 pub fn texts()
     ensures { TextsAreShown }
 {}

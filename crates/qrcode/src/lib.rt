@@ -18,7 +18,7 @@ ghost use Rattle.qrcode.specs.Drawing.{IsMaskOf};
 ghost use Rattle.qrcode.specs.Pictures.{quiet_zone, debug_text};
 ghost use Rattle.qrcode.specs.Reading.{EncodesBits, IsUnderMask};
 
-use bits::{Bits, DATA_LIMIT};
+use bits::{Bits, Manner};
 use canvas::MaskPattern;
 use masks::mask_of;
 pub use qrcode_bits::{bits, optimize};
@@ -120,19 +120,7 @@ impl QrCode {
             → IsOkUnless result OutOfMemory }
         ensures only_spelled { OnOk result (CanSpell version ec_level bytes.now) }
     {
-        if !version.is_valid() {
-            return Err(QrError::InvalidVersion);
-        }
-        let mut bits = Bits::new(alloc, version);
-        if let Err(error) = bits.push_optimal_data(bytes) {
-            // Within the limit, a missing level is reported before a lack of room.
-            if error == QrError::DataTooLong && bytes.len() <= DATA_LIMIT {
-                bits.max_len(ec_level)?;
-            }
-            return Err(error);
-        }
-        bits.push_terminator(ec_level)?;
-        QrCode::with_bits(alloc, bits, ec_level)
+        QrCode::in_version(alloc, bytes, Manner::Bytes, version, ec_level)
     }
 
     /// The symbol of a list of bits, which has the bits' version. Bits that do not fill the symbol

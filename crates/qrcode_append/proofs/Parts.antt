@@ -60,7 +60,7 @@ behind_read v l place last parity bytes ss valid cut room =
     let pieces = cut_pieces v l bytes ss valid cut (omega (arith, room)) in
     let fits : length ready ≤ capacity v l =
     omega (arith, length-append front (written v ps), length-front place last parity, length-written v bytes 0 ss (length bytes) cut.tiles (omega arith), room) in
-    read_as v ps (ending (terminator_length v) (length ready) (capacity v l)) valid pieces.0 (ending-is_end (terminator_length v) (length ready) (capacity v l) fits)
+    read_as v ps (ending (terminator_length v) (length ready) (capacity v l)) pieces.0 (ending-is_end (terminator_length v) (length ready) (capacity v l) fits)
 
 -- a cut behind the bits in front, terminated, is read as the part
 pub part_spelled : (v : Version) (l : EcLevel) (place last parity : ℕ) (bytes : List ℕ) (ss : List Segment) → IsTrue (is_valid v) → is_micro v ≡ false → IsCut v bytes ss

@@ -7,7 +7,7 @@ ghost use Rattle.qrcode_append.specs.declared.errors.JoinError.{JoinError};
 use crate::choice::Versions;
 use crate::errors::JoinError;
 
-/// Two values are equal by `==` exactly when they are the same.
+/// A theorem: two values are equal by `==` exactly when they are the same.
 pub fn equality()
     ensures errors { (a b : JoinError) → IsTrue (⟦<JoinError as PartialEq>⟧.eq a b) ↔ (a ≡ b) }
     ensures versions { (a b : Versions) → IsTrue (⟦<Versions as PartialEq>⟧.eq a b) ↔ (a ≡ b) }

@@ -73,7 +73,7 @@ plain_list l bytes list from =
     let fits = holds.room in
     let room : total_cost v ss ≤ capacity v l = omega (arith, made.least.least fits.0 fits.1.0, fits.1.1) in
     let pieces = cut_pieces v l bytes ss valid made.least.reached.cut room in
-    let only = spells_only_terminated v l (pieces_of bytes ss) valid pieces.0 pieces.1 in
+    let only = spells_only_terminated v l (pieces_of bytes ss) pieces.0 pieces.1 in
     record {
       least_version = record {
         number = k.number;

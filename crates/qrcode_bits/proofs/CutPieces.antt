@@ -14,9 +14,10 @@ use Rattle.qrcode_types.specs.declared.types.Mode.TheVariants.{Numeric, Alphanum
 use Rattle.qrcode_types.proofs.LengthFields.{counts_fit}
 use Rattle.qrcode_bits.specs.Segments.{cost_of, cost, total_cost, Tile, AreInside}
 use Rattle.qrcode_bits.specs.Written.{Piece, written_piece, written, pieces_of}
-use Rattle.qrcode_bits.specs.Spelling.{IsReadable}
+use Rattle.qrcode_bits.specs.Spelling.{IsReadBack}
 use Rattle.qrcode_bits.specs.Cuts.{IsCut, GiveBack}
 use Rattle.qrcode_bits.specs.declared.optimize.Segment.{Segment}
+use Rattle.qrcode_bits.proofs.Endings.{read_back}
 use Rattle.qrcode_bits.proofs.Lengths.{length-piece}
 use Rattle.qrcode_bits.proofs.SegmentRanges.{length-range, tile_le}
 
@@ -46,7 +47,7 @@ some_pair [] h l = absurd (omega arith)
 some_pair (a ∷ []) h l = absurd (true≢false (sym h))
 some_pair (a ∷ b ∷ u) h l = omega arith
 
-some_character : (m : Mode) (a : List ℕ) → can_write m a ≡ true → 0 < length a → 0 < character_count m (length a)
+pub some_character : (m : Mode) (a : List ℕ) → can_write m a ≡ true → 0 < length a → 0 < character_count m (length a)
 some_character Numeric a h l = omega arith
 some_character Alphanumeric a h l = omega arith
 some_character Byte a h l = omega arith
@@ -54,7 +55,7 @@ some_character Kanji a h l = some_pair a h l
 
 pub readable : (v : Version) (l : EcLevel) (bytes : List ℕ) (from : ℕ) (ss : List Segment) (to : ℕ) → IsTrue (is_valid v) → Tile from ss to → to ≤ length bytes
     → AllByRecursion (λ s. IsTrue (has_mode v s.mode)) ss → AllByRecursion (λ s. IsTrue (can_write s.mode (slice_range bytes s.begin s.end))) ss
-    → total_cost v ss ≤ capacity v l → AllByRecursion (IsReadable v) (pieces_of bytes ss)
+    → total_cost v ss ≤ capacity v l → AllByRecursion (IsReadBack v) (pieces_of bytes ss)
 readable v l bytes from [] to h t k a b fits = tt
 readable v l bytes from (s ∷ ss) to h t k a b fits =
     let le = tile_le s.end ss to t.1.1 in
@@ -62,12 +63,11 @@ readable v l bytes from (s ∷ ss) to h t k a b fits =
     let all = sum_by-cons (cost v) s ss in
     let own : cost_of v s.mode (character_count s.mode (s.end - s.begin)) ≤ capacity v l = omega (arith, all, fits) in
     let rest : total_cost v ss ≤ capacity v l = omega (arith, all, fits) in (
-      record {
+      read_back v (record { mode = s.mode; chunk = slice_range bytes s.begin s.end }) h (record {
         mode_exists = a.0;
         writable = b.0;
-        nonempty = some_character s.mode (slice_range bytes s.begin s.end) b.0 (omega (arith, len, t.1));
         counted = subst (λ n. character_count s.mode n < 2 ^ length_bits_count s.mode v) (sym len) ((counts_fit s.mode v h).fits l (character_count s.mode (s.end - s.begin)) own);
-      },
+      }) (some_character s.mode (slice_range bytes s.begin s.end) b.0 (omega (arith, len, t.1))),
       readable v l bytes s.end ss to h t.1.1 k a.1 b.1 rest,
     )
 
@@ -83,7 +83,7 @@ length-written v bytes from (s ∷ ss) to t k =
 
 -- the pieces of a cut that fits: a reader takes them, they fit, and they are the data
 pub cut_pieces : (v : Version) (l : EcLevel) (bytes : List ℕ) (ss : List Segment) → IsTrue (is_valid v) → IsCut v bytes ss → total_cost v ss ≤ capacity v l
-    → AllByRecursion (IsReadable v) (pieces_of bytes ss) × (length (written v (pieces_of bytes ss)) ≤ capacity v l) × (flat_map (λ p. p.chunk) (pieces_of bytes ss) ≡ bytes)
+    → AllByRecursion (IsReadBack v) (pieces_of bytes ss) × (length (written v (pieces_of bytes ss)) ≤ capacity v l) × (flat_map (λ p. p.chunk) (pieces_of bytes ss) ≡ bytes)
 cut_pieces v l bytes ss h cut fits =
     let le : length bytes ≤ length bytes = omega arith in (
       readable v l bytes 0 ss (length bytes) h cut.tiles le cut.modes cut.writable fits,

@@ -14,7 +14,7 @@ use Rattle.qrcode_types.specs.declared.types.Mode.{Mode}
 use Rattle.qrcode_types.specs.declared.types.Mode.TheVariants.{Numeric, Alphanumeric, Byte, Kanji}
 use Rattle.qrcode_types.specs.Characters.{character_count}
 use Rattle.qrcode_bits.specs.Written.{Piece, written_piece, written, data_bits_in, terminator_length, terminated, ending, padding}
-use Rattle.qrcode_bits.specs.Spelling.{is_end, IsReadable, IsReadAs, Spells, SpellsOnly}
+use Rattle.qrcode_bits.specs.Spelling.{is_end, IsReadable, IsReadBack, IsReadAs, Spells, SpellsOnly}
 use Rattle.qrcode_bits.proofs.Paddings.{length-padding, padding-nil}
 use Rattle.qrcode_bits.proofs.Numbers.{has_one, length-number_bits}
 use Rattle.qrcode_bits.proofs.Spellings.{normal_small, one_text}
@@ -39,37 +39,43 @@ micro_width n Alphanumeric h = omega arith
 micro_width n Byte h = omega arith
 micro_width n Kanji h = omega arith
 
--- no piece begins as an end does
-begins : (v : Version) (p : Piece) (x : List Bool) → IsTrue (is_valid v) → IsReadable v p → is_end v (written_piece v p ++ x) ≡ false
-begins (Micro (negsuc n)) p x a h = absurd (true≢false (sym a))
-begins (Normal v) p x a h =
+-- a piece that has characters is not written as an end
+goes_on : (v : Version) (p : Piece) → IsTrue (is_valid v) → IsReadable v p → 0 < character_count p.mode (length p.chunk) → is_end v (written_piece v p) ≡ false
+goes_on (Micro (negsuc n)) p a h some = absurd (true≢false (sym a))
+goes_on (Normal v) p a h some =
     let i = number_bits 4 (2 ^ mode_number p.mode) in
-    let n = number_bits (length_bits_count p.mode (Normal v)) (character_count p.mode (length p.chunk)) in
-    let d = data_bits_in p.mode p.chunk in
+    let n = number_bits (length_bits_count p.mode (Normal v)) (character_count p.mode (length p.chunk)) ++ data_bits_in p.mode p.chunk in
     let one = has_one 4 (2 ^ mode_number p.mode) (normal_small p.mode) (normal_positive p.mode) in
-    let e : (i ++ (n ++ d)) ++ x ≡ i ++ (n ++ (d ++ x)) = append_assoc i (n ++ d) x ∙ ap (λ r. i ++ r) (append_assoc n d x) in
-    ap (λ bits. list_all not (take 4 bits)) e
-    ∙ not_zeros 4 (i ++ (n ++ (d ++ x))) one.0 one.1 (get_or_append_left i (n ++ (d ++ x)) false one.0 (omega (arith, length-number_bits 4 (2 ^ mode_number p.mode), one.1)) ∙ one.2)
-begins (Micro (pos v)) p x a h =
+    not_zeros 4 (i ++ n) one.0 one.1 (get_or_append_left i n false one.0 (omega (arith, length-number_bits 4 (2 ^ mode_number p.mode), one.1)) ∙ one.2)
+goes_on (Micro (pos v)) p a h some =
     let w = length_bits_count p.mode (Micro (pos v)) in
     let c = character_count p.mode (length p.chunk) in
     let i = number_bits (v - 1) (indicator (Micro (pos v)) p.mode) in
     let n = number_bits w c in
     let d = data_bits_in p.mode p.chunk in
-    let one = has_one w c h.counted h.nonempty in
+    let one = has_one w c h.counted some in
     let least = leb-true 1 v (and_parts (nat_le 1 v) (nat_le v 4) a).0 in
-    let e : (i ++ (n ++ d)) ++ x ≡ i ++ (n ++ (d ++ x)) = append_assoc i (n ++ d) x ∙ ap (λ r. i ++ r) (append_assoc n d x) in
-    let f = get_or-append-add i (n ++ (d ++ x)) one.0 false ∙ get_or_append_left n (d ++ x) false one.0 (omega (arith, length-number_bits w c, one.1)) ∙ one.2 in
-    ap (λ bits. list_all not (take (2 * v + 1) bits)) e
-    ∙ not_zeros (2 * v + 1) (i ++ (n ++ (d ++ x))) (length i + one.0) (omega (arith, length-number_bits (v - 1) (indicator (Micro (pos v)) p.mode), one.1, micro_width v p.mode least)) f
+    let f = get_or-append-add i (n ++ d) one.0 false ∙ get_or_append_left n d false one.0 (omega (arith, length-number_bits w c, one.1)) ∙ one.2 in
+    not_zeros (2 * v + 1) (i ++ (n ++ d)) (length i + one.0) (omega (arith, length-number_bits (v - 1) (indicator (Micro (pos v)) p.mode), one.1, micro_width v p.mode least)) f
 
--- pieces that a reader takes, and an end
-pub read_as : (v : Version) (ps : List Piece) (rest : List Bool) → IsTrue (is_valid v) → AllByRecursion (IsReadable v) ps → is_end v rest ≡ true → IsReadAs v (written v ps ++ rest) ps
-read_as v [] rest a h e = e
-read_as v (p ∷ ps) rest a h e =
+-- so it is read back
+pub read_back : (v : Version) (p : Piece) → IsTrue (is_valid v) → IsReadable v p → 0 < character_count p.mode (length p.chunk) → IsReadBack v p
+read_back v p a h some = record { readable = h; goes_on = goes_on v p a h some }
+
+-- what is no end is none with more behind it
+longer : (t : ℕ) (bits more : List Bool) → list_all not (take t bits) ≡ false → list_all not (take t (bits ++ more)) ≡ false
+longer zero bits more h = absurd (true≢false h)
+longer (suc t) [] more h = absurd (true≢false h)
+longer (suc t) (true ∷ bits) more h = refl
+longer (suc t) (false ∷ bits) more h = longer t bits more h
+
+-- pieces that are read back, and an end
+pub read_as : (v : Version) (ps : List Piece) (rest : List Bool) → AllByRecursion (IsReadBack v) ps → is_end v rest ≡ true → IsReadAs v (written v ps ++ rest) ps
+read_as v [] rest h e = e
+read_as v (p ∷ ps) rest h e =
     let more = written v ps ++ rest in
     let f : written v (p ∷ ps) ++ rest ≡ written_piece v p ++ more = append_assoc (written_piece v p) (written v ps) rest in
-    (more, (f, (ap (is_end v) f ∙ begins v p more a h.0, (h.0, read_as v ps rest a h.1 e))))
+    (more, (f, (ap (is_end v) f ∙ longer (terminator_length v) (written_piece v p) more h.0.goes_on, (h.0.readable, read_as v ps rest h.1 e))))
 
 -- zeros for t places, or to the end
 zeros : (t n : ℕ) (x : List Bool) → (t ≤ n) ⊎ (x ≡ []) → list_all not (take t (replicate n false ++ x)) ≡ true
@@ -102,22 +108,22 @@ length-terminated v l bits h =
     let e = ending (terminator_length v) (length bits) (capacity v l) in
     omega (arith, ap length (terminated-ending v l bits), length-append bits e, length-ending (terminator_length v) (length bits) (capacity v l) h)
 
--- pieces that a reader takes, terminated, are read as their bytes
-pub spells_terminated : (v : Version) (l : EcLevel) (ps : List Piece) → IsTrue (is_valid v) → AllByRecursion (IsReadable v) ps → length (written v ps) ≤ capacity v l
+-- pieces that are read back, terminated, are read as their bytes
+pub spells_terminated : (v : Version) (l : EcLevel) (ps : List Piece) → AllByRecursion (IsReadBack v) ps → length (written v ps) ≤ capacity v l
     → Spells v (terminated v l (written v ps)) (flat_map (λ p. p.chunk) ps)
-spells_terminated v l ps a h fits =
+spells_terminated v l ps h fits =
     let bits = written v ps in
     let e = ending (terminator_length v) (length bits) (capacity v l) in
     record {
       pieces = ps;
-      read = subst (λ b. IsReadAs v b ps) (sym (terminated-ending v l bits)) (read_as v ps e a h (ending-is_end (terminator_length v) (length bits) (capacity v l) fits));
+      read = subst (λ b. IsReadAs v b ps) (sym (terminated-ending v l bits)) (read_as v ps e h (ending-is_end (terminator_length v) (length bits) (capacity v l) fits));
       joined = refl;
     }
 
-pub spells_only_terminated : (v : Version) (l : EcLevel) (ps : List Piece) → IsTrue (is_valid v) → AllByRecursion (IsReadable v) ps → length (written v ps) ≤ capacity v l
+pub spells_only_terminated : (v : Version) (l : EcLevel) (ps : List Piece) → AllByRecursion (IsReadBack v) ps → length (written v ps) ≤ capacity v l
     → SpellsOnly v (terminated v l (written v ps)) (flat_map (λ p. p.chunk) ps)
-spells_only_terminated v l ps a h fits =
+spells_only_terminated v l ps h fits =
     let bits = terminated v l (written v ps) in
     let bytes = flat_map (λ p. p.chunk) ps in
-    let found = spells_terminated v l ps a h fits in
+    let found = spells_terminated v l ps h fits in
     record { found = found; only = λ others spelled. one_text v bits bytes others found spelled }

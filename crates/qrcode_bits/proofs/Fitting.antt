@@ -14,7 +14,7 @@ use Rattle.qrcode_types.specs.declared.types.QrError.TheVariants.{DataTooLong, U
 use Rattle.qrcode_bits.specs.Segments.{cost_of, total_cost}
 use Rattle.qrcode_bits.specs.Refusals.{is_checked, piece_refusal, IsCause, StopsAt, bit_limit}
 use Rattle.qrcode_bits.specs.Written.{Piece, written_piece, written, pieces_of}
-use Rattle.qrcode_bits.specs.Spelling.{IsReadable}
+use Rattle.qrcode_bits.specs.Spelling.{IsReadable, IsReadBack}
 use Rattle.qrcode_bits.specs.Cuts.{IsCut}
 use Rattle.qrcode_bits.specs.declared.optimize.Segment.{Segment}
 use Rattle.qrcode_bits.proofs.Lengths.{length-piece}
@@ -56,12 +56,12 @@ readable_taken v used p r room =
       by_tests false false false h k l = refl
 
 -- so is the piece at any place, behind those before it
-readable_at : (v : Version) (used : ℕ) (ps : List Piece) (k : ℕ) → AllByRecursion (IsReadable v) ps → used + length (written v ps) ≤ bit_limit
+readable_at : (v : Version) (used : ℕ) (ps : List Piece) (k : ℕ) → AllByRecursion (IsReadBack v) ps → used + length (written v ps) ≤ bit_limit
     → IfSome (slice_get ps k) (λ p. piece_refusal v (used + length (written v (take k ps))) p ≡ None)
 readable_at v used [] k all room = tt
 readable_at v used (p ∷ ps) zero all room =
     let e : used + 0 ≡ used = omega arith in
-    ap (λ n. piece_refusal v n p) e ∙ readable_taken v used p all.0 (omega (arith, room, length-append (written_piece v p) (written v ps)))
+    ap (λ n. piece_refusal v n p) e ∙ readable_taken v used p all.0.readable (omega (arith, room, length-append (written_piece v p) (written v ps)))
 readable_at v used (p ∷ ps) (suc k) all room =
     let used' = used + length (written_piece v p) in
     let e : used' + length (written v (take k ps)) ≡ used + length (written v (take (suc k) (p ∷ ps))) = omega (arith, length-append (written_piece v p) (written v (take k ps))) in
@@ -78,7 +78,7 @@ some_at (x ∷ xs) zero h e = cc
 some_at (x ∷ xs) (suc k) h e = some_at xs k (omega arith) e
 
 -- a stop among pieces that a reader takes is one of memory
-pub readable_stop : (v : Version) (old : List Bool) (ps : List Piece) (e : QrError) (new : List Bool) → AllByRecursion (IsReadable v) ps → length old + length (written v ps) ≤ bit_limit
+pub readable_stop : (v : Version) (old : List Bool) (ps : List Piece) (e : QrError) (new : List Bool) → AllByRecursion (IsReadBack v) ps → length old + length (written v ps) ≤ bit_limit
     → StopsAt v old ps e new → e ≡ OutOfMemory
 readable_stop v old ps e new all room s =
     let used : length new ≡ length old + length (written v (take s.place ps)) = ap length s.written ∙ length-append old (written v (take s.place ps)) in

@@ -203,7 +203,7 @@ list_shown m v l bytes ss valid has text u least room =
       is_front = front_of m v has;
       parted = terminated-ending v l ready ∙ append_assoc (front m) (written v ps) e;
       pieces = ps;
-      read = read_as v ps e valid pieces.0 (ending-is_end (terminator_length v) (length ready) (capacity v l) fits);
+      read = read_as v ps e pieces.0 (ending-is_end (terminator_length v) (length ready) (capacity v l) fits);
       shown = segments_shown m v bytes ss text u least;
     } in
     record { found = found; only = λ others shown. one_shown v (terminated v l ready) (chars bytes) others found shown } where

@@ -1,5 +1,5 @@
 -- Bits that fill a symbol spell data just where a cut of the data fits it.
-use Rattle.std.proofs.Common.{◌≡◌, ℕ, ◌+◌, ◌-◌, ◌≤◌, ◌<◌, Bool, List, [], ◌∷◌, length, take, drop, refl, sym, ap, ap₂, ◌∙◌, arith, subst, length-append, IsTrue}
+use Rattle.std.proofs.Common.{◌≡◌, ℕ, ◌+◌, ◌-◌, ◌≤◌, ◌<◌, Bool, List, [], ◌∷◌, ◌++◌, length, take, drop, refl, sym, ap, ap₂, ◌∙◌, arith, subst, length-append, IsTrue}
 use Rattle.std.specs.Prelude.{◌↔◌, flat_map, slice_range}
 use Rattle.std.specs.List.{AllByRecursion}
 use Rattle.std.proofs.lemmas.List.{take_at, drop-drop, drop_at}
@@ -10,7 +10,6 @@ use Rattle.qrcode_types.specs.Characters.{can_write, character_count}
 use Rattle.qrcode_types.specs.declared.types.Version.{Version}
 use Rattle.qrcode_types.specs.declared.types.EcLevel.{EcLevel}
 use Rattle.qrcode_types.specs.declared.types.Mode.{Mode}
-use Rattle.qrcode_types.specs.declared.types.Mode.TheVariants.{Numeric, Alphanumeric, Byte, Kanji}
 use Rattle.qrcode_bits.specs.Segments.{cost_of, cost, total_cost, Tile}
 use Rattle.qrcode_bits.specs.Written.{Piece, written_piece, written, pieces_of, terminated}
 use Rattle.qrcode_bits.specs.Spelling.{IsReadable, IsReadAs, Spells, IsSpelled}
@@ -37,19 +36,49 @@ written_within v bits [] h = omega arith
 written_within v bits (p ∷ ps) h =
     omega (arith, ap length h.1.0, length-append (written_piece v p) h.0, length-append (written_piece v p) (written v ps), written_within v h.0 ps h.1.1.1.1)
 
-some_byte : (m : Mode) (n : ℕ) → 0 < character_count m n → 0 < n
-some_byte Numeric n h = omega arith
-some_byte Alphanumeric n h = omega arith
-some_byte Byte n h = omega arith
-some_byte Kanji n h = omega arith
+-- the pieces that are not empty
+abbrev keep : Mode → List ℕ → List Piece → List Piece
+keep m [] ps = ps
+keep m (b ∷ bytes) ps = (record { mode = m; chunk = b ∷ bytes }) ∷ ps
 
-ranges_tile : (v : Version) (from : ℕ) (ps : List Piece) → AllByRecursion (IsReadable v) ps → Tile from (ranges from ps) (from + length (chunks ps))
-ranges_tile v from [] h = omega arith
-ranges_tile v from (p ∷ ps) h =
+abbrev kept : List Piece → List Piece
+kept [] = []
+kept (p ∷ ps) = keep p.mode p.chunk (kept ps)
+
+-- they have the bytes of all, and take no more bits
+record AreKept (v : Version) (ps qs : List Piece) : Type 0 where
+  readable : AllByRecursion (IsReadable v) qs
+  some : AllByRecursion (λ p. 0 < length p.chunk) qs
+  joined : chunks qs ≡ chunks ps
+  shorter : length (written v qs) ≤ length (written v ps)
+
+keeps : (v : Version) (m : Mode) (bytes : List ℕ) (ps qs : List Piece) → IsReadable v (record { mode = m; chunk = bytes }) → AreKept v ps qs
+    → AreKept v ((record { mode = m; chunk = bytes }) ∷ ps) (keep m bytes qs)
+keeps v m [] ps qs h k = record {
+  readable = k.readable;
+  some = k.some;
+  joined = k.joined;
+  shorter = omega (arith, k.shorter, length-append (written_piece v (record { mode = m; chunk = [] })) (written v ps));
+}
+keeps v m (b ∷ bytes) ps qs h k =
+    let p : Piece = record { mode = m; chunk = b ∷ bytes } in
+    record {
+      readable = (h, k.readable);
+      some = (omega arith, k.some);
+      joined = ap (λ x. (b ∷ bytes) ++ x) k.joined;
+      shorter = omega (arith, k.shorter, length-append (written_piece v p) (written v ps), length-append (written_piece v p) (written v qs));
+    }
+
+kept_are : (v : Version) (ps : List Piece) → AllByRecursion (IsReadable v) ps → AreKept v ps (kept ps)
+kept_are v [] h = record { readable = tt; some = tt; joined = refl; shorter = omega arith }
+kept_are v (p ∷ ps) h = keeps v p.mode p.chunk ps (kept ps) h.0 (kept_are v ps h.1)
+
+ranges_tile : (from : ℕ) (ps : List Piece) → AllByRecursion (λ p. 0 < length p.chunk) ps → Tile from (ranges from ps) (from + length (chunks ps))
+ranges_tile from [] h = omega arith
+ranges_tile from (p ∷ ps) h =
     let n = length p.chunk in
     let e : from + n + length (chunks ps) ≡ from + length (chunks (p ∷ ps)) = omega (arith, length-append p.chunk (chunks ps)) in
-    let l = some_byte p.mode n h.0.nonempty in
-    (refl, (omega (arith, l), subst (Tile (from + n) (ranges (from + n) ps)) e (ranges_tile v (from + n) ps h.1)))
+    (refl, (omega (arith, h.0), subst (Tile (from + n) (ranges (from + n) ps)) e (ranges_tile (from + n) ps h.1)))
 
 ranges_modes : (v : Version) (from : ℕ) (ps : List Piece) → AllByRecursion (IsReadable v) ps → AllByRecursion (λ s. IsTrue (has_mode v s.mode)) (ranges from ps)
 ranges_modes v from [] h = tt
@@ -77,15 +106,16 @@ ranges_cost v from (p ∷ ps) =
 
 spells_cut : (v : Version) (bits : List Bool) (bytes : List ℕ) → Spells v bits bytes → FitsIn v bytes (length bits)
 spells_cut v bits bytes h =
-    let ps = h.pieces in
-    let r = readable_all v bits ps h.read in
-    let z : 0 + length (chunks ps) ≡ length bytes = omega (arith, ap length h.joined) in
+    let ps = kept h.pieces in
+    let k = kept_are v h.pieces (readable_all v bits h.pieces h.read) in
+    let whole = k.joined ∙ h.joined in
+    let z : 0 + length (chunks ps) ≡ length bytes = omega (arith, ap length whole) in
     let cut : IsCut v bytes (ranges 0 ps) = record {
-      tiles = subst (Tile 0 (ranges 0 ps)) z (ranges_tile v 0 ps r);
-      modes = ranges_modes v 0 ps r;
-      writable = ranges_writable v bytes 0 ps r (sym h.joined);
+      tiles = subst (Tile 0 (ranges 0 ps)) z (ranges_tile 0 ps k.some);
+      modes = ranges_modes v 0 ps k.readable;
+      writable = ranges_writable v bytes 0 ps k.readable (sym whole);
     } in
-    (ranges 0 ps, (cut, omega (arith, ranges_cost v 0 ps, written_within v bits ps h.read)))
+    (ranges 0 ps, (cut, omega (arith, ranges_cost v 0 ps, k.shorter, written_within v bits h.pieces h.read)))
 
 pub fits_spelled : (v : Version) (bytes : List ℕ) → IsTrue (is_valid v) → (l : EcLevel) → FitsIn v bytes (capacity v l) ↔ IsSpelled v l bytes
 fits_spelled v bytes h l = (
@@ -93,6 +123,6 @@ fits_spelled v bytes h l = (
       let ss = fits.0 in
       let r = cut_pieces v l bytes ss h fits.1.0 fits.1.1 in
       let bits = written v (pieces_of bytes ss) in
-      (terminated v l bits, (length-terminated v l bits r.1, subst (Spells v (terminated v l bits)) r.2 (spells_terminated v l (pieces_of bytes ss) h r.0 r.1))),
+      (terminated v l bits, (length-terminated v l bits r.1, subst (Spells v (terminated v l bits)) r.2 (spells_terminated v l (pieces_of bytes ss) r.0 r.1))),
   λ held. let r = spells_cut v held.0 bytes held.1.1 in (r.0, (r.1.0, omega (arith, r.1.1, held.1.0))),
 )

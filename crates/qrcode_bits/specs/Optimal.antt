@@ -8,7 +8,7 @@ use Rattle.qrcode_types.specs.declared.types.QrError.{QrError}
 use Rattle.qrcode_bits.specs.Segments.{total_cost}
 use Rattle.qrcode_bits.specs.Cuts.{IsLeastCut}
 use Rattle.qrcode_bits.specs.Written.{pieces_of}
-use Rattle.qrcode_bits.specs.Spelling.{IsReadable}
+use Rattle.qrcode_bits.specs.Spelling.{IsReadBack}
 use Rattle.qrcode_bits.specs.Refusals.{StopsAt}
 use Rattle.qrcode_bits.specs.Pushes.{PushesAll}
 use Rattle.qrcode_bits.specs.declared.optimize.Segment.{Segment}
@@ -19,7 +19,7 @@ pub record PushesLeast (v : Version) (old : List Bool) (bytes : List ℕ) (new :
   pub least : IsLeastCut v bytes segments
   pub pushed : PushesAll v old bytes segments new
   pub joined : flat_map (λ p. p.chunk) (pieces_of bytes segments) ≡ bytes
-  pub readable : (l : EcLevel) → total_cost v segments ≤ capacity v l → AllByRecursion (IsReadable v) (pieces_of bytes segments)
+  pub readable : (l : EcLevel) → total_cost v segments ≤ capacity v l → AllByRecursion (IsReadBack v) (pieces_of bytes segments)
 
 -- a piece of a least cut is refused, and those before it are written
 pub record StopsInLeast (v : Version) (old : List Bool) (bytes : List ℕ) (e : QrError) (new : List Bool) : Type 0 where

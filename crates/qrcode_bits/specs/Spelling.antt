@@ -8,14 +8,19 @@ use Rattle.qrcode_types.specs.declared.types.EcLevel.{EcLevel}
 use Rattle.qrcode_types.specs.Characters.{can_write, character_count}
 use Rattle.qrcode_bits.specs.Written.{Piece, written_piece, terminator_length}
 
-abbrev pub is_end : Version → List Bool → Bool  -- the pieces end here: the terminator, or as much of it as is left
+-- The pieces end here: the terminator, or as much of it as is left. In Micro the terminator is the mode indicator of digits and
+-- a character count of 0: there digits without any are an end. An empty piece of any other mode, and any of Normal, is none.
+abbrev pub is_end : Version → List Bool → Bool
 is_end v bits = list_all not (take (terminator_length v) bits)
 
-pub record IsReadable (v : Version) (p : Piece) : Type 0 where  -- a piece that a reader of the version takes
+pub record IsReadable (v : Version) (p : Piece) : Type 0 where  -- a piece that a reader of the version takes; it may be empty
   pub mode_exists : IsTrue (has_mode v p.mode)
   pub writable : IsTrue (can_write p.mode p.chunk)
-  pub nonempty : 0 < character_count p.mode (length p.chunk)
   pub counted : character_count p.mode (length p.chunk) < 2 ^ length_bits_count p.mode v
+
+pub record IsReadBack (v : Version) (p : Piece) : Type 0 where  -- such a piece that is not written as an end
+  pub readable : IsReadable v p
+  pub goes_on : IsFalse (is_end v (written_piece v p))
 
 -- the bits are the pieces one after the other, none of which begins like an end, and then an end
 abbrev pub IsReadAs : Version → List Bool → List Piece → Type 0

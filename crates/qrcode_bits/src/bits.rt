@@ -12,7 +12,7 @@ ghost use Rattle.qrcode_types.specs.declared.types.QrError.TheVariants.{DataTooL
 ghost use Rattle.qrcode_bits.specs.Segments.{cost_of, AreInside};
 ghost use Rattle.qrcode_types.specs.Characters.{character_count};
 ghost use Rattle.qrcode_bits.specs.Written.{Piece, written, written_piece, pieces_of, terminated, eci_bits};
-ghost use Rattle.qrcode_bits.specs.Spelling.{IsReadable, SpellsOnly};
+ghost use Rattle.qrcode_bits.specs.Spelling.{IsReadBack, SpellsOnly};
 ghost use Rattle.qrcode_bits.specs.Refusals.{bit_limit, piece_refusal, count_refusal, append_refusal, indicator_bits, eci_refusal, terminator_refusal, StopsAtLast};
 ghost use Rattle.qrcode_bits.specs.declared.optimize.Segment.{Segment};
 ghost use Rattle.qrcode_bits.specs.Pushes.{Changes, Appends, PushesPiece, PushesAll};
@@ -269,7 +269,7 @@ impl Bits {
 
         // Pieces that a reader takes are then read as their bytes, and as no others.
         ensures spelled { (pieces : List Piece)
-            → AllByRecursion (IsReadable self.old.version) pieces
+            → AllByRecursion (IsReadBack self.old.version) pieces
             → self.old.bits ≡ written self.old.version pieces
             → OnOk result
             (SpellsOnly self.new.version self.new.bits (flat_map (λ p. p.chunk) pieces)) }

@@ -8,7 +8,7 @@ ghost use Rattle.qrcode_bits.specs.declared.optimize.mode_sets.Modes.{Modes};
 use crate::bits::Manner;
 use crate::optimize::{Modes, Segment};
 
-/// Two values are equal by `==` exactly when they are the same.
+/// A theorem: two values are equal by `==` exactly when they are the same.
 pub fn equality()
     ensures segments { (a b : Segment) → IsTrue (⟦<Segment as PartialEq>⟧.eq a b) ↔ (a ≡ b) }
     ensures mode_sets { (a b : Modes) → IsTrue (⟦<Modes as PartialEq>⟧.eq a b) ↔ (a ≡ b) }

@@ -9,7 +9,7 @@ use Rattle.qrcode_types.specs.declared.types.Version.{Version}
 use Rattle.qrcode_types.specs.declared.types.Version.TheVariants.{Normal}
 use Rattle.qrcode_types.specs.declared.types.QrError.{QrError}
 use Rattle.qrcode_bits.specs.BitList.{BitList}
-use Rattle.qrcode_bits.specs.Spelling.{IsReadAs, IsReadable}
+use Rattle.qrcode_bits.specs.Spelling.{IsReadAs, IsReadBack}
 use Rattle.qrcode_bits.specs.Written.{Piece, written, pieces_of, terminated, terminator_length, ending}
 use Rattle.qrcode_bits.specs.declared.optimize.Segment.{Segment}
 use Rattle.qrcode_bits.proofs.CutPieces.{cut_pieces}
@@ -35,14 +35,14 @@ marked_spelled p n l bytes ss w ranges are exists cut room =
     let ready = mark p ++ written v ps in
     let e = ending (terminator_length v) (length ready) (capacity v l) in
     let pieces = cut_pieces v l w ranges valid (written_cut n bytes ss w ranges cut are) (omega (arith, room, written_cost n bytes ss w ranges are)) in
-    let readable : AllByRecursion (IsReadable v) ps = subst (AllByRecursion (IsReadable v)) are.pieces pieces.0 in
+    let readable : AllByRecursion (IsReadBack v) ps = subst (AllByRecursion (IsReadBack v)) are.pieces pieces.0 in
     let fits : length ready ≤ capacity v l = omega (arith, length-append (mark p) (written v ps), room) in
     record {
       exists = refl;
       rest = written v ps ++ e;
       parted = terminated-ending v l ready ∙ append_assoc (mark p) (written v ps) e;
       pieces = ps;
-      read = read_as v ps e valid readable (ending-is_end (terminator_length v) (length ready) (capacity v l) fits);
+      read = read_as v ps e readable (ending-is_end (terminator_length v) (length ready) (capacity v l) fits);
       joined = cut_shown bytes ss cut;
     }
 

@@ -9,8 +9,8 @@ ghost use Rattle.qrcode_gs1.specs.declared.errors.Gs1Error.{Gs1Error};
 use crate::elements::Element;
 use crate::errors::{Cause, Gs1Error};
 
-/// Two values are equal by `==` exactly when they are the same; two elements, when their identifiers
-/// and values are.
+/// A theorem: two values are equal by `==` exactly when they are the same; two elements, when their
+/// identifiers and values are.
 pub fn equality()
     ensures reasons { (a b : Cause) → IsTrue (⟦<Cause as PartialEq>⟧.eq a b) ↔ (a ≡ b) }
     ensures errors { (a b : Gs1Error) → IsTrue (⟦<Gs1Error as PartialEq>⟧.eq a b) ↔ (a ≡ b) }

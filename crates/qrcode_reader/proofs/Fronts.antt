@@ -33,11 +33,6 @@ no_room v m bits count behind b short bytes rest d =
     let s = same_data_front v m bits count behind bytes rest b d in
     omega (arith, short, ap length s.1, length-append (data_bits_in m bytes) rest, length-data m bytes, ap (data_bits_count m) s.0)
 
--- a count of none
-pub no_characters : (v : Version) (m : Mode) (bits : List Bool) (behind : List Bool) → BeginsWithNumber (length_bits_count m v) bits 0 behind
-    → (bytes : List ℕ) (rest : List Bool) → ¬ BeginsWithData v m bits bytes rest
-no_characters v m bits behind b bytes rest d = omega (arith, (same_data_front v m bits 0 behind bytes rest b d).0, d.nonempty)
-
 -- characters that the mode does not write
 pub no_data : (v : Version) (m : Mode) (bits : List Bool) (count : ℕ) (behind characters more : List Bool) → BeginsWithNumber (length_bits_count m v) bits count behind
     → behind ≡ characters ++ more → length characters ≡ data_bits_count m count → ((bytes : List ℕ) → ¬ AreWrittenAs m characters bytes)
@@ -63,7 +58,7 @@ same_piece_front v bits number behind p rest b d =
     let n = number_bits (length_bits_count p.mode v) (character_count p.mode (length p.chunk)) in
     let e = d.whole ∙ append_assoc i (n ++ data_bits_in p.mode p.chunk) rest ∙ ap (λ r. i ++ r) (append_assoc n (data_bits_in p.mode p.chunk) rest) in
     let s = same_number (mode_bits_count v) number (indicator v p.mode) behind (n ++ (data_bits_in p.mode p.chunk ++ rest)) b.at_most (indicator-small v p.mode d.readable.mode_exists) (sym b.whole ∙ e) in
-    (s.0, record { writable = d.readable.writable; nonempty = d.readable.nonempty; counted = d.readable.counted; whole = s.1 })
+    (s.0, record { writable = d.readable.writable; counted = d.readable.counted; whole = s.1 })
 
 -- a mode indicator and data make a piece
 pub is_piece : (v : Version) (bits : List Bool) (m : Mode) (behind : List Bool) (bytes : List ℕ) (rest : List Bool) → IsTrue (has_mode v m)
@@ -72,18 +67,17 @@ is_piece v bits m behind bytes rest exists b d =
     let i = number_bits (mode_bits_count v) (indicator v m) in
     let n = number_bits (length_bits_count m v) (character_count m (length bytes)) in
     record {
-      readable = record { mode_exists = exists; writable = d.writable; nonempty = d.nonempty; counted = d.counted };
+      readable = record { mode_exists = exists; writable = d.writable; counted = d.counted };
       whole = b.whole ∙ ap (λ r. i ++ r) (d.whole ∙ sym (append_assoc n (data_bits_in m bytes) rest)) ∙ sym (append_assoc i (n ++ data_bits_in m bytes) rest);
     }
 
 -- a count, and as many characters
 pub is_data : (v : Version) (m : Mode) (bits : List Bool) (count : ℕ) (behind characters rest : List Bool) (bytes : List ℕ) → BeginsWithNumber (length_bits_count m v) bits count behind
-    → behind ≡ characters ++ rest → length characters ≡ data_bits_count m count → 0 < count → AreWrittenAs m characters bytes → BeginsWithData v m bits bytes rest
-is_data v m bits count behind characters rest bytes b e l some w =
+    → behind ≡ characters ++ rest → length characters ≡ data_bits_count m count → AreWrittenAs m characters bytes → BeginsWithData v m bits bytes rest
+is_data v m bits count behind characters rest bytes b e l w =
     let c : count ≡ character_count m (length bytes) = same_count m count (character_count m (length bytes)) (sym l ∙ length_of_written m characters bytes w) in
     record {
       writable = w.writable;
-      nonempty = omega (arith, some, c);
       counted = omega (arith, b.at_most, c);
       whole = b.whole ∙ ap₂ (λ (n : ℕ) (r : List Bool). number_bits (length_bits_count m v) n ++ r) c (e ∙ ap (λ r. r ++ rest) (sym w.written));
     }

@@ -1,7 +1,9 @@
 -- What bits spell begins with the bytes of their first piece.
 use Rattle.std.proofs.Common.{◌≡◌, ◌<◌, ◌+◌, ◌^◌, ℕ, ◌++◌, List, [], ◌∷◌, Bool, true, false, length, refl, sym, ap, ap₂, subst, ◌∙◌, arith, IsTrue, IsFalse, append_assoc, length-append, true≢false}
 use Rattle.std.specs.Prelude.{flat_map}
+use Rattle.qrcode_types.specs.Modes.{has_mode, length_bits_count}
 use Rattle.qrcode_types.specs.declared.types.Version.{Version}
+use Rattle.qrcode_types.specs.declared.types.Version.TheVariants.{Normal, Micro}
 use Rattle.qrcode_types.specs.declared.types.Mode.{Mode}
 use Rattle.qrcode_types.specs.declared.types.Mode.TheVariants.{Numeric, Alphanumeric, Byte, Kanji}
 use Rattle.qrcode_bits.specs.Written.{Piece, written_piece}
@@ -73,14 +75,11 @@ spells_on v bits done rest p behind goes b f = record {
 pub spells_end : (v : Version) (bits : List Bool) (done : List ℕ) (rest : List Bool) → is_end v rest ≡ true → SpellsFront v bits done rest → Spells v bits done
 spells_end v bits done rest end f = subst (Spells v bits) (Rattle.std.proofs.Common.append-nil done) (f.sound [] (record { pieces = []; read = end; joined = refl }))
 
-some_data : (m : Mode) (c : ℕ) → 0 < c → 0 < Rattle.qrcode_types.specs.Modes.data_bits_count m c
-some_data Numeric c h = omega (arith, h)
-some_data Alphanumeric c h = omega (arith, h)
-some_data Byte c h = omega (arith, h)
-some_data Kanji c h = omega (arith, h)
+-- a length field has bits
+some_field : (v : Version) (m : Mode) → IsTrue (has_mode v m) → 0 < length_bits_count m v
+some_field (Normal v) m h = omega arith
+some_field (Micro v) m h = omega arith
 
 -- a piece has bits
 pub piece_shortens : (v : Version) (bits : List Bool) (p : Piece) (rest : List Bool) → BeginsWithPiece v bits p rest → length rest < length bits
-piece_shortens v bits p rest b =
-    let c = Rattle.qrcode_types.specs.Characters.character_count p.mode (length p.chunk) in
-    omega (arith, ap length b.whole, length-append (written_piece v p) rest, length-piece v p, some_data p.mode c b.readable.nonempty)
+piece_shortens v bits p rest b = omega (arith, ap length b.whole, length-append (written_piece v p) rest, length-piece v p, some_field v p.mode b.readable.mode_exists)

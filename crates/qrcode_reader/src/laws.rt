@@ -10,7 +10,7 @@ use crate::correction::WrongCodeword;
 use crate::positions::Position;
 use crate::refusals::{Unread, UnreadText};
 
-/// Two values are equal by `==` exactly when they are the same.
+/// A theorem: two values are equal by `==` exactly when they are the same.
 pub fn equality()
     ensures refusals { (a b : Unread) → IsTrue (⟦<Unread as PartialEq>⟧.eq a b) ↔ (a ≡ b) }
     ensures texts { (a b : UnreadText)

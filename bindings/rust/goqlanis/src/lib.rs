@@ -136,7 +136,7 @@ impl EcLevel {
     }
 }
 
-/// A segment: bytes in a mode, or a header for what stands behind it.
+/// A segment: bytes in a mode, or a header for what stands after it. Without bytes it is left out.
 #[derive(Clone, Copy, Debug, PartialEq, Eq)]
 pub enum Segment<'a> {
     /// Digits.

@@ -7,7 +7,7 @@ ghost use Rattle.qrcode_gs1.specs.declared.symbol.errors.SymbolError.{SymbolErro
 use crate::symbol::Position;
 use crate::symbol::errors::SymbolError;
 
-/// Two values are equal by `==` exactly when they are the same.
+/// A theorem: two values are equal by `==` exactly when they are the same.
 pub fn equality()
     ensures positions { (a b : Position) → IsTrue (⟦<Position as PartialEq>⟧.eq a b) ↔ (a ≡ b) }
     ensures errors { (a b : SymbolError)

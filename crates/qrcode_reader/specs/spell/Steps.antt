@@ -34,10 +34,9 @@ pub record BeginsWithNumber (count : ℕ) (bits : List Bool) (number : ℕ) (res
   pub at_most : number < 2 ^ count
   pub whole : bits ≡ number_bits count number ++ rest
 
--- a length field and as many characters, at least one, stand in front of the rest
+-- a length field and as many characters stand in front of the rest
 pub record BeginsWithData (v : Version) (m : Mode) (bits : List Bool) (bytes : List ℕ) (rest : List Bool) : Type 0 where
   pub writable : IsTrue (can_write m bytes)
-  pub nonempty : 0 < character_count m (length bytes)
   pub counted : character_count m (length bytes) < 2 ^ length_bits_count m v
   pub whole : bits ≡ number_bits (length_bits_count m v) (character_count m (length bytes)) ++ (data_bits_in m bytes ++ rest)
 

@@ -5,7 +5,7 @@ ghost use Rattle.qrcode_reader.specs.declared.correct.Damaged.{Damaged};
 
 use crate::correct::Damaged;
 
-/// Two refusals are equal by `==` exactly when they are the same, as all are.
+/// A theorem: two refusals are equal by `==` exactly when they are the same, as all are.
 pub fn equality()
     ensures { (a b : Damaged) → IsTrue (⟦<Damaged as PartialEq>⟧.eq a b) ↔ (a ≡ b) }
 {}

@@ -5,7 +5,7 @@ ghost use Rattle.qrcode_reader.specs.declared.scan.pixels.Unscanned.{Unscanned};
 
 use crate::scan::pixels::Unscanned;
 
-/// Two refusals are equal by `==` exactly when they are the same.
+/// A theorem: two refusals are equal by `==` exactly when they are the same.
 pub fn equality()
     ensures { (a b : Unscanned) → IsTrue (⟦<Unscanned as PartialEq>⟧.eq a b) ↔ (a ≡ b) }
 {}

@@ -10,7 +10,7 @@ use crate::spell::headers::Header;
 use crate::spell::parts::Part;
 use crate::spell::refusals::{Unshown, Unspelled};
 
-/// Two values are equal by `==` exactly when they are the same.
+/// A theorem: two values are equal by `==` exactly when they are the same.
 pub fn equality()
     ensures headers { (a b : Header) → IsTrue (⟦<Header as PartialEq>⟧.eq a b) ↔ (a ≡ b) }
     ensures parts { (a b : Part) → IsTrue (⟦<Part as PartialEq>⟧.eq a b) ↔ (a ≡ b) }

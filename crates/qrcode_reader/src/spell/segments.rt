@@ -69,9 +69,6 @@ pub(crate) fn push_data<'a>(
     let Some((characters, rest)) = front(behind, mode.data_bits_count(count)) else {
         return Err(Unspelled::NotSpelled);
     };
-    if count == 0 {
-        return Err(Unspelled::NotSpelled);
-    }
     bytes.reserve(count * bytes_each(mode))?;
     push_characters(bytes, mode, characters)?;
     Ok(rest)

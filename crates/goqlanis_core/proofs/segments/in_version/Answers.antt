@@ -3,7 +3,7 @@ use Rattle.std.specs.List.{AllByRecursion}
 use Rattle.std.proofs.lemmas.Result.{IfOk-weaker}
 use Rattle.qrcode_types.specs.declared.types.QrError.TheVariants.{OutOfMemory}
 use Rattle.qrcode_bits.specs.BitList.{BitList}
-use Rattle.qrcode_bits.specs.Spelling.{IsReadable}
+use Rattle.qrcode_bits.specs.Spelling.{IsReadBack}
 use Rattle.qrcode_bits.specs.Written.{written, terminated}
 use Rattle.goqlanis_core.specs.Segments.{refusal_in, segments_refusal, written_segments}
 use Rattle.goqlanis_core.proofs.Segmented.{at_end, handed_on, refused_by, symbol_of_segments, taken_by}
@@ -51,5 +51,5 @@ returns-clause-symbol c =
     let is : c.push_terminator.new.self ≡ record { version = v; bits = terminated v l (written_segments v segments) } =
     ends.ends.changed ∙ ap₂ (λ u b. record { version = u; bits = terminated u l b }) same bits in
     symbol_of_segments l segments v c.push_terminator.new.self c.with_bits.result is c.with_bits.ensures.version c.with_bits.ensures.level c.with_bits.ensures.symbol
-    (λ pieces readable written_as. ends.spelled pieces (subst (λ u. AllByRecursion (IsReadable u) pieces) (sym same) readable)
+    (λ pieces readable written_as. ends.spelled pieces (subst (λ u. AllByRecursion (IsReadBack u) pieces) (sym same) readable)
     (bits ∙ written_as ∙ ap (λ u. written u pieces) (sym same)))

@@ -1,6 +1,6 @@
-use Rattle.std.proofs.Common.{◌≡◌, ◌≤◌, ◌++◌, arith, length, sym, ap, subst, ◌∙◌, IsTrue}
+use Rattle.std.proofs.Common.{◌≡◌, ◌≤◌, ◌++◌, arith, length, sym, ap, subst, ◌∙◌}
 use Rattle.std.specs.Prelude.{flat_map}
-use Rattle.qrcode_types.specs.Versions.{is_valid, capacity}
+use Rattle.qrcode_types.specs.Versions.{capacity}
 use Rattle.qrcode_bits.specs.BitList.{BitList}
 use Rattle.qrcode_bits.specs.Written.{written, terminated, terminator_length, ending}
 use Rattle.qrcode_bits.specs.Spelling.{SpellsOnly}
@@ -60,9 +60,8 @@ returns-clause-spelled c = λ pieces readable are.
     let k = (goal.at.returns-clause-spelled c).After-push_ending in
     let r = (goal.at.returns-clause-spelled c).Else-used-capacity in
     let v = c.args.self.now.version in
-    let valid : IsTrue (is_valid v) = subst (λ (l : BitList). IsTrue (is_valid l.version)) c.self.view_is c.self.invariant.0 in
     let fits : length (written v pieces) ≤ capacity v c.args.ec_level = subst (λ b. length b ≤ capacity v c.args.ec_level) are (room r) in
     let bits : c.push_ending.new.stream.bits ≡ terminated v c.args.ec_level (written v pieces) = ended_now k ∙ ap (terminated v c.args.ec_level) are in
-    let only = spells_only_terminated v c.args.ec_level pieces valid readable fits in
+    let only = spells_only_terminated v c.args.ec_level pieces readable fits in
     let bytes = flat_map (λ p. p.chunk) pieces in
     subst (λ u. SpellsOnly u c.push_ending.new.stream.bits bytes) (sym (ap (λ (l : BitList). l.version) c.self.view_is)) (subst (λ b. SpellsOnly v b bytes) (sym bits) only)

@@ -2,7 +2,7 @@ use Rattle.std.proofs.Common.{◌≡◌, ◌<◌, length, sym, ap, subst, ◌∙
 use Rattle.std.proofs.lemmas.Result.{err_from_is_err_and}
 use Rattle.qrcode_types.specs.Modes.{length_bits_count}
 use Rattle.qrcode_reader.specs.spell.Steps.{BeginsWithNumber}
-use Rattle.qrcode_reader.proofs.Fronts.{no_count, no_room, no_characters, no_data, is_data}
+use Rattle.qrcode_reader.proofs.Fronts.{no_count, no_room, no_data, is_data}
 use Rattle.qrcode_reader.proofs.spell.segments.push_data.Goals as goal
 use Rattle.qrcode_reader.proofs.spell.segments.push_data.Goals.{In-Some, In-Some-front}
 
@@ -21,15 +21,6 @@ returns-in_default-front c =
     record {
       taken = tt;
       refused = inr (refl, no_room c.args.version c.args.mode c.args.bits.now c.in-Some.count c.in-Some.behind.now (begins k) (omega (arith, c.data_bits_count.ensures, c.in_default-front.ensures.too_short)));
-    }
-
-pub returns-then-count-eq0 : goal.returns-then-count-eq0
-returns-then-count-eq0 c =
-    let k = (goal.at.returns-then-count-eq0 c).In-Some in
-    let none = subst (λ n. BeginsWithNumber (length_bits_count c.args.mode c.args.version) c.args.bits.now n c.in-Some.behind.now) c.if-count-eq0.true (begins k) in
-    record {
-      taken = tt;
-      refused = inr (refl, no_characters c.args.version c.args.mode c.args.bits.now c.in-Some.behind.now none);
     }
 
 pub returns-in_err-push_characters : goal.returns-in_err-push_characters
@@ -54,7 +45,7 @@ returns c =
       taken = (
         t.0,
         is_data c.args.version c.args.mode c.args.bits.now c.in-Some.count c.in-Some.behind.now c.in-Some-front.characters.now c.in-Some-front.rest.now t.0 (begins k) parts.1
-            (parts.0 ∙ c.data_bits_count.ensures) (omega arith) t.1,
+            (parts.0 ∙ c.data_bits_count.ensures) t.1,
         t.2 ∙ ap (λ x. Rattle.std.proofs.Common.◌++◌ x t.0) c.in_ok-reserve.ensures.items,
       );
       refused = tt;
