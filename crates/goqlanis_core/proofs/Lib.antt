@@ -3,5 +3,6 @@ mod Held
 mod Marked
 mod Pieces
 mod Plain
+mod ReadBack
 mod Segmented
 mod WhyUnread

@@ -1,5 +1,5 @@
 -- Segments one after the other: what refuses them, and the symbol of their bits.
-use Rattle.std.specs.Prelude.{◌≡◌, Bool, List, Result, Ok, Err, IfOk, IfErr, IsErr, IsErrAnd, flat_map}
+use Rattle.std.specs.Prelude.{◌≡◌, Bool, List, Result, Ok, Err, IfOk, IfErr, IsErr, IsErrAnd, IsTrue, flat_map}
 use Rattle.std.specs.List.{AllByRecursion}
 use Rattle.std.specs.Option.{option_or}
 use Rattle.std.proofs.Common.{ℕ, suc, ◌+◌, ◌<◌, [], ◌∷◌, ◌++◌, length, get_or, take, drop, Option, Some, None, refl, subst, sym, ap, ap₂, ◌∙◌, ◌⊎◌, inl, inr, arith, length-append, drop-cons, zero-add}
@@ -7,6 +7,7 @@ use Rattle.std.proofs.lemmas.List.{take_more, take-append-drop}
 use Rattle.qrcode_types.specs.declared.types.EcLevel.{EcLevel}
 use Rattle.qrcode_types.specs.declared.types.QrError.{QrError}
 use Rattle.qrcode_types.specs.declared.types.QrError.TheVariants.{OutOfMemory}
+use Rattle.qrcode_types.specs.Versions.{is_valid}
 use Rattle.qrcode_types.specs.declared.types.Version.{Version}
 use Rattle.qrcode_bits.specs.BitList.{BitList}
 use Rattle.qrcode_bits.specs.Pushes.{Changes}
@@ -15,9 +16,10 @@ use Rattle.qrcode_bits.specs.Spelling.{IsReadBack, SpellsOnly}
 use Rattle.qrcode_bits.specs.Written.{Piece, written, terminated}
 use Rattle.qrcode.specs.Code.{Code}
 use Rattle.qrcode.specs.Reading.{EncodesBits}
-use Rattle.goqlanis_core.specs.Segments.{refusal_in, segment_bits, segment_refusal, segments_refusal, written_segments, IsSymbolOfSegments}
+use Rattle.goqlanis_core.specs.Segments.{bytes_of, refusal_in, segment_bits, segment_refusal, segments_refusal, written_segments, IsSymbolOfSegments}
 use Rattle.goqlanis_core.specs.declared.segments.Segment.{Segment}
 use Rattle.goqlanis_core.proofs.Pieces.{flat_map_more}
+use Rattle.goqlanis_core.proofs.ReadBack.{pieces_back, pieces_in, pieces_joined, written_pieces}
 
 -- nothing refuses what a push took
 pub taken_by : (r : Option QrError) (old after new : BitList) (u : Unit {0}) → Changes r old after new (Ok u) → r ≡ None
@@ -86,18 +88,19 @@ handed_on (Err x) e P h p = subst P (sym h.1) p
 
 -- what carries these bits is the symbol of the segments
 pub symbol_of_segments : (l : EcLevel) (segments : List Segment) (v : Version) (b : BitList) (result : Result Code QrError)
-    → b ≡ record { version = v; bits = terminated v l (written_segments v segments) }
+    → IsTrue (is_valid v) → segments_refusal v 0 segments ≡ None → b ≡ record { version = v; bits = terminated v l (written_segments v segments) }
     → IfOk result (λ code. code.version ≡ b.version) → IfOk result (λ code. code.level ≡ l) → IfOk result (λ code. EncodesBits b.version l b.bits code.modules)
     → ((pieces : List Piece) → AllByRecursion (IsReadBack v) pieces → written_segments v segments ≡ written v pieces → SpellsOnly b.version b.bits (flat_map (λ p. p.chunk) pieces))
     → IfOk result (IsSymbolOfSegments l segments)
-symbol_of_segments l segments v b (Err e) is version level encodes spelled = tt
-symbol_of_segments l segments v b (Ok code) is version level encodes spelled =
+symbol_of_segments l segments v b (Err e) valid taken is version level encodes spelled = tt
+symbol_of_segments l segments v b (Ok code) valid taken is version level encodes spelled =
     let here : code.version ≡ v = version ∙ ap (λ (x : BitList). x.version) is in
     let bits = λ (u : Version). terminated u l (written_segments u segments) in
     record {
       level = level;
       encodes = subst (λ u. EncodesBits u l (bits u) code.modules) (sym here) (subst (λ (x : BitList). EncodesBits x.version l x.bits code.modules) is encodes);
-      spelled = subst (λ u. (pieces : List Piece) → AllByRecursion (IsReadBack u) pieces → written_segments u segments ≡ written u pieces
-          → SpellsOnly u (bits u) (flat_map (λ p. p.chunk) pieces)) (sym here)
-          (λ pieces readable same. subst (λ (x : BitList). SpellsOnly x.version x.bits (flat_map (λ p. p.chunk) pieces)) is (spelled pieces readable same));
+      spelled = λ all.
+          let read = spelled (pieces_in segments) (pieces_back v 0 segments valid taken) (written_pieces v segments all) in
+          subst (λ u. SpellsOnly u (bits u) (flat_map bytes_of segments)) (sym here)
+          (subst (λ (x : BitList). SpellsOnly x.version x.bits (flat_map bytes_of segments)) is (subst (SpellsOnly b.version b.bits) (pieces_joined segments) read));
     }

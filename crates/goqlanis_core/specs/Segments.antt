@@ -1,6 +1,6 @@
 -- Symbols of segments by hand.
-use Rattle.std.specs.Prelude.{◌≡◌, ◌≤◌, ◌⊎◌, ℕ, ◌+◌, ◌==◌, pos, not, false, Bool, List, [], ◌∷◌, ◌++◌, length, flat_map, Option, Some, None, if◌then◌else◌}
-use Rattle.std.specs.List.{AllByRecursion}
+use Rattle.std.specs.Prelude.{◌≡◌, ◌≤◌, ◌⊎◌, ℕ, ◌+◌, ◌==◌, pos, not, true, false, Bool, List, [], ◌∷◌, ◌++◌, length, flat_map, IsTrue, Option, Some, None, if◌then◌else◌}
+use Rattle.std.specs.List.{list_all}
 use Rattle.std.specs.Option.{option_or}
 use Rattle.qrcode_types.specs.Bits.{number_bits}
 use Rattle.qrcode_types.specs.Characters.{can_write}
@@ -13,8 +13,8 @@ use Rattle.qrcode_types.specs.declared.types.Version.TheVariants.{Normal}
 use Rattle.qrcode_bits.specs.Choice.{IfCause}
 use Rattle.qrcode_bits.specs.Manners.{rank}
 use Rattle.qrcode_bits.specs.Refusals.{piece_refusal, eci_refusal, terminator_refusal}
-use Rattle.qrcode_bits.specs.Spelling.{IsReadBack, SpellsOnly}
-use Rattle.qrcode_bits.specs.Written.{Piece, written, written_piece, eci_bits, terminated}
+use Rattle.qrcode_bits.specs.Spelling.{SpellsOnly}
+use Rattle.qrcode_bits.specs.Written.{written_piece, eci_bits, terminated}
 use Rattle.qrcode.specs.Code.{Code}
 use Rattle.qrcode.specs.Reading.{EncodesBits}
 use Rattle.goqlanis_core.specs.declared.request.Choice.{Choice}
@@ -82,9 +82,17 @@ pub record AreUnheld (choice : Choice) (l : EcLevel) (segments : List Segment) (
 abbrev pub AreRefused : Choice → EcLevel → List Segment → QrError → Type 0
 AreRefused choice l segments e = (e ≡ OutOfMemory) ⊎ IfCause (is_valid (first_of choice) ≡ false) (e ≡ InvalidVersion) (AreUnheld choice l segments e)
 
--- the symbol of segments one after the other; where they are pieces that are read back, it is read as their bytes and as no others
+abbrev pub has_data : Segment → Bool  -- bytes in a mode, and no number of a character set
+has_data (Data m bytes) = true
+has_data (CharacterSet n) = false
+
+abbrev pub bytes_of : Segment → List ℕ  -- the bytes of a segment
+bytes_of (Data m bytes) = bytes.now
+bytes_of (CharacterSet n) = []
+
+-- the symbol of segments one after the other; where none is the number of a character set, it is read as their bytes and as no others
 pub record IsSymbolOfSegments (l : EcLevel) (segments : List Segment) (code : Code) : Type 0 where
   pub level : code.level ≡ l
   pub encodes : EncodesBits code.version l (terminated code.version l (written_segments code.version segments)) code.modules
-  pub spelled : (pieces : List Piece) → AllByRecursion (IsReadBack code.version) pieces → written_segments code.version segments ≡ written code.version pieces
-      → SpellsOnly code.version (terminated code.version l (written_segments code.version segments)) (flat_map (λ p. p.chunk) pieces)
+  pub spelled : IsTrue (list_all has_data segments)
+      → SpellsOnly code.version (terminated code.version l (written_segments code.version segments)) (flat_map bytes_of segments)

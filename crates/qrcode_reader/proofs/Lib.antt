@@ -3,6 +3,7 @@ pub mod Corrections
 pub mod Interleaved
 pub mod PartsRead
 pub mod Positioned
+pub mod SegmentsAlone
 pub mod Refused
 pub mod ShownTexts
 pub mod Walked
@@ -17,7 +18,6 @@ pub mod Groups
 pub mod Letters
 pub mod Pairs
 pub mod Unspelled
-pub mod Spelled
 mod Headings
 mod NoHeader
 pub mod Parted

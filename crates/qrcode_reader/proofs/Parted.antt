@@ -1,15 +1,16 @@
 -- The parts of bits begin with their first part.
 use Rattle.std.proofs.Common.{◌≡◌, ◌^◌, ◌<◌, ℕ, ◌++◌, List, [], ◌∷◌, Bool, true, false, length, refl, sym, ap, ap₂, subst, ◌∙◌, arith, append_assoc, append-nil, length-append, true≢false}
-use Rattle.std.specs.Prelude.{flat_map, map}
-use Rattle.std.specs.List.{AllByRecursion}
+use Rattle.std.specs.Prelude.{flat_map, map, IsTrue}
+use Rattle.std.specs.List.{list_all}
 use Rattle.qrcode_types.specs.Bits.{number_bits}
-use Rattle.qrcode_types.specs.Modes.{mode_number}
+use Rattle.qrcode_types.specs.Modes.{has_mode, length_bits_count, mode_number}
 use Rattle.qrcode_types.specs.declared.types.Version.{Version}
 use Rattle.qrcode_types.specs.declared.types.Version.TheVariants.{Normal, Micro}
 use Rattle.qrcode_types.specs.declared.types.Mode.{Mode}
 use Rattle.qrcode_types.specs.declared.types.Mode.TheVariants.{Numeric, Alphanumeric, Byte, Kanji}
-use Rattle.qrcode_bits.specs.Written.{Piece}
+use Rattle.qrcode_bits.specs.Written.{Piece, written_piece}
 use Rattle.qrcode_bits.specs.Spelling.{is_end, IsReadAs, Spells}
+use Rattle.qrcode_bits.proofs.Lengths.{length-piece}
 use Rattle.qrcode_bits.proofs.Numbers.{same_number, length-number_bits}
 use Rattle.qrcode_bits.proofs.Spellings.{same_piece, normal_small}
 use Rattle.qrcode_reader.specs.spell.Steps.{BeginsWithPiece}
@@ -17,9 +18,17 @@ use Rattle.qrcode_reader.specs.declared.spell.headers.Header.{Header}
 use Rattle.qrcode_reader.specs.declared.spell.headers.Header.TheVariants.{Eci, Fnc1First, Fnc1Second, StructuredAppend}
 use Rattle.qrcode_reader.specs.declared.spell.parts.Part.{Part}
 use Rattle.qrcode_reader.specs.declared.spell.parts.Part.TheVariants.{Front, Bytes}
-use Rattle.qrcode_reader.specs.spell.Parts.{BeginsWithHeader, BeginsWithPart, AreParts, HaveNoParts, IsSegment, header_indicator}
+use Rattle.qrcode_reader.specs.spell.Parts.{BeginsWithHeader, BeginsWithPart, AreParts, HaveNoParts, header_indicator, is_segment}
 use Rattle.qrcode_reader.proofs.Headings.{one_header, small}
-use Rattle.qrcode_reader.proofs.Spelled.{piece_shortens}
+
+-- a length field has bits
+some_field : (v : Version) (m : Mode) → IsTrue (has_mode v m) → 0 < length_bits_count m v
+some_field (Normal v) m h = omega arith
+some_field (Micro v) m h = omega arith
+
+-- a piece has bits
+piece_shortens : (v : Version) (bits : List Bool) (p : Piece) (rest : List Bool) → BeginsWithPiece v bits p rest → length rest < length bits
+piece_shortens v bits p rest b = omega (arith, ap length b.whole, length-append (written_piece v p) rest, length-piece v p, some_field v p.mode b.readable.mode_exists)
 
 -- no mode has the indicator of a header
 no_mode : (h : Header) (m : Mode) → header_indicator h ≡ 2 ^ mode_number m → ⊥
@@ -192,13 +201,27 @@ spelled_parts v bits [] r = (r, refl)
 spelled_parts v bits (p ∷ ps) r =
     (r.0, (p.chunk, flat_map (λ p. p.chunk) ps, (refl, (r.1.1.0, ((record { readable = r.1.1.1.0; whole = r.1.0 }, refl), spelled_parts v r.0 ps r.1.1.1.1)))))
 
-pub all_segments : (ps : List Piece) → AllByRecursion IsSegment (map part_of ps)
-all_segments [] = tt
-all_segments (p ∷ ps) = (tt, all_segments ps)
+pub all_segments : (ps : List Piece) → list_all is_segment (map part_of ps) ≡ true
+all_segments [] = refl
+all_segments (p ∷ ps) = all_segments ps
 
 -- where the bits spell bytes, their parts are segments of these bytes
 pub spelled_only : (v : Version) (bits : List Bool) (done : List ℕ) (before : List Part) → ((bytes : List ℕ) (parts : List Part) → AreParts v bits bytes parts → (bytes ≡ done) × (parts ≡ before))
-    → (bytes : List ℕ) → Spells v bits bytes → (done ≡ bytes) × AllByRecursion IsSegment before
+    → (bytes : List ℕ) → Spells v bits bytes → (done ≡ bytes) × IsTrue (list_all is_segment before)
 spelled_only v bits done before only bytes s =
     let r = only (flat_map (λ p. p.chunk) s.pieces) (map part_of s.pieces) (spelled_parts v bits s.pieces s.read) in
-    (sym r.0 ∙ s.joined, subst (AllByRecursion IsSegment) r.1 (all_segments s.pieces))
+    (sym r.0 ∙ s.joined, subst (λ ps. IsTrue (list_all is_segment ps)) r.1 (all_segments s.pieces))
+
+-- and segments spell their bytes
+pub segments_spelled : (v : Version) (bits : List Bool) (bytes : List ℕ) (parts : List Part) → IsTrue (list_all is_segment parts) → AreParts v bits bytes parts → Spells v bits bytes
+segments_spelled v bits bytes [] all r = record { pieces = []; read = r.0; joined = sym r.1 }
+segments_spelled v bits bytes (Front h ∷ parts) all r = absurd (true≢false (sym all))
+segments_spelled v bits bytes (Bytes m n ∷ parts) all r =
+    let chunk = r.1.0 in
+    let u = r.1.2 in
+    let s = segments_spelled v r.0 r.1.1 parts all u.1.1.1 in
+    record {
+      pieces = record { mode = m; chunk = chunk } ∷ s.pieces;
+      read = (r.0, (u.1.1.0.0.whole, (u.1.0, (u.1.1.0.0.readable, s.read))));
+      joined = ap (λ x. chunk ++ x) s.joined ∙ sym u.0;
+    }

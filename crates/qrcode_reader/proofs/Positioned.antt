@@ -18,13 +18,7 @@ length-seen : (w : ℕ) (p : Position) (is_inverted : Bool) (s : List Color) →
 unfolding seen
 length-seen w p is_inverted s = length-map-range_with_len (seen_at w p is_inverted s) 0 (w * w)
 
--- modules of no version are read in no position
-pub unread_of_no_version : (s : List Color) → ((v : Version) → IsTrue (is_valid v) → length s ≢ side v * side v) → (w : ℕ) → w * w ≡ length s → (p : Position) (is_inverted : Bool) (bytes : List ℕ)
-    → ¬ Reads (seen w p is_inverted s) bytes
-unread_of_no_version s none w square p is_inverted bytes reads =
-    none reads.version (valid_of reads.version reads.level reads.read.exists) (sym square ∙ sym (length-seen w p is_inverted s) ∙ reads.read.square)
-
--- nor do they hold headers and segments in one
+-- modules of no version hold headers and segments in no position
 pub partless_of_no_version : (s : List Color) → ((v : Version) → IsTrue (is_valid v) → length s ≢ side v * side v) → (w : ℕ) → w * w ≡ length s → (p : Position) (is_inverted : Bool)
     (bytes : List ℕ) (parts : List Part) → ¬ ReadsParts (seen w p is_inverted s) bytes parts
 partless_of_no_version s none w square p is_inverted bytes parts reads =
@@ -65,8 +59,8 @@ unread_in_all w s none p is_inverted bytes =
     let at = place_of p is_inverted in
     subst (λ (t : Position × Bool). ¬ Reads (seen w t.0 t.1 s) bytes) at.2 (none at.0 at.1 bytes)
 
-pub partless_in_all : (w : ℕ) (s : List Color) → ((n : ℕ) → n < 16 → IsPartlessIn w s n) → (p : Position) (is_inverted : Bool) (bytes : List ℕ) (parts : List Part)
+pub partless_in_all : (w : ℕ) (s : List Color) → ((n : ℕ) → n < 16 → IsPartlessIn true w s n) → (p : Position) (is_inverted : Bool) (bytes : List ℕ) (parts : List Part)
     → ¬ ReadsParts (seen w p is_inverted s) bytes parts
 partless_in_all w s none p is_inverted bytes parts =
     let at = place_of p is_inverted in
-    subst (λ (t : Position × Bool). ¬ ReadsParts (seen w t.0 t.1 s) bytes parts) at.2 (none at.0 at.1 bytes parts)
+    subst (λ (t : Position × Bool). ¬ ReadsParts (seen w t.0 t.1 s) bytes parts) at.2 (none at.0 at.1 bytes parts refl)

@@ -1,26 +1,24 @@
--- What is shown of bits begins with what is shown of their first piece.
-use Rattle.std.proofs.Common.{◌≡◌, ◌≢◌, ℕ, ◌++◌, List, [], ◌∷◌, Bool, true, false, refl, sym, ap, subst, ◌∙◌, arith, IsTrue, inl, inr, append_assoc, append-nil, true≢false}
-use Rattle.std.specs.Prelude.{flat_map, chars, IsUtf8}
-use Rattle.std.proofs.lemmas.List.{append_cancel_left}
+-- What text is shown of bits.
+use Rattle.std.proofs.Common.{◌≡◌, ◌≢◌, ℕ, ◌+◌, ◌<◌, ◌++◌, List, [], ◌∷◌, Bool, true, false, length, min, take, drop, get_or, refl, sym, ap, subst, ◌∙◌, arith, IsTrue, inl, inr, true≢false}
+use Rattle.std.specs.Prelude.{◌↔◌, flat_map, map, chars, IsUtf8}
+use Rattle.std.proofs.lemmas.List.{append_cancel_left, drop_at, drop_min, drop_more, take_at}
+use Rattle.std.proofs.lemmas.Str.{IsUtf8-append, IsUtf8-nil}
 use Rattle.qrcode_types.specs.Bits.{number_bits}
 use Rattle.qrcode_types.specs.Versions.{is_micro}
 use Rattle.qrcode_types.specs.declared.types.Version.{Version}
 use Rattle.qrcode_types.specs.declared.types.Version.TheVariants.{Normal, Micro}
-use Rattle.qrcode_types.specs.declared.types.Mode.{Mode}
-use Rattle.qrcode_types.specs.declared.types.Mode.TheVariants.{Kanji}
 use Rattle.qrcode_bits.specs.Manners.{front, has_front}
-use Rattle.qrcode_bits.specs.ModeSets.{is_among, text_modes}
-use Rattle.qrcode_bits.specs.Shown.{IsPieceShown, ArePiecesShown, Shows, ShowsOnly}
+use Rattle.qrcode_bits.specs.Shown.{ArePiecesShown, Shows, ShowsOnly}
 use Rattle.qrcode_bits.specs.Spelling.{is_end, IsReadAs}
 use Rattle.qrcode_bits.specs.Written.{Piece, eci_bits}
 use Rattle.qrcode_bits.specs.declared.bits.manner.Manner.TheVariants.{MarkedText}
 use Rattle.qrcode_bits.proofs.ShownOnce.{shown_chars, one_shown}
-use Rattle.qrcode_bits.proofs.Spellings.{same_piece}
-use Rattle.qrcode_reader.specs.spell.Steps.{BeginsWithPiece}
 use Rattle.qrcode_reader.specs.declared.spell.headers.Header.TheVariants.{Eci}
-use Rattle.qrcode_reader.specs.spell.Parts.{IsPrefixed, BeginsWithHeader}
-use Rattle.qrcode_reader.specs.spell.Texts.{ShowsSegments, IsBehindFront}
-use Rattle.qrcode_reader.proofs.Parted.{header_or_piece}
+use Rattle.qrcode_reader.specs.declared.spell.parts.Part.{Part}
+use Rattle.qrcode_reader.specs.declared.spell.parts.Part.TheVariants.{Front, Bytes}
+use Rattle.qrcode_reader.specs.spell.Parts.{AreParts, IsPrefixed, BeginsWithHeader}
+use Rattle.qrcode_reader.specs.spell.Texts.{part_length, AreShown, IsBehindFront, IsPartShown, ShowsSegments}
+use Rattle.qrcode_reader.proofs.Parted.{header_or_piece, part_of, spelled_parts}
 
 -- The front.
 
@@ -95,94 +93,74 @@ mark_prefixed = record { at_most = omega arith; whole = mark }
 
 -- The segments.
 
--- what all bits show is what was read of them, and then what the rest shows
-pub record ShowsFront (v : Version) (bits : List Bool) (done : List ℕ) (rest : List Bool) : Type 0 where
-  pub sound : (more : List ℕ) → ShowsSegments v rest more → ShowsSegments v bits (done ++ more)
-  pub complete : (bytes : List ℕ) → ShowsSegments v bits bytes → (more : List ℕ) × (bytes ≡ done ++ more) × ShowsSegments v rest more
+-- what is shown of parts is what is shown of the first, and then of the others
+pub shown_more : (parts : List Part) (i : ℕ) (d : Part) (rest behind : List ℕ) (All : Type 0) → i < length parts → behind ≡ drop (min (part_length (get_or parts i d)) (length rest)) rest
+    → IsPartShown (get_or parts i d) rest → (AreShown (drop i parts) rest ↔ All) → AreShown (drop (i + 1) parts) behind ↔ All
+shown_more parts i d rest behind All inside is shown all =
+    let p = get_or parts i d in
+    let here = subst (λ ps. AreShown ps rest ↔ All) (drop_more parts i d inside) all in
+    subst (λ b. AreShown (drop (i + 1) parts) b ↔ All) (sym (is ∙ drop_min (part_length p) rest)) (split p (drop (i + 1) parts) shown here) where
+      split : (p : Part) (ps : List Part) → IsPartShown p rest → (AreShown (p ∷ ps) rest ↔ All) → AreShown ps (drop (part_length p) rest) ↔ All
+      split (Front h) ps shown all = absurd shown
+      split (Bytes m n) ps shown all = ((λ others. all.0 (shown.0, (shown.1, others))), (λ a. (all.1 a).1.1))
 
-pub nothing_shown : (v : Version) (bits : List Bool) → ShowsFront v bits [] bits
-nothing_shown v bits = record { sound = λ more s. s; complete = λ bytes s. (bytes, refl, s) }
+-- where the first is not shown, they are not
+pub hidden_part : (parts : List Part) (i : ℕ) (d : Part) (rest : List ℕ) → i < length parts → ¬ IsPartShown (get_or parts i d) rest → ¬ AreShown (drop i parts) rest
+hidden_part parts i d rest inside hidden all = hidden (first (get_or parts i d) (drop (i + 1) parts) (subst (λ ps. AreShown ps rest) (drop_more parts i d inside) all)) where
+  first : (p : Part) (ps : List Part) → AreShown (p ∷ ps) rest → IsPartShown p rest
+  first (Front h) ps all = all
+  first (Bytes m n) ps all = (all.0, all.1.0)
 
--- the first piece of bits that do not end
-record FirstShown (v : Version) (bits : List Bool) (bytes : List ℕ) : Type 0 where
-  piece : Piece
-  rest : List Bool
-  more : List ℕ
-  text : List ℕ
-  joined : bytes ≡ piece.chunk ++ more
-  begins : BeginsWithPiece v bits piece rest
-  is_shown : IsPieceShown piece text
-  shows : ShowsSegments v rest more
+-- parts that are shown are pieces that are
+record HaveText (v : Version) (bits : List Bool) (bytes : List ℕ) : Type 0 where
+  shows : ShowsSegments v bits bytes
+  utf8 : IsUtf8 bytes
 
-first_shown : (v : Version) (bits : List Bool) (bytes : List ℕ) (ps : List Piece) (text : List ℕ) → is_end v bits ≡ false → IsReadAs v bits ps → ArePiecesShown ps text → flat_map (λ p. p.chunk) ps ≡ bytes
-    → FirstShown v bits bytes
-first_shown v bits bytes [] text goes r s e = absurd (true≢false (sym r ∙ goes))
-first_shown v bits bytes (p ∷ ps) text goes r s e = record {
-  piece = p;
-  rest = r.0;
-  more = flat_map (λ p. p.chunk) ps;
-  text = s.0;
-  joined = sym e;
-  begins = record { readable = r.1.1.1.0; whole = r.1.0 };
-  is_shown = s.2.1.0;
-  shows = record { pieces = ps; read = r.1.1.1.1; text = s.1; shown = s.2.1.1; joined = refl };
+have_text : (v : Version) (bits : List Bool) (bytes : List ℕ) (parts : List Part) → AreParts v bits bytes parts → AreShown parts bytes → HaveText v bits bytes
+have_text v bits bytes [] r h = record {
+  shows = record { pieces = []; read = r.0; text = []; shown = refl; joined = sym r.1 };
+  utf8 = subst IsUtf8 (sym r.1) IsUtf8-nil;
 }
+have_text v bits bytes (Front k ∷ parts) r h = absurd h
+have_text v bits bytes (Bytes m n ∷ parts) r h =
+    let chunk = r.1.0 in
+    let more = r.1.1 in
+    let u = r.1.2 in
+    let segment = u.1.1.0 in
+    let text = subst IsUtf8 (ap (take n) u.0 ∙ take_at chunk more n (sym segment.1)) h.1.0 in
+    let others = have_text v r.0 more parts u.1.1.1 (subst (AreShown parts) (ap (drop n) u.0 ∙ drop_at chunk more n (sym segment.1)) h.1.1) in
+    let s = others.shows in
+    record {
+      shows = record {
+        pieces = record { mode = m; chunk = chunk } ∷ s.pieces;
+        read = (r.0, (segment.0.whole, (u.1.0, (segment.0.readable, s.read))));
+        text = text.0 ++ s.text;
+        shown = (text.0, s.text, (refl, (record { mode = h.0; characters = text.1.0; utf8 = text.1.1 }, s.shown)));
+        joined = ap (λ x. chunk ++ x) s.joined ∙ sym u.0;
+      };
+      utf8 = subst IsUtf8 (sym u.0) (IsUtf8-append chunk more text others.utf8);
+    }
 
--- where no piece that is shown stands in front, and the bits do not end, nothing is shown
-pub refuses_shown : (v : Version) (bits : List Bool) (done : List ℕ) (rest : List Bool) → is_end v rest ≡ false
-    → ((p : Piece) (behind : List Bool) (text : List ℕ) → BeginsWithPiece v rest p behind → ¬ IsPieceShown p text) → ShowsFront v bits done rest → (bytes : List ℕ) → ¬ ShowsSegments v bits bytes
-refuses_shown v bits done rest goes none f bytes s =
-    let r = f.complete bytes s in
-    let t = r.2 in
-    let first = first_shown v rest r.0 t.pieces t.text goes t.read t.shown t.joined in
-    none first.piece first.rest first.text first.begins first.is_shown
+pieces_shown : (ps : List Piece) (text : List ℕ) → ArePiecesShown ps text → AreShown (map part_of ps) (flat_map (λ p. p.chunk) ps)
+pieces_shown [] text s = tt
+pieces_shown (p ∷ ps) text s =
+    let more = flat_map (λ p. p.chunk) ps in
+    let is = s.2.1.0 in (
+      is.mode,
+      (
+        subst IsUtf8 (sym (take_at p.chunk more (length p.chunk) refl)) (s.0, (is.characters, is.utf8)),
+        subst (AreShown (map part_of ps)) (sym (drop_at p.chunk more (length p.chunk) refl)) (pieces_shown ps s.1 s.2.1.1),
+      ),
+    )
 
--- one piece more
-pub shows_on : (v : Version) (bits : List Bool) (done : List ℕ) (rest : List Bool) (p : Piece) (text : List ℕ) (behind : List Bool) → is_end v rest ≡ false → BeginsWithPiece v rest p behind
-    → IsPieceShown p text → ShowsFront v bits done rest → ShowsFront v bits (done ++ p.chunk) behind
-shows_on v bits done rest p text behind goes b is f = record {
-  sound = λ more s.
-      let all : ShowsSegments v rest (p.chunk ++ more) = record {
-        pieces = p ∷ s.pieces;
-        read = (behind, (b.whole, (goes, (b.readable, s.read))));
-        text = text ++ s.text;
-        shown = (text, s.text, (refl, (is, s.shown)));
-        joined = ap (λ x. p.chunk ++ x) s.joined;
-      } in
-      subst (ShowsSegments v bits) (sym (append_assoc done p.chunk more)) (f.sound (p.chunk ++ more) all);
-  complete = λ bytes s.
-      let r = f.complete bytes s in
-      let t = r.2 in
-      let first = first_shown v rest r.0 t.pieces t.text goes t.read t.shown t.joined in
-      let same = same_piece v first.piece.mode p.mode first.piece.chunk p.chunk first.rest behind first.begins.readable b.readable (sym first.begins.whole ∙ b.whole) in
-      (first.more, r.1 ∙ ap (λ x. done ++ x) (first.joined ∙ ap (λ x. x ++ first.more) same.1) ∙ sym (append_assoc done p.chunk first.more), subst (λ x. ShowsSegments v x first.more) same.2 first.shows);
-}
-
--- a piece that is Kanji or no UTF-8 is not shown, and no other piece stands in front
-pub kanji_hidden : (v : Version) (bits : List Bool) (m : Mode) (chunk : List ℕ) (rest : List Bool) → m ≡ Kanji → BeginsWithPiece v bits (record { mode = m; chunk = chunk }) rest
-    → (p : Piece) (behind : List Bool) (text : List ℕ) → BeginsWithPiece v bits p behind → ¬ IsPieceShown p text
-kanji_hidden v bits m chunk rest e b p behind text d is =
-    let same = same_piece v p.mode m p.chunk chunk behind rest d.readable b.readable (sym d.whole ∙ b.whole) in
-    let f : is_among text_modes Kanji ≡ true = subst (λ k. is_among text_modes k ≡ true) (same.0 ∙ e) is.mode in
-    true≢false (sym f)
-
-pub no_utf8_hidden : (v : Version) (bits : List Bool) (m : Mode) (chunk : List ℕ) (rest : List Bool) → ¬ IsUtf8 chunk → BeginsWithPiece v bits (record { mode = m; chunk = chunk }) rest
-    → (p : Piece) (behind : List Bool) (text : List ℕ) → BeginsWithPiece v bits p behind → ¬ IsPieceShown p text
-no_utf8_hidden v bits m chunk rest none b p behind text d is =
-    let same = same_piece v p.mode m p.chunk chunk behind rest d.readable b.readable (sym d.whole ∙ b.whole) in
-    none (text, (is.characters, is.utf8 ∙ same.1))
-
--- at an end all was read
-shown_end : (v : Version) (bits : List Bool) (done : List ℕ) (rest : List Bool) → is_end v rest ≡ true → ShowsFront v bits done rest → ShowsSegments v bits done
-shown_end v bits done rest end f =
-    subst (ShowsSegments v bits) (append-nil done) (f.sound [] (record { pieces = []; read = end; text = []; shown = refl; joined = refl }))
-
--- and so its characters are shown, and no others
-pub shows_text : (v : Version) (bits behind : List Bool) (done : List ℕ) (rest : List Bool) → IsBehindFront v bits behind → is_end v rest ≡ true → ShowsFront v behind done rest → ShowsOnly v bits (chars done)
-shows_text v bits behind done rest b end f =
-    let s = shown_end v behind done rest end f in
-    let same : s.text ≡ chars done = shown_chars s.pieces s.text s.shown ∙ ap chars s.joined in
-    let found : Shows v bits (chars done) = record {
+-- their bytes are UTF-8, and are shown as its characters, and as no others
+pub shows_text : (v : Version) (bits behind : List Bool) (bytes : List ℕ) (parts : List Part) → IsBehindFront v bits behind → AreParts v behind bytes parts → AreShown parts bytes
+    → IsUtf8 bytes × ShowsOnly v bits (chars bytes)
+shows_text v bits behind bytes parts b are all =
+    let have = have_text v behind bytes parts are all in
+    let s = have.shows in
+    let same : s.text ≡ chars bytes = shown_chars s.pieces s.text s.shown ∙ ap chars s.joined in
+    let found : Shows v bits (chars bytes) = record {
       before = b.before;
       rest = behind;
       is_front = b.is_front;
@@ -191,8 +169,11 @@ shows_text v bits behind done rest b end f =
       read = s.read;
       shown = subst (ArePiecesShown s.pieces) same s.shown;
     } in
-    record { found = found; only = λ others t. one_shown v bits (chars done) others found t }
+    (have.utf8, record { found = found; only = λ others t. one_shown v bits (chars bytes) others found t })
 
--- what is not shown behind the front is not shown at all
-pub hides_text : (v : Version) (bits behind : List Bool) → IsBehindFront v bits behind → ((bytes : List ℕ) → ¬ ShowsSegments v behind bytes) → (text : List ℕ) → ¬ Shows v bits text
-hides_text v bits behind b none text s = let r = b.complete text s in none r.0 r.1
+-- what has no parts behind the front, or others, is not shown
+pub hides_text : (v : Version) (bits behind : List Bool) → IsBehindFront v bits behind → ((bytes : List ℕ) (parts : List Part) → AreParts v behind bytes parts → ¬ AreShown parts bytes)
+    → (text : List ℕ) → ¬ Shows v bits text
+hides_text v bits behind b none text s =
+    let t = (b.complete text s).1 in
+    none (flat_map (λ p. p.chunk) t.pieces) (map part_of t.pieces) (spelled_parts v behind t.pieces t.read) (pieces_shown t.pieces t.text t.shown)

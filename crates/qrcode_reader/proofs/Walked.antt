@@ -108,11 +108,10 @@ pub one_bit : (v : Version) (is_turned : Bool) (s : List Color) (x y : ℕ) (m :
     → m ≡ Empty → bits_turned v is_turned s (x, y) ≡ turned_if is_turned (is_dark (color_at v s x y)) ∷ []
 one_bit v is_turned s x y m xl yl e empty = ap (λ b. cond b (turned_if is_turned (is_dark (color_at v s x y)) ∷ []) []) (sym (free_test v x y m xl yl e) ∙ ap is_empty empty)
 
--- the bit at a place that was written behind the others, which stand behind those of earlier pairs
-pub written_behind : (v : Version) (mask : MaskPattern) (s : List Color) (x y : ℕ) (turned : Bool) (before old new : List Bool) → turned ≡ turns mask x y
-    → new ≡ old ++ bits_turned v turned s (x, y) → before ++ new ≡ (before ++ old) ++ bits_of_place v mask s (x, y)
-written_behind v mask s x y turned before old new t e =
-    ap (λ r. before ++ r) (e ∙ ap (λ b. old ++ bits_turned v b s (x, y)) t) ∙ sym (append_assoc before old (bits_of_place v mask s (x, y)))
+-- the bit at a place, by whether the mask turns it
+pub written_place : (v : Version) (mask : MaskPattern) (s : List Color) (x y : ℕ) (turned : Bool) (old new : List Bool) → turned ≡ turns mask x y
+    → new ≡ old ++ bits_turned v turned s (x, y) → new ≡ old ++ bits_of_place v mask s (x, y)
+written_place v mask s x y turned old new t e = e ∙ ap (λ b. old ++ bits_turned v b s (x, y)) t
 
 -- a signed number that is no negative one
 pub signed : (z : ℤ) (x : ℕ) → z ≡ pos x → mag z < 32768 → to_z w16 (of_z w16 z) ≡ pos x

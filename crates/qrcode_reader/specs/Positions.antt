@@ -1,12 +1,13 @@
 -- Squares that stand in another position, or with the colours exchanged.
-use Rattle.std.specs.Prelude.{◌≡◌, ℕ, ◌+◌, ◌-◌, ◌*◌, ◌/◌, ◌%◌, ◌<◌, nat_le, Bool, List, [], ◌∷◌, map, slice_index_or, if◌then◌else◌}
-use Rattle.std.specs.List.{range_with_len}
+use Rattle.std.specs.Prelude.{◌≡◌, ℕ, ◌+◌, ◌-◌, ◌*◌, ◌/◌, ◌%◌, ◌<◌, nat_le, ◌||◌, Bool, true, List, [], ◌∷◌, IsTrue, map, slice_index_or, if◌then◌else◌}
+use Rattle.std.specs.List.{list_all, range_with_len}
 use Rattle.qrcode_types.specs.declared.types.Color.{Color}
 use Rattle.qrcode_types.specs.declared.types.Color.TheVariants.{Light, Dark}
 use Rattle.qrcode_types.specs.declared.types.Version.{Version}
 use Rattle.qrcode_types.specs.declared.types.EcLevel.{EcLevel}
 use Rattle.qrcode_layout.specs.declared.masks.MaskPattern.{MaskPattern}
 use Rattle.qrcode.specs.Reading.{Reads}
+use Rattle.qrcode_reader.specs.spell.Parts.{is_segment}
 use Rattle.qrcode_reader.specs.Readings.{IsReading, IsPartsReading, ReadsParts}
 use Rattle.qrcode_reader.specs.declared.spell.parts.Part.{Part}
 use Rattle.qrcode_reader.specs.declared.correction.WrongCodeword.{WrongCodeword}
@@ -49,13 +50,22 @@ pub record IsFirstReading (w : ℕ) (s : List Color) (p : Position) (is_inverted
   pub position : tried number ≡ (p, is_inverted)
   pub first : (n : ℕ) → n < number → IsUnreadIn w s n
 
--- no headers and segments are read in the n-th of these positions
-abbrev pub IsPartlessIn : ℕ → List Color → ℕ → Type 0
-IsPartlessIn w s n = (bytes : List ℕ) (parts : List Part) → ¬ ReadsParts (seen w (tried n).0 (tried n).1 s) bytes parts
+-- no headers and segments are read in the n-th of these positions; of segments alone, unless headers are taken
+abbrev pub IsPartlessIn : Bool → ℕ → List Color → ℕ → Type 0
+IsPartlessIn takes_headers w s n = (bytes : List ℕ) (parts : List Part) → IsTrue (takes_headers || list_all is_segment parts)
+    → ¬ ReadsParts (seen w (tried n).0 (tried n).1 s) bytes parts
 
 -- the first position in which headers and segments are read of a square of side w, and these
 pub record IsFirstPartsReading (w : ℕ) (s : List Color) (p : Position) (is_inverted : Bool) (v : Version) (l : EcLevel) (k : MaskPattern) (bytes : List ℕ) (parts : List Part) (wrong : List WrongCodeword) : Type 0 where
   pub read : IsPartsReading (seen w p is_inverted s) v l k bytes parts wrong
   pub number : ℕ
   pub position : tried number ≡ (p, is_inverted)
-  pub first : (n : ℕ) → n < number → IsPartlessIn w s n
+  pub first : (n : ℕ) → n < number → IsPartlessIn true w s n
+
+-- such a position, in which the parts are segments alone, unless headers are taken
+pub record IsFirstTaken (takes_headers : Bool) (w : ℕ) (s : List Color) (p : Position) (is_inverted : Bool) (v : Version) (l : EcLevel) (k : MaskPattern) (bytes : List ℕ) (parts : List Part) (wrong : List WrongCodeword) : Type 0 where
+  pub read : IsPartsReading (seen w p is_inverted s) v l k bytes parts wrong
+  pub taken : IsTrue (takes_headers || list_all is_segment parts)
+  pub number : ℕ
+  pub position : tried number ≡ (p, is_inverted)
+  pub first : (n : ℕ) → n < number → IsPartlessIn takes_headers w s n

@@ -4,7 +4,7 @@ ghost use Rattle.std.specs.Prelude.{IfOk, IfErr};
 ghost use Rattle.qrcode_reader.specs.Readings.{IsPartsReading, IsPartsCause};
 
 use crate::correction::WrongCodeword;
-use crate::reading::read_bits;
+use crate::reading::{Reading, read_bits};
 use crate::refusals::Unread;
 use crate::spell::{Parts, pieces};
 use qrcode_layout::masks::MaskPattern;
@@ -24,6 +24,22 @@ pub struct PartsReading {
     pub parts: Parts,
     /// The codewords that were wrong, block by block.
     pub wrong: Vec<WrongCodeword>,
+}
+
+impl PartsReading {
+    // The same as bytes.
+    pub(crate) fn into_bytes(self) -> Reading
+        ensures { result ≡ record { version = self.version; ec_level = self.ec_level;
+            mask = self.mask; data = self.parts.bytes; wrong = self.wrong } }
+    {
+        Reading {
+            version: self.version,
+            ec_level: self.ec_level,
+            mask: self.mask,
+            data: self.parts.bytes,
+            wrong: self.wrong,
+        }
+    }
 }
 
 /// The headers and segments of a square of modules, row by row from the top left corner, dark ones

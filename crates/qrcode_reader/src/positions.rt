@@ -2,14 +2,15 @@
 
 ghost use Rattle.std.specs.Prelude.{◌≡◌, ◌*◌, ◌<◌, ◌≤◌, ◌⊎◌, ℕ, Bool, List, length, IsTrue, IfOk, IfErr, IfSome, IfNone};
 ghost use Rattle.qrcode.specs.Reading.{Reads};
-ghost use Rattle.qrcode_reader.specs.Positions.{standing, seen, seen_color, tried, IsFirstReading, IsFirstPartsReading};
+ghost use Rattle.qrcode_reader.specs.Positions.{standing, seen, seen_color, tried, IsFirstReading, IsFirstPartsReading, IsFirstTaken, IsPartlessIn};
 ghost use Rattle.qrcode_reader.specs.Readings.{ReadsParts, IsPartsCause};
 ghost use Rattle.qrcode_reader.specs.declared.spell.parts.Part.{Part};
 ghost use Rattle.qrcode_reader.specs.declared.positions.Position.{Position};
 ghost use Rattle.qrcode_reader.specs.declared.refusals.Unread.TheVariants.{OutOfMemory};
 
 use crate::parts::{PartsReading, read_parts};
-use crate::reading::{Reading, read};
+use crate::reading::Reading;
+use crate::spell::are_segments;
 use crate::refusals::Unread;
 use crate::sizes::version_of;
 use crate::walk::side;
@@ -153,28 +154,14 @@ pub fn read_any(alloc: Global, modules: &[Color]) -> Result<Option<AnyReading>, 
         → (position : Position) (is_inverted : Bool) (bytes : List ℕ)
         → ¬ Reads (seen side position is_inverted modules.now) bytes)) }
 {
-    let Some(version) = version_of(modules.len()) else {
+    let Some(any) = in_positions(alloc, modules, false)? else {
         return Ok(None);
     };
-    for number in 0..16 {
-        let (position, is_inverted) = tried(number);
-        let colors = seen(alloc, side(version), position, is_inverted, modules)?;
-        match read(alloc, &colors) {
-            Ok(reading) => {
-                return Ok(Some(AnyReading {
-                    position,
-                    is_inverted,
-                    reading,
-                }));
-            }
-            Err(error) => {
-                if is_memory(error) {
-                    return Err(AllocError);
-                }
-            }
-        }
-    }
-    Ok(None)
+    Ok(Some(AnyReading {
+        position: any.position,
+        is_inverted: any.is_inverted,
+        reading: any.reading.into_bytes(),
+    }))
 }
 
 /// Reads the headers and segments of a square in any of the positions of `read_any`: in the first one
@@ -198,26 +185,30 @@ pub fn read_any_parts(alloc: Global, modules: &[Color]) -> Result<AnyPartsReadin
             is_inverted: false,
             reading,
         }),
-        Err(error) => match parts_in_positions(alloc, modules)? {
+        Err(error) => match in_positions(alloc, modules, true)? {
             Some(any) => Ok(any),
             None => Err(error),
         },
     }
 }
 
-// The same, or `None` where there is no such position. It fails only where memory is refused.
-fn parts_in_positions(
+// Reads the headers and segments of a square in the first of the positions in which there are some, and
+// no headers unless they are taken; or `None` where there is no such position. It fails only where memory
+// is refused.
+fn in_positions(
     alloc: Global,
     modules: &[Color],
+    takes_headers: bool,
 ) -> Result<Option<AnyPartsReading>, AllocError>
+    ensures square { IfOk result (λ found. IfSome found (λ any. (side : ℕ)
+        × (side * side ≡ length modules.now))) }
     ensures value { IfOk result (λ found. IfSome found (λ any. (side : ℕ)
-        → side * side ≡ length modules.now → IsFirstPartsReading side modules.now
+        → side * side ≡ length modules.now → IsFirstTaken takes_headers side modules.now
         any.position any.is_inverted any.reading.version any.reading.ec_level any.reading.mask
         any.reading.parts.bytes.items any.reading.parts.parts.items any.reading.wrong.items)) }
     ensures none { IfOk result (λ found. IfNone found ((side : ℕ)
-        → side * side ≡ length modules.now
-        → (position : Position) (is_inverted : Bool) (bytes : List ℕ) (parts : List Part)
-        → ¬ ReadsParts (seen side position is_inverted modules.now) bytes parts)) }
+        → side * side ≡ length modules.now → (n : ℕ) → n < 16
+        → IsPartlessIn takes_headers side modules.now n)) }
 {
     let Some(version) = version_of(modules.len()) else {
         return Ok(None);
@@ -227,11 +218,13 @@ fn parts_in_positions(
         let colors = seen(alloc, side(version), position, is_inverted, modules)?;
         match read_parts(alloc, &colors) {
             Ok(reading) => {
-                return Ok(Some(AnyPartsReading {
-                    position,
-                    is_inverted,
-                    reading,
-                }));
+                if takes_headers || are_segments(&reading.parts.parts) {
+                    return Ok(Some(AnyPartsReading {
+                        position,
+                        is_inverted,
+                        reading,
+                    }));
+                }
             }
             Err(error) => {
                 if is_memory(error) {

@@ -10,15 +10,16 @@ mod segments;
 mod texts;
 
 ghost use Rattle.std.specs.Prelude.{◌≡◌, ◌⊎◌, ℕ, List, IsTrue, IfOk, IfErr, IsOkUnless};
+ghost use Rattle.std.specs.List.{list_all};
 ghost use Rattle.qrcode_types.specs.Versions.{is_valid};
 ghost use Rattle.qrcode_bits.specs.Spelling.{Spells, SpellsOnly};
+ghost use Rattle.qrcode_reader.specs.spell.Parts.{is_segment};
 ghost use Rattle.qrcode_reader.specs.declared.spell.refusals.Unspelled.TheVariants.{NotSpelled, OutOfMemory};
 
 pub use headers::Header;
 pub use parts::{Part, Parts, pieces};
 use qrcode_types::types::Version;
 pub use refusals::{Unshown, Unspelled};
-use segments::{is_end, push_piece};
 use std::alloc::Global;
 pub use texts::text_of;
 
@@ -37,11 +38,22 @@ pub fn spell(alloc: Global, bits: &[bool], version: Version) -> Result<Vec<u8>, 
     ensures causes { IfErr result (λ e. (e ≡ OutOfMemory)
         ⊎ ((e ≡ NotSpelled) × ((bytes : List ℕ) → ¬ Spells version bits.now bytes))) }
 {
-    let mut bytes = Vec::new(alloc);
-    let mut rest = bits;
-    while !is_end(rest, version) {
-        let (_, behind) = push_piece(&mut bytes, rest, version)?;
-        rest = behind;
+    let found = pieces(alloc, bits, version)?;
+    if !are_segments(&found.parts) {
+        return Err(Unspelled::NotSpelled);
     }
-    Ok(bytes)
+    Ok(found.bytes)
+}
+
+// Whether no part is a header.
+pub(crate) fn are_segments(parts: &[Part]) -> bool
+    ensures { result ≡ list_all is_segment parts.now }
+{
+    parts.iter().all(|part| is_segment(part))
+}
+
+fn is_segment(part: &Part) -> bool
+    ensures { result ≡ is_segment part.now }
+{
+    matches!(part, Part::Bytes(_, _))
 }

@@ -6,7 +6,7 @@ ghost use Rattle.qrcode_types.specs.Versions.{is_valid, side};
 ghost use Rattle.qrcode_layout.specs.Masks.{turns, turned_if};
 ghost use Rattle.qrcode_layout.specs.Stream.{stream};
 ghost use Rattle.qrcode_symbol.specs.Filling.{row_of_step};
-ghost use Rattle.qrcode_reader.specs.Streams.{patterned_canvas, bits_turned, bits_walked};
+ghost use Rattle.qrcode_reader.specs.Streams.{patterned_canvas, bits_turned, bits_walked, IsWalk};
 
 use crate::turned::{Turned, coordinate};
 use qrcode_layout::masks::MaskPattern;
@@ -51,42 +51,6 @@ fn bit_of(color: Color, is_turned: bool) -> bool
     }
 }
 
-// Room for the bits of a pair of columns, so that a bit is written without a look at the room that is left.
-const ROOM: usize = 354;
-
-// Writes the bit at column `x` and row `y` behind the first bits, where the canvas of the patterns is empty there, and
-// answers how many bits there are then.
-#[inline(always)]
-fn put_module(
-    bits: &mut [bool; ROOM],
-    count: usize,
-    canvas: &Canvas,
-    version: Version,
-    modules: &[Color],
-    is_turned: bool,
-    x: usize,
-    y: usize,
-) -> usize
-    requires at_most { count < 354 }
-    requires valid { IsTrue (is_valid version) }
-    requires patterns { canvas.now ≡ patterned_canvas version }
-    requires square { length modules.now ≡ side version * side version }
-    requires column { x < side version }
-    requires row { y < side version }
-    ensures at_most { result ≤ count + 1 }
-    ensures value { take result bits.new
-        ≡ take count bits.old ++ bits_turned version is_turned modules.now (x, y) }
-{
-    let column = coordinate(x);
-    let row = coordinate(y);
-    let Module::Empty = canvas.get(column, row) else {
-        return count;
-    };
-    let color = modules[y * side(version) + x];
-    bits[count] = bit_of(color, is_turned);
-    count + 1
-}
-
 // The row at a step through a pair of columns: the walk goes upwards and downwards by turns.
 #[inline(always)]
 fn row_of_step(width: usize, pair: usize, step: usize) -> usize
@@ -101,45 +65,58 @@ fn row_of_step(width: usize, pair: usize, step: usize) -> usize
     }
 }
 
-// Appends the bits of a pair of columns of the walk, the right module of each row first.
-fn push_pair(
-    bits: &mut Vec<bool>,
-    canvas: &Canvas,
+// What is walked: the modules of a square, with the patterns that leave its other places free, and the
+// modules that its mask turned.
+struct Walk<'a> {
     version: Version,
-    turned: &Turned,
-    modules: &[Color],
-    pair: usize,
-) -> Result<(), AllocError>
-    requires valid { IsTrue (is_valid version) }
-    requires patterns { canvas.now ≡ patterned_canvas version }
-    requires square { length modules.now ≡ side version * side version }
-    requires turned { turned.now.height ≡ side version }
-    requires pair { 2 * pair + 3 ≤ side version }
-    requires walked { bits.old.items ≡ bits_walked version turned.now.mask modules.now
-        (2 * side version * pair) }
-    ensures { OnOk result (bits.new.items
-        ≡ bits_walked version turned.now.mask modules.now (2 * side version * (pair + 1))) }
-{
-    let width = side(version);
-    let right = right_column(version, width, pair);
-    let left = right - 1;
-    let right_turned = turned.column(right);
-    let left_turned = turned.column(left);
-    let mut found = [false; ROOM];
-    let mut count = 0;
-    for step in 0..width {
-        let row = row_of_step(width, pair, step);
-        let is_turned = right_turned[row];
-        count = put_module(
-            &mut found, count, canvas, version, modules, is_turned, right, row,
-        );
-        let is_turned = left_turned[row];
-        count = put_module(
-            &mut found, count, canvas, version, modules, is_turned, left, row,
-        );
+    patterns: Canvas,
+    turned: Turned,
+    modules: &'a [Color],
+}
+
+impl Walk<'_> {
+    // Appends the bit of the module at column `x` and row `y`, where that place is free.
+    fn push_module(
+        &self,
+        bits: &mut Vec<bool>,
+        is_turned: bool,
+        x: usize,
+        y: usize,
+    ) -> Result<(), AllocError>
+        requires walk { IsWalk self.now }
+        requires column { x < side self.now.version }
+        requires row { y < side self.now.version }
+        ensures { OnOk result (bits.new.items ≡ bits.old.items
+            ++ bits_turned self.now.version is_turned self.now.modules.now (x, y)) }
+    {
+        let Module::Empty = self.patterns.get(coordinate(x), coordinate(y)) else {
+            return Ok(());
+        };
+        let color = self.modules[y * side(self.version) + x];
+        bits.push(bit_of(color, is_turned))
     }
-    bits.extend_from_slice(&found[..count])?;
-    Ok(())
+
+    // Appends the bits of a pair of columns, the right module of each row first.
+    fn push_pair(&self, bits: &mut Vec<bool>, pair: usize) -> Result<(), AllocError>
+        requires walk { IsWalk self.now }
+        requires pair { 2 * pair + 3 ≤ side self.now.version }
+        requires walked { bits.old.items ≡ bits_walked self.now.version self.now.turned.mask
+            self.now.modules.now (2 * side self.now.version * pair) }
+        ensures { OnOk result (bits.new.items ≡ bits_walked self.now.version self.now.turned.mask
+            self.now.modules.now (2 * side self.now.version * (pair + 1))) }
+    {
+        let width = side(self.version);
+        let right = right_column(self.version, width, pair);
+        let left = right - 1;
+        let right_turned = self.turned.column(right);
+        let left_turned = self.turned.column(left);
+        for step in 0..width {
+            let row = row_of_step(width, pair, step);
+            self.push_module(bits, right_turned[row], right, row)?;
+            self.push_module(bits, left_turned[row], left, row)?;
+        }
+        Ok(())
+    }
 }
 
 /// The bits at the free places, in the order of the walk, with the mask taken off (ISO/IEC
@@ -156,12 +133,16 @@ pub(crate) fn stream(
     requires square { length modules.now ≡ side version * side version }
     ensures { IfOk result (λ bits. bits.items ≡ stream version mask modules.now) }
 {
-    let canvas = patterned(alloc, version)?;
     let width = side(version);
-    let turned = Turned::new(mask, width);
+    let walk = Walk {
+        version,
+        patterns: patterned(alloc, version)?,
+        turned: Turned::new(mask, width),
+        modules,
+    };
     let mut bits = Vec::with_capacity(alloc, modules.len())?;
     for pair in 0..width / 2 {
-        push_pair(&mut bits, &canvas, version, &turned, modules, pair)?;
+        walk.push_pair(&mut bits, pair)?;
     }
     Ok(bits)
 }

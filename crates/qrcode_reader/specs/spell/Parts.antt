@@ -1,5 +1,5 @@
 -- What the data bits of a symbol hold: headers and segments.
-use Rattle.std.specs.Prelude.{◌≡◌, ◌⊎◌, false, ◌+◌, ◌*◌, ◌<◌, ◌^◌, ◌++◌, ℕ, Bool, List, [], ◌∷◌, length, IsTrue, IsFalse, Result, IfOk, IfErr}
+use Rattle.std.specs.Prelude.{◌≡◌, ◌⊎◌, true, false, ◌+◌, ◌*◌, ◌<◌, ◌^◌, ◌++◌, ℕ, Bool, List, [], ◌∷◌, length, IsTrue, IsFalse, Result, IfOk, IfErr}
 use Rattle.std.specs.Borrow.{Bor}
 use Rattle.qrcode_types.specs.Bits.{number_bits}
 use Rattle.qrcode_types.specs.Versions.{is_micro}
@@ -64,9 +64,9 @@ AreParts v bits bytes (p ∷ parts) =
 abbrev pub HaveNoParts : Version → List Bool → Type 0  -- no bytes and parts are those of the bits
 HaveNoParts v bits = (bytes : List ℕ) (parts : List Part) → ¬ AreParts v bits bytes parts
 
-abbrev pub IsSegment : Part → Type 0  -- a segment
-IsSegment (Front h) = ⊥
-IsSegment (Bytes m n) = Unit {0}
+abbrev pub is_segment : Part → Bool  -- a segment
+is_segment (Front h) = false
+is_segment (Bytes m n) = true
 
 -- The bytes of a part are appended, and the part and the rest are answered; or there is none, or memory is refused.
 pub record AppendsPart (v : Version) (bits : List Bool) (old new : List ℕ) (result : Result (Part × Bor (List Bool)) Unspelled) : Type 0 where

@@ -1,10 +1,10 @@
 //! The parts of a symbol's data: headers, and segments.
 
 ghost use Rattle.std.specs.Prelude.{◌≡◌, ◌⊎◌, ℕ, List, IsTrue, IfOk, IfErr, IsOkUnless};
-ghost use Rattle.std.specs.List.{AllByRecursion};
+ghost use Rattle.std.specs.List.{list_all};
 ghost use Rattle.qrcode_types.specs.Versions.{is_valid};
 ghost use Rattle.qrcode_bits.specs.Spelling.{Spells};
-ghost use Rattle.qrcode_reader.specs.spell.Parts.{AreParts, HaveNoParts, IsSegment, AppendsPart};
+ghost use Rattle.qrcode_reader.specs.spell.Parts.{is_segment, AreParts, HaveNoParts, AppendsPart};
 ghost use Rattle.qrcode_reader.specs.declared.spell.parts.Part.{Part};
 ghost use Rattle.qrcode_reader.specs.declared.spell.refusals.Unspelled.TheVariants.{NotSpelled, OutOfMemory};
 
@@ -66,9 +66,11 @@ pub fn pieces(alloc: Global, bits: &[bool], version: Version) -> Result<Parts, U
     ensures causes { IfErr result (λ e. (e ≡ OutOfMemory)
         ⊎ ((e ≡ NotSpelled) × HaveNoParts version bits.now)) }
 
-    // Bits that spell bytes have segments of these bytes and no header.
+    // Bits spell bytes exactly where they are segments of these bytes and no headers.
     ensures segments { (bytes : List ℕ) → Spells version bits.now bytes → IfOk result (λ found.
-        (found.bytes.items ≡ bytes) × AllByRecursion IsSegment found.parts.items) }
+        (found.bytes.items ≡ bytes) × IsTrue (list_all is_segment found.parts.items)) }
+    ensures spelled { IfOk result (λ found. IsTrue (list_all is_segment found.parts.items)
+        → Spells version bits.now found.bytes.items) }
 {
     let mut bytes = Vec::new(alloc);
     let mut parts = Vec::new(alloc);

@@ -1,14 +1,14 @@
 //! The text that a reader shows of bits.
 
-ghost use Rattle.std.specs.Prelude.{◌≡◌, ◌⊎◌, ℕ, List, chars, string_bytes, IsTrue, IfOk, IfErr, IsOkUnless};
+ghost use Rattle.std.specs.Prelude.{◌≡◌, ◌⊎◌, ◌↔◌, ℕ, List, chars, string_bytes, IsTrue, IfOk, IfErr, IsOkUnless};
 ghost use Rattle.qrcode_types.specs.Versions.{is_valid};
 ghost use Rattle.qrcode_bits.specs.Shown.{Shows, ShowsOnly};
-ghost use Rattle.qrcode_reader.specs.spell.Texts.{IsBehindFront, AppendsText};
+ghost use Rattle.qrcode_reader.specs.spell.Texts.{part_length, AreShown, IsBehindFront, IsPartShown};
 ghost use Rattle.qrcode_reader.specs.declared.spell.refusals.Unshown.TheVariants.{NotShown, OutOfMemory};
 
 use crate::spell::headers::prefixed;
+use crate::spell::parts::{Part, pieces};
 use crate::spell::refusals::Unshown;
-use crate::spell::segments::{is_end, push_piece};
 use qrcode_types::types::{Mode, Version};
 use std::alloc::Global;
 use std::str;
@@ -30,26 +30,37 @@ fn behind_mark(bits: &[bool], version: Version) -> &[bool]
     rest
 }
 
-// Appends what is shown of the piece that stands in front of the bits, and answers the rest.
-fn push_shown<'a>(
-    alloc: Global,
-    text: &mut String,
-    bits: &'a [bool],
-    version: Version,
-) -> Result<&'a [bool], Unshown>
-    requires { IsTrue (is_valid version) }
-    ensures { AppendsText version bits.now (string_bytes text.old) (string_bytes text.new) result }
+// Whether the part is a segment that is shown: it is UTF-8 and not Kanji.
+fn is_part_shown(part: &Part, bytes: &[u8]) -> bool
+    ensures { IsTrue result ↔ IsPartShown part.now bytes.now }
 {
-    let mut bytes = Vec::new(alloc);
-    let (mode, rest) = push_piece(&mut bytes, bits, version)?;
-    if let Mode::Kanji = mode {
-        return Err(Unshown::NotShown);
+    match *part {
+        Part::Front(_) | Part::Bytes(Mode::Kanji, _) => false,
+        Part::Bytes(_, count) => str::from_utf8(&bytes[..count.min(bytes.len())]).is_ok(),
     }
-    let Ok(shown) = str::from_utf8(&bytes) else {
-        return Err(Unshown::NotShown);
-    };
-    text.push_str(shown)?;
-    Ok(rest)
+}
+
+fn part_length(part: &Part) -> usize
+    ensures { result ≡ part_length part.now }
+{
+    match *part {
+        Part::Front(_) => 0,
+        Part::Bytes(_, count) => count,
+    }
+}
+
+// Whether all parts are segments that are shown.
+fn are_shown(parts: &[Part], bytes: &[u8]) -> bool
+    ensures { IsTrue result ↔ AreShown parts.now bytes.now }
+{
+    let mut rest = bytes;
+    for part in parts {
+        if !is_part_shown(part, rest) {
+            return false;
+        }
+        rest = &rest[part_length(part).min(rest.len())..];
+    }
+    true
 }
 
 /// The text that a reader shows of the data bits of a symbol, which takes the bytes of each segment by
@@ -65,10 +76,13 @@ pub fn text_of(alloc: Global, bits: &[bool], version: Version) -> Result<String,
     ensures causes { IfErr result (λ e. (e ≡ OutOfMemory)
         ⊎ ((e ≡ NotShown) × ((text : List ℕ) → ¬ Shows version bits.now text))) }
 {
-    let mut text = String::new(alloc);
-    let mut rest = behind_mark(bits, version);
-    while !is_end(rest, version) {
-        rest = push_shown(alloc, &mut text, rest, version)?;
+    let found = pieces(alloc, behind_mark(bits, version), version)?;
+    if !are_shown(&found.parts, &found.bytes) {
+        return Err(Unshown::NotShown);
     }
+    // It cannot fail here, since each segment is UTF-8.
+    let Ok(text) = String::from_utf8(found.bytes) else {
+        return Err(Unshown::NotShown);
+    };
     Ok(text)
 }

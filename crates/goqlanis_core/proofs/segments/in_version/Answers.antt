@@ -50,6 +50,7 @@ returns-clause-symbol c =
     let ends = c.in_ok-push_terminator.ensures in
     let is : c.push_terminator.new.self ≡ record { version = v; bits = terminated v l (written_segments v segments) } =
     ends.ends.changed ∙ ap₂ (λ u b. record { version = u; bits = terminated u l b }) same bits in
-    symbol_of_segments l segments v c.push_terminator.new.self c.with_bits.result is c.with_bits.ensures.version c.with_bits.ensures.level c.with_bits.ensures.symbol
+    let taken = ap (λ w. segments_refusal w 0 segments) (sym first) ∙ pushed.taken in
+    symbol_of_segments l segments v c.push_terminator.new.self c.with_bits.result c.requires taken is c.with_bits.ensures.version c.with_bits.ensures.level c.with_bits.ensures.symbol
     (λ pieces readable written_as. ends.spelled pieces (subst (λ u. AllByRecursion (IsReadBack u) pieces) (sym same) readable)
     (bits ∙ written_as ∙ ap (λ u. written u pieces) (sym same)))

@@ -2,7 +2,7 @@ use Rattle.std.proofs.Common.{◌≡◌, ◌++◌, [], ℕ, List, false, sym, su
 use Rattle.std.proofs.lemmas.Result.{err_from_is_err_and}
 use Rattle.qrcode_bits.specs.Spelling.{is_end}
 use Rattle.qrcode_reader.specs.declared.spell.parts.Part.{Part}
-use Rattle.qrcode_reader.proofs.Parted.{PartsFront, nothing_read, refuses_part, parts_on, parts_end, parts_only, part_shortens, spelled_only}
+use Rattle.qrcode_reader.proofs.Parted.{PartsFront, nothing_read, refuses_part, parts_on, parts_end, parts_only, part_shortens, segments_spelled, spelled_only}
 use Rattle.qrcode_reader.proofs.spell.parts.pieces.Goals as goal
 use Rattle.qrcode_reader.proofs.spell.parts.pieces.Goals.{After-push_part, After-is_end}
 
@@ -57,3 +57,8 @@ pub returns-clause-segments : goal.returns-clause-segments
 returns-clause-segments c =
     spelled_only c.args.version c.args.bits.now c.loop-rest.bytes.items c.loop-rest.parts.items
     (parts_only c.args.version c.args.bits.now c.loop-rest.bytes.items c.loop-rest.parts.items c.loop-rest.rest.now (sym c.is_end.ensures ∙ c.loop-rest-test.false) c.loop-rest.invariant)
+
+pub returns-clause-spelled : goal.returns-clause-spelled
+returns-clause-spelled c = λ all.
+    segments_spelled c.args.version c.args.bits.now c.loop-rest.bytes.items c.loop-rest.parts.items all
+    (parts_end c.args.version c.args.bits.now c.loop-rest.bytes.items c.loop-rest.parts.items c.loop-rest.rest.now (sym c.is_end.ensures ∙ c.loop-rest-test.false) c.loop-rest.invariant)
