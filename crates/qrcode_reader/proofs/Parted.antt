@@ -1,9 +1,9 @@
 -- The parts of bits begin with their first part.
-use Rattle.std.proofs.Common.{◌≡◌, ◌^◌, ◌<◌, ℕ, ◌++◌, List, [], ◌∷◌, Bool, true, false, length, refl, sym, ap, ap₂, subst, ◌∙◌, arith, append_assoc, append-nil, length-append, true≢false}
+use Rattle.std.proofs.Common.{◌≡◌, ◌+◌, ◌^◌, ◌<◌, ℕ, zero, suc, pos, negsuc, ◌++◌, List, [], ◌∷◌, Bool, true, false, length, refl, sym, ap, ap₂, subst, ◌∙◌, arith, append_assoc, append-nil, length-append, true≢false}
 use Rattle.std.specs.Prelude.{flat_map, map, IsTrue}
 use Rattle.std.specs.List.{list_all}
 use Rattle.qrcode_types.specs.Bits.{number_bits}
-use Rattle.qrcode_types.specs.Modes.{has_mode, length_bits_count, mode_number}
+use Rattle.qrcode_types.specs.Modes.{has_mode, length_bits_count, mode_bits_count, mode_number}
 use Rattle.qrcode_types.specs.declared.types.Version.{Version}
 use Rattle.qrcode_types.specs.declared.types.Version.TheVariants.{Normal, Micro}
 use Rattle.qrcode_types.specs.declared.types.Mode.{Mode}
@@ -21,10 +21,15 @@ use Rattle.qrcode_reader.specs.declared.spell.parts.Part.TheVariants.{Front, Byt
 use Rattle.qrcode_reader.specs.spell.Parts.{BeginsWithHeader, BeginsWithPart, AreParts, HaveNoParts, header_indicator, is_segment}
 use Rattle.qrcode_reader.proofs.Headings.{one_header, small}
 
--- a length field has bits
-some_field : (v : Version) (m : Mode) → IsTrue (has_mode v m) → 0 < length_bits_count m v
+-- an indicator and a length field have bits
+some_field : (v : Version) (m : Mode) → IsTrue (has_mode v m) → 0 < mode_bits_count v + length_bits_count m v
 some_field (Normal v) m h = omega arith
-some_field (Micro v) m h = omega arith
+some_field (Micro v) Numeric h = omega arith
+some_field (Micro v) Alphanumeric h = omega arith
+some_field (Micro v) Byte h = omega arith
+some_field (Micro (pos zero)) Kanji h = absurd (true≢false (sym h))
+some_field (Micro (pos (suc n))) Kanji h = omega arith
+some_field (Micro (negsuc n)) Kanji h = omega arith
 
 -- a piece has bits
 piece_shortens : (v : Version) (bits : List Bool) (p : Piece) (rest : List Bool) → BeginsWithPiece v bits p rest → length rest < length bits

@@ -1,5 +1,6 @@
 -- Squares whose parts are segments alone are read as bytes.
-use Rattle.std.proofs.Common.{◌≡◌, ℕ, ◌<◌, Bool, true, false, List, map, refl, subst, IsTrue}
+use Rattle.std.proofs.Common.{◌≡◌, ℕ, ◌<◌, Bool, true, false, List, map, refl, sym, ap, ◌∙◌, true≢false, subst, IsTrue}
+use Rattle.std.specs.Prelude.{◌||◌}
 use Rattle.std.specs.List.{list_all}
 use Rattle.qrcode_types.specs.declared.types.Version.{Version}
 use Rattle.qrcode_types.specs.declared.types.EcLevel.{EcLevel}
@@ -38,6 +39,13 @@ module _ (s : List Color) (v : Version) (l : EcLevel) (k : MaskPattern) (bytes :
         read = p.read;
         spelled = spelled;
       }
+
+-- parts that are not taken are the only ones
+pub not_taken : (takes_headers : Bool) (s : List Color) (v : Version) (l : EcLevel) (k : MaskPattern) (bytes : List ℕ) (parts : List Part) (wrong : List WrongCodeword)
+    → (takes_headers || list_all is_segment parts) ≡ false → IsPartsReading s v l k bytes parts wrong
+    → (others : List ℕ) (more : List Part) → IsTrue (takes_headers || list_all is_segment more) → ¬ ReadsParts s others more
+not_taken takes_headers s v l k bytes parts wrong no p others more taken reads =
+    true≢false (sym taken ∙ ap (λ ps. takes_headers || list_all is_segment ps) (p.only others more reads).1 ∙ no)
 
 -- where no segments are read, no bytes are
 pub unread_in : (w : ℕ) (s : List Color) (n : ℕ) → ((bytes : List ℕ) (parts : List Part) → IsTrue (list_all is_segment parts) → ¬ ReadsParts (seen w (tried n).0 (tried n).1 s) bytes parts)

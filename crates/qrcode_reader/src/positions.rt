@@ -1,16 +1,18 @@
 //! Squares that stand in another position, or with the colours exchanged.
 
-ghost use Rattle.std.specs.Prelude.{◌≡◌, ◌*◌, ◌<◌, ◌≤◌, ◌⊎◌, ℕ, Bool, List, length, IsTrue, IfOk, IfErr, IfSome, IfNone};
+ghost use Rattle.std.specs.Prelude.{◌≡◌, ◌*◌, ◌<◌, ◌≤◌, ◌⊎◌, ◌||◌, ℕ, Bool, List, length, IsTrue, IfOk, IfErr, IfSome, IfNone};
+ghost use Rattle.std.specs.List.{list_all};
 ghost use Rattle.qrcode.specs.Reading.{Reads};
 ghost use Rattle.qrcode_reader.specs.Positions.{standing, seen, seen_color, tried, IsFirstReading, IsFirstPartsReading, IsFirstTaken, IsPartlessIn};
 ghost use Rattle.qrcode_reader.specs.Readings.{ReadsParts, IsPartsCause};
+ghost use Rattle.qrcode_reader.specs.spell.Parts.{is_segment};
 ghost use Rattle.qrcode_reader.specs.declared.spell.parts.Part.{Part};
 ghost use Rattle.qrcode_reader.specs.declared.positions.Position.{Position};
 ghost use Rattle.qrcode_reader.specs.declared.refusals.Unread.TheVariants.{OutOfMemory};
 
 use crate::parts::{PartsReading, read_parts};
 use crate::reading::Reading;
-use crate::spell::are_segments;
+use crate::spell::{Part, are_segments};
 use crate::refusals::Unread;
 use crate::sizes::version_of;
 use crate::walk::side;
@@ -192,6 +194,13 @@ pub fn read_any_parts(alloc: Global, modules: &[Color]) -> Result<AnyPartsReadin
     }
 }
 
+// Whether parts are segments alone, unless headers are taken.
+fn is_taken(takes_headers: bool, parts: &[Part]) -> bool
+    ensures { result ≡ (takes_headers || list_all is_segment parts.now) }
+{
+    takes_headers || are_segments(parts)
+}
+
 // Reads the headers and segments of a square in the first of the positions in which there are some, and
 // no headers unless they are taken; or `None` where there is no such position. It fails only where memory
 // is refused.
@@ -218,7 +227,7 @@ fn in_positions(
         let colors = seen(alloc, side(version), position, is_inverted, modules)?;
         match read_parts(alloc, &colors) {
             Ok(reading) => {
-                if takes_headers || are_segments(&reading.parts.parts) {
+                if is_taken(takes_headers, &reading.parts.parts) {
                     return Ok(Some(AnyPartsReading {
                         position,
                         is_inverted,

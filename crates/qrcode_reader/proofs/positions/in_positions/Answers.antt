@@ -23,3 +23,19 @@ returns-clause-none c =
     λ w square n less.
     let same = same_root (side c.in-Some.version) w (sym c.in-Some.ensures.some.1 ∙ sym square) in
     subst (λ m. IsPartlessIn c.args.takes_headers m s n) same (c.loop-number.invariant n (omega (arith, less)))
+
+pub returns-in-Ok-clause-value : goal.returns-in-Ok-clause-value
+returns-in-Ok-clause-value c =
+    let k = (goal.at.returns-in-Ok-clause-value c).After-read_parts in
+    let s = c.args.modules.now in
+    let t = c.tried-position.result in
+    let r = c.in-Ok.reading in
+    λ w square.
+    let same = same_root (side c.in-Some.version) w (sym c.in-Some.ensures.some.1 ∙ sym square) in
+    subst (λ n. IsFirstTaken c.args.takes_headers n s t.0 t.1 r.version r.ec_level r.mask r.parts.bytes.items r.parts.parts.items r.wrong.items) same (record {
+      read = subst (λ m. IsPartsReading m r.version r.ec_level r.mask r.parts.bytes.items r.parts.parts.items r.wrong.items) (tried_here k) c.in-Ok.ensures.value;
+      taken = sym c.is_taken.ensures ∙ sym c.if-is_taken.true;
+      number = c.loop-number.number;
+      position = sym c.tried-position.ensures;
+      first = c.loop-number.invariant;
+    })

@@ -13,3 +13,9 @@ returns-in-Ok-clause-value c =
       position = refl;
       first = λ n less. absurd (omega (arith, less));
     }
+
+pub returns-in-Some-clause-value : goal.returns-in-Some-clause-value
+returns-in-Some-clause-value c =
+    let any = c.in-Some.any in
+    let r = any.reading in
+    λ w square. first_parts w c.args.modules.now any.position any.is_inverted r.version r.ec_level r.mask r.parts.bytes.items r.parts.parts.items r.wrong.items (c.in-Some.ensures.value w square)
