@@ -14,7 +14,7 @@ abbrev pub symbol : ℕ → Option (ℕ × ℕ) → Image
 symbol scale density = record {
   across = 11 * scale;
   down = 11 * scale;
-  pixels = flat_map (λ row. flat_map (λ _. flat_map (λ c. replicate scale (grey_shade None (if c == 35 then 0 else 1))) row)
+  pixels = flat_map (λ row. flat_map (λ _. flat_map (λ c. replicate scale (grey_shade (if c == 35 then 0 else 1))) row)
       (range_with_len 0 scale)) drawn;
   density = density;
 }
