@@ -1,13 +1,12 @@
 -- Texts that are taken apart into half blocks, and their rows.
-use Rattle.std.proofs.Common.{◌≡◌, ◌⊎◌, inl, inr, ◌+◌, ◌*◌, ◌/◌, ◌<◌, ◌≤◌, ◌==◌, ◌&&◌, not, ℕ, length, take, drop, refl, length-append, Option, Some, None, Bool, true, false, List, [], ◌∷◌, ◌++◌, get_or, arith, sym, ap, ap₂, subst, ◌∙◌, append_assoc}
+use Rattle.std.proofs.Common.{◌≡◌, ◌⊎◌, inl, inr, ◌+◌, ◌*◌, ◌/◌, ◌<◌, ◌≤◌, ◌==◌, ◌&&◌, ℕ, length, take, drop, refl, length-append, Option, Some, None, Bool, true, false, List, [], ◌∷◌, ◌++◌, get_or, arith, sym, ap, ap₂, subst, ◌∙◌, append_assoc}
 use Rattle.std.proofs.lemmas.List.FromFn.{map-range_with_len_more, length-map-range_with_len}
 use Rattle.std.proofs.lemmas.Bool.{and_parts, eqb-true}
 use Rattle.std.proofs.lemmas.List.{length-take-le}
 use Rattle.std.proofs.lemmas.Nat.{div-mul-add}
-use Rattle.std.specs.List.{list_all}
 use Rattle.std.specs.Prelude.{if◌then◌else◌}
 use Rattle.std.proofs.lemmas.Option.{none-some}
-use Rattle.qrcode_reader.specs.scan.Halves.{behind_colour, IsHalf, AreHalves, padded, rows_from, without_last}
+use Rattle.qrcode_reader.specs.scan.Halves.{are_same, behind_colour, IsHalf, AreHalves, padded, rows_from, without_last}
 use Rattle.qrcode_reader.specs.declared.scan.halves.Half.{Half}
 use Rattle.qrcode_reader.specs.declared.scan.halves.Half.TheVariants.{Pair, End, Return, Colours}
 
@@ -23,6 +22,10 @@ pair_in (b ∷ c ∷ rest) =
     if c == 128 then Some (Pair true false, rest) else if c == 132 then Some (Pair false true, rest) else if c == 136 then Some (Pair true true, rest) else None
     else None
 
+abbrev space_in : List ℕ → Option (Half × List ℕ)  -- two light pixels behind the first byte of U+00A0
+space_in [] = None
+space_in (b ∷ rest) = if b == 160 then Some (Pair false false, rest) else None
+
 abbrev colours_in : List ℕ → Option (Half × List ℕ)  -- a control sequence behind its first byte
 colours_in [] = None
 colours_in (b ∷ rest) = if b == 91 then colours_of (behind_colour rest) else None
@@ -33,13 +36,14 @@ half_in (a ∷ rest) =
     if a == 32 then Some (Pair false false, rest)
     else if a == 10 then Some (End, rest)
     else if a == 13 then Some (Return, rest)
+    else if a == 194 then space_in rest
     else if a == 226 then pair_in rest
     else if a == 27 then colours_in rest
     else None
 
 -- what a text begins with is found
 half_of : (h : Half) (text rest : List ℕ) → IsHalf h text rest → half_in text ≡ Some (h, rest)
-half_of (Pair false false) text rest is = ap half_in is
+half_of (Pair false false) text rest is = elim is [ inl space ↦ ap half_in space | inr wide ↦ ap half_in wide ]
 half_of (Pair true false) text rest is = ap half_in is
 half_of (Pair false true) text rest is = ap half_in is
 half_of (Pair true true) text rest is = ap half_in is
@@ -113,8 +117,8 @@ without_cases : (across : ℕ) (marks : List Bool) → (length marks ≡ length 
     ⊎ ((length marks ≡ across * (across + 1)) × (length (without_last across marks) ≡ across * across))
 without_cases across marks =
     let odd = length marks == across * (across + 1) in
-    let light = list_all not (drop (across * across) marks) in
-    left_out (odd && light) across marks (λ is. eqb-true (length marks) (across * (across + 1)) (and_parts odd light is).0)
+    let same = are_same (drop (across * across) marks) in
+    left_out (odd && same) across marks (λ is. eqb-true (length marks) (across * (across + 1)) (and_parts odd same is).0)
 
 divided : (across n count : ℕ) → 0 < across → count ≡ across * n → count ≡ across * (count / across)
 divided across n count some is =

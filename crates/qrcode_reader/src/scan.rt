@@ -1,12 +1,19 @@
-//! Clean pictures of symbols, read as their modules: PBM and PGM files, and half blocks.
+//! Pictures of symbols, read as their modules: PBM and PGM files, and half blocks.
 
 mod files;
+mod finders;
+mod grids;
 mod halves;
 mod heads;
 pub mod laws;
 mod pixels;
+mod samples;
+mod shades;
 mod squares;
 
 pub use files::pixels_of;
+pub use grids::{Grid, grids_of};
 pub use pixels::{Pixels, Unscanned};
+pub use samples::sampled_at;
+pub use shades::pixels_of_colours;
 pub use squares::{Square, square_of};

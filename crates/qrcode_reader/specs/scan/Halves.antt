@@ -7,13 +7,6 @@ use Rattle.qrcode_reader.specs.declared.scan.halves.Half.TheVariants.{Pair, End,
 use Rattle.qrcode_reader.specs.declared.scan.pixels.Unscanned.{Unscanned}
 use Rattle.qrcode_reader.specs.declared.scan.pixels.Unscanned.TheVariants.{NotPicture, NoSide, NoGrey, NotPixel, TooShort, OutOfMemory}
 
--- the characters of two pixels, one above the other, dark or not: a space, and U+2580, U+2584 and U+2588 in UTF-8
-abbrev pub block : Bool → Bool → List ℕ
-block false false = 32 ∷ []
-block true false = 226 ∷ 150 ∷ 128 ∷ []
-block false true = 226 ∷ 150 ∷ 132 ∷ []
-block true true = 226 ∷ 150 ∷ 136 ∷ []
-
 abbrev pub is_colour_byte : ℕ → Bool  -- a digit or a semicolon
 is_colour_byte c = (nat_le 48 c && nat_le c 57) || c == 59
 
@@ -22,9 +15,13 @@ unfoldable pub behind_colour : List ℕ → Option (List ℕ)
 behind_colour [] = None
 behind_colour (c ∷ rest) = if c == 109 then Some rest else if is_colour_byte c then behind_colour rest else None
 
--- a text begins with two pixels, with the end of a line, or with what shows nothing: a carriage return, or the control sequence of colours
+-- A text begins with two pixels, one above the other, dark or not: a space or a no-break space, U+2580, U+2584 or U+2588 in UTF-8; or with the end of a
+-- line, or with what shows nothing: a carriage return, or the control sequence of colours.
 abbrev pub IsHalf : Half → List ℕ → List ℕ → Type 0
-IsHalf (Pair a b) text rest = text ≡ block a b ++ rest
+IsHalf (Pair false false) text rest = (text ≡ 32 ∷ rest) ⊎ (text ≡ 194 ∷ 160 ∷ rest)
+IsHalf (Pair true false) text rest = text ≡ 226 ∷ 150 ∷ 128 ∷ rest
+IsHalf (Pair false true) text rest = text ≡ 226 ∷ 150 ∷ 132 ∷ rest
+IsHalf (Pair true true) text rest = text ≡ 226 ∷ 150 ∷ 136 ∷ rest
 IsHalf End text rest = text ≡ 10 ∷ rest
 IsHalf Return text rest = text ≡ 13 ∷ rest
 IsHalf Colours text rest = (more : List ℕ) × ((text ≡ 27 ∷ 91 ∷ more) × (behind_colour more ≡ Some rest))
@@ -52,10 +49,13 @@ rows_from across upper lower (End ∷ hs) = padded across upper ++ (padded acros
 rows_from across upper lower (Return ∷ hs) = rows_from across upper lower hs
 rows_from across upper lower (Colours ∷ hs) = rows_from across upper lower hs
 
--- rows without the last one, where it is light and there is one more than columns
+abbrev pub are_same : List Bool → Bool  -- whether pixels are all light, or all dark
+are_same marks = list_all not marks || list_all (λ mark. mark) marks
+
+-- rows without the last one, where there is one more than columns and its pixels are all light or all dark
 abbrev pub without_last : ℕ → List Bool → List Bool
 without_last across marks =
-    if length marks == across * (across + 1) && list_all not (drop (across * across) marks) then take (across * across) marks else marks
+    if length marks == across * (across + 1) && are_same (drop (across * across) marks) then take (across * across) marks else marks
 
 -- the pixels of a text of half blocks
 pub record IsHalfBlocks (text : List ℕ) (b : Bitmap) : Type 0 where

@@ -2,7 +2,7 @@
 
 ghost use Rattle.std.specs.Prelude.{◌≡◌, ◌⊎◌, ℕ, ◌*◌, ◌<◌, List, ◌≤◌, ◌++◌, [], Some, false, not, length, slice_index_or, IfOk, IfErr, OnOk, None};
 ghost use Rattle.std.specs.List.{list_all};
-ghost use Rattle.qrcode_reader.specs.scan.Halves.{IsHalf, AreHalves, IsHalfBlocks, IsHalvesRefusal, behind_colour, longest, rows_from, padded, without_last};
+ghost use Rattle.qrcode_reader.specs.scan.Halves.{IsHalf, AreHalves, IsHalfBlocks, IsHalvesRefusal, are_same, behind_colour, longest, rows_from, padded, without_last};
 ghost use Rattle.qrcode_reader.specs.declared.scan.pixels.Unscanned.TheVariants.{NotPicture, NoSide, OutOfMemory};
 ghost use Rattle.qrcode_reader.specs.declared.scan.halves.Half.{Half};
 
@@ -28,7 +28,7 @@ pub(crate) enum Half {
 
 /// The pixels of a text of half blocks: a line for two rows of pixels. Control sequences of a
 /// terminal that set colours show nothing, and lines that end early go on with light pixels. Where
-/// there is a row more than columns, and it is light, it is left out.
+/// there is a row more than columns, and it is light or dark throughout, it is left out.
 ///
 /// `NoSide`: there is no pixel, or there are more than 4,096 along a side. `NotPicture`: it is no
 /// such text. `OutOfMemory` is the only other error.
@@ -76,6 +76,7 @@ fn next_half(text: &[u8]) -> Result<(Half, &[u8]), Unscanned>
 {
     match text {
         [b' ', more @ ..] => Ok((Half::Pair(false, false), more)),
+        [0xc2, 0xa0, more @ ..] => Ok((Half::Pair(false, false), more)),
         [0xe2, 0x96, 0x80, more @ ..] => Ok((Half::Pair(true, false), more)),
         [0xe2, 0x96, 0x84, more @ ..] => Ok((Half::Pair(false, true), more)),
         [0xe2, 0x96, 0x88, more @ ..] => Ok((Half::Pair(true, true), more)),
@@ -179,21 +180,36 @@ fn mark_of(row: &[bool], x: usize) -> bool
     }
 }
 
-// Rows without the last one, where it is light and there is one more than columns.
+// Rows without the last one, where there is one more than columns and its pixels are all light or all
+// dark.
 fn square_rows(marks: Vec<bool>, across: usize) -> Vec<bool>
     requires { across ≤ 4096 }
     ensures { result.items ≡ without_last across marks.items }
 {
     let mut marks = marks;
-    if marks.len() == across * (across + 1) && is_light(&marks[across * across..]) {
+    if marks.len() == across * (across + 1) && are_same(&marks[across * across..]) {
         marks.truncate(across * across);
     }
     marks
 }
 
+// Whether pixels are all light, or all dark.
+fn are_same(marks: &[bool]) -> bool
+    ensures { result ≡ are_same marks.now }
+{
+    are_light(marks) || are_dark(marks)
+}
+
 // Whether no pixel is dark.
-fn is_light(marks: &[bool]) -> bool
+fn are_light(marks: &[bool]) -> bool
     ensures { result ≡ list_all not marks.now }
 {
     marks.iter().all(|mark| !*mark)
+}
+
+// Whether all pixels are dark.
+fn are_dark(marks: &[bool]) -> bool
+    ensures { result ≡ list_all (λ mark. mark) marks.now }
+{
+    marks.iter().all(|mark| *mark)
 }

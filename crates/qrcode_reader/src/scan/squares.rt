@@ -127,7 +127,7 @@ fn tried(
 }
 
 // Whether the pixel in a column and row is dark; there is none outside.
-fn mark_at(pixels: &Pixels, x: usize, y: usize) -> bool
+pub(crate) fn mark_at(pixels: &Pixels, x: usize, y: usize) -> bool
     requires column { x < 1000000000 }
     requires row { y < 1000000000 }
     ensures { result ≡ mark_at pixels.now x y }
@@ -163,7 +163,7 @@ fn sampled(
 }
 
 // Dark where the test holds.
-fn color_of(is_dark: bool) -> Color
+pub(crate) fn color_of(is_dark: bool) -> Color
     ensures { result ≡ color_of is_dark }
 {
     if is_dark { Color::Dark } else { Color::Light }

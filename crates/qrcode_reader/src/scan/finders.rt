@@ -1,0 +1,236 @@
+//! Finder patterns in pixels: dark, light, dark, light and dark of 1, 1, 3, 1 and 1 modules, across
+//! and down.
+
+ghost use Rattle.std.specs.Prelude.{◌≡◌, ◌^◌, ◌<◌, ◌≤◌, length, IfOk, IfSome, OnOk};
+
+use crate::scan::pixels::Pixels;
+use std::alloc::{AllocError, Global};
+
+// The most finder patterns that are kept of a picture. It bounds memory and time.
+const MOST_FINDERS: usize = 256;
+
+// A finder pattern: twice its centre, and the pixels of its seven modules across and down.
+#[derive(Clone, Copy)]
+pub(crate) struct Finder {
+    pub(crate) x: usize,
+    pub(crate) y: usize,
+    pub(crate) width: usize,
+    pub(crate) height: usize,
+    ghost centre: { (x ≤ 131070) × (y ≤ 131070) },
+    ghost sides: { (width ≤ 65535) × (height ≤ 65535) },
+}
+
+// A row or a column of pixels: where it starts among the marks, how far its pixels stand apart, and
+// how many they are.
+#[derive(Clone, Copy)]
+struct Line {
+    first: usize,
+    step: usize,
+    length: usize,
+    ghost fits: { (first < 2 ^ 33) × (step ≤ 65535) × (length ≤ 65535) },
+}
+
+// A line of pixels.
+fn line_of(first: usize, step: usize, length: usize) -> Line
+    requires { (first < 2 ^ 33) × (step ≤ 65535) × (length ≤ 65535) }
+    ensures { (result.length ≡ length) × (result.first ≡ first) }
+{
+    Line {
+        first,
+        step,
+        length,
+    }
+}
+
+// A row of pixels.
+fn row_of(pixels: &Pixels, y: usize) -> Line
+    requires { y ≤ 65535 }
+    ensures { (result.length ≡ pixels.now.across) × (result.first < 2 ^ 32) }
+{
+    let across = pixels.sides().0;
+    line_of(y * across, 1, across)
+}
+
+// A column of pixels.
+fn column_of(pixels: &Pixels, x: usize) -> Line
+    requires { x ≤ 65535 }
+    ensures { (result.length ≡ pixels.now.down) × (result.first < 2 ^ 32) }
+{
+    let (across, down) = pixels.sides();
+    line_of(x, across, down)
+}
+
+/// The finder patterns of pixels in the order of their rows, at most 256.
+///
+/// It fails only where memory runs out.
+pub(crate) fn finders(alloc: Global, pixels: &Pixels) -> Result<Vec<Finder>, AllocError>
+    ensures { IfOk result (λ found. length found.items ≤ 256) }
+{
+    let mut found = Vec::new(alloc);
+    for y in 0..pixels.sides().1 {
+        if !is_repeated(pixels, y) {
+            push_finders(&mut found, pixels, y)?;
+        }
+    }
+    Ok(found)
+}
+
+// Whether a row of pixels is as the one above it.
+fn is_repeated(pixels: &Pixels, y: usize) -> bool
+    requires { y < pixels.now.down }
+{
+    if y == 0 {
+        return false;
+    }
+    let across = pixels.sides().0;
+    let (start, marks) = (y * across, pixels.marks());
+    let row = &marks[start..start + across];
+    row == &marks[start - across..start]
+}
+
+// Appends the finder patterns through a row, but for those that are there.
+fn push_finders(found: &mut Vec<Finder>, pixels: &Pixels, y: usize) -> Result<(), AllocError>
+    requires row { (y < pixels.now.down) × (y ≤ 65535) }
+    requires at_most { length found.old.items ≤ 256 }
+    ensures { OnOk result (length found.new.items ≤ 256) }
+{
+    let row = row_of(pixels, y);
+    for x in 0..row.length {
+        if is_dark(pixels, row, x) && !is_dark(pixels, row, x + 1) {
+            match finder_before(pixels, row, x + 1) {
+                Some(start) => {
+                    let finder = finder_at(pixels, (start + x + 1) / 2, y, x + 1 - start);
+                    push_new(found, finder)?;
+                }
+                None => {}
+            }
+        }
+    }
+    Ok(())
+}
+
+// Appends a finder pattern, unless it is there or there are too many.
+fn push_new(found: &mut Vec<Finder>, finder: Option<Finder>) -> Result<(), AllocError>
+    requires { length found.old.items ≤ 256 }
+    ensures { OnOk result (length found.new.items ≤ 256) }
+{
+    let Some(finder) = finder else {
+        return Ok(());
+    };
+    if found.len() < MOST_FINDERS && !is_known(found, finder) {
+        found.push(finder)?;
+    }
+    Ok(())
+}
+
+// Whether the centre of a finder pattern stands within one that is there.
+fn is_known(found: &[Finder], finder: Finder) -> bool {
+    for other in found {
+        if finder.x.abs_diff(other.x) <= other.width && finder.y.abs_diff(other.y) <= other.height {
+            return true;
+        }
+    }
+    false
+}
+
+// The finder pattern around a pixel, about so many pixels wide: neither side is more than twice as
+// long as the other.
+fn finder_at(pixels: &Pixels, x: usize, y: usize, width: usize) -> Option<Finder>
+    requires inside { (x ≤ pixels.now.across) × (y ≤ pixels.now.down) × (x ≤ 65535) }
+    requires width { width ≤ 65535 }
+{
+    let (top, bottom) = finder_through(pixels, column_of(pixels, x), y, 2 * width)?;
+    let row = row_of(pixels, (top + bottom) / 2);
+    let (left, right) = finder_through(pixels, row, x, 2 * width)?;
+    let (width, height) = (right - left, bottom - top);
+    if width > 2 * height || height > 2 * width {
+        return None;
+    }
+    Some(Finder {
+        x: left + right,
+        y: top + bottom,
+        width,
+        height,
+    })
+}
+
+// Where the finder pattern whose middle holds a place of a line starts and ends. Only so many pixels
+// before and behind it are looked at, so that time is linear.
+fn finder_through(pixels: &Pixels, line: Line, place: usize, reach: usize) -> Option<(usize, usize)>
+    requires inside { (place ≤ line.length) × (line.first < 2 ^ 32) }
+    requires reach { reach ≤ 131070 }
+    ensures { IfSome result (λ ends. (ends.0 ≤ ends.1) × (ends.1 ≤ line.length)) }
+{
+    let from = place - reach.min(place);
+    let length = (place + reach).min(line.length) - from;
+    let near = line_of(line.first + from * line.step, line.step, length);
+    let middle = run_end(pixels, near, place - from, true);
+    let ring = run_end(pixels, near, middle, false);
+    let end = run_end(pixels, near, ring, true);
+    let start = finder_before(pixels, near, end)?;
+    Some((from + start, from + end))
+}
+
+// Where the finder pattern starts that ends before a place of a line.
+fn finder_before(pixels: &Pixels, line: Line, end: usize) -> Option<usize>
+    requires { end ≤ line.length }
+    ensures { IfSome result (λ start. start ≤ end) }
+{
+    let last = run_start(pixels, line, end, true);
+    let ring = run_start(pixels, line, last, false);
+    let middle = run_start(pixels, line, ring, true);
+    let hole = run_start(pixels, line, middle, false);
+    let start = run_start(pixels, line, hole, true);
+    let total = end - start;
+    if is_near(end - last, 1, total)
+        && is_near(last - ring, 1, total)
+        && is_near(ring - middle, 3, total)
+        && is_near(middle - hole, 1, total)
+        && is_near(hole - start, 1, total)
+    {
+        Some(start)
+    } else {
+        None
+    }
+}
+
+// Whether a run is so many sevenths of a total, but for less than half of that.
+fn is_near(run: usize, sevenths: usize, total: usize) -> bool
+    requires { (run ≤ 65535) × (total ≤ 65535) × (sevenths ≤ 3) }
+{
+    2 * (7 * run).abs_diff(sevenths * total) < sevenths * total
+}
+
+// Where the pixels of one kind end that begin at a place of a line.
+fn run_end(pixels: &Pixels, line: Line, start: usize, dark: bool) -> usize
+    ensures { result ≤ line.length }
+{
+    for place in start..line.length {
+        if is_dark(pixels, line, place) != dark {
+            return place;
+        }
+    }
+    line.length
+}
+
+// Where the pixels of one kind start that end before a place of a line.
+fn run_start(pixels: &Pixels, line: Line, end: usize, dark: bool) -> usize
+    requires { end ≤ line.length }
+    ensures { result ≤ end }
+{
+    for back in 0..end {
+        if is_dark(pixels, line, end - back - 1) != dark {
+            return end - back;
+        }
+    }
+    0
+}
+
+// Whether the pixel at a place of a line is dark; there is none outside.
+fn is_dark(pixels: &Pixels, line: Line, place: usize) -> bool {
+    place < line.length
+        && match pixels.marks().get(line.first + place * line.step) {
+            Some(mark) => *mark,
+            None => false,
+        }
+}

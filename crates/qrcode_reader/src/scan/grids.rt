@@ -1,0 +1,210 @@
+//! Squares of modules between finder patterns, also in pictures that show more than them.
+
+ghost use Rattle.std.specs.Prelude.{◌≡◌, ◌^◌, ◌<◌, ◌≤◌, IfSome};
+
+use crate::scan::finders::{Finder, finders};
+use crate::scan::pixels::Pixels;
+use crate::scan::samples::mark_in;
+use std::alloc::{AllocError, Global};
+
+// The most grids of dark modules, and those of light ones.
+const MOST_GRIDS: usize = 512;
+
+/// Where the modules of a square stand in pixels: the centre of the first one, and how far the
+/// columns and the rows stand apart, in parts of a pixel.
+#[derive(Clone, Copy)]
+pub struct Grid {
+    /// The modules along a side.
+    pub count: usize,
+    /// The column of the first module's centre.
+    pub left: usize,
+    /// The row of the first module's centre.
+    pub top: usize,
+    /// From one column of modules to the next.
+    pub across: usize,
+    /// From one row of modules to the next.
+    pub down: usize,
+    /// The parts of a pixel in which these are counted.
+    pub parts: usize,
+    pub ghost fits: { (count ≤ 177) × (left < 2 ^ 28) × (top < 2 ^ 28) × (across < 2 ^ 18)
+        × (down < 2 ^ 18) },
+}
+
+// Three finder patterns: one in the corner, one beside it, and one above or below it.
+#[derive(Clone, Copy)]
+struct Corner {
+    corner: Finder,
+    beside: Finder,
+    below: Finder,
+}
+
+/// Where squares of modules may stand in a picture, by the finder patterns in three of their
+/// corners: first of dark modules on light, then of light ones on dark; at most 512 of each.
+///
+/// It fails only where memory runs out.
+pub fn grids_of(alloc: Global, pixels: &Pixels) -> Result<Vec<Grid>, AllocError> {
+    let mut grids = Vec::new(alloc);
+    push_grids(alloc, &mut grids, pixels)?;
+    push_grids(alloc, &mut grids, &pixels.inverted(alloc)?)?;
+    Ok(grids)
+}
+
+// Appends the grids of dark modules.
+fn push_grids(alloc: Global, grids: &mut Vec<Grid>, pixels: &Pixels) -> Result<(), AllocError> {
+    let corners = corners_of(alloc, &finders(alloc, pixels)?)?;
+    for corner in &corners {
+        match grid_of(pixels, corner) {
+            Some(grid) => grids.push(grid)?,
+            None => {}
+        }
+    }
+    Ok(())
+}
+
+// Three finder patterns each that may stand in the corners of a square.
+fn corners_of(alloc: Global, found: &[Finder]) -> Result<Vec<Corner>, AllocError> {
+    let mut corners = Vec::new(alloc);
+    for corner in found {
+        push_corners(&mut corners, found, *corner)?;
+    }
+    Ok(corners)
+}
+
+// Appends those around a finder pattern.
+fn push_corners(
+    corners: &mut Vec<Corner>,
+    found: &[Finder],
+    corner: Finder,
+) -> Result<(), AllocError> {
+    for beside in found {
+        if is_beside(corner, *beside) {
+            push_below(corners, found, corner, *beside)?;
+        }
+    }
+    Ok(())
+}
+
+// Appends those around a finder pattern and the one beside it.
+fn push_below(
+    corners: &mut Vec<Corner>,
+    found: &[Finder],
+    corner: Finder,
+    beside: Finder,
+) -> Result<(), AllocError> {
+    for below in found {
+        if corners.len() < MOST_GRIDS && is_below(corner, *below) {
+            corners.push(Corner {
+                corner,
+                beside,
+                below: *below,
+            })?;
+        }
+    }
+    Ok(())
+}
+
+// Whether a finder pattern of the same size stands to the left or right of another.
+fn is_beside(corner: Finder, other: Finder) -> bool {
+    is_same_size(corner, other)
+        && 7 * corner.y.abs_diff(other.y) <= 2 * corner.height + 14
+        && corner.x.abs_diff(other.x) > 3 * corner.width
+}
+
+// Whether a finder pattern of the same size stands above or below another.
+fn is_below(corner: Finder, other: Finder) -> bool {
+    is_same_size(corner, other)
+        && 7 * corner.x.abs_diff(other.x) <= 2 * corner.width + 14
+        && corner.y.abs_diff(other.y) > 3 * corner.height
+}
+
+// Whether finder patterns are as large, but for a third.
+fn is_same_size(finder: Finder, other: Finder) -> bool {
+    3 * finder.width.abs_diff(other.width) <= finder.width
+        && 3 * finder.height.abs_diff(other.height) <= finder.height
+}
+
+// The grid between three finder patterns whose timing patterns fit best: at most a quarter of their
+// modules is wrong.
+fn grid_of(pixels: &Pixels, corner: &Corner) -> Option<Grid> {
+    let (mut best, mut least) = (None, 251);
+    for version in 1..41 {
+        let count = 17 + 4 * version;
+        let Some(grid) = likely_grid(corner, count) else {
+            continue;
+        };
+        let wrong = 500 * wrong_timing(pixels, corner, &grid) / (count - 16);
+        if wrong < least {
+            least = wrong;
+            best = Some(grid);
+        }
+    }
+    best
+}
+
+// The grid of so many modules a side between three finder patterns, if their modules are as large,
+// but for a fifth.
+fn likely_grid(corner: &Corner, count: usize) -> Option<Grid>
+    requires { (21 ≤ count) × (count ≤ 177) }
+    ensures { IfSome result (λ grid. (grid.count ≡ count) × (1 ≤ grid.parts)) }
+{
+    let Corner {
+        corner,
+        beside,
+        below,
+    } = *corner;
+    let (across, down) = (corner.x.abs_diff(beside.x), corner.y.abs_diff(below.y));
+    if !is_size(across, corner.width, count) || !is_size(down, corner.height, count) {
+        return None;
+    }
+    Some(Grid {
+        count,
+        left: first_centre(corner.x.min(beside.x), across, count)?,
+        top: first_centre(corner.y.min(below.y), down, count)?,
+        across,
+        down,
+        parts: 2 * (count - 7),
+    })
+}
+
+// Whether so many modules a side, of which seven have so many pixels, set two finder patterns apart by
+// so many halves of a pixel, but for a fifth.
+fn is_size(apart: usize, seven: usize, count: usize) -> bool
+    requires modules { (21 ≤ count) × (count ≤ 177) }
+    requires pixels { (apart ≤ 131070) × (seven ≤ 65535) }
+{
+    let wanted = 2 * seven * (count - 7);
+    5 * (7 * apart).abs_diff(wanted) <= wanted
+}
+
+// The centre of the first of so many modules, where twice that of the fourth is given, and that of the
+// fourth from the end stands so many halves of a pixel behind it. `None`: it is not in the picture.
+fn first_centre(fourth: usize, apart: usize, count: usize) -> Option<usize>
+    requires modules { (21 ≤ count) × (count ≤ 177) }
+    requires places { (fourth ≤ 131070) × (apart ≤ 131070) }
+    ensures { IfSome result (λ first. first < 2 ^ 28) }
+{
+    (fourth * (count - 7)).checked_sub(3 * apart)
+}
+
+// How many modules of the two timing patterns are wrong.
+fn wrong_timing(pixels: &Pixels, corner: &Corner, grid: &Grid) -> usize
+    requires { (21 ≤ grid.now.count) × (1 ≤ grid.now.parts) }
+    ensures { result ≤ 354 }
+{
+    let row = timing_line(corner.corner.y < corner.below.y, grid.count);
+    let column = timing_line(corner.corner.x < corner.beside.x, grid.count);
+    let mut wrong = 0;
+    for i in 8..grid.count - 8 {
+        wrong += usize::from(mark_in(pixels, grid, i, row) != (i % 2 == 0));
+        wrong += usize::from(mark_in(pixels, grid, column, i) != (i % 2 == 0));
+    }
+    wrong
+}
+
+// The row or column of a timing pattern.
+fn timing_line(is_first: bool, count: usize) -> usize
+    requires { (21 ≤ count) × (count ≤ 177) }
+    ensures { result ≤ 177 }
+{
+    if is_first { 6 } else { count - 7 }
+}

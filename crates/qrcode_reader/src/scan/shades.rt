@@ -1,0 +1,85 @@
+//! Colours that count as dark or light.
+
+ghost use Rattle.std.specs.Prelude.{◌≡◌, ◌+◌, ◌*◌, ◌≤◌, length, map, nat_lt, IfOk, IfErr};
+ghost use Rattle.qrcode_reader.specs.scan.Shades.{over_white, lightness_of, least_of, greatest_of, dark_of_shades, IsColoursRefusal};
+
+use crate::scan::pixels::{GREATEST_SIDE, Pixels, Unscanned};
+use std::alloc::{AllocError, Global};
+
+// How light white is.
+const WHITE: usize = 65_025_000;
+
+/// The pixels of a picture of so many colours across and down, row by row, each of red, green, blue
+/// and opacity. Over white, those darker than the middle of the darkest and the lightest are dark.
+///
+/// `NoSide`: there are more than 65,535 along a side. `TooShort`: they are not as many. `OutOfMemory`
+/// is the only other error.
+pub fn pixels_of_colours(
+    alloc: Global,
+    across: usize,
+    down: usize,
+    colours: &[[u8; 4]],
+) -> Result<Pixels, Unscanned>
+    ensures value { IfOk result (λ pixels. pixels ≡ record {
+      across = across;
+      down = down;
+      marks = dark_of_shades (map lightness_of colours.now);
+    }) }
+    ensures length { IfOk result (λ _. length colours.now ≡ across * down) }
+    ensures causes { IfErr result (IsColoursRefusal (length colours.now) across down) }
+{
+    if across > GREATEST_SIDE || down > GREATEST_SIDE {
+        return Err(Unscanned::NoSide);
+    }
+    if colours.len() != across * down {
+        return Err(Unscanned::TooShort);
+    }
+    let marks = darker(alloc, colours, middle_of(colours))?;
+    Ok(Pixels::new(across, down, marks))
+}
+
+// Whether each of colours is darker than half of a lightness.
+fn darker(alloc: Global, colours: &[[u8; 4]], limit: usize) -> Result<Vec<bool>, AllocError>
+    ensures value { IfOk result (λ marks. marks.items
+        ≡ map (λ colour. nat_lt (2 * lightness_of colour) limit) colours.now) }
+    ensures length { IfOk result (λ marks. length marks.items ≡ length colours.now) }
+{
+    colours
+        .iter()
+        .map(|colour| 2 * lightness_of(colour) < limit)
+        .collect(alloc)
+}
+
+// How light the darkest and the lightest colour are together; none is lighter than white.
+#[tactic(auto, unfolding(crate::specs::scan::Shades::least_of, crate::specs::scan::Shades::greatest_of))]
+fn middle_of(colours: &[[u8; 4]]) -> usize
+    ensures { let shades = map lightness_of colours.now in
+        result ≡ least_of 65025000 shades + greatest_of 0 shades }
+{
+    let (mut least, mut greatest) = (WHITE, 0);
+    for colour in colours {
+        let shade = lightness_of(colour);
+        least = least.min(shade);
+        greatest = greatest.max(shade);
+    }
+    least + greatest
+}
+
+// How light a colour over white is.
+fn lightness_of(colour: &[u8; 4]) -> usize
+    ensures value { result ≡ lightness_of colour.now }
+    ensures at_most { result ≤ 65025000 }
+{
+    let [red, green, blue, opacity] = *colour;
+    299 * over_white(red, opacity)
+        + 587 * over_white(green, opacity)
+        + 114 * over_white(blue, opacity)
+}
+
+// A channel of a colour of some opacity over white.
+fn over_white(channel: u8, opacity: u8) -> usize
+    ensures value { result ≡ over_white channel opacity }
+    ensures at_most { result ≤ 65025 }
+{
+    usize::from(channel) * usize::from(opacity) + 255 * (255 - usize::from(opacity))
+}
