@@ -1,5 +1,5 @@
 -- The symbol whose area is light.
-use Rattle.std.proofs.Common.{◌≡◌, ℕ, ◌+◌, ◌*◌, ◌/◌, ◌%◌, ◌<◌, ◌++◌, Bool, List, [], ◌∷◌, length, map, get_or, refl, sym, ap, ap₂, ◌∙◌, arith, Result, Ok, Err, IfOk}
+use Rattle.std.proofs.Common.{◌≡◌, ℕ, ◌+◌, ◌*◌, ◌/◌, ◌%◌, ◌<◌, ◌++◌, Bool, List, [], ◌∷◌, length, map, get_or, refl, sym, ap, ap₂, ◌∙◌, arith}
 use Rattle.std.specs.List.{range_with_len}
 use Rattle.std.proofs.lemmas.Nat.{div-mul-add, mod-mul-add, mul-add-lt}
 use Rattle.std.proofs.lemmas.List.FromFn.{get_or-map-range_with_len, length-map-range_with_len, map-range_with_len_more}
@@ -41,6 +41,6 @@ pub covered_light : (v : Version) (area : ℕ → ℕ → Bool) (s new : List Co
 covered_light v area s new square is = λ x y i j inside.
     ap (λ (t : List Color). color_at v t x y) is ∙ color_covered v area s x y square i j ∙ ap (λ b. light_if b (color_at v s x y)) inside
 
-pub ok_mapped : {T E : Type 0} (P Q : T → Type 0) (r : Result T E) → ((t : T) → P t → Q t) → IfOk r P → IfOk r Q
-ok_mapped P Q (Err e) h p = tt
-ok_mapped P Q (Ok t) h p = h t p
+pub length_covered : (w : ℕ) (area : ℕ → ℕ → Bool) (s : List Color) (count : ℕ) → length (covered w area s count) ≡ count
+unfolding covered
+length_covered w area s count = length-map-range_with_len (covered_module w area s) 0 count

@@ -1,6 +1,6 @@
 -- Areas of a symbol, and what they touch: an area says of each column and row whether the place is in it.
 use Rattle.std.specs.Prelude.{◌≡◌, ◌+◌, ◌/◌, ◌<◌, ◌≤◌, ◌==◌, ◌||◌, ◌&&◌, nat_le, nat_lt, not, false, ℕ, Bool, List, ◌∷◌, length, map, count_by, if◌then◌else◌}
-use Rattle.std.specs.List.{AllByRecursion, list_any}
+use Rattle.std.specs.List.{AllByRecursion, list_any, list_all}
 use Rattle.qrcode_types.specs.Colors.{is_dark}
 use Rattle.qrcode_types.specs.Versions.{side, block_lengths, ec_length}
 use Rattle.qrcode_types.specs.declared.types.Version.{Version}
@@ -15,6 +15,15 @@ use Rattle.qrcode_area.specs.declared.areas.Rectangle.{Rectangle}
 
 abbrev pub is_in : Rectangle → ℕ → ℕ → Bool  -- the rectangle has the place in column x and row y
 is_in r x y = nat_le r.left x && nat_lt x (r.left + r.width) && nat_le r.top y && nat_lt y (r.top + r.height)
+
+abbrev pub is_within : ℕ → ℕ → ℕ → Bool  -- there are modules from one on, so many, and all of them lie below a bound
+is_within side start count = nat_lt 0 count && nat_le (start + count) side
+
+abbrev pub lies_in : ℕ → Rectangle → Bool  -- the rectangle has a module, and lies in a symbol with so many modules along its side
+lies_in side r = is_within side r.left r.width && is_within side r.top r.height
+
+abbrev pub is_inside : ℕ → List Rectangle → Bool  -- there is a rectangle, and each lies in the symbol
+is_inside side rectangles = not (length rectangles == 0) && list_all (lies_in side) rectangles
 
 abbrev pub covers : List Rectangle → ℕ → ℕ → Bool  -- the area of rectangles: a place that any of them has
 covers rectangles x y = list_any (λ r. is_in r x y) rectangles
@@ -68,13 +77,6 @@ is_lost v area s other p = area p.0 p.1 || turned_if (is_dark (color_at v s p.0 
 -- many as the block has error correction codewords
 abbrev pub LeavesReserve : Version → EcLevel → (ℕ → ℕ → Bool) → ℕ → Type 0
 LeavesReserve v l area reserve = (b : ℕ) → b < length (block_lengths v l) → touched v l area b + reserve ≤ ec_length v l / 2
-
--- A square of the same size, whatever it shows in the area. Beside it at most so many codewords of each block are wrong, and
--- of each copy of the format word at most three places lie in the area or are wrong.
-pub record DiffersBeside (v : Version) (l : EcLevel) (k : MaskPattern) (area : ℕ → ℕ → Bool) (reserve : ℕ) (s other : List Color) : Type 0 where
-  pub square : length other ≡ length s
-  pub blocks : (b : ℕ) → b < length (block_lengths v l) → wrong_beside v l k area s other b ≤ reserve
-  pub format : AllByRecursion (λ places. count_by (is_lost v area s other) places ≤ 3) (format_copies v)
 
 -- A square of the same size, whatever it shows in the area. Of each block the codewords that the area touches, and the
 -- others that are wrong, are together at most half as many as it has error correction codewords; and of each copy of the

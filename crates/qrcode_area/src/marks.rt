@@ -7,7 +7,7 @@ ghost use Rattle.qrcode_layout.specs.Stream.{zigzag_place};
 ghost use Rattle.qrcode_area.specs.Areas.{covers, marks};
 ghost use Rattle.qrcode_area.specs.Counting.{mark_at};
 
-use crate::areas::{Rectangle, covers};
+use crate::areas::Area;
 use qrcode_layout::walk::right_column;
 use qrcode_reader::walk::side;
 use qrcode_symbol::canvas;
@@ -34,8 +34,8 @@ fn place(version: Version, t: usize) -> (usize, usize)
     (column, row)
 }
 
-// Whether a pattern or the format word has a place.
-fn is_functional(version: Version, x: usize, y: usize) -> bool
+/// Whether a pattern or the format word has a place.
+pub fn is_functional(version: Version, x: usize, y: usize) -> bool
     requires valid { IsTrue (is_valid version) }
     requires column { x < side version }
     requires row { y < side version }
@@ -48,7 +48,7 @@ fn is_functional(version: Version, x: usize, y: usize) -> bool
 fn push_mark(
     marks: &mut Vec<bool>,
     version: Version,
-    area: &[Rectangle],
+    area: &Area<'_>,
     x: usize,
     y: usize,
 ) -> Result<(), AllocError>
@@ -59,13 +59,13 @@ fn push_mark(
         ≡ marks.old.items ++ mark_at version (covers area.now) (x, y)) }
 {
     if !is_functional(version, x, y) {
-        marks.push(covers(area, x, y))?;
+        marks.push(area.has(x, y))?;
     }
     Ok(())
 }
 
 /// The free places of a version in their order: for each whether the area has it.
-pub fn marks(alloc: Global, version: Version, area: &[Rectangle]) -> Result<Vec<bool>, AllocError>
+pub fn marks(alloc: Global, version: Version, area: &Area<'_>) -> Result<Vec<bool>, AllocError>
     requires { IsTrue (is_valid version) }
     ensures { IfOk result (λ found. found.items ≡ marks version (covers area.now)) }
 {

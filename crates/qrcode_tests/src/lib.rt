@@ -3,6 +3,8 @@
 #![tactic(auto)]
 
 #[cfg(test)]
+mod areas;
+#[cfg(test)]
 mod bits;
 #[cfg(test)]
 mod calls;

@@ -1,0 +1,25 @@
+-- Why an area may not show anything.
+use Rattle.std.specs.Prelude.{◌≡◌, ◌/◌, ◌<◌, ◌≤◌, ℕ, Bool, length}
+use Rattle.qrcode_types.specs.Versions.{block_lengths, ec_length}
+use Rattle.qrcode_types.specs.declared.types.Version.{Version}
+use Rattle.qrcode_types.specs.declared.types.EcLevel.{EcLevel}
+use Rattle.qrcode_reader.specs.declared.formats.FormatCopy.TheVariants.{First, Last}
+use Rattle.qrcode_area.specs.Areas.{touched}
+use Rattle.qrcode_area.specs.Counting.{touched_places}
+use Rattle.qrcode_area.specs.declared.excess.Excess.{Excess}
+use Rattle.qrcode_area.specs.declared.excess.Excess.TheVariants.{Block, FirstFormat, LastFormat, OutOfMemory}
+
+-- the area touches so many codewords of a block, more than may be lost, and no more of any other block
+pub record IsLostBlock (v : Version) (l : EcLevel) (area : ℕ → ℕ → Bool) (block count allowed : ℕ) : Type 0 where
+  pub inside : block < length (block_lengths v l)
+  pub value : count ≡ touched v l area block
+  pub bound : allowed ≡ ec_length v l / 2
+  pub over : allowed < count
+  pub worst : (other : ℕ) → other < length (block_lengths v l) → touched v l area other ≤ count
+
+-- the bound that an area passes
+abbrev pub IsExcess : Version → EcLevel → (ℕ → ℕ → Bool) → Excess → Type 0
+IsExcess v l area (Block block count allowed) = IsLostBlock v l area block count allowed
+IsExcess v l area (FirstFormat places) = (places ≡ touched_places v area First) × (3 < places)
+IsExcess v l area (LastFormat places) = (places ≡ touched_places v area Last) × (3 < places)
+IsExcess v l area OutOfMemory = ⊥
