@@ -1,11 +1,12 @@
 -- Amounts are read back.
-use Rattle.std.proofs.Common.{◌≡◌, ℕ, ◌+◌, ◌<◌, ◌^◌, ◌==◌, ◌||◌, ◌/◌, ◌%◌, ◌*◌, List, [], ◌∷◌, ◌++◌, Bool, false, decimal, refl, ap, ap₂, ◌∙◌, arith}
+use Rattle.std.proofs.Common.{◌≡◌, ℕ, ◌+◌, ◌<◌, ◌^◌, ◌==◌, ◌||◌, ◌/◌, ◌%◌, ◌*◌, List, [], ◌∷◌, ◌++◌, Bool, false, length, decimal, refl, ap, ap₂, ◌∙◌, arith}
 use Rattle.std.specs.List.{list_any}
 use Rattle.std.specs.Char.{digit_value}
 use Rattle.std.specs.Str.Parse.{digits_value}
 use Rattle.std.proofs.lemmas.Bool.Decides.{nat_tests}
+use Rattle.std.proofs.lemmas.List.{length-append}
 use Rattle.std.proofs.lemmas.List.Folds.{list_any-append}
-use Rattle.std.proofs.lemmas.Fmt.{decimal_by_steps, decimal_is_IsNumeral, decimal_digit}
+use Rattle.std.proofs.lemmas.Fmt.{decimal_by_steps, decimal_is_IsNumeral, decimal_digit, length-decimal-le}
 use Rattle.std.proofs.lemmas.Int.Digits.{digits_value_push}
 use Rattle.std.proofs.lemmas.Str.{digit_value_digit}
 use Rattle.qrcode_contents.specs.fields.Amounts.{amount_text, before_point, behind_point, read_amount}
@@ -61,3 +62,15 @@ unfolding amount_text
 HasNoFeed-amount n fits =
     HasNoFeed-append (decimal (n / 100)) (46 ∷ (decimal (n / 10 % 10) ++ decimal (n % 10))) (HasNoFeed-decimal (n / 100) (omega arith))
     (HasNoFeed-append (decimal (n / 10 % 10)) (decimal (n % 10)) (HasNoFeed-decimal (n / 10 % 10) (omega arith)) (HasNoFeed-decimal (n % 10) (omega arith)))
+
+-- an amount has few digits
+pub amount_short : (n : ℕ) → n < 2 ^ 64 → length (amount_text n) < 100
+unfolding amount_text
+amount_short n fits =
+    let later = decimal (n / 10 % 10) ++ decimal (n % 10) in
+    let first = length-append (decimal (n / 100)) (46 ∷ later) in
+    let second = length-append (decimal (n / 10 % 10)) (decimal (n % 10)) in
+    let whole = length-decimal-le 20 (n / 100) (omega arith) (omega arith) (omega arith) in
+    let tenth = length-decimal-le 1 (n / 10 % 10) (omega arith) (omega arith) (omega arith) in
+    let last = length-decimal-le 1 (n % 10) (omega arith) (omega arith) (omega arith) in
+    omega (arith, first, second, whole, tenth, last)

@@ -1,5 +1,5 @@
 -- The text of a bill is read back.
-use Rattle.std.proofs.Common.{◌≡◌, ℕ, ◌/◌, ◌<◌, ◌^◌, ◌||◌, not, nat_lt, List, [], ◌∷◌, ◌++◌, Bool, true, false, Option, Some, None, Result, Ok, length, decimal, codes, if◌then◌else◌, refl, ap, ◌∙◌, sym, arith}
+use Rattle.std.proofs.Common.{◌≡◌, ℕ, ◌/◌, ◌<◌, ◌^◌, ◌||◌, nat_lt, List, [], ◌∷◌, ◌++◌, Bool, true, false, Option, Some, None, Result, Ok, length, decimal, codes, if◌then◌else◌, refl, ap, ◌∙◌, sym, arith}
 use Rattle.std.specs.List.{list_any}
 use Rattle.std.specs.Str.{bytes_eq}
 use Rattle.std.specs.Option.{option_map}
@@ -16,7 +16,7 @@ use Rattle.qrcode_contents.specs.fields.Characters.{is_control}
 use Rattle.qrcode_contents.specs.fields.Entries.{is_filled}
 use Rattle.qrcode_contents.specs.fields.Lines.{line_at}
 use Rattle.qrcode_contents.specs.fields.Refusals.{checked, first_refusal}
-use Rattle.qrcode_contents.proofs.AmountReading.{amount_read, HasNoFeed-amount}
+use Rattle.qrcode_contents.proofs.AmountReading.{amount_read, amount_short, HasNoFeed-amount}
 use Rattle.qrcode_contents.proofs.Answering.{checked_none}
 use Rattle.qrcode_contents.proofs.EntryReading.{neither}
 use Rattle.qrcode_contents.proofs.LineReading.{HasNoFeed, HaveNoFeeds, HasNoFeed-from_control, lines_read}
@@ -78,7 +78,7 @@ currency_read : (c : Currency) → read_currency (currency_name c) ≡ Some c
 currency_read Franc = refl
 currency_read Euro = refl
 
-amount_below : (n : ℕ) → (nat_lt n 1 || nat_lt 99999999999 n) ≡ false → n < 2 ^ 64
+pub amount_below : (n : ℕ) → (nat_lt n 1 || nat_lt 99999999999 n) ≡ false → n < 2 ^ 64
 amount_below n is =
     let inside = neither (nat_lt n 1) (nat_lt 99999999999 n) is in
     let most : nat_lt 99999999999 n ≡ false = inside.1 in
@@ -96,7 +96,13 @@ amount_filled : (n : ℕ) → n < 2 ^ 64 → is_filled (amount_text n) ≡ true
 unfolding amount_text
 amount_filled n fits = some_first (decimal (n / 100)) _ (decimal_nonempty (n / 100) (omega arith))
 
-cents_read : (cents : Option ℕ) → is_out_of_range cents ≡ false → read_cents (amount_line cents) ≡ cents
+-- an amount that may be left open has few digits
+pub cents_short : (cents : Option ℕ) → is_out_of_range cents ≡ false → length (amount_line cents) < 100
+cents_short None is = omega arith
+cents_short (Some n) is = amount_short n (amount_below n is)
+
+-- an amount that may be left open is read back
+pub cents_read : (cents : Option ℕ) → is_out_of_range cents ≡ false → read_cents (amount_line cents) ≡ cents
 cents_read None is = refl
 cents_read (Some n) is =
     let fits = amount_below n is in

@@ -1,58 +1,55 @@
 -- The text of a card is read back.
-use Rattle.std.proofs.Common.{◌≡◌, ℕ, ◌==◌, List, [], ◌∷◌, false, None, Some, codes, refl, ap, arith}
+use Rattle.std.proofs.Common.{◌≡◌, ℕ, ◌==◌, List, [], ◌∷◌, ◌++◌, true, false, map, None, Some, codes, refl, ap, ◌∙◌, arith}
 use Rattle.std.specs.List.{list_any}
+use Rattle.std.specs.Str.{bytes_eq}
+use Rattle.std.specs.Option.{option_map}
 use Rattle.std.proofs.lemmas.Bool.Decides.{nat_tests}
-use Rattle.qrcode_contents.specs.declared.fields.errors.Field.TheVariants.{Name, Family, Given, Organisation, Phone, Email, Url, Street, City, Region, PostalCode, Country, Note}
-use Rattle.qrcode_contents.specs.declared.fields.errors.Cause.TheVariants.{ControlCharacter}
-use Rattle.qrcode_contents.specs.Card.{Contact, card_checks, place_checks, text_refusal, place_refusal, card_refusal, card_lines, card_text, contact_in, read_card}
-use Rattle.qrcode_contents.specs.fields.Characters.{is_control, is_stray}
-use Rattle.qrcode_contents.specs.fields.ContentLines.{content_text, structured, read_content}
+use Rattle.qrcode_contents.specs.declared.fields.errors.Field.{Field}
+use Rattle.qrcode_contents.specs.declared.fields.errors.Field.TheVariants.{Url, Birthday}
+use Rattle.qrcode_contents.specs.declared.fields.errors.Cause.TheVariants.{ControlCharacter, Range}
+use Rattle.qrcode_contents.specs.Card.{Contact, first_fields, last_fields, first_checks, last_checks, first_refused, last_refused, card_refusal, first_texts, last_texts, card_lines, card_text, contact_with, contact_in, read_card}
+use Rattle.qrcode_contents.specs.Times.{wrong_day, date_text, said_or_none, read_date, read_or_none}
+use Rattle.qrcode_contents.specs.fields.Characters.{is_control, is_stray, stray_checks}
+use Rattle.qrcode_contents.specs.fields.ContentLines.{content_text, structured, text_lines, read_content, part_in}
 use Rattle.qrcode_contents.specs.fields.Entries.{Entry, value_of}
-use Rattle.qrcode_contents.proofs.ContentParts.{IsPlain, IsPlain-structured, part_read, one_plain, line_with}
+use Rattle.qrcode_contents.specs.fields.EntryTests.{are_distinct}
+use Rattle.qrcode_contents.specs.fields.Links.{Parameter}
+use Rattle.qrcode_contents.proofs.ContentParts.{HaveNoReturns, IsPlain, IsPlain-structured, part_read, text_content, line_with}
 use Rattle.qrcode_contents.proofs.ContentReading.{AreContent, content_read}
-use Rattle.qrcode_contents.proofs.LinkReading.{HasNo, none_of, no_return, no_stray_return}
-use Rattle.qrcode_contents.proofs.Passing.{all_pass, test_passes}
+use Rattle.qrcode_contents.proofs.LinkReading.{none_of, no_return, no_stray_return, entries_of}
+use Rattle.qrcode_contents.proofs.Passing.{AllPass, all_pass, test_passes}
+use Rattle.qrcode_contents.proofs.TimeReading.{date_or_none_read, IsPlain-date}
 
 no_feed_of : (b : ℕ) → is_control b ≡ false → (b == 10) ≡ false
 no_feed_of b is = grind (arith, nat_tests)
 
+-- fields that are not refused
+no_strays : (fields : List (Field × List ℕ)) → AllPass (stray_checks fields) → HaveNoReturns (map (λ field. field.1) fields)
+no_strays [] pass = tt
+no_strays (field ∷ fields) pass = (
+  no_stray_return field.1 (test_passes (list_any is_stray field.1) field.0 ControlCharacter pass.0),
+  no_strays fields pass.1,
+)
+
 -- what no refusal says of the fields
 record AreTexts (c : Contact) : Type 0 where
-  name : HasNo 13 c.name
-  family : HasNo 13 c.family
-  given : HasNo 13 c.given
-  organisation : HasNo 13 c.organisation
-  phone : HasNo 13 c.phone
-  email : HasNo 13 c.email
+  first : HaveNoReturns (map (λ field. field.1) (first_fields c))
+  last : HaveNoReturns (map (λ field. field.1) (last_fields c))
   url : IsPlain c.url
-  street : HasNo 13 c.street
-  city : HasNo 13 c.city
-  region : HasNo 13 c.region
-  code : HasNo 13 c.code
-  country : HasNo 13 c.country
-  note : HasNo 13 c.note
+  birthday : wrong_day c.birthday ≡ false
 
 card_said : (c : Contact) → card_refusal c ≡ None → AreTexts c
-unfolding text_refusal place_refusal
+unfolding first_refused last_refused
 card_said c is =
-    let none = all_pass (text_refusal c ∷ place_refusal c ∷ []) is in
-    let t = all_pass (card_checks c) none.0 in
-    let p = all_pass (place_checks c) none.1.0 in
-    let url = test_passes (list_any is_control c.url) Url ControlCharacter t.1.1.1.1.1.1.1.1.0 in
+    let none = all_pass (first_refused c ∷ last_refused c ∷ []) is in
+    let first = all_pass (first_checks c) none.0 in
+    let last = all_pass (last_checks c) none.1.0 in
+    let url = test_passes (list_any is_control c.url) Url ControlCharacter last.0 in
     record {
-      name = no_stray_return c.name (test_passes (list_any is_stray c.name) Name ControlCharacter t.1.1.0);
-      family = no_stray_return c.family (test_passes (list_any is_stray c.family) Family ControlCharacter t.1.1.1.0);
-      given = no_stray_return c.given (test_passes (list_any is_stray c.given) Given ControlCharacter t.1.1.1.1.0);
-      organisation = no_stray_return c.organisation (test_passes (list_any is_stray c.organisation) Organisation ControlCharacter t.1.1.1.1.1.0);
-      phone = no_stray_return c.phone (test_passes (list_any is_stray c.phone) Phone ControlCharacter t.1.1.1.1.1.1.0);
-      email = no_stray_return c.email (test_passes (list_any is_stray c.email) Email ControlCharacter t.1.1.1.1.1.1.1.0);
+      first = no_strays (first_fields c) first.1.1;
+      last = no_strays (last_fields c) last.1.1;
       url = record { no_return = no_return c.url url; no_feed = none_of is_control (λ b. b == 10) no_feed_of c.url url };
-      street = no_stray_return c.street (test_passes (list_any is_stray c.street) Street ControlCharacter p.0);
-      city = no_stray_return c.city (test_passes (list_any is_stray c.city) City ControlCharacter p.1.0);
-      region = no_stray_return c.region (test_passes (list_any is_stray c.region) Region ControlCharacter p.1.1.0);
-      code = no_stray_return c.code (test_passes (list_any is_stray c.code) PostalCode ControlCharacter p.1.1.1.0);
-      country = no_stray_return c.country (test_passes (list_any is_stray c.country) Country ControlCharacter p.1.1.1.1.0);
-      note = no_stray_return c.note (test_passes (list_any is_stray c.note) Note ControlCharacter t.1.1.1.1.1.1.1.1.1.0);
+      birthday = test_passes (wrong_day c.birthday) Birthday Range last.1.0;
     }
 
 word_plain : IsPlain (codes "VCARD")
@@ -61,84 +58,77 @@ word_plain = record { no_return = refl; no_feed = refl }
 version_plain : IsPlain (codes "3.0")
 version_plain = record { no_return = refl; no_feed = refl }
 
-card_content : (c : Contact) → AreTexts c → AreContent (card_lines c)
-card_content c are = (
-  line_with (codes "BEGIN") (codes "VCARD") refl refl refl refl word_plain,
-  (
-    line_with (codes "VERSION") (codes "3.0") refl refl refl refl version_plain,
-    (
-      line_with (codes "N") (structured (c.family ∷ c.given ∷ [] ∷ [] ∷ [] ∷ [])) refl refl refl refl
-          (IsPlain-structured c.family (c.given ∷ [] ∷ [] ∷ [] ∷ []) (are.family, (are.given, (refl, (refl, (refl, tt)))))),
+-- the lines behind the first texts
+abbrev later_lines : Contact → List Parameter
+later_lines c =
+    (codes "URL", c.url) ∷ (codes "ADR", structured ([] ∷ [] ∷ c.street ∷ c.city ∷ c.region ∷ c.code ∷ c.country ∷ []))
+    ∷ (text_lines (last_texts c) ++ (codes "END", codes "VCARD") ∷ [])
+
+later_content : (c : Contact) → AreTexts c → AreContent (later_lines c)
+later_content c are =
+    let more = are.last.1 in
+    let end : AreContent ((codes "END", codes "VCARD") ∷ []) = (line_with (codes "END") (codes "VCARD") refl refl refl refl word_plain, tt) in (
+      line_with (codes "URL") c.url refl refl refl refl are.url,
       (
-        line_with (codes "FN") (structured (c.name ∷ [])) refl refl refl refl (one_plain c.name are.name),
+        line_with (codes "ADR") (structured ([] ∷ [] ∷ c.street ∷ c.city ∷ c.region ∷ c.code ∷ c.country ∷ [])) refl refl refl refl
+            (IsPlain-structured [] ([] ∷ c.street ∷ c.city ∷ c.region ∷ c.code ∷ c.country ∷ []) (refl, (refl, more.1.1))),
+        text_content (last_texts c) ((codes "END", codes "VCARD") ∷ []) refl ((IsPlain-date c.birthday are.birthday).no_return, (more.1.0, tt)) end,
+      ),
+    )
+
+card_content : (c : Contact) → AreTexts c → AreContent (card_lines c)
+card_content c are =
+    let names = are.first.1 in
+    let texts : HaveNoReturns (map (λ text. text.1) (first_texts c)) =
+    (are.first.0, (names.1.1.0, (names.1.1.1.0, (names.1.1.1.1.0, (names.1.1.1.1.1.0, (names.1.1.1.1.1.1.0, (are.last.0, (are.last.1.0, tt)))))))) in (
+      line_with (codes "BEGIN") (codes "VCARD") refl refl refl refl word_plain,
+      (
+        line_with (codes "VERSION") (codes "3.0") refl refl refl refl version_plain,
         (
-          line_with (codes "ORG") (structured (c.organisation ∷ [])) refl refl refl refl (one_plain c.organisation are.organisation),
-          (
-            line_with (codes "TEL") (structured (c.phone ∷ [])) refl refl refl refl (one_plain c.phone are.phone),
-            (
-              line_with (codes "EMAIL") (structured (c.email ∷ [])) refl refl refl refl (one_plain c.email are.email),
-              (
-                line_with (codes "URL") c.url refl refl refl refl are.url,
-                (
-                  line_with (codes "ADR") (structured ([] ∷ [] ∷ c.street ∷ c.city ∷ c.region ∷ c.code ∷ c.country ∷ [])) refl refl refl refl
-                      (IsPlain-structured [] ([] ∷ c.street ∷ c.city ∷ c.region ∷ c.code ∷ c.country ∷ []) (refl, (refl, (are.street, (are.city, (are.region, (are.code, (are.country, tt)))))))),
-                  (
-                    line_with (codes "NOTE") (structured (c.note ∷ [])) refl refl refl refl (one_plain c.note are.note),
-                    (line_with (codes "END") (codes "VCARD") refl refl refl refl word_plain, tt),
-                  ),
-                ),
-              ),
-            ),
-          ),
+          line_with (codes "N") (structured (c.family ∷ c.given ∷ [] ∷ [] ∷ [] ∷ [])) refl refl refl refl
+              (IsPlain-structured c.family (c.given ∷ [] ∷ [] ∷ [] ∷ []) (names.0, (names.1.0, (refl, (refl, (refl, tt)))))),
+          text_content (first_texts c) (later_lines c) refl texts (later_content c are),
         ),
       ),
-    ),
-  ),
-)
+    )
 
-same_contact : (c : Contact) (name family given organisation phone email street city region code country note : List ℕ) → name ≡ c.name → family ≡ c.family → given ≡ c.given → organisation ≡ c.organisation → phone ≡ c.phone → email ≡ c.email → street ≡ c.street → city ≡ c.city → region ≡ c.region → code ≡ c.code → country ≡ c.country → note ≡ c.note → (let d : Contact = record { name = name; family = family; given = given; organisation = organisation; phone = phone; email = email; url = c.url; street = street; city = city; region = region; code = code; country = country; note = note } in d) ≡ c
-same_contact c name family given organisation phone email street city region code country note h₁ h₂ h₃ h₄ h₅ h₆ h₇ h₈ h₉ h₁₀ h₁₁ h₁₂ =
-    rw (h₁, h₂, h₃, h₄, h₅, h₆, h₇, h₈, h₉, h₁₀, h₁₁, h₁₂) refl
+same_contact : (c : Contact) (name family given organisation title phone mobile work_phone home_phone email street city region code country note : List ℕ) → name ≡ c.name → family ≡ c.family → given ≡ c.given → organisation ≡ c.organisation → title ≡ c.title → phone ≡ c.phone → mobile ≡ c.mobile → work_phone ≡ c.work_phone → home_phone ≡ c.home_phone → email ≡ c.email → street ≡ c.street → city ≡ c.city → region ≡ c.region → code ≡ c.code → country ≡ c.country → note ≡ c.note
+    → (let d : Contact = record { name = name; family = family; given = given; organisation = organisation; title = title; phone = phone; mobile = mobile; work_phone = work_phone; home_phone = home_phone; email = email; url = c.url; birthday = c.birthday; street = street; city = city; region = region; code = code; country = country; note = note } in d) ≡ c
+same_contact c name family given organisation title phone mobile work_phone home_phone email street city region code country note h₁ h₂ h₃ h₄ h₅ h₆ h₇ h₈ h₉ h₁₀ h₁₁ h₁₂ h₁₃ h₁₄ h₁₅ h₁₆ =
+    rw (h₁, h₂, h₃, h₄, h₅, h₆, h₇, h₈, h₉, h₁₀, h₁₁, h₁₂, h₁₃, h₁₄, h₁₅, h₁₆) refl
 
--- the values that lines have
-record Says (c : Contact) (lines : List Entry) : Type 0 where
-  begins : value_of (codes "BEGIN") lines ≡ codes "VCARD"
-  version : value_of (codes "VERSION") lines ≡ codes "3.0"
-  ends : value_of (codes "END") lines ≡ codes "VCARD"
-  names : value_of (codes "N") lines ≡ structured (c.family ∷ c.given ∷ [] ∷ [] ∷ [] ∷ [])
-  name : value_of (codes "FN") lines ≡ structured (c.name ∷ [])
-  organisation : value_of (codes "ORG") lines ≡ structured (c.organisation ∷ [])
-  phone : value_of (codes "TEL") lines ≡ structured (c.phone ∷ [])
-  email : value_of (codes "EMAIL") lines ≡ structured (c.email ∷ [])
-  url : value_of (codes "URL") lines ≡ c.url
-  address : value_of (codes "ADR") lines ≡ structured ([] ∷ [] ∷ c.street ∷ c.city ∷ c.region ∷ c.code ∷ c.country ∷ [])
-  note : value_of (codes "NOTE") lines ≡ structured (c.note ∷ [])
+-- the lines have the values of those of the card
+abbrev Says : Contact → List Entry → Type 0
+Says c lines = (key : List ℕ) → bytes_eq key [] ≡ false → value_of key lines ≡ value_of key (entries_of (card_lines c))
 
-contact_said : (c : Contact) (lines : List Entry) → Says c lines → contact_in lines ≡ Some c
-contact_said c lines says =
+-- such lines say the contact, with its birthday
+with_said : (c : Contact) (lines : List Entry) → Says c lines → contact_with lines c.birthday ≡ c
+with_said c lines says =
     let address : List (List ℕ) = [] ∷ c.street ∷ c.city ∷ c.region ∷ c.code ∷ c.country ∷ [] in
     let names : List (List ℕ) = c.given ∷ [] ∷ [] ∷ [] ∷ [] in
-    rw (says.begins, says.version, says.ends, says.names, says.name, says.organisation, says.phone, says.email, says.url, says.address, says.note)
-    (ap Some (same_contact c _ _ _ _ _ _ _ _ _ _ _ _
-    (part_read 0 c.name []) (part_read 0 c.family names) (part_read 1 c.family names) (part_read 0 c.organisation []) (part_read 0 c.phone []) (part_read 0 c.email [])
-    (part_read 2 [] address) (part_read 3 [] address) (part_read 4 [] address) (part_read 5 [] address) (part_read 6 [] address) (part_read 0 c.note [])))
+    rw (says (codes "N") refl, says (codes "FN") refl, says (codes "ORG") refl, says (codes "TITLE") refl, says (codes "TEL") refl, says (codes "TEL;TYPE=CELL") refl, says (codes "TEL;TYPE=WORK") refl, says (codes "TEL;TYPE=HOME") refl, says (codes "EMAIL") refl, says (codes "URL") refl, says (codes "ADR") refl, says (codes "NOTE") refl)
+    (same_contact c _ _ _ _ _ _ _ _ _ _ _ _ _ _ _ _
+    (part_read 0 c.name []) (part_read 0 c.family names) (part_read 1 c.family names) (part_read 0 c.organisation []) (part_read 0 c.title []) (part_read 0 c.phone []) (part_read 0 c.mobile []) (part_read 0 c.work_phone []) (part_read 0 c.home_phone []) (part_read 0 c.email [])
+    (part_read 2 [] address) (part_read 3 [] address) (part_read 4 [] address) (part_read 5 [] address) (part_read 6 [] address) (part_read 0 c.note []))
+
+contact_said : (c : Contact) (lines : List Entry) → Says c lines → wrong_day c.birthday ≡ false → contact_in lines ≡ Some c
+contact_said c lines says is =
+    let begins : value_of (codes "BEGIN") lines ≡ codes "VCARD" = says (codes "BEGIN") refl in
+    let version : value_of (codes "VERSION") lines ≡ codes "3.0" = says (codes "VERSION") refl in
+    let ends : value_of (codes "END") lines ≡ codes "VCARD" = says (codes "END") refl in
+    let birthday : value_of (codes "BDAY") lines ≡ structured (said_or_none date_text c.birthday ∷ []) = says (codes "BDAY") refl in
+    rw (begins, version, ends)
+    (ap (λ value. option_map (contact_with lines) (read_or_none read_date (part_in 0 value))) birthday
+    ∙ ap (λ text. option_map (contact_with lines) (read_or_none read_date text)) (part_read 0 (said_or_none date_text c.birthday) [])
+    ∙ ap (option_map (contact_with lines)) (date_or_none_read c.birthday is)
+    ∙ ap Some (with_said c lines says))
 
 -- what is read is what was said
 pub card_read : (c : Contact) → card_refusal c ≡ None → read_card (card_text c) ≡ Some c
 unfolding card_text read_card
 card_read c is =
     let ps = card_lines c in
-    let are = card_content c (card_said c is) in
-    contact_said c (read_content (content_text ps)) (record {
-      begins = content_read (codes "BEGIN") ps are refl refl;
-      version = content_read (codes "VERSION") ps are refl refl;
-      ends = content_read (codes "END") ps are refl refl;
-      names = content_read (codes "N") ps are refl refl;
-      name = content_read (codes "FN") ps are refl refl;
-      organisation = content_read (codes "ORG") ps are refl refl;
-      phone = content_read (codes "TEL") ps are refl refl;
-      email = content_read (codes "EMAIL") ps are refl refl;
-      url = content_read (codes "URL") ps are refl refl;
-      address = content_read (codes "ADR") ps are refl refl;
-      note = content_read (codes "NOTE") ps are refl refl;
-    })
+    let said = card_said c is in
+    let are = card_content c said in
+    let distinct : are_distinct (entries_of ps) ≡ true = refl in
+    contact_said c (read_content (content_text ps)) (λ key some. content_read key ps are some distinct) said.birthday

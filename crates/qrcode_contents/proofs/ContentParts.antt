@@ -1,11 +1,12 @@
 -- Values of content lines, of parts, are read back.
-use Rattle.std.proofs.Common.{◌≡◌, ℕ, zero, suc, ◌==◌, ◌||◌, List, [], ◌∷◌, ◌++◌, Bool, true, false, flat_map, get_or, refl, ap, sym}
+use Rattle.std.proofs.Common.{◌≡◌, ℕ, zero, suc, ◌==◌, ◌||◌, List, [], ◌∷◌, ◌++◌, Bool, true, false, flat_map, map, get_or, refl, ap, sym}
 use Rattle.std.specs.List.{list_any}
 use Rattle.qrcode_contents.specs.declared.fields.escapes.Escapes.TheVariants.{Lines}
-use Rattle.qrcode_contents.specs.fields.ContentLines.{structured, part_in}
+use Rattle.qrcode_contents.specs.fields.ContentLines.{structured, text_lines, part_in}
 use Rattle.qrcode_contents.specs.fields.Entries.{is_filled}
+use Rattle.qrcode_contents.specs.fields.Links.{Parameter}
 use Rattle.qrcode_contents.specs.fields.Escapes.{letter_of, with_letter, escaped, unescaped_from, pieces_from}
-use Rattle.qrcode_contents.proofs.ContentReading.{begins_blank, IsContent}
+use Rattle.qrcode_contents.proofs.ContentReading.{begins_blank, IsContent, AreContent}
 use Rattle.qrcode_contents.proofs.EntryReading.{neither, parts_read, no_part}
 use Rattle.qrcode_contents.proofs.LinkReading.{HasNo, HasNo-append}
 use Rattle.qrcode_contents.proofs.Pieces.{semicolon_escaped}
@@ -80,3 +81,24 @@ line_with key value starts no_colon no_return_key no_feed_key is = record {
   no_return = HasNo-append 13 key (58 ∷ value) no_return_key is.no_return;
   no_feed = HasNo-append 10 key (58 ∷ value) no_feed_key is.no_feed;
 }
+
+-- the key may not begin a line, or would end
+abbrev is_unfit : Parameter → Bool
+is_unfit text =
+    begins_blank (text.0 ++ 58 ∷ []) || (list_any (λ b. b == 58) text.0 || (list_any (λ b. b == 13) text.0 || list_any (λ b. b == 10) text.0))
+
+key_starts : (key value : List ℕ) → begins_blank (key ++ 58 ∷ []) ≡ false → begins_blank (key ++ 58 ∷ value) ≡ false
+key_starts [] value is = is
+key_starts (b ∷ key) value is = is
+
+-- lines of texts before others
+pub text_content : (texts later : List Parameter) → list_any is_unfit texts ≡ false → HaveNoReturns (map (λ text. text.1) texts) → AreContent later → AreContent (text_lines texts ++ later)
+text_content [] later fit none are = are
+text_content (text ∷ texts) later fit none are =
+    let all = neither (is_unfit text) (list_any is_unfit texts) fit in
+    let starts = neither (begins_blank (text.0 ++ 58 ∷ [])) _ all.0 in
+    let colons = neither (list_any (λ b. b == 58) text.0) _ starts.1 in
+    let breaks = neither (list_any (λ b. b == 13) text.0) _ colons.1 in (
+      line_with text.0 (structured (text.1 ∷ [])) (key_starts text.0 _ starts.0) colons.0 breaks.0 breaks.1 (one_plain text.1 none.0),
+      text_content texts later all.1 none.1 are,
+    )

@@ -1,5 +1,5 @@
 -- The text of an event is read back.
-use Rattle.std.proofs.Common.{◌≡◌, ℕ, not, List, [], ◌∷◌, ◌++◌, Bool, true, false, None, Some, codes, refl, ap, ◌∙◌, append_assoc, append-nil}
+use Rattle.std.proofs.Common.{◌≡◌, ℕ, List, [], ◌∷◌, ◌++◌, Bool, true, false, Option, None, Some, codes, refl, ap, ◌∙◌, append_assoc, append-nil}
 use Rattle.std.specs.Str.{bytes_eq}
 use Rattle.std.specs.List.{list_any}
 use Rattle.std.specs.Option.{option_map, option_and_then}
@@ -9,7 +9,7 @@ use Rattle.qrcode_contents.specs.fields.Characters.{is_control, is_stray}
 use Rattle.qrcode_contents.specs.fields.ContentLines.{content_text, structured, read_content}
 use Rattle.qrcode_contents.specs.fields.Entries.{Entry, single, is_filled, filled, value_of}
 use Rattle.qrcode_contents.specs.fields.Links.{Parameter}
-use Rattle.qrcode_contents.proofs.ContentParts.{IsPlain, part_read, one_plain, line_with}
+use Rattle.qrcode_contents.proofs.ContentParts.{IsPlain, part_read, one_plain, line_with, plain_nothing}
 use Rattle.qrcode_contents.proofs.ContentReading.{AreContent, AreContent-append, behind_last, lines_read}
 use Rattle.qrcode_contents.proofs.EntryReading.{neither, part_of-filled}
 use Rattle.qrcode_contents.proofs.LinkReading.{HasNo, entries_of, no_return, no_stray_return}
@@ -18,19 +18,14 @@ use Rattle.qrcode_contents.specs.declared.times.Day.{Day}
 use Rattle.qrcode_contents.specs.declared.times.Moment.{Moment}
 use Rattle.qrcode_contents.specs.declared.event.Span.{Span}
 use Rattle.qrcode_contents.specs.declared.event.Span.TheVariants.{Days, Times}
-use Rattle.qrcode_contents.specs.Event.{Happening, begins_never, ends_never, event_checks, event_refusal, span_lines, event_lines, first_lines, last_lines, event_text, before_end, component, span_in, happening_in, calendar_event, read_event}
-use Rattle.qrcode_contents.specs.Times.{is_day, is_moment, day_text, moment_text, read_moment}
-use Rattle.qrcode_contents.proofs.TimeReading.{day_read, moment_read, IsPlain-day, IsPlain-moment, filled_day}
-
--- a test whose denial does not hold
-allowed : (a : Bool) → not a ≡ false → a ≡ true
-allowed true is = refl
-allowed false is = cc
+use Rattle.qrcode_contents.specs.Event.{Happening, wrong_stamp, stamp_text, read_stamp, begins_never, ends_never, event_checks, event_refusal, span_lines, event_lines, first_lines, last_lines, event_text, before_end, component, span_in, happening_in, calendar_event, read_event}
+use Rattle.qrcode_contents.specs.Times.{is_day, is_moment, day_text, moment_text}
+use Rattle.qrcode_contents.proofs.TimeReading.{allowed, day_read, moment_read, IsPlain-day, IsPlain-moment, filled_day, filled_moment}
 
 -- what no refusal says of the fields
 record IsSayable (h : Happening) : Type 0 where
   uid : HasNo 13 h.uid
-  stamp : is_moment h.stamp ≡ true
+  stamp : wrong_stamp h.stamp ≡ false
   begins : begins_never h.span ≡ false
   ends : ends_never h.span ≡ false
   summary : HasNo 13 h.summary
@@ -42,13 +37,13 @@ unfolding event_refusal
 sayable h is =
     let t = all_pass (event_checks h) is in
     record {
-      uid = no_return h.uid (test_passes (list_any is_control h.uid) Uid ControlCharacter t.1.0);
-      stamp = allowed (is_moment h.stamp) (test_passes (not (is_moment h.stamp)) Stamp Range t.1.1.0);
-      begins = test_passes (begins_never h.span) Begin Range t.1.1.1.0;
-      ends = test_passes (ends_never h.span) End Range t.1.1.1.1.0;
-      summary = no_stray_return h.summary (test_passes (list_any is_stray h.summary) Summary ControlCharacter t.1.1.1.1.1.1.0);
-      location = no_stray_return h.location (test_passes (list_any is_stray h.location) Location ControlCharacter t.1.1.1.1.1.1.1.0);
-      description = no_stray_return h.description (test_passes (list_any is_stray h.description) Description ControlCharacter t.1.1.1.1.1.1.1.1.0);
+      uid = no_return h.uid (test_passes (list_any is_control h.uid) Uid ControlCharacter t.0);
+      stamp = test_passes (wrong_stamp h.stamp) Stamp Range t.1.0;
+      begins = test_passes (begins_never h.span) Begin Range t.1.1.0;
+      ends = test_passes (ends_never h.span) End Range t.1.1.1.0;
+      summary = no_stray_return h.summary (test_passes (list_any is_stray h.summary) Summary ControlCharacter t.1.1.1.1.1.0);
+      location = no_stray_return h.location (test_passes (list_any is_stray h.location) Location ControlCharacter t.1.1.1.1.1.1.0);
+      description = no_stray_return h.description (test_passes (list_any is_stray h.description) Description ControlCharacter t.1.1.1.1.1.1.1.0);
     }
 
 -- ---- each line can be read back
@@ -63,11 +58,15 @@ span_content (Times begin end) begins ends = (
   (line_with (codes "DTEND") (moment_text end) refl refl refl refl (IsPlain-moment end (allowed (is_moment end) ends)), tt),
 )
 
+stamp_plain : (s : Option Moment) → wrong_stamp s ≡ false → IsPlain (stamp_text s)
+stamp_plain None is = plain_nothing
+stamp_plain (Some m) is = IsPlain-moment m (allowed (is_moment m) is)
+
 event_content : (h : Happening) → IsSayable h → AreContent (event_lines h)
 event_content h are = (
   line_with (codes "UID") (structured (h.uid ∷ [])) refl refl refl refl (one_plain h.uid are.uid),
   (
-    line_with (codes "DTSTAMP") (moment_text h.stamp) refl refl refl refl (IsPlain-moment h.stamp are.stamp),
+    line_with (codes "DTSTAMP") (stamp_text h.stamp) refl refl refl refl (stamp_plain h.stamp are.stamp),
     AreContent-append (span_lines h.span) _ (span_content h.span are.begins are.ends) (
       line_with (codes "SUMMARY") (structured (h.summary ∷ [])) refl refl refl refl (one_plain h.summary are.summary),
       (
@@ -175,7 +174,7 @@ same_happening h uid summary location description h₁ h₂ h₃ h₄ = rw (h₁
 -- the values that lines have
 record Says (h : Happening) (lines : List Entry) : Type 0 where
   uid : value_of (codes "UID") lines ≡ structured (h.uid ∷ [])
-  stamp : read_moment (value_of (codes "DTSTAMP") lines) ≡ Some h.stamp
+  stamp : read_stamp (value_of (codes "DTSTAMP") lines) ≡ Some h.stamp
   span : span_in lines ≡ Some h.span
   summary : value_of (codes "SUMMARY") lines ≡ structured (h.summary ∷ [])
   location : value_of (codes "LOCATION") lines ≡ structured (h.location ∷ [])
@@ -186,19 +185,23 @@ happening_said h lines says =
     rw (says.uid, says.stamp, says.span, says.summary, says.location, says.description)
     (ap Some (same_happening h _ _ _ _ (part_read 0 h.uid []) (part_read 0 h.summary []) (part_read 0 h.location []) (part_read 0 h.description [])))
 
+stamp_read : (s : Option Moment) → wrong_stamp s ≡ false → read_stamp (stamp_text s) ≡ Some s
+stamp_read None is = refl
+stamp_read (Some m) is = rw (filled_moment m (allowed (is_moment m) is), moment_read m (allowed (is_moment m) is)) refl
+
 days_said : (first end : Day) (lines : List Entry) → is_day first ≡ true → is_day end ≡ true → value_of (codes "DTSTART;VALUE=DATE") lines ≡ day_text first → value_of (codes "DTEND;VALUE=DATE") lines ≡ day_text end → span_in lines ≡ Some (Days first end)
 days_said first end lines begins ends h₁ h₂ = rw (h₁, h₂, filled_day first begins, day_read first begins, day_read end ends) refl
 
 times_said : (begin end : Moment) (lines : List Entry) → is_moment begin ≡ true → is_moment end ≡ true → value_of (codes "DTSTART;VALUE=DATE") lines ≡ [] → value_of (codes "DTSTART") lines ≡ moment_text begin → value_of (codes "DTEND") lines ≡ moment_text end → span_in lines ≡ Some (Times begin end)
 times_said begin end lines begins ends none h₁ h₂ = rw (none, h₁, h₂, moment_read begin begins, moment_read end ends) refl
 
-says_by : (uid : List ℕ) (stamp : Moment) (span : Span) (summary location description : List ℕ) → let h : Happening = record { uid = uid; stamp = stamp; span = span; summary = summary; location = location; description = description } in IsSayable h → Says h (filled (entries_of (event_lines h)))
+says_by : (uid : List ℕ) (stamp : Option Moment) (span : Span) (summary location description : List ℕ) → let h : Happening = record { uid = uid; stamp = stamp; span = span; summary = summary; location = location; description = description } in IsSayable h → Says h (filled (entries_of (event_lines h)))
 says_by uid stamp (Days first end) summary location description are =
     let h : Happening = record { uid = uid; stamp = stamp; span = Days first end; summary = summary; location = location; description = description } in
     let es = entries_of (event_lines h) in
     record {
       uid = part_of-filled (codes "UID") 0 es refl;
-      stamp = ap read_moment (part_of-filled (codes "DTSTAMP") 0 es refl) ∙ moment_read stamp are.stamp;
+      stamp = ap read_stamp (part_of-filled (codes "DTSTAMP") 0 es refl) ∙ stamp_read stamp are.stamp;
       span = days_said first end (filled es) (allowed (is_day first) are.begins) (allowed (is_day end) are.ends) (part_of-filled (codes "DTSTART;VALUE=DATE") 0 es refl) (part_of-filled (codes "DTEND;VALUE=DATE") 0 es refl);
       summary = part_of-filled (codes "SUMMARY") 0 es refl;
       location = part_of-filled (codes "LOCATION") 0 es refl;
@@ -209,7 +212,7 @@ says_by uid stamp (Times begin end) summary location description are =
     let es = entries_of (event_lines h) in
     record {
       uid = part_of-filled (codes "UID") 0 es refl;
-      stamp = ap read_moment (part_of-filled (codes "DTSTAMP") 0 es refl) ∙ moment_read stamp are.stamp;
+      stamp = ap read_stamp (part_of-filled (codes "DTSTAMP") 0 es refl) ∙ stamp_read stamp are.stamp;
       span = times_said begin end (filled es) (allowed (is_moment begin) are.begins) (allowed (is_moment end) are.ends) (part_of-filled (codes "DTSTART;VALUE=DATE") 0 es refl) (part_of-filled (codes "DTSTART") 0 es refl) (part_of-filled (codes "DTEND") 0 es refl);
       summary = part_of-filled (codes "SUMMARY") 0 es refl;
       location = part_of-filled (codes "LOCATION") 0 es refl;

@@ -28,3 +28,4 @@ pub mod Pieces
 pub mod EventReading
 pub mod PushedEvents
 pub mod TimeReading
+pub mod ObjectReading

@@ -112,10 +112,10 @@ unfolding decoded
 path_decoded bytes = ap decoded (sym (append-nil (part_text Path bytes))) ∙ decoded-path bytes [] ∙ append-nil bytes
 
 -- carriage returns are left out
-abbrev is_kept : ℕ → Bool
+abbrev pub is_kept : ℕ → Bool
 is_kept b = not (b == 13)
 
-kept_first : (b : ℕ) (rest : List ℕ) → (b == 13) ≡ false → filter is_kept (b ∷ rest) ≡ b ∷ filter is_kept rest
+pub kept_first : (b : ℕ) (rest : List ℕ) → (b == 13) ≡ false → filter is_kept (b ∷ rest) ≡ b ∷ filter is_kept rest
 kept_first b rest other = rw other refl
 
 break_decoded : (rest : List ℕ) → filter is_kept (decoded (part_byte Value 10 ++ rest)) ≡ 10 ∷ filter is_kept (decoded rest)
@@ -164,10 +164,10 @@ all_no_and (b ∷ piece) is =
 abbrev pub entries_of : List Parameter → List Entry
 entries_of ps = map (λ p. single p.0 p.1) ps
 
-abbrev read_pieces : List ℕ → List Entry
+abbrev pub read_pieces : List ℕ → List Entry
 read_pieces bytes = map read_parameter (slice_split is_and bytes)
 
-abbrev and_text : List Parameter → List ℕ
+abbrev pub and_text : List Parameter → List ℕ
 and_text ps = query_text (38 ∷ []) ps
 
 later_filled : (piece key value : List ℕ) (ps : List Parameter) → HasNo 38 piece → HasNo 61 key → HasNo 13 value → read_pieces (parameter_text (key, value) ++ and_text ps) ≡ read_parameter (parameter_text (key, value)) ∷ filled (entries_of ps) → read_pieces (piece ++ 38 ∷ (parameter_text (key, value) ++ and_text ps)) ≡ read_parameter piece ∷ single key value ∷ filled (entries_of ps)
@@ -180,7 +180,7 @@ later_by piece key value ps true is none name no_return with_it without = rw is 
 later_by piece key value ps false is none name no_return with_it without = rw is without
 
 -- parameters behind a piece are read back, without those that have no value
-later_read : (piece : List ℕ) (ps : List Parameter) → HasNo 38 piece → AreParameters ps → read_pieces (piece ++ and_text ps) ≡ read_parameter piece ∷ filled (entries_of ps)
+pub later_read : (piece : List ℕ) (ps : List Parameter) → HasNo 38 piece → AreParameters ps → read_pieces (piece ++ and_text ps) ≡ read_parameter piece ∷ filled (entries_of ps)
 later_read piece [] none are =
     ap read_pieces (append-nil piece) ∙ ap (map read_parameter) (slice_split_none is_and piece (all_no_and piece none))
 later_read piece ((key, value) ∷ ps) none are =

@@ -46,7 +46,8 @@ digits_plain Eight = refl
 digit_plain : (n : ℕ) → HasNo 13 ((48 + n) ∷ [])
 digit_plain n = let no : ((48 + n) == 13) ≡ false = grind (arith, nat_tests) in ap (λ x. x || false) no
 
-decimal_plain : (n : ℕ) → n < 2 ^ 64 → HasNo 13 (decimal n)
+-- digits have no carriage return
+pub decimal_plain : (n : ℕ) → n < 2 ^ 64 → HasNo 13 (decimal n)
 decimal_plain n fits = decimal_by_steps (λ m ds. HasNo 13 ds) (λ m small. digit_plain m)
     (λ m ds low is. HasNo-append 13 ds ((48 + m % 10) ∷ []) is (digit_plain (m % 10))) n fits
 

@@ -1,5 +1,5 @@
--- Amounts that may be left open.
-use Rattle.std.proofs.Common.{◌≡◌, ℕ, Option, Some, None, Decides, nat_eq, refl, ap}
+-- Amounts and moments that may be left open.
+use Rattle.std.proofs.Common.{◌≡◌, ℕ, Bool, Option, Some, None, Decides, nat_eq, refl, ap}
 use Rattle.std.specs.Option.{option_eq}
 use Rattle.std.proofs.lemmas.Bool.Decides.{Decides-eqb}
 
@@ -9,3 +9,10 @@ amounts_equal None None = ((λ is. refl), (λ e. refl))
 amounts_equal None (Some y) = ((λ is. cc), (λ e. cc))
 amounts_equal (Some x) None = ((λ is. cc), (λ e. cc))
 amounts_equal (Some x) (Some y) = ((λ is. ap Some ((Decides-eqb x y).0 is)), (λ e. (Decides-eqb x y).1 (let same : x ≡ y = cc in same)))
+
+-- by the test of what they may be
+pub options_equal : {A : Type 0} (E : A → A → Bool) → ((x y : A) → Decides (E x y) (x ≡ y)) → (a b : Option A) → Decides (option_eq E a b) (a ≡ b)
+options_equal E decides None None = ((λ is. refl), (λ e. refl))
+options_equal E decides None (Some y) = ((λ is. cc), (λ e. cc))
+options_equal E decides (Some x) None = ((λ is. cc), (λ e. cc))
+options_equal E decides (Some x) (Some y) = ((λ is. ap Some ((decides x y).0 is)), (λ e. (decides x y).1 (let same : x ≡ y = cc in same)))

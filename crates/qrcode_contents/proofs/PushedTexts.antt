@@ -5,24 +5,24 @@ use Rattle.qrcode_contents.specs.fields.ContentLines.{content_line, content_text
 use Rattle.qrcode_contents.specs.fields.Entries.{Entry, marked_text}
 use Rattle.qrcode_contents.specs.fields.Links.{Parameter}
 
-six_grouped : (f n t u a o l : List ℕ) → (((((f ++ n) ++ t) ++ u) ++ a) ++ o) ++ l ≡ f ++ (n ++ (t ++ (u ++ (a ++ (o ++ l)))))
-six_grouped f n t u a o l = simp append_assoc
+six_grouped : (f t u a b o l : List ℕ) → (((((f ++ t) ++ u) ++ a) ++ b) ++ o) ++ l ≡ f ++ (t ++ (u ++ (a ++ (b ++ (o ++ l)))))
+six_grouped f t u a b o l = simp append_assoc
 
 -- the lines of a card between its first and its last
-pub card_pushed : (first texts last : List Parameter) (names url address note : Parameter) (t₀ t₁ t₂ t₃ t₄ t₅ t₆ : List ℕ) → t₀ ≡ content_text first → t₁ ≡ t₀ ++ content_line names → t₂ ≡ t₁ ++ content_text texts → t₃ ≡ t₂ ++ content_line url → t₄ ≡ t₃ ++ content_line address → t₅ ≡ t₄ ++ content_line note → t₆ ≡ t₅ ++ content_text last → t₆ ≡ content_text (first ++ (names ∷ (texts ++ (url ∷ address ∷ note ∷ last))))
-card_pushed first texts last names url address note t₀ t₁ t₂ t₃ t₄ t₅ t₆ h₀ h₁ h₂ h₃ h₄ h₅ h₆ =
-    let later : List Parameter = url ∷ address ∷ note ∷ last in
+pub card_pushed : (first texts last : List Parameter) (url address birthday note : Parameter) (t₀ t₁ t₂ t₃ t₄ t₅ t₆ : List ℕ) → t₀ ≡ content_text first → t₁ ≡ t₀ ++ content_text texts → t₂ ≡ t₁ ++ content_line url → t₃ ≡ t₂ ++ content_line address → t₄ ≡ t₃ ++ content_line birthday → t₅ ≡ t₄ ++ content_line note → t₆ ≡ t₅ ++ content_text last → t₆ ≡ content_text (first ++ (texts ++ (url ∷ address ∷ birthday ∷ note ∷ last)))
+card_pushed first texts last url address birthday note t₀ t₁ t₂ t₃ t₄ t₅ t₆ h₀ h₁ h₂ h₃ h₄ h₅ h₆ =
+    let later : List Parameter = url ∷ address ∷ birthday ∷ note ∷ last in
     rw (h₆, h₅, h₄, h₃, h₂, h₁, h₀)
-    (six_grouped (content_text first) (content_line names) (content_text texts) (content_line url) (content_line address) (content_line note) (content_text last)
-    ∙ ap (λ xs. content_text first ++ (content_line names ++ xs)) (sym (flat_map-append content_line texts later))
-    ∙ sym (flat_map-append content_line first (names ∷ (texts ++ later))))
+    (six_grouped (content_text first) (content_text texts) (content_line url) (content_line address) (content_line birthday) (content_line note) (content_text last)
+    ∙ ap (λ xs. content_text first ++ xs) (sym (flat_map-append content_line texts later))
+    ∙ sym (flat_map-append content_line first (texts ++ later)))
 
-three_grouped : (s n t a : List ℕ) → (((s ++ n) ++ t) ++ a) ++ 59 ∷ [] ≡ s ++ ((n ++ (t ++ (a ++ []))) ++ 59 ∷ [])
-three_grouped s n t a = simp (append_assoc, append-nil)
+five_grouped : (s n t b o a : List ℕ) → (((((s ++ n) ++ t) ++ b) ++ o) ++ a) ++ 59 ∷ [] ≡ s ++ ((n ++ (t ++ (b ++ (o ++ (a ++ []))))) ++ 59 ∷ [])
+five_grouped s n t b o a = simp (append_assoc, append-nil)
 
 -- the entries of a contact behind a beginning, and an end
-pub contact_pushed : (start : List ℕ) (names address : Entry) (texts : List Entry) (t₀ t₁ t₂ t₃ t₄ : List ℕ) → t₀ ≡ start → t₁ ≡ t₀ ++ marked_text names → t₂ ≡ t₁ ++ flat_map marked_text texts → t₃ ≡ t₂ ++ marked_text address → t₄ ≡ t₃ ++ 59 ∷ [] → t₄ ≡ start ++ (flat_map marked_text (names ∷ (texts ++ (address ∷ []))) ++ 59 ∷ [])
-contact_pushed start names address texts t₀ t₁ t₂ t₃ t₄ h₀ h₁ h₂ h₃ h₄ =
-    rw (h₄, h₃, h₂, h₁, h₀)
-    (three_grouped start (marked_text names) (flat_map marked_text texts) (marked_text address)
-    ∙ ap (λ xs. start ++ ((marked_text names ++ xs) ++ 59 ∷ [])) (sym (flat_map-append marked_text texts (address ∷ []))))
+pub contact_pushed : (start : List ℕ) (names birthday note address : Entry) (texts : List Entry) (t₀ t₁ t₂ t₃ t₄ t₅ t₆ : List ℕ) → t₀ ≡ start → t₁ ≡ t₀ ++ marked_text names → t₂ ≡ t₁ ++ flat_map marked_text texts → t₃ ≡ t₂ ++ marked_text birthday → t₄ ≡ t₃ ++ marked_text note → t₅ ≡ t₄ ++ marked_text address → t₆ ≡ t₅ ++ 59 ∷ [] → t₆ ≡ start ++ (flat_map marked_text (names ∷ (texts ++ (birthday ∷ note ∷ address ∷ []))) ++ 59 ∷ [])
+contact_pushed start names birthday note address texts t₀ t₁ t₂ t₃ t₄ t₅ t₆ h₀ h₁ h₂ h₃ h₄ h₅ h₆ =
+    rw (h₆, h₅, h₄, h₃, h₂, h₁, h₀)
+    (five_grouped start (marked_text names) (flat_map marked_text texts) (marked_text birthday) (marked_text note) (marked_text address)
+    ∙ ap (λ xs. start ++ ((marked_text names ++ xs) ++ 59 ∷ [])) (sym (flat_map-append marked_text texts (birthday ∷ note ∷ address ∷ []))))

@@ -1,5 +1,5 @@
 -- Days and moments are read back.
-use Rattle.std.proofs.Common.{◌≡◌, ℕ, nat_lt, nat_le, ◌+◌, ◌*◌, ◌/◌, ◌%◌, ◌<◌, ◌≤◌, ◌==◌, ◌&&◌, ◌||◌, List, [], ◌∷◌, ◌++◌, Bool, true, false, Some, if◌then◌else◌, refl, ap, ap₂, ◌∙◌, sym, subst, arith}
+use Rattle.std.proofs.Common.{◌≡◌, ℕ, nat_lt, nat_le, ◌+◌, ◌*◌, ◌/◌, ◌%◌, ◌<◌, ◌≤◌, ◌==◌, ◌&&◌, ◌||◌, List, [], ◌∷◌, ◌++◌, Bool, true, false, not, filter, Option, None, Some, if◌then◌else◌, refl, ap, ap₂, ◌∙◌, sym, subst, arith}
 use Rattle.std.specs.Char.{digit_value}
 use Rattle.std.specs.Str.Parse.{digits_value}
 use Rattle.std.proofs.lemmas.Bool.Decides.{nat_tests}
@@ -11,10 +11,10 @@ use Rattle.qrcode_contents.proofs.ContentParts.{IsPlain, plain_nothing}
 use Rattle.qrcode_contents.proofs.EntryReading.{both}
 use Rattle.qrcode_contents.specs.declared.times.Day.{Day}
 use Rattle.qrcode_contents.specs.declared.times.Moment.{Moment}
-use Rattle.qrcode_contents.specs.Times.{is_leap, days_in, is_day, is_moment, pair_text, day_text, moment_text, day_in, read_day, read_moment}
+use Rattle.qrcode_contents.specs.Times.{is_leap, days_in, is_day, wrong_day, is_moment, pair_text, day_text, date_text, said_or_none, moment_text, day_in, read_day, read_date, read_or_none, read_moment}
 
 -- two digits, one by one
-pair_digits : (n : ℕ) → n < 100 → pair_text n ≡ (48 + n / 10) ∷ (48 + n % 10) ∷ []
+pub pair_digits : (n : ℕ) → n < 100 → pair_text n ≡ (48 + n / 10) ∷ (48 + n % 10) ∷ []
 pair_digits n small =
     ap₂ (λ xs ys. xs ++ ys) (decimal_digit (n / 10) (omega arith)) (decimal_digit (n % 10) (omega arith))
 
@@ -152,6 +152,66 @@ IsPlain-moment m is =
     subst IsPlain (sym (moment_written m (short_moment m is)))
     (plain_day m.day (clock_digits m) (record { no_return = time.no_return; no_feed = time.no_feed }))
 
+pub filled_moment : (m : Moment) → is_moment m ≡ true → is_filled (moment_text m) ≡ true
+filled_moment m is = ap is_filled (moment_written m (short_moment m is))
+
 -- it says something
 pub filled_day : (d : Day) → is_day d ≡ true → is_filled (day_text d) ≡ true
 filled_day d is = ap is_filled (day_digits d (small_day d is))
+
+-- a test whose denial does not hold
+pub allowed : (a : Bool) → not a ≡ false → a ≡ true
+allowed true is = refl
+allowed false is = cc
+
+-- a day that is left out, or that is said
+pub day_or_none_read : (day : Option Day) → wrong_day day ≡ false → read_or_none read_day (said_or_none day_text day) ≡ Some day
+day_or_none_read None is = refl
+day_or_none_read (Some d) is = let valid = allowed (is_day d) is in rw (filled_day d valid, day_read d valid) refl
+
+-- ---- with hyphens
+
+-- the digits of a day with hyphens between year, month and day
+abbrev date_digits : Day → List ℕ
+date_digits d =
+    (48 + d.year / 100 / 10) ∷ (48 + d.year / 100 % 10) ∷ (48 + d.year % 100 / 10) ∷ (48 + d.year % 100 % 10) ∷ 45
+    ∷ (48 + d.month / 10) ∷ (48 + d.month % 10) ∷ 45 ∷ (48 + d.day / 10) ∷ (48 + d.day % 10) ∷ []
+
+date_written : (d : Day) → IsSmall d → date_text d ≡ date_digits d
+unfolding date_text
+date_written d is =
+    rw (pair_digits (d.year / 100) (let y = is.year in omega (arith, y)), pair_digits (d.year % 100) (omega arith), pair_digits d.month is.month, pair_digits d.day is.day) refl
+
+digit_no_hyphen : (n : ℕ) → ((48 + n) == 45) ≡ false
+digit_no_hyphen n = grind (arith, nat_tests)
+
+-- the digits alone
+kept_digits : (d : Day) → filter (λ b. not (b == 45)) (date_digits d) ≡ digits_then d []
+kept_digits d =
+    rw (digit_no_hyphen (d.year / 100 / 10), digit_no_hyphen (d.year / 100 % 10), digit_no_hyphen (d.year % 100 / 10), digit_no_hyphen (d.year % 100 % 10), digit_no_hyphen (d.month / 10), digit_no_hyphen (d.month % 10), digit_no_hyphen (d.day / 10), digit_no_hyphen (d.day % 10)) refl
+
+date_read : (d : Day) → is_day d ≡ true → read_date (date_text d) ≡ Some d
+unfolding read_date
+date_read d is =
+    let small = small_day d is in
+    ap (λ text. read_day (filter (λ b. not (b == 45)) text)) (date_written d small)
+    ∙ ap read_day (kept_digits d ∙ sym (day_digits d small))
+    ∙ day_read d is
+
+-- a day with hyphens that is left out, or that is said
+pub date_or_none_read : (day : Option Day) → wrong_day day ≡ false → read_or_none read_date (said_or_none date_text day) ≡ Some day
+date_or_none_read None is = refl
+date_or_none_read (Some d) is =
+    let valid = allowed (is_day d) is in
+    let some : is_filled (date_text d) ≡ true = ap is_filled (date_written d (small_day d valid)) in
+    rw (some, date_read d valid) refl
+
+plain_hyphen : (rest : List ℕ) → IsPlain rest → IsPlain (45 ∷ rest)
+plain_hyphen rest is = record { no_return = is.no_return; no_feed = is.no_feed }
+
+-- and its text has no line break
+pub IsPlain-date : (day : Option Day) → wrong_day day ≡ false → IsPlain (said_or_none date_text day)
+IsPlain-date None is = plain_nothing
+IsPlain-date (Some d) is =
+    subst IsPlain (sym (date_written d (small_day d (allowed (is_day d) is))))
+    (plain_digits _ _ _ (plain_digits _ _ _ (plain_hyphen _ (plain_digits _ _ _ (plain_hyphen _ (plain_digits _ _ [] plain_nothing))))))

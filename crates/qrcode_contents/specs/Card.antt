@@ -1,25 +1,35 @@
 -- Texts of contacts as vCard 3.0 (RFC 2426).
-use Rattle.std.specs.Prelude.{ℕ, ◌&&◌, List, [], ◌∷◌, Option, Some, None, codes, if◌then◌else◌}
+use Rattle.std.specs.Prelude.{◌≡◌, ℕ, ◌&&◌, List, [], ◌∷◌, ◌++◌, Option, Some, None, codes, if◌then◌else◌, refl}
 use Rattle.std.specs.Str.{bytes_eq}
 use Rattle.std.specs.List.{list_any}
+use Rattle.std.specs.Option.{option_map}
 use Rattle.qrcode_contents.specs.declared.card.Card.{Card}
 use Rattle.qrcode_contents.specs.declared.fields.errors.ContentError.{ContentError}
-use Rattle.qrcode_contents.specs.declared.fields.errors.Field.TheVariants.{Name, Family, Given, Organisation, Phone, Email, Url, Street, City, Region, PostalCode, Country, Note}
-use Rattle.qrcode_contents.specs.declared.fields.errors.Cause.TheVariants.{Empty, ControlCharacter}
-use Rattle.qrcode_contents.specs.fields.Characters.{is_control, is_stray}
-use Rattle.qrcode_contents.specs.fields.ContentLines.{content_text, structured, read_content, part_in}
+use Rattle.qrcode_contents.specs.declared.fields.errors.Field.{Field}
+use Rattle.qrcode_contents.specs.declared.fields.errors.Field.TheVariants.{Name, Family, Given, Organisation, Title, Phone, Mobile, WorkPhone, HomePhone, Email, Url, Birthday, Street, City, Region, PostalCode, Country, Note}
+use Rattle.qrcode_contents.specs.declared.fields.errors.Cause.TheVariants.{Empty, ControlCharacter, Range}
+use Rattle.qrcode_contents.specs.declared.times.Day.{Day}
+use Rattle.qrcode_contents.specs.fields.Characters.{is_control, stray_checks}
+use Rattle.qrcode_contents.specs.fields.ContentLines.{content_text, structured, text_lines, read_content, unfolded, part_in}
 use Rattle.qrcode_contents.specs.fields.Entries.{Entry, is_empty, value_of}
+use Rattle.qrcode_contents.specs.fields.Escapes.{unescaped_from, pieces_from}
 use Rattle.qrcode_contents.specs.fields.Links.{Parameter}
 use Rattle.qrcode_contents.specs.fields.Refusals.{refused_if, first_refusal}
+use Rattle.qrcode_contents.specs.Times.{wrong_day, date_text, said_or_none, read_day, read_date, read_or_none}
 
 pub record Contact : Type 0 where  -- a contact as its card says it
   pub name : List ℕ
   pub family : List ℕ
   pub given : List ℕ
   pub organisation : List ℕ
+  pub title : List ℕ
   pub phone : List ℕ
+  pub mobile : List ℕ
+  pub work_phone : List ℕ
+  pub home_phone : List ℕ
   pub email : List ℕ
   pub url : List ℕ
+  pub birthday : Option Day
   pub street : List ℕ
   pub city : List ℕ
   pub region : List ℕ
@@ -33,9 +43,14 @@ contact_of c = record {
   family = c.family.now;
   given = c.given.now;
   organisation = c.organisation.now;
+  title = c.title.now;
   phone = c.phone.now;
+  mobile = c.mobile.now;
+  work_phone = c.work_phone.now;
+  home_phone = c.home_phone.now;
   email = c.email.now;
   url = c.url.now;
+  birthday = c.birthday;
   street = c.street.now;
   city = c.city.now;
   region = c.region.now;
@@ -44,70 +59,113 @@ contact_of c = record {
   note = c.note.now;
 }
 
--- control characters: in texts tabs and line feeds may stand, in an address of the web none
-abbrev pub card_checks : Contact → List (Option ContentError)
-card_checks c =
-    refused_if (is_empty c.name) Name Empty
-    ∷ refused_if (is_empty c.family) Family Empty
-    ∷ refused_if (list_any is_stray c.name) Name ControlCharacter
-    ∷ refused_if (list_any is_stray c.family) Family ControlCharacter
-    ∷ refused_if (list_any is_stray c.given) Given ControlCharacter
-    ∷ refused_if (list_any is_stray c.organisation) Organisation ControlCharacter
-    ∷ refused_if (list_any is_stray c.phone) Phone ControlCharacter
-    ∷ refused_if (list_any is_stray c.email) Email ControlCharacter
-    ∷ refused_if (list_any is_control c.url) Url ControlCharacter
-    ∷ refused_if (list_any is_stray c.note) Note ControlCharacter
-    ∷ []
+abbrev pub first_fields : Contact → List (Field × List ℕ)  -- fields of texts, in which tabs and line feeds may stand
+first_fields c =
+    (Name, c.name) ∷ (Family, c.family) ∷ (Given, c.given) ∷ (Organisation, c.organisation) ∷ (Title, c.title) ∷ (Phone, c.phone)
+    ∷ (Mobile, c.mobile) ∷ (WorkPhone, c.work_phone) ∷ []
 
-abbrev pub place_checks : Contact → List (Option ContentError)  -- the same of the address
-place_checks c =
-    refused_if (list_any is_stray c.street) Street ControlCharacter
-    ∷ refused_if (list_any is_stray c.city) City ControlCharacter
-    ∷ refused_if (list_any is_stray c.region) Region ControlCharacter
-    ∷ refused_if (list_any is_stray c.code) PostalCode ControlCharacter
-    ∷ refused_if (list_any is_stray c.country) Country ControlCharacter
-    ∷ []
+abbrev pub last_fields : Contact → List (Field × List ℕ)  -- more of these
+last_fields c =
+    (HomePhone, c.home_phone) ∷ (Email, c.email) ∷ (Note, c.note) ∷ (Street, c.street) ∷ (City, c.city) ∷ (Region, c.region) ∷ (PostalCode, c.code) ∷ (Country, c.country) ∷ []
 
-unfoldable pub text_refusal : Contact → Option ContentError
-text_refusal c = first_refusal (card_checks c)
+abbrev pub first_checks : Contact → List (Option ContentError)  -- missing names, and control characters
+first_checks c =
+    refused_if (is_empty c.name) Name Empty ∷ refused_if (is_empty c.family) Family Empty ∷ stray_checks (first_fields c)
 
-unfoldable pub place_refusal : Contact → Option ContentError
-place_refusal c = first_refusal (place_checks c)
+-- control characters, of which none may stand in an address of the web, and a birthday that the calendar has not
+abbrev pub last_checks : Contact → List (Option ContentError)
+last_checks c =
+    refused_if (list_any is_control c.url) Url ControlCharacter ∷ refused_if (wrong_day c.birthday) Birthday Range
+    ∷ stray_checks (last_fields c)
+
+unfoldable pub first_refused : Contact → Option ContentError
+first_refused c = first_refusal (first_checks c)
+
+unfoldable pub last_refused : Contact → Option ContentError
+last_refused c = first_refusal (last_checks c)
 
 abbrev pub card_refusal : Contact → Option ContentError  -- what the card cannot say
-card_refusal c = first_refusal (text_refusal c ∷ place_refusal c ∷ [])
+card_refusal c = first_refusal (first_refused c ∷ last_refused c ∷ [])
+
+-- lines of one text before the addresses; a number may be that of a mobile telephone, at work or at home
+abbrev pub first_texts : Contact → List Parameter
+first_texts c =
+    (codes "FN", c.name) ∷ (codes "ORG", c.organisation) ∷ (codes "TITLE", c.title) ∷ (codes "TEL", c.phone)
+    ∷ (codes "TEL;TYPE=CELL", c.mobile) ∷ (codes "TEL;TYPE=WORK", c.work_phone) ∷ (codes "TEL;TYPE=HOME", c.home_phone)
+    ∷ (codes "EMAIL", c.email) ∷ []
+
+abbrev pub last_texts : Contact → List Parameter  -- those behind the addresses
+last_texts c = (codes "BDAY", said_or_none date_text c.birthday) ∷ (codes "NOTE", c.note) ∷ []
+
+abbrev pub name_lines : Contact → List Parameter  -- the lines of the name and of the first texts
+name_lines c = (codes "N", structured (c.family ∷ c.given ∷ [] ∷ [] ∷ [] ∷ [])) ∷ text_lines (first_texts c)
 
 abbrev pub card_lines : Contact → List Parameter  -- the lines of the card
 card_lines c =
     (codes "BEGIN", codes "VCARD") ∷ (codes "VERSION", codes "3.0")
-    ∷ (codes "N", structured (c.family ∷ c.given ∷ [] ∷ [] ∷ [] ∷ []))
-    ∷ (codes "FN", structured (c.name ∷ [])) ∷ (codes "ORG", structured (c.organisation ∷ []))
-    ∷ (codes "TEL", structured (c.phone ∷ [])) ∷ (codes "EMAIL", structured (c.email ∷ [])) ∷ (codes "URL", c.url)
+    ∷ (name_lines c
+    ++ ((codes "URL", c.url)
     ∷ (codes "ADR", structured ([] ∷ [] ∷ c.street ∷ c.city ∷ c.region ∷ c.code ∷ c.country ∷ []))
-    ∷ (codes "NOTE", structured (c.note ∷ [])) ∷ (codes "END", codes "VCARD") ∷ []
+    ∷ (text_lines (last_texts c) ++ (codes "END", codes "VCARD") ∷ [])))
 
 unfoldable pub card_text : Contact → List ℕ  -- the text of a card
 card_text c = content_text (card_lines c)
 
+abbrev pub text_in : List ℕ → List Entry → List ℕ  -- the text of the line with this key
+text_in key lines = part_in 0 (value_of key lines)
+
+abbrev pub contact_with : List Entry → Option Day → Contact  -- the contact that lines say, with this birthday
+contact_with lines birthday = record {
+  name = text_in (codes "FN") lines;
+  family = text_in (codes "N") lines;
+  given = part_in 1 (value_of (codes "N") lines);
+  organisation = text_in (codes "ORG") lines;
+  title = text_in (codes "TITLE") lines;
+  phone = text_in (codes "TEL") lines;
+  mobile = text_in (codes "TEL;TYPE=CELL") lines;
+  work_phone = text_in (codes "TEL;TYPE=WORK") lines;
+  home_phone = text_in (codes "TEL;TYPE=HOME") lines;
+  email = text_in (codes "EMAIL") lines;
+  url = value_of (codes "URL") lines;
+  birthday = birthday;
+  street = part_in 2 (value_of (codes "ADR") lines);
+  city = part_in 3 (value_of (codes "ADR") lines);
+  region = part_in 4 (value_of (codes "ADR") lines);
+  code = part_in 5 (value_of (codes "ADR") lines);
+  country = part_in 6 (value_of (codes "ADR") lines);
+  note = text_in (codes "NOTE") lines;
+}
+
 abbrev pub contact_in : List Entry → Option Contact  -- the contact that lines say
 contact_in lines =
     if bytes_eq (value_of (codes "BEGIN") lines) (codes "VCARD") && bytes_eq (value_of (codes "VERSION") lines) (codes "3.0") && bytes_eq (value_of (codes "END") lines) (codes "VCARD")
-    then Some (record {
-      name = part_in 0 (value_of (codes "FN") lines);
-      family = part_in 0 (value_of (codes "N") lines);
-      given = part_in 1 (value_of (codes "N") lines);
-      organisation = part_in 0 (value_of (codes "ORG") lines);
-      phone = part_in 0 (value_of (codes "TEL") lines);
-      email = part_in 0 (value_of (codes "EMAIL") lines);
-      url = value_of (codes "URL") lines;
-      street = part_in 2 (value_of (codes "ADR") lines);
-      city = part_in 3 (value_of (codes "ADR") lines);
-      region = part_in 4 (value_of (codes "ADR") lines);
-      code = part_in 5 (value_of (codes "ADR") lines);
-      country = part_in 6 (value_of (codes "ADR") lines);
-      note = part_in 0 (value_of (codes "NOTE") lines);
-    })
+    then option_map (contact_with lines) (read_or_none read_date (text_in (codes "BDAY") lines))
     else None
 
 unfoldable pub read_card : List ℕ → Option Contact  -- the contact that a text says
 read_card text = contact_in (read_content text)
+
+-- a card of printed examples of RFC 2426: names of section 3.1.2, a birthday of 3.1.5, a number of 3.3.1 with one of its types, and a title of 3.5.1
+printed_card : read_card (codes "BEGIN:VCARD\r\nVERSION:3.0\r\nN:Public;John;Quinlan;Mr.;Esq.\r\nFN:Mr. John Q. Public\\, Esq.\r\nTITLE:Director\\, Research and Development\r\nTEL;TYPE=WORK:+1-213-555-1234\r\nBDAY:1996-04-15\r\nEND:VCARD\r\n")
+    ≡ Some (let c : Contact = record {
+      name = codes "Mr. John Q. Public, Esq.";
+      family = codes "Public";
+      given = codes "John";
+      organisation = [];
+      title = codes "Director, Research and Development";
+      phone = [];
+      mobile = [];
+      work_phone = codes "+1-213-555-1234";
+      home_phone = [];
+      email = [];
+      url = [];
+      birthday = Some (record { year = 1996; month = 4; day = 15 });
+      street = [];
+      city = [];
+      region = [];
+      code = [];
+      country = [];
+      note = [];
+    } in c)
+unfolding read_card read_content unfolded read_date read_day unescaped_from pieces_from
+printed_card = refl

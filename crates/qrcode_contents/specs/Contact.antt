@@ -1,16 +1,16 @@
 -- Texts of contacts as MECARD: entries, of which a name and an address have parts.
-use Rattle.std.specs.Prelude.{◌≡◌, ℕ, nat_lt, ◌&&◌, not, List, [], ◌∷◌, ◌++◌, length, Option, Some, flat_map, codes, refl}
-use Rattle.std.specs.List.{list_all}
-use Rattle.std.specs.Str.{chars}
-use Rattle.std.specs.Option.{option_map}
+use Rattle.std.specs.Prelude.{◌≡◌, ℕ, List, [], ◌∷◌, ◌++◌, Option, Some, None, flat_map, codes, refl}
+use Rattle.std.specs.Option.{option_map, option_and_then}
 use Rattle.qrcode_contents.specs.declared.contact.Contact.{Contact}
 use Rattle.qrcode_contents.specs.declared.fields.errors.ContentError.{ContentError}
-use Rattle.qrcode_contents.specs.declared.fields.errors.Field.TheVariants.{Name, Given, Phone, Email, Url, Birthday, Note, Street, City, Region, PostalCode, Country}
-use Rattle.qrcode_contents.specs.declared.fields.errors.Cause.TheVariants.{Empty, TooShort, TooLong, Character}
-use Rattle.qrcode_contents.specs.fields.Characters.{is_digit, control_refusal}
-use Rattle.qrcode_contents.specs.fields.Entries.{Entry, single, is_empty, is_filled, marked_text, key_of, behind_key, read_entry, read_entries, value_of, part_of}
+use Rattle.qrcode_contents.specs.declared.fields.errors.Field.TheVariants.{Family, Given, Phone, Email, Url, Birthday, Note, Street, City, Region, PostalCode, Country}
+use Rattle.qrcode_contents.specs.declared.fields.errors.Cause.TheVariants.{Empty, Range}
+use Rattle.qrcode_contents.specs.fields.Characters.{control_refusal}
+use Rattle.qrcode_contents.specs.fields.Entries.{Entry, single, is_empty, marked_text, key_of, behind_key, read_entry, read_entries, value_of, part_of}
 use Rattle.qrcode_contents.specs.fields.Escapes.{unescaped_from, pieces_from}
 use Rattle.qrcode_contents.specs.fields.Refusals.{refused_if, first_refusal}
+use Rattle.qrcode_contents.specs.declared.times.Day.{Day}
+use Rattle.qrcode_contents.specs.Times.{wrong_day, day_text, said_or_none, read_day, read_or_none}
 
 pub record Person : Type 0 where  -- a contact as its text says it
   pub family : List ℕ
@@ -18,7 +18,7 @@ pub record Person : Type 0 where  -- a contact as its text says it
   pub phone : List ℕ
   pub email : List ℕ
   pub url : List ℕ
-  pub birthday : List ℕ
+  pub birthday : Option Day
   pub note : List ℕ
   pub street : List ℕ
   pub city : List ℕ
@@ -33,7 +33,7 @@ person_of c = record {
   phone = c.phone.now;
   email = c.email.now;
   url = c.url.now;
-  birthday = c.birthday.now;
+  birthday = c.birthday;
   note = c.note.now;
   street = c.street.now;
   city = c.city.now;
@@ -44,16 +44,12 @@ person_of c = record {
 
 unfoldable pub person_controls : Person → Option ContentError  -- line breaks and other control characters
 person_controls p = control_refusal (
-    (Name, p.family) ∷ (Given, p.given) ∷ (Phone, p.phone) ∷ (Email, p.email) ∷ (Url, p.url) ∷ (Note, p.note)
+    (Family, p.family) ∷ (Given, p.given) ∷ (Phone, p.phone) ∷ (Email, p.email) ∷ (Url, p.url) ∷ (Note, p.note)
     ∷ (Street, p.street) ∷ (City, p.city) ∷ (Region, p.region) ∷ (PostalCode, p.code) ∷ (Country, p.country) ∷ [])
 
-unfoldable pub person_checks : Person → Option ContentError  -- a missing name, and what is no birthday
+unfoldable pub person_checks : Person → Option ContentError  -- a missing name, and a birthday that the calendar has not
 person_checks p = first_refusal (
-    refused_if (is_empty p.family) Name Empty
-    ∷ refused_if (not (list_all is_digit p.birthday)) Birthday Character
-    ∷ refused_if (is_filled p.birthday && nat_lt (length (chars p.birthday)) 8) Birthday TooShort
-    ∷ refused_if (nat_lt 8 (length (chars p.birthday))) Birthday TooLong
-    ∷ [])
+    refused_if (is_empty p.family) Family Empty ∷ refused_if (wrong_day p.birthday) Birthday Range ∷ [])
 
 abbrev pub contact_refusal : Person → Option ContentError  -- what the text cannot say
 contact_refusal p = first_refusal (person_controls p ∷ person_checks p ∷ [])
@@ -62,20 +58,20 @@ contact_refusal p = first_refusal (person_controls p ∷ person_checks p ∷ [])
 abbrev pub mecard_entries : Person → List Entry
 mecard_entries p =
     (codes "N", p.family ∷ p.given ∷ []) ∷ single (codes "TEL") p.phone ∷ single (codes "EMAIL") p.email
-    ∷ single (codes "URL") p.url ∷ single (codes "BDAY") p.birthday ∷ single (codes "NOTE") p.note
+    ∷ single (codes "URL") p.url ∷ single (codes "BDAY") (said_or_none day_text p.birthday) ∷ single (codes "NOTE") p.note
     ∷ (codes "ADR", [] ∷ [] ∷ p.street ∷ p.city ∷ p.region ∷ p.code ∷ p.country ∷ []) ∷ []
 
 unfoldable pub mecard_text : Person → List ℕ  -- the text of a contact
 mecard_text p = codes "MECARD:" ++ (flat_map marked_text (mecard_entries p) ++ 59 ∷ [])
 
-abbrev pub contact_from : List Entry → Person  -- the contact that entries say
-contact_from entries = record {
+abbrev pub person_with : List Entry → Option Day → Person  -- the contact that entries say, with this birthday
+person_with entries birthday = record {
   family = part_of (codes "N") 0 entries;
   given = part_of (codes "N") 1 entries;
   phone = value_of (codes "TEL") entries;
   email = value_of (codes "EMAIL") entries;
   url = value_of (codes "URL") entries;
-  birthday = value_of (codes "BDAY") entries;
+  birthday = birthday;
   note = value_of (codes "NOTE") entries;
   street = part_of (codes "ADR") 2 entries;
   city = part_of (codes "ADR") 3 entries;
@@ -84,8 +80,11 @@ contact_from entries = record {
   country = part_of (codes "ADR") 6 entries;
 }
 
+abbrev pub person_from : List Entry → Option Person  -- the contact that entries say
+person_from entries = option_map (person_with entries) (read_or_none read_day (value_of (codes "BDAY") entries))
+
 unfoldable pub read_mecard : List ℕ → Option Person  -- the contact that a text says
-read_mecard text = option_map contact_from (read_entries (codes "MECARD:") text)
+read_mecard text = option_and_then person_from (read_entries (codes "MECARD:") text)
 
 -- the example that the page "Barcode Contents" of the ZXing project prints; its address has four parts, which are read in the order of MECARD's
 printed_row : read_mecard (codes "MECARD:N:Owen,Sean;ADR:76 9th Avenue, 4th Floor, New York, NY 10011;TEL:12125551212;EMAIL:srowen@example.com;;")
@@ -95,7 +94,7 @@ printed_row : read_mecard (codes "MECARD:N:Owen,Sean;ADR:76 9th Avenue, 4th Floo
       phone = codes "12125551212";
       email = codes "srowen@example.com";
       url = [];
-      birthday = [];
+      birthday = None;
       note = [];
       street = codes " New York";
       city = codes " NY 10011";

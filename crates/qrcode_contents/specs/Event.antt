@@ -1,14 +1,14 @@
 -- Texts of events as iCalendar (RFC 5545): one event in a calendar object.
-use Rattle.std.specs.Prelude.{◌≡◌, ℕ, ◌&&◌, not, nat_le, Bool, List, [], ◌∷◌, ◌++◌, Option, Some, None, slice_index_or, codes, if◌then◌else◌, refl}
+use Rattle.std.specs.Prelude.{◌≡◌, ℕ, ◌&&◌, not, nat_le, Bool, false, List, [], ◌∷◌, ◌++◌, Option, Some, None, slice_index_or, codes, if◌then◌else◌, refl}
 use Rattle.std.specs.Str.{bytes_eq}
 use Rattle.std.specs.List.{list_any}
 use Rattle.std.specs.Option.{option_map, option_and_then}
 use Rattle.qrcode_contents.specs.declared.fields.errors.ContentError.{ContentError}
 use Rattle.qrcode_contents.specs.declared.fields.errors.Field.TheVariants.{Uid, Stamp, Begin, End, Summary, Location, Description}
-use Rattle.qrcode_contents.specs.declared.fields.errors.Cause.TheVariants.{Empty, ControlCharacter, Range}
+use Rattle.qrcode_contents.specs.declared.fields.errors.Cause.TheVariants.{ControlCharacter, Range}
 use Rattle.qrcode_contents.specs.fields.Characters.{is_control, is_stray}
 use Rattle.qrcode_contents.specs.fields.ContentLines.{content_text, structured, unfolded, read_content, part_in}
-use Rattle.qrcode_contents.specs.fields.Entries.{Entry, is_empty, is_filled, value_of}
+use Rattle.qrcode_contents.specs.fields.Entries.{Entry, is_filled, value_of}
 use Rattle.qrcode_contents.specs.fields.Escapes.{unescaped_from, pieces_from}
 use Rattle.qrcode_contents.specs.fields.Links.{Parameter}
 use Rattle.qrcode_contents.specs.fields.Refusals.{refused_if, first_refusal}
@@ -20,7 +20,7 @@ use Rattle.qrcode_contents.specs.Times.{is_day, is_moment, day_number, moment_nu
 
 pub record Happening : Type 0 where  -- an event as its text says it
   pub uid : List ℕ
-  pub stamp : Moment
+  pub stamp : Option Moment
   pub span : Span
   pub summary : List ℕ
   pub location : List ℕ
@@ -35,6 +35,10 @@ happening_of e = record {
   location = e.location.now;
   description = e.description.now;
 }
+
+abbrev pub wrong_stamp : Option Moment → Bool  -- the calendar has no such moment
+wrong_stamp None = false
+wrong_stamp (Some m) = not (is_moment m)
 
 abbrev pub begins_never : Span → Bool  -- the calendar has no such beginning
 begins_never (Days first end) = not (is_day first)
@@ -51,9 +55,8 @@ ends_early (Times begin end) = nat_le (moment_number end) (moment_number begin)
 -- what the text cannot say: in texts tabs and line feeds may stand, in the identifier no control character
 abbrev pub event_checks : Happening → List (Option ContentError)
 event_checks h =
-    refused_if (is_empty h.uid) Uid Empty
-    ∷ refused_if (list_any is_control h.uid) Uid ControlCharacter
-    ∷ refused_if (not (is_moment h.stamp)) Stamp Range
+    refused_if (list_any is_control h.uid) Uid ControlCharacter
+    ∷ refused_if (wrong_stamp h.stamp) Stamp Range
     ∷ refused_if (begins_never h.span) Begin Range
     ∷ refused_if (ends_never h.span) End Range
     ∷ refused_if (ends_early h.span) End Range
@@ -70,9 +73,13 @@ span_lines (Days first end) =
     (codes "DTSTART;VALUE=DATE", day_text first) ∷ (codes "DTEND;VALUE=DATE", day_text end) ∷ []
 span_lines (Times begin end) = (codes "DTSTART", moment_text begin) ∷ (codes "DTEND", moment_text end) ∷ []
 
+abbrev pub stamp_text : Option Moment → List ℕ  -- the moment when an event was written, and nothing where it is left out
+stamp_text None = []
+stamp_text (Some m) = moment_text m
+
 abbrev pub event_lines : Happening → List Parameter  -- the lines of the event
 event_lines h =
-    (codes "UID", structured (h.uid ∷ [])) ∷ (codes "DTSTAMP", moment_text h.stamp)
+    (codes "UID", structured (h.uid ∷ [])) ∷ (codes "DTSTAMP", stamp_text h.stamp)
     ∷ (span_lines h.span
     ++ ((codes "SUMMARY", structured (h.summary ∷ [])) ∷ (codes "LOCATION", structured (h.location ∷ []))
     ∷ (codes "DESCRIPTION", structured (h.description ∷ [])) ∷ []))
@@ -109,6 +116,10 @@ span_in lines =
     else option_and_then (λ begin. option_map (λ end. Times begin end) (read_moment (value_of (codes "DTEND") lines)))
     (read_moment (value_of (codes "DTSTART") lines))
 
+-- the moment when an event was written, where a text says one, or that it is left out
+abbrev pub read_stamp : List ℕ → Option (Option Moment)
+read_stamp text = if is_filled text then option_map (λ m. Some m) (read_moment text) else Some None
+
 abbrev pub happening_in : List Entry → Option Happening  -- the event that lines say
 happening_in lines =
     option_and_then (λ stamp. option_map (λ span. record {
@@ -118,7 +129,7 @@ happening_in lines =
       summary = part_in 0 (value_of (codes "SUMMARY") lines);
       location = part_in 0 (value_of (codes "LOCATION") lines);
       description = part_in 0 (value_of (codes "DESCRIPTION") lines);
-    }) (span_in lines)) (read_moment (value_of (codes "DTSTAMP") lines))
+    }) (span_in lines)) (read_stamp (value_of (codes "DTSTAMP") lines))
 
 abbrev pub calendar_event : List Entry → Option Happening  -- the event of a calendar of version 2.0
 calendar_event calendar =
@@ -133,7 +144,7 @@ read_event text = option_and_then calendar_event (component (codes "VCALENDAR") 
 printed_event : read_event (codes "BEGIN:VCALENDAR\r\nVERSION:2.0\r\nPRODID:-//hacksw/handcal//NONSGML v1.0//EN\r\nBEGIN:VEVENT\r\nUID:19970610T172345Z-AF23B2@example.com\r\nDTSTAMP:19970610T172345Z\r\nDTSTART:19970714T170000Z\r\nDTEND:19970715T040000Z\r\nSUMMARY:Bastille Day Party\r\nEND:VEVENT\r\nEND:VCALENDAR\r\n")
     ≡ Some (let h : Happening = record {
       uid = codes "19970610T172345Z-AF23B2@example.com";
-      stamp = record { day = record { year = 1997; month = 6; day = 10 }; hour = 17; minute = 23; second = 45 };
+      stamp = Some (let m : Moment = record { day = record { year = 1997; month = 6; day = 10 }; hour = 17; minute = 23; second = 45 } in m);
       span = Times (record { day = record { year = 1997; month = 7; day = 14 }; hour = 17; minute = 0; second = 0 })
           (record { day = record { year = 1997; month = 7; day = 15 }; hour = 4; minute = 0; second = 0 });
       summary = codes "Bastille Day Party";

@@ -5,9 +5,11 @@ pub mod Contact
 pub mod Event
 pub mod Geo
 pub mod Mail
+pub mod Merchant
 pub mod OneTime
 pub mod Payment
 pub mod Phone
 pub mod Times
+pub mod Upi
 pub mod Wifi
 pub mod fields

@@ -1,9 +1,11 @@
--- Days and moments, and their texts in iCalendar (RFC 5545, sections 3.3.4 and 3.3.5).
-use Rattle.std.specs.Prelude.{◌≡◌, ℕ, nat_lt, nat_le, ◌+◌, ◌*◌, ◌/◌, ◌%◌, ◌==◌, ◌&&◌, ◌||◌, not, Bool, List, [], ◌∷◌, ◌++◌, Option, Some, None, take, drop, length, flat_map, decimal, codes, if◌then◌else◌, refl}
+-- Days and moments, and their texts in iCalendar (RFC 5545, sections 3.3.4 and 3.3.5) and vCard (RFC 2426, section 3.1.5).
+use Rattle.std.specs.Prelude.{◌≡◌, ℕ, nat_lt, nat_le, ◌+◌, ◌*◌, ◌/◌, ◌%◌, ◌==◌, ◌&&◌, ◌||◌, not, Bool, false, List, [], ◌∷◌, ◌++◌, Option, Some, None, take, drop, length, filter, flat_map, decimal, codes, if◌then◌else◌, refl}
+use Rattle.std.specs.Option.{option_map}
 use Rattle.std.specs.Str.{bytes_eq}
 use Rattle.std.specs.Str.Parse.{digits_value}
 use Rattle.qrcode_contents.specs.declared.times.Day.{Day}
 use Rattle.qrcode_contents.specs.declared.times.Moment.{Moment}
+use Rattle.qrcode_contents.specs.fields.Entries.{is_filled}
 
 abbrev pub is_leap : ℕ → Bool  -- a year of the Gregorian calendar with a 29th of February
 is_leap year = year % 4 == 0 && (not (year % 100 == 0) || year % 400 == 0)
@@ -16,6 +18,10 @@ days_in year month =
 abbrev pub is_day : Day → Bool  -- a day that the calendar has, in a year of four digits
 is_day d =
     nat_lt d.year 10000 && nat_lt 0 d.month && nat_lt d.month 13 && nat_lt 0 d.day && nat_le d.day (days_in d.year d.month)
+
+abbrev pub wrong_day : Option Day → Bool  -- a day that the calendar has not
+wrong_day None = false
+wrong_day (Some d) = not (is_day d)
 
 abbrev pub is_moment : Moment → Bool  -- a time of day on such a day; a minute may have a leap second at its end
 is_moment m = is_day m.day && nat_lt m.hour 24 && nat_lt m.minute 60 && nat_lt m.second 61
@@ -35,6 +41,15 @@ pairs_text numbers = flat_map pair_text numbers
 unfoldable pub day_text : Day → List ℕ  -- the text of a day
 day_text d = pairs_text (d.year / 100 ∷ d.year % 100 ∷ d.month ∷ d.day ∷ [])
 
+-- the text of a day with hyphens between year, month and day
+unfoldable pub date_text : Day → List ℕ
+date_text d =
+    pairs_text (d.year / 100 ∷ d.year % 100 ∷ []) ++ (codes "-" ++ (pairs_text (d.month ∷ []) ++ (codes "-" ++ pairs_text (d.day ∷ []))))
+
+abbrev pub said_or_none : (Day → List ℕ) → Option Day → List ℕ  -- the text of a day, and nothing where it is left out
+said_or_none text None = []
+said_or_none text (Some d) = text d
+
 unfoldable pub moment_text : Moment → List ℕ  -- the text of a moment in UTC
 moment_text m = day_text m.day ++ (codes "T" ++ (pairs_text (m.hour ∷ m.minute ∷ m.second ∷ []) ++ codes "Z"))
 
@@ -47,12 +62,25 @@ day_in text = record { year = pair_at 0 text * 100 + pair_at 2 text; month = pai
 unfoldable pub read_day : List ℕ → Option Day  -- the day that a text of eight digits says
 read_day text = if length text == 8 then Some (day_in text) else None
 
+-- the day that a text of eight digits says, with hyphens or without
+unfoldable pub read_date : List ℕ → Option Day
+read_date text = read_day (filter (λ b. not (b == 45)) text)
+
+-- the day that a text says, where it says one, or that it is left out
+abbrev pub read_or_none : (List ℕ → Option Day) → List ℕ → Option (Option Day)
+read_or_none read text = if is_filled text then option_map (λ d. Some d) (read text) else Some None
+
 -- the moment that a text says, with a T between day and time, and a Z for UTC at its end
 unfoldable pub read_moment : List ℕ → Option Moment
 read_moment text =
     if bytes_eq (take 1 (drop 8 text)) (codes "T") && bytes_eq (drop 15 text) (codes "Z")
     then Some (record { day = day_in text; hour = pair_at 9 text; minute = pair_at 11 text; second = pair_at 13 text })
     else None
+
+-- the birthday of RFC 2426, section 3.1.5
+printed_date : read_date (codes "1996-04-15") ≡ Some (let d : Day = record { year = 1996; month = 4; day = 15 } in d)
+unfolding read_date read_day
+printed_date = refl
 
 -- printed examples of RFC 5545, sections 3.3.4 and 3.3.5
 printed_day : read_day (codes "19970714") ≡ Some (let d : Day = record { year = 1997; month = 7; day = 14 } in d)

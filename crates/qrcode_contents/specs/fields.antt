@@ -7,5 +7,6 @@ pub mod Escapes
 pub mod Lines
 pub mod Links
 pub mod Numbers
+pub mod Objects
 pub mod Percents
 pub mod Refusals

@@ -160,7 +160,7 @@ fn kind_of(reference: &str) -> &'static str
 }
 
 // Whether an amount is no amount of a bill.
-fn is_out_of_range(cents: Option<u64>) -> bool
+pub(crate) fn is_out_of_range(cents: Option<u64>) -> bool
     ensures { result ≡ is_out_of_range cents }
 {
     cents.is_some_and(|cents| cents < 1 || cents > 99_999_999_999)

@@ -1,16 +1,15 @@
 //! The text of a contact as a vCard.
 
-ghost use Rattle.std.specs.Prelude.{◌≡◌, Some, IfOk, IsOkUnless, string_bytes};
-ghost use Rattle.std.specs.List.{list_any};
-ghost use Rattle.qrcode_contents.specs.declared.fields.errors.Cause.TheVariants.{ControlCharacter};
+ghost use Rattle.std.specs.Prelude.{◌≡◌, ◌++◌, Some, IfOk, OnOk, IsOkUnless, string_bytes};
 ghost use Rattle.qrcode_contents.specs.declared.fields.errors.ContentError.TheVariants.{OutOfMemory};
-ghost use Rattle.qrcode_contents.specs.Card.{contact_of, text_refusal, place_refusal, card_refusal, card_text, read_card};
-ghost use Rattle.qrcode_contents.specs.fields.Characters.{is_stray};
-ghost use Rattle.qrcode_contents.specs.fields.Refusals.{Answers, checked, refused_if};
+ghost use Rattle.qrcode_contents.specs.Card.{contact_of, first_refused, last_refused, card_refusal, name_lines, card_text, read_card};
+ghost use Rattle.qrcode_contents.specs.fields.ContentLines.{content_text};
+ghost use Rattle.qrcode_contents.specs.fields.Refusals.{Answers, checked};
 
 use crate::fields::content_lines::{push_content, push_texts, push_value};
 use crate::fields::errors::{Cause, ContentResult, Field};
 use crate::fields::refusals::{controls, refuse_first, stray};
+use crate::times::{Day, date_or_none, is_wrong_day};
 use std::alloc::Global;
 
 /// A contact. What is empty is left out; texts may have line feeds.
@@ -24,12 +23,22 @@ pub struct Card<'a> {
     pub given: &'a str,
     /// The organisation.
     pub organisation: &'a str,
+    /// The title or function.
+    pub title: &'a str,
     /// A telephone number.
     pub phone: &'a str,
+    /// The number of a mobile telephone.
+    pub mobile: &'a str,
+    /// The number of a telephone at work.
+    pub work_phone: &'a str,
+    /// The number of a telephone at home.
+    pub home_phone: &'a str,
     /// An address of mail.
     pub email: &'a str,
     /// An address of the web.
     pub url: &'a str,
+    /// The birthday.
+    pub birthday: Option<Day>,
     /// The street with the number of the house.
     pub street: &'a str,
     /// The town.
@@ -45,10 +54,10 @@ pub struct Card<'a> {
 }
 
 impl Card<'_> {
-    // Refuses what is missing, and control characters.
-    #[tactic(auto, unfolding(crate::specs::Card::text_refusal))]
-    fn check_texts(&self) -> ContentResult<()>
-        ensures { result ≡ checked (text_refusal (contact_of self.now)) }
+    // Refuses missing names, and control characters.
+    #[tactic(auto, unfolding(crate::specs::Card::first_refused))]
+    fn check_first(&self) -> ContentResult<()>
+        ensures { result ≡ checked (first_refused (contact_of self.now)) }
     {
         refuse_first(&[
             (self.name.is_empty(), Field::Name, Cause::Empty),
@@ -57,19 +66,24 @@ impl Card<'_> {
             stray(Field::Family, self.family),
             stray(Field::Given, self.given),
             stray(Field::Organisation, self.organisation),
+            stray(Field::Title, self.title),
             stray(Field::Phone, self.phone),
-            stray(Field::Email, self.email),
-            controls(Field::Url, self.url),
-            stray(Field::Note, self.note),
+            stray(Field::Mobile, self.mobile),
+            stray(Field::WorkPhone, self.work_phone),
         ])
     }
 
-    // Refuses control characters in the address.
-    #[tactic(auto, unfolding(crate::specs::Card::place_refusal))]
-    fn check_place(&self) -> ContentResult<()>
-        ensures { result ≡ checked (place_refusal (contact_of self.now)) }
+    // Refuses control characters in the other texts, and a birthday that the calendar has not.
+    #[tactic(auto, unfolding(crate::specs::Card::last_refused))]
+    fn check_last(&self) -> ContentResult<()>
+        ensures { result ≡ checked (last_refused (contact_of self.now)) }
     {
         refuse_first(&[
+            controls(Field::Url, self.url),
+            (is_wrong_day(self.birthday), Field::Birthday, Cause::Range),
+            stray(Field::HomePhone, self.home_phone),
+            stray(Field::Email, self.email),
+            stray(Field::Note, self.note),
             stray(Field::Street, self.street),
             stray(Field::City, self.city),
             stray(Field::Region, self.region),
@@ -82,8 +96,29 @@ impl Card<'_> {
     fn check(&self) -> ContentResult<()>
         ensures { result ≡ checked (card_refusal (contact_of self.now)) }
     {
-        self.check_texts()?;
-        self.check_place()
+        self.check_first()?;
+        self.check_last()
+    }
+
+    // Appends the lines of the name and of the texts that follow it.
+    fn push_names(&self, alloc: Global, text: &mut String) -> ContentResult<()>
+        ensures appends { OnOk result (string_bytes text.new
+            ≡ string_bytes text.old ++ content_text (name_lines (contact_of self.now))) }
+        ensures memory { IsOkUnless result OutOfMemory }
+    {
+        let name = [self.family, self.given, "", "", ""];
+        push_content(alloc, text, "N", &name)?;
+        let texts = [
+            ("FN", self.name),
+            ("ORG", self.organisation),
+            ("TITLE", self.title),
+            ("TEL", self.phone),
+            ("TEL;TYPE=CELL", self.mobile),
+            ("TEL;TYPE=WORK", self.work_phone),
+            ("TEL;TYPE=HOME", self.home_phone),
+            ("EMAIL", self.email),
+        ];
+        push_texts(alloc, text, &texts)
     }
 
     // The text of a card that is not refused.
@@ -91,16 +126,9 @@ impl Card<'_> {
         ensures value { IfOk result (λ text. string_bytes text ≡ card_text (contact_of self.now)) }
         ensures memory { IsOkUnless result OutOfMemory }
     {
+        let birthday = date_or_none(alloc, self.birthday)?;
         let mut text = String::from_str(alloc, "BEGIN:VCARD\r\nVERSION:3.0\r\n")?;
-        let name = [self.family, self.given, "", "", ""];
-        push_content(alloc, &mut text, "N", &name)?;
-        let texts = [
-            ("FN", self.name),
-            ("ORG", self.organisation),
-            ("TEL", self.phone),
-            ("EMAIL", self.email),
-        ];
-        push_texts(alloc, &mut text, &texts)?;
+        self.push_names(alloc, &mut text)?;
         push_value(alloc, &mut text, "URL", self.url)?;
         let address = [
             "",
@@ -112,8 +140,8 @@ impl Card<'_> {
             self.country,
         ];
         push_content(alloc, &mut text, "ADR", &address)?;
-        let note = [self.note];
-        push_content(alloc, &mut text, "NOTE", &note)?;
+        push_content(alloc, &mut text, "BDAY", &[birthday.as_str()])?;
+        push_content(alloc, &mut text, "NOTE", &[self.note])?;
         text.push_str("END:VCARD\r\n")?;
         Ok(text)
     }

@@ -5,10 +5,10 @@ ghost use Rattle.qrcode_contents.specs.declared.fields.errors.ContentError.TheVa
 ghost use Rattle.qrcode_contents.specs.Contact.{person_of, person_controls, person_checks, contact_refusal, mecard_text, read_mecard};
 ghost use Rattle.qrcode_contents.specs.fields.Refusals.{Answers, checked};
 
-use crate::fields::characters::{are_digits, character_count};
 use crate::fields::entries::{push_entry, push_texts};
 use crate::fields::errors::{Cause, ContentResult, Field};
-use crate::fields::refusals::{controls, refuse_first, too_long};
+use crate::fields::refusals::{controls, refuse_first};
+use crate::times::{Day, day_or_none, is_wrong_day};
 use std::alloc::Global;
 
 /// A contact. What is empty is left out.
@@ -24,8 +24,8 @@ pub struct Contact<'a> {
     pub email: &'a str,
     /// An address of the web.
     pub url: &'a str,
-    /// The birthday, eight digits: year, month and day.
-    pub birthday: &'a str,
+    /// The birthday.
+    pub birthday: Option<Day>,
     /// A note.
     pub note: &'a str,
     /// The street with the number of the house.
@@ -47,7 +47,7 @@ impl Contact<'_> {
         ensures { result ≡ checked (person_controls (person_of self.now)) }
     {
         refuse_first(&[
-            controls(Field::Name, self.family),
+            controls(Field::Family, self.family),
             controls(Field::Given, self.given),
             controls(Field::Phone, self.phone),
             controls(Field::Email, self.email),
@@ -61,18 +61,14 @@ impl Contact<'_> {
         ])
     }
 
-    // Refuses a contact with no name, and what is no birthday.
+    // Refuses a contact with no name, and a birthday that the calendar has not.
     #[tactic(auto, unfolding(crate::specs::Contact::person_checks))]
     fn check_forms(&self) -> ContentResult<()>
         ensures { result ≡ checked (person_checks (person_of self.now)) }
     {
-        let wrong = !are_digits(self.birthday.as_bytes());
-        let short = !self.birthday.is_empty() & (character_count(self.birthday) < 8);
         refuse_first(&[
-            (self.family.is_empty(), Field::Name, Cause::Empty),
-            (wrong, Field::Birthday, Cause::Character),
-            (short, Field::Birthday, Cause::TooShort),
-            too_long(Field::Birthday, self.birthday, 8),
+            (self.family.is_empty(), Field::Family, Cause::Empty),
+            (is_wrong_day(self.birthday), Field::Birthday, Cause::Range),
         ])
     }
 
@@ -89,6 +85,7 @@ impl Contact<'_> {
         ensures value { IfOk result (λ text. string_bytes text ≡ mecard_text (person_of self.now)) }
         ensures memory { IsOkUnless result OutOfMemory }
     {
+        let birthday = day_or_none(alloc, self.birthday)?;
         let mut text = String::from_str(alloc, "MECARD:")?;
         let name = [self.family, self.given];
         push_entry(&mut text, "N", &name)?;
@@ -96,10 +93,10 @@ impl Contact<'_> {
             ("TEL", self.phone),
             ("EMAIL", self.email),
             ("URL", self.url),
-            ("BDAY", self.birthday),
-            ("NOTE", self.note),
         ];
         push_texts(&mut text, &texts)?;
+        push_entry(&mut text, "BDAY", &[birthday.as_str()])?;
+        push_entry(&mut text, "NOTE", &[self.note])?;
         let address = [
             "",
             "",

@@ -1,10 +1,10 @@
 //! The text of an event of a calendar.
 
-ghost use Rattle.std.specs.Prelude.{◌≡◌, ◌++◌, not, Some, IfOk, OnOk, IsOkUnless, string_bytes};
+ghost use Rattle.std.specs.Prelude.{◌≡◌, ◌++◌, not, Some, IfOk, OnOk, IsOkUnless, string_bytes, codes};
 ghost use Rattle.qrcode_contents.specs.declared.fields.errors.ContentError.TheVariants.{OutOfMemory};
 ghost use Rattle.qrcode_contents.specs.fields.ContentLines.{content_line, content_text};
 ghost use Rattle.qrcode_contents.specs.fields.Refusals.{Answers, checked};
-ghost use Rattle.qrcode_contents.specs.Event.{happening_of, begins_never, ends_never, ends_early, event_refusal, span_lines, event_text, read_event};
+ghost use Rattle.qrcode_contents.specs.Event.{happening_of, wrong_stamp, stamp_text, begins_never, ends_never, ends_early, event_refusal, span_lines, event_text, read_event};
 ghost use Rattle.qrcode_contents.specs.Times.{day_text, moment_text};
 
 use crate::fields::content_lines::{push_texts, push_value};
@@ -25,10 +25,10 @@ pub enum Span {
 /// An event. What is empty is left out; texts may have line feeds.
 #[derive(Copy, Clone, PartialEq, Eq, Debug)]
 pub struct Event<'a> {
-    /// The identifier, which no other event has, as `19970610T172345Z-AF23B2@example.com`.
+    /// The identifier, which no other event has, e.g. `19970610T172345Z-AF23B2@example.com`.
     pub uid: &'a str,
     /// When it was written.
-    pub stamp: Moment,
+    pub stamp: Option<Moment>,
     /// When it begins and ends.
     pub span: Span,
     /// What it is.
@@ -57,6 +57,25 @@ fn push_moment(alloc: Global, text: &mut String, key: &str, moment: Moment) -> C
 {
     let value = moment.text(alloc)?;
     push_value(alloc, text, key, value.as_str())
+}
+
+// Whether the calendar has no such moment.
+fn is_wrong(stamp: Option<Moment>) -> bool
+    ensures { result ≡ wrong_stamp stamp }
+{
+    stamp.is_some_and(|moment| !moment.is_valid())
+}
+
+// Appends the line of the moment when an event was written, and nothing where it is left out.
+fn push_stamp(alloc: Global, text: &mut String, stamp: Option<Moment>) -> ContentResult<()>
+    ensures appends { OnOk result (string_bytes text.new
+        ≡ string_bytes text.old ++ content_line (codes "DTSTAMP", stamp_text stamp)) }
+    ensures memory { IsOkUnless result OutOfMemory }
+{
+    match stamp {
+        Some(moment) => push_moment(alloc, text, "DTSTAMP", moment),
+        None => Ok(()),
+    }
 }
 
 impl Span {
@@ -104,9 +123,8 @@ impl Event<'_> {
     {
         let (begins_never, ends_never, ends_early) = self.span.faults();
         refuse_first(&[
-            (self.uid.is_empty(), Field::Uid, Cause::Empty),
             controls(Field::Uid, self.uid),
-            (!self.stamp.is_valid(), Field::Stamp, Cause::Range),
+            (is_wrong(self.stamp), Field::Stamp, Cause::Range),
             (begins_never, Field::Begin, Cause::Range),
             (ends_never, Field::End, Cause::Range),
             (ends_early, Field::End, Cause::Range),
@@ -127,7 +145,7 @@ impl Event<'_> {
             "BEGIN:VCALENDAR\r\nVERSION:2.0\r\nPRODID:-//Goqlanis//Contents//EN\r\nBEGIN:VEVENT\r\n",
         )?;
         push_texts(alloc, &mut text, &[("UID", self.uid)])?;
-        push_moment(alloc, &mut text, "DTSTAMP", self.stamp)?;
+        push_stamp(alloc, &mut text, self.stamp)?;
         self.span.push(alloc, &mut text)?;
         let texts = [
             ("SUMMARY", self.summary),

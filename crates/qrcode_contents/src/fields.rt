@@ -11,5 +11,6 @@ pub mod laws;
 pub mod lines;
 pub mod links;
 pub mod numbers;
+pub mod objects;
 pub mod percents;
 pub mod refusals;

@@ -7,6 +7,8 @@ ghost use Rattle.qrcode_contents.specs.Contact.{person_of};
 ghost use Rattle.qrcode_contents.specs.Mail.{letter_of};
 ghost use Rattle.qrcode_contents.specs.OneTime.{key_of};
 ghost use Rattle.qrcode_contents.specs.Payment.{payment_fields};
+ghost use Rattle.qrcode_contents.specs.Merchant.{charge_of, claim_of};
+ghost use Rattle.qrcode_contents.specs.Upi.{request_of};
 ghost use Rattle.qrcode_contents.specs.Wifi.{wifi_fields};
 ghost use Rattle.qrcode_contents.specs.declared.bill.Bill.{Bill};
 ghost use Rattle.qrcode_contents.specs.declared.bill.Currency.{Currency};
@@ -22,6 +24,9 @@ ghost use Rattle.qrcode_contents.specs.declared.one_time.OneTime.{OneTime};
 ghost use Rattle.qrcode_contents.specs.declared.payment.Payment.{Payment};
 ghost use Rattle.qrcode_contents.specs.declared.payment.PaymentVersion.{PaymentVersion};
 ghost use Rattle.qrcode_contents.specs.declared.phone.Phone.{Phone};
+ghost use Rattle.qrcode_contents.specs.declared.merchant.Pix.{Pix};
+ghost use Rattle.qrcode_contents.specs.declared.merchant.PromptPay.{PromptPay};
+ghost use Rattle.qrcode_contents.specs.declared.upi.Upi.{Upi};
 ghost use Rattle.qrcode_contents.specs.declared.wifi.Security.{Security};
 ghost use Rattle.qrcode_contents.specs.declared.wifi.Wifi.{Wifi};
 ghost use Rattle.qrcode_contents.specs.Event.{happening_of};
@@ -36,10 +41,12 @@ use crate::contact::Contact;
 use crate::event::{Event, Span};
 use crate::geo::Place;
 use crate::mail::Mail;
+use crate::merchant::{Pix, PromptPay};
 use crate::one_time::{Algorithm, Digits, Factor, OneTime};
 use crate::payment::{Payment, PaymentVersion};
 use crate::phone::Phone;
 use crate::times::{Day, Moment};
+use crate::upi::Upi;
 use crate::wifi::{Security, Wifi};
 
 /// Two values are equal by `==` exactly when they are the same; two contents of texts, when their fields
@@ -73,13 +80,17 @@ pub fn equality<'a>()
 pub fn card_equality<'a>()
     ensures { (a b : Card)
         → IsTrue (⟦<Card<'a> as PartialEq>⟧.eq a b) ↔ (contact_of a ≡ contact_of b) }
-{}
+{
+    equality();
+}
 
 /// Two contacts are equal by `==` exactly when their fields are.
 pub fn contact_equality<'a>()
     ensures { (a b : Contact)
         → IsTrue (⟦<Contact<'a> as PartialEq>⟧.eq a b) ↔ (person_of a ≡ person_of b) }
-{}
+{
+    equality();
+}
 
 /// Two values of one-time passwords are equal by `==` exactly when their fields are.
 pub fn one_time_equality<'a>()
@@ -104,3 +115,14 @@ pub fn event_equality<'a>()
 {
     equality();
 }
+
+/// Two payments by UPI, by Pix or by PromptPay are equal by `==` exactly when their fields are.
+#[tactic(auto, using(crate::proofs::OpenAmounts::amounts_equal))]
+pub fn request_equality<'a>()
+    ensures requests { (a b : Upi)
+        → IsTrue (⟦<Upi<'a> as PartialEq>⟧.eq a b) ↔ (request_of a ≡ request_of b) }
+    ensures charges { (a b : Pix)
+        → IsTrue (⟦<Pix<'a> as PartialEq>⟧.eq a b) ↔ (charge_of a ≡ charge_of b) }
+    ensures claims { (a b : PromptPay)
+        → IsTrue (⟦<PromptPay<'a> as PartialEq>⟧.eq a b) ↔ (claim_of a ≡ claim_of b) }
+{}

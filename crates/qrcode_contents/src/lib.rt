@@ -11,13 +11,15 @@ pub mod fields;
 pub mod geo;
 pub mod laws;
 pub mod mail;
+pub mod merchant;
 pub mod one_time;
 pub mod payment;
 pub mod phone;
 pub mod times;
+pub mod upi;
 pub mod wifi;
 
 pub use fields::{
-    amounts, characters, content_lines, entries, errors, escapes, lines, links, numbers, percents,
-    refusals,
+    amounts, characters, content_lines, entries, errors, escapes, lines, links, numbers, objects,
+    percents, refusals,
 };

@@ -2,7 +2,7 @@
 
 ghost use Rattle.std.specs.Prelude.{◌≡◌, ◌++◌, ◌≤◌, string_bytes, OnOk, IfOk, IsOkUnless};
 ghost use Rattle.qrcode_contents.specs.declared.fields.errors.ContentError.TheVariants.{OutOfMemory};
-ghost use Rattle.qrcode_contents.specs.Times.{is_leap, days_in, is_day, is_moment, day_number, moment_number, pair_text, pairs_text, day_text, moment_text};
+ghost use Rattle.qrcode_contents.specs.Times.{is_leap, days_in, is_day, wrong_day, is_moment, day_number, moment_number, pair_text, pairs_text, day_text, date_text, said_or_none, moment_text};
 
 use crate::fields::errors::ContentResult;
 use std::alloc::Global;
@@ -39,8 +39,8 @@ fn is_leap(year: u16) -> bool
     year % 4 == 0 && (year % 100 != 0 || year % 400 == 0)
 }
 
-// How many days the month of a year has.
-fn days_in(year: u16, month: u8) -> u8
+/// How many days the month of a year has, 31 where there is no such month.
+pub fn days_in(year: u16, month: u8) -> u8
     ensures { result ≡ days_in year month }
 {
     match month {
@@ -104,6 +104,51 @@ impl Day {
         let mut text = String::new(alloc);
         self.push(&mut text)?;
         Ok(text)
+    }
+
+    /// The text of the day in vCard, e.g. 1996-04-15. It fails only where memory is refused
+    /// (`OutOfMemory`).
+    #[tactic(auto, unfolding(crate::specs::Times::date_text))]
+    pub fn date(self, alloc: Global) -> ContentResult<String>
+        ensures value { IfOk result (λ text. string_bytes text ≡ date_text self) }
+        ensures memory { IsOkUnless result OutOfMemory }
+    {
+        let mut text = String::new(alloc);
+        push_pairs(&mut text, &[self.year / 100, self.year % 100])?;
+        text.push_str("-")?;
+        push_pairs(&mut text, &[u16::from(self.month)])?;
+        text.push_str("-")?;
+        push_pairs(&mut text, &[u16::from(self.day)])?;
+        Ok(text)
+    }
+}
+
+/// Whether a day is said that the calendar has not.
+pub(crate) fn is_wrong_day(day: Option<Day>) -> bool
+    ensures { result ≡ wrong_day day }
+{
+    day.is_some_and(|day| !day.is_valid())
+}
+
+/// The text of a day in iCalendar, and nothing where it is left out.
+pub(crate) fn day_or_none(alloc: Global, day: Option<Day>) -> ContentResult<String>
+    ensures value { IfOk result (λ text. string_bytes text ≡ said_or_none day_text day) }
+    ensures memory { IsOkUnless result OutOfMemory }
+{
+    match day {
+        Some(day) => day.text(alloc),
+        None => Ok(String::new(alloc)),
+    }
+}
+
+/// The text of a day in vCard, and nothing where it is left out.
+pub(crate) fn date_or_none(alloc: Global, day: Option<Day>) -> ContentResult<String>
+    ensures value { IfOk result (λ text. string_bytes text ≡ said_or_none date_text day) }
+    ensures memory { IsOkUnless result OutOfMemory }
+{
+    match day {
+        Some(day) => day.date(alloc),
+        None => Ok(String::new(alloc)),
     }
 }
 

@@ -30,3 +30,6 @@ is_stray b = is_control b && not (b == 9) && not (b == 10)
 abbrev pub control_refusal : List (Field × List ℕ) → Option ContentError  -- the first field with a control character
 control_refusal fields =
     first_refusal (map (λ field. refused_if (list_any is_control field.1) field.0 ControlCharacter) fields)
+
+abbrev pub stray_checks : List (Field × List ℕ) → List (Option ContentError)  -- of each field, control characters that are neither tabs nor line feeds
+stray_checks fields = map (λ field. refused_if (list_any is_stray field.1) field.0 ControlCharacter) fields

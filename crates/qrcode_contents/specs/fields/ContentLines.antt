@@ -34,6 +34,9 @@ content_text lines = flat_map content_line lines
 abbrev pub structured : List (List ℕ) → List ℕ
 structured parts = if list_any is_filled parts then parts_text Lines 59 parts else []
 
+abbrev pub text_lines : List Parameter → List Parameter  -- lines of keys and texts, escaped
+text_lines texts = map (λ text. (text.0, structured (text.1 ∷ []))) texts
+
 -- octets without the breaks inside folded lines, behind which a space or a tab stands
 unfoldable pub unfolded : List ℕ → List ℕ
 unfolded [] = []

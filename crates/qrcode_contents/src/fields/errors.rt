@@ -14,6 +14,10 @@ pub enum Field {
     Ssid,
     /// The password of a network.
     Password,
+    /// How a network is secured.
+    Security,
+    /// Whether a network does not broadcast its name.
+    Hidden,
     /// The bank's identifier.
     Bic,
     /// The name of who is paid, or of a contact.
@@ -24,8 +28,16 @@ pub enum Field {
     Given,
     /// An organisation.
     Organisation,
+    /// The title of a contact.
+    Title,
     /// A telephone number.
     Phone,
+    /// The number of a mobile telephone.
+    Mobile,
+    /// The number of a telephone at work.
+    WorkPhone,
+    /// The number of a telephone at home.
+    HomePhone,
     /// An address of mail.
     Email,
     /// An address of the web.
@@ -62,6 +74,8 @@ pub enum Field {
     Iban,
     /// The amount of money.
     Amount,
+    /// The currency of the amount.
+    Currency,
     /// The code of a payment's purpose.
     Purpose,
     /// The reference of a payment.
@@ -82,8 +96,14 @@ pub enum Field {
     Issuer,
     /// For which account they are.
     Account,
-    /// How long one holds.
+    /// The hash of one-time passwords.
+    Algorithm,
+    /// How many digits a one-time password has.
+    Digits,
+    /// How long a one-time password is valid.
     Period,
+    /// Where the counter of one-time passwords begins.
+    Counter,
     /// The identifier of an event.
     Uid,
     /// When an event was written.
@@ -96,8 +116,12 @@ pub enum Field {
     Summary,
     /// Where an event is.
     Location,
-    /// The description of an event.
+    /// The description of an event or of a payment.
     Description,
+    /// Who is paid: an address of UPI, a key of Pix, or an identifier of PromptPay.
+    Payee,
+    /// The category of a merchant.
+    Category,
     /// The whole text.
     Whole,
 }
@@ -121,6 +145,10 @@ pub enum Cause {
     Range,
     /// The field has no place beside the others.
     Unused,
+    /// The number has more digits after its point than the format allows.
+    Decimals,
+    /// The field is none of the words that it may be.
+    Word,
 }
 
 /// Why a value has no text, or `OutOfMemory`.

@@ -63,14 +63,19 @@ fn push_parameter(text: &mut String, mark: &str, key: &str, value: &str) -> Cont
     push_part(text, Part::Value, value)
 }
 
-/// Appends parameters, each a key and a value: `?` before the first and `&` before later ones.
-/// Those with no value are left out. After `OutOfMemory` a part of it is appended.
-pub fn push_query(text: &mut String, parameters: &[(&str, &str)]) -> ContentResult<()>
+/// Appends parameters, each a key and a value: `?` before the first, unless others stand before it,
+/// and `&` before later ones. Those with no value are left out. After `OutOfMemory` a part of it is
+/// appended.
+pub fn push_parameters(
+    text: &mut String,
+    begun: bool,
+    parameters: &[(&str, &str)],
+) -> ContentResult<()>
     ensures appends { OnOk result (string_bytes text.new ≡ string_bytes text.old
-        ++ query_text (codes "?") (map (λ pair. (pair.0.now, pair.1.now)) parameters.now)) }
+        ++ query_text (mark_text begun) (map (λ pair. (pair.0.now, pair.1.now)) parameters.now)) }
     ensures memory { IsOkUnless result OutOfMemory }
 {
-    let mut begun = false;
+    let mut begun = begun;
     for (key, value) in parameters {
         if !value.is_empty() {
             push_parameter(text, mark(begun), key, value)?;
@@ -78,4 +83,13 @@ pub fn push_query(text: &mut String, parameters: &[(&str, &str)]) -> ContentResu
         }
     }
     Ok(())
+}
+
+/// Appends parameters, of which none stand before. After `OutOfMemory` a part of it is appended.
+pub fn push_query(text: &mut String, parameters: &[(&str, &str)]) -> ContentResult<()>
+    ensures appends { OnOk result (string_bytes text.new ≡ string_bytes text.old
+        ++ query_text (codes "?") (map (λ pair. (pair.0.now, pair.1.now)) parameters.now)) }
+    ensures memory { IsOkUnless result OutOfMemory }
+{
+    push_parameters(text, false, parameters)
 }

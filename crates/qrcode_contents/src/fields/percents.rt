@@ -14,7 +14,7 @@ fn is_unreserved(byte: u8) -> bool
 }
 
 // The hexadecimal digit of a number below 16.
-fn hex_digit(number: u8) -> u8
+pub(crate) fn hex_digit(number: u8) -> u8
     requires { number < 16 }
     ensures value { result ≡ hex_digit number }
     ensures ascii { result < 128 }

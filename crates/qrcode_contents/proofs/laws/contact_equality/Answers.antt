@@ -1,6 +1,7 @@
 use Rattle.std.proofs.Common.{ap}
 use Rattle.std.proofs.lemmas.Bool.Decides.{Decides-and}
 use Rattle.std.proofs.lemmas.Slice.Eq.{bytes_eq-Decides}
+use Rattle.qrcode_contents.proofs.OpenAmounts.{options_equal}
 use Rattle.qrcode_contents.proofs.laws.contact_equality.Goals as goal
 
 pub returns : goal.returns
@@ -10,7 +11,7 @@ returns c = λ a b.
     (Decides-and _ _ (bytes_eq-Decides a.phone.now b.phone.now)
     (Decides-and _ _ (bytes_eq-Decides a.email.now b.email.now)
     (Decides-and _ _ (bytes_eq-Decides a.url.now b.url.now)
-    (Decides-and _ _ (bytes_eq-Decides a.birthday.now b.birthday.now)
+    (Decides-and _ _ (options_equal _ c.equality.ensures.days a.birthday b.birthday)
     (Decides-and _ _ (bytes_eq-Decides a.note.now b.note.now)
     (Decides-and _ _ (bytes_eq-Decides a.street.now b.street.now)
     (Decides-and _ _ (bytes_eq-Decides a.city.now b.city.now)

@@ -1,12 +1,13 @@
 use Rattle.std.proofs.Common.{ap}
 use Rattle.std.proofs.lemmas.Bool.Decides.{Decides-and}
 use Rattle.std.proofs.lemmas.Slice.Eq.{bytes_eq-Decides}
+use Rattle.qrcode_contents.proofs.OpenAmounts.{options_equal}
 use Rattle.qrcode_contents.proofs.laws.event_equality.Goals as goal
 
 pub returns : goal.returns
 returns c = λ a b.
     let all = Decides-and _ _ (bytes_eq-Decides a.uid.now b.uid.now)
-    (Decides-and _ _ (c.equality.ensures.moments a.stamp b.stamp)
+    (Decides-and _ _ (options_equal _ c.equality.ensures.moments a.stamp b.stamp)
     (Decides-and _ _ (c.equality.ensures.spans a.span b.span)
     (Decides-and _ _ (bytes_eq-Decides a.summary.now b.summary.now)
     (Decides-and _ _ (bytes_eq-Decides a.location.now b.location.now)

@@ -8,4 +8,4 @@ pub returns-clause-reads : goal.returns-clause-reads
 returns-clause-reads c =
     let fields = person_of c.args.self.now in
     answered (contact_refusal fields) c.check.result c.in_ok-check.field-0 c.check.ensures c.in_ok-check.was c.written.result (mecard_text fields) (λ text. read_mecard text ≡ Some fields)
-    c.written.ensures.value c.written.ensures.memory (λ none. mecard_read fields)
+    c.written.ensures.value c.written.ensures.memory (mecard_read fields)

@@ -1,8 +1,8 @@
 use Rattle.std.proofs.Common.{◌+◌, ◌++◌, map, drop, string_bytes, ap₂, ◌∙◌}
 use Rattle.qrcode_contents.specs.fields.Links.{mark_text, query_text}
 use Rattle.qrcode_contents.proofs.LinkTexts.{pair_of, filled_step, empty_step}
-use Rattle.qrcode_contents.proofs.fields.links.push_query.Goals as goal
-use Rattle.qrcode_contents.proofs.fields.links.push_query.Goals.{then-not-is_empty+in_ok-push_parameter, else-not-is_empty}
+use Rattle.qrcode_contents.proofs.fields.links.push_parameters.Goals as goal
+use Rattle.qrcode_contents.proofs.fields.links.push_parameters.Goals.{then-not-is_empty+in_ok-push_parameter, else-not-is_empty}
 
 pub loop-key-preserved : goal.loop-key-preserved
 loop-key-preserved c =

@@ -1,0 +1,158 @@
+use Rattle.std.proofs.Common.{◌≡◌, ℕ, nat_lt, ◌+◌, ◌<◌, ◌==◌, ◌&&◌, not, List, [], ◌∷◌, ◌++◌, Bool, true, false, Option, Some, None, length, get_or, codes, refl, ap, ◌∙◌, sym, subst, arith}
+use Rattle.std.specs.List.{after_first}
+use Rattle.std.specs.Option.{option_and_then}
+use Rattle.std.proofs.lemmas.Bool.Decides.{nat_tests}
+use Rattle.qrcode_contents.specs.declared.fields.errors.Field.TheVariants.{Amount, Payee}
+use Rattle.qrcode_contents.specs.declared.fields.errors.Cause.TheVariants.{Character, Range, TooShort}
+use Rattle.qrcode_contents.specs.Bill.{amount_line, is_out_of_range, read_cents}
+use Rattle.qrcode_contents.specs.Merchant.{Claim, claim_of, is_phone, is_identity, is_wallet, is_zero, promptpay_checks, promptpay_refusal, payee_tag, payee_text, payee_objects, initiation, promptpay_objects, promptpay_text, read_payee, claim_in, promptpay_in, read_promptpay}
+use Rattle.qrcode_contents.specs.fields.Entries.{Entry, is_filled, filled, value_of}
+use Rattle.qrcode_contents.specs.fields.EntryTests.{are_distinct}
+use Rattle.qrcode_contents.specs.fields.Links.{Parameter}
+use Rattle.qrcode_contents.specs.fields.Objects.{objects_text, read_objects}
+use Rattle.qrcode_contents.proofs.BillReading.{cents_read, cents_short}
+use Rattle.qrcode_contents.proofs.EntryReading.{part_of-filled}
+use Rattle.qrcode_contents.proofs.LinkReading.{entries_of}
+use Rattle.qrcode_contents.proofs.ObjectReading.{AreObjects, length_filled, objects_read, checked_read, with_check, no_length}
+use Rattle.qrcode_contents.proofs.Passing.{all_pass, test_passes}
+use Rattle.qrcode_contents.proofs.Answering.{answered}
+use Rattle.qrcode_contents.proofs.merchant.PromptPay.text.Goals as goal
+
+-- the objects of an account, with who is paid
+abbrev account_with : List ℕ → List ℕ → List Parameter
+account_with tag value = (codes "00", codes "A000000677010111") ∷ (tag, value) ∷ []
+
+-- objects that say who is paid
+record Says (payee : List ℕ) (os : List Parameter) : Type 0 where
+  are : AreObjects os
+  short : length (objects_text os) < 100
+  named : value_of (codes "00") (filled (entries_of os)) ≡ codes "A000000677010111"
+  told : read_payee (filled (entries_of os)) ≡ payee
+
+account_short : (tag value : List ℕ) → length tag ≡ 2 → length value < 20 → is_filled value ≡ true → length (objects_text (account_with tag value)) < 100
+account_short tag value two few some =
+    let name = length_filled (codes "00") (codes "A000000677010111") ((tag, value) ∷ []) refl (omega arith) refl in
+    let last = length_filled tag value [] two (omega (arith, few)) some in
+    let none = no_length in
+    omega (arith, name, last, none, few)
+
+zero_first : (payee : List ℕ) → length payee ≡ 10 → (get_or payee 0 0 == 48) ≡ true → codes "0" ++ after_first is_zero payee ≡ payee
+zero_first [] ten first = absurd (omega (arith, ten))
+zero_first (b ∷ rest) ten first = let same : b ≡ 48 = grind (arith, nat_tests) in rw same refl
+
+phone_length : (payee : List ℕ) → length payee ≡ 10 → (get_or payee 0 0 == 48) ≡ true → length (codes "0066" ++ after_first is_zero payee) < 20
+phone_length [] ten first = absurd (omega (arith, ten))
+phone_length (b ∷ rest) ten first = let same : b ≡ 48 = grind (arith, nat_tests) in rw same (omega (arith, ten))
+
+read-filled : (es : List Entry) → are_distinct es ≡ true → read_payee (filled es) ≡ read_payee es
+read-filled es are = rw (part_of-filled (codes "01") 0 es are, part_of-filled (codes "02") 0 es are, part_of-filled (codes "03") 0 es are) refl
+
+phone_says : (payee : List ℕ) → length payee ≡ 10 → (get_or payee 0 0 == 48) ≡ true → Says payee (account_with (codes "01") (codes "0066" ++ after_first is_zero payee))
+phone_says payee ten first =
+    let value = codes "0066" ++ after_first is_zero payee in
+    let few = phone_length payee ten first in
+    let some : is_filled value ≡ true = grind (arith, nat_tests) in
+    let es = entries_of (account_with (codes "01") value) in
+    record {
+      are = (refl, omega arith, (refl, omega (arith, few), tt));
+      short = account_short (codes "01") value refl few some;
+      named = part_of-filled (codes "00") 0 es refl;
+      told = read-filled es refl ∙ rw some (zero_first payee ten first);
+    }
+
+identity_says : (payee : List ℕ) → length payee ≡ 13 → Says payee (account_with (codes "02") payee)
+identity_says payee size =
+    let some : is_filled payee ≡ true = grind (arith, nat_tests) in
+    let es = entries_of (account_with (codes "02") payee) in
+    record {
+      are = (refl, omega arith, (refl, omega (arith, size), tt));
+      short = account_short (codes "02") payee refl (omega (arith, size)) some;
+      named = part_of-filled (codes "00") 0 es refl;
+      told = read-filled es refl ∙ rw some refl;
+    }
+
+wallet_says : (payee : List ℕ) → length payee ≡ 15 → Says payee (account_with (codes "03") payee)
+wallet_says payee size =
+    let some : is_filled payee ≡ true = grind (arith, nat_tests) in
+    let es = entries_of (account_with (codes "03") payee) in
+    record {
+      are = (refl, omega arith, (refl, omega (arith, size), tt));
+      short = account_short (codes "03") payee refl (omega (arith, size)) some;
+      named = part_of-filled (codes "00") 0 es refl;
+      told = read-filled es refl;
+    }
+
+size_is : (payee : List ℕ) (n : ℕ) → (length payee == n) ≡ true → length payee ≡ n
+size_is payee n is = grind (arith, nat_tests)
+
+by_phone : (payee : List ℕ) → is_phone payee ≡ true → account_with (codes "01") (codes "0066" ++ after_first is_zero payee) ≡ payee_objects payee
+by_phone payee is = rw is refl
+
+by_identity : (payee : List ℕ) → is_phone payee ≡ false → is_identity payee ≡ true → account_with (codes "02") payee ≡ payee_objects payee
+by_identity payee other is = rw (other, is) refl
+
+by_wallet : (payee : List ℕ) → is_phone payee ≡ false → is_identity payee ≡ false → account_with (codes "03") payee ≡ payee_objects payee
+by_wallet payee other unlike = rw (other, unlike) refl
+
+account_by : (payee : List ℕ) (phone identity wallet : Bool) → is_phone payee ≡ phone → is_identity payee ≡ identity → is_wallet payee ≡ wallet → (not phone && not identity && not wallet) ≡ false → (phone && not (get_or payee 0 0 == 48)) ≡ false → Says payee (payee_objects payee)
+account_by payee true identity wallet p i w one first =
+    let zero : (get_or payee 0 0 == 48) ≡ true = grind (arith, nat_tests) in
+    subst (Says payee) (by_phone payee p) (phone_says payee (size_is payee 10 p) zero)
+account_by payee false true wallet p i w one first = subst (Says payee) (by_identity payee p i) (identity_says payee (size_is payee 13 i))
+account_by payee false false true p i w one first = subst (Says payee) (by_wallet payee p i) (wallet_says payee (size_is payee 15 w))
+account_by payee false false false p i w one first = cc
+
+-- what the refusals say of a payment that has none
+record AreSaid (p : Claim) : Type 0 where
+  account : Says p.payee (payee_objects p.payee)
+  cents : is_out_of_range p.cents ≡ false
+
+promptpay_said : (p : Claim) → promptpay_refusal p ≡ None → AreSaid p
+unfolding promptpay_refusal
+promptpay_said p is =
+    let none = all_pass (promptpay_checks p) is in
+    let one = test_passes (not (is_phone p.payee) && not (is_identity p.payee) && not (is_wallet p.payee)) Payee TooShort none.1.1.1.0 in
+    let first = test_passes (is_phone p.payee && not (get_or p.payee 0 0 == 48)) Payee Character none.1.1.1.1.0 in
+    record {
+      account = account_by p.payee (is_phone p.payee) (is_identity p.payee) (is_wallet p.payee) refl refl refl one first;
+      cents = test_passes (is_out_of_range p.cents) Amount Range none.1.1.1.1.1.0;
+    }
+
+initiation_short : (cents : Option ℕ) → length (initiation cents) < 100
+initiation_short None = omega arith
+initiation_short (Some n) = omega arith
+
+objects_are : (p : Claim) → AreSaid p → AreObjects (promptpay_objects p)
+objects_are p said =
+    (refl, omega arith, (refl, initiation_short p.cents, (refl, said.account.short, (refl, omega arith, (refl, omega arith, (refl, cents_short p.cents said.cents, tt))))))
+
+-- entries that say nothing may be left out
+promptpay_in-filled : (es : List Entry) → are_distinct es ≡ true → promptpay_in (filled es) ≡ option_and_then (claim_in (filled es)) (read_objects (value_of (codes "29") es))
+promptpay_in-filled es are = rw (part_of-filled (codes "29") 0 es are) refl
+
+claim-filled : (es account : List Entry) → are_distinct es ≡ true → claim_in (filled es) account ≡ claim_in es account
+claim-filled es account are =
+    rw (part_of-filled (codes "00") 0 es are, part_of-filled (codes "53") 0 es are, part_of-filled (codes "58") 0 es are, part_of-filled (codes "54") 0 es are) refl
+
+same_claim : (p : Claim) (payee : List ℕ) (cents : Option ℕ) → payee ≡ p.payee → cents ≡ p.cents → (let x : Claim = record { payee = payee; cents = cents } in x) ≡ p
+same_claim p payee cents h₁ h₂ = rw (h₁, h₂) refl
+
+claim_said : (p : Claim) (account : List Entry) → value_of (codes "00") account ≡ codes "A000000677010111" → read_payee account ≡ p.payee → is_out_of_range p.cents ≡ false → claim_in (entries_of (with_check (promptpay_objects p))) account ≡ Some p
+claim_said p account named payee cents = rw named (ap Some (same_claim p _ _ payee (cents_read p.cents cents)))
+
+-- what is read is what was said
+promptpay_read : (p : Claim) → promptpay_refusal p ≡ None → read_promptpay (promptpay_text p) ≡ Some p
+promptpay_read p is =
+    let said = promptpay_said p is in
+    let objects = entries_of (with_check (promptpay_objects p)) in
+    ap (option_and_then promptpay_in) (checked_read (promptpay_objects p) (objects_are p said))
+    ∙ promptpay_in-filled objects refl
+    ∙ ap (option_and_then (claim_in (filled objects))) (objects_read (payee_objects p.payee) said.account.are)
+    ∙ claim-filled objects (filled (entries_of (payee_objects p.payee))) refl
+    ∙ claim_said p (filled (entries_of (payee_objects p.payee))) said.account.named said.account.told said.cents
+
+pub returns-clause-reads : goal.returns-clause-reads
+returns-clause-reads c =
+    let fields = claim_of c.args.self.now in
+    answered (promptpay_refusal fields) c.check.result c.in_ok-check.field-0 c.check.ensures c.in_ok-check.was c.written.result (promptpay_text fields) (λ text. read_promptpay text ≡ Some fields)
+    c.written.ensures.value c.written.ensures.memory (promptpay_read fields)

@@ -1,0 +1,136 @@
+use Rattle.std.proofs.Common.{◌≡◌, ℕ, nat_lt, ◌/◌, ◌%◌, ◌<◌, ◌^◌, ◌==◌, ◌||◌, ◌&&◌, not, List, [], ◌∷◌, ◌++◌, Bool, true, false, Option, Some, None, filter, length, decimal, codes, if◌then◌else◌, refl, ap, ap₂, ◌∙◌, sym, arith, append_assoc}
+use Rattle.std.specs.List.{list_all, list_any}
+use Rattle.std.specs.Str.{bytes_eq}
+use Rattle.std.proofs.lemmas.Bool.Decides.{nat_tests}
+use Rattle.qrcode_contents.specs.declared.fields.errors.Field.TheVariants.{Amount, Category, Name, Note, Payee, Reference}
+use Rattle.qrcode_contents.specs.declared.fields.errors.Cause.TheVariants.{Character, ControlCharacter, Range}
+use Rattle.qrcode_contents.specs.Bill.{amount_line, is_out_of_range, read_cents}
+use Rattle.qrcode_contents.specs.Upi.{Request, request_of, is_address_byte, is_category, upi_checks, upi_refusal, upi_parameters, upi_text, read_upi}
+use Rattle.qrcode_contents.specs.fields.Amounts.{amount_text}
+use Rattle.qrcode_contents.specs.fields.Characters.{is_control, is_digit}
+use Rattle.qrcode_contents.specs.fields.Entries.{Entry, is_filled, filled, single, value_of}
+use Rattle.qrcode_contents.specs.fields.EntryTests.{are_distinct}
+use Rattle.qrcode_contents.specs.fields.Links.{Parameter, before, after, parameter_text, query_text, read_parameter, value_in}
+use Rattle.qrcode_contents.specs.fields.Percents.{decoded}
+use Rattle.qrcode_contents.proofs.BillReading.{amount_below, cents_read}
+use Rattle.qrcode_contents.proofs.EntryReading.{both, neither, part_of-filled}
+use Rattle.qrcode_contents.proofs.LinkReading.{HasNo, HasNo-append, AreParameters, entries_of, is_kept, kept_first, later_read, no_return, read_pieces, and_text}
+use Rattle.qrcode_contents.proofs.OneTimeReading.{decimal_plain}
+use Rattle.qrcode_contents.proofs.Passing.{all_pass, test_passes}
+use Rattle.qrcode_contents.proofs.PercentReading.{kept_byte}
+use Rattle.qrcode_contents.proofs.PhoneReading.{holds}
+use Rattle.qrcode_contents.proofs.Answering.{answered}
+use Rattle.qrcode_contents.proofs.upi.Upi.text.Goals as goal
+
+-- a byte of an address stands for itself
+record IsItself (b : ℕ) : Type 0 where
+  no_percent : (b == 37) ≡ false
+  no_return : (b == 13) ≡ false
+  no_and : (b == 38) ≡ false
+
+is_itself : (b : ℕ) → is_address_byte b ≡ true → IsItself b
+is_itself b is = record { no_percent = grind (arith, nat_tests); no_return = grind (arith, nat_tests); no_and = grind (arith, nat_tests) }
+
+address_read : (bytes : List ℕ) → list_all is_address_byte bytes ≡ true → filter is_kept (decoded bytes) ≡ bytes
+unfolding decoded
+address_read [] are = refl
+address_read (b ∷ bytes) are =
+    let parts = both (is_address_byte b) (list_all is_address_byte bytes) are in
+    let is = is_itself b parts.0 in
+    ap (filter is_kept) (kept_byte b bytes is.no_percent) ∙ kept_first b (decoded bytes) is.no_return ∙ ap (λ xs. b ∷ xs) (address_read bytes parts.1)
+
+address_no_and : (bytes : List ℕ) → list_all is_address_byte bytes ≡ true → HasNo 38 bytes
+address_no_and [] are = refl
+address_no_and (b ∷ bytes) are =
+    let parts = both (is_address_byte b) (list_all is_address_byte bytes) are in
+    ap₂ (λ x y. x || y) (is_itself b parts.0).no_and (address_no_and bytes parts.1)
+
+digit_no_return : (b : ℕ) → is_digit b ≡ true → (b == 13) ≡ false
+digit_no_return b is = grind (arith, nat_tests)
+
+digits_plain : (bytes : List ℕ) → list_all is_digit bytes ≡ true → HasNo 13 bytes
+digits_plain [] are = refl
+digits_plain (b ∷ bytes) are =
+    let parts = both (is_digit b) (list_all is_digit bytes) are in
+    ap₂ (λ x y. x || y) (digit_no_return b parts.0) (digits_plain bytes parts.1)
+
+second_fails : (a b : Bool) → a ≡ true → (a && b) ≡ false → b ≡ false
+second_fails true b is none = none
+second_fails false b is none = cc
+
+category_plain : (bytes : List ℕ) → (is_filled bytes && not (is_category bytes)) ≡ false → HasNo 13 bytes
+category_plain [] is = refl
+category_plain (b ∷ bytes) is =
+    let some : is_filled (b ∷ bytes) ≡ true = grind (arith, nat_tests) in
+    let denied = second_fails (is_filled (b ∷ bytes)) (not (is_category (b ∷ bytes))) some is in
+    digits_plain (b ∷ bytes) (both (length (b ∷ bytes) == 4) (list_all is_digit (b ∷ bytes)) (holds (is_category (b ∷ bytes)) denied)).1
+
+amount_plain : (cents : Option ℕ) → is_out_of_range cents ≡ false → HasNo 13 (amount_line cents)
+unfolding amount_text
+amount_plain None is = refl
+amount_plain (Some n) is =
+    let fits = amount_below n is in
+    HasNo-append 13 (decimal (n / 100)) (46 ∷ (decimal (n / 10 % 10) ++ decimal (n % 10))) (decimal_plain (n / 100) (omega (arith, fits)))
+    (HasNo-append 13 (decimal (n / 10 % 10)) (decimal (n % 10)) (decimal_plain (n / 10 % 10) (omega arith)) (decimal_plain (n % 10) (omega arith)))
+
+-- what the refusals say of a request that has none
+record AreSaid (r : Request) : Type 0 where
+  address : list_all is_address_byte r.payee ≡ true
+  parameters : AreParameters (upi_parameters r)
+  cents : is_out_of_range r.cents ≡ false
+
+upi_said : (r : Request) → upi_refusal r ≡ None → AreSaid r
+unfolding upi_refusal
+upi_said r is =
+    let none = all_pass (upi_checks r) is in
+    let name = no_return r.name (test_passes (list_any is_control r.name) Name ControlCharacter none.1.1.1.0) in
+    let reference = no_return r.reference (test_passes (list_any is_control r.reference) Reference ControlCharacter none.1.1.1.1.0) in
+    let note = no_return r.note (test_passes (list_any is_control r.note) Note ControlCharacter none.1.1.1.1.1.0) in
+    let category = category_plain r.category (test_passes (is_filled r.category && not (is_category r.category)) Category Character none.1.1.1.1.1.1.0) in
+    let cents = test_passes (is_out_of_range r.cents) Amount Range none.1.1.1.1.1.1.1.0 in
+    record {
+      address = holds (list_all is_address_byte r.payee) (test_passes (not (list_all is_address_byte r.payee)) Payee Character none.1.0);
+      parameters = (refl, refl, name, (refl, refl, category, (refl, refl, reference, (refl, refl, note, (refl, refl, amount_plain r.cents cents, (refl, refl, refl, tt))))));
+      cents = cents;
+    }
+
+-- the link behind its scheme
+abbrev link_of : Request → List ℕ
+link_of r = codes "?pa=" ++ (r.payee ++ and_text (upi_parameters r))
+
+first_read : (payee : List ℕ) → list_all is_address_byte payee ≡ true → read_parameter (codes "pa=" ++ payee) ≡ single (codes "pa") payee
+unfolding read_parameter
+first_read payee are = ap (single (codes "pa")) (address_read payee are)
+
+-- the entries of a link
+link_entries : (r : Request) → AreSaid r → read_pieces (codes "pa=" ++ (r.payee ++ and_text (upi_parameters r))) ≡ single (codes "pa") r.payee ∷ filled (entries_of (upi_parameters r))
+link_entries r said =
+    later_read (codes "pa=" ++ r.payee) (upi_parameters r) (address_no_and r.payee said.address) said.parameters
+    ∙ ap (λ entry. entry ∷ filled (entries_of (upi_parameters r))) (first_read r.payee said.address)
+
+value_of_link : (r : Request) → AreSaid r → (key : List ℕ) → bytes_eq key (codes "pa") ≡ false → are_distinct (entries_of (upi_parameters r)) ≡ true → value_in key (link_of r) ≡ value_of key (entries_of (upi_parameters r))
+value_of_link r said key other distinct =
+    ap (value_of key) (link_entries r said)
+    ∙ rw other (part_of-filled key 0 (entries_of (upi_parameters r)) distinct)
+
+same_request : (r : Request) (payee name category reference note : List ℕ) (cents : Option ℕ) → payee ≡ r.payee → name ≡ r.name → category ≡ r.category → reference ≡ r.reference → note ≡ r.note → cents ≡ r.cents → (let x : Request = record { payee = payee; name = name; category = category; reference = reference; note = note; cents = cents } in x) ≡ r
+same_request r payee name category reference note cents h₁ h₂ h₃ h₄ h₅ h₆ = rw (h₁, h₂, h₃, h₄, h₅, h₆) refl
+
+-- what is read is what was said
+upi_read : (r : Request) → upi_refusal r ≡ None → read_upi (upi_text r) ≡ Some r
+upi_read r is =
+    let said = upi_said r is in
+    let currency : value_in (codes "cu") (link_of r) ≡ codes "INR" = value_of_link r said (codes "cu") refl refl in
+    rw currency (ap Some (same_request r _ _ _ _ _ _
+    (ap (value_of (codes "pa")) (link_entries r said))
+    (value_of_link r said (codes "pn") refl refl)
+    (value_of_link r said (codes "mc") refl refl)
+    (value_of_link r said (codes "tr") refl refl)
+    (value_of_link r said (codes "tn") refl refl)
+    (ap read_cents (value_of_link r said (codes "am") refl refl) ∙ cents_read r.cents said.cents)))
+
+pub returns-clause-reads : goal.returns-clause-reads
+returns-clause-reads c =
+    let fields = request_of c.args.self.now in
+    answered (upi_refusal fields) c.check.result c.in_ok-check.field-0 c.check.ensures c.in_ok-check.was c.written.result (upi_text fields) (λ text. read_upi text ≡ Some fields)
+    c.written.ensures.value c.written.ensures.memory (upi_read fields)

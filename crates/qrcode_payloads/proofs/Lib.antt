@@ -1,0 +1,2 @@
+mod Calendar
+mod Placing

@@ -1,0 +1,42 @@
+-- The kinds of payload, and where each has its fields.
+use Rattle.std.specs.Prelude.{◌≡◌, refl, ℕ, Bool, List, [], ◌∷◌, Option, length, position, slice_get, unwrap_or}
+use Rattle.qrcode_contents.specs.declared.fields.errors.Field.{Field}
+use Rattle.qrcode_contents.specs.declared.fields.errors.Field.TheVariants.{Password, Secret}
+use Rattle.qrcode_contents.specs.contracts.fields.errors.FieldPartialEq.TheImpl as of_fields
+use Rattle.qrcode_payloads.specs.declared.kinds.Kind.{Kind}
+use Rattle.qrcode_payloads.specs.declared.kinds.Kind.TheVariants.{Wifi, Mecard, Vcard, Payment, Bill, Mail, Geo, Tel, Sms, Otp, Event, Upi, Pix, Promptpay}
+use Rattle.qrcode_payloads.specs.declared.kinds.TheConstants.{WIFI, MECARD, VCARD, PAYMENT, BILL, MAIL, GEO, TEL, SMS, OTP, EVENT, UPI, PIX, PROMPTPAY}
+
+abbrev pub kind_named : ℕ → Option Kind  -- the kind of a number, in this order from 0 on
+kind_named n = slice_get (Wifi ∷ Mecard ∷ Vcard ∷ Payment ∷ Bill ∷ Mail ∷ Geo ∷ Tel ∷ Sms ∷ Otp ∷ Event ∷ Upi ∷ Pix ∷ Promptpay ∷ []) n
+
+abbrev pub fields_of : Kind → List Field  -- the fields of a kind, in order
+fields_of Wifi = WIFI
+fields_of Mecard = MECARD
+fields_of Vcard = VCARD
+fields_of Payment = PAYMENT
+fields_of Bill = BILL
+fields_of Mail = MAIL
+fields_of Geo = GEO
+fields_of Tel = TEL
+fields_of Sms = SMS
+fields_of Otp = OTP
+fields_of Event = EVENT
+fields_of Upi = UPI
+fields_of Pix = PIX
+fields_of Promptpay = PROMPTPAY
+
+unfoldable pub is_same : Field → Field → Bool  -- whether two fields are the same
+is_same a b = (of_fields.ghosts).eq a b
+
+abbrev pub place_of : List Field → Field → ℕ  -- the place of a field; after all where it is none of these
+place_of fields field = unwrap_or (position (λ one. is_same one field) fields) (length fields)
+
+-- the places of fields compute
+password_row : place_of WIFI Password ≡ 1
+unfolding is_same
+password_row = refl
+
+none_row : place_of WIFI Secret ≡ 4
+unfolding is_same
+none_row = refl

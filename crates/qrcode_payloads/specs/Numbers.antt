@@ -1,0 +1,55 @@
+-- Numbers as options give them: digits, and perhaps a point with more of them behind it.
+use Rattle.std.specs.Prelude.{◌≡◌, ℕ, ◌-◌, ◌^◌, ◌==◌, nat_le, ◌&&◌, min, Bool, List, ◌++◌, ℤ, pos, negsuc, length, replicate, drop, slice_index_or, Option, Some, None, if◌then◌else◌, refl, codes}
+use Rattle.std.specs.List.{after_first, before_first, list_all}
+use Rattle.std.specs.Option.{option_map}
+use Rattle.std.specs.Str.Parse.{digits_value}
+use Rattle.qrcode_contents.specs.Geo.{negative}
+use Rattle.qrcode_contents.specs.fields.Characters.{is_digit}
+use Rattle.qrcode_contents.specs.fields.Entries.{is_filled}
+
+abbrev pub is_point : ℕ → Bool  -- a point
+is_point b = b == 46
+
+abbrev pub at_most_u64 : ℕ → ℕ  -- a number, or the largest of 64 bits where it is above that
+at_most_u64 n = min n (2 ^ 64 - 1)
+
+-- the digits before the point, and as many behind it as there are places, zeros in those that are not written
+abbrev pub placed_digits : ℕ → List ℕ → List ℕ → List ℕ
+placed_digits places whole part = whole ++ (part ++ replicate (places - length part) 48)
+
+abbrev pub is_number : ℕ → List ℕ → List ℕ → Bool  -- a number of digits, with at most so many behind the point
+is_number places whole part =
+    (is_filled whole && nat_le (length part) places && list_all is_digit whole) && list_all is_digit part
+
+abbrev pub placed_value : ℕ → List ℕ → List ℕ → Option ℕ  -- the number that such digits say, counted in the last place
+placed_value places whole part =
+    if is_number places whole part then Some (at_most_u64 (digits_value 10 (placed_digits places whole part))) else None
+
+-- the number that a text says, with the digits before its first point and those behind it
+abbrev pub scaled_value : ℕ → List ℕ → Option ℕ
+scaled_value places text = placed_value places (before_first is_point text) (after_first is_point text)
+
+amount_row : scaled_value 2 (codes "12.5") ≡ Some 1250
+amount_row = refl
+
+long_row : scaled_value 2 (codes "12.345") ≡ None
+long_row = refl
+
+bare_row : scaled_value 2 (codes ".34") ≡ None
+bare_row = refl
+
+abbrev pub has_minus : List ℕ → Bool  -- a minus sign stands before a number
+has_minus text = slice_index_or text 0 0 == 45
+
+abbrev pub unsigned : List ℕ → List ℕ  -- a number without its sign
+unsigned text = if has_minus text then drop 1 text else text
+
+abbrev pub signed : Bool → ℕ → ℤ  -- millionths of degrees with their sign, and of 2,000 degrees where they are more
+signed minus millionths = if minus then negative (min millionths 2000000000) else pos (min millionths 2000000000)
+
+-- the millionths of a number of degrees, which may have a minus sign before it
+abbrev pub degrees_of : List ℕ → Option ℤ
+degrees_of text = option_map (signed (has_minus text)) (scaled_value 6 (unsigned text))
+
+degrees_row : degrees_of (codes "-33.8568") ≡ Some (negsuc 33856799)
+degrees_row = refl

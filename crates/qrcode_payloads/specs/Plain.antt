@@ -1,0 +1,36 @@
+-- Values without what people write between their characters.
+use Rattle.std.specs.Prelude.{ℕ, ◌==◌, ◌||◌, Bool, false, List, Option, Some, None, chars, encode_utf8_all, if◌then◌else◌}
+use Rattle.std.specs.List.{filter_map}
+use Rattle.std.specs.Char.{to_ascii_uppercase}
+use Rattle.qrcode_payloads.specs.declared.plain.Between.{Between}
+use Rattle.qrcode_payloads.specs.declared.plain.Between.TheVariants.{Spaces, Phone, Amount, Degrees, Person, Secret, Time, Clock}
+
+abbrev pub is_space : ℕ → Bool  -- a space, or one that does not break
+is_space c = c == 32 || c == 160 || c == 8239
+
+abbrev pub is_between : Between → ℕ → Bool  -- a character that stands between those of a value
+is_between Spaces c = is_space c
+is_between Phone c = is_space c || c == 47
+is_between Amount c = is_space c || c == 39 || c == 8217
+is_between Degrees c = false
+is_between Secret c = is_space c || c == 45 || c == 61
+is_between Time c = c == 45 || c == 58
+is_between Person c = is_space c || c == 45
+is_between Clock c = c == 58
+
+abbrev pub as_written : Between → ℕ → ℕ  -- a capital, a point for a comma in a number, and a T for a space in a time
+as_written Spaces c = to_ascii_uppercase c
+as_written Phone c = to_ascii_uppercase c
+as_written Amount c = if c == 44 then 46 else to_ascii_uppercase c
+as_written Degrees c = if c == 44 then 46 else to_ascii_uppercase c
+as_written Secret c = to_ascii_uppercase c
+as_written Time c = if c == 32 then 84 else to_ascii_uppercase c
+as_written Person c = to_ascii_uppercase c
+as_written Clock c = if c == 32 then 84 else to_ascii_uppercase c
+
+-- a character of a value as formats have it, and none where it stands between these
+abbrev pub kept : Between → ℕ → Option ℕ
+kept between c = if is_between between c then None else Some (as_written between c)
+
+unfoldable pub plain : Between → List ℕ → List ℕ  -- a value without these characters, as formats have it
+plain between text = encode_utf8_all (filter_map (kept between) (chars text))

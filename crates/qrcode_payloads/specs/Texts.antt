@@ -1,0 +1,94 @@
+-- The texts of payloads, and what refuses them.
+use Rattle.std.specs.Prelude.{◌≡◌, ◌≢◌, ℕ, nat_lt, Bool, List, [], ◌∷◌, ◌++◌, length, position, slice_get, unwrap_or, codes, Option, Some, if◌then◌else◌}
+use Rattle.std.specs.Option.{option_map}
+use Rattle.qrcode_contents.specs.Bill.{bill_refusal, bill_text, read_bill}
+use Rattle.qrcode_contents.specs.Card.{card_refusal, card_text, read_card}
+use Rattle.qrcode_contents.specs.Contact.{contact_refusal, mecard_text, read_mecard}
+use Rattle.qrcode_contents.specs.Event.{event_refusal, event_text, read_event}
+use Rattle.qrcode_contents.specs.Geo.{place_refusal, place_text, read_place}
+use Rattle.qrcode_contents.specs.Mail.{mail_refusal, mail_text, read_mail}
+use Rattle.qrcode_contents.specs.Merchant.{pix_refusal, pix_text, read_pix, promptpay_refusal, promptpay_text, read_promptpay}
+use Rattle.qrcode_contents.specs.OneTime.{key_refusal, key_text, read_key}
+use Rattle.qrcode_contents.specs.Payment.{payment_refusal, payment_text, read_payment}
+use Rattle.qrcode_contents.specs.Phone.{phone_refusal, message_text, read_message}
+use Rattle.qrcode_contents.specs.Upi.{upi_refusal, upi_text, read_upi}
+use Rattle.qrcode_contents.specs.Wifi.{wifi_refusal, wifi_text, read_wifi}
+use Rattle.qrcode_contents.specs.declared.fields.errors.ContentError.{ContentError}
+use Rattle.qrcode_contents.specs.declared.fields.errors.Field.{Field}
+use Rattle.qrcode_contents.specs.declared.fields.errors.Field.TheVariants.{Message, Whole}
+use Rattle.qrcode_contents.specs.declared.fields.errors.Cause.TheVariants.{TooLong}
+use Rattle.qrcode_contents.specs.declared.fields.errors.ContentError.TheVariants.{Refused}
+use Rattle.qrcode_contents.specs.fields.Refusals.{first_refusal}
+use Rattle.qrcode_payloads.specs.Kinds.{fields_of}
+use Rattle.qrcode_contents.specs.fields.Entries.{behind, is_empty}
+use Rattle.qrcode_payloads.specs.Given.{refusal_of, text_of, IsRead}
+use Rattle.qrcode_payloads.specs.Values.{network_in, person_in, contact_in, transfer_in, invoice_in, letter_in, place_in, phone_in, key_in, happening_in, request_in, charge_in, claim_in}
+use Rattle.qrcode_payloads.specs.declared.kinds.Kind.{Kind}
+use Rattle.qrcode_payloads.specs.declared.kinds.Kind.TheVariants.{Wifi, Mecard, Vcard, Payment, Bill, Mail, Geo, Tel, Sms, Otp, Event, Upi, Pix, Promptpay}
+
+abbrev pub payload_refusal : Kind → (Field → List ℕ) → Option ContentError  -- what the format of a kind cannot say of fields
+payload_refusal Wifi g = refusal_of wifi_refusal (network_in g)
+payload_refusal Mecard g = refusal_of contact_refusal (person_in g)
+payload_refusal Vcard g = refusal_of card_refusal (contact_in g)
+payload_refusal Payment g = refusal_of payment_refusal (transfer_in g)
+payload_refusal Bill g = refusal_of bill_refusal (invoice_in g)
+payload_refusal Mail g = mail_refusal (letter_in g)
+payload_refusal Geo g = refusal_of place_refusal (place_in g)
+payload_refusal Tel g = phone_refusal (phone_in g)
+payload_refusal Sms g = phone_refusal (phone_in g)
+payload_refusal Otp g = refusal_of key_refusal (key_in g)
+payload_refusal Event g = refusal_of event_refusal (happening_in g)
+payload_refusal Upi g = refusal_of upi_refusal (request_in g)
+payload_refusal Pix g = refusal_of pix_refusal (charge_in g)
+payload_refusal Promptpay g = refusal_of promptpay_refusal (claim_in g)
+
+abbrev pub is_long : List ℕ → Bool  -- more bytes than the digits that sixteen symbols hold
+is_long text = nat_lt 113424 (length text)
+
+-- the first of these fields that is so long
+abbrev pub long_refusal : List Field → (Field → List ℕ) → Option ContentError
+long_refusal fields g =
+    option_map (λ place. Refused (unwrap_or (slice_get fields place) Whole) TooLong) (position (λ field. is_long (g field)) fields)
+
+abbrev pub content_refusal : Kind → (Field → List ℕ) → Option ContentError  -- why fields have no text: one is too long, or the format cannot say them
+content_refusal kind g = first_refusal (long_refusal (fields_of kind) g ∷ payload_refusal kind g ∷ [])
+
+abbrev pub sms_text : List ℕ → List ℕ → List ℕ  -- the text of a message, which is left out where it is empty
+sms_text number body = if is_empty body then codes "sms:" ++ number else message_text number body
+
+abbrev pub payload_text : Kind → (Field → List ℕ) → List ℕ  -- the text of fields
+payload_text Wifi g = text_of wifi_text (network_in g)
+payload_text Mecard g = text_of mecard_text (person_in g)
+payload_text Vcard g = text_of card_text (contact_in g)
+payload_text Payment g = text_of payment_text (transfer_in g)
+payload_text Bill g = text_of bill_text (invoice_in g)
+payload_text Mail g = mail_text (letter_in g)
+payload_text Geo g = text_of place_text (place_in g)
+payload_text Tel g = codes "tel:" ++ phone_in g
+payload_text Sms g = sms_text (phone_in g) (g Message)
+payload_text Otp g = text_of key_text (key_in g)
+payload_text Event g = text_of event_text (happening_in g)
+payload_text Upi g = text_of upi_text (request_in g)
+payload_text Pix g = text_of pix_text (charge_in g)
+payload_text Promptpay g = text_of promptpay_text (claim_in g)
+
+-- a text says a number, and a message where there is one
+pub record IsReadAsSms (number body text : List ℕ) : Type 0 where
+  pub alone : length body ≡ 0 → behind (codes "sms:") text ≡ Some number
+  pub message : length body ≢ 0 → read_message text ≡ Some (number, body)
+
+abbrev pub IsReadAs : Kind → (Field → List ℕ) → List ℕ → Type 0  -- a text is read as exactly these fields
+IsReadAs Wifi g text = IsRead read_wifi (network_in g) text
+IsReadAs Mecard g text = IsRead read_mecard (person_in g) text
+IsReadAs Vcard g text = IsRead read_card (contact_in g) text
+IsReadAs Payment g text = IsRead read_payment (transfer_in g) text
+IsReadAs Bill g text = IsRead read_bill (invoice_in g) text
+IsReadAs Mail g text = read_mail text ≡ Some (letter_in g)
+IsReadAs Geo g text = IsRead read_place (place_in g) text
+IsReadAs Tel g text = behind (codes "tel:") text ≡ Some (phone_in g)
+IsReadAs Sms g text = IsReadAsSms (phone_in g) (g Message) text
+IsReadAs Otp g text = IsRead read_key (key_in g) text
+IsReadAs Event g text = IsRead read_event (happening_in g) text
+IsReadAs Upi g text = IsRead read_upi (request_in g) text
+IsReadAs Pix g text = IsRead read_pix (charge_in g) text
+IsReadAs Promptpay g text = IsRead read_promptpay (claim_in g) text

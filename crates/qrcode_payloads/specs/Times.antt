@@ -1,0 +1,174 @@
+-- Days and moments of digits, and the moments in UTC of times in other zones.
+use Rattle.std.specs.Prelude.{◌≡◌, ℕ, zero, suc, nat_lt, nat_le, ◌+◌, ◌*◌, ◌/◌, ◌%◌, ◌==◌, ◌&&◌, Bool, List, ◌∷◌, ◌++◌, length, slice_index, ◌-◌, Option, Some, None, if◌then◌else◌, codes, refl}
+use Rattle.std.specs.List.{after_first, before_first, list_all}
+use Rattle.std.specs.Option.{option_map, option_and_then}
+use Rattle.qrcode_contents.specs.declared.times.Day.{Day}
+use Rattle.qrcode_contents.specs.declared.times.Moment.{Moment}
+use Rattle.qrcode_contents.specs.fields.Characters.{is_digit}
+use Rattle.qrcode_contents.specs.Times.{is_leap, days_in, is_moment}
+use Rattle.qrcode_contents.specs.fields.Entries.{is_empty, is_filled}
+use Rattle.qrcode_payloads.specs.Plain.{plain}
+use Rattle.qrcode_payloads.specs.declared.plain.Between.TheVariants as between
+use Rattle.qrcode_payloads.specs.Numbers.{scaled_value, at_most_u64}
+
+abbrev pub is_tee : ℕ → Bool  -- a T, between day and time
+is_tee b = b == 84
+
+abbrev pub day_numbered : ℕ → Day  -- the day of a number of eight digits, e.g. 19970714
+day_numbered n = record { year = n / 10000 % 10000; month = n / 100 % 100; day = n % 100 }
+
+abbrev pub day_said : List ℕ → Option Day  -- the day of eight digits
+day_said text = if length text == 8 && list_all is_digit text then option_map day_numbered (scaled_value 0 text) else None
+
+-- the number of six digits of a time of day, or of four, where the seconds are left out
+abbrev pub clock_number : List ℕ → Option ℕ
+clock_number text =
+    if list_all is_digit text
+    then (if length text == 4 then option_map (λ n. at_most_u64 (n * 100)) (scaled_value 0 text) else (if length text == 6 then scaled_value 0 text else None))
+    else None
+
+abbrev pub moment_at : Day → ℕ → Moment  -- the moment of a day and the number of a time
+moment_at day n = record { day = day; hour = n / 10000 % 100; minute = n / 100 % 100; second = n % 100 }
+
+abbrev pub is_zed : ℕ → Bool  -- a Z, for UTC
+is_zed b = b == 90
+
+abbrev pub ends_with_zed : List ℕ → Bool  -- the last byte is a Z
+ends_with_zed text = slice_index text (length text - 1) == 90
+
+-- ---- how far moments lie apart
+
+unfoldable pub days_before : ℕ → ℕ  -- the days of all years before one
+days_before zero = 0
+days_before (suc year) = days_before year + (if is_leap year then 366 else 365)
+
+unfoldable pub days_through : ℕ → ℕ → ℕ  -- the days of so many months of a year, from January on
+days_through year zero = 0
+days_through year (suc months) = days_through year months + days_in year (suc months)
+
+abbrev pub day_count : Day → ℕ  -- the days from the beginning of the year 0 to the end of a day
+day_count d = days_before d.year + days_through d.year (d.month - 1) + d.day
+
+abbrev pub minute_count : Moment → ℕ  -- minutes that grow by one from each minute to the next, over ends of days, months and years
+minute_count m = day_count m.day * 1440 + (m.hour * 60 + m.minute)
+
+-- ---- zones
+
+abbrev pub day_after : Day → Day  -- the next day
+day_after d =
+    if nat_lt d.day (days_in d.year d.month) then record { year = d.year; month = d.month; day = d.day + 1 }
+    else (if nat_lt d.month 12 then record { year = d.year; month = d.month + 1; day = 1 } else record { year = d.year + 1; month = 1; day = 1 })
+
+abbrev pub day_before : Day → Option Day  -- the day before, and none before the year 0
+day_before d =
+    if nat_lt 1 d.day then Some (record { year = d.year; month = d.month; day = d.day - 1 })
+    else (if nat_lt 1 d.month then Some (record { year = d.year; month = d.month - 1; day = days_in d.year (d.month - 1) })
+    else (if d.year == 0 then None else Some (record { year = d.year - 1; month = 12; day = 31 })))
+
+abbrev pub clock_minutes : Moment → ℕ  -- the minutes of its day
+clock_minutes m = m.hour * 60 + m.minute
+
+abbrev pub with_minutes : Moment → Day → ℕ → Moment  -- the moment of another day and minute of it
+with_minutes m day n = record { day = day; hour = n / 60 % 24; minute = n % 60; second = m.second }
+
+abbrev pub earlier : ℕ → Moment → Option Moment  -- the moment so many minutes before, which are less than a day
+earlier n m =
+    if nat_le n (clock_minutes m) then Some (with_minutes m m.day (clock_minutes m - n))
+    else option_map (λ day. with_minutes m day (clock_minutes m + 1440 - n)) (day_before m.day)
+
+abbrev pub later : ℕ → Moment → Moment  -- the moment so many minutes after
+later n m =
+    if nat_lt (clock_minutes m + n) 1440 then with_minutes m m.day (clock_minutes m + n)
+    else with_minutes m (day_after m.day) (clock_minutes m + n - 1440)
+
+unfoldable pub local_said : List ℕ → List ℕ → Option Moment  -- the moment of a day and a time, wherever they are told
+local_said day clock = option_and_then (λ d. option_map (moment_at d) (clock_number clock)) (day_said day)
+
+-- the minutes between a zone and UTC: two digits of hours, two of minutes, and perhaps two zeros
+unfoldable pub zone_minutes : List ℕ → Option ℕ
+zone_minutes text =
+    option_and_then (λ n. if nat_lt (n / 10000) 24 && nat_lt (n / 100 % 100) 60 && n % 100 == 0 then Some (n / 10000 * 60 + n / 100 % 100) else None) (clock_number text)
+
+abbrev pub is_plus : ℕ → Bool  -- the sign of a zone whose clocks are ahead of UTC
+is_plus b = b == 43
+
+abbrev pub is_minus : ℕ → Bool  -- the sign of one whose clocks are behind
+is_minus b = b == 45
+
+-- the moment in UTC, of one that the calendar has; another is refused as it is
+unfoldable pub from_ahead : Option ℕ → Moment → Option Moment
+from_ahead None m = None
+from_ahead (Some n) m = if is_moment m then earlier n m else Some m
+
+unfoldable pub from_behind : Option ℕ → Moment → Option Moment
+from_behind None m = None
+from_behind (Some n) m = Some (if is_moment m then later n m else m)
+
+abbrev pub is_utc : List ℕ → Bool  -- a time has one Z, at its end
+is_utc time = ends_with_zed time && is_empty (after_first is_zed time)
+
+-- the moment in UTC of a day and of a time with a sign and a zone
+unfoldable pub zoned : List ℕ → List ℕ → Option Moment
+zoned day time =
+    if is_empty (after_first is_plus time)
+    then option_and_then (from_behind (zone_minutes (after_first is_minus time))) (local_said day (before_first is_minus time))
+    else option_and_then (from_ahead (zone_minutes (after_first is_plus time))) (local_said day (before_first is_plus time))
+
+-- the moment in UTC of a day and of a time with a Z, or with a zone
+unfoldable pub moment_of : List ℕ → List ℕ → Option Moment
+moment_of day time = if is_utc time then local_said day (before_first is_zed time) else zoned day time
+
+-- a day, or a day and a time, without hyphens between the parts of the day and colons between those of the time
+unfoldable pub plain_time : List ℕ → List ℕ
+plain_time text =
+    let written = plain between.Clock text in
+    if is_filled (after_first is_tee written)
+    then plain between.Time (before_first is_tee written) ++ (84 ∷ after_first is_tee written)
+    else plain between.Time written
+
+-- the moment in UTC of a day, a T, a time of day, and a Z or a zone
+abbrev pub moment_said : List ℕ → Option Moment
+moment_said text = moment_of (before_first is_tee text) (after_first is_tee text)
+
+-- printed examples of RFC 5545, sections 3.3.4 and 3.3.5, and one without seconds
+printed_day : day_said (codes "19970714") ≡ Some (let d : Day = record { year = 1997; month = 7; day = 14 } in d)
+printed_day = refl
+
+printed_moment : moment_said (codes "19980119T070000Z") ≡ Some (let m : Moment = record { day = record { year = 1998; month = 1; day = 19 }; hour = 7; minute = 0; second = 0 } in m)
+unfolding moment_of zoned local_said zone_minutes from_ahead from_behind
+printed_moment = refl
+
+short_moment : moment_said (codes "19980119T0700Z") ≡ moment_said (codes "19980119T070000Z")
+unfolding moment_of zoned local_said zone_minutes from_ahead from_behind
+short_moment = refl
+
+-- printed examples of RFC 3339, section 5.8: the same moment in two zones, which are days apart, and a leap second
+zone_row : moment_said (codes "19961219T163957-0800") ≡ moment_said (codes "19961220T003957Z")
+unfolding moment_of zoned local_said zone_minutes from_ahead from_behind
+zone_row = refl
+
+leap_row : moment_said (codes "19901231T155960-0800") ≡ moment_said (codes "19901231T235960Z")
+unfolding moment_of zoned local_said zone_minutes from_ahead from_behind
+leap_row = refl
+
+-- over the end of a year, and over that of February in a leap year
+year_row : moment_said (codes "20270101T0030+0100") ≡ moment_said (codes "20261231T2330Z")
+unfolding moment_of zoned local_said zone_minutes from_ahead from_behind
+year_row = refl
+
+february_row : moment_said (codes "20000228T2330-0045") ≡ moment_said (codes "20000229T0015Z")
+unfolding moment_of zoned local_said zone_minutes from_ahead from_behind
+february_row = refl
+
+-- a time with no zone, and zones of too many hours and minutes
+local_row : moment_said (codes "19980118T230000") ≡ None
+unfolding moment_of zoned local_said zone_minutes from_ahead from_behind
+local_row = refl
+
+wide_row : moment_said (codes "19980118T230000+2400") ≡ None
+unfolding moment_of zoned local_said zone_minutes from_ahead from_behind
+wide_row = refl
+
+minutes_row : moment_said (codes "19980118T230000+0060") ≡ None
+unfolding moment_of zoned local_said zone_minutes from_ahead from_behind
+minutes_row = refl

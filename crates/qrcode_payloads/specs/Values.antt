@@ -1,0 +1,260 @@
+-- The values of the formats, of the texts that are given for fields.
+use Rattle.std.specs.Prelude.{ℕ, ℤ, nat_lt, ◌-◌, ◌^◌, Bool, false, List, length, is_some, codes, Option, Some, None, Result, Ok, Err, if◌then◌else◌}
+use Rattle.qrcode_contents.specs.Bill.{Addressee, Invoice}
+use Rattle.qrcode_contents.specs.Card.{Contact}
+use Rattle.qrcode_contents.specs.Contact.{Person}
+use Rattle.qrcode_contents.specs.Mail.{Letter}
+use Rattle.qrcode_contents.specs.Merchant.{Charge, Claim}
+use Rattle.qrcode_contents.specs.OneTime.{Key}
+use Rattle.qrcode_contents.specs.Payment.{Transfer, version_for}
+use Rattle.qrcode_contents.specs.Upi.{Request}
+use Rattle.qrcode_contents.specs.Wifi.{Network}
+use Rattle.qrcode_contents.specs.declared.bill.Currency.TheVariants.{Franc}
+use Rattle.qrcode_contents.specs.declared.bill.Currency as currencies
+use Rattle.qrcode_contents.specs.declared.fields.errors.Cause.{Cause}
+use Rattle.qrcode_contents.specs.declared.fields.errors.Cause.TheVariants.{Character, Decimals, Empty, Range, TooLong, TooShort, Word}
+use Rattle.qrcode_contents.specs.declared.fields.errors.ContentError.{ContentError}
+use Rattle.qrcode_contents.specs.declared.fields.errors.ContentError.TheVariants.{Refused}
+use Rattle.qrcode_contents.specs.declared.fields.errors.Field.{Field}
+use Rattle.qrcode_contents.specs.declared.fields.errors.Field.TheVariants.{Account, Algorithm, Amount, Begin, Bic, Birthday, Category, City, Counter, Country, Currency, DebtorCity, DebtorCountry, DebtorName, DebtorNumber, DebtorPostalCode, DebtorStreet, Description, Digits, Email, End, Family, Given, Hidden, HomePhone, Iban, Information, Issuer, Latitude, Location, Longitude, Message, Mobile, Name, Note, Number, Organisation, Password, Payee, Period, Phone, PostalCode, Purpose, Reference, Region, Secret, Security, Ssid, Stamp, Street, Subject, Summary, Title, Uid, Url, WorkPhone}
+use Rattle.qrcode_contents.specs.declared.geo.Place.{Place}
+use Rattle.qrcode_contents.specs.declared.one_time.Algorithm as algorithms
+use Rattle.qrcode_contents.specs.declared.one_time.Algorithm.TheVariants.{Sha1}
+use Rattle.qrcode_contents.specs.declared.one_time.Digits as digits
+use Rattle.qrcode_contents.specs.declared.one_time.Digits.TheVariants.{Six}
+use Rattle.qrcode_contents.specs.declared.one_time.Factor.{Factor}
+use Rattle.qrcode_contents.specs.declared.one_time.Factor.TheVariants as factors
+use Rattle.qrcode_contents.specs.Event.{Happening}
+use Rattle.qrcode_contents.specs.declared.event.Span.{Span}
+use Rattle.qrcode_contents.specs.declared.event.Span.TheVariants.{Days, Times}
+use Rattle.qrcode_contents.specs.declared.times.Day.{Day}
+use Rattle.qrcode_contents.specs.declared.times.Moment.{Moment}
+use Rattle.qrcode_contents.specs.declared.wifi.Security as ways
+use Rattle.qrcode_contents.specs.declared.wifi.Security.TheVariants.{Open, Wpa}
+use Rattle.std.specs.List.{list_all}
+use Rattle.qrcode_contents.specs.fields.Characters.{is_digit}
+use Rattle.qrcode_contents.specs.fields.Entries.{is_empty}
+use Rattle.qrcode_payloads.specs.Given.{said, with_value}
+use Rattle.qrcode_payloads.specs.Numbers.{scaled_value, degrees_of, unsigned}
+use Rattle.qrcode_payloads.specs.Plain.{plain}
+use Rattle.qrcode_payloads.specs.Times.{day_said, moment_said, plain_time}
+use Rattle.qrcode_payloads.specs.Words.{security_named, currency_named, algorithm_named, digits_named, flag_named}
+use Rattle.qrcode_payloads.specs.declared.plain.Between.TheVariants as between
+
+-- the value of a word; another where none is given
+abbrev pub word_in : {A : Type 0} → (List ℕ → Option A) → A → List ℕ → Field → Result A ContentError
+word_in named other text field = if is_empty text then Ok other else said (named text) field Word
+
+-- why a text says no number: it is empty, has more digits after its point, or other characters
+abbrev pub number_cause : List ℕ → Cause
+number_cause text = if is_empty text then Empty else (if is_some (scaled_value (length text) text) then Decimals else Character)
+
+abbrev pub time_cause : List ℕ → Cause  -- why a text says no time
+time_cause text = if is_empty text then Empty else Character
+
+abbrev pub degrees_cause : List ℕ → Cause  -- why a text says no degrees
+degrees_cause text = number_cause (unsigned text)
+
+abbrev pub amount_in : List ℕ → Result ℕ ContentError  -- an amount, in hundredths
+amount_in text = said (scaled_value 2 text) Amount (number_cause text)
+
+abbrev pub open_amount_in : List ℕ → Result (Option ℕ) ContentError  -- an amount, or none
+open_amount_in text = if is_empty text then Ok None else with_value (amount_in text) (λ cents. Ok (Some cents))
+
+-- how a network is secured; where nothing is said, by WPA with a password, and not at all without one
+abbrev pub security_in : (Field → List ℕ) → Result ways.Security ContentError
+security_in g = word_in security_named (if is_empty (g Password) then Open else Wpa) (g Security) Security
+
+abbrev pub hidden_in : List ℕ → Result Bool ContentError  -- whether a network does not broadcast its name
+hidden_in text = word_in flag_named false text Hidden
+
+abbrev pub currency_in : List ℕ → Result currencies.Currency ContentError  -- the currency of a bill
+currency_in text = word_in currency_named Franc text Currency
+
+abbrev pub algorithm_in : List ℕ → Result algorithms.Algorithm ContentError  -- the hash of one-time passwords
+algorithm_in text = word_in algorithm_named Sha1 text Algorithm
+
+abbrev pub digits_in : List ℕ → Result digits.Digits ContentError  -- how many digits they have
+digits_in text = word_in digits_named Six text Digits
+
+abbrev pub network_in : (Field → List ℕ) → Result Network ContentError  -- a network
+network_in g = with_value (security_in g) (λ security. with_value (hidden_in (g Hidden)) (λ hidden. Ok (record {
+  security = security;
+  ssid = g Ssid;
+  password = g Password;
+  hidden = hidden;
+})))
+
+abbrev pub day_cause : List ℕ → Cause  -- why a text is no day of eight digits
+day_cause text = if list_all is_digit text then (if nat_lt (length text) 8 then TooShort else TooLong) else Character
+
+abbrev pub birthday_in : List ℕ → Result (Option Day) ContentError  -- a birthday, where it is said
+birthday_in text = if is_empty text then Ok None else with_value (said (day_said text) Birthday (day_cause text)) (λ day. Ok (Some day))
+
+abbrev pub person_in : (Field → List ℕ) → Result Person ContentError  -- a contact, as MECARD has it
+person_in g = with_value (birthday_in (plain between.Time (g Birthday))) (λ birthday. Ok (record {
+  family = g Family;
+  given = g Given;
+  phone = g Phone;
+  email = g Email;
+  url = g Url;
+  birthday = birthday;
+  note = g Note;
+  street = g Street;
+  city = g City;
+  region = g Region;
+  code = g PostalCode;
+  country = g Country;
+}))
+
+abbrev pub contact_in : (Field → List ℕ) → Result Contact ContentError  -- a contact, as vCard has it
+contact_in g = with_value (birthday_in (plain between.Time (g Birthday))) (λ birthday. Ok (record {
+  name = g Name;
+  family = g Family;
+  given = g Given;
+  organisation = g Organisation;
+  title = g Title;
+  phone = g Phone;
+  mobile = g Mobile;
+  work_phone = g WorkPhone;
+  home_phone = g HomePhone;
+  email = g Email;
+  url = g Url;
+  birthday = birthday;
+  street = g Street;
+  city = g City;
+  region = g Region;
+  code = g PostalCode;
+  country = g Country;
+  note = g Note;
+}))
+
+abbrev pub transfer_in : (Field → List ℕ) → Result Transfer ContentError  -- a payment
+transfer_in g = with_value (amount_in (plain between.Amount (g Amount))) (λ cents. Ok (record {
+  version = version_for (plain between.Spaces (g Bic));
+  bic = plain between.Spaces (g Bic);
+  name = g Name;
+  iban = plain between.Spaces (g Iban);
+  cents = cents;
+  purpose = plain between.Spaces (g Purpose);
+  reference = plain between.Spaces (g Reference);
+  message = g Message;
+  information = g Information;
+}))
+
+abbrev pub creditor_in : (Field → List ℕ) → Addressee  -- who is paid by a bill
+creditor_in g = record {
+  name = g Name;
+  street = g Street;
+  number = g Number;
+  code = g PostalCode;
+  city = g City;
+  country = plain between.Spaces (g Country);
+}
+
+abbrev pub debtor_in : (Field → List ℕ) → Addressee  -- who pays it
+debtor_in g = record {
+  name = g DebtorName;
+  street = g DebtorStreet;
+  number = g DebtorNumber;
+  code = g DebtorPostalCode;
+  city = g DebtorCity;
+  country = plain between.Spaces (g DebtorCountry);
+}
+
+abbrev pub invoice_in : (Field → List ℕ) → Result Invoice ContentError  -- a bill
+invoice_in g = with_value (open_amount_in (plain between.Amount (g Amount))) (λ cents. with_value (currency_in (g Currency)) (λ currency. Ok (record {
+  iban = plain between.Spaces (g Iban);
+  creditor = creditor_in g;
+  cents = cents;
+  currency = currency;
+  debtor = debtor_in g;
+  reference = plain between.Spaces (g Reference);
+  message = g Message;
+})))
+
+abbrev pub letter_in : (Field → List ℕ) → Letter  -- an e-mail
+letter_in g = record { address = g Email; subject = g Subject; body = g Message }
+
+abbrev pub degrees_in : List ℕ → Field → Result ℤ ContentError  -- degrees, in millionths
+degrees_in text field = said (degrees_of text) field (degrees_cause text)
+
+abbrev pub place_in : (Field → List ℕ) → Result Place ContentError  -- a location
+place_in g = with_value (degrees_in (plain between.Degrees (g Latitude)) Latitude) (λ north. with_value (degrees_in (plain between.Degrees (g Longitude)) Longitude) (λ east. Ok (record { latitude = north; longitude = east })))
+
+abbrev pub phone_in : (Field → List ℕ) → List ℕ  -- a telephone number
+phone_in g = plain between.Phone (g Phone)
+
+-- a whole number that is at most this
+abbrev pub whole_in : List ℕ → ℕ → Field → Result ℕ ContentError
+whole_in text most field = with_value (said (scaled_value 0 text) field (number_cause text)) (λ n. if nat_lt most n then Err (Refused field Range) else Ok n)
+
+-- what passwords change with: a counter where one is given, and else the time, every 30 seconds or as many as are given
+abbrev pub factor_in : List ℕ → List ℕ → Result Factor ContentError
+factor_in counter period =
+    if is_empty counter
+    then (if is_empty period then Ok (factors.Time 30) else with_value (whole_in period (2 ^ 32 - 1) Period) (λ seconds. Ok (factors.Time seconds)))
+    else with_value (whole_in counter (2 ^ 64 - 2) Counter) (λ count. Ok (factors.Counter count))
+
+abbrev pub key_in : (Field → List ℕ) → Result Key ContentError  -- one-time passwords
+key_in g = with_value (factor_in (g Counter) (g Period)) (λ factor. with_value (algorithm_in (g Algorithm)) (λ algorithm. with_value (digits_in (g Digits)) (λ digits. Ok (record {
+  factor = factor;
+  issuer = g Issuer;
+  account = g Account;
+  secret = plain between.Secret (g Secret);
+  algorithm = algorithm;
+  digits = digits;
+}))))
+
+abbrev pub stamp_in : List ℕ → Result (Option Moment) ContentError  -- when an event was written, where it is said
+stamp_in text = if is_empty text then Ok None else with_value (said (moment_said text) Stamp Character) (λ moment. Ok (Some moment))
+
+abbrev pub days_in : Day → List ℕ → Result Span ContentError  -- from one day until before another
+days_in first end = with_value (said (day_said end) End (time_cause end)) (λ last. Ok (Days first last))
+
+abbrev pub times_in : List ℕ → List ℕ → Result Span ContentError  -- from one moment to another
+times_in begin end = with_value (said (moment_said begin) Begin (time_cause begin)) (λ first. with_value (said (moment_said end) End (time_cause end)) (λ last. Ok (Times first last)))
+
+abbrev pub span_from : Option Day → List ℕ → List ℕ → Result Span ContentError
+span_from (Some first) begin end = days_in first end
+span_from None begin end = times_in begin end
+
+-- when an event begins and ends: both are days, or both are moments
+abbrev pub span_in : List ℕ → List ℕ → Result Span ContentError
+span_in begin end = span_from (day_said begin) begin end
+
+abbrev pub happening_in : (Field → List ℕ) → Result Happening ContentError  -- an event
+happening_in g = with_value (span_in (plain_time (g Begin)) (plain_time (g End))) (λ span. with_value (stamp_in (plain_time (g Stamp))) (λ stamp. Ok (record {
+  uid = g Uid;
+  stamp = stamp;
+  span = span;
+  summary = g Summary;
+  location = g Location;
+  description = g Description;
+})))
+
+abbrev pub request_in : (Field → List ℕ) → Result Request ContentError  -- a payment by UPI
+request_in g = with_value (open_amount_in (plain between.Amount (g Amount))) (λ cents. Ok (record {
+  payee = g Payee;
+  name = g Name;
+  category = g Category;
+  reference = g Reference;
+  note = g Note;
+  cents = cents;
+}))
+
+abbrev pub charge_in : (Field → List ℕ) → Result Charge ContentError  -- a payment by Pix
+charge_in g = with_value (open_amount_in (plain between.Amount (g Amount))) (λ cents. Ok (record {
+  key = g Payee;
+  name = g Name;
+  city = g City;
+  cents = cents;
+  reference = g Reference;
+  description = g Description;
+}))
+
+abbrev pub claim_in : (Field → List ℕ) → Result Claim ContentError  -- a payment by PromptPay
+claim_in g = with_value (open_amount_in (plain between.Amount (g Amount))) (λ cents. Ok (record {
+  payee = plain between.Person (g Payee);
+  cents = cents;
+}))

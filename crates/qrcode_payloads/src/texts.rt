@@ -1,0 +1,399 @@
+//! The texts of payloads.
+
+ghost use Rattle.std.specs.Prelude.{◌≡◌, IfOk, position, string_bytes};
+ghost use Rattle.qrcode_contents.specs.Bill.{addressee_of};
+ghost use Rattle.qrcode_contents.specs.Phone.{phone_refusal};
+ghost use Rattle.qrcode_contents.specs.fields.Refusals.{Answers, checked};
+ghost use Rattle.qrcode_contents.specs.declared.fields.errors.Field.TheVariants.{Country, DebtorCountry};
+ghost use Rattle.qrcode_payloads.specs.Kinds.{fields_of};
+ghost use Rattle.qrcode_payloads.specs.Plain.{plain};
+ghost use Rattle.qrcode_payloads.specs.declared.plain.Between.TheVariants as between;
+ghost use Rattle.qrcode_payloads.specs.Values.{creditor_in, debtor_in};
+ghost use Rattle.qrcode_payloads.specs.Texts.{is_long, long_refusal, content_refusal, payload_refusal, payload_text, sms_text, IsReadAs, IsReadAsSms};
+ghost use Rattle.qrcode_payloads.specs.declared.kinds.Kind.TheVariants.{Wifi, Mecard, Vcard, Payment, Bill, Mail, Geo, Tel, Sms, Otp, Event, Upi, Pix, Promptpay};
+
+use crate::given::Given;
+use crate::kinds::{Kind, fields_of};
+use crate::plain::{Between, plain};
+use crate::times::plain_time;
+use crate::values;
+use qrcode_contents::card::Card;
+use qrcode_contents::contact::Contact;
+use qrcode_contents::fields::errors::{Cause, ContentError, ContentResult, Field};
+use qrcode_contents::geo::Place;
+use qrcode_contents::one_time::OneTime;
+use qrcode_contents::phone::Phone;
+use qrcode_contents::{bill, event, mail, merchant, payment, upi, wifi};
+use std::alloc::Global;
+
+// The text of a network.
+fn wifi_text<G: Given>(alloc: Global, given: &G) -> ContentResult<String>
+    ensures reads { Answers (payload_refusal Wifi (G.fields given.now)) result (IsReadAs Wifi (G.fields given.now)) }
+    ensures value { IfOk result (λ text. string_bytes text ≡ payload_text Wifi (G.fields given.now)) }
+{
+    let security = values::security(given)?;
+    let hidden = values::hidden(given.text(Field::Hidden))?;
+    let network = wifi::Wifi {
+        security,
+        ssid: given.text(Field::Ssid),
+        password: given.text(Field::Password),
+        hidden,
+    };
+    network.text(alloc)
+}
+
+// The text of a payment.
+fn payment_text<G: Given>(alloc: Global, given: &G) -> ContentResult<String>
+    ensures reads { Answers (payload_refusal Payment (G.fields given.now)) result (IsReadAs Payment (G.fields given.now)) }
+    ensures value { IfOk result (λ text. string_bytes text ≡ payload_text Payment (G.fields given.now)) }
+{
+    let amount = plain(alloc, given.text(Field::Amount), Between::Amount)?;
+    let iban = plain(alloc, given.text(Field::Iban), Between::Spaces)?;
+    let bic = plain(alloc, given.text(Field::Bic), Between::Spaces)?;
+    let purpose = plain(alloc, given.text(Field::Purpose), Between::Spaces)?;
+    let reference = plain(alloc, given.text(Field::Reference), Between::Spaces)?;
+    let cents = values::amount(amount.as_str())?;
+    let payment = payment::Payment {
+        version: payment::PaymentVersion::for_bic(bic.as_str()),
+        bic: bic.as_str(),
+        name: given.text(Field::Name),
+        iban: iban.as_str(),
+        cents,
+        purpose: purpose.as_str(),
+        reference: reference.as_str(),
+        message: given.text(Field::Message),
+        information: given.text(Field::Information),
+    };
+    payment.text(alloc)
+}
+
+// The link to a location.
+fn geo_text<G: Given>(alloc: Global, given: &G) -> ContentResult<String>
+    ensures reads { Answers (payload_refusal Geo (G.fields given.now)) result (IsReadAs Geo (G.fields given.now)) }
+    ensures value { IfOk result (λ text. string_bytes text ≡ payload_text Geo (G.fields given.now)) }
+{
+    let north = plain(alloc, given.text(Field::Latitude), Between::Degrees)?;
+    let east = plain(alloc, given.text(Field::Longitude), Between::Degrees)?;
+    let latitude = values::coordinate(north.as_str(), Field::Latitude)?;
+    let longitude = values::coordinate(east.as_str(), Field::Longitude)?;
+    let place = Place {
+        latitude,
+        longitude,
+    };
+    place.text(alloc)
+}
+
+// The text of a contact, as MECARD.
+fn mecard_text<G: Given>(alloc: Global, given: &G) -> ContentResult<String>
+    ensures reads { Answers (payload_refusal Mecard (G.fields given.now)) result (IsReadAs Mecard (G.fields given.now)) }
+    ensures value { IfOk result (λ text. string_bytes text ≡ payload_text Mecard (G.fields given.now)) }
+{
+    let day = plain(alloc, given.text(Field::Birthday), Between::Time)?;
+    let birthday = values::birthday(day.as_str())?;
+    let contact = Contact {
+        family: given.text(Field::Family),
+        given: given.text(Field::Given),
+        phone: given.text(Field::Phone),
+        email: given.text(Field::Email),
+        url: given.text(Field::Url),
+        birthday,
+        note: given.text(Field::Note),
+        street: given.text(Field::Street),
+        city: given.text(Field::City),
+        region: given.text(Field::Region),
+        code: given.text(Field::PostalCode),
+        country: given.text(Field::Country),
+    };
+    contact.mecard(alloc)
+}
+
+// The text of a contact, as vCard.
+fn vcard_text<G: Given>(alloc: Global, given: &G) -> ContentResult<String>
+    ensures reads { Answers (payload_refusal Vcard (G.fields given.now)) result (IsReadAs Vcard (G.fields given.now)) }
+    ensures value { IfOk result (λ text. string_bytes text ≡ payload_text Vcard (G.fields given.now)) }
+{
+    let day = plain(alloc, given.text(Field::Birthday), Between::Time)?;
+    let birthday = values::birthday(day.as_str())?;
+    let card = Card {
+        name: given.text(Field::Name),
+        family: given.text(Field::Family),
+        given: given.text(Field::Given),
+        organisation: given.text(Field::Organisation),
+        title: given.text(Field::Title),
+        phone: given.text(Field::Phone),
+        mobile: given.text(Field::Mobile),
+        work_phone: given.text(Field::WorkPhone),
+        home_phone: given.text(Field::HomePhone),
+        email: given.text(Field::Email),
+        url: given.text(Field::Url),
+        birthday,
+        street: given.text(Field::Street),
+        city: given.text(Field::City),
+        region: given.text(Field::Region),
+        code: given.text(Field::PostalCode),
+        country: given.text(Field::Country),
+        note: given.text(Field::Note),
+    };
+    card.text(alloc)
+}
+
+// Who is paid by a bill, of a country.
+fn creditor<'a, G: Given>(given: &'a G, country: &'a str) -> bill::Party<'a>
+    ensures { country.now ≡ plain between.Spaces (G.fields given.now Country)
+        → addressee_of result ≡ creditor_in (G.fields given.now) }
+{
+    bill::Party {
+        name: given.text(Field::Name),
+        street: given.text(Field::Street),
+        number: given.text(Field::Number),
+        code: given.text(Field::PostalCode),
+        city: given.text(Field::City),
+        country,
+    }
+}
+
+// Who pays it, of a country.
+fn debtor<'a, G: Given>(given: &'a G, country: &'a str) -> bill::Party<'a>
+    ensures { country.now ≡ plain between.Spaces (G.fields given.now DebtorCountry)
+        → addressee_of result ≡ debtor_in (G.fields given.now) }
+{
+    bill::Party {
+        name: given.text(Field::DebtorName),
+        street: given.text(Field::DebtorStreet),
+        number: given.text(Field::DebtorNumber),
+        code: given.text(Field::DebtorPostalCode),
+        city: given.text(Field::DebtorCity),
+        country,
+    }
+}
+
+// The text of a bill.
+fn bill_text<G: Given>(alloc: Global, given: &G) -> ContentResult<String>
+    ensures reads { Answers (payload_refusal Bill (G.fields given.now)) result (IsReadAs Bill (G.fields given.now)) }
+    ensures value { IfOk result (λ text. string_bytes text ≡ payload_text Bill (G.fields given.now)) }
+{
+    let amount = plain(alloc, given.text(Field::Amount), Between::Amount)?;
+    let iban = plain(alloc, given.text(Field::Iban), Between::Spaces)?;
+    let country = plain(alloc, given.text(Field::Country), Between::Spaces)?;
+    let other = plain(alloc, given.text(Field::DebtorCountry), Between::Spaces)?;
+    let reference = plain(alloc, given.text(Field::Reference), Between::Spaces)?;
+    let cents = values::open_amount(amount.as_str())?;
+    let currency = values::currency(given.text(Field::Currency))?;
+    let bill = bill::Bill {
+        iban: iban.as_str(),
+        creditor: creditor(given, country.as_str()),
+        cents,
+        currency,
+        debtor: debtor(given, other.as_str()),
+        reference: reference.as_str(),
+        message: given.text(Field::Message),
+    };
+    bill.text(alloc)
+}
+
+// The link that writes an e-mail.
+fn mail_text<G: Given>(alloc: Global, given: &G) -> ContentResult<String>
+    ensures reads { Answers (payload_refusal Mail (G.fields given.now)) result (IsReadAs Mail (G.fields given.now)) }
+    ensures value { IfOk result (λ text. string_bytes text ≡ payload_text Mail (G.fields given.now)) }
+{
+    let mail = mail::Mail {
+        address: given.text(Field::Email),
+        subject: given.text(Field::Subject),
+        body: given.text(Field::Message),
+    };
+    mail.text(alloc)
+}
+
+// The link that calls a number.
+fn tel_text<G: Given>(alloc: Global, given: &G) -> ContentResult<String>
+    ensures reads { Answers (payload_refusal Tel (G.fields given.now)) result (IsReadAs Tel (G.fields given.now)) }
+    ensures value { IfOk result (λ text. string_bytes text ≡ payload_text Tel (G.fields given.now)) }
+{
+    let number = plain(alloc, given.text(Field::Phone), Between::Phone)?;
+    let phone = Phone {
+        number: number.as_str(),
+    };
+    phone.tel(alloc)
+}
+
+// The link that writes to a number, without a message where it is empty.
+fn message_text(alloc: Global, number: &str, body: &str) -> ContentResult<String>
+    ensures reads { Answers (phone_refusal number.now) result (IsReadAsSms number.now body.now) }
+    ensures value { IfOk result (λ text. string_bytes text ≡ sms_text number.now body.now) }
+{
+    let phone = Phone { number };
+    if body.is_empty() {
+        return phone.sms(alloc);
+    }
+    phone.message(alloc, body)
+}
+
+// The link that writes to a number.
+fn sms_text<G: Given>(alloc: Global, given: &G) -> ContentResult<String>
+    ensures reads { Answers (payload_refusal Sms (G.fields given.now)) result (IsReadAs Sms (G.fields given.now)) }
+    ensures value { IfOk result (λ text. string_bytes text ≡ payload_text Sms (G.fields given.now)) }
+{
+    let number = plain(alloc, given.text(Field::Phone), Between::Phone)?;
+    message_text(alloc, number.as_str(), given.text(Field::Message))
+}
+
+// The link of one-time passwords.
+fn otp_text<G: Given>(alloc: Global, given: &G) -> ContentResult<String>
+    ensures reads { Answers (payload_refusal Otp (G.fields given.now)) result (IsReadAs Otp (G.fields given.now)) }
+    ensures value { IfOk result (λ text. string_bytes text ≡ payload_text Otp (G.fields given.now)) }
+{
+    let secret = plain(alloc, given.text(Field::Secret), Between::Secret)?;
+    let factor = values::factor(given.text(Field::Counter), given.text(Field::Period))?;
+    let algorithm = values::algorithm(given.text(Field::Algorithm))?;
+    let digits = values::digits(given.text(Field::Digits))?;
+    let passwords = OneTime {
+        factor,
+        issuer: given.text(Field::Issuer),
+        account: given.text(Field::Account),
+        secret: secret.as_str(),
+        algorithm,
+        digits,
+    };
+    passwords.text(alloc)
+}
+
+// The text of an event.
+fn event_text<G: Given>(alloc: Global, given: &G) -> ContentResult<String>
+    ensures reads { Answers (payload_refusal Event (G.fields given.now)) result (IsReadAs Event (G.fields given.now)) }
+    ensures value { IfOk result (λ text. string_bytes text ≡ payload_text Event (G.fields given.now)) }
+{
+    let begin = plain_time(alloc, given.text(Field::Begin))?;
+    let end = plain_time(alloc, given.text(Field::End))?;
+    let written = plain_time(alloc, given.text(Field::Stamp))?;
+    let span = values::span(begin.as_str(), end.as_str())?;
+    let stamp = values::stamp(written.as_str())?;
+    let event = event::Event {
+        uid: given.text(Field::Uid),
+        stamp,
+        span,
+        summary: given.text(Field::Summary),
+        location: given.text(Field::Location),
+        description: given.text(Field::Description),
+    };
+    event.text(alloc)
+}
+
+// The link of a payment by UPI.
+fn upi_text<G: Given>(alloc: Global, given: &G) -> ContentResult<String>
+    ensures reads { Answers (payload_refusal Upi (G.fields given.now)) result (IsReadAs Upi (G.fields given.now)) }
+    ensures value { IfOk result (λ text. string_bytes text ≡ payload_text Upi (G.fields given.now)) }
+{
+    let amount = plain(alloc, given.text(Field::Amount), Between::Amount)?;
+    let cents = values::open_amount(amount.as_str())?;
+    let payment = upi::Upi {
+        payee: given.text(Field::Payee),
+        name: given.text(Field::Name),
+        category: given.text(Field::Category),
+        reference: given.text(Field::Reference),
+        note: given.text(Field::Note),
+        cents,
+    };
+    payment.text(alloc)
+}
+
+// The text of a payment by Pix.
+fn pix_text<G: Given>(alloc: Global, given: &G) -> ContentResult<String>
+    ensures reads { Answers (payload_refusal Pix (G.fields given.now)) result (IsReadAs Pix (G.fields given.now)) }
+    ensures value { IfOk result (λ text. string_bytes text ≡ payload_text Pix (G.fields given.now)) }
+{
+    let amount = plain(alloc, given.text(Field::Amount), Between::Amount)?;
+    let cents = values::open_amount(amount.as_str())?;
+    let payment = merchant::Pix {
+        key: given.text(Field::Payee),
+        name: given.text(Field::Name),
+        city: given.text(Field::City),
+        cents,
+        reference: given.text(Field::Reference),
+        description: given.text(Field::Description),
+    };
+    payment.text(alloc)
+}
+
+// The text of a payment by PromptPay.
+fn promptpay_text<G: Given>(alloc: Global, given: &G) -> ContentResult<String>
+    ensures reads { Answers (payload_refusal Promptpay (G.fields given.now)) result (IsReadAs Promptpay (G.fields given.now)) }
+    ensures value { IfOk result (λ text. string_bytes text ≡ payload_text Promptpay (G.fields given.now)) }
+{
+    let payee = plain(alloc, given.text(Field::Payee), Between::Person)?;
+    let amount = plain(alloc, given.text(Field::Amount), Between::Amount)?;
+    let cents = values::open_amount(amount.as_str())?;
+    let payment = merchant::PromptPay {
+        payee: payee.as_str(),
+        cents,
+    };
+    payment.text(alloc)
+}
+
+// Whether a field has more bytes than the digits that sixteen codes hold, the most of a split.
+fn is_long<G: Given>(given: &G, field: Field) -> bool
+    ensures { result ≡ is_long (G.fields given.now field) }
+{
+    given.text(field).len() > 113_424
+}
+
+// The place of the first field that is so long.
+fn long_place<G: Given>(fields: &[Field], given: &G) -> Option<usize>
+    ensures { result ≡ position (λ field. is_long (G.fields given.now field)) fields.now }
+{
+    fields.iter().position(|field| is_long(given, *field))
+}
+
+// Refuses the first of some fields that is so long.
+fn refuse_field<G: Given>(fields: &[Field], given: &G) -> ContentResult<()>
+    ensures { result ≡ checked (long_refusal fields.now (G.fields given.now)) }
+{
+    match long_place(fields, given) {
+        Some(place) => {
+            let field = fields.get(place).copied().unwrap_or(Field::Whole);
+            Err(ContentError::Refused(field, Cause::TooLong))
+        }
+        None => Ok(()),
+    }
+}
+
+// Refuses the first field of a kind that is so long, before memory is taken for it.
+fn refuse_long<G: Given>(kind: Kind, given: &G) -> ContentResult<()>
+    ensures { result ≡ checked (long_refusal (fields_of kind) (G.fields given.now)) }
+{
+    refuse_field(fields_of(kind), given)
+}
+
+// The text of a kind of payload, of fields that are not too long.
+fn payload_text<G: Given>(alloc: Global, kind: Kind, given: &G) -> ContentResult<String>
+    ensures reads { Answers (payload_refusal kind (G.fields given.now)) result (IsReadAs kind (G.fields given.now)) }
+    ensures value { IfOk result (λ text. string_bytes text ≡ payload_text kind (G.fields given.now)) }
+{
+    match kind {
+        Kind::Wifi => wifi_text(alloc, given),
+        Kind::Mecard => mecard_text(alloc, given),
+        Kind::Vcard => vcard_text(alloc, given),
+        Kind::Payment => payment_text(alloc, given),
+        Kind::Bill => bill_text(alloc, given),
+        Kind::Mail => mail_text(alloc, given),
+        Kind::Geo => geo_text(alloc, given),
+        Kind::Tel => tel_text(alloc, given),
+        Kind::Sms => sms_text(alloc, given),
+        Kind::Otp => otp_text(alloc, given),
+        Kind::Event => event_text(alloc, given),
+        Kind::Upi => upi_text(alloc, given),
+        Kind::Pix => pix_text(alloc, given),
+        Kind::Promptpay => promptpay_text(alloc, given),
+    }
+}
+
+/// The text of a kind of payload, of what is given for its fields.
+///
+/// An error names the first field that is too long, or that the format refuses, and why, or is
+/// `OutOfMemory`.
+pub fn text_of<G: Given>(alloc: Global, kind: Kind, given: &G) -> ContentResult<String>
+    ensures reads { Answers (content_refusal kind (G.fields given.now)) result (IsReadAs kind (G.fields given.now)) }
+    ensures value { IfOk result (λ text. string_bytes text ≡ payload_text kind (G.fields given.now)) }
+{
+    refuse_long(kind, given)?;
+    payload_text(alloc, kind, given)
+}

@@ -1,0 +1,323 @@
+//! Days and moments as people write them, also in zones other than UTC.
+
+ghost use Rattle.std.specs.Prelude.{◌≡◌, ◌<◌, ◌+◌, IfOk, IfSome, Some, true, string_bytes};
+ghost use Rattle.std.specs.List.{after_first, before_first};
+ghost use Rattle.qrcode_payloads.specs.Times.{is_tee, is_zed, is_plus, is_minus, ends_with_zed, day_numbered, day_said, clock_number, moment_at, local_said, day_after, day_before, clock_minutes, with_minutes, earlier, later, zone_minutes, minute_count, day_count, from_ahead, from_behind, is_utc, zoned, moment_of, moment_said, plain_time};
+ghost use Rattle.qrcode_contents.specs.Times.{is_moment};
+ghost use Rattle.std.specs.Option.{option_and_then};
+
+use crate::numbers::decimal;
+use crate::plain::{Between, plain};
+use qrcode_contents::fields::characters::are_digits;
+use qrcode_contents::times::{Day, Moment, days_in};
+use std::alloc::{AllocError, Global};
+
+// The day of a number of eight digits, e.g. 19970714.
+fn day_numbered(number: u64) -> Day
+    ensures { result ≡ day_numbered number }
+{
+    Day {
+        year: (number / 10_000 % 10_000) as u16,
+        month: (number / 100 % 100) as u8,
+        day: (number % 100) as u8,
+    }
+}
+
+/// The day of eight digits, e.g. 19970714.
+pub(crate) fn day_said(text: &str) -> Option<Day>
+    ensures value { result ≡ day_said text.now }
+{
+    if text.len() != 8 || !are_digits(text.as_bytes()) {
+        return None;
+    }
+    Some(day_numbered(decimal(text, 0)?))
+}
+
+// The number of six digits of a time of day, or of four, where the seconds are left out.
+fn clock_number(text: &str) -> Option<u64>
+    ensures value { result ≡ clock_number text.now }
+{
+    if !are_digits(text.as_bytes()) {
+        return None;
+    }
+    match text.len() {
+        4 => Some(decimal(text, 0)?.saturating_mul(100)),
+        6 => decimal(text, 0),
+        _ => None,
+    }
+}
+
+// The moment of a day and the number of a time.
+fn moment_at(day: Day, number: u64) -> Moment
+    ensures { result ≡ moment_at day number }
+{
+    Moment {
+        day,
+        hour: (number / 10_000 % 100) as u8,
+        minute: (number / 100 % 100) as u8,
+        second: (number % 100) as u8,
+    }
+}
+
+// The text before the first T, and that after it; all and nothing where there is none.
+fn parts(text: &str) -> (&str, &str)
+    ensures day { result.0.now ≡ before_first is_tee text.now }
+    ensures time { result.1.now ≡ after_first is_tee text.now }
+{
+    text.split_once('T').unwrap_or((text, ""))
+}
+
+// The text before the first Z, and that after it; all and nothing where there is none.
+fn zone_parts(text: &str) -> (&str, &str)
+    ensures clock { result.0.now ≡ before_first is_zed text.now }
+    ensures rest { result.1.now ≡ after_first is_zed text.now }
+{
+    text.split_once('Z').unwrap_or((text, ""))
+}
+
+// Whether the last byte is a Z.
+fn ends_with_zed(text: &str) -> bool
+    ensures { result ≡ ends_with_zed text.now }
+{
+    text.ends_with('Z')
+}
+
+// The text before the first plus sign, and that after it; all and nothing where there is none.
+fn plus_parts(text: &str) -> (&str, &str)
+    ensures clock { result.0.now ≡ before_first is_plus text.now }
+    ensures zone { result.1.now ≡ after_first is_plus text.now }
+{
+    text.split_once('+').unwrap_or((text, ""))
+}
+
+// The text before the first minus sign, and that after it; all and nothing where there is none.
+fn minus_parts(text: &str) -> (&str, &str)
+    ensures clock { result.0.now ≡ before_first is_minus text.now }
+    ensures zone { result.1.now ≡ after_first is_minus text.now }
+{
+    text.split_once('-').unwrap_or((text, ""))
+}
+
+// The day after another.
+fn day_after(day: Day) -> Day
+    requires { day.year < 10_000 }
+    ensures value { result ≡ day_after day }
+{
+    let (year, month) = (day.year, day.month);
+    if day.day < days_in(year, month) {
+        let day = day.day + 1;
+        Day { year, month, day }
+    } else if month < 12 {
+        let month = month + 1;
+        Day {
+            year,
+            month,
+            day: 1,
+        }
+    } else {
+        let year = year + 1;
+        Day {
+            year,
+            month: 1,
+            day: 1,
+        }
+    }
+}
+
+// The day before another; none before the year 0.
+fn day_before(day: Day) -> Option<Day>
+    ensures value { result ≡ day_before day }
+{
+    let (year, month) = (day.year, day.month);
+    if day.day > 1 {
+        let day = day.day - 1;
+        Some(Day { year, month, day })
+    } else if month > 1 {
+        let month = month - 1;
+        let day = days_in(year, month);
+        Some(Day { year, month, day })
+    } else if year == 0 {
+        None
+    } else {
+        let year = year - 1;
+        Some(Day {
+            year,
+            month: 12,
+            day: 31,
+        })
+    }
+}
+
+// The minutes of a day up to a moment.
+fn clock_minutes(moment: Moment) -> u16
+    ensures { result ≡ clock_minutes moment }
+{
+    u16::from(moment.hour) * 60 + u16::from(moment.minute)
+}
+
+// The moment of another day and minute of it.
+fn with_minutes(moment: Moment, day: Day, minutes: u16) -> Moment
+    ensures { result ≡ with_minutes moment day minutes }
+{
+    let hour = (minutes / 60 % 24) as u8;
+    let minute = (minutes % 60) as u8;
+    let second = moment.second;
+    Moment {
+        day,
+        hour,
+        minute,
+        second,
+    }
+}
+
+// The moment so many minutes before; none before the year 0.
+fn earlier(minutes: u16, moment: Moment) -> Option<Moment>
+    requires valid { is_moment moment ≡ true }
+    requires at_most { minutes < 1440 }
+    ensures value { result ≡ earlier minutes moment }
+    ensures minutes { IfSome result (λ utc. minute_count utc + minutes ≡ minute_count moment) }
+{
+    let clock = clock_minutes(moment);
+    if minutes <= clock {
+        return Some(with_minutes(moment, moment.day, clock - minutes));
+    }
+    let day = day_before(moment.day)?;
+    Some(with_minutes(moment, day, clock + 1440 - minutes))
+}
+
+// The moment so many minutes after.
+fn later(minutes: u16, moment: Moment) -> Moment
+    requires valid { is_moment moment ≡ true }
+    requires at_most { minutes < 1440 }
+    ensures value { result ≡ later minutes moment }
+    ensures minutes { minute_count result ≡ minute_count moment + minutes }
+{
+    let clock = clock_minutes(moment) + minutes;
+    if clock < 1440 {
+        return with_minutes(moment, moment.day, clock);
+    }
+    with_minutes(moment, day_after(moment.day), clock - 1440)
+}
+
+// The minutes between a zone and UTC, from two digits of hours and two of minutes.
+#[tactic(auto, unfolding(crate::specs::Times::zone_minutes))]
+fn zone_minutes(text: &str) -> Option<u16>
+    ensures value { result ≡ zone_minutes text.now }
+    ensures at_most { IfSome result (λ minutes. minutes < 1440) }
+{
+    let number = clock_number(text)?;
+    let (hours, minutes) = (number / 10_000, number / 100 % 100);
+    if hours < 24 && minutes < 60 && number % 100 == 0 {
+        return Some((hours * 60 + minutes) as u16);
+    }
+    None
+}
+
+// The moment of a day and a time, wherever they are told.
+#[tactic(auto, unfolding(crate::specs::Times::local_said))]
+fn local_said(day: &str, clock: &str) -> Option<Moment>
+    ensures value { result ≡ local_said day.now clock.now }
+{
+    let day = day_said(day)?;
+    let number = clock_number(clock)?;
+    Some(moment_at(day, number))
+}
+
+// The moment in UTC of one in a zone whose clocks are ahead; one that the calendar has not stays.
+#[tactic(auto, unfolding(crate::specs::Times::from_ahead))]
+fn from_ahead(zone: &str, local: Moment) -> Option<Moment>
+    ensures value { result ≡ from_ahead (zone_minutes zone.now) local }
+{
+    let minutes = zone_minutes(zone)?;
+    if local.is_valid() {
+        earlier(minutes, local)
+    } else {
+        Some(local)
+    }
+}
+
+// The same where they are behind.
+#[tactic(auto, unfolding(crate::specs::Times::from_behind))]
+fn from_behind(zone: &str, local: Moment) -> Option<Moment>
+    ensures value { result ≡ from_behind (zone_minutes zone.now) local }
+{
+    let minutes = zone_minutes(zone)?;
+    if local.is_valid() {
+        Some(later(minutes, local))
+    } else {
+        Some(local)
+    }
+}
+
+// The moment in UTC of a day and a time in a zone whose clocks are ahead.
+fn ahead(day: &str, clock: &str, zone: &str) -> Option<Moment>
+    ensures value { result ≡ option_and_then (from_ahead (zone_minutes zone.now))
+        (local_said day.now clock.now) }
+{
+    from_ahead(zone, local_said(day, clock)?)
+}
+
+// The same where they are behind.
+fn behind(day: &str, clock: &str, zone: &str) -> Option<Moment>
+    ensures value { result ≡ option_and_then (from_behind (zone_minutes zone.now))
+        (local_said day.now clock.now) }
+{
+    from_behind(zone, local_said(day, clock)?)
+}
+
+// Whether a time has one Z, at its end.
+fn is_utc(time: &str) -> bool
+    ensures { result ≡ is_utc time.now }
+{
+    ends_with_zed(time) && zone_parts(time).1.is_empty()
+}
+
+// The moment in UTC of a day and of a time with a sign and a zone.
+#[tactic(auto, unfolding(crate::specs::Times::zoned))]
+fn zoned(day: &str, time: &str) -> Option<Moment>
+    ensures value { result ≡ zoned day.now time.now }
+{
+    let (clock, zone) = plus_parts(time);
+    if zone.is_empty() {
+        let (clock, zone) = minus_parts(time);
+        return behind(day, clock, zone);
+    }
+    ahead(day, clock, zone)
+}
+
+// The moment in UTC of a day and of a time with a Z, or with a zone.
+#[tactic(auto, unfolding(crate::specs::Times::moment_of))]
+fn moment_of(day: &str, time: &str) -> Option<Moment>
+    ensures value { result ≡ moment_of day.now time.now }
+{
+    if is_utc(time) {
+        return local_said(day, zone_parts(time).0);
+    }
+    zoned(day, time)
+}
+
+/// The moment in UTC of a day, a T, a time of day, and a Z or a zone, e.g. 19970714T170000Z,
+/// 19970714T1700Z or 19970714T1900+0200.
+pub(crate) fn moment_said(text: &str) -> Option<Moment>
+    ensures value { result ≡ moment_said text.now }
+{
+    let (day, time) = parts(text);
+    moment_of(day, time)
+}
+
+/// A day, or a day and a time, without hyphens between the parts of the day and colons between
+/// those of the time.
+#[tactic(auto, unfolding(crate::specs::Times::plain_time))]
+pub(crate) fn plain_time(alloc: Global, text: &str) -> Result<String, AllocError>
+    ensures { IfOk result (λ value. string_bytes value ≡ plain_time text.now) }
+{
+    let written = plain(alloc, text, Between::Clock)?;
+    let (day, clock) = parts(written.as_str());
+    if clock.is_empty() {
+        return plain(alloc, written.as_str(), Between::Time);
+    }
+    let mut value = plain(alloc, day, Between::Time)?;
+    value.push_str("T")?;
+    value.push_str(clock)?;
+    Ok(value)
+}

@@ -1,0 +1,241 @@
+//! The values of the formats, from the texts that are given for fields.
+
+ghost use Rattle.std.specs.Prelude.{◌≡◌, ◌≤◌, IfOk};
+ghost use Rattle.qrcode_contents.specs.declared.fields.errors.Cause.TheVariants.{Word};
+ghost use Rattle.qrcode_contents.specs.declared.fields.errors.ContentError.TheVariants.{Refused};
+ghost use Rattle.qrcode_payloads.specs.Values.{word_in, number_cause, degrees_cause, amount_in, open_amount_in, day_cause, birthday_in, security_in, hidden_in, currency_in, algorithm_in, digits_in, degrees_in, whole_in, factor_in, time_cause, days_in, times_in, span_in, stamp_in};
+
+use crate::given::Given;
+use crate::numbers::{decimal, degrees, unsigned};
+use crate::times::{day_said, moment_said};
+use crate::words::{algorithm_named, currency_named, digits_named, flag_named, security_named};
+use qrcode_contents::bill::Currency;
+use qrcode_contents::event::Span;
+use qrcode_contents::fields::characters::are_digits;
+use qrcode_contents::fields::errors::{Cause, ContentError, ContentResult, Field};
+use qrcode_contents::one_time::{Algorithm, Digits, Factor};
+use qrcode_contents::times::{Day, Moment};
+use qrcode_contents::wifi::Security;
+
+// Why a text says no number: it is empty, has more digits after its point, or other characters.
+fn number_cause(text: &str) -> Cause
+    ensures { result ≡ number_cause text.now }
+{
+    if text.is_empty() {
+        Cause::Empty
+    } else if decimal(text, text.len()).is_some() {
+        Cause::Decimals
+    } else {
+        Cause::Character
+    }
+}
+
+/// An amount, in hundredths.
+pub(crate) fn amount(text: &str) -> ContentResult<u64>
+    ensures value { result ≡ amount_in text.now }
+{
+    match decimal(text, 2) {
+        Some(cents) => Ok(cents),
+        None => Err(ContentError::Refused(Field::Amount, number_cause(text))),
+    }
+}
+
+/// An amount, in hundredths, or none.
+pub(crate) fn open_amount(text: &str) -> ContentResult<Option<u64>>
+    ensures value { result ≡ open_amount_in text.now }
+{
+    if text.is_empty() {
+        return Ok(None);
+    }
+    match amount(text) {
+        Ok(cents) => Ok(Some(cents)),
+        Err(error) => Err(error),
+    }
+}
+
+// Why a text is no day of eight digits.
+fn day_cause(text: &str) -> Cause
+    ensures { result ≡ day_cause text.now }
+{
+    if !are_digits(text.as_bytes()) {
+        Cause::Character
+    } else if text.len() < 8 {
+        Cause::TooShort
+    } else {
+        Cause::TooLong
+    }
+}
+
+/// A birthday, where it is said.
+pub(crate) fn birthday(text: &str) -> ContentResult<Option<Day>>
+    ensures value { result ≡ birthday_in text.now }
+{
+    if text.is_empty() {
+        return Ok(None);
+    }
+    match day_said(text) {
+        Some(day) => Ok(Some(day)),
+        None => Err(ContentError::Refused(Field::Birthday, day_cause(text))),
+    }
+}
+
+// The refusal of a field that is none of some words.
+fn no_word(field: Field) -> ContentError
+    ensures { result ≡ Refused field Word }
+{
+    ContentError::Refused(field, Cause::Word)
+}
+
+/// How a network is secured: as is said, or else by WPA with a password, and not at all without.
+pub(crate) fn security<G: Given>(given: &G) -> ContentResult<Security>
+    ensures value { result ≡ security_in (G.fields given.now) }
+{
+    let text = given.text(Field::Security);
+    if !text.is_empty() {
+        return security_named(text).ok_or(no_word(Field::Security));
+    }
+    if given.text(Field::Password).is_empty() {
+        Ok(Security::Open)
+    } else {
+        Ok(Security::Wpa)
+    }
+}
+
+/// Whether a network does not broadcast its name.
+pub(crate) fn hidden(text: &str) -> ContentResult<bool>
+    ensures value { result ≡ hidden_in text.now }
+{
+    if text.is_empty() {
+        return Ok(false);
+    }
+    flag_named(text).ok_or(no_word(Field::Hidden))
+}
+
+/// The currency of a bill, Swiss francs unless another one is said.
+pub(crate) fn currency(text: &str) -> ContentResult<Currency>
+    ensures value { result ≡ currency_in text.now }
+{
+    if text.is_empty() {
+        return Ok(Currency::Franc);
+    }
+    currency_named(text).ok_or(no_word(Field::Currency))
+}
+
+/// The hash of one-time passwords, SHA1 unless another one is said.
+pub(crate) fn algorithm(text: &str) -> ContentResult<Algorithm>
+    ensures value { result ≡ algorithm_in text.now }
+{
+    if text.is_empty() {
+        return Ok(Algorithm::Sha1);
+    }
+    algorithm_named(text).ok_or(no_word(Field::Algorithm))
+}
+
+/// How many digits one-time passwords have, six unless eight are said.
+pub(crate) fn digits(text: &str) -> ContentResult<Digits>
+    ensures value { result ≡ digits_in text.now }
+{
+    if text.is_empty() {
+        return Ok(Digits::Six);
+    }
+    digits_named(text).ok_or(no_word(Field::Digits))
+}
+
+// Why a text says no degrees.
+fn degrees_cause(text: &str) -> Cause
+    ensures { result ≡ degrees_cause text.now }
+{
+    number_cause(unsigned(text).1)
+}
+
+/// Degrees, in millionths.
+pub(crate) fn coordinate(text: &str, field: Field) -> ContentResult<i32>
+    ensures value { result ≡ degrees_in text.now field }
+{
+    match degrees(text) {
+        Some(millionths) => Ok(millionths),
+        None => Err(ContentError::Refused(field, degrees_cause(text))),
+    }
+}
+
+// A whole number that is at most this.
+fn whole(text: &str, most: u64, field: Field) -> ContentResult<u64>
+    ensures value { result ≡ whole_in text.now most field }
+    ensures at_most { IfOk result (λ number. number ≤ most) }
+{
+    match decimal(text, 0) {
+        Some(number) if number > most => Err(ContentError::Refused(field, Cause::Range)),
+        Some(number) => Ok(number),
+        None => Err(ContentError::Refused(field, number_cause(text))),
+    }
+}
+
+/// What passwords change with: a counter where one is given, and else the time, every 30 seconds or
+/// as many as are given.
+pub(crate) fn factor(counter: &str, period: &str) -> ContentResult<Factor>
+    ensures value { result ≡ factor_in counter.now period.now }
+{
+    if !counter.is_empty() {
+        let most = 18_446_744_073_709_551_614;
+        return Ok(Factor::Counter(whole(counter, most, Field::Counter)?));
+    }
+    if period.is_empty() {
+        return Ok(Factor::Time(30));
+    }
+    Ok(Factor::Time(whole(period, 4_294_967_295, Field::Period)? as u32))
+}
+
+// The refusal of a field that says no time.
+fn no_time(text: &str, field: Field) -> ContentError
+    ensures { result ≡ Refused field (time_cause text.now) }
+{
+    if text.is_empty() {
+        ContentError::Refused(field, Cause::Empty)
+    } else {
+        ContentError::Refused(field, Cause::Character)
+    }
+}
+
+/// When an event was written, where it is said.
+pub(crate) fn stamp(text: &str) -> ContentResult<Option<Moment>>
+    ensures value { result ≡ stamp_in text.now }
+{
+    if text.is_empty() {
+        return Ok(None);
+    }
+    match moment_said(text) {
+        Some(moment) => Ok(Some(moment)),
+        None => Err(no_time(text, Field::Stamp)),
+    }
+}
+
+// From a day until before another.
+fn days(first: Day, end: &str) -> ContentResult<Span>
+    ensures value { result ≡ days_in first end.now }
+{
+    match day_said(end) {
+        Some(last) => Ok(Span::Days(first, last)),
+        None => Err(no_time(end, Field::End)),
+    }
+}
+
+// From one moment to another.
+fn times(begin: &str, end: &str) -> ContentResult<Span>
+    ensures value { result ≡ times_in begin.now end.now }
+{
+    match (moment_said(begin), moment_said(end)) {
+        (Some(first), Some(last)) => Ok(Span::Times(first, last)),
+        (Some(_), None) => Err(no_time(end, Field::End)),
+        (None, _) => Err(no_time(begin, Field::Begin)),
+    }
+}
+
+/// When an event begins and ends: both are days, or both are moments.
+pub(crate) fn span(begin: &str, end: &str) -> ContentResult<Span>
+    ensures value { result ≡ span_in begin.now end.now }
+{
+    match day_said(begin) {
+        Some(first) => days(first, end),
+        None => times(begin, end),
+    }
+}
