@@ -43,18 +43,16 @@ static void refuses(uint32_t kind, const goq_field *fields, size_t fields_length
 static void networks(void)
 {
     const goq_field printed[] = {GOQ_TEXT("mynetwork"), GOQ_TEXT("mypass")};
-    const goq_field wpa[] = {GOQ_TEXT("mynetwork"), GOQ_TEXT("mypass"), GOQ_NUMBER(GOQ_WPA)};
-    const goq_field hidden[] = {GOQ_TEXT("\"foo;bar\\baz\""), GOQ_TEXT(""), GOQ_NUMBER(GOQ_OPEN), GOQ_NUMBER(1)};
-    const goq_field nameless[GOQ_WIFI_FIELDS] = {[GOQ_WIFI_PASSWORD] = GOQ_TEXT("secret"), [GOQ_WIFI_SECURITY] = GOQ_NUMBER(GOQ_WPA3)};
-    const goq_field open[] = {GOQ_TEXT("a"), GOQ_TEXT("b"), GOQ_NUMBER(GOQ_OPEN)};
-    const goq_field secured[] = {GOQ_TEXT("a"), GOQ_TEXT(""), GOQ_NUMBER(GOQ_WEP)};
+    const goq_field wpa[] = {GOQ_TEXT("mynetwork"), GOQ_TEXT("mypass"), GOQ_TEXT("WPA2")};
+    const goq_field hidden[] = {GOQ_TEXT("\"foo;bar\\baz\""), GOQ_TEXT(""), GOQ_TEXT("nopass"), GOQ_TEXT("true")};
+    const goq_field nameless[GOQ_WIFI_FIELDS] = {[GOQ_WIFI_PASSWORD] = GOQ_TEXT("secret"), [GOQ_WIFI_SECURITY] = GOQ_TEXT("wpa3")};
+    const goq_field open[] = {GOQ_TEXT("a"), GOQ_TEXT("b"), GOQ_TEXT("open")};
+    const goq_field secured[] = {GOQ_TEXT("a"), GOQ_TEXT(""), GOQ_TEXT("Wep")};
     const goq_field name[] = {GOQ_TEXT("012345678901234567890123456789012")};
-    const goq_field other[] = {GOQ_TEXT("a"), GOQ_TEXT(""), GOQ_NUMBER(5)};
-    const goq_field below[] = {GOQ_TEXT("a"), GOQ_TEXT(""), GOQ_NUMBER(-1)};
-    const goq_field words[] = {GOQ_TEXT("a"), GOQ_TEXT("b"), GOQ_TEXT("WPA")};
+    const goq_field other[] = {GOQ_TEXT("a"), GOQ_TEXT(""), GOQ_TEXT("WPA4")};
+    const goq_field flag[] = {GOQ_TEXT("a"), GOQ_TEXT(""), GOQ_TEXT(""), GOQ_TEXT("1")};
     const goq_field cut[] = {GOQ_TEXT("a"), GOQ_TEXT("\xc3")};
-    const goq_field number[] = {GOQ_NUMBER(1)};
-    const goq_field more[] = {GOQ_TEXT("a"), GOQ_TEXT("b"), GOQ_NUMBER(0), GOQ_NUMBER(0), GOQ_NUMBER(0)};
+    const goq_field more[] = {GOQ_TEXT("a"), GOQ_TEXT("b"), GOQ_TEXT(""), GOQ_TEXT(""), GOQ_TEXT("")};
     says(GOQ_WIFI, printed, 2, "WIFI:T:WPA;S:mynetwork;P:mypass;;");
     says(GOQ_WIFI, wpa, 3, "WIFI:T:WPA;S:mynetwork;P:mypass;;");
     says(GOQ_WIFI, hidden, 4, "WIFI:T:nopass;S:\\\"foo\\;bar\\\\baz\\\";H:true;;");
@@ -64,13 +62,11 @@ static void networks(void)
     refuses(GOQ_WIFI, open, 3, GOQ_FIELD_UNUSED, GOQ_WIFI_PASSWORD, "a password of an open network");
     refuses(GOQ_WIFI, secured, 3, GOQ_FIELD_EMPTY, GOQ_WIFI_PASSWORD, "WEP without a password");
     refuses(GOQ_WIFI, name, 1, GOQ_FIELD_TOO_LONG, GOQ_WIFI_SSID, "a name of 33 bytes");
-    refuses(GOQ_WIFI, other, 3, GOQ_FIELD_RANGE, GOQ_WIFI_SECURITY, "security 5");
-    refuses(GOQ_WIFI, below, 3, GOQ_FIELD_RANGE, GOQ_WIFI_SECURITY, "security -1");
-    refuses(GOQ_WIFI, words, 3, GOQ_FIELD_CHARACTER, GOQ_WIFI_SECURITY, "security as a text");
+    refuses(GOQ_WIFI, other, 3, GOQ_FIELD_WORD, GOQ_WIFI_SECURITY, "security WPA4");
+    refuses(GOQ_WIFI, flag, 4, GOQ_FIELD_WORD, GOQ_WIFI_HIDDEN, "hidden 1");
     refuses(GOQ_WIFI, cut, 2, GOQ_NOT_TEXT, GOQ_WIFI_PASSWORD, "a password that is cut");
-    refuses(GOQ_WIFI, number, 1, GOQ_FIELD_RANGE, GOQ_WIFI_SSID, "a number for a name");
     refuses(GOQ_WIFI, more, 5, GOQ_NO_SUCH_FIELD, GOQ_WIFI_FIELDS, "a fifth field");
-    refuses(GOQ_DAYS + 1, printed, 2, GOQ_NO_SUCH_CONTENT, 99, "kind 13");
+    refuses(GOQ_PROMPTPAY + 1, printed, 2, GOQ_NO_SUCH_CONTENT, 99, "kind 14");
 }
 
 static void contacts(void)
@@ -78,7 +74,7 @@ static void contacts(void)
     const goq_field owen[GOQ_MECARD_FIELDS] = {
         [GOQ_MECARD_FAMILY] = GOQ_TEXT("Owen"), [GOQ_MECARD_GIVEN] = GOQ_TEXT("Sean"), [GOQ_MECARD_EMAIL] = GOQ_TEXT("srowen@example.com")};
     const goq_field lines[] = {GOQ_TEXT("Owen"), GOQ_TEXT("Sean\n")};
-    const goq_field born[GOQ_MECARD_FIELDS] = {[GOQ_MECARD_FAMILY] = GOQ_TEXT("Owen"), [GOQ_MECARD_BIRTHDAY] = GOQ_TEXT("1970-1-1")};
+    const goq_field born[GOQ_MECARD_FIELDS] = {[GOQ_MECARD_FAMILY] = GOQ_TEXT("Owen"), [GOQ_MECARD_BIRTHDAY] = GOQ_TEXT("1970/1/1")};
     const goq_field dawson[] = {GOQ_TEXT("Frank Dawson"), GOQ_TEXT("Dawson"), GOQ_TEXT("Frank"), GOQ_TEXT("Lotus Development Corporation"),
         GOQ_TEXT("+1-919-676-9515"), GOQ_TEXT("fdawson@earthlink.net"), GOQ_TEXT("http://home.earthlink.net/~fdawson"), GOQ_TEXT("6544 Battleford Drive"),
         GOQ_TEXT("Raleigh"), GOQ_TEXT("NC"), GOQ_TEXT("27613-3502"), GOQ_TEXT("U.S.A.")};
@@ -88,7 +84,7 @@ static void contacts(void)
     says(GOQ_MECARD, owen, GOQ_MECARD_FIELDS, "MECARD:N:Owen,Sean;EMAIL:srowen@example.com;;");
     refuses(GOQ_MECARD, lines, 2, GOQ_FIELD_CONTROL, GOQ_MECARD_GIVEN, "a line break in a name");
     refuses(GOQ_MECARD, NULL, 0, GOQ_FIELD_EMPTY, GOQ_MECARD_FAMILY, "a contact without a name");
-    refuses(GOQ_MECARD, born, GOQ_MECARD_FIELDS, GOQ_FIELD_CHARACTER, GOQ_MECARD_BIRTHDAY, "a birthday with hyphens");
+    refuses(GOQ_MECARD, born, GOQ_MECARD_FIELDS, GOQ_FIELD_CHARACTER, GOQ_MECARD_BIRTHDAY, "a birthday with slashes");
     says(GOQ_VCARD, dawson, 12,
         "BEGIN:VCARD\r\nVERSION:3.0\r\nN:Dawson;Frank;;;\r\nFN:Frank Dawson\r\nORG:Lotus Development Corporation\r\nTEL:+1-919-676-9515\r\n"
         "EMAIL:fdawson@earthlink.net\r\nURL:http://home.earthlink.net/~fdawson\r\nADR:;;6544 Battleford Drive;Raleigh;NC;27613-3502;U.S.A.\r\nEND:VCARD\r\n");
@@ -96,15 +92,23 @@ static void contacts(void)
         "BEGIN:VCARD\r\nVERSION:3.0\r\nN:A;;;;\r\nFN:A\r\nNOTE:0123456789012345678901234567890123456789012345678901234567890123456789\r\n \\, \xc3\xa9\\nb\r\n"
         "END:VCARD\r\n");
     refuses(GOQ_VCARD, link, GOQ_VCARD_FIELDS, GOQ_FIELD_CONTROL, GOQ_VCARD_URL, "a line break in a link");
+
+    /* As many digits as sixteen symbols of 7,089 hold, which are more than the buffer does, and one more. */
+    static uint8_t digits[16 * 7089 + 1];
+    memset(digits, '7', sizeof digits);
+    goq_field large[GOQ_VCARD_FIELDS] = {[GOQ_VCARD_NAME] = GOQ_TEXT("A"), [GOQ_VCARD_FAMILY] = GOQ_TEXT("A"), [GOQ_VCARD_NOTE] = {digits, sizeof digits - 1}};
+    refuses(GOQ_VCARD, large, GOQ_VCARD_FIELDS, GOQ_SMALL_BUFFER, 99, "a note of 113,424 digits");
+    large[GOQ_VCARD_NOTE].length++;
+    refuses(GOQ_VCARD, large, GOQ_VCARD_FIELDS, GOQ_FIELD_TOO_LONG, GOQ_VCARD_NOTE, "a note of 113,425 digits");
 }
 
 static void payments(void)
 {
     goq_field printed[GOQ_PAYMENT_FIELDS] = {[GOQ_PAYMENT_NAME] = GOQ_TEXT("Red Cross of Belgium"), [GOQ_PAYMENT_IBAN] = GOQ_TEXT("BE72000000001616"),
-        [GOQ_PAYMENT_AMOUNT] = GOQ_NUMBER(100), [GOQ_PAYMENT_BIC] = GOQ_TEXT("BPOTBEB1"), [GOQ_PAYMENT_PURPOSE] = GOQ_TEXT("CHAR"),
+        [GOQ_PAYMENT_AMOUNT] = GOQ_TEXT("1,0"), [GOQ_PAYMENT_BIC] = GOQ_TEXT("BPOTBEB1"), [GOQ_PAYMENT_PURPOSE] = GOQ_TEXT("CHAR"),
         [GOQ_PAYMENT_MESSAGE] = GOQ_TEXT("Urgency fund"), [GOQ_PAYMENT_INFORMATION] = GOQ_TEXT("Sample EPC QR code")};
     const goq_field short_iban = GOQ_TEXT("BE72"), wrong_iban = GOQ_TEXT("BE72000000001617"), iban = printed[GOQ_PAYMENT_IBAN];
-    const goq_field reference = GOQ_TEXT("RF18539007547034"), none = GOQ_NUMBER(0), largest = GOQ_NUMBER(99999999999), above = GOQ_NUMBER(100000000000);
+    const goq_field reference = GOQ_TEXT("RF18539007547034"), none = GOQ_TEXT(""), zero = GOQ_TEXT("0"), largest = GOQ_TEXT("999 999'999.99"), above = GOQ_TEXT("1000000000"), precise = GOQ_TEXT("1,234"), word = GOQ_TEXT("one");
     says(GOQ_PAYMENT, printed, GOQ_PAYMENT_FIELDS,
         "BCD\n001\n1\nSCT\nBPOTBEB1\nRed Cross of Belgium\nBE72000000001616\nEUR1.00\nCHAR\n\nUrgency fund\nSample EPC QR code");
     printed[GOQ_PAYMENT_IBAN] = wrong_iban;
@@ -115,8 +119,14 @@ static void payments(void)
     printed[GOQ_PAYMENT_REFERENCE] = reference;
     refuses(GOQ_PAYMENT, printed, GOQ_PAYMENT_FIELDS, GOQ_FIELD_UNUSED, GOQ_PAYMENT_MESSAGE, "a message beside a reference");
     printed[GOQ_PAYMENT_REFERENCE] = none;
+    printed[GOQ_PAYMENT_AMOUNT] = zero;
+    refuses(GOQ_PAYMENT, printed, GOQ_PAYMENT_FIELDS, GOQ_FIELD_RANGE, GOQ_PAYMENT_AMOUNT, "an amount of 0");
     printed[GOQ_PAYMENT_AMOUNT] = none;
-    refuses(GOQ_PAYMENT, printed, GOQ_PAYMENT_FIELDS, GOQ_FIELD_RANGE, GOQ_PAYMENT_AMOUNT, "no amount");
+    refuses(GOQ_PAYMENT, printed, GOQ_PAYMENT_FIELDS, GOQ_FIELD_EMPTY, GOQ_PAYMENT_AMOUNT, "no amount");
+    printed[GOQ_PAYMENT_AMOUNT] = precise;
+    refuses(GOQ_PAYMENT, printed, GOQ_PAYMENT_FIELDS, GOQ_FIELD_DECIMALS, GOQ_PAYMENT_AMOUNT, "an amount of three decimals");
+    printed[GOQ_PAYMENT_AMOUNT] = word;
+    refuses(GOQ_PAYMENT, printed, GOQ_PAYMENT_FIELDS, GOQ_FIELD_CHARACTER, GOQ_PAYMENT_AMOUNT, "an amount as a word");
     printed[GOQ_PAYMENT_AMOUNT] = above;
     refuses(GOQ_PAYMENT, printed, GOQ_PAYMENT_FIELDS, GOQ_FIELD_RANGE, GOQ_PAYMENT_AMOUNT, "too large an amount");
     printed[GOQ_PAYMENT_AMOUNT] = largest;
@@ -132,13 +142,13 @@ static void payments(void)
 
 static void bills(void)
 {
-    goq_field printed[] = {GOQ_TEXT("CH4431999123000889012"), GOQ_TEXT("Robert Schneider AG"), GOQ_TEXT("Rue du Lac"), GOQ_TEXT("1268"), GOQ_TEXT("2501"),
-        GOQ_TEXT("Biel"), GOQ_TEXT("CH"), GOQ_NUMBER(194975), GOQ_NUMBER(GOQ_CHF), GOQ_TEXT("210000000003139471430009017"),
+    goq_field printed[] = {GOQ_TEXT("CH44 3199 9123 0008 8901 2"), GOQ_TEXT("Robert Schneider AG"), GOQ_TEXT("Rue du Lac"), GOQ_TEXT("1268"), GOQ_TEXT("2501"),
+        GOQ_TEXT("Biel"), GOQ_TEXT("CH"), GOQ_TEXT("1949.75"), GOQ_TEXT("CHF"), GOQ_TEXT("21 00000 00003 13947 14300 09017"),
         GOQ_TEXT("Order of 15 June 2020"), GOQ_TEXT("Pia-Maria Rutschmann-Schnyder"), GOQ_TEXT("Grosse Marktgasse"), GOQ_TEXT("28"), GOQ_TEXT("9400"),
         GOQ_TEXT("Rorschach"), GOQ_TEXT("CH")};
     const goq_field open[] = {GOQ_TEXT("CH5800791123000889012"), GOQ_TEXT("Robert Schneider AG"), GOQ_TEXT("Rue du Lac"), GOQ_TEXT("1268"), GOQ_TEXT("2501"),
-        GOQ_TEXT("Biel"), GOQ_TEXT("CH"), GOQ_NUMBER(0), GOQ_NUMBER(GOQ_EUR), GOQ_TEXT("RF18539007547034")};
-    const goq_field other = GOQ_TEXT("210000000003139471430009018"), none = GOQ_TEXT(""), text = GOQ_TEXT("1949.75"), reference = printed[GOQ_BILL_REFERENCE];
+        GOQ_TEXT("Biel"), GOQ_TEXT("ch"), GOQ_TEXT(""), GOQ_TEXT("Eur"), GOQ_TEXT("rf18 5390 0754 7034")};
+    const goq_field other = GOQ_TEXT("210000000003139471430009018"), none = GOQ_TEXT(""), text = GOQ_TEXT("1949.75.1"), dollars = GOQ_TEXT("USD"), reference = printed[GOQ_BILL_REFERENCE];
     says(GOQ_BILL, printed, GOQ_BILL_FIELDS,
         "SPC\n0200\n1\nCH4431999123000889012\nS\nRobert Schneider AG\nRue du Lac\n1268\n2501\nBiel\nCH\n\n\n\n\n\n\n\n1949.75\nCHF\nS\n"
         "Pia-Maria Rutschmann-Schnyder\nGrosse Marktgasse\n28\n9400\nRorschach\nCH\nQRR\n210000000003139471430009017\nOrder of 15 June 2020\nEPD");
@@ -150,8 +160,11 @@ static void bills(void)
     refuses(GOQ_BILL, printed, GOQ_BILL_FIELDS, GOQ_FIELD_EMPTY, GOQ_BILL_REFERENCE, "a QR-IBAN without a reference");
     printed[GOQ_BILL_REFERENCE] = reference;
     printed[GOQ_BILL_AMOUNT] = text;
-    refuses(GOQ_BILL, printed, GOQ_BILL_FIELDS, GOQ_FIELD_CHARACTER, GOQ_BILL_AMOUNT, "an amount as a text");
+    refuses(GOQ_BILL, printed, GOQ_BILL_FIELDS, GOQ_FIELD_CHARACTER, GOQ_BILL_AMOUNT, "an amount with two points");
     printed[GOQ_BILL_AMOUNT] = none;
+    printed[GOQ_BILL_CURRENCY] = dollars;
+    refuses(GOQ_BILL, printed, GOQ_BILL_FIELDS, GOQ_FIELD_WORD, GOQ_BILL_CURRENCY, "dollars");
+    printed[GOQ_BILL_CURRENCY] = none;
     printed[GOQ_BILL_DEBTOR_CITY] = none;
     refuses(GOQ_BILL, printed, GOQ_BILL_FIELDS, GOQ_FIELD_EMPTY, GOQ_BILL_DEBTOR_CITY, "a debtor without a town");
 }
@@ -159,12 +172,13 @@ static void bills(void)
 static void links(void)
 {
     const goq_field call[] = {GOQ_TEXT("+1-201-555-0123")}, letters[] = {GOQ_TEXT("0800-CALL")};
-    const goq_field message[] = {GOQ_TEXT("+15105550101"), GOQ_TEXT("hello there")};
+    const goq_field message[] = {GOQ_TEXT("+1 510 555 0101"), GOQ_TEXT("hello there")};
     const goq_field current[] = {GOQ_TEXT("infobot@example.com"), GOQ_TEXT("current-issue")};
     const goq_field index[] = {GOQ_TEXT("infobot@example.com"), GOQ_TEXT(""), GOQ_TEXT("send current-issue\nsend index")};
     const goq_field two[] = {GOQ_TEXT("joe@example.com,ann@example.com")};
-    const goq_field singapore[] = {GOQ_NUMBER(13412500), GOQ_NUMBER(103866700)}, pole[] = {GOQ_NUMBER(90000000), GOQ_NUMBER(-22430000)};
-    const goq_field south[] = {GOQ_NUMBER(-90000001)}, east[] = {GOQ_NUMBER(0), GOQ_NUMBER(180000001)}, far[] = {GOQ_NUMBER(INT64_MIN)};
+    const goq_field singapore[] = {GOQ_TEXT("13.4125"), GOQ_TEXT("103,8667")}, pole[] = {GOQ_TEXT("90"), GOQ_TEXT("-22.43")};
+    const goq_field south[] = {GOQ_TEXT("-90.000001"), GOQ_TEXT("0")}, east[] = {GOQ_TEXT("0"), GOQ_TEXT("180.000001")}, far[] = {GOQ_TEXT("-9223372036854775809"), GOQ_TEXT("0")},
+        precise[] = {GOQ_TEXT("-51.50740001"), GOQ_TEXT("0")}, name[] = {GOQ_TEXT("here"), GOQ_TEXT("0")};
     says(GOQ_TEL, call, 1, "tel:+1-201-555-0123");
     refuses(GOQ_TEL, letters, 1, GOQ_FIELD_CHARACTER, GOQ_TEL_NUMBER, "letters in a number");
     says(GOQ_SMS, message, 1, "sms:+15105550101");
@@ -175,48 +189,93 @@ static void links(void)
     refuses(GOQ_MAIL, two, 1, GOQ_FIELD_CHARACTER, GOQ_MAIL_ADDRESS, "two addresses");
     says(GOQ_GEO, singapore, 2, "geo:13.4125,103.8667");
     says(GOQ_GEO, pole, 2, "geo:90,-22.43");
-    refuses(GOQ_GEO, south, 1, GOQ_FIELD_RANGE, GOQ_GEO_LATITUDE, "south of the pole");
+    refuses(GOQ_GEO, south, 2, GOQ_FIELD_RANGE, GOQ_GEO_LATITUDE, "south of the pole");
     refuses(GOQ_GEO, east, 2, GOQ_FIELD_RANGE, GOQ_GEO_LONGITUDE, "too far east");
-    refuses(GOQ_GEO, far, 1, GOQ_FIELD_RANGE, GOQ_GEO_LATITUDE, "as far as numbers go");
+    refuses(GOQ_GEO, far, 2, GOQ_FIELD_RANGE, GOQ_GEO_LATITUDE, "as far as numbers go");
+    refuses(GOQ_GEO, precise, 2, GOQ_FIELD_DECIMALS, GOQ_GEO_LATITUDE, "eight decimals");
+    refuses(GOQ_GEO, name, 2, GOQ_FIELD_CHARACTER, GOQ_GEO_LATITUDE, "a word for degrees");
+    refuses(GOQ_GEO, pole, 1, GOQ_FIELD_EMPTY, GOQ_GEO_LONGITUDE, "no longitude");
 }
 
 static void passwords(void)
 {
-    const goq_field printed[] = {GOQ_TEXT("alice@google.com"), GOQ_TEXT(SECRET), GOQ_TEXT("Example")};
-    const goq_field counted[] = {GOQ_TEXT("alice@google.com"), GOQ_TEXT(SECRET), GOQ_TEXT(""), GOQ_NUMBER(GOQ_SHA256), GOQ_NUMBER(GOQ_EIGHT_DIGITS)};
+    const goq_field printed[] = {GOQ_TEXT("alice@google.com"), GOQ_TEXT("jbsw y3dp ehpk 3pxp"), GOQ_TEXT("Example")};
+    const goq_field counted[] = {GOQ_TEXT("alice@google.com"), GOQ_TEXT(SECRET), GOQ_TEXT(""), GOQ_TEXT("sha256"), GOQ_TEXT("8"), GOQ_TEXT(""), GOQ_TEXT("0")};
     const goq_field colon[] = {GOQ_TEXT("alice@google.com"), GOQ_TEXT(SECRET), GOQ_TEXT("A:B")};
-    const goq_field period[GOQ_TOTP_FIELDS] = {[GOQ_TOTP_PERIOD] = GOQ_NUMBER(4294967296)};
-    const goq_field digits[GOQ_HOTP_FIELDS] = {[GOQ_HOTP_DIGITS] = GOQ_NUMBER(6)};
-    says(GOQ_TOTP, printed, 3, "otpauth://totp/Example:alice@google.com?secret=" SECRET "&issuer=Example");
-    says(GOQ_HOTP, counted, 5, "otpauth://hotp/alice@google.com?secret=" SECRET "&algorithm=SHA256&digits=8&counter=0");
-    refuses(GOQ_TOTP, colon, 3, GOQ_FIELD_CHARACTER, GOQ_TOTP_ISSUER, "a colon in an issuer");
-    refuses(GOQ_TOTP, period, GOQ_TOTP_FIELDS, GOQ_FIELD_RANGE, GOQ_TOTP_PERIOD, "2 ^ 32 seconds");
-    refuses(GOQ_HOTP, digits, GOQ_HOTP_FIELDS, GOQ_FIELD_RANGE, GOQ_HOTP_DIGITS, "digits by their count");
+    const goq_field period[GOQ_OTP_FIELDS] = {[GOQ_OTP_PERIOD] = GOQ_TEXT("4294967296")};
+    const goq_field digits[GOQ_OTP_FIELDS] = {[GOQ_OTP_DIGITS] = GOQ_TEXT("7")};
+    const goq_field algorithm[GOQ_OTP_FIELDS] = {[GOQ_OTP_ALGORITHM] = GOQ_TEXT("MD5")};
+    const goq_field counter[GOQ_OTP_FIELDS] = {[GOQ_OTP_COUNTER] = GOQ_TEXT("18446744073709551616")};
+    says(GOQ_OTP, printed, 3, "otpauth://totp/Example:alice@google.com?secret=" SECRET "&issuer=Example");
+    says(GOQ_OTP, counted, 7, "otpauth://hotp/alice@google.com?secret=" SECRET "&algorithm=SHA256&digits=8&counter=0");
+    refuses(GOQ_OTP, colon, 3, GOQ_FIELD_CHARACTER, GOQ_OTP_ISSUER, "a colon in an issuer");
+    refuses(GOQ_OTP, period, GOQ_OTP_FIELDS, GOQ_FIELD_RANGE, GOQ_OTP_PERIOD, "2 ^ 32 seconds");
+    refuses(GOQ_OTP, digits, GOQ_OTP_FIELDS, GOQ_FIELD_WORD, GOQ_OTP_DIGITS, "seven digits");
+    refuses(GOQ_OTP, algorithm, GOQ_OTP_FIELDS, GOQ_FIELD_WORD, GOQ_OTP_ALGORITHM, "MD5");
+    refuses(GOQ_OTP, counter, GOQ_OTP_FIELDS, GOQ_FIELD_RANGE, GOQ_OTP_COUNTER, "2 ^ 64");
 }
+
+#define UID "19970610T172345Z-AF23B2@example.com"
+#define STAMP "1997-06-10T17:23:45Z"
 
 static void events(void)
 {
-    const goq_field party[] = {GOQ_TEXT("19970610T172345Z-AF23B2@example.com"), GOQ_NUMBER(19970610172345), GOQ_NUMBER(19970714170000),
-        GOQ_NUMBER(19970715040000), GOQ_TEXT("Bastille Day Party")};
-    goq_field days[] = {GOQ_TEXT("19970610T172345Z-AF23B2@example.com"), GOQ_NUMBER(19970610172345), GOQ_NUMBER(20000228), GOQ_NUMBER(20000229),
-        GOQ_TEXT("Bastille Day Party"), GOQ_TEXT("Paris, France"), GOQ_TEXT("0123456789012345678901234567890123456789012345678901234567890123;\nb")};
-    const goq_field moment = GOQ_NUMBER(20000228000000), thirtieth = GOQ_NUMBER(20000230), none = GOQ_NUMBER(0);
-    says(GOQ_EVENT, party, 5,
-        CALENDAR "UID:19970610T172345Z-AF23B2@example.com\r\nDTSTAMP:19970610T172345Z\r\nDTSTART:19970714T170000Z\r\nDTEND:19970715T040000Z\r\n"
+    const goq_field party[] = {GOQ_TEXT("1997-07-14 17:00Z"), GOQ_TEXT("19970715T040000Z"), GOQ_TEXT("Bastille Day Party"), GOQ_TEXT(""), GOQ_TEXT(""),
+        GOQ_TEXT(UID), GOQ_TEXT(STAMP)};
+    goq_field days[] = {GOQ_TEXT("2000-02-28"), GOQ_TEXT("20000229"), GOQ_TEXT("Bastille Day Party"), GOQ_TEXT("Paris, France"),
+        GOQ_TEXT("0123456789012345678901234567890123456789012345678901234567890123;\nb"), GOQ_TEXT(UID), GOQ_TEXT(STAMP)};
+    const goq_field moment = GOQ_TEXT("20000228T000000Z"), thirtieth = GOQ_TEXT("20000230"), never = GOQ_TEXT("tomorrow"), none = GOQ_TEXT("");
+    says(GOQ_EVENT, party, GOQ_EVENT_FIELDS,
+        CALENDAR "UID:" UID "\r\nDTSTAMP:19970610T172345Z\r\nDTSTART:19970714T170000Z\r\nDTEND:19970715T040000Z\r\n"
         "SUMMARY:Bastille Day Party\r\nEND:VEVENT\r\nEND:VCALENDAR\r\n");
-    says(GOQ_DAYS, days, GOQ_EVENT_FIELDS,
-        CALENDAR "UID:19970610T172345Z-AF23B2@example.com\r\nDTSTAMP:19970610T172345Z\r\nDTSTART;VALUE=DATE:20000228\r\nDTEND;VALUE=DATE:20000229\r\n"
+    says(GOQ_EVENT, days, GOQ_EVENT_FIELDS,
+        CALENDAR "UID:" UID "\r\nDTSTAMP:19970610T172345Z\r\nDTSTART;VALUE=DATE:20000228\r\nDTEND;VALUE=DATE:20000229\r\n"
         "SUMMARY:Bastille Day Party\r\nLOCATION:Paris\\, France\r\nDESCRIPTION:012345678901234567890123456789012345678901234567890123456789012\r\n 3\\;\\nb\r\n"
         "END:VEVENT\r\nEND:VCALENDAR\r\n");
-    refuses(GOQ_DAYS, party, 5, GOQ_FIELD_RANGE, GOQ_EVENT_BEGIN, "moments for days");
-    refuses(GOQ_EVENT, days, 5, GOQ_FIELD_RANGE, GOQ_EVENT_BEGIN, "days for moments");
+    says(GOQ_EVENT, party, 3, CALENDAR "DTSTART:19970714T170000Z\r\nDTEND:19970715T040000Z\r\nSUMMARY:Bastille Day Party\r\nEND:VEVENT\r\nEND:VCALENDAR\r\n");
     days[GOQ_EVENT_END] = thirtieth;
-    refuses(GOQ_DAYS, days, 5, GOQ_FIELD_RANGE, GOQ_EVENT_END, "the 30th of February");
+    refuses(GOQ_EVENT, days, GOQ_EVENT_FIELDS, GOQ_FIELD_RANGE, GOQ_EVENT_END, "the 30th of February");
     days[GOQ_EVENT_END] = moment;
-    refuses(GOQ_DAYS, days, 5, GOQ_FIELD_RANGE, GOQ_EVENT_END, "a day and a moment");
-    days[GOQ_EVENT_STAMP] = none;
+    refuses(GOQ_EVENT, days, GOQ_EVENT_FIELDS, GOQ_FIELD_CHARACTER, GOQ_EVENT_END, "a day and a moment");
     days[GOQ_EVENT_END] = none;
-    refuses(GOQ_DAYS, days, 5, GOQ_FIELD_RANGE, GOQ_EVENT_STAMP, "no stamp");
+    refuses(GOQ_EVENT, days, GOQ_EVENT_FIELDS, GOQ_FIELD_EMPTY, GOQ_EVENT_END, "no end");
+    days[GOQ_EVENT_BEGIN] = never;
+    refuses(GOQ_EVENT, days, GOQ_EVENT_FIELDS, GOQ_FIELD_CHARACTER, GOQ_EVENT_BEGIN, "a word for a time");
+    days[GOQ_EVENT_BEGIN] = none;
+    refuses(GOQ_EVENT, days, GOQ_EVENT_FIELDS, GOQ_FIELD_EMPTY, GOQ_EVENT_BEGIN, "no beginning");
+}
+
+/* The example of NPCI's linking specification without `tid` and `refUrl`, that of the manual of the BR Code, and a test of the library promptpay-qr. */
+static void codes(void)
+{
+    goq_field upi[] = {GOQ_TEXT("nadeem@npci"), GOQ_TEXT("nadeem chinna"), GOQ_TEXT("10"), GOQ_TEXT("Pay to mystar store"), GOQ_TEXT("4894398cndhcd23"), GOQ_TEXT("0000")};
+    goq_field pix[] = {GOQ_TEXT("123e4567-e12b-12d1-a456-426655440000"), GOQ_TEXT("Fulano de Tal"), GOQ_TEXT("BRASILIA"), GOQ_TEXT(""), GOQ_TEXT(""), GOQ_TEXT("")};
+    goq_field promptpay[] = {GOQ_TEXT("000-000-0000"), GOQ_TEXT("4.22")};
+    const goq_field none = GOQ_TEXT(""), word = GOQ_TEXT("nadeem"), three = GOQ_TEXT("123"), accent = GOQ_TEXT("S\xc3\xa3o Paulo"), precise = GOQ_TEXT("1.234");
+    const goq_field long_text = GOQ_TEXT("01234567890123456789012345678901234567"), short_number = GOQ_TEXT("081234567"), first = GOQ_TEXT("1812345678");
+    says(GOQ_UPI, upi, GOQ_UPI_FIELDS, "upi://pay?pa=nadeem@npci&pn=nadeem%20chinna&mc=0000&tr=4894398cndhcd23&tn=Pay%20to%20mystar%20store&am=10.00&cu=INR");
+    says(GOQ_UPI, upi, 1, "upi://pay?pa=nadeem@npci&cu=INR");
+    upi[GOQ_UPI_CATEGORY] = three;
+    refuses(GOQ_UPI, upi, GOQ_UPI_FIELDS, GOQ_FIELD_CHARACTER, GOQ_UPI_CATEGORY, "a category of three digits");
+    upi[GOQ_UPI_AMOUNT] = precise;
+    refuses(GOQ_UPI, upi, GOQ_UPI_FIELDS, GOQ_FIELD_DECIMALS, GOQ_UPI_AMOUNT, "an amount of three decimals");
+    upi[GOQ_UPI_AMOUNT] = none;
+    upi[GOQ_UPI_PAYEE] = word;
+    refuses(GOQ_UPI, upi, GOQ_UPI_FIELDS, GOQ_FIELD_CHARACTER, GOQ_UPI_PAYEE, "an address without a bank");
+    says(GOQ_PIX, pix, GOQ_PIX_FIELDS, "00020126580014br.gov.bcb.pix0136123e4567-e12b-12d1-a456-4266554400005204000053039865802BR5913Fulano de Tal6008BRASILIA62070503***63041D3D");
+    pix[GOQ_PIX_DESCRIPTION] = long_text;
+    refuses(GOQ_PIX, pix, GOQ_PIX_FIELDS, GOQ_FIELD_TOO_LONG, GOQ_PIX_DESCRIPTION, "a description of 38 bytes beside a key of 36");
+    pix[GOQ_PIX_CITY] = accent;
+    pix[GOQ_PIX_DESCRIPTION] = none;
+    refuses(GOQ_PIX, pix, GOQ_PIX_FIELDS, GOQ_FIELD_CHARACTER, GOQ_PIX_CITY, "a town with an accent");
+    says(GOQ_PROMPTPAY, promptpay, GOQ_PROMPTPAY_FIELDS, "00020101021229370016A000000677010111011300660000000005802TH530376454044.226304E469");
+    says(GOQ_PROMPTPAY, promptpay, 1, "00020101021129370016A000000677010111011300660000000005802TH530376463048956");
+    promptpay[GOQ_PROMPTPAY_PAYEE] = short_number;
+    refuses(GOQ_PROMPTPAY, promptpay, GOQ_PROMPTPAY_FIELDS, GOQ_FIELD_TOO_SHORT, GOQ_PROMPTPAY_PAYEE, "nine digits");
+    promptpay[GOQ_PROMPTPAY_PAYEE] = first;
+    refuses(GOQ_PROMPTPAY, promptpay, GOQ_PROMPTPAY_FIELDS, GOQ_FIELD_CHARACTER, GOQ_PROMPTPAY_PAYEE, "a telephone number without its 0");
+    promptpay[GOQ_PROMPTPAY_PAYEE] = none;
+    refuses(GOQ_PROMPTPAY, promptpay, GOQ_PROMPTPAY_FIELDS, GOQ_FIELD_EMPTY, GOQ_PROMPTPAY_PAYEE, "nobody");
 }
 
 /* The elements of the GS1 DataMatrix Guideline, and a wrong one of each cause at the second place. */
@@ -259,6 +318,7 @@ int main(void)
     links();
     passwords();
     events();
+    codes();
     elements();
     return wrong != 0;
 }

@@ -6,7 +6,7 @@
    first that applies in the order of the call's comment; GOQ_OUT_OF_MEMORY may come instead of
    those that take memory to find out. All outputs are then unchanged, except that a call with
    `place` writes there which field, element or square is wrong. A pointer with length 0 may be
-   NULL.
+   NULL. Of a struct that begins with its size no more than that size is read.
 
    The library gets memory by rattle_alloc, rattle_realloc and rattle_dealloc, which call malloc and
    its like unless the program defines its own. */
@@ -22,11 +22,14 @@
 extern "C" {
 #endif
 
-/* The version of this header. */
+/* The version of this header. goq_version() gives that of the library: it has what a header of the
+   same or a lower one declares, as long as the first number is the same. */
 #define GOQ_VERSION_MAJOR 1
 #define GOQ_VERSION_MINOR 0
 #define GOQ_VERSION_PATCH 0
 #define GOQ_VERSION (GOQ_VERSION_MAJOR * 10000 + GOQ_VERSION_MINOR * 100 + GOQ_VERSION_PATCH)
+
+uint32_t goq_version(void);
 
 /* What a struct begins with, in initialisers and in assignments. */
 #ifdef __cplusplus
@@ -70,7 +73,7 @@ typedef uint32_t goq_answer;
     X(TWICE, 28, "more than one square has the part at this place") \
     X(PARITY, 29, "the parts are not those of the data that their headers name") \
     X(NOT_READ, 30, "the square is read in none of the sixteen positions") \
-    X(NO_SUCH_CONTENT, 32, "no kind of content has the number") \
+    X(NO_SUCH_CONTENT, 32, "no kind of payload has the number") \
     X(NO_SUCH_FIELD, 33, "the kind has no field at this place") \
     X(FIELD_EMPTY, 34, "the field may not be empty") \
     X(FIELD_TOO_LONG, 35, "the field, or the whole text, is longer than the format allows") \
@@ -78,10 +81,12 @@ typedef uint32_t goq_answer;
     X(FIELD_CONTROL, 37, "the field has a line break or another control character") \
     X(FIELD_CHARACTER, 38, "the field has a character that the format does not allow there") \
     X(FIELD_CHECK_DIGITS, 39, "the check digits do not match: look for a mistyped digit") \
-    X(FIELD_RANGE, 40, "the number is outside what the format allows") \
+    X(FIELD_RANGE, 40, "the number or time is outside what the format allows") \
     X(FIELD_UNUSED, 41, "the field cannot be given next to the others") \
     X(NO_SUCH_IDENTIFIER, 42, "the application identifier of an element is not in the table") \
-    X(ELEMENT_LENGTH, 43, "the value of an element has too few or too many characters")
+    X(ELEMENT_LENGTH, 43, "the value of an element has too few or too many characters") \
+    X(FIELD_DECIMALS, 44, "the number has more digits after its point than the format allows") \
+    X(FIELD_WORD, 45, "the field is not one of the words that it may be")
 
 enum {
 #define GOQ_NAMED(name, number, text) GOQ_##name = number,
@@ -117,6 +122,7 @@ enum {
     GOQ_EPS = 6, /* Encapsulated PostScript text, black on white, a point a pixel */
     GOQ_PBM = 7, /* a PBM file */
     GOQ_SVG_PATH = 8, /* SVG text of one path, by the runs of dark modules; shorter than GOQ_SVG */
+    GOQ_PGM = 9, /* a PGM file, a byte a pixel */
     GOQ_FORMATS /* how many there are */
 };
 
@@ -133,35 +139,35 @@ enum {
                            the application, below 256 */
 };
 
-/* Payloads, whose fields come in the order of the names below: a text in UTF-8, or a number where a
-   comment says so. What is not given is empty or 0. */
+/* Kinds of payload. Their fields are texts in UTF-8, in the order of the names below, as people
+   write them: account numbers, references, telephone numbers and secrets may have spaces and small
+   letters, amounts a comma. What is not given is empty. */
 enum {
-    GOQ_WIFI = 0, /* a Wi-Fi network to join */
-    GOQ_MECARD = 1, /* a contact as MECARD */
-    GOQ_VCARD = 2, /* a contact as vCard 3.0 */
-    GOQ_PAYMENT = 3, /* a SEPA credit transfer (EPC QR code, EPC069-12), for level M and at most
+    GOQ_WIFI = 0, /* a Wi-Fi network */
+    GOQ_MECARD = 1, /* a contact, as MECARD */
+    GOQ_VCARD = 2, /* a contact, as vCard 3.0 */
+    GOQ_PAYMENT = 3, /* a SEPA credit transfer (EPC QR code), for a symbol of level M and at most
                         version 13 */
-    GOQ_BILL = 4, /* a Swiss QR-bill, for level M and at most version 25, without its cross */
-    GOQ_MAIL = 5,
+    GOQ_BILL = 4, /* a Swiss QR-bill, for a symbol of level M and at most version 25, without its
+                     cross */
+    GOQ_MAIL = 5, /* an e-mail */
     GOQ_GEO = 6, /* a location */
     GOQ_TEL = 7, /* a phone call */
     GOQ_SMS = 8, /* a text message */
-    GOQ_TOTP = 9, /* one-time passwords by time */
-    GOQ_HOTP = 10, /* one-time passwords by a counter */
-    GOQ_EVENT = 11, /* a calendar event, in UTC */
-    GOQ_DAYS = 12 /* an event of whole days */
+    GOQ_OTP = 9, /* one-time passwords for authenticator apps */
+    GOQ_EVENT = 10, /* a calendar event */
+    GOQ_UPI = 11, /* a payment by UPI (India) */
+    GOQ_PIX = 12, /* a payment by Pix (Brazil), static */
+    GOQ_PROMPTPAY = 13 /* a payment by PromptPay (Thailand) */
 };
 
 enum {
-    GOQ_WIFI_SSID, /* 1 to 32 bytes */
+    GOQ_WIFI_SSID, /* the name of the network, 1 to 32 bytes */
     GOQ_WIFI_PASSWORD, /* none for an open network */
-    GOQ_WIFI_SECURITY, /* a number: GOQ_BY_PASSWORD .. GOQ_WPA3 */
-    GOQ_WIFI_HIDDEN, /* a number: 1 for a hidden network */
+    GOQ_WIFI_SECURITY, /* "open", "WEP", "WPA" or "WPA3"; empty: WPA if there is a password */
+    GOQ_WIFI_HIDDEN, /* "true" if the network does not broadcast its name */
     GOQ_WIFI_FIELDS
 };
-
-/* Security of a network. GOQ_BY_PASSWORD is WPA if there is a password, and open otherwise. */
-enum { GOQ_BY_PASSWORD = 0, GOQ_OPEN = 1, GOQ_WEP = 2, GOQ_WPA = 3, GOQ_WPA3 = 4 };
 
 enum {
     GOQ_MECARD_FAMILY, /* the family name, or the only one */
@@ -169,7 +175,7 @@ enum {
     GOQ_MECARD_PHONE,
     GOQ_MECARD_EMAIL,
     GOQ_MECARD_URL,
-    GOQ_MECARD_BIRTHDAY, /* eight digits, as 19700131 */
+    GOQ_MECARD_BIRTHDAY, /* "1970-01-31" or "19700131" */
     GOQ_MECARD_NOTE,
     GOQ_MECARD_STREET,
     GOQ_MECARD_CITY,
@@ -180,7 +186,7 @@ enum {
 };
 
 enum {
-    GOQ_VCARD_NAME, /* the whole name, as it is shown */
+    GOQ_VCARD_NAME, /* the full name, as it is shown */
     GOQ_VCARD_FAMILY,
     GOQ_VCARD_GIVEN,
     GOQ_VCARD_ORGANISATION,
@@ -193,15 +199,20 @@ enum {
     GOQ_VCARD_CODE,
     GOQ_VCARD_COUNTRY,
     GOQ_VCARD_NOTE,
+    GOQ_VCARD_TITLE, /* the title or function */
+    GOQ_VCARD_BIRTHDAY, /* "1970-01-31" or "19700131" */
+    GOQ_VCARD_MOBILE, /* telephone numbers beside GOQ_VCARD_PHONE */
+    GOQ_VCARD_WORK_PHONE,
+    GOQ_VCARD_HOME_PHONE,
     GOQ_VCARD_FIELDS
 };
 
 enum {
     GOQ_PAYMENT_NAME, /* the payee, up to 70 characters */
-    GOQ_PAYMENT_IBAN, /* without spaces */
-    GOQ_PAYMENT_AMOUNT, /* a number: cents of a euro, 1 to 99,999,999,999 */
+    GOQ_PAYMENT_IBAN,
+    GOQ_PAYMENT_AMOUNT, /* in euros, as "12.30": 0.01 to 999999999.99 */
     GOQ_PAYMENT_BIC, /* makes the text one of version 001; 002 without */
-    GOQ_PAYMENT_PURPOSE, /* up to four capitals and digits */
+    GOQ_PAYMENT_PURPOSE, /* up to four letters and digits */
     GOQ_PAYMENT_REFERENCE, /* of ISO 11649 */
     GOQ_PAYMENT_MESSAGE, /* instead of a reference, up to 140 characters */
     GOQ_PAYMENT_INFORMATION, /* a note to the payer, up to 70 characters */
@@ -209,15 +220,15 @@ enum {
 };
 
 enum {
-    GOQ_BILL_IBAN, /* of Switzerland or Liechtenstein, without spaces */
+    GOQ_BILL_IBAN, /* of Switzerland or Liechtenstein */
     GOQ_BILL_NAME, /* the payee, up to 70 characters */
     GOQ_BILL_STREET,
     GOQ_BILL_NUMBER, /* the house number */
-    GOQ_BILL_CODE,
+    GOQ_BILL_CODE, /* the postal code */
     GOQ_BILL_CITY,
-    GOQ_BILL_COUNTRY, /* two capitals, as CH */
-    GOQ_BILL_AMOUNT, /* a number: hundredths; 0 leaves it open */
-    GOQ_BILL_CURRENCY, /* a number: GOQ_CHF or GOQ_EUR */
+    GOQ_BILL_COUNTRY, /* two letters, as "CH" */
+    GOQ_BILL_AMOUNT, /* as "1949.75"; empty leaves it open */
+    GOQ_BILL_CURRENCY, /* "CHF" or "EUR"; empty: CHF */
     GOQ_BILL_REFERENCE, /* 27 digits for a QR-IBAN; RF.. or none for another */
     GOQ_BILL_MESSAGE, /* up to 140 characters */
     GOQ_BILL_DEBTOR_NAME, /* the payer; all six may be empty */
@@ -229,51 +240,65 @@ enum {
     GOQ_BILL_FIELDS
 };
 
-enum { GOQ_CHF = 0, GOQ_EUR = 1 };
-
 enum { GOQ_MAIL_ADDRESS, GOQ_MAIL_SUBJECT, GOQ_MAIL_BODY, GOQ_MAIL_FIELDS };
 
-/* Numbers: millionths of a degree north of the equator and east of Greenwich, below 0 to the south
-   and west. */
+/* Degrees north of the equator and east of Greenwich, as "-33.8568", with at most six digits after
+   the point. */
 enum { GOQ_GEO_LATITUDE, GOQ_GEO_LONGITUDE, GOQ_GEO_FIELDS };
 
 enum { GOQ_TEL_NUMBER, GOQ_TEL_FIELDS };
 enum { GOQ_SMS_NUMBER, GOQ_SMS_BODY, GOQ_SMS_FIELDS };
 
 enum {
-    GOQ_TOTP_ACCOUNT,
-    GOQ_TOTP_SECRET, /* in base 32, without spaces and = */
-    GOQ_TOTP_ISSUER,
-    GOQ_TOTP_ALGORITHM, /* a number: GOQ_SHA1 .. GOQ_SHA512 */
-    GOQ_TOTP_DIGITS, /* a number: GOQ_SIX_DIGITS or GOQ_EIGHT_DIGITS */
-    GOQ_TOTP_PERIOD, /* a number: for how many seconds one is valid; 0 for 30 */
-    GOQ_TOTP_FIELDS
+    GOQ_OTP_ACCOUNT,
+    GOQ_OTP_SECRET, /* in base 32 */
+    GOQ_OTP_ISSUER,
+    GOQ_OTP_ALGORITHM, /* "SHA1", "SHA256" or "SHA512"; empty: SHA1 */
+    GOQ_OTP_DIGITS, /* "6" or "8"; empty: 6 */
+    GOQ_OTP_PERIOD, /* how many seconds a password is valid; empty: 30 */
+    GOQ_OTP_COUNTER, /* if given, passwords change with a counter that begins here */
+    GOQ_OTP_FIELDS
 };
 
+/* Times have a zone, as "2026-11-28T14:00+01:00", or are in UTC, as "2026-11-28T13:00Z"; begin and
+   end may both be days, as "2026-11-28". */
 enum {
-    GOQ_HOTP_ACCOUNT,
-    GOQ_HOTP_SECRET,
-    GOQ_HOTP_ISSUER,
-    GOQ_HOTP_ALGORITHM,
-    GOQ_HOTP_DIGITS,
-    GOQ_HOTP_COUNTER, /* a number: the first counter value */
-    GOQ_HOTP_FIELDS
-};
-
-enum { GOQ_SHA1 = 0, GOQ_SHA256 = 1, GOQ_SHA512 = 2 };
-enum { GOQ_SIX_DIGITS = 0, GOQ_EIGHT_DIGITS = 1 };
-
-/* GOQ_EVENT and GOQ_DAYS have the same fields. Moments are numbers of fourteen digits, as
-   19970714170000 in UTC, and days of eight, as 19970714. */
-enum {
-    GOQ_EVENT_UID, /* an identifier that no other event has */
-    GOQ_EVENT_STAMP, /* when this was written, a moment in both */
     GOQ_EVENT_BEGIN,
     GOQ_EVENT_END, /* for whole days, the day after the last */
     GOQ_EVENT_SUMMARY,
     GOQ_EVENT_LOCATION,
     GOQ_EVENT_DESCRIPTION,
+    GOQ_EVENT_UID, /* an identifier that no other event has, or empty */
+    GOQ_EVENT_STAMP, /* when this was written, or empty */
     GOQ_EVENT_FIELDS
+};
+
+/* Amounts of the following are as "12.30", 0.01 to 999999999.99; empty, the payer says it. */
+enum {
+    GOQ_UPI_PAYEE, /* an address as "name@bank" */
+    GOQ_UPI_NAME,
+    GOQ_UPI_AMOUNT, /* in rupees */
+    GOQ_UPI_NOTE,
+    GOQ_UPI_REFERENCE, /* as the number of an order */
+    GOQ_UPI_CATEGORY, /* of a merchant, four digits */
+    GOQ_UPI_FIELDS
+};
+
+enum {
+    GOQ_PIX_PAYEE, /* a key without spaces, up to 77 bytes of ASCII */
+    GOQ_PIX_NAME, /* up to 25 bytes of ASCII */
+    GOQ_PIX_CITY, /* up to 15 bytes of ASCII */
+    GOQ_PIX_AMOUNT, /* in reais */
+    GOQ_PIX_REFERENCE, /* txid, up to 25 letters and digits */
+    GOQ_PIX_DESCRIPTION, /* with the key up to 73 bytes of ASCII */
+    GOQ_PIX_FIELDS
+};
+
+enum {
+    GOQ_PROMPTPAY_PAYEE, /* 10 digits of a phone number, 13 of a national or tax ID, or 15 of an
+                            e-wallet; spaces and hyphens may stand between them */
+    GOQ_PROMPTPAY_AMOUNT, /* in baht */
+    GOQ_PROMPTPAY_FIELDS
 };
 
 /* How data is written. */
@@ -358,16 +383,14 @@ typedef struct {
     size_t length;
 } goq_segment;
 
-/* A field of a payload: a text in UTF-8, whose number is 0; or a number, whose length is 0. */
+/* A field of a payload: a text in UTF-8, empty where none is given. */
 typedef struct {
-    int64_t number;
     const void *bytes; /* may be NULL where the length is 0 */
     size_t length;
 } goq_field;
 
-/* A field made of a zero-terminated text, and one made of a number. */
-#define GOQ_TEXT(text) {0, (text), strlen(text)}
-#define GOQ_NUMBER(number) {(number), NULL, 0}
+/* A field made of a zero-terminated text. */
+#define GOQ_TEXT(text) {(text), strlen(text)}
 
 /* An element of GS1: the digits of its application identifier, without parentheses, and its value,
    with the check digit where it has one. */
@@ -476,8 +499,9 @@ bool goq_is_functional(uint32_t version, uint32_t x, uint32_t y);
    modules on each side and `scale` pixels per module. The picture goes to the beginning of `out`,
    and its length in bytes to `count`. A text has no zero at its end. GOQ_MODULES_MAX * 80 + 400
    bytes are enough for any SVG, PIC or EPS. A scale is 1 to 65,535; a side has at most 65,535
-   modules with the quiet zone, and in a PNG file 1 to 65,535 pixels. GOQ_NO_SUCH_FORMAT,
-   GOQ_NOT_SQUARE, GOQ_NO_SUCH_SIZE, GOQ_SMALL_BUFFER; GOQ_OUT_OF_MEMORY. */
+   modules with the quiet zone; a PNG file has 1 to 65,535 pixels a side, and half blocks, which are
+   for terminals and pages, at most 4,096. GOQ_NO_SUCH_FORMAT, GOQ_NOT_SQUARE, GOQ_NO_SUCH_SIZE,
+   GOQ_SMALL_BUFFER; GOQ_OUT_OF_MEMORY. */
 goq_answer goq_draw(const uint8_t *modules, size_t modules_length, uint32_t width, uint32_t zone,
     uint32_t scale, uint32_t format, void *out, size_t out_length, size_t *count);
 
@@ -530,11 +554,11 @@ goq_answer goq_join(const goq_square *squares, size_t squares_length, void *out,
 
 /* The text of a payload, to be encoded by goq_encode_text. It goes to the beginning of `out`, with
    no zero at its end, and its length to `count`. No symbol holds a text of more than GOQ_BYTES_MAX
-   bytes. Fields after those given are empty or 0. GOQ_NO_SUCH_CONTENT; of each field
-   GOQ_NO_SUCH_FIELD, GOQ_NOT_TEXT, GOQ_FIELD_RANGE, GOQ_FIELD_CHARACTER, where it is wrong by
-   itself; what the format refuses, GOQ_FIELD_EMPTY .. GOQ_FIELD_UNUSED; GOQ_SMALL_BUFFER;
-   GOQ_OUT_OF_MEMORY. Where a field is wrong, its place goes to `place`, GOQ_PAYMENT_FIELDS for a
-   payment that is too long as a whole; otherwise `place` is unchanged. */
+   bytes. Fields after those given are empty. GOQ_NO_SUCH_CONTENT; of each field GOQ_NO_SUCH_FIELD,
+   GOQ_NOT_TEXT; what the format refuses, GOQ_FIELD_EMPTY .. GOQ_FIELD_UNUSED, GOQ_FIELD_DECIMALS,
+   GOQ_FIELD_WORD; GOQ_SMALL_BUFFER; GOQ_OUT_OF_MEMORY. Where a field is wrong, its place goes to
+   `place`, GOQ_PAYMENT_FIELDS for a payment that is too long as a whole; otherwise `place` is
+   unchanged. */
 goq_answer goq_content(uint32_t kind, const goq_field *fields, size_t fields_length, void *out,
     size_t out_length, size_t *count, size_t *place);
 

@@ -1,11 +1,15 @@
-/* Which of two causes is answered, and lengths of pictures. */
+/* Which of two causes is answered; structs that end where memory does; lengths of pictures, and what pictures and squares cost. */
+#define _GNU_SOURCE
 #include "goqlanis.h"
 #include <stdio.h>
 #include <stdlib.h>
+#include <sys/mman.h>
+#include <sys/resource.h>
+#include <unistd.h>
 
 static uint8_t modules[GOQ_MODULES_MAX], out[100], data[1048577];
 static goq_symbol symbol;
-static size_t count;
+static size_t count, place;
 static int wrong;
 
 static void expect(int holds, const char *what)
@@ -114,6 +118,26 @@ static void orders_of_drawings(void)
     expect(draw(441, (goq_drawing){size, GOQ_GREY, 4, 1, 0, 0xffffff, 0}) == GOQ_SMALL_BUFFER, "0");
 }
 
+/* No call reads a struct further than to its size, where that is not its own: here the next page may not be read. */
+static void structs(void)
+{
+    const size_t page = (size_t)sysconf(_SC_PAGESIZE);
+    const goq_element element = {out, 0, out, 0};
+    uint8_t *two = mmap(NULL, 2 * page, PROT_READ | PROT_WRITE, MAP_PRIVATE | MAP_ANONYMOUS, -1, 0);
+    if (two == MAP_FAILED || mprotect(two + page, page, PROT_NONE))
+        exit(2);
+    for (uint32_t size = 4; size < sizeof(goq_options); size += 4) {
+        void *given = two + page - size;
+        memset(given, 0, size);
+        *(uint32_t *)given = size == sizeof(goq_several) ? 0 : size;
+        expect(goq_encode_with(data, 1, given, modules, 0, &symbol) == GOQ_NO_SUCH_STRUCT, "options");
+        expect(goq_encode_gs1(&element, 1, given, modules, 0, &symbol, &place) == GOQ_NO_SUCH_STRUCT, "of GS1");
+        expect(goq_draw_with(data, 441, 21, given, out, 0, &count) == GOQ_NO_SUCH_STRUCT, "drawing");
+        expect(goq_draw_with_length(data, 441, 21, given, &count) == GOQ_NO_SUCH_STRUCT, "length");
+        expect(goq_encode_several(data, 1, given, modules, 0, &symbol, &count) == GOQ_NO_SUCH_STRUCT, "several");
+    }
+}
+
 /* At each of these scales a buffer of as many bytes as goq_draw_length says is enough for the largest symbol, and one of a byte less is not. */
 static void lengths(void)
 {
@@ -121,9 +145,10 @@ static void lengths(void)
     expect(!goq_encode(data, 2953, GOQ_L, modules, sizeof modules, &symbol) && symbol.version == 40, "the largest symbol");
     for (uint32_t format = 0; format < GOQ_FORMATS; format++)
         for (uint32_t scale = 1; scale < 50; scale += scale < 9 ? 1 : 6) {
+            const int is_refused = format <= GOQ_LIGHT_HALF_BLOCKS && 185 * scale > 4096;
             size_t length = 0, written = 0;
             uint32_t answer = goq_draw_length(modules, 177 * 177, 177, 4, scale, format, &length);
-            expect(answer == GOQ_OK, "the length of a picture");
+            expect(answer == (is_refused ? GOQ_NO_SUCH_SIZE : GOQ_OK), "the length of a picture");
             uint8_t *file = malloc(length + 1);
             if (answer || !file)
                 continue;
@@ -135,6 +160,31 @@ static void lengths(void)
         }
 }
 
+/* With no more memory than 300 MB: pictures of 4 GB have a length, and are not drawn into short buffers; a single dark module in half blocks of 4,096 pixels a
+   side has 2,048 lines; and squares of more modules than any symbol has are refused by their number alone. */
+static void costs(void)
+{
+    const struct rlimit most = {300000000, 300000000};
+    const uint8_t dark = 1;
+    const goq_square square = {modules, SIZE_MAX};
+    goq_any_reading any;
+    uint32_t mask;
+    setrlimit(RLIMIT_AS, &most);
+    expect(!goq_draw_length(modules, 177 * 177, 177, 4, 354, GOQ_GREY, &count) && count == (size_t)65490 * 65490, "grey pixels");
+    expect(!goq_draw_length(modules, 177 * 177, 177, 4, 354, GOQ_PBM, &count) && count == 15 + (size_t)65490 * 8187, "a PBM file");
+    expect(!goq_draw_length(modules, 177 * 177, 177, 4, 65535, GOQ_GREY, &count) && count == (size_t)12123975 * 12123975, "more pixels");
+    for (uint32_t format = 0; format < GOQ_FORMATS; format++) {
+        uint32_t answer = goq_draw(modules, 177 * 177, 177, 4, 354, format, out, 99, &count);
+        expect(answer == (format <= GOQ_LIGHT_HALF_BLOCKS ? GOQ_NO_SUCH_SIZE : GOQ_SMALL_BUFFER), "a short buffer");
+    }
+    expect(!goq_draw_length(&dark, 1, 1, 0, 4096, GOQ_HALF_BLOCKS, &count) && count == 2048 * (4096 * 3 + 1) - 1, "half blocks");
+    expect(goq_draw_length(&dark, 1, 1, 0, 4097, GOQ_HALF_BLOCKS, &count) == GOQ_NO_SUCH_SIZE, "more of them");
+    expect(goq_read_any(modules, SIZE_MAX, out, 9, &any) == GOQ_NOT_READ, "in any position");
+    expect(goq_read_text(modules, SIZE_MAX, out, 9, &any.reading) == GOQ_NO_SUCH_SIDE, "a text");
+    expect(goq_mask(modules, SIZE_MAX, &mask) == GOQ_NO_SUCH_SIDE, "a mask");
+    expect(goq_join(&square, 1, out, 9, &count, &place) == GOQ_NO_SUCH_SIDE && place == 0, "a part");
+}
+
 int main(void)
 {
     orders_of_versions();
@@ -142,7 +192,9 @@ int main(void)
     orders_of_several();
     orders_of_segments();
     orders_of_drawings();
+    structs();
     lengths();
+    costs();
     printf("%d wrong\n", wrong);
     return wrong != 0;
 }

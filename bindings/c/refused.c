@@ -27,13 +27,13 @@ static uint32_t content(int number)
 {
     const goq_field network[] = {GOQ_TEXT("mynetwork"), GOQ_TEXT("my;pass")};
     const goq_field card[GOQ_VCARD_FIELDS] = {[GOQ_VCARD_NAME] = GOQ_TEXT("Frank Dawson"), [GOQ_VCARD_FAMILY] = GOQ_TEXT("Dawson, F.")};
-    const goq_field key[] = {GOQ_TEXT("alice@google.com"), GOQ_TEXT("JBSWY3DPEHPK3PXP"), GOQ_TEXT("Example"), GOQ_NUMBER(GOQ_SHA256)};
-    const goq_field days[] = {GOQ_TEXT("AF23B2@example.com"), GOQ_NUMBER(19970610172345), GOQ_NUMBER(20000228), GOQ_NUMBER(20000229)};
+    const goq_field key[] = {GOQ_TEXT("alice@google.com"), GOQ_TEXT("JBSWY3DPEHPK3PXP"), GOQ_TEXT("Example"), GOQ_TEXT("SHA256"), GOQ_TEXT(""), GOQ_TEXT(""), GOQ_TEXT("0")};
+    const goq_field days[GOQ_EVENT_FIELDS] = {GOQ_TEXT("20000228"), GOQ_TEXT("20000229"), [GOQ_EVENT_UID] = GOQ_TEXT("AF23B2@example.com"), [GOQ_EVENT_STAMP] = GOQ_TEXT("19970610T172345Z")};
     const goq_element lot = {"10", 2, "ABCD1234", 8}, elements[] = {lot, lot};
     if (number == CONTENTS - 1)
         return goq_gs1(elements, 2, outputs.buffer, sizeof outputs.buffer, &outputs.count, &outputs.place);
     const struct { uint32_t kind; const goq_field *fields; size_t count; } all[] = {
-        {GOQ_WIFI, network, 2}, {GOQ_VCARD, card, GOQ_VCARD_FIELDS}, {GOQ_HOTP, key, 4}, {GOQ_DAYS, days, 4}};
+        {GOQ_WIFI, network, 2}, {GOQ_VCARD, card, GOQ_VCARD_FIELDS}, {GOQ_OTP, key, 7}, {GOQ_EVENT, days, GOQ_EVENT_FIELDS}};
     return goq_content(all[number].kind, all[number].fields, all[number].count, outputs.buffer, sizeof outputs.buffer, &outputs.count, &outputs.place);
 }
 

@@ -91,6 +91,7 @@ static void shapes(void)
     goq_drawing drawing;
     drawing = GOQ_DRAWING;
     expect(drawing.size == sizeof drawing && drawing.format == GOQ_PNG, "a drawing that is assigned");
+    expect(goq_version() == GOQ_VERSION && GOQ_VERSION == 10000, "the version");
     expect(!strcmp(goq_strerror(GOQ_NO_ROOM), "no symbol of the asked kind holds the data"), "the text of an answer");
     expect(!strcmp(goq_strerror(31), "no answer of this library"), "the text of none");
     expect(goq_width(0) == 0 && goq_width(1) == 21 && goq_width(40) == 177 && goq_width(GOQ_MICRO(1)) == 11 && goq_width(45) == 0, "widths");
@@ -103,7 +104,7 @@ static void shapes(void)
 static void drawings(void)
 {
     static const char *starts[GOQ_FORMATS] = {
-        [GOQ_SVG] = "<?xml", [GOQ_PIC] = "maxpswid", [GOQ_PNG] = "\x89PNG", [GOQ_EPS] = "%!PS-Adobe-3.0 EPSF-3.0\n", [GOQ_PBM] = "P4\n58 58\n"};
+        [GOQ_SVG] = "<?xml", [GOQ_PIC] = "maxpswid", [GOQ_PNG] = "\x89PNG", [GOQ_EPS] = "%!PS-Adobe-3.0 EPSF-3.0\n", [GOQ_PBM] = "P4\n58 58\n", [GOQ_PGM] = "P5\n58 58\n255\n\xff"};
     static uint8_t exact[20000];
     size_t count = 5, length = 0;
     goq_encode((const uint8_t *)"01234567", 8, GOQ_M, modules, sizeof modules, &symbol);

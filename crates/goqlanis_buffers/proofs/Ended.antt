@@ -33,7 +33,7 @@ ended version level v l segments list e r room named levelled exists same writte
           let long = refused DataTooLong (refusal ∙ ap (λ (b : Bool). if b then None else Some DataTooLong) (lt-leb used (capacity v l) more)) in
           let both = sym given ∙ long in
           let is : e ≡ DataTooLong = cc in
-          subst reported_as (sym is) (inr (l, (v, (levelled, (named, (taken, more))))))
+          subst reported_as (sym is) (inr (l, (v, (levelled, (named, (exists, (taken, more)))))))
       | inr less ↦
           let is = accepted (refusal ∙ ap (λ (b : Bool). if b then None else Some DataTooLong) (le-leb used (capacity v l) less)) in
           subst reported_as (sym is) (inr tt)

@@ -5,6 +5,8 @@ pub mod Taken
 pub mod Reported
 pub mod Fields
 mod Joined
+pub mod BySide
+pub mod OnePicture
 pub mod Parts
 pub mod Refused
 pub mod Squares

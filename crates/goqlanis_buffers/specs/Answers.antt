@@ -1,29 +1,26 @@
 -- What the calls for C answer: 0, or the number of a refusal; and the cause of each refusal.
-use Rattle.std.specs.Prelude.{◌≡◌, ◌≢◌, ◌⊎◌, ◌+◌, ◌*◌, ◌^◌, ◌<◌, ◌≤◌, ◌-◌, ◌==◌, ⊤, ℕ, pos, Bool, List, [], ◌∷◌, length, chars, false, IsUtf8, Option, Some, None, slice_get, if◌then◌else◌}
+use Rattle.std.specs.Prelude.{◌≡◌, ◌≢◌, ◌⊎◌, ◌+◌, ◌*◌, ◌^◌, ◌<◌, ◌≤◌, ◌-◌, ◌==◌, ⊤, ℕ, pos, Bool, List, [], ◌∷◌, length, chars, false, IsTrue, IsUtf8, Option, Some, None, slice_get, if◌then◌else◌}
 use Rattle.qrcode_types.specs.Versions.{has_level}
 use Rattle.qrcode_types.specs.declared.types.EcLevel.{EcLevel}
+use Rattle.qrcode_types.specs.declared.types.QrError.{QrError}
 use Rattle.qrcode_types.specs.declared.types.Version.{Version}
 use Rattle.qrcode_types.specs.declared.types.Version.TheVariants.{Normal}
-use Rattle.qrcode_bits.specs.Cuts.{IsCut}
 use Rattle.qrcode_bits.specs.Choice.{Holds}
 use Rattle.qrcode_bits.specs.Manners.{rank, HoldsAs}
 use Rattle.qrcode_bits.specs.Refusals.{data_limit}
 use Rattle.qrcode_bits.specs.declared.bits.manner.Manner.{Manner}
-use Rattle.qrcode_bits.specs.declared.optimize.Segment.{Segment}
+use Rattle.qrcode.specs.Acceptance.{IsRefusedAt}
 use Rattle.qrcode.specs.Reading.{ReadsOnly}
 use Rattle.qrcode.specs.Texts.{ShowsTextOnly}
-use Rattle.qrcode_reader.specs.Positions.{seen}
 use Rattle.qrcode_reader.specs.Readings.{HasNoVersion, HasNoFormat, HasDamagedBlock, ShowsNothing, SpellsNothing}
-use Rattle.qrcode_reader.specs.declared.positions.Position.{Position}
 use Rattle.qrcode_render.specs.Shades.{colors_of}
 use Rattle.goqlanis_core.specs.Formats.{format_numbered}
-use Rattle.goqlanis_buffers.specs.Drawings.{is_sayable, IsDrawn}
+use Rattle.goqlanis_buffers.specs.Drawings.{has_side, is_sayable, IsDrawn}
 use Rattle.goqlanis_buffers.specs.declared.pictures.Drawing.{Drawing}
 use Rattle.goqlanis_core.specs.declared.formats.Format.{Format}
-use Rattle.goqlanis_core.specs.declared.formats.Format.TheVariants.{Png}
 use Rattle.goqlanis_buffers.specs.Names.{level_named, version_named}
-use Rattle.goqlanis_buffers.specs.Readings.{IsReadNowhere}
-use Rattle.goqlanis_buffers.specs.Segments.{HasNoRoom, HaveNoRoom, IsFirstRefused}
+use Rattle.goqlanis_buffers.specs.Readings.{Anywhere, IsReadAnywhere, IsReadNowhere}
+use Rattle.goqlanis_buffers.specs.Segments.{HasNoRoom, HaveNoRoom, IsFirstRefused, refusal_in}
 use Rattle.goqlanis_buffers.specs.Symbols.{ExceedsRoom, IsAutomaticSymbol, IsSymbolIn, IsSegmentsSymbol, IsTextSymbol}
 use Rattle.goqlanis_buffers.specs.declared.segments.Segment as by_hand
 use Rattle.goqlanis_buffers.specs.declared.answers.Refusal.{Refusal}
@@ -47,40 +44,50 @@ IsAutomaticCause level bytes room SmallBuffer = ExceedsRoom (IsAutomaticSymbol l
 IsAutomaticCause level bytes room OutOfMemory = ⊤
 IsAutomaticCause level bytes room refusal = ⊥
 
--- why bytes are refused at a version and level, where the buffer has so much room.
+-- a level and a version have these numbers
+pub record AreNamed (version level : ℕ) : Type 0 where
+  pub named : Version
+  pub at : EcLevel
+  pub named_version : version_named version ≡ Some named
+  pub named_level : level_named level ≡ Some at
+
+-- they have, the bytes are no more than are taken, and the constructor of that version and level refuses them
+pub record HasNoSymbolIn (version level : ℕ) (bytes : List ℕ) (refusal : Refusal) : Type 0 where
+  pub named : AreNamed version level
+  pub short : length bytes ≤ data_limit
+  pub error : QrError
+  pub reported : refusal ≡ refusal_in error
+  pub cause : IsRefusedAt named.named named.at bytes error
+
+-- Why bytes are refused at a version and level, where the buffer has so much room: the first of these causes that applies. Those of the constructor are `NoMode`,
+-- `LevelNotInVersion` and `NoRoom`, in this order; memory may be refused behind the first.
 abbrev pub IsCauseIn : ℕ → ℕ → List ℕ → ℕ → Refusal → Type 0
 IsCauseIn version level bytes room NoSuchLevel = level_named level ≡ None
-IsCauseIn version level bytes room NoSuchVersion = version_named version ≡ None
-IsCauseIn version level bytes room LevelNotInVersion =
-    (l : EcLevel) × ((v : Version) × ((level_named level ≡ Some l) × ((version_named version ≡ Some v) × (has_level v l ≡ false))))
-IsCauseIn version level bytes room TooLong = data_limit < length bytes
-IsCauseIn version level bytes room NoMode =
-    (v : Version) × ((version_named version ≡ Some v) × ((segments : List Segment) → ¬ IsCut v bytes segments))
-IsCauseIn version level bytes room NoRoom =
-    (l : EcLevel) × ((v : Version) × ((level_named level ≡ Some l) × ((version_named version ≡ Some v) × (¬ Holds v l bytes))))
+IsCauseIn version level bytes room NoSuchVersion = (level_named level ≢ None) × (version_named version ≡ None)
+IsCauseIn version level bytes room TooLong = AreNamed version level × (data_limit < length bytes)
 IsCauseIn version level bytes room SmallBuffer = ExceedsRoom (IsSymbolIn version level bytes) room
-IsCauseIn version level bytes room OutOfMemory = ⊤
-IsCauseIn version level bytes room refusal = ⊥
+IsCauseIn version level bytes room refusal = HasNoSymbolIn version level bytes refusal
 
--- one of the segments is refused in a version, the first that can be, and this is why
-abbrev pub IsSegmentCause : ℕ → List by_hand.Segment → Refusal → Type 0
-IsSegmentCause version segments refusal = (v : Version) × ((version_named version ≡ Some v) × IsFirstRefused v segments refusal)
+-- one of the segments is refused in a version that has the level, the first that can be, and this is why
+abbrev pub IsSegmentCause : ℕ → ℕ → List by_hand.Segment → Refusal → Type 0
+IsSegmentCause version level segments refusal =
+    (l : EcLevel) × ((v : Version) × ((level_named level ≡ Some l) × ((version_named version ≡ Some v) × (IsTrue (has_level v l) × IsFirstRefused v segments refusal))))
 
 -- why all together are refused at a version and level, where the buffer has so much room
 abbrev pub IsJointCause : ℕ → ℕ → List by_hand.Segment → ℕ → Refusal → Type 0
 IsJointCause version level segments room NoSuchLevel = level_named level ≡ None
-IsJointCause version level segments room NoSuchVersion = version_named version ≡ None
+IsJointCause version level segments room NoSuchVersion = (level_named level ≢ None) × (version_named version ≡ None)
 IsJointCause version level segments room LevelNotInVersion =
     (l : EcLevel) × ((v : Version) × ((level_named level ≡ Some l) × ((version_named version ≡ Some v) × (has_level v l ≡ false))))
 IsJointCause version level segments room NoRoom =
-    (l : EcLevel) × ((v : Version) × ((level_named level ≡ Some l) × ((version_named version ≡ Some v) × HaveNoRoom v l segments)))
+    (l : EcLevel) × ((v : Version) × ((level_named level ≡ Some l) × ((version_named version ≡ Some v) × (IsTrue (has_level v l) × HaveNoRoom v l segments))))
 IsJointCause version level segments room SmallBuffer = ExceedsRoom (IsSegmentsSymbol version level segments) room
 IsJointCause version level segments room OutOfMemory = ⊤
 IsJointCause version level segments room refusal = ⊥
 
 -- why segments are refused at a version and level, where the buffer has so much room
 abbrev pub IsSegmentsCause : ℕ → ℕ → List by_hand.Segment → ℕ → Refusal → Type 0
-IsSegmentsCause version level segments room refusal = IsSegmentCause version segments refusal ⊎ IsJointCause version level segments room refusal
+IsSegmentsCause version level segments room refusal = IsSegmentCause version level segments refusal ⊎ IsJointCause version level segments room refusal
 
 -- a refusal of one of the segments in the first Normal version that has room for those before it
 pub record IsLasting (l : EcLevel) (segments : List by_hand.Segment) (refusal : Refusal) : Type 0 where
@@ -102,29 +109,42 @@ IsLeastCause level segments refusal =
 -- why a text is refused at a level, where the least Normal version is chosen and the buffer has so much room
 abbrev pub IsTextCause : Manner → ℕ → List ℕ → ℕ → Refusal → Type 0
 IsTextCause m level bytes room NoSuchLevel = level_named level ≡ None
-IsTextCause m level bytes room NotText = ¬ IsUtf8 bytes
+IsTextCause m level bytes room NotText = (level_named level ≢ None) × (¬ IsUtf8 bytes)
 IsTextCause m level bytes room NoRoom =
-    (l : EcLevel) × ((level_named level ≡ Some l) × ((v : Version) → rank (Normal (pos 1)) ≤ rank v → ¬ HoldsAs m v l bytes))
+    (l : EcLevel) × ((level_named level ≡ Some l) × (IsUtf8 bytes × ((v : Version) → rank (Normal (pos 1)) ≤ rank v → ¬ HoldsAs m v l bytes)))
 IsTextCause m level bytes room SmallBuffer = ExceedsRoom (IsTextSymbol m level bytes) room
 IsTextCause m level bytes room OutOfMemory = ⊤
 IsTextCause m level bytes room refusal = ⊥
 
-abbrev pub IsNoPngSide : ℕ → Type 0  -- a PNG file has no side of so many pixels
-IsNoPngSide side = (side ≡ 0) ⊎ (2 ^ 16 ≤ side)
+-- a drawing is a struct of this library, in a format of it, of modules that are a square
+pub record IsOfSquare (modules : List ℕ) (width : ℕ) (d : Drawing) (f : Format) : Type 0 where
+  pub size : d.size ≡ 28
+  pub format : format_numbered d.format ≡ Some f
+  pub square : length modules ≡ width * width
 
--- why modules of a width are not drawn, where the buffer has so much room
+-- the picture may have its size
+pub record HasSize (width : ℕ) (d : Drawing) (f : Format) : Type 0 where
+  pub side : width + 2 * d.zone < 2 ^ 16
+  pub scale_least : 1 ≤ d.scale
+  pub scale_most : d.scale < 2 ^ 16
+  pub pixels : IsTrue (has_side f ((width + 2 * d.zone) * d.scale))
+
+-- a picture of these bytes is what is asked for
+pub record IsPicture (modules : List ℕ) (width : ℕ) (d : Drawing) (bytes : List ℕ) : Type 0 where
+  pub named : Format
+  pub asked : IsOfSquare modules width d named
+  pub sized : HasSize width d named
+  pub drawn : IsDrawn named modules width d bytes
+
+-- why modules of a width are not drawn, where the buffer has so much room: the first of these causes that applies
 abbrev pub IsDrawingCause : List ℕ → ℕ → Drawing → ℕ → Refusal → Type 0
 IsDrawingCause modules width d room NoSuchStruct = d.size ≢ 28
-IsDrawingCause modules width d room NoSuchFormat = format_numbered d.format ≡ None
-IsDrawingCause modules width d room NotSquare = length modules ≢ width * width
-IsDrawingCause modules width d room NoSuchSize =
-    (d.scale ≡ 0) ⊎ ((2 ^ 16 ≤ d.scale) ⊎ ((2 ^ 16 ≤ width + 2 * d.zone)
-    ⊎ ((format_numbered d.format ≡ Some Png) × IsNoPngSide ((width + 2 * d.zone) * d.scale))))
-IsDrawingCause modules width d room NotInFormat =
-    (f : Format) × ((format_numbered d.format ≡ Some f) × (is_sayable f d ≡ false))
-IsDrawingCause modules width d room SmallBuffer =
-    (f : Format) × ((bytes : List ℕ) × ((format_numbered d.format ≡ Some f) × (IsDrawn f modules width d bytes × (room < length bytes))))
-IsDrawingCause modules width d room OutOfMemory = ⊤
+IsDrawingCause modules width d room NoSuchFormat = (d.size ≡ 28) × (format_numbered d.format ≡ None)
+IsDrawingCause modules width d room NotSquare = (d.size ≡ 28) × ((format_numbered d.format ≢ None) × (length modules ≢ width * width))
+IsDrawingCause modules width d room NoSuchSize = (f : Format) × (IsOfSquare modules width d f × (¬ HasSize width d f))
+IsDrawingCause modules width d room NotInFormat = (f : Format) × (IsOfSquare modules width d f × (HasSize width d f × (is_sayable f d ≡ false)))
+IsDrawingCause modules width d room SmallBuffer = (bytes : List ℕ) × (IsPicture modules width d bytes × (room < length bytes))
+IsDrawingCause modules width d room OutOfMemory = (f : Format) × (IsOfSquare modules width d f × (HasSize width d f × IsTrue (is_sayable f d)))
 IsDrawingCause modules width d room refusal = ⊥
 
 abbrev pub IsReadingCause : List ℕ → ℕ → Refusal → Type 0  -- why modules are not read into a buffer of so much room
@@ -139,9 +159,7 @@ IsReadingCause modules room refusal = ⊥
 -- why modules are read in no position, or not into a buffer of so much room
 abbrev pub IsAnyReadingCause : List ℕ → ℕ → Refusal → Type 0
 IsAnyReadingCause modules room NotRead = IsReadNowhere (colors_of modules)
-IsAnyReadingCause modules room SmallBuffer =
-    (p : Position) × ((is_inverted : Bool) × ((side : ℕ) × ((bytes : List ℕ)
-    × (ReadsOnly (seen side p is_inverted (colors_of modules)) bytes × (room < length bytes)))))
+IsAnyReadingCause modules room SmallBuffer = (any : Anywhere) × (IsReadAnywhere (colors_of modules) any × (room < length any.bytes))
 IsAnyReadingCause modules room OutOfMemory = ⊤
 IsAnyReadingCause modules room refusal = ⊥
 

@@ -1,22 +1,31 @@
 -- What is asked to be drawn.
-use Rattle.std.specs.Prelude.{◌≡◌, ◌+◌, ◌*◌, ◌^◌, ◌<◌, ◌≤◌, ℕ, List, length, Some}
-use Rattle.goqlanis_core.specs.Formats.{format_numbered}
+use Rattle.std.specs.Prelude.{◌≡◌, ◌+◌, ◌*◌, ◌/◌, ◌++◌, ℕ, List, codes, decimal, length, IsTrue}
 use Rattle.goqlanis_core.specs.declared.formats.Format.{Format}
-use Rattle.goqlanis_buffers.specs.Answers.{IsDrawingCause}
-use Rattle.goqlanis_buffers.specs.Drawings.{IsDrawn}
+use Rattle.goqlanis_buffers.specs.Answers.{HasSize, IsDrawingCause, IsOfSquare, IsPicture}
+use Rattle.goqlanis_buffers.specs.Drawings.{is_sayable}
 use Rattle.goqlanis_buffers.specs.declared.answers.Refusal.{Refusal}
 use Rattle.goqlanis_buffers.specs.declared.pictures.Asked.{Asked}
 
--- the modules are a square, and the picture is within the limits
-pub record IsWithinLimits (a : Asked) : Type 0 where
-  pub square : length a.modules.now ≡ a.width * a.width
-  pub side : a.width + 2 * a.drawing.now.zone < 2 ^ 16
-  pub scale_least : 1 ≤ a.drawing.now.scale
-  pub scale_most : a.drawing.now.scale < 2 ^ 16
-  pub dpi_most : a.drawing.now.dpi < 2 ^ 16
+-- nothing but memory or room in a buffer refuses the picture in a format
+pub record IsDrawable (a : Asked) (f : Format) : Type 0 where
+  pub asked : IsOfSquare a.modules.now a.width a.drawing.now f
+  pub sized : HasSize a.width a.drawing.now f
+  pub sayable : IsTrue (is_sayable f a.drawing.now)
 
 abbrev pub IsPictureFor : Asked → List ℕ → Type 0  -- the picture that is asked for
-IsPictureFor a bytes = (f : Format) × ((format_numbered a.drawing.now.format ≡ Some f) × IsDrawn f a.modules.now a.width a.drawing.now bytes)
+IsPictureFor a bytes = IsPicture a.modules.now a.width a.drawing.now bytes
 
 abbrev pub IsCauseFor : Asked → ℕ → Refusal → Type 0  -- why it is not drawn, where the buffer has so much room
 IsCauseFor a room refusal = IsDrawingCause a.modules.now a.width a.drawing.now room refusal
+
+abbrev pub side_of : Asked → ℕ  -- the pixels along a side
+side_of a = (a.width + 2 * a.drawing.now.zone) * a.drawing.now.scale
+
+abbrev pub pbm_length : ℕ → ℕ  -- the length of a PBM file of so many pixels a side: its head, and rows of eight pixels in a byte
+pbm_length side = length (codes "P4\n" ++ (decimal side ++ (codes " " ++ (decimal side ++ codes "\n")))) + side * ((side + 7) / 8)
+
+abbrev pub pgm_length : ℕ → ℕ  -- the same of a PGM file: its head, and a byte for each pixel
+pgm_length side = length (codes "P5\n" ++ (decimal side ++ (codes " " ++ (decimal side ++ codes "\n255\n")))) + side * side
+
+abbrev pub HasLength : Asked → ℕ → Type 0  -- a picture that is asked for has so many bytes
+HasLength a count = (bytes : List ℕ) × (IsPictureFor a bytes × (count ≡ length bytes))

@@ -3,11 +3,11 @@ use Rattle.std.specs.Prelude.{◌≡◌, ◌≢◌, ℕ, List, length, Some, IsS
 use Rattle.qrcode_bits.specs.Choice.{IsLeastHolding}
 use Rattle.qrcode_bits.specs.declared.bits.manner.Manner.{Manner}
 use Rattle.qrcode.specs.Reading.{ReadsOnly}
-use Rattle.goqlanis_buffers.specs.Answers.{refusal_of, IsAutomaticCause, IsCauseIn, IsDrawingCause, IsLeastCause, IsSegmentsCause, IsTextCause}
+use Rattle.goqlanis_buffers.specs.Answers.{refusal_of, IsAutomaticCause, IsCauseIn, IsDrawingCause, IsLeastCause, IsPicture, IsSegmentsCause, IsTextCause}
 use Rattle.goqlanis_buffers.specs.Answers.{IsAnyReadingCause, IsMaskCause, IsReadingCause, IsTextReadingCause}
 use Rattle.qrcode_render.specs.Shades.{colors_of}
 use Rattle.goqlanis_buffers.specs.Options.{IsOptionsCause, IsSymbolWith}
-use Rattle.goqlanis_buffers.specs.Outputs.{IsLengthOf, IsPictureOf, IsVersionAt, IsWrittenAs}
+use Rattle.goqlanis_buffers.specs.Outputs.{IsFilled, IsVersionAt, IsWrittenAs}
 use Rattle.goqlanis_buffers.specs.Readings.{IsAnyReadInto, IsMaskNumber, IsReadInto, IsTextReadInto}
 use Rattle.goqlanis_buffers.specs.Segments.{IsLeastHeld}
 use Rattle.goqlanis_buffers.specs.Symbols.{IsAutomaticSymbol, IsSegmentsSymbol, IsSymbolIn, IsTextSymbol}
@@ -68,7 +68,8 @@ WritesSegments version level segments old new result =
 -- it writes the picture of modules, and answers its length
 abbrev pub WritesPicture : List ℕ → ℕ → Drawing → List ℕ → List ℕ → Result ℕ Refusal → Type 0
 WritesPicture modules width d old new result =
-    Writes (IsPictureOf modules width d old) (IsDrawingCause modules width d (length old)) old new result
+    Writes (λ new count. (bytes : List ℕ) × (IsPicture modules width d bytes × (IsFilled old new bytes × (count ≡ length bytes))))
+    (IsDrawingCause modules width d (length old)) old new result
 
 -- it writes the bytes of the only reading of a square of modules, and answers what that is beside them
 abbrev pub WritesReading : List ℕ → List ℕ → List ℕ → Result Reading Refusal → Type 0
@@ -88,7 +89,7 @@ TellsMask modules result = Tells (IsMaskNumber modules) (IsMaskCause modules) re
 -- it answers the length of that picture, and refuses whatever room a buffer would have
 abbrev pub TellsLength : List ℕ → ℕ → Drawing → Result ℕ Refusal → Type 0
 TellsLength modules width d result =
-    Tells (IsLengthOf modules width d) (λ refusal. (room : ℕ) → IsDrawingCause modules width d room refusal) result
+    Tells (λ count. (bytes : List ℕ) × (IsPicture modules width d bytes × (count ≡ length bytes))) (λ refusal. (room : ℕ) → IsDrawingCause modules width d room refusal) result
 
 -- it answers how many bytes a square of modules is read as, and refuses whatever room a buffer would have
 abbrev pub TellsReadLength : List ℕ → Result ℕ Refusal → Type 0

@@ -2,7 +2,7 @@
 use Rattle.std.specs.Prelude.{ℕ, ◌==◌, nat_le, ◌&&◌, Bool, false, List, IsTrue, Option, None, Some, if◌then◌else◌}
 use Rattle.qrcode_render.specs.Layout.{layout}
 use Rattle.qrcode_render.specs.Shades.{colors_of}
-use Rattle.goqlanis_core.specs.Formats.{View, IsDrawnIn}
+use Rattle.goqlanis_core.specs.Formats.{View, greatest_side, IsDrawnIn}
 use Rattle.goqlanis_core.specs.declared.formats.Format.{Format}
 use Rattle.goqlanis_core.specs.declared.formats.Format.TheVariants.{Png}
 use Rattle.goqlanis_buffers.specs.Colours.{colour_shade, has_colours}
@@ -28,3 +28,8 @@ is_sayable f d = has_density f d.dpi && has_colours f d.dark d.light
 -- the picture of modules of a width as bytes, which the format can say
 abbrev pub IsDrawn : Format → List ℕ → ℕ → Drawing → List ℕ → Type 0
 IsDrawn f modules width d bytes = IsTrue (is_sayable f d) × IsDrawnIn f (view d) (layout width d.zone d.scale d.scale) (colors_of modules) bytes
+
+-- a picture in the format may have so many pixels a side; a PNG file has some
+abbrev pub has_side : Format → ℕ → Bool
+has_side Png side = nat_le 1 side && nat_le side (greatest_side Png)
+has_side f side = nat_le side (greatest_side f)

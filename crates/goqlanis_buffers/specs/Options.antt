@@ -58,21 +58,37 @@ pub record HasNoMask (o : Options) (bytes : List ℕ) : Type 0 where
   pub named : IsAsked o asked
   pub lacks : IsMaskless asked.mask (IsMadeAs asked bytes)
 
--- what is asked for has no symbol
+-- what is asked for has no symbol, and where it is a text it is UTF-8
 pub record HasNoSymbol (o : Options) (bytes : List ℕ) (refusal : Refusal) : Type 0 where
   pub asked : Asked
   pub named : IsAsked o asked
+  pub text : IsTrue (is_text asked.manner) → IsUtf8 bytes
   pub error : QrError
   pub reported : refusal ≡ refusal_in error
   pub cause : IsRefusedFor asked.choice asked.manner asked.level bytes error
 
--- why data has no symbol that options ask for, where the buffer has so much room
+-- a text is asked for, and the data is none
+pub record IsNoText (o : Options) (bytes : List ℕ) : Type 0 where
+  pub asked : Asked
+  pub named : IsAsked o asked
+  pub text : IsTrue (is_text asked.manner)
+  pub none : ¬ IsUtf8 bytes
+
+-- the struct is one of this library, with the number of a level, and with that of a version too
+abbrev pub HasLevel : Options → Type 0
+HasLevel o = (o.size ≡ 28) × (level_named o.level ≢ None)
+
+abbrev pub HasChoice : Options → Type 0
+HasChoice o = HasLevel o × (choice_named o ≢ None)
+
+-- Why data has no symbol that options ask for, where the buffer has so much room: the first of these causes that applies. Those of `HasNoSymbol` are in the order of
+-- the constructors.
 abbrev pub IsOptionsCause : Options → List ℕ → ℕ → Refusal → Type 0
 IsOptionsCause o bytes room NoSuchStruct = o.size ≢ 28
-IsOptionsCause o bytes room NoSuchLevel = level_named o.level ≡ None
-IsOptionsCause o bytes room NoSuchVersion = choice_named o ≡ None
-IsOptionsCause o bytes room NoSuchManner = manner_named o.manner ≡ None
+IsOptionsCause o bytes room NoSuchLevel = (o.size ≡ 28) × (level_named o.level ≡ None)
+IsOptionsCause o bytes room NoSuchVersion = HasLevel o × (choice_named o ≡ None)
+IsOptionsCause o bytes room NoSuchManner = HasChoice o × (manner_named o.manner ≡ None)
+IsOptionsCause o bytes room NotText = IsNoText o bytes
 IsOptionsCause o bytes room NoSuchMask = HasNoMask o bytes
-IsOptionsCause o bytes room NotText = ¬ IsUtf8 bytes
 IsOptionsCause o bytes room SmallBuffer = ExceedsRoom (IsSymbolWith o bytes) room
 IsOptionsCause o bytes room refusal = HasNoSymbol o bytes refusal

@@ -6,11 +6,7 @@ use Rattle.qrcode_types.specs.declared.types.Color.{Color}
 use Rattle.qrcode_types.specs.declared.types.EcLevel.{EcLevel}
 use Rattle.qrcode_types.specs.declared.types.Version.{Version}
 use Rattle.qrcode.specs.Code.{Code}
-use Rattle.goqlanis_core.specs.Formats.{format_numbered}
-use Rattle.goqlanis_buffers.specs.Drawings.{IsDrawn}
-use Rattle.goqlanis_core.specs.declared.formats.Format.{Format}
 use Rattle.goqlanis_buffers.specs.Names.{level_named, version_named}
-use Rattle.goqlanis_buffers.specs.declared.pictures.Drawing.{Drawing}
 use Rattle.goqlanis_buffers.specs.declared.symbols.Symbol.{Symbol}
 
 abbrev pub module_bytes : List Color → List ℕ  -- modules as bytes, a one for a dark one
@@ -35,19 +31,6 @@ pub record IsWrittenAs (Asked : Code → Type 0) (old new : List ℕ) (symbol : 
   pub code : Code
   pub asked : Asked code
   pub written : IsWritten code old new symbol
-
--- a picture of modules at the beginning of a buffer, and its length
-pub record IsPictureOf (modules : List ℕ) (width : ℕ) (d : Drawing) (old new : List ℕ) (count : ℕ) : Type 0 where
-  pub named : Format
-  pub bytes : List ℕ
-  pub asked : format_numbered d.format ≡ Some named
-  pub drawn : IsDrawn named modules width d bytes
-  pub filled : IsFilled old new bytes
-  pub counted : count ≡ length bytes
-
-abbrev pub IsLengthOf : List ℕ → ℕ → Drawing → ℕ → Type 0  -- the length of a picture of modules
-IsLengthOf modules width d count =
-    (f : Format) × ((bytes : List ℕ) × ((format_numbered d.format ≡ Some f) × (IsDrawn f modules width d bytes × (count ≡ length bytes))))
 
 -- a number of a version of which something holds at the level of a number
 abbrev pub IsVersionAt : (EcLevel → Version → Type 0) → ℕ → ℕ → Type 0

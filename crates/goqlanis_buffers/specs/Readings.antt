@@ -11,6 +11,7 @@ use Rattle.qrcode.specs.Reading.{Reads}
 use Rattle.qrcode_reader.specs.Formats.{HasFormat}
 use Rattle.qrcode_reader.specs.Positions.{seen, IsFirstReading}
 use Rattle.qrcode_reader.specs.Readings.{IsReading, IsTextReading}
+use Rattle.qrcode_reader.specs.declared.positions.AnyReading as reader
 use Rattle.qrcode_reader.specs.declared.positions.Position.{Position}
 use Rattle.qrcode_reader.specs.declared.positions.Position.TheVariants.{Upright, TurnedLeft, UpsideDown, TurnedRight, Mirrored, Flipped, Transposed, Antitransposed}
 use Rattle.qrcode_reader.specs.declared.correction.WrongCodeword.{WrongCodeword}
@@ -60,14 +61,8 @@ pub record IsReadInto (modules old new : List ℕ) (reading : Reading) : Type 0 
 pub record IsReadNowhere (s : List Color) : Type 0 where
   pub none : (side : ℕ) → side * side ≡ length s → (p : Position) (is_inverted : Bool) (bytes : List ℕ) → ¬ Reads (seen side p is_inverted s) bytes
 
--- the reading of a square in the first position in which it is read
-pub record IsReadAnywhere (s : List Color) (p : Position) (is_inverted : Bool) (v : Version) (l : EcLevel) (k : MaskPattern) (bytes : List ℕ) (wrong : List WrongCodeword) : Type 0 where
-  pub side : ℕ
-  pub square : side * side ≡ length s
-  pub read : IsFirstReading side s p is_inverted v l k bytes wrong
-
--- the same in buffers
-pub record IsAnyReadInto (modules old new : List ℕ) (any : AnyReading) : Type 0 where
+-- what is read of a square in a position
+pub record Anywhere : Type 0 where
   pub position : Position
   pub is_inverted : Bool
   pub version : Version
@@ -75,10 +70,31 @@ pub record IsAnyReadInto (modules old new : List ℕ) (any : AnyReading) : Type 
   pub mask : MaskPattern
   pub bytes : List ℕ
   pub wrong : List WrongCodeword
-  pub read : IsReadAnywhere (colors_of modules) position is_inverted version level mask bytes wrong
-  pub filled : IsFilled old new bytes
-  pub reported : IsReported version level mask (length wrong) (length bytes) any.reading
-  pub position_reported : any.position ≡ position_number position is_inverted
+
+abbrev pub found_anywhere : reader.AnyReading → Anywhere
+found_anywhere any = record {
+  position = any.position;
+  is_inverted = any.is_inverted;
+  version = any.reading.version;
+  level = any.reading.ec_level;
+  mask = any.reading.mask;
+  bytes = any.reading.data.items;
+  wrong = any.reading.wrong.items;
+}
+
+-- the reading of a square in the first position in which it is read
+pub record IsReadAnywhere (s : List Color) (any : Anywhere) : Type 0 where
+  pub side : ℕ
+  pub square : side * side ≡ length s
+  pub read : IsFirstReading side s any.position any.is_inverted any.version any.level any.mask any.bytes any.wrong
+
+-- the same in buffers
+pub record IsAnyReadInto (modules old new : List ℕ) (any : AnyReading) : Type 0 where
+  pub found : Anywhere
+  pub read : IsReadAnywhere (colors_of modules) found
+  pub filled : IsFilled old new found.bytes
+  pub reported : IsReported found.version found.level found.mask (length found.wrong) (length found.bytes) any.reading
+  pub position_reported : any.position ≡ position_number found.position found.is_inverted
 
 -- the text that readers show of a square of modules, and no other, in buffers
 pub record IsTextReadInto (modules old new : List ℕ) (reading : Reading) : Type 0 where

@@ -66,20 +66,38 @@ IsCount (suc n) count = count ≡ suc n
 abbrev pub AreUnheld : ℕ → Named → List ℕ → Type 0
 AreUnheld wanted a bytes = (n count : ℕ) → IsAmong a.versions n → IsCount wanted count → ¬ HoldSeveral a.manner (Normal (pos n)) a.level bytes count
 
--- the same of what is asked for
+-- the same of what is asked for; a text is UTF-8
 pub record HaveNoRoom (s : Several) (bytes : List ℕ) : Type 0 where
   pub asked : Named
   pub named : AreAsked s asked
+  pub text : IsTrue (is_text asked.manner) → IsUtf8 bytes
   pub none : AreUnheld s.count asked bytes
 
--- why data has no symbols that are asked for, where the buffer has so much room
+-- a text is asked for, and the data is none
+pub record IsNoText (s : Several) (bytes : List ℕ) : Type 0 where
+  pub asked : Named
+  pub named : AreAsked s asked
+  pub text : IsTrue (is_text asked.manner)
+  pub none : ¬ IsUtf8 bytes
+
+-- the struct is one of this library, with the number of a level, with versions, and with the number of a manner
+abbrev pub HasLevel : Several → Type 0
+HasLevel s = (s.size ≡ 24) × (level_named s.level ≢ None)
+
+abbrev pub HasVersions : Several → Type 0
+HasVersions s = HasLevel s × IsRange s
+
+abbrev pub HasManner : Several → Type 0
+HasManner s = HasVersions s × (manner_of s.manner ≢ None)
+
+-- why data has no symbols that are asked for, where the buffer has so much room: the first of these causes that applies
 abbrev pub IsSeveralCause : Several → List ℕ → ℕ → Refusal → Type 0
 IsSeveralCause s bytes room NoSuchStruct = s.size ≢ 24
-IsSeveralCause s bytes room NoSuchLevel = level_named s.level ≡ None
-IsSeveralCause s bytes room NoSuchVersion = ¬ IsRange s
-IsSeveralCause s bytes room NoSuchManner = manner_of s.manner ≡ None
-IsSeveralCause s bytes room NoSuchNumber = 16 < s.count
-IsSeveralCause s bytes room NotText = ¬ IsUtf8 bytes
+IsSeveralCause s bytes room NoSuchLevel = (s.size ≡ 24) × (level_named s.level ≡ None)
+IsSeveralCause s bytes room NoSuchVersion = HasLevel s × (¬ IsRange s)
+IsSeveralCause s bytes room NoSuchManner = HasVersions s × (manner_of s.manner ≡ None)
+IsSeveralCause s bytes room NoSuchNumber = HasManner s × (16 < s.count)
+IsSeveralCause s bytes room NotText = IsNoText s bytes
 IsSeveralCause s bytes room NoRoom = HaveNoRoom s bytes
 IsSeveralCause s bytes room SmallBuffer = (codes : List Code) × (AreSymbolsWith s bytes codes × (room < length (modules_of codes)))
 IsSeveralCause s bytes room OutOfMemory = ⊤

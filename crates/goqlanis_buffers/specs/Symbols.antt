@@ -1,5 +1,5 @@
 -- The symbols that the calls for C make.
-use Rattle.std.specs.Prelude.{◌≡◌, ◌⊎◌, ◌<◌, ℕ, pos, List, length, Option, Some}
+use Rattle.std.specs.Prelude.{◌≡◌, ◌⊎◌, ◌<◌, ℕ, pos, List, length, IsUtf8, Option, Some}
 use Rattle.qrcode_types.specs.declared.types.Color.{Color}
 use Rattle.qrcode_types.specs.declared.types.EcLevel.{EcLevel}
 use Rattle.qrcode_types.specs.declared.types.Version.{Version}
@@ -25,8 +25,9 @@ pub record IsAutomaticSymbol (level : ℕ) (bytes : List ℕ) (code : Code) : Ty
   pub asked : level_named level ≡ Some code.level
   pub chosen : IsChosenSymbol code.version code.level bytes code.modules
 
--- the symbol that is chosen for a text at a level of a number
+-- the symbol that is chosen for a text, which is UTF-8, at a level of a number
 pub record IsTextSymbol (m : Manner) (level : ℕ) (bytes : List ℕ) (code : Code) : Type 0 where
+  pub text : IsUtf8 bytes
   pub asked : level_named level ≡ Some code.level
   pub chosen : IsChosenAs m code.version code.level bytes code.modules
 

@@ -1,6 +1,4 @@
 pub mod Answers
 pub mod Contents
 pub mod Elements
-pub mod Forms
 pub mod Given
-pub mod Values

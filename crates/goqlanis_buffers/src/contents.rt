@@ -2,9 +2,7 @@
 //! a caller who numbers their kinds.
 
 pub mod answers;
+mod checks;
 pub mod elements;
-pub mod forms;
 pub mod given;
-mod texts;
-mod values;
 pub mod writing;

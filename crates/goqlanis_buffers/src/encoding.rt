@@ -83,6 +83,7 @@ fn automatic(alloc: Global, bytes: &[u8], level: u32) -> Result<QrCode, Refusal>
 }
 
 // The symbol of bytes, of a version and level of these numbers.
+#[tactic(auto, using(crate::proofs::Refused::refused_in))]
 fn in_version(alloc: Global, bytes: &[u8], version: u32, level: u32) -> Result<QrCode, Refusal>
     ensures { Tells (IsSymbolIn version level bytes.now)
         (λ refusal. (room : ℕ) → IsCauseIn version level bytes.now room refusal) result }
@@ -96,5 +97,8 @@ fn in_version(alloc: Global, bytes: &[u8], version: u32, level: u32) -> Result<Q
     if bytes.len() > DATA_LIMIT {
         return Err(Refusal::TooLong);
     }
-    Ok(QrCode::with_version(alloc, bytes, version, ec_level)?)
+    match QrCode::with_version(alloc, bytes, version, ec_level) {
+        Ok(code) => Ok(code),
+        Err(error) => Err(Refusal::from(error)),
+    }
 }

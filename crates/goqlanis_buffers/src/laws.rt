@@ -1,6 +1,11 @@
 //! The laws of the types that no call stands for, on the contract of a function that does nothing.
 
-ghost use Rattle.std.specs.Prelude.{◌≡◌, ◌↔◌, IsTrue};
+ghost use Rattle.std.specs.Prelude.{◌≡◌, ◌≢◌, ◌↔◌, ℕ, List, IsTrue};
+ghost use Rattle.qrcode_types.specs.declared.types.Color.{Color};
+ghost use Rattle.qrcode_render.specs.Layout.{Layout};
+ghost use Rattle.goqlanis_core.specs.Formats.{View, IsDrawnIn};
+ghost use Rattle.goqlanis_core.specs.declared.formats.Format.{Format};
+ghost use Rattle.goqlanis_core.specs.declared.formats.Format.TheVariants.{Png, SvgPath};
 ghost use Rattle.goqlanis_buffers.specs.declared.answers.Refusal.{Refusal};
 ghost use Rattle.goqlanis_buffers.specs.declared.contents.answers.Refusal as of_contents;
 
@@ -12,4 +17,12 @@ pub fn equality()
     ensures refusals { (a b : Refusal) → IsTrue (⟦<Refusal as PartialEq>⟧.eq a b) ↔ (a ≡ b) }
     ensures of_contents { (a b : of_contents.Refusal)
         → IsTrue (⟦<ContentRefusal as PartialEq>⟧.eq a b) ↔ (a ≡ b) }
+{}
+
+/// A drawing has one picture in a format other than PNG and SVG of one path, which are defined by what
+/// they show: its length is that of whatever call draws it.
+#[tactic(auto, using(crate::proofs::OnePicture::one_picture))]
+pub fn pictures()
+    ensures one { (f : Format) (v : View) (at : Layout) (s : List Color) (a b : List ℕ)
+        → f ≢ Png → f ≢ SvgPath → IsDrawnIn f v at s a → IsDrawnIn f v at s b → a ≡ b }
 {}

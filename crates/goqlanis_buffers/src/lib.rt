@@ -8,6 +8,7 @@ pub mod contents;
 pub mod encoding;
 pub mod joining;
 pub mod laws;
+mod lengths;
 pub mod names;
 pub mod options;
 pub mod pictures;

@@ -123,6 +123,7 @@ pub(crate) fn asked_by(options: &Options) -> Result<Asked, Refusal>
 pub(crate) fn is_sound(manner: Manner, bytes: &[u8]) -> bool
     ensures text { IsTrue result → IsTrue (is_text manner) → IsUtf8 bytes.now }
     ensures other { result ≡ false → ¬ IsUtf8 bytes.now }
+    ensures asked { result ≡ false → IsTrue (is_text manner) }
 {
     match manner {
         Manner::Bytes => true,

@@ -1,17 +1,18 @@
 //! Pictures in buffers.
 
-ghost use Rattle.std.specs.Prelude.{◌≡◌, ◌<◌, ◌^◌, ℕ, Some, IfOk, IfErr, OnOk, IsOkUnless, IsTrue};
+ghost use Rattle.std.specs.Prelude.{◌≡◌, ◌<◌, ◌≤◌, ◌↔◌, ◌^◌, ℕ, length, IfOk, IfErr, IsOkUnless, IsTrue};
 ghost use Rattle.std.specs.Bool.{OnTrue};
 ghost use Rattle.qrcode_types.specs.declared.types.QrError.TheVariants.{OutOfMemory};
 ghost use Rattle.qrcode_render.specs.Shades.{colors_of};
-ghost use Rattle.goqlanis_core.specs.Formats.{format_numbered};
 ghost use Rattle.goqlanis_buffers.specs.Colours.{colour_name};
 ghost use Rattle.goqlanis_buffers.specs.Calls.{TellsLength, WritesPicture};
-ghost use Rattle.goqlanis_buffers.specs.Asking.{IsCauseFor, IsPictureFor, IsWithinLimits};
-ghost use Rattle.goqlanis_buffers.specs.Drawings.{density, is_sayable, plain, IsDrawn};
+ghost use Rattle.goqlanis_buffers.specs.Answers.{HasSize};
+ghost use Rattle.goqlanis_buffers.specs.Asking.{IsCauseFor, IsDrawable, IsPictureFor};
+ghost use Rattle.goqlanis_buffers.specs.Drawings.{density, has_side, is_sayable, plain, IsDrawn};
 
 use crate::answers::Refusal;
 use crate::colours::{BLACK, WHITE, has_colours, ink_of, name_of};
+use crate::lengths::known_length;
 use crate::symbols::{colors_of, fill};
 use goqlanis_core::formats::{Format, format_numbered};
 use goqlanis_core::picture::Picture;
@@ -70,57 +71,68 @@ pub struct Asked<'a> {
 
 /// Writes a picture at the beginning of a buffer, and answers its length.
 ///
-/// An error is `NoSuchStruct`, `NoSuchFormat`, `NotSquare`, `NoSuchSize`, `NotInFormat`,
-/// `SmallBuffer` or `OutOfMemory`; then the buffer is as it was.
+/// An error is the first that applies of `NoSuchStruct`, `NoSuchFormat`, `NotSquare`, `NoSuchSize`,
+/// `NotInFormat` and `SmallBuffer`, or `OutOfMemory`; then the buffer is as it was. Where the length
+/// follows from the side, nothing is drawn that has no room.
 pub fn put_picture(alloc: Global, asked: &Asked<'_>, out: &mut [u8]) -> Result<usize, Refusal>
     ensures { WritesPicture asked.now.modules.now asked.now.width asked.now.drawing.now
         out.old out.new result }
 {
-    let bytes = match picture_of(alloc, asked) {
+    let bytes = match picture_within(alloc, asked, out.len()) {
         Ok(bytes) => bytes,
         Err(refusal) => return Err(refusal),
     };
-    if out.len() < bytes.len() {
-        return Err(Refusal::SmallBuffer);
-    }
     fill(out, &bytes);
     Ok(bytes.len())
 }
 
-/// The length of a picture.
-///
-/// An error is `NoSuchStruct`, `NoSuchFormat`, `NotSquare`, `NoSuchSize`, `NotInFormat` or
-/// `OutOfMemory`.
-pub fn length_of(alloc: Global, asked: &Asked<'_>) -> Result<usize, Refusal>
-    ensures { TellsLength asked.now.modules.now asked.now.width asked.now.drawing.now result }
-{
-    match picture_of(alloc, asked) {
-        Ok(bytes) => Ok(bytes.len()),
-        Err(refusal) => Err(refusal),
-    }
-}
-
-// A picture.
-fn picture_of(alloc: Global, asked: &Asked<'_>) -> Result<Vec<u8>, Refusal>
-    ensures made { IfOk result (λ bytes. IsPictureFor asked.now bytes.items) }
-    ensures causes { (room : ℕ) → IfErr result (IsCauseFor asked.now room) }
+// A picture that has no more bytes than there is room for.
+fn picture_within(alloc: Global, asked: &Asked<'_>, room: usize) -> Result<Vec<u8>, Refusal>
+    ensures picture { IfOk result (λ bytes. IsPictureFor asked.now bytes.items) }
+    ensures room { IfOk result (λ bytes. length bytes.items ≤ room) }
+    ensures causes { IfErr result (IsCauseFor asked.now room) }
 {
     let format = match format_of(asked) {
         Ok(format) => format,
         Err(refusal) => return Err(refusal),
     };
+    match known_length(alloc, asked, format) {
+        Ok(Some(length)) if room < length => return Err(Refusal::SmallBuffer),
+        Ok(_) => {}
+        Err(_) => return Err(Refusal::OutOfMemory),
+    }
     match drawn(alloc, asked, format) {
+        Ok(bytes) if room < bytes.len() => Err(Refusal::SmallBuffer),
         Ok(bytes) => Ok(bytes),
         Err(_) => Err(Refusal::OutOfMemory),
     }
 }
 
-// The format of a number, where modules are a square and the picture is within the limits.
+/// The length of a picture.
+///
+/// An error is the first that applies of `NoSuchStruct`, `NoSuchFormat`, `NotSquare`, `NoSuchSize`
+/// and `NotInFormat`, or `OutOfMemory`.
+pub fn length_of(alloc: Global, asked: &Asked<'_>) -> Result<usize, Refusal>
+    ensures { TellsLength asked.now.modules.now asked.now.width asked.now.drawing.now result }
+{
+    let format = match format_of(asked) {
+        Ok(format) => format,
+        Err(refusal) => return Err(refusal),
+    };
+    match known_length(alloc, asked, format) {
+        Ok(Some(length)) => return Ok(length),
+        Ok(None) => {}
+        Err(_) => return Err(Refusal::OutOfMemory),
+    }
+    match drawn(alloc, asked, format) {
+        Ok(bytes) => Ok(bytes.len()),
+        Err(_) => Err(Refusal::OutOfMemory),
+    }
+}
+
+// The format of a number, where nothing but memory refuses the picture.
 fn format_of(asked: &Asked<'_>) -> Result<Format, Refusal>
-    ensures format { IfOk result (λ format.
-        format_numbered asked.now.drawing.now.format ≡ Some format) }
-    ensures sayable { IfOk result (λ format. IsTrue (is_sayable format asked.now.drawing.now)) }
-    ensures limits { OnOk result (IsWithinLimits asked.now) }
+    ensures drawable { IfOk result (IsDrawable asked.now) }
     ensures causes { (room : ℕ) → IfErr result (IsCauseFor asked.now room) }
 {
     let drawing = asked.drawing;
@@ -133,18 +145,32 @@ fn format_of(asked: &Asked<'_>) -> Result<Format, Refusal>
     if asked.modules.len() as u64 != u64::from(asked.width) * u64::from(asked.width) {
         return Err(Refusal::NotSquare);
     }
-    let side = u64::from(asked.width) + 2 * u64::from(drawing.zone);
-    if drawing.scale == 0 || drawing.scale > 65_535 || side > 65_535 {
-        return Err(Refusal::NoSuchSize);
-    }
-    let pixels = side * u64::from(drawing.scale);
-    if matches!(format, Format::Png) && (pixels == 0 || pixels > 65_535) {
+    if !has_size(format, asked.width, drawing) {
         return Err(Refusal::NoSuchSize);
     }
     if !is_sayable(format, drawing) {
         return Err(Refusal::NotInFormat);
     }
     Ok(format)
+}
+
+// Whether a picture of modules of this width may have its size.
+fn has_size(format: Format, width: u32, drawing: &Drawing) -> bool
+    ensures size { IsTrue result ↔ HasSize width drawing.now format }
+{
+    let side = u64::from(width) + 2 * u64::from(drawing.zone);
+    if drawing.scale == 0 || drawing.scale > 65_535 || side > 65_535 {
+        return false;
+    }
+    has_side(format, side * u64::from(drawing.scale))
+}
+
+// Whether a picture in a format may have so many pixels a side.
+fn has_side(format: Format, pixels: u64) -> bool
+    ensures value { result ≡ has_side format pixels }
+{
+    let is_png = matches!(format, Format::Png);
+    !(is_png && pixels == 0) && pixels <= u64::from(format.greatest_side())
 }
 
 // Whether a format has the colours, and names dots per inch where they are given.
@@ -160,12 +186,10 @@ fn is_sayable(format: Format, drawing: &Drawing) -> bool
     drawing.dpi <= most && has_colours(format, drawing.dark, drawing.light)
 }
 
-// A picture in a format. Refuses with `OutOfMemory` alone.
+// A picture in a format, as many bytes as `length_by_side` says. Refuses with `OutOfMemory` alone.
 fn drawn(alloc: Global, asked: &Asked<'_>, format: Format) -> QrResult<Vec<u8>>
-    requires limits { IsWithinLimits asked.now }
-    requires sayable { IsTrue (is_sayable format asked.now.drawing.now) }
-    ensures drawing { IfOk result (λ bytes. IsDrawn format asked.now.modules.now asked.now.width
-        asked.now.drawing.now bytes.items) }
+    requires drawable { IsDrawable asked.now format }
+    ensures picture { IfOk result (λ bytes. IsPictureFor asked.now bytes.items) }
     ensures memory { IsOkUnless result OutOfMemory }
 {
     let colors = colors_of(alloc, asked.modules)?;
@@ -182,8 +206,7 @@ fn draw_named<'a>(
     modules: &'a [Color],
     names: (&'a str, &'a str),
 ) -> QrResult<Vec<u8>>
-    requires limits { IsWithinLimits asked.now }
-    requires sayable { IsTrue (is_sayable format asked.now.drawing.now) }
+    requires drawable { IsDrawable asked.now format }
     requires modules { modules.now ≡ colors_of asked.now.modules.now }
     requires dark { names.0.now ≡ colour_name asked.now.drawing.now.dark }
     requires light { names.1.now ≡ colour_name asked.now.drawing.now.light }

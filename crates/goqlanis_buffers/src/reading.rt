@@ -10,7 +10,7 @@ ghost use Rattle.goqlanis_buffers.specs.Answers.{IsAnyReadingCause, IsMaskCause,
 ghost use Rattle.goqlanis_buffers.specs.Calls.{TellsMask, TellsReadLength, WritesAnyReading, WritesReading, WritesTextReading};
 ghost use Rattle.qrcode_render.specs.Shades.{colors_of};
 ghost use Rattle.goqlanis_buffers.specs.declared.answers.Refusal.TheVariants.{NoFormat};
-ghost use Rattle.goqlanis_buffers.specs.Readings.{mask_number_in, position_number, IsReadAnywhere, IsReadNowhere, IsReported};
+ghost use Rattle.goqlanis_buffers.specs.Readings.{mask_number_in, position_number, found_anywhere, IsReadAnywhere, IsReadNowhere, IsReported};
 
 use crate::answers::Refusal;
 use crate::names::{level_number, version_number};
@@ -191,15 +191,12 @@ fn format_of(alloc: Global, modules: &[u8]) -> Result<Format, Refusal>
     ensures named { IfOk result (λ f. HasFormat f.version (colors_of modules.now) f.level f.mask) }
     ensures causes { IfErr result (IsMaskCause modules.now) }
 {
-    if version_of(modules.len()).is_none() {
+    let Some(version) = version_of(modules.len()) else {
         return Err(Refusal::NoSuchSide);
-    }
-    let Ok(colors) = colors_of(alloc, modules) else {
-        return Err(Refusal::OutOfMemory);
     };
-    match version_of(colors.len()) {
-        Some(version) => format_in(version, &colors),
-        None => Err(Refusal::NoSuchSide),
+    match colors_of(alloc, modules) {
+        Ok(colors) => format_in(version, &colors),
+        Err(_) => Err(Refusal::OutOfMemory),
     }
 }
 
@@ -225,9 +222,8 @@ fn format_in(version: Version, colors: &[Color]) -> Result<Format, Refusal>
 // What is read of a square in any position.
 #[tactic(auto, using(crate::proofs::Known::nowhere))]
 fn read_any_square(alloc: Global, modules: &[u8]) -> Result<FoundAnywhere, Refusal>
-    ensures reading { IfOk result (λ any. IsReadAnywhere (colors_of modules.now) any.position
-        any.is_inverted any.reading.version any.reading.ec_level any.reading.mask
-        any.reading.data.items any.reading.wrong.items) }
+    ensures reading { IfOk result (λ any.
+        IsReadAnywhere (colors_of modules.now) (found_anywhere any)) }
     ensures exists { IfOk result (λ any.
         IsTrue (has_level any.reading.version any.reading.ec_level)) }
     ensures causes { (room : ℕ) → IfErr result (IsAnyReadingCause modules.now room) }
@@ -248,9 +244,8 @@ fn read_any_square(alloc: Global, modules: &[u8]) -> Result<FoundAnywhere, Refus
 // The first reading of a square, where there is one.
 #[tactic(auto, using(crate::proofs::Known::existing))]
 fn first_reading(alloc: Global, colors: &[Color]) -> Result<Option<FoundAnywhere>, AllocError>
-    ensures reading { IfOk result (λ found. IfSome found (λ any. IsReadAnywhere colors.now
-        any.position any.is_inverted any.reading.version any.reading.ec_level any.reading.mask
-        any.reading.data.items any.reading.wrong.items)) }
+    ensures reading { IfOk result (λ found. IfSome found (λ any.
+        IsReadAnywhere colors.now (found_anywhere any))) }
     ensures exists { IfOk result (λ found. IfSome found (λ any.
         IsTrue (has_level any.reading.version any.reading.ec_level))) }
     ensures nowhere { IfOk result (λ found. IfNone found (IsReadNowhere colors.now)) }

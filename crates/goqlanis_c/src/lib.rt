@@ -8,6 +8,7 @@ mod elements;
 mod encoding;
 mod pictures;
 mod reading;
+mod release;
 mod segments;
 mod several;
 mod shape;

@@ -37,8 +37,7 @@ pub extern "C" fn goq_draw(
     )
 }
 
-/// The length of the picture that `goq_draw` would write, to `count`; of PNG that of a file that shows
-/// the picture.
+/// The length of the picture that `goq_draw` would write, to `count`.
 ///
 /// 0, or the number of a `Refusal`: `NoSuchFormat`, `NotSquare`, `NoSuchSize` or `OutOfMemory`. Then
 /// `count` is as it was.

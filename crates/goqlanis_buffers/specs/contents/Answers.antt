@@ -1,7 +1,7 @@
 -- What the call for C answers: 0, or the number of a refusal.
 use Rattle.std.specs.Prelude.{◌≡◌, ℕ, Some}
 use Rattle.qrcode_contents.specs.declared.fields.errors.Cause.{Cause}
-use Rattle.qrcode_contents.specs.declared.fields.errors.Cause.TheVariants.{Empty, TooLong, TooShort, ControlCharacter, Character, CheckDigits, Range, Unused}
+use Rattle.qrcode_contents.specs.declared.fields.errors.Cause.TheVariants.{Empty, TooLong, TooShort, ControlCharacter, Character, CheckDigits, Range, Unused, Decimals, Word}
 use Rattle.qrcode_gs1.specs.declared.errors.Cause as of_elements
 use Rattle.qrcode_gs1.specs.declared.errors.Cause.TheVariants as element
 use Rattle.goqlanis_buffers.specs.Answers.{refusal_of}
@@ -17,6 +17,8 @@ cause_number Character = 38
 cause_number CheckDigits = 39
 cause_number Range = 40
 cause_number Unused = 41
+cause_number Decimals = 44
+cause_number Word = 45
 
 abbrev pub element_number : of_elements.Cause → ℕ  -- the number of a cause of an element
 element_number element.Character = 38

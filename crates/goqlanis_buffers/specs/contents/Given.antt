@@ -1,16 +1,38 @@
 -- The fields that C gives.
-use Rattle.std.specs.Prelude.{◌≡◌, ℕ, ℤ, pos, unsigned_abs, List, [], IsUtf8, Some, slice_get, unwrap_or}
+use Rattle.std.specs.Prelude.{◌≡◌, ℕ, ◌<◌, nat_lt, Bool, List, [], Option, Some, None, Result, Ok, Err, slice_get, unwrap_or, if◌then◌else◌}
 use Rattle.std.specs.Option.{option_map}
+use Rattle.std.specs.Str.{is_utf8}
+use Rattle.qrcode_contents.specs.declared.fields.errors.Field.{Field}
+use Rattle.qrcode_payloads.specs.Kinds.{fields_of, place_of}
+use Rattle.qrcode_payloads.specs.declared.kinds.Kind.{Kind}
+use Rattle.goqlanis_buffers.specs.declared.contents.answers.Refusal.{Refusal}
+use Rattle.goqlanis_buffers.specs.declared.contents.answers.Refusal.TheVariants.{NotText, NoSuchField}
 use Rattle.goqlanis_buffers.specs.declared.contents.given.Item.{Item}
 
-abbrev pub AreTexts : List Item → Type 0  -- all are UTF-8
-AreTexts given = (i : ℕ) (g : Item) → slice_get given i ≡ Some g → IsUtf8 g.bytes.now
-
-abbrev pub text_at : List Item → ℕ → List ℕ  -- the text at a place, empty where none is given
+abbrev pub text_at : List Item → ℕ → List ℕ  -- the bytes at a place, none where none are given
 text_at given i = unwrap_or (option_map (λ g. g.bytes.now) (slice_get given i)) []
 
-abbrev pub signed_at : List Item → ℕ → ℤ  -- the number at a place, 0 where none is given
-signed_at given i = unwrap_or (option_map (λ g. g.number) (slice_get given i)) (pos 0)
+abbrev pub valid_text : List ℕ → List ℕ  -- bytes that are UTF-8, and nothing of others
+valid_text bytes = if is_utf8 bytes then bytes else []
 
-abbrev pub number_at : List Item → ℕ → ℕ  -- the same without its sign
-number_at given i = unsigned_abs (signed_at given i)
+abbrev pub texts_of : Kind → List Item → Field → List ℕ  -- the text of each field of a kind, by its place
+texts_of kind given field = valid_text (text_at given (place_of (fields_of kind) field))
+
+-- what refuses a field by itself, at a place of a kind with so many
+abbrev pub field_refusal : ℕ → ℕ → Item → Option Refusal
+field_refusal count place g = if nat_lt place count then (if is_utf8 g.bytes.now then None else Some (NotText place)) else Some (NoSuchField place)
+
+abbrev pub passed : Option Refusal → Result (Unit {0}) Refusal  -- the answer of a check that refuses so
+passed None = Ok tt
+passed (Some refusal) = Err refusal
+
+abbrev pub AreTaken : ℕ → List Item → ℕ → Type 0  -- nothing refuses so many fields by themselves
+AreTaken count given n = (i : ℕ) → i < n → (g : Item) → slice_get given i ≡ Some g → field_refusal count i g ≡ None
+
+-- the first field that is wrong by itself, and how
+pub record IsFirstWrong (count : ℕ) (given : List Item) (refusal : Refusal) : Type 0 where
+  pub place : ℕ
+  pub field : Item
+  pub at : slice_get given place ≡ Some field
+  pub before : AreTaken count given place
+  pub wrong : field_refusal count place field ≡ Some refusal

@@ -42,6 +42,8 @@ fn cause_number(cause: Cause) -> u32
         Cause::CheckDigits => 39,
         Cause::Range => 40,
         Cause::Unused => 41,
+        Cause::Decimals => 44,
+        Cause::Word => 45,
     }
 }
 

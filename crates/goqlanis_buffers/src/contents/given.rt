@@ -1,50 +1,53 @@
 //! The fields that C gives.
 
-ghost use Rattle.std.specs.Prelude.{◌≡◌, ◌≤◌, unsigned_abs};
-ghost use Rattle.goqlanis_buffers.specs.contents.Given.{AreTexts, text_at, number_at, signed_at};
+ghost use Rattle.std.specs.Prelude.{◌≡◌};
+ghost use Rattle.goqlanis_buffers.specs.contents.Given.{text_at, valid_text, texts_of};
 
-/// A field: a text or a number.
+use qrcode_contents::fields::errors::Field;
+use qrcode_payloads::given::Given;
+use qrcode_payloads::kinds::{Kind, fields_of, place_of};
+
+/// A field.
 #[repr(C)]
 #[derive(Clone, Copy)]
 pub struct Item<'a> {
-    /// The number; 0 in a text.
-    pub number: i64,
-    /// The text, in UTF-8; empty in a number.
+    /// The text, in UTF-8; empty where none is given.
     pub bytes: &'a [u8],
 }
 
-/// The text at a place; empty where none is given.
-pub(crate) fn text_at<'a>(given: &[Item<'a>], place: usize) -> &'a str
-    requires { AreTexts given.now }
-    ensures value { result.now ≡ text_at given.now place }
+// Bytes that are UTF-8, and nothing of others.
+fn valid_text(bytes: &[u8]) -> &str
+    ensures { result.now ≡ valid_text bytes.now }
+{
+    match str::from_utf8(bytes) {
+        Ok(text) => text,
+        Err(_) => "",
+    }
+}
+
+// The text at a place; empty where none is given, or where it is not UTF-8.
+fn valid_at<'a>(given: &[Item<'a>], place: usize) -> &'a str
+    ensures { result.now ≡ valid_text (text_at given.now place) }
 {
     match given.get(place) {
-        Some(field) => str::from_utf8(field.bytes).unwrap_or(""),
+        Some(field) => valid_text(field.bytes),
         None => "",
     }
 }
 
-/// The number at a place; 0 where none is given.
-pub(crate) fn signed_at(given: &[Item<'_>], place: usize) -> i64
-    ensures value { result ≡ signed_at given.now place }
-{
-    match given.get(place) {
-        Some(field) => field.number,
-        None => 0,
+/// Fields, each at its place.
+#[derive(Drop)]
+pub(crate) struct Placed<'g, 'a> {
+    /// The kind whose fields they are.
+    pub(crate) kind: Kind,
+    /// What is given for them.
+    pub(crate) given: &'g [Item<'a>],
+}
+
+impl Given for Placed<'_, '_> {
+    ghost fields = { λ placed. texts_of placed.kind placed.given.now };
+
+    fn text(&self, field: Field) -> &str {
+        valid_at(self.given, place_of(fields_of(self.kind), field))
     }
-}
-
-/// The number at a place, without its sign.
-pub(crate) fn number_at(given: &[Item<'_>], place: usize) -> u64
-    ensures value { result ≡ number_at given.now place }
-{
-    signed_at(given, place).unsigned_abs()
-}
-
-/// The number at a place, in a smaller type.
-pub(crate) fn small_at(given: &[Item<'_>], place: usize) -> i32
-    requires fits { unsigned_abs (signed_at given.now place) ≤ 180000000 }
-    ensures value { result ≡ signed_at given.now place }
-{
-    signed_at(given, place) as i32
 }

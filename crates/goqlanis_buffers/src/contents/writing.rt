@@ -1,14 +1,18 @@
 //! The text of fields, in a buffer.
 
 ghost use Rattle.std.specs.Prelude.{◌≡◌, ℕ, length, string_bytes, IfOk, IfErr, OnErr};
-ghost use Rattle.goqlanis_buffers.specs.contents.Contents.{IsCause, IsContent, IsContentIn};
+ghost use Rattle.qrcode_contents.specs.fields.Refusals.{Answers};
+ghost use Rattle.qrcode_payloads.specs.Texts.{payload_text, IsReadAs};
+ghost use Rattle.goqlanis_buffers.specs.contents.Contents.{refusal_for, IsCause, IsContent, IsContentIn};
+ghost use Rattle.goqlanis_buffers.specs.contents.Given.{texts_of};
 
 use crate::contents::answers::Refusal;
-use crate::contents::forms::{check, forms_of, kind_named, place_of};
-use crate::contents::given::Item;
-use crate::contents::texts::text_of;
+use crate::contents::checks::check;
+use crate::contents::given::{Item, Placed};
 use crate::symbols::fill;
-use qrcode_contents::fields::errors::ContentError;
+use qrcode_contents::fields::errors::{ContentError, ContentResult};
+use qrcode_payloads::kinds::{Kind, fields_of, kind_named, place_of};
+use qrcode_payloads::texts::text_of;
 use std::alloc::Global;
 
 /// Writes the text of fields of the kind of a number at the beginning of a buffer, and answers its
@@ -39,13 +43,25 @@ fn content(alloc: Global, kind: u32, given: &[Item<'_>]) -> Result<String, Refus
     let Some(kind) = kind_named(kind) else {
         return Err(Refusal::NoSuchContent);
     };
-    let forms = forms_of(kind);
-    check(forms, given)?;
-    match text_of(alloc, kind, given) {
+    let fields = fields_of(kind);
+    check(fields.len(), given)?;
+    match payload(alloc, kind, given) {
         Ok(text) => Ok(text),
         Err(ContentError::Refused(field, cause)) => {
-            Err(Refusal::Wrong(place_of(forms, field), cause))
+            Err(Refusal::Wrong(place_of(fields, field), cause))
         }
         Err(ContentError::OutOfMemory) => Err(Refusal::OutOfMemory),
     }
+}
+
+// The text of fields of a kind, where each is right by itself.
+#[tactic(auto, unfolding(crate::specs::contents::Contents::refusal_for))]
+fn payload(alloc: Global, kind: Kind, given: &[Item<'_>]) -> ContentResult<String>
+    ensures reads { Answers (refusal_for kind given.now) result (IsReadAs kind
+        (texts_of kind given.now)) }
+    ensures value { IfOk result (λ text. string_bytes text
+        ≡ payload_text kind (texts_of kind given.now)) }
+{
+    let placed = Placed { kind, given };
+    text_of(alloc, kind, &placed)
 }

@@ -1,0 +1,42 @@
+//! What is wrong with fields by themselves.
+
+ghost use Rattle.std.specs.Prelude.{◌≡◌, length, IfErr, OnOk};
+ghost use Rattle.std.specs.Str.{is_utf8};
+ghost use Rattle.goqlanis_buffers.specs.contents.Given.{field_refusal, passed, IsFirstWrong, AreTaken};
+
+use crate::contents::answers::Refusal;
+use crate::contents::given::Item;
+
+// Whether bytes are UTF-8.
+fn is_text(bytes: &[u8]) -> bool
+    ensures { result ≡ is_utf8 bytes.now }
+{
+    match str::from_utf8(bytes) {
+        Ok(_) => true,
+        Err(_) => false,
+    }
+}
+
+// Refuses what no field at a place can be, where the kind has this many.
+fn check_field(count: usize, place: usize, field: &Item<'_>) -> Result<(), Refusal>
+    ensures { result ≡ passed (field_refusal count place field.now) }
+{
+    if place >= count {
+        return Err(Refusal::NoSuchField(place));
+    }
+    if !is_text(field.bytes) {
+        return Err(Refusal::NotText(place));
+    }
+    Ok(())
+}
+
+/// Refuses the first field that is wrong by itself, where the kind has this many.
+pub(crate) fn check(count: usize, given: &[Item<'_>]) -> Result<(), Refusal>
+    ensures taken { OnOk result (AreTaken count given.now (length given.now)) }
+    ensures refused { IfErr result (IsFirstWrong count given.now) }
+{
+    for place in 0..given.len() {
+        check_field(count, place, &given[place])?;
+    }
+    Ok(())
+}
