@@ -1,4 +1,5 @@
 """Colours, as callers write them."""
+import difflib
 from typing import Any, Tuple, Union
 
 from . import _checks
@@ -73,11 +74,12 @@ def _brightness(number: int) -> int:
 
 def _parts(name: str, word: str) -> bytes:
     """Red, green, blue and perhaps opacity of a word."""
-    digits = _NAMES.get(word, word[1:] if word.startswith("#") else "")
+    digits = _NAMES.get(word, word[word.startswith("#"):])
     if len(digits) not in (3, 4, 6, 8) or not _is_hexadecimal(digits):
-        is_bare = len(word) in (3, 6) and _is_hexadecimal(word)
-        raise ValueError(f"{name}: {shown(word)} is no colour: take "
-                         + (f"'#{word}'" if is_bare else "'#rrggbb', or a name as CSS has it"))
+        near = difflib.get_close_matches(word, _NAMES, 1)
+        raise ValueError(f"{name}: {shown(word)} is no colour: "
+                         + (f"did you mean {shown(near[0])}?" if near else
+                            "take '#rrggbb', or a name as CSS has it"))
     return bytes.fromhex(digits if len(digits) > 4 else "".join(it * 2 for it in digits))
 
 

@@ -24,7 +24,7 @@ class Kind(NamedTuple):
 KINDS = {"txt": Kind(goq.HALF_BLOCKS, True, 1), "png": Kind(goq.PNG, False, 8),
          "svg": Kind(goq.SVG_PATH, True, 8), "eps": Kind(goq.EPS, True, 8),
          "pic": Kind(goq.PIC, True, 1), "pbm": Kind(goq.PBM, False, 8),
-         "pgm": Kind(goq.GREY, False, 8)}
+         "pgm": Kind(goq.PGM, False, 8)}
 # Formats that are no files: half blocks for dark grounds, and rows of pixels.
 OTHERS = {"light": Kind(goq.LIGHT_HALF_BLOCKS, True, 1), "grey": Kind(goq.GREY, False, 8)}
 MOST_SIDE = 65535
@@ -59,8 +59,6 @@ def drawn(modules: bytes, width: int, usual_zone: int, name: str, look: Look) ->
     out = _room(count.value)
     place = (ctypes.c_char * len(out)).from_buffer(out)
     refuse(library.goq_draw_with(*given, place, len(out), ctypes.byref(count)))
-    if name == "pgm":
-        return b"P5\n%d %d\n255\n" % (side, side) + out
     return bytes(out)
 
 

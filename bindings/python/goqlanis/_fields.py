@@ -1,8 +1,8 @@
-"""The fields of contents, as the library takes them, and what it says of them."""
+"""The fields of payloads, as the library takes them, and what it says of them."""
 import ctypes
 import datetime
 import decimal
-from typing import Any, Sequence, Tuple, Union
+from typing import Any, Sequence, Tuple, Type, Union
 
 from . import _checks
 from . import _numbers as goq
@@ -13,9 +13,7 @@ from .errors import NoRoom, TooLong, WrongField, refuse
 
 Number = Union[int, float, str, decimal.Decimal]
 
-# Fields that are numbers; all others are texts.
-NUMBERS = {"security", "hidden", "amount", "currency", "latitude", "longitude", "algorithm",
-           "digits", "period", "counter", "stamp", "begin", "end"}
+Time = Union[str, datetime.date]
 
 
 class EmptyField(WrongField):
@@ -44,13 +42,23 @@ class WrongCheckDigits(WrongField):
 
 
 class OutOfRange(WrongField):
-    """The number is outside what the format allows."""
-    why = "the number is outside what the format allows"
+    """The number or time is outside what the format allows."""
+    why = "it is outside what the format allows"
 
 
 class Unused(WrongField):
-    """The field has no place beside what else is given."""
-    why = "it has no place beside what else is given"
+    """The field cannot be given together with the others."""
+    why = "it cannot be given together with the other fields"
+
+
+class TooManyDecimals(WrongField):
+    """The number has more digits after its point than the format allows."""
+    why = "it has too many digits after the point"
+
+
+class UnknownWord(WrongField):
+    """The field is none of the words that it may be."""
+    why = "it is not one of the values that it may have"
 
 
 class UnknownIdentifier(WrongField):
@@ -67,13 +75,14 @@ _CAUSES = {goq.FIELD_EMPTY: EmptyField, goq.FIELD_TOO_LONG: TooLong,
            goq.FIELD_TOO_SHORT: TooShort, goq.FIELD_CONTROL: ControlCharacter,
            goq.FIELD_CHARACTER: WrongCharacter, goq.FIELD_CHECK_DIGITS: WrongCheckDigits,
            goq.FIELD_RANGE: OutOfRange, goq.FIELD_UNUSED: Unused,
+           goq.FIELD_DECIMALS: TooManyDecimals, goq.FIELD_WORD: UnknownWord,
            goq.NO_SUCH_IDENTIFIER: UnknownIdentifier, goq.ELEMENT_LENGTH: WrongLength}
 for _each in (WrongField, *_CAUSES.values()):
     if _each is not TooLong:
         _each.__module__ = "goqlanis.contents"
 
 
-def text_of(kind: int, fields: Sequence[Tuple[str, Union[str, int]]]) -> str:
+def text_of(kind: int, fields: Sequence[Tuple[str, str]]) -> str:
     """The text of a kind, of names and values in the library's order."""
     rows = (Field * len(fields))(*(_field(name, value) for name, value in fields))
     out, count, place = _room(), ctypes.c_size_t(), ctypes.c_size_t()
@@ -83,12 +92,9 @@ def text_of(kind: int, fields: Sequence[Tuple[str, Union[str, int]]]) -> str:
     return bytes(out[:count.value]).decode()
 
 
-def _field(name: str, value: Union[str, int]) -> Field:
-    """A field, which is a number or a text by its name."""
-    if name not in NUMBERS:
-        data = _checks.text(name, value).encode()
-        return Field(0, data, len(data))
-    return Field(_checks.whole(name, value, -2**63, 2**63 - 1, lambda _: OutOfRange(name)), b"", 0)
+def _field(name: str, value: str) -> Field:
+    data = _checks.text(name, value).encode()
+    return Field(data, len(data))
 
 
 def elements_of(elements: Any) -> Any:
@@ -127,7 +133,7 @@ def _string(elements: Any) -> Tuple[int, bytes, int]:
 
 def _wrong(answer: int, element: Element) -> str:
     """What is wrong with an element."""
-    identifier, why = element.identifier.decode(), _CAUSES[answer].why
+    identifier, why = repr(element.identifier.decode())[1:-1], _CAUSES[answer].why
     if answer == 42 and identifier.startswith("("):
         return f": write {_checks.cut(identifier.strip('()'))} without brackets"
     if answer == 42:
@@ -145,6 +151,32 @@ def _lengths(identifier: bytes) -> str:
     return " to ".join(map(str, sorted({taken[0], taken[-1]})))
 
 
+# What would help, by the name of a field, in the words of the program.
+_NUMBER = "write digits, after + for an international number"
+_DEGREES = "write degrees as -33.8568"
+_TIME = "write it in UTC as 2026-11-28T14:00Z, or begin and end as days"
+_FORMS = {"iban": "write it as DE89 3704 0044 0532 0130 00",
+          "bic": "it has 8 or 11 letters and digits",
+          "creditor.country": "write two letters, e.g. CH",
+          "debtor.country": "write two letters, e.g. CH", "birthday": "write it as 1970-01-31",
+          "phone": _NUMBER, "number": _NUMBER, "email": "write one address with one @",
+          "address": "write one address with one @", "secret": "write A to Z and 2 to 7",
+          "purpose": "write up to four letters and digits", "issuer": "write it without a colon",
+          "account": "write it without a colon", "amount": "write it as 12 or 12.30",
+          "latitude": _DEGREES, "longitude": _DEGREES, "period": "write a whole number",
+          "counter": "write a whole number", "stamp": _TIME, "begin": _TIME, "end": _TIME}
+_RANGES = {"amount": "0.01 to 999999999.99", "latitude": "-90 to 90", "longitude": "-180 to 180",
+           "period": "1 to 4294967295 seconds"}
+
+
+def _said(kind: Type[WrongField], field: str) -> str:
+    """What is wrong with a field, and what would help; nothing where the cause says all."""
+    if kind is OutOfRange and field in _RANGES:
+        return f"{field}: {kind.why}: {_RANGES[field]}"
+    helps = _FORMS.get(field, "") if kind in (TooLong, TooShort, WrongCharacter) else ""
+    return f"{field}: {kind.why}; {helps}" if helps else ""
+
+
 def _room() -> Any:
     return ctypes.create_string_buffer(BYTES_MAX)
 
@@ -152,48 +184,32 @@ def _room() -> Any:
 def _refuse(answer: int, field: str) -> None:
     """Raises what an answer of the library stands for."""
     if answer in _CAUSES:
-        raise _CAUSES[answer](field)
+        raise _CAUSES[answer](field, _said(_CAUSES[answer], field))
     if answer == 7:
         raise NoRoom(f"no symbol holds a text of more than {BYTES_MAX:,} bytes")
     refuse(answer)
 
 
-def choice(name: str, value: Any, choices: Tuple[Any, ...]) -> int:
-    """The library's number of a choice."""
-    if isinstance(value, bool) or value not in choices:
-        raise ValueError(f"{name} {shown(value)}: take one of {', '.join(map(repr, choices))}")
-    return choices.index(value)
-
-
-def scaled(name: str, value: Number, places: int) -> int:
-    """A number counted in the last of so many decimal places, which it may not pass."""
-    if isinstance(value, bool) or not isinstance(value, (int, float, str, decimal.Decimal)):
+def number(name: str, value: Number) -> str:
+    """A number as its digits, with a point before decimals; a `str` as it is."""
+    if isinstance(value, str):
+        return value
+    if isinstance(value, bool) or not isinstance(value, (int, float, decimal.Decimal)):
         raise TypeError(f"{name} is a number, or one in a str, not {shown(value)}")
-    try:
-        exact = decimal.Decimal(str(value)).scaleb(places)
-        number = int(exact)
-    except (decimal.InvalidOperation, OverflowError, ValueError):
-        raise WrongCharacter(name, f"{name}: {shown(value)} is not a number: write it with a point "
-                                   "and without other marks, as 12.30") from None
-    if number != exact:
-        raise OutOfRange(name, f"{name}: {shown(value)} has more than {places} digits after the "
-                               f"point: round it, as by round({name}, {places})")
-    return number
+    return format(decimal.Decimal(str(value)), "f")
 
 
-def day(name: str, given: Any) -> int:
-    """A day as a number of eight digits."""
-    if not isinstance(given, datetime.date):
-        raise TypeError(f"{name} is a datetime.date or datetime.datetime, not {shown(given)}")
-    return (given.year * 100 + given.month) * 100 + given.day
-
-
-def moment(name: str, given: Any) -> int:
-    """A moment as a number of fourteen digits, in UTC."""
-    if not isinstance(given, datetime.datetime):
-        raise TypeError(f"{name} is a datetime.datetime, not {shown(given)}")
-    if given.tzinfo is None:
-        raise ValueError(f"{name}: {given} has no time zone: take .astimezone(), or "
+def time(name: str, value: Time) -> str:
+    """A day, or a moment in UTC; a `str` as it is."""
+    if isinstance(value, str):
+        return value
+    if not isinstance(value, datetime.date):
+        raise TypeError(f"{name} is a datetime.date, a datetime.datetime or a str, "
+                        f"not {shown(value)}")
+    if not isinstance(value, datetime.datetime):
+        return value.isoformat()
+    if value.tzinfo is None:
+        raise ValueError(f"{name}: {value} has no time zone: take .astimezone(), or "
                          ".replace(tzinfo=datetime.timezone.utc)")
-    utc = given.astimezone(datetime.timezone.utc)
-    return ((day(name, utc) * 100 + utc.hour) * 100 + utc.minute) * 100 + utc.second
+    utc = value.astimezone(datetime.timezone.utc)
+    return utc.replace(tzinfo=None, microsecond=0).isoformat() + "Z"

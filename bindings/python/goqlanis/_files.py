@@ -2,10 +2,10 @@
 import errno
 import io
 import os
+import re
 import secrets
 import stat
-import tempfile
-from typing import Any, Optional, Tuple
+from typing import Any, Optional
 
 
 def write(out: Any, data: bytes, is_text: bool) -> None:
@@ -27,19 +27,64 @@ def write(out: Any, data: bytes, is_text: bool) -> None:
 def _write_whole(path: str, data: bytes) -> None:
     """Writes a file under another name beside it, which nobody else may read, and renames that.
     Links are followed; what is no regular file, or is open already, is written straight.
+
+    Each folder is opened once, and its names are looked up in what is open: a link that takes the
+    place of the folder meanwhile leads nowhere.
     """
-    place, old = _followed(path)
-    is_open = place.startswith(_OPEN)
-    if is_open or old is not None and not stat.S_ISREG(old.st_mode):
-        _write_straight(place, is_open, data)
-        return
-    folder = os.path.dirname(place) or "."
+    for _ in range(40):
+        if _OPEN.match(path):
+            return _write_straight(path, data)
+        above, name = os.path.dirname(path), os.path.basename(path) or "."
+        folder = _opened(above)
+        try:
+            old = _found(folder, name)
+            if old is None or stat.S_ISREG(old.st_mode):
+                return _replace(folder, above, name, old, data)
+            if not stat.S_ISLNK(old.st_mode):
+                return _write_straight(name, data, folder)
+            path = os.path.join(above, os.readlink(name, dir_fd=folder))
+        finally:
+            os.close(folder)
+    raise OSError(errno.ELOOP, os.strerror(errno.ELOOP))
+
+
+# What these name is open already, in this process or another one.
+_OPEN = re.compile("/dev/fd/|/proc/[^/]+/(task/[^/]+/)?fd/")
+
+
+def _opened(folder: str) -> int:
+    """A folder, open for its names alone."""
     try:
-        rights = _usual_rights(folder) if old is None else _kept_rights(old.st_mode)
-        descriptor, beside = tempfile.mkstemp(prefix=".goqlanis-", dir=folder)
+        return os.open(folder or ".", os.O_PATH | os.O_DIRECTORY)
     except OSError as error:
-        why = f"{error.strerror} in the folder" if os.path.isdir(folder) else "there is no folder"
+        why = "there is no folder" if error.errno == errno.ENOENT else f"{error.strerror}:"
         raise OSError(error.errno, f"{why} {os.path.abspath(folder)}") from None
+
+
+def _found(folder: int, name: str) -> Optional[os.stat_result]:
+    """What stands under a name in a folder. Refused is what is neither this user's nor the folder's
+    owner's, where everybody can make files and nobody can remove another's (sticky)."""
+    try:
+        found = os.stat(name, dir_fd=folder, follow_symlinks=False)
+    except FileNotFoundError:
+        return None
+    above = os.fstat(folder)
+    if above.st_mode & 0o1002 == 0o1002 and found.st_uid not in (above.st_uid, os.geteuid()):
+        raise PermissionError(errno.EACCES, "it is another user's, in a folder for everybody: "
+                              "remove it, or take another name")
+    return found
+
+
+def _replace(folder: int, above: str, name: str, old: Optional[os.stat_result],
+             data: bytes) -> None:
+    """Writes a new file in a folder, which `above` names, and renames it."""
+    beside = f".goqlanis-{secrets.token_hex(8)}"
+    try:
+        rights = _usual_rights(folder, beside) if old is None else _kept_rights(old.st_mode)
+        descriptor = _created(folder, beside, 0o600)
+    except OSError as error:
+        why = f"{error.strerror} in the folder {os.path.abspath(above)}"
+        raise OSError(error.errno, why) from None
     try:
         # Between opening and renaming nothing is done by name: another file may have it by then.
         with open(descriptor, "wb") as file:
@@ -49,47 +94,24 @@ def _write_whole(path: str, data: bytes) -> None:
             file.flush()
             os.fchmod(descriptor, rights)
             os.fsync(descriptor)
-        os.replace(beside, place)
+        os.replace(beside, name, src_dir_fd=folder, dst_dir_fd=folder)
     except BaseException:
-        os.unlink(beside)
+        os.unlink(beside, dir_fd=folder)
         raise
 
 
-# What these name is open already, in this process or another one.
-_OPEN = ("/proc/", "/dev/fd/")
+def _created(folder: int, name: str, mode: int) -> int:
+    """A new file, open."""
+    return os.open(name, os.O_CREAT | os.O_EXCL | os.O_WRONLY, mode, dir_fd=folder)
 
 
-def _followed(path: str) -> Tuple[str, Optional[os.stat_result]]:
-    """The end of the links of a path, and what stands there."""
-    for _ in range(40):
-        try:
-            found = os.lstat(path)
-        except FileNotFoundError:
-            return path, None
-        if path.startswith(_OPEN):
-            return path, found
-        folder = os.path.dirname(path)
-        _check_owner(found, os.stat(folder or "."))
-        if not stat.S_ISLNK(found.st_mode):
-            return path, found
-        path = os.path.join(folder, os.readlink(path))
-    raise OSError(errno.ELOOP, os.strerror(errno.ELOOP))
-
-
-def _check_owner(found: os.stat_result, folder: os.stat_result) -> None:
-    """Refuses what is neither this user's nor the folder's owner's, where everybody can make files
-    and nobody can remove another's (sticky)."""
-    if folder.st_mode & 0o1002 == 0o1002 and found.st_uid not in (folder.st_uid, os.geteuid()):
-        raise PermissionError(errno.EACCES, "it is another user's, in a folder for everybody: "
-                              "remove it, or take another name")
-
-
-def _write_straight(place: str, is_open: bool, data: bytes) -> None:
-    """Writes what is no regular file, or behind what is in a file that is open already. A regular
-    file that took its place meanwhile is left alone."""
-    descriptor = os.open(place, os.O_WRONLY | (os.O_APPEND if is_open else 0))
+def _write_straight(place: str, data: bytes, folder: Optional[int] = None) -> None:
+    """Writes what is no regular file, by its name in a folder; or, without a folder, behind what is
+    in a file that is open already. A regular file that took its place meanwhile is left alone."""
+    flags = os.O_WRONLY | (os.O_APPEND if folder is None else 0)
+    descriptor = os.open(place, flags, dir_fd=folder)
     with open(descriptor, "wb") as file:
-        if not is_open and stat.S_ISREG(os.fstat(descriptor).st_mode):
+        if folder is not None and stat.S_ISREG(os.fstat(descriptor).st_mode):
             raise FileExistsError(errno.EEXIST, os.strerror(errno.EEXIST))
         file.write(data)
 
@@ -101,15 +123,14 @@ def _kept_rights(mode: int) -> int:
     return mode & 0o700 | shared << 3 | shared
 
 
-def _usual_rights(folder: str) -> int:
-    """The permissions that a new file gets there by itself: of one without data."""
-    path = os.path.join(folder, f".goqlanis-{secrets.token_hex(8)}")
-    descriptor = os.open(path, os.O_CREAT | os.O_EXCL | os.O_WRONLY, 0o666)
+def _usual_rights(folder: int, name: str) -> int:
+    """The permissions that a new file gets in a folder by itself: of one without data."""
+    descriptor = _created(folder, name, 0o666)
     try:
         return stat.S_IMODE(os.fstat(descriptor).st_mode) & 0o777
     finally:
         os.close(descriptor)
-        os.unlink(path)
+        os.unlink(name, dir_fd=folder)
 
 
 def _keep_owner(descriptor: int, old: os.stat_result) -> None:

@@ -4,6 +4,9 @@ import ctypes.util
 import os
 from typing import Any, Callable, Dict, List
 
+from ._numbers import VERSION
+
+MAJOR = 10000  # what a step of the first number of a version is in its number
 
 _number, _size, _data, _place = (ctypes.c_uint32, ctypes.c_size_t, ctypes.c_char_p,
                                  ctypes.c_void_p)
@@ -55,7 +58,7 @@ class Square(ctypes.Structure):
 
 class Field(ctypes.Structure):
     """goq_field."""
-    _fields_ = [("number", ctypes.c_int64), ("bytes", _data), ("length", _size)]
+    _fields_ = [("bytes", _data), ("length", _size)]
 
 
 class Element(ctypes.Structure):
@@ -94,6 +97,10 @@ def _load() -> ctypes.CDLL:
     if not found:
         raise ImportError("libgoqlanis.so.1 is not there: set GOQLANIS_LIB to its path")
     loaded = ctypes.CDLL(found)
+    own = loaded.goq_version() if hasattr(loaded, "goq_version") else 0
+    if own // MAJOR != VERSION // MAJOR:
+        raise ImportError(f"{found} is not version {VERSION // MAJOR} of libgoqlanis, which this "
+                          "package is for: take the library of the same release")
     for name, arguments in _CALLS.items():
         if not hasattr(loaded, name):
             setattr(loaded, name, _lacking(found, name))

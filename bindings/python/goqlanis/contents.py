@@ -1,5 +1,6 @@
-"""Texts that symbols carry: networks, contacts, payments, links and events. Each is read back as
-exactly its fields.
+"""Payloads of QR codes: networks, contacts, payments, links and events. Each is read back as
+exactly its fields. Account numbers, references, telephone numbers and secrets may have spaces and
+small letters, and amounts a comma.
 
 >>> import goqlanis
 >>> from goqlanis import contents
@@ -17,47 +18,40 @@ Traceback (most recent call last):
 goqlanis.contents.WrongCheckDigits: iban: the check digits do not match: look for a mistyped or \
 swapped digit
 """
-import datetime
 from typing import Any, Iterable, List, NamedTuple, Optional, Tuple
 
 from . import _checks
 from . import _numbers as goq
 from ._checks import shown
-from ._fields import (ControlCharacter, EmptyField, Number, OutOfRange, TooLong, TooShort,
-                      UnknownIdentifier, Unused, WrongCharacter, WrongCheckDigits, WrongField,
-                      WrongLength, choice, day, elements_of, moment, scaled, string_of, text_of)
+from ._fields import (ControlCharacter, EmptyField, Number, OutOfRange, Time, TooLong,
+                      TooManyDecimals, TooShort, UnknownIdentifier, UnknownWord, Unused,
+                      WrongCharacter, WrongCheckDigits, WrongField, WrongLength, elements_of,
+                      number, string_of, text_of, time)
 
 __all__ = ["Party", "wifi", "mecard", "vcard", "payment", "bill", "mail", "geo", "tel", "sms",
-           "totp", "hotp", "event", "gs1", "WrongField", "EmptyField", "TooLong", "TooShort",
-           "ControlCharacter", "WrongCharacter", "WrongCheckDigits", "OutOfRange", "Unused",
-           "UnknownIdentifier", "WrongLength"]
-
-SECURITIES = {None: goq.BY_PASSWORD, "open": goq.OPEN, "nopass": goq.OPEN, "WEP": goq.WEP,
-              "WPA": goq.WPA, "WPA2": goq.WPA, "WPA3": goq.WPA3}
-CURRENCIES = ("CHF", "EUR")
-ALGORITHMS = ("SHA1", "SHA256", "SHA512")
-DIGITS = (6, 8)
+           "totp", "hotp", "event", "upi", "pix", "promptpay", "gs1", "WrongField", "EmptyField",
+           "TooLong", "TooShort", "ControlCharacter", "WrongCharacter", "WrongCheckDigits",
+           "OutOfRange", "Unused", "TooManyDecimals", "UnknownWord", "UnknownIdentifier",
+           "WrongLength"]
 
 
-def wifi(ssid: str, password: str = "", security: Optional[str] = None,
-         hidden: bool = False) -> str:
-    """The text that joins a wireless network: `security` is "open" or "nopass", "WEP", "WPA" or
-    "WPA2", or "WPA3", and else WPA with a password and open without.
+def wifi(ssid: str, password: str = "", security: str = "", hidden: bool = False) -> str:
+    """A Wi-Fi network: `security` is "open" (or "nopass", "none"), "WEP", "WPA" (or "WPA2") or
+    "WPA3", in any case; without it a network with a password has WPA.
 
     >>> wifi('"foo;bar\\\\baz"', hidden=True)
     'WIFI:T:nopass;S:\\\\"foo\\\\;bar\\\\\\\\baz\\\\";H:true;;'
     """
-    at = choice("security", security, tuple(SECURITIES))
-    return text_of(goq.WIFI, [("ssid", ssid), ("password", password),
-                              ("security", [*SECURITIES.values()][at]),
-                              ("hidden", int(_checks.flag("hidden", hidden)))])
+    flag = "true" if _checks.flag("hidden", hidden) else ""
+    return text_of(goq.WIFI, [("ssid", ssid), ("password", password), ("security", security),
+                              ("hidden", flag)])
 
 
 def mecard(family: str, given: str = "", phone: str = "", email: str = "", url: str = "",
            birthday: str = "", note: str = "", street: str = "", city: str = "", region: str = "",
            code: str = "", country: str = "") -> str:
-    """A contact as MECARD: `family` is the family name, or the only one, `birthday` eight digits,
-    as 19700131, and `code` the postal code.
+    """A contact as MECARD: `family` is the family name, or the only one, `birthday` a day as
+    1970-01-31, and `code` the postal code.
 
     >>> mecard("Owen", "Sean", email="srowen@example.com")
     'MECARD:N:Owen,Sean;EMAIL:srowen@example.com;;'
@@ -70,8 +64,10 @@ def mecard(family: str, given: str = "", phone: str = "", email: str = "", url: 
 
 def vcard(name: str, family: str, given: str = "", organisation: str = "", phone: str = "",
           email: str = "", url: str = "", street: str = "", city: str = "", region: str = "",
-          code: str = "", country: str = "", note: str = "") -> str:
-    """A contact as vCard 3.0: `name` is the whole name, as it is shown.
+          code: str = "", country: str = "", note: str = "", title: str = "", birthday: str = "",
+          mobile: str = "", work_phone: str = "", home_phone: str = "") -> str:
+    """A contact as vCard 3.0: `name` is the full name, as it is shown, and `birthday` a day as
+    1970-01-31.
 
     >>> vcard("Frank Dawson", "Dawson", "Frank", email="fdawson@earthlink.net").splitlines()[2:5]
     ['N:Dawson;Frank;;;', 'FN:Frank Dawson', 'EMAIL:fdawson@earthlink.net']
@@ -79,21 +75,23 @@ def vcard(name: str, family: str, given: str = "", organisation: str = "", phone
     return text_of(goq.VCARD, [("name", name), ("family", family), ("given", given),
                                ("organisation", organisation), ("phone", phone), ("email", email),
                                ("url", url), ("street", street), ("city", city), ("region", region),
-                               ("code", code), ("country", country), ("note", note)])
+                               ("code", code), ("country", country), ("note", note),
+                               ("title", title), ("birthday", birthday), ("mobile", mobile),
+                               ("work_phone", work_phone), ("home_phone", home_phone)])
 
 
 def payment(name: str, iban: str, amount: Number, bic: str = "", purpose: str = "",
             reference: str = "", message: str = "", information: str = "") -> str:
     """A SEPA credit transfer (EPC069-12) of an amount in euros, for a symbol of level M and at most
-    version 13: of version 001 with a BIC, and of 002 without. A reference is one of ISO 11649, in
-    place of a message.
+    version 13: of version 001 with a BIC, and of 002 without. A reference is one of ISO 11649,
+    instead of a message.
 
     >>> text = payment("Red Cross of Belgium", "BE72000000001616", "1.00", "BPOTBEB1", "CHAR")
     >>> text.splitlines()[4:8]
     ['BPOTBEB1', 'Red Cross of Belgium', 'BE72000000001616', 'EUR1.00']
     """
     return text_of(goq.PAYMENT, [("name", name), ("iban", iban),
-                                 ("amount", scaled("amount", amount, 2)), ("bic", bic),
+                                 ("amount", number("amount", amount)), ("bic", bic),
                                  ("purpose", purpose), ("reference", reference),
                                  ("message", message), ("information", information)])
 
@@ -119,11 +117,8 @@ def bill(iban: str, creditor: Party, amount: Optional[Number] = None, currency: 
     ...      reference="RF18539007547034").splitlines()[27:]
     ['SCOR', 'RF18539007547034', '', 'EPD']
     """
-    cents = 0 if amount is None else scaled("amount", amount, 2)
-    if amount is not None and cents == 0:
-        raise OutOfRange("amount")
-    return text_of(goq.BILL, [("iban", iban), *_party("creditor", creditor), ("amount", cents),
-                              ("currency", choice("currency", currency, CURRENCIES)),
+    return text_of(goq.BILL, [("iban", iban), *_party("creditor", creditor),
+                              ("amount", _open(amount)), ("currency", currency),
                               ("reference", reference), ("message", message),
                               *(() if debtor is None else _party("debtor", debtor))])
 
@@ -153,8 +148,8 @@ def geo(latitude: Number, longitude: Number) -> str:
     >>> geo(90, -22.43)
     'geo:90,-22.43'
     """
-    return text_of(goq.GEO, [("latitude", scaled("latitude", latitude, 6)),
-                             ("longitude", scaled("longitude", longitude, 6))])
+    return text_of(goq.GEO, [("latitude", number("latitude", latitude)),
+                             ("longitude", number("longitude", longitude))])
 
 
 def tel(number: str) -> str:
@@ -177,16 +172,13 @@ def sms(number: str, body: str = "") -> str:
 
 def totp(account: str, secret: str, issuer: str = "", algorithm: str = "SHA1", digits: int = 6,
          period: int = 30) -> str:
-    """The link of one-time passwords that change every `period` seconds; the secret is in base 32,
-    without spaces and `=`.
+    """The link of one-time passwords that change every `period` seconds; the secret is in base 32.
 
-    >>> totp("alice@google.com", "JBSWY3DPEHPK3PXP", "Example")
+    >>> totp("alice@google.com", "jbsw y3dp ehpk 3pxp", "Example")
     'otpauth://totp/Example:alice@google.com?secret=JBSWY3DPEHPK3PXP&issuer=Example'
     """
-    if period == 0:
-        raise OutOfRange("period")
     key = _key(account, secret, issuer, algorithm, digits)
-    return text_of(goq.TOTP, [*key, ("period", period)])
+    return text_of(goq.OTP, [*key, ("period", number("period", period)), ("counter", "")])
 
 
 def hotp(account: str, secret: str, issuer: str = "", algorithm: str = "SHA1", digits: int = 6,
@@ -197,37 +189,72 @@ def hotp(account: str, secret: str, issuer: str = "", algorithm: str = "SHA1", d
     'otpauth://hotp/alice@google.com?secret=JBSWY3DPEHPK3PXP&algorithm=SHA256&digits=8&counter=0'
     """
     key = _key(account, secret, issuer, algorithm, digits)
-    return text_of(goq.HOTP, [*key, ("counter", counter)])
+    return text_of(goq.OTP, [*key, ("period", ""), ("counter", number("counter", counter))])
 
 
 def _key(account: str, secret: str, issuer: str, algorithm: str,
-         digits: int) -> List[Tuple[str, Any]]:
+         digits: int) -> List[Tuple[str, str]]:
     """The fields that both kinds of one-time passwords have."""
     return [("account", account), ("secret", secret), ("issuer", issuer),
-            ("algorithm", choice("algorithm", algorithm, ALGORITHMS)),
-            ("digits", choice("digits", digits, DIGITS))]
+            ("algorithm", algorithm), ("digits", number("digits", digits))]
 
 
-def event(uid: str, stamp: datetime.datetime, begin: datetime.date, end: datetime.date,
-          summary: str = "", location: str = "", description: str = "") -> str:
-    """An event of a calendar, written at `stamp`: from a moment to a later one, or of whole days,
-    where `begin` and `end` are dates and `end` is the day behind the last. Moments have a time
-    zone.
+def event(begin: Time, end: Time, summary: str = "", location: str = "", description: str = "",
+          uid: str = "", stamp: Time = "") -> str:
+    """A calendar event from one moment to another, or of whole days, where `begin` and `end` are
+    dates and `end` is the day after the last. Moments have a time zone, as
+    "2026-11-28T14:00+01:00" or "2026-11-28T13:00Z". `uid` is an identifier that no other event has, and `stamp` the moment when
+    this was written; both may be left out.
 
     >>> from datetime import datetime, timezone
     >>> begin = datetime(1997, 7, 14, 17, tzinfo=timezone.utc)
-    >>> end = datetime(1997, 7, 15, 4, tzinfo=timezone.utc)
-    >>> event("1@example.com", begin, begin, end, "Bastille Day Party").splitlines()[6:9]
+    >>> event(begin, "1997-07-15T04:00Z", "Bastille Day Party").splitlines()[4:7]
     ['DTSTART:19970714T170000Z', 'DTEND:19970715T040000Z', 'SUMMARY:Bastille Day Party']
     """
-    are_moments = isinstance(begin, datetime.datetime)
-    if are_moments != isinstance(end, datetime.datetime):
-        raise TypeError("begin and end are two moments or two dates")
-    number = moment if are_moments else day
-    return text_of(goq.EVENT if are_moments else goq.DAYS, [
-        ("uid", uid), ("stamp", moment("stamp", stamp)), ("begin", number("begin", begin)),
-        ("end", number("end", end)), ("summary", summary), ("location", location),
-        ("description", description)])
+    return text_of(goq.EVENT, [("begin", time("begin", begin)), ("end", time("end", end)),
+                               ("summary", summary), ("location", location),
+                               ("description", description), ("uid", uid),
+                               ("stamp", time("stamp", stamp))])
+
+
+def upi(payee: str, name: str = "", amount: Optional[Number] = None, note: str = "",
+        reference: str = "", category: str = "") -> str:
+    """A payment by UPI to an address as name@bank, in rupees: with no amount the payer says it.
+    `category` is the code of a merchant, four digits.
+
+    >>> upi("nadeem@npci", "nadeem chinna", 10, "Pay", category="0000")
+    'upi://pay?pa=nadeem@npci&pn=nadeem%20chinna&mc=0000&tn=Pay&am=10.00&cu=INR'
+    """
+    return text_of(goq.UPI, [("payee", payee), ("name", name), ("amount", _open(amount)),
+                             ("note", note), ("reference", reference), ("category", category)])
+
+
+def pix(payee: str, name: str, city: str, amount: Optional[Number] = None, reference: str = "",
+        description: str = "") -> str:
+    """A static payment by Pix to a key, in reais: with no amount the payer says it. Name, town and
+    description are of ASCII; `reference` (txid) has letters and digits.
+
+    >>> pix("123e4567-e12b-12d1-a456-426655440000", "Fulano de Tal", "BRASILIA")[-46:]
+    '13Fulano de Tal6008BRASILIA62070503***63041D3D'
+    """
+    return text_of(goq.PIX, [("payee", payee), ("name", name), ("city", city),
+                             ("amount", _open(amount)), ("reference", reference),
+                             ("description", description)])
+
+
+def promptpay(payee: str, amount: Optional[Number] = None) -> str:
+    """A payment by PromptPay, in baht, to a telephone number of ten digits, a national or tax ID of
+    thirteen, or an electronic wallet of fifteen: with no amount the payer says it.
+
+    >>> promptpay("000-000-0000", "4.22")
+    '00020101021229370016A000000677010111011300660000000005802TH530376454044.226304E469'
+    """
+    return text_of(goq.PROMPTPAY, [("payee", payee), ("amount", _open(amount))])
+
+
+def _open(amount: Optional[Number]) -> str:
+    """An amount that may be left open."""
+    return "" if amount is None else number("amount", amount)
 
 
 def gs1(elements: Iterable[Tuple[str, str]]) -> bytes:

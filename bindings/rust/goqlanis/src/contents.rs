@@ -1,4 +1,5 @@
-//! Texts that symbols carry: networks, contacts, payments, links and events. Each is read back as exactly its fields.
+//! Payloads of QR codes: networks, contacts, payments, links and events. Each is read back as exactly its fields. Account numbers, references,
+//! telephone numbers and secrets may have spaces and small letters.
 //!
 //! ```
 //! use goqlanis::contents::{Cause, ContentError, Payment, Security, Wifi};
@@ -29,12 +30,16 @@ pub enum Cause {
     ControlCharacter,
     /// The field has a character that the format does not allow there.
     Character,
-    /// The check digits are wrong.
+    /// The check digits do not match.
     CheckDigits,
     /// The number is outside the format's range.
     Range,
-    /// The field has no place beside the others.
+    /// The field cannot be given together with the others.
     Unused,
+    /// The number has more digits after its point than the format allows.
+    Decimals,
+    /// The field is none of the words that it may be.
+    Word,
     /// The application identifier of an element is not in the table.
     UnknownIdentifier,
     /// The value of an element has too few or too many characters.
@@ -69,40 +74,12 @@ impl std::error::Error for ContentError {}
 
 pub type ContentResult = Result<String, ContentError>;
 
-// A field: its name, and a text or a number.
-enum Field<'a> {
-    Text(&'static str, &'a str),
-    Number(&'static str, i64),
-}
-
-impl Field<'_> {
-    fn name(&self) -> &'static str {
-        match self {
-            Field::Text(name, _) | Field::Number(name, _) => name,
-        }
-    }
-
-    fn given(&self) -> sys::goq_field {
-        match self {
-            Field::Text(_, text) => sys::goq_field { number: 0, bytes: text.as_ptr(), length: text.len() },
-            Field::Number(_, number) => sys::goq_field { number: *number, bytes: std::ptr::null(), length: 0 },
-        }
-    }
-}
-
-use Field::{Number, Text};
-
-// A number as the library takes it; one above all that it takes is out of range.
-fn whole(name: &'static str, number: u64) -> Result<Field<'static>, ContentError> {
-    match i64::try_from(number) {
-        Ok(number) => Ok(Number(name, number)),
-        Err(_) => Err(ContentError::Refused(name, Cause::Range)),
-    }
-}
+// A field: its name, and its text.
+type Field<'a> = (&'static str, &'a str);
 
 // The text of a kind, of fields in the library's order.
 fn text_of(kind: u32, fields: &[Field<'_>]) -> ContentResult {
-    let given: Vec<sys::goq_field> = fields.iter().map(Field::given).collect();
+    let given: Vec<sys::goq_field> = fields.iter().map(|(_, text)| sys::goq_field { bytes: text.as_ptr(), length: text.len() }).collect();
     let mut out = vec![0; sys::GOQ_BYTES_MAX];
     let (mut count, mut place) = (0, 0);
     // SAFETY: each field points to a text that outlives the call, and the lengths are those of the buffers.
@@ -112,7 +89,7 @@ fn text_of(kind: u32, fields: &[Field<'_>]) -> ContentResult {
             out.truncate(count);
             Ok(String::from_utf8(out).expect("the library writes UTF-8"))
         }
-        _ => Err(refused(answer, |cause| ContentError::Refused(fields.get(place).map_or("text", Field::name), cause))),
+        _ => Err(refused(answer, |cause| ContentError::Refused(fields.get(place).map_or("text", |field| field.0), cause))),
     }
 }
 
@@ -127,6 +104,8 @@ fn refused(answer: u32, of_field: impl FnOnce(Cause) -> ContentError) -> Content
         sys::GOQ_FIELD_CHECK_DIGITS => Cause::CheckDigits,
         sys::GOQ_FIELD_RANGE => Cause::Range,
         sys::GOQ_FIELD_UNUSED => Cause::Unused,
+        sys::GOQ_FIELD_DECIMALS => Cause::Decimals,
+        sys::GOQ_FIELD_WORD => Cause::Word,
         sys::GOQ_NO_SUCH_IDENTIFIER => Cause::UnknownIdentifier,
         sys::GOQ_ELEMENT_LENGTH => Cause::Length,
         sys::GOQ_SMALL_BUFFER => return ContentError::DataTooLong,
@@ -175,10 +154,21 @@ pub(crate) fn element_error(answer: u32, place: usize) -> ContentError {
 /// How a network is secured.
 #[derive(Clone, Copy, Debug, PartialEq, Eq)]
 pub enum Security {
-    Open = 1,
-    Wep = 2,
-    Wpa = 3,
-    Wpa3 = 4,
+    Open,
+    Wep,
+    Wpa,
+    Wpa3,
+}
+
+impl Security {
+    fn word(self) -> &'static str {
+        match self {
+            Security::Open => "open",
+            Security::Wep => "WEP",
+            Security::Wpa => "WPA",
+            Security::Wpa3 => "WPA3",
+        }
+    }
 }
 
 /// A wireless network. An open network has an empty password.
@@ -192,7 +182,7 @@ pub struct Wifi<'a> {
 
 impl Wifi<'_> {
     pub fn text(&self) -> ContentResult {
-        text_of(sys::GOQ_WIFI, &[Text("ssid", self.ssid), Text("password", self.password), Number("security", self.security as i64), Number("hidden", self.hidden.into())])
+        text_of(sys::GOQ_WIFI, &[("ssid", self.ssid), ("password", self.password), ("security", self.security.word()), ("hidden", if self.hidden { "true" } else { "" })])
     }
 }
 
@@ -218,18 +208,18 @@ impl Contact<'_> {
         text_of(
             sys::GOQ_MECARD,
             &[
-                Text("family", self.family),
-                Text("given", self.given),
-                Text("phone", self.phone),
-                Text("email", self.email),
-                Text("url", self.url),
-                Text("birthday", self.birthday),
-                Text("note", self.note),
-                Text("street", self.street),
-                Text("city", self.city),
-                Text("region", self.region),
-                Text("code", self.code),
-                Text("country", self.country),
+                ("family", self.family),
+                ("given", self.given),
+                ("phone", self.phone),
+                ("email", self.email),
+                ("url", self.url),
+                ("birthday", self.birthday),
+                ("note", self.note),
+                ("street", self.street),
+                ("city", self.city),
+                ("region", self.region),
+                ("code", self.code),
+                ("country", self.country),
             ],
         )
     }
@@ -251,6 +241,14 @@ pub struct Card<'a> {
     pub code: &'a str,
     pub country: &'a str,
     pub note: &'a str,
+    /// The title or function.
+    pub title: &'a str,
+    /// A day, as `1970-01-31`.
+    pub birthday: &'a str,
+    /// Telephone numbers beside `phone`.
+    pub mobile: &'a str,
+    pub work_phone: &'a str,
+    pub home_phone: &'a str,
 }
 
 impl Card<'_> {
@@ -258,22 +256,32 @@ impl Card<'_> {
         text_of(
             sys::GOQ_VCARD,
             &[
-                Text("name", self.name),
-                Text("family", self.family),
-                Text("given", self.given),
-                Text("organisation", self.organisation),
-                Text("phone", self.phone),
-                Text("email", self.email),
-                Text("url", self.url),
-                Text("street", self.street),
-                Text("city", self.city),
-                Text("region", self.region),
-                Text("code", self.code),
-                Text("country", self.country),
-                Text("note", self.note),
+                ("name", self.name),
+                ("family", self.family),
+                ("given", self.given),
+                ("organisation", self.organisation),
+                ("phone", self.phone),
+                ("email", self.email),
+                ("url", self.url),
+                ("street", self.street),
+                ("city", self.city),
+                ("region", self.region),
+                ("code", self.code),
+                ("country", self.country),
+                ("note", self.note),
+                ("title", self.title),
+                ("birthday", self.birthday),
+                ("mobile", self.mobile),
+                ("work_phone", self.work_phone),
+                ("home_phone", self.home_phone),
             ],
         )
     }
+}
+
+// Hundredths, with a point before them.
+fn amount(cents: u64) -> String {
+    format!("{}.{:02}", cents / 100, cents % 100)
 }
 
 /// A SEPA credit transfer, of version 001 with a BIC and of 002 without.
@@ -295,14 +303,14 @@ impl Payment<'_> {
         text_of(
             sys::GOQ_PAYMENT,
             &[
-                Text("name", self.name),
-                Text("iban", self.iban),
-                whole("cents", self.cents)?,
-                Text("bic", self.bic),
-                Text("purpose", self.purpose),
-                Text("reference", self.reference),
-                Text("message", self.message),
-                Text("information", self.information),
+                ("name", self.name),
+                ("iban", self.iban),
+                ("cents", &amount(self.cents)),
+                ("bic", self.bic),
+                ("purpose", self.purpose),
+                ("reference", self.reference),
+                ("message", self.message),
+                ("information", self.information),
             ],
         )
     }
@@ -311,8 +319,17 @@ impl Payment<'_> {
 /// The currency of a bill.
 #[derive(Clone, Copy, Debug, PartialEq, Eq)]
 pub enum Currency {
-    Franc = 0,
-    Euro = 1,
+    Franc,
+    Euro,
+}
+
+impl Currency {
+    fn word(self) -> &'static str {
+        match self {
+            Currency::Franc => "CHF",
+            Currency::Euro => "EUR",
+        }
+    }
 }
 
 /// A name with its address.
@@ -342,30 +359,27 @@ pub struct Bill<'a> {
 
 impl Bill<'_> {
     pub fn text(&self) -> ContentResult {
-        if self.cents == Some(0) {
-            return Err(ContentError::Refused("cents", Cause::Range));
-        }
         let (creditor, debtor) = (&self.creditor, &self.debtor);
         text_of(
             sys::GOQ_BILL,
             &[
-                Text("iban", self.iban),
-                Text("creditor.name", creditor.name),
-                Text("creditor.street", creditor.street),
-                Text("creditor.number", creditor.number),
-                Text("creditor.code", creditor.code),
-                Text("creditor.city", creditor.city),
-                Text("creditor.country", creditor.country),
-                whole("cents", self.cents.unwrap_or(0))?,
-                Number("currency", self.currency as i64),
-                Text("reference", self.reference),
-                Text("message", self.message),
-                Text("debtor.name", debtor.name),
-                Text("debtor.street", debtor.street),
-                Text("debtor.number", debtor.number),
-                Text("debtor.code", debtor.code),
-                Text("debtor.city", debtor.city),
-                Text("debtor.country", debtor.country),
+                ("iban", self.iban),
+                ("creditor.name", creditor.name),
+                ("creditor.street", creditor.street),
+                ("creditor.number", creditor.number),
+                ("creditor.code", creditor.code),
+                ("creditor.city", creditor.city),
+                ("creditor.country", creditor.country),
+                ("cents", &self.cents.map_or_else(String::new, amount)),
+                ("currency", self.currency.word()),
+                ("reference", self.reference),
+                ("message", self.message),
+                ("debtor.name", debtor.name),
+                ("debtor.street", debtor.street),
+                ("debtor.number", debtor.number),
+                ("debtor.code", debtor.code),
+                ("debtor.city", debtor.city),
+                ("debtor.country", debtor.country),
             ],
         )
     }
@@ -381,7 +395,7 @@ pub struct Mail<'a> {
 
 impl Mail<'_> {
     pub fn text(&self) -> ContentResult {
-        text_of(sys::GOQ_MAIL, &[Text("address", self.address), Text("subject", self.subject), Text("body", self.body)])
+        text_of(sys::GOQ_MAIL, &[("address", self.address), ("subject", self.subject), ("body", self.body)])
     }
 }
 
@@ -392,9 +406,15 @@ pub struct Place {
     pub longitude: i32,
 }
 
+// Millionths of a degree, with a point before them.
+fn degrees(millionths: i32) -> String {
+    let (sign, digits) = (if millionths < 0 { "-" } else { "" }, millionths.unsigned_abs());
+    format!("{sign}{}.{:06}", digits / 1_000_000, digits % 1_000_000)
+}
+
 impl Place {
     pub fn text(&self) -> ContentResult {
-        text_of(sys::GOQ_GEO, &[Number("latitude", self.latitude.into()), Number("longitude", self.longitude.into())])
+        text_of(sys::GOQ_GEO, &[("latitude", &degrees(self.latitude)), ("longitude", &degrees(self.longitude))])
     }
 }
 
@@ -407,7 +427,7 @@ pub struct Phone<'a> {
 impl Phone<'_> {
     /// The link that calls the number.
     pub fn tel(&self) -> ContentResult {
-        text_of(sys::GOQ_TEL, &[Text("number", self.number)])
+        text_of(sys::GOQ_TEL, &[("number", self.number)])
     }
 
     /// The link that writes to the number.
@@ -417,7 +437,7 @@ impl Phone<'_> {
 
     /// The link that writes this body to the number; an empty one is left out.
     pub fn message(&self, body: &str) -> ContentResult {
-        text_of(sys::GOQ_SMS, &[Text("number", self.number), Text("body", body)])
+        text_of(sys::GOQ_SMS, &[("number", self.number), ("body", body)])
     }
 }
 
@@ -433,16 +453,35 @@ pub enum Factor {
 /// The hash of one-time passwords.
 #[derive(Clone, Copy, Debug, PartialEq, Eq)]
 pub enum Algorithm {
-    Sha1 = 0,
-    Sha256 = 1,
-    Sha512 = 2,
+    Sha1,
+    Sha256,
+    Sha512,
+}
+
+impl Algorithm {
+    fn word(self) -> &'static str {
+        match self {
+            Algorithm::Sha1 => "SHA1",
+            Algorithm::Sha256 => "SHA256",
+            Algorithm::Sha512 => "SHA512",
+        }
+    }
 }
 
 /// How many digits a one-time password has.
 #[derive(Clone, Copy, Debug, PartialEq, Eq)]
 pub enum Digits {
-    Six = 0,
-    Eight = 1,
+    Six,
+    Eight,
+}
+
+impl Digits {
+    fn word(self) -> &'static str {
+        match self {
+            Digits::Six => "6",
+            Digits::Eight => "8",
+        }
+    }
 }
 
 /// One-time passwords of an account.
@@ -459,13 +498,13 @@ pub struct OneTime<'a> {
 
 impl OneTime<'_> {
     pub fn text(&self) -> ContentResult {
-        let (kind, factor) = match self.factor {
-            Factor::Time(0) => return Err(ContentError::Refused("period", Cause::Range)),
-            Factor::Time(seconds) => (sys::GOQ_TOTP, Number("period", seconds.into())),
-            Factor::Counter(count) => (sys::GOQ_HOTP, whole("counter", count)?),
+        let (period, counter) = match self.factor {
+            Factor::Time(seconds) => (seconds.to_string(), String::new()),
+            Factor::Counter(count) => (String::new(), count.to_string()),
         };
-        let (algorithm, digits) = (Number("algorithm", self.algorithm as i64), Number("digits", self.digits as i64));
-        text_of(kind, &[Text("account", self.account), Text("secret", self.secret), Text("issuer", self.issuer), algorithm, digits, factor])
+        let (algorithm, digits) = (("algorithm", self.algorithm.word()), ("digits", self.digits.word()));
+        let key = [("account", self.account), ("secret", self.secret), ("issuer", self.issuer)];
+        text_of(sys::GOQ_OTP, &[key[0], key[1], key[2], algorithm, digits, ("period", &period), ("counter", &counter)])
     }
 }
 
@@ -487,22 +526,14 @@ pub struct Moment {
 }
 
 impl Day {
-    // The library's number; 0, which is no day, where a part has too many digits.
-    fn number(self) -> i64 {
-        match (self.year, self.month, self.day) {
-            (0..=9999, 0..=99, 0..=99) => (i64::from(self.year) * 100 + i64::from(self.month)) * 100 + i64::from(self.day),
-            _ => 0,
-        }
+    fn text(self) -> String {
+        format!("{:04}-{:02}-{:02}", self.year, self.month, self.day)
     }
 }
 
 impl Moment {
-    // The library's number; 0, which is no moment, where a part has too many digits.
-    fn number(self) -> i64 {
-        match (self.hour, self.minute, self.second) {
-            (0..=99, 0..=99, 0..=99) => ((self.day.number() * 100 + i64::from(self.hour)) * 100 + i64::from(self.minute)) * 100 + i64::from(self.second),
-            _ => 0,
-        }
+    fn text(self) -> String {
+        format!("{}T{:02}:{:02}:{:02}Z", self.day.text(), self.hour, self.minute, self.second)
     }
 }
 
@@ -520,7 +551,7 @@ pub enum Span {
 pub struct Event<'a> {
     pub uid: &'a str,
     /// When it was written.
-    pub stamp: Moment,
+    pub stamp: Option<Moment>,
     pub span: Span,
     pub summary: &'a str,
     pub location: &'a str,
@@ -529,21 +560,97 @@ pub struct Event<'a> {
 
 impl Event<'_> {
     pub fn text(&self) -> ContentResult {
-        let (kind, begin, end) = match self.span {
-            Span::Days(first, end) => (sys::GOQ_DAYS, first.number(), end.number()),
-            Span::Times(begin, end) => (sys::GOQ_EVENT, begin.number(), end.number()),
+        let (begin, end) = match self.span {
+            Span::Days(first, end) => (first.text(), end.text()),
+            Span::Times(begin, end) => (begin.text(), end.text()),
         };
         text_of(
-            kind,
+            sys::GOQ_EVENT,
             &[
-                Text("uid", self.uid),
-                Number("stamp", self.stamp.number()),
-                Number("begin", begin),
-                Number("end", end),
-                Text("summary", self.summary),
-                Text("location", self.location),
-                Text("description", self.description),
+                ("begin", &begin),
+                ("end", &end),
+                ("summary", self.summary),
+                ("location", self.location),
+                ("description", self.description),
+                ("uid", self.uid),
+                ("stamp", &self.stamp.map_or_else(String::new, Moment::text)),
             ],
         )
+    }
+}
+
+/// A payment by UPI, in rupees. What is empty is left out.
+#[derive(Clone, Copy, Debug, Default, PartialEq, Eq)]
+pub struct Upi<'a> {
+    /// An address as name@bank.
+    pub payee: &'a str,
+    pub name: &'a str,
+    /// The amount in paise; without one the payer says it.
+    pub cents: Option<u64>,
+    pub note: &'a str,
+    pub reference: &'a str,
+    /// The category of a merchant, four digits.
+    pub category: &'a str,
+}
+
+impl Upi<'_> {
+    pub fn text(&self) -> ContentResult {
+        text_of(
+            sys::GOQ_UPI,
+            &[
+                ("payee", self.payee),
+                ("name", self.name),
+                ("cents", &self.cents.map_or_else(String::new, amount)),
+                ("note", self.note),
+                ("reference", self.reference),
+                ("category", self.category),
+            ],
+        )
+    }
+}
+
+/// A static payment by Pix, in reais, of characters of ASCII.
+#[derive(Clone, Copy, Debug, Default, PartialEq, Eq)]
+pub struct Pix<'a> {
+    /// A key.
+    pub payee: &'a str,
+    pub name: &'a str,
+    pub city: &'a str,
+    /// The amount in centavos; without one the payer says it.
+    pub cents: Option<u64>,
+    /// Letters and digits (txid).
+    pub reference: &'a str,
+    pub description: &'a str,
+}
+
+impl Pix<'_> {
+    pub fn text(&self) -> ContentResult {
+        text_of(
+            sys::GOQ_PIX,
+            &[
+                ("payee", self.payee),
+                ("name", self.name),
+                ("city", self.city),
+                ("cents", &self.cents.map_or_else(String::new, amount)),
+                ("reference", self.reference),
+                ("description", self.description),
+            ],
+        )
+    }
+}
+
+/// A payment by PromptPay, in baht.
+#[derive(Clone, Copy, Debug, Default, PartialEq, Eq)]
+pub struct PromptPay<'a> {
+    /// The ten digits of a telephone number, the thirteen of a national or tax ID, or the fifteen of an electronic wallet.
+    pub payee: &'a str,
+    /// The amount in satang; without one the payer says it.
+    pub cents: Option<u64>,
+}
+
+impl PromptPay<'_> {
+    pub fn text(&self) -> ContentResult {
+        let amount = self.cents.map_or_else(String::new, amount);
+        text_of(sys::GOQ_PROMPTPAY, &[("payee", self.payee), ("cents", &amount)])
     }
 }

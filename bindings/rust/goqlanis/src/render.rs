@@ -9,7 +9,7 @@ mod sealed {
 /// Why a picture is not drawn.
 #[derive(Clone, Copy, Debug, PartialEq, Eq)]
 pub enum RenderError {
-    /// A PNG file would have more than 65,535 pixels a side, or any picture more than 65,535 modules a side.
+    /// A PNG file would have more than 65,535 pixels a side, half blocks more than 4,096, or any picture more than 65,535 modules a side.
     TooLarge,
     /// Memory was refused.
     OutOfMemory,
@@ -190,6 +190,7 @@ macro_rules! file_format {
 
 file_format!("A PIC text.", pic::Color, String, 8, GOQ_PIC, text);
 file_format!("The bytes of a PBM file.", pbm::Bit, Vec<u8>, 8, GOQ_PBM, plain);
+file_format!("The bytes of a PGM file.", pgm::Grey, Vec<u8>, 8, GOQ_PGM, plain);
 file_format!("Rows of pixels, a byte each: 0 for a dark one, 255 for a light one.", grey::Luma, Vec<u8>, 8, GOQ_GREY, plain);
 
 pub use grey::Luma;

@@ -1,4 +1,4 @@
-use goqlanis::render::{eps, pbm, pic, png, svg, svg_path, unicode, Luma, RenderError};
+use goqlanis::render::{eps, pbm, pgm, pic, png, svg, svg_path, unicode, Luma, RenderError};
 use goqlanis::several::{encode_several, join, Several, Unjoined};
 use goqlanis::{read, read_any, read_text, Color, EcLevel, Options, QrCode, QrError, Segment, Unread};
 use goqlanis::{Version, Writing};
@@ -59,6 +59,7 @@ fn pictures() {
     assert!(code.render::<png::Color>().build().starts_with(b"\x89PNG\r\n\x1a\n"));
     assert!(code.render::<eps::Color>().build().starts_with("%!PS-Adobe-3.0 EPSF-3.0\n"));
     assert!(code.render::<pbm::Bit>().module_size(1).build().starts_with(b"P4\n17 17\n"));
+    assert!(code.render::<pgm::Grey>().module_size(1).build().starts_with(b"P5\n17 17\n255\n\xff"));
     assert!(code.render::<pic::Color>().build().starts_with("maxpswid"));
 }
 
@@ -83,6 +84,8 @@ fn colours() {
 fn too_large() {
     let code = QrCode::new(b"01234567").unwrap();
     assert_eq!(code.render::<png::Color>().module_size(2260).try_build(), Err(RenderError::TooLarge));
+    assert_eq!(code.render::<unicode::Dense1x2>().module_size(142).try_build(), Err(RenderError::TooLarge));
+    assert_eq!(code.render::<unicode::Dense1x2>().module_size(141).try_build().unwrap().lines().count(), 2045);
 }
 
 #[test]
