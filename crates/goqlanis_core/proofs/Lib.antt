@@ -3,5 +3,7 @@ mod Held
 mod Marked
 mod Pieces
 mod Plain
+mod Sampled
+mod Seen
 mod Segmented
 mod WhyUnread

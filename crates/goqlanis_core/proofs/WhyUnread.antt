@@ -1,18 +1,17 @@
 -- Why pictures are not read.
-use Rattle.std.proofs.Common.{◌≡◌, ◌*◌, ℕ, Bool, List, length, sym, subst, ◌⊎◌, inl, inr}
+use Rattle.std.proofs.Common.{◌≡◌, ◌*◌, ℕ, Bool, List, length, sym, subst, ◌⊎◌, inl, inr, refl}
 use Rattle.std.specs.Prelude.{if◌then◌else◌}
 use Rattle.qrcode_types.specs.declared.types.Color.{Color}
 use Rattle.qrcode_render.specs.Bitmap.{Bitmap}
-use Rattle.qrcode_reader.specs.scan.Files.{IsSeenIn}
 use Rattle.qrcode_reader.specs.scan.Squares.{has_dark_edge, inverted}
 use Rattle.qrcode_reader.specs.Positions.{seen}
 use Rattle.qrcode_reader.specs.Readings.{IsPartsCause, ReadsParts}
 use Rattle.qrcode_reader.specs.declared.positions.Position.{Position}
 use Rattle.qrcode_reader.specs.declared.spell.parts.Part.{Part}
 use Rattle.qrcode_reader.specs.declared.refusals.Unread as reading
-use Rattle.goqlanis_core.specs.Scans.{IsLeastSquareIn, IsUnreadIn, IsUnreadPicture, unread_as}
+use Rattle.goqlanis_core.specs.Scans.{IsLeastSquareIn, IsNotClean, IsPictureOf, IsUnreadIn, IsUnreadPicture, IsUnseen, unread_as}
 use Rattle.goqlanis_core.specs.declared.scanning.Unread.{Unread}
-use Rattle.goqlanis_core.specs.declared.scanning.Unread.TheVariants.{Unscanned, NoSquare, NoSymbol, OutOfMemory}
+use Rattle.goqlanis_core.specs.declared.scanning.Unread.TheVariants.{Unscanned, Png, Jpeg, NoSquare, NoSymbol, OutOfMemory}
 
 abbrev pub HasNone : ℕ → List Color → Type 0
 HasNone side modules = (p : Position) (is_inverted : Bool) (bytes : List ℕ) (parts : List Part) → ¬ ReadsParts (seen side p is_inverted modules) bytes parts
@@ -32,8 +31,28 @@ unread_square b count zone scale modules e square why = elim why [
   caused reading.TheVariants.OutOfMemory cause none = tt
 
 -- the pixels that a picture shows are not read
-pub unread_picture : (bytes : List ℕ) (b : Bitmap) (e : Unread) → IsSeenIn bytes b → IsUnreadIn (if has_dark_edge b then inverted b else b) e → IsUnreadPicture bytes e
+pub unread_picture : (bytes : List ℕ) (b : Bitmap) (e : Unread) → IsPictureOf bytes b → IsUnreadIn (if has_dark_edge b then inverted b else b) e → IsUnreadPicture bytes e
 unread_picture bytes b (Unscanned e) seen unread = absurd unread
+unread_picture bytes b (Png e) seen unread = absurd unread
+unread_picture bytes b Jpeg seen unread = absurd unread
 unread_picture bytes b NoSquare seen unread = record { pixels = b; seen = seen; unread = unread }
 unread_picture bytes b (NoSymbol count e) seen unread = record { pixels = b; seen = seen; unread = unread }
 unread_picture bytes b OutOfMemory seen unread = tt
+
+-- no square in a margin is read, for another cause than memory
+pub not_clean : (b : Bitmap) (e : Unread) → IsUnreadIn b e → ¬ (e ≡ OutOfMemory) → IsNotClean b
+not_clean b (Unscanned e) unread other = absurd unread
+not_clean b (Png e) unread other = absurd unread
+not_clean b Jpeg unread other = absurd unread
+not_clean b NoSquare unread other = inl unread
+not_clean b (NoSymbol count e) unread other = inr (count, (e, unread))
+not_clean b OutOfMemory unread other = absurd (other refl)
+
+-- bytes that show no pixels are not read
+pub unseen_picture : (bytes : List ℕ) (e : Unread) → IsUnseen bytes e → IsUnreadPicture bytes e
+unseen_picture bytes (Unscanned e) unseen = unseen
+unseen_picture bytes (Png e) unseen = unseen
+unseen_picture bytes Jpeg unseen = unseen
+unseen_picture bytes NoSquare unseen = absurd unseen
+unseen_picture bytes (NoSymbol count e) unseen = absurd unseen
+unseen_picture bytes OutOfMemory unseen = tt

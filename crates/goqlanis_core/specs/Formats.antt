@@ -21,7 +21,16 @@ use Rattle.goqlanis_core.specs.declared.picture.Ink.{Ink}
 use Rattle.goqlanis_core.specs.declared.picture.Picture.{Picture}
 
 abbrev pub format_numbered : ℕ → Option Format  -- the format of a number in C, in this order from 0 on
-format_numbered n = slice_get (HalfBlocks ∷ LightHalfBlocks ∷ Svg ∷ Pic ∷ Grey ∷ Png ∷ Eps ∷ Pbm ∷ SvgPath ∷ []) n
+format_numbered n = slice_get (HalfBlocks ∷ LightHalfBlocks ∷ Svg ∷ Pic ∷ Grey ∷ Png ∷ Eps ∷ Pbm ∷ SvgPath ∷ Pgm ∷ []) n
+
+-- the most pixels along a side: of PNG what a file may have, and of characters more than a terminal or a page shows
+abbrev pub greatest_side : Format → ℕ
+greatest_side Png = 65535
+greatest_side HalfBlocks = 4096
+greatest_side LightHalfBlocks = 4096
+greatest_side Terminal = 4096
+greatest_side Chars = 4096
+greatest_side f = 0xffffffff
 
 -- a colour: what SVG writes; red, green and blue; and how opaque it is in PNG
 pub record Shade : Type 0 where

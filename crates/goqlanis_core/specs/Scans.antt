@@ -1,10 +1,17 @@
 -- What is read of a picture.
-use Rattle.std.specs.Prelude.{◌≡◌, ◌<◌, ◌≤◌, ℕ, List, [], ◌∷◌, Bool, false, flat_map, if◌then◌else◌}
+use Rattle.std.specs.Prelude.{◌≡◌, ◌⊎◌, ◌==◌, ◌/◌, ◌<◌, ◌≤◌, ℕ, List, [], ◌∷◌, Bool, true, false, Some, None, length, map, flat_map, if◌then◌else◌}
+use Rattle.std.specs.List.{starts_with}
 use Rattle.qrcode_types.specs.declared.types.Color.{Color}
 use Rattle.qrcode_render.specs.Bitmap.{Bitmap}
 use Rattle.qrcode_gs1.specs.declared.symbol.Position as gs1
 use Rattle.qrcode_gs1.specs.symbol.Reading.{ReadsMarkedOnly}
 use Rattle.qrcode_reader.specs.scan.Files.{IsSeenIn, IsUnscanned}
+use Rattle.qrcode_png.specs.Image.{Image, Shade, image_of}
+use Rattle.qrcode_png.specs.Refusals.{IsRefused}
+use Rattle.qrcode_reader.specs.scan.Grids.{IsSampled}
+use Rattle.qrcode_reader.specs.scan.Shades.{lightness, dark_of_shades, IsColoursRefusal}
+use Rattle.qrcode_reader.specs.declared.scan.grids.Grid.{Grid}
+use Rattle.qrcode_reader.specs.declared.scan.pixels.Unscanned as unscanned
 use Rattle.qrcode_reader.specs.scan.Squares.{has_dark_edge, inverted, IsSquareIn, IsFramedIn}
 use Rattle.qrcode_reader.specs.declared.spell.headers.Header.{Header}
 use Rattle.qrcode_reader.specs.declared.spell.parts.Part.{Part}
@@ -16,7 +23,7 @@ use Rattle.qrcode_reader.specs.declared.refusals.Unread as reading
 use Rattle.goqlanis_core.specs.HandedOn.{fnc1, handed_on}
 use Rattle.goqlanis_core.specs.declared.scanning.Scan.{Scan}
 use Rattle.goqlanis_core.specs.declared.scanning.Unread.{Unread}
-use Rattle.goqlanis_core.specs.declared.scanning.Unread.TheVariants.{Unscanned, NoSquare, NoSymbol, OutOfMemory}
+use Rattle.goqlanis_core.specs.declared.scanning.Unread.TheVariants.{Unscanned, Png, Jpeg, NoSquare, NoSymbol, OutOfMemory}
 
 -- the square of modules that pixels show: no square whose first row has a dark module has fewer modules a side
 pub record IsLeastSquareIn (b : Bitmap) (count zone scale : ℕ) (modules : List Color) : Type 0 where
@@ -48,14 +55,15 @@ pub record IsReadAs (scan : Scan) : Type 0 where
   pub marked : (p : gs1.Position) (segments : List Part) → parts ≡ Front (fnc1 p) ∷ segments → headers_in segments ≡ []
       → ReadsMarkedOnly (seen scan.square.count scan.any.position scan.any.is_inverted scan.square.modules.items) p scan.any.reading.data.items
 
--- what the bytes of a picture are read as: the square of modules that its pixels show, with dark and light exchanged where their first row is dark, and
--- that square's reading
-pub record IsScanOf (bytes : List ℕ) (scan : Scan) : Type 0 where
-  pub pixels : Bitmap
-  pub seen : IsSeenIn bytes pixels
-  pub edge : scan.is_inverted ≡ has_dark_edge pixels
-  pub square : IsSquareOf scan (if scan.is_inverted then inverted pixels else pixels)
-  pub read : IsReadAs scan
+-- what is read is the square of modules that stand in a grid, each as the pixel at its centre is; of its scale the whole pixels are told, and no zone
+pub record IsSampledOf (scan : Scan) (g : Grid) (b : Bitmap) : Type 0 where
+  pub count : scan.square.count ≡ g.count
+  pub zone : scan.square.zone ≡ 0
+  pub scale : scan.square.scale ≡ g.across / g.parts
+  pub sampled : IsSampled b g scan.square.modules.items
+
+abbrev pub IsSampledIn : Scan → Bitmap → Type 0
+IsSampledIn scan b = (g : Grid) × ((scan.grid ≡ Some g) × IsSampledOf scan g b)
 
 -- the square that pixels show is of so many modules a side, and has no headers and segments in any position; this is why it has none as it stands
 pub record ShowsNoSymbol (b : Bitmap) (count : ℕ) (e : reading.Unread) : Type 0 where
@@ -68,9 +76,61 @@ pub record ShowsNoSymbol (b : Bitmap) (count : ℕ) (e : reading.Unread) : Type 
 
 abbrev pub IsUnreadIn : Bitmap → Unread → Type 0  -- why pixels are not read
 IsUnreadIn b (Unscanned e) = ⊥
+IsUnreadIn b (Png e) = ⊥
+IsUnreadIn b Jpeg = ⊥
 IsUnreadIn b NoSquare = (count zone scale column : ℕ) (modules : List Color) → IsFramedIn b count zone scale column modules → 177 < count
 IsUnreadIn b (NoSymbol count e) = ShowsNoSymbol b count e
 IsUnreadIn b OutOfMemory = Unit
+
+-- no square in a margin is read: there is none, or it has no headers and segments in any position
+abbrev pub IsNotClean : Bitmap → Type 0
+IsNotClean b = IsUnreadIn b NoSquare ⊎ ((count : ℕ) × ((e : reading.Unread) × IsUnreadIn b (NoSymbol count e)))
+
+-- what is read of pixels: the square in a margin; or one that is sampled, where no square in a margin is read
+pub record IsFoundIn (scan : Scan) (b : Bitmap) : Type 0 where
+  pub found : ((scan.grid ≡ None) × IsSquareOf scan b) ⊎ (IsSampledIn scan b × IsNotClean b)
+
+abbrev pub is_png : List ℕ → Bool  -- bytes begin as a PNG file does
+is_png bytes = starts_with (λ a b. a == b) bytes (137 ∷ 80 ∷ 78 ∷ 71 ∷ [])
+
+abbrev pub is_jpeg : List ℕ → Bool  -- bytes begin as a JPEG file does
+is_jpeg bytes = starts_with (λ a b. a == b) bytes (255 ∷ 216 ∷ 255 ∷ [])
+
+abbrev pub shade_lightness : Shade → ℕ  -- how light a shade over white is
+shade_lightness s = lightness s.red s.green s.blue s.opacity
+
+-- the pixels of a PNG file: dark ones are those below the middle of the darkest and the lightest
+pub record IsShownBy (bytes : List ℕ) (b : Bitmap) : Type 0 where
+  pub image : Image
+  pub shown : image_of bytes ≡ Some image
+  pub same : b ≡ record { across = image.across; down = image.down; marks = dark_of_shades (map shade_lightness image.pixels) }
+
+-- the pixels of a picture: of a PNG file, or of any other
+pub record IsPictureOf (bytes : List ℕ) (b : Bitmap) : Type 0 where
+  pub png : is_png bytes ≡ true → IsShownBy bytes b
+  pub other : is_png bytes ≡ false → IsSeenIn bytes b
+
+-- the image of a PNG file has too many pixels
+abbrev pub IsLargeImage : List ℕ → unscanned.Unscanned → Type 0
+IsLargeImage bytes e = (image : Image) × ((image_of bytes ≡ Some image) × IsColoursRefusal (length image.pixels) image.across image.down e)
+
+-- why bytes show no pixels: what they lack, and of a PNG file why it is refused
+abbrev pub IsUnseen : List ℕ → Unread → Type 0
+IsUnseen bytes (Unscanned e) = ((is_png bytes ≡ false) × IsUnscanned bytes e) ⊎ IsLargeImage bytes e
+IsUnseen bytes (Png e) = (is_png bytes ≡ true) × IsRefused bytes e
+IsUnseen bytes Jpeg = is_jpeg bytes ≡ true
+IsUnseen bytes NoSquare = ⊥
+IsUnseen bytes (NoSymbol count e) = ⊥
+IsUnseen bytes OutOfMemory = Unit
+
+-- what the bytes of a picture are read as: a square of modules that its pixels show, with dark and light exchanged where their first row is dark, and
+-- that square's reading
+pub record IsScanOf (bytes : List ℕ) (scan : Scan) : Type 0 where
+  pub pixels : Bitmap
+  pub seen : IsPictureOf bytes pixels
+  pub edge : scan.is_inverted ≡ has_dark_edge pixels
+  pub square : IsFoundIn scan (if scan.is_inverted then inverted pixels else pixels)
+  pub read : IsReadAs scan
 
 -- why pixels whose square of so many modules a side is not read are not read
 abbrev pub unread_as : ℕ → reading.Unread → Unread
@@ -83,11 +143,13 @@ unread_as count reading.TheVariants.NotSpelled = NoSymbol count reading.TheVaria
 -- pixels that a picture shows are not read, with dark and light exchanged where their first row is dark
 pub record HasUnreadPixels (bytes : List ℕ) (e : Unread) : Type 0 where
   pub pixels : Bitmap
-  pub seen : IsSeenIn bytes pixels
+  pub seen : IsPictureOf bytes pixels
   pub unread : IsUnreadIn (if has_dark_edge pixels then inverted pixels else pixels) e
 
 abbrev pub IsUnreadPicture : List ℕ → Unread → Type 0  -- why the bytes of a picture are not read
-IsUnreadPicture bytes (Unscanned e) = IsUnscanned bytes e
+IsUnreadPicture bytes (Unscanned e) = IsUnseen bytes (Unscanned e)
+IsUnreadPicture bytes (Png e) = IsUnseen bytes (Png e)
+IsUnreadPicture bytes Jpeg = IsUnseen bytes Jpeg
 IsUnreadPicture bytes NoSquare = HasUnreadPixels bytes NoSquare
 IsUnreadPicture bytes (NoSymbol count e) = HasUnreadPixels bytes (NoSymbol count e)
 IsUnreadPicture bytes OutOfMemory = Unit

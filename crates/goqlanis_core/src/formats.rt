@@ -2,7 +2,7 @@
 
 ghost use Rattle.std.specs.Prelude.{◌≡◌, map};
 ghost use Rattle.std.specs.Option.{option_map};
-ghost use Rattle.goqlanis_core.specs.Formats.{format_numbered};
+ghost use Rattle.goqlanis_core.specs.Formats.{format_numbered, greatest_side};
 ghost use Rattle.goqlanis_core.specs.Names.{ending_among, format_named, format_of_ending, has_colours, is_known, is_text, named_among, pixels, row_of};
 
 use Format::{
@@ -72,6 +72,7 @@ static IN_C: &[Format] = &[
     Eps,
     Pbm,
     SvgPath,
+    Pgm,
 ];
 
 /// The format of a number in C.
@@ -151,6 +152,18 @@ impl Format {
         match self {
             Png | Svg | SvgPath | Eps | Pbm | Pgm | Grey => 8,
             HalfBlocks | LightHalfBlocks | Terminal | Chars | Pic => 1,
+        }
+    }
+
+    /// The most pixels along a side: of PNG what a file may have, and of characters more than a
+    /// terminal or a page shows.
+    pub fn greatest_side(self) -> u32
+        ensures { result ≡ greatest_side self }
+    {
+        match self {
+            Png => 65_535,
+            HalfBlocks | LightHalfBlocks | Terminal | Chars => 4_096,
+            Svg | SvgPath | Eps | Pic | Pbm | Pgm | Grey => u32::MAX,
         }
     }
 }

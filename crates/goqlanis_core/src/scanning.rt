@@ -1,15 +1,17 @@
 //! Pictures, read.
 
-ghost use Rattle.std.specs.Prelude.{◌≡◌, ◌++◌, true, false, IfOk, IfErr, OnOk};
+ghost use Rattle.std.specs.Prelude.{◌≡◌, ◌++◌, true, false, None, IfOk, IfErr, IfSome, OnOk};
 ghost use Rattle.qrcode_gs1.specs.symbol.Characters.{undoubled};
 ghost use Rattle.qrcode_reader.specs.scan.Squares.{inverted};
 ghost use Rattle.qrcode_reader.specs.Positions.{IsFirstPartsReading};
 ghost use Rattle.goqlanis_core.specs.declared.scanning.Unread.TheVariants.{OutOfMemory};
 ghost use Rattle.goqlanis_core.specs.HandedOn.{byte_count, is_fnc1, part_on, handed_on};
-ghost use Rattle.goqlanis_core.specs.Scans.{header_in, headers_in, IsReadAs, IsScanOf, IsSquareOf, IsUnreadPicture, IsUnreadIn, unread_as};
+ghost use Rattle.goqlanis_core.specs.Scans.{header_in, headers_in, IsFoundIn, IsPictureOf, IsReadAs, IsSampledIn, IsScanOf, IsShownBy, IsSquareOf, IsUnreadPicture, IsUnreadIn, IsUnseen, is_png, is_jpeg, unread_as};
 
 use qrcode::types::Mode;
-use qrcode_reader::scan::{Pixels, Square, Unscanned, pixels_of, square_of};
+use qrcode_reader::scan::{
+    Grid, Pixels, Square, Unscanned, grids_of, pixels_of, pixels_of_colours, sampled_at, square_of,
+};
 use qrcode_reader::spell::{Header, Part, Parts};
 use qrcode_reader::{AnyPartsReading, AnyReading, Reading, read_any_parts};
 use std::alloc::{AllocError, Global};
@@ -18,8 +20,11 @@ use std::fmt;
 /// A picture, read.
 #[derive(Drop)]
 pub struct Scan {
-    /// The square of modules that it shows.
+    /// The square of modules that it shows. Of one in a grid `scale` is the whole pixels of a module,
+    /// and `zone` is 0.
     pub square: Square,
+    /// Where the modules stand, if the picture is not a square in a margin that is read.
+    pub grid: Option<Grid>,
     /// Whether the picture has dark and light exchanged.
     pub is_inverted: bool,
     /// What the square is read as, and in which position: the bytes of the segments, behind FNC1
@@ -35,6 +40,10 @@ pub struct Scan {
 pub enum Unread {
     /// There are no pixels.
     Unscanned(Unscanned),
+    /// It is a PNG file, and not read as one.
+    Png(qrcode_png::Unread),
+    /// It is a JPEG file.
+    Jpeg,
     /// The pixels show no square of modules.
     NoSquare,
     /// The square of so many modules a side, as it stands, is not read, and in no other position.
@@ -55,8 +64,10 @@ impl fmt::Display for Unread {
     fn fmt<W: fmt::Write>(&self, f: &mut fmt::Formatter<W>) -> fmt::Result {
         match self {
             Unread::Unscanned(cause) => f.write_str(cause_text(*cause)),
+            Unread::Png(cause) => write!(f, "{cause}"),
+            Unread::Jpeg => f.write_str("it is a JPEG file; convert it to PNG"),
             Unread::NoSquare => f.write_str(
-                "its pixels are no square of modules of one size in a margin that is as wide at each side",
+                "it shows no code, neither in an even margin nor by its finder patterns",
             ),
             Unread::NoSymbol(count, error) => {
                 write!(f, "{count} by {count} modules are no symbol: {error}")
@@ -70,11 +81,11 @@ impl fmt::Display for Unread {
 fn cause_text(cause: Unscanned) -> &'static str {
     match cause {
         Unscanned::NotPicture =>
-            "it is neither a PBM or PGM file nor half blocks; convert it to PBM",
+            "it is neither a PNG, PBM or PGM file nor half blocks; convert it to PNG",
         Unscanned::NoSide => {
             "it has no pixels, or more than 65,535 along a side, of half blocks 4,096"
         }
-        Unscanned::NoGrey => "its greatest grey is not one of 1 to 255; convert it to PBM",
+        Unscanned::NoGrey => "its greatest grey is not one of 1 to 255; convert it to PNG",
         Unscanned::NotPixel => "something that is no pixel stands before its last pixel",
         Unscanned::TooShort => "it ends before its last pixel",
         Unscanned::OutOfMemory => "out of memory",
@@ -83,14 +94,14 @@ fn cause_text(cause: Unscanned) -> &'static str {
 
 /// Reads a picture: its pixels, the square of modules that these show, and the symbol that the
 /// square is in one of the positions.
-#[tactic(auto, using(crate::proofs::WhyUnread::unread_picture))]
+#[tactic(auto, using(crate::proofs::WhyUnread::unread_picture, crate::proofs::WhyUnread::unseen_picture))]
 pub fn read_picture(alloc: Global, bytes: &[u8]) -> Result<Scan, Unread>
     ensures value { IfOk result (IsScanOf bytes.now) }
     ensures causes { IfErr result (IsUnreadPicture bytes.now) }
 {
-    let pixels = match pixels_of(alloc, bytes) {
+    let pixels = match pixels_in(alloc, bytes) {
         Ok(pixels) => pixels,
-        Err(cause) => return Err(Unread::Unscanned(cause)),
+        Err(cause) => return Err(cause),
     };
     if pixels.has_dark_edge() {
         read_inverted(alloc, &pixels)
@@ -99,9 +110,60 @@ pub fn read_picture(alloc: Global, bytes: &[u8]) -> Result<Scan, Unread>
     }
 }
 
+// Whether bytes begin as a PNG file does.
+fn is_png(bytes: &[u8]) -> bool
+    ensures { result ≡ is_png bytes.now }
+{
+    bytes.starts_with(&[0x89, b'P', b'N', b'G'])
+}
+
+// Whether bytes begin as a JPEG file does.
+fn is_jpeg(bytes: &[u8]) -> bool
+    ensures { result ≡ is_jpeg bytes.now }
+{
+    bytes.starts_with(&[0xff, 0xd8, 0xff])
+}
+
+// The pixels of a picture.
+#[tactic(auto, using(crate::proofs::Seen::png_picture, crate::proofs::Seen::other_picture))]
+fn pixels_in(alloc: Global, bytes: &[u8]) -> Result<Pixels, Unread>
+    ensures value { IfOk result (IsPictureOf bytes.now) }
+    ensures causes { IfErr result (IsUnseen bytes.now) }
+{
+    if is_png(bytes) {
+        return png_pixels(alloc, bytes);
+    }
+    if is_jpeg(bytes) {
+        return Err(Unread::Jpeg);
+    }
+    match pixels_of(alloc, bytes) {
+        Ok(pixels) => Ok(pixels),
+        Err(cause) => Err(Unread::Unscanned(cause)),
+    }
+}
+
+// The pixels of a PNG file.
+#[tactic(auto, using(crate::proofs::Seen::shown_by, crate::proofs::Seen::large_image))]
+fn png_pixels(alloc: Global, bytes: &[u8]) -> Result<Pixels, Unread>
+    requires png { is_png bytes.now ≡ true }
+    ensures value { IfOk result (IsShownBy bytes.now) }
+    ensures causes { IfErr result (IsUnseen bytes.now) }
+{
+    let picture = match qrcode_png::read(alloc, bytes) {
+        Ok(picture) => picture,
+        Err(qrcode_png::Unread::OutOfMemory) => return Err(Unread::OutOfMemory),
+        Err(cause) => return Err(Unread::Png(cause)),
+    };
+    let (across, down) = (picture.across as usize, picture.down as usize);
+    match pixels_of_colours(alloc, across, down, &picture.pixels) {
+        Ok(pixels) => Ok(pixels),
+        Err(cause) => Err(Unread::Unscanned(cause)),
+    }
+}
+
 // Reads pixels with dark and light exchanged.
 fn read_inverted(alloc: Global, pixels: &Pixels) -> Result<Scan, Unread>
-    ensures square { IfOk result (λ scan. IsSquareOf scan (inverted pixels.now)) }
+    ensures square { IfOk result (λ scan. IsFoundIn scan (inverted pixels.now)) }
     ensures inverted { IfOk result (λ scan. scan.is_inverted ≡ true) }
     ensures read { IfOk result IsReadAs }
     ensures causes { IfErr result (IsUnreadIn (inverted pixels.now)) }
@@ -110,10 +172,32 @@ fn read_inverted(alloc: Global, pixels: &Pixels) -> Result<Scan, Unread>
     read_pixels(alloc, &pixels, true)
 }
 
-// Reads pixels, which may have dark and light exchanged.
-#[tactic(auto, using(crate::proofs::WhyUnread::unread_square))]
+// Reads pixels, which may have dark and light exchanged: the square in a margin, where they show
+// one that is read, or else the first one between finder patterns that is.
 fn read_pixels(alloc: Global, pixels: &Pixels, is_inverted: bool) -> Result<Scan, Unread>
+    ensures square { IfOk result (λ scan. IsFoundIn scan pixels.now) }
+    ensures inverted { IfOk result (λ scan. scan.is_inverted ≡ is_inverted) }
+    ensures read { IfOk result IsReadAs }
+    ensures causes { IfErr result (IsUnreadIn pixels.now) }
+{
+    let cause = match read_clean(alloc, pixels, is_inverted) {
+        Ok(scan) => return Ok(scan),
+        Err(cause) => cause,
+    };
+    match cause {
+        Unread::OutOfMemory => Err(cause),
+        _ => match read_found(alloc, pixels, is_inverted)? {
+            Some(scan) => Ok(scan),
+            None => Err(cause),
+        },
+    }
+}
+
+// Reads the square in a margin of pixels.
+#[tactic(auto, using(crate::proofs::WhyUnread::unread_square))]
+fn read_clean(alloc: Global, pixels: &Pixels, is_inverted: bool) -> Result<Scan, Unread>
     ensures square { IfOk result (λ scan. IsSquareOf scan pixels.now) }
+    ensures clean { IfOk result (λ scan. scan.grid ≡ None) }
     ensures inverted { IfOk result (λ scan. scan.is_inverted ≡ is_inverted) }
     ensures read { IfOk result IsReadAs }
     ensures causes { IfErr result (IsUnreadIn pixels.now) }
@@ -125,7 +209,52 @@ fn read_pixels(alloc: Global, pixels: &Pixels, is_inverted: bool) -> Result<Scan
         Ok(any) => any,
         Err(error) => return Err(no_symbol(square.count, error)),
     };
-    Ok(scan_of(alloc, square, is_inverted, any)?)
+    Ok(scan_of(alloc, square, None, is_inverted, any)?)
+}
+
+// Reads the first square between finder patterns that is read.
+fn read_found(alloc: Global, pixels: &Pixels, is_inverted: bool) -> Result<Option<Scan>, AllocError>
+    ensures square { IfOk result (λ found. IfSome found (λ scan. IsSampledIn scan pixels.now)) }
+    ensures inverted { IfOk result (λ found. IfSome found (λ scan.
+        scan.is_inverted ≡ is_inverted)) }
+    ensures read { IfOk result (λ found. IfSome found IsReadAs) }
+{
+    for grid in &grids_of(alloc, pixels)? {
+        match read_grid(alloc, pixels, grid, is_inverted)? {
+            Some(scan) => return Ok(Some(scan)),
+            None => {}
+        }
+    }
+    Ok(None)
+}
+
+// Reads the square in a grid.
+fn read_grid(
+    alloc: Global,
+    pixels: &Pixels,
+    grid: &Grid,
+    is_inverted: bool,
+) -> Result<Option<Scan>, AllocError>
+    ensures square { IfOk result (λ found. IfSome found (λ scan. IsSampledIn scan pixels.now)) }
+    ensures inverted { IfOk result (λ found. IfSome found (λ scan.
+        scan.is_inverted ≡ is_inverted)) }
+    ensures read { IfOk result (λ found. IfSome found IsReadAs) }
+{
+    let Some(modules) = sampled_at(alloc, pixels, grid)? else {
+        return Ok(None);
+    };
+    let any = match read_any_parts(alloc, &modules) {
+        Ok(any) => any,
+        Err(qrcode_reader::Unread::OutOfMemory) => return Err(AllocError),
+        Err(_) => return Ok(None),
+    };
+    let square = Square {
+        count: grid.count,
+        zone: 0,
+        scale: grid.across / grid.parts,
+        modules,
+    };
+    Ok(Some(scan_of(alloc, square, Some(*grid), is_inverted, any)?))
 }
 
 // Why a square of so many modules a side is not read.
@@ -142,13 +271,14 @@ fn no_symbol(count: usize, error: qrcode_reader::Unread) -> Unread
 fn scan_of(
     alloc: Global,
     square: Square,
+    grid: Option<Grid>,
     is_inverted: bool,
     any: AnyPartsReading,
 ) -> Result<Scan, AllocError>
     requires { IsFirstPartsReading square.count square.modules.items any.position any.is_inverted
         any.reading.version any.reading.ec_level any.reading.mask any.reading.parts.bytes.items
         any.reading.parts.parts.items any.reading.wrong.items }
-    ensures square { IfOk result (λ scan. scan.square ≡ square) }
+    ensures square { IfOk result (λ scan. (scan.square ≡ square) × (scan.grid ≡ grid)) }
     ensures inverted { IfOk result (λ scan. scan.is_inverted ≡ is_inverted) }
     ensures read { IfOk result IsReadAs }
 {
@@ -157,6 +287,7 @@ fn scan_of(
     let data = handed_on(alloc, &read.parts)?;
     Ok(Scan {
         square,
+        grid,
         is_inverted,
         any: AnyReading {
             position: any.position,

@@ -41,8 +41,17 @@ fn between<'a>(text: &'a str, start: &str, end: &str) -> Option<&'a str> {
     Some(found)
 }
 
+// Options of codes whose level no format says.
+const CODE_OPTIONS: &str = "-l --level -v --symbol-version --min-version --boost";
+
 // What to write instead of a word that other programs take, where a task draws.
 fn known_help(alloc: Global, task: &Task, word: &str) -> Result<Option<String>, AllocError> {
+    let name = task.word;
+    if task.has_its_level() && CODE_OPTIONS.split(' ').any(|option| option == word) {
+        return Ok(Some(format!(in alloc;
+            "{word}: {name} has level M and the smallest version, as its format demands; leave it out"
+        )?));
+    }
     for (known, help) in ADVICE {
         if task.draws() && known.split(' ').any(|known| known == word) {
             return Ok(Some(format!(in alloc; "{word}: {help}")?));

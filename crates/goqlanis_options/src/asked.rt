@@ -210,7 +210,7 @@ pub fn versions_of(
         }),
         _ => usage(
             alloc,
-            "a split has versions 1 to 40, and --max-version is not below --min-version",
+            "split uses versions 1 to 40, and --max-version cannot be below --min-version",
         ),
     }
 }

@@ -2,6 +2,7 @@
 //! command line, the manual page and the completions of shells are made. (A command of `clap` tells
 //! neither the names of values nor which values are paths, so they cannot be made from it.)
 
+use qrcode_payloads::kinds::Kind;
 use std::alloc::{AllocError, Global};
 
 // A row of a table of options: its name, its letter where it has one, what it takes and what help
@@ -29,7 +30,10 @@ mod fields;
 mod habits;
 mod symbols;
 
-use fields::{BILL, ELEMENTS, EVENT, MAIL, MECARD, OTP, PAYMENT, PLACE, SMS, TEL, VCARD, WIFI};
+use fields::{
+    BILL, ELEMENTS, EVENT, MAIL, MECARD, OTP, PAYMENT, PIX, PLACE, PROMPTPAY, SMS, TEL, UPI, VCARD,
+    WIFI,
+};
 pub use habits::{ADVICE, OTHER_NAMES, OTHER_WORDS};
 use symbols::{
     ABOUT, DATA, JOINING, LEVELS, LOOKS, MARKS, MASKS, ONE_CODE, READING, SEVERAL, TEXTS,
@@ -75,33 +79,6 @@ pub struct Group {
     pub options: &'static [Entry],
 }
 
-/// What a text is of.
-#[derive(Clone, Copy)]
-pub enum Kind {
-    /// A wireless network.
-    Wifi,
-    /// A contact, as MECARD.
-    Mecard,
-    /// A contact, as vCard.
-    Vcard,
-    /// A SEPA credit transfer.
-    Payment,
-    /// A Swiss QR bill.
-    Bill,
-    /// A mail.
-    Mail,
-    /// A place on the earth.
-    Place,
-    /// A call.
-    Tel,
-    /// A message to a telephone.
-    Sms,
-    /// One-time passwords.
-    Otp,
-    /// An event of a calendar.
-    Event,
-}
-
 /// What a task does.
 #[derive(Clone, Copy)]
 pub enum Purpose {
@@ -144,10 +121,10 @@ pub struct Task {
 }
 
 /// What words ask for, in the order of the manual.
-pub fn worded_tasks() -> [&'static Task; 15] {
+pub fn worded_tasks() -> [&'static Task; 18] {
     [
-        &READING, &SEVERAL, &JOINING, &WIFI, &MECARD, &VCARD, &PAYMENT, &BILL, &MAIL, &PLACE, &TEL,
-        &SMS, &OTP, &EVENT, &ELEMENTS,
+        &READING, &SEVERAL, &JOINING, &WIFI, &MECARD, &VCARD, &PAYMENT, &BILL, &UPI, &PIX,
+        &PROMPTPAY, &MAIL, &PLACE, &TEL, &SMS, &OTP, &EVENT, &ELEMENTS,
     ]
 }
 
@@ -173,7 +150,7 @@ impl Task {
             ),
             Purpose::Read => (
                 "PICTURE",
-                "A PBM or PGM file, or half blocks; standard input if none is given",
+                "A PNG, PBM or PGM file, or half blocks; standard input if none is given",
             ),
             Purpose::Join => (
                 "PICTURE",
@@ -232,6 +209,11 @@ impl Task {
             options_under("Output", output),
             options_under("Other", about),
         ]
+    }
+
+    /// Whether its format says the level of a code.
+    pub fn has_its_level(&self) -> bool {
+        matches!(self.purpose, Purpose::Content(Kind::Payment | Kind::Bill))
     }
 
     // The heading of its own options.

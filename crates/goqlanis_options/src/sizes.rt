@@ -1,10 +1,9 @@
 //! Sizes of the command line.
 
-use crate::numbers::decimal;
 use clap::ArgMatches;
 use goqlanis_core::Format;
 use goqlanis_files::failure::Failure;
-use qrcode_png::GREATEST_SIDE;
+use qrcode_payloads::numbers::decimal;
 use std::alloc::Global;
 
 /// How large a drawing is.
@@ -30,18 +29,37 @@ pub fn sizes_of(alloc: Global, given: &ArgMatches<'_>, format: Format) -> Result
     };
     let scale = given.get_one::<u16>("scale").unwrap_or(format.pixels());
     let zone = given.get_one::<u8>("quiet-zone").unwrap_or(4);
-    let most = GREATEST_SIDE / (177 + 2 * zone as u32);
-    if format == Format::Png && scale as u32 > most {
-        return Err(Failure::Usage(format!(in alloc;
-            "--scale {scale}: a PNG file has at most 65,535 pixels a side; use --scale {most} or less"
-        )?));
-    }
+    check_scale(alloc, scale, zone, format)?;
+    check_side(alloc, side, format)?;
     Ok(Sizes {
         scale,
         side,
         hundredths: text.and_then(hundredths),
         dots,
     })
+}
+
+// Refuses a scale by which the largest code has more pixels than a format may have.
+fn check_scale(alloc: Global, scale: u16, zone: u8, format: Format) -> Result<(), Failure> {
+    let pixels = format.greatest_side();
+    let most = pixels / (177 + 2 * zone as u32);
+    if scale as u32 <= most {
+        return Ok(());
+    }
+    Err(Failure::Usage(format!(in alloc;
+        "--scale {scale}: this format has at most {pixels} pixels a side; use at most {most}"
+    )?))
+}
+
+// Refuses a side of more pixels than a format may have.
+fn check_side(alloc: Global, side: Option<u16>, format: Format) -> Result<(), Failure> {
+    let most = format.greatest_side();
+    match side {
+        Some(pixels) if pixels as u32 > most => Err(Failure::Usage(format!(in alloc;
+            "--size {pixels}: this format has at most {most} pixels a side"
+        )?)),
+        _ => Ok(()),
+    }
 }
 
 // The pixels of a printed inch, where they are known: of EPS, whose pixels are points, always.

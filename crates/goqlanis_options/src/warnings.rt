@@ -1,6 +1,7 @@
 //! Warnings on standard error, after which the code is drawn.
 
 use crate::asked::{Asked, Target, ending_format};
+use clap::ArgMatches;
 use goqlanis_core::{Format, Ink};
 use goqlanis_files::streams::shown;
 use std::fmt;
@@ -24,6 +25,18 @@ pub fn warn(rt: &HostRuntime, asked: &Asked<'_>) {
                 "goqlanis: warning: {path} has the file extension of another format than --format"
             );
         }
+    }
+}
+
+/// Warns of a network's password that is too short for WPA.
+pub fn warn_of_password(rt: &HostRuntime, given: &ArgMatches<'_>) {
+    let password = given.get_str("password").unwrap_or("");
+    let security = given.get_str("security").unwrap_or("WPA");
+    let is_wpa = security.eq_ignore_ascii_case("WPA") || security.eq_ignore_ascii_case("WPA2");
+    if is_wpa && !password.is_empty() && password.len() < 8 {
+        let _ = eprintln!(rt;
+            "goqlanis: warning: --password has fewer than 8 characters, which WPA and WPA2 need"
+        );
     }
 }
 

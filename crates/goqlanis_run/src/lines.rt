@@ -123,7 +123,7 @@ fn next_line<R: BufRead>(
             let most = Grouped(MOST_IN_LINE);
             Err(Failure::Refused(format!(in alloc;
                 "cannot read {name}: line {number} has more than {most} bytes; \
-                neither it nor the lines behind it are drawn"
+                neither it nor the lines after it are encoded"
             )?))
         }
         Err(error) => unread(alloc, name, &error),

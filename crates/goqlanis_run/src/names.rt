@@ -38,8 +38,8 @@ pub(crate) fn check_names(rt: &HostRuntime, asked: &Asked<'_>) -> Result<(), Fai
     let folder = path.rsplit_once('/').map_or("", |(folder, _)| folder);
     if is_stream(rt, path) {
         Err(Failure::Usage(format!(in rt.alloc();
-            "--output {path}: each code gets a file of its own; \
-            name one, as a.png, or leave --output out to draw text"
+            "--output {path}: each code gets its own file; \
+            name one, e.g. a.png, or leave out --output for text"
         )?))
     } else if folder.contains("{}") || has_text(folder) {
         usage(

@@ -45,8 +45,8 @@ pub(crate) fn draw_several(
         Ok(codes) => draw_each(rt, asked, codes),
         Err(QrError::DataTooLong) => refused(
             alloc,
-            "the data is too long for such symbols: take more of them, up to --count 16, \
-            greater versions, or a lower --level",
+            "the data does not fit: allow more codes (--count, up to 16), larger versions or a \
+            lower --level",
         ),
         Err(_) => Err(Failure::OutOfMemory),
     }
@@ -116,7 +116,7 @@ pub(crate) fn join_pictures(rt: &HostRuntime, given: &ArgMatches<'_>) -> Result<
     if names.len() > MOST_SYMBOLS {
         let count = Grouped(names.len());
         return Err(Failure::Refused(format!(in rt.alloc();
-            "{count} pictures: data has at most {MOST_SYMBOLS}; name those of one text"
+            "{count} pictures: a split has at most {MOST_SYMBOLS} codes; name those of one"
         )?));
     }
     let mut scans = Vec::new(rt.alloc());
@@ -167,7 +167,7 @@ fn part_of<'a>(alloc: Global, name: &str, scan: &'a Scan) -> Result<Part<'a>, Fa
         }
     }
     Err(Failure::Refused(format!(in alloc;
-        "{name}: it is none of several symbols; goqlanis read reads it"
+        "{name}: it is not part of a split; goqlanis read decodes it"
     )?))
 }
 
@@ -183,19 +183,19 @@ fn not_joined(
         JoinError::Stranger(index) => {
             let first = names.first().unwrap_or(&"");
             let name = names.get(index).unwrap_or(&"");
-            format!(in alloc; "{name}: it is a part of other data than {first}")?
+            format!(in alloc; "{name}: it belongs to other data than {first}")?
         }
         JoinError::Missing(place) => {
             let number = place.saturating_add(1);
-            format!(in alloc; "there is no picture of symbol {number}; name all of them")?
+            format!(in alloc; "part {number} is missing; name the pictures of all parts")?
         }
         JoinError::Twice(place) => {
             let number = place.saturating_add(1);
             let both = names_at(alloc, names, parts, place)?;
-            format!(in alloc; "there are two pictures of symbol {number}:{both}; leave one out")?
+            format!(in alloc; "part {number} is there twice:{both}; leave one out")?
         }
         JoinError::Parity => {
-            let why = "the pictures are not parts of the same data: parity differs";
+            let why = "the pictures do not belong to the same data: their parity differs";
             String::from_str(alloc, why)?
         }
     };

@@ -1,6 +1,6 @@
 //! What the command line asks for, done.
 
-use crate::contents::text_of;
+use crate::contents::payload_of;
 use crate::drawing::{
     application_drawing, draw_one, elements_drawing, segments_drawing, write_drawing,
 };
@@ -17,10 +17,12 @@ use goqlanis_options::colours::Colours;
 use goqlanis_options::command::{command_of, end_of_help};
 use goqlanis_options::completions::{completions_of, shell_named};
 use goqlanis_options::manual::manual_page;
-use goqlanis_options::options::{DRAWING, Kind, Purpose, Task, task_named};
+use goqlanis_options::options::{DRAWING, Purpose, Task, task_named};
+use goqlanis_options::warnings::warn_of_password;
 use qrcode::QrCode;
 use qrcode::types::QrError;
 use qrcode_contents::bill;
+use qrcode_payloads::kinds::Kind;
 use std::alloc::{AllocError, Global};
 use std::process::ExitCode;
 use std::{env, io};
@@ -190,9 +192,12 @@ fn draw_content(
     asked: &Asked<'_>,
 ) -> Result<ExitCode, Failure> {
     let alloc = rt.alloc();
-    let text = text_of(alloc, kind, given)?;
+    let text = payload_of(alloc, kind, given)?;
     if matches!(kind, Kind::Bill) {
         check_bill(alloc, text.as_str())?;
+    }
+    if matches!(kind, Kind::Wifi) {
+        warn_of_password(rt, given);
     }
     draw_one(rt, asked, text.as_bytes())
 }

@@ -1,7 +1,8 @@
-//! Texts of fields and elements of GS1, with the options that give them.
+//! Payloads, with the options that give their fields.
 
 use super::Takes::{Nothing, Text, Wanted, Word};
-use super::{Entry, Kind, Purpose, Task};
+use super::{Entry, Purpose, Task};
+use qrcode_payloads::kinds::Kind;
 
 /// Elements of GS1.
 #[rattlefmt::skip]
@@ -11,8 +12,8 @@ pub static ELEMENTS: Task = Task {
     purpose: Purpose::Elements,
     options: &[
         entry!("application", Text("INDICATOR"),
-            "Encode data of another application instead (FNC1 in second position): two digits or a \
-            letter, assigned by AIM"),
+            "Data of another application (FNC1 in second position): its two digits or letter, \
+            assigned by AIM"),
     ],
 };
 
@@ -23,11 +24,12 @@ pub static WIFI: Task = Task {
     about: "Wi-Fi network",
     purpose: Purpose::Content(Kind::Wifi),
     options: &[
-        entry!("ssid", Wanted("NAME"), "The name of the network, 1 to 32 bytes"),
-        entry!("password", Text("TEXT"), "Its password; none for an open network"),
-        entry!("security", Word("SECURITY", &["open", "WEP", "WPA", "WPA3"]),
-            "How it is secured; otherwise WPA with a password, and open without"),
-        entry!("hidden", Nothing, "Say that the network does not tell its name"),
+        entry!("ssid", Wanted("NAME"), "Network name, 1 to 32 bytes"),
+        entry!("password", Text("TEXT"), "Password; leave it out for an open network"),
+        entry!("security",
+            Word("SECURITY", &["open", "nopass", "none", "WEP", "WPA", "WPA2", "WPA3", "SAE"]),
+            "Encryption [default: WPA if there is a password]"),
+        entry!("hidden", Nothing, "The network does not broadcast its name"),
     ],
 };
 
@@ -38,18 +40,18 @@ pub static MECARD: Task = Task {
     about: "Contact (MECARD)",
     purpose: Purpose::Content(Kind::Mecard),
     options: &[
-        entry!("family", Wanted("NAME"), "The family name"),
-        entry!("given", Text("NAME"), "The given name"),
-        entry!("phone", Text("NUMBER"), "A telephone number"),
-        entry!("email", Text("ADDRESS"), "An address of mail"),
-        entry!("url", Text("URL"), "An address of the web"),
-        entry!("birthday", Text("DATE"), "The birthday, as 19700131"),
-        entry!("note", Text("TEXT"), "A note"),
-        entry!("street", Text("TEXT"), "The street with the number of the house"),
-        entry!("city", Text("TEXT"), "The town"),
-        entry!("region", Text("TEXT"), "The region"),
-        entry!("code", Text("TEXT"), "The postal code"),
-        entry!("country", Text("TEXT"), "The country"),
+        entry!("family", Wanted("NAME"), "Family name"),
+        entry!("given", Text("NAME"), "Given name"),
+        entry!("phone", Text("NUMBER"), "Phone number"),
+        entry!("email", Text("ADDRESS"), "E-mail address"),
+        entry!("url", Text("URL"), "Web address"),
+        entry!("birthday", Text("DATE"), "Birthday, e.g. 1970-01-31"),
+        entry!("note", Text("TEXT"), "Note"),
+        entry!("street", Text("TEXT"), "Street and house number"),
+        entry!("city", Text("TEXT"), "City"),
+        entry!("region", Text("TEXT"), "Region"),
+        entry!("code", Text("TEXT"), "Postal code"),
+        entry!("country", Text("TEXT"), "Country"),
     ],
 };
 
@@ -60,19 +62,24 @@ pub static VCARD: Task = Task {
     about: "Contact (vCard 3.0)",
     purpose: Purpose::Content(Kind::Vcard),
     options: &[
-        entry!("name", Wanted("NAME"), "The whole name, as it is shown"),
-        entry!("family", Wanted("NAME"), "The family name"),
-        entry!("given", Text("NAME"), "The given names"),
-        entry!("organisation", Text("NAME"), "The organisation"),
-        entry!("phone", Text("NUMBER"), "A telephone number"),
-        entry!("email", Text("ADDRESS"), "An address of mail"),
-        entry!("url", Text("URL"), "An address of the web"),
-        entry!("street", Text("TEXT"), "The street with the number of the house"),
-        entry!("city", Text("TEXT"), "The town"),
-        entry!("region", Text("TEXT"), "The region"),
-        entry!("code", Text("TEXT"), "The postal code"),
-        entry!("country", Text("TEXT"), "The country"),
-        entry!("note", Text("TEXT"), "A note"),
+        entry!("name", Wanted("NAME"), "Full name, as it is shown"),
+        entry!("family", Wanted("NAME"), "Family name"),
+        entry!("given", Text("NAME"), "Given names"),
+        entry!("organisation", Text("NAME"), "Organisation"),
+        entry!("title", Text("TEXT"), "Title or function"),
+        entry!("phone", Text("NUMBER"), "Phone number"),
+        entry!("mobile", Text("NUMBER"), "Mobile phone number"),
+        entry!("work-phone", Text("NUMBER"), "Phone number at work"),
+        entry!("home-phone", Text("NUMBER"), "Phone number at home"),
+        entry!("email", Text("ADDRESS"), "E-mail address"),
+        entry!("url", Text("URL"), "Web address"),
+        entry!("birthday", Text("DATE"), "Birthday, e.g. 1970-01-31"),
+        entry!("street", Text("TEXT"), "Street and house number"),
+        entry!("city", Text("TEXT"), "City"),
+        entry!("region", Text("TEXT"), "Region"),
+        entry!("code", Text("TEXT"), "Postal code"),
+        entry!("country", Text("TEXT"), "Country"),
+        entry!("note", Text("TEXT"), "Note"),
     ],
 };
 
@@ -83,15 +90,15 @@ pub static PAYMENT: Task = Task {
     about: "SEPA credit transfer (EPC QR code)",
     purpose: Purpose::Content(Kind::Payment),
     options: &[
-        entry!("name", Wanted("NAME"), "Who is paid, up to 70 characters"),
-        entry!("iban", Wanted("IBAN"), "The account, without spaces"),
-        entry!("amount", Wanted("EUROS"), "The amount in euros, as 12.30"),
+        entry!("name", Wanted("NAME"), "Payee, up to 70 characters"),
+        entry!("iban", Wanted("IBAN"), "Payee's account"),
+        entry!("amount", Wanted("EUROS"), "Amount in euros, e.g. 12.30"),
         entry!("bic", Text("BIC"),
-            "The identifier of the bank, which makes the text one of version 001; otherwise 002"),
-        entry!("purpose", Text("CODE"), "The code of the purpose, up to four capitals and digits"),
-        entry!("reference", Text("TEXT"), "The reference, of ISO 11649"),
-        entry!("message", Text("TEXT"), "A message in place of a reference, up to 140 characters"),
-        entry!("information", Text("TEXT"), "What is told to who pays, up to 70 characters"),
+            "Payee's bank; makes the code version 001 instead of 002"),
+        entry!("purpose", Text("CODE"), "Purpose code, up to four letters and digits"),
+        entry!("reference", Text("TEXT"), "Reference (ISO 11649), e.g. RF18 5390 0754 7034"),
+        entry!("message", Text("TEXT"), "Message instead of a reference, up to 140 characters"),
+        entry!("information", Text("TEXT"), "Note to the payer, up to 70 characters"),
     ],
 };
 
@@ -102,25 +109,72 @@ pub static BILL: Task = Task {
     about: "Swiss QR-bill, without its cross",
     purpose: Purpose::Content(Kind::Bill),
     options: &[
-        entry!("iban", Wanted("IBAN"), "The account in Switzerland or Liechtenstein, without spaces"),
-        entry!("name", Wanted("NAME"), "Who is paid, up to 70 characters"),
-        entry!("street", Text("TEXT"), "The street of who is paid"),
-        entry!("number", Text("TEXT"), "The number of the house"),
-        entry!("code", Wanted("TEXT"), "The postal code"),
-        entry!("city", Wanted("TEXT"), "The town"),
-        entry!("country", Wanted("CODE"), "The country, two capitals, as CH"),
-        entry!("amount", Text("NUMBER"), "The amount, as 1949.75; otherwise it is left open"),
-        entry!("currency", Word("CURRENCY", &["CHF", "EUR"]), "The currency; CHF unless said otherwise"),
+        entry!("iban", Wanted("IBAN"), "Payee's account, in Switzerland or Liechtenstein"),
+        entry!("name", Wanted("NAME"), "Payee, up to 70 characters"),
+        entry!("street", Text("TEXT"), "Payee's street"),
+        entry!("number", Text("TEXT"), "Payee's house number"),
+        entry!("code", Wanted("TEXT"), "Payee's postal code"),
+        entry!("city", Wanted("TEXT"), "Payee's city"),
+        entry!("country", Wanted("CODE"), "Payee's country, two letters, e.g. CH"),
+        entry!("amount", Text("NUMBER"), "Amount, e.g. 1949.75 [default: left open]"),
+        entry!("currency", Word("CURRENCY", &["CHF", "EUR"]), "Currency [default: CHF]"),
         entry!("debtor-name", Text("NAME"),
-            "Who pays; nobody is named where all of these are left out"),
-        entry!("debtor-street", Text("TEXT"), "The street of who pays"),
-        entry!("debtor-number", Text("TEXT"), "The number of the house of who pays"),
-        entry!("debtor-code", Text("TEXT"), "The postal code of who pays"),
-        entry!("debtor-city", Text("TEXT"), "The town of who pays"),
-        entry!("debtor-country", Text("CODE"), "The country of who pays"),
+            "Payer; leave out all of these if the payer is not known"),
+        entry!("debtor-street", Text("TEXT"), "Payer's street"),
+        entry!("debtor-number", Text("TEXT"), "Payer's house number"),
+        entry!("debtor-code", Text("TEXT"), "Payer's postal code"),
+        entry!("debtor-city", Text("TEXT"), "Payer's city"),
+        entry!("debtor-country", Text("CODE"), "Payer's country"),
         entry!("reference", Text("TEXT"),
-            "The reference without spaces: 27 digits for a QR-IBAN, RF.. or none for another"),
-        entry!("message", Text("TEXT"), "A message, up to 140 characters"),
+            "Reference: 27 digits for a QR-IBAN; RF.. or none for another IBAN"),
+        entry!("message", Text("TEXT"), "Message, up to 140 characters"),
+    ],
+};
+
+/// A payment by UPI.
+#[rattlefmt::skip]
+pub static UPI: Task = Task {
+    word: "upi",
+    about: "Payment by UPI (India)",
+    purpose: Purpose::Content(Kind::Upi),
+    options: &[
+        entry!("payee", Wanted("ADDRESS"), "Payee's UPI address (VPA), e.g. name@bank"),
+        entry!("name", Text("NAME"), "Payee's name"),
+        entry!("amount", Text("RUPEES"), "Amount, e.g. 12.30 [default: left open]"),
+        entry!("note", Text("TEXT"), "Note"),
+        entry!("reference", Text("TEXT"), "Reference, e.g. an order number"),
+        entry!("category", Text("CODE"), "Merchant category code, four digits"),
+    ],
+};
+
+/// A payment by Pix.
+#[rattlefmt::skip]
+pub static PIX: Task = Task {
+    word: "pix",
+    about: "Payment by Pix (Brazil), static",
+    purpose: Purpose::Content(Kind::Pix),
+    options: &[
+        entry!("payee", Wanted("KEY"),
+            "Payee's Pix key: CPF or CNPJ in digits, phone as +5561912345678, e-mail, random key"),
+        entry!("name", Wanted("NAME"), "Payee's name, up to 25 ASCII characters"),
+        entry!("city", Wanted("TEXT"), "Payee's city, up to 15 ASCII characters"),
+        entry!("amount", Text("REAIS"), "Amount, e.g. 12.30 [default: left open]"),
+        entry!("reference", Text("TEXT"), "Reference (txid), up to 25 letters and digits"),
+        entry!("description", Text("TEXT"), "Description, with the key up to 73 ASCII characters"),
+    ],
+};
+
+/// A payment by PromptPay.
+#[rattlefmt::skip]
+pub static PROMPTPAY: Task = Task {
+    word: "promptpay",
+    about: "Payment by PromptPay (Thailand)",
+    purpose: Purpose::Content(Kind::Promptpay),
+    options: &[
+        entry!("payee", Wanted("NUMBER"),
+            "Payee's phone number, e.g. 081 234 5678, national or tax ID of 13 digits, or e-wallet \
+            of 15"),
+        entry!("amount", Text("BAHT"), "Amount, e.g. 12.30 [default: left open]"),
     ],
 };
 
@@ -131,9 +185,9 @@ pub static MAIL: Task = Task {
     about: "E-mail",
     purpose: Purpose::Content(Kind::Mail),
     options: &[
-        entry!("email", Wanted("ADDRESS"), "To whom it goes"),
-        entry!("subject", Text("TEXT"), "Its subject"),
-        entry!("message", Text("TEXT"), "What it says"),
+        entry!("email", Wanted("ADDRESS"), "Recipient"),
+        entry!("subject", Text("TEXT"), "Subject"),
+        entry!("message", Text("TEXT"), "Text"),
     ],
 };
 
@@ -142,11 +196,11 @@ pub static MAIL: Task = Task {
 pub static PLACE: Task = Task {
     word: "geo",
     about: "Location",
-    purpose: Purpose::Content(Kind::Place),
+    purpose: Purpose::Content(Kind::Geo),
     options: &[
         entry!("latitude", Wanted("DEGREES"),
-            "Degrees north of the equator, -90 to 90, as -33.8568"),
-        entry!("longitude", Wanted("DEGREES"), "Degrees east of Greenwich, -180 to 180"),
+            "Degrees north, -90 to 90, e.g. -33.8568"),
+        entry!("longitude", Wanted("DEGREES"), "Degrees east, -180 to 180"),
     ],
 };
 
@@ -157,7 +211,7 @@ pub static TEL: Task = Task {
     about: "Phone call",
     purpose: Purpose::Content(Kind::Tel),
     options: &[
-        entry!("phone", Wanted("NUMBER"), "The number, as +41441234567"),
+        entry!("phone", Wanted("NUMBER"), "Phone number, e.g. +41 44 123 45 67"),
     ],
 };
 
@@ -168,8 +222,8 @@ pub static SMS: Task = Task {
     about: "Text message",
     purpose: Purpose::Content(Kind::Sms),
     options: &[
-        entry!("phone", Wanted("NUMBER"), "The number, as +41441234567"),
-        entry!("message", Text("TEXT"), "What it says"),
+        entry!("phone", Wanted("NUMBER"), "Phone number, e.g. +41 44 123 45 67"),
+        entry!("message", Text("TEXT"), "Text"),
     ],
 };
 
@@ -180,16 +234,16 @@ pub static OTP: Task = Task {
     about: "One-time password for authenticator apps",
     purpose: Purpose::Content(Kind::Otp),
     options: &[
-        entry!("account", Wanted("NAME"), "For which account they are"),
-        entry!("secret", Wanted("SECRET"), "The secret in base 32, without spaces and ="),
-        entry!("issuer", Text("NAME"), "Who issues them"),
+        entry!("account", Wanted("NAME"), "Account, e.g. an e-mail address"),
+        entry!("secret", Wanted("SECRET"), "Secret in base 32"),
+        entry!("issuer", Text("NAME"), "Service that issues the passwords"),
         entry!("algorithm", Word("HASH", &["SHA1", "SHA256", "SHA512"]),
-            "The hash; SHA1 unless said otherwise"),
+            "Hash function [default: SHA1]"),
         entry!("digits", Word("N", &["6", "8"]),
-            "How many digits a password has; 6 unless said otherwise"),
-        entry!("period", Text("SECONDS"), "How long one holds; 30 unless said otherwise"),
+            "Digits of a password [default: 6]"),
+        entry!("period", Text("SECONDS"), "Seconds that a password is valid [default: 30]"),
         entry!("counter", Text("NUMBER"),
-            "Change with a counter that begins here, and not with the time"),
+            "Use a counter that starts here, instead of the time"),
     ],
 };
 
@@ -201,12 +255,13 @@ pub static EVENT: Task = Task {
     purpose: Purpose::Content(Kind::Event),
     options: &[
         entry!("begin", Wanted("TIME"),
-            "When it begins, in UTC as 19970714T170000Z, or a day as 19970714"),
-        entry!("end", Wanted("TIME"), "When it ends; of whole days the day behind the last"),
-        entry!("summary", Text("TEXT"), "What it is"),
-        entry!("location", Text("TEXT"), "Where it is"),
-        entry!("description", Text("TEXT"), "What is told of it"),
-        entry!("uid", Wanted("TEXT"), "Its identifier, which no other event has"),
-        entry!("stamp", Wanted("TIME"), "When this was written, in UTC"),
+            "Start, with a zone as 2026-11-28T14:00+01:00, in UTC as 2026-11-28T13:00Z, or a day as \
+            2026-11-28"),
+        entry!("end", Wanted("TIME"), "End; for whole days, the day after the last"),
+        entry!("summary", Text("TEXT"), "Title of the event"),
+        entry!("location", Text("TEXT"), "Location"),
+        entry!("description", Text("TEXT"), "Description"),
+        entry!("uid", Text("TEXT"), "Unique identifier of the event"),
+        entry!("stamp", Text("TIME"), "Time of writing, with a zone or in UTC"),
     ],
 };

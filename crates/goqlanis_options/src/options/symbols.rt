@@ -157,7 +157,7 @@ pub const EXAMPLES: &str = "Examples:
       split data over 4 codes; goqlanis join part-*.pbm reads them back
   goqlanis read ticket.pbm
       decode a picture
-  goqlanis wifi --ssid Guests --password \"a;b\"
+  goqlanis wifi --ssid Guests --password \"pass;word\"
       make a code that joins a network
   goqlanis gs1 -o label.png \"(01)09521234543213(17)271231(10)ABC123\"
       make a GS1 label

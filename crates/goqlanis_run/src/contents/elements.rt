@@ -213,7 +213,7 @@ fn push_digit(
     write!(
         text,
         "its check digit, at place {place}, would be {digit}; \
-        look for a digit that is wrong or exchanged"
+        look for a mistyped or swapped digit"
     )
 }
 
