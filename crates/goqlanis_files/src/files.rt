@@ -3,6 +3,7 @@
 use std::alloc::{AllocError, Global};
 use std::fs::{File, Metadata, OpenOptions, Permissions};
 use std::io::{ErrorKind, Write};
+use std::os::fd::AsRawFd;
 use std::os::unix::fs::{MetadataExt, OpenOptionsExt, PermissionsExt, fchown};
 use std::{fs, io};
 use thiserror::Error;
@@ -32,6 +33,33 @@ pub enum Unwritten {
 // The most links that are followed, as Linux does.
 const LINKS: u32 = 40;
 
+// A folder, whose names are looked up in what was opened once: another folder, or a link, that
+// takes its place meanwhile is not seen.
+#[derive(Drop)]
+struct Folder {
+    // As it is written, with the slash behind it.
+    name: String,
+    // The way to it: by the number of what is open; or its name, where it may not be read.
+    way: String,
+    _open: Option<File>,
+}
+
+// The folder of a path.
+fn opened(rt: &HostRuntime, path: &str) -> Result<Folder, AllocError> {
+    let name = String::from_str(rt.alloc(), folder_of(path))?;
+    let place = if name.is_empty() { "." } else { name.as_str() };
+    let open = File::open(rt, place).ok();
+    let way = match &open {
+        Some(file) => format!(in rt.alloc(); "/proc/self/fd/{}/", file.as_raw_fd())?,
+        None => String::from_str(rt.alloc(), name.as_str())?,
+    };
+    Ok(Folder {
+        name,
+        way,
+        _open: open,
+    })
+}
+
 /// Writes a file atomically: next to it under another name, where only its owner can read it, and
 /// renamed into its place. Links are followed. What is no regular file, such as a pipe, and what is
 /// open already, is written directly. Nothing of another user is taken in a folder for everybody.
@@ -39,27 +67,31 @@ pub fn write_whole(rt: &HostRuntime, path: &str, bytes: &[u8]) -> Result<(), Unw
     let mut place = String::from_str(rt.alloc(), path)?;
     for _ in 0..LINKS {
         if is_open_file(place.as_str()) {
-            break;
+            return write_straight(rt, place.as_str(), true, bytes);
         }
-        let found = match fs::symlink_metadata(rt, place.as_str()) {
+        let folder = opened(rt, place.as_str())?;
+        let name = name_of(place.as_str());
+        let inside = format!(in rt.alloc(); "{}{name}", folder.way.as_str())?;
+        let found = match fs::symlink_metadata(rt, inside.as_str()) {
             Ok(found) => found,
             Err(error) if error.kind() == ErrorKind::NotFound => {
-                return replace(rt, place.as_str(), None, bytes);
+                return replace(rt, &folder, inside.as_str(), None, bytes);
             }
             Err(error) => return Err(Unwritten::File(error)),
         };
-        if is_strange(rt, folder_of(place.as_str()), &found)? {
+        if is_strange(rt, folder.way.as_str(), &found)? {
             return Err(Unwritten::Strange);
         }
         if found.is_file() {
-            return replace(rt, place.as_str(), Some(found), bytes);
+            return replace(rt, &folder, inside.as_str(), Some(found), bytes);
         }
         if !found.is_symlink() {
-            break;
+            return write_straight(rt, inside.as_str(), false, bytes);
         }
-        place = followed(rt, place.as_str())?;
+        place = followed(rt, inside.as_str(), folder.name.as_str())?;
     }
-    write_straight(rt, place.as_str(), bytes)
+    // As Linux says of as many links.
+    write_straight(rt, place.as_str(), false, bytes)
 }
 
 // Whether a path names a file that is open in this process or another one, as /dev/stdout does.
@@ -77,15 +109,11 @@ pub fn is_stream(rt: &HostRuntime, path: &str) -> bool {
     is_open || fs::metadata(rt, path).is_ok_and(|found| !found.is_file())
 }
 
-// What a link names.
-fn followed(rt: &HostRuntime, link: &str) -> Result<String, Unwritten> {
+// What a link names that stands in a folder.
+fn followed(rt: &HostRuntime, link: &str, folder: &str) -> Result<String, Unwritten> {
     let named = fs::read_link(rt, link)?;
     let target = named.as_path().as_str();
-    let folder = if target.starts_with('/') {
-        ""
-    } else {
-        folder_of(link)
-    };
+    let folder = if target.starts_with('/') { "" } else { folder };
     Ok(format!(in rt.alloc(); "{folder}{target}")?)
 }
 
@@ -108,10 +136,22 @@ fn folder_of(path: &str) -> &str {
     }
 }
 
+// The name of a path in its folder.
+fn name_of(path: &str) -> &str {
+    match path.rsplit_once('/') {
+        Some((_, name)) => name,
+        None => path,
+    }
+}
+
 // Writes what is no regular file, or after what is in a file that is open already. A regular file
 // that took its place meanwhile is left alone.
-fn write_straight(rt: &HostRuntime, place: &str, bytes: &[u8]) -> Result<(), Unwritten> {
-    let is_open = is_open_file(place);
+fn write_straight(
+    rt: &HostRuntime,
+    place: &str,
+    is_open: bool,
+    bytes: &[u8],
+) -> Result<(), Unwritten> {
     let mut file = OpenOptions::new()
         .write(true)
         .append(is_open)
@@ -122,24 +162,24 @@ fn write_straight(rt: &HostRuntime, place: &str, bytes: &[u8]) -> Result<(), Unw
     Ok(file.write_all(bytes)?)
 }
 
-// Writes a new file in the folder of a path, under the first name that is free, and renames it to the
-// path, where an old file may stand.
+// Writes a new file in a folder, under the first name that is free, and renames it to the path, where
+// an old file may stand.
 fn replace(
     rt: &HostRuntime,
+    folder: &Folder,
     path: &str,
     old: Option<Metadata>,
     bytes: &[u8],
 ) -> Result<(), Unwritten> {
-    let folder = folder_of(path);
     for number in 0..u32::MAX {
-        let beside = format!(in rt.alloc(); "{folder}goqlanis-{number}.new")?;
+        let beside = format!(in rt.alloc(); "{}goqlanis-{number}.new", folder.way.as_str())?;
         match private_file(rt, beside.as_str(), old.as_ref()) {
             Ok((file, rights)) => {
                 let filled = fill(file, rights, old.as_ref(), bytes);
                 return settle(rt, filled, beside.as_str(), path);
             }
             Err(error) if error.kind() == ErrorKind::AlreadyExists => {}
-            Err(error) => return Err(no_file_in(rt.alloc(), folder, error)?),
+            Err(error) => return Err(no_file_in(rt.alloc(), folder.name.as_str(), error)?),
         }
     }
     Err(Unwritten::File(io::Error::from(ErrorKind::AlreadyExists)))

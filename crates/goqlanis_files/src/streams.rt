@@ -102,7 +102,7 @@ fn read_all<R: Read + Drop>(
     {
         Ok(_) if bytes.len() > most => {
             let help = if most == MOST_DATA {
-                "; goqlanis several takes more"
+                "; goqlanis split takes more"
             } else {
                 ""
             };
