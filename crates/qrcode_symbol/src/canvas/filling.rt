@@ -33,9 +33,9 @@ static TWO_ROWS: [[[Color; 2]; 2]; 16] = [
 ];
 
 // A pair of columns of the walk, which goes upwards where the number of the pair is even, and else
-// downwards. The type has the parity, so that each way has loops of its own.
+// downwards.
 #[derive(Copy, Clone)]
-struct Pair<const PARITY: usize> {
+struct Pair {
     version: Version,
     width: usize,
     number: usize,
@@ -44,23 +44,22 @@ struct Pair<const PARITY: usize> {
     ghost wide: { width ≡ side version },
     ghost small: { width ≤ 177 },
     ghost inside: { 2 * number + 3 ≤ width },
-    ghost parity: { number % 2 ≡ PARITY },
     ghost column: { right ≡ right_column version number },
     ghost at_least: { 1 ≤ right },
     ghost at_most: { right < width },
 }
 
-impl<const PARITY: usize> Pair<PARITY> {
+impl Pair {
     // The index of the right module in the row of a step.
     #[inline(always)]
     fn index(self, step: usize) -> usize
         requires { step < self.width }
-        ensures value { result ≡ row_index self.entry.version self.entry.number step }
+        ensures value { result ≡ row_index self.version self.number step }
         ensures some { 1 ≤ result }
-        ensures inside { result < side self.entry.version * side self.entry.version }
+        ensures inside { result < side self.version * side self.version }
         ensures small { result < 40000 }
     {
-        let row = if PARITY == 0 {
+        let row = if self.number % 2 == 0 {
             self.width - 1 - step
         } else {
             step
@@ -73,15 +72,15 @@ impl<const PARITY: usize> Pair<PARITY> {
     fn four(self, step: usize) -> [usize; 4]
         requires { step + 4 ≤ self.width }
         ensures { result
-            ≡ map (row_index self.entry.version self.entry.number) (range_with_len step 4) }
+            ≡ map (row_index self.version self.number) (range_with_len step 4) }
     {
         let width = self.width;
-        if PARITY == 0 {
-            // From the first row, whose index goes from four steps to the next with no product.
-            let first = self.index(step);
+
+        // From the first row, whose index goes from four steps to the next with no product.
+        let first = self.index(step);
+        if self.number % 2 == 0 {
             return [first, first - width, first - 2 * width, first - 3 * width];
         }
-        let first = self.index(step);
         [first, first + width, first + 2 * width, first + 3 * width]
     }
 }
@@ -104,8 +103,8 @@ fn draw_bit<C: Cell>(codewords: &mut Codewords<'_>, modules: &mut [C], index: us
 
 // Draws the next bits one by one, from a step on and up to another.
 #[inline(never)]
-fn draw_steps<C: Cell, const PARITY: usize>(
-    pair: Pair<PARITY>,
+fn draw_steps<C: Cell>(
+    pair: Pair,
     from: usize,
     to: usize,
     codewords: &mut Codewords<'_>,
@@ -114,10 +113,10 @@ fn draw_steps<C: Cell, const PARITY: usize>(
     requires order { from ≤ to }
     requires inside { to ≤ pair.width }
     requires square { length modules.old ≡ side pair.version * side pair.version }
-    ensures { filled_from pair.entry.version codewords.new (map C.shows modules.new)
-        (2 * side pair.entry.version * pair.entry.number + 2 * to)
-        ≡ filled_from pair.entry.version codewords.old (map C.shows modules.old)
-        (2 * side pair.entry.version * pair.entry.number + 2 * from) }
+    ensures { filled_from pair.version codewords.new (map C.shows modules.new)
+        (2 * side pair.version * pair.number + 2 * to)
+        ≡ filled_from pair.version codewords.old (map C.shows modules.old)
+        (2 * side pair.version * pair.number + 2 * from) }
 {
     for step in from..to {
         let index = pair.index(step);
@@ -155,18 +154,13 @@ fn draw_two_rows<C: Cell>(modules: &mut [C], first: usize, second: usize, bits: 
 
 // Draws the next bits in the rows of four steps.
 #[inline(always)]
-fn draw_four<C: Cell, const PARITY: usize>(
-    pair: Pair<PARITY>,
-    step: usize,
-    codewords: &mut Codewords<'_>,
-    modules: &mut [C],
-)
+fn draw_four<C: Cell>(pair: Pair, step: usize, codewords: &mut Codewords<'_>, modules: &mut [C])
     requires inside { step + 4 ≤ pair.width }
     requires square { length modules.old ≡ side pair.version * side pair.version }
-    ensures { filled_from pair.entry.version codewords.new (map C.shows modules.new)
-        (2 * side pair.entry.version * pair.entry.number + 2 * (step + 4))
-        ≡ filled_from pair.entry.version codewords.old (map C.shows modules.old)
-        (2 * side pair.entry.version * pair.entry.number + 2 * step) }
+    ensures { filled_from pair.version codewords.new (map C.shows modules.new)
+        (2 * side pair.version * pair.number + 2 * (step + 4))
+        ≡ filled_from pair.version codewords.old (map C.shows modules.old)
+        (2 * side pair.version * pair.number + 2 * step) }
 {
     let [a, b, c, d] = pair.four(step);
     if is_row_empty(modules, a)
@@ -184,16 +178,12 @@ fn draw_four<C: Cell, const PARITY: usize>(
 }
 
 // Draws the next bits in a pair of columns.
-fn draw_pair<C: Cell, const PARITY: usize>(
-    pair: Pair<PARITY>,
-    codewords: &mut Codewords<'_>,
-    modules: &mut [C],
-)
+fn draw_pair<C: Cell>(pair: Pair, codewords: &mut Codewords<'_>, modules: &mut [C])
     requires { length modules.old ≡ side pair.version * side pair.version }
-    ensures { filled_from pair.entry.version codewords.new (map C.shows modules.new)
-        (2 * side pair.entry.version * (pair.entry.number + 1))
-        ≡ filled_from pair.entry.version codewords.old (map C.shows modules.old)
-        (2 * side pair.entry.version * pair.entry.number) }
+    ensures { filled_from pair.version codewords.new (map C.shows modules.new)
+        (2 * side pair.version * (pair.number + 1))
+        ≡ filled_from pair.version codewords.old (map C.shows modules.old)
+        (2 * side pair.version * pair.number) }
 {
     let fours = pair.width / 4;
     for four in 0..fours {
@@ -215,22 +205,12 @@ pub(super) fn draw_codewords<C: Cell>(version: Version, codewords: Codewords<'_>
     let width = side(version);
     for number in 0..width / 2 {
         let right = right_column(version, width, number);
-        if number % 2 == 0 {
-            let pair = Pair::<0> {
-                version,
-                width,
-                number,
-                right,
-            };
-            draw_pair(pair, &mut codewords, modules);
-        } else {
-            let pair = Pair::<1> {
-                version,
-                width,
-                number,
-                right,
-            };
-            draw_pair(pair, &mut codewords, modules);
-        }
+        let pair = Pair {
+            version,
+            width,
+            number,
+            right,
+        };
+        draw_pair(pair, &mut codewords, modules);
     }
 }
