@@ -4,7 +4,7 @@ pub mod Folds
 pub mod Grids
 pub mod LineTexts
 pub mod Numbers
-pub mod Packed
+pub mod PackedBits
 pub mod Palettes
 pub mod Pictures
 pub mod PixelRows

@@ -1,6 +1,6 @@
 -- The text of Encapsulated PostScript.
 use Rattle.std.proofs.Common.{◌≡◌}
-use Rattle.std.specs.Prelude.{ℕ, List, [], ◌++◌, codes, decimal}
+use Rattle.std.specs.Prelude.{ℕ, ◌+◌, ◌-◌, ◌*◌, ◌/◌, List, [], ◌++◌, codes, decimal}
 use Rattle.qrcode_types.specs.declared.types.Color.{Color}
 use Rattle.qrcode_render.specs.declared.eps.Color as eps
 use Rattle.qrcode_render.specs.Drawn.{drawn}
@@ -34,6 +34,18 @@ eps_ground w h = codes "0 0 " ++ (decimal w ++ (codes " " ++ (decimal h ++ codes
 abbrev pub eps_start : ℕ → ℕ → eps.Color → eps.Color → List ℕ
 eps_start w h dark light = eps_head w h ++ (eps_paint light ++ (eps_ground w h ++ (eps_turn h ++ eps_paint dark)))
 
+-- the points, each 1/72 of an inch, that pixels begin, of which an inch has so many
+abbrev pub begun_points : ℕ → ℕ → ℕ
+begun_points dots n = (72 * n + dots - 1) / dots
+
+-- the same head, of so many pixels to an inch, and how large a pixel is
+abbrev pub eps_sized_head : ℕ → ℕ → ℕ → List ℕ
+eps_sized_head dots w h = eps_head (begun_points dots w) (begun_points dots h) ++ (codes "72 " ++ (decimal dots ++ codes " div dup scale\n"))
+
+-- what stands before the first dark rectangle then
+abbrev pub eps_sized_start : ℕ → ℕ → ℕ → eps.Color → eps.Color → List ℕ
+eps_sized_start dots w h dark light = eps_sized_head dots w h ++ (eps_paint light ++ (eps_ground w h ++ (eps_turn h ++ eps_paint dark)))
+
 -- a dark rectangle
 abbrev pub eps_rect : ℕ → ℕ → ℕ → ℕ → List ℕ → List ℕ
 eps_rect left top width height text = text ++ eps_box left top width height
@@ -57,3 +69,7 @@ eps_end = codes "showpage\n%%EOF\n"
 -- the picture of modules, of a dark and a light colour
 abbrev pub eps_text : Layout → List Color → eps.Color → eps.Color → List ℕ
 eps_text at content dark light = drawn eps_rect at content (eps_start (pixels_across at) (pixels_down at) dark light) ++ eps_end
+
+-- the same, of so many pixels to an inch
+abbrev pub eps_sized_text : ℕ → Layout → List Color → eps.Color → eps.Color → List ℕ
+eps_sized_text dots at content dark light = drawn eps_rect at content (eps_sized_start dots (pixels_across at) (pixels_down at) dark light) ++ eps_end

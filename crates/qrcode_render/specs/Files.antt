@@ -10,6 +10,10 @@ pgm_file dark light b =
     codes "P5\n" ++ (decimal b.across ++ (codes " " ++ (decimal b.down ++ codes "\n255\n")))
     ++ raw_bytes (dark ∷ []) (light ∷ []) b
 
+-- a PPM file: its kind, its sides, the greatest red, green and blue, and those of each pixel, row by row
+unfoldable pub ppm_file : List ℕ → List ℕ → Bitmap → List ℕ
+ppm_file dark light b = codes "P6\n" ++ (decimal b.across ++ (codes " " ++ (decimal b.down ++ codes "\n255\n"))) ++ raw_bytes dark light b
+
 -- which pixels of a row are black, where dark ones are or are not, and light ones are or are not
 abbrev pub inked : Bool → Bool → List Bool → List Bool
 inked marked other marks = map (λ m. if m then marked else other) marks
@@ -27,8 +31,12 @@ bits_from blacks start (suc count) = 2 * bits_from blacks start count + black_bi
 unfoldable pub packed : List Bool → List ℕ
 packed blacks = map (λ i. bits_from blacks (8 * i) 8) (range_with_len 0 ((length blacks + 7) / 8))
 
--- a PBM file: its kind, its sides, and the rows of pixels, each in bytes of its own
+-- the head of a PBM file: its kind, and its sides
+abbrev pub pbm_head : ℕ → ℕ → List ℕ
+pbm_head w h = codes "P4\n" ++ (decimal w ++ (codes " " ++ (decimal h ++ codes "\n")))
+
+-- a PBM file: its head, and the rows of pixels, each in bytes of its own
 unfoldable pub pbm_file : Bool → Bool → Bitmap → List ℕ
 pbm_file marked other b =
-    codes "P4\n" ++ (decimal b.across ++ (codes " " ++ (decimal b.down ++ codes "\n")))
+    pbm_head b.across b.down
     ++ flat_map (λ y. packed (inked marked other (row_of b y))) (range_with_len 0 b.down)

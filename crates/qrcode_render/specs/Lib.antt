@@ -9,8 +9,10 @@ pub mod Ink
 pub mod Layout
 pub mod Lines
 pub mod Paths
+pub mod Pdf
 pub mod Pic
 pub mod Picture
+pub mod Printers
 pub mod Raster
 pub mod Setting
 pub mod Shades

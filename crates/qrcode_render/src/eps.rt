@@ -1,13 +1,16 @@
-//! Pictures as Encapsulated PostScript, in which a pixel is a point: 1/72 of an inch.
+//! Pictures as Encapsulated PostScript, in which a pixel is a point, 1/72 of an inch, unless
+//! `with_density` says otherwise.
 
 ghost use Rattle.std.proofs.Common.{rules};
-ghost use Rattle.std.specs.Prelude.{◌≡◌};
+ghost use Rattle.std.specs.Prelude.{◌≡◌, ◌≤◌, string_bytes, IfOk, IsOkUnless, IsTrue};
+ghost use Rattle.qrcode_types.specs.declared.types.QrError.TheVariants.{OutOfMemory};
 ghost use Rattle.qrcode_types.specs.Colors.{select_of};
-ghost use Rattle.qrcode_render.specs.Eps.{eps_start, eps_rect, eps_rect-is, eps_column, eps_row, eps_end};
+ghost use Rattle.qrcode_render.specs.Eps.{begun_points, eps_start, eps_rect, eps_rect-is, eps_column, eps_row, eps_end, eps_sized_start, eps_sized_text};
+ghost use Rattle.qrcode_render.specs.Setting.{fits, layout_of};
 
-use crate::Pixel;
-use crate::ink::{Piece, Word};
-use crate::strokes::{Plot, Strokes};
+use crate::ink::{Piece, Script, Word};
+use crate::strokes::{Plot, Strokes, push_modules};
+use crate::{Pixel, Renderer};
 use qrcode_types::types::{Color as ModuleColor, QrResult};
 use std::alloc::Global;
 
@@ -90,4 +93,57 @@ impl Strokes<Color> for Boxes {
         let front = Word::of("").number(top).text(" ").number(width);
         Piece::new(front.text(" ").number(height), Word::of(" rectfill\n"))
     }
+}
+
+/// The text that `build` makes of a renderer, but with so many pixels to an inch, at least 1.
+///
+/// `OutOfMemory`: memory ran out.
+pub fn with_density(alloc: Global, renderer: &Renderer<Color>, dots: u32) -> QrResult<String>
+    requires fits { IsTrue (fits renderer.now) }
+    requires at_least { 1 ≤ dots }
+    ensures text { IfOk result (λ text. string_bytes text ≡ eps_sized_text dots
+        (layout_of renderer.now) renderer.now.content renderer.now.dark renderer.now.light) }
+    ensures memory { IsOkUnless result OutOfMemory }
+{
+    let (dark, light) = renderer.colors();
+    let modules = renderer.modules();
+    let (width, height) = modules.pixels();
+    let head = sized_head(alloc, (width, height), dots, dark, light)?;
+    let mut text = Script::of(alloc, &head)?;
+    push_modules::<Color, Boxes>(alloc, &mut text, &modules)?;
+    text.push(Boxes::tail())?;
+    Ok(text.into_string())
+}
+
+// What stands before the first dark rectangle of a picture of so many pixels across and down, and to
+// an inch.
+fn sized_head(
+    alloc: Global,
+    sides: (u32, u32),
+    dots: u32,
+    dark: Color,
+    light: Color,
+) -> QrResult<String>
+    requires { 1 ≤ dots }
+    ensures value { IfOk result (λ text.
+        string_bytes text ≡ eps_sized_start dots sides.0 sides.1 dark light) }
+    ensures memory { IsOkUnless result OutOfMemory }
+{
+    let (width, height) = sides;
+    let (across, down) = (begun_points(dots, width), begun_points(dots, height));
+    Ok(format!(in alloc;
+        "%!PS-Adobe-3.0 EPSF-3.0\n%%BoundingBox: 0 0 {across} {down}\n%%LanguageLevel: 2\n\
+         %%EndComments\n72 {dots} div dup scale\n{} 255 div {} 255 div {} 255 div setrgbcolor\n\
+         0 0 {width} {height} rectfill\n0 {height} translate 1 -1 scale\n\
+         {} 255 div {} 255 div {} 255 div setrgbcolor\n",
+        light.red, light.green, light.blue, dark.red, dark.green, dark.blue
+    )?)
+}
+
+// The points that pixels begin.
+fn begun_points(dots: u32, pixels: u32) -> u64
+    requires { 1 ≤ dots }
+    ensures { result ≡ begun_points dots pixels }
+{
+    (72 * u64::from(pixels) + u64::from(dots) - 1) / u64::from(dots)
 }

@@ -17,15 +17,19 @@ use std::marker::Model;
 
 mod cells;
 pub mod eps;
+pub mod escpos;
 mod fours;
 pub mod grid;
 pub mod image;
 mod ink;
 pub mod laws;
+pub mod packed;
 pub mod page;
 pub mod pbm;
+pub mod pdf;
 pub mod pgm;
 pub mod pic;
+pub mod ppm;
 pub mod rows;
 mod runs;
 mod setters;
@@ -34,7 +38,10 @@ pub mod string;
 mod strokes;
 pub mod svg;
 mod svg_path;
+pub mod tspl;
 pub mod unicode;
+pub mod xbm;
+pub mod zpl;
 
 /// A pixel: what stands for dark or light in a picture.
 pub trait Pixel: Copy {

@@ -2,10 +2,10 @@
 
 ghost use Rattle.std.specs.Prelude.{◌≡◌, ◌+◌, ◌-◌, ◌*◌, ◌^◌, ◌<◌, ◌≤◌, IsTrue, max, if◌then◌else◌};
 ghost use Rattle.qrcode_render.specs.Grid.{pixels_of};
-ghost use Rattle.qrcode_render.specs.Setting.{side_of, fits, picture_of, least_size, greatest_size, IsLeastSize, IsGreatestSize};
+ghost use Rattle.qrcode_render.specs.Setting.{side_of, fits, picture_of, square_of, least_size, greatest_size, IsLeastSize, IsGreatestSize};
 
 use crate::grid::Grid;
-use crate::{Pixel, Renderer};
+use crate::{Modules, Pixel, Renderer};
 
 impl<'a, P: Pixel> Renderer<'a, P> {
     /// Sets the pixel of dark modules.
@@ -183,6 +183,20 @@ impl<'a, P: Pixel> Renderer<'a, P> {
             self.module_width,
             self.module_height,
         )
+    }
+
+    /// The modules, with the quiet zone where it is on.
+    pub(crate) fn modules(&self) -> Modules
+        requires { IsTrue (fits self.now) }
+        ensures { result ≡ square_of self.now }
+    {
+        Modules {
+            content: self.content,
+            count: self.modules_count,
+            zone: self.quiet_zone,
+            width: self.module_width,
+            height: self.module_height,
+        }
     }
 
     /// What stands for dark and for light.

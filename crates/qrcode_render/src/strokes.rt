@@ -122,8 +122,8 @@ impl<P: Copy, S: Strokes<P>> Canvas for Plot<P, S> {
     }
 }
 
-// Appends the rectangles of the dark modules, row by row.
-fn push_modules<P, S: Strokes<P>>(
+/// Appends the rectangles of the dark modules, row by row. Refuses with `OutOfMemory` alone.
+pub fn push_modules<P, S: Strokes<P>>(
     alloc: Global,
     text: &mut Script,
     modules: &Modules,

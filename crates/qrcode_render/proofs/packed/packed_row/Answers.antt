@@ -4,8 +4,8 @@ use Rattle.std.proofs.lemmas.List.{length-map}
 use Rattle.qrcode_render.specs.Files.{inked, bits_from, packed}
 use Rattle.qrcode_render.specs.Grid.{each}
 use Rattle.qrcode_render.proofs.Grids.{length-each}
-use Rattle.qrcode_render.proofs.Packed.{bytes_more}
-use Rattle.qrcode_render.proofs.pbm.packed_row.Goals as goal
+use Rattle.qrcode_render.proofs.PackedBits.{bytes_more}
+use Rattle.qrcode_render.proofs.packed.packed_row.Goals as goal
 
 pub loop-i-preserved : goal.loop-i-preserved
 loop-i-preserved c =

@@ -1,6 +1,6 @@
 use Rattle.std.proofs.Common.{◌∙◌, ap, arith, if◌then◌else◌}
-use Rattle.qrcode_render.proofs.Packed.{bit_inside, bit_past}
-use Rattle.qrcode_render.proofs.pbm.black_bit.Goals as goal
+use Rattle.qrcode_render.proofs.PackedBits.{bit_inside, bit_past}
+use Rattle.qrcode_render.proofs.packed.black_bit.Goals as goal
 
 pub returns-then-column-marks-clause-value : goal.returns-then-column-marks-clause-value
 returns-then-column-marks-clause-value c =

@@ -1,0 +1,6 @@
+use Rattle.std.proofs.Common.{◌∙◌, append_assoc}
+use Rattle.qrcode_render.proofs.eps.sized_head.Goals as goal
+
+-- The pieces of the text, one behind the other.
+pub returns-clause-value : goal.returns-clause-value
+returns-clause-value c = c.in_ok-format.ensures.ok ∙ simp (append_assoc, c.begun_points-across.ensures, c.begun_points-down.ensures)

@@ -1,0 +1,117 @@
+-- PDF 1.4 of one page as large as the picture, on which the runs of dark modules are filled.
+use Rattle.std.specs.Prelude.{◌≡◌, ℕ, ◌+◌, ◌*◌, ◌/◌, ◌%◌, ◌^◌, ◌<◌, List, [], ◌∷◌, ◌++◌, codes, decimal, length, map, flat_map}
+use Rattle.std.specs.List.{range_with_len}
+use Rattle.qrcode_render.specs.Bitmap.{Bitmap}
+use Rattle.qrcode_render.specs.Paths.{Run, is_filled}
+
+-- the digit of a number that stands for a power of ten
+abbrev pub digit_at : ℕ → ℕ → ℕ
+digit_at n power = 48 + n / power % 10
+
+-- millionths, as a number with six digits behind its point
+unfoldable pub millionths : ℕ → List ℕ
+millionths n =
+    decimal (n / 1000000) ++ 46 ∷ digit_at n 100000 ∷ digit_at n 10000 ∷ digit_at n 1000 ∷ digit_at n 100 ∷ digit_at n 10 ∷ digit_at n 1 ∷ []
+
+-- a number in ten digits
+unfoldable pub ten_digits : ℕ → List ℕ
+ten_digits n =
+    digit_at n 1000000000 ∷ digit_at n 100000000 ∷ digit_at n 10000000 ∷ digit_at n 1000000 ∷ digit_at n 100000 ∷ digit_at n 10000 ∷ digit_at n 1000 ∷ digit_at n 100 ∷ digit_at n 10 ∷ digit_at n 1 ∷ []
+
+-- a picture on its page: the modules across and down, the pixels of each, those of the picture, and those of an inch
+pub record Sheet : Type 0 where
+  pub columns : ℕ
+  pub rows : ℕ
+  pub across : ℕ
+  pub down : ℕ
+  pub wide : ℕ
+  pub high : ℕ
+  pub dots : ℕ
+
+-- pixels, in points: 1/72 of an inch
+abbrev pub points : Sheet → ℕ → List ℕ
+points s n = millionths (n * 72000000 / s.dots)
+
+-- a module is the unit, and rows are counted from above
+abbrev pub turn : Sheet → List ℕ
+turn s = points s s.across ++ (codes " 0 0 -" ++ (points s s.down ++ (codes " 0 " ++ (points s s.high ++ codes " cm\n"))))
+
+-- a part of a colour, of 0 to 255
+abbrev pub part : ℕ → List ℕ
+part c = millionths ((c * 1000000 + 127) / 255) ++ codes " "
+
+-- what follows is filled in the colour of red, green and blue
+abbrev pub paint : List ℕ → List ℕ
+paint parts = flat_map part parts ++ codes "rg\n"
+
+-- the ground, filled
+abbrev pub ground : Sheet → List ℕ
+ground s = codes "0 0 " ++ (decimal s.columns ++ (codes " " ++ (decimal s.rows ++ codes " re f\n")))
+
+-- the rectangle of a run: its left, its top and its width; it is one module high
+abbrev pub run_box : Run → List ℕ
+run_box r = decimal r.left ++ (codes " " ++ (decimal r.top ++ (codes " " ++ (decimal r.width ++ codes " 1 re\n"))))
+
+-- what is drawn before the runs
+abbrev pub under : Sheet → List ℕ → List ℕ → List ℕ
+under s dark light = turn s ++ (paint light ++ (ground s ++ paint dark))
+
+-- what is drawn: the light ground, and the runs, filled as one path
+abbrev pub content : Sheet → List ℕ → List ℕ → List Run → List ℕ
+content s dark light runs = under s dark light ++ flat_map run_box runs ++ codes "f"
+
+-- a file while it is written, and its table of where objects begin
+pub record Body : Type 0 where
+  pub text : List ℕ
+  pub table : List ℕ
+
+-- one object more: its text, and in the table where it begins
+abbrev pub with_object : List ℕ → Body → Body
+with_object object b = record { text = b.text ++ object; table = b.table ++ (ten_digits (length b.text) ++ codes " 00000 n \n") }
+
+-- what the file begins with, and its table
+abbrev pub start : Body
+start = record { text = codes "%PDF-1.4\n"; table = codes "0000000000 65535 f \n" }
+
+abbrev pub catalog : List ℕ
+catalog = codes "1 0 obj\n<</Type/Catalog/Pages 2 0 R>>\nendobj\n"
+
+abbrev pub pages : List ℕ
+pages = codes "2 0 obj\n<</Type/Pages/Kids[3 0 R]/Count 1>>\nendobj\n"
+
+-- how large the page is
+abbrev pub sides : Sheet → List ℕ
+sides s = points s s.wide ++ (codes " " ++ points s s.high)
+
+-- the page, as large as the picture
+abbrev pub page : Sheet → List ℕ
+page s = codes "3 0 obj\n<</Type/Page/Parent 2 0 R/Resources<<>>/Contents 4 0 R/MediaBox[0 0 " ++ (sides s ++ codes "]>>\nendobj\n")
+
+-- what is drawn, behind its length
+abbrev pub stream : List ℕ → List ℕ
+stream drawn = codes "4 0 obj\n<</Length " ++ (decimal (length drawn) ++ (codes ">>\nstream\n" ++ (drawn ++ codes "\nendstream\nendobj\n")))
+
+-- the four objects
+abbrev pub body : Sheet → List ℕ → Body
+body s drawn = with_object (stream drawn) (with_object (page s) (with_object pages (with_object catalog start)))
+
+-- the table, and where it begins
+abbrev pub ending : List ℕ → ℕ → List ℕ
+ending table start = codes "xref\n0 5\n" ++ table ++ (codes "trailer\n<</Size 5/Root 1 0 R>>\nstartxref\n" ++ (decimal start ++ codes "\n%%EOF\n"))
+
+-- the objects, and behind them the table
+abbrev pub closed : Body → List ℕ
+closed b = b.text ++ ending b.table (length b.text)
+
+-- a file of a page that shows the picture: each module is so many pixels across and down, and the pixels of the filled ones are dark
+pub record IsPdfOf (dots : ℕ) (dark light : List ℕ) (b : Bitmap) (file : List ℕ) : Type 0 where
+  pub sheet : Sheet
+  pub runs : List Run
+  pub inch : sheet.dots ≡ dots
+  pub wide : sheet.wide ≡ b.across
+  pub high : sheet.high ≡ b.down
+  pub columns : b.across ≡ sheet.columns * sheet.across
+  pub rows : b.down ≡ sheet.rows * sheet.down
+  pub written : file ≡ closed (body sheet (content sheet dark light runs))
+  pub fits : length (body sheet (content sheet dark light runs)).text < 10 ^ 10
+  pub shown : b.marks ≡ map (λ i. is_filled runs (i % b.across / sheet.across) (i / b.across / sheet.down)) (range_with_len 0 (b.across * b.down))

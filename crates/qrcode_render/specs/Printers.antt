@@ -1,0 +1,78 @@
+-- The bytes that printers take, and other files of rows of black and white pixels, eight in a byte.
+use Rattle.std.specs.Prelude.{ℕ, ◌+◌, ◌-◌, ◌*◌, ◌/◌, ◌%◌, nat_lt, Bool, List, [], ◌∷◌, ◌++◌, codes, decimal, map, flat_map, if◌then◌else◌}
+use Rattle.std.specs.List.{range_with_len}
+use Rattle.qrcode_render.specs.Bitmap.{Bitmap, row_of}
+use Rattle.qrcode_render.specs.Files.{inked, packed}
+
+-- a file: what stands before the rows, what stands for the bytes of each row, and what stands behind the rows
+unfoldable pub packed_file : (ℕ → ℕ → List ℕ) → (List ℕ → List ℕ) → List ℕ → Bool → Bool → Bitmap → List ℕ
+packed_file before row behind marked other b =
+    before b.across b.down ++ flat_map (λ y. row (packed (inked marked other (row_of b y)))) (range_with_len 0 b.down) ++ behind
+
+-- the bytes of a row of so many pixels
+abbrev pub bytes_across : ℕ → ℕ
+bytes_across w = (w + 7) / 8
+
+-- ESC/POS: GS v 0, in normal size; the bytes of a row, and how many rows follow
+abbrev pub escpos_head : ℕ → ℕ → List ℕ
+escpos_head w h = 29 ∷ 118 ∷ 48 ∷ 0 ∷ bytes_across w % 256 ∷ bytes_across w / 256 ∷ h % 256 ∷ h / 256 ∷ []
+
+abbrev pub escpos_file : Bool → Bool → Bitmap → List ℕ
+escpos_file = packed_file escpos_head (λ bytes. bytes) []
+
+-- TSPL: a label as large as the picture, cleared, and the bitmap on it, which replaces what is there (mode 0)
+abbrev pub tspl_head : ℕ → ℕ → List ℕ
+tspl_head w h =
+    codes "SIZE " ++ (decimal w ++ (codes " dot," ++ (decimal h ++ (codes " dot\r\nCLS\r\nBITMAP 0,0," ++ (decimal (bytes_across w) ++ (codes "," ++ (decimal h ++ codes ",0,")))))))
+
+-- in its bytes 0 is black
+abbrev pub tspl_row : List ℕ → List ℕ
+tspl_row bytes = map (λ b. 255 - b) bytes
+
+-- one label is printed
+abbrev pub tspl_tail : List ℕ
+tspl_tail = codes "\r\nPRINT 1\r\n"
+
+abbrev pub tspl_file : Bool → Bool → Bitmap → List ℕ
+tspl_file = packed_file tspl_head tspl_row tspl_tail
+
+-- a digit to the base 16
+abbrev pub hex_digit : ℕ → ℕ
+hex_digit n = if nat_lt n 10 then 48 + n else 55 + n
+
+-- a byte in two digits
+abbrev pub hex_pair : ℕ → List ℕ
+hex_pair b = hex_digit (b / 16) ∷ hex_digit (b % 16) ∷ []
+
+-- ZPL II: a label with a graphic field at its corner; how many bytes it has, twice, and how many are in a row
+abbrev pub zpl_head : ℕ → ℕ → List ℕ
+zpl_head w h =
+    codes "^XA^FO0,0^GFA," ++ (decimal (bytes_across w * h) ++ (codes "," ++ (decimal (bytes_across w * h) ++ (codes "," ++ (decimal (bytes_across w) ++ codes ",")))))
+
+abbrev pub zpl_row : List ℕ → List ℕ
+zpl_row bytes = flat_map hex_pair bytes
+
+abbrev pub zpl_tail : List ℕ
+zpl_tail = codes "^FS^XZ\n"
+
+abbrev pub zpl_file : Bool → Bool → Bitmap → List ℕ
+zpl_file = packed_file zpl_head zpl_row zpl_tail
+
+-- XBM: a text in C
+abbrev pub xbm_head : ℕ → ℕ → List ℕ
+xbm_head w h =
+    codes "#define symbol_width " ++ (decimal w ++ (codes "\n#define symbol_height " ++ (decimal h ++ codes "\nstatic unsigned char symbol_bits[] = {\n")))
+
+-- a byte whose lowest bit comes first
+abbrev pub turned : ℕ → ℕ
+turned b =
+    128 * (b % 2) + 64 * (b / 2 % 2) + 32 * (b / 4 % 2) + 16 * (b / 8 % 2) + 8 * (b / 16 % 2) + 4 * (b / 32 % 2) + 2 * (b / 64 % 2) + b / 128
+
+abbrev pub xbm_row : List ℕ → List ℕ
+xbm_row bytes = flat_map (λ b. codes "0x" ++ hex_pair (turned b) ++ codes ",") bytes ++ codes "\n"
+
+abbrev pub xbm_tail : List ℕ
+xbm_tail = codes "};\n"
+
+abbrev pub xbm_file : Bool → Bool → Bitmap → List ℕ
+xbm_file = packed_file xbm_head xbm_row xbm_tail
