@@ -6,7 +6,7 @@ use qrcode::render::Renderer;
 use qrcode::types::Color::{self as Module, Dark, Light};
 use qrcode::types::{QrError, QrResult};
 use qrcode_png::sums::crc;
-use qrcode_png::{Color, grey, with_density};
+use qrcode_png::{Color, Unread, grey, read, with_density};
 use std::alloc::Global;
 
 // Three rows of three modules.
@@ -14,10 +14,11 @@ const THREE: &[Module] = &[Dark, Light, Dark, Light, Light, Dark, Dark, Dark, Li
 
 /// The length of a file and its CRC-32: of so many pixels across and down, of which each third or
 /// the like is dark; or of a square of modules of so many pixels across and down, with so many on a
-/// metre, where that is given.
+/// metre, where that is given. Or what a file shows: how many pixels across, and the CRC-32 of all.
 pub fn run(alloc: Global, asked: &Asked<'_>) -> QrResult<Digest> {
     match asked.kind {
         "grey" => of_file(&of_pixels(alloc, asked)?),
+        "shown" => of_picture(alloc, asked.data()),
         "three" => of_file(&of_modules(alloc, THREE, 3, asked)?),
         _ => of_file(&of_modules(alloc, &[Dark; 4], 2, asked)?),
     }
@@ -26,6 +27,21 @@ pub fn run(alloc: Global, asked: &Asked<'_>) -> QrResult<Digest> {
 // The length of a file and its CRC-32.
 fn of_file(bytes: &[u8]) -> QrResult<Digest> {
     Ok(Digest::of_sum(bytes.len(), crc(bytes)))
+}
+
+// The pixels across of the picture of a file, and the CRC-32 of the red, green, blue and opacity of
+// each.
+fn of_picture(alloc: Global, file: &[u8]) -> QrResult<Digest> {
+    let picture = match read(alloc, file) {
+        Ok(picture) => picture,
+        Err(Unread::OutOfMemory) => return Err(QrError::OutOfMemory),
+        Err(_) => return Err(QrError::InvalidCharacter),
+    };
+    let mut bytes = Vec::new(alloc);
+    for pixel in &picture.pixels(alloc)? {
+        bytes.extend_from_slice(pixel)?;
+    }
+    Ok(Digest::of_sum(picture.sides().0 as usize, crc(&bytes)))
 }
 
 // The file of pixels.

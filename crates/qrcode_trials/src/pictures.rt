@@ -7,7 +7,9 @@ use crate::words::{Asked, number};
 use qrcode::render::image::{ImageBuffer, Luma, LumaA, Rgb, Rgba};
 use qrcode::render::string::Str;
 use qrcode::render::unicode::Dense1x2;
-use qrcode::render::{Canvas, Pixel, Renderer, eps, fill_rect, pbm, pgm, pic, svg};
+use qrcode::render::{
+    Canvas, Pixel, Renderer, eps, escpos, fill_rect, pbm, pdf, pgm, pic, ppm, svg, tspl, xbm, zpl,
+};
 use qrcode::types::{Color, QrError, QrResult, Version};
 use qrcode_examples::label::Dot;
 use std::alloc::Global;
@@ -23,6 +25,12 @@ pub fn run(alloc: Global, asked: &Asked<'_>) -> QrResult<Digest> {
         "to-image" => image(alloc, asked),
         "pbm" => file::<pbm::Bit>(alloc, asked),
         "pgm" => file::<pgm::Grey>(alloc, asked),
+        "ppm" => file::<ppm::Color>(alloc, asked),
+        "pdf" => file::<pdf::Color>(alloc, asked),
+        "zpl" => file::<zpl::Dot>(alloc, asked),
+        "tspl" => file::<tspl::Dot>(alloc, asked),
+        "escpos" => file::<escpos::Dot>(alloc, asked),
+        "xbm" => file::<xbm::Dot>(alloc, asked),
         "png" => file::<qrcode_png::Color>(alloc, asked),
         _ => text_of(alloc, asked),
     }
