@@ -1,4 +1,4 @@
-//! Pictures as files: PBM, PGM, EPS, and SVG of one path.
+//! Pictures as files: PBM, PGM, PPM, XBM, EPS, PDF, SVG of one path, and what printers take.
 
 use crate::render::drawings::{DARK, DIAGONAL, Drawing, MICRO_2};
 use crate::render::pictures::Colors::{Both, Dark, Usual};
@@ -6,7 +6,7 @@ use crate::render::pictures::Size::{Default, Of, Same};
 use crate::render::pictures::Text::{Is, Starts};
 use crate::render::pictures::Zone::{Changed, On};
 use crate::render::pictures::{Colors, File, Row, Text, makes, writes};
-use qrcode_render::{Pixel, eps, pbm, pgm, svg};
+use qrcode_render::{Pixel, eps, escpos, pbm, pdf, pgm, ppm, svg, tspl, xbm, zpl};
 use qrcode_types::types::Color;
 
 #[rattlefmt::skip]
@@ -49,6 +49,65 @@ static GREYS: [Row<pgm::Grey, File>; 3] = [
         255, 255, 0, 0,
     ])),
     Row(DARK, On(0), Usual, Default, File(b"P5\n8 8\n255\n", &[0; 64])),
+];
+
+#[rattlefmt::skip]
+static COLOURED: [Row<ppm::Color, File>; 1] = [
+    // What netpbm makes of the picture.
+    Row(DIAGONAL, On(0), Both(ppm::Color([0, 0, 136]), ppm::Color([255, 255, 136])), Of(1, 1),
+        File(b"P6\n2 2\n255\n", b"\0\0\x88\xff\xff\x88\xff\xff\x88\0\0\x88")),
+];
+
+// By the makers' pages: GS v 0, two bytes for the bytes of a row, and two for the rows.
+#[rattlefmt::skip]
+static RECEIPTS: [Row<escpos::Dot, File>; 2] = [
+    Row(DIAGONAL, On(0), Usual, Of(2, 3), File(b"\x1dv0\0\x01\0\x06\0", &[
+        0b1100_0000, 0b1100_0000, 0b1100_0000, 0b0011_0000, 0b0011_0000, 0b0011_0000,
+    ])),
+    Row(DARK, On(0), Usual, Of(2064, 1), File(b"\x1dv0\0\x02\x01\x01\0", &[255; 258])),
+];
+
+// By the makers' pages: 0 prints, so that what stands behind a row is 1.
+#[rattlefmt::skip]
+static LABELS: [Row<tspl::Dot, File>; 1] = [
+    Row(DIAGONAL, On(0), Usual, Of(5, 2), File(
+        b"SIZE 10 dot,4 dot\r\nCLS\r\nBITMAP 0,0,2,4,0,",
+        b"\x07\xff\x07\xff\xf8\x3f\xf8\x3f\r\nPRINT 1\r\n",
+    )),
+];
+
+// By the makers' pages: eight bytes in all, two in a row.
+#[rattlefmt::skip]
+static GRAPHICS: [Row<zpl::Dot, File>; 1] = [
+    Row(DIAGONAL, On(0), Usual, Of(5, 2), File(
+        b"^XA^FO0,0^GFA,8,8,2,", b"F800F80007C007C0^FS^XZ\n",
+    )),
+];
+
+// What netpbm makes of the picture, in other letters and lines: the lowest bit comes first.
+#[rattlefmt::skip]
+static MAPS: [Row<xbm::Dot, File>; 1] = [
+    Row(DIAGONAL, On(0), Usual, Of(5, 2), File(
+        b"#define symbol_width 10\n#define symbol_height 4\nstatic unsigned char symbol_bits[] = {\n",
+        b"0x1F,0x00,\n0x1F,0x00,\n0xE0,0x03,\n0xE0,0x03,\n};\n",
+    )),
+];
+
+// By hand: objects begin at 9, 54, 105 and 209.
+#[rattlefmt::skip]
+static PAGES: [Row<pdf::Color, File>; 1] = [
+    Row(DIAGONAL, On(0), Both(pdf::Color([0, 0, 136]), pdf::Color([255, 255, 136])), Of(3, 2), File(
+        b"%PDF-1.4\n1 0 obj\n<</Type/Catalog/Pages 2 0 R>>\nendobj\n\
+        2 0 obj\n<</Type/Pages/Kids[3 0 R]/Count 1>>\nendobj\n\
+        3 0 obj\n<</Type/Page/Parent 2 0 R/Resources<<>>/Contents 4 0 R\
+        /MediaBox[0 0 6.000000 4.000000]>>\nendobj\n",
+        b"4 0 obj\n<</Length 133>>\nstream\n3.000000 0 0 -2.000000 0 4.000000 cm\n\
+        1.000000 1.000000 0.533333 rg\n0 0 2 2 re f\n0.000000 0.000000 0.533333 rg\n\
+        0 0 1 1 re\n1 1 1 1 re\nf\nendstream\nendobj\n\
+        xref\n0 5\n0000000000 65535 f \n0000000009 00000 n \n0000000054 00000 n \n\
+        0000000105 00000 n \n0000000209 00000 n \n\
+        trailer\n<</Size 5/Root 1 0 R>>\nstartxref\n391\n%%EOF\n",
+    )),
 ];
 
 #[rattlefmt::skip]
@@ -115,6 +174,12 @@ static ELEMENTS: [Row<svg::PathElement<'static>, Text>; 2] = [
 fn files_are_made(rt: HostRuntime) {
     makes(&rt, rt.alloc(), &BITS);
     makes(&rt, rt.alloc(), &GREYS);
+    makes(&rt, rt.alloc(), &COLOURED);
+    makes(&rt, rt.alloc(), &RECEIPTS);
+    makes(&rt, rt.alloc(), &LABELS);
+    makes(&rt, rt.alloc(), &GRAPHICS);
+    makes(&rt, rt.alloc(), &MAPS);
+    makes(&rt, rt.alloc(), &PAGES);
     writes(&rt, rt.alloc(), &EPS);
     writes(&rt, rt.alloc(), &PATHS);
     writes(&rt, rt.alloc(), &ELEMENTS);
